@@ -1,0 +1,37 @@
+-- The two sides of the first colon, by its place.
+use Rattle.std.proofs.Common.{◌≡◌, ℕ, ◌+◌, ◌-◌, ◌<◌, ◌≤◌, ◌^◌, ◌*◌, Bool, true, false, not, cond, List, [], ◌∷◌, length, take, drop, refl, ap, arith, suc}
+use Rattle.std.specs.List.{prefix_len}
+use Rattle.std.proofs.Math.Nat.{pow-le-pow_right}
+use Rattle.std.proofs.lemmas.Bool.{cond-true, cond-false}
+use Rattle.lis_words.specs.Words.{is_colon, stem, value}
+
+abbrev pub colon_place : List ℕ → ℕ
+colon_place bytes = prefix_len (λ b. not (is_colon b)) bytes
+
+one_more : (n : ℕ) → 1 + n ≡ suc n
+one_more n = omega arith
+
+pub stem_before : (bytes : List ℕ) → stem bytes ≡ take (colon_place bytes) bytes
+stem_before [] = refl
+stem_before (b ∷ bytes) = by (is_colon b) refl (stem_before bytes)
+  where
+    by : (t : Bool) → is_colon b ≡ t → stem bytes ≡ take (colon_place bytes) bytes
+        → cond t [] (b ∷ stem bytes) ≡ take (cond (not t) (1 + colon_place bytes) 0) (b ∷ bytes)
+    by true e more = refl
+    by false e more = rw (one_more (colon_place bytes)) (ap (λ xs. b ∷ xs) more)
+
+pub value_behind : (bytes : List ℕ) → value bytes ≡ drop 1 (drop (colon_place bytes) bytes)
+value_behind [] = refl
+value_behind (b ∷ bytes) = by (is_colon b) refl (value_behind bytes)
+  where
+    by : (t : Bool) → is_colon b ≡ t → value bytes ≡ drop 1 (drop (colon_place bytes) bytes)
+        → cond t bytes (value bytes) ≡ drop 1 (drop (cond (not t) (1 + colon_place bytes) 0) (b ∷ bytes))
+    by true e more = refl
+    by false e more = rw (one_more (colon_place bytes)) more
+
+-- twelve digits stay far below the end of a 64-bit number
+pub digit_fits : (n i : ℕ) → n < 10 ^ i → i < 12 → n < 10 ^ 11
+digit_fits n i below few =
+    let le : i ≤ 11 = omega arith in
+    let most : 10 ^ i ≤ 10 ^ 11 = pow-le-pow_right (omega arith) {j = 11} le in
+    omega arith

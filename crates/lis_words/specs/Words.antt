@@ -1,0 +1,93 @@
+-- Words, file names and counts, as tests on whole lists of bytes.
+use Rattle.std.specs.Prelude.{ℕ, ◌+◌, ◌-◌, ◌*◌, ◌==◌, nat_eq, nat_lt, nat_le, Bool, true, false, not, ◌&&◌, ◌||◌, if◌then◌else◌, List, [], ◌∷◌, ◌++◌, length, codes}
+use Rattle.std.specs.Char.{is_ascii_alphanumeric, is_ascii_digit}
+use Rattle.std.specs.Cmp.Lexicographic.{pointwise, slice_cmp}
+use Rattle.std.specs.Ordering.{nat_cmp}
+use Rattle.std.specs.declared.cmp.Ordering.{Ordering}
+use Rattle.std.specs.List.{list_any, list_all, fold}
+
+-- an ASCII letter, a digit, or one of _ - . + @
+abbrev pub is_plain_byte : ℕ → Bool
+is_plain_byte b =
+    is_ascii_alphanumeric b || (b == 95) || (b == 45) || (b == 46) || (b == 43) || (b == 64)
+
+abbrev pub is_colon : ℕ → Bool
+is_colon b = b == 58
+
+abbrev pub begins_with_stop : List ℕ → Bool
+begins_with_stop [] = false
+begins_with_stop (b ∷ bytes) = b == 46
+
+-- 1 to 60 plain bytes, the first no full stop
+abbrev pub is_plain_word : List ℕ → Bool
+is_plain_word bytes =
+    nat_lt 0 (length bytes) && nat_le (length bytes) 60 && not (begins_with_stop bytes) && list_all is_plain_byte bytes
+
+-- what stands before the first colon
+abbrev pub stem : List ℕ → List ℕ
+stem [] = []
+stem (b ∷ bytes) = if is_colon b then [] else b ∷ stem bytes
+
+-- what stands after the first colon
+abbrev pub value : List ℕ → List ℕ
+value [] = []
+value (b ∷ bytes) = if is_colon b then bytes else value bytes
+
+-- at most 60 bytes, and a plain word before the first colon
+abbrev pub has_stem : List ℕ → Bool
+has_stem bytes = nat_le (length bytes) 60 && list_any is_colon bytes && is_plain_word (stem bytes)
+
+-- a plain word of at most 59 bytes, and a colon
+abbrev pub is_head : List ℕ → Bool
+is_head bytes = has_stem bytes && (length (value bytes) == 0)
+
+-- a head, and 1 or more plain bytes; at most 60 bytes in all
+abbrev pub is_valued : List ℕ → Bool
+is_valued bytes = has_stem bytes && nat_lt 0 (length (value bytes)) && list_all is_plain_byte (value bytes)
+
+abbrev pub is_word : List ℕ → Bool
+is_word bytes = is_plain_word bytes || is_head bytes || is_valued bytes
+
+-- the head of a valued word
+abbrev pub head_bytes : List ℕ → List ℕ
+head_bytes bytes = stem bytes ++ 58 ∷ []
+
+-- words and names are ordered by their bytes
+abbrev pub word_cmp : List ℕ → List ℕ → Ordering
+word_cmp a b = slice_cmp nat_cmp a b
+
+abbrev pub same_word : List ℕ → List ℕ → Bool
+same_word a b = pointwise nat_eq a b
+
+abbrev pub has_word : List (List ℕ) → List ℕ → Bool
+has_word words word = list_any (λ w. same_word w word) words
+
+-- the heads of the words that are derived from files
+abbrev pub built_in_heads : List (List ℕ)
+built_in_heads =
+    codes "ext:" ∷ codes "size:" ∷ codes "from:" ∷ codes "to:" ∷ codes "subject:" ∷ codes "includes:" ∷ codes "defines:" ∷ []
+
+-- one of these heads, or a word that has one of them
+abbrev pub is_built_in : List ℕ → Bool
+is_built_in word =
+    has_word built_in_heads word || (is_valued word && has_word built_in_heads (head_bytes word))
+
+abbrev pub is_stops : List ℕ → Bool
+is_stops bytes = same_word bytes (codes ".") || same_word bytes (codes "..")
+
+-- 1 to 60 plain bytes, other than . and ..
+abbrev pub is_file_name : List ℕ → Bool
+is_file_name bytes =
+    nat_lt 0 (length bytes) && nat_le (length bytes) 60 && not (is_stops bytes) && list_all is_plain_byte bytes
+
+-- 1 to 12 decimal digits; leading zeros are allowed
+abbrev pub is_count : List ℕ → Bool
+is_count digits = nat_lt 0 (length digits) && nat_le (length digits) 12 && list_all is_ascii_digit digits
+
+-- a number with one more digit behind it
+abbrev pub with_digit : ℕ → ℕ → ℕ
+with_digit n digit = 10 * n + (digit - 48)
+
+-- the number that the digits spell
+abbrev pub count_of : List ℕ → ℕ
+count_of digits = fold with_digit 0 digits

@@ -1,0 +1,189 @@
+//! The tests on bytes that words, names and counts rest on.
+
+ghost use Rattle.std.specs.Prelude.{◌≡◌, ℕ, ◌+◌, ◌<◌, ◌≤◌, ◌^◌, ◌↔◌, List, length, take, drop, not, IsTrue, IsSome, IfSome, MatchOption};
+ghost use Rattle.lis_words.specs.Words.{is_plain_byte, is_plain_word, is_head, is_valued, is_word, is_file_name, has_stem, stem, value, is_colon, is_count, count_of, begins_with_stop, is_stops};
+ghost use Rattle.std.specs.List.{list_any, list_all, prefix_len};
+ghost use Rattle.std.specs.Char.{is_ascii_digit};
+
+/// The most bytes of a word or a file name.
+pub const MAX_WORD: usize = 60;
+
+/// The most digits of a count.
+pub const MAX_DIGITS: usize = 12;
+
+pub fn is_plain_byte(byte: u8) -> bool
+    ensures { result ≡ is_plain_byte byte }
+{
+    byte.is_ascii_alphanumeric() || byte == b'_' || byte == b'-' || byte == b'.' || byte == b'+' || byte == b'@'
+}
+
+pub fn are_plain(bytes: &[u8]) -> bool
+    ensures { result ≡ list_all is_plain_byte bytes.now }
+{
+    bytes.iter().all(|byte| is_plain_byte(*byte))
+}
+
+pub fn begins_with_stop(bytes: &[u8]) -> bool
+    ensures { result ≡ begins_with_stop bytes.now }
+{
+    match bytes {
+        [] => false,
+        [first, ..] => *first == b'.',
+    }
+}
+
+pub fn is_plain_word(bytes: &[u8]) -> bool
+    ensures { result ≡ is_plain_word bytes.now }
+{
+    if bytes.is_empty() {
+        return false;
+    }
+    if bytes.len() > MAX_WORD {
+        return false;
+    }
+    if begins_with_stop(bytes) {
+        return false;
+    }
+    are_plain(bytes)
+}
+
+/// How many bytes stand before the first colon; all of them where there is none.
+fn colon_place(bytes: &[u8]) -> usize
+    ensures { result ≡ prefix_len (λ b. not (is_colon b)) bytes.now }
+{
+    bytes.iter().take_while(|byte| **byte != b':').count()
+}
+
+/// What stands before and after the first colon; without a colon there is nothing after it.
+pub fn split_at_colon(bytes: &[u8]) -> (&[u8], &[u8])
+    ensures stem { result.0.now ≡ stem bytes.now }
+    ensures value { result.1.now ≡ value bytes.now }
+{
+    let (stem, rest) = bytes.split_at(colon_place(bytes));
+    match rest {
+        [] => (stem, rest),
+        [_, value @ ..] => (stem, value),
+    }
+}
+
+pub fn has_colon(bytes: &[u8]) -> bool
+    ensures { result ≡ list_any is_colon bytes.now }
+{
+    bytes.iter().any(|byte| *byte == b':')
+}
+
+pub fn has_stem(bytes: &[u8]) -> bool
+    ensures { result ≡ has_stem bytes.now }
+{
+    if bytes.len() > MAX_WORD {
+        return false;
+    }
+    if !has_colon(bytes) {
+        return false;
+    }
+    let (stem, _) = split_at_colon(bytes);
+    is_plain_word(stem)
+}
+
+pub fn is_head(bytes: &[u8]) -> bool
+    ensures { result ≡ is_head bytes.now }
+{
+    if !has_stem(bytes) {
+        return false;
+    }
+    let (_, value) = split_at_colon(bytes);
+    value.is_empty()
+}
+
+pub fn is_valued(bytes: &[u8]) -> bool
+    ensures { result ≡ is_valued bytes.now }
+{
+    if !has_stem(bytes) {
+        return false;
+    }
+    let (_, value) = split_at_colon(bytes);
+    if value.is_empty() {
+        return false;
+    }
+    are_plain(value)
+}
+
+pub fn is_word(bytes: &[u8]) -> bool
+    ensures { result ≡ is_word bytes.now }
+{
+    if is_plain_word(bytes) {
+        return true;
+    }
+    if is_head(bytes) {
+        return true;
+    }
+    is_valued(bytes)
+}
+
+fn is_stops(bytes: &[u8]) -> bool
+    ensures { result ≡ is_stops bytes.now }
+{
+    if bytes == b".".as_slice() {
+        return true;
+    }
+    bytes == b"..".as_slice()
+}
+
+pub fn is_file_name(bytes: &[u8]) -> bool
+    ensures { result ≡ is_file_name bytes.now }
+{
+    if bytes.is_empty() {
+        return false;
+    }
+    if bytes.len() > MAX_WORD {
+        return false;
+    }
+    if is_stops(bytes) {
+        return false;
+    }
+    are_plain(bytes)
+}
+
+fn are_digits(bytes: &[u8]) -> bool
+    ensures { result ≡ list_all is_ascii_digit bytes.now }
+{
+    bytes.iter().all(|byte| byte.is_ascii_digit())
+}
+
+/// Whether the bytes are a count.
+pub fn is_count(bytes: &[u8]) -> bool
+    ensures { result ≡ is_count bytes.now }
+{
+    if bytes.is_empty() {
+        return false;
+    }
+    if bytes.len() > MAX_DIGITS {
+        return false;
+    }
+    are_digits(bytes)
+}
+
+fn digits_value(digits: &[u8]) -> u64
+    requires short { length digits.now ≤ 12 }
+    requires digits { IsTrue (list_all is_ascii_digit digits.now) }
+    ensures value { result ≡ count_of digits.now }
+    ensures below { result < 10 ^ 12 }
+{
+    let mut n = 0u64;
+    for digit in digits {
+        n = 10 * n + u64::from(*digit - b'0');
+    }
+    n
+}
+
+/// The number that a count spells: below 10^12, and None where the bytes are no count.
+pub fn read_count(bytes: &[u8]) -> Option<u64>
+    ensures counts { IsSome result ↔ IsTrue (is_count bytes.now) }
+    ensures number { IfSome result (λ n. n ≡ count_of bytes.now) }
+    ensures below { IfSome result (λ n. n < 10 ^ 12) }
+{
+    if !is_count(bytes) {
+        return None;
+    }
+    Some(digits_value(bytes))
+}

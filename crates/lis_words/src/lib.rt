@@ -1,0 +1,10 @@
+//! Words, file names and counts: what their bytes may be, and values that keep it.
+#![tactic(auto)]
+
+mod forms;
+mod name;
+mod word;
+
+pub use forms::{is_count, read_count};
+pub use name::{Name, read_name};
+pub use word::{PropKind, Word, head_of, is_builtin, kind, read_word, with_value};

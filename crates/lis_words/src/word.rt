@@ -1,0 +1,155 @@
+//! Words: properties as they are written.
+
+ghost use Rattle.std.specs.Prelude.{◌≡◌, ℕ, ◌≤◌, ◌↔◌, ◌++◌, ◌&&◌, List, length, IsTrue, IsSome, IfSome};
+ghost use Rattle.lis_words.specs.Words.{is_word, is_head, is_valued, is_built_in, has_word, head_bytes, built_in_heads};
+ghost use Rattle.lis_words.specs.Kind.{kind_of};
+
+use crate::forms::{is_head, is_plain_word, is_valued, is_word, split_at_colon};
+use arrayvec::ArrayVec;
+use std::marker::Model;
+
+/// The kind of a word.
+#[derive(Clone, Copy, Debug, PartialEq, Eq)]
+pub enum PropKind {
+    /// A plain word, as `music`.
+    Plain,
+    /// A plain word and a colon, as `year:`.
+    Head,
+    /// A head and a value, as `year:2003`.
+    Valued,
+}
+
+/// A word: a plain word, a head or a valued word, of 1 to 60 bytes. Words are ordered by their bytes.
+#[derive(Drop, Debug, Clone, PartialEq, Eq, PartialOrd, Ord)]
+pub struct Word {
+    held: ArrayVec<u8, 60>,
+}
+
+impl Model for Word {
+    ghost use Rattle.std.specs.Prelude.{ℕ, List, IsTrue};
+    ghost use Rattle.lis_words.specs.Words.{is_word};
+
+    ghost Value = { List ℕ };
+
+    ghost view = { λ w. w.held.items };
+
+    ghost invariant = { λ w. IsTrue (is_word w.held.items) };
+
+    ghost inverse = { λ bytes. record { held = record { items = bytes } } };
+}
+
+/// Reads a word. None comes exactly where the bytes are no word.
+pub fn read_word(bytes: &[u8]) -> Option<Word>
+    ensures word { IsSome result ↔ IsTrue (is_word bytes.now) }
+    ensures same { IfSome result (λ word. word ≡ bytes.now) }
+{
+    if !is_word(bytes) {
+        return None;
+    }
+    let mut held = ArrayVec::new();
+    held.try_extend_from_slice(bytes).ok()?;
+    Some(Word { held })
+}
+
+impl Word {
+    /// The word's bytes.
+    pub fn bytes(&self) -> &[u8]
+        ensures bytes { result.now ≡ self.now }
+        ensures word { IsTrue (is_word self.now) }
+        ensures short { length result.now ≤ 60 }
+    {
+        self.held.as_slice()
+    }
+
+    /// The same word, without memory taken: unlike `clone`, it can't fail.
+    pub fn copied(&self) -> Word
+        ensures { result ≡ self.now }
+    {
+        let mut held = ArrayVec::new();
+        held.try_extend_from_slice(self.held.as_slice()).unwrap();
+        Word { held }
+    }
+}
+
+/// The word's kind.
+pub fn kind(word: &Word) -> PropKind
+    ensures { result ≡ kind_of word.now }
+{
+    if is_plain_word(word.bytes()) {
+        return PropKind::Plain;
+    }
+    if is_head(word.bytes()) {
+        return PropKind::Head;
+    }
+    PropKind::Valued
+}
+
+/// The head of a valued word. None comes exactly where the word is not valued.
+pub fn head_of(word: &Word) -> Option<Word>
+    ensures valued { IsSome result ↔ IsTrue (is_valued word.now) }
+    ensures head { IfSome result (λ head. head ≡ head_bytes word.now) }
+{
+    let bytes = word.bytes();
+    if !is_valued(bytes) {
+        return None;
+    }
+    let (stem, _) = split_at_colon(bytes);
+    let mut held = ArrayVec::new();
+    held.try_extend_from_slice(stem).ok()?;
+    held.try_push(b':').ok()?;
+    Some(Word { held })
+}
+
+fn is_builtin_head(bytes: &[u8]) -> bool
+    ensures { result ≡ has_word built_in_heads bytes.now }
+{
+    if b"ext:".as_slice() == bytes {
+        return true;
+    }
+    if b"size:".as_slice() == bytes {
+        return true;
+    }
+    if b"from:".as_slice() == bytes {
+        return true;
+    }
+    if b"to:".as_slice() == bytes {
+        return true;
+    }
+    if b"subject:".as_slice() == bytes {
+        return true;
+    }
+    if b"includes:".as_slice() == bytes {
+        return true;
+    }
+    b"defines:".as_slice() == bytes
+}
+
+/// Whether the word is a head of the words that are derived from files, or has such a head.
+pub fn is_builtin(word: &Word) -> bool
+    ensures { result ≡ is_built_in word.now }
+{
+    if is_builtin_head(word.bytes()) {
+        return true;
+    }
+    match head_of(word) {
+        None => false,
+        Some(head) => is_builtin_head(head.bytes()),
+    }
+}
+
+/// The word of a head and a value. None comes exactly where the first is no head, or the two are no valued word.
+pub fn with_value(head: &Word, value: &[u8]) -> Option<Word>
+    ensures valued { IsSome result ↔ IsTrue (is_head head.now && is_valued (head.now ++ value.now)) }
+    ensures joined { IfSome result (λ word. word ≡ head.now ++ value.now) }
+{
+    if !is_head(head.bytes()) {
+        return None;
+    }
+    let mut held: ArrayVec<u8, 60> = ArrayVec::new();
+    held.try_extend_from_slice(head.bytes()).ok()?;
+    held.try_extend_from_slice(value).ok()?;
+    if !is_valued(held.as_slice()) {
+        return None;
+    }
+    Some(Word { held })
+}
