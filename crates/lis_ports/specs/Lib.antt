@@ -4,3 +4,4 @@ pub mod Runs
 pub mod Calls
 pub mod Sources
 pub mod Shown
+pub mod Since
