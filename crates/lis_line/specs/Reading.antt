@@ -89,6 +89,13 @@ GivesAsked old new left_before left (Ok NoMore) = GaveEnd old new left_before le
 GivesAsked old new left_before left (Ok PastLimit) = Overran old new left_before left
 GivesAsked old new left_before left (Err failed) = GaveRest old new left_before left
 
+-- what an item of the code asks for, with the payload behind it; the end and the limit ask for nothing
+abbrev pub asked_by : Said → Payload → Option Item
+asked_by (SaidCommand command) payload = Some (Do command payload)
+asked_by (SaidBad refusal) payload = Some (Bad refusal)
+asked_by End payload = None
+asked_by Limit payload = None
+
 -- an item, and whether it was the last
 abbrev pub GaveItem : Reading → Reading → Option (List ℕ) → Option (List ℕ) → Item → Type 0
 GaveItem old new left_before left item =

@@ -5,4 +5,5 @@ pub mod Table
 pub mod Listing
 pub mod Replies
 pub mod Step
+pub mod Codes
 pub mod Script
