@@ -1,3 +1,3 @@
 mod Order
 mod Slots
-pub mod Refill
+pub mod Frames

@@ -1,6 +1,6 @@
 use Rattle.std.proofs.Common.{◌≡◌, length, vec_len, Some, ap, sym, ◌∙◌, arith}
 use Rattle.lis_region.proofs.Slots.{all_same}
-use Rattle.lis_region.proofs.Refill.{refill_same}
+use Rattle.lis_region.proofs.Frames.{refill_same}
 use Rattle.lis_region.proofs.region.Slot.take.Goals as goal
 
 pub returns-clause-items : goal.returns-clause-items
