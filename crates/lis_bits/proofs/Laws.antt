@@ -2,7 +2,7 @@
 use Rattle.std.proofs.Common.{◌≡◌, ◌≢◌, ℕ, ◌<◌, ◌≤◌, ◌⊎◌, inl, inr, Bool, false, [], length, get_or, replicate, ap, ◌∙◌, arith, length-set, get_or-set_same, get_or-set_other}
 use Rattle.std.proofs.lemmas.List.{get_or-replicate, length-replicate, get_or_past}
 use Rattle.std.proofs.lemmas.Bool.{cases_lt}
-use Rattle.lis_bits.specs.Rows.{Rows, get, row_of, with_row, empty_rows}
+use Rattle.lis_bits.specs.Rows.{Rows, get, row_of, with_row, empty_rows, SetsRow}
 use Rattle.lis_bits.proofs.View.{get-row_of}
 
 pub get-with_row_same : (r : Rows) (row bit : ℕ) (value : ℕ → Bool) → row < length r.rows → bit < r.bits → get (with_row r row value) row bit ≡ value bit
@@ -30,3 +30,13 @@ get-empty_rows rows bits row bit = go (cases_lt row rows)
 
 pub length-empty_rows : (rows bits : ℕ) → length (empty_rows rows bits).rows ≡ rows
 length-empty_rows rows bits = length-replicate rows (replicate bits false)
+
+-- ---- the same after a row was set by any number of edits
+pub get-sets_row_same : (old new : Rows) (row bit : ℕ) (value : ℕ → Bool) → SetsRow old new row value → row < length old.rows → bit < old.bits → get new row bit ≡ value bit
+get-sets_row_same old new row bit value sets in_rows in_row = ap (λ rows. get_or (get_or rows row []) bit false) sets.rows ∙ get-with_row_same old row bit value in_rows in_row
+
+pub get-sets_row_other : (old new : Rows) (row other bit : ℕ) (value : ℕ → Bool) → SetsRow old new row value → other ≢ row → get new other bit ≡ get old other bit
+get-sets_row_other old new row other bit value sets differ = ap (λ rows. get_or (get_or rows other []) bit false) sets.rows ∙ get-with_row_other old row other bit value differ
+
+pub length-sets_row : (old new : Rows) (row : ℕ) (value : ℕ → Bool) → SetsRow old new row value → length new.rows ≡ length old.rows
+length-sets_row old new row value sets = ap length sets.rows ∙ length-set old.rows row (row_of old.bits value)

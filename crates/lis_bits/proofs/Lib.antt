@@ -3,4 +3,5 @@ mod Bits
 mod Joined
 mod Counts
 mod Subset
+mod Copied
 pub mod Laws

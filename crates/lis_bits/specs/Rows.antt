@@ -40,3 +40,8 @@ true_count r row = count_by (λ value. value) (row_at r row)
 -- no bit from the first number up to the second is true
 abbrev pub NoneTrue : Rows → ℕ → ℕ → ℕ → Type 0
 NoneTrue r row start end = (bit : ℕ) → start ≤ bit → bit < end → get r row bit ≡ false
+
+-- the new rows are the old ones with one row set to these truth values, by any number of edits
+pub record SetsRow (old new : Rows) (row : ℕ) (value : ℕ → Bool) : Type 0 where
+  pub bits : new.bits ≡ old.bits
+  pub rows : new.rows ≡ slice_set old.rows row (row_of old.bits value)
