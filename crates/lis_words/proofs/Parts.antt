@@ -1,8 +1,8 @@
 -- The two sides of the first colon, by its place.
-use Rattle.std.proofs.Common.{◌≡◌, ℕ, ◌+◌, ◌-◌, ◌<◌, ◌≤◌, ◌^◌, ◌*◌, Bool, true, false, not, cond, List, [], ◌∷◌, length, take, drop, refl, ap, arith, suc}
+use Rattle.std.proofs.Common.{◌≡◌, ℕ, ◌+◌, ◌<◌, ◌≤◌, ◌^◌, Bool, true, false, not, cond, List, [], ◌∷◌, length, take, drop, refl, ap, sym, ◌∙◌, arith, suc}
 use Rattle.std.specs.List.{prefix_len}
 use Rattle.std.proofs.Math.Nat.{pow-le-pow_right}
-use Rattle.std.proofs.lemmas.Bool.{cond-true, cond-false}
+use Rattle.std.proofs.lemmas.List.Sums.{prefix_len-le-length}
 use Rattle.lis_words.specs.Words.{is_colon, stem, value}
 
 abbrev pub colon_place : List ℕ → ℕ
@@ -35,3 +35,21 @@ digit_fits n i below few =
     let le : i ≤ 11 = omega arith in
     let most : 10 ^ i ≤ 10 ^ 11 = pow-le-pow_right (omega arith) {j = 11} le in
     omega arith
+
+pub digits_below : (n i : ℕ) → n < 10 ^ i → i ≤ 12 → n < 10 ^ 12
+digits_below n i below few =
+    let most : 10 ^ i ≤ 10 ^ 12 = pow-le-pow_right (omega arith) {j = 12} few in
+    omega arith
+
+pub none_behind : (rest : List ℕ) → length rest < 1 → rest ≡ drop 1 rest
+none_behind [] h = refl
+none_behind (b ∷ rest) h = absurd (omega arith)
+
+pub value_is : (bytes rest : List ℕ) (n : ℕ) → n ≡ colon_place bytes → rest ≡ drop n bytes → drop 1 rest ≡ value bytes
+value_is bytes rest n at is = ap (λ xs. drop 1 xs) (is ∙ ap (λ k. drop k bytes) at) ∙ sym (value_behind bytes)
+
+pub stem_is : (bytes : List ℕ) (n : ℕ) → n ≡ colon_place bytes → take n bytes ≡ stem bytes
+stem_is bytes n at = ap (λ k. take k bytes) at ∙ sym (stem_before bytes)
+
+pub within : (bytes : List ℕ) (n : ℕ) → n ≡ colon_place bytes → n ≤ length bytes
+within bytes n at = rw at (prefix_len-le-length (λ b. not (is_colon b)) bytes)

@@ -14,7 +14,12 @@ pub const MAX_DIGITS: usize = 12;
 pub fn is_plain_byte(byte: u8) -> bool
     ensures { result ≡ is_plain_byte byte }
 {
-    byte.is_ascii_alphanumeric() || byte == b'_' || byte == b'-' || byte == b'.' || byte == b'+' || byte == b'@'
+    byte.is_ascii_alphanumeric()
+        || byte == b'_'
+        || byte == b'-'
+        || byte == b'.'
+        || byte == b'+'
+        || byte == b'@'
 }
 
 pub fn are_plain(bytes: &[u8]) -> bool

@@ -1,6 +1,6 @@
 //! Words: properties as they are written.
 
-ghost use Rattle.std.specs.Prelude.{◌≡◌, ℕ, ◌≤◌, ◌↔◌, ◌++◌, ◌&&◌, List, length, IsTrue, IsSome, IfSome};
+ghost use Rattle.std.specs.Prelude.{◌≡◌, ℕ, ◌≤◌, ◌<◌, ◌↔◌, [], ◌∷◌, ◌++◌, ◌&&◌, List, length, codes, IsTrue, IsSome, IfSome};
 ghost use Rattle.lis_words.specs.Words.{is_word, is_head, is_valued, is_built_in, has_word, head_bytes, built_in_heads};
 ghost use Rattle.lis_words.specs.Kind.{kind_of};
 
@@ -36,6 +36,17 @@ impl Model for Word {
     ghost invariant = { λ w. IsTrue (is_word w.held.items) };
 
     ghost inverse = { λ bytes. record { held = record { items = bytes } } };
+}
+
+/// The word `_`, for a container of fixed capacity that wants a value to begin with.
+impl Default for Word {
+    ghost is_default = { λ w. w ≡ codes "_" };
+
+    fn default() -> Self {
+        let mut held = ArrayVec::new();
+        held.push(b'_');
+        Word { held }
+    }
 }
 
 /// Reads a word. None comes exactly where the bytes are no word.
@@ -84,20 +95,34 @@ pub fn kind(word: &Word) -> PropKind
     PropKind::Valued
 }
 
+fn with_colon(stem: &[u8]) -> ArrayVec<u8, 60>
+    requires { length stem.now < 60 }
+    ensures { result.items ≡ stem.now ++ 58 ∷ [] }
+{
+    let mut held = ArrayVec::new();
+    held.try_extend_from_slice(stem).unwrap();
+    held.push(b':');
+    held
+}
+
+fn head(word: &Word) -> Word
+    requires { IsTrue (is_valued word.now) }
+    ensures { result ≡ head_bytes word.now }
+{
+    let (stem, _) = split_at_colon(word.bytes());
+    let held = with_colon(stem);
+    Word { held }
+}
+
 /// The head of a valued word. None comes exactly where the word is not valued.
 pub fn head_of(word: &Word) -> Option<Word>
     ensures valued { IsSome result ↔ IsTrue (is_valued word.now) }
     ensures head { IfSome result (λ head. head ≡ head_bytes word.now) }
 {
-    let bytes = word.bytes();
-    if !is_valued(bytes) {
+    if !is_valued(word.bytes()) {
         return None;
     }
-    let (stem, _) = split_at_colon(bytes);
-    let mut held = ArrayVec::new();
-    held.try_extend_from_slice(stem).ok()?;
-    held.try_push(b':').ok()?;
-    Some(Word { held })
+    Some(head(word))
 }
 
 fn is_builtin_head(bytes: &[u8]) -> bool
@@ -124,6 +149,16 @@ fn is_builtin_head(bytes: &[u8]) -> bool
     b"defines:".as_slice() == bytes
 }
 
+fn has_builtin_head(word: &Word) -> bool
+    ensures { result ≡ (is_valued word.now && has_word built_in_heads (head_bytes word.now)) }
+{
+    if !is_valued(word.bytes()) {
+        return false;
+    }
+    let head = head(word);
+    is_builtin_head(head.bytes())
+}
+
 /// Whether the word is a head of the words that are derived from files, or has such a head.
 pub fn is_builtin(word: &Word) -> bool
     ensures { result ≡ is_built_in word.now }
@@ -131,15 +166,12 @@ pub fn is_builtin(word: &Word) -> bool
     if is_builtin_head(word.bytes()) {
         return true;
     }
-    match head_of(word) {
-        None => false,
-        Some(head) => is_builtin_head(head.bytes()),
-    }
+    has_builtin_head(word)
 }
 
 /// The word of a head and a value. None comes exactly where the first is no head, or the two are no valued word.
 pub fn with_value(head: &Word, value: &[u8]) -> Option<Word>
-    ensures valued { IsSome result ↔ IsTrue (is_head head.now && is_valued (head.now ++ value.now)) }
+    ensures valued { IsSome result ↔ (IsTrue (is_head head.now) × IsTrue (is_valued (head.now ++ value.now))) }
     ensures joined { IfSome result (λ word. word ≡ head.now ++ value.now) }
 {
     if !is_head(head.bytes()) {

@@ -6,5 +6,5 @@ use Rattle.lis_words.proofs.forms.digits_value.Given as goal
 abbrev pub invariant-loop-digit : goal.invariant-loop-digit
 invariant-loop-digit l = record {
   spelled : l.n ≡ fold with_digit 0 (take l.digit-index l.digits);
-  below : l.n < 10 ^ l.digit-index
+  below : l.n < 10 ^ l.digit-index;
 }

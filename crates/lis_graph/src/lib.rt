@@ -1,0 +1,2 @@
+//! Chains of links over any points: definitions and laws, and no code.
+#![tactic(auto)]

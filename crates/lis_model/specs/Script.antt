@@ -1,0 +1,118 @@
+-- How the input is cut into items.
+use Rattle.std.specs.Prelude.{ℕ, ◌==◌, nat_lt, nat_le, zero, suc, Bool, true, false, not, ◌||◌, if◌then◌else◌, Option, Some, None, List, [], ◌∷◌, ◌++◌, length, take, filter, codes}
+use Rattle.std.specs.Option.{option_to_list}
+use Rattle.std.specs.List.{list_any, list_all}
+use Rattle.lis_words.specs.Words.{same_word, is_plain_word, is_file_name}
+use Rattle.lis_model.specs.declared.refusal.Refusal.TheVariants.{BadLine}
+use Rattle.lis_model.specs.declared.command.Command.TheVariants.{Mkdir, Create, Ls}
+use Rattle.lis_model.specs.Step.{Item, no_payload}
+use Rattle.lis_model.specs.Step.Item.{Do, Bad}
+
+abbrev pub is_feed : ℕ → Bool
+is_feed b = b == 10
+
+-- space or tab
+abbrev pub is_blank : ℕ → Bool
+is_blank b = (b == 32) || (b == 9)
+
+-- what stands before the first line feed, and what stands behind it
+abbrev pub before_feed : List ℕ → List ℕ
+before_feed [] = []
+before_feed (b ∷ bytes) = if is_feed b then [] else b ∷ before_feed bytes
+
+abbrev pub after_feed : List ℕ → List ℕ
+after_feed [] = []
+after_feed (b ∷ bytes) = if is_feed b then bytes else after_feed bytes
+
+-- one CR at the end of a line is dropped
+abbrev pub without_return : List ℕ → List ℕ
+without_return [] = []
+without_return (b ∷ []) = if b == 13 then [] else b ∷ []
+without_return (b ∷ c ∷ bytes) = b ∷ without_return (c ∷ bytes)
+
+-- the pieces between blanks; some may be empty
+abbrev pub pieces_on : List ℕ → List ℕ → List (List ℕ)
+pieces_on piece [] = piece ∷ []
+pieces_on piece (b ∷ bytes) = if is_blank b then piece ∷ pieces_on [] bytes else pieces_on (piece ++ b ∷ []) bytes
+
+abbrev pub is_some_bytes : List ℕ → Bool
+is_some_bytes bytes = nat_lt 0 (length bytes)
+
+-- the longest runs of bytes other than space and tab
+abbrev pub words_of : List ℕ → List (List ℕ)
+words_of text = filter is_some_bytes (pieces_on [] text)
+
+-- the forms of lines, by what follows the first word
+abbrev pub bad_line : Item
+bad_line = Bad BadLine
+
+abbrev pub mkdir_form : List (List ℕ) → Item
+mkdir_form [] = bad_line
+mkdir_form (word ∷ []) = if is_plain_word word then Do (Mkdir word) no_payload else bad_line
+mkdir_form (word ∷ more ∷ words) = bad_line
+
+-- a file's name, and 0 or 1 words
+abbrev pub create_form : List (List ℕ) → Item
+create_form [] = bad_line
+create_form (name ∷ []) = if is_file_name name then Do (Create name []) no_payload else bad_line
+create_form (name ∷ word ∷ []) =
+    if is_file_name name then (if is_plain_word word then Do (Create name (word ∷ [])) no_payload else bad_line) else bad_line
+create_form (name ∷ word ∷ more ∷ words) = bad_line
+
+abbrev pub ls_form : List (List ℕ) → Item
+ls_form [] = Do Ls no_payload
+ls_form (word ∷ words) = bad_line
+
+abbrev pub form_of : List ℕ → List (List ℕ) → Item
+form_of first words =
+    if same_word first (codes "mkdir") then mkdir_form words
+    else if same_word first (codes "create") then create_form words
+    else if same_word first (codes "ls") then ls_form words
+    else bad_line
+
+-- a line without words asks for nothing
+abbrev pub item_of_words : List (List ℕ) → Option Item
+item_of_words [] = None
+item_of_words (first ∷ words) = Some (form_of first words)
+
+-- what a line asks for, given what stands before its line feed; 1,024 bytes are the most
+abbrev pub item_of : List ℕ → Option Item
+item_of text = if nat_lt 1024 (length text) then Some bad_line else item_of_words (words_of (without_return text))
+
+-- the first part of an input: what it asks for, what is left behind it, and whether it ended with its own line feed
+pub record First : Type 0 where
+  pub item : Option Item
+  pub rest : List ℕ
+  pub is_whole : Bool
+
+abbrev pub first_of : List ℕ → First
+first_of bytes = record {
+  item = item_of (before_feed bytes);
+  rest = after_feed bytes;
+  is_whole = list_any is_feed bytes;
+}
+
+-- The items of an input, taken one after another, at most as many as there are bytes: each takes one byte at least.
+abbrev pub items_within : ℕ → List ℕ → List Item
+items_within zero bytes = []
+items_within (suc n) [] = []
+items_within (suc n) (b ∷ bytes) =
+    option_to_list (first_of (b ∷ bytes)).item ++ items_within n (first_of (b ∷ bytes)).rest
+
+unfoldable pub all_items : List ℕ → List Item
+all_items bytes = items_within (length bytes) bytes
+
+-- the same, up to the first part that has no line feed of its own
+abbrev pub whole_within : ℕ → List ℕ → List Item
+whole_within zero bytes = []
+whole_within (suc n) [] = []
+whole_within (suc n) (b ∷ bytes) =
+    if (first_of (b ∷ bytes)).is_whole then option_to_list (first_of (b ∷ bytes)).item ++ whole_within n (first_of (b ∷ bytes)).rest
+    else []
+
+unfoldable pub whole_items : List ℕ → List Item
+whole_items bytes = whole_within (length bytes) bytes
+
+-- All items, where the input has at most `limit` bytes; else those that are whole in the first `limit` bytes.
+abbrev pub script : List ℕ → ℕ → List Item
+script bytes limit = if nat_le (length bytes) limit then all_items bytes else whole_items (take limit bytes)

@@ -1,0 +1,126 @@
+-- What is kept: declared words, axioms and files, and the description of a file.
+use Rattle.std.specs.Prelude.{◌≡◌, ℕ, ◌+◌, ◌*◌, ◌/◌, ◌≤◌, nat_le, Bool, not, ◌&&◌, ◌||◌, if◌then◌else◌, List, [], ◌∷◌, ◌++◌, length, map, sum, IsTrue}
+use Rattle.std.specs.List.{list_all, flat_map}
+use Rattle.std.specs.declared.cmp.Ordering.{Ordering}
+use Rattle.std.specs.Ordering.{ordering_then}
+use Rattle.lis_graph.specs.Graph as graph
+use Rattle.lis_graph.specs.Graph.{is_rising}
+use Rattle.lis_words.specs.Words.{word_cmp, same_word, has_word, head_bytes, is_plain_word, is_head, is_valued, is_built_in}
+use Rattle.lis_model.specs.declared.limits.Limits.{Limits}
+use Rattle.lis_model.specs.Sets.{with_words, set_of}
+use Rattle.lis_model.specs.Derived.{derived_words}
+
+pub record File : Type 0 where
+  pub name : List ℕ
+  pub bytes : List ℕ
+  -- the words that the user gave it, a set
+  pub assigned : List (List ℕ)
+
+pub record State : Type 0 where
+  pub limits : Limits
+  -- a set of words
+  pub declared : List (List ℕ)
+  -- pairs of a left and a right side, in order and without repeats
+  pub axioms : List (List ℕ × List ℕ)
+  -- in the order of their names
+  pub files : List File
+
+abbrev pub empty_state : Limits → State
+empty_state limits = record { limits = limits; declared = []; axioms = []; files = [] }
+
+-- the head of a valued word
+abbrev pub heads : List ℕ → List (List ℕ)
+heads word = if is_valued word then head_bytes word ∷ [] else []
+
+-- the pairs of words that a link joins, beside each valued word and its head
+abbrev pub edges : State → List (List ℕ × List ℕ)
+edges s = s.axioms
+
+-- Some chain of links leads from p to q; it may be empty. A link goes from a valued word to its head, and from the left side of an
+-- axiom to its right side.
+abbrev pub Entails : List (List ℕ × List ℕ) → List ℕ → List ℕ → Type 0
+Entails axioms p q = graph.Entails heads axioms p q
+
+-- no chain of at least one link leads from a word to itself
+abbrev pub Acyclic : List (List ℕ × List ℕ) → Type 0
+Acyclic axioms = graph.Acyclic heads axioms
+
+-- what a word entails, itself included
+abbrev pub up : List (List ℕ × List ℕ) → List ℕ → List (List ℕ)
+up axioms p = graph.up same_word word_cmp heads axioms p
+
+-- the test of `Acyclic`
+abbrev pub is_acyclic : List (List ℕ × List ℕ) → Bool
+is_acyclic axioms = graph.is_acyclic same_word word_cmp heads axioms
+
+-- the words that a file has by itself: those it was given, and those derived from its name and bytes
+abbrev pub own_words : File → List (List ℕ)
+own_words file = file.assigned ++ derived_words file.name file.bytes
+
+-- with all that they entail
+abbrev pub file_words : List (List ℕ × List ℕ) → File → List (List ℕ)
+file_words axioms file = set_of (flat_map (up axioms) (own_words file))
+
+abbrev pub description : State → File → List (List ℕ)
+description s file = file_words (edges s) file
+
+-- the left sides of axioms, and their heads
+abbrev pub left_words : State → List (List ℕ)
+left_words s = map (λ pair. pair.0) s.axioms ++ flat_map (λ pair. heads pair.0) s.axioms
+
+-- the declared words, the left sides of axioms and their heads, and all descriptions
+abbrev pub known : State → List (List ℕ)
+known s = with_words s.declared (left_words s ++ flat_map (description s) s.files)
+
+-- what may be declared, assigned, and named by an axiom or a formula
+abbrev pub is_declarable : List ℕ → Bool
+is_declarable word = is_plain_word word || (is_head word && not (is_built_in word))
+
+abbrev pub is_assignable : List (List ℕ) → List ℕ → Bool
+is_assignable declared word =
+    (is_plain_word word && has_word declared word) || (is_valued word && has_word declared (head_bytes word))
+
+abbrev pub is_known_head : List (List ℕ) → List ℕ → Bool
+is_known_head declared word = is_head word && (has_word declared word || is_built_in word)
+
+abbrev pub is_nameable : List (List ℕ) → List ℕ → Bool
+is_nameable declared word =
+    (is_plain_word word && has_word declared word) || is_known_head declared word || (is_valued word && is_known_head declared (head_bytes word))
+
+-- axioms are in the order of their left sides, and then of their right sides; files in the order of their names
+abbrev pub pair_cmp : List ℕ × List ℕ → List ℕ × List ℕ → Ordering
+pair_cmp a b = ordering_then (word_cmp a.0 b.0) (word_cmp a.1 b.1)
+
+abbrev pub file_cmp : File → File → Ordering
+file_cmp a b = word_cmp a.name b.name
+
+-- how many blocks so many bytes take
+abbrev pub blocks_needed : ℕ → ℕ
+blocks_needed bytes = (bytes + 4095) / 4096
+
+-- the axioms speak of what is there, and lead in no circle
+pub record AxiomsAreFormed (s : State) : Type 0 where
+  pub rights : IsTrue (list_all (λ pair. is_plain_word pair.1 && has_word s.declared pair.1) s.axioms)
+  pub lefts : IsTrue (list_all (λ pair. is_nameable s.declared pair.0) s.axioms)
+  pub acyclic : Acyclic (edges s)
+
+-- each file's words and bytes are within the limits
+pub record FilesAreFormed (s : State) : Type 0 where
+  pub assigned_sets : IsTrue (list_all (λ (file : File). is_rising word_cmp file.assigned) s.files)
+  pub assigned : IsTrue (list_all (λ (file : File). list_all (is_assignable s.declared) file.assigned) s.files)
+  pub few_assigned : IsTrue (list_all (λ (file : File). nat_le (length file.assigned) 16) s.files)
+  pub few_words : IsTrue (list_all (λ (file : File). nat_le (length (description s file)) 128) s.files)
+  pub short : IsTrue (list_all (λ (file : File). nat_le (length file.bytes) 65536) s.files)
+
+-- what every command keeps
+pub record WellFormed (s : State) : Type 0 where
+  pub declared_set : IsTrue (is_rising word_cmp s.declared)
+  pub axiom_set : IsTrue (is_rising pair_cmp s.axioms)
+  pub file_set : IsTrue (is_rising file_cmp s.files)
+  pub declared : IsTrue (list_all is_declarable s.declared)
+  pub axioms : AxiomsAreFormed s
+  pub files : FilesAreFormed s
+  pub few_files : length s.files ≤ s.limits.files
+  pub few_known : length (known s) ≤ s.limits.props
+  pub few_axioms : length s.axioms ≤ s.limits.props
+  pub few_blocks : sum (map (λ (file : File). blocks_needed (length file.bytes)) s.files) ≤ s.limits.blocks

@@ -1,0 +1,84 @@
+//! Commands and the words that they carry.
+
+ghost use Rattle.std.specs.Prelude.{◌≡◌, ◌==◌, ℕ, ◌<◌, ◌≤◌, List, [], ◌∷◌, ◌++◌, length, slice_get};
+ghost use Rattle.std.specs.Option.{option_copied};
+
+use arrayvec::ArrayVec;
+use lis_words::{Name, Word};
+use std::marker::Model;
+
+/// At most 16 words, in the order in which they were written.
+#[derive(Drop, Debug)]
+pub struct Tags {
+    words: ArrayVec<Word, 16>,
+}
+
+impl Model for Tags {
+    ghost use Rattle.std.specs.Prelude.{ℕ, List};
+
+    ghost Value = { List (List ℕ) };
+
+    ghost view = { λ t. t.words.items };
+
+    ghost inverse = { λ words. record { words = record { items = words } } };
+}
+
+impl Tags {
+    pub fn new() -> Tags
+        ensures { result ≡ [] }
+    {
+        Tags {
+            words: ArrayVec::new(),
+        }
+    }
+
+    pub fn len(&self) -> usize
+        ensures value { result ≡ length self.now }
+        ensures few { result ≤ 16 }
+    {
+        self.words.len()
+    }
+
+    pub fn is_empty(&self) -> bool
+        ensures { result ≡ (length self.now == 0) }
+    {
+        self.words.is_empty()
+    }
+
+    /// Appends the word.
+    pub fn push(&mut self, word: &Word)
+        requires { length self.old < 16 }
+        ensures { self.new ≡ self.old ++ word.now ∷ [] }
+    {
+        self.words.push(word.copied());
+    }
+
+    /// The words, in order.
+    pub fn as_slice(&self) -> &[Word]
+        ensures words { result.now ≡ self.now }
+        ensures few { length result.now ≤ 16 }
+    {
+        self.words.as_slice()
+    }
+
+    /// The word at place `k`, counted from 0. None comes exactly where there is none.
+    pub fn word(&self, k: u32) -> Option<Word>
+        ensures { result ≡ slice_get self.now k }
+    {
+        match self.words.as_slice().get(k as usize) {
+            None => None,
+            Some(word) => Some(word.copied()),
+        }
+    }
+}
+
+/// What a line asks for.
+#[derive(Drop, Debug)]
+pub enum Command {
+    /// Declares the word.
+    Mkdir(Word),
+    /// Makes an empty file of that name with these words.
+    Create(Name, Tags),
+    /// Shows the increments and the locals of the place.
+    Ls,
+}

@@ -1,0 +1,6 @@
+//! The definitions that every contract above cites, and the plain types of limits, commands and refusals.
+#![tactic(auto)]
+
+pub mod command;
+pub mod limits;
+pub mod refusal;
