@@ -1,1 +1,4 @@
 mod Examples
+pub mod Operands
+pub mod Forth
+pub mod Back
