@@ -1,8 +1,8 @@
 -- From the machine to the grammar: how the text is made that the machine has taken, by what waits and where it stands.
-use Rattle.std.proofs.Common.{◌≡◌, ℕ, Bool, true, false, cond, ◌||◌, ◌==◌, ◌⊎◌, inl, inr, Option, Some, None, List, [], ◌∷◌, ◌++◌, refl, ap, sym, ◌∙◌, append_assoc, append-nil}
+use Rattle.std.proofs.Common.{◌≡◌, ℕ, Bool, true, false, cond, ◌==◌, ◌⊎◌, inl, inr, Option, Some, None, List, [], ◌∷◌, ◌++◌, refl, ap, sym, ◌∙◌, append_assoc, append-nil}
 use Rattle.std.proofs.lemmas.Bool.{eqb-true, false≢true}
 use Rattle.lis_grammar.specs.Formula.{Formula}
-use Rattle.lis_grammar.specs.Formula.Formula.{Has, SizeAtLeast, SizeBelow, Negation, Both, Either}
+use Rattle.lis_grammar.specs.Formula.Formula.{Negation, Both}
 use Rattle.lis_grammar.specs.Grammar.{conjunction, Path, Alt, Neg, Reads}
 use Rattle.lis_grammar.specs.Grammar.Path.{alt, slash}
 use Rattle.lis_grammar.specs.Grammar.Alt.{neg, bar}
@@ -129,10 +129,11 @@ close_bar_back (done (SlashAfter g ∷ ops) steps f) text n = alone (SlashAfter 
 
 outermost : (steps : List Formula) (f : Formula) (text before last : List ℕ) → text ≡ before ++ last → Alt last f → Wanted [] steps before → Path text (steps ++ f ∷ [])
 outermost steps f text before last e a w = elim w [
-    inl none ↦
+  | inl none ↦
       rw (e, none.0, none.1) (alt last f a)
   | inr some ↦
-      rw (e ∙ (ap (λ xs. xs ++ last) some.1 ∙ append_assoc some.0 (47 ∷ []) last)) (slash some.0 last steps f some.2 a) ]
+      rw (e ∙ (ap (λ xs. xs ++ last) some.1 ∙ append_assoc some.0 (47 ∷ []) last)) (slash some.0 last steps f some.2 a)
+]
 
 in_slash : (g f : Formula) (ops : List Pending) (steps : List Formula) (text : List ℕ) → takes_path ops ≡ true → Paths ops steps (Both g f) text
     → PathCompleted (done ops steps (Both g f)) text
@@ -193,15 +194,19 @@ joint_back b d text s c e = at_bar (b == 124) refl e
   where
     alts : AltCompleted (close_bar d) text
     alts = close_bar_back d text c
+
     paths : PathCompleted (close_slash (close_bar d)) text
     paths = close_slash_back (close_bar d) text alts
+
     at_paren : (t : Bool) → (b == 41) ≡ t → cond t (after_paren (close_slash (close_bar d))) None ≡ Some s → Stands s (text ++ b ∷ [])
     at_paren true h e = rw (eqb-true b 41 h) (after_paren_back (close_slash (close_bar d)) text s paths e)
     at_paren false h e = absurd (cc)
+
     at_slash : (t : Bool) → (b == 47) ≡ t → cond t (Some (after_slash (close_slash (close_bar d)))) (cond (b == 41) (after_paren (close_slash (close_bar d))) None) ≡ Some s
         → Stands s (text ++ b ∷ [])
     at_slash true h e = rw (eqb-true b 47 h, sym (some_same _ s e)) (after_slash_back (close_slash (close_bar d)) text paths)
     at_slash false h e = at_paren (b == 41) refl e
+
     at_bar : (t : Bool) → (b == 124) ≡ t
         → cond t (Some (after_bar (close_bar d))) (cond (b == 47) (Some (after_slash (close_slash (close_bar d)))) (cond (b == 41) (after_paren (close_slash (close_bar d))) None)) ≡ Some s
         → Stands s (text ++ b ∷ [])
@@ -235,6 +240,7 @@ step_back (Wants ops steps) text b t st h = at_bang (b == 33) refl h
     at_open : (q : Bool) → (b == 40) ≡ q → cond q (Some (Wants (Open ∷ ops) steps)) (within ops steps (b ∷ [])) ≡ Some t → Stands t (text ++ b ∷ [])
     at_open true e h = rw (eqb-true b 40 e, sym (some_same _ t h)) (text, refl, st)
     at_open false e h = within_back ops steps text (b ∷ []) (text ++ b ∷ []) t refl st h
+
     at_bang : (q : Bool) → (b == 33) ≡ q → cond q (Some (Wants (Bang ∷ ops) steps)) (cond (b == 40) (Some (Wants (Open ∷ ops) steps)) (within ops steps (b ∷ []))) ≡ Some t
         → Stands t (text ++ b ∷ [])
     at_bang true e h = rw (eqb-true b 33 e, sym (some_same _ t h)) (text, refl, st)
@@ -244,6 +250,7 @@ step_back (Within ops steps inside) text b t st h = by (is_joint b) h
     behind : (o : Option Done) → completed ops steps (operand inside) ≡ o → and_then o (joint b) ≡ Some t → Stands t (text ++ b ∷ [])
     behind None e h = absurd (cc)
     behind (Some d) e h = joint_back b d text t (operand_back ops steps st.0 inside text d st.1 st.2 e) h
+
     by : (q : Bool) → cond q (and_then (completed ops steps (operand inside)) (joint b)) (within ops steps (inside ++ b ∷ [])) ≡ Some t → Stands t (text ++ b ∷ [])
     by true h = behind (completed ops steps (operand inside)) refl h
     by false h =
@@ -282,6 +289,7 @@ path_sound text fs h = at_run (run (Wants [] []) text) refl h
     at_closed : (s : State) → Stands s text → (o : Option Done) → closed s ≡ o → and_then o ended ≡ Some fs → Path text fs
     at_closed s st None e h = absurd (cc)
     at_closed s st (Some d) e h = ended_back d text fs (closed_back s text d st e) h
+
     at_run : (o : Option State) → run (Wants [] []) text ≡ o → and_then (and_then o closed) ended ≡ Some fs → Path text fs
     at_run None e h = absurd (cc)
     at_run (Some s) e h = at_closed s (run_back (Wants [] []) [] text s start_stands e) (closed s) refl h

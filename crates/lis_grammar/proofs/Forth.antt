@@ -1,16 +1,16 @@
 -- From the grammar to the machine: the machine takes each text of the grammar, and computes its steps.
-use Rattle.std.proofs.Common.{◌≡◌, ℕ, Bool, true, false, cond, ◌==◌, Option, Some, None, List, [], ◌∷◌, ◌++◌, refl, ap, sym, ◌∙◌, subst, codes}
+use Rattle.std.proofs.Common.{◌≡◌, ℕ, Bool, true, false, ◌==◌, Option, Some, None, List, [], ◌∷◌, ◌++◌, refl, ap, sym, ◌∙◌, codes}
 use Rattle.std.specs.List.{fold}
-use Rattle.std.proofs.lemmas.Bool.{eqb-true, false≢true, cond-true, cond-false}
-use Rattle.lis_words.specs.Words.{is_word, is_count, count_of}
+use Rattle.std.proofs.lemmas.Bool.{eqb-true, cond-true}
+use Rattle.lis_words.specs.Words.{count_of}
 use Rattle.lis_grammar.specs.Formula.{Formula}
-use Rattle.lis_grammar.specs.Formula.Formula.{Has, SizeAtLeast, SizeBelow, Negation, Both, Either}
+use Rattle.lis_grammar.specs.Formula.Formula.{Has, SizeAtLeast, SizeBelow, Both}
 use Rattle.lis_grammar.specs.Grammar.{conjunction, Path, Alt, Neg, Reads}
 use Rattle.lis_grammar.specs.Grammar.Path.{alt, slash}
 use Rattle.lis_grammar.specs.Grammar.Alt.{neg, bar}
 use Rattle.lis_grammar.specs.Grammar.Neg.{bang, parens, word, at_least, below}
 use Rattle.lis_grammar.specs.Grammar.Reads.{root, from_here, from_root}
-use Rattle.lis_grammar.specs.Machine.{Pending, Done, State, and_then, operand, is_operand_front, complete, completed, settled, close_bar, close_slash, after_bar, after_slash, after_paren, joint, is_joint, step, run, closed, ended, path_steps, with_root, root_steps, text_steps}
+use Rattle.lis_grammar.specs.Machine.{Pending, Done, State, and_then, operand, is_operand_front, complete, completed, settled, close_bar, close_slash, after_bar, after_slash, after_paren, joint, is_joint, step, run, closed, ended, path_steps, with_root, text_steps}
 use Rattle.lis_grammar.specs.Machine.Pending.{Bang, Open, BarAfter, SlashAfter}
 use Rattle.lis_grammar.specs.Machine.Done.{done}
 use Rattle.lis_grammar.specs.Machine.State.{Wants, Within, Complete}
@@ -163,6 +163,7 @@ no_slash b text fs h = by (b == 47) refl
   where
     at_slash : path_steps (47 ∷ text) ≡ Some fs → ⊥
     at_slash h = cc
+
     by : (t : Bool) → (b == 47) ≡ t → t ≡ false
     by true e = absurd (at_slash (ap (λ c. path_steps (c ∷ text)) (sym (eqb-true b 47 e)) ∙ h))
     by false e = refl

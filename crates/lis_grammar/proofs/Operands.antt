@@ -1,13 +1,13 @@
 -- Words and tests as the machine takes them: every front of one is taken, and its bytes are no sign of a formula.
-use Rattle.std.proofs.Common.{◌≡◌, ℕ, ◌+◌, ◌<◌, ◌≤◌, Bool, true, false, not, cond, ◌&&◌, ◌||◌, ◌==◌, ◌⊎◌, inl, inr, Option, Some, None, List, [], ◌∷◌, ◌++◌, length, refl, ap, sym, ◌∙◌, arith, append_assoc, append-nil, length-append, nat_lt, nat_le, codes}
+use Rattle.std.proofs.Common.{◌≡◌, ℕ, ◌≤◌, Bool, true, false, not, cond, ◌&&◌, ◌||◌, ◌==◌, ◌⊎◌, inl, inr, Option, Some, None, List, [], ◌∷◌, ◌++◌, length, refl, ap, sym, ◌∙◌, arith, append_assoc, append-nil, length-append, nat_lt, nat_le, codes}
 use Rattle.std.specs.Char.{is_ascii_digit}
 use Rattle.std.specs.List.{list_all, list_any}
-use Rattle.std.proofs.lemmas.Bool.{or_left, or_right, or_cases, and_from, and_parts, eqb-true, leb-true, le-leb, ltb-true, lt-ltb, false≢true, cond-true, cond-false}
-use Rattle.std.proofs.lemmas.List.Folds.{list_all-append, list_any-append}
+use Rattle.std.proofs.lemmas.Bool.{or_left, or_right, or_cases, and_from, and_parts, eqb-true, leb-true, le-leb, lt-ltb, false≢true, cond-true}
+use Rattle.std.proofs.lemmas.List.Folds.{list_all-append}
 use Rattle.lis_words.specs.Words.{is_plain_byte, is_colon, begins_with_stop, is_plain_word, stem, value, has_stem, is_head, is_valued, is_word, is_count, count_of}
 use Rattle.lis_grammar.specs.Formula.{Formula}
 use Rattle.lis_grammar.specs.Formula.Formula.{Has, SizeAtLeast, SizeBelow}
-use Rattle.lis_grammar.specs.Machine.{Pending, State, and_then, or_else, after_sign, counted, operand, is_test_front, is_operand_front, is_joint, within, step, run}
+use Rattle.lis_grammar.specs.Machine.{Pending, or_else, after_sign, counted, operand, is_test_front, is_operand_front, is_joint, run}
 use Rattle.lis_grammar.specs.Machine.State.{Wants, Within}
 use Rattle.lis_grammar.specs.Grammar.{Neg}
 use Rattle.lis_grammar.specs.Grammar.Neg.{word, at_least, below}
@@ -75,8 +75,9 @@ valued_parts text h = let both = and_parts _ _ h in colon_parts text (and_parts 
 
 word_parts : (text : List ℕ) → is_word text ≡ true → (is_plain_word text ≡ true) ⊎ HasColon text
 word_parts text h = elim (or_cases _ _ h) [
-    inl both ↦ elim (or_cases _ _ both) [ inl plain ↦ inl plain | inr head ↦ inr (head_parts text head) ]
-  | inr valued ↦ inr (valued_parts text valued) ]
+  | inl both ↦ elim (or_cases _ _ both) [ inl plain ↦ inl plain | inr head ↦ inr (head_parts text head) ]
+  | inr valued ↦ inr (valued_parts text valued)
+]
 
 by_value : (text rest : List ℕ) → rest ≡ value text → has_stem text ≡ true → list_all is_plain_byte rest ≡ true → (is_head text || is_valued text) ≡ true
 by_value text [] e stems behind = or_left _ _ (and_from _ _ stems (ap (λ (xs : List ℕ). length xs == 0) (sym e)))
@@ -88,8 +89,9 @@ word_from_colon : (text : List ℕ) → HasColon text → is_word text ≡ true
 word_from_colon text has =
     let stems : has_stem text ≡ true = and_from _ _ (and_from _ _ (le-leb _ _ has.short) has.colon) has.plain in
     elim (or_cases (is_head text) (is_valued text) (by_value text (value text) refl stems has.behind)) [
-      inl head ↦ or_left (is_plain_word text || is_head text) _ (or_right (is_plain_word text) _ head)
-    | inr valued ↦ or_right (is_plain_word text || is_head text) _ valued ]
+      | inl head ↦ or_left (is_plain_word text || is_head text) _ (or_right (is_plain_word text) _ head)
+      | inr valued ↦ or_right (is_plain_word text || is_head text) _ valued
+    ]
 
 -- every front of a word but the empty one is a word
 
@@ -127,8 +129,9 @@ colon_closed c a b has = by (list_any is_colon (c ∷ a)) refl
 
 pub word_closed : (c : ℕ) (a b : List ℕ) → is_word ((c ∷ a) ++ b) ≡ true → is_word (c ∷ a) ≡ true
 word_closed c a b h = elim (word_parts ((c ∷ a) ++ b) h) [
-    inl plain ↦ or_left _ _ (or_left _ _ (plain_closed c a b plain))
-  | inr has ↦ colon_closed c a b has ]
+  | inl plain ↦ or_left _ _ (or_left _ _ (plain_closed c a b plain))
+  | inr has ↦ colon_closed c a b has
+]
 
 -- the same of a test
 
@@ -145,8 +148,9 @@ test_closed (c ∷ sign) (d ∷ a) b h =
 front_cases : (text : List ℕ) → is_operand_front text ≡ true
     → (is_word text ≡ true) ⊎ ((is_test_front (codes "size>=") text ≡ true) ⊎ (is_test_front (codes "size<") text ≡ true))
 front_cases text h = elim (or_cases _ _ h) [
-    inl both ↦ elim (or_cases _ _ both) [ inl a ↦ inl a | inr b ↦ inr (inl b) ]
-  | inr c ↦ inr (inr c) ]
+  | inl both ↦ elim (or_cases _ _ both) [ inl a ↦ inl a | inr b ↦ inr (inl b) ]
+  | inr c ↦ inr (inr c)
+]
 
 front_at_least : (text : List ℕ) → is_test_front (codes "size>=") text ≡ true → is_operand_front text ≡ true
 front_at_least text h = or_left _ _ (or_right _ _ h)
@@ -157,10 +161,12 @@ front_below text h = or_right _ _ h
 pub front_closed : (a b : List ℕ) → is_operand_front (a ++ b) ≡ true → is_operand_front a ≡ true
 front_closed [] b h = refl
 front_closed (c ∷ a) b h = elim (front_cases ((c ∷ a) ++ b) h) [
-    inl words ↦ or_left _ _ (or_left _ _ (word_closed c a b words))
+  | inl words ↦ or_left _ _ (or_left _ _ (word_closed c a b words))
   | inr tests ↦ elim tests [
-      inl test ↦ front_at_least (c ∷ a) (test_closed (codes "size>=") (c ∷ a) b test)
-    | inr test ↦ front_below (c ∷ a) (test_closed (codes "size<") (c ∷ a) b test) ] ]
+    | inl test ↦ front_at_least (c ∷ a) (test_closed (codes "size>=") (c ∷ a) b test)
+    | inr test ↦ front_below (c ∷ a) (test_closed (codes "size<") (c ∷ a) b test)
+  ]
+]
 
 -- the bytes of words, and those of words and tests
 
@@ -179,11 +185,12 @@ plain_is_word_byte b h = or_left _ _ h
 
 word_bytes : (text : List ℕ) → is_word text ≡ true → list_all is_word_byte text ≡ true
 word_bytes text h = elim (word_parts text h) [
-    inl plain ↦ all_weaker is_plain_byte is_word_byte plain_is_word_byte text (plain_parts text plain).2
+  | inl plain ↦ all_weaker is_plain_byte is_word_byte plain_is_word_byte text (plain_parts text plain).2
   | inr has ↦
       let front = all_weaker is_plain_byte is_word_byte plain_is_word_byte (stem text) (plain_parts (stem text) has.plain).2 in
       let behind = all_weaker is_plain_byte is_word_byte plain_is_word_byte (value text) has.behind in
-      ap (λ xs. list_all is_word_byte xs) (split_at_colon text has.colon) ∙ (list_all-append is_word_byte (stem text) (58 ∷ value text) ∙ and_from _ _ front behind) ]
+      ap (λ xs. list_all is_word_byte xs) (split_at_colon text has.colon) ∙ (list_all-append is_word_byte (stem text) (58 ∷ value text) ∙ and_from _ _ front behind)
+]
 
 word_byte_is_letter : (b : ℕ) → is_word_byte b ≡ true → is_letter b ≡ true
 word_byte_is_letter b h = or_left _ _ (or_left _ _ (or_left _ _ h))
@@ -202,10 +209,12 @@ test_letters (c ∷ sign) (b ∷ text) s h =
 
 front_letters : (text : List ℕ) → is_operand_front text ≡ true → list_all is_letter text ≡ true
 front_letters text h = elim (front_cases text h) [
-    inl words ↦ all_weaker is_word_byte is_letter word_byte_is_letter text (word_bytes text words)
+  | inl words ↦ all_weaker is_word_byte is_letter word_byte_is_letter text (word_bytes text words)
   | inr tests ↦ elim tests [
-      inl test ↦ test_letters (codes "size>=") text refl test
-    | inr test ↦ test_letters (codes "size<") text refl test ] ]
+    | inl test ↦ test_letters (codes "size>=") text refl test
+    | inr test ↦ test_letters (codes "size<") text refl test
+  ]
+]
 
 no_letter : (b k : ℕ) → is_letter k ≡ false → is_letter b ≡ true → (b == k) ≡ false
 no_letter b k other h = by (b == k) refl
@@ -300,8 +309,10 @@ operand_neg text f h = by (is_word text) refl h
   where
     tests : or_else (counted SizeAtLeast (after_sign (codes "size>=") text)) (counted SizeBelow (after_sign (codes "size<") text)) ≡ Some f → Neg text f
     tests h = elim (or_else_cases _ _ f h) [
-        inl a ↦ neg_at_least text f (counted_is SizeAtLeast (codes "size>=") text _ f refl a)
-      | inr b ↦ neg_below text f (counted_is SizeBelow (codes "size<") text _ f refl b) ]
+      | inl a ↦ neg_at_least text f (counted_is SizeAtLeast (codes "size>=") text _ f refl a)
+      | inr b ↦ neg_below text f (counted_is SizeBelow (codes "size<") text _ f refl b)
+    ]
+
     by : (t : Bool) → is_word text ≡ t
         → cond t (Some (Has text)) (or_else (counted SizeAtLeast (after_sign (codes "size>=") text)) (counted SizeBelow (after_sign (codes "size<") text))) ≡ Some f
         → Neg text f
