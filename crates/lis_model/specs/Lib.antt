@@ -6,3 +6,4 @@ pub mod Listing
 pub mod Replies
 pub mod Step
 pub mod Script
+pub mod Noted
