@@ -1,4 +1,4 @@
 pub mod LineLemmas
 pub mod TokenLemmas
-pub mod WordLemmas
 pub mod MailLemmas
+mod Examples

@@ -1,6 +1,6 @@
 -- Lines and fields, cut at a place that a search gave.
-use Rattle.std.proofs.Common.{◌≡◌, ◌≢◌, ℕ, suc, zero, ◌+◌, ◌-◌, ◌<◌, ◌≤◌, Bool, true, false, not, cond, ◌&&◌, ◌||◌, eqb, nat_lt, List, [], ◌∷◌, ◌++◌, length, take, drop, get_or, map, Option, Some, None, MatchOption, refl, sym, ap, subst, ◌∙◌, arith, ⊎_elim, inl, inr, take-append-drop}
-use Rattle.std.proofs.lemmas.Bool.{false≢true, eqb-true, eq-eqb, cases_eq}
+use Rattle.std.proofs.Common.{◌≡◌, ◌≢◌, ℕ, suc, zero, ◌+◌, ◌<◌, Bool, true, false, not, cond, ◌||◌, eqb, List, [], ◌∷◌, length, take, drop, get_or, map, Some, None, refl, sym, ap, subst, ◌∙◌, arith}
+use Rattle.std.proofs.lemmas.Bool.{eqb-true, eq-eqb}
 use Rattle.std.specs.List.{slice_split, take_while, position_or_len, before_first, after_first, list_any}
 use Rattle.std.proofs.lemmas.List.Sums.{position_or_len_is, take_while-cons}
 use Rattle.std.proofs.lemmas.List.Splits.{slice_split_first}
@@ -80,7 +80,7 @@ header_at bytes k found =
     let place : position_or_len is_feed bytes ≡ k = first_place is_feed bytes k found in
     header_cut bytes (take k bytes) (drop (k + 1) bytes)
     (subst (λ n. slice_split is_feed bytes ≡ take n bytes ∷ slice_split is_feed (drop (n + 1) bytes)) place
-      (slice_split_first is_feed bytes 0 (omega (arith, place, found.0.high))))
+    (slice_split_first is_feed bytes 0 (omega (arith, place, found.0.high))))
 
 -- whether a list has an element that passes, by the first place of one
 module _ (test : ℕ → Bool) where

@@ -1,7 +1,7 @@
 -- The words that are still to come, line by line and token by token.
-use Rattle.std.proofs.Common.{◌≡◌, ℕ, suc, ◌+◌, ◌<◌, ◌≤◌, Bool, true, false, not, cond, ◌&&◌, ◌||◌, eqb, List, [], ◌∷◌, ◌++◌, length, take, map, filter, codes, refl, sym, ap, subst, ◌∙◌, arith, append_assoc}
+use Rattle.std.proofs.Common.{◌≡◌, ℕ, suc, ◌+◌, ◌<◌, Bool, true, false, not, cond, ◌&&◌, ◌||◌, eqb, List, [], ◌∷◌, ◌++◌, length, take, map, filter, codes, refl, sym, ap, subst, ◌∙◌, arith, append_assoc}
 use Rattle.std.proofs.lemmas.Bool.{false≢true, eqb-true}
-use Rattle.std.specs.List.{take_while, concat, flat_map, prefix_len, before_first, after_first, list_any, position_or_len}
+use Rattle.std.specs.List.{take_while, concat, flat_map, before_first, after_first, list_any, position_or_len}
 use Rattle.std.proofs.lemmas.List.Sums.{take_while-cons, fold-append}
 use Rattle.std.proofs.lemmas.List.Elements.{filter-append}
 use Rattle.std.proofs.lemmas.List.{map-append}
@@ -76,14 +76,14 @@ pub folded_line : (kind : FieldKind) (line : List ℕ) (following : List (List �
     → rest_words kind (line ∷ following) ≡ token_words kind (tokens line) ++ rest_words kind following
 folded_line kind line following folded =
     let front : concat (take_while is_folded (line ∷ following)) ≡ line ++ concat (take_while is_folded following) =
-        ap concat (take_while-cons is_folded line following ∙ ap (λ t. cond t (line ∷ take_while is_folded following) []) folded) in
+    ap concat (take_while-cons is_folded line following ∙ ap (λ t. cond t (line ∷ take_while is_folded following) []) folded) in
     ap (λ t. token_words kind (tokens (concat (take_while is_folded (line ∷ following)))) ++ flat_map field_words (cond t (field_of line following ∷ fields following) (fields following)))
-      (folded_no_field line folded)
+    (folded_no_field line folded)
     ∙ ap (λ bytes. token_words kind (tokens bytes) ++ flat_map field_words (fields following)) front
     ∙ ap (λ ts. token_words kind ts ++ flat_map field_words (fields following))
-      (tokens_joined line (concat (take_while is_folded following)) (folds_begin following))
+    (tokens_joined line (concat (take_while is_folded following)) (folds_begin following))
     ∙ ap (λ words. words ++ flat_map field_words (fields following))
-      (token_words-append kind (tokens line) (tokens (concat (take_while is_folded following))))
+    (token_words-append kind (tokens line) (tokens (concat (take_while is_folded following))))
     ∙ append_assoc (token_words kind (tokens line)) (token_words kind (tokens (concat (take_while is_folded following)))) (flat_map field_words (fields following))
 
 -- any other line ends the field before it
@@ -92,7 +92,7 @@ pub other_line : (kind : FieldKind) (line : List ℕ) (following : List (List �
     ≡ token_words (begun_kind line) (tokens (after_first is_colon line)) ++ rest_words (begun_kind line) following
 other_line kind line following folded =
     let none : concat (take_while is_folded (line ∷ following)) ≡ [] =
-        ap concat (take_while-cons is_folded line following ∙ ap (λ t. cond t (line ∷ take_while is_folded following) []) folded) in
+    ap concat (take_while-cons is_folded line following ∙ ap (λ t. cond t (line ∷ take_while is_folded following) []) folded) in
     ap (λ bytes. token_words kind (tokens bytes) ++ flat_map field_words (fields (line ∷ following))) none
     ∙ ap (λ words. words ++ flat_map field_words (fields (line ∷ following))) (token_words-nil kind)
     ∙ by (is_field line)

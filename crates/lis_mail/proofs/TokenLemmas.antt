@@ -1,5 +1,5 @@
 -- The first token of a body, and what is left behind it.
-use Rattle.std.proofs.Common.{◌≡◌, ℕ, suc, zero, ◌+◌, ◌-◌, ◌<◌, ◌≤◌, Bool, true, false, not, cond, nat_lt, List, [], ◌∷◌, ◌++◌, length, take, drop, get_or, filter, refl, sym, ap, subst, ◌∙◌, arith, append-nil}
+use Rattle.std.proofs.Common.{◌≡◌, ℕ, suc, ◌+◌, ◌<◌, Bool, true, false, not, cond, List, [], ◌∷◌, ◌++◌, length, take, drop, filter, refl, sym, ap, subst, ◌∙◌, arith, append-nil}
 use Rattle.std.proofs.lemmas.Bool.{false≢true}
 use Rattle.std.specs.List.{slice_split, onto_first, prefix_len}
 use Rattle.std.proofs.lemmas.List.Elements.{filter-append}
@@ -104,7 +104,7 @@ tokens_joined xs (b ∷ ys) begins =
     ap (filter is_some_bytes) (split_joined xs b ys begins)
     ∙ filter-append is_some_bytes (slice_split is_between xs) (slice_split is_between ys)
     ∙ ap (λ ts. tokens xs ++ ts)
-      (sym (ap (λ t. filter is_some_bytes (cond t ([] ∷ slice_split is_between ys) (onto_first b (slice_split is_between ys)))) begins))
+    (sym (ap (λ t. filter is_some_bytes (cond t ([] ∷ slice_split is_between ys) (onto_first b (slice_split is_between ys)))) begins))
 
 -- a body that has nothing behind its gap
 pub no_token : (body rest : List ℕ) (n : ℕ) → n ≡ gap body → rest ≡ drop n body → length rest ≡ 0 → tokens body ≡ []
@@ -126,6 +126,6 @@ first_token body (b ∷ rest) n k at is some run_is =
     let whole : drop (gap body) body ≡ b ∷ rest = sym (is ∙ ap (λ m. drop m body) at) in
     let begins : is_between b ≡ false = begins_past_gap body b rest whole in (
       tokens_past_gap body ∙ ap tokens whole ∙ tokens_front b rest begins
-        ∙ ap (λ m. take m (b ∷ rest) ∷ tokens (drop m (b ∷ rest))) (sym run_is),
+          ∙ ap (λ m. take m (b ∷ rest) ∷ tokens (drop m (b ∷ rest))) (sym run_is),
       subst (λ m. 0 < m) (sym run_is) (run_some b rest begins),
     )

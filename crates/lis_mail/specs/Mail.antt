@@ -1,5 +1,5 @@
 -- The words that a mail gives. Which words a field gives is this project's own.
-use Rattle.std.specs.Prelude.{ℕ, Bool, if◌then◌else◌, List, [], ◌++◌, map, filter, codes}
+use Rattle.std.specs.Prelude.{ℕ, if◌then◌else◌, List, [], ◌++◌, map, filter, codes}
 use Rattle.std.specs.List.{flat_map, before_first}
 use Rattle.std.specs.Str.{str_to_ascii_lowercase}
 use Rattle.lis_words.specs.Words.{is_word, same_word}

@@ -71,6 +71,17 @@ impl Derived {
         self.words.push(word.copied());
     }
 
+    /// The same words, without memory taken: unlike `clone`, it can't fail.
+    pub fn copied(&self) -> Derived
+        ensures { result ≡ self.now }
+    {
+        let mut words = ArrayVec::new();
+        for word in self.words.as_slice() {
+            words.push(word.copied());
+        }
+        Derived { words }
+    }
+
     /// The words, in order.
     pub fn as_slice(&self) -> &[Word]
         ensures words { result.now ≡ self.now }

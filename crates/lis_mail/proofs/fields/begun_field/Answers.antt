@@ -1,5 +1,5 @@
-use Rattle.std.proofs.Common.{◌≡◌, ◌+◌, take, drop, cond, ◌&&◌, ap, sym, ◌∙◌}
-use Rattle.std.specs.List.{before_first, list_any}
+use Rattle.std.proofs.Common.{◌≡◌, cond, ◌&&◌, ap, sym, ◌∙◌}
+use Rattle.std.specs.List.{before_first}
 use Rattle.lis_mail.specs.declared.fields.FieldKind.TheVariants.{Other}
 use Rattle.lis_mail.specs.Lines.{is_colon, is_field_name}
 use Rattle.lis_mail.specs.Mail.{kind_of}
@@ -20,7 +20,7 @@ returns-in-Some-clause-kind c =
     let line = c.args.line.now in
     let name = before_first is_colon line in
     let named : c.split_at.result.0.now ≡ name =
-        c.split_at.ensures.front ∙ sym (found_before is_colon line c.in-Some.colon c.in-Some.ensures) in
+    c.split_at.ensures.front ∙ sym (found_before is_colon line c.in-Some.colon c.in-Some.ensures) in
     c.kind_of.ensures
     ∙ ap (λ n. cond (is_field_name n) (kind_of n) Other) named
     ∙ sym (ap (λ t. cond (t && is_field_name name) (kind_of name) Other) (found_any is_colon line c.in-Some.colon c.in-Some.ensures))

@@ -1,4 +1,4 @@
-use Rattle.std.proofs.Common.{◌≡◌, ◌<◌, ◌∷◌, ◌++◌, length, ap, sym, ◌∙◌, arith, rules, refl}
+use Rattle.std.proofs.Common.{◌++◌, ap, sym, ◌∙◌, arith, rules, refl}
 use Rattle.std.proofs.lemmas.Grind.{common_steps}
 use Rattle.lis_mail.specs.Lines.{header, is_colon}
 use Rattle.lis_mail.specs.Tokens.{tokens}
@@ -28,7 +28,7 @@ loop-line-preserved c =
     let first = line_first c.loop-line.rest.now line c.first_line.result.1.now c.first_line.ensures.header (grind (arith, common_steps)) in
     part_noted _ _ _ (token_words begun (tokens c.begun_field-begun.result.1.now)) (rest_words begun following) _ c.loop-line.invariant
     (ap (rest_words c.loop-line.kind) first
-      ∙ other_line c.loop-line.kind line following (search rules)
-      ∙ ap (λ kind. token_words kind (tokens (after_first is_colon line)) ++ rest_words kind following) (sym c.begun_field-begun.ensures.kind)
-      ∙ ap (λ body. token_words begun (tokens body) ++ rest_words begun following) (sym c.begun_field-begun.ensures.body))
+    ∙ other_line c.loop-line.kind line following (search rules)
+    ∙ ap (λ kind. token_words kind (tokens (after_first is_colon line)) ++ rest_words kind following) (sym c.begun_field-begun.ensures.kind)
+    ∙ ap (λ body. token_words begun (tokens body) ++ rest_words begun following) (sym c.begun_field-begun.ensures.body))
     c.note_tokens-else-is_folded.ensures
