@@ -7,3 +7,4 @@ pub mod Replies
 pub mod Step
 pub mod Codes
 pub mod Script
+pub mod Noted

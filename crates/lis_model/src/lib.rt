@@ -2,5 +2,6 @@
 #![tactic(auto)]
 
 pub mod command;
+pub mod derived;
 pub mod limits;
 pub mod refusal;
