@@ -1,5 +1,6 @@
 pub mod Sets
 pub mod Derived
+pub mod Ranges
 pub mod State
 pub mod Table
 pub mod Listing
