@@ -1,5 +1,5 @@
 -- Sorted sets: two with the same members are one list, and points put in stay sorted.
-use Rattle.std.proofs.Common.{◌≡◌, Bool, true, false, ◌&&◌, List, [], ◌∷◌, refl, sym, ap, subst, ◌∙◌, inl, inr}
+use Rattle.std.proofs.Common.{◌<◌, ◌≤◌, length, arith, ◌⊎◌, ◌≡◌, Bool, true, false, ◌&&◌, List, [], ◌∷◌, refl, sym, ap, subst, ◌∙◌, inl, inr}
 use Rattle.std.specs.declared.cmp.Ordering.{Ordering}
 use Rattle.std.specs.declared.cmp.Ordering.TheVariants.{Less, Equal, Greater}
 use Rattle.std.specs.Ordering.{match_ordering, ordering_reverse, is_lt}
@@ -106,3 +106,40 @@ module _ {K : Type 0} (cmp : K → K → Ordering) (order : IsTotalOrder cmp) wh
       by : (b : Bool) → list_all (λ y. is_lt (cmp x y)) xs ≡ b → (b && is_rising cmp xs) ≡ true → (is_rising cmp xs ≡ true → IsStrictlySortedBy cmp xs) → IsStrictlySortedBy cmp (x ∷ xs)
       by true e rest more = sorted_cons x xs (all_below x xs e) (more rest)
       by false e rest more = absurd cc
+
+  -- ---- how many members
+  not_first : (x : K) (xs : List K) (z : K) → AllByRecursion (λ y. cmp x y ≡ Less) xs → Among xs z → x ≡ z → ⊥
+  not_first x xs z below m same = not_below_itself z (subst (λ k. cmp k z ≡ Less) same (holds_among (λ y. cmp x y ≡ Less) xs z below m))
+
+  -- a sorted set inside another one has no more members
+  pub members_le : (xs ys : List K) → IsStrictlySortedBy cmp xs → IsStrictlySortedBy cmp ys → ((z : K) → Among xs z → Among ys z) → length xs ≤ length ys
+  members_le [] ys sx sy to = omega arith
+  members_le (x ∷ xs) [] sx sy to = absurd (to x (inl refl))
+  members_le (x ∷ xs) (y ∷ ys) sx sy to = by (to x (inl refl)) (members_le xs ys (sorted_tail x xs sx) (sorted_tail y ys sy)) (members_le (x ∷ xs) ys sx (sorted_tail y ys sy))
+    where
+      by : (y ≡ x) ⊎ Among ys x → (((z : K) → Among xs z → Among ys z) → length xs ≤ length ys) → (((z : K) → Among (x ∷ xs) z → Among ys z) → length (x ∷ xs) ≤ length ys) → length (x ∷ xs) ≤ length (y ∷ ys)
+      by (inl same) tails skipped = omega (arith, tails (λ z m. same_tails x y z xs ys (sym same) sx m (to z (inr m))))
+      by (inr deep) tails skipped = omega (arith, skipped (λ z m. later z m (to z m)))
+        where
+          later : (z : K) → Among (x ∷ xs) z → (y ≡ z) ⊎ Among ys z → Among ys z
+          later z m (inr rest) = rest
+          later z (inl is_x) (inl is_y) = absurd (not_first y ys x (below_tail y ys sy) deep (is_y ∙ sym is_x))
+          later z (inr in_xs) (inl is_y) = absurd (not_both_below y x (holds_among (λ w. cmp y w ≡ Less) ys x (below_tail y ys sy) deep)
+              (subst (λ w. cmp x w ≡ Less) (sym is_y) (holds_among (λ w. cmp x w ≡ Less) xs z (below_tail x xs sx) in_xs)))
+
+  -- and fewer, where a member of the other is none of its own
+  pub members_lt : (xs ys : List K) (k : K) → IsStrictlySortedBy cmp xs → IsStrictlySortedBy cmp ys → ((z : K) → Among xs z → Among ys z) → Among ys k → (Among xs k → ⊥) → length xs < length ys
+  members_lt xs [] k sx sy to m none = absurd m
+  members_lt [] (y ∷ ys) k sx sy to m none = omega arith
+  members_lt (x ∷ xs) (y ∷ ys) k sx sy to m none = by (to x (inl refl)) m (members_lt xs ys k (sorted_tail x xs sx) (sorted_tail y ys sy)) (members_le (x ∷ xs) ys sx (sorted_tail y ys sy))
+    where
+      by : (y ≡ x) ⊎ Among ys x → (y ≡ k) ⊎ Among ys k → (((z : K) → Among xs z → Among ys z) → Among ys k → (Among xs k → ⊥) → length xs < length ys) → (((z : K) → Among (x ∷ xs) z → Among ys z) → length (x ∷ xs) ≤ length ys) → length (x ∷ xs) < length (y ∷ ys)
+      by (inl same) (inl is_k) tails skipped = absurd (none (inl (sym same ∙ is_k)))
+      by (inl same) (inr in_ys) tails skipped = omega (arith, tails (λ z h. same_tails x y z xs ys (sym same) sx h (to z (inr h))) in_ys (λ h. none (inr h)))
+      by (inr deep) place tails skipped = omega (arith, skipped (λ z h. later z h (to z h)))
+        where
+          later : (z : K) → Among (x ∷ xs) z → (y ≡ z) ⊎ Among ys z → Among ys z
+          later z h (inr rest) = rest
+          later z (inl is_x) (inl is_y) = absurd (not_first y ys x (below_tail y ys sy) deep (is_y ∙ sym is_x))
+          later z (inr in_xs) (inl is_y) = absurd (not_both_below y x (holds_among (λ w. cmp y w ≡ Less) ys x (below_tail y ys sy) deep)
+              (subst (λ w. cmp x w ≡ Less) (sym is_y) (holds_among (λ w. cmp x w ≡ Less) xs z (below_tail x xs sx) in_xs)))
