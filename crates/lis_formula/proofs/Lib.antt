@@ -1,0 +1,4 @@
+pub mod Tests
+pub mod Abs
+pub mod Reaching
+pub mod Readings
