@@ -4,3 +4,4 @@ pub mod Walk
 pub mod Reader
 pub mod Paths
 pub mod Answers
+pub mod Laws
