@@ -1,5 +1,5 @@
 -- Words and tests as the machine takes them: every front of one is taken, and its bytes are no sign of a formula.
-use Rattle.std.proofs.Common.{◌≡◌, ℕ, ◌≤◌, Bool, true, false, not, cond, ◌&&◌, ◌||◌, ◌==◌, ◌⊎◌, inl, inr, Option, Some, None, List, [], ◌∷◌, ◌++◌, length, refl, ap, sym, ◌∙◌, arith, append_assoc, append-nil, length-append, nat_lt, nat_le, codes}
+use Rattle.std.proofs.Common.{◌≡◌, ℕ, ◌+◌, ◌<◌, ◌≤◌, Bool, true, false, not, cond, ◌&&◌, ◌||◌, ◌==◌, ◌⊎◌, inl, inr, Option, Some, None, List, [], ◌∷◌, ◌++◌, length, refl, ap, sym, ◌∙◌, arith, append_assoc, append-nil, length-append, nat_lt, nat_le, codes}
 use Rattle.std.specs.Char.{is_ascii_digit}
 use Rattle.std.specs.List.{list_all, list_any}
 use Rattle.std.proofs.lemmas.Bool.{or_left, or_right, or_cases, and_from, and_parts, eqb-true, leb-true, le-leb, lt-ltb, false≢true, cond-true}
@@ -334,3 +334,28 @@ at_least_front digits h = front_at_least (codes "size>=" ++ digits) (count_front
 
 pub below_front : (digits : List ℕ) → is_count digits ≡ true → is_operand_front (codes "size<" ++ digits) ≡ true
 below_front digits h = front_below (codes "size<" ++ digits) (count_front digits h)
+
+-- a word or a test has at most 60 bytes
+
+test_short : (sign text : List ℕ) → is_test_front sign text ≡ true → length text ≤ length sign + 12
+test_short [] text h =
+    let short = leb-true (length text) 12 (and_parts (nat_le (length text) 12) (list_all is_ascii_digit text) h).0 in
+    omega (arith, short)
+test_short (c ∷ sign) [] h = omega arith
+test_short (c ∷ sign) (b ∷ text) h = omega (arith, test_short sign text (and_parts (b == c) (is_test_front sign text) h).1)
+
+pub front_short : (text : List ℕ) → is_operand_front text ≡ true → length text ≤ 60
+front_short text h = elim (front_cases text h) [
+  | inl words ↦ elim (word_parts text words) [ inl plain ↦ (plain_parts text plain).0 | inr has ↦ has.short ]
+  | inr tests ↦ elim tests [
+    | inl test ↦ let short = test_short (codes "size>=") text test in omega (arith, short)
+    | inr test ↦ let short = test_short (codes "size<") text test in omega (arith, short)
+  ]
+]
+
+pub too_long : (text : List ℕ) → 60 < length text → is_operand_front text ≡ false
+too_long text long = by (is_operand_front text) refl
+  where
+    by : (t : Bool) → is_operand_front text ≡ t → t ≡ false
+    by true e = absurd (omega (arith, front_short text e))
+    by false e = refl

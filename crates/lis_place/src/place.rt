@@ -149,7 +149,10 @@ impl Place {
 
     /// The place with the steps of another behind its own. None comes exactly where these are no place together.
     pub fn appended(&self, more: &Place) -> Option<Place>
-        ensures { MatchOption result (IsPlace (self.now ++ more.now) → ⊥) (λ place. place ≡ self.now ++ more.now) }
+        ensures steps { MatchOption result
+            (IsPlace (self.now ++ more.now) → ⊥)
+            (λ place. place ≡ self.now ++ more.now) }
+        ensures place { IfSome result (λ place. IsPlace place) }
     {
         let front = self.nodes.as_slice();
         let behind = more.nodes.as_slice();
