@@ -3,3 +3,4 @@ pub mod Abs
 pub mod Reaching
 pub mod Readings
 pub mod Resolutions
+pub mod Cuts

@@ -4,6 +4,7 @@
 mod fault;
 mod laws;
 mod operand;
+mod pieces;
 mod read;
 mod reader;
 mod resolution;
