@@ -1,7 +1,7 @@
 -- The array and the starts say the same as the stack of texts.
-use Rattle.std.proofs.Common.{◌≡◌, ℕ, ◌+◌, ◌-◌, ◌<◌, ◌≤◌, List, [], ◌∷◌, ◌++◌, length, take, drop, get_or, reverse, refl, ap, sym, subst, ◌∙◌, arith, append_assoc, append-nil, length-append}
-use Rattle.std.proofs.lemmas.List.{take_at, drop_at, reverse-append, reverse-reverse, length-reverse}
-use Rattle.lis_formula.specs.Pieces.{joined, starts_of, cut_at, IsCut, with_front, with_end, with_joint}
+use Rattle.std.proofs.Common.{◌≡◌, ℕ, ◌+◌, ◌<◌, ◌≤◌, List, [], ◌∷◌, ◌++◌, length, take, drop, reverse, refl, ap, sym, ◌∙◌, arith, append_assoc, length-append}
+use Rattle.std.proofs.lemmas.List.{take_at, drop_at, reverse-append, length-reverse}
+use Rattle.lis_formula.specs.Pieces.{joined, starts_of, cut_at, IsCut, with_end, with_joint}
 
 pub cut_back : (stack : List (List ℕ)) → cut_at (starts_of stack) (joined stack) ≡ stack
 cut_back [] = refl
@@ -86,10 +86,10 @@ stack_join text starts rest start (right ∷ left ∷ stack) s two e =
       inside = omega (arith, at, ap length s.whole, length-append before right);
       after = λ b more f. record {
         whole =
-          f ∙ (ap (λ n. take n text ++ b ∷ drop n text) at
-          ∙ (ap (λ xs. take (length before) xs ++ b ∷ drop (length before) xs) s.whole
-          ∙ (ap (λ xs. xs ++ b ∷ drop (length before) (before ++ right)) (take_at before right (length before) refl)
-          ∙ (ap (λ xs. before ++ b ∷ xs) (drop_at before right (length before) refl) ∙ append_assoc (joined stack) left (b ∷ right)))));
+            f ∙ (ap (λ n. take n text ++ b ∷ drop n text) at
+            ∙ (ap (λ xs. take (length before) xs ++ b ∷ drop (length before) xs) s.whole
+            ∙ (ap (λ xs. xs ++ b ∷ drop (length before) (before ++ right)) (take_at before right (length before) refl)
+            ∙ (ap (λ xs. before ++ b ∷ xs) (drop_at before right (length before) refl) ∙ append_assoc (joined stack) left (b ∷ right)))));
         places = split.1;
       };
     }
@@ -98,3 +98,30 @@ pub stack_few : (text starts : List ℕ) (b : ℕ) (stack : List (List ℕ)) →
 stack_few text starts b [] s few = refl
 stack_few text starts b (right ∷ []) s few = refl
 stack_few text starts b (right ∷ left ∷ stack) s few = absurd (let count = stack_count text starts (right ∷ left ∷ stack) s in omega (arith, count))
+
+-- how the changes change the sizes
+
+pub end_bytes : (bytes : List ℕ) (stack : List (List ℕ)) → length (joined (with_end bytes stack)) ≤ length (joined stack) + length bytes
+end_bytes bytes [] = omega arith
+end_bytes bytes (text ∷ stack) =
+    omega (arith, length-append (joined stack) (text ++ bytes), length-append text bytes, length-append (joined stack) text)
+
+pub end_count : (bytes : List ℕ) (stack : List (List ℕ)) → length (with_end bytes stack) ≡ length stack
+end_count bytes [] = refl
+end_count bytes (text ∷ stack) = refl
+
+pub joint_bytes : (b : ℕ) (stack : List (List ℕ)) → length (joined (with_joint b stack)) ≤ length (joined stack) + 1
+joint_bytes b [] = omega arith
+joint_bytes b (right ∷ []) = omega arith
+joint_bytes b (right ∷ left ∷ stack) =
+    omega (arith, length-append (joined stack) (left ++ b ∷ right), length-append left (b ∷ right), length-append (joined stack ++ left) right, length-append (joined stack) left)
+
+pub joint_count : (b : ℕ) (stack : List (List ℕ)) → length (with_joint b stack) ≤ length stack
+joint_count b [] = omega arith
+joint_count b (right ∷ []) = omega arith
+joint_count b (right ∷ left ∷ stack) = omega arith
+
+pub joint_fewer : (b : ℕ) (stack : List (List ℕ)) → 1 < length stack → length (with_joint b stack) + 1 ≡ length stack
+joint_fewer b [] two = absurd (omega arith)
+joint_fewer b (right ∷ []) two = absurd (omega arith)
+joint_fewer b (right ∷ left ∷ stack) two = omega arith

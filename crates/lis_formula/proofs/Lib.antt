@@ -4,3 +4,4 @@ pub mod Reaching
 pub mod Readings
 pub mod Resolutions
 pub mod Cuts
+pub mod Prints

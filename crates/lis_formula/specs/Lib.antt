@@ -6,3 +6,4 @@ pub mod Paths
 pub mod Answers
 pub mod Laws
 pub mod Pieces
+pub mod Printer

@@ -1,5 +1,5 @@
 -- Texts one behind another in one array, as a stack of them, the last first.
-use Rattle.std.specs.Prelude.{◌≡◌, ℕ, ◌+◌, List, [], ◌∷◌, ◌++◌, length, take, drop, reverse}
+use Rattle.std.specs.Prelude.{◌≡◌, ℕ, List, [], ◌∷◌, ◌++◌, length, take, drop}
 
 -- all texts in order, and where each of them begins, the last first
 

@@ -5,6 +5,7 @@ mod fault;
 mod laws;
 mod operand;
 mod pieces;
+mod printer;
 mod read;
 mod reader;
 mod resolution;
@@ -12,5 +13,6 @@ mod signs;
 
 pub use fault::FormulaFault;
 pub use laws::{one_reading, places_stay, printed_reads, reading_is_fit, text_is_read};
+pub use printer::print;
 pub use read::read_formula;
 pub use resolution::resolve;

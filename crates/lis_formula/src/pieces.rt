@@ -46,7 +46,8 @@ impl Pieces {
     pub fn push(&mut self, bytes: &[u8])
         requires room { length (joined self.old) + length bytes.now ≤ 1024 }
         requires place { length self.old < 64 }
-        ensures { self.new ≡ bytes.now ∷ self.old }
+        ensures text { self.new ≡ bytes.now ∷ self.old }
+        ensures bytes { length (joined self.new) ≡ length (joined self.old) + length bytes.now }
     {
         self.starts.push(self.text.len());
         self.text.try_extend_from_slice(bytes).unwrap();
@@ -55,7 +56,9 @@ impl Pieces {
     /// Puts a byte in front of the last text.
     pub fn put_front(&mut self, byte: u8)
         requires { length (joined self.old) < 1024 }
-        ensures { self.new ≡ with_front byte self.old }
+        ensures text { self.new ≡ with_front byte self.old }
+        ensures bytes { length (joined self.new) ≤ length (joined self.old) + 1 }
+        ensures count { length self.new ≡ length self.old }
     {
         if let Some(start) = self.starts.as_slice().last() {
             self.text.insert(*start, byte);
@@ -65,7 +68,9 @@ impl Pieces {
     /// Puts bytes at the end of the last text.
     pub fn put_end(&mut self, bytes: &[u8])
         requires { length (joined self.old) + length bytes.now ≤ 1024 }
-        ensures { self.new ≡ with_end bytes.now self.old }
+        ensures text { self.new ≡ with_end bytes.now self.old }
+        ensures bytes { length (joined self.new) ≤ length (joined self.old) + length bytes.now }
+        ensures count { length self.new ≡ length self.old }
     {
         if !self.starts.is_empty() {
             self.text.try_extend_from_slice(bytes).unwrap();
@@ -75,7 +80,10 @@ impl Pieces {
     /// Makes one text of the last two, with a byte between them.
     pub fn join(&mut self, byte: u8)
         requires { length (joined self.old) < 1024 }
-        ensures { self.new ≡ with_joint byte self.old }
+        ensures text { self.new ≡ with_joint byte self.old }
+        ensures bytes { length (joined self.new) ≤ length (joined self.old) + 1 }
+        ensures count { length self.new ≤ length self.old }
+        ensures fewer { 1 < length self.old → length self.new + 1 ≡ length self.old }
     {
         if self.starts.len() < 2 {
             return;

@@ -1,4 +1,4 @@
-use Rattle.std.proofs.Common.{◌≡◌, sym, ap, ◌∙◌}
+use Rattle.std.proofs.Common.{sym, ◌∙◌}
 use Rattle.lis_formula.proofs.Tests.{digits_front, front_behind, front_within}
 use Rattle.lis_formula.proofs.operand.is_test_front.Goals as goal
 
