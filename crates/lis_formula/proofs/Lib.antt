@@ -1,4 +1,4 @@
-pub mod Tests
+pub mod TestParts
 pub mod Abs
 pub mod Reaching
 pub mod Readings
