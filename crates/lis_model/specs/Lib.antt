@@ -4,6 +4,7 @@ pub mod Ranges
 pub mod State
 pub mod Table
 pub mod Listing
+pub mod Route
 pub mod Replies
 pub mod Step
 pub mod Codes

@@ -1,0 +1,9 @@
+pub mod Members
+pub mod Chains
+pub mod Tops
+pub mod Tables
+pub mod Locals
+pub mod Routes
+pub mod Axioms
+pub mod Descriptions
+pub mod Examples
