@@ -6,6 +6,7 @@ pub mod Table
 pub mod Listing
 pub mod Route
 pub mod Replies
+pub mod Places
 pub mod Step
 pub mod Codes
 pub mod Script

@@ -1,10 +1,11 @@
 //! A file by its name, its bytes and the words that it was given.
 
-ghost use Rattle.std.specs.Prelude.{◌≡◌};
+ghost use Rattle.std.specs.Prelude.{◌≡◌, IfOk};
 ghost use Rattle.lis_model.specs.Step.{new_file};
 
+use crate::sets::copies;
 use lis_words::{Name, Word};
-use std::alloc::Global;
+use std::alloc::{AllocError, Global};
 use std::marker::Model;
 
 /// A file of the state.
@@ -50,6 +51,19 @@ impl Model for Entry {
     ghost Value = { Seen };
 
     ghost view = { λ e. record { name = e.name; size = e.size; words = e.words.items } };
+}
+
+impl Entry {
+    /// The same entry.
+    pub fn copied(&self, alloc: Global) -> Result<Entry, AllocError>
+        ensures { IfOk result (λ entry. entry ≡ self.now) }
+    {
+        Ok(Entry {
+            name: self.name.copied(),
+            size: self.size,
+            words: copies(alloc, &self.words)?,
+        })
+    }
 }
 
 /// A word and all that it entails.

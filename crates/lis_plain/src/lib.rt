@@ -4,6 +4,10 @@
 pub mod end;
 pub mod file;
 pub mod listing;
+pub mod moving;
 pub mod plain;
+pub mod room;
 pub mod sets;
 pub mod table;
+pub mod tags;
+pub mod truth;

@@ -82,7 +82,8 @@ pub fn is_local(files: &[Entry], file: &Entry) -> bool
     !has_candidate(files, &file.words)
 }
 
-fn push_line(reply: &mut Vec<u8>, letter: u8, text: &[u8]) -> Result<(), AllocError>
+/// Puts a line of a letter and a text behind the reply.
+pub fn push_line(reply: &mut Vec<u8>, letter: u8, text: &[u8]) -> Result<(), AllocError>
     ensures { OnOk result (reply.new.items ≡ reply.old.items ++ body_line letter text.now) }
 {
     reply.push(letter)?;

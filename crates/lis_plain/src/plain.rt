@@ -2,25 +2,34 @@
 
 ghost use Rattle.std.specs.Prelude.{◌≡◌, ℕ, List, [], IfOk, IfSome, IsSome};
 ghost use Rattle.lis_ports.specs.Calls.{IsShowCall};
-ghost use Rattle.lis_model.specs.Step.{start_of, step, done, refused, mkdir, create, ls};
+ghost use Rattle.lis_model.specs.Step.{start_of, step, done, refused, mkdir, create, cd, pwd, ls};
 ghost use Rattle.lis_line.specs.Reading.{asked_by};
-ghost use Rattle.lis_plain.specs.Carries.{Carries, HasPlainCause, Answers, answer_line};
+ghost use Rattle.lis_plain.specs.Carries.{Carries, HasPlainCause, Answers, answer_line, filed};
 ghost use Rattle.lis_ports.specs.Since.{IsShowRun};
 
 use crate::end::PlainEnd;
 use crate::file::{File, new_file};
-use crate::listing::listing;
-use crate::sets::{are_assignable, has_name, has_word, insert_file, insert_word, set_of};
+use crate::listing::{listing, push_line};
+use crate::moving::{is_root, knows_text};
+use crate::room::{has_built_in, has_head_word, is_file_too_many, is_word_too_many, known};
+use crate::sets::{are_assignable, has_name, has_word, insert_file, insert_word};
 use crate::table::make_table;
+use crate::tags::{assigned_with, place_words};
+use crate::truth::extension;
+use lis_formula::{FormulaFault, print, resolve};
 use lis_line::reader::{Item, Payload};
 use lis_model::command::{Command, Tags};
 use lis_model::limits::Limits;
 use lis_model::refusal::Refusal;
+use lis_place::{Place, Text};
 use lis_ports::{Failed, Station};
 use lis_reply::{show_all, show_ok, show_refusal};
-use lis_words::{Name, Word};
+use lis_words::{Name, Word, is_builtin, is_valued};
 use std::alloc::{AllocError, Global};
 use std::marker::Model;
+
+/// The most words that a file is given.
+const MAX_TAGS: usize = 16;
 
 /// A state and a place, as plain lists.
 #[derive(Drop)]
@@ -29,6 +38,7 @@ pub struct Plain {
     limits: Limits,
     declared: Vec<Word>,
     files: Vec<File>,
+    place: Place,
 }
 
 impl Model for Plain {
@@ -42,7 +52,7 @@ impl Model for Plain {
 
     ghost view = { λ p. record {
       state = record { limits = p.limits; declared = p.declared.items; axioms = []; files = p.files.items };
-      place = [];
+      place = p.place;
     } };
 }
 
@@ -56,6 +66,7 @@ impl Plain {
             limits: *limits,
             declared: Vec::new(alloc),
             files: Vec::new(alloc),
+            place: Place::root(),
         })
     }
 }
@@ -67,10 +78,42 @@ impl Plain {
     fn mkdir(&mut self, word: &Word) -> Result<Answer, AllocError>
         ensures { Answers (mkdir self.old word.now) self.old self.new result }
     {
+        if is_builtin(word) {
+            return Ok(Err(Refusal::BuiltIn));
+        }
+        if is_valued(word.bytes()) {
+            return Ok(Err(Refusal::NotAssignable));
+        }
         if has_word(&self.declared, word) {
             return Ok(Err(Refusal::AlreadyDeclared));
         }
+        if !is_root(&self.place) {
+            return Ok(Err(Refusal::NotAPlace));
+        }
+        if is_word_too_many(self.alloc, self.limits, &self.declared, &self.files, word)? {
+            return Ok(Err(Refusal::NoPropertyRoom));
+        }
         insert_word(&mut self.declared, word)?;
+        Ok(Ok(()))
+    }
+
+    fn file(&mut self, name: &Name, assigned: Vec<Word>) -> Result<Answer, AllocError>
+        ensures { Answers (filed self.old name.now assigned.items) self.old self.new result }
+    {
+        if !are_assignable(&self.declared, &assigned) {
+            return Ok(Err(Refusal::UnknownProperty));
+        }
+        if assigned.len() > MAX_TAGS {
+            return Ok(Err(Refusal::TooManyAssigned));
+        }
+        if self.files.len() >= self.limits.files as usize {
+            return Ok(Err(Refusal::NoFileRoom));
+        }
+        let file = new_file(self.alloc, name, assigned);
+        if is_file_too_many(self.alloc, self.limits, &self.declared, &self.files, &file)? {
+            return Ok(Err(Refusal::NoPropertyRoom));
+        }
+        insert_file(&mut self.files, file)?;
         Ok(Ok(()))
     }
 
@@ -80,20 +123,50 @@ impl Plain {
         if has_name(&self.files, name) {
             return Ok(Err(Refusal::NameTaken));
         }
-        let assigned = set_of(self.alloc, tags.as_slice())?;
-        if !are_assignable(&self.declared, &assigned) {
+        let Some(words) = place_words(self.alloc, &self.place)? else {
+            return Ok(Err(Refusal::NotAPlace));
+        };
+        if has_built_in(tags.as_slice()) {
+            return Ok(Err(Refusal::BuiltIn));
+        }
+        if has_head_word(tags.as_slice()) {
+            return Ok(Err(Refusal::NotAssignable));
+        }
+        let assigned = assigned_with(self.alloc, &words, tags.as_slice())?;
+        self.file(name, assigned)
+    }
+
+    fn cd(&mut self, text: &Text) -> Result<Answer, AllocError>
+        ensures { Answers (cd self.old text.now) self.old self.new result }
+    {
+        let place = match resolve(&self.place, text.bytes()) {
+            Ok(place) => place,
+            Err(FormulaFault::Syntax(_)) => return Ok(Err(Refusal::BadFormula)),
+            Err(FormulaFault::TooLarge) => return Ok(Err(Refusal::LargeFormula)),
+        };
+        let known = known(self.alloc, &self.declared, &self.files)?;
+        if !knows_text(&known, text.bytes()) {
             return Ok(Err(Refusal::UnknownProperty));
         }
-        let file = new_file(self.alloc, name, assigned);
-        insert_file(&mut self.files, file)?;
+        self.place = place;
         Ok(Ok(()))
+    }
+
+    fn placed(&self) -> Result<Vec<u8>, AllocError>
+        ensures { IfOk result (λ reply. reply.items ≡ (pwd self.now).reply) }
+    {
+        let mut reply = Vec::new(self.alloc);
+        push_line(&mut reply, b'w', print(&self.place).bytes())?;
+        reply.extend_from_slice(b"ok\n")?;
+        Ok(reply)
     }
 
     fn listing(&self) -> Result<Vec<u8>, AllocError>
         ensures { IfOk result (λ reply. reply.items ≡ (ls self.now).reply) }
     {
         let table = make_table(self.alloc, self.limits, &self.declared, &self.files)?;
-        listing(self.alloc, &table, &table.files)
+        let files = extension(self.alloc, &table.files, &self.place)?;
+        listing(self.alloc, &table, &files)
     }
 }
 
@@ -121,6 +194,16 @@ impl Plain {
             Command::Create(name, tags) => {
                 let answer = self.create(name, tags)?;
                 show_answer(station, &answer)?;
+                Ok(())
+            }
+            Command::Cd(text) => {
+                let answer = self.cd(text)?;
+                show_answer(station, &answer)?;
+                Ok(())
+            }
+            Command::Pwd => {
+                let reply = self.placed()?;
+                show_all(station, &reply)?;
                 Ok(())
             }
             Command::Ls => {

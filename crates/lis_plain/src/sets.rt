@@ -129,3 +129,10 @@ pub fn are_assignable(declared: &[Word], words: &[Word]) -> bool
 {
     words.iter().all(|word| is_assignable(declared, word))
 }
+
+/// The same words.
+pub fn copies(alloc: Global, words: &[Word]) -> Result<Vec<Word>, AllocError>
+    ensures { IfOk result (λ copies. copies.items ≡ words.now) }
+{
+    words.iter().map(|word| word.copied()).collect(alloc)
+}

@@ -7,7 +7,7 @@ ghost use Rattle.lis_model.specs.Table.{Entry, entry_of, table};
 ghost use Rattle.std.specs.List.{flat_map};
 
 use crate::file::{Entailed, Entry, File};
-use crate::sets::insert_word;
+use crate::sets::{copies, insert_word};
 use lis_model::limits::Limits;
 use lis_words::{Word, head_of};
 use std::alloc::{AllocError, Global};
@@ -75,7 +75,8 @@ impl Model for Table {
     ghost view = { λ t. record { limits = t.limits; known = t.known.items; files = t.files.items; entailed = t.entailed.items } };
 }
 
-fn all_entries(alloc: Global, files: &[File]) -> Result<Vec<Entry>, AllocError>
+/// All files with their descriptions.
+pub fn all_entries(alloc: Global, files: &[File]) -> Result<Vec<Entry>, AllocError>
     ensures { IfOk result (λ entries. entries.items ≡ map (entry_of []) files.now) }
 {
     let mut entries = Vec::new(alloc);
@@ -86,7 +87,11 @@ fn all_entries(alloc: Global, files: &[File]) -> Result<Vec<Entry>, AllocError>
 }
 
 /// The declared words and all descriptions.
-fn known_words(alloc: Global, declared: &[Word], files: &[Entry]) -> Result<Vec<Word>, AllocError>
+pub fn known_words(
+    alloc: Global,
+    declared: &[Word],
+    files: &[Entry],
+) -> Result<Vec<Word>, AllocError>
     ensures { IfOk result (λ known. known.items ≡ with_words declared.now (flat_map (λ (e : Entry). e.words) files.now)) }
 {
     let mut known = copies(alloc, declared)?;
@@ -94,12 +99,6 @@ fn known_words(alloc: Global, declared: &[Word], files: &[Entry]) -> Result<Vec<
         insert_words(&mut known, &file.words)?;
     }
     Ok(known)
-}
-
-fn copies(alloc: Global, words: &[Word]) -> Result<Vec<Word>, AllocError>
-    ensures { IfOk result (λ copies. copies.items ≡ words.now) }
-{
-    words.iter().map(|word| word.copied()).collect(alloc)
 }
 
 fn all_ups(alloc: Global, known: &[Word]) -> Result<Vec<Entailed>, AllocError>
