@@ -54,7 +54,7 @@ pub edges_among : (linked : Rows) (props p q : ℕ) → p < props → q < props 
 unfolding edge_list
 edges_among linked props p q p_in q_in bit =
     flat_map_among (λ p. map (λ q. (p, q)) (filter (get linked p) (range_with_len 0 props))) (range_with_len 0 props) p (p, q) (range_among 0 props p (omega arith) (omega arith))
-      (map_among (λ q. (p, q)) (filter (get linked p) (range_with_len 0 props)) q (filter_among (get linked p) (range_with_len 0 props) q (range_among 0 props q (omega arith) (omega arith)) bit))
+    (map_among (λ q. (p, q)) (filter (get linked p) (range_with_len 0 props)) q (filter_among (get linked p) (range_with_len 0 props) q (range_among 0 props q (omega arith) (omega arith)) bit))
 
 -- ---- what a number entails
 abbrev pub ups : Rows → ℕ → ℕ → List ℕ
@@ -89,9 +89,11 @@ first_step linked props p q h = by chain.0 chain.1
   where
     chain : Entails no_links (edge_list linked props) p q
     chain = (reach_decides linked props p q).0 h
+
     link : (next : ℕ) → Linked no_links (edge_list linked props) p next → IsEdge linked props (p, next)
     link next (inl given) = absurd (among_from_contains [] next given)
     link next (inr edge) = among_edges linked props (p, next) (among_from_contains (edge_list linked props) (p, next) edge)
+
     by : (n : ℕ) → Chain no_links (edge_list linked props) n p q → (p ≡ q) ⊎ ((next : ℕ) × (next < props) × (get linked p next ≡ true) × (reach linked props next q ≡ true))
     by zero c = inl c
     by (suc n) c = let e = link c.0 c.1 in inr (c.0, e.right, e.bit, (reach_decides linked props c.0 q).1 (n, c.2))
@@ -102,21 +104,24 @@ reach_self linked props p = reach_from_among linked props p p (graph.up_self nat
 pub reach_step : (linked : Rows) (props p next q : ℕ) → p < props → next < props → get linked p next ≡ true → reach linked props next q ≡ true → reach linked props p q ≡ true
 reach_step linked props p next q p_in next_in bit rest =
     reach_from_among linked props p q (graph.up_trans nat_eq nat_cmp no_links nat_decides exact_unsigned ended (edge_list linked props) p next q
-      (graph.up_edge nat_eq nat_cmp no_links nat_decides exact_unsigned ended (edge_list linked props) p next (edges_among linked props p next p_in next_in bit))
-      (among_from_reach linked props next q rest))
+    (graph.up_edge nat_eq nat_cmp no_links nat_decides exact_unsigned ended (edge_list linked props) p next (edges_among linked props p next p_in next_in bit))
+    (among_from_reach linked props next q rest))
 
 -- what a number is linked to entails less than it
 pub fewer_ups : (linked : Rows) (props p next : ℕ) → IsAcyclicTable linked props → p < props → next < props → get linked p next ≡ true → length (ups linked props next) < length (ups linked props p)
 fewer_ups linked props p next acyclic p_in next_in bit =
     members_lt nat_cmp nat_cmp_total (ups linked props next) (ups linked props p) p (sorted next) (sorted p)
-      (λ z m. over p next z step m) (graph.up_self nat_eq nat_cmp no_links nat_decides exact_unsigned ended (edge_list linked props) p) (λ back. circle (graph.entails_from_up nat_eq nat_cmp no_links nat_decides exact_unsigned ended (edge_list linked props) next p back))
+    (λ z m. over p next z step m) (graph.up_self nat_eq nat_cmp no_links nat_decides exact_unsigned ended (edge_list linked props) p) (λ back. circle (graph.entails_from_up nat_eq nat_cmp no_links nat_decides exact_unsigned ended (edge_list linked props) next p back))
   where
     sorted : (k : ℕ) → IsStrictlySortedBy nat_cmp (ups linked props k)
     sorted k = graph.sorted_up nat_eq nat_cmp no_links nat_decides exact_unsigned ended nat_cmp_total (edge_list linked props) k
+
     over : (a b c : ℕ) → Among (ups linked props a) b → Among (ups linked props b) c → Among (ups linked props a) c
     over = graph.up_trans nat_eq nat_cmp no_links nat_decides exact_unsigned ended (edge_list linked props)
+
     step : Among (ups linked props p) next
     step = graph.up_edge nat_eq nat_cmp no_links nat_decides exact_unsigned ended (edge_list linked props) p next (edges_among linked props p next p_in next_in bit)
+
     circle : Entails no_links (edge_list linked props) next p → ⊥
     circle chain = (acyclic_decides linked props).0 acyclic chain.0 p (next, inr (contains_from_among (edge_list linked props) (p, next) (edges_among linked props p next p_in next_in bit)), chain.1)
 
@@ -156,16 +161,20 @@ module _ (small big : Rows) (props p q : ℕ) (one : IsOneMore small big props p
               → (reach small props a b ≡ true) ⊎ ((reach small props a p ≡ true) × (reach small props q b ≡ true))
           by (inl old) = inl ((reach_decides small props a b).1 old)
           by (inr new) = inr ((reach_decides small props a p).1 new.0, (reach_decides small props q b).1 new.1)
+
       old : reach small props a b ≡ true → reach big props a b ≡ true
       old h = (reach_decides big props a b).1 (wider a b (graph.entails_within no_links (edge_list small props) ((p, q) ∷ edge_list small props) (λ e m. inr m) a b ((reach_decides small props a b).0 h)))
+
       through : reach small props a p ≡ true → reach small props q b ≡ true → reach big props a b ≡ true
       through h k = (reach_decides big props a b).1 (wider a b (graph.entails_through nat_eq nat_cmp no_links nat_decides exact_unsigned ended (p, q) (edge_list small props) a b ((reach_decides small props a p).0 h) ((reach_decides small props q b).0 k)))
+
       no_way : reach small props a b ≡ false → (reach small props a p ≡ true → reach small props q b ≡ true → ⊥) → reach big props a b ≡ true → ⊥
       no_way none ends h = by (apart h)
         where
           by : (reach small props a b ≡ true) ⊎ ((reach small props a p ≡ true) × (reach small props q b ≡ true)) → ⊥
           by (inl direct) = cc
           by (inr new) = ends new.0 new.1
+
       both : (r x y z : Bool) → reach big props a b ≡ r → reach small props a b ≡ x → reach small props a p ≡ y → reach small props q b ≡ z → r ≡ (x || (y && z))
       both true true y z e f g h = refl
       both true false true true e f g h = refl
