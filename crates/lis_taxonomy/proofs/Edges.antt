@@ -1,14 +1,15 @@
 -- The edges that rows tell, as a list, and what chains of them lead to.
-use Rattle.std.proofs.Common.{◌≡◌, ◌⊎◌, ◌↔◌, ℕ, zero, suc, ◌+◌, ◌<◌, ◌≤◌, Bool, true, false, ◌&&◌, ◌||◌, nat_eq, List, [], ◌∷◌, length, map, filter, Decides, refl, sym, subst, inl, inr, arith, eq-eqb}
+use Rattle.std.proofs.Common.{◌≡◌, ◌⊎◌, ◌↔◌, ℕ, zero, suc, ◌<◌, Bool, true, false, ◌&&◌, ◌||◌, nat_eq, List, [], ◌∷◌, length, map, filter, Decides, refl, sym, subst, inl, inr, arith, eq-eqb}
 use Rattle.std.specs.List.{range_with_len}
 use Rattle.std.specs.Ordering.{nat_cmp}
 use Rattle.std.specs.Cmp.{nat_cmp_total}
-use Rattle.std.proofs.lemmas.Bool.{eqb-true, cases_eq}
+use Rattle.std.proofs.lemmas.Bool.{eqb-true}
 use Rattle.std.proofs.lemmas.Map.Lookups.{exact_unsigned}
 use Rattle.std.specs.List.Sorted.{IsStrictlySortedBy}
 use Rattle.lis_bits.specs.Rows.{Rows, get}
 use Rattle.lis_graph.specs.Graph.{Chain, Entails, Acyclic, Linked, up}
 use Rattle.lis_graph.proofs.Members.{Among, among_map, map_among, among_filter, filter_among, among_flat_map, flat_map_among, among_from_has, has_from_among, among_from_contains, contains_from_among}
+use Rattle.lis_graph.proofs.Ranges.{among_range, range_among}
 use Rattle.lis_graph.proofs.Sets.{members_lt}
 use Rattle.lis_graph.proofs.Graph as graph
 use Rattle.lis_taxonomy.specs.Taxonomy.{no_links}
@@ -22,19 +23,6 @@ pub ended : (p q r : ℕ) → Among (no_links p) q → Among (no_links q) r → 
 ended p q r h k = h
 
 -- ---- the list of edges
-among_range : (a n k : ℕ) → Among (range_with_len a n) k → (a ≤ k) × (k < a + n)
-among_range a zero k h = absurd h
-among_range a (suc n) k (inl same) = (omega arith, omega arith)
-among_range a (suc n) k (inr h) = let rest = among_range (a + 1) n k h in (omega (arith, rest.0), omega (arith, rest.1))
-
-range_among : (a n k : ℕ) → a ≤ k → k < a + n → Among (range_with_len a n) k
-range_among a zero k low high = absurd (omega arith)
-range_among a (suc n) k low high = by (cases_eq a k) (range_among (a + 1) n k)
-  where
-    by : (a ≡ k) ⊎ (a ≡ k → ⊥) → (a + 1 ≤ k → k < a + 1 + n → Among (range_with_len (a + 1) n) k) → Among (range_with_len a (suc n)) k
-    by (inl same) more = inl same
-    by (inr differ) more = inr (more (omega arith) (omega arith))
-
 pub record IsEdge (linked : Rows) (props : ℕ) (e : ℕ × ℕ) : Type 0 where
   pub left : e.0 < props
   pub right : e.1 < props
