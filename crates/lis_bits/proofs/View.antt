@@ -1,13 +1,13 @@
 -- The rows that a contract sees, from the words of the frame.
-use Rattle.std.proofs.Common.{◌≡◌, ℕ, ◌+◌, ◌-◌, ◌*◌, ◌/◌, ◌%◌, ◌<◌, ◌≤◌, ◌≢◌, ◌⊎◌, inl, inr, Bool, true, false, List, [], length, map, get_or, set, take, drop, replicate, sym, ap, ◌∙◌, arith, length-set, get_or-set_same, get_or-set_other, get_or-take, get_or-drop}
-use Rattle.std.proofs.lemmas.List.{get_or-replicate, length-replicate, get_or_past}
+use Rattle.std.proofs.Common.{◌≡◌, ℕ, ◌+◌, ◌-◌, ◌*◌, ◌/◌, ◌%◌, ◌<◌, ◌≤◌, ◌≢◌, ◌⊎◌, inl, inr, Bool, false, List, [], length, map, get_or, set, take, drop, replicate, sym, ap, ◌∙◌, arith, length-set, get_or-set_same, get_or-set_other, get_or-take, get_or-drop}
+use Rattle.std.proofs.lemmas.List.{get_or-replicate, length-replicate}
 use Rattle.std.proofs.lemmas.Nat.Bits.{bit_at-zero}
 use Rattle.lis_bits.specs.Words.{AreApart, word_bit, words_bit}
 use Rattle.std.specs.List.{range_with_len}
 use Rattle.std.proofs.lemmas.List.FromFn.{fill_by_all, length-map-range_with_len, get_or-map-range_with_len}
 use Rattle.std.proofs.lemmas.Nat.{mul-add-lt}
 use Rattle.std.proofs.Math.Nat.{mul-le-mul_left}
-use Rattle.std.proofs.lemmas.Bool.{cases_order, cases_lt}
+use Rattle.std.proofs.lemmas.Bool.{cases_order}
 use Rattle.lis_bits.specs.Rows.{row_of}
 use Rattle.lis_bits.specs.Inside.{bit_from, rows_of}
 
@@ -23,14 +23,6 @@ get-row_of bits f b lt = get_or-map-range_with_len f 0 bits b b false lt (omega 
 pub length-row_of : (bits : ℕ) (f : ℕ → Bool) → length (row_of bits f) ≡ bits
 unfolding row_of
 length-row_of bits f = length-map-range_with_len f 0 bits
-
--- a bit that is true is a bit of its row
-pub in_row_of : (bits : ℕ) (f : ℕ → Bool) (row : List Bool) (k : ℕ) → row ≡ row_of bits f → get_or row k false ≡ true → k < bits
-in_row_of bits f row k same set = go (cases_lt k bits)
-  where
-    go : (k < bits) ⊎ (bits ≤ k) → k < bits
-    go (inl lt) = lt
-    go (inr ge) = absurd (let none = get_or_past (row_of bits f) k false (omega (arith, length-row_of bits f)) in let at = ap (λ r. get_or r k false) same in cc)
 
 pub length-rows_of : (words : List ℕ) (rows width : ℕ) → length (rows_of words rows width) ≡ rows
 unfolding rows_of

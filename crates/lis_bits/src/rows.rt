@@ -151,7 +151,8 @@ impl Rows {
     pub fn subset(&self, a: u32, b: u32) -> bool
         requires a { a < length self.now.rows }
         requires b { b < length self.now.rows }
-        ensures { IsTrue result ↔ ((bit : ℕ) → IsTrue (get self.now a bit) → IsTrue (get self.now b bit)) }
+        ensures { IsTrue result
+            ↔ ((bit : ℕ) → bit < self.now.bits → IsTrue (get self.now a bit) → IsTrue (get self.now b bit)) }
     {
         words::is_subset(self.words(a), self.words(b))
     }

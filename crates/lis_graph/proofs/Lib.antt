@@ -2,3 +2,4 @@ pub mod Members
 pub mod Sets
 pub mod Graph
 pub mod Pairs
+pub mod Ranges

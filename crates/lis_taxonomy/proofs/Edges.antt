@@ -1,14 +1,15 @@
 -- The edges that rows tell, as a list, and what chains of them lead to.
-use Rattle.std.proofs.Common.{◌≡◌, ◌⊎◌, ◌↔◌, ℕ, zero, suc, ◌+◌, ◌<◌, ◌≤◌, Bool, true, false, ◌&&◌, ◌||◌, nat_eq, List, [], ◌∷◌, length, map, filter, Decides, refl, sym, subst, inl, inr, arith, eq-eqb}
+use Rattle.std.proofs.Common.{◌≡◌, ◌⊎◌, ◌↔◌, ℕ, zero, suc, ◌<◌, Bool, true, false, ◌&&◌, ◌||◌, nat_eq, List, [], ◌∷◌, length, map, filter, Decides, refl, sym, subst, inl, inr, arith, eq-eqb}
 use Rattle.std.specs.List.{range_with_len}
 use Rattle.std.specs.Ordering.{nat_cmp}
 use Rattle.std.specs.Cmp.{nat_cmp_total}
-use Rattle.std.proofs.lemmas.Bool.{eqb-true, cases_eq}
+use Rattle.std.proofs.lemmas.Bool.{eqb-true}
 use Rattle.std.proofs.lemmas.Map.Lookups.{exact_unsigned}
 use Rattle.std.specs.List.Sorted.{IsStrictlySortedBy}
 use Rattle.lis_bits.specs.Rows.{Rows, get}
 use Rattle.lis_graph.specs.Graph.{Chain, Entails, Acyclic, Linked, up}
 use Rattle.lis_graph.proofs.Members.{Among, among_map, map_among, among_filter, filter_among, among_flat_map, flat_map_among, among_from_has, has_from_among, among_from_contains, contains_from_among}
+use Rattle.lis_graph.proofs.Ranges.{among_range, range_among}
 use Rattle.lis_graph.proofs.Sets.{members_lt}
 use Rattle.lis_graph.proofs.Graph as graph
 use Rattle.lis_taxonomy.specs.Taxonomy.{no_links}
@@ -22,19 +23,6 @@ pub ended : (p q r : ℕ) → Among (no_links p) q → Among (no_links q) r → 
 ended p q r h k = h
 
 -- ---- the list of edges
-among_range : (a n k : ℕ) → Among (range_with_len a n) k → (a ≤ k) × (k < a + n)
-among_range a zero k h = absurd h
-among_range a (suc n) k (inl same) = (omega arith, omega arith)
-among_range a (suc n) k (inr h) = let rest = among_range (a + 1) n k h in (omega (arith, rest.0), omega (arith, rest.1))
-
-range_among : (a n k : ℕ) → a ≤ k → k < a + n → Among (range_with_len a n) k
-range_among a zero k low high = absurd (omega arith)
-range_among a (suc n) k low high = by (cases_eq a k) (range_among (a + 1) n k)
-  where
-    by : (a ≡ k) ⊎ (a ≡ k → ⊥) → (a + 1 ≤ k → k < a + 1 + n → Among (range_with_len (a + 1) n) k) → Among (range_with_len a (suc n)) k
-    by (inl same) more = inl same
-    by (inr differ) more = inr (more (omega arith) (omega arith))
-
 pub record IsEdge (linked : Rows) (props : ℕ) (e : ℕ × ℕ) : Type 0 where
   pub left : e.0 < props
   pub right : e.1 < props
@@ -54,7 +42,7 @@ pub edges_among : (linked : Rows) (props p q : ℕ) → p < props → q < props 
 unfolding edge_list
 edges_among linked props p q p_in q_in bit =
     flat_map_among (λ p. map (λ q. (p, q)) (filter (get linked p) (range_with_len 0 props))) (range_with_len 0 props) p (p, q) (range_among 0 props p (omega arith) (omega arith))
-      (map_among (λ q. (p, q)) (filter (get linked p) (range_with_len 0 props)) q (filter_among (get linked p) (range_with_len 0 props) q (range_among 0 props q (omega arith) (omega arith)) bit))
+    (map_among (λ q. (p, q)) (filter (get linked p) (range_with_len 0 props)) q (filter_among (get linked p) (range_with_len 0 props) q (range_among 0 props q (omega arith) (omega arith)) bit))
 
 -- ---- what a number entails
 abbrev pub ups : Rows → ℕ → ℕ → List ℕ
@@ -89,9 +77,11 @@ first_step linked props p q h = by chain.0 chain.1
   where
     chain : Entails no_links (edge_list linked props) p q
     chain = (reach_decides linked props p q).0 h
+
     link : (next : ℕ) → Linked no_links (edge_list linked props) p next → IsEdge linked props (p, next)
     link next (inl given) = absurd (among_from_contains [] next given)
     link next (inr edge) = among_edges linked props (p, next) (among_from_contains (edge_list linked props) (p, next) edge)
+
     by : (n : ℕ) → Chain no_links (edge_list linked props) n p q → (p ≡ q) ⊎ ((next : ℕ) × (next < props) × (get linked p next ≡ true) × (reach linked props next q ≡ true))
     by zero c = inl c
     by (suc n) c = let e = link c.0 c.1 in inr (c.0, e.right, e.bit, (reach_decides linked props c.0 q).1 (n, c.2))
@@ -102,21 +92,24 @@ reach_self linked props p = reach_from_among linked props p p (graph.up_self nat
 pub reach_step : (linked : Rows) (props p next q : ℕ) → p < props → next < props → get linked p next ≡ true → reach linked props next q ≡ true → reach linked props p q ≡ true
 reach_step linked props p next q p_in next_in bit rest =
     reach_from_among linked props p q (graph.up_trans nat_eq nat_cmp no_links nat_decides exact_unsigned ended (edge_list linked props) p next q
-      (graph.up_edge nat_eq nat_cmp no_links nat_decides exact_unsigned ended (edge_list linked props) p next (edges_among linked props p next p_in next_in bit))
-      (among_from_reach linked props next q rest))
+    (graph.up_edge nat_eq nat_cmp no_links nat_decides exact_unsigned ended (edge_list linked props) p next (edges_among linked props p next p_in next_in bit))
+    (among_from_reach linked props next q rest))
 
 -- what a number is linked to entails less than it
 pub fewer_ups : (linked : Rows) (props p next : ℕ) → IsAcyclicTable linked props → p < props → next < props → get linked p next ≡ true → length (ups linked props next) < length (ups linked props p)
 fewer_ups linked props p next acyclic p_in next_in bit =
     members_lt nat_cmp nat_cmp_total (ups linked props next) (ups linked props p) p (sorted next) (sorted p)
-      (λ z m. over p next z step m) (graph.up_self nat_eq nat_cmp no_links nat_decides exact_unsigned ended (edge_list linked props) p) (λ back. circle (graph.entails_from_up nat_eq nat_cmp no_links nat_decides exact_unsigned ended (edge_list linked props) next p back))
+    (λ z m. over p next z step m) (graph.up_self nat_eq nat_cmp no_links nat_decides exact_unsigned ended (edge_list linked props) p) (λ back. circle (graph.entails_from_up nat_eq nat_cmp no_links nat_decides exact_unsigned ended (edge_list linked props) next p back))
   where
     sorted : (k : ℕ) → IsStrictlySortedBy nat_cmp (ups linked props k)
     sorted k = graph.sorted_up nat_eq nat_cmp no_links nat_decides exact_unsigned ended nat_cmp_total (edge_list linked props) k
+
     over : (a b c : ℕ) → Among (ups linked props a) b → Among (ups linked props b) c → Among (ups linked props a) c
     over = graph.up_trans nat_eq nat_cmp no_links nat_decides exact_unsigned ended (edge_list linked props)
+
     step : Among (ups linked props p) next
     step = graph.up_edge nat_eq nat_cmp no_links nat_decides exact_unsigned ended (edge_list linked props) p next (edges_among linked props p next p_in next_in bit)
+
     circle : Entails no_links (edge_list linked props) next p → ⊥
     circle chain = (acyclic_decides linked props).0 acyclic chain.0 p (next, inr (contains_from_among (edge_list linked props) (p, next) (edges_among linked props p next p_in next_in bit)), chain.1)
 
@@ -156,16 +149,20 @@ module _ (small big : Rows) (props p q : ℕ) (one : IsOneMore small big props p
               → (reach small props a b ≡ true) ⊎ ((reach small props a p ≡ true) × (reach small props q b ≡ true))
           by (inl old) = inl ((reach_decides small props a b).1 old)
           by (inr new) = inr ((reach_decides small props a p).1 new.0, (reach_decides small props q b).1 new.1)
+
       old : reach small props a b ≡ true → reach big props a b ≡ true
       old h = (reach_decides big props a b).1 (wider a b (graph.entails_within no_links (edge_list small props) ((p, q) ∷ edge_list small props) (λ e m. inr m) a b ((reach_decides small props a b).0 h)))
+
       through : reach small props a p ≡ true → reach small props q b ≡ true → reach big props a b ≡ true
       through h k = (reach_decides big props a b).1 (wider a b (graph.entails_through nat_eq nat_cmp no_links nat_decides exact_unsigned ended (p, q) (edge_list small props) a b ((reach_decides small props a p).0 h) ((reach_decides small props q b).0 k)))
+
       no_way : reach small props a b ≡ false → (reach small props a p ≡ true → reach small props q b ≡ true → ⊥) → reach big props a b ≡ true → ⊥
       no_way none ends h = by (apart h)
         where
           by : (reach small props a b ≡ true) ⊎ ((reach small props a p ≡ true) × (reach small props q b ≡ true)) → ⊥
           by (inl direct) = cc
           by (inr new) = ends new.0 new.1
+
       both : (r x y z : Bool) → reach big props a b ≡ r → reach small props a b ≡ x → reach small props a p ≡ y → reach small props q b ≡ z → r ≡ (x || (y && z))
       both true true y z e f g h = refl
       both true false true true e f g h = refl

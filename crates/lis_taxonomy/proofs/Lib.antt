@@ -2,3 +2,4 @@ mod Edges
 mod Loops
 mod Remakes
 mod Seen
+pub mod Laws

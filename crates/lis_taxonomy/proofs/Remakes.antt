@@ -11,10 +11,10 @@ use Rattle.lis_taxonomy.proofs.Loops.{shaped, new_row}
 pub remakes_more : (linked old_stale reached stale reached' stale' : Rows) (props word start next : ℕ) → RemakesTo linked old_stale reached stale props word start → IsPartlyRight linked reached' stale' props
     → ((p : ℕ) → p < props → get stale 0 p ≡ false → get stale' 0 p ≡ false) → get stale' 0 next ≡ false → NoneTrue linked word start next → RemakesTo linked old_stale reached' stale' props word (next + 1)
 remakes_more linked old_stale reached stale reached' stale' props word start next h partly fewer made least = record {
-    partly = partly;
-    made = λ k lt k_in bit. at k lt k_in bit (cases_order k next);
-    fewer = λ p p_in was. fewer p p_in (h.fewer p p_in was);
-  }
+  partly = partly;
+  made = λ k lt k_in bit. at k lt k_in bit (cases_order k next);
+  fewer = λ p p_in was. fewer p p_in (h.fewer p p_in was);
+}
   where
     at : (k : ℕ) → k < next + 1 → k < props → get linked word k ≡ true → (k ≡ next) ⊎ ((k < next) ⊎ (next < k)) → get stale' 0 k ≡ false
     at k lt k_in bit (inl same) = ap (λ p. get stale' 0 p) same ∙ made
@@ -40,9 +40,11 @@ module _ (linked old_stale reached stale : Rows) (props word start : ℕ) (in_pr
       to : (word ≡ q) ⊎ ((next : ℕ) × (next < props) × (get linked word next ≡ true) × (get reached next q ≡ true)) → reach linked props word q ≡ true
       to (inl same) = ap (λ k. reach linked props word k) (sym same) ∙ reach_self linked props word
       to (inr found) = reach_step linked props word found.0 q in_props found.1 found.2 (sym (h.partly.right found.0 q found.1 q_in (linked_made found.0 found.1 found.2)) ∙ found.3)
+
       from : (word ≡ q) ⊎ ((next : ℕ) × (next < props) × (get linked word next ≡ true) × (reach linked props next q ≡ true)) → (word ≡ q) ⊎ ((next : ℕ) × (next < props) × (get linked word next ≡ true) × (get reached next q ≡ true))
       from (inl same) = inl same
       from (inr found) = inr (found.0, found.1, found.2, h.partly.right found.0 q found.1 q_in (linked_made found.0 found.1 found.2) ∙ found.3)
+
       both : (x y : Bool) → get reached' word q ≡ x → reach linked props word q ≡ y → x ≡ y
       both true true e f = refl
       both false false e f = refl
@@ -54,10 +56,10 @@ module _ (linked old_stale reached stale : Rows) (props word start : ℕ) (in_pr
 
   pub remade : (reached' : Rows) → Gathers linked reached reached' props word → IsPartlyRight linked reached' (with_row stale 0 (λ k. if k == word then false else get stale 0 k)) props
   remade reached' gathered = record {
-      reached_shape = gathered.shape;
-      stale_shape = shaped stale 1 props 0 (λ k. if k == word then false else get stale 0 k) h.partly.stale_shape;
-      right = λ p q p_in q_in not_stale. at p q p_in q_in not_stale (cases_eq p word);
-    }
+    reached_shape = gathered.shape;
+    stale_shape = shaped stale 1 props 0 (λ k. if k == word then false else get stale 0 k) h.partly.stale_shape;
+    right = λ p q p_in q_in not_stale. at p q p_in q_in not_stale (cases_eq p word);
+  }
     where
       at : (p q : ℕ) → p < props → q < props → get (with_row stale 0 (λ k. if k == word then false else get stale 0 k)) 0 p ≡ false → (p ≡ word) ⊎ (p ≡ word → ⊥) → get reached' p q ≡ reach linked props p q
       at p q p_in q_in not_stale (inl same) = rw same (own_row reached' gathered q q_in)

@@ -27,15 +27,15 @@ pair_exact = pairs_exact nat_cmp nat_cmp nat_cmp_total nat_cmp_total exact_unsig
 
 pair_decides : (a b : ℕ × ℕ) → Decides (eq_by_cmp pair_cmp a b) (a ≡ b)
 pair_decides a b = (
-    λ h. pair_exact a b ((Equal-is (pair_cmp a b)).0 h),
-    λ same. (Equal-is (pair_cmp a b)).1 (ap (λ k. pair_cmp a k) (sym same) ∙ tied_itself pair_total a),
-  )
+  λ h. pair_exact a b ((Equal-is (pair_cmp a b)).0 h),
+  λ same. (Equal-is (pair_cmp a b)).1 (ap (λ k. pair_cmp a k) (sym same) ∙ tied_itself pair_total a),
+)
 
 listed : (es : List (ℕ × ℕ)) (e : ℕ × ℕ) → Decides (list_any (eq_by_cmp pair_cmp e) es) (Among es e)
 listed es e = (
-    λ h. let found = among_from_any (eq_by_cmp pair_cmp e) es h in subst (λ (k : ℕ × ℕ). Among es k) (sym ((pair_decides e found.0).0 found.2)) found.1,
-    λ m. any_from_among (eq_by_cmp pair_cmp e) es e m ((pair_decides e e).1 refl),
-  )
+  λ h. let found = among_from_any (eq_by_cmp pair_cmp e) es h in subst (λ (k : ℕ × ℕ). Among es k) (sym ((pair_decides e found.0).0 found.2)) found.1,
+  λ m. any_from_among (eq_by_cmp pair_cmp e) es e m ((pair_decides e e).1 refl),
+)
 
 contains_decides : (es : List (ℕ × ℕ)) (e : ℕ × ℕ) → Decides (set.contains (set.from_list {R = pair_cmp} es) e) (Among es e)
 contains_decides es e =
@@ -71,7 +71,7 @@ pub entails-seen : (linked : Rows) (props p q : ℕ) → entails (seen linked pr
 unfolding entails reach
 entails-seen linked props p q =
     ap (λ words. list_any (λ y. nat_eq y q) words)
-      (graph.up_same nat_eq nat_cmp no_links nat_decides exact_unsigned ended nat_cmp_total (set.items (seen linked props).edges) (edge_list linked props) (from_items (edge_list linked props)) (to_items (edge_list linked props)) p)
+    (graph.up_same nat_eq nat_cmp no_links nat_decides exact_unsigned ended nat_cmp_total (set.items (seen linked props).edges) (edge_list linked props) (from_items (edge_list linked props)) (to_items (edge_list linked props)) p)
 
 pub acyclic-seen : (linked : Rows) (props : ℕ) → IsAcyclicTable linked props → IsAcyclic (seen linked props)
 acyclic-seen linked props acyclic = graph.acyclic_within no_links (set.items (seen linked props).edges) (edge_list linked props) (from_items (edge_list linked props)) ((acyclic_decides linked props).0 acyclic)
@@ -88,7 +88,7 @@ bit_at_edge linked props p q value shape p_in a b b_in = go (cases_eq a p)
   where
     go : (a ≡ p) ⊎ (a ≡ p → ⊥) → get (with_row linked p (λ k. if k == q then value else get linked p k)) a b ≡ (if a == p && b == q then value else get linked a b)
     go (inl same) = rw (eq-eqb a p same) (ap (λ k. get (with_row linked p (λ k. if k == q then value else get linked p k)) k b) same
-      ∙ (new_row linked props props p b (λ k. if k == q then value else get linked p k) shape p_in b_in ∙ ap (λ k. if b == q then value else get linked k b) (sym same)))
+        ∙ (new_row linked props props p b (λ k. if k == q then value else get linked p k) shape p_in b_in ∙ ap (λ k. if b == q then value else get linked k b) (sym same)))
     go (inr differ) = rw (ne_eqb a p differ) (get-with_row_other linked p a b (λ k. if k == q then value else get linked p k) differ)
 
 both_tests : (a b p q : ℕ) → (nat_eq a p && nat_eq b q) ≡ true → (a ≡ p) × (b ≡ q)
@@ -99,37 +99,51 @@ both_tests a b p q h = go (nat_eq a p) refl h
     go false e k = absurd cc
 
 pub one_more_set : (linked : Rows) (props p q : ℕ) → HasShape linked props props → p < props → q < props → IsOneMore linked (with_row linked p (λ k. if k == q then true else get linked p k)) props p q
-one_more_set linked props p q shape p_in q_in = record { left = p_in; right = q_in; bits = λ a b a_in b_in. (
+one_more_set linked props p q shape p_in q_in = record {
+  left = p_in;
+  right = q_in;
+  bits = λ a b a_in b_in. (
     λ set. to a b (a == p && b == q) refl (sym (bit_at_edge linked props p q true shape p_in a b b_in) ∙ set),
     λ found. bit_at_edge linked props p q true shape p_in a b b_in ∙ from a b found,
-  ) }
+  );
+}
   where
     to : (a b : ℕ) (t : Bool) → (a == p && b == q) ≡ t → (if t then true else get linked a b) ≡ true → ((a ≡ p) × (b ≡ q)) ⊎ (get linked a b ≡ true)
     to a b true e set = inl (both_tests a b p q e)
     to a b false e set = inr set
+
     here : (a b : ℕ) → (a ≡ p) → (b ≡ q) → (a == p && b == q) ≡ true
     here a b left right = rw (eq-eqb a p left, eq-eqb b q right)
+
     any : (t : Bool) (v : Bool) → v ≡ true → (if t then true else v) ≡ true
     any true v e = refl
     any false v e = e
+
     from : (a b : ℕ) → ((a ≡ p) × (b ≡ q)) ⊎ (get linked a b ≡ true) → (if a == p && b == q then true else get linked a b) ≡ true
     from a b (inl same) = rw (here a b same.0 same.1)
     from a b (inr bit) = any (a == p && b == q) (get linked a b) bit
 
 pub one_more_cleared : (linked : Rows) (props p q : ℕ) → HasShape linked props props → p < props → q < props → get linked p q ≡ true → IsOneMore (with_row linked p (λ k. if k == q then false else get linked p k)) linked props p q
-one_more_cleared linked props p q shape p_in q_in there = record { left = p_in; right = q_in; bits = λ a b a_in b_in. (
+one_more_cleared linked props p q shape p_in q_in there = record {
+  left = p_in;
+  right = q_in;
+  bits = λ a b a_in b_in. (
     λ set. to a b b_in (a == p && b == q) refl set,
     λ found. from a b b_in found,
-  ) }
+  );
+}
   where
     small : Rows
     small = with_row linked p (λ k. if k == q then false else get linked p k)
+
     to : (a b : ℕ) → b < props → (t : Bool) → (a == p && b == q) ≡ t → get linked a b ≡ true → ((a ≡ p) × (b ≡ q)) ⊎ (get small a b ≡ true)
     to a b b_in true e set = inl (both_tests a b p q e)
     to a b b_in false e set = inr (bit_at_edge linked props p q false shape p_in a b b_in ∙ (ap (λ t. if t then false else get linked a b) e ∙ set))
+
     kept : (t v : Bool) → (if t then false else v) ≡ true → v ≡ true
     kept true v e = absurd cc
     kept false v e = e
+
     from : (a b : ℕ) → b < props → ((a ≡ p) × (b ≡ q)) ⊎ (get small a b ≡ true) → get linked a b ≡ true
     from a b b_in (inl same) = ap (λ k. get linked k b) same.0 ∙ (ap (λ k. get linked p k) same.1 ∙ there)
     from a b b_in (inr bit) = kept (a == p && b == q) (get linked a b) (sym (bit_at_edge linked props p q false shape p_in a b b_in) ∙ bit)
@@ -137,50 +151,57 @@ one_more_cleared linked props p q shape p_in q_in there = record { left = p_in; 
 module _ (small big : Rows) (props p q : ℕ) (one : IsOneMore small big props p q) where
   pub seen_more : seen big props ≡ with_edge (seen small props) p q
   seen_more = ap (λ edges. record { props = props; edges = edges }) (set.same_set pair_total pair_exact (set.from_list (edge_list big props)) (set.insert (set.from_list (edge_list small props)) (p, q))
-    (λ e. one_answer (set.contains (set.from_list (edge_list big props)) e) (set.contains (set.insert (set.from_list (edge_list small props)) (p, q)) e) (contains_decides (edge_list big props) e) (inserted e)))
+      (λ e. one_answer (set.contains (set.from_list (edge_list big props)) e) (set.contains (set.insert (set.from_list (edge_list small props)) (p, q)) e) (contains_decides (edge_list big props) e) (inserted e)))
     where
       or_true : (x y : Bool) → (x || y) ≡ true → (x ≡ true) ⊎ (y ≡ true)
       or_true true y h = inl refl
       or_true false y h = inr h
+
       true_or : (x y : Bool) → (x ≡ true) ⊎ (y ≡ true) → (x || y) ≡ true
       true_or true y h = refl
       true_or false y (inl h) = absurd cc
       true_or false y (inr h) = h
+
       inserted : (e : ℕ × ℕ) → Decides (set.contains (set.insert (set.from_list {R = pair_cmp} (edge_list small props)) (p, q)) e) (Among (edge_list big props) e)
       inserted e = (
-          λ h. among_big small big props p q one e (to (or_true (eq_by_cmp pair_cmp e (p, q)) (set.contains (set.from_list {R = pair_cmp} (edge_list small props)) e) (sym test ∙ h))),
-          λ m. test ∙ true_or (eq_by_cmp pair_cmp e (p, q)) (set.contains (set.from_list {R = pair_cmp} (edge_list small props)) e) (from (big_among small big props p q one e m)),
-        )
+        λ h. among_big small big props p q one e (to (or_true (eq_by_cmp pair_cmp e (p, q)) (set.contains (set.from_list {R = pair_cmp} (edge_list small props)) e) (sym test ∙ h))),
+        λ m. test ∙ true_or (eq_by_cmp pair_cmp e (p, q)) (set.contains (set.from_list {R = pair_cmp} (edge_list small props)) e) (from (big_among small big props p q one e m)),
+      )
         where
           test : set.contains (set.insert (set.from_list {R = pair_cmp} (edge_list small props)) (p, q)) e ≡ (eq_by_cmp pair_cmp e (p, q) || set.contains (set.from_list {R = pair_cmp} (edge_list small props)) e)
           test = set.contains-insert pair_total (set.from_list {R = pair_cmp} (edge_list small props)) (p, q) e
+
           to : (eq_by_cmp pair_cmp e (p, q) ≡ true) ⊎ (set.contains (set.from_list {R = pair_cmp} (edge_list small props)) e ≡ true) → Among ((p, q) ∷ edge_list small props) e
           to (inl same) = inl (sym ((pair_decides e (p, q)).0 same))
           to (inr old) = inr ((contains_decides (edge_list small props) e).0 old)
+
           from : Among ((p, q) ∷ edge_list small props) e → (eq_by_cmp pair_cmp e (p, q) ≡ true) ⊎ (set.contains (set.from_list {R = pair_cmp} (edge_list small props)) e ≡ true)
           from (inl same) = inl ((pair_decides e (p, q)).1 (sym same))
           from (inr m) = inr ((contains_decides (edge_list small props) e).1 m)
 
   pub seen_less : get small p q ≡ false → seen small props ≡ without_edge (seen big props) p q
   seen_less gone = ap (λ edges. record { props = props; edges = edges }) (set.same_set pair_total pair_exact (set.from_list (edge_list small props)) (set.remove (set.from_list (edge_list big props)) (p, q))
-    (λ e. one_answer (set.contains (set.from_list (edge_list small props)) e) (set.contains (set.remove (set.from_list (edge_list big props)) (p, q)) e) (contains_decides (edge_list small props) e) (removed e)))
+      (λ e. one_answer (set.contains (set.from_list (edge_list small props)) e) (set.contains (set.remove (set.from_list (edge_list big props)) (p, q)) e) (contains_decides (edge_list small props) e) (removed e)))
     where
       not_and : (x y : Bool) → (not x && y) ≡ true → (x ≡ false) × (y ≡ true)
       not_and true y h = absurd cc
       not_and false y h = (refl, h)
+
       removed : (e : ℕ × ℕ) → Decides (set.contains (set.remove (set.from_list {R = pair_cmp} (edge_list big props)) (p, q)) e) (Among (edge_list small props) e)
       removed e = (
-          λ h. let parts = not_and (eq_by_cmp pair_cmp e (p, q)) (set.contains (set.from_list {R = pair_cmp} (edge_list big props)) e) (sym test ∙ h) in
+        λ h. let parts = not_and (eq_by_cmp pair_cmp e (p, q)) (set.contains (set.from_list {R = pair_cmp} (edge_list big props)) e) (sym test ∙ h) in
             to parts.0 (big_among small big props p q one e ((contains_decides (edge_list big props) e).0 parts.1)),
-          λ m. test ∙ ap (λ t. not t && set.contains (set.from_list {R = pair_cmp} (edge_list big props)) e) (other m (eq_by_cmp pair_cmp e (p, q)) refl)
+        λ m. test ∙ ap (λ t. not t && set.contains (set.from_list {R = pair_cmp} (edge_list big props)) e) (other m (eq_by_cmp pair_cmp e (p, q)) refl)
             ∙ (contains_decides (edge_list big props) e).1 (among_big small big props p q one e (inr m)),
-        )
+      )
         where
           test : set.contains (set.remove (set.from_list {R = pair_cmp} (edge_list big props)) (p, q)) e ≡ (not (eq_by_cmp pair_cmp e (p, q)) && set.contains (set.from_list {R = pair_cmp} (edge_list big props)) e)
           test = set.contains-remove pair_total (set.from_list {R = pair_cmp} (edge_list big props)) (p, q) e
+
           to : eq_by_cmp pair_cmp e (p, q) ≡ false → Among ((p, q) ∷ edge_list small props) e → Among (edge_list small props) e
           to differs (inl same) = absurd (let k = (pair_decides e (p, q)).1 (sym same) in cc)
           to differs (inr m) = m
+
           other : Among (edge_list small props) e → (t : Bool) → eq_by_cmp pair_cmp e (p, q) ≡ t → t ≡ false
           other m true same = absurd (let bit = (among_edges small props e m).bit in let here = ap (λ (k : ℕ × ℕ). get small k.0 k.1) ((pair_decides e (p, q)).0 same) in cc)
           other m false same = refl
@@ -198,7 +219,7 @@ sound_added linked reached reached' stale props p q sound p_in q_in apart widene
       stale_shape = sound.stale_shape;
       acyclic = acyclic_with linked linked' props p q one sound.acyclic (sym (sound.right q p q_in p_in) ∙ apart);
       right = λ a b a_in b_in. widened.bits a b a_in b_in
-        ∙ ((λ i. sound.right a b a_in b_in i || (sound.right a p a_in p_in i && sound.right q b q_in b_in i)) ∙ sym (reach_with linked linked' props p q one a b));
+          ∙ ((λ i. sound.right a b a_in b_in i || (sound.right a p a_in p_in i && sound.right q b q_in b_in i)) ∙ sym (reach_with linked linked' props p q one a b));
     }
 
 module _ (linked reached stale : Rows) (props p q : ℕ) (sound : IsSound linked reached stale props) (p_in : p < props) (q_in : q < props) (there : get linked p q ≡ true) where
@@ -211,34 +232,38 @@ module _ (linked reached stale : Rows) (props p q : ℕ) (sound : IsSound linked
   -- a word that did not reach the edge's left side reaches what it reached
   pub partly_removed : (marked : Rows) → HasShape marked 1 props → ((w : ℕ) → w < props → get marked 0 w ≡ get reached w p) → IsPartlyRight (with_row linked p (λ k. if k == q then false else get linked p k)) reached marked props
   partly_removed marked shape marks = record {
-      reached_shape = sound.reached_shape;
-      stale_shape = shape;
-      right = λ a b a_in b_in not_stale. sound.right a b a_in b_in ∙ kept a b (sym (sound.right a p a_in p_in) ∙ (sym (marks a a_in) ∙ not_stale));
-    }
+    reached_shape = sound.reached_shape;
+    stale_shape = shape;
+    right = λ a b a_in b_in not_stale. sound.right a b a_in b_in ∙ kept a b (sym (sound.right a p a_in p_in) ∙ (sym (marks a a_in) ∙ not_stale));
+  }
     where
       small : Rows
       small = with_row linked p (λ k. if k == q then false else get linked p k)
+
       wider : (a b : ℕ) → reach linked props a b ≡ (reach small props a b || (reach small props a p && reach small props q b))
       wider = reach_with small linked props p q (one_more_cleared linked props p q sound.linked_shape p_in q_in there)
+
       left_false : (x y : Bool) → (x || y) ≡ false → x ≡ false
       left_false true y h = absurd cc
       left_false false y h = refl
+
       alone : (x z y : Bool) → y ≡ false → (x || (y && z)) ≡ x
       alone true z y e = refl
       alone false z y e = ap (λ v. v && z) e
+
       kept : (a b : ℕ) → reach linked props a p ≡ false → reach linked props a b ≡ reach small props a b
       kept a b none = wider a b ∙ alone (reach small props a b) (reach small props q b) (reach small props a p) (left_false (reach small props a p) (reach small props a p && reach small props q p) (sym (wider a p) ∙ none))
 
   pub sound_removed : (reached' stale' : Rows) → HasShape reached' props props → HasShape stale' 1 props → ((a b : ℕ) → a < props → b < props → get reached' a b ≡ reach (with_row linked p (λ k. if k == q then false else get linked p k)) props a b)
       → IsSound (with_row linked p (λ k. if k == q then false else get linked p k)) reached' stale' props
   sound_removed reached' stale' shape stale_shape right = record {
-      few = sound.few;
-      linked_shape = shape_removed;
-      reached_shape = shape;
-      stale_shape = stale_shape;
-      acyclic = acyclic_removed;
-      right = right;
-    }
+    few = sound.few;
+    linked_shape = shape_removed;
+    reached_shape = shape;
+    stale_shape = stale_shape;
+    acyclic = acyclic_removed;
+    right = right;
+  }
 
   pub seen_removed : seen (with_row linked p (λ k. if k == q then false else get linked p k)) props ≡ without_edge (seen linked props) p q
   seen_removed = seen_less (with_row linked p (λ k. if k == q then false else get linked p k)) linked props p q (one_more_cleared linked props p q sound.linked_shape p_in q_in there)
@@ -261,20 +286,22 @@ seen_new props = ap (λ es. record { props = props; edges = set.from_list es }) 
 pub sound_new : (reached stale : Rows) (props : ℕ) → props ≤ 8192 → HasShape (empty_rows props props) props props → HasShape reached props props → HasShape stale 1 props → ((p q : ℕ) → p < props → q < props → get reached p q ≡ (p == q))
     → IsSound (empty_rows props props) reached stale props
 sound_new reached stale props few shape reached_shape stale_shape own = record {
-    few = few;
-    linked_shape = shape;
-    reached_shape = reached_shape;
-    stale_shape = stale_shape;
-    acyclic = (acyclic_decides (empty_rows props props) props).1 (λ n p c. no_link p c.0 c.1);
-    right = λ p q p_in q_in. own p q p_in q_in ∙ alone p q (nat_eq p q) refl (reach (empty_rows props props) props p q) refl;
-  }
+  few = few;
+  linked_shape = shape;
+  reached_shape = reached_shape;
+  stale_shape = stale_shape;
+  acyclic = (acyclic_decides (empty_rows props props) props).1 (λ n p c. no_link p c.0 c.1);
+  right = λ p q p_in q_in. own p q p_in q_in ∙ alone p q (nat_eq p q) refl (reach (empty_rows props props) props p q) refl;
+}
   where
     no_link : (p r : ℕ) → Linked no_links (edge_list (empty_rows props props) props) p r → ⊥
     no_link p r (inl given) = among_from_contains [] r given
     no_link p r (inr edge) = no_edges props (p, r) (among_from_contains (edge_list (empty_rows props props) props) (p, r) edge)
+
     only : (p q : ℕ) → (p ≡ q) ⊎ ((next : ℕ) × (next < props) × (get (empty_rows props props) p next ≡ true) × (reach (empty_rows props props) props next q ≡ true)) → p ≡ q
     only p q (inl same) = same
     only p q (inr found) = absurd (let none = get-empty_rows props props p found.0 in let some = found.2 in cc)
+
     alone : (p q : ℕ) (x : Bool) → nat_eq p q ≡ x → (y : Bool) → reach (empty_rows props props) props p q ≡ y → x ≡ y
     alone p q true e true f = refl
     alone p q false e false f = refl

@@ -1,7 +1,9 @@
 //! A taxonomy: edges between numbers, without a circle, and for each number all that it entails.
 #![tactic(auto)]
 
-mod taxonomy;
 mod tables;
+mod taxonomy;
+#[cfg(test)]
+mod tests;
 
 pub use taxonomy::{EdgeFault, Taxonomy};

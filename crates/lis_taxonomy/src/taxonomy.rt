@@ -1,5 +1,5 @@
 ghost use Rattle.std.specs.Prelude.{◌≡◌, ◌≢◌, ℕ, ◌%◌, ◌<◌, ◌≤◌, ◌↔◌, false, length, IfOk, OnOk, OnErr, IsTrue, Err};
-ghost use Rattle.lis_bits.specs.Rows.{SetsRow};
+ghost use Rattle.lis_bits.specs.Rows.{get, SetsRow};
 
 use crate::tables;
 use lis_bits::{Rows, copy_row};
@@ -129,7 +129,8 @@ impl Taxonomy {
         requires p { p < self.now.props }
         requires bits { to.old.bits ≡ self.now.props }
         requires row { row < length to.old.rows }
-        ensures { SetsRow to.old to.new row (entails self.now p) }
+        ensures bits { (q : ℕ) → q < self.now.props → (IsTrue (get to.new row q) ↔ Entails self.now p q) }
+        ensures row { SetsRow to.old to.new row (entails self.now p) }
     {
         copy_row(&self.reached, p, to, row);
     }

@@ -21,8 +21,8 @@ loop-next-preserved t c =
     let stale = c.loop-next.stale in
     let found = c.in-Some.ensures in
     elim c.if-get.branch [
-      then-get w ↦ rw (w.reached-is, w.stale-is) (remakes_more linked c.args.stale.now reached stale w.remake.new.reached w.remake.new.stale c.args.props c.args.word c.loop-next.start c.in-Some.next c.loop-next.invariant w.remake.ensures.partly w.remake.ensures.fewer w.remake.ensures.made found.least)
-    | else-get w ↦ rw (w.reached-is, w.stale-is) (remakes_more linked c.args.stale.now reached stale reached stale c.args.props c.args.word c.loop-next.start c.in-Some.next c.loop-next.invariant c.loop-next.invariant.partly (λ p p_in was. was) (sym c.get.ensures ∙ w.if-get.false) found.least)
+      | then-get w ↦ rw (w.reached-is, w.stale-is) (remakes_more linked c.args.stale.now reached stale w.remake.new.reached w.remake.new.stale c.args.props c.args.word c.loop-next.start c.in-Some.next c.loop-next.invariant w.remake.ensures.partly w.remake.ensures.fewer w.remake.ensures.made found.least)
+      | else-get w ↦ rw (w.reached-is, w.stale-is) (remakes_more linked c.args.stale.now reached stale reached stale c.args.props c.args.word c.loop-next.start c.in-Some.next c.loop-next.invariant c.loop-next.invariant.partly (λ p p_in was. was) (sym c.get.ensures ∙ w.if-get.false) found.least)
     ]
 
 pub returns-clause-partly : goal.returns-clause-partly

@@ -11,8 +11,8 @@ loop-next-preserved c =
     let linked = c.args.linked.now in
     let found = c.in-Some.ensures in
     rw c.or.ensures (gathers_more linked c.args.reached.now c.args.props c.args.word c.requires.word c.loop-next.reached c.loop-next.start c.in-Some.next c.loop-next.invariant
-      (omega (arith, found.in_row, c.requires.linked_shape.wide)) found.from_start found.true_bit found.least
-      (λ same. let set = found.true_bit in let loop = ap (λ k. get linked c.args.word k) same in let none = c.requires.no_loop in cc))
+    (omega (arith, found.in_row, c.requires.linked_shape.wide)) found.from_start found.true_bit found.least
+    (λ same. let set = found.true_bit in let loop = ap (λ k. get linked c.args.word k) same in let none = c.requires.no_loop in cc))
 
 pub returns : goal.returns
 returns c =

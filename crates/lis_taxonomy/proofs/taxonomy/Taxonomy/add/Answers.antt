@@ -76,5 +76,5 @@ returns-clause-acyclic c =
     let p_in = rw (← c.self.view_is) at c.requires.p in
     let q_in = rw (← c.self.view_is) at c.requires.q in
     let sound : IsSound c.put.new.self c.widen.new.reached inside.stale inside.props =
-      rw c.put.ensures (sound_added inside.linked inside.reached c.widen.new.reached inside.stale inside.props c.args.p c.args.q c.self.invariant p_in q_in (sym c.get-2.ensures ∙ c.if-get-2.false) c.widen.ensures) in
+    rw c.put.ensures (sound_added inside.linked inside.reached c.widen.new.reached inside.stale inside.props c.args.p c.args.q c.self.invariant p_in q_in (sym c.get-2.ensures ∙ c.if-get-2.false) c.widen.ensures) in
     acyclic-seen c.put.new.self inside.props sound.acyclic

@@ -1,0 +1,4 @@
+mod Numbers
+mod Changes
+mod Widened
+mod Seen

@@ -1,0 +1,21 @@
+use Rattle.lis_bits.specs.Rows.{get}
+use Rattle.lis_ext.proofs.Seen.{sets_widened, marks_widened, edits_widened}
+use Rattle.lis_ext.proofs.ext.Ext.add_up.Goals as goal
+
+pub returns-clause-sets : goal.returns-clause-sets
+returns-clause-sets c =
+    let e = c.self.inside in
+    let left_in = rw (← c.self.view_is) at c.requires.left in
+    rw (← c.self.view_is) (sets_widened e.rows c.widen.new.rows e.marks c.widen.new.marks e.props e.files c.args.left (get c.args.ups.now c.args.row) left_in c.widen.ensures)
+
+pub returns-clause-marks : goal.returns-clause-marks
+returns-clause-marks c =
+    let e = c.self.inside in
+    let left_in = rw (← c.self.view_is) at c.requires.left in
+    rw (← c.self.view_is) (marks_widened e.rows c.widen.new.rows e.marks c.widen.new.marks e.props e.files c.args.left (get c.args.ups.now c.args.row) left_in c.widen.ensures)
+
+pub returns-clause-edits : goal.returns-clause-edits
+returns-clause-edits c =
+    let e = c.self.inside in
+    let left_in = rw (← c.self.view_is) at c.requires.left in
+    rw (← c.self.view_is) (edits_widened e.rows c.widen.new.rows e.marks c.widen.new.marks e.props e.files c.args.left (get c.args.ups.now c.args.row) left_in c.widen.ensures)

@@ -1,0 +1,152 @@
+ghost use Rattle.std.specs.Prelude.{◌≡◌, ℕ, ◌+◌, ◌%◌, ◌<◌, ◌≤◌, All, ◌&&◌, [], length, slice_get, slice_set, IfOk};
+ghost use Rattle.std.specs.List.Sorted.{IsStrictlyIncreasing};
+ghost use Rattle.lis_bits.specs.Rows.{get, SetsRow};
+ghost use Rattle.lis_ext.specs.Numbers.{differs, numbers_where};
+
+use crate::tables;
+use lis_bits::{Rows, copy_row};
+use std::alloc::{AllocError, Global};
+use std::marker::Model;
+
+/// The set of numbers of each file, kept as a row of bits for each number, and marks of the rows that have changed.
+/// All memory is taken by `new`.
+#[derive(Drop)]
+pub struct Ext {
+    props: u32,
+    files: u32,
+    // Row p has bit i where file i has the number p.
+    rows: Rows,
+    // One row, of the numbers that are marked.
+    marks: Rows,
+}
+
+impl Model for Ext {
+    ghost use Rattle.lis_ext.specs.Ext.{Ext as Sets};
+
+    ghost Value = { Sets };
+
+    ghost use Rattle.lis_ext.specs.Inside.{seen, IsSound};
+
+    ghost view = { λ e. seen e.rows e.marks e.props e.files };
+
+    ghost invariant = { λ e. IsSound e.rows e.marks e.props e.files };
+}
+
+impl Ext {
+    ghost use Rattle.lis_ext.specs.Ext.{has, set_of, empty_ext, with_marks, is_lacked, widened};
+
+    /// Empty sets of so many files.
+    pub fn new(alloc: Global, props: u32, files: u32) -> Result<Ext, AllocError>
+        requires whole_words { files % 64 ≡ 0 }
+        requires whole_marks { props % 64 ≡ 0 }
+        requires few_props { props ≤ 8192 }
+        requires few_files { files ≤ 4096 }
+        ensures { IfOk result (λ made. made ≡ empty_ext props files) }
+    {
+        Ok(Ext {
+            props,
+            files,
+            rows: Rows::new(alloc, props, files)?,
+            marks: Rows::new(alloc, 1, props)?,
+        })
+    }
+
+    /// Makes a file's set a new one, and marks the numbers that are in one of the two and not in both.
+    pub fn set_file(&mut self, file: u32, old: &[u16], new: &[u16])
+        requires file { file < length self.old.sets }
+        requires old_set { set_of self.old file ≡ old.now }
+        requires new_rises { IsStrictlyIncreasing new.now }
+        requires new_in { All (λ number. number < self.old.props) new.now }
+        ensures props { self.new.props ≡ self.old.props }
+        ensures sets { self.new.sets ≡ slice_set self.old.sets file new.now }
+        ensures marks { self.new.marks ≡ with_marks self.old (differs old.now new.now) }
+        ensures edits { self.new.edits
+            ≤ self.old.edits + length (numbers_where self.old.props (differs old.now new.now)) }
+    {
+        tables::add_numbers(
+            &mut self.rows,
+            &mut self.marks,
+            self.props,
+            self.files,
+            file,
+            new,
+        );
+        tables::drop_numbers(
+            &mut self.rows,
+            &mut self.marks,
+            self.props,
+            self.files,
+            file,
+            old,
+            new,
+        );
+    }
+
+    /// Adds the numbers of a row to the set of each file that has the left number, and marks those of them that
+    /// some such file lacked.
+    pub fn add_up(&mut self, left: u32, ups: &Rows, row: u32)
+        requires left { left < self.old.props }
+        requires row { row < length ups.now.rows }
+        requires bits { ups.now.bits ≡ self.old.props }
+        ensures props { self.new.props ≡ self.old.props }
+        ensures sets { self.new.sets ≡ widened self.old left (get ups.now row) }
+        ensures marks { self.new.marks
+            ≡ with_marks self.old (λ p. get ups.now row p && is_lacked self.old left p) }
+        ensures edits { self.new.edits ≤ self.old.edits
+            + length (numbers_where self.old.props (λ p. get ups.now row p && is_lacked self.old left p)) }
+    {
+        tables::widen(
+            &mut self.rows,
+            &mut self.marks,
+            self.props,
+            self.files,
+            left,
+            ups,
+            row,
+        );
+    }
+
+    /// Whether a file has a number.
+    pub fn has(&self, prop: u32, file: u32) -> bool
+        requires prop { prop < self.now.props }
+        requires file { file < length self.now.sets }
+        ensures { result ≡ has self.now prop file }
+    {
+        self.rows.get(prop, file)
+    }
+
+    /// Writes the files that have a number into a row.
+    pub fn copy_row(&self, prop: u32, to: &mut Rows, row: u32)
+        requires prop { prop < self.now.props }
+        requires bits { to.old.bits ≡ length self.now.sets }
+        requires row { row < length to.old.rows }
+        ensures { SetsRow to.old to.new row (has self.now prop) }
+    {
+        copy_row(&self.rows, prop, to, row);
+    }
+
+    /// The k-th marked number in rising order, counted from 0.
+    pub fn changed(&self, k: u32) -> Option<u32>
+        ensures { result ≡ slice_get self.now.marks k }
+    {
+        tables::true_bit(&self.marks, self.props, k)
+    }
+
+    /// Clears all marks.
+    pub fn settle(&mut self)
+        ensures { self.new ≡ record self.old { marks = [] } }
+    {
+        self.marks.fill(0, false);
+    }
+
+    /// The rows: a row for each number, with a bit for each file.
+    pub fn rows(&self) -> &Rows
+        ensures rows { length result.now.rows ≡ self.now.props }
+        ensures bits { result.now.bits ≡ length self.now.sets }
+        ensures values { (p i : ℕ) → p < self.now.props → i < length self.now.sets
+            → get result.now p i ≡ has self.now p i }
+        ensures edits { result.now.edits ≡ self.now.edits }
+    {
+        &self.rows
+    }
+}

@@ -1,0 +1,9 @@
+//! Which file has which number, as rows of bits that are changed no more than they differ.
+#![tactic(auto)]
+
+mod ext;
+mod tables;
+#[cfg(test)]
+mod tests;
+
+pub use ext::Ext;

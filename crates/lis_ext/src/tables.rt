@@ -1,0 +1,105 @@
+ghost use Rattle.std.specs.Prelude.{◌≡◌, ℕ, ◌+◌, ◌<◌, ◌≤◌, All, length, slice_get};
+ghost use Rattle.std.specs.List.Sorted.{IsStrictlyIncreasing};
+ghost use Rattle.lis_bits.specs.Rows.{get};
+ghost use Rattle.lis_ext.specs.Numbers.{has_number, numbers_where};
+ghost use Rattle.lis_ext.specs.Inside.{HasShape, AddsNumbers, DropsNumbers, Widens};
+
+use lis_bits::Rows;
+
+// Whether the number is one of those that rise.
+fn is_among(numbers: &[u16], number: u16) -> bool
+    requires { IsStrictlyIncreasing numbers.now }
+    ensures { result ≡ has_number numbers.now number }
+{
+    numbers.binary_search(&number).is_ok()
+}
+
+// Sets the file's bit in the row of each of the numbers that lacks it, and marks these rows.
+pub(crate) fn add_numbers(
+    rows: &mut Rows,
+    marks: &mut Rows,
+    props: u32,
+    files: u32,
+    file: u32,
+    new: &[u16],
+)
+    requires rows_shape { HasShape rows.old props files }
+    requires marks_shape { HasShape marks.old 1 props }
+    requires file { file < files }
+    requires in_props { All (λ number. number < props) new.now }
+    ensures { AddsNumbers rows.old rows.new marks.old marks.new props files file new.now }
+{
+    for number in new {
+        let prop = u32::from(*number);
+        if !rows.get(prop, file) {
+            rows.put(prop, file, true);
+            marks.put(0, prop, true);
+        }
+    }
+}
+
+// Clears the file's bit in the row of each old number that is no new one, and marks these rows.
+pub(crate) fn drop_numbers(
+    rows: &mut Rows,
+    marks: &mut Rows,
+    props: u32,
+    files: u32,
+    file: u32,
+    old: &[u16],
+    new: &[u16],
+)
+    requires rows_shape { HasShape rows.old props files }
+    requires marks_shape { HasShape marks.old 1 props }
+    requires file { file < files }
+    requires in_props { All (λ number. number < props) old.now }
+    requires old_rises { IsStrictlyIncreasing old.now }
+    requires new_rises { IsStrictlyIncreasing new.now }
+    ensures { DropsNumbers rows.old rows.new marks.old marks.new props files file old.now new.now }
+{
+    for number in old {
+        let prop = u32::from(*number);
+        if !is_among(new, *number) {
+            rows.put(prop, file, false);
+            marks.put(0, prop, true);
+        }
+    }
+}
+
+// Adds the row of the left number to the row of each number of `ups` that lacks a file of it, and marks these rows.
+pub(crate) fn widen(
+    rows: &mut Rows,
+    marks: &mut Rows,
+    props: u32,
+    files: u32,
+    left: u32,
+    ups: &Rows,
+    row: u32,
+)
+    requires rows_shape { HasShape rows.old props files }
+    requires marks_shape { HasShape marks.old 1 props }
+    requires left { left < props }
+    requires row { row < length ups.now.rows }
+    requires bits { ups.now.bits ≡ props }
+    ensures { Widens rows.old rows.new marks.old marks.new props files left (get ups.now row) }
+{
+    let mut start = 0;
+    while let Some(prop) = ups.next(row, start) {
+        if !rows.subset(left, prop) {
+            rows.or(prop, left);
+            marks.put(0, prop, true);
+        }
+        start = prop + 1;
+    }
+}
+
+// The number of the k-th true bit of the first row.
+pub(crate) fn true_bit(marks: &Rows, props: u32, k: u32) -> Option<u32>
+    requires { HasShape marks.now 1 props }
+    ensures { result ≡ slice_get (numbers_where props (get marks.now 0)) k }
+{
+    let mut start = 0;
+    for _ in 0..k {
+        start = marks.next(0, start)? + 1;
+    }
+    marks.next(0, start)
+}

@@ -1,0 +1,13 @@
+-- What crates above need to know of a taxonomy's value.
+use Rattle.std.proofs.Common.{ℕ, Decides, nat_eq}
+use Rattle.std.specs.Ordering.{nat_cmp}
+use Rattle.std.specs.FinSet as set
+use Rattle.std.proofs.lemmas.Map.Lookups.{exact_unsigned}
+use Rattle.lis_graph.proofs.Graph.{up_decides}
+use Rattle.lis_taxonomy.specs.Taxonomy.{Taxonomy, Entails, entails, no_links}
+use Rattle.lis_taxonomy.proofs.Edges.{nat_decides, ended}
+
+-- the test of entailment tells what chains of edges lead to
+pub entails_decides : (t : Taxonomy) (p q : ℕ) → Decides (entails t p q) (Entails t p q)
+unfolding entails
+entails_decides t p q = up_decides nat_eq nat_cmp no_links nat_decides exact_unsigned ended (set.items t.edges) p q
