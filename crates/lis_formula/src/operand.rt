@@ -12,7 +12,9 @@ pub const MAX_OPERAND: usize = 60;
 
 /// What stands behind the sign of a test.
 fn after_sign<'a>(sign: &[u8], text: &'a [u8]) -> Option<&'a [u8]>
-    ensures { MatchOption result (after_sign sign.now text.now ≡ None) (λ rest. after_sign sign.now text.now ≡ Some rest.now) }
+    ensures { MatchOption result
+        (after_sign sign.now text.now ≡ None)
+        (λ rest. after_sign sign.now text.now ≡ Some rest.now) }
 {
     text.strip_prefix(sign)
 }

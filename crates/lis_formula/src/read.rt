@@ -14,7 +14,9 @@ pub const MAX_TEXT: usize = 1024;
 
 fn read_path(text: &[u8]) -> Result<Kept, u32>
     requires { length text.now ≤ 1024 }
-    ensures path { MatchResult result (λ kept. IsPath text.now kept) (λ at. IsNoPath text.now at) }
+    ensures path { MatchResult result
+        (λ kept. IsPath text.now kept)
+        (λ at. IsNoPath text.now at) }
     ensures inside { IfErr result (λ at. at ≤ length text.now) }
 {
     let mut reader = Reader::new();
