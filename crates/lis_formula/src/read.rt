@@ -1,6 +1,6 @@
 //! Reading formula texts.
 
-ghost use Rattle.std.specs.Prelude.{◌≡◌, ◌<◌, ◌≤◌, ◌∷◌, length, IsTrue, MatchResult, IfErr, IfOk};
+ghost use Rattle.std.specs.Prelude.{◌<◌, ◌≤◌, ◌∷◌, length, IsTrue, MatchResult, IfErr, IfOk};
 ghost use Rattle.lis_grammar.specs.Places.{IsPlace};
 ghost use Rattle.lis_formula.specs.Paths.{IsPath, IsNoPath, IsWhole, begins_here};
 ghost use Rattle.lis_formula.specs.Answers.{Answers, Computes};
