@@ -43,27 +43,12 @@ stack_count text starts stack s = sym (length-reverse starts) ∙ (ap length s.p
 pub stack_bytes : (text starts : List ℕ) (stack : List (List ℕ)) → IsStack text starts stack → length text ≡ length (joined stack)
 stack_bytes text starts stack s = ap length s.whole
 
--- one more text
-pub stack_push : (text starts more places bytes : List ℕ) (stack : List (List ℕ)) → IsStack text starts stack
-    → more ≡ text ++ bytes → places ≡ starts ++ length text ∷ [] → IsStack more places (bytes ∷ stack)
-stack_push text starts more places bytes stack s e f = record {
-  whole = e ∙ ap (λ xs. xs ++ bytes) s.whole;
-  places = ap reverse f ∙ (reverse-append starts (length text ∷ []) ∙ two (ap length s.whole) s.places);
-}
-  where
-    two : {n m : ℕ} {xs ys : List ℕ} → n ≡ m → xs ≡ ys → n ∷ xs ≡ m ∷ ys
-    two e f = cc
-
 -- more at the end of the last text
 pub stack_end : (text starts more bytes : List ℕ) (stack : List (List ℕ)) → IsStack text starts stack → 0 < length starts → more ≡ text ++ bytes
     → IsStack more starts (with_end bytes stack)
 stack_end text starts more bytes [] s some e = absurd (let count = stack_count text starts [] s in omega (arith, count))
 stack_end text starts more bytes (last ∷ stack) s some e =
     record { whole = e ∙ (ap (λ xs. xs ++ bytes) s.whole ∙ append_assoc (joined stack) last bytes); places = s.places }
-
-pub stack_none : (text starts bytes : List ℕ) (stack : List (List ℕ)) → IsStack text starts stack → length starts ≡ 0 → stack ≡ with_end bytes stack
-stack_none text starts bytes [] s none = refl
-stack_none text starts bytes (last ∷ stack) s none = absurd (let count = stack_count text starts (last ∷ stack) s in omega (arith, count))
 
 -- the last two become one
 
@@ -93,11 +78,6 @@ stack_join text starts rest start (right ∷ left ∷ stack) s two e =
         places = split.1;
       };
     }
-
-pub stack_few : (text starts : List ℕ) (b : ℕ) (stack : List (List ℕ)) → IsStack text starts stack → length starts < 2 → stack ≡ with_joint b stack
-stack_few text starts b [] s few = refl
-stack_few text starts b (right ∷ []) s few = refl
-stack_few text starts b (right ∷ left ∷ stack) s few = absurd (let count = stack_count text starts (right ∷ left ∷ stack) s in omega (arith, count))
 
 -- how the changes change the sizes
 

@@ -12,7 +12,7 @@ use Rattle.lis_place.specs.declared.node.Node.TheVariants.{Not, And, Or}
 use Rattle.lis_place.specs.Nodes.{tree_node_list, nodes_of}
 use Rattle.lis_place.proofs.Trees.{IsMeaning, steps_values}
 use Rattle.lis_place.proofs.Tallies.{tree_bytes, within_bytes}
-use Rattle.lis_formula.specs.Pieces.{joined, with_joint}
+use Rattle.lis_formula.specs.Pieces.{joined}
 use Rattle.lis_formula.specs.Printer.{node_bytes, all_bytes, with_text, chained, slashed}
 
 -- the printer's stack has the printed trees
@@ -108,16 +108,6 @@ place_printed stack [] some e = absurd (omega arith)
 place_printed stack (f ∷ fs) some e = slashed_text stack ∙ (ap chained_text e ∙ chained_steps f fs)
 
 -- one more slash
-
-pub one_joint : (stack : List (List ℕ)) → slashed (with_joint 47 stack) ≡ slashed stack
-one_joint [] = refl
-one_joint (right ∷ []) = refl
-one_joint (right ∷ left ∷ stack) = refl
-
-pub one_text : (stack : List (List ℕ)) → length stack ≤ 1 → stack ≡ slashed stack
-one_text [] few = refl
-one_text (text ∷ []) few = refl
-one_text (text ∷ before ∷ stack) few = absurd (omega arith)
 
 -- the root
 

@@ -53,10 +53,6 @@ computes_whole text rooted steps kept (Ok path) h e w = h ∙ same path rooted s
 computes_whole text rooted steps kept (Err TooLarge) h e w = inr ((rooted, steps), h, no_place steps (w steps e))
 computes_whole text rooted steps kept (Err (Syntax k)) h e w = absurd w
 
-pub place_whole : (rooted : Bool) (kept : Kept) (result : Result Path FormulaFault) → IsWhole rooted kept result → IfOk result (λ path. IsPlace path.place)
-place_whole rooted kept (Ok path) w = w.1
-place_whole rooted kept (Err fault) w = tt
-
 not_slash : (b : ℕ) (text : List ℕ) → begins_here (b ∷ text) ≡ true → (b == 47) ≡ false
 not_slash b text h = by (b == 47) h
   where

@@ -1,18 +1,17 @@
 //! Words and tests: the operands of a formula text.
 
-ghost use Rattle.std.specs.Prelude.{◌≡◌, ◌≤◌, ℕ, Some, None, codes, length, IsTrue, MatchOption};
+ghost use Rattle.std.specs.Prelude.{◌≡◌, Some, None, MatchOption};
 ghost use Rattle.lis_grammar.specs.Machine.{after_sign, is_test_front, is_operand_front};
 ghost use Rattle.lis_formula.specs.Operands.{operand_node, test_node, counted_number, is_digits_front};
 
 use lis_place::Node;
 use lis_words::{is_count, read_count, read_word};
 
-/// The most bytes of an operand.
-pub const MAX_OPERAND: usize = 60;
-
 /// What stands behind the sign of a test.
 fn after_sign<'a>(sign: &[u8], text: &'a [u8]) -> Option<&'a [u8]>
-    ensures { MatchOption result (after_sign sign.now text.now ≡ None) (λ rest. after_sign sign.now text.now ≡ Some rest.now) }
+    ensures { MatchOption result
+        (after_sign sign.now text.now ≡ None)
+        (λ rest. after_sign sign.now text.now ≡ Some rest.now) }
 {
     text.strip_prefix(sign)
 }

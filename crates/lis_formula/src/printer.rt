@@ -11,10 +11,12 @@ use itoa::Buffer;
 use lis_place::{Node, Place, Text};
 
 fn put_test(pieces: &mut Pieces, sign: &[u8], number: u64)
-    requires room { length (joined pieces.old) + length sign.now + length (decimal number) ≤ 1024 }
+    requires room { length (joined pieces.old) + length sign.now + length (decimal number)
+        ≤ 1024 }
     requires place { length pieces.old < 64 }
     ensures text { pieces.new ≡ (sign.now ++ decimal number) ∷ pieces.old }
-    ensures bytes { length (joined pieces.new) ≤ length (joined pieces.old) + length sign.now + length (decimal number) }
+    ensures bytes { length (joined pieces.new)
+        ≤ length (joined pieces.old) + length sign.now + length (decimal number) }
     ensures count { length pieces.new ≡ length pieces.old + 1 }
 {
     let mut buffer = Buffer::new();

@@ -1,6 +1,6 @@
 //! Reading formula texts.
 
-ghost use Rattle.std.specs.Prelude.{◌≡◌, ◌<◌, ◌≤◌, ◌∷◌, length, IsTrue, MatchResult, IfErr, IfOk};
+ghost use Rattle.std.specs.Prelude.{◌<◌, ◌≤◌, ◌∷◌, length, IsTrue, MatchResult, IfErr, IfOk};
 ghost use Rattle.lis_grammar.specs.Places.{IsPlace};
 ghost use Rattle.lis_formula.specs.Paths.{IsPath, IsNoPath, IsWhole, begins_here};
 ghost use Rattle.lis_formula.specs.Answers.{Answers, Computes};
@@ -14,7 +14,9 @@ pub const MAX_TEXT: usize = 1024;
 
 fn read_path(text: &[u8]) -> Result<Kept, u32>
     requires { length text.now ≤ 1024 }
-    ensures path { MatchResult result (λ kept. IsPath text.now kept) (λ at. IsNoPath text.now at) }
+    ensures path { MatchResult result
+        (λ kept. IsPath text.now kept)
+        (λ at. IsNoPath text.now at) }
     ensures inside { IfErr result (λ at. at ≤ length text.now) }
 {
     let mut reader = Reader::new();

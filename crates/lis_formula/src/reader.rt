@@ -1,9 +1,9 @@
 //! The reader of a path: byte by byte, with what waits for an operand on a stack of fixed size.
 
 ghost use Rattle.std.specs.Prelude.{◌≡◌, ◌+◌, ◌<◌, ◌≤◌, [], ◌∷◌, ◌++◌, length, Some, None, MatchBool};
-ghost use Rattle.lis_grammar.specs.Machine.{is_operand_front, is_joint};
+ghost use Rattle.lis_grammar.specs.Machine.{is_joint};
 ghost use Rattle.lis_formula.specs.Walk.{no_nodes, noted, noted_in, with_sign, marked, closed_bar, closed_slash, slashed, unwrapped, settled_in, walk_within, walk_joint, walk_step, walk_settled, walk_end};
-ghost use Rattle.lis_formula.specs.Walk.Walk.{Begins, Inside, Ended};
+ghost use Rattle.lis_formula.specs.Walk.Walk.{Begins, Inside};
 ghost use Rattle.lis_formula.specs.Reader.{walk_of};
 
 use crate::operand::{is_operand_front, operand};

@@ -1,6 +1,6 @@
 //! The signs of a formula text that wait for an operand.
 
-ghost use Rattle.std.specs.Prelude.{◌≡◌, ◌+◌, ◌<◌, ◌≤◌, if◌then◌else◌, [], ◌∷◌, length};
+ghost use Rattle.std.specs.Prelude.{◌≡◌, ◌<◌, if◌then◌else◌, [], ◌∷◌, length};
 ghost use Rattle.lis_formula.specs.Signs.{same_sign, is_top, without_top, is_none_left};
 
 use arrayvec::ArrayVec;

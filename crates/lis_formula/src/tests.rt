@@ -3,8 +3,8 @@
 use crate::{FormulaFault, print, read_formula, resolve};
 use lis_place::Place;
 
-/// Every formula of at most three tokens over the word `a`, the signs and the parentheses: the text, whether it is rooted, and
-/// how its place prints. The longest runs of `a` are one word each.
+/// Every formula of at most three bytes over the word `a`, the signs and the parentheses: the text, whether it is rooted,
+/// and how its place prints. A run of `a` is one word.
 const FORMULAS: [(&str, bool, &str); 13] = [
     ("a", false, "a"),
     ("/", true, "/"),

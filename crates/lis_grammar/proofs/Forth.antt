@@ -155,9 +155,6 @@ path_complete text fs p =
 
 -- whole texts
 
-pub with_root-steps : (rooted : Bool) (o : Option (List Formula)) (fs : List Formula) → o ≡ Some fs → with_root rooted o ≡ with_root rooted (Some fs)
-with_root-steps rooted o fs e = ap (with_root rooted) e
-
 no_slash : (b : ℕ) (text : List ℕ) (fs : List Formula) → path_steps (b ∷ text) ≡ Some fs → (b == 47) ≡ false
 no_slash b text fs h = by (b == 47) refl
   where

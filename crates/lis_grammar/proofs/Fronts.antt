@@ -25,9 +25,6 @@ pub record BeginsPath (text : List ℕ) : Type 0 where
   pub fs : List Formula
   pub path : Path (text ++ rest) fs
 
-begins_with : (text more rest : List ℕ) (whole : List ℕ) (fs : List Formula) → whole ≡ text ++ (more ++ rest) → Path whole fs → BeginsPath (text ++ more)
-begins_with text more rest whole fs e p = record { rest = rest; fs = fs; path = rw (append_assoc text more rest, sym e) p }
-
 -- whatever waits, an operand can be followed so that a path is complete
 record CanClose (ops : List Pending) (text : List ℕ) : Type 0 where
   behind_neg : (last : List ℕ) (f : Formula) → Neg last f → BeginsPath (text ++ last)

@@ -6,3 +6,4 @@ pub mod Fronts
 pub mod Printed
 pub mod Fits
 pub mod Placed
+pub mod TextWords

@@ -1,6 +1,6 @@
 -- The nodes before the last tree are those of all steps but the last.
-use Rattle.std.proofs.Common.{◌≡◌, ℕ, ◌+◌, ◌-◌, ◌<◌, ◌≤◌, zero, suc, List, [], ◌∷◌, ◌++◌, length, take, get_or, reverse, refl, ap, sym, ◌∙◌, arith, append_assoc, append-nil}
-use Rattle.std.proofs.lemmas.List.{reverse-append, reverse-reverse, take_more}
+use Rattle.std.proofs.Common.{◌≡◌, ℕ, ◌+◌, suc, List, [], ◌∷◌, ◌++◌, reverse, refl, ap, sym, ◌∙◌, arith, append_assoc, append-nil}
+use Rattle.std.proofs.lemmas.List.{reverse-append, reverse-reverse}
 use Rattle.lis_grammar.specs.Formula.{Formula}
 use Rattle.lis_grammar.specs.Formula.Formula.{Has, SizeAtLeast, SizeBelow, Negation, Both, Either}
 use Rattle.lis_grammar.specs.Places.{without_last}
@@ -70,33 +70,3 @@ before_last-nodes_of (f ∷ steps) =
     let has = has_last f steps in
     ap (λ xs. before_last (nodes_of xs)) has.whole
     ∙ (before_step has.front has.last ∙ ap nodes_of (sym (without_last-append has.front has.last) ∙ sym (ap without_last has.whole)))
-
--- one turn of the loop from the end
-
-pub one_back : (nodes : List Node) (at wanted : ℕ) (node : Node) → 0 < wanted → 0 < at → at ≤ length nodes → node ≡ get_or nodes (at - 1) node
-    → before_trees (wanted - 1 + operands node) (reverse (take (at - 1) nodes)) ≡ before_trees wanted (reverse (take at nodes))
-one_back nodes zero wanted node some more short e = absurd (omega arith)
-one_back nodes (suc at) zero node some more short e = absurd (omega arith)
-one_back nodes (suc at) (suc wanted) node some more short e =
-    ap (λ n. before_trees (n + operands node) (reverse (take (suc at - 1) nodes))) (minus_one wanted)
-    ∙ (ap (λ n. before_trees (wanted + operands node) (reverse (take n nodes))) (minus_one at)
-    ∙ sym (ap (λ xs. before_trees (suc wanted) (reverse xs)) front ∙ ap (λ xs. before_trees (suc wanted) xs) (reverse-append (take at nodes) (node ∷ []))))
-  where
-    minus_one : (n : ℕ) → suc n - 1 ≡ n
-    minus_one n = omega arith
-
-    front : take (suc at) nodes ≡ take at nodes ++ node ∷ []
-    front = ap (λ n. take n nodes) (sym (plus_one at)) ∙ (take_more nodes at node (omega arith) ∙ ap (λ x. take at nodes ++ x ∷ []) (sym (e ∙ ap (λ n. get_or nodes n node) (minus_one at))))
-
--- both ways out of the loop
-pub at_stop : (nodes : List Node) (at wanted : ℕ) → before_trees wanted (reverse (take at nodes)) ≡ before_trees 1 (reverse nodes) → wanted ≡ 0 → take at nodes ≡ before_last nodes
-at_stop nodes at wanted h e = sym (reverse-reverse (take at nodes)) ∙ ap reverse (ap (λ n. before_trees n (reverse (take at nodes))) (sym e) ∙ h)
-
-pub at_front : (nodes : List Node) (at wanted : ℕ) → before_trees wanted (reverse (take at nodes)) ≡ before_trees 1 (reverse nodes) → at ≡ 0 → take at nodes ≡ before_last nodes
-at_front nodes at wanted h e =
-    let none = ap (λ n. take n nodes) e in
-    none ∙ ap reverse (sym (nothing wanted) ∙ (ap (λ xs. before_trees wanted (reverse xs)) (sym none) ∙ h))
-  where
-    nothing : (w : ℕ) → before_trees w [] ≡ []
-    nothing zero = refl
-    nothing (suc w) = refl

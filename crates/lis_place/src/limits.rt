@@ -1,6 +1,6 @@
 //! Which nodes are those of a place.
 
-ghost use Rattle.std.specs.Prelude.{◌≡◌, ℕ, ◌+◌, ◌*◌, ◌<◌, ◌≤◌, length, Some, IfSome, IsTrue};
+ghost use Rattle.std.specs.Prelude.{◌≡◌, ◌+◌, ◌*◌, ◌<◌, ◌≤◌, length, IfSome, IsTrue};
 ghost use Rattle.std.specs.Fmt.{decimal};
 ghost use Rattle.lis_place.specs.Limits.{with_operand, with_test, with_mark, with_joint, tally_with, tally_after, no_tally, are_place};
 ghost use Rattle.lis_place.specs.Nodes.{steps_of};
