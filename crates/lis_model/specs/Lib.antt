@@ -1,9 +1,11 @@
 pub mod Sets
 pub mod Derived
+pub mod Ranges
 pub mod State
 pub mod Table
 pub mod Listing
 pub mod Replies
 pub mod Step
+pub mod Codes
 pub mod Script
 pub mod Noted

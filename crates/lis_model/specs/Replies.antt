@@ -1,5 +1,5 @@
 -- The bytes of replies: body lines, ok, and refusals.
-use Rattle.std.specs.Prelude.{ℕ, ◌+◌, ◌/◌, ◌%◌, List, [], ◌∷◌, ◌++◌, codes}
+use Rattle.std.specs.Prelude.{ℕ, ◌+◌, ◌/◌, ◌%◌, List, [], ◌∷◌, ◌++◌, codes, decimal}
 use Rattle.std.specs.List.{flat_map}
 use Rattle.lis_model.specs.declared.refusal.Refusal.{Refusal}
 use Rattle.lis_model.specs.declared.refusal.Refusal.TheVariants.{BadLine, LongLine, CutPayload, PayloadEnd, BadFormula, UnknownProperty, LargeFormula, NotAPlace, NameTaken, NoFileHere, AlreadyDeclared, NotDeclared, InUse, NotAssignable, Cycle, AxiomThere, NoAxiom, TooManyAssigned, LargeDescription, LargeFile, NoFileRoom, NoPropertyRoom, NoAxiomRoom, NoSpace, BuiltIn}
@@ -12,6 +12,10 @@ line text = text ++ 10 ∷ []
 -- a letter, a blank and a text
 abbrev pub body_line : ℕ → List ℕ → List ℕ
 body_line letter text = line (letter ∷ 32 ∷ text)
+
+-- a label, a blank and a number
+abbrev pub number_line : List ℕ → ℕ → List ℕ
+number_line label n = line (label ++ 32 ∷ decimal n)
 
 abbrev pub ok_line : List ℕ
 ok_line = line (codes "ok")

@@ -5,3 +5,4 @@ pub mod command;
 pub mod derived;
 pub mod limits;
 pub mod refusal;
+pub mod spot;

@@ -1,0 +1,42 @@
+-- The truth values of rows, after one row was set: what crates above need to know of `with_row`.
+use Rattle.std.proofs.Common.{◌≡◌, ◌≢◌, ℕ, ◌<◌, ◌≤◌, ◌⊎◌, inl, inr, Bool, false, [], length, get_or, replicate, ap, ◌∙◌, arith, length-set, get_or-set_same, get_or-set_other}
+use Rattle.std.proofs.lemmas.List.{get_or-replicate, length-replicate, get_or_past}
+use Rattle.std.proofs.lemmas.Bool.{cases_lt}
+use Rattle.lis_bits.specs.Rows.{Rows, get, row_of, with_row, empty_rows, SetsRow}
+use Rattle.lis_bits.proofs.View.{get-row_of}
+
+pub get-with_row_same : (r : Rows) (row bit : ℕ) (value : ℕ → Bool) → row < length r.rows → bit < r.bits → get (with_row r row value) row bit ≡ value bit
+get-with_row_same r row bit value in_rows in_row = ap (λ values. get_or values bit false) (get_or-set_same r.rows row (row_of r.bits value) [] in_rows) ∙ get-row_of r.bits value bit in_row
+
+pub get-with_row_other : (r : Rows) (row other bit : ℕ) (value : ℕ → Bool) → other ≢ row → get (with_row r row value) other bit ≡ get r other bit
+get-with_row_other r row other bit value differ = ap (λ values. get_or values bit false) (get_or-set_other r.rows row other (row_of r.bits value) [] differ)
+
+pub length-with_row : (r : Rows) (row : ℕ) (value : ℕ → Bool) → length (with_row r row value).rows ≡ length r.rows
+length-with_row r row value = length-set r.rows row (row_of r.bits value)
+
+all_false : (n k : ℕ) → get_or (replicate n false) k false ≡ false
+all_false n k = go (cases_lt k n)
+  where
+    go : (k < n) ⊎ (n ≤ k) → get_or (replicate n false) k false ≡ false
+    go (inl lt) = get_or-replicate n k false false lt
+    go (inr ge) = get_or_past (replicate n false) k false (omega (arith, length-replicate n false))
+
+pub get-empty_rows : (rows bits row bit : ℕ) → get (empty_rows rows bits) row bit ≡ false
+get-empty_rows rows bits row bit = go (cases_lt row rows)
+  where
+    go : (row < rows) ⊎ (rows ≤ row) → get (empty_rows rows bits) row bit ≡ false
+    go (inl lt) = rw (get_or-replicate rows row (replicate bits false) [] lt) (all_false bits bit)
+    go (inr ge) = rw (get_or_past (replicate rows (replicate bits false)) row [] (omega (arith, length-replicate rows (replicate bits false))))
+
+pub length-empty_rows : (rows bits : ℕ) → length (empty_rows rows bits).rows ≡ rows
+length-empty_rows rows bits = length-replicate rows (replicate bits false)
+
+-- ---- the same after a row was set by any number of edits
+pub get-sets_row_same : (old new : Rows) (row bit : ℕ) (value : ℕ → Bool) → SetsRow old new row value → row < length old.rows → bit < old.bits → get new row bit ≡ value bit
+get-sets_row_same old new row bit value sets in_rows in_row = ap (λ rows. get_or (get_or rows row []) bit false) sets.rows ∙ get-with_row_same old row bit value in_rows in_row
+
+pub get-sets_row_other : (old new : Rows) (row other bit : ℕ) (value : ℕ → Bool) → SetsRow old new row value → other ≢ row → get new other bit ≡ get old other bit
+get-sets_row_other old new row other bit value sets differ = ap (λ rows. get_or (get_or rows other []) bit false) sets.rows ∙ get-with_row_other old row other bit value differ
+
+pub length-sets_row : (old new : Rows) (row : ℕ) (value : ℕ → Bool) → SetsRow old new row value → length new.rows ≡ length old.rows
+length-sets_row old new row value sets = ap length sets.rows ∙ length-set old.rows row (row_of old.bits value)

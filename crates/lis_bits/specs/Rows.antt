@@ -1,0 +1,47 @@
+-- What a contract sees of `Rows`.
+use Rattle.std.specs.Prelude.{◌≡◌, ℕ, ◌+◌, ◌-◌, ◌^◌, ◌<◌, ◌≤◌, min, Bool, false, List, [], map, count_by, slice_index_or, slice_set, replicate}
+use Rattle.std.specs.List.{range_with_len}
+
+-- how many bits a row has, the truth values of each row by their bits, and how often a row was changed, up to the
+-- last value of the counter
+pub record Rows : Type 0 where
+  pub bits : ℕ
+  pub rows : List (List Bool)
+  pub edits : ℕ
+
+-- the truth values of a row
+abbrev pub row_at : Rows → ℕ → List Bool
+row_at r row = slice_index_or r.rows row []
+
+-- the truth value at a bit of a row
+abbrev pub get : Rows → ℕ → ℕ → Bool
+get r row bit = slice_index_or (row_at r row) bit false
+
+-- a row of so many bits that has these truth values
+unfoldable pub row_of : ℕ → (ℕ → Bool) → List Bool
+row_of bits value = map value (range_with_len 0 bits)
+
+-- one edit more, as the counter has it
+abbrev pub one_more : ℕ → ℕ
+one_more edits = min (edits + 1) (2 ^ 64 - 1)
+
+-- one row is set to these truth values, bit by bit; every other row stays
+abbrev pub with_row : Rows → ℕ → (ℕ → Bool) → Rows
+with_row r row value = record { bits = r.bits; rows = slice_set r.rows row (row_of r.bits value); edits = one_more r.edits }
+
+-- rows that are all false
+abbrev pub empty_rows : ℕ → ℕ → Rows
+empty_rows rows bits = record { bits = bits; rows = replicate rows (replicate bits false); edits = 0 }
+
+-- how many bits of the row are true
+abbrev pub true_count : Rows → ℕ → ℕ
+true_count r row = count_by (λ value. value) (row_at r row)
+
+-- no bit from the first number up to the second is true
+abbrev pub NoneTrue : Rows → ℕ → ℕ → ℕ → Type 0
+NoneTrue r row start end = (bit : ℕ) → start ≤ bit → bit < end → get r row bit ≡ false
+
+-- the new rows are the old ones with one row set to these truth values, by any number of edits
+pub record SetsRow (old new : Rows) (row : ℕ) (value : ℕ → Bool) : Type 0 where
+  pub bits : new.bits ≡ old.bits
+  pub rows : new.rows ≡ slice_set old.rows row (row_of old.bits value)

@@ -1,0 +1,37 @@
+use crate::{Rows, copy_row};
+use std::test::Fail;
+
+#[test]
+fn finds_and_counts_true_bits(rt: HostRuntime) -> Result<(), Fail> {
+    let mut rows = Rows::new(rt.alloc(), 2, 128)?;
+    rows.put(0, 0, true);
+    rows.put(0, 64, true);
+    rows.put(0, 100, true);
+    assert_eq!(rt; rows.count(0), 3);
+    assert_eq!(rt; rows.next(0, 1), Some(64));
+    assert_eq!(rt; rows.next(0, 65), Some(100));
+    assert_eq!(rt; rows.next(0, 101), None);
+    assert_eq!(rt; rows.next(0, 4000), None);
+    let mut copies = Rows::new(rt.alloc(), 1, 128)?;
+    copy_row(&rows, 0, &mut copies, 0);
+    assert_eq!(rt; copies.next(0, 65), Some(100));
+    assert_eq!(rt; rows.edits(), 3);
+    Ok(())
+}
+
+#[test]
+fn joins_rows(rt: HostRuntime) -> Result<(), Fail> {
+    let mut rows = Rows::new(rt.alloc(), 3, 64)?;
+    rows.put(0, 5, true);
+    rows.fill(1, true);
+    rows.copy(2, 0);
+    rows.or(2, 1);
+    assert!(rt; rows.subset(0, 2) && !rows.subset(2, 0));
+    rows.and_not(2, 0);
+    assert_eq!(rt; rows.count(2), 63);
+    rows.negate(2);
+    rows.and(2, 0);
+    assert!(rt; rows.get(2, 5) && !rows.get(2, 6));
+    assert_eq!(rt; rows.edits(), 7);
+    Ok(())
+}

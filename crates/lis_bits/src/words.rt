@@ -1,0 +1,82 @@
+ghost use Rattle.std.specs.Prelude.{ℕ, ◌+◌, ◌^◌, ◌<◌, ◌≤◌, length, slice_index};
+ghost use Rattle.std.specs.Prelude.{◌*◌, ◌≡◌, ◌==◌, ◌↔◌, IsTrue, MatchOption, sum_by, count_ones, bit_and, if◌then◌else◌};
+ghost use Rattle.std.specs.Int.{bit_not, w64};
+ghost use Rattle.lis_bits.specs.Words.{Joins, AreApart, word_bit, IsNextIn, NoneNextIn, IsNextFrom, NoneNextFrom};
+
+// Sets each of the `width` words from `to` on to what `op` gives of it and of the word as far on from `from`.
+pub(crate) fn join<F: Fn(u64, u64) -> u64>(
+    words: &mut [u64],
+    to: usize,
+    from: usize,
+    width: usize,
+    op: F,
+)
+    requires callable { F.IsAlwaysCallable op }
+    requires to_in { to + width ≤ length words.old }
+    requires from_in { from + width ≤ length words.old }
+    requires apart { AreApart to from width }
+    ensures joined { Joins (F.post op) words.old words.new to from width }
+    ensures fit { (k : ℕ) → slice_index words.old k < 2 ^ 64 }
+{
+    for i in 0..width {
+        words[to + i] = op(words[to + i], words[from + i]);
+    }
+}
+
+// The word with one bit set to a value.
+pub(crate) fn with_bit(word: u64, bit: u32, value: bool) -> u64
+    requires { bit < 64 }
+    ensures { (k : ℕ) → k < 64 → word_bit result k ≡ (if k == bit then value else word_bit word k) }
+{
+    let mask = 1u64 << bit;
+    if value { word | mask } else { word & !mask }
+}
+
+// How many bits of the words are 1.
+pub(crate) fn count(words: &[u64]) -> u32
+    requires { 64 * length words.now < 2 ^ 32 }
+    ensures { result ≡ sum_by count_ones words.now }
+{
+    let mut ones = 0;
+    for word in words {
+        ones += word.count_ones();
+    }
+    ones
+}
+
+// Whether each bit that is 1 in the first words is 1 in the second ones.
+pub(crate) fn is_subset(a: &[u64], b: &[u64]) -> bool
+    requires { length a.now ≡ length b.now }
+    ensures { IsTrue result ↔ ((i : ℕ) → i < length a.now
+        → bit_and (slice_index a.now i) (bit_not w64 (slice_index b.now i)) ≡ 0) }
+{
+    a.iter().zip(b).all(|(a, b)| a & !b == 0)
+}
+
+// The least bit of a word from `start` on that is 1.
+fn next_in(word: u64, start: u32) -> Option<u32>
+    requires { start < 64 }
+    ensures { MatchOption result (NoneNextIn word start) (IsNextIn word start) }
+{
+    let rest = word & u64::MAX << start;
+    if rest == 0 {
+        None
+    } else {
+        Some(rest.trailing_zeros())
+    }
+}
+
+// The least bit of the words from `start` on that is 1.
+pub(crate) fn next(words: &[u64], start: usize) -> Option<usize>
+    requires { 64 * length words.now < 2 ^ 32 }
+    ensures { MatchOption result (NoneNextFrom words.now start) (IsNextFrom words.now start) }
+{
+    let first = start / 64;
+    for i in first..words.len() {
+        let from = if i == first { (start % 64) as u32 } else { 0 };
+        if let Some(bit) = next_in(words[i], from) {
+            return Some(64 * i + bit as usize);
+        }
+    }
+    None
+}

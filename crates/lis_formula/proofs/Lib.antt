@@ -1,0 +1,5 @@
+pub mod Tests
+pub mod Abs
+pub mod Reaching
+pub mod Readings
+pub mod Resolutions

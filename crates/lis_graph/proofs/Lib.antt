@@ -1,0 +1,4 @@
+pub mod Members
+pub mod Sets
+pub mod Graph
+pub mod Pairs

@@ -1,0 +1,124 @@
+-- A line read byte by byte.
+use Rattle.std.proofs.Common.{◌≡◌, ◌==◌, ℕ, ◌+◌, ◌≤◌, ◌<◌, Bool, true, false, ◌||◌, List, [], ◌∷◌, ◌++◌, length, take, Option, Some, None, ap, sym, subst, ◌∙◌, refl, inl, inr, arith, append_assoc, length-append, append-nil}
+use Rattle.std.specs.List.{list_any}
+use Rattle.std.specs.Io.KnownBytes.{prepend_known, Consumes, Keeps, IsAtEnd}
+use Rattle.std.proofs.lemmas.List.Folds.{list_any-append}
+use Rattle.std.proofs.lemmas.List.{take-append-le, take_all, length-take}
+use Rattle.std.proofs.lemmas.Bool.Decides.{eqb_tells}
+use Rattle.lis_model.specs.Script.{is_feed}
+use Rattle.lis_line.specs.Stock.{Stocked, stream_of, LineTaken}
+
+pub consumes_none : (known : Option (List ℕ)) → Consumes known known []
+consumes_none None = tt
+consumes_none (Some xs) = refl
+
+pub consumes_then : (a b c : Option (List ℕ)) (xs ys : List ℕ) → Consumes a b xs → Consumes b c ys → Consumes a c (xs ++ ys)
+consumes_then None b c xs ys p q = tt
+consumes_then (Some zs) None c xs ys p q = absurd p
+consumes_then (Some zs) (Some bs) None xs ys p q = absurd q
+consumes_then (Some zs) (Some bs) (Some cs) xs ys p q =
+    let first : zs ≡ xs ++ bs = p in
+    let next : bs ≡ ys ++ cs = q in
+    first ∙ ap (λ rest. xs ++ rest) next ∙ sym (append_assoc xs ys cs)
+
+-- nothing was ahead before, and nothing is now: the stream is what the source has left
+pub consumes_kept : (a b : Option (List ℕ)) → Keeps a b → Consumes (prepend_known [] a) (prepend_known [] b) []
+consumes_kept None b k = tt
+consumes_kept (Some zs) None k = absurd k
+consumes_kept (Some zs) (Some bs) k = let e : bs ≡ zs = k in sym e
+
+-- what stands while a line is read
+pub record Going (old now : Stocked) (left_before left : Option (List ℕ)) (line : List ℕ) : Type 0 where
+  pub text : List ℕ
+  pub taken : LineTaken old now left_before left line text text
+  pub some : 0 < now.rest
+
+pub going_none : (stock : Stocked) (left : Option (List ℕ)) (line : List ℕ) → line ≡ [] → 0 < stock.rest → Going stock stock left left line
+going_none stock left line empty some = record {
+  text = [];
+  taken = record { one_line = refl; took = consumes_none (stream_of stock left); rest = omega arith; kept = empty };
+  some = some;
+}
+
+pub same : (a b : ℕ) → a ≡ b → (a == b) ≡ true
+same a b is = elim (eqb_tells a b) as (λ _. (a == b) ≡ true) [ inl h ↦ h.0 | inr h ↦ absurd (h.1 is) ]
+
+pub differs : (a b : ℕ) → (a ≡ b → ⊥) → (a == b) ≡ false
+differs a b ne = elim (eqb_tells a b) as (λ _. (a == b) ≡ false) [ inl h ↦ absurd (ne h.1) | inr h ↦ h.0 ]
+
+feed_none : (text : List ℕ) (b : ℕ) → list_any is_feed text ≡ false → (b ≡ 10 → ⊥) → list_any is_feed (text ++ b ∷ []) ≡ false
+feed_none text b one other = list_any-append is_feed text (b ∷ []) ∙ both (list_any is_feed text) (b == 10) one (differs b 10 other)
+  where
+    both : (x y : Bool) → x ≡ false → y ≡ false → (x || (y || false)) ≡ false
+    both true y p q = absurd (cc)
+    both false true p q = absurd (cc)
+    both false false p q = refl
+
+kept_more : (line text : List ℕ) (b : ℕ) → line ≡ take 1025 text → length line < 1025 → line ++ b ∷ [] ≡ take 1025 (text ++ b ∷ [])
+kept_more line text b is few =
+    let short : length text ≤ 1024 = omega (arith, ap length is, length-take 1025 text) in
+    let all : take 1025 text ≡ text = take_all 1025 text (omega arith) in
+    let longer : length (text ++ b ∷ []) ≤ 1025 = omega (arith, length-append text (b ∷ [])) in
+    ap (λ xs. xs ++ b ∷ []) (is ∙ all) ∙ sym (take_all 1025 (text ++ b ∷ []) longer)
+
+kept_full : (line text : List ℕ) (b : ℕ) → line ≡ take 1025 text → 1025 ≤ length line → line ≡ take 1025 (text ++ b ∷ [])
+kept_full line text b is full =
+    let long : 1025 ≤ length text = omega (arith, ap length is, length-take 1025 text) in
+    is ∙ sym (take-append-le 1025 text (b ∷ []) long)
+
+-- one byte more of the line
+taken_more : (old now next : Stocked) (left_before left left_after : Option (List ℕ)) (line longer text : List ℕ) (b : ℕ)
+    → LineTaken old now left_before left line text text → Consumes (stream_of now left) (stream_of next left_after) (b ∷ [])
+    → next.rest + 1 ≡ now.rest → (b ≡ 10 → ⊥) → longer ≡ take 1025 (text ++ b ∷ [])
+    → LineTaken old next left_before left_after longer (text ++ b ∷ []) (text ++ b ∷ [])
+taken_more old now next left_before left left_after line longer text b taken byte rest other kept = record {
+  one_line = feed_none text b taken.one_line other;
+  took = consumes_then _ (stream_of now left) _ text (b ∷ []) taken.took byte;
+  rest = omega (arith, taken.rest, rest, length-append text (b ∷ []));
+  kept = kept;
+}
+
+pub going_pushed : (old now next : Stocked) (left_before left left_after : Option (List ℕ)) (line longer : List ℕ) (b : ℕ)
+    → Going old now left_before left line → Consumes (stream_of now left) (stream_of next left_after) (b ∷ [])
+    → next.rest + 1 ≡ now.rest → (b ≡ 10 → ⊥) → 0 < next.rest → length line < 1025 → longer ≡ line ++ b ∷ []
+    → Going old next left_before left_after longer
+going_pushed old now next left_before left left_after line longer b going byte rest other some few is = record {
+  text = going.text ++ b ∷ [];
+  taken = taken_more old now next left_before left left_after line longer going.text b going.taken byte rest other (is ∙ kept_more line going.text b going.taken.kept few);
+  some = some;
+}
+
+pub going_full : (old now next : Stocked) (left_before left left_after : Option (List ℕ)) (line : List ℕ) (b : ℕ)
+    → Going old now left_before left line → Consumes (stream_of now left) (stream_of next left_after) (b ∷ [])
+    → next.rest + 1 ≡ now.rest → (b ≡ 10 → ⊥) → 0 < next.rest → 1025 ≤ length line
+    → Going old next left_before left_after line
+going_full old now next left_before left left_after line b going byte rest other some full = record {
+  text = going.text ++ b ∷ [];
+  taken = taken_more old now next left_before left left_after line line going.text b going.taken byte rest other (kept_full line going.text b going.taken.kept full);
+  some = some;
+}
+
+-- the byte that ends the line
+pub taken_ended : (old now next : Stocked) (left_before left left_after : Option (List ℕ)) (line text : List ℕ) (b : ℕ)
+    → LineTaken old now left_before left line text text → Consumes (stream_of now left) (stream_of next left_after) (b ∷ [])
+    → next.rest + 1 ≡ now.rest → LineTaken old next left_before left_after line text (text ++ b ∷ [])
+taken_ended old now next left_before left left_after line text b taken byte rest = record {
+  one_line = taken.one_line;
+  took = consumes_then _ (stream_of now left) _ text (b ∷ []) taken.took byte;
+  rest = omega (arith, taken.rest, rest, length-append text (b ∷ []));
+  kept = taken.kept;
+}
+
+-- the end of the input, or a fault: nothing more was taken
+pub taken_stopped : (old now next : Stocked) (left_before left left_after : Option (List ℕ)) (line text : List ℕ)
+    → LineTaken old now left_before left line text text → now.ahead ≡ [] → next.ahead ≡ [] → Keeps left left_after → next.rest ≡ now.rest
+    → LineTaken old next left_before left_after line text text
+taken_stopped old now next left_before left left_after line text taken none none_now keeps rest = record {
+  one_line = taken.one_line;
+  took = subst (λ xs. Consumes (stream_of old left_before) (stream_of next left_after) xs) (append-nil text)
+      (consumes_then _ (stream_of now left) _ text [] taken.took
+      (subst (λ xs. Consumes (prepend_known xs left) (stream_of next left_after) []) (sym none)
+      (subst (λ xs. Consumes (prepend_known [] left) (prepend_known xs left_after) []) (sym none_now) (consumes_kept left left_after keeps))));
+  rest = omega (arith, taken.rest, rest);
+  kept = taken.kept;
+}

@@ -1,0 +1,3 @@
+pub mod Stock
+pub mod Forms
+pub mod Reading

@@ -1,0 +1,7 @@
+//! Items out of an input, whatever pieces it comes in.
+#![tactic(auto)]
+
+mod forms;
+pub mod reader;
+pub mod stock;
+pub mod taken;

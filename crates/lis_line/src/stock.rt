@@ -1,0 +1,144 @@
+//! Bytes out of a source, one by one, whatever pieces it gives; and lines out of bytes.
+
+ghost use Rattle.std.specs.Prelude.{◌≡◌, ℕ, ◌+◌, ◌-◌, ◌<◌, ◌≤◌, ◌^◌, List, [], ◌∷◌, ◌↔◌, length, take, drop, IsTrue};
+ghost use Rattle.lis_ports.specs.Calls.{HasCause};
+ghost use Rattle.lis_line.specs.Stock.{Stocked, GivesByte, Refills, ReadsLine};
+
+use arrayvec::ArrayVec;
+use lis_ports::{Failed, Source};
+use std::marker::Model;
+
+/// How many bytes are taken from a source in one call.
+const PIECE: usize = 4_096;
+
+/// How many bytes of a line are kept: one more than a line may have.
+pub const KEPT: usize = 1_025;
+
+/// Bytes taken and not given yet, and how many may still be given.
+#[derive(Drop)]
+pub struct Stock {
+    buf: [u8; 4096],
+    start: usize,
+    end: usize,
+    rest: u64,
+}
+
+impl Model for Stock {
+    ghost use Rattle.std.specs.Prelude.{◌-◌, ◌≤◌, take, drop};
+    ghost use Rattle.lis_line.specs.Stock.{Stocked};
+
+    ghost Value = { Stocked };
+
+    ghost view = { λ s. record { ahead = take (s.end - s.start) (drop s.start s.buf); rest = s.rest } };
+
+    ghost invariant = { λ s. (s.start ≤ s.end) × (s.end ≤ 4096) × (s.end - s.start ≤ s.rest) };
+}
+
+/// Where a line ended.
+pub enum LineEnd {
+    /// At its line feed.
+    Feed,
+    /// At the end of the input.
+    Last,
+    /// At the byte past the limit.
+    Spent,
+}
+
+impl Stock {
+    /// Nothing taken yet; `rest` bytes may be given.
+    pub fn new(rest: u64) -> Stock
+        ensures ahead { result.ahead ≡ [] }
+        ensures rest { result.rest ≡ rest }
+    {
+        Stock {
+            buf: [0; 4096],
+            start: 0,
+            end: 0,
+            rest,
+        }
+    }
+
+    /// How many bytes may still be given.
+    pub fn rest(&self) -> u64
+        ensures rest { result ≡ self.now.rest }
+        ensures few { length self.now.ahead ≤ self.now.rest }
+    {
+        self.rest
+    }
+
+    fn is_empty(&self) -> bool
+        ensures { IsTrue result ↔ (self.now.ahead ≡ []) }
+    {
+        self.start == self.end
+    }
+
+    /// Takes no more from the source than may be given.
+    fn refill<S: Source>(&mut self, source: &mut S) -> Result<(), Failed>
+        requires { 0 < self.old.rest }
+        ensures refills { Refills self.old self.new (S.left source.old) (S.left source.new) result }
+        ensures cause { HasCause (S.faults source.old) (S.faults source.new) result }
+    {
+        let room = self.rest.min(PIECE as u64) as usize;
+        self.start = 0;
+        self.end = 0;
+        self.end = source.take(&mut self.buf[..room])?;
+        Ok(())
+    }
+
+    fn give(&mut self) -> u8
+        requires { 0 < length self.old.ahead }
+        ensures byte { self.old.ahead ≡ result ∷ self.new.ahead }
+        ensures rest { self.new.rest + 1 ≡ self.old.rest }
+    {
+        let byte = self.buf[self.start];
+        self.start += 1;
+        self.rest -= 1;
+        byte
+    }
+
+    /// Gives the next byte; None at the end.
+    pub fn next_byte<S: Source>(&mut self, source: &mut S) -> Result<Option<u8>, Failed>
+        requires { 0 < self.old.rest }
+        ensures gives { GivesByte self.old self.new (S.left source.old) (S.left source.new) result }
+        ensures cause { HasCause (S.faults source.old) (S.faults source.new) result }
+    {
+        if !self.is_empty() {
+            let byte = self.give();
+            return Ok(Some(byte));
+        }
+        self.refill(source)?;
+        if self.is_empty() {
+            return Ok(None);
+        }
+        let byte = self.give();
+        Ok(Some(byte))
+    }
+}
+
+/// Reads up to the next line feed, and keeps the first bytes of the line.
+pub fn read_line<S: Source>(
+    stock: &mut Stock,
+    line: &mut ArrayVec<u8, 1025>,
+    source: &mut S,
+) -> Result<LineEnd, Failed>
+    requires some { 0 < stock.old.rest }
+    requires empty { line.old.items ≡ [] }
+    ensures few { length stock.new.ahead ≤ stock.new.rest }
+    ensures reads { ReadsLine stock.old stock.new (S.left source.old) (S.left source.new) line.new.items result }
+    ensures cause { HasCause (S.faults source.old) (S.faults source.new) result }
+{
+    loop {
+        let Some(byte) = stock.next_byte(source)? else {
+            return Ok(LineEnd::Last);
+        };
+        if stock.rest() == 0 {
+            return Ok(LineEnd::Spent);
+        }
+        if byte == b'\n' {
+            return Ok(LineEnd::Feed);
+        }
+        if line.len() < KEPT {
+            line.push(byte);
+        }
+    }
+}

@@ -1,0 +1,9 @@
+//! The commands over plain lists: the program that computes each definition afresh.
+#![tactic(auto)]
+
+pub mod end;
+pub mod file;
+pub mod listing;
+pub mod plain;
+pub mod sets;
+pub mod table;

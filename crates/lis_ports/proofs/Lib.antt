@@ -1,0 +1,4 @@
+pub mod Moments
+pub mod Always
+pub mod Parts
+mod Taking

@@ -1,0 +1,93 @@
+-- How moments of calls and runs in a row add up.
+use Rattle.std.proofs.Common.{◌⊎◌, ℕ, ◌≤◌, List, IsTrue, refl, sym, ◌∙◌, inl, inr, arith}
+use Rattle.lis_ports.specs.Meaning.{Meaning, Now}
+use Rattle.lis_ports.specs.Runs.{Adds, IsDiskRun, Leaves}
+
+either : {A B C : Type 0} → A ⊎ B → (A → C) → (B → C) → C
+either {C = C} h f g = elim h as (λ _. C) [ inl a ↦ f a | inr b ↦ g b ]
+
+-- no call at all
+pub adds_none : (m : Meaning) (P : List ℕ → List ℕ → Type 0) → Adds m m P
+adds_none m P = record {
+  later = omega arith;
+  only = λ t image bytes le had. inl had;
+  keeps = λ t image bytes le had. had;
+}
+
+pub adds_weaken : {a b : Meaning} {P : List ℕ → List ℕ → Type 0} (R : List ℕ → List ℕ → Type 0) → Adds a b P → ((image bytes : List ℕ) → P image bytes → R image bytes) → Adds a b R
+adds_weaken R ab weaker = record {
+  later = ab.later;
+  only = λ t image bytes le had. either (ab.only t image bytes le had) (λ h. inl h) (λ p. inr (weaker image bytes p));
+  keeps = ab.keeps;
+}
+
+-- two runs in a row
+pub adds_then : {a b c : Meaning} {P : List ℕ → List ℕ → Type 0} → Adds a b P → Adds b c P → Adds a c P
+adds_then ab bc = record {
+  later = omega (arith, ab.later, bc.later);
+  only = λ t image bytes le had.
+      either (bc.only t image bytes (omega (arith, le, ab.later)) had) (λ h. ab.only t image bytes le h) (λ p. inr p);
+  keeps = λ t image bytes le had. bc.keeps t image bytes (omega (arith, le, ab.later)) (ab.keeps t image bytes le had);
+}
+
+-- each moment since then is one of then, or it has P
+pub each_moment : {a b : Meaning} {P : List ℕ → List ℕ → Type 0} → Adds a b P → ((image bytes : List ℕ) → a.moments a.clock image bytes → Now a image bytes) → (image bytes : List ℕ) → b.moments a.clock image bytes → Now a image bytes ⊎ P image bytes
+each_moment {a} ab only_now image bytes had =
+    either (ab.only a.clock image bytes (omega arith) had) (λ h. inl (only_now image bytes h)) (λ p. inr p)
+
+-- what stands at the end of a run is one of its moments
+pub ends_with : {a b : Meaning} {P : List ℕ → List ℕ → Type 0} → Adds a b P → ((t : ℕ) (image bytes : List ℕ) → t ≤ b.clock → Now b image bytes → b.moments t image bytes) → ((image bytes : List ℕ) → a.moments a.clock image bytes → Now a image bytes) → (image bytes : List ℕ) → Now b image bytes → Now a image bytes ⊎ P image bytes
+ends_with {a} ab counts_now only_now image bytes now =
+    each_moment ab only_now image bytes (counts_now a.clock image bytes ab.later now)
+
+pub run_none : (m : Meaning) → IsDiskRun m m
+run_none m = record {
+  later = omega arith;
+  honest = refl;
+  len = refl;
+  recorded = refl;
+  shown = refl;
+  show_faults = refl;
+  disk_faults = omega arith;
+}
+
+pub run_then : {a b c : Meaning} → IsDiskRun a b → IsDiskRun b c → IsDiskRun a c
+run_then ab bc = record {
+  later = omega (arith, ab.later, bc.later);
+  honest = bc.honest ∙ ab.honest;
+  len = bc.len ∙ ab.len;
+  recorded = bc.recorded ∙ ab.recorded;
+  shown = bc.shown ∙ ab.shown;
+  show_faults = bc.show_faults ∙ ab.show_faults;
+  disk_faults = omega (arith, ab.disk_faults, bc.disk_faults);
+}
+
+pub honest_after : {a b : Meaning} → IsDiskRun a b → IsTrue a.is_honest → IsTrue b.is_honest
+honest_after run honest = run.honest ∙ honest
+
+pub leaves_none : (m : Meaning) (Q : List ℕ → Type 0) → Leaves m m Q
+leaves_none m Q = record { run = run_none m; adds = adds_none m _ }
+
+-- one call of a disk, after which each image has Q
+pub leaves_call : {a b : Meaning} (Q : List ℕ → Type 0) → IsDiskRun a b → Adds a b (Now b) → ((image : List ℕ) → b.images image → Q image) → Leaves a b Q
+leaves_call Q run ab each = record {
+  run = run;
+  adds = adds_weaken _ ab (λ image bytes now. (each image now.0, sym run.shown ∙ now.1));
+}
+
+pub leaves_weaken : {a b : Meaning} {P : List ℕ → Type 0} (Q : List ℕ → Type 0) → Leaves a b P → ((image : List ℕ) → P image → Q image) → Leaves a b Q
+leaves_weaken Q ab weaker = record {
+  run = ab.run;
+  adds = adds_weaken _ ab.adds (λ image bytes p. (weaker image p.0, p.1));
+}
+
+-- two runs in a row
+pub leaves_then : {a b c : Meaning} {Q : List ℕ → Type 0} → Leaves a b Q → Leaves b c Q → Leaves a c Q
+leaves_then ab bc = record {
+  run = run_then ab.run bc.run;
+  adds = adds_then ab.adds (adds_weaken _ bc.adds (λ image bytes q. (q.0, sym ab.run.shown ∙ q.1)));
+}
+
+-- a run, and one call more: for loops with one disk call a turn
+pub leaves_on : {a b c : Meaning} {Q : List ℕ → Type 0} → Leaves a b Q → IsDiskRun b c → Adds b c (Now c) → ((image : List ℕ) → c.images image → Q image) → Leaves a c Q
+leaves_on {Q = Q} ab run bc each = leaves_then ab (leaves_call Q run bc each)

@@ -1,0 +1,63 @@
+-- What one call of a disk or a station does.
+use Rattle.std.specs.Prelude.{◌≡◌, ◌⊎◌, ℕ, ◌+◌, ◌-◌, ◌^◌, ◌≤◌, min, List, length, IsTrue, Result, OnOk, OnErr}
+use Rattle.lis_ports.specs.Meaning.{Meaning, Now}
+use Rattle.lis_ports.specs.Bytes.{put, Torn}
+use Rattle.lis_ports.specs.Runs.{Adds, IsDiskRun}
+
+-- A count of faults rose: it is greater, or it stands at its last value, 2^64 - 1.
+abbrev pub Rose : ℕ → ℕ → Type 0
+Rose before now = min (before + 1) (2 ^ 64 - 1) ≤ now
+
+-- It fails only where this count of faults rose, and else the count stays.
+pub record HasCause {T E : Type 0} (before now : ℕ) (result : Result T E) : Type 0 where
+  pub later : before ≤ now
+  pub stays : OnOk result (now ≡ before)
+  pub rose : OnErr result (Rose before now)
+
+-- Time goes on: a new moment is one of now.
+abbrev pub Elapses : Meaning → Meaning → Type 0
+Elapses old new = Adds old new (Now new)
+
+-- what each call of a disk is, whatever it does to the bytes
+pub record IsDiskCall {T E : Type 0} (old new : Meaning) (result : Result T E) : Type 0 where
+  pub run : IsDiskRun old new
+  pub time : Elapses old new
+  pub cause : HasCause old.disk_faults new.disk_faults result
+
+-- The images of new are those with P. That each of these is one is told by a disk that tells its moments.
+pub record Images (new : Meaning) (P : List ℕ → Type 0) : Type 0 where
+  pub only : (image : List ℕ) → new.images image → P image
+  pub each : IsTrue new.is_recorded → (image : List ℕ) → P image → new.images image
+
+pub record IsUnchanged (old new : Meaning) : Type 0 where
+  pub bytes : new.bytes ≡ old.bytes
+  pub images : Images new old.images
+
+-- After a write, failed or not: the range may read as any bytes, now and after a crash.
+pub record IsTorn (at n : ℕ) (old new : Meaning) : Type 0 where
+  pub bytes : Torn at n old.bytes new.bytes
+  pub only : (image : List ℕ) → new.images image → (from : List ℕ) × old.images from × Torn at n from image
+  pub grows : IsTrue old.is_recorded → (image : List ℕ) → old.images image → new.images image
+
+-- After a write that succeeded: it reads as written, and a crash may leave any bytes in the range.
+pub record IsWritten (at : ℕ) (bytes : List ℕ) (old new : Meaning) : Type 0 where
+  pub reads : new.bytes ≡ put old.bytes at bytes
+  pub each : IsTrue old.is_recorded → (from image : List ℕ) → old.images from → Torn at (length bytes) from image → new.images image
+
+-- After a sync that succeeded: of the images, the bytes as they read alone are left.
+pub record IsSynced (old new : Meaning) : Type 0 where
+  pub bytes : new.bytes ≡ old.bytes
+  pub images : Images new (λ image. old.images image × (image ≡ old.bytes))
+
+-- After a sync that failed: the images stay, and it reads as one of them.
+pub record IsUnsynced (old new : Meaning) : Type 0 where
+  pub bytes : old.images new.bytes ⊎ (new.bytes ≡ old.bytes)
+  pub images : Images new old.images
+
+-- what a call that shows leaves alone
+pub record IsShowCall (old new : Meaning) : Type 0 where
+  pub honest : new.is_honest ≡ old.is_honest
+  pub len : new.len ≡ old.len
+  pub recorded : new.is_recorded ≡ old.is_recorded
+  pub disk_faults : new.disk_faults ≡ old.disk_faults
+  pub same : IsTrue old.is_honest → IsUnchanged old new

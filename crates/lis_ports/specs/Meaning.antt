@@ -1,0 +1,27 @@
+-- What a disk or a station means: what it reads as, what a crash may leave, and what was shown.
+use Rattle.std.specs.Prelude.{◌≡◌, ℕ, Bool, List, Option, Some}
+
+pub record Meaning : Type 1 where
+  -- It keeps the rules on content, and nobody else writes it. What is said of bytes and images below is said where this holds.
+  pub is_honest : Bool
+  -- how many bytes it has
+  pub len : ℕ
+  -- the bytes as they read
+  pub bytes : List ℕ
+  -- the images that a crash now may leave
+  pub images : List ℕ → Type 0
+  -- a number that does not fall
+  pub clock : ℕ
+  -- It tells its moments.
+  pub is_recorded : Bool
+  -- the moments since a time: an image that a crash could have left, with the bytes shown by then
+  pub moments : ℕ → List ℕ → List ℕ → Type 0
+  -- the bytes shown so far, where they are told
+  pub shown : Option (List ℕ)
+  -- how often a call of the disk failed, and how often a call that shows
+  pub disk_faults : ℕ
+  pub show_faults : ℕ
+
+-- the moments of now
+abbrev pub Now : Meaning → List ℕ → List ℕ → Type 0
+Now m image bytes = m.images image × (m.shown ≡ Some bytes)

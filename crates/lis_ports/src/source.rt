@@ -1,0 +1,142 @@
+//! Where input comes from.
+
+ghost use Rattle.std.specs.Prelude.{◌≡◌, ◌-◌, ◌<◌, ◌≤◌, ◌↔◌, ℕ, List, Option, length, drop, min, IsErr, IfOk, Some};
+ghost use Rattle.lis_ports.specs.Sources.{IsTake};
+
+use crate::Failed;
+use std::io::Read;
+
+/// A stream of bytes that is taken in pieces.
+pub trait Source {
+    /// The bytes left, where they are told.
+    ghost left: { Self → Option (List ℕ) };
+
+    /// How many calls failed. It stands still at its last value, 2^64 - 1.
+    ghost faults: { Self → ℕ };
+
+    /// Takes the next bytes, at most as many as the buffer has, and answers how many.
+    fn take(&mut self, buf: &mut [u8]) -> Result<usize, Failed>
+        ensures { IsTake (left self.old) (left self.new) (faults self.old) (faults self.new) buf.new result };
+}
+
+/// A source over bytes in memory, for tests: it gives at most `step` bytes a call, and fails the calls at whose
+/// start `place` is `fail_at`.
+#[derive(Drop)]
+pub struct MemSource {
+    pub bytes: Vec<u8>,
+    pub place: usize,
+    pub step: usize,
+    pub fail_at: Option<usize>,
+    pub faults: u64,
+    pub ghost takes_some: { 0 < step },
+    pub ghost inside: { place ≤ length bytes.items },
+}
+
+impl Source for MemSource {
+    ghost left = { λ s. Some (drop s.place s.bytes.items) };
+
+    ghost faults = { λ s. s.faults };
+
+    fn take(&mut self, buf: &mut [u8]) -> Result<usize, Failed>
+        ensures take { IsTake (Some (drop self.old.place self.old.bytes.items)) (Some (drop self.new.place self.new.bytes.items)) self.old.faults self.new.faults buf.new result }
+        ensures fails { IsErr result ↔ (self.old.fail_at ≡ Some self.old.place) }
+        ensures gives { IfOk result (λ n. n ≡ min self.old.step (min (length buf.old) (length self.old.bytes.items - self.old.place))) }
+        ensures stays { (self.new.bytes.items ≡ self.old.bytes.items) × (self.new.step ≡ self.old.step) × (self.new.fail_at ≡ self.old.fail_at) }
+    {
+        if self.fail_at == Some(self.place) {
+            self.faults = self.faults.saturating_add(1);
+            return Err(Failed);
+        }
+        let left = &self.bytes[self.place..];
+        let count = self.step.min(buf.len().min(left.len()));
+        buf[..count].copy_from_slice(&left[..count]);
+        self.place += count;
+        Ok(count)
+    }
+}
+
+/// A source over a reader, as standard input. It has left what the reader tells, and standard input tells nothing.
+#[derive(Drop)]
+pub struct StdSource<R: Read> {
+    pub reader: R,
+    pub faults: u64,
+}
+
+impl<R: Read> Source for StdSource<R> {
+    ghost left = { λ s. R.remaining s.reader };
+
+    ghost faults = { λ s. s.faults };
+
+    fn take(&mut self, buf: &mut [u8]) -> Result<usize, Failed> {
+        match self.reader.read(buf) {
+            Ok(count) => Ok(count),
+            Err(_) => {
+                self.faults = self.faults.saturating_add(1);
+                Err(Failed)
+            }
+        }
+    }
+}
+
+#[cfg(test)]
+mod tests {
+    use super::*;
+    use std::alloc::{AllocError, Global};
+    use std::test::Fail;
+
+    // What the calls of a source give until its end, a fault as `!`, and each piece behind a `|`.
+    fn pieces<S: Source>(alloc: Global, source: &mut S) -> Result<Vec<u8>, AllocError> {
+        let mut all = Vec::new(alloc);
+        for _ in 0..8 {
+            let mut buf = [0; 4];
+            match source.take(&mut buf) {
+                Ok(0) => return Ok(all),
+                Ok(count) => {
+                    all.push(b'|')?;
+                    all.extend_from_slice(&buf[..count])?;
+                }
+                Err(Failed) => all.push(b'!')?,
+            }
+        }
+        Ok(all)
+    }
+
+    #[test]
+    fn memory_comes_in_pieces_and_fails_where_it_is_told(rt: HostRuntime) -> Result<(), Fail> {
+        let alloc = rt.alloc();
+        for (step, fail_at, wanted) in [
+            (9, None, "|abcd|efgh|i"),
+            (3, None, "|abc|def|ghi"),
+            (3, Some(4), "|abc|def|ghi"),
+            (9, Some(4), "|abcd!!!!!!!"),
+            (5, Some(9), "|abcd|efgh|i!!!!!"),
+            (5, Some(0), "!!!!!!!!"),
+        ] {
+            let bytes = b"abcdefghi".to_vec(alloc)?;
+            let mut source = MemSource {
+                bytes,
+                place: 0,
+                step,
+                fail_at,
+                faults: 0,
+            };
+            let all = pieces(alloc, &mut source)?;
+            assert_eq!(rt; all.as_slice(), wanted.as_bytes());
+            let faults = all.iter().filter(|b| **b == b'!').count() as u64;
+            assert_eq!(rt; source.faults, faults);
+        }
+        Ok(())
+    }
+
+    #[test]
+    fn standard_input_gives_nothing_for_no_room(rt: HostRuntime) -> Result<(), Fail> {
+        let mut source = StdSource {
+            reader: rt.stdin(),
+            faults: 0,
+        };
+        let mut buf = [0; 0];
+        assert_eq!(rt; source.take(&mut buf), Ok(0));
+        assert_eq!(rt; source.faults, 0);
+        Ok(())
+    }
+}

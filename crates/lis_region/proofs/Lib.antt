@@ -1,0 +1,3 @@
+mod Order
+mod Slots
+pub mod Frames

@@ -1,0 +1,8 @@
+//! Frames of equal width, taken from the heap at once and handed out one by one.
+#![tactic(auto)]
+
+mod region;
+#[cfg(test)]
+mod tests;
+
+pub use region::{Frame, Region};
