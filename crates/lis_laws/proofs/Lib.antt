@@ -6,4 +6,7 @@ pub mod Locals
 pub mod Routes
 pub mod Axioms
 pub mod Descriptions
+pub mod Counts
+pub mod Known
+pub mod Forms
 pub mod Examples
