@@ -1,9 +1,9 @@
 -- The truth values of rows, after one row was set: what crates above need to know of `with_row`.
-use Rattle.std.proofs.Common.{◌≡◌, ◌≢◌, ℕ, ◌<◌, ◌≤◌, ◌⊎◌, inl, inr, Bool, false, [], length, get_or, replicate, ap, ◌∙◌, arith, length-set, get_or-set_same, get_or-set_other}
+use Rattle.std.proofs.Common.{◌≡◌, ◌≢◌, ℕ, ◌<◌, ◌≤◌, ◌⊎◌, inl, inr, Bool, false, [], length, get_or, set, replicate, ap, ◌∙◌, arith, length-set, get_or-set_same, get_or-set_other}
 use Rattle.std.proofs.lemmas.List.{get_or-replicate, length-replicate, get_or_past}
 use Rattle.std.proofs.lemmas.Bool.{cases_lt}
 use Rattle.lis_bits.specs.Rows.{Rows, get, row_of, with_row, empty_rows, SetsRow}
-use Rattle.lis_bits.proofs.View.{get-row_of}
+use Rattle.lis_bits.proofs.View.{get-row_of, row_same}
 
 pub get-with_row_same : (r : Rows) (row bit : ℕ) (value : ℕ → Bool) → row < length r.rows → bit < r.bits → get (with_row r row value) row bit ≡ value bit
 get-with_row_same r row bit value in_rows in_row = ap (λ values. get_or values bit false) (get_or-set_same r.rows row (row_of r.bits value) [] in_rows) ∙ get-row_of r.bits value bit in_row
@@ -40,3 +40,7 @@ get-sets_row_other old new row other bit value sets differ = ap (λ rows. get_or
 
 pub length-sets_row : (old new : Rows) (row : ℕ) (value : ℕ → Bool) → SetsRow old new row value → length new.rows ≡ length old.rows
 length-sets_row old new row value sets = ap length sets.rows ∙ length-set old.rows row (row_of old.bits value)
+
+-- other truth values that are the same at each bit of a row
+pub sets_row_same : (old new : Rows) (row : ℕ) (f g : ℕ → Bool) → SetsRow old new row f → ((bit : ℕ) → bit < old.bits → f bit ≡ g bit) → SetsRow old new row g
+sets_row_same old new row f g sets same = record { bits = sets.bits; rows = sets.rows ∙ ap (λ values. set old.rows row values) (row_same old.bits f g same) }

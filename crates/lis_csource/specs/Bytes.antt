@@ -1,6 +1,6 @@
 -- Kinds of bytes, and fronts of bytes of one kind.
-use Rattle.std.specs.Prelude.{ℕ, ◌==◌, Bool, false, not, ◌&&◌, ◌||◌, if◌then◌else◌, List, [], ◌∷◌}
-use Rattle.std.specs.Char.{is_ascii_alphabetic, is_ascii_alphanumeric, is_ascii_digit}
+use Rattle.std.specs.Prelude.{ℕ, ◌==◌, Bool, false, not, ◌||◌, if◌then◌else◌, List, [], ◌∷◌}
+use Rattle.std.specs.Char.{is_ascii_alphabetic, is_ascii_alphanumeric}
 
 abbrev pub is_feed : ℕ → Bool
 is_feed b = b == 10

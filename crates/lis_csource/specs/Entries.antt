@@ -1,5 +1,5 @@
 -- What counts in a source: the paths of its includes, and the tokens outside directives.
-use Rattle.std.specs.Prelude.{ℕ, ◌==◌, Bool, true, false, not, if◌then◌else◌, List, [], ◌∷◌, map, filter}
+use Rattle.std.specs.Prelude.{ℕ, ◌==◌, Bool, true, false, if◌then◌else◌, List, [], ◌∷◌}
 use Rattle.std.specs.List.{list_any}
 use Rattle.lis_csource.specs.Bytes.{is_slash}
 use Rattle.lis_csource.specs.Pieces.{Piece, context_after}

@@ -144,7 +144,8 @@ kind_after context (Path close) text = other_after context
 abbrev pub context_after : Context → Piece → Context
 context_after context piece = kind_after context piece.kind piece.text
 
--- The pieces, read one after another, at most as many as there are bytes: each takes one byte at least.
+-- The pieces, read one after another, at most as many as there are bytes: each takes one byte at least. `IsFirst`, which
+-- the code's `first_piece` ensures, is the law of it that counts.
 abbrev pub pieces_within : ℕ → Context → List ℕ → List Piece
 pieces_within zero context bytes = []
 pieces_within (suc n) context [] = []

@@ -1,11 +1,11 @@
 -- The reader's walk is the machine of the grammar, with signs and the first 64 nodes in place of trees.
-use Rattle.std.proofs.Common.{◌≡◌, ℕ, ◌+◌, ◌<◌, ◌≤◌, Bool, true, false, cond, ◌||◌, ◌==◌, ◌⊎◌, inl, inr, nat_lt, Option, Some, None, List, [], ◌∷◌, ◌++◌, length, take, refl, ap, sym, ◌∙◌, arith, append_assoc, append-nil, length-append, codes}
+use Rattle.std.proofs.Common.{◌≡◌, ℕ, ◌<◌, ◌≤◌, Bool, true, false, cond, ◌==◌, inl, inr, nat_lt, Option, Some, None, List, [], ◌∷◌, ◌++◌, length, take, refl, ap, sym, ◌∙◌, arith, append_assoc, append-nil, length-append, codes}
 use Rattle.std.specs.Prelude.{option_map, option_and_then}
 use Rattle.std.proofs.lemmas.Bool.{lt-ltb, le-ltb, eq-eqb, ne_eqb, cases_lt}
 use Rattle.std.proofs.lemmas.List.{take-append-le, take_all, length-take-le}
 use Rattle.lis_words.specs.Words.{is_word, is_count, count_of}
 use Rattle.lis_grammar.specs.Formula.{Formula}
-use Rattle.lis_grammar.specs.Formula.Formula.{Has, SizeAtLeast, SizeBelow, Negation, Both, Either}
+use Rattle.lis_grammar.specs.Formula.Formula.{Has, SizeAtLeast, SizeBelow, Negation}
 use Rattle.lis_grammar.specs.Machine.{Pending, Done, State, and_then, or_else, after_sign, counted, operand, is_operand_front, is_joint, complete, completed, settled, close_bar, close_slash, after_bar, after_slash, after_paren, joint, within, step, closed, ended}
 use Rattle.lis_grammar.specs.Machine.Pending.{Bang, Open, BarAfter, SlashAfter}
 use Rattle.lis_grammar.specs.Machine.Done.{done}
@@ -19,7 +19,7 @@ use Rattle.lis_formula.specs.declared.signs.Sign.TheVariants.{Mark, Paren, Bar, 
 use Rattle.lis_formula.specs.declared.reader.Kept.{Kept}
 use Rattle.lis_formula.specs.declared.reader.Held.{Held}
 use Rattle.lis_formula.specs.Operands.{counted_number, test_node, operand_node}
-use Rattle.lis_formula.specs.Walk.{first_64, noted, noted_in, with_sign, marked_on, marked, popped, closed_bar, closed_slash, slashed, unwrapped, Walk, walk_joint, settled_in, walk_settled, walk_within, walk_step, all_kept, walk_end}
+use Rattle.lis_formula.specs.Walk.{first_64, noted, noted_in, with_sign, marked_on, marked, closed_bar, closed_slash, slashed, unwrapped, Walk, walk_joint, settled_in, walk_settled, walk_within, walk_step, all_kept, walk_end}
 use Rattle.lis_formula.specs.Walk.Walk.{Begins, Inside, Ended}
 
 abbrev pub kinds : List Pending → List Sign

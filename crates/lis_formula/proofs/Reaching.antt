@@ -3,12 +3,11 @@ use Rattle.std.proofs.Common.{◌≡◌, ℕ, ◌+◌, ◌<◌, ◌≤◌, suc, 
 use Rattle.std.specs.Prelude.{option_map}
 use Rattle.std.proofs.lemmas.List.{take-append-drop, drop_more, take_more, length-take-le, take_all}
 use Rattle.lis_grammar.specs.Formula.{Formula}
-use Rattle.lis_grammar.specs.Machine.{Done, State, and_then, step, run, closed, ended, path_steps, lived, lived_on}
+use Rattle.lis_grammar.specs.Machine.{State, and_then, step, run, closed, ended, path_steps, lived, lived_on}
 use Rattle.lis_grammar.specs.Machine.State.{Wants}
 use Rattle.lis_grammar.proofs.Forth.{run-append}
-use Rattle.lis_place.specs.Nodes.{nodes_of}
 use Rattle.lis_formula.specs.declared.reader.Kept.{Kept}
-use Rattle.lis_formula.specs.Walk.{no_nodes, first_64, Walk, walk_step, walk_end}
+use Rattle.lis_formula.specs.Walk.{no_nodes, Walk, walk_step, walk_end}
 use Rattle.lis_formula.specs.Walk.Walk.{Begins}
 use Rattle.lis_formula.specs.Paths.{IsPath, IsNoPath}
 use Rattle.lis_formula.proofs.Abs.{abs, abs_step, kept_steps, abs_end}

@@ -1,18 +1,17 @@
 -- From what was kept of a path to the answer to the whole text.
-use Rattle.std.proofs.Common.{◌≡◌, ℕ, ◌+◌, ◌-◌, ◌<◌, ◌≤◌, suc, Bool, true, false, not, cond, ◌==◌, ◌⊎◌, inl, inr, Option, Some, None, List, [], ◌∷◌, ◌++◌, length, take, drop, get_or, refl, ap, sym, subst, ◌∙◌, arith, nat_lt, sum_by}
-use Rattle.std.specs.Prelude.{Result, Ok, Err, IfOk, IsTrue}
-use Rattle.std.proofs.lemmas.Bool.{eqb-true, eqb-false, ne_eqb, false≢true, ltb-true, ltb-false, lt-ltb}
+use Rattle.std.proofs.Common.{◌≡◌, ℕ, ◌+◌, ◌<◌, ◌≤◌, suc, Bool, true, false, not, ◌==◌, inl, inr, Some, None, List, [], ◌∷◌, length, refl, ap, sym, subst, ◌∙◌, arith}
+use Rattle.std.specs.Prelude.{Result, Ok, Err, IfOk}
+use Rattle.std.proofs.lemmas.Bool.{false≢true, ltb-true, ltb-false}
 use Rattle.std.proofs.lemmas.List.{take_all}
 use Rattle.lis_grammar.specs.Formula.{Formula}
 use Rattle.lis_grammar.specs.Grammar.{Reads, IsBrokenAt}
-use Rattle.lis_grammar.specs.Machine.{path_steps, with_root, root_steps, text_steps, lived, broken_at}
+use Rattle.lis_grammar.specs.Machine.{path_steps, with_root, text_steps, lived, broken_at}
 use Rattle.lis_grammar.specs.Machine.State.{Wants}
-use Rattle.lis_grammar.specs.Places.{tree_nodes, IsPlace, is_place}
+use Rattle.lis_grammar.specs.Places.{IsPlace}
 use Rattle.lis_grammar.proofs.Forth.{reads_complete}
 use Rattle.lis_grammar.proofs.Back.{reads_sound}
 use Rattle.lis_grammar.proofs.Fronts.{breaks}
 use Rattle.lis_grammar.proofs.Placed.{no_place, test_fails}
-use Rattle.lis_place.specs.declared.node.Node.{Node}
 use Rattle.lis_place.specs.declared.place.Path.{Path}
 use Rattle.lis_place.specs.Nodes.{nodes_of}
 use Rattle.lis_place.proofs.Trees.{same_steps}
@@ -22,7 +21,7 @@ use Rattle.lis_formula.specs.declared.fault.FormulaFault.TheVariants.{TooLarge, 
 use Rattle.lis_formula.specs.declared.reader.Kept.{Kept}
 use Rattle.lis_formula.specs.Walk.{first_64}
 use Rattle.lis_formula.specs.Paths.{IsPath, IsNoPath, IsWhole, begins_here}
-use Rattle.lis_formula.specs.Answers.{Answers, Computes, ReadsBeyond}
+use Rattle.lis_formula.specs.Answers.{Answers, Computes}
 
 -- what was kept
 

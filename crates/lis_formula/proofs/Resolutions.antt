@@ -1,12 +1,12 @@
 -- What a text makes of a place, by what the text reads to.
-use Rattle.std.proofs.Common.{◌≡◌, ℕ, ◌<◌, ◌≤◌, Bool, true, false, cond, ◌⊎◌, inl, inr, Option, Some, None, List, ◌++◌, length, refl, ap, sym, ◌∙◌, codes, nat_lt, MatchOption}
+use Rattle.std.proofs.Common.{◌≡◌, ℕ, ◌<◌, ◌≤◌, Bool, true, false, cond, inl, inr, Option, Some, None, List, ◌++◌, length, refl, ap, sym, ◌∙◌, codes, nat_lt, MatchOption}
 use Rattle.std.specs.Prelude.{Result, Ok, Err, IfSome}
 use Rattle.std.specs.Option.{ok_or}
 use Rattle.std.proofs.lemmas.Bool.{cond-true, cond-false, lt-ltb, le-ltb}
 use Rattle.lis_words.specs.Words.{same_word}
 use Rattle.lis_grammar.specs.Formula.{Formula}
-use Rattle.lis_grammar.specs.Machine.{text_steps, broken_at}
-use Rattle.lis_grammar.specs.Places.{IsPlace, is_place, Resolution, without_last, within_limits, steps_from, resolved_path, resolved}
+use Rattle.lis_grammar.specs.Machine.{text_steps}
+use Rattle.lis_grammar.specs.Places.{IsPlace, is_place, without_last, within_limits, steps_from, resolved_path, resolved}
 use Rattle.lis_grammar.specs.Places.Resolution.{NewPlace, BeyondLimits, Unreadable}
 use Rattle.lis_grammar.proofs.Placed.{test_from_place, no_place}
 use Rattle.lis_place.specs.declared.place.Path.{Path}

@@ -1,5 +1,5 @@
 -- What a formula text is answered.
-use Rattle.std.specs.Prelude.{◌≡◌, ℕ, ◌<◌, ◌≤◌, ◌⊎◌, Bool, false, Option, Some, None, Result, Ok, Err, List, length}
+use Rattle.std.specs.Prelude.{◌≡◌, ℕ, ◌<◌, ◌≤◌, ◌⊎◌, Bool, false, Some, None, Result, Ok, Err, List, length}
 use Rattle.lis_grammar.specs.Formula.{Formula}
 use Rattle.lis_grammar.specs.Grammar.{Reads, IsBrokenAt}
 use Rattle.lis_grammar.specs.Machine.{text_steps, broken_at}

@@ -5,3 +5,5 @@ pub mod Reader
 pub mod Paths
 pub mod Answers
 pub mod Laws
+pub mod Pieces
+pub mod Printer

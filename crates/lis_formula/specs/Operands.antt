@@ -1,5 +1,5 @@
 -- Words and tests as nodes.
-use Rattle.std.specs.Prelude.{ℕ, ◌==◌, Bool, true, false, ◌||◌, if◌then◌else◌, Option, Some, None, option_map, List, [], ◌∷◌, length, codes}
+use Rattle.std.specs.Prelude.{ℕ, ◌==◌, Bool, ◌||◌, if◌then◌else◌, Option, Some, None, option_map, List, length, codes}
 use Rattle.lis_words.specs.Words.{is_word, is_count, count_of}
 use Rattle.lis_grammar.specs.Machine.{after_sign, or_else}
 use Rattle.lis_place.specs.declared.node.Node.{Node}

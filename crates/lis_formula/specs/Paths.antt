@@ -1,5 +1,5 @@
 -- What reading a path comes to.
-use Rattle.std.specs.Prelude.{◌≡◌, ℕ, ◌==◌, Bool, false, not, Option, Some, None, Result, Ok, Err, List, [], ◌∷◌}
+use Rattle.std.specs.Prelude.{◌≡◌, ℕ, ◌==◌, Bool, false, not, Some, None, Result, Ok, Err, List, [], ◌∷◌}
 use Rattle.lis_grammar.specs.Formula.{Formula}
 use Rattle.lis_grammar.specs.Machine.{lived, path_steps}
 use Rattle.lis_grammar.specs.Machine.State.{Wants}

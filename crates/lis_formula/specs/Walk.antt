@@ -1,5 +1,5 @@
 -- The machine of the grammar with signs and nodes in place of trees: what the reader keeps.
-use Rattle.std.specs.Prelude.{ℕ, ◌==◌, nat_lt, Bool, true, false, ◌||◌, if◌then◌else◌, Option, Some, None, option_map, option_and_then, List, [], ◌∷◌, ◌++◌, length, take}
+use Rattle.std.specs.Prelude.{ℕ, ◌==◌, nat_lt, Bool, true, false, if◌then◌else◌, Option, Some, None, option_map, option_and_then, List, [], ◌∷◌, ◌++◌, length, take}
 use Rattle.lis_grammar.specs.Machine.{is_joint, is_operand_front}
 use Rattle.lis_place.specs.declared.node.Node.{Node}
 use Rattle.lis_place.specs.declared.node.Node.TheVariants.{Not, And, Or}

@@ -220,7 +220,7 @@ bytes_within : (steps : List Formula) → tree_bytes steps + (length steps - 1) 
 bytes_within [] h = omega (arith, root_bytes)
 bytes_within (f ∷ steps) h = omega (arith, printed_bytes f steps)
 
-within_bytes : (steps : List Formula) → length (printed steps) ≤ 1024 → tree_bytes steps + (length steps - 1) ≤ 1024
+pub within_bytes : (steps : List Formula) → length (printed steps) ≤ 1024 → tree_bytes steps + (length steps - 1) ≤ 1024
 within_bytes [] h = omega arith
 within_bytes (f ∷ steps) h = omega (arith, printed_bytes f steps)
 

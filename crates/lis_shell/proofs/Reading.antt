@@ -40,7 +40,7 @@ consumes_none : (known : Option (List ℕ)) → Consumes known (prepend_known []
 consumes_none None = tt
 consumes_none (Some xs) = refl
 
-consumes_then : (a b c : Option (List ℕ)) (xs ys : List ℕ) → Consumes a b xs → Consumes b c ys → Consumes a c (xs ++ ys)
+pub consumes_then : (a b c : Option (List ℕ)) (xs ys : List ℕ) → Consumes a b xs → Consumes b c ys → Consumes a c (xs ++ ys)
 consumes_then None b c xs ys p q = tt
 consumes_then (Some zs) None c xs ys p q = absurd p
 consumes_then (Some zs) (Some bs) None xs ys p q = absurd q
@@ -75,7 +75,7 @@ goes_more bytes more first item goes is = record {
 }
 
 -- the bytes that were given, and those ahead, were taken
-stream_taken : (left_before left : Option (List ℕ)) (ahead bytes : List ℕ) → Consumes left_before (prepend_known ahead left) bytes → Consumes left_before left (bytes ++ ahead)
+pub stream_taken : (left_before left : Option (List ℕ)) (ahead bytes : List ℕ) → Consumes left_before (prepend_known ahead left) bytes → Consumes left_before left (bytes ++ ahead)
 stream_taken None left ahead bytes took = tt
 stream_taken (Some xs) None ahead bytes took = absurd took
 stream_taken (Some xs) (Some ys) ahead bytes took = let e : xs ≡ bytes ++ (ahead ++ ys) = took in e ∙ sym (append_assoc bytes ahead ys)
@@ -93,7 +93,7 @@ pub few_so_far : (limit : ℕ) (left_before left : Option (List ℕ)) (reading :
 few_so_far limit left_before left reading first read =
     few_taken limit left_before left reading.stock.ahead read.bytes reading.stock.rest read.took read.rest read.few
 
-few_gave : (limit : ℕ) (left_before left left_after : Option (List ℕ)) (old new : Reading) (first : List Item) (more : List ℕ)
+pub few_gave : (limit : ℕ) (left_before left left_after : Option (List ℕ)) (old new : Reading) (first : List Item) (more : List ℕ)
     → ReadSoFar limit left_before left old first → Gave old.stock new.stock left left_after more → length new.stock.ahead ≤ new.stock.rest
     → TakesFew limit left_before left_after
 few_gave limit left_before left left_after old new first more read gave few =
@@ -141,31 +141,30 @@ read_item limit left_before left left_after old new first item read goes gave fe
     by (inr last) = read_last limit left_before left left_after old new first item read goes gave.0 last.0 last.1 few
 
 -- what the next call says, by whether the last item was given
-pub record IsNext {E : Type 0} (limit : ℕ) (left_before left left_after : Option (List ℕ)) (old new : Reading) (first : List Item) (payload : Payload) (result : Result Said E) : Type 0 where
-  pub read : ReadSoFar limit left_before left old first
-  pub said : (Goes read.bytes first × Gives old new left left_after payload result)
-      ⊎ (Ends read.bytes first old left × Closes old new left left_after result)
+abbrev pub NextSaid : {E : Type 0} → Option (List ℕ) → Option (List ℕ) → Reading → Reading → List ℕ → List Item → Payload → Result Said E → Type 0
+NextSaid left left_after old new bytes first payload result =
+    (Goes bytes first × Gives old new left left_after payload result) ⊎ (Ends bytes first old left × Closes old new left left_after result)
 
-pub is_next : {E : Type 0} (limit : ℕ) (left_before left left_after : Option (List ℕ)) (old new : Reading) (first : List Item) (payload : Payload) (result : Result Said E)
-    → ReadSoFar limit left_before left old first → Says old new left left_after payload result
-    → IsNext limit left_before left left_after old new first payload result
-is_next limit left_before left left_after old new first payload result read says = record { read = read; said = by read.is }
+pub next_said : {E : Type 0} (limit : ℕ) (left_before left left_after : Option (List ℕ)) (old new : Reading) (first : List Item) (payload : Payload) (result : Result Said E)
+    → (read : ReadSoFar limit left_before left old first) → Says old new left left_after payload result
+    → NextSaid left left_after old new read.bytes first payload result
+next_said limit left_before left left_after old new first payload result read says = by read.is
   where
     by : ((old.is_closed ≡ false) × Goes read.bytes first) ⊎ ((old.is_closed ≡ true) × Ends read.bytes first old left)
-        → (Goes read.bytes first × Gives old new left left_after payload result) ⊎ (Ends read.bytes first old left × Closes old new left left_after result)
+        → NextSaid left left_after old new read.bytes first payload result
     by (inl opened) = inl (opened.1, says.gives opened.0)
     by (inr closed) = inr (closed.1, says.closes closed.0)
 
 -- a known input, split where the reader stands
-known_split : (input : List ℕ) (left : Option (List ℕ)) (ahead bytes : List ℕ) → Consumes (Some input) (prepend_known ahead left) bytes
+pub known_split : (input : List ℕ) (left : Option (List ℕ)) (ahead bytes : List ℕ) → Consumes (Some input) (prepend_known ahead left) bytes
     → (rest : List ℕ) × (left ≡ Some rest) × (input ≡ bytes ++ (ahead ++ rest))
 known_split input None ahead bytes took = absurd took
 known_split input (Some rest) ahead bytes took = (rest, refl, took)
 
-script_short : (input : List ℕ) (limit : ℕ) → length input ≤ limit → script input limit ≡ all_items input
+pub script_short : (input : List ℕ) (limit : ℕ) → length input ≤ limit → script input limit ≡ all_items input
 script_short input limit short = rw (le-leb (length input) limit short) refl
 
-script_long : (input : List ℕ) (limit : ℕ) → limit < length input → script input limit ≡ whole_items (take limit input)
+pub script_long : (input : List ℕ) (limit : ℕ) → limit < length input → script input limit ≡ whole_items (take limit input)
 script_long input limit long = rw (leb_false (length input) limit long) refl
   where
     leb_false : (a b : ℕ) → b < a → nat_le a b ≡ false
@@ -176,7 +175,7 @@ none_behind None rest end is = absurd (cc is)
 none_behind (Some xs) rest end is = let e : xs ≡ [] = end in let same : Some xs ≡ Some rest = is in cc
 
 -- all of the input was read
-input_is : (input : List ℕ) (left : Option (List ℕ)) (ahead bytes : List ℕ) → Consumes (Some input) (prepend_known ahead left) bytes → ahead ≡ [] → IsAtEnd left → input ≡ bytes
+pub input_is : (input : List ℕ) (left : Option (List ℕ)) (ahead bytes : List ℕ) → Consumes (Some input) (prepend_known ahead left) bytes → ahead ≡ [] → IsAtEnd left → input ≡ bytes
 input_is input left ahead bytes took none end =
     let split = known_split input left ahead bytes took in
     let empty : split.0 ≡ [] = none_behind left split.0 end split.1 in

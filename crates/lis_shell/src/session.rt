@@ -45,8 +45,9 @@ pub fn try_session<S: Source, T: Station>(
             Ok(item) => item,
             Err(_) => return Status::InputFault,
         };
-        if let Some(status) = ending(&item) {
-            return status;
+        match ending(&item) {
+            None => {}
+            Some(status) => return status,
         }
         match plain.step(&item, payload, station) {
             Ok(()) => {}

@@ -1,7 +1,7 @@
-use Rattle.std.proofs.Common.{◌≡◌, ◌+◌, ℕ, Bool, true, false, nat_eq, Some, None, Option, List, take, drop, length, ap, sym, ◌∙◌, MatchOption, Bor}
+use Rattle.std.proofs.Common.{◌≡◌, ◌+◌, ℕ, true, false, nat_eq, Some, None, Option, List, take, drop, length, ap, sym, ◌∙◌, MatchOption, Bor}
 use Rattle.std.specs.Cmp.Lexicographic.{pointwise}
 use Rattle.lis_grammar.specs.Machine.{after_sign}
-use Rattle.lis_formula.proofs.Tests.{after_sign_some, after_sign_none}
+use Rattle.lis_formula.proofs.TestParts.{after_sign_some, after_sign_none}
 use Rattle.lis_formula.proofs.operand.after_sign.Goals as goal
 
 stripped : (sign text : List ℕ) (found : Option (Bor (List ℕ)))

@@ -1,7 +1,7 @@
-use Rattle.std.proofs.Common.{◌≡◌, true, false, is_some, codes, sym, ap, ◌∙◌}
+use Rattle.std.proofs.Common.{◌≡◌, true, false, codes, sym, ap, ◌∙◌}
 use Rattle.lis_words.specs.Words.{is_word}
 use Rattle.lis_grammar.specs.Machine.{is_test_front}
-use Rattle.lis_formula.proofs.Tests.{no_word, second, third}
+use Rattle.lis_formula.proofs.TestParts.{no_word, second, third}
 use Rattle.lis_formula.proofs.operand.is_operand_front.Goals as goal
 
 pub returns-then-is_test_front : goal.returns-then-is_test_front

@@ -1,5 +1,5 @@
-use Rattle.std.proofs.Common.{◌≡◌, sym, ap, ◌∙◌}
-use Rattle.lis_formula.proofs.Tests.{digits_front, front_behind, front_within}
+use Rattle.std.proofs.Common.{sym, ◌∙◌}
+use Rattle.lis_formula.proofs.TestParts.{digits_front, front_behind, front_within}
 use Rattle.lis_formula.proofs.operand.is_test_front.Goals as goal
 
 pub returns-in-Some : goal.returns-in-Some

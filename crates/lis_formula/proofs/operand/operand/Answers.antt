@@ -1,7 +1,7 @@
 use Rattle.std.proofs.Common.{ℕ, List, None, refl, sym, ◌∙◌}
 use Rattle.std.proofs.lemmas.Bool.{cond-false}
 use Rattle.lis_words.specs.Words.{is_word}
-use Rattle.lis_formula.proofs.Tests.{no_word}
+use Rattle.lis_formula.proofs.TestParts.{no_word}
 use Rattle.lis_formula.proofs.operand.operand.Goals as goal
 
 pub returns-in-None : goal.returns-in-None

@@ -1,4 +1,4 @@
-use Rattle.std.proofs.Common.{◌≡◌, length, ap, sym, ◌∙◌, arith}
+use Rattle.std.proofs.Common.{◌≡◌, length, ap, ◌∙◌, arith}
 use Rattle.lis_formula.specs.Reader.{walk_of}
 use Rattle.lis_formula.proofs.Reaching.{reach_start, reach_stop, reach_next, reach_all, reach_end, reach_no_end}
 use Rattle.lis_formula.proofs.read.read_path.Goals as goal

@@ -2,7 +2,7 @@ use Rattle.std.proofs.Common.{◌≡◌, true, ap, sym, ◌∙◌}
 use Rattle.lis_csource.specs.Joined.{joined}
 use Rattle.lis_csource.specs.Pieces.{piece_of}
 use Rattle.lis_csource.specs.Entries.{tokens}
-use Rattle.lis_csource.specs.Source.{is_candidate, braces_after, parens_after}
+use Rattle.lis_csource.specs.Source.{is_candidate}
 use Rattle.lis_csource.specs.Bytes.{front, is_name_byte}
 use Rattle.lis_csource.specs.Rights.{right_words_of}
 use Rattle.lis_csource.proofs.ReadingLemmas.{begins}

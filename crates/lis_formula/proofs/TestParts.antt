@@ -1,10 +1,8 @@
 -- The parts of a test, as the code finds them.
-use Rattle.std.proofs.Common.{◌≡◌, ℕ, ◌+◌, ◌<◌, ◌≤◌, zero, suc, Bool, true, false, cond, ◌&&◌, ◌||◌, ◌==◌, ◌↔◌, IsTrue, IsSome, is_some, codes, nat_eq, nat_lt, nat_le, Option, Some, None, List, [], ◌∷◌, ◌++◌, length, take, drop, refl, ap, sym, ◌∙◌, arith}
-use Rattle.std.specs.Char.{is_ascii_digit}
-use Rattle.std.specs.List.{list_all, starts_with}
+use Rattle.std.proofs.Common.{◌≡◌, ℕ, Bool, true, false, cond, ◌&&◌, ◌||◌, ◌==◌, ◌↔◌, IsTrue, IsSome, is_some, nat_eq, Option, Some, None, List, [], ◌∷◌, length, take, drop, refl, ap, sym, arith}
+use Rattle.std.specs.List.{starts_with}
 use Rattle.std.specs.Cmp.Lexicographic.{pointwise}
-use Rattle.std.proofs.lemmas.Bool.{eqb-true, false≢true, lt-ltb, ne_eqb, false_from_ne_true, both_ways, or_left, or_right}
-use Rattle.lis_words.specs.Words.{is_count}
+use Rattle.std.proofs.lemmas.Bool.{false≢true, lt-ltb, ne_eqb, false_from_ne_true, both_ways, or_left, or_right}
 use Rattle.lis_grammar.specs.Machine.{after_sign, is_test_front}
 use Rattle.lis_formula.specs.Operands.{is_digits_front}
 

@@ -1,0 +1,4 @@
+mod Edges
+mod Loops
+mod Remakes
+mod Seen

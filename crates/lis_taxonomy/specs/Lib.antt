@@ -1,0 +1,3 @@
+pub mod Taxonomy
+pub mod Inside
+pub mod Steps
