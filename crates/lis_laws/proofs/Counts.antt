@@ -87,11 +87,47 @@ module _ {K : Type 0} where
       by true more = kept more
       by false more = left_out more
 
+  -- and less, by a member that is left out
+  pub filter_drops : (keep : K → Bool) (xs : List K) (x : K) → Among xs x → keep x ≡ false → length (filter keep xs) + 1 ≤ length xs
+  filter_drops keep [] x m e = absurd m
+  filter_drops keep (y ∷ ys) x (inl same) e = let gone = ap keep same ∙ e in rw gone (omega (arith, filter_le keep ys))
+  filter_drops keep (y ∷ ys) x (inr m) e = by (keep y) (filter_drops keep ys x m e)
+    where
+      by : (b : Bool) → length (filter keep ys) + 1 ≤ length ys → length (cond b (y ∷ filter keep ys) (filter keep ys)) + 1 ≤ length (y ∷ ys)
+      by true more = omega (arith, more)
+      by false more = omega (arith, more)
+
+  pub filter_sum_drops : (count : K → ℕ) (keep : K → Bool) (xs : List K) (x : K) → Among xs x → keep x ≡ false → sum (map count (filter keep xs)) + count x ≤ sum (map count xs)
+  filter_sum_drops count keep [] x m e = absurd m
+  filter_sum_drops count keep (y ∷ ys) x (inl same) e =
+      let gone = ap keep same ∙ e in
+      rw gone (omega (arith, filter_sum_le count keep ys, sum_first count y ys, ap count same))
+  filter_sum_drops count keep (y ∷ ys) x (inr m) e = by (keep y) (filter_sum_drops count keep ys x m e)
+    where
+      kept : sum (map count (filter keep ys)) + count x ≤ sum (map count ys) → sum (map count (y ∷ filter keep ys)) + count x ≤ sum (map count (y ∷ ys))
+      kept more = omega (arith, more, sum_first count y ys, sum_first count y (filter keep ys))
+
+      left_out : sum (map count (filter keep ys)) + count x ≤ sum (map count ys) → sum (map count (filter keep ys)) + count x ≤ sum (map count (y ∷ ys))
+      left_out more = omega (arith, more, sum_first count y ys)
+
+      by : (b : Bool) → sum (map count (filter keep ys)) + count x ≤ sum (map count ys) → sum (map count (cond b (y ∷ filter keep ys) (filter keep ys))) + count x ≤ sum (map count (y ∷ ys))
+      by true more = kept more
+      by false more = left_out more
+
   pub insert_key_le : (cmp : K → K → Ordering) (xs : List K) (k : K) → length (insert_key cmp xs k) ≤ length xs + 1
   insert_key_le cmp [] k = omega arith
   insert_key_le cmp (y ∷ ys) k = by (cmp k y) (insert_key_le cmp ys k)
     where
       by : (r : Ordering) → length (insert_key cmp ys k) ≤ length ys + 1 → length (match_ordering r (k ∷ y ∷ ys) (y ∷ ys) (y ∷ insert_key cmp ys k)) ≤ length (y ∷ ys) + 1
+      by Less more = omega arith
+      by Equal more = omega arith
+      by Greater more = omega (arith, more)
+
+  pub le_insert_key : (cmp : K → K → Ordering) (xs : List K) (k : K) → length xs ≤ length (insert_key cmp xs k)
+  le_insert_key cmp [] k = omega arith
+  le_insert_key cmp (y ∷ ys) k = by (cmp k y) (le_insert_key cmp ys k)
+    where
+      by : (r : Ordering) → length ys ≤ length (insert_key cmp ys k) → length (y ∷ ys) ≤ length (match_ordering r (k ∷ y ∷ ys) (y ∷ ys) (y ∷ insert_key cmp ys k))
       by Less more = omega arith
       by Equal more = omega arith
       by Greater more = omega (arith, more)

@@ -1,20 +1,20 @@
 -- What keeps a state well formed: words, axioms and files that come and go.
-use Rattle.std.proofs.Common.{◌≡◌, ◌⊎◌, ℕ, ◌≤◌, nat_le, Bool, true, false, not, ◌&&◌, ◌||◌, List, ◌++◌, length, map, filter, subst, inl, inr, arith}
+use Rattle.std.proofs.Common.{◌≡◌, ◌⊎◌, ℕ, ◌≤◌, nat_le, Bool, true, false, not, ◌&&◌, ◌||◌, List, ◌++◌, length, map, filter, subst, inl, inr, arith, refl}
 use Rattle.std.specs.Cmp.{IsTotalOrder}
 use Rattle.std.specs.List.{flat_map}
 use Rattle.std.proofs.lemmas.Cmp.{on_total}
-use Rattle.std.proofs.lemmas.Bool.{and_parts, and_from, or_cases, or_left, or_right, or_parts, not-true, not_from_false, false_from_ne_true, le-leb, leb-true}
+use Rattle.std.proofs.lemmas.Bool.{and_parts, and_from, or_cases, or_left, or_right, or_parts, not-true, not_from_false, not_from_true, false_from_ne_true, le-leb, leb-true}
 use Rattle.lis_graph.proofs.Members.{Among, among_filter, filter_among, insert_key_old, among_left, among_right, map_among, flat_map_among}
 use Rattle.lis_words.specs.Words.{word_cmp, same_word, has_word, head_bytes, is_valued}
 use Rattle.lis_model.specs.Sets.{with_word}
 use Rattle.lis_model.specs.Derived.{derived_words}
 use Rattle.lis_model.specs.State.{State, File, WellFormed, Entails, AxiomsAreFormed, heads, up, edges, description, known, left_words, is_declarable, is_assignable, is_known_head, is_nameable, pair_cmp, file_cmp, blocks_needed}
-use Rattle.lis_laws.specs.Changes.{word_declared, word_undeclared, axiom_added, axiom_removed, same_pair, file_added, file_removed, is_in_use, AxiomFits, FileFits}
+use Rattle.lis_laws.specs.Changes.{word_declared, word_undeclared, axiom_added, axiom_removed, same_pair, file_added, file_removed, file_replaced, is_in_use, AxiomFits, FileFits, FileReplaces}
 use Rattle.lis_laws.proofs.Members.{word_order, pair_order, same_word_decides, among_from_has_word, has_word_from_among}
 use Rattle.lis_laws.proofs.Chains.{up_self, up_own, up_decides, acyclic_within, heads_of_valued}
 use Rattle.lis_laws.proofs.Axioms.{acyclic_with_axiom}
 use Rattle.lis_laws.proofs.Tables.{file_has}
-use Rattle.lis_laws.proofs.Counts.{all_weaker, all_filter, all_insert_key, rising_insert_key, rising_filter, filter_le, filter_sum_le, insert_key_le, insert_key_sum_le}
+use Rattle.lis_laws.proofs.Counts.{all_weaker, all_filter, all_insert_key, rising_insert_key, rising_filter, filter_le, filter_sum_le, filter_drops, filter_sum_drops, insert_key_le, insert_key_sum_le}
 use Rattle.lis_laws.proofs.Known.{IsWithin, known_le, file_words_le}
 
 pub file_order : IsTotalOrder file_cmp
@@ -262,3 +262,19 @@ removes_file s formed name = record {
 
     within : IsWithin (file_removed s name) s
     within = record { declared = λ w m. m; axioms = λ e m. m; edges = λ e m. m; files = λ f m. (among_filter _ s.files f m).0 }
+
+pub replaces_file : (s : State) → WellFormed s → (old new : File) → Among s.files old → FileReplaces s old new → WellFormed (file_replaced s old.name new)
+replaces_file s formed old new m fits =
+    adds_file (file_removed s old.name) (removes_file s formed old.name) new (record {
+      assigned_set = fits.assigned_set;
+      assigned = fits.assigned;
+      few_assigned = fits.few_assigned;
+      few_words = fits.few_words;
+      short = fits.short;
+      few_files = omega (arith, formed.few_files, filter_drops (λ (f : File). not (same_word f.name old.name)) s.files old m gone);
+      few_known = fits.few_known;
+      few_blocks = omega (arith, fits.few_blocks, filter_sum_drops (λ (f : File). blocks_needed (length f.bytes)) (λ (f : File). not (same_word f.name old.name)) s.files old m gone);
+    })
+  where
+    gone : not (same_word old.name old.name) ≡ false
+    gone = not_from_true _ ((same_word_decides old.name old.name).1 refl)

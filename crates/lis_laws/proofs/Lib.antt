@@ -9,4 +9,5 @@ pub mod Descriptions
 pub mod Counts
 pub mod Known
 pub mod Forms
+pub mod Fresh
 pub mod Examples
