@@ -10,4 +10,5 @@ pub mod Counts
 pub mod Known
 pub mod Forms
 pub mod Fresh
+pub mod Growth
 pub mod Examples
