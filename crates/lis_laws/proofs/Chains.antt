@@ -26,6 +26,9 @@ among_heads p q h = by (is_valued p) refl h
     by true e (inr none) = absurd none
     by false e none = absurd none
 
+pub heads_of_valued : (word : List ℕ) → is_valued word ≡ true → Among (heads word) (head_bytes word)
+heads_of_valued word valued = subst (λ (t : Bool). Among (cond t (head_bytes word ∷ []) []) (head_bytes word)) (sym valued) (inl refl)
+
 pub heads_ended : (p q r : List ℕ) → Among (heads p) q → Among (heads q) r → ⊥
 heads_ended p q r first next =
     let valued = subst (λ w. is_valued w ≡ true) (sym (among_heads p q first).1) (among_heads q r next).0 in
@@ -37,6 +40,9 @@ Pairs = List (List ℕ × List ℕ)
 
 pub up_self : (axioms : Pairs) (p : List ℕ) → Among (up axioms p) p
 up_self = graph.up_self same_word word_cmp heads same_word_decides word_exact heads_ended
+
+pub up_own : (axioms : Pairs) (p q : List ℕ) → Among (heads p) q → Among (up axioms p) q
+up_own = graph.up_own same_word word_cmp heads same_word_decides word_exact heads_ended
 
 pub up_trans : (axioms : Pairs) (p q r : List ℕ) → Among (up axioms p) q → Among (up axioms q) r → Among (up axioms p) r
 up_trans = graph.up_trans same_word word_cmp heads same_word_decides word_exact heads_ended

@@ -6,4 +6,9 @@ pub mod Locals
 pub mod Routes
 pub mod Axioms
 pub mod Descriptions
+pub mod Counts
+pub mod Known
+pub mod Forms
+pub mod Fresh
+pub mod Growth
 pub mod Examples

@@ -1,6 +1,8 @@
 //! The laws that the definitions of the model keep, each the contract of a function with nothing to do.
 #![tactic(auto)]
 
+ghost use Rattle.lis_laws.specs.Changes.{ChangesKeepForm};
+ghost use Rattle.lis_laws.specs.Growth.{KnownGrows};
 ghost use Rattle.lis_laws.specs.Laws.{TestsAreChains, NoTies, LocalsAreUncovered, LocalsByFile, RoutesLead, AxiomsAdd, DescriptionsAdd};
 
 /// What a word entails, and whether axioms lead in a circle, is what chains of links say.
@@ -36,4 +38,14 @@ pub fn axioms_add()
 /// What one more axiom adds to the words of a file.
 pub fn descriptions_add()
     ensures { DescriptionsAdd }
+{}
+
+/// What a change of a state needs so that the state stays well formed.
+pub fn changes_keep_form()
+    ensures { ChangesKeepForm }
+{}
+
+/// Which words become known when a word, a file or an axiom comes into a state.
+pub fn known_grows()
+    ensures { KnownGrows }
 {}
