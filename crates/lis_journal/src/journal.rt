@@ -1,0 +1,5 @@
+pub enum JournalFault {
+    DiskFault,
+    BadRecord(u32),
+    NoMemory,
+}
