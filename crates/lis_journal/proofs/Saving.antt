@@ -1,7 +1,7 @@
 -- The phases over a disk: what stands at each moment, and what each phase leads to.
-use Rattle.std.proofs.Common.{◌≡◌, ◌⊎◌, inl, inr, ℕ, ◌+◌, ◌*◌, ◌<◌, ◌≤◌, ◌==◌, nat_lt, List, [], ◌∷◌, length, IsTrue, refl, sym, ◌∙◌, ap, subst, arith, cond, OnOk, Result, Ok, Err}
+use Rattle.std.proofs.Common.{◌≡◌, ◌⊎◌, inl, inr, ℕ, ◌+◌, ◌*◌, ◌<◌, ◌≤◌, ◌==◌, nat_lt, Bool, true, false, ◌||◌, List, [], ◌∷◌, length, IsTrue, refl, sym, ◌∙◌, ap, subst, arith, cond, OnOk, Result, Ok, Err}
 use Rattle.std.specs.List.{list_all}
-use Rattle.std.proofs.lemmas.Bool.{cond-false, ne_eqb}
+use Rattle.std.proofs.lemmas.Bool.{cond-false, ne_eqb, eqb-false, false≢true}
 use Rattle.lis_ports.specs.Meaning.{Meaning}
 use Rattle.lis_ports.specs.Bytes.{put, Torn}
 use Rattle.lis_ports.specs.Runs.{Leaves, Always, IsSettled}
@@ -9,7 +9,7 @@ use Rattle.lis_ports.proofs.Always.{always_settled, always_weaken}
 use Rattle.lis_ports.proofs.Moments.{leaves_then, leaves_weaken}
 use Rattle.lis_journal.specs.Record.{block, Entry, homes, homes_of, is_header, apply}
 use Rattle.lis_journal.specs.Images.{look, Keeps, StandsFor, StandsForAllOrNone, IsAtRest, Fits}
-use Rattle.lis_journal.specs.Staging.{Staging, IsStaging}
+use Rattle.lis_journal.specs.Staging.{Staging, IsStaging, has_entry}
 use Rattle.lis_journal.specs.Spreads.{Spreads, Touched}
 use Rattle.lis_journal.specs.Phases.{Spelled, Recorded, Unsure, Open, looked, renumbered}
 use Rattle.lis_journal.proofs.Entries.{Within, AtHome}
@@ -141,3 +141,18 @@ module _ {blocks : ℕ} {es : List Entry} (plan : Plan blocks es) (kept : ℕ �
 
   pub finish_moments : {a b : Meaning} → Leaves a b (StandsFor blocks (looked es kept)) → Leaves a b (StandsForAllOrNone blocks kept es)
   finish_moments leaves = leaves_weaken (StandsForAllOrNone blocks kept es) leaves (λ image all. inr all)
+
+pub past_kept : (blocks : ℕ) (kept : ℕ → List ℕ) (old new : Meaning) → 578 < blocks → Fits blocks old kept → PastIs blocks kept new.bytes → (n : ℕ) → blocks ≤ n → block n new.bytes ≡ block n old.bytes
+past_kept blocks kept old new enough fits past n le = past n le ∙ sym (fits.all.reads.keeps.same n (inr (omega (arith, enough, le))))
+
+-- a block that is not staged is what was there
+pub look-absent : (es : List Entry) (n : ℕ) (old : List ℕ) → has_entry es n ≡ false → look es n old ≡ old
+look-absent [] n old absent = refl
+look-absent (e ∷ es) n old absent =
+    let parts = neither (e.home == n) (has_entry es n) absent in
+    let ne : n ≡ e.home → ⊥ = λ same. eqb-false e.home n parts.0 (sym same) in
+    ap (look es n) (cond-false (n == e.home) e.bytes old (ne_eqb n e.home ne)) ∙ look-absent es n old parts.1
+  where
+    neither : (a b : Bool) → (a || b) ≡ false → (a ≡ false) × (b ≡ false)
+    neither true b e = absurd (false≢true (sym e))
+    neither false b e = (refl, e)
