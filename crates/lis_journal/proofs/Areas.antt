@@ -58,7 +58,7 @@ look-below m n (e ∷ es) old lt =
     let ne : n ≡ m → ⊥ = λ same. absurd (omega (arith, same, lt)) in
     ap (look (renumbered (m + 1) es) n) (cond-false (n == m) e.bytes old (ne_eqb n m ne)) ∙ look-below (m + 1) n es old (omega (arith, lt))
 
-block-of_area : (k : ℕ) (image : List ℕ) → k < 576 → block k (area image) ≡ block (k + 2) image
+pub block-of_area : (k : ℕ) (image : List ℕ) → k < 576 → block k (area image) ≡ block (k + 2) image
 block-of_area k image lt =
     let at : 8192 + 4096 * k ≡ 4096 * (k + 2) = omega arith in
     part-part (4096 * k) 4096 8192 2359296 image (omega (arith, lt)) ∙ ap (λ p. part p 4096 image) at

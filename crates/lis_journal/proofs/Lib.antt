@@ -7,3 +7,5 @@ mod Headers
 mod Writing
 mod Areas
 mod Saving
+mod Loading
+mod Recovering

@@ -1,5 +1,5 @@
 -- What opening a journal does.
-use Rattle.std.specs.Prelude.{◌≡◌, ◌⊎◌, ℕ, ◌+◌, ◌-◌, ◌^◌, ◌≤◌, min, List, Option, None, Result, Ok, Err, IsSomeAnd, IsTrue}
+use Rattle.std.specs.Prelude.{◌≡◌, ◌⊎◌, ℕ, ◌+◌, ◌-◌, ◌^◌, ◌≤◌, min, Bool, true, false, List, Option, None, Result, Ok, Err, IsSomeAnd, IsTrue}
 use Rattle.lis_ports.specs.Meaning.{Meaning}
 use Rattle.lis_ports.specs.Runs.{IsDiskRun, Leaves, IsSettled}
 use Rattle.lis_ports.specs.Calls.{Rose}
@@ -25,3 +25,12 @@ MountEnded blocks old new (Ok journal) = IsSomeAnd (replayed blocks old.bytes) (
 MountEnded blocks old new (Err DiskFault) = Unit {0}
 MountEnded blocks old new (Err (BadRecord b)) = (replayed blocks old.bytes ≡ None) × (b ≡ 2) × IsSettled new old.bytes
 MountEnded blocks old new (Err NoMemory) = Unit {0}
+
+-- How a recovery ended, by whether the record was in form where the gate was open.
+abbrev pub Recovered : ℕ → Meaning → Meaning → Bool → Type 0
+Recovered blocks old new true = IsSomeAnd (replayed blocks old.bytes) (λ r. Fits blocks new (λ n. block n r))
+Recovered blocks old new false = (replayed blocks old.bytes ≡ None) × IsSettled new old.bytes
+
+-- A crash leaves the blocks past the image as they read.
+abbrev pub IsSettledPast : ℕ → Meaning → Type 0
+IsSettledPast blocks m = (image : List ℕ) → m.images image → (n : ℕ) → blocks ≤ n → block n image ≡ block n m.bytes

@@ -16,6 +16,9 @@ use lis_ports::{Disk, Failed};
 /// Where the gate is.
 pub const GATE_AT: u64 = 4_096;
 
+/// The block of the header.
+pub const HEADER_BLOCK: u32 = 2;
+
 /// Where the header of the record is.
 pub const HEADER_AT: u64 = 8_192;
 

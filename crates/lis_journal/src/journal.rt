@@ -7,8 +7,9 @@ ghost use Rattle.lis_journal.specs.Record.{block, replayed};
 ghost use Rattle.lis_journal.specs.Images.{StandsForAllOrNone, Fits, KeepsPast, look};
 ghost use Rattle.lis_journal.specs.Staging.{with_entry, has_entry};
 
-use crate::commit::save;
+use crate::commit::{HEADER_BLOCK, save};
 use crate::header::write_header;
+use crate::mount::recover;
 use crate::stage::{BLOCK_LEN, Stage};
 use lis_ports::{Disk, Failed};
 use std::alloc::{AllocError, Global};
@@ -47,8 +48,70 @@ impl Model for Journal {
     ghost invariant = { λ j. (length j.header.items ≡ 4096) × (578 < j.stage.blocks) };
 }
 
+impl From<AllocError> for JournalFault {
+    ghost use Rattle.std.specs.Prelude.{◌≡◌};
+    ghost use Rattle.lis_journal.specs.declared.journal.JournalFault.TheVariants.{NoMemory};
+
+    ghost from_gives = { λ _ fault. fault ≡ NoMemory };
+
+    fn from(_: AllocError) -> Self {
+        JournalFault::NoMemory
+    }
+}
+
+// A block of zeros.
+fn new_block(alloc: Global) -> Result<Vec<u8>, AllocError>
+    ensures { IfOk result (λ block. length block.items ≡ 4096) }
+{
+    vec![in alloc; 0; BLOCK_LEN]
+}
+
 impl Journal {
+    ghost use Rattle.lis_journal.specs.Recovery.{HasMountCause, StandsForReplayed, MountEnded, IsSettledPast};
+    ghost use Rattle.lis_journal.specs.declared.journal.JournalFault.TheVariants.{NoMemory};
     ghost use Rattle.lis_journal.specs.Journal.{Held};
+
+    /// Opens the journal of an image of so many blocks, with nothing staged. It takes its memory before its first call
+    /// of the disk. Then it syncs; where the gate is open it brings the record home and closes the gate.
+    pub fn mount<D: Disk>(alloc: Global, disk: &mut D, blocks: u32) -> Result<Journal, JournalFault>
+        requires blocks { 578 < blocks }
+        requires long { 4096 * blocks ≤ (D.meaning disk.old).len }
+        ensures held { IfOk result (λ journal. journal ≡ record { blocks = blocks; staged = []; is_broken = false }) }
+        ensures run { IsDiskRun (D.meaning disk.old) (D.meaning disk.new) }
+        ensures cause { HasMountCause (D.meaning disk.old).disk_faults (D.meaning disk.new).disk_faults result }
+
+        // Out of memory, it made no call of the disk.
+        ensures memory { result ≡ Err NoMemory → disk.new ≡ disk.old }
+
+        // What was read at the call's start decides: the journal fits what the replayed image has, or there is none.
+        ensures ended { IsTrue (D.meaning disk.old).is_honest
+            → MountEnded blocks (D.meaning disk.old) (D.meaning disk.new) result }
+
+        // Until the first sync a crash leaves what it would have left before. After it, it leaves what stands for the
+        // replayed image.
+        ensures any_moment { IsTrue (D.meaning disk.old).is_honest → Leaves (D.meaning disk.old) (D.meaning disk.new)
+            (λ image. (D.meaning disk.old).images image ⊎ StandsForReplayed blocks (D.meaning disk.old).bytes image) }
+        ensures past { OnOk result (IsTrue (D.meaning disk.old).is_honest
+            → KeepsPast blocks (D.meaning disk.old) (D.meaning disk.new)) }
+        ensures settled_past { IsTrue (D.meaning disk.old).is_honest → IsSettledPast blocks (D.meaning disk.old)
+            → KeepsPast blocks (D.meaning disk.old) (D.meaning disk.new) }
+    {
+        let mut stage = Stage::new(alloc, blocks)?;
+        let mut header = new_block(alloc)?;
+        let mut block = new_block(alloc)?;
+        match recover(disk, &mut stage, &mut header, &mut block) {
+            Ok(true) => {
+                stage.clear();
+                Ok(Journal {
+                    stage,
+                    header,
+                    is_broken: false,
+                })
+            }
+            Ok(false) => Err(JournalFault::BadRecord(HEADER_BLOCK)),
+            Err(Failed) => Err(JournalFault::DiskFault),
+        }
+    }
 
     /// How many blocks are staged.
     pub fn staged(&self) -> u32

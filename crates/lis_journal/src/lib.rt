@@ -4,4 +4,8 @@
 mod commit;
 mod header;
 mod journal;
+mod mount;
 mod stage;
+
+pub use journal::{Journal, JournalFault};
+pub use stage::{BLOCK_LEN, HOMES_START, MAX_STAGED};
