@@ -1,5 +1,5 @@
 -- The record's blocks, as they are written and read.
-use Rattle.std.proofs.Common.{◌≡◌, ◌⊎◌, inl, inr, ℕ, zero, suc, ◌+◌, ◌-◌, ◌*◌, ◌<◌, ◌≤◌, ◌==◌, Bool, true, false, cond, List, [], ◌∷◌, ◌++◌, length, get_or, take, drop, IsTrue, refl, sym, ◌∙◌, ap, subst, arith, length-drop}
+use Rattle.std.proofs.Common.{◌≡◌, inl, inr, ℕ, ◌+◌, ◌-◌, ◌*◌, ◌<◌, ◌≤◌, ◌==◌, List, [], ◌∷◌, length, take, drop, IsTrue, refl, sym, ◌∙◌, ap, subst, arith, length-drop}
 use Rattle.std.proofs.lemmas.Bool.{cond-false, ne_eqb}
 use Rattle.std.proofs.lemmas.List.{take-take, drop-drop, take_all}
 use Rattle.lis_ports.specs.Bytes.{part, put, Torn}
@@ -8,7 +8,7 @@ use Rattle.lis_journal.specs.Record.{block, Entry, homes, homes_of, area, header
 use Rattle.lis_journal.specs.Images.{look}
 use Rattle.lis_journal.specs.Spreads.{IsClear, Touched}
 use Rattle.lis_journal.specs.Phases.{Spelled, renumbered}
-use Rattle.lis_journal.proofs.Entries.{Within, block-apply, length-apply, block-put}
+use Rattle.lis_journal.proofs.Entries.{Within, block-apply}
 
 -- a range within the record
 pub torn_area : (at n : ℕ) → 8192 ≤ at → at + n ≤ 2367488 → (from image : List ℕ) → Torn at n from image → Torn 8192 2359296 from image

@@ -1,10 +1,10 @@
 -- The phases of a commit and of a recovery, each as a fact about one image.
-use Rattle.std.proofs.Common.{◌≡◌, ◌⊎◌, ℕ, ◌+◌, ◌*◌, ◌<◌, ◌≤◌, ◌==◌, Bool, true, false, cond, List, [], ◌∷◌, ◌++◌, length, Option, Some, None, IsTrue, refl, sym, ◌∙◌, ap, subst, inl, inr, arith, eqb, slice_index, IsSomeAnd}
-use Rattle.lis_ports.specs.Bytes.{part, put, Torn}
-use Rattle.lis_ports.proofs.Parts.{Apart, part-torn, part-put, length-put, torn-put}
+use Rattle.std.proofs.Common.{◌≡◌, ℕ, ◌+◌, ◌*◌, ◌≤◌, ◌==◌, Bool, true, false, cond, List, [], ◌∷◌, length, Option, Some, None, refl, sym, ◌∙◌, ap, subst, inl, inr, arith, slice_index, IsSomeAnd}
+use Rattle.lis_ports.specs.Bytes.{put, Torn}
+use Rattle.lis_ports.proofs.Parts.{Apart, part-torn, part-put, torn-put}
 use Rattle.lis_journal.specs.Record.{block, is_open, Entry, area, is_record, recorded, apply, replayed}
 use Rattle.lis_journal.specs.Images.{IsOutside, Keeps, StandsFor, look, StandsForAllOrNone, IsAtRest}
-use Rattle.lis_journal.specs.Spreads.{IsClear, Touched}
+use Rattle.lis_journal.specs.Spreads.{Touched}
 use Rattle.lis_journal.specs.Phases.{Spelled, Recorded, Unsure, Open, looked}
 use Rattle.lis_journal.proofs.Entries.{Within, AtHome, block-apply, length-apply, look_again, home_or_clear, homes_clear}
 

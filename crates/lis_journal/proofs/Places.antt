@@ -1,11 +1,11 @@
 -- The place of a block among the staged ones, which are in the order of their homes.
-use Rattle.std.proofs.Common.{◌≡◌, ◌≢◌, ◌⊎◌, ℕ, zero, suc, ◌+◌, ◌<◌, ◌≤◌, nat_lt, Bool, true, false, ◌&&◌, ◌||◌, ◌==◌, cond, List, [], ◌∷◌, ◌++◌, length, get_or, take, drop, map, IsTrue, refl, sym, ◌∙◌, ap, subst, arith, eqb}
+use Rattle.std.proofs.Common.{◌≡◌, ℕ, zero, suc, ◌+◌, ◌<◌, ◌≤◌, nat_lt, Bool, true, false, ◌&&◌, ◌||◌, ◌==◌, cond, List, [], ◌∷◌, length, get_or, IsTrue, refl, sym, ◌∙◌, ap, subst, arith}
 use Rattle.std.specs.List.{list_all, list_any}
 use Rattle.std.proofs.lemmas.List.{get_or_default}
-use Rattle.std.proofs.lemmas.Bool.{and_parts, and_from, ltb-true, lt-ltb, eqb-true, eqb-false, eq-eqb, false≢true, cond-true, cond-false, ltb-false, le-ltb, ne_eqb}
+use Rattle.std.proofs.lemmas.Bool.{and_parts, and_from, ltb-true, lt-ltb, eqb-true, eqb-false, eq-eqb, ltb-false, ne_eqb}
 use Rattle.lis_journal.specs.declared.stage.Staged.{Staged}
 use Rattle.lis_journal.specs.Record.{Entry, homes, rises}
-use Rattle.lis_journal.specs.Staging.{with_entry, has_entry}
+use Rattle.lis_journal.specs.Staging.{with_entry}
 use Rattle.lis_journal.specs.Inside.{home_list, FoundAt, PlaceFor}
 
 pub found_at : (n k : ℕ) (xs : List Staged) (d : Staged) → k < length xs → ((j : ℕ) → j < k → (get_or xs j d).home < n) → (get_or xs k d).home ≡ n → FoundAt n k xs

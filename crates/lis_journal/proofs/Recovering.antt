@@ -1,12 +1,12 @@
 -- A recovery, call by call: what is known of the disk before it writes, and how it ends.
-use Rattle.std.proofs.Common.{◌≡◌, ◌⊎◌, inl, inr, ℕ, ◌+◌, ◌*◌, ◌<◌, ◌≤◌, Bool, true, false, List, [], length, Option, Some, None, IsSomeAnd, IsTrue, refl, sym, ◌∙◌, ap, subst, arith}
+use Rattle.std.proofs.Common.{◌≡◌, ◌⊎◌, inl, inr, ℕ, ◌*◌, ◌<◌, ◌≤◌, true, false, List, length, Option, Some, None, IsSomeAnd, IsTrue, refl, sym, ◌∙◌, ap, subst, arith}
 use Rattle.lis_ports.specs.Meaning.{Meaning}
 use Rattle.lis_ports.specs.Bytes.{part}
-use Rattle.lis_ports.specs.Runs.{IsDiskRun, Leaves, Always, IsSettled}
+use Rattle.lis_ports.specs.Runs.{IsDiskRun, Leaves, Always}
 use Rattle.lis_ports.specs.Calls.{Elapses, IsSynced, IsUnchanged}
 use Rattle.lis_ports.proofs.Moments.{leaves_call, leaves_then, leaves_weaken}
 use Rattle.lis_ports.proofs.Parts.{part-part}
-use Rattle.lis_journal.specs.Record.{block, is_open, Entry, area, header, homes_of, is_header, is_record, recorded, entries_from, apply, replayed}
+use Rattle.lis_journal.specs.Record.{block, is_open, area, header, homes_of, is_header, is_record, recorded, entries_from, apply, replayed}
 use Rattle.lis_journal.specs.Images.{look, Keeps, StandsFor, IsAtRest, Fits, KeepsPast}
 use Rattle.lis_journal.specs.Staging.{Staging, IsStaging}
 use Rattle.lis_journal.specs.Spreads.{Spreads, Same}
@@ -15,7 +15,7 @@ use Rattle.lis_journal.specs.Recovery.{StandsForReplayed, Recovered}
 use Rattle.lis_journal.proofs.Entries.{Within, block-apply}
 use Rattle.lis_journal.proofs.Spreading.{always_spread}
 use Rattle.lis_journal.proofs.Phases.{replayed-closed, replayed-open, replayed-bad}
-use Rattle.lis_journal.proofs.Saving.{plan_of, PastIs}
+use Rattle.lis_journal.proofs.Saving.{plan_of}
 
 -- So far the disk was synced and read: it reads as at the start, and a crash leaves that and nothing else.
 pub record Reading (old m : Meaning) : Type 0 where

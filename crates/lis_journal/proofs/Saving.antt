@@ -1,17 +1,16 @@
 -- The phases over a disk: what stands at each moment, and what each phase leads to.
-use Rattle.std.proofs.Common.{◌≡◌, ◌⊎◌, inl, inr, ℕ, ◌+◌, ◌*◌, ◌<◌, ◌≤◌, ◌==◌, nat_lt, Bool, true, false, ◌||◌, List, [], ◌∷◌, length, IsTrue, refl, sym, ◌∙◌, ap, subst, arith, cond, OnOk, Result, Ok, Err}
-use Rattle.std.specs.List.{list_all}
+use Rattle.std.proofs.Common.{◌≡◌, inl, inr, ℕ, ◌+◌, ◌<◌, ◌≤◌, ◌==◌, Bool, true, false, ◌||◌, List, [], ◌∷◌, length, IsTrue, refl, sym, ◌∙◌, ap, subst, arith, OnOk, Result, Ok, Err}
 use Rattle.std.proofs.lemmas.Bool.{cond-false, ne_eqb, eqb-false, false≢true}
 use Rattle.lis_ports.specs.Meaning.{Meaning}
 use Rattle.lis_ports.specs.Bytes.{put, Torn}
 use Rattle.lis_ports.specs.Runs.{Leaves, Always, IsSettled}
-use Rattle.lis_ports.proofs.Always.{always_settled, always_weaken}
-use Rattle.lis_ports.proofs.Moments.{leaves_then, leaves_weaken}
+use Rattle.lis_ports.proofs.Always.{always_settled}
+use Rattle.lis_ports.proofs.Moments.{leaves_weaken}
 use Rattle.lis_journal.specs.Record.{block, Entry, homes, homes_of, is_header, apply}
-use Rattle.lis_journal.specs.Images.{look, Keeps, StandsFor, StandsForAllOrNone, IsAtRest, Fits}
+use Rattle.lis_journal.specs.Images.{look, StandsFor, StandsForAllOrNone, IsAtRest, Fits}
 use Rattle.lis_journal.specs.Staging.{Staging, IsStaging, has_entry}
 use Rattle.lis_journal.specs.Spreads.{Spreads, Touched}
-use Rattle.lis_journal.specs.Phases.{Spelled, Recorded, Unsure, Open, looked, renumbered}
+use Rattle.lis_journal.specs.Phases.{Unsure, Open, looked, renumbered}
 use Rattle.lis_journal.proofs.Entries.{Within, AtHome}
 use Rattle.lis_journal.proofs.Areas.{spelled_written}
 use Rattle.lis_journal.proofs.Spreading.{leaves_spread, always_spread}

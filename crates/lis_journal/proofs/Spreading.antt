@@ -1,8 +1,8 @@
 -- How calls spread, and what stays true over them.
-use Rattle.std.proofs.Common.{◌≡◌, ◌⊎◌, ℕ, ◌+◌, ◌*◌, ◌≤◌, List, [], ◌∷◌, ◌++◌, length, IsTrue, refl, sym, ◌∙◌, ap, subst, inl, inr, arith, OnOk, OnErr, Result, Ok, Err}
-use Rattle.lis_ports.specs.Meaning.{Meaning, Now}
-use Rattle.lis_ports.specs.Bytes.{part, put, Torn}
-use Rattle.lis_ports.specs.Runs.{Adds, IsDiskRun, Leaves, Always, IsSettled}
+use Rattle.std.proofs.Common.{◌≡◌, ◌⊎◌, ℕ, List, IsTrue, refl, sym, ◌∙◌, subst, inl, inr, OnOk, OnErr, Result, Ok, Err}
+use Rattle.lis_ports.specs.Meaning.{Meaning}
+use Rattle.lis_ports.specs.Bytes.{Torn}
+use Rattle.lis_ports.specs.Runs.{IsDiskRun, Leaves, Always}
 use Rattle.lis_ports.specs.Calls.{Elapses, IsUnchanged, IsTorn, IsSynced, IsUnsynced}
 use Rattle.lis_ports.proofs.Moments.{leaves_none, leaves_call, leaves_then, leaves_weaken}
 use Rattle.lis_ports.proofs.Parts.{torn_refl}

@@ -1,15 +1,14 @@
 -- Writing all staged blocks, one call of the disk after another.
-use Rattle.std.proofs.Common.{◌≡◌, ◌⊎◌, inl, inr, ℕ, zero, suc, ◌+◌, ◌*◌, ◌<◌, ◌≤◌, ◌==◌, nat_lt, Bool, true, false, ◌&&◌, List, [], ◌∷◌, ◌++◌, length, get_or, take, drop, IsTrue, refl, sym, ◌∙◌, ap, subst, arith}
+use Rattle.std.proofs.Common.{◌≡◌, ℕ, zero, suc, ◌+◌, ◌*◌, ◌<◌, ◌≤◌, ◌==◌, List, [], ◌∷◌, ◌++◌, length, get_or, take, IsTrue, refl, sym, ◌∙◌, ap, subst, arith}
 use Rattle.std.specs.List.{list_all}
 use Rattle.std.proofs.lemmas.Bool.{and_parts, eqb-true}
 use Rattle.std.proofs.lemmas.List.{take_more, take_all}
 use Rattle.lis_ports.specs.Meaning.{Meaning}
-use Rattle.lis_ports.specs.Bytes.{put, Torn}
+use Rattle.lis_ports.specs.Bytes.{put}
 use Rattle.lis_ports.specs.Runs.{IsDiskRun}
 use Rattle.lis_ports.specs.Calls.{Elapses, IsTorn, IsWritten}
-use Rattle.lis_ports.proofs.Moments.{run_none, run_then}
+use Rattle.lis_ports.proofs.Moments.{run_none}
 use Rattle.lis_journal.specs.Record.{Entry, homes, rises, apply}
-use Rattle.lis_journal.specs.Staging.{Staging, IsStaging}
 use Rattle.lis_journal.specs.Spreads.{Spreads, Touched}
 use Rattle.lis_journal.specs.Phases.{renumbered, placed}
 use Rattle.lis_journal.specs.declared.commit.Target.{Target}

@@ -1,5 +1,5 @@
 -- What an image stands for, outside the gate and the record.
-use Rattle.std.specs.Prelude.{◌≡◌, ◌⊎◌, ℕ, ◌*◌, ◌<◌, ◌≤◌, ◌==◌, Bool, false, if◌then◌else◌, List, [], ◌∷◌, length, IsTrue, IsSomeAnd}
+use Rattle.std.specs.Prelude.{◌≡◌, ◌⊎◌, ℕ, ◌*◌, ◌≤◌, ◌==◌, false, if◌then◌else◌, List, [], ◌∷◌, length, IsTrue, IsSomeAnd}
 use Rattle.lis_ports.specs.Meaning.{Meaning}
 use Rattle.lis_ports.specs.Runs.{Always}
 use Rattle.lis_journal.specs.Record.{block, is_open, Entry, replayed}

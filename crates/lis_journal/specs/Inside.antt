@@ -1,5 +1,5 @@
 -- How frames make the entries that a contract sees. No public clause cites this module.
-use Rattle.std.specs.Prelude.{◌≡◌, ◌≢◌, ℕ, zero, suc, ◌+◌, ◌≤◌, ◌<◌, List, [], ◌∷◌, length, map, unwrap_or, Option}
+use Rattle.std.specs.Prelude.{◌≡◌, ◌≢◌, ℕ, zero, suc, ◌+◌, ◌≤◌, ◌<◌, List, [], ◌∷◌, length, map, unwrap_or}
 use Rattle.lis_region.specs.Region as region
 use Rattle.lis_journal.specs.declared.stage.Staged.{Staged}
 use Rattle.lis_journal.specs.Record.{Entry}

@@ -1,6 +1,5 @@
 -- A journal as it is seen.
 use Rattle.std.specs.Prelude.{ℕ, Bool, List}
-use Rattle.std.specs.Coded.{Coded, code_by, coded×, coded_ℕ, coded_bool, coded_list}
 use Rattle.lis_journal.specs.Record.{Entry}
 
 pub record Held : Type 0 where

@@ -1,5 +1,5 @@
 -- The phases of a commit and of a recovery, each as a fact about one image.
-use Rattle.std.specs.Prelude.{◌≡◌, ℕ, ◌+◌, ◌*◌, ◌≤◌, Bool, true, List, [], ◌∷◌, length}
+use Rattle.std.specs.Prelude.{◌≡◌, ℕ, ◌+◌, ◌*◌, ◌≤◌, true, List, [], ◌∷◌, length}
 use Rattle.lis_journal.specs.Record.{block, is_open, Entry, area, is_record, recorded}
 use Rattle.lis_journal.specs.Images.{IsOutside, Keeps, look, IsAtRest}
 use Rattle.lis_journal.specs.declared.commit.Target.{Target}

@@ -1,12 +1,12 @@
 -- What opening a journal does.
-use Rattle.std.specs.Prelude.{◌≡◌, ◌⊎◌, ℕ, ◌+◌, ◌-◌, ◌^◌, ◌≤◌, min, Bool, true, false, List, Option, None, Result, Ok, Err, IsSomeAnd, IsTrue}
+use Rattle.std.specs.Prelude.{◌≡◌, ℕ, ◌≤◌, Bool, true, false, List, None, Result, Ok, Err, IsSomeAnd}
 use Rattle.lis_ports.specs.Meaning.{Meaning}
-use Rattle.lis_ports.specs.Runs.{IsDiskRun, Leaves, IsSettled}
+use Rattle.lis_ports.specs.Runs.{IsSettled}
 use Rattle.lis_ports.specs.Calls.{Rose}
 use Rattle.lis_journal.specs.declared.journal.JournalFault.{JournalFault}
 use Rattle.lis_journal.specs.declared.journal.JournalFault.TheVariants.{DiskFault, BadRecord, NoMemory}
 use Rattle.lis_journal.specs.Record.{block, replayed}
-use Rattle.lis_journal.specs.Images.{StandsFor, Fits, KeepsPast}
+use Rattle.lis_journal.specs.Images.{StandsFor, Fits}
 
 -- A disk fault comes only where the count rose, and at each other answer the count stays.
 abbrev pub HasMountCause : {T : Type 0} → ℕ → ℕ → Result T JournalFault → Type 0

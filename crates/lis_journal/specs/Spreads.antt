@@ -2,7 +2,7 @@
 use Rattle.std.specs.Prelude.{◌≡◌, ◌⊎◌, ℕ, ◌*◌, ◌+◌, ◌≤◌, List, [], ◌∷◌, length}
 use Rattle.lis_ports.specs.Meaning.{Meaning}
 use Rattle.lis_ports.specs.Bytes.{part}
-use Rattle.lis_ports.specs.Runs.{IsDiskRun, Leaves}
+use Rattle.lis_ports.specs.Runs.{Leaves}
 use Rattle.lis_journal.specs.Record.{Entry}
 
 -- Each image, at each moment and at the end, and the bytes as they read at the end, come from one of before by R.

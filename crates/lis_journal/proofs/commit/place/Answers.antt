@@ -1,4 +1,4 @@
-use Rattle.std.proofs.Common.{◌≡◌, ◌+◌, ◌*◌, ◌∙◌, ap, arith, [], get_or}
+use Rattle.std.proofs.Common.{◌≡◌, ◌+◌, ◌∙◌, ap, arith, [], get_or}
 use Rattle.lis_journal.specs.Record.{Entry}
 use Rattle.lis_journal.specs.Phases.{placed}
 use Rattle.lis_journal.specs.declared.commit.Target.{Target}

@@ -1,4 +1,4 @@
-use Rattle.std.proofs.Common.{◌≡◌, ◌<◌, length, sym, ◌∙◌, [], arith}
+use Rattle.std.proofs.Common.{◌<◌, length, sym, ◌∙◌, [], arith}
 use Rattle.lis_ports.proofs.Moments.{run_then}
 use Rattle.lis_journal.specs.Record.{Entry}
 use Rattle.lis_journal.specs.Phases.{placed}

@@ -1,4 +1,4 @@
-use Rattle.std.proofs.Common.{◌∙◌, arith, subst}
+use Rattle.std.proofs.Common.{◌∙◌, arith}
 use Rattle.lis_journal.proofs.Spreading.{spreads_torn, spreads_then, spreads_weaken, torn_trans}
 use Rattle.lis_journal.proofs.Areas.{torn_area, touched_area}
 use Rattle.lis_journal.proofs.commit.write_record.Goals as goal

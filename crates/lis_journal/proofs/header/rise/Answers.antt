@@ -1,5 +1,5 @@
-use Rattle.std.proofs.Common.{◌∙◌, inl, inr, arith}
-use Rattle.lis_journal.proofs.Headers.{rises_step, rises_stop}
+use Rattle.std.proofs.Common.{◌∙◌, arith}
+use Rattle.lis_journal.proofs.Headers.{rises_step}
 use Rattle.lis_journal.proofs.header.rise.Goals as goal
 
 pub loop-k-preserved : goal.loop-k-preserved

@@ -1,6 +1,6 @@
-use Rattle.std.proofs.Common.{List, [], ℕ, length, replicate, subst, ap, sym, ◌∙◌, take, ◌+◌, ◌<◌, arith, rules, ◌≡◌}
+use Rattle.std.proofs.Common.{[], length, replicate, subst, ap, ◌∙◌, take, ◌+◌, ◌<◌, arith, rules}
 use Rattle.lis_journal.specs.Record.{Entry, homes}
-use Rattle.lis_journal.proofs.Headers.{Begun, begin_header, one_home_more, homes-take, header_form}
+use Rattle.lis_journal.proofs.Headers.{Begun, begin_header, one_home_more, homes-take}
 use Rattle.lis_journal.proofs.header.write_header.Goals as goal
 
 pub loop-k-init : goal.loop-k-init

@@ -1,4 +1,4 @@
-use Rattle.std.proofs.Common.{◌≡◌, ℕ, List, ◌+◌, ◌*◌, ◌<◌, ◌≤◌, IsTrue, length, ◌∙◌, ap, subst, sym, inr, arith}
+use Rattle.std.proofs.Common.{◌≡◌, ◌+◌, ◌*◌, ◌<◌, IsTrue, length, ◌∙◌, ap, inr, arith}
 use Rattle.lis_ports.specs.Bytes.{part}
 use Rattle.lis_journal.specs.Record.{count_of, word, words}
 use Rattle.lis_journal.proofs.Loading.{form_of, rises_at, last_rises, room_for, load_on}

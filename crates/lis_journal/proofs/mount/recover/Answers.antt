@@ -1,7 +1,7 @@
-use Rattle.std.proofs.Common.{◌≡◌, ℕ, List, true, false, ◌*◌, ◌≤◌, IsTrue, length, ◌∙◌, ap, subst, sym, arith}
+use Rattle.std.proofs.Common.{◌≡◌, ℕ, true, false, ◌*◌, ◌≤◌, length, ◌∙◌, ap, subst, sym}
 use Rattle.lis_ports.specs.Bytes.{part}
 use Rattle.lis_journal.specs.Record.{is_open, is_header, block, area, homes_of, entries_from}
-use Rattle.lis_journal.proofs.Recovering.{Reading, Ready, after_sync, reading_on, reading_read, closed_recovered, bad_recovered, record-header, recorded-header, ready_open, finish_leaves, finish_recovered, finish_past}
+use Rattle.lis_journal.proofs.Recovering.{Ready, after_sync, reading_on, reading_read, closed_recovered, bad_recovered, record-header, recorded-header, ready_open, finish_leaves, finish_recovered, finish_past}
 use Rattle.lis_journal.proofs.mount.recover.Goals as goal
 
 pub returns-then-not-branch-clause-recovered : goal.returns-then-not-branch-clause-recovered

@@ -1,6 +1,5 @@
-use Rattle.std.proofs.Common.{◌≡◌, ℕ, List, ◌≤◌, ◌∙◌, sym, subst, inr, arith}
+use Rattle.std.proofs.Common.{ℕ, List, subst}
 use Rattle.lis_ports.specs.Runs.{Leaves}
-use Rattle.lis_journal.specs.Record.{block}
 use Rattle.lis_journal.specs.Images.{Fits, StandsForAllOrNone, KeepsPast, look}
 use Rattle.lis_journal.specs.Journal.{Held}
 use Rattle.lis_journal.proofs.Saving.{past_kept}

@@ -1,7 +1,6 @@
-use Rattle.std.proofs.Common.{◌≡◌, ℕ, List, ◌*◌, ◌∙◌, sym, subst, inr, arith, ap}
+use Rattle.std.proofs.Common.{◌≡◌, ◌*◌, ◌∙◌, sym, subst, inr, arith, ap}
 use Rattle.lis_ports.specs.Bytes.{part}
 use Rattle.lis_journal.specs.Images.{look}
-use Rattle.lis_journal.specs.Staging.{has_entry}
 use Rattle.lis_journal.specs.Journal.{Held}
 use Rattle.lis_journal.proofs.Saving.{on_ok, look-absent}
 use Rattle.lis_journal.proofs.journal.Journal.read.Goals as goal

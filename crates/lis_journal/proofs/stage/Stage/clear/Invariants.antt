@@ -1,4 +1,4 @@
-use Rattle.std.proofs.Common.{◌≡◌, ℕ, ◌+◌, ◌≤◌, length, vec_len, vec_capacity}
+use Rattle.std.proofs.Common.{◌≡◌, ◌+◌, ◌≤◌, length, vec_len, vec_capacity}
 use Rattle.lis_region.specs.Region.{free_frames}
 use Rattle.lis_journal.specs.Inside.{AreApart, entries_of}
 use Rattle.lis_journal.proofs.Frames.{AllWhole}

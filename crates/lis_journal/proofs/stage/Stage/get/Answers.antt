@@ -1,4 +1,4 @@
-use Rattle.std.proofs.Common.{◌≡◌, List, ℕ, [], IsTrue, sym, ◌∙◌, ap, subst, get_or, refl}
+use Rattle.std.proofs.Common.{List, [], IsTrue, sym, ◌∙◌, ap, subst, get_or}
 use Rattle.lis_journal.specs.declared.stage.Staged.{Staged}
 use Rattle.lis_journal.specs.Record.{Entry, rises}
 use Rattle.lis_journal.specs.Images.{look}

@@ -1,9 +1,8 @@
-use Rattle.std.proofs.Common.{◌≡◌, ◌<◌, ◌⊎◌, List, ℕ, [], IsTrue, sym, ◌∙◌, ap, subst, get_or, refl, arith, rules, length}
-use Rattle.lis_region.specs.Region as region
+use Rattle.std.proofs.Common.{◌≡◌, ◌<◌, List, IsTrue, sym, ◌∙◌, ap, subst, refl, arith, rules, length}
 use Rattle.lis_journal.specs.declared.stage.Staged.{Staged}
-use Rattle.lis_journal.specs.Record.{Entry, rises}
-use Rattle.lis_journal.specs.Staging.{Staging, has_entry, with_entry}
-use Rattle.lis_journal.specs.Inside.{home_list, FoundAt, PlaceFor, entries_of, staging_of}
+use Rattle.lis_journal.specs.Record.{rises}
+use Rattle.lis_journal.specs.Staging.{Staging, with_entry}
+use Rattle.lis_journal.specs.Inside.{home_list, FoundAt, PlaceFor, staging_of}
 use Rattle.lis_journal.proofs.Frames.{list_rises, has_frame_at_place, put_found, put_new, not_full, may_stage}
 use Rattle.lis_journal.proofs.stage.Stage.put.Goals as goal
 
