@@ -1,11 +1,12 @@
 -- What entries put into an image, block by block.
-use Rattle.std.proofs.Common.{◌≡◌, ◌⊎◌, ℕ, ◌+◌, ◌*◌, ◌<◌, ◌≤◌, Bool, true, false, cond, List, [], ◌∷◌, length, refl, sym, ◌∙◌, ap, subst, inl, inr, arith, eqb, get_or, zero, suc}
+use Rattle.std.proofs.Common.{◌≡◌, ◌⊎◌, ℕ, ◌+◌, ◌*◌, ◌<◌, ◌≤◌, Bool, true, false, cond, List, [], ◌∷◌, length, refl, sym, ◌∙◌, ap, subst, inl, inr, arith, eqb, get_or, zero, suc, nat_lt, ◌||◌, ◌==◌}
 use Rattle.std.proofs.lemmas.Bool.{eqb-true, eqb-false, cases_lt}
 use Rattle.lis_ports.specs.Bytes.{part, put, Torn}
 use Rattle.lis_ports.proofs.Parts.{Apart, length-put, part-put, part-put_other, part-torn}
 use Rattle.lis_journal.specs.Record.{block, Entry, apply}
 use Rattle.lis_journal.specs.Images.{look}
 use Rattle.lis_journal.specs.Spreads.{IsClear, Touched}
+use Rattle.lis_journal.specs.Staging.{with_entry, has_entry}
 
 -- each entry is a block within so many blocks
 abbrev pub Within : ℕ → List Entry → Type 0
@@ -100,3 +101,34 @@ touched_torn es k d lt from image torn = record {
   len = torn.len;
   clear = λ at n clear. part-torn (4096 * (get_or es k d).home) 4096 from image torn at n (clear_at es k d at n lt clear);
 }
+
+-- What the entries are after one is staged.
+
+pub has-with_entry : (es : List Entry) (n m : ℕ) (bytes : List ℕ) → has_entry (with_entry es n bytes) m ≡ ((n == m) || has_entry es m)
+has-with_entry [] n m bytes = refl
+has-with_entry (e ∷ es) n m bytes = by (nat_lt e.home n) (e.home == n) refl (has-with_entry es n m bytes)
+  where
+    swap : (a b c : Bool) → (a || (b || c)) ≡ (b || (a || c))
+    swap true true c = refl
+    swap true false c = refl
+    swap false b c = refl
+
+    twice : (a b : Bool) → (a || b) ≡ (a || (a || b))
+    twice true b = refl
+    twice false b = refl
+
+    by : (lower same : Bool) → (e.home == n) ≡ same → has_entry (with_entry es n bytes) m ≡ ((n == m) || has_entry es m) → has_entry (cond lower (e ∷ with_entry es n bytes) (cond same (record { home = n; bytes = bytes } ∷ es) (record { home = n; bytes = bytes } ∷ e ∷ es))) m ≡ ((n == m) || ((e.home == m) || has_entry es m))
+    by true same is more = ap (λ b. (e.home == m) || b) more ∙ swap (e.home == m) (n == m) (has_entry es m)
+    by false true is more =
+        let home : e.home ≡ n = eqb-true e.home n is in
+        twice (n == m) (has_entry es m) ∙ ap (λ h. (n == m) || ((h == m) || has_entry es m)) (sym home)
+    by false false is more = refl
+
+pub length-with_entry : (es : List Entry) (n : ℕ) (bytes : List ℕ) → length (with_entry es n bytes) ≤ length es + 1
+length-with_entry [] n bytes = omega arith
+length-with_entry (e ∷ es) n bytes = by (nat_lt e.home n) (e.home == n) (length-with_entry es n bytes)
+  where
+    by : (lower same : Bool) → length (with_entry es n bytes) ≤ length es + 1 → length (cond lower (e ∷ with_entry es n bytes) (cond same (record { home = n; bytes = bytes } ∷ es) (record { home = n; bytes = bytes } ∷ e ∷ es))) ≤ suc (length es) + 1
+    by true same more = omega (arith, more)
+    by false true more = omega arith
+    by false false more = omega arith

@@ -1,7 +1,7 @@
 -- Entries in frames, as a frame is written, taken or given back.
-use Rattle.std.proofs.Common.{◌≡◌, ◌≢◌, ◌⊎◌, inl, inr, ℕ, zero, suc, ◌+◌, ◌<◌, ◌≤◌, nat_lt, true, ◌&&◌, ◌==◌, cond, List, [], ◌∷◌, ◌++◌, length, get_or, take, drop, Option, Some, None, unwrap_or, IsTrue, IsSome, refl, sym, ◌∙◌, ap, subst, arith, ◌||◌}
+use Rattle.std.proofs.Common.{◌≡◌, ◌≢◌, ◌⊎◌, inl, inr, ℕ, zero, suc, ◌+◌, ◌<◌, ◌≤◌, nat_lt, true, ◌&&◌, ◌==◌, cond, List, [], ◌∷◌, ◌++◌, length, get_or, take, drop, Option, Some, None, unwrap_or, IsTrue, IsSome, refl, sym, ◌∙◌, ap, subst, arith, ◌||◌, Bool, false}
 use Rattle.std.specs.List.{list_all}
-use Rattle.std.proofs.lemmas.Bool.{and_parts, lt-ltb, eq-eqb, false≢true, cond-true, cond-false, le-ltb, ne_eqb}
+use Rattle.std.proofs.lemmas.Bool.{and_parts, lt-ltb, eq-eqb, false≢true, cond-true, cond-false, le-ltb, ne_eqb, ltb-false, eqb-false, eqb-true}
 use Rattle.std.specs.List.{list_any, count_by}
 use Rattle.std.specs.Option.{is_some}
 use Rattle.std.proofs.Math.ListN.{set}
@@ -15,7 +15,7 @@ use Rattle.lis_journal.specs.Record.{Entry, homes, rises}
 use Rattle.lis_journal.specs.Staging.{Staging, with_entry, has_entry}
 use Rattle.lis_journal.specs.Images.{look}
 use Rattle.lis_journal.specs.Inside.{bytes_at, entry_of, entries_of, home_list, IsFresh, AreApart, FoundAt, PlaceFor, IsStage}
-use Rattle.lis_journal.proofs.Places.{rise_parts, rises-with_entry, whole-with_entry, absent}
+use Rattle.lis_journal.proofs.Places.{rise_parts, rise_from, rises-with_entry, whole-with_entry, absent}
 
 abbrev pub AllWhole : List Entry → Type 0
 AllWhole es = IsTrue (list_all (λ e. length e.bytes == 4096) es)
@@ -241,3 +241,37 @@ has_frame_at_place r xs k s whole lt is = subst (λ (s : Staged). region.HasFram
 
 pub may_stage : {s t : Staging} (n : ℕ) → s ≡ t → IsTrue (has_entry t.entries n) ⊎ (length t.entries < 575) → IsTrue (has_entry s.entries n) ⊎ (length s.entries < 575)
 may_stage n same may = subst (λ (s : Staging). IsTrue (has_entry s.entries n) ⊎ (length s.entries < 575)) (sym same) may
+
+-- What a block is to hold after one is staged.
+pub look-with_entry : (blocks last n : ℕ) (bytes : List ℕ) (es : List Entry) (m : ℕ) (old : List ℕ) → IsTrue (rises blocks last (homes es)) → look (with_entry es n bytes) m old ≡ cond (m == n) bytes (look es m old)
+look-with_entry blocks last n bytes [] m old rise = refl
+look-with_entry blocks last n bytes (e ∷ es) m old rise =
+    let parts = rise_parts blocks last e.home (homes es) rise in
+    by (nat_lt e.home n) (e.home == n) (m == n) refl refl refl parts.2 (rise_from blocks 0 e.home (homes es) (omega (arith, parts.0)) parts.1 parts.2) (look-with_entry blocks e.home n bytes es m (cond (m == e.home) e.bytes old) parts.2)
+  where
+    rest : List ℕ → List ℕ
+    rest xs = look es m (cond (m == e.home) e.bytes xs)
+
+    by : (lower same here : Bool) → nat_lt e.home n ≡ lower → (e.home == n) ≡ same → (m == n) ≡ here → IsTrue (rises blocks e.home (homes es)) → IsTrue (rises blocks 0 (homes (e ∷ es))) → look (with_entry es n bytes) m (cond (m == e.home) e.bytes old) ≡ cond (m == n) bytes (rest old)
+        → look (cond lower (e ∷ with_entry es n bytes) (cond same (record { home = n; bytes = bytes } ∷ es) (record { home = n; bytes = bytes } ∷ e ∷ es))) m old ≡ cond here bytes (rest old)
+    by true same here is_lower is_same is_here rise whole more = more ∙ ap (λ b. cond b bytes (rest old)) is_here
+    by false true true is_lower is_same is_here rise whole more =
+        let le : m ≤ e.home = omega (arith, eqb-true m n is_here, eqb-true e.home n is_same) in
+        ap (λ b. look es m (cond b bytes old)) is_here ∙ look-above es blocks e.home m bytes rise le
+    by false true false is_lower is_same is_here rise whole more =
+        let other : (m == e.home) ≡ false = ap (λ h. m == h) (eqb-true e.home n is_same) ∙ is_here in
+        ap (λ b. look es m (cond b bytes old)) is_here ∙ ap (λ b. look es m (cond b e.bytes old)) (sym other)
+    by false false true is_lower is_same is_here rise whole more =
+        let at : m ≡ n = eqb-true m n is_here in
+        let le : n ≤ e.home = ltb-false e.home n is_lower in
+        let ne : e.home ≡ n → ⊥ = eqb-false e.home n is_same in
+        let off : m ≡ e.home → ⊥ = λ same. ne (sym same ∙ at) in
+        ap (λ b. rest (cond b bytes old)) is_here
+        ∙ (ap (λ b. look es m (cond b e.bytes bytes)) (ne_eqb m e.home off)
+        ∙ look-above es blocks e.home m bytes rise (omega (arith, at, le)))
+    by false false false is_lower is_same is_here rise whole more = ap (λ b. rest (cond b bytes old)) is_here
+
+pub looked_put : (blocks n : ℕ) (bytes : List ℕ) (es es' : List Entry) (s : Staging) → record { blocks = blocks; entries = es } ≡ s → IsTrue (rises blocks 577 (homes es)) → es' ≡ with_entry es n bytes → (m : ℕ) (old : List ℕ) → look es' m old ≡ cond (m == n) bytes (look s.entries m old)
+looked_put blocks n bytes es es' s same rise is m old =
+    ap (λ es. look es m old) is
+    ∙ (look-with_entry blocks 577 n bytes es m old rise ∙ ap (λ (s : Staging). cond (m == n) bytes (look s.entries m old)) same)

@@ -29,7 +29,7 @@ rise_parts blocks last h hs rise =
     let inner = and_parts (nat_lt last h) (nat_lt h blocks) outer.0 in
     (ltb-true last h inner.0, ltb-true h blocks inner.1, outer.1)
 
-rise_from : (blocks last h : ℕ) (hs : List ℕ) → last < h → h < blocks → IsTrue (rises blocks h hs) → IsTrue (rises blocks last (h ∷ hs))
+pub rise_from : (blocks last h : ℕ) (hs : List ℕ) → last < h → h < blocks → IsTrue (rises blocks h hs) → IsTrue (rises blocks last (h ∷ hs))
 rise_from blocks last h hs above within rest =
     and_from (nat_lt last h && nat_lt h blocks) (rises blocks h hs) (and_from (nat_lt last h) (nat_lt h blocks) (lt-ltb last h above) (lt-ltb h blocks within)) rest
 

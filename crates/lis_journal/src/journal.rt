@@ -1,6 +1,6 @@
 //! The journal: blocks are staged, and become kept all at once.
 
-ghost use Rattle.std.specs.Prelude.{[], ◌≡◌, ◌⊎◌, ◌+◌, ◌*◌, ◌<◌, ◌≤◌, ◌∷◌, ℕ, List, Option, None, length, true, false, IsTrue, IfOk, OnOk, OnErr, Err};
+ghost use Rattle.std.specs.Prelude.{[], ◌≡◌, ◌⊎◌, ◌+◌, ◌*◌, ◌<◌, ◌≤◌, ◌∷◌, ℕ, List, Option, None, length, true, false, IsTrue, IfOk, OnOk, OnErr, Err, if◌then◌else◌, ◌==◌, nat_eq};
 ghost use Rattle.lis_ports.specs.Runs.{IsDiskRun, Leaves};
 ghost use Rattle.lis_ports.specs.Calls.{HasCause, IsUnchanged};
 ghost use Rattle.lis_journal.specs.Record.{block, replayed};
@@ -160,7 +160,9 @@ impl Journal {
         requires whole { length bytes.now ≡ 4096 }
         requires unbroken { self.old.is_broken ≡ false }
         requires room { IsTrue (has_entry self.old.staged n) ⊎ (length self.old.staged < 575) }
-        ensures { self.new ≡ record self.old { staged = with_entry self.old.staged n bytes.now } }
+        ensures staged { self.new ≡ record self.old { staged = with_entry self.old.staged n bytes.now } }
+        ensures looks { (m : ℕ) (old : List ℕ) → look self.new.staged m old
+            ≡ (if m == n then bytes.now else look self.old.staged m old) }
     {
         self.stage.put(n, bytes);
     }

@@ -1,6 +1,6 @@
 //! Staged blocks, each in a frame, in the order of their homes.
 
-ghost use Rattle.std.specs.Prelude.{false, [], ◌∷◌, ◌≡◌, ◌⊎◌, ◌+◌, ◌*◌, ◌^◌, ◌<◌, ◌≤◌, ◌==◌, ◌↔◌, ℕ, List, Option, Some, length, take, IsTrue, IfOk, IfSome, IfNone, MatchResult, MatchOption, true, slice_index, slice_index_or, vec_len, vec_capacity};
+ghost use Rattle.std.specs.Prelude.{if◌then◌else◌, false, [], ◌∷◌, ◌≡◌, ◌⊎◌, ◌+◌, ◌*◌, ◌^◌, ◌<◌, ◌≤◌, ◌==◌, ◌↔◌, ℕ, List, Option, Some, length, take, IsTrue, IfOk, IfSome, IfNone, MatchResult, MatchOption, true, slice_index, slice_index_or, vec_len, vec_capacity, nat_eq};
 ghost use Rattle.lis_region.specs.Region as region;
 ghost use Rattle.lis_journal.specs.Record.{rises};
 ghost use Rattle.lis_journal.specs.Inside.{home_list, FoundAt, PlaceFor};
@@ -144,7 +144,9 @@ impl Stage {
         requires within { n < self.old.blocks }
         requires whole { length bytes.now ≡ 4096 }
         requires room { IsTrue (has_entry self.old.entries n) ⊎ (length self.old.entries < 575) }
-        ensures { self.new ≡ record self.old { entries = with_entry self.old.entries n bytes.now } }
+        ensures put { self.new ≡ record self.old { entries = with_entry self.old.entries n bytes.now } }
+        ensures looks { (m : ℕ) (old : List ℕ) → look self.new.entries m old
+            ≡ (if m == n then bytes.now else look self.old.entries m old) }
     {
         match find(&self.staged, n) {
             Ok(place) => fill(&mut self.region, &self.staged[place].frame, bytes),

@@ -38,4 +38,4 @@ loop-k-preserved g c =
     let len : length c.loop-k.block ≡ 4096 = omega (arith, c.loop-k.auto.block, c.requires.whole) in
     let read : IsTrue now.is_honest → c.read_at.new.buf ≡ part (4096 * (3 + k)) 4096 now.bytes =
     λ honest. c.in_ok-read_at.ensures.read honest ∙ (ap (λ m. part ((3 + c.from.result) * 4096) m now.bytes) len ∙ ap (λ p. part p 4096 now.bytes) at) in
-    load_on blocks k c.word.result c.loop-k.stage c.put.new.self h c.read_at.new.buf c.loop-k.invariant form lt c.word.ensures c.read_at.ensures.call.run c.read_at.ensures.call.time c.in_ok-read_at.ensures.call.cause.stays c.read_at.ensures.same read c.put.ensures
+    load_on blocks k c.word.result c.loop-k.stage c.put.new.self h c.read_at.new.buf c.loop-k.invariant form lt c.word.ensures c.read_at.ensures.call.run c.read_at.ensures.call.time c.in_ok-read_at.ensures.call.cause.stays c.read_at.ensures.same read c.put.ensures.put
