@@ -10,4 +10,6 @@ pub mod Counts
 pub mod Known
 pub mod Forms
 pub mod Fresh
+pub mod Items
+pub mod Steps
 pub mod Examples
