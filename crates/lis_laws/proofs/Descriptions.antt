@@ -18,7 +18,7 @@ same_parts f g same [] = refl
 same_parts f g same (w ∷ words) = ap (λ x. x ++ flat_map f words) (same w) ∙ ap (λ xs. g w ++ xs) (same_parts f g same words)
 
 -- ---- by an axiom in front of the others
-new_word : (pair : List ℕ × List ℕ) (axioms : Pairs) (file : File) (q : List ℕ) → Among (file_words (pair ∷ axioms) file) q
+pub new_word : (pair : List ℕ × List ℕ) (axioms : Pairs) (file : File) (q : List ℕ) → Among (file_words (pair ∷ axioms) file) q
     → Among (file_words axioms file) q ⊎ (Among (file_words axioms file) pair.0 × Among (up axioms pair.1) q)
 new_word pair axioms file q h = by (words_of_file (pair ∷ axioms) file q h)
   where

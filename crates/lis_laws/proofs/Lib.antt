@@ -12,4 +12,5 @@ pub mod Forms
 pub mod Fresh
 pub mod Items
 pub mod Steps
+pub mod Growth
 pub mod Examples

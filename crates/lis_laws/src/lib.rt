@@ -2,6 +2,7 @@
 #![tactic(auto)]
 
 ghost use Rattle.lis_laws.specs.Changes.{ChangesKeepForm};
+ghost use Rattle.lis_laws.specs.Growth.{KnownGrows};
 ghost use Rattle.lis_laws.specs.Laws.{TestsAreChains, NoTies, LocalsAreUncovered, LocalsByFile, RoutesLead, AxiomsAdd, DescriptionsAdd};
 ghost use Rattle.lis_laws.specs.Steps.{ItemsAreFormed, StepsKeepForm, SessionsAreFormed};
 
@@ -58,4 +59,9 @@ pub fn steps_keep_form()
 /// Every state that a session from the empty state comes to is well formed.
 pub fn sessions_are_formed()
     ensures { SessionsAreFormed }
+{}
+
+/// Which words become known when a word, a file or an axiom comes into a state.
+pub fn known_grows()
+    ensures { KnownGrows }
 {}
