@@ -6,6 +6,7 @@ use Rattle.lis_graph.specs.Graph.{is_rising}
 use Rattle.lis_words.specs.Words.{word_cmp, has_word, head_bytes, is_plain_word, is_head, is_valued, is_word, is_built_in}
 use Rattle.lis_grammar.specs.Formula.{Formula}
 use Rattle.lis_grammar.specs.Places.{Resolution, resolved, text_words}
+use Rattle.lis_grammar.proofs.Placed.{resolved_is_place, root_is_place}
 use Rattle.lis_grammar.specs.Places.Resolution.{NewPlace, BeyondLimits, Unreadable}
 use Rattle.lis_model.specs.declared.limits.Limits.{Limits}
 use Rattle.lis_model.specs.declared.refusal.Refusal.{Refusal}
@@ -15,10 +16,10 @@ use Rattle.lis_model.specs.Sets.{with_words, set_of}
 use Rattle.lis_model.specs.Derived.{derived_words}
 use Rattle.lis_model.specs.State.{State, File, WellFormed, empty_state, heads, up, own_words, file_words, known, is_declarable, blocks_needed}
 use Rattle.lis_model.specs.Places.{all_conjuncts, place_tags, is_tag}
-use Rattle.lis_model.specs.Step.{Situation, situation_after, Outcome, Item, refused, judged, exceeds_known, with_declared, mkdir, mkdir_checks, new_file, with_file, assigned_at, create, create_checks, moved, cd_to, step}
+use Rattle.lis_model.specs.Step.{Situation, situation_after, start_of, Outcome, Item, refused, judged, exceeds_known, with_declared, mkdir, mkdir_checks, new_file, with_file, assigned_at, create, create_checks, moved, cd_to, step}
 use Rattle.lis_model.specs.Step.Item.{Do, Bad}
 use Rattle.lis_laws.specs.Changes.{FileFits, blocks_used}
-use Rattle.lis_laws.specs.Steps.{is_formed, IsEarly}
+use Rattle.lis_laws.specs.Steps.{is_formed, IsInForm}
 use Rattle.lis_laws.proofs.Members.{word_order, sorted_set_of}
 use Rattle.lis_laws.proofs.Chains.{Pairs, acyclic_decides}
 use Rattle.lis_laws.proofs.Counts.{rising_from_sorted, rising_filter, rising_insert_key, insert_key_le}
@@ -30,12 +31,12 @@ abbrev NoneStands : List (Bool × Refusal) → Type 0
 NoneStands [] = Unit {0}
 NoneStands (check ∷ checks) = (check.0 ≡ false) × NoneStands checks
 
-judged_keeps : (P : State → Type 0) (now : Situation) (checks : List (Bool × Refusal)) (done : Outcome) → P now.state → (NoneStands checks → P done.next.state) → P (judged now checks done).next.state
+judged_keeps : (P : Situation → Type 0) (now : Situation) (checks : List (Bool × Refusal)) (done : Outcome) → P now → (NoneStands checks → P done.next) → P (judged now checks done).next
 judged_keeps P now [] done h k = k tt
 judged_keeps P now (check ∷ checks) done h k = by check.0 refl (judged_keeps P now checks done h)
   where
-    by : (b : Bool) → check.0 ≡ b → ((NoneStands checks → P done.next.state) → P (judged now checks done).next.state)
-        → P (cond b (refused now check.1) (judged now checks done)).next.state
+    by : (b : Bool) → check.0 ≡ b → ((NoneStands checks → P done.next) → P (judged now checks done).next)
+        → P (cond b (refused now check.1) (judged now checks done)).next
     by true e rest = h
     by false e rest = rest (λ none. k (e, none))
 
@@ -54,13 +55,14 @@ declarable word form not_valued own = by (or_cases _ _ form)
 room_for : (s : State) → exceeds_known s ≡ false → length (known s) ≤ s.limits.props
 room_for s h = ltb-false _ _ h
 
-mkdir_keeps : (now : Situation) (word : List ℕ) → IsEarly now.state → is_word word ≡ true → IsEarly (mkdir now word).next.state
-mkdir_keeps now word early form = judged_keeps IsEarly now (mkdir_checks now word) _ early made
+mkdir_keeps : (now : Situation) (word : List ℕ) → IsInForm now → is_word word ≡ true → IsInForm (mkdir now word).next
+mkdir_keeps now word before form = judged_keeps IsInForm now (mkdir_checks now word) _ before made
   where
-    made : NoneStands (mkdir_checks now word) → IsEarly (with_declared now.state word)
+    made : NoneStands (mkdir_checks now word) → IsInForm (record { state = with_declared now.state word; place = now.place })
     made none = record {
-      formed = declares now.state early.formed word (declarable word form none.1.0 none.0) (room_for (with_declared now.state word) none.1.1.1.1.0);
-      no_axioms = early.no_axioms;
+      state = declares now.state before.state word (declarable word form none.1.0 none.0) (room_for (with_declared now.state word) none.1.1.1.1.0);
+      no_axioms = before.no_axioms;
+      place = before.place;
     }
 
 -- ---- create
@@ -110,11 +112,11 @@ description_le file few =
       derived_few file.name file.bytes,
     )
 
-create_keeps : (now : Situation) (name : List ℕ) (words : List (List ℕ)) → IsEarly now.state → IsEarly (create now name words).next.state
-create_keeps now name words early = judged_keeps IsEarly now (create_checks now name words (assigned_at now.place words)) _ early made
+create_keeps : (now : Situation) (name : List ℕ) (words : List (List ℕ)) → IsInForm now → IsInForm (create now name words).next
+create_keeps now name words before = judged_keeps IsInForm now (create_checks now name words (assigned_at now.place words)) _ before made
   where
-    made : NoneStands (create_checks now name words (assigned_at now.place words)) → IsEarly (with_file now.state (new_file name (assigned_at now.place words)))
-    made none = record { formed = adds_file now.state early.formed (new_file name (assigned_at now.place words)) (fits none); no_axioms = early.no_axioms }
+    made : NoneStands (create_checks now name words (assigned_at now.place words)) → IsInForm (record { state = with_file now.state (new_file name (assigned_at now.place words)); place = now.place })
+    made none = record { state = adds_file now.state before.state (new_file name (assigned_at now.place words)) (fits none); no_axioms = before.no_axioms; place = before.place }
       where
         few : nat_lt 16 (length (assigned_at now.place words)) ≡ false → length (assigned_at now.place words) ≤ 16
         few h = ltb-false _ _ h
@@ -124,40 +126,41 @@ create_keeps now name words early = judged_keeps IsEarly now (create_checks now 
           assigned_set = words_rising (unwrap_or (place_tags now.place) []) words (tags_rising now.place);
           assigned = not-false _ clear.1.1.1.1.0;
           few_assigned = few clear.1.1.1.1.1.0;
-          few_words = subst (λ (axioms : Pairs). length (file_words axioms (new_file name (assigned_at now.place words))) ≤ 128) (sym early.no_axioms) (description_le (new_file name (assigned_at now.place words)) (few clear.1.1.1.1.1.0));
+          few_words = subst (λ (axioms : Pairs). length (file_words axioms (new_file name (assigned_at now.place words))) ≤ 128) (sym before.no_axioms) (description_le (new_file name (assigned_at now.place words)) (few clear.1.1.1.1.1.0));
           short = omega arith;
           few_files = leb-false _ _ clear.1.1.1.1.1.1.0;
           few_known = room_for (with_file now.state (new_file name (assigned_at now.place words))) clear.1.1.1.1.1.1.1.0;
-          few_blocks = no_blocks early.formed.few_blocks;
+          few_blocks = no_blocks before.state.few_blocks;
         }
           where
             no_blocks : blocks_used now.state ≤ now.state.limits.blocks → blocks_used now.state + blocks_needed 0 ≤ now.state.limits.blocks
             no_blocks h = let none_needed : blocks_needed 0 ≡ 0 = refl in omega (arith, h, none_needed)
 
 -- ---- cd
-cd_keeps : (now : Situation) (text : List ℕ) (r : Resolution) → IsEarly now.state → IsEarly (cd_to now text r).next.state
-cd_keeps now text (Unreadable k) early = early
-cd_keeps now text BeyondLimits early = early
-cd_keeps now text (NewPlace place) early = by (list_all (has_word (known now.state)) (text_words text))
+cd_keeps : (now : Situation) (text : List ℕ) (r : Resolution) → resolved now.place text ≡ r → IsInForm now → IsInForm (cd_to now text r).next
+cd_keeps now text (Unreadable k) e before = before
+cd_keeps now text BeyondLimits e before = before
+cd_keeps now text (NewPlace place) e before = by (list_all (has_word (known now.state)) (text_words text))
   where
-    by : (b : Bool) → IsEarly (cond b (moved now place) (refused now UnknownProperty)).next.state
-    by true = early
-    by false = early
+    by : (b : Bool) → IsInForm (cond b (moved now place) (refused now UnknownProperty)).next
+    by true = record { state = before.state; no_axioms = before.no_axioms; place = resolved_is_place now.place text place before.place e }
+    by false = before
 
-pub step_keeps : (now : Situation) (item : Item) → IsEarly now.state → is_formed item ≡ true → IsEarly (step now item).next.state
+-- ---- all commands
+pub step_keeps : (now : Situation) (item : Item) → IsInForm now → is_formed item ≡ true → IsInForm (step now item).next
 unfolding step
-step_keeps now (Do (Mkdir word) payload) early form = mkdir_keeps now word early form
-step_keeps now (Do (Create name words) payload) early form = create_keeps now name words early
-step_keeps now (Do (Cd text) payload) early form = cd_keeps now text (resolved now.place text) early
-step_keeps now (Do Pwd payload) early form = early
-step_keeps now (Do Ls payload) early form = early
-step_keeps now (Bad refusal) early form = early
+step_keeps now (Do (Mkdir word) payload) before form = mkdir_keeps now word before form
+step_keeps now (Do (Create name words) payload) before form = create_keeps now name words before
+step_keeps now (Do (Cd text) payload) before form = cd_keeps now text (resolved now.place text) refl before
+step_keeps now (Do Pwd payload) before form = before
+step_keeps now (Do Ls payload) before form = before
+step_keeps now (Bad refusal) before form = before
 
-pub items_keep : (now : Situation) (items : List Item) → IsEarly now.state → list_all is_formed items ≡ true → IsEarly (situation_after now items).state
-items_keep now [] early form = early
-items_keep now (item ∷ items) early form =
+pub items_keep : (now : Situation) (items : List Item) → IsInForm now → list_all is_formed items ≡ true → IsInForm (situation_after now items)
+items_keep now [] before form = before
+items_keep now (item ∷ items) before form =
     let parts = and_parts (is_formed item) (list_all is_formed items) form in
-    items_keep (step now item).next items (step_keeps now item early parts.0) parts.1
+    items_keep (step now item).next items (step_keeps now item before parts.0) parts.1
 
 pub empty_formed : (limits : Limits) → WellFormed (empty_state limits)
 empty_formed limits = record {
@@ -173,5 +176,5 @@ empty_formed limits = record {
   few_blocks = omega arith;
 }
 
-pub empty_early : (limits : Limits) → IsEarly (empty_state limits)
-empty_early limits = record { formed = empty_formed limits; no_axioms = refl }
+pub start_formed : (limits : Limits) → IsInForm (start_of limits)
+start_formed limits = record { state = empty_formed limits; no_axioms = refl; place = root_is_place }

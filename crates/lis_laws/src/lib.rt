@@ -51,12 +51,12 @@ pub fn items_are_formed()
     ensures { ItemsAreFormed }
 {}
 
-/// A step leads from a well-formed state to a well-formed state.
+/// A step keeps states well formed and places within their limits.
 pub fn steps_keep_form()
     ensures { StepsKeepForm }
 {}
 
-/// Every state that a session from the empty state comes to is well formed.
+/// All that a session from the empty state comes to is in form.
 pub fn sessions_are_formed()
     ensures { SessionsAreFormed }
 {}
