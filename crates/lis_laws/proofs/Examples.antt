@@ -2,7 +2,7 @@
 use Rattle.std.proofs.Common.{◌≡◌, ℕ, false, List, [], ◌∷◌, codes, refl, arith}
 use Rattle.lis_grammar.specs.Formula.Formula.{Has}
 use Rattle.lis_model.specs.declared.limits.Limits.{Limits}
-use Rattle.lis_model.specs.State.{State, File, WellFormed, empty_state, is_acyclic, description, edges}
+use Rattle.lis_model.specs.State.{State, File, WellFormed, is_acyclic, description, edges}
 use Rattle.lis_model.specs.Table.{table, entry_of}
 use Rattle.lis_model.specs.Listing.{increments, locals}
 use Rattle.lis_model.specs.Route.{route}
@@ -15,20 +15,6 @@ abbrev file : List ℕ → List (List ℕ) → File
 file name assigned = record { name = name; bytes = []; assigned = assigned }
 
 -- ---- a state that is well formed
-pub empty_formed : (limits : Limits) → WellFormed (empty_state limits)
-empty_formed limits = record {
-  declared_set = refl;
-  axiom_set = refl;
-  file_set = refl;
-  declared = refl;
-  axioms = record { rights = refl; lefts = refl; acyclic = (acyclic_decides []).0 refl };
-  files = record { assigned_sets = refl; assigned = refl; few_assigned = refl; few_words = refl; short = refl };
-  few_files = omega arith;
-  few_known = omega arith;
-  few_axioms = omega arith;
-  few_blocks = omega arith;
-}
-
 -- rock and jazz are music, and large files are marked so
 abbrev tree : State
 tree = record {

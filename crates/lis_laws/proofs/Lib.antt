@@ -10,5 +10,7 @@ pub mod Counts
 pub mod Known
 pub mod Forms
 pub mod Fresh
+pub mod Items
+pub mod Steps
 pub mod Growth
 pub mod Examples

@@ -4,6 +4,7 @@
 ghost use Rattle.lis_laws.specs.Changes.{ChangesKeepForm};
 ghost use Rattle.lis_laws.specs.Growth.{KnownGrows};
 ghost use Rattle.lis_laws.specs.Laws.{TestsAreChains, NoTies, LocalsAreUncovered, LocalsByFile, RoutesLead, AxiomsAdd, DescriptionsAdd};
+ghost use Rattle.lis_laws.specs.Steps.{ItemsAreFormed, StepsKeepForm, SessionsAreFormed};
 
 /// What a word entails, and whether axioms lead in a circle, is what chains of links say.
 pub fn tests_are_chains()
@@ -43,6 +44,21 @@ pub fn descriptions_add()
 /// What a change of a state needs so that the state stays well formed.
 pub fn changes_keep_form()
     ensures { ChangesKeepForm }
+{}
+
+/// The words of every item of an input have the forms of words and of names.
+pub fn items_are_formed()
+    ensures { ItemsAreFormed }
+{}
+
+/// A step keeps states well formed and places within their limits.
+pub fn steps_keep_form()
+    ensures { StepsKeepForm }
+{}
+
+/// All that a session from the empty state comes to is in form.
+pub fn sessions_are_formed()
+    ensures { SessionsAreFormed }
 {}
 
 /// Which words become known when a word, a file or an axiom comes into a state.
