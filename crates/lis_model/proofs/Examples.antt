@@ -1,5 +1,5 @@
 -- Sessions worked by the definitions alone.
-use Rattle.std.proofs.Common.{◌≡◌, ℕ, ◌^◌, List, [], ◌∷◌, ◌++◌, codes, refl}
+use Rattle.std.proofs.Common.{◌≡◌, ℕ, List, [], ◌++◌, codes, refl}
 use Rattle.lis_model.specs.declared.limits.Limits.{Limits}
 use Rattle.lis_grammar.specs.Machine.{text_steps, broken_at}
 use Rattle.lis_grammar.specs.Printing.{printed}

@@ -1,5 +1,5 @@
 -- How the input is cut into items.
-use Rattle.std.specs.Prelude.{ℕ, ◌==◌, nat_lt, nat_le, zero, suc, Bool, true, false, not, ◌||◌, if◌then◌else◌, Option, Some, None, Result, Ok, Err, List, [], ◌∷◌, ◌++◌, length, take, filter, codes}
+use Rattle.std.specs.Prelude.{ℕ, ◌==◌, nat_lt, nat_le, zero, suc, Bool, ◌||◌, if◌then◌else◌, Option, Some, None, Result, Ok, Err, List, [], ◌∷◌, ◌++◌, length, take, filter, codes}
 use Rattle.std.specs.Option.{option_to_list}
 use Rattle.std.specs.List.{list_any, list_all}
 use Rattle.lis_words.specs.Words.{same_word, is_word, is_file_name}

@@ -1,5 +1,5 @@
 -- What a command does: the new state and place, and the reply.
-use Rattle.std.specs.Prelude.{ℕ, nat_lt, nat_le, Bool, not, if◌then◌else◌, Option, is_some, unwrap_or, List, [], ◌∷◌, ◌++◌, length}
+use Rattle.std.specs.Prelude.{ℕ, nat_lt, nat_le, Bool, not, if◌then◌else◌, is_some, unwrap_or, List, [], ◌∷◌, ◌++◌, length}
 use Rattle.std.specs.List.{list_any, list_all}
 use Rattle.std.specs.BTreeSet.{insert_key}
 use Rattle.lis_words.specs.Words.{same_word, has_word, is_head, is_valued, is_built_in}

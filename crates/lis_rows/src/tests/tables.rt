@@ -11,7 +11,7 @@ pub static FIRST_SESSIONS: [(&str, &str); 3] = [
     ("create a;create b;ls;", "ok;ok;f a;f b;ok;"),
 ];
 
-pub static SESSIONS: [(&str, &str); 17] = [
+pub static SESSIONS: [(&str, &str); 23] = [
     // Blanks, tabs, carriage returns, empty lines, and a last line without a line feed.
     ("mkdir a^;mkdir a;", "ok;no 11 already declared;"),
     ("mkdir a^^;mkdir a;", "no 01 bad line;ok;"),
@@ -59,6 +59,33 @@ pub static SESSIONS: [(&str, &str); 17] = [
     (
         "mkdir b;mkdir B;mkdir a-;mkdir a;create y b;create x a;create z B;create w a-;create -;ls;",
         "ok;ok;ok;ok;ok;ok;ok;ok;ok;d B;d a;d a-;d b;f -;ok;",
+    ),
+    // Places: words that are known, steps up and from the root, and texts that are no formulas.
+    (
+        "pwd;cd a;mkdir a;cd a;pwd;cd ..;pwd;cd ..;cd a;cd /;pwd;",
+        "w /;ok;no 06 unknown property;ok;ok;w a;ok;ok;w /;ok;ok;ok;ok;w /;ok;",
+    ),
+    (
+        "mkdir a;cd a/;cd (a;cd a|;cd a b;pwd a;cd size<1|a;cd size>=0000000000001;pwd;",
+        "ok;no 05 formula;no 05 formula;no 05 formula;no 01 bad line;no 01 bad line;ok;no 05 formula;w (size<1|a);ok;",
+    ),
+    // Listings at places.
+    (
+        "mkdir a;mkdir b;create x a;create y b;create z a b;cd a|b;ls;pwd;cd !a;ls;pwd;",
+        "ok;ok;ok;ok;ok;ok;d a;d b;ok;w (a|b);ok;ok;f y;ok;w (a|b)/!a;ok;",
+    ),
+    // A file is given the words of a place of words, and at another place there are no new files.
+    (
+        "mkdir a;mkdir b;cd a;create x;create y b;ls;cd /;ls;cd a/b;ls;",
+        "ok;ok;ok;ok;ok;d b;f x;ok;ok;d b;f x;ok;ok;f y;ok;",
+    ),
+    (
+        "mkdir a;cd a;mkdir b;cd !a;create x;cd /size<1;create x;cd /a/a;create x;pwd;ls;",
+        "ok;ok;no 08 not a place;ok;no 08 not a place;ok;no 08 not a place;ok;ok;w a/a;ok;f x;ok;",
+    ),
+    (
+        "create x ext:;create x size:0;create x nosuch:v;cd /size>=1;ls;cd /size<1;ls;",
+        "no 25 built-in attribute;no 25 built-in attribute;no 06 unknown property;ok;ok;ok;ok;",
     ),
 ];
 

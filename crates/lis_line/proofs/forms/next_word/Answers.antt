@@ -1,7 +1,7 @@
-use Rattle.std.proofs.Common.{◌≡◌, ◌<◌, ◌∷◌, length, take, drop, ◌∙◌, ap, sym, arith}
+use Rattle.std.proofs.Common.{◌<◌, ◌∷◌, length, drop, ◌∙◌, ap, sym, arith}
 use Rattle.std.proofs.lemmas.Bool.{eqb-true, eqb-false}
 use Rattle.lis_model.specs.Script.{words_of}
-use Rattle.lis_line.proofs.Words.{blanks, no_words, one_word, blanks_within, word_within, some_word}
+use Rattle.lis_line.proofs.Words.{no_words, one_word, blanks_within, word_within, some_word}
 use Rattle.lis_line.proofs.forms.next_word.Goals as goal
 
 pub split_at-requires : goal.split_at-requires

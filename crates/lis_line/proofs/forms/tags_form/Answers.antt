@@ -1,5 +1,5 @@
-use Rattle.std.proofs.Common.{◌≡◌, ◌<◌, ◌≤◌, ◌++◌, ◌∷◌, [], length, ap, sym, ◌∙◌, refl, arith}
-use Rattle.lis_line.proofs.Tags.{tags_none, tags_pushed, tags_full, tags_over, tags_done, tags_bad, no_word}
+use Rattle.std.proofs.Common.{◌++◌, ◌∷◌, [], ap, ◌∙◌, refl, arith}
+use Rattle.lis_line.proofs.Tags.{tags_pushed, tags_full, tags_done, tags_bad, no_word}
 use Rattle.lis_line.proofs.forms.tags_form.Goals as goal
 
 pub returns-in-None : goal.returns-in-None

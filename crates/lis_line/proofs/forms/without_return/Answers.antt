@@ -1,4 +1,4 @@
-use Rattle.std.proofs.Common.{◌≡◌, ◌<◌, ◌-◌, length, get_or, ◌∙◌, ap, sym, subst, arith}
+use Rattle.std.proofs.Common.{◌<◌, length, get_or, ◌∙◌, ap, sym, arith}
 use Rattle.std.proofs.lemmas.Bool.{eqb-false}
 use Rattle.lis_line.proofs.Words.{return_dropped, no_return}
 use Rattle.lis_line.proofs.forms.without_return.Goals as goal
