@@ -9,7 +9,7 @@ use Rattle.lis_words.specs.Words.{word_cmp}
 use Rattle.lis_grammar.specs.Formula.{Formula}
 use Rattle.lis_model.specs.declared.limits.Limits.{Limits}
 use Rattle.lis_model.specs.Sets.{with_words}
-use Rattle.lis_model.specs.State.{State, File, file_cmp, file_words, up}
+use Rattle.lis_model.specs.State.{File, file_cmp, file_words, up}
 use Rattle.lis_model.specs.Listing.{holds_all, is_increment, is_local}
 use Rattle.lis_model.specs.Replies.{listing_lines, ok_line}
 use Rattle.lis_model.specs.Step.{Situation, ls}

@@ -1,14 +1,14 @@
 -- The words of a formula text that leads to a place.
-use Rattle.std.proofs.Common.{◌≡◌, ℕ, ◌<◌, nat_lt, ◌⊎◌, inl, inr, Bool, true, false, ◌&&◌, Some, None, List, [], ◌∷◌, ◌++◌, length, codes, Err, refl, ap, sym, ◌∙◌}
+use Rattle.std.proofs.Common.{◌≡◌, ℕ, ◌<◌, nat_lt, inl, inr, Bool, true, false, ◌&&◌, Some, List, [], ◌∷◌, length, codes, Err, refl, ap, sym, ◌∙◌}
 use Rattle.std.specs.List.{list_all, flat_map}
 use Rattle.std.proofs.lemmas.Bool.{le-leb}
 use Rattle.std.proofs.lemmas.List.Folds.{list_all-append}
 use Rattle.std.proofs.lemmas.Slice.Eq.{bytes_eq-Decides}
 use Rattle.lis_words.specs.Words.{same_word, has_word}
-use Rattle.lis_grammar.specs.Formula.{Formula, steps_words}
+use Rattle.lis_grammar.specs.Formula.{Formula}
 use Rattle.lis_grammar.specs.Machine.{text_steps}
 use Rattle.lis_grammar.specs.Places.{resolved, text_words, path_words, is_place}
-use Rattle.lis_grammar.specs.Places.Resolution.{NewPlace, BeyondLimits, Unreadable}
+use Rattle.lis_grammar.specs.Places.Resolution.{NewPlace, BeyondLimits}
 use Rattle.lis_place.specs.declared.node.Node.{Node}
 use Rattle.lis_place.specs.Nodes.{nodes_of, node_words}
 use Rattle.lis_place.proofs.Trees.{words_of_nodes}

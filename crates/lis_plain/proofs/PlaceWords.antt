@@ -5,7 +5,7 @@ use Rattle.std.proofs.lemmas.List.Folds.{list_all-append}
 use Rattle.lis_grammar.specs.Formula.{Formula}
 use Rattle.lis_grammar.specs.Formula.Formula.{Has, SizeAtLeast, SizeBelow, Negation, Both, Either}
 use Rattle.lis_place.specs.declared.node.Node.{Node}
-use Rattle.lis_place.specs.declared.node.Node.TheVariants.{Word, AtLeast, Below, Not, And, Or}
+use Rattle.lis_place.specs.declared.node.Node.TheVariants.{Not, And, Or}
 use Rattle.lis_place.specs.Nodes.{tree_node_list, nodes_of, node_words}
 use Rattle.lis_model.specs.Sets.{set_of}
 use Rattle.lis_model.specs.Places.{both_lists, conjuncts, all_conjuncts, place_words}

@@ -1,5 +1,5 @@
 -- Where a row of refusals ends.
-use Rattle.std.proofs.Common.{◌≡◌, ℕ, ◌<◌, ◌≤◌, nat_lt, nat_le, suc, inl, inr, Bool, true, false, List, [], ◌∷◌, length, refl, ap, sym, ◌∙◌}
+use Rattle.std.proofs.Common.{◌≡◌, ℕ, ◌<◌, ◌≤◌, nat_lt, nat_le, suc, inl, inr, Bool, true, false, List, [], length, refl, ap, sym, ◌∙◌}
 use Rattle.std.specs.List.{list_all, flat_map}
 use Rattle.std.specs.BTreeSet.{insert_key}
 use Rattle.std.proofs.lemmas.Bool.Decides.{leb_tells}
@@ -12,7 +12,7 @@ use Rattle.lis_model.specs.Sets.{with_word, with_words}
 use Rattle.lis_model.specs.State.{File, file_cmp, file_words, is_assignable}
 use Rattle.lis_model.specs.Places.{is_root}
 use Rattle.lis_model.specs.Replies.{ok_line, refusal_line}
-use Rattle.lis_model.specs.Step.{Situation, Outcome, refused, changed, mkdir, new_file}
+use Rattle.lis_model.specs.Step.{Situation, Outcome, refused, mkdir, new_file}
 use Rattle.lis_plain.specs.Carries.{filed}
 use Rattle.lis_plain.proofs.Entries.{at_place}
 

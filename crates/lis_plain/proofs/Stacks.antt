@@ -1,5 +1,5 @@
 -- The truth of a place is that of all its steps.
-use Rattle.std.proofs.Common.{◌≡◌, ℕ, Bool, true, false, ◌&&◌, List, [], ◌∷◌, ◌++◌, map, reverse, refl, ap, sym, ◌∙◌, append-nil}
+use Rattle.std.proofs.Common.{◌≡◌, Bool, true, false, ◌&&◌, List, [], ◌∷◌, ◌++◌, map, reverse, refl, ap, ◌∙◌, append-nil}
 use Rattle.std.specs.List.{list_all, fold}
 use Rattle.std.proofs.lemmas.List.{reverse-append}
 use Rattle.lis_grammar.specs.Formula.{Formula}

@@ -14,7 +14,9 @@ use std::test::Fail;
 
 mod tables;
 
-use tables::{CUT_SESSIONS, FAILING_SHOWS, FIRST_SESSIONS, RIGHT_WORDS, SESSIONS, WRONG_WORDS};
+use tables::{
+    CUT_SESSIONS, FAILING_SHOWS, FIRST_SESSIONS, LONG_LINES, RIGHT_WORDS, SESSIONS, WRONG_WORDS,
+};
 
 /// The words of most sessions.
 static WORDS: [&str; 4] = ["try", "64", "64", "8"];
@@ -112,6 +114,25 @@ fn sessions_show_the_same_in_any_pieces(rt: HostRuntime) -> Result<(), Fail> {
             assert_eq!(rt; seen.status, Status::Done, "{row}");
             assert_eq!(rt; seen.taken, row.len(), "{row}");
         }
+    }
+    Ok(())
+}
+
+fn long_row(alloc: Global, count: usize, behind: &str) -> Result<String, AllocError> {
+    let mut row = String::new(alloc);
+    for _ in 0..count {
+        row.push('a')?;
+    }
+    row.push_str(behind)?;
+    Ok(row)
+}
+
+#[test]
+fn a_line_is_long_by_its_bytes(rt: HostRuntime) -> Result<(), Fail> {
+    for (count, behind, wanted) in &LONG_LINES {
+        let row = long_row(rt.alloc(), *count, behind)?;
+        let seen = run(rt.alloc(), &WORDS, row.as_str(), &SOUND)?;
+        assert_eq!(rt; seen.shown.as_str(), *wanted, "{count} and {behind}");
     }
     Ok(())
 }

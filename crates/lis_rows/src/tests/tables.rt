@@ -11,7 +11,7 @@ pub static FIRST_SESSIONS: [(&str, &str); 3] = [
     ("create a;create b;ls;", "ok;ok;f a;f b;ok;"),
 ];
 
-pub static SESSIONS: [(&str, &str); 23] = [
+pub static SESSIONS: [(&str, &str); 25] = [
     // Blanks, tabs, carriage returns, empty lines, and a last line without a line feed.
     ("mkdir a^;mkdir a;", "ok;no 11 already declared;"),
     ("mkdir a^^;mkdir a;", "no 01 bad line;ok;"),
@@ -69,6 +69,11 @@ pub static SESSIONS: [(&str, &str); 23] = [
         "mkdir a;cd a/;cd (a;cd a|;cd a b;pwd a;cd size<1|a;cd size>=0000000000001;pwd;",
         "ok;no 05 formula;no 05 formula;no 05 formula;no 01 bad line;no 01 bad line;ok;no 05 formula;w (size<1|a);ok;",
     ),
+    (
+        "mkdir a;mkdir b;mkdir c;cd a|b/c;pwd;cd ..;pwd;cd ..;cd ..;pwd;",
+        "ok;ok;ok;ok;w (a|b)/c;ok;ok;w (a|b);ok;ok;ok;w /;ok;",
+    ),
+    ("cd nosuch;pwd;", "no 06 unknown property;w /;ok;"),
     // Listings at places.
     (
         "mkdir a;mkdir b;create x a;create y b;create z a b;cd a|b;ls;pwd;cd !a;ls;pwd;",
@@ -87,6 +92,14 @@ pub static SESSIONS: [(&str, &str); 23] = [
         "create x ext:;create x size:0;create x nosuch:v;cd /size>=1;ls;cd /size<1;ls;",
         "no 25 built-in attribute;no 25 built-in attribute;no 06 unknown property;ok;ok;ok;ok;",
     ),
+];
+
+/// How many bytes `a`, what stands behind them, and what is shown.
+pub static LONG_LINES: [(usize, &str, &str); 4] = [
+    (1_025, ";pwd;", "no 02 long line;w /;ok;"),
+    (1_024, ";", "no 01 bad line;"),
+    (1_024, "^;", "no 02 long line;"),
+    (1_023, "^;", "no 01 bad line;"),
 ];
 
 pub static WRONG_WORDS: [&[&str]; 24] = [

@@ -1,4 +1,4 @@
-use Rattle.std.proofs.Common.{◌≡◌, ◌≤◌, ◌∙◌, sym, ap, length}
+use Rattle.std.proofs.Common.{◌∙◌, sym, ap}
 use Rattle.std.specs.List.{insert}
 use Rattle.lis_words.specs.Words.{word_cmp}
 use Rattle.lis_plain.proofs.Places.{at_place, place_within, insert_there, insert_at}

@@ -1,4 +1,4 @@
-use Rattle.std.proofs.Common.{sym, ◌∙◌}
+use Rattle.std.proofs.Common.{sym}
 use Rattle.lis_plain.proofs.PlaceWords.{place_of_others, place_of_words}
 use Rattle.lis_plain.proofs.tags.place_words.Goals as goal
 

@@ -1,4 +1,4 @@
-use Rattle.std.proofs.Common.{[], ap, sym, ◌∙◌}
+use Rattle.std.proofs.Common.{[], ap, ◌∙◌}
 use Rattle.std.specs.List.{list_all, fold}
 use Rattle.lis_plain.specs.Truth.{with_value}
 use Rattle.lis_plain.proofs.Stacks.{truth_of}

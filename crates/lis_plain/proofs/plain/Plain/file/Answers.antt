@@ -1,4 +1,4 @@
-use Rattle.std.proofs.Common.{◌≡◌, ◌<◌, ◌≤◌, length, nat_lt, nat_le, true, false, ap, sym, subst, arith, ◌∙◌}
+use Rattle.std.proofs.Common.{◌≡◌, length, nat_lt, nat_le, true, false, ap, sym, subst, arith, ◌∙◌}
 use Rattle.std.specs.BTreeSet.{insert_key}
 use Rattle.std.specs.List.{list_all}
 use Rattle.lis_model.specs.declared.refusal.Refusal.TheVariants.{NoPropertyRoom}
