@@ -1,14 +1,14 @@
 -- Lines taken one after another, up to the first that asks for something.
-use Rattle.std.proofs.Common.{◌≡◌, ℕ, ◌+◌, ◌≤◌, ◌<◌, nat_lt, Bool, true, false, cond, List, [], ◌∷◌, ◌++◌, length, take, Option, Some, None, ap, sym, subst, ◌∙◌, refl, inl, inr, arith, append_assoc, append-nil, length-append}
+use Rattle.std.proofs.Common.{◌≡◌, ℕ, ◌+◌, ◌≤◌, ◌<◌, nat_lt, true, List, [], ◌∷◌, ◌++◌, length, take, Option, Some, None, ap, sym, subst, ◌∙◌, refl, inl, inr, arith, append_assoc, length-append}
 use Rattle.std.specs.Io.KnownBytes.{Consumes, IsAtEnd}
 use Rattle.std.specs.Option.{option_to_list}
 use Rattle.std.proofs.lemmas.List.{take_all, length-take}
 use Rattle.std.proofs.lemmas.Bool.{cases_lt, le-leb}
 use Rattle.lis_model.specs.Step.{Item}
-use Rattle.lis_model.specs.Script.{is_feed, item_of, all_items, whole_items}
-use Rattle.lis_model.proofs.Lines.{IsOneLine, all_items_line, whole_items_line, all_items_last, whole_items_last, all_items_none, whole_items_none}
+use Rattle.lis_model.specs.Script.{item_of, all_items, whole_items}
+use Rattle.lis_model.proofs.Lines.{IsOneLine, all_items_line, whole_items_line, all_items_last, whole_items_last, all_items_none}
 use Rattle.lis_line.specs.Stock.{Stocked, stream_of, LineTaken}
-use Rattle.lis_line.specs.Reading.{IsWhole, IsLast, Gave, GaveWhole, GaveLast, GaveEnd, Overran, GaveRest}
+use Rattle.lis_line.specs.Reading.{Gave, GaveWhole, GaveLast, GaveEnd, Overran, GaveRest}
 use Rattle.lis_line.proofs.Bytes.{consumes_none, consumes_then}
 
 -- these bytes ask for nothing, whatever follows

@@ -1,3 +1,4 @@
 mod Bytes
 mod Words
+mod Tags
 mod Asking

@@ -1,5 +1,5 @@
 -- The words of a text, one after another.
-use Rattle.std.proofs.Common.{◌≡◌, ◌==◌, ℕ, ◌+◌, ◌-◌, ◌≤◌, ◌<◌, Bool, true, false, not, cond, List, [], ◌∷◌, ◌++◌, length, take, drop, filter, get_or, suc, ap, sym, subst, ◌∙◌, refl, arith, append_assoc, append-nil, length-append}
+use Rattle.std.proofs.Common.{◌≡◌, ◌==◌, ℕ, ◌+◌, ◌-◌, ◌≤◌, ◌<◌, Bool, true, false, not, cond, List, [], ◌∷◌, ◌++◌, length, take, drop, filter, get_or, suc, ap, sym, ◌∙◌, refl, arith, append_assoc, append-nil, length-append}
 use Rattle.std.specs.List.{prefix_len}
 use Rattle.std.proofs.lemmas.List.Sums.{prefix_len-le-length}
 use Rattle.std.proofs.lemmas.Bool.{cond-true, cond-false, le-leb}
@@ -102,3 +102,14 @@ no_return (b ∷ []) other = sym (cond-false (b == 13) [] (b ∷ []) (differs b 
 no_return (b ∷ c ∷ line) other =
     let other' = rw (shorter (length line)) at other in
     ap (λ xs. b ∷ xs) (no_return (c ∷ line) other')
+
+pub some_word : (text rest : List ℕ) (n : ℕ) → rest ≡ drop (blanks text) text → 0 < length rest → n ≡ word_len rest → 0 < n
+some_word text rest n is some at = rw at (first rest some (ap blanks is ∙ no_blank_left text))
+  where
+    first : (rest : List ℕ) → 0 < length rest → blanks rest ≡ 0 → 0 < word_len rest
+    first [] some none = absurd (omega arith)
+    first (b ∷ rest) some none = by (is_blank b) none
+      where
+        by : (t : Bool) → cond t (1 + blanks rest) 0 ≡ 0 → 0 < cond (not t) (1 + word_len rest) 0
+        by true none = absurd (omega arith)
+        by false none = omega arith

@@ -1,8 +1,6 @@
 -- What a reader of items says of its input.
 use Rattle.std.specs.Prelude.{◌≡◌, ◌⊎◌, ℕ, ◌+◌, ◌<◌, Bool, true, false, List, [], ◌∷◌, ◌++◌, length, Option, Some, None, Result, Ok, Err}
 use Rattle.std.specs.Io.KnownBytes.{Consumes, IsAtEnd}
-use Rattle.lis_model.specs.declared.command.Command.{Command}
-use Rattle.lis_model.specs.declared.refusal.Refusal.{Refusal}
 use Rattle.lis_model.specs.Step.{Item, Payload}
 use Rattle.lis_model.specs.Step.Item.{Do, Bad}
 use Rattle.lis_model.specs.Script.{all_items, whole_items}
@@ -88,6 +86,13 @@ GivesAsked old new left_before left (Ok (Last asked)) = GaveLast old new left_be
 GivesAsked old new left_before left (Ok NoMore) = GaveEnd old new left_before left
 GivesAsked old new left_before left (Ok PastLimit) = Overran old new left_before left
 GivesAsked old new left_before left (Err failed) = GaveRest old new left_before left
+
+-- what an item of the code asks for, with the payload behind it; the end and the limit ask for nothing
+abbrev pub asked_by : Said → Payload → Option Item
+asked_by (SaidCommand command) payload = Some (Do command payload)
+asked_by (SaidBad refusal) payload = Some (Bad refusal)
+asked_by End payload = None
+asked_by Limit payload = None
 
 -- an item, and whether it was the last
 abbrev pub GaveItem : Reading → Reading → Option (List ℕ) → Option (List ℕ) → Item → Type 0

@@ -1,17 +1,23 @@
 //! The forms of lines.
 
-ghost use Rattle.std.specs.Prelude.{◌≡◌, ◌≢◌, ◌↔◌, ℕ, ◌<◌, ◌≤◌, nat_lt, List, [], ◌∷◌, not, length, drop, take, MatchOption, IsSome, IfSome, IsTrue, OnErr, MatchResult};
+ghost use Rattle.std.specs.Prelude.{◌≡◌, ◌≢◌, ◌↔◌, ℕ, ◌+◌, ◌<◌, ◌≤◌, nat_lt, List, [], ◌∷◌, not, length, drop, take, MatchOption, IsSome, IfSome, IsTrue, OnErr, MatchResult};
 ghost use Rattle.std.specs.List.{prefix_len};
-ghost use Rattle.lis_words.specs.Words.{is_plain_word, is_file_name};
-ghost use Rattle.lis_model.specs.Script.{is_blank, without_return, words_of, mkdir_form, create_form, ls_form, form_of, item_of, item_of_words};
+ghost use Rattle.lis_model.specs.Step.{no_payload};
+ghost use Rattle.lis_model.specs.Step.Item.{Do};
+ghost use Rattle.lis_model.specs.declared.command.Command.TheVariants.{Pwd, Ls};
+ghost use Rattle.lis_model.specs.Script.{is_blank, without_return, words_of, mkdir_form, tags_form, create_form, cd_form, alone_form, form_of, item_of, item_of_words};
 ghost use Rattle.lis_line.specs.Forms.{asked_of, line_asks};
 
 use lis_model::command::{Command, Tags};
 use lis_model::refusal::Refusal;
-use lis_words::{PropKind, Word, kind, read_name, read_word};
+use lis_place::Text;
+use lis_words::{read_name, read_word};
 
 /// The most bytes of a line before its line feed.
 const MAX_LINE: usize = 1_024;
+
+/// The most words that one line gives a file.
+const MAX_TAGS: usize = 16;
 
 fn is_blank(byte: u8) -> bool
     ensures { result ≡ is_blank byte }
@@ -32,7 +38,8 @@ fn word_len(text: &[u8]) -> usize
 }
 
 fn without_return(line: &[u8]) -> &[u8]
-    ensures { result.now ≡ without_return line.now }
+    ensures line { result.now ≡ without_return line.now }
+    ensures shorter { length result.now ≤ length line.now }
 {
     if line.is_empty() {
         return line;
@@ -43,8 +50,10 @@ fn without_return(line: &[u8]) -> &[u8]
 
 /// The first word of a text and what stands behind it; None where there is no word.
 fn next_word(text: &[u8]) -> Option<(&[u8], &[u8])>
-    ensures { MatchOption result (words_of text.now ≡ [])
+    ensures words { MatchOption result (words_of text.now ≡ [])
         (λ found. words_of text.now ≡ found.0.now ∷ words_of found.1.now) }
+    ensures shorter { IfSome result (λ found. length found.0.now + length found.1.now ≤ length text.now) }
+    ensures some { IfSome result (λ found. 0 < length found.0.now) }
 {
     let (_, text) = text.split_at(blanks(text));
     if text.is_empty() {
@@ -55,7 +64,8 @@ fn next_word(text: &[u8]) -> Option<(&[u8], &[u8])>
 
 /// The only word of a text.
 fn only_word(text: &[u8]) -> Option<&[u8]>
-    ensures { MatchOption result (length (words_of text.now) ≢ 1) (λ word. words_of text.now ≡ word.now ∷ []) }
+    ensures shorter { IfSome result (λ word. length word.now ≤ length text.now) }
+    ensures word { MatchOption result (length (words_of text.now) ≢ 1) (λ word. words_of text.now ≡ word.now ∷ []) }
 {
     let (word, rest) = next_word(text)?;
     match next_word(rest) {
@@ -73,35 +83,41 @@ fn no_words(text: &[u8]) -> bool
     }
 }
 
-fn plain_word(bytes: &[u8]) -> Option<Word>
-    ensures plain { IsSome result ↔ IsTrue (is_plain_word bytes.now) }
-    ensures same { IfSome result (λ word. word ≡ bytes.now) }
-{
-    if !lis_words::is_plain_word(bytes) {
-        return None;
-    }
-    read_word(bytes)
-}
-
 fn mkdir_form(text: &[u8]) -> Result<Command, Refusal>
     ensures { asked_of result ≡ mkdir_form (words_of text.now) }
 {
     let Some(word) = only_word(text) else {
         return Err(Refusal::BadLine);
     };
-    match plain_word(word) {
+    match read_word(word) {
         None => Err(Refusal::BadLine),
         Some(word) => Ok(Command::Mkdir(word)),
     }
 }
 
-fn ls_form(text: &[u8]) -> Result<Command, Refusal>
-    ensures { asked_of result ≡ ls_form (words_of text.now) }
+/// The words that a file is to be given. All are read, also where there are too many.
+fn tags_form(text: &[u8]) -> Result<Tags, Refusal>
+    ensures { result ≡ tags_form (words_of text.now) }
 {
-    if no_words(text) {
-        Ok(Command::Ls)
+    let mut tags = Tags::new();
+    let mut is_over = false;
+    let mut rest = text;
+    while let Some((word, behind)) = next_word(rest) {
+        let tag = match read_word(word) {
+            None => return Err(Refusal::BadLine),
+            Some(tag) => tag,
+        };
+        if tags.len() < MAX_TAGS {
+            tags.push(&tag);
+        } else {
+            is_over = true;
+        }
+        rest = behind;
+    }
+    if is_over {
+        Err(Refusal::TooManyAssigned)
     } else {
-        Err(Refusal::BadLine)
+        Ok(tags)
     }
 }
 
@@ -114,22 +130,48 @@ fn create_form(text: &[u8]) -> Result<Command, Refusal>
     let Some(name) = read_name(first) else {
         return Err(Refusal::BadLine);
     };
-    let Some((word, rest)) = next_word(rest) else {
-        return Ok(Command::Create(name, Tags::new()));
-    };
-    let Some(word) = plain_word(word) else {
-        return Err(Refusal::BadLine);
-    };
-    if !no_words(rest) {
-        return Err(Refusal::BadLine);
+    match tags_form(rest) {
+        Ok(tags) => Ok(Command::Create(name, tags)),
+        Err(refusal) => Err(refusal),
     }
-    let mut tags = Tags::new();
-    tags.push(&word);
-    Ok(Command::Create(name, tags))
+}
+
+fn cd_form(text: &[u8]) -> Result<Command, Refusal>
+    requires { length text.now ≤ 1024 }
+    ensures { asked_of result ≡ cd_form (words_of text.now) }
+{
+    let Some(word) = only_word(text) else {
+        return Err(Refusal::BadLine);
+    };
+    match Text::of(word) {
+        None => Err(Refusal::BadLine),
+        Some(text) => Ok(Command::Cd(text)),
+    }
+}
+
+fn pwd_form(text: &[u8]) -> Result<Command, Refusal>
+    ensures { asked_of result ≡ alone_form (Do Pwd no_payload) (words_of text.now) }
+{
+    if no_words(text) {
+        Ok(Command::Pwd)
+    } else {
+        Err(Refusal::BadLine)
+    }
+}
+
+fn ls_form(text: &[u8]) -> Result<Command, Refusal>
+    ensures { asked_of result ≡ alone_form (Do Ls no_payload) (words_of text.now) }
+{
+    if no_words(text) {
+        Ok(Command::Ls)
+    } else {
+        Err(Refusal::BadLine)
+    }
 }
 
 /// What a line asks for by its first word and what stands behind it.
 fn command_of(first: &[u8], rest: &[u8]) -> Result<Command, Refusal>
+    requires { length rest.now ≤ 1024 }
     ensures { asked_of result ≡ form_of first.now (words_of rest.now) }
 {
     if first == b"mkdir".as_slice() {
@@ -137,6 +179,12 @@ fn command_of(first: &[u8], rest: &[u8]) -> Result<Command, Refusal>
     }
     if first == b"create".as_slice() {
         return create_form(rest);
+    }
+    if first == b"cd".as_slice() {
+        return cd_form(rest);
+    }
+    if first == b"pwd".as_slice() {
+        return pwd_form(rest);
     }
     if first == b"ls".as_slice() {
         return ls_form(rest);
@@ -149,7 +197,7 @@ pub fn asked(line: &[u8]) -> Option<Result<Command, Refusal>>
     ensures { line_asks result ≡ item_of line.now }
 {
     if line.len() > MAX_LINE {
-        return Some(Err(Refusal::BadLine));
+        return Some(Err(Refusal::LongLine));
     }
     let (first, rest) = next_word(without_return(line))?;
     Some(command_of(first, rest))

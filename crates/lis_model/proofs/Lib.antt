@@ -1,3 +1,4 @@
 pub mod Runs
 pub mod Lines
 mod Examples
+pub mod NotedLemmas

@@ -1,10 +1,9 @@
 -- What a line adds to the items of an input.
-use Rattle.std.proofs.Common.{◌≡◌, ℕ, ◌+◌, ◌≤◌, ◌<◌, Bool, true, false, cond, ◌||◌, List, [], ◌∷◌, ◌++◌, length, zero, suc, refl, ap, sym, ◌∙◌, arith, append-nil}
+use Rattle.std.proofs.Common.{◌≡◌, ℕ, ◌≤◌, Bool, true, false, cond, ◌||◌, List, [], ◌∷◌, ◌++◌, length, zero, suc, refl, ap, ◌∙◌, arith, append-nil}
 use Rattle.std.proofs.lemmas.List.Folds.{list_any-append}
 use Rattle.std.proofs.lemmas.Bool.{or_right}
 use Rattle.std.specs.Option.{option_to_list}
 use Rattle.std.specs.List.{list_any}
-use Rattle.lis_model.specs.Step.{Item}
 use Rattle.lis_model.specs.Script.{is_feed, before_feed, after_feed, item_of, first_of, items_within, all_items, whole_within, whole_items}
 
 -- a text with no line feed in it

@@ -1,5 +1,5 @@
 -- Items carried out one after another.
-use Rattle.std.proofs.Common.{◌≡◌, ℕ, List, [], ◌∷◌, ◌++◌, refl, ap, sym, ◌∙◌, append_assoc}
+use Rattle.std.proofs.Common.{◌≡◌, List, [], ◌∷◌, ◌++◌, refl, ap, sym, ◌∙◌, append_assoc}
 use Rattle.lis_model.specs.Step.{Situation, Item, step, replies, situation_after}
 
 pub situation_after-append : (now : Situation) (first others : List Item)

@@ -1,8 +1,13 @@
 pub mod Sets
 pub mod Derived
+pub mod Ranges
 pub mod State
 pub mod Table
 pub mod Listing
+pub mod Route
 pub mod Replies
+pub mod Places
 pub mod Step
+pub mod Codes
 pub mod Script
+pub mod Noted

@@ -1,10 +1,11 @@
 -- How the input is cut into items.
-use Rattle.std.specs.Prelude.{ℕ, ◌==◌, nat_lt, nat_le, zero, suc, Bool, true, false, not, ◌||◌, if◌then◌else◌, Option, Some, None, List, [], ◌∷◌, ◌++◌, length, take, filter, codes}
+use Rattle.std.specs.Prelude.{ℕ, ◌==◌, nat_lt, nat_le, zero, suc, Bool, ◌||◌, if◌then◌else◌, Option, Some, None, Result, Ok, Err, List, [], ◌∷◌, ◌++◌, length, take, filter, codes}
 use Rattle.std.specs.Option.{option_to_list}
 use Rattle.std.specs.List.{list_any, list_all}
-use Rattle.lis_words.specs.Words.{same_word, is_plain_word, is_file_name}
-use Rattle.lis_model.specs.declared.refusal.Refusal.TheVariants.{BadLine}
-use Rattle.lis_model.specs.declared.command.Command.TheVariants.{Mkdir, Create, Ls}
+use Rattle.lis_words.specs.Words.{same_word, is_word, is_file_name}
+use Rattle.lis_model.specs.declared.refusal.Refusal.{Refusal}
+use Rattle.lis_model.specs.declared.refusal.Refusal.TheVariants.{BadLine, LongLine, TooManyAssigned}
+use Rattle.lis_model.specs.declared.command.Command.TheVariants.{Mkdir, Create, Cd, Pwd, Ls}
 use Rattle.lis_model.specs.Step.{Item, no_payload}
 use Rattle.lis_model.specs.Step.Item.{Do, Bad}
 
@@ -48,26 +49,40 @@ bad_line = Bad BadLine
 
 abbrev pub mkdir_form : List (List ℕ) → Item
 mkdir_form [] = bad_line
-mkdir_form (word ∷ []) = if is_plain_word word then Do (Mkdir word) no_payload else bad_line
+mkdir_form (word ∷ []) = if is_word word then Do (Mkdir word) no_payload else bad_line
 mkdir_form (word ∷ more ∷ words) = bad_line
 
--- a file's name, and 0 or 1 words
+-- words that a file is to be given: at most 16 in one line
+abbrev pub tags_form : List (List ℕ) → Result (List (List ℕ)) Refusal
+tags_form words =
+    if list_all is_word words then (if nat_lt 16 (length words) then Err TooManyAssigned else Ok words) else Err BadLine
+
+abbrev pub create_named : List ℕ → Result (List (List ℕ)) Refusal → Item
+create_named name (Ok words) = Do (Create name words) no_payload
+create_named name (Err refusal) = Bad refusal
+
+-- a file's name, and words
 abbrev pub create_form : List (List ℕ) → Item
 create_form [] = bad_line
-create_form (name ∷ []) = if is_file_name name then Do (Create name []) no_payload else bad_line
-create_form (name ∷ word ∷ []) =
-    if is_file_name name then (if is_plain_word word then Do (Create name (word ∷ [])) no_payload else bad_line) else bad_line
-create_form (name ∷ word ∷ more ∷ words) = bad_line
+create_form (name ∷ words) = if is_file_name name then create_named name (tags_form words) else bad_line
 
-abbrev pub ls_form : List (List ℕ) → Item
-ls_form [] = Do Ls no_payload
-ls_form (word ∷ words) = bad_line
+-- any word of the line is a text for `cd`
+abbrev pub cd_form : List (List ℕ) → Item
+cd_form [] = bad_line
+cd_form (text ∷ []) = Do (Cd text) no_payload
+cd_form (text ∷ more ∷ words) = bad_line
+
+abbrev pub alone_form : Item → List (List ℕ) → Item
+alone_form item [] = item
+alone_form item (word ∷ words) = bad_line
 
 abbrev pub form_of : List ℕ → List (List ℕ) → Item
 form_of first words =
     if same_word first (codes "mkdir") then mkdir_form words
     else if same_word first (codes "create") then create_form words
-    else if same_word first (codes "ls") then ls_form words
+    else if same_word first (codes "cd") then cd_form words
+    else if same_word first (codes "pwd") then alone_form (Do Pwd no_payload) words
+    else if same_word first (codes "ls") then alone_form (Do Ls no_payload) words
     else bad_line
 
 -- a line without words asks for nothing
@@ -77,7 +92,7 @@ item_of_words (first ∷ words) = Some (form_of first words)
 
 -- what a line asks for, given what stands before its line feed; 1,024 bytes are the most
 abbrev pub item_of : List ℕ → Option Item
-item_of text = if nat_lt 1024 (length text) then Some bad_line else item_of_words (words_of (without_return text))
+item_of text = if nat_lt 1024 (length text) then Some (Bad LongLine) else item_of_words (words_of (without_return text))
 
 -- the first part of an input: what it asks for, what is left behind it, and whether it ended with its own line feed
 pub record First : Type 0 where

@@ -4,6 +4,7 @@ ghost use Rattle.std.specs.Prelude.{◌≡◌, ◌==◌, ℕ, ◌<◌, ◌≤◌
 ghost use Rattle.std.specs.Option.{option_copied};
 
 use arrayvec::ArrayVec;
+use lis_place::Text;
 use lis_words::{Name, Word};
 use std::marker::Model;
 
@@ -77,8 +78,12 @@ impl Tags {
 pub enum Command {
     /// Declares the word.
     Mkdir(Word),
-    /// Makes an empty file of that name with these words.
+    /// Makes an empty file of that name with these words, and with those of the place.
     Create(Name, Tags),
+    /// Goes to the place that the text makes of the place.
+    Cd(Text),
+    /// Shows the place.
+    Pwd,
     /// Shows the increments and the locals of the place.
     Ls,
 }

@@ -2,5 +2,7 @@
 #![tactic(auto)]
 
 pub mod command;
+pub mod derived;
 pub mod limits;
 pub mod refusal;
+pub mod spot;

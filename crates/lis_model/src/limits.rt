@@ -1,5 +1,8 @@
 //! The limits of a state.
 
+ghost use Rattle.std.specs.Prelude.{◌≡◌, ◌^◌, ◌<◌, IsTrue};
+ghost use Rattle.lis_model.specs.Ranges.{is_files_limit, is_props_limit, is_blocks_limit};
+
 /// How much a state may hold. In range are: files a power of two from 64 to 4,096, properties a multiple of 64
 /// from 64 to 8,192, and 1 to 32,768 data blocks of 4,096 bytes.
 #[derive(Clone, Copy, Debug, PartialEq, Eq)]
@@ -10,4 +13,31 @@ pub struct Limits {
     pub props: u32,
     /// The data blocks.
     pub blocks: u32,
+}
+
+/// Whether so many files are in range.
+pub fn is_files_limit(files: u64) -> bool
+    ensures { result ≡ is_files_limit files }
+{
+    files == 64
+        || files == 128
+        || files == 256
+        || files == 512
+        || files == 1_024
+        || files == 2_048
+        || files == 4_096
+}
+
+/// Whether so many properties are in range.
+pub fn is_props_limit(props: u64) -> bool
+    ensures { result ≡ is_props_limit props }
+{
+    64 <= props && props <= 8_192 && props % 64 == 0
+}
+
+/// Whether so many data blocks are in range.
+pub fn is_blocks_limit(blocks: u64) -> bool
+    ensures { result ≡ is_blocks_limit blocks }
+{
+    1 <= blocks && blocks <= 32_768
 }

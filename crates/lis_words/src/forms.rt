@@ -90,6 +90,7 @@ pub fn has_stem(bytes: &[u8]) -> bool
     is_plain_word(stem)
 }
 
+/// Whether these are the bytes of a head: a plain word and a colon.
 pub fn is_head(bytes: &[u8]) -> bool
     ensures { result ≡ is_head bytes.now }
 {
@@ -100,6 +101,7 @@ pub fn is_head(bytes: &[u8]) -> bool
     value.is_empty()
 }
 
+/// Whether these are the bytes of a valued word: a head and a value behind it.
 pub fn is_valued(bytes: &[u8]) -> bool
     ensures { result ≡ is_valued bytes.now }
 {

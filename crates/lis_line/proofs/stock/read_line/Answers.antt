@@ -1,4 +1,4 @@
-use Rattle.std.proofs.Common.{◌≡◌, ◌++◌, ◌∷◌, [], ◌<◌, ◌≤◌, length, ◌∙◌, ap, sym, subst, arith}
+use Rattle.std.proofs.Common.{◌++◌, ◌∷◌, [], ◌<◌, ◌≤◌, length, ◌∙◌, subst, arith}
 use Rattle.lis_line.specs.Stock.{LineTaken}
 use Rattle.lis_line.proofs.Bytes.{taken_ended, going_pushed, going_full}
 use Rattle.lis_line.proofs.stock.read_line.Goals as goal

@@ -1,0 +1,6 @@
+pub mod JoinedLemmas
+pub mod RunLemmas
+pub mod PathLemmas
+pub mod PieceLemmas
+pub mod ReadingLemmas
+mod Examples

@@ -1,0 +1,20 @@
+use Rattle.std.proofs.Common.{◌≡◌, ◌+◌, ◌≤◌, length}
+use Rattle.lis_model.specs.Noted.{noted_all}
+use Rattle.lis_csource.specs.Joined.{joined}
+use Rattle.lis_csource.specs.Pieces.{pieces}
+use Rattle.lis_csource.specs.Entries.{entries}
+use Rattle.lis_csource.specs.Source.{source_words}
+use Rattle.lis_csource.specs.Reading.{IsSound}
+use Rattle.lis_csource.specs.Rights.{words_to_come}
+use Rattle.lis_csource.proofs.source.source_props.Given as goal
+
+abbrev pub invariant-loop-found : goal.invariant-loop-found
+invariant-loop-found l = record {
+  words : words_to_come l.reading l.out (entries l.reading.context (pieces l.reading.context (joined l.rest)))
+      ≡ noted_all l.fn.out (source_words l.bytes);
+  sound : IsSound l.reading.stage l.reading.parens;
+  few : (l.reading.braces + length l.rest ≤ length l.bytes) × (l.reading.parens + length l.rest ≤ length l.bytes);
+}
+
+abbrev pub decreases-loop-found : goal.decreases-loop-found
+decreases-loop-found l = length l.rest

@@ -1,0 +1,39 @@
+-- What a formula text is answered.
+use Rattle.std.specs.Prelude.{◌≡◌, ℕ, ◌<◌, ◌≤◌, ◌⊎◌, Bool, false, Some, None, Result, Ok, Err, List, length}
+use Rattle.lis_grammar.specs.Formula.{Formula}
+use Rattle.lis_grammar.specs.Grammar.{Reads, IsBrokenAt}
+use Rattle.lis_grammar.specs.Machine.{text_steps, broken_at}
+use Rattle.lis_grammar.specs.Places.{IsPlace, is_place, Resolution}
+use Rattle.lis_grammar.specs.Places.Resolution.{NewPlace, BeyondLimits, Unreadable}
+use Rattle.lis_place.specs.declared.place.Path.{Path}
+use Rattle.lis_formula.specs.declared.fault.FormulaFault.{FormulaFault}
+use Rattle.lis_formula.specs.declared.fault.FormulaFault.TheVariants.{TooLarge, Syntax}
+
+-- the text reads to no path
+abbrev pub IsNoFormula : List ℕ → Type 0
+IsNoFormula text = (rooted : Bool) (steps : List Formula) → Reads text rooted steps → ⊥
+
+-- the text reads to a path whose steps are no place
+pub record ReadsBeyond (text : List ℕ) : Type 0 where
+  pub rooted : Bool
+  pub steps : List Formula
+  pub reads : Reads text rooted steps
+  pub beyond : IsPlace steps → ⊥
+
+-- by the grammar. Each text has one answer: it reads to one path at most.
+abbrev pub Answers : List ℕ → Result Path FormulaFault → Type 0
+Answers text (Ok path) = (length text ≤ 1024) × Reads text path.rooted path.place × IsPlace path.place
+Answers text (Err TooLarge) = (1024 < length text) ⊎ ReadsBeyond text
+Answers text (Err (Syntax k)) = (length text ≤ 1024) × IsNoFormula text × IsBrokenAt text k
+
+-- the same by what computes it
+abbrev pub Computes : List ℕ → Result Path FormulaFault → Type 0
+Computes text (Ok path) = text_steps text ≡ Some (path.rooted, path.place)
+Computes text (Err TooLarge) = (1024 < length text) ⊎ ((path : Bool × List Formula) × (text_steps text ≡ Some path) × (is_place path.1 ≡ false))
+Computes text (Err (Syntax k)) = (text_steps text ≡ None) × (k ≡ broken_at text)
+
+-- the answer to a text at a place
+abbrev pub IsResolution : Resolution → Result (List Formula) FormulaFault → Type 0
+IsResolution resolution (Ok place) = resolution ≡ NewPlace place
+IsResolution resolution (Err TooLarge) = resolution ≡ BeyondLimits
+IsResolution resolution (Err (Syntax k)) = resolution ≡ Unreadable k

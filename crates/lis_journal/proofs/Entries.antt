@@ -1,0 +1,134 @@
+-- What entries put into an image, block by block.
+use Rattle.std.proofs.Common.{◌≡◌, ◌⊎◌, ℕ, ◌+◌, ◌*◌, ◌<◌, ◌≤◌, Bool, true, false, cond, List, [], ◌∷◌, length, refl, sym, ◌∙◌, ap, subst, inl, inr, arith, eqb, get_or, zero, suc, nat_lt, ◌||◌, ◌==◌}
+use Rattle.std.proofs.lemmas.Bool.{eqb-true, eqb-false, cases_lt}
+use Rattle.lis_ports.specs.Bytes.{part, put, Torn}
+use Rattle.lis_ports.proofs.Parts.{Apart, length-put, part-put, part-put_other, part-torn}
+use Rattle.lis_journal.specs.Record.{block, Entry, apply}
+use Rattle.lis_journal.specs.Images.{look}
+use Rattle.lis_journal.specs.Spreads.{IsClear, Touched}
+use Rattle.lis_journal.specs.Staging.{with_entry, has_entry}
+
+-- each entry is a block within so many blocks
+abbrev pub Within : ℕ → List Entry → Type 0
+Within blocks [] = Unit {0}
+Within blocks (e ∷ es) = (e.home < blocks) × (length e.bytes ≡ 4096) × Within blocks es
+
+-- places of different blocks have nothing in common
+blocks-apart : (n h : ℕ) → eqb n h ≡ false → Apart (4096 * h) 4096 (4096 * n) 4096
+blocks-apart n h differ = cases (cases_lt n h)
+  where
+    ne : n ≡ h → ⊥
+    ne = eqb-false n h differ
+
+    cases : (n < h) ⊎ (h ≤ n) → Apart (4096 * h) 4096 (4096 * n) 4096
+    cases (inl lt) = inl (omega arith)
+    cases (inr le) = inr (omega (arith, ne))
+
+pub block-put : (n h : ℕ) (bytes image : List ℕ) → length bytes ≡ 4096 → 4096 * h + 4096 ≤ length image → block n (put image (4096 * h) bytes) ≡ cond (eqb n h) bytes (block n image)
+block-put n h bytes image len fits = by (eqb n h) refl
+  where
+    fit : 4096 * h + length bytes ≤ length image
+    fit = omega (arith, len, fits)
+
+    by : (same : Bool) → eqb n h ≡ same → block n (put image (4096 * h) bytes) ≡ cond same bytes (block n image)
+    by true is =
+        let e : n ≡ h = eqb-true n h is in
+        ap (λ k. part (4096 * k) 4096 (put image (4096 * h) bytes)) e
+        ∙ (ap (λ m. part (4096 * h) m (put image (4096 * h) bytes)) (sym len) ∙ part-put image (4096 * h) bytes fit)
+    by false is =
+        part-put_other image (4096 * h) bytes fit (4096 * n) 4096
+        (subst (λ m. Apart (4096 * h) m (4096 * n) 4096) (sym len) (blocks-apart n h is))
+
+pub length-apply : (blocks : ℕ) (es : List Entry) (image : List ℕ) → Within blocks es → 4096 * blocks ≤ length image → length (apply es image) ≡ length image
+length-apply blocks [] image within long = refl
+length-apply blocks (e ∷ es) image within long =
+    let same = length-put image (4096 * e.home) e.bytes (omega (arith, within.0, within.1, long)) in
+    length-apply blocks es (put image (4096 * e.home) e.bytes) within.2 (omega (arith, long, same)) ∙ same
+
+-- a block of the image with the entries in their homes
+pub block-apply : (blocks : ℕ) (es : List Entry) (image : List ℕ) (n : ℕ) → Within blocks es → 4096 * blocks ≤ length image → block n (apply es image) ≡ look es n (block n image)
+block-apply blocks [] image n within long = refl
+block-apply blocks (e ∷ es) image n within long =
+    let fits : 4096 * e.home + 4096 ≤ length image = omega (arith, within.0, long) in
+    let same = length-put image (4096 * e.home) e.bytes (omega (arith, within.0, within.1, long)) in
+    block-apply blocks es (put image (4096 * e.home) e.bytes) n within.2 (omega (arith, long, same))
+    ∙ ap (look es n) (block-put n e.home e.bytes image within.1 fits)
+
+-- Either an entry says what a block holds, or the block is clear of all.
+pub home_or_clear : (es : List Entry) (n : ℕ) → ((old other : List ℕ) → look es n old ≡ look es n other) ⊎ (((old : List ℕ) → look es n old ≡ old) × IsClear es (4096 * n) 4096)
+home_or_clear [] n = inr (λ old. refl, tt)
+home_or_clear (e ∷ es) n = by (eqb n e.home) refl (home_or_clear es n)
+  where
+    by : (same : Bool) → eqb n e.home ≡ same → ((old other : List ℕ) → look es n old ≡ look es n other) ⊎ (((old : List ℕ) → look es n old ≡ old) × IsClear es (4096 * n) 4096)
+        → ((old other : List ℕ) → look es n (cond same e.bytes old) ≡ look es n (cond same e.bytes other)) ⊎ (((old : List ℕ) → look es n (cond same e.bytes old) ≡ old) × IsClear (e ∷ es) (4096 * n) 4096)
+    by same is (inl held) = inl (λ old other. held (cond same e.bytes old) (cond same e.bytes other))
+    by true is (inr clear) = inl (λ old other. refl)
+    by false is (inr clear) = inr (clear.0, (blocks-apart n e.home is, clear.1))
+
+pub look_again : (es : List Entry) (n : ℕ) (old : List ℕ) → look es n (look es n old) ≡ look es n old
+look_again es n old = elim (home_or_clear es n) as (λ _. look es n (look es n old) ≡ look es n old) [
+  | inl held ↦ held (look es n old) old
+  | inr clear ↦ clear.0 (look es n old)
+]
+
+-- each entry has a home block
+abbrev pub AtHome : List Entry → Type 0
+AtHome [] = Unit {0}
+AtHome (e ∷ es) = (578 ≤ e.home) × AtHome es
+
+-- what ends before the home blocks is clear of all of them
+pub homes_clear : (es : List Entry) (at n : ℕ) → at + n ≤ 2367488 → AtHome es → IsClear es at n
+homes_clear [] at n le home = tt
+homes_clear (e ∷ es) at n le home = (inl (omega (arith, le, home.0)), homes_clear es at n le home.1)
+
+pub clear_at : (es : List Entry) (k : ℕ) (d : Entry) (at n : ℕ) → k < length es → IsClear es at n → Apart (4096 * (get_or es k d).home) 4096 at n
+clear_at [] k d at n lt clear = absurd (omega arith)
+clear_at (e ∷ es) zero d at n lt clear = clear.0
+clear_at (e ∷ es) (suc k) d at n lt clear = let less : k < length es = omega (arith, lt) in clear_at es k d at n less clear.1
+
+pub touched_refl : (es : List Entry) (image : List ℕ) → Touched es image image
+touched_refl es image = record { len = refl; clear = λ at n clear. refl }
+
+pub touched_trans : (es : List Entry) (x y z : List ℕ) → Touched es x y → Touched es y z → Touched es x z
+touched_trans es x y z xy yz = record {
+  len = yz.len ∙ xy.len;
+  clear = λ at n clear. yz.clear at n clear ∙ xy.clear at n clear;
+}
+
+-- a torn block of an entry touches the entries' blocks alone
+pub touched_torn : (es : List Entry) (k : ℕ) (d : Entry) → k < length es → (from image : List ℕ) → Torn (4096 * (get_or es k d).home) 4096 from image → Touched es from image
+touched_torn es k d lt from image torn = record {
+  len = torn.len;
+  clear = λ at n clear. part-torn (4096 * (get_or es k d).home) 4096 from image torn at n (clear_at es k d at n lt clear);
+}
+
+-- What the entries are after one is staged.
+
+pub has-with_entry : (es : List Entry) (n m : ℕ) (bytes : List ℕ) → has_entry (with_entry es n bytes) m ≡ ((n == m) || has_entry es m)
+has-with_entry [] n m bytes = refl
+has-with_entry (e ∷ es) n m bytes = by (nat_lt e.home n) (e.home == n) refl (has-with_entry es n m bytes)
+  where
+    swap : (a b c : Bool) → (a || (b || c)) ≡ (b || (a || c))
+    swap true true c = refl
+    swap true false c = refl
+    swap false b c = refl
+
+    twice : (a b : Bool) → (a || b) ≡ (a || (a || b))
+    twice true b = refl
+    twice false b = refl
+
+    by : (lower same : Bool) → (e.home == n) ≡ same → has_entry (with_entry es n bytes) m ≡ ((n == m) || has_entry es m) → has_entry (cond lower (e ∷ with_entry es n bytes) (cond same (record { home = n; bytes = bytes } ∷ es) (record { home = n; bytes = bytes } ∷ e ∷ es))) m ≡ ((n == m) || ((e.home == m) || has_entry es m))
+    by true same is more = ap (λ b. (e.home == m) || b) more ∙ swap (e.home == m) (n == m) (has_entry es m)
+    by false true is more =
+        let home : e.home ≡ n = eqb-true e.home n is in
+        twice (n == m) (has_entry es m) ∙ ap (λ h. (n == m) || ((h == m) || has_entry es m)) (sym home)
+    by false false is more = refl
+
+pub length-with_entry : (es : List Entry) (n : ℕ) (bytes : List ℕ) → length (with_entry es n bytes) ≤ length es + 1
+length-with_entry [] n bytes = omega arith
+length-with_entry (e ∷ es) n bytes = by (nat_lt e.home n) (e.home == n) (length-with_entry es n bytes)
+  where
+    by : (lower same : Bool) → length (with_entry es n bytes) ≤ length es + 1 → length (cond lower (e ∷ with_entry es n bytes) (cond same (record { home = n; bytes = bytes } ∷ es) (record { home = n; bytes = bytes } ∷ e ∷ es))) ≤ suc (length es) + 1
+    by true same more = omega (arith, more)
+    by false true more = omega arith
+    by false false more = omega arith

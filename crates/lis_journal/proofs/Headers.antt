@@ -1,0 +1,142 @@
+-- The numbers of a header, as they are written one by one and read.
+use Rattle.std.proofs.Common.{◌≡◌, ◌⊎◌, inl, inr, ℕ, zero, suc, ◌+◌, ◌-◌, ◌*◌, ◌^◌, ◌<◌, ◌≤◌, ◌==◌, nat_lt, nat_le, Bool, true, false, ◌&&◌, List, [], ◌∷◌, ◌++◌, length, get_or, take, drop, replicate, IsTrue, refl, sym, ◌∙◌, ap, subst, arith, append_assoc}
+use Rattle.std.specs.Int.{w32, to_le_bytes, from_le_bytes}
+use Rattle.std.specs.List.{list_all}
+use Rattle.std.proofs.lemmas.Bool.{and_parts, and_from, lt-ltb, le-ltb, le-leb}
+use Rattle.std.proofs.lemmas.List.{drop-drop, take_more, map-append}
+use Rattle.std.proofs.lemmas.Nat.{from_le_bytes-to_le_bytes_4}
+use Rattle.lis_ports.specs.Bytes.{put}
+use Rattle.lis_ports.proofs.Parts.{part-put, part-put_other, torn-put, length-put}
+use Rattle.lis_journal.specs.Record.{Entry, homes, word, words, count_of, homes_of, rises, is_header}
+
+pub put_between : (xs : List ℕ) (at : ℕ) (bytes : List ℕ) → take at xs ++ (bytes ++ drop (length bytes) (drop at xs)) ≡ put xs at bytes
+unfolding put
+put_between xs at bytes =
+    sym (append_assoc (take at xs) bytes (drop (length bytes) (drop at xs)))
+    ∙ ap (λ ys. take at xs ++ bytes ++ ys) (drop-drop (length bytes) at xs)
+
+pub word-put : (h : List ℕ) (k v : ℕ) → v < 2 ^ 32 → 4 * k + 4 ≤ length h → word k (put h (4 * k) (to_le_bytes w32 v)) ≡ v
+word-put h k v fits le = ap (from_le_bytes w32) (part-put h (4 * k) (to_le_bytes w32 v) le) ∙ from_le_bytes-to_le_bytes_4 v fits
+
+-- a number before stays
+pub word-put_other : (h bytes : List ℕ) (k m : ℕ) → length bytes ≡ 4 → k < m → 4 * m + 4 ≤ length h → word k (put h (4 * m) bytes) ≡ word k h
+word-put_other h bytes k m len lt le =
+    ap (from_le_bytes w32) (part-put_other h (4 * m) bytes (omega (arith, len, le)) (4 * k) 4 (inl (omega (arith, lt))))
+
+pub words-put : (h bytes : List ℕ) (k n m : ℕ) → length bytes ≡ 4 → k + n ≤ m → 4 * m + 4 ≤ length h → words k n (put h (4 * m) bytes) ≡ words k n h
+words-put h bytes k zero m len lt le = refl
+words-put h bytes k (suc n) m len lt le =
+    let less : k + 1 + n ≤ m = omega (arith, lt) in
+    let below : k < m = omega (arith, lt) in
+    ap (λ w. w ∷ words (k + 1) n (put h (4 * m) bytes)) (word-put_other h bytes k m len below le)
+    ∙ ap (λ ws. word k h ∷ ws) (words-put h bytes (k + 1) n m len less le)
+
+pub words-snoc : (h : List ℕ) (k n : ℕ) → words k (suc n) h ≡ words k n h ++ word (k + n) h ∷ []
+words-snoc h k zero = let same : k ≡ k + 0 = omega arith in ap (λ m. word m h ∷ []) same
+words-snoc h k (suc n) =
+    let same : k + 1 + n ≡ k + suc n = omega arith in
+    ap (λ ws. word k h ∷ ws) (words-snoc h (k + 1) n ∙ ap (λ m. words (k + 1) n h ++ word m h ∷ []) same)
+
+pub zeros-drop : (n : ℕ) (xs : List ℕ) → IsTrue (list_all (λ b. b == 0) xs) → IsTrue (list_all (λ b. b == 0) (drop n xs))
+zeros-drop zero xs zeros = zeros
+zeros-drop (suc n) [] zeros = zeros
+zeros-drop (suc n) (x ∷ xs) zeros = zeros-drop n xs (and_parts (x == 0) (list_all (λ b. b == 0) xs) zeros).1
+
+-- the zeros behind a number that is written
+pub zeros_behind : (h bytes : List ℕ) (m : ℕ) → length bytes ≡ 4 → 4 * m + 4 ≤ length h → IsTrue (list_all (λ b. b == 0) (drop (4 * m) h)) → IsTrue (list_all (λ b. b == 0) (drop (4 * (m + 1)) (put h (4 * m) bytes)))
+zeros_behind h bytes m len le zeros =
+    let end : 4 * m + length bytes ≡ 4 * (m + 1) = omega (arith, len) in
+    let next : 4 * m + 4 ≡ 4 * (m + 1) = omega arith in
+    let torn = torn-put h (4 * m) bytes (omega (arith, len, le)) in
+    let same : drop (4 * (m + 1)) (put h (4 * m) bytes) ≡ drop 4 (drop (4 * m) h) =
+    ap (λ n. drop n (put h (4 * m) bytes)) (sym end) ∙ (torn.after ∙ (ap (λ n. drop n h) (end ∙ sym next) ∙ sym (drop-drop 4 (4 * m) h))) in
+    subst (λ xs. IsTrue (list_all (λ b. b == 0) xs)) (sym same) (zeros-drop 4 (drop (4 * m) h) zeros)
+
+-- the next number of those that are left
+pub words_left : (h : List ℕ) (k c : ℕ) → k ≤ c → words k (c + 1 - k) h ≡ word k h ∷ words (k + 1) (c + 1 - (k + 1)) h
+words_left h k c le = let more : c + 1 - k ≡ suc (c + 1 - (k + 1)) = omega arith in ap (λ n. words k n h) more
+
+pub none_left : (h : List ℕ) (k c : ℕ) → c < k → words k (c + 1 - k) h ≡ []
+none_left h k c lt = let none : c + 1 - k ≡ 0 = omega arith in ap (λ n. words k n h) none
+
+-- one home more
+pub rises_on : (blocks last home : ℕ) (hs : List ℕ) → last < home → home < blocks → rises blocks last (home ∷ hs) ≡ rises blocks home hs
+rises_on blocks last home hs above within =
+    ap (λ b. b && nat_lt home blocks && rises blocks home hs) (lt-ltb last home above)
+    ∙ ap (λ b. b && rises blocks home hs) (lt-ltb home blocks within)
+
+pub rises_not : (blocks last home : ℕ) (hs : List ℕ) → (home ≤ last) ⊎ (blocks ≤ home) → rises blocks last (home ∷ hs) ≡ false
+rises_not blocks last home hs (inl low) = ap (λ b. b && nat_lt home blocks && rises blocks home hs) (le-ltb last home low)
+rises_not blocks last home hs (inr high) =
+    ap (λ b. nat_lt last home && b && rises blocks home hs) (le-ltb home blocks high) ∙ no_and (nat_lt last home) (rises blocks home hs)
+  where
+    no_and : (a b : Bool) → (a && false && b) ≡ false
+    no_and true b = refl
+    no_and false b = refl
+
+-- What is written is in form.
+pub header_form : (blocks c : ℕ) (h hs : List ℕ) → 0 < c → c ≤ 575 → word 0 h ≡ c → words 1 c h ≡ hs → IsTrue (rises blocks 577 hs) → IsTrue (list_all (λ b. b == 0) (drop (4 * (c + 1)) h)) → IsTrue (is_header blocks h)
+header_form blocks c h hs some few count done rise zeros =
+    let same : homes_of h ≡ hs = ap (λ n. words 1 n h) count ∙ done in
+    let first : IsTrue (nat_lt 0 (count_of h)) = lt-ltb 0 (count_of h) (omega (arith, some, count)) in
+    let second : IsTrue (nat_le (count_of h) 575) = le-leb (count_of h) 575 (omega (arith, few, count)) in
+    let third : IsTrue (rises blocks 577 (homes_of h)) = subst (λ hs. IsTrue (rises blocks 577 hs)) (sym same) rise in
+    let fourth : IsTrue (list_all (λ b. b == 0) (drop (4 * (count_of h + 1)) h)) = subst (λ n. IsTrue (list_all (λ b. b == 0) (drop (4 * (n + 1)) h))) (sym count) zeros in
+    and_from _ _ (and_from _ _ (and_from _ _ first second) third) fourth
+
+zeros-replicate : (n : ℕ) → IsTrue (list_all (λ b. b == 0) (replicate n 0))
+zeros-replicate zero = refl
+zeros-replicate (suc n) = zeros-replicate n
+
+-- The header so far: the count, these homes, and zeros.
+pub record Begun (h : List ℕ) (c : ℕ) (hs : List ℕ) (k : ℕ) : Type 0 where
+  pub len : length h ≡ 4096
+  pub count : word 0 h ≡ c
+  pub done : words 1 k h ≡ hs
+  pub zeros : IsTrue (list_all (λ b. b == 0) (drop (4 * (k + 1)) h))
+
+pub begin_header : (z h : List ℕ) (c : ℕ) → z ≡ replicate 4096 0 → length z ≡ 4096 → h ≡ put z (4 * 0) (to_le_bytes w32 c) → c < 2 ^ 32 → Begun h c [] 0
+begin_header z h c zeros len is fits =
+    let le : 4 * 0 + 4 ≤ length z = omega (arith, len) in
+    record {
+      len = ap length is ∙ (length-put z (4 * 0) (to_le_bytes w32 c) le ∙ len);
+      count = ap (word 0) is ∙ word-put z 0 c fits le;
+      done = refl;
+      zeros = subst (λ xs. IsTrue (list_all (λ b. b == 0) (drop (4 * (0 + 1)) xs))) (sym is)
+          (zeros_behind z (to_le_bytes w32 c) 0 refl le (subst (λ xs. IsTrue (list_all (λ b. b == 0) xs)) (sym zeros) (zeros-replicate 4096)));
+    }
+
+pub one_home_more : (h h' : List ℕ) (c k : ℕ) (hs : List ℕ) (home : ℕ) → Begun h c hs k → h' ≡ put h (4 * (k + 1)) (to_le_bytes w32 home) → home < 2 ^ 32 → k < 575 → Begun h' c (hs ++ home ∷ []) (k + 1)
+one_home_more h h' c k hs home begun is fits few =
+    let bytes = to_le_bytes w32 home in
+    let le : 4 * (k + 1) + 4 ≤ length h = omega (arith, begun.len, few) in
+    let some : 0 < k + 1 = omega arith in
+    let within : 1 + k ≤ k + 1 = omega arith in
+    let next : k + 1 ≡ suc k = omega arith in
+    let at : 1 + k ≡ k + 1 = omega arith in
+    record {
+      len = ap length is ∙ (length-put h (4 * (k + 1)) bytes le ∙ begun.len);
+      count = ap (word 0) is ∙ (word-put_other h bytes 0 (k + 1) refl some le ∙ begun.count);
+      done = ap (words 1 (k + 1)) is
+          ∙ (ap (λ n. words 1 n (put h (4 * (k + 1)) bytes)) next
+          ∙ (words-snoc (put h (4 * (k + 1)) bytes) 1 k
+          ∙ (ap (λ ws. ws ++ word (1 + k) (put h (4 * (k + 1)) bytes) ∷ []) (words-put h bytes 1 k (k + 1) refl within le ∙ begun.done)
+          ∙ ap (λ w. hs ++ w ∷ []) (ap (λ n. word n (put h (4 * (k + 1)) bytes)) at ∙ word-put h (k + 1) home fits le))));
+      zeros = subst (λ xs. IsTrue (list_all (λ b. b == 0) (drop (4 * (k + 1 + 1)) xs))) (sym is) (zeros_behind h bytes (k + 1) refl le begun.zeros);
+    }
+
+pub homes-take : (es : List Entry) (k : ℕ) (d : Entry) (home : ℕ) → k < length es → home ≡ (get_or es k d).home → homes (take k es) ++ home ∷ [] ≡ homes (take (k + 1) es)
+homes-take es k d home lt is =
+    ap (λ h. homes (take k es) ++ h ∷ []) is
+    ∙ (sym (map-append (λ (e : Entry). e.home) (take k es) (get_or es k d ∷ [])) ∙ ap homes (sym (take_more es k d lt)))
+
+-- one comparison of the homes
+pub rises_step : (blocks last home k c : ℕ) (h : List ℕ) → k ≤ c → home ≡ word k h → last < home → home < blocks → rises blocks last (words k (c + 1 - k) h) ≡ rises blocks home (words (k + 1) (c + 1 - (k + 1)) h)
+rises_step blocks last home k c h le is above within =
+    ap (rises blocks last) (words_left h k c le ∙ ap (λ w. w ∷ words (k + 1) (c + 1 - (k + 1)) h) (sym is))
+    ∙ rises_on blocks last home (words (k + 1) (c + 1 - (k + 1)) h) above within
+
+pub rises_stop : (blocks last home k c : ℕ) (h : List ℕ) → k ≤ c → home ≡ word k h → (home ≤ last) ⊎ (blocks ≤ home) → rises blocks last (words k (c + 1 - k) h) ≡ false
+rises_stop blocks last home k c h le is out =
+    ap (rises blocks last) (words_left h k c le ∙ ap (λ w. w ∷ words (k + 1) (c + 1 - (k + 1)) h) (sym is))
+    ∙ rises_not blocks last home (words (k + 1) (c + 1 - (k + 1)) h) out

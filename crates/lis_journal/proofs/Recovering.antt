@@ -1,0 +1,151 @@
+-- A recovery, call by call: what is known of the disk before it writes, and how it ends.
+use Rattle.std.proofs.Common.{◌≡◌, ◌⊎◌, inl, inr, ℕ, ◌*◌, ◌<◌, ◌≤◌, true, false, List, length, Option, Some, None, IsSomeAnd, IsTrue, refl, sym, ◌∙◌, ap, subst, arith}
+use Rattle.lis_ports.specs.Meaning.{Meaning}
+use Rattle.lis_ports.specs.Bytes.{part}
+use Rattle.lis_ports.specs.Runs.{IsDiskRun, Leaves, Always}
+use Rattle.lis_ports.specs.Calls.{Elapses, IsSynced, IsUnchanged}
+use Rattle.lis_ports.proofs.Moments.{leaves_call, leaves_then, leaves_weaken}
+use Rattle.lis_ports.proofs.Parts.{part-part}
+use Rattle.lis_journal.specs.Record.{block, is_open, area, header, homes_of, is_header, is_record, recorded, entries_from, apply, replayed}
+use Rattle.lis_journal.specs.Images.{look, Keeps, StandsFor, IsAtRest, Fits, KeepsPast}
+use Rattle.lis_journal.specs.Staging.{Staging, IsStaging}
+use Rattle.lis_journal.specs.Spreads.{Spreads, Same}
+use Rattle.lis_journal.specs.Phases.{Open, looked}
+use Rattle.lis_journal.specs.Recovery.{StandsForReplayed, Recovered}
+use Rattle.lis_journal.proofs.Entries.{Within, block-apply}
+use Rattle.lis_journal.proofs.Spreading.{always_spread}
+use Rattle.lis_journal.proofs.Phases.{replayed-closed, replayed-open, replayed-bad}
+use Rattle.lis_journal.proofs.Saving.{plan_of}
+
+-- So far the disk was synced and read: it reads as at the start, and a crash leaves that and nothing else.
+pub record Reading (old m : Meaning) : Type 0 where
+  pub settled : Always m (Same old.bytes)
+  pub within : (image : List ℕ) → m.images image → old.images image
+  pub leaves : Leaves old m old.images
+
+pub after_sync : {old m : Meaning} → IsDiskRun old m → Elapses old m → IsSynced old m → Reading old m
+after_sync {old} {m} run time synced = record {
+  settled = record { reads = synced.bytes; leaves = λ image is. (synced.images.only image is).1 };
+  within = λ image is. (synced.images.only image is).0;
+  leaves = leaves_call old.images run time (λ image is. (synced.images.only image is).0);
+}
+
+pub reading_on : {old m n : Meaning} → Reading old m → Spreads m n Same → Reading old n
+reading_on {old} {m} {n} reading quiet =
+    let come : (image : List ℕ) → (from : List ℕ) × m.images from × Same from image → old.images image = λ image was. subst old.images (sym was.2) (reading.within was.0 was.1) in
+    record {
+      settled = always_spread Same (Same old.bytes) reading.settled quiet (λ from image s e. e ∙ s);
+      within = λ image is. come image (quiet.images image is);
+      leaves = leaves_then reading.leaves (leaves_weaken old.images quiet.moments come);
+    }
+
+pub reading_read : {old m n : Meaning} → Reading old m → IsDiskRun m n → Elapses m n → IsUnchanged m n → Reading old n
+reading_read {old} {m} {n} reading run time same = record {
+  settled = record {
+    reads = same.bytes ∙ reading.settled.reads;
+    leaves = λ image is. reading.settled.leaves image (same.images.only image is);
+  };
+  within = λ image is. reading.within image (same.images.only image is);
+  leaves = leaves_then reading.leaves (leaves_call old.images run time (λ image is. reading.within image (same.images.only image is)));
+}
+
+some_and : (P : List ℕ → Type 0) {r : List ℕ} (o : Option (List ℕ)) → o ≡ Some r → P r → IsSomeAnd o P
+some_and P o is p = subst (λ o. IsSomeAnd o P) (sym is) p
+
+always_same : {old m : Meaning} (Q : List ℕ → Type 0) → Reading old m → Q old.bytes → Always m Q
+always_same Q reading q = record {
+  reads = subst Q (sym reading.settled.reads) q;
+  leaves = λ image is. subst Q (sym (reading.settled.leaves image is)) q;
+}
+
+-- with a closed gate nothing is to be done
+pub closed_recovered : (blocks : ℕ) (old m : Meaning) → Reading old m → IsTrue m.is_honest → is_open old.bytes ≡ false → 4096 * blocks ≤ length old.bytes → Recovered blocks old m true
+closed_recovered blocks old m reading honest closed long =
+    some_and _ (replayed blocks old.bytes) (replayed-closed blocks old.bytes closed) (record {
+      honest = honest;
+      all = always_same (IsAtRest blocks (λ n. block n old.bytes)) reading (record { closed = closed; keeps = record { long = long; same = λ n out. refl } });
+    })
+
+header-area : (bytes : List ℕ) → header (area bytes) ≡ part 8192 4096 bytes
+header-area bytes = part-part 0 4096 8192 2359296 bytes (omega arith)
+
+pub record-header : (blocks : ℕ) (bytes head : List ℕ) → head ≡ part 8192 4096 bytes → is_record blocks (area bytes) ≡ is_header blocks head
+unfolding is_record
+record-header blocks bytes head is = ap (is_header blocks) (header-area bytes ∙ sym is)
+
+pub recorded-header : (bytes head : List ℕ) → head ≡ part 8192 4096 bytes → recorded (area bytes) ≡ entries_from 1 (homes_of head) (area bytes)
+unfolding recorded
+recorded-header bytes head is = ap (λ h. entries_from 1 (homes_of h) (area bytes)) (header-area bytes ∙ sym is)
+
+-- a record that is not in form
+pub bad_recovered : (blocks : ℕ) (old m : Meaning) (head : List ℕ) → Reading old m → is_open old.bytes ≡ true → head ≡ part 8192 4096 old.bytes → is_header blocks head ≡ false → Recovered blocks old m false
+bad_recovered blocks old m head reading opened is bad = (
+  replayed-bad blocks old.bytes opened (record-header blocks old.bytes head is ∙ bad),
+  record { reads = reading.settled.reads; only = reading.settled.leaves },
+)
+
+-- what is known where the record is in form and in memory
+pub record Ready (blocks : ℕ) (old m : Meaning) (s : Staging) : Type 0 where
+  pub reading : Reading old m
+  pub opened : is_open old.bytes ≡ true
+  pub form : is_record blocks (area old.bytes) ≡ true
+  pub loaded : recorded (area old.bytes) ≡ s.entries
+  pub blocks_are : s.blocks ≡ blocks
+  pub long : 4096 * blocks ≤ length old.bytes
+  pub enough : 578 < blocks
+  pub staging : IsStaging s
+
+module _ {blocks : ℕ} {old m : Meaning} {s : Staging} (ready : Ready blocks old m s) where
+  was : ℕ → List ℕ
+  was n = block n old.bytes
+
+  pub ready_open : Always m (Open s.blocks (λ n. block n old.bytes) s.entries)
+  ready_open = subst (λ b. Always m (Open b (λ n. block n old.bytes) s.entries)) (sym ready.blocks_are)
+      (always_same (Open blocks (λ n. block n old.bytes) s.entries) ready.reading (record {
+        opened = ready.opened;
+        long = ready.long;
+        spelled = record { form = ready.form; holds = ready.loaded };
+        looks = λ n out. refl;
+      }))
+
+  ready_within : Within blocks s.entries
+  ready_within =
+      let enough : 578 < s.blocks = subst (λ b. 578 < b) (sym ready.blocks_are) ready.enough in
+      subst (λ b. Within b s.entries) ready.blocks_are (plan_of s enough ready.staging).within
+
+  replayed-ready : replayed blocks old.bytes ≡ Some (apply s.entries old.bytes)
+  replayed-ready = replayed-open blocks old.bytes ready.opened ready.form ∙ ap (λ es. Some (apply es old.bytes)) ready.loaded
+
+  block-ready : (n : ℕ) → look s.entries n (block n old.bytes) ≡ block n (apply s.entries old.bytes)
+  block-ready n = sym (block-apply blocks s.entries old.bytes n ready_within ready.long)
+
+  keeps_replayed : (image : List ℕ) → Keeps blocks (looked s.entries (λ n. block n old.bytes)) image → Keeps blocks (λ n. block n (apply s.entries old.bytes)) image
+  keeps_replayed image keeps = record { long = keeps.long; same = λ n out. keeps.same n out ∙ block-ready n }
+
+  stands_replayed : (image : List ℕ) → StandsFor s.blocks (looked s.entries (λ n. block n old.bytes)) image → StandsForReplayed blocks old.bytes image
+  unfolding StandsFor
+  stands_replayed image stands =
+      some_and _ (replayed blocks old.bytes) replayed-ready
+      (by (replayed blocks image) (subst (λ b. IsSomeAnd (replayed b image) (Keeps b (looked s.entries (λ n. block n old.bytes)))) ready.blocks_are stands))
+    where
+      by : (o : Option (List ℕ)) → IsSomeAnd o (Keeps blocks (looked s.entries (λ n. block n old.bytes))) → IsSomeAnd o (Keeps blocks (λ n. block n (apply s.entries old.bytes)))
+      by None h = h
+      by (Some r) h = keeps_replayed r h
+
+  pub finish_leaves : {n : Meaning} → Leaves m n (StandsFor s.blocks (looked s.entries (λ k. block k old.bytes))) → Leaves old n (λ image. old.images image ⊎ StandsForReplayed blocks old.bytes image)
+  finish_leaves leaves =
+      leaves_then (leaves_weaken _ ready.reading.leaves (λ image is. inl is)) (leaves_weaken _ leaves (λ image is. inr (stands_replayed image is)))
+
+  pub finish_recovered : {n : Meaning} → Fits s.blocks n (looked s.entries (λ k. block k old.bytes)) → Recovered blocks old n true
+  finish_recovered {n} fits =
+      let same : Fits blocks n (looked s.entries (λ k. block k old.bytes)) = subst (λ b. Fits b n (looked s.entries (λ k. block k old.bytes))) ready.blocks_are fits in
+      some_and _ (replayed blocks old.bytes) replayed-ready (record {
+        honest = same.honest;
+        all = record {
+          reads = record { closed = same.all.reads.closed; keeps = keeps_replayed n.bytes same.all.reads.keeps };
+          leaves = λ image is. let rest = same.all.leaves image is in record { closed = rest.closed; keeps = keeps_replayed image rest.keeps };
+        };
+      })
+
+  pub finish_past : (n : Meaning) → ((k : ℕ) → s.blocks ≤ k → block k n.bytes ≡ block k old.bytes) → KeepsPast blocks old n
+  finish_past n past = subst (λ b. (k : ℕ) → b ≤ k → block k n.bytes ≡ block k old.bytes) ready.blocks_are past

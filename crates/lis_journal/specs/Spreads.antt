@@ -1,0 +1,25 @@
+-- A run of disk calls by what it makes of each image.
+use Rattle.std.specs.Prelude.{◌≡◌, ◌⊎◌, ℕ, ◌*◌, ◌+◌, ◌≤◌, List, [], ◌∷◌, length}
+use Rattle.lis_ports.specs.Meaning.{Meaning}
+use Rattle.lis_ports.specs.Bytes.{part}
+use Rattle.lis_ports.specs.Runs.{Leaves}
+use Rattle.lis_journal.specs.Record.{Entry}
+
+-- Each image, at each moment and at the end, and the bytes as they read at the end, come from one of before by R.
+pub record Spreads (old new : Meaning) (R : List ℕ → List ℕ → Type 0) : Type 0 where
+  pub moments : Leaves old new (λ image. (from : List ℕ) × old.images from × R from image)
+  pub images : (image : List ℕ) → new.images image → (from : List ℕ) × old.images from × R from image
+  pub reads : (from : List ℕ) × (old.images from ⊎ (from ≡ old.bytes)) × R from new.bytes
+
+-- the range is clear of the blocks of these entries
+abbrev pub IsClear : List Entry → ℕ → ℕ → Type 0
+IsClear [] at n = Unit {0}
+IsClear (e ∷ entries) at n = ((at + n ≤ 4096 * e.home) ⊎ (4096 * e.home + 4096 ≤ at)) × IsClear entries at n
+
+-- the same bytes wherever it is clear of the blocks of these entries
+pub record Touched (entries : List Entry) (old new : List ℕ) : Type 0 where
+  pub len : length new ≡ length old
+  pub clear : (at n : ℕ) → IsClear entries at n → part at n new ≡ part at n old
+
+abbrev pub Same : List ℕ → List ℕ → Type 0
+Same from image = image ≡ from

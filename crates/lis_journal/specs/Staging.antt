@@ -1,0 +1,26 @@
+-- Staged blocks as they are seen: a finite map from homes to contents.
+use Rattle.std.specs.Prelude.{ℕ, ◌≤◌, ◌==◌, nat_lt, Bool, if◌then◌else◌, List, [], ◌∷◌, length, IsTrue}
+use Rattle.std.specs.List.{list_all, list_any}
+use Rattle.lis_journal.specs.Record.{Entry, homes, rises}
+
+-- for an image of so many blocks, the entries in the order of their homes
+pub record Staging : Type 0 where
+  pub blocks : ℕ
+  pub entries : List Entry
+
+-- the entries with this one, in the place of that of its home if there is one
+abbrev pub with_entry : List Entry → ℕ → List ℕ → List Entry
+with_entry [] home bytes = record { home = home; bytes = bytes } ∷ []
+with_entry (e ∷ es) home bytes =
+    if nat_lt e.home home then e ∷ with_entry es home bytes
+    else (if e.home == home then record { home = home; bytes = bytes } ∷ es else record { home = home; bytes = bytes } ∷ e ∷ es)
+
+-- a block is staged
+abbrev pub has_entry : List Entry → ℕ → Bool
+has_entry es n = list_any (λ e. e.home == n) es
+
+-- The homes rise, are home blocks inside the image, and each content is a block.
+pub record IsStaging (s : Staging) : Type 0 where
+  pub rise : IsTrue (rises s.blocks 577 (homes s.entries))
+  pub whole : IsTrue (list_all (λ e. length e.bytes == 4096) s.entries)
+  pub few : length s.entries ≤ 575

@@ -1,0 +1,79 @@
+-- The laws at small states: a listing and a route, states that are well formed, and axioms in a circle, where the laws fail.
+use Rattle.std.proofs.Common.{◌≡◌, ℕ, false, List, [], ◌∷◌, codes, refl, arith}
+use Rattle.lis_grammar.specs.Formula.Formula.{Has}
+use Rattle.lis_model.specs.declared.limits.Limits.{Limits}
+use Rattle.lis_model.specs.State.{State, File, WellFormed, is_acyclic, description, edges}
+use Rattle.lis_model.specs.Table.{table, entry_of}
+use Rattle.lis_model.specs.Listing.{increments, locals}
+use Rattle.lis_model.specs.Route.{route}
+use Rattle.lis_laws.proofs.Chains.{acyclic_decides}
+
+abbrev small : Limits
+small = record { files = 64; props = 64; blocks = 8 }
+
+abbrev file : List ℕ → List (List ℕ) → File
+file name assigned = record { name = name; bytes = []; assigned = assigned }
+
+-- ---- a state that is well formed
+-- rock and jazz are music, and large files are marked so
+abbrev tree : State
+tree = record {
+  limits = small;
+  declared = codes "jazz" ∷ codes "marked" ∷ codes "music" ∷ codes "rock" ∷ [];
+  axioms = (codes "jazz", codes "music") ∷ (codes "rock", codes "music") ∷ (codes "size:large", codes "marked") ∷ [];
+  files = file (codes "n1") [] ∷ file (codes "s1") (codes "rock" ∷ []) ∷ file (codes "s2") (codes "jazz" ∷ []) ∷ [];
+}
+
+tree_formed : WellFormed tree
+tree_formed = record {
+  declared_set = refl;
+  axiom_set = refl;
+  file_set = refl;
+  declared = refl;
+  axioms = record { rights = refl; lefts = refl; acyclic = (acyclic_decides (edges tree)).0 refl };
+  files = record { assigned_sets = refl; assigned = refl; few_assigned = refl; few_words = refl; short = refl };
+  few_files = omega arith;
+  few_known = omega arith;
+  few_axioms = omega arith;
+  few_blocks = omega arith;
+}
+
+-- ---- its listings, and a route
+s1_has : description tree (file (codes "s1") (codes "rock" ∷ [])) ≡ codes "music" ∷ codes "rock" ∷ []
+s1_has = refl
+
+tree_shows : increments (table tree) [] ≡ codes "music" ∷ []
+tree_shows = refl
+
+tree_keeps : locals (table tree) [] ≡ entry_of (edges tree) (file (codes "n1") []) ∷ []
+tree_keeps = refl
+
+music_shows : increments (table tree) (Has (codes "music") ∷ []) ≡ codes "jazz" ∷ codes "rock" ∷ []
+music_shows = refl
+
+music_keeps : locals (table tree) (Has (codes "music") ∷ []) ≡ []
+music_keeps = refl
+
+s1_route : route (table tree) [] (entry_of (edges tree) (file (codes "s1") (codes "rock" ∷ []))) ≡ codes "music" ∷ codes "rock" ∷ []
+s1_route = refl
+
+n1_route : route (table tree) [] (entry_of (edges tree) (file (codes "n1") [])) ≡ []
+n1_route = refl
+
+-- ---- axioms in a circle: each of the two words hides the other, and no increment covers x
+abbrev circle : State
+circle = record {
+  limits = small;
+  declared = codes "a" ∷ codes "b" ∷ [];
+  axioms = (codes "a", codes "b") ∷ (codes "b", codes "a") ∷ [];
+  files = file (codes "x") (codes "a" ∷ []) ∷ file (codes "y") [] ∷ [];
+}
+
+circle_has_circle : is_acyclic (edges circle) ≡ false
+circle_has_circle = refl
+
+circle_shows : increments (table circle) [] ≡ []
+circle_shows = refl
+
+circle_keeps : locals (table circle) [] ≡ entry_of (edges circle) (file (codes "y") []) ∷ []
+circle_keeps = refl

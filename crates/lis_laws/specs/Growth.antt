@@ -1,0 +1,19 @@
+-- Which words become known when something comes into a state.
+use Rattle.std.specs.Prelude.{◌≡◌, ℕ, not, ◌&&◌, List, ◌∷◌, IsTrue}
+use Rattle.lis_words.specs.Words.{has_word, is_plain_word}
+use Rattle.lis_model.specs.Sets.{with_word, with_words}
+use Rattle.lis_model.specs.State.{State, File, WellFormed, heads, description, known}
+use Rattle.lis_model.specs.Step.{has_name}
+use Rattle.lis_laws.specs.Changes.{word_declared, axiom_added, file_added}
+
+-- The sets are equal as lists, so their lengths are too.
+abbrev pub KnownGrows : Type 0
+KnownGrows = (s : State) → WellFormed s → record {
+  -- the word itself
+  declares : (word : List ℕ) → known (word_declared s word) ≡ with_word (known s) word;
+  -- the words of a new file
+  adds_file : (file : File) → IsTrue (not (has_name s.files file.name)) → known (file_added s file) ≡ with_words (known s) (description s file);
+  -- the left side of an axiom and its head, since all that its right side entails is declared
+  adds_axiom : (l r : List ℕ) → IsTrue (is_plain_word r && has_word s.declared r)
+      → known (axiom_added s (l, r)) ≡ with_words (known s) (l ∷ heads l);
+}

@@ -1,0 +1,4 @@
+pub mod Laws
+pub mod Changes
+pub mod Steps
+pub mod Growth

@@ -1,0 +1,67 @@
+//! The laws that the definitions of the model keep, each the contract of a function with nothing to do.
+#![tactic(auto)]
+
+ghost use Rattle.lis_laws.specs.Changes.{ChangesKeepForm};
+ghost use Rattle.lis_laws.specs.Growth.{KnownGrows};
+ghost use Rattle.lis_laws.specs.Laws.{TestsAreChains, NoTies, LocalsAreUncovered, LocalsByFile, RoutesLead, AxiomsAdd, DescriptionsAdd};
+ghost use Rattle.lis_laws.specs.Steps.{ItemsAreFormed, StepsKeepForm, SessionsAreFormed};
+
+/// What a word entails, and whether axioms lead in a circle, is what chains of links say.
+pub fn tests_are_chains()
+    ensures { TestsAreChains }
+{}
+
+/// Two different words never entail each other.
+pub fn no_ties()
+    ensures { NoTies }
+{}
+
+/// The locals are the files of the extension that have no increment.
+pub fn locals_are_uncovered()
+    ensures { LocalsAreUncovered }
+{}
+
+/// The same, file by file.
+pub fn locals_by_file()
+    ensures { LocalsByFile }
+{}
+
+/// Increments lead to each file of the extension, and are fewer than its files.
+pub fn routes_lead()
+    ensures { RoutesLead }
+{}
+
+/// What one more axiom adds to entailment, and when it makes a circle.
+pub fn axioms_add()
+    ensures { AxiomsAdd }
+{}
+
+/// What one more axiom adds to the words of a file.
+pub fn descriptions_add()
+    ensures { DescriptionsAdd }
+{}
+
+/// What a change of a state needs so that the state stays well formed.
+pub fn changes_keep_form()
+    ensures { ChangesKeepForm }
+{}
+
+/// The words of every item of an input have the forms of words and of names.
+pub fn items_are_formed()
+    ensures { ItemsAreFormed }
+{}
+
+/// A step keeps states well formed and places within their limits.
+pub fn steps_keep_form()
+    ensures { StepsKeepForm }
+{}
+
+/// All that a session from the empty state comes to is in form.
+pub fn sessions_are_formed()
+    ensures { SessionsAreFormed }
+{}
+
+/// Which words become known when a word, a file or an axiom comes into a state.
+pub fn known_grows()
+    ensures { KnownGrows }
+{}

@@ -1,0 +1,4 @@
+pub mod LineLemmas
+pub mod TokenLemmas
+pub mod MailLemmas
+mod Examples

@@ -1,0 +1,64 @@
+-- The lines and the fields of a mail's header.
+use Rattle.std.specs.Prelude.{ℕ, ◌==◌, nat_le, Bool, true, false, not, ◌&&◌, ◌||◌, if◌then◌else◌, List, [], ◌∷◌, ◌++◌, map}
+use Rattle.std.specs.List.{slice_split, take_while, concat, list_any, list_all, before_first, after_first}
+
+abbrev pub is_feed : ℕ → Bool
+is_feed b = b == 10
+
+-- space or tab
+abbrev pub is_blank : ℕ → Bool
+is_blank b = (b == 32) || (b == 9)
+
+abbrev pub is_colon : ℕ → Bool
+is_colon b = b == 58
+
+abbrev pub is_some_bytes : List ℕ → Bool
+is_some_bytes [] = false
+is_some_bytes (b ∷ bytes) = true
+
+-- A line ends with CR and LF (RFC 5322, section 2.1), or with LF alone (this project's own): one CR at its end is dropped.
+abbrev pub without_return : List ℕ → List ℕ
+without_return [] = []
+without_return (b ∷ []) = if b == 13 then [] else b ∷ []
+without_return (b ∷ c ∷ bytes) = b ∷ without_return (c ∷ bytes)
+
+-- the lines of a mail; what stands behind the last line feed is one too
+abbrev pub lines : List ℕ → List (List ℕ)
+lines bytes = map without_return (slice_split is_feed bytes)
+
+-- The header: the lines before the first empty one (RFC 5322, section 2.1), or all of them.
+abbrev pub header : List ℕ → List (List ℕ)
+header bytes = take_while is_some_bytes (lines bytes)
+
+-- A field's name: printable US-ASCII, but no colon (RFC 5322, section 2.2).
+abbrev pub is_name_byte : ℕ → Bool
+is_name_byte b = nat_le 33 b && nat_le b 126 && not (is_colon b)
+
+abbrev pub is_field_name : List ℕ → Bool
+is_field_name name = is_some_bytes name && list_all is_name_byte name
+
+-- A line that begins a field: a name and a colon (RFC 5322, section 2.2), with nothing between them.
+abbrev pub is_field : List ℕ → Bool
+is_field line = list_any is_colon line && is_field_name (before_first is_colon line)
+
+-- A line that a fold begins: its first byte is a space or a tab (RFC 5322, section 2.2.3).
+abbrev pub is_folded : List ℕ → Bool
+is_folded [] = false
+is_folded (b ∷ bytes) = is_blank b
+
+-- a field, with its name as it is written and its body without the folds
+pub record Field : Type 0 where
+  pub name : List ℕ
+  pub body : List ℕ
+
+-- The body of a field is what stands behind the colon, and the folded lines that follow (RFC 5322, section 2.2.3).
+abbrev pub field_of : List ℕ → List (List ℕ) → Field
+field_of line following = record {
+  name = before_first is_colon line;
+  body = after_first is_colon line ++ concat (take_while is_folded following);
+}
+
+-- The fields in order. A line that begins no field and is in none is passed over (this project's own).
+abbrev pub fields : List (List ℕ) → List Field
+fields [] = []
+fields (line ∷ following) = if is_field line then field_of line following ∷ fields following else fields following

@@ -1,0 +1,4 @@
+mod Steps
+mod Picks
+mod Stored
+mod Redo

@@ -1,0 +1,49 @@
+-- A station in memory as it is seen, and when it fails.
+use Rattle.std.specs.Prelude.{◌≡◌, ℕ, ◌-◌, ◌^◌, ◌==◌, nat_lt, Bool, ◌||◌, List, []}
+use Rattle.std.specs.List.{list_any}
+use Rattle.lis_ports.specs.Meaning.{Meaning}
+use Rattle.lis_memdisk.specs.declared.mem_station.MemStation.{MemStation}
+use Rattle.lis_memdisk.specs.Changes.{State, fresh, state_at}
+use Rattle.lis_memdisk.specs.Seen.{Seen, meaning, next_of, is_full, cost_of, show_cost_of, first_seen}
+use Rattle.lis_memdisk.specs.History.{seen_of}
+
+-- what it holds, whatever it was told
+abbrev pub held : MemStation → Seen
+held m = seen_of m.history
+
+abbrev pub meaning_of : MemStation → Meaning
+meaning_of m = meaning (held m) m.disk_faults m.show_faults
+
+-- The fuse is spent: the number of the next call of the disk is past it. The greatest fuse is never spent.
+abbrev pub is_spent : MemStation → Bool
+is_spent m = nat_lt m.fuse (next_of (held m).calls)
+
+-- The next call of the disk was told to fail.
+abbrev pub is_told : MemStation → Bool
+is_told m = list_any (λ n. n == next_of (held m).calls) m.fails.items || is_spent m
+
+-- The next call that shows was told to fail.
+abbrev pub is_told_to_show : MemStation → Bool
+is_told_to_show m = list_any (λ n. n == next_of (held m).shows) m.show_fails.items || is_spent m
+
+-- Its record has no room for a call of the disk that gives n bytes.
+abbrev pub lacks_room : MemStation → ℕ → Bool
+lacks_room m n = is_full (held m).is_kept (held m).left (held m).calls (cost_of (held m).is_kept n)
+
+-- It has no room for n bytes that are shown.
+abbrev pub lacks_room_to_show : MemStation → ℕ → Bool
+lacks_room_to_show m n = is_full (held m).is_kept (held m).left (held m).shows (show_cost_of (held m).is_kept n)
+
+-- the state when a call of the disk answered
+abbrev pub state_of : MemStation → ℕ → State
+state_of m call = state_at (fresh (held m).start) call (held m).changes
+
+-- A new station: it reads as these bytes, nothing was written or shown, no call failed, and none was told to fail.
+pub record IsNew (m : MemStation) (bytes : List ℕ) (room : ℕ) : Type 0 where
+  pub held_is : held m ≡ first_seen bytes room
+  pub disk_faults : m.disk_faults ≡ 0
+  pub show_faults : m.show_faults ≡ 0
+  pub fails : m.fails.items ≡ []
+  pub show_fails : m.show_fails.items ≡ []
+  pub fuse : m.fuse ≡ 2 ^ 64 - 1
+  pub step : m.step ≡ 65536

@@ -1,0 +1,14 @@
+//! Stations: one in memory, that a test can let fail and crash, and one over a file and a writer.
+#![tactic(auto)]
+
+mod bytes;
+mod event;
+mod file_station;
+mod history;
+mod mem_station;
+
+pub use file_station::FileStation;
+pub use mem_station::MemStation;
+
+#[cfg(test)]
+mod tests;

@@ -1,0 +1,103 @@
+//! Words that are derived from a file.
+
+ghost use Rattle.std.specs.Prelude.{◌≡◌, ◌==◌, ℕ, ◌<◌, ◌≤◌, List, [], length, IsTrue, slice_get};
+ghost use Rattle.lis_words.specs.Words.{has_word};
+ghost use Rattle.lis_model.specs.Noted.{noted, are_distinct};
+
+use arrayvec::ArrayVec;
+use lis_words::Word;
+use std::marker::Model;
+
+/// The most words that are derived from one file.
+pub const MAX_DERIVED: usize = 48;
+
+/// At most 48 distinct words, in the order in which they were noted.
+#[derive(Drop, Debug)]
+pub struct Derived {
+    words: ArrayVec<Word, 48>,
+}
+
+impl Model for Derived {
+    ghost use Rattle.std.specs.Prelude.{ℕ, List, IsTrue};
+    ghost use Rattle.lis_model.specs.Noted.{are_distinct};
+
+    ghost Value = { List (List ℕ) };
+
+    ghost view = { λ d. d.words.items };
+
+    ghost invariant = { λ d. IsTrue (are_distinct d.words.items) };
+}
+
+impl Derived {
+    pub fn new() -> Derived
+        ensures { result ≡ [] }
+    {
+        Derived {
+            words: ArrayVec::new(),
+        }
+    }
+
+    /// How many words there are.
+    pub fn len(&self) -> usize
+        ensures value { result ≡ length self.now }
+        ensures few { result ≤ 48 }
+        ensures distinct { IsTrue (are_distinct self.now) }
+    {
+        self.words.len()
+    }
+
+    pub fn is_empty(&self) -> bool
+        ensures { result ≡ (length self.now == 0) }
+    {
+        self.words.is_empty()
+    }
+
+    fn has(&self, word: &Word) -> bool
+        ensures { result ≡ has_word self.now word.now }
+    {
+        self.words.as_slice().iter().any(|held| held == word)
+    }
+
+    /// Appends the word where it is not there and fewer than 48 are; else it changes nothing.
+    pub fn note(&mut self, word: &Word)
+        ensures { self.new ≡ noted self.old word.now }
+    {
+        if self.has(word) {
+            return;
+        }
+        if self.words.is_full() {
+            return;
+        }
+        self.words.push(word.copied());
+    }
+
+    /// The same words, without memory taken: unlike `clone`, it can't fail.
+    pub fn copied(&self) -> Derived
+        ensures { result ≡ self.now }
+    {
+        let mut words = ArrayVec::new();
+        for word in self.words.as_slice() {
+            words.push(word.copied());
+        }
+        Derived { words }
+    }
+
+    /// The words, in order.
+    pub fn as_slice(&self) -> &[Word]
+        ensures words { result.now ≡ self.now }
+        ensures few { length result.now ≤ 48 }
+        ensures distinct { IsTrue (are_distinct result.now) }
+    {
+        self.words.as_slice()
+    }
+
+    /// The word at place `k`, counted from 0. None comes exactly where there is none.
+    pub fn word(&self, k: u32) -> Option<Word>
+        ensures { result ≡ slice_get self.now k }
+    {
+        match self.words.as_slice().get(k as usize) {
+            None => None,
+            Some(word) => Some(word.copied()),
+        }
+    }
+}

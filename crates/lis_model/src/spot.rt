@@ -1,0 +1,22 @@
+//! Where an image is not one that this program wrote.
+
+/// The part of an image at which a check of opening failed.
+#[derive(Clone, Copy, Debug, PartialEq, Eq)]
+pub enum Spot {
+    /// The super block.
+    Super,
+    /// The block that counts the blocks of a record.
+    BadRecord(u32),
+    /// A property slot.
+    Property(u32),
+    /// An axiom slot.
+    Axiom(u32),
+    /// A file slot.
+    File(u32),
+    /// A property slot whose word is not known.
+    Word(u32),
+    /// A bit of the bitmap.
+    Bitmap(u32),
+    /// An extension row.
+    Row(u32),
+}

@@ -1,0 +1,4 @@
+pub mod Trees
+pub mod Tallies
+pub mod Lasts
+pub mod Kept

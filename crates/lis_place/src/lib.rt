@@ -1,0 +1,11 @@
+//! Places: formulas as lists of nodes within limits, the paths that formula texts read to, and texts.
+#![tactic(auto)]
+
+mod limits;
+mod node;
+mod place;
+mod text;
+
+pub use node::Node;
+pub use place::{Path, Place};
+pub use text::Text;

@@ -1,0 +1,6 @@
+mod Places
+mod Entries
+mod Stacks
+mod PlaceWords
+mod KnownWords
+mod Rows

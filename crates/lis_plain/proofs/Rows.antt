@@ -1,0 +1,82 @@
+-- Where a row of refusals ends.
+use Rattle.std.proofs.Common.{◌≡◌, ℕ, ◌<◌, ◌≤◌, nat_lt, nat_le, suc, inl, inr, Bool, true, false, List, [], ◌∷◌, length, refl, ap, sym, ◌∙◌}
+use Rattle.std.specs.List.{list_all, flat_map}
+use Rattle.std.specs.BTreeSet.{insert_key}
+use Rattle.std.proofs.lemmas.Bool.Decides.{leb_tells}
+use Rattle.lis_words.specs.Words.{has_word, is_valued, is_built_in}
+use Rattle.lis_grammar.specs.Formula.{Formula}
+use Rattle.lis_model.specs.declared.limits.Limits.{Limits}
+use Rattle.lis_model.specs.declared.refusal.Refusal.{Refusal}
+use Rattle.lis_model.specs.declared.refusal.Refusal.TheVariants.{NoPropertyRoom}
+use Rattle.lis_model.specs.Sets.{with_word, with_words}
+use Rattle.lis_model.specs.State.{File, file_cmp, file_words, is_assignable}
+use Rattle.lis_model.specs.Places.{is_root}
+use Rattle.lis_model.specs.Replies.{ok_line, refusal_line}
+use Rattle.lis_model.specs.Step.{Situation, Outcome, refused, changed, mkdir, new_file}
+use Rattle.lis_plain.specs.Carries.{filed}
+use Rattle.lis_plain.proofs.Entries.{at_place}
+
+-- an outcome that is a refusal changes nothing
+pub as_refused : (now : Situation) (outcome : Outcome) (refusal : Refusal) → outcome ≡ refused now refusal → (now ≡ outcome.next) × (outcome.reply ≡ refusal_line refusal)
+as_refused now outcome refusal is = (sym (ap (λ (o : Outcome). o.next) is), ap (λ (o : Outcome). o.reply) is)
+
+-- an outcome that changes what is kept
+pub as_done : (made after : Situation) (outcome : Outcome) → outcome ≡ record { next = after; reply = ok_line } → made ≡ after
+    → (made ≡ outcome.next) × (outcome.reply ≡ ok_line)
+as_done made after outcome is same = (same ∙ sym (ap (λ (o : Outcome). o.next) is), ap (λ (o : Outcome). o.reply) is)
+
+pub not_over : (a b : ℕ) → (a < b → ⊥) → nat_lt a b ≡ false
+not_over a b h = elim (leb_tells (suc a) b) as (λ _. nat_lt a b ≡ false) [ inl t ↦ absurd (h t.1) | inr t ↦ t.0 ]
+
+pub not_reached : (a b : ℕ) → (a ≤ b → ⊥) → nat_le a b ≡ false
+not_reached a b h = elim (leb_tells a b) as (λ _. nat_le a b ≡ false) [ inl t ↦ absurd (h t.1) | inr t ↦ t.0 ]
+
+-- what was counted on slices of the lists
+
+pub word_counted : (props : ℕ) (declared seen : List (List ℕ)) (files kept : List File) (word : List ℕ) (b : Bool) → seen ≡ declared → kept ≡ files
+    → b ≡ nat_lt props (length (with_words (with_word seen word) (flat_map (file_words []) kept)))
+    → nat_lt props (length (with_words (with_word declared word) (flat_map (file_words []) files))) ≡ b
+word_counted props declared seen files kept word b same too is =
+    sym (is ∙ ap (λ ds. nat_lt props (length (with_words (with_word ds word) (flat_map (file_words []) kept)))) same
+    ∙ ap (λ fs. nat_lt props (length (with_words (with_word declared word) (flat_map (file_words []) fs)))) too)
+
+pub file_counted : (props : ℕ) (declared seen : List (List ℕ)) (files kept : List File) (file made : File) (b : Bool) → seen ≡ declared → kept ≡ files → made ≡ file
+    → b ≡ nat_lt props (length (with_words seen (flat_map (file_words []) (insert_key file_cmp kept made))))
+    → nat_lt props (length (with_words declared (flat_map (file_words []) (insert_key file_cmp files file)))) ≡ b
+file_counted props declared seen files kept file made b same too one is =
+    sym (is ∙ ap (λ ds. nat_lt props (length (with_words ds (flat_map (file_words []) (insert_key file_cmp kept made))))) same
+    ∙ ap (λ fs. nat_lt props (length (with_words declared (flat_map (file_words []) (insert_key file_cmp fs made))))) too
+    ∙ ap (λ f. nat_lt props (length (with_words declared (flat_map (file_words []) (insert_key file_cmp files f))))) one)
+
+module _ (limits : Limits) (declared : List (List ℕ)) (files : List File) (place : List Formula) where
+  abbrev here : Situation
+  here = at_place limits declared files place
+
+  module _ (word : List ℕ) where
+    abbrev known_with_word : ℕ
+    known_with_word = length (with_words (with_word declared word) (flat_map (file_words []) files))
+
+    pub mkdir_full : is_built_in word ≡ false → is_valued word ≡ false → has_word declared word ≡ false → is_root place ≡ true
+        → nat_lt limits.props known_with_word ≡ true → mkdir here word ≡ refused here NoPropertyRoom
+    mkdir_full plain no_value new root full = rw (plain, no_value, new, root, full) refl
+
+    pub mkdir_done : is_built_in word ≡ false → is_valued word ≡ false → has_word declared word ≡ false → is_root place ≡ true
+        → nat_lt limits.props known_with_word ≡ false
+        → mkdir here word ≡ record { next = at_place limits (with_word declared word) files place; reply = ok_line }
+    mkdir_done plain no_value new root room = rw (plain, no_value, new, root, room) refl
+
+  module _ (name : List ℕ) (assigned : List (List ℕ)) where
+    abbrev with_it : List File
+    with_it = insert_key file_cmp files (new_file name assigned)
+
+    abbrev known_with_file : ℕ
+    known_with_file = length (with_words declared (flat_map (file_words []) with_it))
+
+    pub file_full : list_all (is_assignable declared) assigned ≡ true → nat_lt 16 (length assigned) ≡ false → nat_le limits.files (length files) ≡ false
+        → nat_lt limits.props known_with_file ≡ true → filed here name assigned ≡ refused here NoPropertyRoom
+    file_full all few room full = rw (all, few, room, full) refl
+
+    pub file_done : list_all (is_assignable declared) assigned ≡ true → nat_lt 16 (length assigned) ≡ false → nat_le limits.files (length files) ≡ false
+        → nat_lt limits.props known_with_file ≡ false
+        → filed here name assigned ≡ record { next = at_place limits declared with_it place; reply = ok_line }
+    file_done all few room known = rw (all, few, room, known) refl

@@ -1,0 +1,4 @@
+pub mod Carries
+pub mod Places
+pub mod Truth
+pub mod Tags

@@ -1,0 +1,245 @@
+//! A state as plain lists, and the commands on it.
+
+ghost use Rattle.std.specs.Prelude.{◌≡◌, ℕ, List, [], IfOk, IfSome, IsSome};
+ghost use Rattle.lis_ports.specs.Calls.{IsShowCall};
+ghost use Rattle.lis_model.specs.Step.{start_of, step, done, refused, mkdir, create, cd, pwd, ls};
+ghost use Rattle.lis_line.specs.Reading.{asked_by};
+ghost use Rattle.lis_plain.specs.Carries.{Carries, HasPlainCause, Answers, answer_line, filed};
+ghost use Rattle.lis_ports.specs.Since.{IsShowRun};
+
+use crate::end::PlainEnd;
+use crate::file::{File, new_file};
+use crate::listing::{listing, push_line};
+use crate::moving::{is_root, knows_text};
+use crate::room::{has_built_in, has_head_word, is_file_too_many, is_word_too_many, known};
+use crate::sets::{are_assignable, has_name, has_word, insert_file, insert_word};
+use crate::table::make_table;
+use crate::tags::{assigned_with, place_words};
+use crate::truth::extension;
+use lis_formula::{FormulaFault, print, resolve};
+use lis_line::reader::{Item, Payload};
+use lis_model::command::{Command, Tags};
+use lis_model::limits::Limits;
+use lis_model::refusal::Refusal;
+use lis_place::{Place, Text};
+use lis_ports::{Failed, Station};
+use lis_reply::{show_all, show_ok, show_refusal};
+use lis_words::{Name, Word, is_builtin, is_valued};
+use std::alloc::{AllocError, Global};
+use std::marker::Model;
+
+/// The most words that a file is given.
+const MAX_TAGS: usize = 16;
+
+/// A state and a place, as plain lists.
+#[derive(Drop)]
+pub struct Plain {
+    alloc: Global,
+    limits: Limits,
+    declared: Vec<Word>,
+    files: Vec<File>,
+    place: Place,
+}
+
+impl Model for Plain {
+    ghost use Rattle.std.specs.Prelude.{[]};
+    ghost use Rattle.lis_model.specs.Step.{Situation};
+    ghost use Rattle.lis_model.specs.Codes.{situation_code};
+
+    ghost Value = { Situation };
+
+    ghost coded = { situation_code };
+
+    ghost view = { λ p. record {
+      state = record { limits = p.limits; declared = p.declared.items; axioms = []; files = p.files.items };
+      place = p.place;
+    } };
+}
+
+impl Plain {
+    /// The empty state of these limits, at the root.
+    pub fn new(alloc: Global, limits: &Limits) -> Result<Plain, AllocError>
+        ensures { IfOk result (λ plain. plain ≡ start_of limits.now) }
+    {
+        Ok(Plain {
+            alloc,
+            limits: *limits,
+            declared: Vec::new(alloc),
+            files: Vec::new(alloc),
+            place: Place::root(),
+        })
+    }
+}
+
+/// Whether the command was done, or why it was refused.
+type Answer = Result<(), Refusal>;
+
+impl Plain {
+    fn mkdir(&mut self, word: &Word) -> Result<Answer, AllocError>
+        ensures { Answers (mkdir self.old word.now) self.old self.new result }
+    {
+        if is_builtin(word) {
+            return Ok(Err(Refusal::BuiltIn));
+        }
+        if is_valued(word.bytes()) {
+            return Ok(Err(Refusal::NotAssignable));
+        }
+        if has_word(&self.declared, word) {
+            return Ok(Err(Refusal::AlreadyDeclared));
+        }
+        if !is_root(&self.place) {
+            return Ok(Err(Refusal::NotAPlace));
+        }
+        if is_word_too_many(self.alloc, self.limits, &self.declared, &self.files, word)? {
+            return Ok(Err(Refusal::NoPropertyRoom));
+        }
+        insert_word(&mut self.declared, word)?;
+        Ok(Ok(()))
+    }
+
+    fn file(&mut self, name: &Name, assigned: Vec<Word>) -> Result<Answer, AllocError>
+        ensures { Answers (filed self.old name.now assigned.items) self.old self.new result }
+    {
+        if !are_assignable(&self.declared, &assigned) {
+            return Ok(Err(Refusal::UnknownProperty));
+        }
+        if assigned.len() > MAX_TAGS {
+            return Ok(Err(Refusal::TooManyAssigned));
+        }
+        if self.files.len() >= self.limits.files as usize {
+            return Ok(Err(Refusal::NoFileRoom));
+        }
+        let file = new_file(self.alloc, name, assigned);
+        if is_file_too_many(self.alloc, self.limits, &self.declared, &self.files, &file)? {
+            return Ok(Err(Refusal::NoPropertyRoom));
+        }
+        insert_file(&mut self.files, file)?;
+        Ok(Ok(()))
+    }
+
+    fn create(&mut self, name: &Name, tags: &Tags) -> Result<Answer, AllocError>
+        ensures { Answers (create self.old name.now tags.now) self.old self.new result }
+    {
+        if has_name(&self.files, name) {
+            return Ok(Err(Refusal::NameTaken));
+        }
+        let Some(words) = place_words(self.alloc, &self.place)? else {
+            return Ok(Err(Refusal::NotAPlace));
+        };
+        if has_built_in(tags.as_slice()) {
+            return Ok(Err(Refusal::BuiltIn));
+        }
+        if has_head_word(tags.as_slice()) {
+            return Ok(Err(Refusal::NotAssignable));
+        }
+        let assigned = assigned_with(self.alloc, &words, tags.as_slice())?;
+        self.file(name, assigned)
+    }
+
+    fn cd(&mut self, text: &Text) -> Result<Answer, AllocError>
+        ensures { Answers (cd self.old text.now) self.old self.new result }
+    {
+        let place = match resolve(&self.place, text.bytes()) {
+            Ok(place) => place,
+            Err(FormulaFault::Syntax(_)) => return Ok(Err(Refusal::BadFormula)),
+            Err(FormulaFault::TooLarge) => return Ok(Err(Refusal::LargeFormula)),
+        };
+        let known = known(self.alloc, &self.declared, &self.files)?;
+        if !knows_text(&known, text.bytes()) {
+            return Ok(Err(Refusal::UnknownProperty));
+        }
+        self.place = place;
+        Ok(Ok(()))
+    }
+
+    fn placed(&self) -> Result<Vec<u8>, AllocError>
+        ensures { IfOk result (λ reply. reply.items ≡ (pwd self.now).reply) }
+    {
+        let mut reply = Vec::new(self.alloc);
+        push_line(&mut reply, b'w', print(&self.place).bytes())?;
+        reply.extend_from_slice(b"ok\n")?;
+        Ok(reply)
+    }
+
+    fn listing(&self) -> Result<Vec<u8>, AllocError>
+        ensures { IfOk result (λ reply. reply.items ≡ (ls self.now).reply) }
+    {
+        let table = make_table(self.alloc, self.limits, &self.declared, &self.files)?;
+        let files = extension(self.alloc, &table.files, &self.place)?;
+        listing(self.alloc, &table, &files)
+    }
+}
+
+fn show_answer<T: Station>(station: &mut T, answer: &Answer) -> Result<(), Failed>
+    ensures { IsShowRun (T.meaning station.old) (T.meaning station.new) (answer_line answer.now) result }
+{
+    match answer {
+        Ok(()) => show_ok(station),
+        Err(refusal) => show_refusal(station, refusal),
+    }
+}
+
+impl Plain {
+    fn carry_out<T: Station>(&mut self, command: &Command, station: &mut T) -> Result<(), PlainEnd>
+        ensures step { Carries (done self.old command.now) self.old self.new (T.meaning station.old).shown (T.meaning station.new).shown result }
+        ensures cause { HasPlainCause (T.meaning station.old).show_faults (T.meaning station.new).show_faults result }
+        ensures call { IsShowCall (T.meaning station.old) (T.meaning station.new) }
+    {
+        match command {
+            Command::Mkdir(word) => {
+                let answer = self.mkdir(word)?;
+                show_answer(station, &answer)?;
+                Ok(())
+            }
+            Command::Create(name, tags) => {
+                let answer = self.create(name, tags)?;
+                show_answer(station, &answer)?;
+                Ok(())
+            }
+            Command::Cd(text) => {
+                let answer = self.cd(text)?;
+                show_answer(station, &answer)?;
+                Ok(())
+            }
+            Command::Pwd => {
+                let reply = self.placed()?;
+                show_all(station, &reply)?;
+                Ok(())
+            }
+            Command::Ls => {
+                let reply = self.listing()?;
+                show_all(station, &reply)?;
+                Ok(())
+            }
+        }
+    }
+
+    fn refuse<T: Station>(&mut self, refusal: &Refusal, station: &mut T) -> Result<(), PlainEnd>
+        ensures step { Carries (refused self.old refusal.now) self.old self.new (T.meaning station.old).shown (T.meaning station.new).shown result }
+        ensures cause { HasPlainCause (T.meaning station.old).show_faults (T.meaning station.new).show_faults result }
+        ensures call { IsShowCall (T.meaning station.old) (T.meaning station.new) }
+    {
+        show_refusal(station, refusal)?;
+        Ok(())
+    }
+
+    /// Carries out one item and shows its reply.
+    pub fn step<T: Station>(
+        &mut self,
+        item: &Item,
+        payload: &Payload,
+        station: &mut T,
+    ) -> Result<(), PlainEnd>
+        requires { IsSome (asked_by item.now payload.now) }
+        ensures step { IfSome (asked_by item.now payload.now) (λ asked.
+            Carries (step self.old asked) self.old self.new (T.meaning station.old).shown (T.meaning station.new).shown result) }
+        ensures cause { HasPlainCause (T.meaning station.old).show_faults (T.meaning station.new).show_faults result }
+        ensures call { IsShowCall (T.meaning station.old) (T.meaning station.new) }
+    {
+        match item {
+            Item::Command(command) => self.carry_out(command, station),
+            Item::Bad(refusal) => self.refuse(refusal, station),
+            Item::End | Item::Limit => unreachable!(),
+        }
+    }
+}

@@ -1,0 +1,5 @@
+//! The program's sessions as tables: what goes in, and what must be shown. The tests are all there is here.
+#![tactic(auto)]
+
+#[cfg(test)]
+mod tests;

@@ -1,0 +1,210 @@
+//! What a session shows of its input, whatever pieces it comes in, and how it ends. In rows `;` stands for a line feed, `^` for
+//! a carriage return and `~` for a tab.
+
+use lis_line::reader::Payload;
+use lis_memdisk::MemStation;
+use lis_model::limits::Limits;
+use lis_plain::plain::Plain;
+use lis_ports::MemSource;
+use lis_shell::session::try_session;
+use lis_shell::status::Status;
+use lis_shell::top::lisfs;
+use std::alloc::{AllocError, Global};
+use std::test::Fail;
+
+mod tables;
+
+use tables::{CUT_SESSIONS, FAILING_SHOWS, FIRST_SESSIONS, RIGHT_WORDS, SESSIONS, WRONG_WORDS};
+
+/// The words of most sessions.
+static WORDS: [&str; 4] = ["try", "64", "64", "8"];
+
+/// How the outside behaves: the bytes that one call of the source gives, the place at which it fails, the bytes that one call
+/// shows, and the number of the call that fails to show, 0 for none.
+#[derive(Clone, Copy)]
+struct Outside {
+    step: usize,
+    fail_at: Option<usize>,
+    show_step: usize,
+    show_fails: u64,
+}
+
+/// Nothing fails, and pieces are large.
+static SOUND: Outside = Outside {
+    step: 4_096,
+    fail_at: None,
+    show_step: 65_536,
+    show_fails: 0,
+};
+
+/// How a session ended.
+#[derive(Drop)]
+struct Seen {
+    status: Status,
+    shown: String,
+    taken: usize,
+}
+
+fn bytes_of(alloc: Global, row: &str) -> Result<Vec<u8>, AllocError> {
+    let mut bytes = Vec::new(alloc);
+    for byte in row.bytes() {
+        bytes.push(match byte {
+            b';' => b'\n',
+            b'^' => b'\r',
+            b'~' => b'\t',
+            _ => byte,
+        })?;
+    }
+    Ok(bytes)
+}
+
+fn row_of(alloc: Global, bytes: &[u8]) -> Result<String, AllocError> {
+    let mut row = String::new(alloc);
+    for byte in bytes {
+        row.push(if *byte == b'\n' {
+            ';'
+        } else {
+            char::from(*byte)
+        })?;
+    }
+    Ok(row)
+}
+
+fn source(alloc: Global, row: &str, outside: &Outside) -> Result<MemSource, AllocError> {
+    Ok(MemSource {
+        bytes: bytes_of(alloc, row)?,
+        place: 0,
+        step: outside.step.max(1),
+        fail_at: outside.fail_at,
+        faults: 0,
+    })
+}
+
+fn station(alloc: Global, outside: &Outside) -> Result<MemStation, AllocError> {
+    let mut station = MemStation::new(alloc, b"", 0)?;
+    station.step = outside.show_step.max(1);
+    station.show_fails.push(outside.show_fails)?;
+    Ok(station)
+}
+
+fn run(alloc: Global, words: &[&str], row: &str, outside: &Outside) -> Result<Seen, AllocError> {
+    let mut owned = Vec::new(alloc);
+    for word in words {
+        owned.push(String::from_str(alloc, word)?)?;
+    }
+    let mut input = source(alloc, row, outside)?;
+    let mut station = station(alloc, outside)?;
+    let status = lisfs(alloc, &owned, &mut input, &mut station);
+    let shown = row_of(alloc, station.shown())?;
+    Ok(Seen {
+        status,
+        shown,
+        taken: input.place,
+    })
+}
+
+#[test]
+fn sessions_show_the_same_in_any_pieces(rt: HostRuntime) -> Result<(), Fail> {
+    for (row, wanted) in FIRST_SESSIONS.iter().chain(SESSIONS.iter()) {
+        for step in [1, 2, 3, 7, 4_096] {
+            let seen = run(rt.alloc(), &WORDS, row, &Outside { step, ..SOUND })?;
+            assert_eq!(rt; seen.shown.as_str(), *wanted, "{row}");
+            assert_eq!(rt; seen.status, Status::Done, "{row}");
+            assert_eq!(rt; seen.taken, row.len(), "{row}");
+        }
+    }
+    Ok(())
+}
+
+// No clause can say that there is memory, so a body that gives up would be proved.
+#[test]
+fn always_out_of_memory(rt: HostRuntime) -> Result<(), Fail> {
+    for (row, _) in &FIRST_SESSIONS {
+        let seen = run(rt.alloc(), &WORDS, row, &SOUND)?;
+        assert_eq!(rt; seen.status, Status::Done, "{row}");
+    }
+    Ok(())
+}
+
+#[test]
+fn words_are_judged_before_anything_is_taken_or_shown(rt: HostRuntime) -> Result<(), Fail> {
+    for words in &WRONG_WORDS {
+        let seen = run(rt.alloc(), words, "mkdir a;", &SOUND)?;
+        assert_eq!(rt; seen.status, Status::Usage, "{words:?}");
+        assert_eq!(rt; seen.shown.as_str(), "", "{words:?}");
+        assert_eq!(rt; seen.taken, 0, "{words:?}");
+    }
+    for words in &RIGHT_WORDS {
+        let seen = run(rt.alloc(), words, "mkdir a;", &SOUND)?;
+        assert_eq!(rt; seen.status, Status::Done, "{words:?}");
+        assert_eq!(rt; seen.shown.as_str(), "ok;", "{words:?}");
+    }
+    Ok(())
+}
+
+// At one byte a call it is known what was shown: a byte for each call before the one that failed.
+#[test]
+fn a_failing_show_ends_behind_a_front_of_the_replies(rt: HostRuntime) -> Result<(), Fail> {
+    for (show_fails, shown, status) in &FAILING_SHOWS {
+        let outside = Outside {
+            show_step: 1,
+            show_fails: *show_fails,
+            ..SOUND
+        };
+        let seen = run(rt.alloc(), &WORDS, "create a;create b;ls;", &outside)?;
+        assert_eq!(rt; seen.shown.as_str(), *shown, "the call {show_fails}");
+        assert_eq!(rt; seen.status, *status, "the call {show_fails}");
+    }
+    let outside = Outside {
+        show_fails: 2,
+        ..SOUND
+    };
+    let seen = run(rt.alloc(), &WORDS, "create a;create b;ls;", &outside)?;
+    assert_eq!(rt; seen.status, Status::OutputFault);
+    assert!(rt; "ok;".starts_with(seen.shown.as_str()));
+    Ok(())
+}
+
+fn go_on(
+    alloc: Global,
+    plain: &mut Plain,
+    limit: u64,
+    row: &str,
+    outside: &Outside,
+) -> Result<Seen, AllocError> {
+    let mut payload = Payload::new(alloc)?;
+    let mut input = source(alloc, row, outside)?;
+    let mut station = station(alloc, outside)?;
+    let status = try_session(plain, &mut payload, &mut input, &mut station, limit.min(99));
+    let shown = row_of(alloc, station.shown())?;
+    Ok(Seen {
+        status,
+        shown,
+        taken: input.place,
+    })
+}
+
+// What a session left is seen by the replies to a second one on the same state.
+#[test]
+fn a_cut_session_leaves_what_it_had_carried_out(rt: HostRuntime) -> Result<(), Fail> {
+    let limits = Limits {
+        files: 64,
+        props: 64,
+        blocks: 8,
+    };
+    for (limit, step, fail_at, (row, shown, status), (then, then_shown)) in &CUT_SESSIONS {
+        let mut plain = Plain::new(rt.alloc(), &limits)?;
+        let outside = Outside {
+            step: *step,
+            fail_at: *fail_at,
+            ..SOUND
+        };
+        let seen = go_on(rt.alloc(), &mut plain, *limit, row, &outside)?;
+        assert_eq!(rt; seen.status, *status, "{row}");
+        assert_eq!(rt; seen.shown.as_str(), *shown, "{row}");
+        let seen = go_on(rt.alloc(), &mut plain, 99, then, &SOUND)?;
+        assert_eq!(rt; seen.status, Status::Done, "{then} after {row}");
+        assert_eq!(rt; seen.shown.as_str(), *then_shown, "{then} after {row}");
+    }
+    Ok(())
+}

@@ -1,0 +1,220 @@
+//! The rows. What is wanted was worked out by hand from the rules of commands and listings.
+
+use lis_shell::status::Status;
+
+pub static FIRST_SESSIONS: [(&str, &str); 3] = [
+    ("", ""),
+    (
+        "mkdir music;create a;create b music;ls;",
+        "ok;ok;ok;d music;f a;ok;",
+    ),
+    ("create a;create b;ls;", "ok;ok;f a;f b;ok;"),
+];
+
+pub static SESSIONS: [(&str, &str); 23] = [
+    // Blanks, tabs, carriage returns, empty lines, and a last line without a line feed.
+    ("mkdir a^;mkdir a;", "ok;no 11 already declared;"),
+    ("mkdir a^^;mkdir a;", "no 01 bad line;ok;"),
+    ("mkdir ^a;^;", "no 01 bad line;"),
+    ("  mkdir ~ a~;~ls ;", "ok;ok;"),
+    (";;^; ~^;  ;mkdir a;;", "ok;"),
+    ("mkdir a;mkdir a", "ok;no 11 already declared;"),
+    ("mkdir a;mkdir a^", "ok;no 11 already declared;"),
+    ("mkdir a; ~", "ok;"),
+    // Lines in no form.
+    (
+        "mkdir;mkdir a b;LS;lsx;l s;ls x;create;",
+        "no 01 bad line;no 01 bad line;no 01 bad line;no 01 bad line;no 01 bad line;no 01 bad line;no 01 bad line;",
+    ),
+    (
+        "mkdir .a;mkdir a/b;create .;create ..;create .a;ls;",
+        "no 01 bad line;no 01 bad line;no 01 bad line;no 01 bad line;ok;f .a;ok;",
+    ),
+    (
+        "mkdir 123456789012345678901234567890123456789012345678901234567890;",
+        "ok;",
+    ),
+    (
+        "mkdir 1234567890123456789012345678901234567890123456789012345678901;",
+        "no 01 bad line;",
+    ),
+    // A refusal changes nothing, and the first one in the order of the command stands.
+    (
+        "mkdir a;mkdir a;ls;create x a;",
+        "ok;no 11 already declared;ok;ok;",
+    ),
+    (
+        "create x nosuch;ls;mkdir nosuch;create x nosuch;",
+        "no 06 unknown property;ok;ok;ok;",
+    ),
+    (
+        "create x;create x nosuch;ls;",
+        "ok;no 09 name taken;f x;ok;",
+    ),
+    // A word that every file has and one that no file has are no increments; words and names come in the order of bytes.
+    (
+        "mkdir all;mkdir none;create b all;create a all;ls;",
+        "ok;ok;ok;ok;f a;f b;ok;",
+    ),
+    (
+        "mkdir b;mkdir B;mkdir a-;mkdir a;create y b;create x a;create z B;create w a-;create -;ls;",
+        "ok;ok;ok;ok;ok;ok;ok;ok;ok;d B;d a;d a-;d b;f -;ok;",
+    ),
+    // Places: words that are known, steps up and from the root, and texts that are no formulas.
+    (
+        "pwd;cd a;mkdir a;cd a;pwd;cd ..;pwd;cd ..;cd a;cd /;pwd;",
+        "w /;ok;no 06 unknown property;ok;ok;w a;ok;ok;w /;ok;ok;ok;ok;w /;ok;",
+    ),
+    (
+        "mkdir a;cd a/;cd (a;cd a|;cd a b;pwd a;cd size<1|a;cd size>=0000000000001;pwd;",
+        "ok;no 05 formula;no 05 formula;no 05 formula;no 01 bad line;no 01 bad line;ok;no 05 formula;w (size<1|a);ok;",
+    ),
+    // Listings at places.
+    (
+        "mkdir a;mkdir b;create x a;create y b;create z a b;cd a|b;ls;pwd;cd !a;ls;pwd;",
+        "ok;ok;ok;ok;ok;ok;d a;d b;ok;w (a|b);ok;ok;f y;ok;w (a|b)/!a;ok;",
+    ),
+    // A file is given the words of a place of words, and at another place there are no new files.
+    (
+        "mkdir a;mkdir b;cd a;create x;create y b;ls;cd /;ls;cd a/b;ls;",
+        "ok;ok;ok;ok;ok;d b;f x;ok;ok;d b;f x;ok;ok;f y;ok;",
+    ),
+    (
+        "mkdir a;cd a;mkdir b;cd !a;create x;cd /size<1;create x;cd /a/a;create x;pwd;ls;",
+        "ok;ok;no 08 not a place;ok;no 08 not a place;ok;no 08 not a place;ok;ok;w a/a;ok;f x;ok;",
+    ),
+    (
+        "create x ext:;create x size:0;create x nosuch:v;cd /size>=1;ls;cd /size<1;ls;",
+        "no 25 built-in attribute;no 25 built-in attribute;no 06 unknown property;ok;ok;ok;ok;",
+    ),
+];
+
+pub static WRONG_WORDS: [&[&str]; 24] = [
+    &[],
+    &["try"],
+    &["try", "64", "64"],
+    &["try", "63", "64", "8"],
+    &["try", "96", "64", "8"],
+    &["try", "32", "64", "8"],
+    &["try", "8192", "64", "8"],
+    &["try", "64", "65", "8"],
+    &["try", "64", "0", "8"],
+    &["try", "64", "8256", "8"],
+    &["try", "64", "64", "0"],
+    &["try", "64", "64", "32769"],
+    &["try", "64", "64", "8", "9"],
+    &["try", "64", "64", ""],
+    &["try", "64", "64", "+8"],
+    &["try", "64", "64", "8 "],
+    &["try", "64", "64", "0000000000008"],
+    &["try", "64", "64", "4294967304"],
+    &["Try", "64", "64", "8"],
+    &["", "64", "64", "8"],
+    &["64", "64", "8"],
+    &["64", "64", "8", "try"],
+    &["run", "x"],
+    &["run"],
+];
+
+pub static RIGHT_WORDS: [&[&str]; 4] = [
+    &["try", "64", "64", "1"],
+    &["try", "128", "192", "32767"],
+    &["try", "4096", "8192", "32768"],
+    &["try", "0064", "064", "000000000008"],
+];
+
+/// The number of the failing call, what is shown at one byte a call, and how the session ends.
+pub static FAILING_SHOWS: [(u64, &str, Status); 6] = [
+    (1, "", Status::OutputFault),
+    (2, "o", Status::OutputFault),
+    (4, "ok;", Status::OutputFault),
+    (9, "ok;ok;f ", Status::OutputFault),
+    (17, "ok;ok;f a;f b;ok", Status::OutputFault),
+    (18, "ok;ok;f a;f b;ok;", Status::Done),
+];
+
+/// The limit, the bytes of a piece and the failing place; a session that they cut off, what it shows and how it ends; and
+/// another session on the state that the first one left.
+type Cut = (
+    u64,
+    usize,
+    Option<usize>,
+    (&'static str, &'static str, Status),
+    (&'static str, &'static str),
+);
+
+pub static CUT_SESSIONS: [Cut; 11] = [
+    (
+        99,
+        8,
+        Some(8),
+        ("mkdir a;mkdir b;", "ok;", Status::InputFault),
+        ("mkdir b;mkdir a;", "ok;no 11 already declared;"),
+    ),
+    (
+        99,
+        8,
+        Some(0),
+        ("mkdir a;mkdir b;", "", Status::InputFault),
+        ("mkdir a;", "ok;"),
+    ),
+    (
+        99,
+        8,
+        Some(16),
+        ("mkdir a;mkdir b;", "ok;ok;", Status::InputFault),
+        ("mkdir b;", "no 11 already declared;"),
+    ),
+    (
+        99,
+        8,
+        Some(9),
+        ("mkdir a;mkdir b;", "ok;ok;", Status::Done),
+        ("mkdir b;", "no 11 already declared;"),
+    ),
+    // A line that is not whole at the fault is not carried out.
+    (
+        99,
+        1,
+        Some(7),
+        ("mkdir a;mkdir b;", "", Status::InputFault),
+        ("mkdir a;", "ok;"),
+    ),
+    (
+        99,
+        1,
+        Some(15),
+        ("mkdir a;mkdir b;", "ok;", Status::InputFault),
+        ("mkdir b;", "ok;"),
+    ),
+    (
+        99,
+        7,
+        Some(7),
+        ("mkdir a", "", Status::InputFault),
+        ("mkdir a;", "ok;"),
+    ),
+    // The input is one byte longer than its limit, or just as long.
+    (
+        10,
+        7,
+        None,
+        ("mkdir abcd;", "", Status::InputLimit),
+        ("mkdir abcd;", "ok;"),
+    ),
+    (
+        10,
+        7,
+        None,
+        ("mkdir abc;", "ok;", Status::Done),
+        ("mkdir abc;", "no 11 already declared;"),
+    ),
+    (
+        10,
+        1,
+        None,
+        ("mkdir a;ls;", "ok;", Status::InputLimit),
+        ("mkdir a;", "no 11 already declared;"),
+    ),
+    (0, 7, None, (";", "", Status::InputLimit), ("ls;", "ok;")),
+];

@@ -1,0 +1,55 @@
+//! The program: it hands the real input and output to the top call, and ends with its exit code.
+#![tactic(auto)]
+
+use lis_memdisk::FileStation;
+use lis_ports::StdSource;
+use lis_shell::status::{Status, exit_code, status_text};
+use lis_shell::top::lisfs;
+use std::env;
+use std::io;
+use std::io::Write;
+use std::process::ExitCode;
+
+fn words(rt: &HostRuntime) -> io::Result<Vec<String>> {
+    let mut words = Vec::new(rt.alloc());
+    for word in env::args(rt)?.skip(1) {
+        words.push(word)?;
+    }
+    Ok(words)
+}
+
+fn run(rt: &HostRuntime) -> Status {
+    // Words that can't be had are in no form.
+    let Ok(words) = words(rt) else {
+        return Status::Usage;
+    };
+    let mut input = StdSource {
+        reader: rt.reader(),
+        faults: 0,
+    };
+    let mut station = FileStation {
+        file: None,
+        len: u64::MAX,
+        out: io::writer(rt),
+        disk_faults: 0,
+        show_faults: 0,
+    };
+    lisfs(rt.alloc(), &words, &mut input, &mut station)
+}
+
+fn print_text(rt: &HostRuntime, status: &Status) -> io::Result<()> {
+    let text = status_text(status);
+    if text.is_empty() {
+        return Ok(());
+    }
+    let mut error = rt.stderr();
+    error.write_all(text.bytes())?;
+    error.write_all(b"\n")
+}
+
+fn main(rt: HostRuntime) -> ExitCode {
+    let status = run(&rt);
+    // A text that can't be printed changes nothing of the exit code.
+    let _ = print_text(&rt, &status);
+    ExitCode::from(exit_code(&status))
+}
