@@ -6,7 +6,7 @@ ghost use Rattle.std.specs.List.{prefix_len, list_all};
 ghost use Rattle.std.specs.Ordering.{is_gt};
 ghost use Rattle.lis_plain.specs.Places.{first_is};
 ghost use Rattle.lis_words.specs.Words.{has_word, word_cmp, is_valued, head_bytes};
-ghost use Rattle.lis_model.specs.Sets.{with_word, set_of};
+ghost use Rattle.lis_model.specs.Sets.{with_word};
 ghost use Rattle.lis_model.specs.State.{file_cmp, is_assignable};
 ghost use Rattle.lis_model.specs.Step.{has_name};
 
@@ -92,18 +92,7 @@ pub fn insert_file(files: &mut Vec<File>, file: File) -> Result<(), AllocError>
     Ok(())
 }
 
-/// The set of these words.
-pub fn set_of(alloc: Global, words: &[Word]) -> Result<Vec<Word>, AllocError>
-    ensures { IfOk result (λ set. set.items ≡ set_of words.now) }
-{
-    let mut set = Vec::new(alloc);
-    for word in words {
-        insert_word(&mut set, word)?;
-    }
-    Ok(set)
-}
-
-// Whether the word is valued with a declared head.
+/// Whether the word is valued with a declared head.
 fn has_head(declared: &[Word], word: &Word) -> bool
     ensures { result ≡ (is_valued word.now && has_word declared.now (head_bytes word.now)) }
 {
