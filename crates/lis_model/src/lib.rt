@@ -6,3 +6,5 @@ pub mod derived;
 pub mod limits;
 pub mod refusal;
 pub mod spot;
+
+pub use lis_place::{Node, Path, Place, Text};

@@ -22,7 +22,7 @@ use Rattle.lis_plain.specs.declared.end.PlainEnd.{PlainEnd}
 use Rattle.lis_plain.specs.declared.end.PlainEnd.TheVariants.{OutputFault, NoMemory}
 use Rattle.lis_shell.specs.declared.status.Status.{Status}
 use Rattle.lis_shell.specs.declared.status.Status.TheVariants as status
-use Rattle.lis_shell.specs.Tries.{Tries, TakesFew, ShowsWhole, ShowsFirst, ending_of}
+use Rattle.lis_shell.specs.Tries.{Tries, TakesFew, ShowsWhole, ShowsFirst, ShowsFront, ending_of}
 use Rattle.lis_shell.proofs.Reading.{ReadSoFar, Goes, Ends, NextSaid, next_said, read_none, read_item, script_front, few_so_far, few_gave, known_split, input_is, script_short, script_long, stream_taken, consumes_then}
 
 pub record SoFar (limit : ℕ) (left_before left : Option (List ℕ)) (reading : Reading) (start now : Situation) (before after : Option (List ℕ)) : Type 0 where
@@ -111,37 +111,27 @@ so_far_more limit left_before left reading start now next before after shown ask
           ∙ ap (append_known before) (sym (last_reply start read.first read.item))
     }
 
--- the front of a reply, behind the replies before it
-front_behind : (before after now : Option (List ℕ)) (told reply more all : List ℕ) → after ≡ append_known before told → all ≡ (told ++ reply) ++ more
-    → AppendsFront after now reply → AppendsFront before now all
-front_behind before after now told reply more all is whole front = record {
-  count = length told + front.count;
-  within = omega (arith, front.within, ap length whole, length-append (told ++ reply) more, length-append told reply);
-  front = front.front ∙ ap (λ known. append_known known (take front.count reply)) is ∙ append_known-append before told (take front.count reply)
-      ∙ ap (append_known before)
-        (ap (λ xs. told ++ xs) (sym (take-append-le front.count reply more front.within))
-        ∙ sym (take-append-add told (reply ++ more) front.count)
-        ∙ ap (take (length told + front.count)) (sym (append_assoc told reply more) ∙ sym whole))
-}
-
 pub ends_output : (limit : ℕ) (input : List ℕ) (left : Option (List ℕ)) (reading : Reading) (start now next : Situation) (before after shown : Option (List ℕ)) (asked : Option Item)
     → ItemRead limit (Some input) left reading start now before after asked
     → IfSome asked (λ item. Carries (step now item) now next after shown (Err OutputFault))
-    → AppendsFront before shown (replies start (script input limit))
+    → ShowsFront start (script input limit) before shown next
 ends_output limit input left reading start now next before after shown asked read carried =
     let done = carries_item asked read.item (λ item. Carries (step now item) now next after shown (Err OutputFault)) read.is carried in
     let front = script_front limit input left reading (read.first ++ read.item ∷ []) read.read in
-    let reply = (step (situation_after start read.first) read.item).reply in
-    front_behind before after shown (replies start read.first) reply (replies (situation_after start (read.first ++ read.item ∷ [])) front.0) (replies start (script input limit))
-    read.shown
-    (ap (replies start) front.1 ∙ replies-append start (read.first ++ read.item ∷ []) front.0
-     ∙ ap (λ bytes. bytes ++ replies (situation_after start (read.first ++ read.item ∷ [])) front.0) (last_reply start read.first read.item))
-    (subst (λ s. AppendsFront after shown (step s read.item).reply) read.at done.1)
+    record {
+      first = read.first;
+      item = read.item;
+      others = front.0;
+      all = front.1 ∙ append_assoc read.first (read.item ∷ []) front.0;
+      shown = subst (λ known. AppendsFront known shown (step (situation_after start read.first) read.item).reply) read.shown
+          (subst (λ s. AppendsFront after shown (step s read.item).reply) read.at done.1);
+      at = done.0 ∙ ap (λ s. (step s read.item).next) read.at
+    }
 
 pub ends_memory : (limit : ℕ) (input : List ℕ) (left : Option (List ℕ)) (reading : Reading) (start now next : Situation) (before after shown : Option (List ℕ)) (asked : Option Item)
     → ItemRead limit (Some input) left reading start now before after asked
     → IfSome asked (λ item. Carries (step now item) now next after shown (Err NoMemory))
-    → ShowsFirst start (script input limit) before shown
+    → ShowsFirst start (script input limit) before shown next
 ends_memory limit input left reading start now next before after shown asked read carried =
     let done = carries_item asked read.item (λ item. Carries (step now item) now next after shown (Err NoMemory)) read.is carried in
     let front = script_front limit input left reading (read.first ++ read.item ∷ []) read.read in
@@ -149,7 +139,8 @@ ends_memory limit input left reading start now next before after shown asked rea
       first = read.first;
       others = read.item ∷ front.0;
       all = front.1 ∙ append_assoc read.first (read.item ∷ []) front.0;
-      shown = done.1 ∙ read.shown
+      shown = done.1 ∙ read.shown;
+      at = done.0 ∙ read.at
     }
 
 -- the end of the input
@@ -163,19 +154,20 @@ end_now input left ahead total limit rest first took none end sum within all =
 
 pub ends_done : {E : Type 0} (limit : ℕ) (input : List ℕ) (left left_after : Option (List ℕ)) (old new : Reading) (start now : Situation) (before after : Option (List ℕ)) (payload : Payload) (result : Result Said E)
     → SoFar limit (Some input) left old start now before after → Says old new left left_after payload result → result ≡ Ok End
-    → Tries start limit input left_after before after status.Done
+    → Tries start limit input left_after before after now status.Done
 ends_done {E} limit input left left_after old new start now before after payload result so_far says is =
     by (next_said limit (Some input) left left_after old new so_far.first payload result so_far.read says)
   where
-    tell : (input : List ℕ) (first : List Item) → after ≡ append_known before (replies start first) → (length input ≤ limit) × (script input limit ≡ first) → IsAtEnd left_after
-        → Tries start limit input left_after before after status.Done
-    tell input first shown both end = (both.0, end, shown ∙ ap (λ items. append_known before (replies start items)) (sym both.1))
+    tell : (input : List ℕ) (first : List Item) → now ≡ situation_after start first → after ≡ append_known before (replies start first) → (length input ≤ limit) × (script input limit ≡ first) → IsAtEnd left_after
+        → Tries start limit input left_after before after now status.Done
+    tell input first at shown both end =
+        (both.0, end, shown ∙ ap (λ items. append_known before (replies start items)) (sym both.1), at ∙ ap (situation_after start) (sym both.1))
 
     by : (Goes so_far.read.bytes so_far.first × Gives old new left left_after payload result) ⊎ (Ends so_far.read.bytes so_far.first old left × Closes old new left left_after result)
-        → Tries start limit input left_after before after status.Done
+        → Tries start limit input left_after before after now status.Done
     by (inl going) =
         let gave : Gives {E = E} old new left left_after payload (Ok End) = subst (λ r. Gives old new left left_after payload r) is going.1 in
-        tell input so_far.first so_far.shown
+        tell input so_far.first so_far.at so_far.shown
         (end_now input left_after new.stock.ahead (so_far.read.bytes ++ gave.0.bytes) limit new.stock.rest so_far.first
             (consumes_then (Some input) (stream_of old.stock left) (stream_of new.stock left_after) so_far.read.bytes gave.0.bytes so_far.read.took gave.0.gave.took)
             gave.0.nothing_ahead gave.0.at_end (omega (arith, so_far.read.rest, gave.0.gave.rest, length-append so_far.read.bytes gave.0.bytes)) gave.0.within
@@ -183,7 +175,7 @@ ends_done {E} limit input left left_after old new start now before after payload
         gave.0.at_end
     by (inr closed) =
         let end : IsAtEnd left_after = subst IsAtEnd (sym closed.1.untouched) closed.0.at_end in
-        tell input so_far.first so_far.shown
+        tell input so_far.first so_far.at so_far.shown
         (end_now input left old.stock.ahead so_far.read.bytes limit old.stock.rest so_far.first so_far.read.took closed.0.nothing_ahead closed.0.at_end
             so_far.read.rest so_far.read.within closed.0.all)
         end
@@ -191,12 +183,12 @@ ends_done {E} limit input left left_after old new start now before after payload
 -- the byte past the limit
 pub ends_limit : {E : Type 0} (limit : ℕ) (input : List ℕ) (left left_after : Option (List ℕ)) (old new : Reading) (start now : Situation) (before after : Option (List ℕ)) (payload : Payload) (result : Result Said E)
     → SoFar limit (Some input) left old start now before after → Says old new left left_after payload result → result ≡ Ok Limit
-    → Tries start limit input left_after before after status.InputLimit
+    → Tries start limit input left_after before after now status.InputLimit
 ends_limit {E} limit input left left_after old new start now before after payload result so_far says is =
     by (next_said limit (Some input) left left_after old new so_far.first payload result so_far.read says)
   where
     by : (Goes so_far.read.bytes so_far.first × Gives old new left left_after payload result) ⊎ (Ends so_far.read.bytes so_far.first old left × Closes old new left left_after result)
-        → Tries start limit input left_after before after status.InputLimit
+        → Tries start limit input left_after before after now status.InputLimit
     by (inr closed) = let ends = closed.1.ends in absurd (cc)
     by (inl going) =
         let gave : Gives {E = E} old new left left_after payload (Ok Limit) = subst (λ r. Gives old new left left_after payload r) is going.1 in
@@ -213,17 +205,17 @@ ends_limit {E} limit input left left_after old new start now before after payloa
         let items : script input limit ≡ so_far.first =
             script_long input limit long ∙ ap (λ n. whole_items (take n input)) (sym size) ∙ ap (λ xs. whole_items (take (length front) xs)) is_input
             ∙ ap whole_items (take-append_seam front behind) ∙ going.0.whole over.bytes ∙ ap (λ items. so_far.first ++ items) over.none_whole ∙ append-nil so_far.first in
-        (long, so_far.shown ∙ ap (λ items. append_known before (replies start items)) (sym items))
+        (long, so_far.shown ∙ ap (λ items. append_known before (replies start items)) (sym items), so_far.at ∙ ap (situation_after start) (sym items))
 
 -- a fault of the input
 pub ends_input : {E : Type 0} (limit : ℕ) (input : List ℕ) (left left_after : Option (List ℕ)) (old new : Reading) (start now : Situation) (before after : Option (List ℕ)) (payload : Payload) (result : Result Said E) (failed : E)
     → SoFar limit (Some input) left old start now before after → Says old new left left_after payload result → result ≡ Err failed
-    → ShowsWhole start input left_after before after
+    → ShowsWhole start input left_after before after now
 ends_input {E} limit input left left_after old new start now before after payload result failed so_far says is =
     by (next_said limit (Some input) left left_after old new so_far.first payload result so_far.read says)
   where
     by : (Goes so_far.read.bytes so_far.first × Gives old new left left_after payload result) ⊎ (Ends so_far.read.bytes so_far.first old left × Closes old new left left_after result)
-        → ShowsWhole start input left_after before after
+        → ShowsWhole start input left_after before after now
     by (inr closed) = let ends = closed.1.ends in absurd (cc)
     by (inl going) =
         let gave : Gives {E = E} old new left left_after payload (Err failed) = subst (λ r. Gives old new left left_after payload r) is going.1 in
@@ -235,21 +227,22 @@ ends_input {E} limit input left left_after old new start now before after payloa
         record {
           taken = so_far.read.bytes ++ rest.bytes;
           consumed = subst (λ xs. Consumes (Some input) left_after xs) (ap (λ xs. (so_far.read.bytes ++ rest.bytes) ++ xs) rest.nothing_ahead ∙ append-nil (so_far.read.bytes ++ rest.bytes)) all;
-          shown = so_far.shown ∙ ap (λ items. append_known before (replies start items)) (sym items)
+          shown = so_far.shown ∙ ap (λ items. append_known before (replies start items)) (sym items);
+          at = so_far.at ∙ ap (situation_after start) (sym items)
         }
 
 -- the end or the limit, as it is said
 pub ends_said : {E : Type 0} (limit : ℕ) (input : List ℕ) (left left_after : Option (List ℕ)) (old new : Reading) (start now : Situation) (before after : Option (List ℕ)) (payload : Payload) (said : Said) (result : Result Said E) (end : Status)
     → SoFar limit (Some input) left old start now before after → Says old new left left_after payload result → result ≡ Ok said → ending_of said ≡ Some end
-    → Tries start limit input left_after before after end
+    → Tries start limit input left_after before after now end
 ends_said limit input left left_after old new start now before after payload (Command command) result end so_far says is ends = absurd (cc ends)
 ends_said limit input left left_after old new start now before after payload (Bad refusal) result end so_far says is ends = absurd (cc ends)
 ends_said limit input left left_after old new start now before after payload End result end so_far says is ends =
     let same : status.Done ≡ end = cc in
-    subst (λ s. Tries start limit input left_after before after s) same (ends_done limit input left left_after old new start now before after payload result so_far says is)
+    subst (λ s. Tries start limit input left_after before after now s) same (ends_done limit input left left_after old new start now before after payload result so_far says is)
 ends_said limit input left left_after old new start now before after payload Limit result end so_far says is ends =
     let same : status.InputLimit ≡ end = cc in
-    subst (λ s. Tries start limit input left_after before after s) same (ends_limit limit input left left_after old new start now before after payload result so_far says is)
+    subst (λ s. Tries start limit input left_after before after now s) same (ends_limit limit input left left_after old new start now before after payload result so_far says is)
 
 -- few bytes were taken, whatever was said
 pub few_said : {E : Type 0} (limit : ℕ) (left_before left left_after : Option (List ℕ)) (old new : Reading) (first : List Item) (payload : Payload) (result : Result Said E)

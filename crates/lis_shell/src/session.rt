@@ -37,7 +37,7 @@ pub fn try_session<S: Source, T: Station>(
     ensures disk { IsShowCall (T.meaning station.old) (T.meaning station.new) }
     ensures few { TakesFew limit (S.left input.old) (S.left input.new) }
     ensures tries { (bytes : List ℕ) → S.left input.old ≡ Some bytes
-        → Tries plain.old limit bytes (S.left input.new) (T.meaning station.old).shown (T.meaning station.new).shown result }
+        → Tries plain.old limit bytes (S.left input.new) (T.meaning station.old).shown (T.meaning station.new).shown plain.new result }
 {
     let mut reader = LineReader::new(limit);
     loop {

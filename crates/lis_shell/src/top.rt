@@ -3,7 +3,7 @@
 ghost use Rattle.std.specs.Prelude.{◌≡◌, ◌↔◌, ℕ, ◌^◌, List, map, None, Some, IfSome, IsSome};
 ghost use Rattle.std.specs.String.{string_bytes};
 ghost use Rattle.lis_ports.specs.Calls.{IsShowCall};
-ghost use Rattle.lis_model.specs.Step.{start_of};
+ghost use Rattle.lis_model.specs.Step.{Situation, start_of};
 ghost use Rattle.lis_shell.specs.Words.{try_limits};
 ghost use Rattle.lis_shell.specs.Causes.{counts, HasStatusCause, IsTryStatus};
 ghost use Rattle.lis_shell.specs.Tries.{Tries, TakesFew};
@@ -31,7 +31,7 @@ fn try_from_empty<S: Source, T: Station>(
     ensures disk { IsShowCall (T.meaning station.old) (T.meaning station.new) }
     ensures few { TakesFew (2 ^ 40) (S.left input.old) (S.left input.new) }
     ensures tries { (bytes : List ℕ) → S.left input.old ≡ Some bytes
-        → Tries (start_of limits.now) (2 ^ 40) bytes (S.left input.new) (T.meaning station.old).shown (T.meaning station.new).shown result }
+        → (end : Situation) × Tries (start_of limits.now) (2 ^ 40) bytes (S.left input.new) (T.meaning station.old).shown (T.meaning station.new).shown end result }
 {
     let Ok(mut plain) = Plain::new(alloc, limits) else {
         return Status::NoMemory;
@@ -58,7 +58,7 @@ pub fn lisfs<S: Source, T: Station>(
 
     // What was shown is what the model replies to the items of the input, however it comes in pieces.
     ensures tries { IfSome (try_limits (map string_bytes words.now)) (λ limits. (bytes : List ℕ) → S.left input.old ≡ Some bytes
-        → Tries (start_of limits) (2 ^ 40) bytes (S.left input.new) (T.meaning station.old).shown (T.meaning station.new).shown result) }
+        → (end : Situation) × Tries (start_of limits) (2 ^ 40) bytes (S.left input.new) (T.meaning station.old).shown (T.meaning station.new).shown end result) }
     ensures few { TakesFew (2 ^ 40) (S.left input.old) (S.left input.new) }
 
     ensures cause { HasStatusCause (counts (T.meaning station.old) (S.faults input.old)) (counts (T.meaning station.new) (S.faults input.new)) result }

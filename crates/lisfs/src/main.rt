@@ -10,18 +10,24 @@ use std::io;
 use std::io::Write;
 use std::process::ExitCode;
 
-fn words(rt: &HostRuntime) -> io::Result<Vec<String>> {
+/// The words after the program's name, or the status of a program that can't have them.
+fn words(rt: &HostRuntime) -> Result<Vec<String>, Status> {
+    let Ok(all) = env::args(rt) else {
+        return Err(Status::Usage);
+    };
     let mut words = Vec::new(rt.alloc());
-    for word in env::args(rt)?.skip(1) {
-        words.push(word)?;
+    for word in all.skip(1) {
+        let Ok(()) = words.push(word) else {
+            return Err(Status::NoMemory);
+        };
     }
     Ok(words)
 }
 
 fn run(rt: &HostRuntime) -> Status {
-    // Words that can't be had are in no form.
-    let Ok(words) = words(rt) else {
-        return Status::Usage;
+    let words = match words(rt) {
+        Ok(words) => words,
+        Err(status) => return status,
     };
     let mut input = StdSource {
         reader: rt.reader(),
