@@ -39,9 +39,9 @@ fn is_listed(numbers: &[u64], number: u64) -> bool
 impl MemStation {
     ghost use Rattle.lis_memdisk.specs.MemStation.{held, meaning_of, is_spent, is_told, is_told_to_show, state_of, IsNew};
 
-    /// A station that reads as these bytes. Its record of what is written, synced and shown takes the bytes themselves
-    /// and 48 more for each call, and what is shown takes its bytes once more; `room` is how many bytes all this may
-    /// take. With room 0 it keeps no record, and 65,536 bytes can be shown.
+    /// A station that reads as these bytes. Each write, sync and show that succeeds takes 48 bytes of the room for its
+    /// place in the record, and the bytes that it wrote or showed. With room 0 it keeps no record, and 65,536 bytes
+    /// can be shown.
     pub fn new(alloc: Global, bytes: &[u8], room: u64) -> Result<Self, AllocError>
         ensures { IfOk result (λ m. IsNew m bytes.now room) }
     {
