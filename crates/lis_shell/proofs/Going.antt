@@ -37,7 +37,7 @@ so_far_none limit left reading start before is = record {
   first = [];
   read = read_none limit left reading is;
   at = refl;
-  shown = sym (append_known-nil before)
+  shown = sym (append_known-nil before);
 }
 
 -- the next item was read: an item that is none of the two ends
@@ -70,7 +70,7 @@ item_read {E} limit left_before left left_after old new start now before after p
       (λ gives. subst (λ r. Gives old new left left_after payload r) told gives) few;
   is = refl;
   at = so_far.at;
-  shown = so_far.shown
+  shown = so_far.shown;
 }
 item_read {E} limit left_before left left_after old new start now before after payload (Bad refusal) result so_far says told few none = record {
   first = so_far.first;
@@ -81,7 +81,7 @@ item_read {E} limit left_before left left_after old new start now before after p
       (λ gives. subst (λ r. Gives old new left left_after payload r) told gives) few;
   is = refl;
   at = so_far.at;
-  shown = so_far.shown
+  shown = so_far.shown;
 }
 item_read limit left_before left left_after old new start now before after payload End result so_far says told few none = absurd (cc none)
 item_read limit left_before left left_after old new start now before after payload Limit result so_far says told few none = absurd (cc none)
@@ -108,7 +108,7 @@ so_far_more limit left_before left reading start now next before after shown ask
       shown = done.1 ∙ ap (λ s. append_known after (step s read.item).reply) read.at
           ∙ ap (λ known. append_known known (step (situation_after start read.first) read.item).reply) read.shown
           ∙ append_known-append before (replies start read.first) (step (situation_after start read.first) read.item).reply
-          ∙ ap (append_known before) (sym (last_reply start read.first read.item))
+          ∙ ap (append_known before) (sym (last_reply start read.first read.item));
     }
 
 pub ends_output : (limit : ℕ) (input : List ℕ) (left : Option (List ℕ)) (reading : Reading) (start now next : Situation) (before after shown : Option (List ℕ)) (asked : Option Item)
@@ -125,7 +125,7 @@ ends_output limit input left reading start now next before after shown asked rea
       all = front.1 ∙ append_assoc read.first (read.item ∷ []) front.0;
       shown = subst (λ known. AppendsFront known shown (step (situation_after start read.first) read.item).reply) read.shown
           (subst (λ s. AppendsFront after shown (step s read.item).reply) read.at done.1);
-      at = done.0 ∙ ap (λ s. (step s read.item).next) read.at
+      at = done.0 ∙ ap (λ s. (step s read.item).next) read.at;
     }
 
 pub ends_memory : (limit : ℕ) (input : List ℕ) (left : Option (List ℕ)) (reading : Reading) (start now next : Situation) (before after shown : Option (List ℕ)) (asked : Option Item)
@@ -140,7 +140,7 @@ ends_memory limit input left reading start now next before after shown asked rea
       others = read.item ∷ front.0;
       all = front.1 ∙ append_assoc read.first (read.item ∷ []) front.0;
       shown = done.1 ∙ read.shown;
-      at = done.0 ∙ read.at
+      at = done.0 ∙ read.at;
     }
 
 -- the end of the input
@@ -169,15 +169,15 @@ ends_done {E} limit input left left_after old new start now before after payload
         let gave : Gives {E = E} old new left left_after payload (Ok End) = subst (λ r. Gives old new left left_after payload r) is going.1 in
         tell input so_far.first so_far.at so_far.shown
         (end_now input left_after new.stock.ahead (so_far.read.bytes ++ gave.0.bytes) limit new.stock.rest so_far.first
-            (consumes_then (Some input) (stream_of old.stock left) (stream_of new.stock left_after) so_far.read.bytes gave.0.bytes so_far.read.took gave.0.gave.took)
-            gave.0.nothing_ahead gave.0.at_end (omega (arith, so_far.read.rest, gave.0.gave.rest, length-append so_far.read.bytes gave.0.bytes)) gave.0.within
-            (going.0.all gave.0.bytes ∙ ap (λ items. so_far.first ++ items) gave.0.none_left ∙ append-nil so_far.first))
+        (consumes_then (Some input) (stream_of old.stock left) (stream_of new.stock left_after) so_far.read.bytes gave.0.bytes so_far.read.took gave.0.gave.took)
+        gave.0.nothing_ahead gave.0.at_end (omega (arith, so_far.read.rest, gave.0.gave.rest, length-append so_far.read.bytes gave.0.bytes)) gave.0.within
+        (going.0.all gave.0.bytes ∙ ap (λ items. so_far.first ++ items) gave.0.none_left ∙ append-nil so_far.first))
         gave.0.at_end
     by (inr closed) =
         let end : IsAtEnd left_after = subst IsAtEnd (sym closed.1.untouched) closed.0.at_end in
         tell input so_far.first so_far.at so_far.shown
         (end_now input left old.stock.ahead so_far.read.bytes limit old.stock.rest so_far.first so_far.read.took closed.0.nothing_ahead closed.0.at_end
-            so_far.read.rest so_far.read.within closed.0.all)
+        so_far.read.rest so_far.read.within closed.0.all)
         end
 
 -- the byte past the limit
@@ -198,13 +198,13 @@ ends_limit {E} limit input left left_after old new start now before after payloa
         let split = known_split input left_after new.stock.ahead (so_far.read.bytes ++ (over.bytes ++ over.byte ∷ [])) took in
         let behind : List ℕ = over.byte ∷ (new.stock.ahead ++ split.0) in
         let is_input : input ≡ front ++ behind =
-            split.2 ∙ ap (λ xs. xs ++ (new.stock.ahead ++ split.0)) (sym (append_assoc so_far.read.bytes over.bytes (over.byte ∷ [])))
-            ∙ append_assoc front (over.byte ∷ []) (new.stock.ahead ++ split.0) in
+        split.2 ∙ ap (λ xs. xs ++ (new.stock.ahead ++ split.0)) (sym (append_assoc so_far.read.bytes over.bytes (over.byte ∷ [])))
+        ∙ append_assoc front (over.byte ∷ []) (new.stock.ahead ++ split.0) in
         let size : length front ≡ limit = omega (arith, so_far.read.rest, over.gave.rest, over.spent, length-append so_far.read.bytes over.bytes, length-append over.bytes (over.byte ∷ [])) in
         let long : limit < length input = omega (arith, ap length is_input, length-append front behind, size) in
         let items : script input limit ≡ so_far.first =
-            script_long input limit long ∙ ap (λ n. whole_items (take n input)) (sym size) ∙ ap (λ xs. whole_items (take (length front) xs)) is_input
-            ∙ ap whole_items (take-append_seam front behind) ∙ going.0.whole over.bytes ∙ ap (λ items. so_far.first ++ items) over.none_whole ∙ append-nil so_far.first in
+        script_long input limit long ∙ ap (λ n. whole_items (take n input)) (sym size) ∙ ap (λ xs. whole_items (take (length front) xs)) is_input
+        ∙ ap whole_items (take-append_seam front behind) ∙ going.0.whole over.bytes ∙ ap (λ items. so_far.first ++ items) over.none_whole ∙ append-nil so_far.first in
         (long, so_far.shown ∙ ap (λ items. append_known before (replies start items)) (sym items), so_far.at ∙ ap (situation_after start) (sym items))
 
 -- a fault of the input
@@ -223,12 +223,12 @@ ends_input {E} limit input left left_after old new start now before after payloa
         let took = consumes_then (Some input) (stream_of old.stock left) (stream_of new.stock left_after) so_far.read.bytes rest.bytes so_far.read.took rest.gave.took in
         let all : Consumes (Some input) left_after ((so_far.read.bytes ++ rest.bytes) ++ new.stock.ahead) = stream_taken (Some input) left_after new.stock.ahead (so_far.read.bytes ++ rest.bytes) took in
         let items : whole_items (so_far.read.bytes ++ rest.bytes) ≡ so_far.first =
-            going.0.whole rest.bytes ∙ ap (λ items. so_far.first ++ items) rest.none_whole ∙ append-nil so_far.first in
+        going.0.whole rest.bytes ∙ ap (λ items. so_far.first ++ items) rest.none_whole ∙ append-nil so_far.first in
         record {
           taken = so_far.read.bytes ++ rest.bytes;
           consumed = subst (λ xs. Consumes (Some input) left_after xs) (ap (λ xs. (so_far.read.bytes ++ rest.bytes) ++ xs) rest.nothing_ahead ∙ append-nil (so_far.read.bytes ++ rest.bytes)) all;
           shown = so_far.shown ∙ ap (λ items. append_known before (replies start items)) (sym items);
-          at = so_far.at ∙ ap (situation_after start) (sym items)
+          at = so_far.at ∙ ap (situation_after start) (sym items);
         }
 
 -- the end or the limit, as it is said

@@ -57,7 +57,7 @@ read_none limit left reading is = subst (λ r. ReadSoFar limit left left r []) (
   within = omega arith;
   going = refl;
   few = omega arith;
-  is = inl (refl, record { all = λ more. refl; whole = λ more. refl })
+  is = inl (refl, record { all = λ more. refl; whole = λ more. refl });
 })
 
 -- the same input once nothing is ahead
@@ -71,7 +71,7 @@ stream_empty reading left none = ap (λ xs. prepend_known xs left) none ∙ same
 goes_more : (bytes more : List ℕ) (first : List Item) (item : Item) → Goes bytes first → IsWhole more item → Goes (bytes ++ more) (first ++ item ∷ [])
 goes_more bytes more first item goes is = record {
   all = λ rest. ap all_items (append_assoc bytes more rest) ∙ goes.all (more ++ rest) ∙ ap (λ items. first ++ items) (is.all rest) ∙ sym (append_assoc first (item ∷ []) (all_items rest));
-  whole = λ rest. ap whole_items (append_assoc bytes more rest) ∙ goes.whole (more ++ rest) ∙ ap (λ items. first ++ items) (is.whole rest) ∙ sym (append_assoc first (item ∷ []) (whole_items rest))
+  whole = λ rest. ap whole_items (append_assoc bytes more rest) ∙ goes.whole (more ++ rest) ∙ ap (λ items. first ++ items) (is.whole rest) ∙ sym (append_assoc first (item ∷ []) (whole_items rest));
 }
 
 -- the bytes that were given, and those ahead, were taken
@@ -85,7 +85,7 @@ few_taken : (limit : ℕ) (left_before left : Option (List ℕ)) (ahead bytes : 
 few_taken limit left_before left ahead bytes rest took sum few = record {
   taken = bytes ++ ahead;
   consumed = stream_taken left_before left ahead bytes took;
-  few = omega (arith, sum, few, length-append bytes ahead)
+  few = omega (arith, sum, few, length-append bytes ahead);
 }
 
 pub few_so_far : (limit : ℕ) (left_before left : Option (List ℕ)) (reading : Reading) (first : List Item)
@@ -113,7 +113,7 @@ read_whole limit left_before left left_after old new first item read goes going 
   within = gave.within;
   going = going;
   few = few;
-  is = inl (opened, goes_more read.bytes gave.bytes first item goes gave.is)
+  is = inl (opened, goes_more read.bytes gave.bytes first item goes gave.is);
 }
 
 read_last : (limit : ℕ) (left_before left left_after : Option (List ℕ)) (old new : Reading) (first : List Item) (item : Item)
@@ -127,7 +127,7 @@ read_last limit left_before left left_after old new first item read goes going g
   within = gave.within;
   going = going;
   few = few;
-  is = inr (closed, record { all = goes.all gave.bytes ∙ ap (λ items. first ++ items) gave.is.all; nothing_ahead = gave.nothing_ahead; at_end = gave.at_end })
+  is = inr (closed, record { all = goes.all gave.bytes ∙ ap (λ items. first ++ items) gave.is.all; nothing_ahead = gave.nothing_ahead; at_end = gave.at_end });
 }
 
 pub read_item : (limit : ℕ) (left_before left left_after : Option (List ℕ)) (old new : Reading) (first : List Item) (item : Item)
@@ -192,12 +192,13 @@ script_front limit input left reading first read = by read.is
         let split = known_split input left reading.stock.ahead read.bytes read.took in
         let behind : List ℕ = reading.stock.ahead ++ split.0 in
         elim (cases_lt limit (length input)) as (λ _. (others : List Item) × (script input limit ≡ first ++ others)) [
-          inl long ↦
-          (whole_items (take (limit - length read.bytes) behind),
-           script_long input limit long ∙ ap (λ xs. whole_items (take limit xs)) split.2
-           ∙ ap whole_items (front_taken read.bytes behind limit (omega (arith, read.rest, read.within)))
-           ∙ opened.1.whole (take (limit - length read.bytes) behind))
-        | inr short ↦ (all_items behind, script_short input limit short ∙ ap all_items split.2 ∙ opened.1.all behind)
+          | inl long ↦ (
+            whole_items (take (limit - length read.bytes) behind),
+            script_long input limit long ∙ ap (λ xs. whole_items (take limit xs)) split.2
+                ∙ ap whole_items (front_taken read.bytes behind limit (omega (arith, read.rest, read.within)))
+                ∙ opened.1.whole (take (limit - length read.bytes) behind),
+          )
+          | inr short ↦ (all_items behind, script_short input limit short ∙ ap all_items split.2 ∙ opened.1.all behind)
         ]
     by (inr closed) =
         let whole = input_is input left reading.stock.ahead read.bytes read.took closed.1.nothing_ahead closed.1.at_end in

@@ -42,7 +42,11 @@ pub fn try_limits(words: &[String]) -> Option<Limits>
     if words[0].as_bytes() != b"try".as_slice() {
         return None;
     }
-    limits_of(words[1].as_bytes(), words[2].as_bytes(), words[3].as_bytes())
+    limits_of(
+        words[1].as_bytes(),
+        words[2].as_bytes(),
+        words[3].as_bytes(),
+    )
 }
 
 /// How long the image is that the words ask to make. None comes where they are no such words; no words are in this version.

@@ -5,10 +5,9 @@ use lis_memdisk::FileStation;
 use lis_ports::StdSource;
 use lis_shell::status::{Status, exit_code, status_text};
 use lis_shell::top::lisfs;
-use std::env;
-use std::io;
 use std::io::Write;
 use std::process::ExitCode;
+use std::{env, io};
 
 /// The words after the program's name, or the status of a program that can't have them.
 fn words(rt: &HostRuntime) -> Result<Vec<String>, Status> {

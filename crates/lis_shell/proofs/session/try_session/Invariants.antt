@@ -8,7 +8,7 @@ invariant-loop-item g l = record {
   so_far : SoFar l.limit (g.S.Source.left l.fn.input) (g.S.Source.left l.input) l.reader l.fn.plain l.plain (g.T.Disk.meaning l.fn.station).shown (g.T.Disk.meaning l.station).shown;
   disk : IsShowCall (g.T.Disk.meaning l.fn.station) (g.T.Disk.meaning l.station);
   input_faults : g.S.Source.faults l.input ≡ g.S.Source.faults l.fn.input;
-  show_faults : (g.T.Disk.meaning l.station).show_faults ≡ (g.T.Disk.meaning l.fn.station).show_faults
+  show_faults : (g.T.Disk.meaning l.station).show_faults ≡ (g.T.Disk.meaning l.fn.station).show_faults;
 }
 
 abbrev pub decreases-loop-item : goal.decreases-loop-item

@@ -6,16 +6,20 @@ use Rattle.lis_shell.specs.Tries.{Tries}
 use Rattle.lis_shell.proofs.top.try_from_empty.Goals as goal
 
 pub returns-in_default-clause-tries : goal.returns-in_default-clause-tries
-returns-in_default-clause-tries g c bytes known =
-    (start_of c.args.limits.now , record {
-      first = [];
-      others = script bytes 1099511627776;
-      all = refl;
-      shown = sym (append_known-nil (g.T.Disk.meaning c.args.station.now).shown);
-      at = refl
-    })
+returns-in_default-clause-tries g c bytes known = (
+  start_of c.args.limits.now,
+  record {
+    first = [];
+    others = script bytes 1099511627776;
+    all = refl;
+    shown = sym (append_known-nil (g.T.Disk.meaning c.args.station.now).shown);
+    at = refl;
+  },
+)
 
 pub returns-clause-tries : goal.returns-clause-tries
-returns-clause-tries g c bytes known =
-    (c.try_session.new.plain , subst (λ s. Tries s 1099511627776 bytes (g.S.Source.left c.try_session.new.input) (g.T.Disk.meaning c.args.station.now).shown (g.T.Disk.meaning c.try_session.new.station).shown c.try_session.new.plain c.try_session.result)
-    c.in-Ok.ensures (c.try_session.ensures.tries bytes known))
+returns-clause-tries g c bytes known = (
+  c.try_session.new.plain,
+  subst (λ s. Tries s 1099511627776 bytes (g.S.Source.left c.try_session.new.input) (g.T.Disk.meaning c.args.station.now).shown (g.T.Disk.meaning c.try_session.new.station).shown c.try_session.new.plain c.try_session.result)
+      c.in-Ok.ensures (c.try_session.ensures.tries bytes known),
+)
