@@ -11,6 +11,7 @@ pub const MAX_WORD: usize = 60;
 /// The most digits of a count.
 pub const MAX_DIGITS: usize = 12;
 
+/// Whether words and names may have the byte: an ASCII letter, a digit, or one of `_ - . + @`.
 pub fn is_plain_byte(byte: u8) -> bool
     ensures { result ≡ is_plain_byte byte }
 {

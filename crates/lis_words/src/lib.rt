@@ -5,6 +5,6 @@ mod forms;
 mod name;
 mod word;
 
-pub use forms::{is_count, is_head, is_plain_word, is_valued, read_count};
+pub use forms::{is_count, is_head, is_plain_byte, is_plain_word, is_valued, read_count};
 pub use name::{Name, read_name};
 pub use word::{PropKind, Word, head_of, is_builtin, kind, read_word, with_value};

@@ -49,6 +49,14 @@ impl Name {
         self.held.as_slice()
     }
 
+    /// How many bytes the name has; a name is never empty.
+    pub fn len(&self) -> usize
+        ensures value { result ≡ length self.now }
+        ensures short { result ≤ 60 }
+    {
+        self.held.len()
+    }
+
     /// The same name, without memory taken: unlike `clone`, it can't fail.
     pub fn copied(&self) -> Name
         ensures { result ≡ self.now }

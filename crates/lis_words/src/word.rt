@@ -72,6 +72,14 @@ impl Word {
         self.held.as_slice()
     }
 
+    /// How many bytes the word has; a word is never empty.
+    pub fn len(&self) -> usize
+        ensures value { result ≡ length self.now }
+        ensures short { result ≤ 60 }
+    {
+        self.held.len()
+    }
+
     /// The same word, without memory taken: unlike `clone`, it can't fail.
     pub fn copied(&self) -> Word
         ensures { result ≡ self.now }
