@@ -85,6 +85,39 @@ fn commit_sevens(
     Ok(journal.commit(disk).is_ok())
 }
 
+// What a mount on an image reads, which a stop at any call of that mount does not change.
+fn fill_after_stops(alloc: Global, image: &[u8]) -> Result<u8, Fail>
+    requires { length image.now ≡ 2433024 }
+{
+    let fill = fill_after(alloc, image)?;
+    let mut disk = MemStation::new(alloc, image, ROOM)?;
+    let _journal = Journal::mount(alloc, &mut disk, BLOCKS)?;
+    for call in 0..disk.calls() {
+        if fill_after_crash(alloc, &disk, call, 165)? != fill {
+            return Err("a second stop changed what is kept".into());
+        }
+    }
+    Ok(fill)
+}
+
+// The blocks are all old or all new after a crash just after the call, and stops of the recovery change nothing.
+fn are_old_or_new(alloc: Global, disk: &MemStation, call: u64, pick: u8) -> Result<(), Fail>
+    requires { IsTrue (meaning_of disk.now).is_recorded }
+{
+    if call > disk.calls() {
+        return Err("there was no such call".into());
+    }
+    let image = disk.crash(alloc, call, pick)?;
+    if image.len() != DISK_LEN {
+        return Err("the image has another length".into());
+    }
+    let fill = fill_after_stops(alloc, &image)?;
+    if fill != 0 && fill != 7 {
+        return Err("neither the old blocks nor the new ones".into());
+    }
+    Ok(())
+}
+
 #[test]
 fn a_stop_in_a_commit_leaves_all_or_none(rt: HostRuntime) -> Result<(), Fail> {
     let alloc = rt.alloc();
@@ -95,38 +128,15 @@ fn a_stop_in_a_commit_leaves_all_or_none(rt: HostRuntime) -> Result<(), Fail> {
     let end = disk.calls();
     for call in start..end {
         for pick in [0, 1, 2, 165] {
-            let fill = fill_after_crash(alloc, &disk, call, pick)?;
-            assert!(rt; fill == 0 || fill == 7);
+            are_old_or_new(alloc, &disk, call, pick)?;
         }
     }
     assert_eq!(rt; fill_after_crash(alloc, &disk, end, 165)?, 7);
     Ok(())
 }
 
-#[test]
-fn a_stop_in_a_recovery_leaves_what_the_gate_says(rt: HostRuntime) -> Result<(), Fail> {
-    let alloc = rt.alloc();
-    let mut disk = MemStation::new(alloc, &zeros(alloc)?, ROOM)?;
-    let mut journal = Journal::mount(alloc, &mut disk, BLOCKS)?;
-    // After four calls for the record come the write of the gate and its sync.
-    let opened = disk.calls().saturating_add(6);
-    assert!(rt; commit_sevens(alloc, &mut disk, &mut journal)?);
-    assert!(rt; opened <= disk.calls());
-    let image = disk.crash(alloc, opened, 0)?;
-    assert_eq!(rt; image.len(), DISK_LEN);
-    let mut again = MemStation::new(alloc, &image, ROOM)?;
-    let _journal = Journal::mount(alloc, &mut again, BLOCKS)?;
-    let end = again.calls();
-    for call in 0..end {
-        for pick in [0, 1, 2, 165] {
-            assert_eq!(rt; fill_after_crash(alloc, &again, call, pick)?, 7);
-        }
-    }
-    Ok(())
-}
-
 // Commits with one call that fails, and answers what a crash after it leaves.
-fn fill_after_fault(alloc: Global, call: u64) -> Result<u8, Fail> {
+fn fill_after_fault(alloc: Global, call: u64, pick: u8) -> Result<u8, Fail> {
     let mut disk = MemStation::new(alloc, &zeros(alloc)?, ROOM)?;
     disk.fails.push(call)?;
     let mut journal = Journal::mount(alloc, &mut disk, BLOCKS)?;
@@ -137,14 +147,16 @@ fn fill_after_fault(alloc: Global, call: u64) -> Result<u8, Fail> {
         return Err("the journal is not broken".into());
     }
     let end = disk.calls();
-    fill_after_crash(alloc, &disk, end, 165)
+    fill_after_crash(alloc, &disk, end, pick)
 }
 
 #[test]
 fn a_failing_call_breaks_the_journal(rt: HostRuntime) -> Result<(), Fail> {
     for call in 3..14 {
-        let fill = fill_after_fault(rt.alloc(), call)?;
-        assert!(rt; fill == 0 || fill == 7);
+        for pick in [0, 1, 2, 165] {
+            let fill = fill_after_fault(rt.alloc(), call, pick)?;
+            assert!(rt; fill == 0 || fill == 7);
+        }
     }
     Ok(())
 }

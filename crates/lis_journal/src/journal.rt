@@ -1,6 +1,6 @@
 //! The journal: blocks are staged, and become kept all at once.
 
-ghost use Rattle.std.specs.Prelude.{[], ◌≡◌, ◌⊎◌, ◌+◌, ◌*◌, ◌<◌, ◌≤◌, ◌∷◌, ℕ, List, Option, None, length, true, false, IsTrue, IfOk, OnOk, OnErr, Err, if◌then◌else◌, ◌==◌, nat_eq};
+ghost use Rattle.std.specs.Prelude.{[], ◌≡◌, ◌⊎◌, ◌+◌, ◌*◌, ◌<◌, ◌≤◌, ◌∷◌, ℕ, List, Option, None, length, true, false, IsTrue, IfOk, OnOk, OnErr, Ok, Err, if◌then◌else◌, ◌==◌, nat_eq};
 ghost use Rattle.lis_ports.specs.Runs.{IsDiskRun, Leaves};
 ghost use Rattle.lis_ports.specs.Calls.{HasCause, IsUnchanged};
 ghost use Rattle.lis_journal.specs.Record.{block, replayed};
@@ -178,6 +178,7 @@ impl Journal {
     pub fn commit<D: Disk>(&mut self, disk: &mut D) -> Result<(), Failed>
         requires unbroken { self.old.is_broken ≡ false }
         requires long { 4096 * self.old.blocks ≤ (D.meaning disk.old).len }
+        ensures idle { self.old.staged ≡ [] → (result ≡ Ok _) × (disk.new ≡ disk.old) × (self.new ≡ self.old) }
 
         // A crash at any moment of the call leaves an image that stands for the blocks as before, or with all that is staged.
         ensures any_moment { (kept : ℕ → List ℕ) → Fits self.old.blocks (D.meaning disk.old) kept

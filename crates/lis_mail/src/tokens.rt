@@ -5,16 +5,7 @@ ghost use Rattle.std.specs.List.{prefix_len};
 ghost use Rattle.lis_words.specs.Words.{is_plain_byte};
 ghost use Rattle.lis_mail.specs.Tokens.{tokens, has_at, is_between};
 
-fn is_plain_byte(byte: u8) -> bool
-    ensures { result ≡ is_plain_byte byte }
-{
-    byte.is_ascii_alphanumeric()
-        || byte == b'_'
-        || byte == b'-'
-        || byte == b'.'
-        || byte == b'+'
-        || byte == b'@'
-}
+use lis_words::is_plain_byte;
 
 fn gap_len(body: &[u8]) -> usize
     ensures { result ≡ prefix_len is_between body.now }
