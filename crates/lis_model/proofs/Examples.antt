@@ -1,5 +1,6 @@
 -- Sessions worked by the definitions alone.
 use Rattle.std.proofs.Common.{◌≡◌, ℕ, List, [], ◌++◌, codes, refl}
+use Rattle.std.specs.Fmt.{digits}
 use Rattle.lis_model.specs.declared.limits.Limits.{Limits}
 use Rattle.lis_grammar.specs.Machine.{text_steps, broken_at}
 use Rattle.lis_grammar.specs.Printing.{printed}
@@ -59,3 +60,36 @@ made_at_places : session (codes "mkdir a\nmkdir b\ncd a/b\ncreate x\ncd /\nls\nc
     ++ line (codes "no 08 not a place") ++ line (codes "no 08 not a place")
 unfolding all_items whole_items step resolved text_words text_steps printed is_place
 made_at_places = refl
+
+abbrev with_blocks : ℕ → List ℕ → List ℕ
+with_blocks blocks bytes = replies (start_of (record { files = 64; props = 64; blocks = blocks })) (script bytes 1000)
+
+-- files with bytes: one block is used, given back, and used again
+one_block : with_blocks 1 (codes "add a 1\nx\nadd b 0\n\nadd c 1\ny\nrm a\nadd c 1\nz\nls\ncat c\n")
+    ≡ line (codes "ok") ++ line (codes "ok") ++ line (codes "no 24 no space") ++ line (codes "ok") ++ line (codes "ok")
+    ++ line (codes "f b") ++ line (codes "f c") ++ line (codes "ok") ++ line (codes "b 1") ++ line (codes "z") ++ line (codes "ok")
+unfolding all_items whole_items step digits
+one_block = refl
+
+-- a payload is followed by a line feed, and else all up to the next one is dropped
+payload_ends : session (codes "add a 2\nxyz\nls\nadd b 3\nabc\ncat b\n")
+    ≡ line (codes "no 04 payload end") ++ line (codes "ok") ++ line (codes "ok") ++ line (codes "b 3") ++ line (codes "abc") ++ line (codes "ok")
+unfolding all_items whole_items step digits
+payload_ends = refl
+
+payload_forms : session (codes "add a 0000000000003\nls\nadd a 000000000003\nxyz\nadd . 1\nx\nwrite a 1\ny\nwrite a 1\nyy\ncat y\npwd\nadd a 65537\n")
+    ≡ line (codes "no 01 bad line") ++ line (codes "ok") ++ line (codes "ok") ++ line (codes "no 01 bad line") ++ line (codes "no 01 bad line")
+    ++ line (codes "no 04 payload end") ++ line (codes "no 10 no such file here") ++ line (codes "w /") ++ line (codes "ok") ++ line (codes "no 03 cut payload")
+unfolding all_items whole_items step printed
+payload_forms = refl
+
+-- the end of the input may stand for a payload's line feed, but not where the input goes on past the limit
+last_payload : session (codes "add a 3\nxyz") ++ session (codes "add a 0") ++ session (codes "add a 1")
+    ≡ line (codes "ok") ++ line (codes "ok") ++ line (codes "no 03 cut payload")
+unfolding all_items whole_items step
+last_payload = refl
+
+payload_at_the_limit : replies (start_of (record { files = 64; props = 64; blocks = 8 })) (script (codes "add a 1\nx\nls") 10)
+    ++ replies (start_of (record { files = 64; props = 64; blocks = 8 })) (script (codes "add a 1\nx\nls") 9) ≡ line (codes "ok")
+unfolding all_items whole_items step
+payload_at_the_limit = refl

@@ -1,10 +1,16 @@
--- What a line adds to the items of an input.
-use Rattle.std.proofs.Common.{◌≡◌, ℕ, ◌≤◌, Bool, true, false, cond, ◌||◌, List, [], ◌∷◌, ◌++◌, length, zero, suc, refl, ap, ◌∙◌, arith, append-nil}
+-- What the first part of an input adds to its items.
+use Rattle.std.proofs.Common.{◌≡◌, ℕ, ◌≤◌, ◌<◌, nat_lt, Bool, true, false, cond, ◌||◌, Option, Some, None, List, [], ◌∷◌, ◌++◌, length, take, drop, ◌-◌, ◌⊎◌, zero, suc, refl, ap, sym, subst, ◌∙◌, inl, inr, arith, append-nil, length-append}
+use Rattle.std.proofs.lemmas.List.{length-drop}
+use Rattle.std.proofs.Math.Seq.{take-append_seam, drop-append_seam}
 use Rattle.std.proofs.lemmas.List.Folds.{list_any-append}
-use Rattle.std.proofs.lemmas.Bool.{or_right}
+use Rattle.std.proofs.lemmas.Bool.{or_right, le-leb}
+use Rattle.std.proofs.lemmas.Bool.Decides.{leb_tells}
 use Rattle.std.specs.Option.{option_to_list}
 use Rattle.std.specs.List.{list_any}
-use Rattle.lis_model.specs.Script.{is_feed, before_feed, after_feed, item_of, first_of, items_within, all_items, whole_within, whole_items}
+use Rattle.lis_model.specs.declared.refusal.Refusal.TheVariants.{CutPayload, PayloadEnd}
+use Rattle.lis_model.specs.Step.{Item, no_payload}
+use Rattle.lis_model.specs.Step.Item.{Bad}
+use Rattle.lis_model.specs.Script.{is_feed, before_feed, after_feed, item_of, payload_size, payload_of, First, first_ended, first_with, first_by, first_of, items_within, all_items, whole_within, whole_items}
 
 -- a text with no line feed in it
 abbrev pub IsOneLine : List ℕ → Type 0
@@ -18,12 +24,39 @@ after_feed_shorter (b ∷ bytes) = by (is_feed b) (after_feed_shorter bytes)
     by true more = omega arith
     by false more = omega (arith, more)
 
-rest_shorter : (b : ℕ) (bytes : List ℕ) → length (after_feed (b ∷ bytes)) ≤ length bytes
-rest_shorter b bytes = by (is_feed b) (after_feed_shorter bytes)
+ended_shorter : (item : Option Item) (bytes : List ℕ) → length (first_ended item bytes).rest ≤ length bytes
+ended_shorter item [] = omega arith
+ended_shorter item (b ∷ bytes) = by (is_feed b) (after_feed_shorter bytes)
+  where
+    by : (t : Bool) → length (after_feed bytes) ≤ length bytes
+        → length (cond {A = First} t (record { item = item; rest = bytes; is_whole = true }) (record { item = Some (Bad PayloadEnd); rest = after_feed bytes; is_whole = list_any is_feed bytes })).rest
+        ≤ length (b ∷ bytes)
+    by true more = omega arith
+    by false more = omega (arith, more)
+
+with_shorter : (text : List ℕ) (size : ℕ) (bytes : List ℕ) → length (first_with text size bytes).rest ≤ length bytes
+with_shorter text size bytes = by (nat_lt (length bytes) size) (ended_shorter (item_of text (payload_of size (take size bytes))) (drop size bytes)) (length-drop size bytes)
+  where
+    by : (t : Bool) → length (first_ended (item_of text (payload_of size (take size bytes))) (drop size bytes)).rest ≤ length (drop size bytes)
+        → length (drop size bytes) ≡ length bytes - size
+        → length (cond {A = First} t (record { item = Some (Bad CutPayload); rest = []; is_whole = false }) (first_ended (item_of text (payload_of size (take size bytes))) (drop size bytes))).rest
+        ≤ length bytes
+    by true more len = omega arith
+    by false more len = omega (arith, more, len)
+
+feed_shorter : (b : ℕ) (bytes : List ℕ) → length (after_feed (b ∷ bytes)) ≤ length bytes
+feed_shorter b bytes = by (is_feed b) (after_feed_shorter bytes)
   where
     by : (t : Bool) → length (after_feed bytes) ≤ length bytes → length (cond t bytes (after_feed bytes)) ≤ length bytes
     by true more = omega arith
     by false more = more
+
+rest_shorter : (b : ℕ) (bytes : List ℕ) → length (first_of (b ∷ bytes)).rest ≤ length bytes
+rest_shorter b bytes = by (payload_size (before_feed (b ∷ bytes))) (feed_shorter b bytes)
+  where
+    by : (size : Option ℕ) → length (after_feed (b ∷ bytes)) ≤ length bytes → length (first_by size (b ∷ bytes)).rest ≤ length bytes
+    by None more = more
+    by (Some n) more = omega (arith, more, with_shorter (before_feed (b ∷ bytes)) n (after_feed (b ∷ bytes)))
 
 -- more turns than there are bytes change nothing
 items_fuel : (n m : ℕ) (bytes : List ℕ) → length bytes ≤ n → length bytes ≤ m → items_within n bytes ≡ items_within m bytes
@@ -35,7 +68,7 @@ items_fuel (suc n) zero (b ∷ bytes) h k = absurd (omega arith)
 items_fuel (suc n) (suc m) [] h k = refl
 items_fuel (suc n) (suc m) (b ∷ bytes) h k =
     ap (λ items. option_to_list (first_of (b ∷ bytes)).item ++ items)
-    (items_fuel n m (after_feed (b ∷ bytes)) (omega (arith, rest_shorter b bytes)) (omega (arith, rest_shorter b bytes)))
+    (items_fuel n m (first_of (b ∷ bytes)).rest (omega (arith, rest_shorter b bytes)) (omega (arith, rest_shorter b bytes)))
 
 whole_fuel : (n m : ℕ) (bytes : List ℕ) → length bytes ≤ n → length bytes ≤ m → whole_within n bytes ≡ whole_within m bytes
 whole_fuel zero zero bytes h k = refl
@@ -45,23 +78,34 @@ whole_fuel (suc n) zero [] h k = refl
 whole_fuel (suc n) zero (b ∷ bytes) h k = absurd (omega arith)
 whole_fuel (suc n) (suc m) [] h k = refl
 whole_fuel (suc n) (suc m) (b ∷ bytes) h k =
-    ap (λ items. cond (list_any is_feed (b ∷ bytes)) (option_to_list (item_of (before_feed (b ∷ bytes))) ++ items) [])
-    (whole_fuel n m (after_feed (b ∷ bytes)) (omega (arith, rest_shorter b bytes)) (omega (arith, rest_shorter b bytes)))
+    ap (λ items. cond (first_of (b ∷ bytes)).is_whole (option_to_list (first_of (b ∷ bytes)).item ++ items) [])
+    (whole_fuel n m (first_of (b ∷ bytes)).rest (omega (arith, rest_shorter b bytes)) (omega (arith, rest_shorter b bytes)))
 
--- the items of an input: those of its first line, and then those of the rest
-pub all_items_first : (b : ℕ) (bytes : List ℕ)
-    → all_items (b ∷ bytes) ≡ option_to_list (item_of (before_feed (b ∷ bytes))) ++ all_items (after_feed (b ∷ bytes))
+all_items_first : (b : ℕ) (bytes : List ℕ)
+    → all_items (b ∷ bytes) ≡ option_to_list (first_of (b ∷ bytes)).item ++ all_items (first_of (b ∷ bytes)).rest
 unfolding all_items
 all_items_first b bytes =
-    ap (λ items. option_to_list (item_of (before_feed (b ∷ bytes))) ++ items)
-    (items_fuel (length bytes) (length (after_feed (b ∷ bytes))) (after_feed (b ∷ bytes)) (rest_shorter b bytes) (omega arith))
+    ap (λ items. option_to_list (first_of (b ∷ bytes)).item ++ items)
+    (items_fuel (length bytes) (length (first_of (b ∷ bytes)).rest) (first_of (b ∷ bytes)).rest (rest_shorter b bytes) (omega arith))
 
-pub whole_items_first : (b : ℕ) (bytes : List ℕ)
-    → whole_items (b ∷ bytes) ≡ cond (list_any is_feed (b ∷ bytes)) (option_to_list (item_of (before_feed (b ∷ bytes))) ++ whole_items (after_feed (b ∷ bytes))) []
+whole_items_first : (b : ℕ) (bytes : List ℕ)
+    → whole_items (b ∷ bytes) ≡ cond (first_of (b ∷ bytes)).is_whole (option_to_list (first_of (b ∷ bytes)).item ++ whole_items (first_of (b ∷ bytes)).rest) []
 unfolding whole_items
 whole_items_first b bytes =
-    ap (λ items. cond (list_any is_feed (b ∷ bytes)) (option_to_list (item_of (before_feed (b ∷ bytes))) ++ items) [])
-    (whole_fuel (length bytes) (length (after_feed (b ∷ bytes))) (after_feed (b ∷ bytes)) (rest_shorter b bytes) (omega arith))
+    ap (λ items. cond (first_of (b ∷ bytes)).is_whole (option_to_list (first_of (b ∷ bytes)).item ++ items) [])
+    (whole_fuel (length bytes) (length (first_of (b ∷ bytes)).rest) (first_of (b ∷ bytes)).rest (rest_shorter b bytes) (omega arith))
+
+-- the items of an input: what its first part asks for, and then those of the rest
+pub all_items_of : (bytes : List ℕ) (first : First) → 0 < length bytes → first_of bytes ≡ first
+    → all_items bytes ≡ option_to_list first.item ++ all_items first.rest
+all_items_of [] first some is = absurd (omega arith)
+all_items_of (b ∷ bytes) first some is = all_items_first b bytes ∙ ap (λ (f : First). option_to_list f.item ++ all_items f.rest) is
+
+pub whole_items_of : (bytes : List ℕ) (first : First) → 0 < length bytes → first_of bytes ≡ first
+    → whole_items bytes ≡ cond first.is_whole (option_to_list first.item ++ whole_items first.rest) []
+whole_items_of [] first some is = absurd (omega arith)
+whole_items_of (b ∷ bytes) first some is =
+    whole_items_first b bytes ∙ ap (λ (f : First). cond f.is_whole (option_to_list f.item ++ whole_items f.rest) []) is
 
 pub all_items_none : all_items [] ≡ []
 unfolding all_items
@@ -110,35 +154,100 @@ after_feed_all (b ∷ text) h = by (is_feed b) h (after_feed_all text)
 has_feed : (text more : List ℕ) → list_any is_feed (text ++ 10 ∷ more) ≡ true
 has_feed text more = list_any-append is_feed text (10 ∷ more) ∙ or_right (list_any is_feed text) true refl
 
--- a line with its line feed, whatever follows
-pub all_items_line : (text more : List ℕ) → IsOneLine text
-    → all_items (text ++ 10 ∷ more) ≡ option_to_list (item_of text) ++ all_items more
-all_items_line [] more h = all_items_first 10 more
-all_items_line (b ∷ text) more h =
-    all_items_first b (text ++ 10 ∷ more)
-    ∙ ap (λ line. option_to_list (item_of line) ++ all_items (after_feed (b ∷ text ++ 10 ∷ more))) (before_feed_at (b ∷ text) more h)
-    ∙ ap (λ rest. option_to_list (item_of (b ∷ text)) ++ all_items rest) (after_feed_at (b ∷ text) more h)
+some_front : (text more : List ℕ) → 0 < length (text ++ 10 ∷ more)
+some_front text more = omega (arith, length-append text (10 ∷ more))
 
-pub whole_items_line : (text more : List ℕ) → IsOneLine text
-    → whole_items (text ++ 10 ∷ more) ≡ option_to_list (item_of text) ++ whole_items more
-whole_items_line [] more h = whole_items_first 10 more
-whole_items_line (b ∷ text) more h =
-    whole_items_first b (text ++ 10 ∷ more)
-    ∙ ap (λ t. cond t (option_to_list (item_of (before_feed (b ∷ text ++ 10 ∷ more))) ++ whole_items (after_feed (b ∷ text ++ 10 ∷ more))) []) (has_feed (b ∷ text) more)
-    ∙ ap (λ line. option_to_list (item_of line) ++ whole_items (after_feed (b ∷ text ++ 10 ∷ more))) (before_feed_at (b ∷ text) more h)
-    ∙ ap (λ rest. option_to_list (item_of (b ∷ text)) ++ whole_items rest) (after_feed_at (b ∷ text) more h)
+-- a line with its line feed, and nothing that follows it by its words
+pub line_alone : (text more : List ℕ) → IsOneLine text → payload_size text ≡ None
+    → first_of (text ++ 10 ∷ more) ≡ record { item = item_of text no_payload; rest = more; is_whole = true }
+line_alone text more one none =
+    ap (λ line. first_by (payload_size line) (text ++ 10 ∷ more)) (before_feed_at text more one)
+    ∙ ap (λ size. first_by size (text ++ 10 ∷ more)) none
+    ∙ ap (λ line. record { item = item_of line no_payload; rest = after_feed (text ++ 10 ∷ more); is_whole = list_any is_feed (text ++ 10 ∷ more) }) (before_feed_at text more one)
+    ∙ ap (λ rest. record { item = item_of text no_payload; rest = rest; is_whole = list_any is_feed (text ++ 10 ∷ more) }) (after_feed_at text more one)
+    ∙ ap (λ whole. record { item = item_of text no_payload; rest = more; is_whole = whole }) (has_feed text more)
+
+-- a line with its line feed, and bytes that follow it
+pub line_with : (text more : List ℕ) (size : ℕ) → IsOneLine text → payload_size text ≡ Some size
+    → first_of (text ++ 10 ∷ more) ≡ first_with text size more
+line_with text more size one some =
+    ap (λ line. first_by (payload_size line) (text ++ 10 ∷ more)) (before_feed_at text more one)
+    ∙ ap (λ n. first_by n (text ++ 10 ∷ more)) some
+    ∙ ap (λ line. first_with line size (after_feed (text ++ 10 ∷ more))) (before_feed_at text more one)
+    ∙ ap (λ rest. first_with text size rest) (after_feed_at text more one)
+
+-- the last line, without a line feed
+pub last_alone : (text : List ℕ) → IsOneLine text → payload_size text ≡ None
+    → first_of text ≡ record { item = item_of text no_payload; rest = []; is_whole = false }
+last_alone text one none =
+    ap (λ line. first_by (payload_size line) text) (before_feed_all text one)
+    ∙ ap (λ size. first_by size text) none
+    ∙ ap (λ line. record { item = item_of line no_payload; rest = after_feed text; is_whole = list_any is_feed text }) (before_feed_all text one)
+    ∙ ap (λ rest. record { item = item_of text no_payload; rest = rest; is_whole = list_any is_feed text }) (after_feed_all text one)
+    ∙ ap (λ whole. record { item = item_of text no_payload; rest = []; is_whole = whole }) one
+
+pub last_with : (text : List ℕ) (size : ℕ) → IsOneLine text → payload_size text ≡ Some size → first_of text ≡ first_with text size []
+last_with text size one some =
+    ap (λ line. first_by (payload_size line) text) (before_feed_all text one)
+    ∙ ap (λ n. first_by n text) some
+    ∙ ap (λ line. first_with line size (after_feed text)) (before_feed_all text one)
+    ∙ ap (λ rest. first_with text size rest) (after_feed_all text one)
+
+-- fewer bytes than are to follow
+pub with_cut : (text bytes : List ℕ) (size : ℕ) → length bytes < size
+    → first_with text size bytes ≡ record { item = Some (Bad CutPayload); rest = []; is_whole = false }
+with_cut text bytes size few = rw (le-leb (suc (length bytes)) size few) refl
+
+with_payload : (text payload more : List ℕ) (size : ℕ) → length payload ≡ size
+    → first_with text size (payload ++ more) ≡ first_ended (item_of text (payload_of size payload)) more
+with_payload text payload more size is =
+    let enough : nat_lt (length (payload ++ more)) size ≡ false = by (leb_tells (suc (length (payload ++ more))) size) in
+    rw enough
+    (ap (λ xs. first_ended (item_of text (payload_of size xs)) (drop size (payload ++ more))) (subst (λ n. take n (payload ++ more) ≡ payload) is (take-append_seam payload more))
+    ∙ ap (λ xs. first_ended (item_of text (payload_of size payload)) xs) (subst (λ n. drop n (payload ++ more) ≡ more) is (drop-append_seam payload more)))
+  where
+    by : ((nat_lt (length (payload ++ more)) size ≡ true) × (suc (length (payload ++ more)) ≤ size)) ⊎ ((nat_lt (length (payload ++ more)) size ≡ false) × (size < suc (length (payload ++ more))))
+        → nat_lt (length (payload ++ more)) size ≡ false
+    by (inl h) = absurd (omega (arith, h.1, is, length-append payload more))
+    by (inr h) = h.0
+
+-- a payload, and its line feed
+pub with_whole : (text payload more : List ℕ) (size : ℕ) → length payload ≡ size
+    → first_with text size (payload ++ 10 ∷ more) ≡ record { item = item_of text (payload_of size payload); rest = more; is_whole = true }
+with_whole text payload more size is = with_payload text payload (10 ∷ more) size is
+
+-- a payload, and the end of the input
+pub with_end : (text payload : List ℕ) (size : ℕ) → length payload ≡ size
+    → first_with text size payload ≡ record { item = item_of text (payload_of size payload); rest = []; is_whole = false }
+with_end text payload size is = ap (first_with text size) (sym (append-nil payload)) ∙ with_payload text payload [] size is
+
+-- a payload, and a byte that is no line feed
+pub with_other : (text payload : List ℕ) (b : ℕ) (more : List ℕ) (size : ℕ) → length payload ≡ size → is_feed b ≡ false
+    → first_with text size (payload ++ b ∷ more) ≡ record { item = Some (Bad PayloadEnd); rest = after_feed more; is_whole = list_any is_feed more }
+with_other text payload b more size is other = with_payload text payload (b ∷ more) size is ∙ rw other refl
+
+-- a line with its line feed, whatever follows
+pub all_items_line : (text more : List ℕ) → IsOneLine text → payload_size text ≡ None
+    → all_items (text ++ 10 ∷ more) ≡ option_to_list (item_of text no_payload) ++ all_items more
+all_items_line text more one none = all_items_of (text ++ 10 ∷ more) _ (some_front text more) (line_alone text more one none)
+
+pub whole_items_line : (text more : List ℕ) → IsOneLine text → payload_size text ≡ None
+    → whole_items (text ++ 10 ∷ more) ≡ option_to_list (item_of text no_payload) ++ whole_items more
+whole_items_line text more one none = whole_items_of (text ++ 10 ∷ more) _ (some_front text more) (line_alone text more one none)
 
 -- a last line without a line feed
-pub all_items_last : (b : ℕ) (text : List ℕ) → IsOneLine (b ∷ text) → all_items (b ∷ text) ≡ option_to_list (item_of (b ∷ text))
-all_items_last b text h =
-    all_items_first b text
-    ∙ ap (λ line. option_to_list (item_of line) ++ all_items (after_feed (b ∷ text))) (before_feed_all (b ∷ text) h)
-    ∙ ap (λ rest. option_to_list (item_of (b ∷ text)) ++ all_items rest) (after_feed_all (b ∷ text) h)
-    ∙ ap (λ items. option_to_list (item_of (b ∷ text)) ++ items) all_items_none
-    ∙ append-nil (option_to_list (item_of (b ∷ text)))
+pub all_items_last : (text : List ℕ) → IsOneLine text → payload_size text ≡ None → 0 < length text
+    → all_items text ≡ option_to_list (item_of text no_payload)
+all_items_last text one none some =
+    all_items_of text _ some (last_alone text one none)
+    ∙ ap (λ items. option_to_list (item_of text no_payload) ++ items) all_items_none
+    ∙ append-nil (option_to_list (item_of text no_payload))
 
 pub whole_items_last : (text : List ℕ) → IsOneLine text → whole_items text ≡ []
-whole_items_last [] h = whole_items_none
-whole_items_last (b ∷ text) h =
-    whole_items_first b text
-    ∙ ap (λ t. cond t (option_to_list (item_of (before_feed (b ∷ text))) ++ whole_items (after_feed (b ∷ text))) []) h
+whole_items_last [] one = whole_items_none
+whole_items_last (b ∷ text) one = by (payload_size (b ∷ text)) refl
+  where
+    by : (size : Option ℕ) → payload_size (b ∷ text) ≡ size → whole_items (b ∷ text) ≡ []
+    by None is = whole_items_of (b ∷ text) _ (omega arith) (last_alone (b ∷ text) one is)
+    by (Some zero) is = whole_items_of (b ∷ text) _ (omega arith) (last_with (b ∷ text) zero one is ∙ with_end (b ∷ text) [] zero refl)
+    by (Some (suc n)) is = whole_items_of (b ∷ text) _ (omega arith) (last_with (b ∷ text) (suc n) one is ∙ with_cut (b ∷ text) [] (suc n) (omega arith))

@@ -1,6 +1,8 @@
+pub mod Words
 pub mod Sets
 pub mod Derived
 pub mod Ranges
+pub mod Image
 pub mod State
 pub mod Table
 pub mod Listing

@@ -1,5 +1,5 @@
 -- The bytes of replies: body lines, ok, and refusals.
-use Rattle.std.specs.Prelude.{ℕ, ◌+◌, ◌/◌, ◌%◌, List, [], ◌∷◌, ◌++◌, codes, decimal}
+use Rattle.std.specs.Prelude.{ℕ, ◌+◌, ◌/◌, ◌%◌, List, [], ◌∷◌, ◌++◌, length, codes, decimal}
 use Rattle.std.specs.List.{flat_map}
 use Rattle.lis_model.specs.declared.refusal.Refusal.{Refusal}
 use Rattle.lis_model.specs.declared.refusal.Refusal.TheVariants.{BadLine, LongLine, CutPayload, PayloadEnd, BadFormula, UnknownProperty, LargeFormula, NotAPlace, NameTaken, NoFileHere, AlreadyDeclared, NotDeclared, InUse, NotAssignable, Cycle, AxiomThere, NoAxiom, TooManyAssigned, LargeDescription, LargeFile, NoFileRoom, NoPropertyRoom, NoAxiomRoom, NoSpace, BuiltIn}
@@ -85,3 +85,7 @@ refusal_line refusal = line (codes "no " ++ two_digits (number_of refusal) ++ 32
 abbrev pub listing_lines : List (List ℕ) → List Entry → List ℕ
 listing_lines words files =
     flat_map (body_line 100) words ++ flat_map (λ (file : Entry). body_line 102 file.name) files
+
+-- a file's bytes: `b` and how many they are, and then the bytes and a line feed
+abbrev pub content_lines : List ℕ → List ℕ
+content_lines bytes = body_line 98 (decimal (length bytes)) ++ line bytes

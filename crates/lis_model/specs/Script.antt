@@ -1,12 +1,12 @@
 -- How the input is cut into items.
-use Rattle.std.specs.Prelude.{ℕ, ◌==◌, nat_lt, nat_le, zero, suc, Bool, ◌||◌, if◌then◌else◌, Option, Some, None, Result, Ok, Err, List, [], ◌∷◌, ◌++◌, length, take, filter, codes}
+use Rattle.std.specs.Prelude.{ℕ, ◌==◌, nat_lt, nat_le, zero, suc, Bool, false, true, ◌&&◌, ◌||◌, if◌then◌else◌, Option, Some, None, Result, Ok, Err, List, [], ◌∷◌, ◌++◌, length, take, drop, filter, codes}
 use Rattle.std.specs.Option.{option_to_list}
 use Rattle.std.specs.List.{list_any, list_all}
-use Rattle.lis_words.specs.Words.{same_word, is_word, is_file_name}
+use Rattle.lis_words.specs.Words.{same_word, is_word, is_file_name, is_count, count_of}
 use Rattle.lis_model.specs.declared.refusal.Refusal.{Refusal}
-use Rattle.lis_model.specs.declared.refusal.Refusal.TheVariants.{BadLine, LongLine, TooManyAssigned}
-use Rattle.lis_model.specs.declared.command.Command.TheVariants.{Mkdir, Create, Cd, Pwd, Ls}
-use Rattle.lis_model.specs.Step.{Item, no_payload}
+use Rattle.lis_model.specs.declared.refusal.Refusal.TheVariants.{BadLine, LongLine, CutPayload, PayloadEnd, TooManyAssigned}
+use Rattle.lis_model.specs.declared.command.Command.TheVariants.{Mkdir, Create, Add, Cat, Rm, Cd, Pwd, Ls}
+use Rattle.lis_model.specs.Step.{Item, Payload, no_payload}
 use Rattle.lis_model.specs.Step.Item.{Do, Bad}
 
 abbrev pub is_feed : ℕ → Bool
@@ -66,6 +66,23 @@ abbrev pub create_form : List (List ℕ) → Item
 create_form [] = bad_line
 create_form (name ∷ words) = if is_file_name name then create_named name (tags_form words) else bad_line
 
+abbrev pub add_named : List ℕ → Payload → Result (List (List ℕ)) Refusal → Item
+add_named name payload (Ok words) = Do (Add name words) payload
+add_named name payload (Err refusal) = Bad refusal
+
+-- a file's name, how many bytes it is to have, and words
+abbrev pub add_form : List (List ℕ) → Payload → Item
+add_form [] payload = bad_line
+add_form (name ∷ []) payload = bad_line
+add_form (name ∷ size ∷ words) payload =
+    if is_file_name name && is_count size then add_named name payload (tags_form words) else bad_line
+
+-- the name of a file
+abbrev pub file_form : (List ℕ → Item) → List (List ℕ) → Item
+file_form item [] = bad_line
+file_form item (name ∷ []) = if is_file_name name then item name else bad_line
+file_form item (name ∷ more ∷ words) = bad_line
+
 -- any word of the line is a text for `cd`
 abbrev pub cd_form : List (List ℕ) → Item
 cd_form [] = bad_line
@@ -76,23 +93,49 @@ abbrev pub alone_form : Item → List (List ℕ) → Item
 alone_form item [] = item
 alone_form item (word ∷ words) = bad_line
 
-abbrev pub form_of : List ℕ → List (List ℕ) → Item
-form_of first words =
+abbrev pub form_of : List ℕ → List (List ℕ) → Payload → Item
+form_of first words payload =
     if same_word first (codes "mkdir") then mkdir_form words
     else if same_word first (codes "create") then create_form words
+    else if same_word first (codes "add") then add_form words payload
+    else if same_word first (codes "cat") then file_form (λ name. Do (Cat name) no_payload) words
+    else if same_word first (codes "rm") then file_form (λ name. Do (Rm name) no_payload) words
     else if same_word first (codes "cd") then cd_form words
     else if same_word first (codes "pwd") then alone_form (Do Pwd no_payload) words
     else if same_word first (codes "ls") then alone_form (Do Ls no_payload) words
     else bad_line
 
 -- a line without words asks for nothing
-abbrev pub item_of_words : List (List ℕ) → Option Item
-item_of_words [] = None
-item_of_words (first ∷ words) = Some (form_of first words)
+abbrev pub item_of_words : List (List ℕ) → Payload → Option Item
+item_of_words [] payload = None
+item_of_words (first ∷ words) payload = Some (form_of first words payload)
 
--- what a line asks for, given what stands before its line feed; 1,024 bytes are the most
-abbrev pub item_of : List ℕ → Option Item
-item_of text = if nat_lt 1024 (length text) then Some (Bad LongLine) else item_of_words (words_of (without_return text))
+-- more bytes than a line may have before its line feed
+abbrev pub is_long : List ℕ → Bool
+is_long text = nat_lt 1024 (length text)
+
+abbrev pub line_words : List ℕ → List (List ℕ)
+line_words text = words_of (without_return text)
+
+-- what a line asks for, given what stands before its line feed, and the payload behind it
+abbrev pub item_of : List ℕ → Payload → Option Item
+item_of text payload = if is_long text then Some (Bad LongLine) else item_of_words (line_words text) payload
+
+-- How many bytes are to follow a line of these words, whatever else is in it: the first is `add` or `write`, and the third a count.
+abbrev pub size_of_words : List (List ℕ) → Option ℕ
+size_of_words [] = None
+size_of_words (first ∷ []) = None
+size_of_words (first ∷ second ∷ []) = None
+size_of_words (first ∷ second ∷ size ∷ words) =
+    if (same_word first (codes "add") || same_word first (codes "write")) && is_count size then Some (count_of size) else None
+
+-- nothing follows a long line
+abbrev pub payload_size : List ℕ → Option ℕ
+payload_size text = if is_long text then None else size_of_words (line_words text)
+
+-- a file may have so many bytes; of a larger payload its size alone is kept
+abbrev pub payload_of : ℕ → List ℕ → Payload
+payload_of size bytes = record { size = size; bytes = if nat_le size 65536 then bytes else [] }
 
 -- the first part of an input: what it asks for, what is left behind it, and whether it ended with its own line feed
 pub record First : Type 0 where
@@ -100,12 +143,29 @@ pub record First : Type 0 where
   pub rest : List ℕ
   pub is_whole : Bool
 
-abbrev pub first_of : List ℕ → First
-first_of bytes = record {
-  item = item_of (before_feed bytes);
+-- Behind a payload: nothing, at the end of the input; or a line feed. Else all is dropped up to the next line feed, and with it.
+abbrev pub first_ended : Option Item → List ℕ → First
+first_ended item [] = record { item = item; rest = []; is_whole = false }
+first_ended item (b ∷ bytes) =
+    if is_feed b then record { item = item; rest = bytes; is_whole = true }
+    else record { item = Some (Bad PayloadEnd); rest = after_feed bytes; is_whole = list_any is_feed bytes }
+
+-- a line with the bytes behind it, of which so many are its payload
+abbrev pub first_with : List ℕ → ℕ → List ℕ → First
+first_with text size bytes =
+    if nat_lt (length bytes) size then record { item = Some (Bad CutPayload); rest = []; is_whole = false }
+    else first_ended (item_of text (payload_of size (take size bytes))) (drop size bytes)
+
+abbrev pub first_by : Option ℕ → List ℕ → First
+first_by None bytes = record {
+  item = item_of (before_feed bytes) no_payload;
   rest = after_feed bytes;
   is_whole = list_any is_feed bytes;
 }
+first_by (Some size) bytes = first_with (before_feed bytes) size (after_feed bytes)
+
+abbrev pub first_of : List ℕ → First
+first_of bytes = first_by (payload_size (before_feed bytes)) bytes
 
 -- The items of an input, taken one after another, at most as many as there are bytes: each takes one byte at least.
 abbrev pub items_within : ℕ → List ℕ → List Item

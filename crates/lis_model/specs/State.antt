@@ -5,8 +5,9 @@ use Rattle.std.specs.declared.cmp.Ordering.{Ordering}
 use Rattle.std.specs.Ordering.{ordering_then}
 use Rattle.lis_graph.specs.Graph as graph
 use Rattle.lis_graph.specs.Graph.{is_rising}
-use Rattle.lis_words.specs.Words.{word_cmp, same_word, has_word, head_bytes, is_plain_word, is_head, is_valued, is_built_in}
+use Rattle.lis_words.specs.Words.{word_cmp, same_word, has_word, head_bytes, is_plain_word, is_head, is_valued, is_built_in, is_file_name}
 use Rattle.lis_model.specs.declared.limits.Limits.{Limits}
+use Rattle.lis_model.specs.Ranges.{are_in_range}
 use Rattle.lis_model.specs.Sets.{with_words, set_of}
 use Rattle.lis_model.specs.Derived.{derived_words}
 
@@ -98,14 +99,19 @@ file_cmp a b = word_cmp a.name b.name
 abbrev pub blocks_needed : ℕ → ℕ
 blocks_needed bytes = (bytes + 4095) / 4096
 
+-- the blocks that the files' bytes take
+abbrev pub used_blocks : State → ℕ
+used_blocks s = sum (map (λ (file : File). blocks_needed (length file.bytes)) s.files)
+
 -- the axioms speak of what is there, and lead in no circle
 pub record AxiomsAreFormed (s : State) : Type 0 where
   pub rights : IsTrue (list_all (λ pair. is_plain_word pair.1 && has_word s.declared pair.1) s.axioms)
   pub lefts : IsTrue (list_all (λ pair. is_nameable s.declared pair.0) s.axioms)
   pub acyclic : Acyclic (edges s)
 
--- each file's words and bytes are within the limits
+-- each file's name, words and bytes are within the limits
 pub record FilesAreFormed (s : State) : Type 0 where
+  pub names : IsTrue (list_all (λ (file : File). is_file_name file.name) s.files)
   pub assigned_sets : IsTrue (list_all (λ (file : File). is_rising word_cmp file.assigned) s.files)
   pub assigned : IsTrue (list_all (λ (file : File). list_all (is_assignable s.declared) file.assigned) s.files)
   pub few_assigned : IsTrue (list_all (λ (file : File). nat_le (length file.assigned) 16) s.files)
@@ -114,6 +120,7 @@ pub record FilesAreFormed (s : State) : Type 0 where
 
 -- what every command keeps
 pub record WellFormed (s : State) : Type 0 where
+  pub limits : IsTrue (are_in_range s.limits)
   pub declared_set : IsTrue (is_rising word_cmp s.declared)
   pub axiom_set : IsTrue (is_rising pair_cmp s.axioms)
   pub file_set : IsTrue (is_rising file_cmp s.files)
@@ -123,4 +130,4 @@ pub record WellFormed (s : State) : Type 0 where
   pub few_files : length s.files ≤ s.limits.files
   pub few_known : length (known s) ≤ s.limits.props
   pub few_axioms : length s.axioms ≤ s.limits.props
-  pub few_blocks : sum (map (λ (file : File). blocks_needed (length file.bytes)) s.files) ≤ s.limits.blocks
+  pub few_blocks : used_blocks s ≤ s.limits.blocks

@@ -1,5 +1,5 @@
 -- What a command does: the new state and place, and the reply.
-use Rattle.std.specs.Prelude.{ℕ, nat_lt, nat_le, Bool, not, if◌then◌else◌, is_some, unwrap_or, List, [], ◌∷◌, ◌++◌, length}
+use Rattle.std.specs.Prelude.{ℕ, ◌-◌, nat_lt, nat_le, Bool, not, if◌then◌else◌, is_some, unwrap_or, List, [], ◌∷◌, ◌++◌, length, filter}
 use Rattle.std.specs.List.{list_any, list_all}
 use Rattle.std.specs.BTreeSet.{insert_key}
 use Rattle.lis_words.specs.Words.{same_word, has_word, is_head, is_valued, is_built_in}
@@ -9,15 +9,15 @@ use Rattle.lis_grammar.specs.Places.{Resolution, resolved, text_words}
 use Rattle.lis_grammar.specs.Places.Resolution.{NewPlace, BeyondLimits, Unreadable}
 use Rattle.lis_model.specs.declared.limits.Limits.{Limits}
 use Rattle.lis_model.specs.declared.refusal.Refusal.{Refusal}
-use Rattle.lis_model.specs.declared.refusal.Refusal.TheVariants.{BadFormula, UnknownProperty, LargeFormula, NotAPlace, NameTaken, AlreadyDeclared, NotAssignable, TooManyAssigned, NoFileRoom, NoPropertyRoom, BuiltIn}
+use Rattle.lis_model.specs.declared.refusal.Refusal.TheVariants.{BadFormula, UnknownProperty, LargeFormula, NotAPlace, NameTaken, NoFileHere, AlreadyDeclared, NotAssignable, TooManyAssigned, LargeFile, NoFileRoom, NoPropertyRoom, NoSpace, BuiltIn}
 use Rattle.lis_model.specs.declared.command.Command.{Command}
-use Rattle.lis_model.specs.declared.command.Command.TheVariants.{Mkdir, Create, Cd, Pwd, Ls}
+use Rattle.lis_model.specs.declared.command.Command.TheVariants.{Mkdir, Create, Add, Cat, Rm, Cd, Pwd, Ls}
 use Rattle.lis_model.specs.Sets.{with_word, with_words}
-use Rattle.lis_model.specs.State.{State, File, empty_state, file_cmp, known, is_assignable}
+use Rattle.lis_model.specs.State.{State, File, empty_state, file_cmp, known, is_assignable, blocks_needed, used_blocks}
 use Rattle.lis_model.specs.Places.{is_root, place_words, place_tags}
-use Rattle.lis_model.specs.Table.{table}
-use Rattle.lis_model.specs.Listing.{increments, locals}
-use Rattle.lis_model.specs.Replies.{body_line, ok_line, refusal_line, listing_lines}
+use Rattle.lis_model.specs.Table.{Entry, table}
+use Rattle.lis_model.specs.Listing.{extension, increments, locals}
+use Rattle.lis_model.specs.Replies.{body_line, ok_line, refusal_line, listing_lines, content_lines}
 
 -- a state, and the place at which commands are said
 pub record Situation : Type 0 where
@@ -85,9 +85,8 @@ mkdir_checks now word =
 abbrev pub mkdir : Situation → List ℕ → Outcome
 mkdir now word = judged now (mkdir_checks now word) (changed now (with_declared now.state word))
 
--- makes an empty file
-abbrev pub new_file : List ℕ → List (List ℕ) → File
-new_file name assigned = record { name = name; bytes = []; assigned = assigned }
+abbrev pub new_file : List ℕ → List (List ℕ) → List ℕ → File
+new_file name assigned bytes = record { name = name; bytes = bytes; assigned = assigned }
 
 abbrev pub with_file : State → File → State
 with_file s file = record s { files = insert_key file_cmp s.files file }
@@ -96,25 +95,60 @@ with_file s file = record s { files = insert_key file_cmp s.files file }
 abbrev pub assigned_at : List Formula → List (List ℕ) → List (List ℕ)
 assigned_at place words = with_words (unwrap_or (place_tags place) []) words
 
--- A description has 16 words and their heads at most until axioms come, so its own limit is met.
-abbrev pub create_checks : Situation → List ℕ → List (List ℕ) → List (List ℕ) → List (Bool × Refusal)
-create_checks now name words assigned =
-    (has_name now.state.files name, NameTaken)
+-- What a new file is refused for, given the words that are named. A description has 16 words and their heads at most until axioms come,
+-- so its own limit is met.
+abbrev pub create_checks : Situation → List (List ℕ) → File → List (Bool × Refusal)
+create_checks now words file =
+    (has_name now.state.files file.name, NameTaken)
     ∷ (not (is_some (place_words now.place)), NotAPlace)
     ∷ (list_any is_built_in words, BuiltIn)
     ∷ (list_any is_head words, NotAssignable)
-    ∷ (not (list_all (is_assignable now.state.declared) assigned), UnknownProperty)
-    ∷ (nat_lt 16 (length assigned), TooManyAssigned)
+    ∷ (not (list_all (is_assignable now.state.declared) file.assigned), UnknownProperty)
+    ∷ (nat_lt 16 (length file.assigned), TooManyAssigned)
     ∷ (nat_le now.state.limits.files (length now.state.files), NoFileRoom)
-    ∷ (exceeds_known (with_file now.state (new_file name assigned)), NoPropertyRoom)
+    ∷ (exceeds_known (with_file now.state file), NoPropertyRoom)
     ∷ []
 
-abbrev pub create_with : Situation → List ℕ → List (List ℕ) → List (List ℕ) → Outcome
-create_with now name words assigned =
-    judged now (create_checks now name words assigned) (changed now (with_file now.state (new_file name assigned)))
+-- makes an empty file
+abbrev pub create_with : Situation → List (List ℕ) → File → Outcome
+create_with now words file = judged now (create_checks now words file) (changed now (with_file now.state file))
 
 abbrev pub create : Situation → List ℕ → List (List ℕ) → Outcome
-create now name words = create_with now name words (assigned_at now.place words)
+create now name words = create_with now words (new_file name (assigned_at now.place words) [])
+
+-- the blocks that no file uses
+abbrev pub free_blocks : State → ℕ
+free_blocks s = s.limits.blocks - used_blocks s
+
+-- makes a file of these bytes, where the payload has so many and a file may
+abbrev pub add_checks : Situation → List (List ℕ) → File → ℕ → List (Bool × Refusal)
+add_checks now words file size =
+    (nat_lt 65536 size, LargeFile) ∷ create_checks now words file ++ (nat_lt (free_blocks now.state) (blocks_needed size), NoSpace) ∷ []
+
+abbrev pub add_with : Situation → List (List ℕ) → File → ℕ → Outcome
+add_with now words file size = judged now (add_checks now words file size) (changed now (with_file now.state file))
+
+abbrev pub add : Situation → List ℕ → List (List ℕ) → Payload → Outcome
+add now name words payload = add_with now words (new_file name (assigned_at now.place words) payload.bytes) payload.size
+
+-- a file of that name is in the extension of the place
+abbrev pub is_here : Situation → List ℕ → Bool
+is_here now name = list_any (λ (file : Entry). same_word file.name name) (extension (table now.state) now.place)
+
+-- the bytes of the file of that name
+abbrev pub bytes_of : List File → List ℕ → List ℕ
+bytes_of [] name = []
+bytes_of (file ∷ files) name = if same_word file.name name then file.bytes else bytes_of files name
+
+abbrev pub cat : Situation → List ℕ → Outcome
+cat now name = judged now ((not (is_here now name), NoFileHere) ∷ []) (shown now (content_lines (bytes_of now.state.files name)))
+
+-- all files but that of this name
+abbrev pub without_file : State → List ℕ → State
+without_file s name = record s { files = filter (λ (file : File). not (same_word file.name name)) s.files }
+
+abbrev pub rm : Situation → List ℕ → Outcome
+rm now name = judged now ((not (is_here now name), NoFileHere) ∷ []) (changed now (without_file now.state name))
 
 -- the place becomes another, and the state stays
 abbrev pub moved : Situation → List Formula → Outcome
@@ -136,15 +170,18 @@ pwd now = shown now (body_line 119 (printed now.place))
 abbrev pub ls : Situation → Outcome
 ls now = shown now (listing_lines (increments (table now.state) now.place) (locals (table now.state) now.place))
 
-abbrev pub done : Situation → Command → Outcome
-done now (Mkdir word) = mkdir now word
-done now (Create name words) = create now name words
-done now (Cd text) = cd now text
-done now Pwd = pwd now
-done now Ls = ls now
+abbrev pub done : Situation → Command → Payload → Outcome
+done now (Mkdir word) payload = mkdir now word
+done now (Create name words) payload = create now name words
+done now (Add name words) payload = add now name words payload
+done now (Cat name) payload = cat now name
+done now (Rm name) payload = rm now name
+done now (Cd text) payload = cd now text
+done now Pwd payload = pwd now
+done now Ls payload = ls now
 
 unfoldable pub step : Situation → Item → Outcome
-step now (Do command payload) = done now command
+step now (Do command payload) = done now command payload
 step now (Bad refusal) = refused now refusal
 
 -- all replies to these items, one after another

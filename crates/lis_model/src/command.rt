@@ -80,6 +80,12 @@ pub enum Command {
     Mkdir(Word),
     /// Makes an empty file of that name with these words, and with those of the place.
     Create(Name, Tags),
+    /// Makes a file of that name as `Create` does; its bytes are the payload behind the line.
+    Add(Name, Tags),
+    /// Shows the bytes of the file of that name.
+    Cat(Name),
+    /// Removes the file of that name.
+    Rm(Name),
     /// Goes to the place that the text makes of the place.
     Cd(Text),
     /// Shows the place.

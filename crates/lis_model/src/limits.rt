@@ -1,7 +1,8 @@
 //! The limits of a state.
 
-ghost use Rattle.std.specs.Prelude.{◌≡◌, ◌^◌, ◌<◌, IsTrue};
-ghost use Rattle.lis_model.specs.Ranges.{is_files_limit, is_props_limit, is_blocks_limit};
+ghost use Rattle.std.specs.Prelude.{◌≡◌, ◌^◌, ◌<◌, ◌≤◌, IsTrue};
+ghost use Rattle.lis_model.specs.Ranges.{is_files_limit, is_props_limit, is_blocks_limit, are_in_range};
+ghost use Rattle.lis_model.specs.Image.{image_blocks};
 
 /// How much a state may hold. In range are: files a power of two from 64 to 4,096, properties a multiple of 64
 /// from 64 to 8,192, and 1 to 32,768 data blocks of 4,096 bytes.
@@ -40,4 +41,17 @@ pub fn is_blocks_limit(blocks: u64) -> bool
     ensures { result ≡ is_blocks_limit blocks }
 {
     1 <= blocks && blocks <= 32_768
+}
+
+/// How many blocks of 4,096 bytes an image of these limits has: at most 34,771.
+pub fn image_blocks(limits: &Limits) -> u32
+    requires { IsTrue (are_in_range limits.now) }
+    ensures blocks { result ≡ image_blocks limits.now }
+    ensures few { result ≤ 34771 }
+{
+    let properties = limits.props / 64;
+    let axioms = limits.props.div_ceil(512);
+    let files = limits.files / 16;
+    let rows = (limits.props * limits.files).div_ceil(32_768);
+    578 + properties + axioms + files + rows + 1 + limits.blocks
 }
