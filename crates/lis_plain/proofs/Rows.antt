@@ -1,7 +1,8 @@
 -- Where a row of refusals ends.
-use Rattle.std.proofs.Common.{◌≡◌, ℕ, ◌<◌, ◌≤◌, nat_lt, nat_le, suc, inl, inr, Bool, true, false, List, [], length, refl, ap, sym, ◌∙◌}
+use Rattle.std.proofs.Common.{◌≡◌, ℕ, ◌<◌, ◌≤◌, nat_lt, nat_le, suc, inl, inr, Bool, true, false, cond, Some, None, List, [], ◌∷◌, ◌++◌, length, refl, ap, sym, ◌∙◌}
 use Rattle.std.specs.List.{list_all, flat_map}
 use Rattle.std.specs.BTreeSet.{insert_key}
+use Rattle.std.proofs.lemmas.Option.{none-some, same_Some}
 use Rattle.std.proofs.lemmas.Bool.Decides.{leb_tells}
 use Rattle.lis_words.specs.Words.{has_word, is_valued, is_built_in}
 use Rattle.lis_grammar.specs.Formula.{Formula}
@@ -12,8 +13,8 @@ use Rattle.lis_model.specs.Sets.{with_word, with_words}
 use Rattle.lis_model.specs.State.{File, file_cmp, file_words, is_assignable}
 use Rattle.lis_model.specs.Places.{is_root}
 use Rattle.lis_model.specs.Replies.{ok_line, refusal_line}
-use Rattle.lis_model.specs.Step.{Situation, Outcome, refused, mkdir, new_file}
-use Rattle.lis_plain.specs.Carries.{filed}
+use Rattle.lis_model.specs.Step.{Situation, Outcome, judged, refused, mkdir}
+use Rattle.lis_plain.specs.Carries.{first_refusal}
 use Rattle.lis_plain.proofs.Entries.{at_place}
 
 -- an outcome that is a refusal changes nothing
@@ -65,18 +66,22 @@ module _ (limits : Limits) (declared : List (List ℕ)) (files : List File) (pla
         → mkdir here word ≡ record { next = at_place limits (with_word declared word) files place; reply = ok_line }
     mkdir_done plain no_value new root room = rw (plain, no_value, new, root, room) refl
 
-  module _ (name : List ℕ) (assigned : List (List ℕ)) where
-    abbrev with_it : List File
-    with_it = insert_key file_cmp files (new_file name assigned)
+-- ---- rows as they are answered
+pub row_some : (checks : List (Bool × Refusal)) (now : Situation) (done : Outcome) (refusal : Refusal) → first_refusal checks ≡ Some refusal
+    → judged now checks done ≡ refused now refusal
+row_some [] now done refusal is = absurd (none-some refusal is)
+row_some (check ∷ checks) now done refusal is = by check.0 is (row_some checks now done refusal)
+  where
+    by : (b : Bool) → cond b (Some check.1) (first_refusal checks) ≡ Some refusal → (first_refusal checks ≡ Some refusal → judged now checks done ≡ refused now refusal)
+        → cond b (refused now check.1) (judged now checks done) ≡ refused now refusal
+    by true is more = ap (refused now) (same_Some check.1 refusal is)
+    by false is more = more is
 
-    abbrev known_with_file : ℕ
-    known_with_file = length (with_words declared (flat_map (file_words []) with_it))
-
-    pub file_full : list_all (is_assignable declared) assigned ≡ true → nat_lt 16 (length assigned) ≡ false → nat_le limits.files (length files) ≡ false
-        → nat_lt limits.props known_with_file ≡ true → filed here name assigned ≡ refused here NoPropertyRoom
-    file_full all few room full = rw (all, few, room, full) refl
-
-    pub file_done : list_all (is_assignable declared) assigned ≡ true → nat_lt 16 (length assigned) ≡ false → nat_le limits.files (length files) ≡ false
-        → nat_lt limits.props known_with_file ≡ false
-        → filed here name assigned ≡ record { next = at_place limits declared with_it place; reply = ok_line }
-    file_done all few room known = rw (all, few, room, known) refl
+pub row_front : (checks more : List (Bool × Refusal)) (refusal : Refusal) → first_refusal checks ≡ Some refusal → first_refusal (checks ++ more) ≡ Some refusal
+row_front [] more refusal is = absurd (none-some refusal is)
+row_front (check ∷ checks) more refusal is = by check.0 is (row_front checks more refusal)
+  where
+    by : (b : Bool) → cond b (Some check.1) (first_refusal checks) ≡ Some refusal → (first_refusal checks ≡ Some refusal → first_refusal (checks ++ more) ≡ Some refusal)
+        → cond b (Some check.1) (first_refusal (checks ++ more)) ≡ Some refusal
+    by true is next = is
+    by false is next = next is

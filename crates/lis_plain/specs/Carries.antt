@@ -1,13 +1,15 @@
 -- What carrying out one item does to a plain state and to what was shown.
-use Rattle.std.specs.Prelude.{◌≡◌, ℕ, nat_lt, nat_le, Bool, not, List, [], ◌∷◌, length, Option, Result, Ok, Err}
-use Rattle.std.specs.List.{list_all}
+use Rattle.std.specs.Prelude.{◌≡◌, ℕ, nat_lt, nat_le, Bool, not, if◌then◌else◌, is_some, List, [], ◌∷◌, length, Option, Some, None, Result, Ok, Err}
+use Rattle.std.specs.List.{list_any, list_all}
 use Rattle.std.specs.Io.KnownBytes.{append_known}
 use Rattle.lis_ports.specs.Calls.{Rose}
 use Rattle.lis_ports.specs.Shown.{AppendsFront}
-use Rattle.lis_model.specs.State.{is_assignable}
-use Rattle.lis_model.specs.Step.{Situation, Outcome, judged, changed, exceeds_known, new_file, with_file}
+use Rattle.lis_words.specs.Words.{is_head, is_built_in}
+use Rattle.lis_model.specs.State.{File, is_assignable}
+use Rattle.lis_model.specs.Places.{place_words}
+use Rattle.lis_model.specs.Step.{Situation, Outcome, has_name, exceeds_known, with_file}
 use Rattle.lis_model.specs.declared.refusal.Refusal.{Refusal}
-use Rattle.lis_model.specs.declared.refusal.Refusal.TheVariants.{UnknownProperty, TooManyAssigned, NoFileRoom, NoPropertyRoom}
+use Rattle.lis_model.specs.declared.refusal.Refusal.TheVariants.{UnknownProperty, NotAPlace, NameTaken, NotAssignable, TooManyAssigned, NoFileRoom, NoPropertyRoom, BuiltIn}
 use Rattle.lis_model.specs.Replies.{ok_line, refusal_line}
 use Rattle.lis_plain.specs.declared.end.PlainEnd.{PlainEnd}
 use Rattle.lis_plain.specs.declared.end.PlainEnd.TheVariants.{OutputFault, NoMemory}
@@ -35,14 +37,31 @@ abbrev pub Answers : {E : Type 0} → Outcome → Situation → Situation → Re
 Answers outcome old new (Ok answer) = (new ≡ outcome.next) × (outcome.reply ≡ answer_line answer)
 Answers outcome old new (Err error) = new ≡ old
 
--- the rest of a row: what a new file of these words is refused for, after its name and the named words were looked at
-abbrev pub file_checks : Situation → List ℕ → List (List ℕ) → List (Bool × Refusal)
-file_checks now name assigned =
-    (not (list_all (is_assignable now.state.declared) assigned), UnknownProperty)
-    ∷ (nat_lt 16 (length assigned), TooManyAssigned)
-    ∷ (nat_le now.state.limits.files (length now.state.files), NoFileRoom)
-    ∷ (exceeds_known (with_file now.state (new_file name assigned)), NoPropertyRoom)
+-- the first refusal of a row whose condition holds
+abbrev pub first_refusal : List (Bool × Refusal) → Option Refusal
+first_refusal [] = None
+first_refusal (check ∷ checks) = if check.0 then Some check.1 else first_refusal checks
+
+-- a row, as the code answers it
+abbrev pub Judges : {E : Type 0} → List (Bool × Refusal) → Result (Result (Unit {0}) Refusal) E → Type 0
+Judges checks (Ok (Ok done)) = first_refusal checks ≡ None
+Judges checks (Ok (Err refusal)) = first_refusal checks ≡ Some refusal
+Judges checks (Err error) = Unit {0}
+
+-- the front of the row of a new file: its name and the words that are named
+abbrev pub named_checks : Situation → List ℕ → List (List ℕ) → List (Bool × Refusal)
+named_checks now name words =
+    (has_name now.state.files name, NameTaken)
+    ∷ (not (is_some (place_words now.place)), NotAPlace)
+    ∷ (list_any is_built_in words, BuiltIn)
+    ∷ (list_any is_head words, NotAssignable)
     ∷ []
 
-abbrev pub filed : Situation → List ℕ → List (List ℕ) → Outcome
-filed now name assigned = judged now (file_checks now name assigned) (changed now (with_file now.state (new_file name assigned)))
+-- and the rest: what it would be given, and whether there is room
+abbrev pub file_checks : Situation → File → List (Bool × Refusal)
+file_checks now file =
+    (not (list_all (is_assignable now.state.declared) file.assigned), UnknownProperty)
+    ∷ (nat_lt 16 (length file.assigned), TooManyAssigned)
+    ∷ (nat_le now.state.limits.files (length now.state.files), NoFileRoom)
+    ∷ (exceeds_known (with_file now.state file), NoPropertyRoom)
+    ∷ []

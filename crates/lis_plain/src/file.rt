@@ -25,15 +25,22 @@ impl Model for File {
     ghost view = { λ f. record { name = f.name; bytes = f.bytes.items; assigned = f.assigned.items } };
 }
 
-/// An empty file.
-pub fn new_file(alloc: Global, name: &Name, assigned: Vec<Word>) -> File
-    ensures { result ≡ new_file name.now assigned.items }
+/// A file of these bytes.
+pub fn new_file(
+    alloc: Global,
+    name: &Name,
+    assigned: Vec<Word>,
+    bytes: &[u8],
+) -> Result<File, AllocError>
+    ensures { IfOk result (λ file. file ≡ new_file name.now assigned.items bytes.now) }
 {
-    File {
+    let mut held = Vec::with_capacity(alloc, bytes.len())?;
+    held.extend_from_slice(bytes)?;
+    Ok(File {
         name: name.copied(),
-        bytes: Vec::new(alloc),
+        bytes: held,
         assigned,
-    }
+    })
 }
 
 /// A file as truth and listings see it.

@@ -1,13 +1,14 @@
 //! The commands over plain lists: the program that computes each definition afresh.
 #![tactic(auto)]
 
+mod content;
 pub mod end;
-pub mod file;
-pub mod listing;
-pub mod moving;
+mod file;
+mod listing;
+mod moving;
 pub mod plain;
-pub mod room;
-pub mod sets;
-pub mod table;
-pub mod tags;
-pub mod truth;
+mod room;
+mod sets;
+mod table;
+mod tags;
+mod truth;

@@ -2,7 +2,7 @@
 
 ghost use Rattle.std.specs.Prelude.{◌≡◌, ℕ, ◌≤◌, List, [], ◌∷◌, ◌++◌, not, filter, length, IfOk, OnOk};
 ghost use Rattle.std.specs.List.{list_any, flat_map};
-ghost use Rattle.lis_words.specs.Words.{has_word};
+ghost use Rattle.lis_words.specs.Words.{same_word, has_word};
 ghost use Rattle.lis_model.specs.Table.{Entry, entails};
 ghost use Rattle.lis_model.specs.Listing.{is_candidate, is_above, is_increment, is_local};
 ghost use Rattle.lis_model.specs.Replies.{body_line, ok_line, listing_lines};
@@ -10,7 +10,7 @@ ghost use Rattle.lis_model.specs.Replies.{body_line, ok_line, listing_lines};
 use crate::file::Entry;
 use crate::sets::has_word;
 use crate::table::Table;
-use lis_words::Word;
+use lis_words::{Name, Word};
 use std::alloc::{AllocError, Global};
 
 fn has_somewhere(files: &[Entry], word: &Word) -> bool
@@ -23,6 +23,13 @@ fn lacks_somewhere(files: &[Entry], word: &Word) -> bool
     ensures { result ≡ list_any (λ (file : Entry). not (has_word file.words word.now)) files.now }
 {
     files.iter().any(|file| !has_word(&file.words, word))
+}
+
+/// Whether one of the files has the name.
+pub fn has_entry(files: &[Entry], name: &Name) -> bool
+    ensures { result ≡ list_any (λ (file : Entry). same_word file.name name.now) files.now }
+{
+    files.iter().any(|file| file.name == *name)
 }
 
 /// Whether some of the files has the word and some lacks it.

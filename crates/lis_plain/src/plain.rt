@@ -1,19 +1,21 @@
 //! A state as plain lists, and the commands on it.
 
-ghost use Rattle.std.specs.Prelude.{◌≡◌, ℕ, List, [], IfOk, IfSome, IsSome};
+ghost use Rattle.std.specs.Prelude.{◌≡◌, ℕ, ◌≤◌, List, [], Some, None, length, IfOk, OnOk, OnErr, IfSome, IsSome, MatchOption, MatchResult};
 ghost use Rattle.lis_ports.specs.Calls.{IsShowCall};
-ghost use Rattle.lis_model.specs.Step.{start_of, step, done, refused, mkdir, create, cd, pwd, ls};
+ghost use Rattle.lis_model.specs.declared.refusal.Refusal.TheVariants.{NoFileHere};
+ghost use Rattle.lis_model.specs.Step.{start_of, step, done, refused, mkdir, new_file, assigned_at, with_file, create_checks, create, free_blocks, add, is_here, cat, rm, cd, pwd, ls};
 ghost use Rattle.lis_line.specs.Reading.{asked_by};
-ghost use Rattle.lis_plain.specs.Carries.{Carries, HasPlainCause, Answers, answer_line, filed};
+ghost use Rattle.lis_plain.specs.Carries.{Carries, HasPlainCause, Answers, Judges, first_refusal, named_checks, file_checks, answer_line};
 ghost use Rattle.lis_ports.specs.Since.{IsShowRun};
 
+use crate::content::{blocks_needed, bytes_of, content_reply, free_blocks};
 use crate::end::PlainEnd;
 use crate::file::{File, new_file};
-use crate::listing::{listing, push_line};
+use crate::listing::{has_entry, listing, push_line};
 use crate::moving::{is_root, knows_text};
 use crate::room::{has_built_in, has_head_word, is_file_too_many, is_word_too_many, known};
-use crate::sets::{are_assignable, has_name, has_word, insert_file, insert_word};
-use crate::table::make_table;
+use crate::sets::{are_assignable, has_name, has_word, insert_file, insert_word, remove_file};
+use crate::table::{all_entries, make_table};
 use crate::tags::{assigned_with, place_words};
 use crate::truth::extension;
 use lis_formula::{FormulaFault, print, resolve};
@@ -30,6 +32,9 @@ use std::marker::Model;
 
 /// The most words that a file is given.
 const MAX_TAGS: usize = 16;
+
+/// The most bytes of a file.
+const MAX_FILE: u64 = 65_536;
 
 /// A state and a place, as plain lists.
 #[derive(Drop)]
@@ -97,28 +102,11 @@ impl Plain {
         Ok(Ok(()))
     }
 
-    fn file(&mut self, name: &Name, assigned: Vec<Word>) -> Result<Answer, AllocError>
-        ensures { Answers (filed self.old name.now assigned.items) self.old self.new result }
-    {
-        if !are_assignable(&self.declared, &assigned) {
-            return Ok(Err(Refusal::UnknownProperty));
-        }
-        if assigned.len() > MAX_TAGS {
-            return Ok(Err(Refusal::TooManyAssigned));
-        }
-        if self.files.len() >= self.limits.files as usize {
-            return Ok(Err(Refusal::NoFileRoom));
-        }
-        let file = new_file(self.alloc, name, assigned);
-        if is_file_too_many(self.alloc, self.limits, &self.declared, &self.files, &file)? {
-            return Ok(Err(Refusal::NoPropertyRoom));
-        }
-        insert_file(&mut self.files, file)?;
-        Ok(Ok(()))
-    }
-
-    fn create(&mut self, name: &Name, tags: &Tags) -> Result<Answer, AllocError>
-        ensures { Answers (create self.old name.now tags.now) self.old self.new result }
+    // What the words of a new file are to be, or why its name and the named words are refused.
+    fn named(&self, name: &Name, tags: &Tags) -> Result<Result<Vec<Word>, Refusal>, AllocError>
+        ensures { IfOk result (λ judged. MatchResult judged
+            (λ assigned. (first_refusal (named_checks self.now name.now tags.now) ≡ None) × (assigned.items ≡ assigned_at self.now.place tags.now))
+            (λ refusal. first_refusal (named_checks self.now name.now tags.now) ≡ Some refusal)) }
     {
         if has_name(&self.files, name) {
             return Ok(Err(Refusal::NameTaken));
@@ -133,7 +121,119 @@ impl Plain {
             return Ok(Err(Refusal::NotAssignable));
         }
         let assigned = assigned_with(self.alloc, &words, tags.as_slice())?;
-        self.file(name, assigned)
+        Ok(Ok(assigned))
+    }
+
+    // Whether a new file may have its words, and there is room for it.
+    fn admits(&self, file: &File) -> Result<Answer, AllocError>
+        ensures { Judges (file_checks self.now file.now) result }
+    {
+        if !are_assignable(&self.declared, &file.assigned) {
+            return Ok(Err(Refusal::UnknownProperty));
+        }
+        if file.assigned.len() > MAX_TAGS {
+            return Ok(Err(Refusal::TooManyAssigned));
+        }
+        if self.files.len() >= self.limits.files as usize {
+            return Ok(Err(Refusal::NoFileRoom));
+        }
+        if is_file_too_many(self.alloc, self.limits, &self.declared, &self.files, file)? {
+            return Ok(Err(Refusal::NoPropertyRoom));
+        }
+        Ok(Ok(()))
+    }
+
+    // A new file of these bytes, or why the row of `create` refuses it.
+    fn made(
+        &self,
+        name: &Name,
+        tags: &Tags,
+        bytes: &[u8],
+    ) -> Result<Result<File, Refusal>, AllocError>
+        ensures { IfOk result (λ judged. MatchResult judged
+            (λ file. (file ≡ new_file name.now (assigned_at self.now.place tags.now) bytes.now) × (first_refusal (create_checks self.now tags.now file) ≡ None))
+            (λ refusal. first_refusal (create_checks self.now tags.now (new_file name.now (assigned_at self.now.place tags.now) bytes.now)) ≡ Some refusal)) }
+    {
+        let assigned = match self.named(name, tags)? {
+            Ok(assigned) => assigned,
+            Err(refusal) => return Ok(Err(refusal)),
+        };
+        let file = new_file(self.alloc, name, assigned, bytes)?;
+        match self.admits(&file)? {
+            Ok(()) => Ok(Ok(file)),
+            Err(refusal) => Ok(Err(refusal)),
+        }
+    }
+
+    fn keep(&mut self, file: File) -> Result<(), AllocError>
+        ensures ok { OnOk result (self.new ≡ record { state = with_file self.old.state file; place = self.old.place }) }
+        ensures err { OnErr result (self.new ≡ self.old) }
+    {
+        insert_file(&mut self.files, file)
+    }
+
+    fn create(&mut self, name: &Name, tags: &Tags) -> Result<Answer, AllocError>
+        ensures { Answers (create self.old name.now tags.now) self.old self.new result }
+    {
+        let file = match self.made(name, tags, &[])? {
+            Ok(file) => file,
+            Err(refusal) => return Ok(Err(refusal)),
+        };
+        self.keep(file)?;
+        Ok(Ok(()))
+    }
+
+    fn free_blocks(&self) -> u64
+        ensures { result ≡ free_blocks self.now.state }
+    {
+        free_blocks(self.limits.blocks, &self.files)
+    }
+
+    fn add(&mut self, name: &Name, tags: &Tags, payload: &Payload) -> Result<Answer, AllocError>
+        ensures { Answers (add self.old name.now tags.now payload.now) self.old self.new result }
+    {
+        if payload.size() > MAX_FILE {
+            return Ok(Err(Refusal::LargeFile));
+        }
+        let file = match self.made(name, tags, payload.bytes())? {
+            Ok(file) => file,
+            Err(refusal) => return Ok(Err(refusal)),
+        };
+        if self.free_blocks() < blocks_needed(payload.size()) {
+            return Ok(Err(Refusal::NoSpace));
+        }
+        self.keep(file)?;
+        Ok(Ok(()))
+    }
+
+    fn is_here(&self, name: &Name) -> Result<bool, AllocError>
+        ensures { IfOk result (λ here. here ≡ is_here self.now name.now) }
+    {
+        let all = all_entries(self.alloc, &self.files)?;
+        let here = extension(self.alloc, &all, &self.place)?;
+        Ok(has_entry(&here, name))
+    }
+
+    fn rm(&mut self, name: &Name) -> Result<Answer, AllocError>
+        ensures { Answers (rm self.old name.now) self.old self.new result }
+    {
+        if !self.is_here(name)? {
+            return Ok(Err(Refusal::NoFileHere));
+        }
+        remove_file(&mut self.files, name);
+        Ok(Ok(()))
+    }
+
+    // What `cat` shows; None where no file of that name is here.
+    fn content(&self, name: &Name) -> Result<Option<Vec<u8>>, AllocError>
+        ensures { IfOk result (λ found. MatchOption found (cat self.now name.now ≡ refused self.now NoFileHere)
+            (λ reply. cat self.now name.now ≡ record { next = self.now; reply = reply.items })) }
+    {
+        if !self.is_here(name)? {
+            return Ok(None);
+        }
+        let reply = content_reply(self.alloc, bytes_of(&self.files, name))?;
+        Ok(Some(reply))
     }
 
     fn cd(&mut self, text: &Text) -> Result<Answer, AllocError>
@@ -180,8 +280,13 @@ fn show_answer<T: Station>(station: &mut T, answer: &Answer) -> Result<(), Faile
 }
 
 impl Plain {
-    fn carry_out<T: Station>(&mut self, command: &Command, station: &mut T) -> Result<(), PlainEnd>
-        ensures step { Carries (done self.old command.now) self.old self.new (T.meaning station.old).shown (T.meaning station.new).shown result }
+    fn carry_out<T: Station>(
+        &mut self,
+        command: &Command,
+        payload: &Payload,
+        station: &mut T,
+    ) -> Result<(), PlainEnd>
+        ensures step { Carries (done self.old command.now payload.now) self.old self.new (T.meaning station.old).shown (T.meaning station.new).shown result }
         ensures cause { HasPlainCause (T.meaning station.old).show_faults (T.meaning station.new).show_faults result }
         ensures call { IsShowCall (T.meaning station.old) (T.meaning station.new) }
     {
@@ -196,6 +301,26 @@ impl Plain {
                 show_answer(station, &answer)?;
                 Ok(())
             }
+            Command::Add(name, tags) => {
+                let answer = self.add(name, tags, payload)?;
+                show_answer(station, &answer)?;
+                Ok(())
+            }
+            Command::Rm(name) => {
+                let answer = self.rm(name)?;
+                show_answer(station, &answer)?;
+                Ok(())
+            }
+            Command::Cat(name) => match self.content(name)? {
+                None => {
+                    show_refusal(station, &Refusal::NoFileHere)?;
+                    Ok(())
+                }
+                Some(reply) => {
+                    show_all(station, &reply)?;
+                    Ok(())
+                }
+            },
             Command::Cd(text) => {
                 let answer = self.cd(text)?;
                 show_answer(station, &answer)?;
@@ -237,7 +362,7 @@ impl Plain {
         ensures call { IsShowCall (T.meaning station.old) (T.meaning station.new) }
     {
         match item {
-            Item::Command(command) => self.carry_out(command, station),
+            Item::Command(command) => self.carry_out(command, payload, station),
             Item::Bad(refusal) => self.refuse(refusal, station),
             Item::End | Item::Limit => unreachable!(),
         }

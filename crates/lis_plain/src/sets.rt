@@ -1,13 +1,13 @@
 //! Sets of words and files as sorted lists.
 
-ghost use Rattle.std.specs.Prelude.{◌≡◌, ℕ, ◌≤◌, List, [], ◌∷◌, ◌&&◌, length, MatchResult, OnOk, OnErr, IfOk};
+ghost use Rattle.std.specs.Prelude.{◌≡◌, ℕ, ◌≤◌, List, [], ◌∷◌, ◌&&◌, not, filter, length, MatchResult, OnOk, OnErr, IfOk};
 ghost use Rattle.std.specs.BTreeSet.{insert_key};
 ghost use Rattle.std.specs.List.{prefix_len, list_all};
 ghost use Rattle.std.specs.Ordering.{is_gt};
 ghost use Rattle.lis_plain.specs.Places.{first_is};
-ghost use Rattle.lis_words.specs.Words.{has_word, word_cmp, is_valued, head_bytes};
+ghost use Rattle.lis_words.specs.Words.{has_word, same_word, word_cmp, is_valued, head_bytes};
 ghost use Rattle.lis_model.specs.Sets.{with_word};
-ghost use Rattle.lis_model.specs.State.{file_cmp, is_assignable};
+ghost use Rattle.lis_model.specs.State.{File as Kept, file_cmp, is_assignable};
 ghost use Rattle.lis_model.specs.Step.{has_name};
 
 use crate::file::File;
@@ -90,6 +90,13 @@ pub fn insert_file(files: &mut Vec<File>, file: File) -> Result<(), AllocError>
     }
     files.insert(place, file)?;
     Ok(())
+}
+
+/// Takes out the file of that name.
+pub fn remove_file(files: &mut Vec<File>, name: &Name)
+    ensures { files.new.items ≡ filter (λ (file : Kept). not (same_word file.name name.now)) files.old.items }
+{
+    files.retain(|file| file.name != *name);
 }
 
 /// Whether the word is valued with a declared head.

@@ -1,0 +1,58 @@
+//! The bytes of files, and the blocks that they take.
+
+ghost use Rattle.std.specs.Prelude.{◌≡◌, ◌-◌, ◌++◌, map, sum, length, OnOk, IfOk};
+ghost use Rattle.lis_model.specs.State.{File, blocks_needed};
+ghost use Rattle.lis_model.specs.Replies.{content_lines, ok_line, number_line};
+ghost use Rattle.lis_model.specs.Step.{bytes_of};
+
+use crate::file::File;
+use itoa::Buffer;
+use lis_words::Name;
+use std::alloc::{AllocError, Global};
+
+/// How many bytes a data block has.
+const BLOCK_LEN: u64 = 4_096;
+
+/// How many blocks so many bytes take.
+pub fn blocks_needed(bytes: u64) -> u64
+    ensures { result ≡ blocks_needed bytes }
+{
+    bytes.div_ceil(BLOCK_LEN)
+}
+
+/// How many of the blocks no file takes; 0 where the files take more.
+pub fn free_blocks(blocks: u32, files: &[File]) -> u64
+    ensures { result ≡ blocks - sum (map (λ (file : File). blocks_needed (length file.bytes)) files.now) }
+{
+    let mut free = u64::from(blocks);
+    for file in files {
+        free = free.saturating_sub(blocks_needed(file.bytes.len() as u64));
+    }
+    free
+}
+
+/// The bytes of the file of that name; none where there is no such file.
+pub fn bytes_of<'a>(files: &'a [File], name: &Name) -> &'a [u8]
+    ensures { result.now ≡ bytes_of files.now name.now }
+{
+    for file in files {
+        if file.name == *name {
+            return file.bytes.as_slice();
+        }
+    }
+    &[]
+}
+
+/// The reply that shows these bytes.
+pub fn content_reply(alloc: Global, bytes: &[u8]) -> Result<Vec<u8>, AllocError>
+    ensures { IfOk result (λ reply. reply.items ≡ content_lines bytes.now ++ ok_line) }
+{
+    let mut buffer = Buffer::new();
+    let mut reply = Vec::new(alloc);
+    reply.extend_from_slice(b"b ")?;
+    reply.extend_from_slice(buffer.format(bytes.len()).as_bytes())?;
+    reply.push(b'\n')?;
+    reply.extend_from_slice(bytes)?;
+    reply.extend_from_slice(b"\nok\n")?;
+    Ok(reply)
+}
