@@ -89,10 +89,10 @@ last_items (b ∷ bytes) item is =
     all_items_of (b ∷ bytes) _ (omega arith) is ∙ ap (λ items. option_to_list item ++ items) all_items_none ∙ append-nil (option_to_list item)
 
 not_whole_items : (bytes : List ℕ) → (first_of bytes).is_whole ≡ false → whole_items bytes ≡ []
-not_whole_items [] no = whole_items_none
-not_whole_items (b ∷ bytes) no =
+not_whole_items [] none = whole_items_none
+not_whole_items (b ∷ bytes) none =
     whole_items_of (b ∷ bytes) (first_of (b ∷ bytes)) (omega arith) refl
-    ∙ ap (λ whole. cond whole (option_to_list (first_of (b ∷ bytes)).item ++ whole_items (first_of (b ∷ bytes)).rest) []) no
+    ∙ ap (λ whole. cond whole (option_to_list (first_of (b ∷ bytes)).item ++ whole_items (first_of (b ∷ bytes)).rest) []) none
 
 last_some : (bytes : List ℕ) (item : Item) → first_of bytes ≡ record { item = Some item; rest = []; is_whole = false } → 0 < length bytes
 last_some [] item is =
