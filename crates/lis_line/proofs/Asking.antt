@@ -1,22 +1,21 @@
--- Lines taken one after another, up to the first that asks for something.
-use Rattle.std.proofs.Common.{◌≡◌, ℕ, ◌+◌, ◌≤◌, ◌<◌, nat_lt, true, List, [], ◌∷◌, ◌++◌, length, take, Option, Some, None, ap, sym, subst, ◌∙◌, refl, inl, inr, arith, append_assoc, length-append}
+-- Parts taken one after another, up to the first that asks for something.
+use Rattle.std.proofs.Common.{◌≡◌, ℕ, ◌<◌, true, false, cond, List, [], ◌∷◌, ◌++◌, length, Option, Some, None, ap, sym, subst, ◌∙◌, refl, arith, append_assoc, append-nil, length-append}
 use Rattle.std.specs.Io.KnownBytes.{Consumes, IsAtEnd}
 use Rattle.std.specs.Option.{option_to_list}
-use Rattle.std.proofs.lemmas.List.{take_all, length-take}
-use Rattle.std.proofs.lemmas.Bool.{cases_lt, le-leb}
 use Rattle.lis_model.specs.Step.{Item}
-use Rattle.lis_model.specs.Script.{item_of, all_items, whole_items}
-use Rattle.lis_model.proofs.Lines.{IsOneLine, all_items_line, whole_items_line, all_items_last, whole_items_last, all_items_none}
-use Rattle.lis_line.specs.Stock.{Stocked, stream_of, LineTaken}
+use Rattle.lis_model.specs.Script.{First, first_of, all_items, whole_items}
+use Rattle.lis_model.proofs.Lines.{all_items_of, whole_items_of, all_items_none, whole_items_none}
+use Rattle.lis_line.specs.Stock.{Stocked, stream_of}
 use Rattle.lis_line.specs.Reading.{Gave, GaveWhole, GaveLast, GaveEnd, Overran, GaveRest}
-use Rattle.lis_line.proofs.Bytes.{consumes_none, consumes_then}
+use Rattle.lis_line.specs.Parts.{WholePart, LastPart, PartPast, PartFailed}
+use Rattle.lis_line.proofs.Bytes.{gave_none, gave_then}
 
 -- these bytes ask for nothing, whatever follows
 pub record IsBlank (bytes : List ℕ) : Type 0 where
   pub all : (more : List ℕ) → all_items (bytes ++ more) ≡ all_items more
   pub whole : (more : List ℕ) → whole_items (bytes ++ more) ≡ whole_items more
 
--- what stands before each line
+-- what stands before each part
 pub record Skipping (old now : Stocked) (left_before left : Option (List ℕ)) : Type 0 where
   pub bytes : List ℕ
   pub gave : Gave old now left_before left bytes
@@ -26,141 +25,125 @@ pub record Skipping (old now : Stocked) (left_before left : Option (List ℕ)) :
 pub skip_none : (stock : Stocked) (left : Option (List ℕ)) → 0 < stock.rest → Skipping stock stock left left
 skip_none stock left some = record {
   bytes = [];
-  gave = record { took = consumes_none (stream_of stock left); rest = omega arith };
+  gave = gave_none stock left;
   blank = record { all = λ more. refl; whole = λ more. refl };
   some = some;
 }
 
--- of a long line its first bytes tell as much
-item_kept : (text : List ℕ) → item_of (take 1025 text) ≡ item_of text
-item_kept text = elim (cases_lt 1025 (length text)) as (λ _. item_of (take 1025 text) ≡ item_of text) [
-  | inl more ↦
-      let front : 1025 ≤ length (take 1025 text) = omega (arith, more, length-take 1025 text) in
-      let long : nat_lt 1024 (length (take 1025 text)) ≡ true = le-leb 1025 (length (take 1025 text)) front in
-      let all : nat_lt 1024 (length text) ≡ true = le-leb 1025 (length text) (omega (arith, more)) in
-      rw (long, all) refl
-  | inr le ↦ ap item_of (take_all 1025 text le)
-]
+-- a whole part, by itself and behind what asks for nothing
+whole_some : (bytes : List ℕ) (item : Option Item) → ((more : List ℕ) → first_of (bytes ++ more) ≡ record { item = item; rest = more; is_whole = true })
+    → 0 < length bytes
+whole_some [] item is =
+    let no : false ≡ true = ap (λ (f : First). f.is_whole) (is []) in
+    absurd (cc)
+whole_some (b ∷ bytes) item is = omega arith
 
--- what the line asks for, by what is kept of it
-item_is : (line text : List ℕ) (asked : Option Item) → line ≡ take 1025 text → asked ≡ item_of line → item_of text ≡ asked
-item_is line text asked kept is = sym (is ∙ ap item_of kept ∙ item_kept text)
+pub some_taken : (now next : Stocked) (left left_after : Option (List ℕ)) (item : Option Item) → WholePart first_of now next left left_after item → next.rest < now.rest
+some_taken now next left left_after item part = omega (arith, part.gave.rest, whole_some part.bytes item part.is)
 
-gave_then : (old now next : Stocked) (left_before left left_after : Option (List ℕ)) (first more : List ℕ)
-    → Gave old now left_before left first → Consumes (stream_of now left) (stream_of next left_after) more → length more + next.rest ≡ now.rest
-    → Gave old next left_before left_after (first ++ more)
-gave_then old now next left_before left left_after first more gave took rest = record {
-  took = consumes_then _ (stream_of now left) _ first more gave.took took;
-  rest = omega (arith, gave.rest, rest, length-append first more);
+all_behind : (first bytes more : List ℕ) (item : Option Item) → IsBlank first
+    → ((more : List ℕ) → first_of (bytes ++ more) ≡ record { item = item; rest = more; is_whole = true })
+    → all_items ((first ++ bytes) ++ more) ≡ option_to_list item ++ all_items more
+all_behind first bytes more item blank is =
+    ap all_items (append_assoc first bytes more) ∙ blank.all (bytes ++ more)
+    ∙ all_items_of (bytes ++ more) _ (omega (arith, whole_some bytes item is, length-append bytes more)) (is more)
+
+whole_behind : (first bytes more : List ℕ) (item : Option Item) → IsBlank first
+    → ((more : List ℕ) → first_of (bytes ++ more) ≡ record { item = item; rest = more; is_whole = true })
+    → whole_items ((first ++ bytes) ++ more) ≡ option_to_list item ++ whole_items more
+whole_behind first bytes more item blank is =
+    ap whole_items (append_assoc first bytes more) ∙ blank.whole (bytes ++ more)
+    ∙ whole_items_of (bytes ++ more) _ (omega (arith, whole_some bytes item is, length-append bytes more)) (is more)
+
+pub skip_more : (old now next : Stocked) (left_before left left_after : Option (List ℕ))
+    → Skipping old now left_before left → WholePart first_of now next left left_after None → Skipping old next left_before left_after
+skip_more old now next left_before left left_after skipping part = record {
+  bytes = skipping.bytes ++ part.bytes;
+  gave = gave_then old now next left_before left left_after skipping.bytes part.bytes skipping.gave part.gave;
+  blank = record {
+    all = λ more. all_behind skipping.bytes part.bytes more None skipping.blank part.is;
+    whole = λ more. whole_behind skipping.bytes part.bytes more None skipping.blank part.is;
+  };
+  some = part.within;
 }
 
--- a line behind blank ones
-all_behind : (first text more : List ℕ) → IsBlank first → IsOneLine text
-    → all_items ((first ++ (text ++ 10 ∷ [])) ++ more) ≡ option_to_list (item_of text) ++ all_items more
-all_behind first text more blank one =
-    ap all_items (append_assoc first (text ++ 10 ∷ []) more) ∙ blank.all ((text ++ 10 ∷ []) ++ more)
-    ∙ ap all_items (append_assoc text (10 ∷ []) more) ∙ all_items_line text more one
-
-whole_behind : (first text more : List ℕ) → IsBlank first → IsOneLine text
-    → whole_items ((first ++ (text ++ 10 ∷ [])) ++ more) ≡ option_to_list (item_of text) ++ whole_items more
-whole_behind first text more blank one =
-    ap whole_items (append_assoc first (text ++ 10 ∷ []) more) ∙ blank.whole ((text ++ 10 ∷ []) ++ more)
-    ∙ ap whole_items (append_assoc text (10 ∷ []) more) ∙ whole_items_line text more one
-
-pub skip_more : (old now next : Stocked) (left_before left left_after : Option (List ℕ)) (line text : List ℕ)
-    → Skipping old now left_before left → LineTaken now next left left_after line text (text ++ 10 ∷ []) → 0 < next.rest
-    → None ≡ item_of line → Skipping old next left_before left_after
-skip_more old now next left_before left left_after line text skipping taken some is =
-    let none : item_of text ≡ None = item_is line text None taken.kept is in
-    record {
-      bytes = skipping.bytes ++ (text ++ 10 ∷ []);
-      gave = gave_then old now next left_before left left_after skipping.bytes (text ++ 10 ∷ []) skipping.gave taken.took taken.rest;
-      blank = record {
-        all = λ more. all_behind skipping.bytes text more skipping.blank taken.one_line ∙ ap (λ item. option_to_list item ++ all_items more) none;
-        whole = λ more. whole_behind skipping.bytes text more skipping.blank taken.one_line ∙ ap (λ item. option_to_list item ++ whole_items more) none;
-      };
-      some = some;
-    }
-
-pub skip_whole : (old now next : Stocked) (left_before left left_after : Option (List ℕ)) (line text : List ℕ) (item : Item)
-    → Skipping old now left_before left → LineTaken now next left left_after line text (text ++ 10 ∷ []) → 0 < next.rest
-    → Some item ≡ item_of line → GaveWhole old next left_before left_after item
-skip_whole old now next left_before left left_after line text item skipping taken some is =
-    let one : item_of text ≡ Some item = item_is line text (Some item) taken.kept is in
-    record {
-      bytes = skipping.bytes ++ (text ++ 10 ∷ []);
-      gave = gave_then old now next left_before left left_after skipping.bytes (text ++ 10 ∷ []) skipping.gave taken.took taken.rest;
-      some = omega (arith, length-append skipping.bytes (text ++ 10 ∷ []), length-append text (10 ∷ []));
-      within = some;
-      is = record {
-        all = λ more. all_behind skipping.bytes text more skipping.blank taken.one_line ∙ ap (λ item. option_to_list item ++ all_items more) one;
-        whole = λ more. whole_behind skipping.bytes text more skipping.blank taken.one_line ∙ ap (λ item. option_to_list item ++ whole_items more) one;
-      };
-    }
-
--- a last line without a line feed
-no_item : item_of [] ≡ None
-no_item = refl
-
-last_items : (text : List ℕ) → IsOneLine text → all_items text ≡ option_to_list (item_of text)
-last_items [] one = all_items_none ∙ ap option_to_list (sym no_item)
-last_items (b ∷ text) one = all_items_last b text one
-
-some_text : (text : List ℕ) (item : Item) → item_of text ≡ Some item → 0 < length text
-some_text [] item is = let h : None ≡ Some item = is in absurd (cc)
-some_text (b ∷ text) item is = omega arith
-
-pub skip_last : (old now next : Stocked) (left_before left left_after : Option (List ℕ)) (line text : List ℕ) (item : Item)
-    → Skipping old now left_before left → LineTaken now next left left_after line text text → 0 < next.rest → next.ahead ≡ [] → IsAtEnd left_after
-    → Some item ≡ item_of line → GaveLast old next left_before left_after item
-skip_last old now next left_before left left_after line text item skipping taken some none end is =
-    let one : item_of text ≡ Some item = item_is line text (Some item) taken.kept is in
-    record {
-      bytes = skipping.bytes ++ text;
-      gave = gave_then old now next left_before left left_after skipping.bytes text skipping.gave taken.took taken.rest;
-      some = omega (arith, length-append skipping.bytes text, some_text text item one);
-      within = some;
-      is = record {
-        all = skipping.blank.all text ∙ last_items text taken.one_line ∙ ap option_to_list one;
-        whole = skipping.blank.whole text ∙ whole_items_last text taken.one_line;
-      };
-      nothing_ahead = none;
-      at_end = end;
-    }
-
-pub skip_end : (old now next : Stocked) (left_before left left_after : Option (List ℕ)) (line text : List ℕ)
-    → Skipping old now left_before left → LineTaken now next left left_after line text text → 0 < next.rest → next.ahead ≡ [] → IsAtEnd left_after
-    → None ≡ item_of line → GaveEnd old next left_before left_after
-skip_end old now next left_before left left_after line text skipping taken some none end is =
-    let nothing : item_of text ≡ None = item_is line text None taken.kept is in
-    record {
-      bytes = skipping.bytes ++ text;
-      gave = gave_then old now next left_before left left_after skipping.bytes text skipping.gave taken.took taken.rest;
-      within = some;
-      none_left = skipping.blank.all text ∙ last_items text taken.one_line ∙ ap option_to_list nothing;
-      nothing_ahead = none;
-      at_end = end;
-    }
-
-pub skip_spent : (old now next : Stocked) (left_before left left_after : Option (List ℕ)) (line text : List ℕ) (byte : ℕ)
-    → Skipping old now left_before left → LineTaken now next left left_after line text (text ++ byte ∷ []) → next.rest ≡ 0
-    → Overran old next left_before left_after
-skip_spent old now next left_before left left_after line text byte skipping taken spent = record {
-  bytes = skipping.bytes ++ text;
-  byte = byte;
-  gave = subst (λ xs. Gave old next left_before left_after xs) (sym (append_assoc skipping.bytes text (byte ∷ [])))
-      (gave_then old now next left_before left left_after skipping.bytes (text ++ byte ∷ []) skipping.gave taken.took taken.rest);
-  spent = spent;
-  none_whole = skipping.blank.whole text ∙ whole_items_last text taken.one_line;
+pub skip_whole : (old now next : Stocked) (left_before left left_after : Option (List ℕ)) (item : Item)
+    → Skipping old now left_before left → WholePart first_of now next left left_after (Some item) → GaveWhole old next left_before left_after item
+skip_whole old now next left_before left left_after item skipping part = record {
+  bytes = skipping.bytes ++ part.bytes;
+  gave = gave_then old now next left_before left left_after skipping.bytes part.bytes skipping.gave part.gave;
+  some = omega (arith, whole_some part.bytes (Some item) part.is, length-append skipping.bytes part.bytes);
+  within = part.within;
+  is = record {
+    all = λ more. all_behind skipping.bytes part.bytes more (Some item) skipping.blank part.is;
+    whole = λ more. whole_behind skipping.bytes part.bytes more (Some item) skipping.blank part.is;
+  };
 }
 
-pub skip_failed : (old now next : Stocked) (left_before left left_after : Option (List ℕ)) (line text : List ℕ)
-    → Skipping old now left_before left → LineTaken now next left left_after line text text → 0 < next.rest → next.ahead ≡ []
-    → GaveRest old next left_before left_after
-skip_failed old now next left_before left left_after line text skipping taken some none = record {
-  bytes = skipping.bytes ++ text;
-  gave = gave_then old now next left_before left left_after skipping.bytes text skipping.gave taken.took taken.rest;
-  within = some;
-  none_whole = skipping.blank.whole text ∙ whole_items_last text taken.one_line;
-  nothing_ahead = none;
+-- the last part
+last_items : (bytes : List ℕ) (item : Option Item) → first_of bytes ≡ record { item = item; rest = []; is_whole = false } → all_items bytes ≡ option_to_list item
+last_items [] item is =
+    let none : None ≡ item = ap (λ (f : First). f.item) is in
+    all_items_none ∙ ap option_to_list none
+last_items (b ∷ bytes) item is =
+    all_items_of (b ∷ bytes) _ (omega arith) is ∙ ap (λ items. option_to_list item ++ items) all_items_none ∙ append-nil (option_to_list item)
+
+not_whole_items : (bytes : List ℕ) → (first_of bytes).is_whole ≡ false → whole_items bytes ≡ []
+not_whole_items [] none = whole_items_none
+not_whole_items (b ∷ bytes) none =
+    whole_items_of (b ∷ bytes) (first_of (b ∷ bytes)) (omega arith) refl
+    ∙ ap (λ whole. cond whole (option_to_list (first_of (b ∷ bytes)).item ++ whole_items (first_of (b ∷ bytes)).rest) []) none
+
+last_some : (bytes : List ℕ) (item : Item) → first_of bytes ≡ record { item = Some item; rest = []; is_whole = false } → 0 < length bytes
+last_some [] item is =
+    let none : None ≡ Some item = ap (λ (f : First). f.item) is in
+    absurd (cc)
+last_some (b ∷ bytes) item is = omega arith
+
+pub skip_last : (old now next : Stocked) (left_before left left_after : Option (List ℕ)) (item : Item)
+    → Skipping old now left_before left → LastPart first_of now next left left_after (Some item) → GaveLast old next left_before left_after item
+skip_last old now next left_before left left_after item skipping part = record {
+  bytes = skipping.bytes ++ part.bytes;
+  gave = gave_then old now next left_before left left_after skipping.bytes part.bytes skipping.gave part.gave;
+  some = omega (arith, last_some part.bytes item part.is, length-append skipping.bytes part.bytes);
+  within = part.within;
+  is = record {
+    all = skipping.blank.all part.bytes ∙ last_items part.bytes (Some item) part.is;
+    whole = skipping.blank.whole part.bytes ∙ not_whole_items part.bytes (ap (λ (f : First). f.is_whole) part.is);
+  };
+  nothing_ahead = part.nothing_ahead;
+  at_end = part.at_end;
+}
+
+pub skip_end : (old now next : Stocked) (left_before left left_after : Option (List ℕ))
+    → Skipping old now left_before left → LastPart first_of now next left left_after None → GaveEnd old next left_before left_after
+skip_end old now next left_before left left_after skipping part = record {
+  bytes = skipping.bytes ++ part.bytes;
+  gave = gave_then old now next left_before left left_after skipping.bytes part.bytes skipping.gave part.gave;
+  within = part.within;
+  none_left = skipping.blank.all part.bytes ∙ last_items part.bytes None part.is;
+  nothing_ahead = part.nothing_ahead;
+  at_end = part.at_end;
+}
+
+-- no part was whole
+pub skip_past : (old now next : Stocked) (left_before left left_after : Option (List ℕ))
+    → Skipping old now left_before left → PartPast first_of now next left left_after → Overran old next left_before left_after
+skip_past old now next left_before left left_after skipping part = record {
+  bytes = skipping.bytes ++ part.bytes;
+  byte = part.byte;
+  gave = subst (λ xs. Gave old next left_before left_after xs) (sym (append_assoc skipping.bytes part.bytes (part.byte ∷ [])))
+      (gave_then old now next left_before left left_after skipping.bytes (part.bytes ++ part.byte ∷ []) skipping.gave part.gave);
+  spent = part.spent;
+  none_whole = skipping.blank.whole part.bytes ∙ not_whole_items part.bytes part.not_whole;
+}
+
+pub skip_failed : (old now next : Stocked) (left_before left left_after : Option (List ℕ))
+    → Skipping old now left_before left → PartFailed first_of now next left left_after → GaveRest old next left_before left_after
+skip_failed old now next left_before left left_after skipping part = record {
+  bytes = skipping.bytes ++ part.bytes;
+  gave = gave_then old now next left_before left left_after skipping.bytes part.bytes skipping.gave part.gave;
+  within = part.within;
+  none_whole = skipping.blank.whole part.bytes ∙ not_whole_items part.bytes part.not_whole;
+  nothing_ahead = part.nothing_ahead;
 }

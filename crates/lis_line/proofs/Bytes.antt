@@ -7,6 +7,7 @@ use Rattle.std.proofs.lemmas.List.{take-append-le, take_all, length-take}
 use Rattle.std.proofs.lemmas.Bool.Decides.{eqb_tells}
 use Rattle.lis_model.specs.Script.{is_feed}
 use Rattle.lis_line.specs.Stock.{Stocked, stream_of, LineTaken}
+use Rattle.lis_line.specs.Reading.{Gave}
 
 pub consumes_none : (known : Option (List ℕ)) → Consumes known known []
 consumes_none None = tt
@@ -26,6 +27,26 @@ pub consumes_kept : (a b : Option (List ℕ)) → Keeps a b → Consumes (prepen
 consumes_kept None b k = tt
 consumes_kept (Some zs) None k = absurd k
 consumes_kept (Some zs) (Some bs) k = let e : bs ≡ zs = k in sym e
+
+pub gave_none : (stock : Stocked) (left : Option (List ℕ)) → Gave stock stock left left []
+gave_none stock left = record { took = consumes_none (stream_of stock left); rest = omega arith }
+
+pub gave_then : (old now next : Stocked) (left_before left left_after : Option (List ℕ)) (first more : List ℕ)
+    → Gave old now left_before left first → Gave now next left left_after more → Gave old next left_before left_after (first ++ more)
+gave_then old now next left_before left left_after first more gave then = record {
+  took = consumes_then _ (stream_of now left) _ first more gave.took then.took;
+  rest = omega (arith, gave.rest, then.rest, length-append first more);
+}
+
+-- the end of the input, or a fault: nothing more was given
+pub gave_stopped : (old now next : Stocked) (left_before left left_after : Option (List ℕ)) (bytes : List ℕ)
+    → Gave old now left_before left bytes → now.ahead ≡ [] → next.ahead ≡ [] → Keeps left left_after → next.rest ≡ now.rest
+    → Gave old next left_before left_after bytes
+gave_stopped old now next left_before left left_after bytes gave none none_now keeps rest =
+    let none_took = subst (λ xs. Consumes (prepend_known xs left) (stream_of next left_after) []) (sym none)
+    (subst (λ xs. Consumes (prepend_known [] left) (prepend_known xs left_after) []) (sym none_now) (consumes_kept left left_after keeps)) in
+    subst (λ xs. Gave old next left_before left_after xs) (append-nil bytes)
+    (gave_then old now next left_before left left_after bytes [] gave (record { took = none_took; rest = omega (arith, rest) }))
 
 -- what stands while a line is read
 pub record Going (old now : Stocked) (left_before left : Option (List ℕ)) (line : List ℕ) : Type 0 where
@@ -113,12 +134,11 @@ taken_ended old now next left_before left left_after line text b taken byte rest
 pub taken_stopped : (old now next : Stocked) (left_before left left_after : Option (List ℕ)) (line text : List ℕ)
     → LineTaken old now left_before left line text text → now.ahead ≡ [] → next.ahead ≡ [] → Keeps left left_after → next.rest ≡ now.rest
     → LineTaken old next left_before left_after line text text
-taken_stopped old now next left_before left left_after line text taken none none_now keeps rest = record {
-  one_line = taken.one_line;
-  took = subst (λ xs. Consumes (stream_of old left_before) (stream_of next left_after) xs) (append-nil text)
-      (consumes_then _ (stream_of now left) _ text [] taken.took
-      (subst (λ xs. Consumes (prepend_known xs left) (stream_of next left_after) []) (sym none)
-      (subst (λ xs. Consumes (prepend_known [] left) (prepend_known xs left_after) []) (sym none_now) (consumes_kept left left_after keeps))));
-  rest = omega (arith, taken.rest, rest);
-  kept = taken.kept;
-}
+taken_stopped old now next left_before left left_after line text taken none none_now keeps rest =
+    let gave = gave_stopped old now next left_before left left_after text (record { took = taken.took; rest = taken.rest }) none none_now keeps rest in
+    record { one_line = taken.one_line; took = gave.took; rest = gave.rest; kept = taken.kept }
+
+-- what a line was taken from
+pub gave_line : (old new : Stocked) (left_before left : Option (List ℕ)) (line text bytes : List ℕ)
+    → LineTaken old new left_before left line text bytes → Gave old new left_before left bytes
+gave_line old new left_before left line text bytes taken = record { took = taken.took; rest = taken.rest }

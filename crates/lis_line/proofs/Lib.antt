@@ -1,4 +1,7 @@
 mod Bytes
 mod Words
 mod Tags
+mod Payloads
+pub mod Sized
+mod Parts
 mod Asking

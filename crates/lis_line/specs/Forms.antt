@@ -1,14 +1,32 @@
 -- What a line asks for, as the code answers it.
-use Rattle.std.specs.Prelude.{Option, Some, None, Result, Ok, Err}
+use Rattle.std.specs.Prelude.{ℕ, List, Option, Some, None, Result, Ok, Err}
 use Rattle.lis_model.specs.declared.command.Command.{Command}
+use Rattle.lis_model.specs.declared.command.Command.TheVariants.{Mkdir, Create, Add, Cat, Rm, Cd, Pwd, Ls}
 use Rattle.lis_model.specs.declared.refusal.Refusal.{Refusal}
-use Rattle.lis_model.specs.Step.{Item, no_payload}
+use Rattle.lis_model.specs.Step.{Item, Payload, no_payload}
 use Rattle.lis_model.specs.Step.Item.{Do, Bad}
+use Rattle.lis_model.specs.Script.{bad_line}
 
-abbrev pub asked_of : Result Command Refusal → Item
-asked_of (Ok command) = Do command no_payload
-asked_of (Err refusal) = Bad refusal
+-- a command, given what stands behind its line: `add` alone has it as its payload
+abbrev pub command_with : Payload → Command → Item
+command_with payload (Mkdir word) = Do (Mkdir word) no_payload
+command_with payload (Create name words) = Do (Create name words) no_payload
+command_with payload (Add name words) = Do (Add name words) payload
+command_with payload (Cat name) = Do (Cat name) no_payload
+command_with payload (Rm name) = Do (Rm name) no_payload
+command_with payload (Cd text) = Do (Cd text) no_payload
+command_with payload Pwd = Do Pwd no_payload
+command_with payload Ls = Do Ls no_payload
 
-abbrev pub line_asks : Option (Result Command Refusal) → Option Item
-line_asks None = None
-line_asks (Some asked) = Some (asked_of asked)
+abbrev pub asked_of : Payload → Result Command Refusal → Item
+asked_of payload (Ok command) = command_with payload command
+asked_of payload (Err refusal) = Bad refusal
+
+abbrev pub line_asks : Payload → Option (Result Command Refusal) → Option Item
+line_asks payload None = None
+line_asks payload (Some asked) = Some (asked_of payload asked)
+
+-- what a line asks for that is to have the name of a file behind its first word
+abbrev pub name_asks : (List ℕ → Item) → Option (List ℕ) → Item
+name_asks item None = bad_line
+name_asks item (Some name) = item name

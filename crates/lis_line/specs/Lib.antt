@@ -1,3 +1,5 @@
 pub mod Stock
 pub mod Forms
+pub mod Inside
 pub mod Reading
+pub mod Parts

@@ -5,7 +5,8 @@ use Rattle.lis_model.specs.Step.{Item, Payload}
 use Rattle.lis_model.specs.Step.Item.{Do, Bad}
 use Rattle.lis_model.specs.Script.{all_items, whole_items}
 use Rattle.lis_line.specs.Stock.{Stocked, stream_of}
-use Rattle.lis_line.specs.Forms.{asked_of}
+use Rattle.lis_model.specs.declared.command.Command.{Command}
+use Rattle.lis_model.specs.declared.refusal.Refusal.{Refusal}
 use Rattle.lis_line.specs.declared.taken.Taken.{Taken}
 use Rattle.lis_line.specs.declared.taken.Taken.TheVariants.{Whole, Last, NoMore, PastLimit}
 use Rattle.lis_line.specs.declared.reader.Item.{Item as Said}
@@ -79,13 +80,18 @@ pub record GaveRest (old new : Stocked) (left_before left : Option (List ℕ)) :
   pub none_whole : whole_items bytes ≡ []
   pub nothing_ahead : new.ahead ≡ []
 
+-- what was asked for, with the payload that was taken
+abbrev pub item_with : Payload → Result Command Refusal → Item
+item_with payload (Ok command) = Do command payload
+item_with payload (Err refusal) = Bad refusal
+
 -- what is taken next out of a stock
-abbrev pub GivesAsked : {E : Type 0} → Stocked → Stocked → Option (List ℕ) → Option (List ℕ) → Result Taken E → Type 0
-GivesAsked old new left_before left (Ok (Whole asked)) = GaveWhole old new left_before left (asked_of asked)
-GivesAsked old new left_before left (Ok (Last asked)) = GaveLast old new left_before left (asked_of asked)
-GivesAsked old new left_before left (Ok NoMore) = GaveEnd old new left_before left
-GivesAsked old new left_before left (Ok PastLimit) = Overran old new left_before left
-GivesAsked old new left_before left (Err failed) = GaveRest old new left_before left
+abbrev pub GivesAsked : {E : Type 0} → Stocked → Stocked → Option (List ℕ) → Option (List ℕ) → Payload → Result Taken E → Type 0
+GivesAsked old new left_before left payload (Ok (Whole asked)) = GaveWhole old new left_before left (item_with payload asked)
+GivesAsked old new left_before left payload (Ok (Last asked)) = GaveLast old new left_before left (item_with payload asked)
+GivesAsked old new left_before left payload (Ok NoMore) = GaveEnd old new left_before left
+GivesAsked old new left_before left payload (Ok PastLimit) = Overran old new left_before left
+GivesAsked old new left_before left payload (Err failed) = GaveRest old new left_before left
 
 -- what an item of the code asks for, with the payload behind it; the end and the limit ask for nothing
 abbrev pub asked_by : Said → Payload → Option Item

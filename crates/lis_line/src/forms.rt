@@ -1,17 +1,18 @@
 //! The forms of lines.
 
-ghost use Rattle.std.specs.Prelude.{◌≡◌, ◌≢◌, ◌↔◌, ℕ, ◌+◌, ◌<◌, ◌≤◌, nat_lt, List, [], ◌∷◌, not, length, drop, take, MatchOption, IsSome, IfSome, IsTrue, OnErr, MatchResult};
+ghost use Rattle.std.specs.Prelude.{◌≡◌, ◌≢◌, ◌↔◌, ℕ, ◌+◌, ◌<◌, ◌≤◌, nat_lt, List, [], ◌∷◌, not, length, drop, take, MatchOption, IsSome, IfSome, ◌^◌, ◌||◌, codes, IsTrue, OnErr, MatchResult};
 ghost use Rattle.std.specs.List.{prefix_len};
-ghost use Rattle.lis_model.specs.Step.{no_payload};
+ghost use Rattle.lis_words.specs.Words.{same_word};
+ghost use Rattle.lis_model.specs.Step.{Item, Payload, no_payload};
 ghost use Rattle.lis_model.specs.Step.Item.{Do};
-ghost use Rattle.lis_model.specs.declared.command.Command.TheVariants.{Pwd, Ls};
-ghost use Rattle.lis_model.specs.Script.{is_blank, without_return, words_of, mkdir_form, tags_form, create_form, cd_form, alone_form, form_of, item_of, item_of_words};
-ghost use Rattle.lis_line.specs.Forms.{asked_of, line_asks};
+ghost use Rattle.lis_model.specs.declared.command.Command.TheVariants.{Cat, Rm, Pwd, Ls};
+ghost use Rattle.lis_model.specs.Script.{is_blank, without_return, words_of, mkdir_form, tags_form, create_form, add_form, file_form, cd_form, alone_form, form_of, item_of, payload_size};
+ghost use Rattle.lis_line.specs.Forms.{asked_of, line_asks, name_asks};
 
 use lis_model::command::{Command, Tags};
 use lis_model::refusal::Refusal;
 use lis_place::Text;
-use lis_words::{read_name, read_word};
+use lis_words::{Name, is_count, read_count, read_name, read_word};
 
 /// The most bytes of a line before its line feed.
 const MAX_LINE: usize = 1_024;
@@ -84,7 +85,7 @@ fn no_words(text: &[u8]) -> bool
 }
 
 fn mkdir_form(text: &[u8]) -> Result<Command, Refusal>
-    ensures { asked_of result ≡ mkdir_form (words_of text.now) }
+    ensures { (payload : Payload) → asked_of payload result ≡ mkdir_form (words_of text.now) }
 {
     let Some(word) = only_word(text) else {
         return Err(Refusal::BadLine);
@@ -122,7 +123,7 @@ fn tags_form(text: &[u8]) -> Result<Tags, Refusal>
 }
 
 fn create_form(text: &[u8]) -> Result<Command, Refusal>
-    ensures { asked_of result ≡ create_form (words_of text.now) }
+    ensures { (payload : Payload) → asked_of payload result ≡ create_form (words_of text.now) }
 {
     let Some((first, rest)) = next_word(text) else {
         return Err(Refusal::BadLine);
@@ -136,9 +137,56 @@ fn create_form(text: &[u8]) -> Result<Command, Refusal>
     }
 }
 
+fn add_form(text: &[u8]) -> Result<Command, Refusal>
+    ensures { (payload : Payload) → asked_of payload result ≡ add_form (words_of text.now) payload }
+{
+    let Some((first, rest)) = next_word(text) else {
+        return Err(Refusal::BadLine);
+    };
+    let Some((size, rest)) = next_word(rest) else {
+        return Err(Refusal::BadLine);
+    };
+    let Some(name) = read_name(first) else {
+        return Err(Refusal::BadLine);
+    };
+    if !is_count(size) {
+        return Err(Refusal::BadLine);
+    }
+    match tags_form(rest) {
+        Ok(tags) => Ok(Command::Add(name, tags)),
+        Err(refusal) => Err(refusal),
+    }
+}
+
+/// The only word of a text, where it is the name of a file.
+fn file_name(text: &[u8]) -> Option<Name>
+    ensures { (item : List ℕ → Item) → name_asks item result ≡ file_form item (words_of text.now) }
+{
+    let word = only_word(text)?;
+    read_name(word)
+}
+
+fn cat_form(text: &[u8]) -> Result<Command, Refusal>
+    ensures { (payload : Payload) → asked_of payload result ≡ file_form (λ name. Do (Cat name) no_payload) (words_of text.now) }
+{
+    match file_name(text) {
+        None => Err(Refusal::BadLine),
+        Some(name) => Ok(Command::Cat(name)),
+    }
+}
+
+fn rm_form(text: &[u8]) -> Result<Command, Refusal>
+    ensures { (payload : Payload) → asked_of payload result ≡ file_form (λ name. Do (Rm name) no_payload) (words_of text.now) }
+{
+    match file_name(text) {
+        None => Err(Refusal::BadLine),
+        Some(name) => Ok(Command::Rm(name)),
+    }
+}
+
 fn cd_form(text: &[u8]) -> Result<Command, Refusal>
     requires { length text.now ≤ 1024 }
-    ensures { asked_of result ≡ cd_form (words_of text.now) }
+    ensures { (payload : Payload) → asked_of payload result ≡ cd_form (words_of text.now) }
 {
     let Some(word) = only_word(text) else {
         return Err(Refusal::BadLine);
@@ -150,7 +198,7 @@ fn cd_form(text: &[u8]) -> Result<Command, Refusal>
 }
 
 fn pwd_form(text: &[u8]) -> Result<Command, Refusal>
-    ensures { asked_of result ≡ alone_form (Do Pwd no_payload) (words_of text.now) }
+    ensures { (payload : Payload) → asked_of payload result ≡ alone_form (Do Pwd no_payload) (words_of text.now) }
 {
     if no_words(text) {
         Ok(Command::Pwd)
@@ -160,7 +208,7 @@ fn pwd_form(text: &[u8]) -> Result<Command, Refusal>
 }
 
 fn ls_form(text: &[u8]) -> Result<Command, Refusal>
-    ensures { asked_of result ≡ alone_form (Do Ls no_payload) (words_of text.now) }
+    ensures { (payload : Payload) → asked_of payload result ≡ alone_form (Do Ls no_payload) (words_of text.now) }
 {
     if no_words(text) {
         Ok(Command::Ls)
@@ -172,13 +220,22 @@ fn ls_form(text: &[u8]) -> Result<Command, Refusal>
 /// What a line asks for by its first word and what stands behind it.
 fn command_of(first: &[u8], rest: &[u8]) -> Result<Command, Refusal>
     requires { length rest.now ≤ 1024 }
-    ensures { asked_of result ≡ form_of first.now (words_of rest.now) }
+    ensures { (payload : Payload) → asked_of payload result ≡ form_of first.now (words_of rest.now) payload }
 {
     if first == b"mkdir".as_slice() {
         return mkdir_form(rest);
     }
     if first == b"create".as_slice() {
         return create_form(rest);
+    }
+    if first == b"add".as_slice() {
+        return add_form(rest);
+    }
+    if first == b"cat".as_slice() {
+        return cat_form(rest);
+    }
+    if first == b"rm".as_slice() {
+        return rm_form(rest);
     }
     if first == b"cd".as_slice() {
         return cd_form(rest);
@@ -194,11 +251,38 @@ fn command_of(first: &[u8], rest: &[u8]) -> Result<Command, Refusal>
 
 /// What a line asks for, given what stands before its line feed; None for a line without words.
 pub fn asked(line: &[u8]) -> Option<Result<Command, Refusal>>
-    ensures { line_asks result ≡ item_of line.now }
+    ensures { (payload : Payload) → line_asks payload result ≡ item_of line.now payload }
 {
     if line.len() > MAX_LINE {
         return Some(Err(Refusal::LongLine));
     }
     let (first, rest) = next_word(without_return(line))?;
     Some(command_of(first, rest))
+}
+
+/// Whether a payload may follow a line of this first word.
+fn takes_payload(first: &[u8]) -> bool
+    ensures { result ≡ (same_word first.now (codes "add") || same_word first.now (codes "write")) }
+{
+    if first == b"add".as_slice() {
+        return true;
+    }
+    first == b"write".as_slice()
+}
+
+/// How many bytes are to follow a line and its line feed; None where no payload follows.
+pub fn payload_size(line: &[u8]) -> Option<u64>
+    ensures size { result ≡ payload_size line.now }
+    ensures below { IfSome result (λ size. size < 10 ^ 12) }
+{
+    if line.len() > MAX_LINE {
+        return None;
+    }
+    let (first, rest) = next_word(without_return(line))?;
+    if !takes_payload(first) {
+        return None;
+    }
+    let (_, rest) = next_word(rest)?;
+    let (size, _) = next_word(rest)?;
+    read_count(size)
 }

@@ -2,6 +2,8 @@
 #![tactic(auto)]
 
 mod forms;
+pub mod part;
+pub mod payload;
 pub mod reader;
 pub mod stock;
 pub mod taken;

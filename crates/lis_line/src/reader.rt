@@ -1,15 +1,15 @@
 //! The reader of items.
 
-ghost use Rattle.std.specs.Prelude.{◌≡◌, ℕ, ◌^◌, ◌≤◌, [], false, length, IfOk};
+ghost use Rattle.std.specs.Prelude.{◌≡◌, ℕ, ◌^◌, ◌≤◌, false, length};
 ghost use Rattle.lis_ports.specs.Calls.{HasCause};
-ghost use Rattle.lis_model.specs.Step.{no_payload};
+
+pub use crate::payload::Payload;
 
 use crate::stock::Stock;
 use crate::taken::{Taken, take_asked};
 use lis_model::command::Command;
 use lis_model::refusal::Refusal;
 use lis_ports::{Failed, Source};
-use std::alloc::{AllocError, Global};
 use std::marker::Model;
 
 /// What the input says next.
@@ -23,49 +23,6 @@ pub enum Item {
     End,
     /// The input is longer than its limit.
     Limit,
-}
-
-/// The bytes behind a command's line. No command has any yet, so its size is 0.
-#[derive(Drop)]
-pub struct Payload {
-    size: u64,
-}
-
-impl Model for Payload {
-    ghost use Rattle.std.specs.Prelude.{◌≡◌, ℕ, []};
-    ghost use Rattle.lis_model.specs.Step.{Payload as Told};
-    ghost use Rattle.std.specs.Coded.{code_by, coded×, coded_ℕ, coded_list};
-
-    ghost Value = { Told };
-
-    ghost view = { λ p. record { size = p.size; bytes = [] } };
-
-    ghost invariant = { λ p. p.size ≡ 0 };
-}
-
-impl Payload {
-    /// An empty payload.
-    pub fn new(_alloc: Global) -> Result<Payload, AllocError>
-        ensures { IfOk result (λ payload. payload ≡ no_payload) }
-    {
-        Ok(Payload { size: 0 })
-    }
-
-    /// How many bytes it has.
-    pub fn size(&self) -> u64
-        ensures size { result ≡ self.now.size }
-        ensures none { self.now ≡ no_payload }
-    {
-        self.size
-    }
-
-    /// The bytes themselves.
-    pub fn bytes(&self) -> &[u8]
-        ensures { result.now ≡ self.now.bytes }
-    {
-        let _none = self.size();
-        &[]
-    }
 }
 
 /// A reader of items, which ends after the end of the input, its limit or a fault.
@@ -116,12 +73,11 @@ impl LineReader {
         ensures few { length self.new.stock.ahead ≤ self.new.stock.rest }
         ensures cause { HasCause (S.faults source.old) (S.faults source.new) result }
     {
-        let _none = payload.size();
         if self.is_closed {
             self.is_ended = true;
             return Ok(Item::End);
         }
-        match take_asked(&mut self.stock, source) {
+        match take_asked(&mut self.stock, payload, source) {
             Ok(Taken::Whole(Ok(command))) => Ok(Item::Command(command)),
             Ok(Taken::Whole(Err(refusal))) => Ok(Item::Bad(refusal)),
             Ok(Taken::Last(Ok(command))) => {

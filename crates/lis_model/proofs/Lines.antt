@@ -124,7 +124,7 @@ before_feed_at (b ∷ text) more h = by (is_feed b) h (before_feed_at text more)
     by true h ih = absurd (cc)
     by false h ih = ap (λ xs. b ∷ xs) (ih h)
 
-after_feed_at : (text more : List ℕ) → IsOneLine text → after_feed (text ++ 10 ∷ more) ≡ more
+pub after_feed_at : (text more : List ℕ) → IsOneLine text → after_feed (text ++ 10 ∷ more) ≡ more
 after_feed_at [] more h = refl
 after_feed_at (b ∷ text) more h = by (is_feed b) h (after_feed_at text more)
   where
@@ -142,7 +142,7 @@ before_feed_all (b ∷ text) h = by (is_feed b) h (before_feed_all text)
     by true h ih = absurd (cc)
     by false h ih = ap (λ xs. b ∷ xs) (ih h)
 
-after_feed_all : (text : List ℕ) → IsOneLine text → after_feed text ≡ []
+pub after_feed_all : (text : List ℕ) → IsOneLine text → after_feed text ≡ []
 after_feed_all [] h = refl
 after_feed_all (b ∷ text) h = by (is_feed b) h (after_feed_all text)
   where
@@ -151,7 +151,7 @@ after_feed_all (b ∷ text) h = by (is_feed b) h (after_feed_all text)
     by true h ih = absurd (cc)
     by false h ih = ih h
 
-has_feed : (text more : List ℕ) → list_any is_feed (text ++ 10 ∷ more) ≡ true
+pub has_feed : (text more : List ℕ) → list_any is_feed (text ++ 10 ∷ more) ≡ true
 has_feed text more = list_any-append is_feed text (10 ∷ more) ∙ or_right (list_any is_feed text) true refl
 
 some_front : (text more : List ℕ) → 0 < length (text ++ 10 ∷ more)
@@ -198,7 +198,8 @@ pub with_cut : (text bytes : List ℕ) (size : ℕ) → length bytes < size
     → first_with text size bytes ≡ record { item = Some (Bad CutPayload); rest = []; is_whole = false }
 with_cut text bytes size few = rw (le-leb (suc (length bytes)) size few) refl
 
-with_payload : (text payload more : List ℕ) (size : ℕ) → length payload ≡ size
+-- a payload, and what follows it
+pub with_payload : (text payload more : List ℕ) (size : ℕ) → length payload ≡ size
     → first_with text size (payload ++ more) ≡ first_ended (item_of text (payload_of size payload)) more
 with_payload text payload more size is =
     let enough : nat_lt (length (payload ++ more)) size ≡ false = by (leb_tells (suc (length (payload ++ more))) size) in

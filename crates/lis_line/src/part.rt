@@ -1,0 +1,119 @@
+//! Parts of the input: a line, and the payload behind it.
+
+ghost use Rattle.std.specs.Prelude.{◌≡◌, ℕ, ◌<◌, ◌≤◌, ◌^◌, Some, length};
+ghost use Rattle.lis_ports.specs.Calls.{HasCause};
+ghost use Rattle.lis_model.specs.Step.{Payload as Told, no_payload};
+ghost use Rattle.lis_model.specs.Script.{item_of, payload_size, first_of, first_with, first_ended};
+ghost use Rattle.lis_line.specs.Parts.{TakesPart, part_asks, first_dropped, first_behind, item_at_end};
+
+use crate::forms::{asked, payload_size};
+use crate::payload::{Filled, Payload, fill};
+use crate::stock::{LineEnd, Stock, read_line};
+use arrayvec::ArrayVec;
+use lis_model::command::Command;
+use lis_model::refusal::Refusal;
+use lis_ports::{Failed, Source};
+
+/// What was taken of the input, and what it asks for; None for a line without words.
+pub enum Part {
+    /// A part with its own line feed.
+    Whole(Option<Result<Command, Refusal>>),
+    /// The last part, at the end of the input.
+    Last(Option<Result<Command, Refusal>>),
+    /// The byte past the limit.
+    PastLimit,
+}
+
+/// Drops all up to the next line feed, behind a byte that ends no payload.
+fn drop_line<S: Source>(stock: &mut Stock, source: &mut S) -> Result<Part, Failed>
+    requires { 0 < stock.old.rest }
+    ensures takes { (payload : Told) → TakesPart first_dropped stock.old stock.new (S.left source.old) (S.left source.new) payload result }
+    ensures few { length stock.new.ahead ≤ stock.new.rest }
+    ensures cause { HasCause (S.faults source.old) (S.faults source.new) result }
+{
+    let mut dropped = ArrayVec::new();
+    match read_line(stock, &mut dropped, source)? {
+        LineEnd::Feed => Ok(Part::Whole(Some(Err(Refusal::PayloadEnd)))),
+        LineEnd::Last => Ok(Part::Last(Some(Err(Refusal::PayloadEnd)))),
+        LineEnd::Spent => Ok(Part::PastLimit),
+    }
+}
+
+/// Takes what is to end a payload: one line feed, or nothing at the end of the input.
+fn take_end<S: Source>(stock: &mut Stock, line: &[u8], source: &mut S) -> Result<Part, Failed>
+    requires some { 0 < stock.old.rest }
+    requires sized { (size : ℕ) × (payload_size line.now ≡ Some size) }
+    ensures takes { (payload : Told) → TakesPart (first_ended (item_of line.now payload)) stock.old stock.new (S.left source.old) (S.left source.new) payload result }
+    ensures few { length stock.new.ahead ≤ stock.new.rest }
+    ensures cause { HasCause (S.faults source.old) (S.faults source.new) result }
+{
+    let Some(byte) = stock.next_byte(source)? else {
+        return Ok(Part::Last(asked(line)));
+    };
+    if stock.rest() == 0 {
+        return Ok(Part::PastLimit);
+    }
+    if byte == b'\n' {
+        return Ok(Part::Whole(asked(line)));
+    }
+    drop_line(stock, source)
+}
+
+/// Takes the payload behind a line, and what ends it.
+fn take_payload<S: Source>(stock: &mut Stock, payload: &mut Payload, line: &[u8], size: u64, source: &mut S) -> Result<Part, Failed>
+    requires some { 0 < stock.old.rest }
+    requires few { length stock.old.ahead ≤ stock.old.rest }
+    requires below { size < 10 ^ 12 }
+    requires sized { payload_size line.now ≡ Some size }
+    ensures takes { TakesPart (first_with line.now size) stock.old stock.new (S.left source.old) (S.left source.new) payload.new result }
+    ensures few { length stock.new.ahead ≤ stock.new.rest }
+    ensures cause { HasCause (S.faults source.old) (S.faults source.new) result }
+{
+    match fill(stock, payload, size, source)? {
+        Filled::All => take_end(stock, line, source),
+        Filled::Cut => Ok(Part::Last(Some(Err(Refusal::CutPayload)))),
+        Filled::Spent => Ok(Part::PastLimit),
+    }
+}
+
+/// Takes what follows a line and its line feed.
+fn take_behind<S: Source>(stock: &mut Stock, payload: &mut Payload, line: &[u8], source: &mut S) -> Result<Part, Failed>
+    requires some { 0 < stock.old.rest }
+    requires few { length stock.old.ahead ≤ stock.old.rest }
+    requires empty { payload.old ≡ no_payload }
+    ensures takes { TakesPart (first_behind line.now (payload_size line.now)) stock.old stock.new (S.left source.old) (S.left source.new) payload.new result }
+    ensures few { length stock.new.ahead ≤ stock.new.rest }
+    ensures cause { HasCause (S.faults source.old) (S.faults source.new) result }
+{
+    match payload_size(line) {
+        None => Ok(Part::Whole(asked(line))),
+        Some(size) => take_payload(stock, payload, line, size, source),
+    }
+}
+
+/// What a last line without a line feed asks for.
+fn asked_last(line: &[u8]) -> Option<Result<Command, Refusal>>
+    ensures { part_asks no_payload result ≡ item_at_end line.now (payload_size line.now) }
+{
+    match payload_size(line) {
+        None => asked(line),
+        Some(0) => asked(line),
+        Some(_) => Some(Err(Refusal::CutPayload)),
+    }
+}
+
+/// Takes a line, and the payload that follows it.
+pub fn take_part<S: Source>(stock: &mut Stock, payload: &mut Payload, source: &mut S) -> Result<Part, Failed>
+    requires { 0 < stock.old.rest }
+    ensures takes { TakesPart first_of stock.old stock.new (S.left source.old) (S.left source.new) payload.new result }
+    ensures few { length stock.new.ahead ≤ stock.new.rest }
+    ensures cause { HasCause (S.faults source.old) (S.faults source.new) result }
+{
+    payload.clear();
+    let mut line = ArrayVec::new();
+    match read_line(stock, &mut line, source)? {
+        LineEnd::Feed => take_behind(stock, payload, line.as_slice(), source),
+        LineEnd::Last => Ok(Part::Last(asked_last(line.as_slice()))),
+        LineEnd::Spent => Ok(Part::PastLimit),
+    }
+}

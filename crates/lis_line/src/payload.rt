@@ -1,0 +1,132 @@
+//! The bytes that come behind a command's line.
+
+ghost use Rattle.std.specs.Prelude.{◌≡◌, ℕ, ◌+◌, ◌<◌, ◌≤◌, ◌^◌, [], length, slice_set, IfOk};
+ghost use Rattle.lis_ports.specs.Calls.{HasCause};
+ghost use Rattle.lis_region.specs.Region.{HasFrame};
+ghost use Rattle.lis_model.specs.Step.{no_payload};
+ghost use Rattle.lis_line.specs.Inside.{frame_bytes, IsKept};
+ghost use Rattle.lis_line.specs.Parts.{with_byte, Fills};
+
+use crate::stock::Stock;
+use lis_ports::{Failed, Source};
+use lis_region::{Frame, Region};
+use std::alloc::{AllocError, Global};
+use std::marker::Model;
+
+/// How many bytes of a payload are kept: as many as a file may have.
+const ROOM: u32 = 65_536;
+
+/// The payload behind a line: how many bytes it has, and the bytes themselves, where a file may have so many.
+#[derive(Drop)]
+pub struct Payload {
+    region: Region<u8>,
+    frame: Frame,
+    size: u64,
+}
+
+impl Model for Payload {
+    ghost use Rattle.std.specs.Prelude.{◌≡◌, ℕ, []};
+    ghost use Rattle.std.specs.Coded.{code_by, coded×, coded_ℕ, coded_list};
+    ghost use Rattle.lis_model.specs.Step.{Payload as Told};
+    ghost use Rattle.lis_line.specs.Inside.{payload_in, IsKept};
+
+    ghost Value = { Told };
+
+    ghost view = { λ p. payload_in p.region p.frame p.size };
+
+    ghost invariant = { λ p. IsKept p.region p.frame };
+}
+
+fn set(region: &mut Region<u8>, frame: &Frame, place: usize, byte: u8)
+    requires kept { IsKept region.old frame.now }
+    requires room { place < 65536 }
+    ensures kept { IsKept region.new frame.now }
+    ensures bytes { frame_bytes region.new frame.now ≡ slice_set (frame_bytes region.old frame.now) place byte }
+{
+    region.items_mut(frame)[place] = byte;
+}
+
+impl Payload {
+    /// An empty payload. All memory that it will use is taken here.
+    pub fn new(alloc: Global) -> Result<Payload, AllocError>
+        ensures { IfOk result (λ payload. payload ≡ no_payload) }
+    {
+        let mut region = Region::new(alloc, 1, ROOM, 0)?;
+        let Some(frame) = region.take() else {
+            unreachable!()
+        };
+        Ok(Payload {
+            region,
+            frame,
+            size: 0,
+        })
+    }
+
+    /// How many bytes it has.
+    pub fn size(&self) -> u64
+        ensures { result ≡ self.now.size }
+    {
+        self.size
+    }
+
+    /// The bytes themselves; none where there are more than a file may have.
+    pub fn bytes(&self) -> &[u8]
+        ensures bytes { result.now ≡ self.now.bytes }
+        ensures all { self.now.size ≤ 65536 → length result.now ≡ self.now.size }
+        ensures none { 65536 < self.now.size → result.now ≡ [] }
+    {
+        if self.size > ROOM as u64 {
+            return &[];
+        }
+        &self.region.items(&self.frame)[..self.size as usize]
+    }
+
+    /// Empties it.
+    pub fn clear(&mut self)
+        ensures { self.new ≡ no_payload }
+    {
+        self.size = 0;
+    }
+
+    fn push(&mut self, byte: u8)
+        requires { self.old.size < 2 ^ 63 }
+        ensures { self.new ≡ with_byte self.old byte }
+    {
+        if self.size < ROOM as u64 {
+            set(&mut self.region, &self.frame, self.size as usize, byte);
+        }
+        self.size += 1;
+    }
+}
+
+/// How the taking of so many bytes ended.
+pub enum Filled {
+    /// With all of them.
+    All,
+    /// At the end of the input.
+    Cut,
+    /// At the byte past the limit.
+    Spent,
+}
+
+/// Takes so many bytes as the payload.
+pub fn fill<S: Source>(stock: &mut Stock, payload: &mut Payload, size: u64, source: &mut S) -> Result<Filled, Failed>
+    requires some { 0 < stock.old.rest }
+    requires few { length stock.old.ahead ≤ stock.old.rest }
+    requires below { size ≤ 2 ^ 63 }
+    ensures few { length stock.new.ahead ≤ stock.new.rest }
+    ensures fills { Fills stock.old stock.new (S.left source.old) (S.left source.new) size payload.new result }
+    ensures cause { HasCause (S.faults source.old) (S.faults source.new) result }
+{
+    payload.clear();
+    while payload.size() < size {
+        let Some(byte) = stock.next_byte(source)? else {
+            return Ok(Filled::Cut);
+        };
+        if stock.rest() == 0 {
+            return Ok(Filled::Spent);
+        }
+        payload.push(byte);
+    }
+    Ok(Filled::All)
+}
