@@ -10,9 +10,9 @@ pub returns-in-Err : goal.returns-in-Err
 returns-in-Err c =
     let now = c.args.self.now in let words = c.args.tags.now in let size = c.args.payload.now.size in let refusal = c.in-Err.refusal in
     let file = new_file c.args.name.now (assigned_at now.place words) c.args.payload.now.bytes in
-    let small : nat_lt 65536 size ≡ false = not_over 65536 size (λ more. omega (arith, c.size.ensures.size, c.if-size-gt-MAX_FILE.false, more)) in
+    let small : nat_lt 65536 size ≡ false = not_over 65536 size (λ more. omega (arith, c.size.ensures, c.if-size-gt-MAX_FILE.false, more)) in
     let row : first_refusal (create_checks now words file) ≡ Some refusal =
-    subst (λ bytes. first_refusal (create_checks now words (new_file c.args.name.now (assigned_at now.place words) bytes)) ≡ Some refusal) c.bytes.ensures
+    subst (λ bytes. first_refusal (create_checks now words (new_file c.args.name.now (assigned_at now.place words) bytes)) ≡ Some refusal) c.bytes.ensures.bytes
     (rw c.in-Err.is at c.in_ok-file.ensures) in
     as_refused now (add now c.args.name.now words c.args.payload.now) refusal
     (row_some (add_checks now words file size) now (changed now (with_file now.state file)) refusal
