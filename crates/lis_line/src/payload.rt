@@ -72,6 +72,7 @@ impl Payload {
     /// The bytes themselves; none where there are more than a file may have.
     pub fn bytes(&self) -> &[u8]
         ensures bytes { result.now ≡ self.now.bytes }
+        ensures few { length result.now ≤ 65536 }
         ensures all { self.now.size ≤ 65536 → length result.now ≡ self.now.size }
         ensures none { 65536 < self.now.size → result.now ≡ [] }
     {
@@ -89,7 +90,7 @@ impl Payload {
     }
 
     fn push(&mut self, byte: u8)
-        requires { self.old.size < 2 ^ 63 }
+        requires { self.old.size + 1 < 2 ^ 64 }
         ensures { self.new ≡ with_byte self.old byte }
     {
         if self.size < ROOM as u64 {
@@ -113,7 +114,6 @@ pub enum Filled {
 pub fn fill<S: Source>(stock: &mut Stock, payload: &mut Payload, size: u64, source: &mut S) -> Result<Filled, Failed>
     requires some { 0 < stock.old.rest }
     requires few { length stock.old.ahead ≤ stock.old.rest }
-    requires below { size ≤ 2 ^ 63 }
     ensures few { length stock.new.ahead ≤ stock.new.rest }
     ensures fills { Fills stock.old stock.new (S.left source.old) (S.left source.new) size payload.new result }
     ensures cause { HasCause (S.faults source.old) (S.faults source.new) result }
