@@ -131,9 +131,9 @@ at_end_kept line text kept = ap (item_at_end line) (ap payload_size kept ∙ siz
     by (Some size) = ap (λ (f : First). f.item) (sym (with_kept line text [] size kept))
 
 -- a line with its line feed, by what is kept of it
-pub behind_line : (line text more : List ℕ) → line ≡ take 1025 text → IsOneLine text
+line_then : (line text more : List ℕ) → line ≡ take 1025 text → IsOneLine text
     → first_of ((text ++ 10 ∷ []) ++ more) ≡ first_behind line (payload_size line) more
-behind_line line text more kept one =
+line_then line text more kept one =
     ap first_of (append_assoc text (10 ∷ []) more) ∙ by (payload_size text) refl
     ∙ ap (λ size. first_behind line size more) (sym (ap payload_size kept ∙ size_kept text))
   where
@@ -143,6 +143,13 @@ behind_line line text more kept one =
     by : (size : Option ℕ) → payload_size text ≡ size → first_of (text ++ 10 ∷ more) ≡ first_behind line size more
     by None is = line_alone text more one is ∙ ap (λ item. record { item = item; rest = more; is_whole = true }) (same no_payload)
     by (Some size) is = line_with text more size one is ∙ with_kept line text more size kept
+
+pub line_behind : {E : Type 0} (old now next : Stocked) (left_before left left_after : Option (List ℕ)) (line kept text : List ℕ) (payload : Payload) (result : Result Part E)
+    → LineTaken old now left_before left kept text (text ++ 10 ∷ []) → line ≡ kept
+    → TakesPart (first_behind line (payload_size line)) now next left left_after payload result → TakesPart first_of old next left_before left_after payload result
+line_behind old now next left_before left left_after line kept text payload result taken is takes =
+    part_behind first_of (first_behind line (payload_size line)) old now next left_before left left_after (text ++ 10 ∷ []) payload result
+    (gave_line old now left_before left kept text (text ++ 10 ∷ []) taken) (λ more. line_then line text more (is ∙ taken.kept) taken.one_line) takes
 
 -- a last line without a line feed
 first_at_end : (text : List ℕ) → IsOneLine text → first_of text ≡ record { item = item_at_end text (payload_size text); rest = []; is_whole = false }
