@@ -60,7 +60,13 @@ fn take_end<S: Source>(stock: &mut Stock, line: &[u8], source: &mut S) -> Result
 }
 
 /// Takes the payload behind a line, and what ends it.
-fn take_payload<S: Source>(stock: &mut Stock, payload: &mut Payload, line: &[u8], size: u64, source: &mut S) -> Result<Part, Failed>
+fn take_payload<S: Source>(
+    stock: &mut Stock,
+    payload: &mut Payload,
+    line: &[u8],
+    size: u64,
+    source: &mut S,
+) -> Result<Part, Failed>
     requires some { 0 < stock.old.rest }
     requires few { length stock.old.ahead ≤ stock.old.rest }
     requires sized { payload_size line.now ≡ Some size }
@@ -76,7 +82,12 @@ fn take_payload<S: Source>(stock: &mut Stock, payload: &mut Payload, line: &[u8]
 }
 
 /// Takes what follows a line and its line feed.
-fn take_behind<S: Source>(stock: &mut Stock, payload: &mut Payload, line: &[u8], source: &mut S) -> Result<Part, Failed>
+fn take_behind<S: Source>(
+    stock: &mut Stock,
+    payload: &mut Payload,
+    line: &[u8],
+    source: &mut S,
+) -> Result<Part, Failed>
     requires some { 0 < stock.old.rest }
     requires few { length stock.old.ahead ≤ stock.old.rest }
     requires empty { payload.old ≡ no_payload }
@@ -101,7 +112,11 @@ fn asked_last(line: &[u8]) -> Option<Result<Command, Refusal>>
 }
 
 /// Takes a line, and the payload that follows it.
-pub fn take_part<S: Source>(stock: &mut Stock, payload: &mut Payload, source: &mut S) -> Result<Part, Failed>
+pub fn take_part<S: Source>(
+    stock: &mut Stock,
+    payload: &mut Payload,
+    source: &mut S,
+) -> Result<Part, Failed>
     requires { 0 < stock.old.rest }
     ensures takes { TakesPart first_of stock.old stock.new (S.left source.old) (S.left source.new) payload.new result }
     ensures few { length stock.new.ahead ≤ stock.new.rest }

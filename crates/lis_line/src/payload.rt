@@ -2,7 +2,6 @@
 
 ghost use Rattle.std.specs.Prelude.{◌≡◌, ℕ, ◌+◌, ◌<◌, ◌≤◌, ◌^◌, [], length, slice_set, IfOk};
 ghost use Rattle.lis_ports.specs.Calls.{HasCause};
-ghost use Rattle.lis_region.specs.Region.{HasFrame};
 ghost use Rattle.lis_model.specs.Step.{no_payload};
 ghost use Rattle.lis_line.specs.Inside.{frame_bytes, IsKept};
 ghost use Rattle.lis_line.specs.Parts.{with_byte, Fills};
@@ -25,8 +24,6 @@ pub struct Payload {
 }
 
 impl Model for Payload {
-    ghost use Rattle.std.specs.Prelude.{◌≡◌, ℕ, []};
-    ghost use Rattle.std.specs.Coded.{code_by, coded×, coded_ℕ, coded_list};
     ghost use Rattle.lis_model.specs.Step.{Payload as Told};
     ghost use Rattle.lis_line.specs.Inside.{payload_in, IsKept};
 
@@ -111,7 +108,12 @@ pub enum Filled {
 }
 
 /// Takes so many bytes as the payload.
-pub fn fill<S: Source>(stock: &mut Stock, payload: &mut Payload, size: u64, source: &mut S) -> Result<Filled, Failed>
+pub fn fill<S: Source>(
+    stock: &mut Stock,
+    payload: &mut Payload,
+    size: u64,
+    source: &mut S,
+) -> Result<Filled, Failed>
     requires some { 0 < stock.old.rest }
     requires few { length stock.old.ahead ≤ stock.old.rest }
     ensures few { length stock.new.ahead ≤ stock.new.rest }

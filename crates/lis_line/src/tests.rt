@@ -24,7 +24,11 @@ static INPUTS: [(&str, u64, &str); 24] = [
     ("add . 1;a;add a 1 b/c;a;", 99, "1,1,end,"),
     ("write a 1;a;write a 1;ab;ls;", 99, "1,4,other,end,"),
     ("add a x;ls;add a;ls;", 99, "1,other,1,other,end,"),
-    ("add a 1 b b b b b b b b b b b b b b b b b;c;ls", 99, "18,other,end,"),
+    (
+        "add a 1 b b b b b b b b b b b b b b b b b;c;ls",
+        99,
+        "18,other,end,",
+    ),
     ("rm;rm a b;cat;cat .;cat a^", 99, "1,1,1,1,other,end,"),
     ("add a 1;b;", 10, "add 1 b,end,"),
     ("add a 1;b;", 9, "limit,"),
