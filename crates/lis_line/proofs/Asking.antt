@@ -1,11 +1,10 @@
 -- Parts taken one after another, up to the first that asks for something.
 use Rattle.std.proofs.Common.{◌≡◌, ℕ, ◌<◌, true, false, cond, List, [], ◌∷◌, ◌++◌, length, Option, Some, None, ap, sym, subst, ◌∙◌, refl, arith, append_assoc, append-nil, length-append}
-use Rattle.std.specs.Io.KnownBytes.{Consumes, IsAtEnd}
 use Rattle.std.specs.Option.{option_to_list}
 use Rattle.lis_model.specs.Step.{Item}
 use Rattle.lis_model.specs.Script.{First, first_of, all_items, whole_items}
 use Rattle.lis_model.proofs.Lines.{all_items_of, whole_items_of, all_items_none, whole_items_none}
-use Rattle.lis_line.specs.Stock.{Stocked, stream_of}
+use Rattle.lis_line.specs.Stock.{Stocked}
 use Rattle.lis_line.specs.Reading.{Gave, GaveWhole, GaveLast, GaveEnd, Overran, GaveRest}
 use Rattle.lis_line.specs.Parts.{WholePart, LastPart, PartPast, PartFailed}
 use Rattle.lis_line.proofs.Bytes.{gave_none, gave_then}

@@ -1,14 +1,14 @@
 -- Parts taken one piece after another.
-use Rattle.std.proofs.Common.{◌≡◌, ℕ, ◌≤◌, ◌<◌, true, false, zero, suc, List, [], ◌∷◌, ◌++◌, length, take, drop, cond, nat_lt, Option, Some, None, Result, Ok, Err, ap, sym, subst, ◌∙◌, refl, arith, append_assoc}
+use Rattle.std.proofs.Common.{◌≡◌, ℕ, ◌<◌, true, false, zero, suc, List, [], ◌∷◌, ◌++◌, length, take, drop, cond, nat_lt, Option, Some, None, Result, Ok, Err, ap, sym, subst, ◌∙◌, refl, arith, append_assoc}
 use Rattle.std.specs.Io.KnownBytes.{IsAtEnd}
 use Rattle.std.specs.List.{list_any}
 use Rattle.lis_model.specs.declared.command.Command.{Command}
 use Rattle.lis_model.specs.declared.refusal.Refusal.{Refusal}
 use Rattle.lis_model.specs.declared.refusal.Refusal.TheVariants.{CutPayload, PayloadEnd}
-use Rattle.lis_model.specs.Step.{Item, Payload, no_payload}
+use Rattle.lis_model.specs.Step.{Payload, no_payload}
 use Rattle.lis_model.specs.Step.Item.{Bad}
-use Rattle.lis_model.specs.Script.{First, is_feed, after_feed, item_of, payload_size, payload_of, first_of, first_with, first_ended}
-use Rattle.lis_model.proofs.Lines.{IsOneLine, after_feed_at, after_feed_all, has_feed, line_alone, line_with, last_alone, last_with, with_cut, with_end, with_payload}
+use Rattle.lis_model.specs.Script.{First, is_feed, item_of, payload_size, payload_of, first_of, first_with, first_ended}
+use Rattle.lis_model.proofs.Lines.{IsOneLine, after_feed_at, after_feed_all, has_feed, line_alone, line_with, last_alone, last_with, with_cut, with_payload}
 use Rattle.lis_line.specs.declared.part.Part.{Part}
 use Rattle.lis_line.specs.declared.part.Part.TheVariants.{Whole, Last, PastLimit}
 use Rattle.lis_line.specs.Stock.{Stocked, LineTaken}
@@ -80,15 +80,13 @@ dropped_last old new left_before left line text taken some none end = record {
 
 -- behind a payload: a line feed, the end, or another byte
 pub ended_whole : (old new : Stocked) (left_before left : Option (List ℕ)) (byte size : ℕ) (line : List ℕ) (payload : Payload) (asked : Option (Result Command Refusal))
-    → Gave old new left_before left (byte ∷ []) → 0 < new.rest → byte ≡ 10 → payload_size line ≡ Some size → line_asks payload asked ≡ item_of line payload
+    → Gave old new left_before left (byte ∷ []) → 0 < new.rest → is_feed byte ≡ true → payload_size line ≡ Some size → line_asks payload asked ≡ item_of line payload
     → WholePart (first_ended (item_of line payload)) old new left_before left (part_asks payload asked)
 ended_whole old new left_before left byte size line payload asked gave some feed sized is = record {
   bytes = byte ∷ [];
   gave = gave;
   within = some;
-  is = λ more.
-      ap (λ b. first_ended (item_of line payload) (b ∷ more)) feed
-      ∙ ap (λ item. record { item = item; rest = more; is_whole = true }) (asks_with line size payload asked sized is);
+  is = λ more. rw feed (ap (λ item. record { item = item; rest = more; is_whole = true }) (asks_with line size payload asked sized is));
 }
 
 pub ended_last : (old new : Stocked) (left_before left : Option (List ℕ)) (size : ℕ) (line : List ℕ) (payload : Payload) (asked : Option (Result Command Refusal))
@@ -103,9 +101,10 @@ ended_last old new left_before left size line payload asked gave some none end s
   at_end = end;
 }
 
--- a payload that is cut
-cut_not_whole : (line bytes : List ℕ) (size : ℕ) → length bytes < size → (first_with line size bytes).is_whole ≡ false
-cut_not_whole line bytes size few = ap (λ (f : First). f.is_whole) (with_cut line bytes size few)
+-- a payload, and what follows it
+pub payload_ended : (line bytes more : List ℕ) (size : ℕ) (payload : Payload) → length bytes ≡ size → payload ≡ payload_of size bytes
+    → first_with line size (bytes ++ more) ≡ first_ended (item_of line payload) more
+payload_ended line bytes more size payload all is = with_payload line bytes more size all ∙ rw is refl
 
 -- no payload follows the line
 pub behind_alone : (stock : Stocked) (left : Option (List ℕ)) (line : List ℕ) (payload : Payload) (asked : Option (Result Command Refusal))
@@ -132,9 +131,9 @@ at_end_kept line text kept = ap (item_at_end line) (ap payload_size kept ∙ siz
     by (Some size) = ap (λ (f : First). f.item) (sym (with_kept line text [] size kept))
 
 -- a line with its line feed, by what is kept of it
-pub behind_line : (line text more : List ℕ) → line ≡ take 1025 text → IsOneLine text
+line_then : (line text more : List ℕ) → line ≡ take 1025 text → IsOneLine text
     → first_of ((text ++ 10 ∷ []) ++ more) ≡ first_behind line (payload_size line) more
-behind_line line text more kept one =
+line_then line text more kept one =
     ap first_of (append_assoc text (10 ∷ []) more) ∙ by (payload_size text) refl
     ∙ ap (λ size. first_behind line size more) (sym (ap payload_size kept ∙ size_kept text))
   where
@@ -144,6 +143,13 @@ behind_line line text more kept one =
     by : (size : Option ℕ) → payload_size text ≡ size → first_of (text ++ 10 ∷ more) ≡ first_behind line size more
     by None is = line_alone text more one is ∙ ap (λ item. record { item = item; rest = more; is_whole = true }) (same no_payload)
     by (Some size) is = line_with text more size one is ∙ with_kept line text more size kept
+
+pub line_behind : {E : Type 0} (old now next : Stocked) (left_before left left_after : Option (List ℕ)) (line kept text : List ℕ) (payload : Payload) (result : Result Part E)
+    → LineTaken old now left_before left kept text (text ++ 10 ∷ []) → line ≡ kept
+    → TakesPart (first_behind line (payload_size line)) now next left left_after payload result → TakesPart first_of old next left_before left_after payload result
+line_behind old now next left_before left left_after line kept text payload result taken is takes =
+    part_behind first_of (first_behind line (payload_size line)) old now next left_before left left_after (text ++ 10 ∷ []) payload result
+    (gave_line old now left_before left kept text (text ++ 10 ∷ []) taken) (λ more. line_then line text more (is ∙ taken.kept) taken.one_line) takes
 
 -- a last line without a line feed
 first_at_end : (text : List ℕ) → IsOneLine text → first_of text ≡ record { item = item_at_end text (payload_size text); rest = []; is_whole = false }

@@ -1,6 +1,6 @@
 -- The bytes of a payload, taken one by one.
-use Rattle.std.proofs.Common.{◌≡◌, ℕ, ◌+◌, ◌≤◌, ◌<◌, nat_le, true, false, cond, List, [], ◌∷◌, ◌++◌, length, take, set, Option, ap, sym, subst, ◌∙◌, refl, arith, length-append, inl, inr}
-use Rattle.std.specs.Io.KnownBytes.{Consumes, Keeps}
+use Rattle.std.proofs.Common.{◌≡◌, ℕ, ◌+◌, ◌≤◌, ◌<◌, List, [], ◌∷◌, ◌++◌, length, take, set, Option, ap, subst, ◌∙◌, refl, arith, length-append, inl, inr}
+use Rattle.std.specs.Io.KnownBytes.{Consumes}
 use Rattle.std.proofs.lemmas.List.{take_more_set}
 use Rattle.std.proofs.lemmas.Bool.{cases_lt, le-leb, lt-leb}
 use Rattle.lis_model.specs.Step.{Payload, no_payload}
@@ -8,7 +8,7 @@ use Rattle.lis_model.specs.Script.{payload_of}
 use Rattle.lis_line.specs.Stock.{Stocked, stream_of}
 use Rattle.lis_line.specs.Reading.{Gave}
 use Rattle.lis_line.specs.Parts.{with_byte}
-use Rattle.lis_line.proofs.Bytes.{gave_none, gave_then, gave_stopped}
+use Rattle.lis_line.proofs.Bytes.{gave_none, gave_then}
 
 -- a byte is written behind those that are kept
 pub byte_kept : (frame written : List ℕ) (size byte : ℕ) → length frame ≡ 65536 → size < 65536 → written ≡ set frame size byte

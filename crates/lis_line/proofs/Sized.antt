@@ -1,5 +1,5 @@
 -- What a line asks for, where a payload follows it.
-use Rattle.std.proofs.Common.{◌≡◌, ℕ, ◌≤◌, ◌<◌, nat_lt, Bool, true, false, cond, ◌||◌, ◌&&◌, List, [], ◌∷◌, length, take, codes, Option, Some, None, Result, Ok, Err, ap, sym, ◌∙◌, refl, inl, inr, arith}
+use Rattle.std.proofs.Common.{◌≡◌, ℕ, ◌≤◌, nat_lt, Bool, true, false, cond, ◌||◌, ◌&&◌, List, [], ◌∷◌, length, take, codes, Option, Some, None, Result, Ok, Err, ap, sym, ◌∙◌, refl, inl, inr, arith}
 use Rattle.std.proofs.lemmas.List.{take_all, length-take}
 use Rattle.std.proofs.lemmas.Bool.{cases_lt, le-leb}
 use Rattle.std.proofs.lemmas.Slice.Eq.{bytes_eq-Decides}
@@ -11,8 +11,7 @@ use Rattle.lis_model.specs.declared.command.Command.TheVariants.{Mkdir, Create, 
 use Rattle.lis_model.specs.Step.{Item, Payload, no_payload}
 use Rattle.lis_model.specs.Step.Item.{Do, Bad}
 use Rattle.lis_model.specs.Script.{bad_line, tags_form, add_named, add_form, form_of, item_of, item_of_words, is_long, line_words, size_of_words, payload_size}
-use Rattle.lis_line.specs.Forms.{command_with, asked_of, line_asks}
-use Rattle.lis_line.specs.Reading.{item_with}
+use Rattle.lis_line.specs.Forms.{command_with, line_asks}
 use Rattle.lis_line.specs.Parts.{part_asks}
 
 -- of a long line its first bytes tell as much

@@ -1,12 +1,12 @@
 //! The forms of lines.
 
-ghost use Rattle.std.specs.Prelude.{◌≡◌, ◌≢◌, ◌↔◌, ℕ, ◌+◌, ◌<◌, ◌≤◌, nat_lt, List, [], ◌∷◌, not, length, drop, take, MatchOption, IsSome, IfSome, ◌^◌, ◌||◌, codes, IsTrue, OnErr, MatchResult};
+ghost use Rattle.std.specs.Prelude.{◌≡◌, ◌≢◌, ◌↔◌, ℕ, ◌+◌, ◌<◌, ◌≤◌, nat_lt, List, [], ◌∷◌, not, length, drop, take, MatchOption, IsSome, IfSome, ◌||◌, codes, IsTrue, OnErr, MatchResult};
 ghost use Rattle.std.specs.List.{prefix_len};
 ghost use Rattle.lis_words.specs.Words.{same_word};
 ghost use Rattle.lis_model.specs.Step.{Item, Payload, no_payload};
 ghost use Rattle.lis_model.specs.Step.Item.{Do};
 ghost use Rattle.lis_model.specs.declared.command.Command.TheVariants.{Cat, Rm, Pwd, Ls};
-ghost use Rattle.lis_model.specs.Script.{is_blank, without_return, words_of, mkdir_form, tags_form, create_form, add_form, file_form, cd_form, alone_form, form_of, item_of, payload_size};
+ghost use Rattle.lis_model.specs.Script.{is_blank, without_return, words_of, mkdir_form, tags_form, create_form, add_form, file_form, cd_form, alone_form, form_of, item_of, is_long, payload_size};
 ghost use Rattle.lis_line.specs.Forms.{asked_of, line_asks, name_asks};
 
 use lis_model::command::{Command, Tags};
@@ -249,18 +249,23 @@ fn command_of(first: &[u8], rest: &[u8]) -> Result<Command, Refusal>
     Err(Refusal::BadLine)
 }
 
+fn is_long(line: &[u8]) -> bool
+    ensures { result ≡ is_long line.now }
+{
+    line.len() > MAX_LINE
+}
+
 /// What a line asks for, given what stands before its line feed; None for a line without words.
 pub fn asked(line: &[u8]) -> Option<Result<Command, Refusal>>
     ensures { (payload : Payload) → line_asks payload result ≡ item_of line.now payload }
 {
-    if line.len() > MAX_LINE {
+    if is_long(line) {
         return Some(Err(Refusal::LongLine));
     }
     let (first, rest) = next_word(without_return(line))?;
     Some(command_of(first, rest))
 }
 
-/// Whether a payload may follow a line of this first word.
 fn takes_payload(first: &[u8]) -> bool
     ensures { result ≡ (same_word first.now (codes "add") || same_word first.now (codes "write")) }
 {
@@ -272,14 +277,10 @@ fn takes_payload(first: &[u8]) -> bool
 
 /// How many bytes are to follow a line and its line feed; None where no payload follows.
 pub fn payload_size(line: &[u8]) -> Option<u64>
-    ensures size { result ≡ payload_size line.now }
-    ensures below { IfSome result (λ size. size < 10 ^ 12) }
+    ensures { result ≡ payload_size line.now }
 {
-    if line.len() > MAX_LINE {
-        return None;
-    }
     let (first, rest) = next_word(without_return(line))?;
-    if !takes_payload(first) {
+    if is_long(line) || !takes_payload(first) {
         return None;
     }
     let (_, rest) = next_word(rest)?;

@@ -7,3 +7,5 @@ pub mod payload;
 pub mod reader;
 pub mod stock;
 pub mod taken;
+#[cfg(test)]
+mod tests;

@@ -1,6 +1,6 @@
 //! Parts of the input: a line, and the payload behind it.
 
-ghost use Rattle.std.specs.Prelude.{◌≡◌, ℕ, ◌<◌, ◌≤◌, ◌^◌, Some, length};
+ghost use Rattle.std.specs.Prelude.{◌≡◌, ℕ, ◌<◌, ◌≤◌, Some, length};
 ghost use Rattle.lis_ports.specs.Calls.{HasCause};
 ghost use Rattle.lis_model.specs.Step.{Payload as Told, no_payload};
 ghost use Rattle.lis_model.specs.Script.{item_of, payload_size, first_of, first_with, first_ended};
@@ -8,7 +8,7 @@ ghost use Rattle.lis_line.specs.Parts.{TakesPart, part_asks, first_dropped, firs
 
 use crate::forms::{asked, payload_size};
 use crate::payload::{Filled, Payload, fill};
-use crate::stock::{LineEnd, Stock, read_line};
+use crate::stock::{LineEnd, Stock, is_feed, read_line};
 use arrayvec::ArrayVec;
 use lis_model::command::Command;
 use lis_model::refusal::Refusal;
@@ -53,17 +53,22 @@ fn take_end<S: Source>(stock: &mut Stock, line: &[u8], source: &mut S) -> Result
     if stock.rest() == 0 {
         return Ok(Part::PastLimit);
     }
-    if byte == b'\n' {
+    if is_feed(byte) {
         return Ok(Part::Whole(asked(line)));
     }
     drop_line(stock, source)
 }
 
 /// Takes the payload behind a line, and what ends it.
-fn take_payload<S: Source>(stock: &mut Stock, payload: &mut Payload, line: &[u8], size: u64, source: &mut S) -> Result<Part, Failed>
+fn take_payload<S: Source>(
+    stock: &mut Stock,
+    payload: &mut Payload,
+    line: &[u8],
+    size: u64,
+    source: &mut S,
+) -> Result<Part, Failed>
     requires some { 0 < stock.old.rest }
     requires few { length stock.old.ahead ≤ stock.old.rest }
-    requires below { size < 10 ^ 12 }
     requires sized { payload_size line.now ≡ Some size }
     ensures takes { TakesPart (first_with line.now size) stock.old stock.new (S.left source.old) (S.left source.new) payload.new result }
     ensures few { length stock.new.ahead ≤ stock.new.rest }
@@ -77,7 +82,12 @@ fn take_payload<S: Source>(stock: &mut Stock, payload: &mut Payload, line: &[u8]
 }
 
 /// Takes what follows a line and its line feed.
-fn take_behind<S: Source>(stock: &mut Stock, payload: &mut Payload, line: &[u8], source: &mut S) -> Result<Part, Failed>
+fn take_behind<S: Source>(
+    stock: &mut Stock,
+    payload: &mut Payload,
+    line: &[u8],
+    source: &mut S,
+) -> Result<Part, Failed>
     requires some { 0 < stock.old.rest }
     requires few { length stock.old.ahead ≤ stock.old.rest }
     requires empty { payload.old ≡ no_payload }
@@ -96,14 +106,17 @@ fn asked_last(line: &[u8]) -> Option<Result<Command, Refusal>>
     ensures { part_asks no_payload result ≡ item_at_end line.now (payload_size line.now) }
 {
     match payload_size(line) {
-        None => asked(line),
-        Some(0) => asked(line),
+        None | Some(0) => asked(line),
         Some(_) => Some(Err(Refusal::CutPayload)),
     }
 }
 
 /// Takes a line, and the payload that follows it.
-pub fn take_part<S: Source>(stock: &mut Stock, payload: &mut Payload, source: &mut S) -> Result<Part, Failed>
+pub fn take_part<S: Source>(
+    stock: &mut Stock,
+    payload: &mut Payload,
+    source: &mut S,
+) -> Result<Part, Failed>
     requires { 0 < stock.old.rest }
     ensures takes { TakesPart first_of stock.old stock.new (S.left source.old) (S.left source.new) payload.new result }
     ensures few { length stock.new.ahead ≤ stock.new.rest }

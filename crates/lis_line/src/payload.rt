@@ -2,7 +2,6 @@
 
 ghost use Rattle.std.specs.Prelude.{◌≡◌, ℕ, ◌+◌, ◌<◌, ◌≤◌, ◌^◌, [], length, slice_set, IfOk};
 ghost use Rattle.lis_ports.specs.Calls.{HasCause};
-ghost use Rattle.lis_region.specs.Region.{HasFrame};
 ghost use Rattle.lis_model.specs.Step.{no_payload};
 ghost use Rattle.lis_line.specs.Inside.{frame_bytes, IsKept};
 ghost use Rattle.lis_line.specs.Parts.{with_byte, Fills};
@@ -25,8 +24,6 @@ pub struct Payload {
 }
 
 impl Model for Payload {
-    ghost use Rattle.std.specs.Prelude.{◌≡◌, ℕ, []};
-    ghost use Rattle.std.specs.Coded.{code_by, coded×, coded_ℕ, coded_list};
     ghost use Rattle.lis_model.specs.Step.{Payload as Told};
     ghost use Rattle.lis_line.specs.Inside.{payload_in, IsKept};
 
@@ -72,6 +69,7 @@ impl Payload {
     /// The bytes themselves; none where there are more than a file may have.
     pub fn bytes(&self) -> &[u8]
         ensures bytes { result.now ≡ self.now.bytes }
+        ensures few { length result.now ≤ 65536 }
         ensures all { self.now.size ≤ 65536 → length result.now ≡ self.now.size }
         ensures none { 65536 < self.now.size → result.now ≡ [] }
     {
@@ -89,7 +87,7 @@ impl Payload {
     }
 
     fn push(&mut self, byte: u8)
-        requires { self.old.size < 2 ^ 63 }
+        requires { self.old.size + 1 < 2 ^ 64 }
         ensures { self.new ≡ with_byte self.old byte }
     {
         if self.size < ROOM as u64 {
@@ -110,10 +108,14 @@ pub enum Filled {
 }
 
 /// Takes so many bytes as the payload.
-pub fn fill<S: Source>(stock: &mut Stock, payload: &mut Payload, size: u64, source: &mut S) -> Result<Filled, Failed>
+pub fn fill<S: Source>(
+    stock: &mut Stock,
+    payload: &mut Payload,
+    size: u64,
+    source: &mut S,
+) -> Result<Filled, Failed>
     requires some { 0 < stock.old.rest }
     requires few { length stock.old.ahead ≤ stock.old.rest }
-    requires below { size ≤ 2 ^ 63 }
     ensures few { length stock.new.ahead ≤ stock.new.rest }
     ensures fills { Fills stock.old stock.new (S.left source.old) (S.left source.new) size payload.new result }
     ensures cause { HasCause (S.faults source.old) (S.faults source.new) result }

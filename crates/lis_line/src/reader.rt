@@ -4,7 +4,6 @@ ghost use Rattle.std.specs.Prelude.{◌≡◌, ℕ, ◌^◌, ◌≤◌, false, l
 ghost use Rattle.lis_ports.specs.Calls.{HasCause};
 
 pub use crate::payload::Payload;
-
 use crate::stock::Stock;
 use crate::taken::{Taken, take_asked};
 use lis_model::command::Command;

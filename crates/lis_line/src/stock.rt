@@ -2,6 +2,7 @@
 
 ghost use Rattle.std.specs.Prelude.{◌≡◌, ℕ, ◌+◌, ◌-◌, ◌<◌, ◌≤◌, ◌^◌, List, [], ◌∷◌, ◌↔◌, length, take, drop, IsTrue};
 ghost use Rattle.lis_ports.specs.Calls.{HasCause};
+ghost use Rattle.lis_model.specs.Script.{is_feed};
 ghost use Rattle.lis_line.specs.Stock.{Stocked, GivesByte, Refills, ReadsLine};
 
 use arrayvec::ArrayVec;
@@ -115,6 +116,12 @@ impl Stock {
     }
 }
 
+pub fn is_feed(byte: u8) -> bool
+    ensures { result ≡ is_feed byte }
+{
+    byte == b'\n'
+}
+
 /// Reads up to the next line feed, and keeps the first bytes of the line.
 pub fn read_line<S: Source>(
     stock: &mut Stock,
@@ -134,7 +141,7 @@ pub fn read_line<S: Source>(
         if stock.rest() == 0 {
             return Ok(LineEnd::Spent);
         }
-        if byte == b'\n' {
+        if is_feed(byte) {
             return Ok(LineEnd::Feed);
         }
         if line.len() < KEPT {

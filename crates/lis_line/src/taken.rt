@@ -24,7 +24,11 @@ pub enum Taken {
 }
 
 /// Takes parts up to the first that asks for something.
-pub fn take_asked<S: Source>(stock: &mut Stock, payload: &mut Payload, source: &mut S) -> Result<Taken, Failed>
+pub fn take_asked<S: Source>(
+    stock: &mut Stock,
+    payload: &mut Payload,
+    source: &mut S,
+) -> Result<Taken, Failed>
     requires { 0 < stock.old.rest }
     ensures gives { GivesAsked stock.old stock.new (S.left source.old) (S.left source.new) payload.new result }
     ensures few { length stock.new.ahead ≤ stock.new.rest }

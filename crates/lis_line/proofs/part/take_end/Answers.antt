@@ -1,8 +1,7 @@
-use Rattle.std.proofs.Common.{◌<◌, [], ◌∷◌, arith, refl}
+use Rattle.std.proofs.Common.{[], ◌∷◌, sym, ◌∙◌, arith, refl}
 use Rattle.lis_model.specs.Script.{item_of, first_ended}
-use Rattle.lis_line.specs.Reading.{Gave}
 use Rattle.lis_line.specs.Parts.{first_dropped}
-use Rattle.lis_line.proofs.Bytes.{gave_none, gave_stopped, differs}
+use Rattle.lis_line.proofs.Bytes.{gave_none, gave_stopped}
 use Rattle.lis_line.proofs.Parts.{ended_whole, ended_last, part_behind}
 use Rattle.lis_line.proofs.part.take_end.Goals as goal
 
@@ -17,14 +16,14 @@ returns-then-rest-eq0-clause-takes g c = λ payload.
     let given = rw c.in-Some.is at c.in_ok-byte.ensures.gives in
     record { bytes = []; byte = c.in-Some.byte; gave = record { took = given.0; rest = omega arith }; spent = omega arith; not_whole = refl }
 
-pub returns-then-byte-eq10-clause-takes : goal.returns-then-byte-eq10-clause-takes
-returns-then-byte-eq10-clause-takes g c = λ payload.
+pub returns-then-is_feed-clause-takes : goal.returns-then-is_feed-clause-takes
+returns-then-is_feed-clause-takes g c = λ payload.
     let given = rw c.in-Some.is at c.in_ok-byte.ensures.gives in
-    ended_whole _ _ _ _ c.in-Some.byte c.requires.sized.0 c.args.line.now payload c.asked-then-byte-eq10.result (record { took = given.0; rest = omega arith }) (omega arith)
-    c.if-byte-eq10.true c.requires.sized.1 (c.asked-then-byte-eq10.ensures payload)
+    ended_whole _ _ _ _ c.in-Some.byte c.requires.sized.0 c.args.line.now payload c.asked-then-is_feed.result (record { took = given.0; rest = omega arith }) (omega arith)
+    (sym c.is_feed.ensures ∙ c.if-is_feed.true) c.requires.sized.1 (c.asked-then-is_feed.ensures payload)
 
 pub returns-clause-takes : goal.returns-clause-takes
 returns-clause-takes g c = λ payload.
     let given = rw c.in-Some.is at c.in_ok-byte.ensures.gives in
     part_behind (first_ended (item_of c.args.line.now payload)) first_dropped _ c.next_byte.new.self _ _ (g.S.Source.left c.next_byte.new.source) _ (c.in-Some.byte ∷ []) payload
-    c.drop_line.result (record { took = given.0; rest = omega arith }) (λ more. rw (differs c.in-Some.byte 10 c.if-byte-eq10.false) refl) (c.drop_line.ensures.takes payload)
+    c.drop_line.result (record { took = given.0; rest = omega arith }) (λ more. rw (sym c.is_feed.ensures ∙ c.if-is_feed.false) refl) (c.drop_line.ensures.takes payload)

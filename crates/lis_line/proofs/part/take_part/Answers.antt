@@ -1,19 +1,12 @@
-use Rattle.std.proofs.Common.{[], ◌∷◌, ◌++◌, ap, ◌∙◌}
 use Rattle.std.proofs.lemmas.Result.{err_from_is_err_and}
-use Rattle.lis_model.specs.Script.{payload_size, first_of}
-use Rattle.lis_line.specs.Parts.{first_behind}
-use Rattle.lis_line.proofs.Bytes.{gave_line}
-use Rattle.lis_line.proofs.Parts.{part_behind, behind_line, line_last, line_past, line_failed}
+use Rattle.lis_line.proofs.Parts.{line_behind, line_last, line_past, line_failed}
 use Rattle.lis_line.proofs.part.take_part.Goals as goal
 
 pub returns-in-Feed-clause-takes : goal.returns-in-Feed-clause-takes
 returns-in-Feed-clause-takes g c =
     let reads = rw c.in-Feed.is at c.in_ok-read_line.ensures.reads in
-    let line = c.as_slice.result.now in
-    part_behind first_of (first_behind line (payload_size line)) _ c.read_line.new.stock _ _ (g.S.Source.left c.read_line.new.source) _ (reads.0 ++ 10 ∷ []) c.take_behind.new.payload
-    c.take_behind.result (gave_line _ _ _ _ c.read_line.new.line.items reads.0 _ reads.1)
-    (λ more. behind_line line reads.0 more (c.as_slice.ensures.value ∙ reads.1.kept) reads.1.one_line)
-    c.take_behind.ensures.takes
+    line_behind _ c.read_line.new.stock _ _ (g.S.Source.left c.read_line.new.source) _ c.as_slice.result.now c.read_line.new.line.items reads.0 c.take_behind.new.payload
+    c.take_behind.result reads.1 c.as_slice.ensures.value c.take_behind.ensures.takes
 
 pub returns-in-Last-clause-takes : goal.returns-in-Last-clause-takes
 returns-in-Last-clause-takes g c =

@@ -1,7 +1,5 @@
-use Rattle.std.proofs.Common.{◌∙◌, ap, sym}
 use Rattle.lis_model.specs.Script.{item_of, first_with, first_ended}
-use Rattle.lis_model.proofs.Lines.{with_payload}
-use Rattle.lis_line.proofs.Parts.{part_behind}
+use Rattle.lis_line.proofs.Parts.{part_behind, payload_ended}
 use Rattle.lis_line.proofs.part.take_payload.Goals as goal
 
 pub returns-in-All-clause-takes : goal.returns-in-All-clause-takes
@@ -11,5 +9,5 @@ returns-in-All-clause-takes g c =
     let filled = rw c.in-All.is at c.in_ok-fill.ensures.fills in
     part_behind (first_with line c.args.size) (first_ended (item_of line payload)) _ c.fill.new.stock _ _ (g.S.Source.left c.fill.new.source) _ filled.0 payload
     c.take_end.result filled.1
-    (λ more. with_payload line filled.0 more c.args.size filled.2 ∙ ap (λ p. first_ended (item_of line p) more) (sym filled.4))
+    (λ more. payload_ended line filled.0 more c.args.size payload filled.2 filled.4)
     (c.take_end.ensures.takes payload)

@@ -1,4 +1,4 @@
-use Rattle.std.proofs.Common.{ap, sym, ◌∙◌}
+use Rattle.std.proofs.Common.{ap, ◌∙◌}
 use Rattle.lis_model.specs.Step.{Payload}
 use Rattle.lis_line.specs.Inside.{frame_bytes}
 use Rattle.lis_line.specs.Parts.{with_byte}

@@ -1,0 +1,107 @@
+//! Inputs and their items, worked out by hand. In rows `;` stands for a line feed and `^` for a carriage return.
+
+use crate::reader::{Item, LineReader, Payload};
+use lis_model::command::Command;
+use lis_model::refusal::number;
+use lis_ports::{MemSource, Source};
+use std::alloc::{AllocError, Global};
+use std::test::Fail;
+
+/// An input, its limit, and its items: `add` with its payload's size and bytes, another command, the number of a refusal, `end`
+/// or `limit`.
+static INPUTS: [(&str, u64, &str); 24] = [
+    ("add a 3;a;b;rm a;", 99, "add 3 a;b,other,end,"),
+    ("add a 3 x y;^^^;cat a", 99, "add 3 ^^^,other,end,"),
+    ("add a 0;;ls;", 99, "add 0 ,other,end,"),
+    ("add a 0", 99, "add 0 ,end,"),
+    ("add a 0;", 99, "add 0 ,end,"),
+    ("add a 2;ab", 99, "add 2 ab,end,"),
+    ("add a 1", 99, "3,end,"),
+    ("add a 3;a;", 99, "3,end,"),
+    ("add a 1;ab;ls;", 99, "4,other,end,"),
+    ("add a 1;a^;ls;", 99, "4,other,end,"),
+    ("add a 1;ab", 99, "4,end,"),
+    ("add . 1;a;add a 1 b/c;a;", 99, "1,1,end,"),
+    ("write a 1;a;write a 1;ab;ls;", 99, "1,4,other,end,"),
+    ("add a x;ls;add a;ls;", 99, "1,other,1,other,end,"),
+    (
+        "add a 1 b b b b b b b b b b b b b b b b b;c;ls",
+        99,
+        "18,other,end,",
+    ),
+    ("rm;rm a b;cat;cat .;cat a^", 99, "1,1,1,1,other,end,"),
+    ("add a 1;b;", 10, "add 1 b,end,"),
+    ("add a 1;b;", 9, "limit,"),
+    ("add a 1;b;", 8, "limit,"),
+    ("add a 1;bc;ls;", 11, "4,limit,"),
+    ("add a 1;bc;ls;", 10, "limit,"),
+    ("ls;add a 0", 10, "other,add 0 ,end,"),
+    ("ls;add a 0;", 10, "other,limit,"),
+    ("add a 999999999999;a", 99, "3,end,"),
+];
+
+fn bytes_of(alloc: Global, row: &str) -> Result<Vec<u8>, AllocError> {
+    let mut bytes = Vec::new(alloc);
+    for byte in row.bytes() {
+        bytes.push(match byte {
+            b';' => b'\n',
+            b'^' => b'\r',
+            _ => byte,
+        })?;
+    }
+    Ok(bytes)
+}
+
+fn note(row: &mut String, item: &Item, payload: &Payload) -> Result<(), AllocError> {
+    match item {
+        Item::Command(Command::Add(_, _)) => {
+            write!(row, "add {} ", payload.size())?;
+            for byte in payload.bytes() {
+                row.push(match *byte {
+                    b'\n' => ';',
+                    b'\r' => '^',
+                    byte => char::from(byte),
+                })?;
+            }
+            row.push(',')
+        }
+        Item::Command(_) => row.push_str("other,"),
+        Item::Bad(refusal) => write!(row, "{},", number(refusal)),
+        Item::End => row.push_str("end,"),
+        Item::Limit => row.push_str("limit,"),
+    }
+}
+
+fn items(alloc: Global, row: &str, limit: u64, step: usize) -> Result<String, AllocError> {
+    let mut input = MemSource {
+        bytes: bytes_of(alloc, row)?,
+        place: 0,
+        step: step.max(1),
+        fail_at: None,
+        faults: 0,
+    };
+    let mut payload = Payload::new(alloc)?;
+    let mut reader = LineReader::new(limit.min(99));
+    let mut seen = String::new(alloc);
+    for _ in 0..99 {
+        if reader.is_ended() {
+            break;
+        }
+        match reader.next(&mut input, &mut payload) {
+            Ok(item) => note(&mut seen, &item, &payload)?,
+            Err(_) => seen.push_str("fault,")?,
+        }
+    }
+    Ok(seen)
+}
+
+#[test]
+fn items_are_the_same_in_any_pieces(rt: HostRuntime) -> Result<(), Fail> {
+    for (row, limit, wanted) in &INPUTS {
+        for step in [1, 2, 4_096] {
+            let seen = items(rt.alloc(), row, *limit, step)?;
+            assert_eq!(rt; seen.as_str(), *wanted, "{row}");
+        }
+    }
+    Ok(())
+}
