@@ -1,2 +1,4 @@
 mod Taken
 mod Bytes
+mod Examples
+pub mod Laws

@@ -1,0 +1,21 @@
+-- The bitmap's first bytes: blocks 0, 2 and 8 of nine are taken.
+use Rattle.std.proofs.Common.{◌≡◌, Bool, true, false, List, [], ◌∷◌, get_or, refl}
+use Rattle.lis_blockmap.specs.Bitmap.{free_count, bitmap_bytes}
+
+abbrev three_of_nine : List Bool
+three_of_nine = true ∷ false ∷ true ∷ false ∷ false ∷ false ∷ false ∷ false ∷ true ∷ []
+
+six_free : free_count three_of_nine ≡ 6
+six_free = refl
+
+first_byte : get_or (bitmap_bytes three_of_nine) 0 0 ≡ 5
+unfolding bitmap_bytes
+first_byte = refl
+
+second_byte : get_or (bitmap_bytes three_of_nine) 1 0 ≡ 1
+unfolding bitmap_bytes
+second_byte = refl
+
+third_byte : get_or (bitmap_bytes three_of_nine) 2 0 ≡ 0
+unfolding bitmap_bytes
+third_byte = refl
