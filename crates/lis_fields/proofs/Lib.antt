@@ -1,0 +1,7 @@
+pub mod Widths
+pub mod Shorts
+pub mod Texts
+pub mod Pairs
+pub mod Runs
+pub mod Parts
+pub mod Supers

@@ -1,0 +1,44 @@
+-- Texts behind their length, with zeros behind them.
+use Rattle.std.proofs.Common.{◌≡◌, refl, sym, ap, ap₂, ◌∙◌, ℕ, suc, ◌+◌, ◌-◌, ◌<◌, ◌≤◌, Bool, true, false, ◌&&◌, ◌||◌, List, [], ◌∷◌, ◌++◌, length, take, drop, IsTrue, arith, length-take-le, inl, inr}
+use Rattle.std.proofs.lemmas.Bool.{and_parts, or_cases, leb-true}
+use Rattle.lis_words.specs.Words.{is_word, is_plain_word, is_head, is_valued, is_file_name, has_stem}
+use Rattle.lis_fields.specs.Layouts.{zeros, padded, text_bytes}
+use Rattle.lis_fields.proofs.Widths.{are_zero, padding_zero, padded_from, length_padded}
+
+pub length_text : (text : List ℕ) → length text ≤ 60 → length (text_bytes text) ≡ 61
+length_text text short = omega (arith, length_padded 60 text short)
+
+-- the padding of a text is zero
+pub text_padding : (len : ℕ) (rest text padding : List ℕ) → len ∷ rest ≡ text_bytes text → padding ≡ drop len rest → are_zero padding ≡ false → ⊥
+text_padding len rest text padding e is none =
+    let first : len ≡ length text = cc in
+    let behind : rest ≡ padded 60 text = cc in
+    let pass = padding_zero 60 len text rest behind (sym first) in
+    let same = ap are_zero is in
+    absurd (cc)
+
+pub text_from : (len : ℕ) (rest text padding : List ℕ) → length rest ≡ 60 → len ≤ 60 → text ≡ take len rest → padding ≡ drop len rest → are_zero padding ≡ true
+    → len ∷ rest ≡ text_bytes text
+text_from len rest text padding full few front behind all =
+    let size : len ≡ length text = omega (arith, ap length front, length-take-le len rest) in
+    let e : rest ≡ padded 60 (take len rest) = padded_from 60 len rest full few (sym (ap are_zero behind) ∙ all) in
+    ap₂ (λ x xs. x ∷ xs) size (e ∙ ap (λ xs. padded 60 xs) (sym front))
+
+pub name_short : (name : List ℕ) → IsTrue (is_file_name name) → length name ≤ 60
+name_short name h = leb-true _ _ (and_parts _ _ (and_parts _ _ (and_parts _ _ h).0).0).1
+
+plain_short : (word : List ℕ) → is_plain_word word ≡ true → length word ≤ 60
+plain_short word h = leb-true _ _ (and_parts _ _ (and_parts _ _ (and_parts _ _ h).0).0).1
+
+stem_short : (word : List ℕ) → has_stem word ≡ true → length word ≤ 60
+stem_short word h = leb-true _ _ (and_parts _ _ (and_parts _ _ h).0).0
+
+pub word_short : (word : List ℕ) → IsTrue (is_word word) → length word ≤ 60
+word_short word h =
+    elim (or_cases (is_plain_word word || is_head word) (is_valued word) h) [
+      inl early ↦ elim (or_cases (is_plain_word word) (is_head word) early) [
+        inl plain ↦ plain_short word plain
+      | inr head ↦ stem_short word (and_parts _ _ head).0
+      ]
+    | inr valued ↦ stem_short word (and_parts _ _ (and_parts _ _ valued).0).0
+    ]

@@ -1,0 +1,11 @@
+-- What a file slot tells of a file.
+use Rattle.std.specs.Prelude.{ℕ, List}
+
+pub record FileRecord : Type 0 where
+  pub name : List ℕ
+  -- how many bytes it has
+  pub size : ℕ
+  -- the slot numbers of the words that it was given
+  pub tags : List ℕ
+  -- the numbers of the data blocks of its bytes, in order
+  pub blocks : List ℕ

@@ -1,0 +1,111 @@
+//! The fields of which the parts of an image are made.
+
+ghost use Rattle.std.specs.Prelude.{◌≡◌, ℕ, ◌*◌, ◌≤◌, ◌==◌, List, length, IfSome, IsSomeAnd, IsTrue};
+ghost use Rattle.std.specs.List.{list_all, flat_map};
+ghost use Rattle.byteorder.specs.Endian.{little_bytes};
+ghost use Rattle.lis_fields.specs.Layouts.{text_bytes, zeros, numbers, are_short};
+
+use arrayvec::ArrayVec;
+use byteorder::{ByteOrder, LittleEndian};
+
+/// Whether all bytes are zero.
+pub fn are_zeros(bytes: &[u8]) -> bool
+    ensures { result ≡ list_all (λ b. b == 0) bytes.now }
+{
+    bytes.iter().all(|byte| *byte == 0)
+}
+
+/// Makes all bytes zero.
+pub fn write_zeros(bytes: &mut [u8])
+    ensures { bytes.new ≡ zeros (length bytes.old) }
+{
+    bytes.fill(0);
+}
+
+/// The number that a field of four bytes spells.
+pub fn read_number(field: &[u8]) -> u32
+    requires { length field.now ≡ 4 }
+    ensures { field.now ≡ little_bytes 4 result }
+{
+    LittleEndian::read_u32(field)
+}
+
+/// Writes a number into a field of four bytes.
+pub fn write_number(number: u32, field: &mut [u8])
+    requires { length field.old ≡ 4 }
+    ensures { field.new ≡ little_bytes 4 number }
+{
+    LittleEndian::write_u32(field, number);
+}
+
+/// The text of a field of 61 bytes. None comes exactly where the field spells no text.
+pub fn read_text(field: &[u8]) -> Option<&[u8]>
+    requires { length field.now ≡ 61 }
+    ensures spelled { IfSome result (λ text. (length text.now ≤ 60) × (field.now ≡ text_bytes text.now)) }
+    ensures same { (text : List ℕ) → length text ≤ 60 → field.now ≡ text_bytes text → IsSomeAnd result (λ found. found.now ≡ text) }
+{
+    let (len, rest) = field.split_first()?;
+    if *len > 60 {
+        return None;
+    }
+    let (text, padding) = rest.split_at(*len as usize);
+    if !are_zeros(padding) {
+        return None;
+    }
+    Some(text)
+}
+
+/// Writes a text into a field of 61 bytes.
+pub fn write_text(text: &[u8], field: &mut [u8])
+    requires len { length field.old ≡ 61 }
+    requires short { length text.now ≤ 60 }
+    ensures { field.new ≡ text_bytes text.now }
+{
+    let (len, rest) = field.split_at_mut(1);
+    len[0] = text.len() as u8;
+    let (start, padding) = rest.split_at_mut(text.len());
+    start.copy_from_slice(text);
+    write_zeros(padding);
+}
+
+fn read_shorts(bytes: &[u8], count: usize) -> ArrayVec<u16, 16>
+    requires count { count ≤ 16 }
+    requires len { length bytes.now ≡ 2 * count }
+    ensures len { length result.items ≡ count }
+    ensures short { IsTrue (are_short result.items) }
+    ensures spelled { bytes.now ≡ flat_map (little_bytes 2) result.items }
+{
+    let mut held = [0; 16];
+    let (used, _) = held.split_at_mut(count);
+    LittleEndian::read_u16_into(bytes, used);
+    let mut numbers = ArrayVec::new();
+    numbers.try_extend_from_slice(used).unwrap();
+    numbers
+}
+
+/// So many numbers of a field of 32 bytes. None comes exactly where the field spells no such numbers.
+pub fn read_numbers(field: &[u8], count: usize) -> Option<ArrayVec<u16, 16>>
+    requires { length field.now ≡ 32 }
+    ensures spelled { IfSome result (λ found. (length found.items ≡ count) × (count ≤ 16) × IsTrue (are_short found.items) × (field.now ≡ numbers found.items)) }
+    ensures same { (ns : List ℕ) → length ns ≡ count → count ≤ 16 → IsTrue (are_short ns) → field.now ≡ numbers ns → IsSomeAnd result (λ found. found.items ≡ ns) }
+{
+    if count > 16 {
+        return None;
+    }
+    let (start, padding) = field.split_at(2 * count);
+    if !are_zeros(padding) {
+        return None;
+    }
+    Some(read_shorts(start, count))
+}
+
+/// Writes numbers into a field of 32 bytes.
+pub fn write_numbers(list: &[u16], field: &mut [u8])
+    requires len { length field.old ≡ 32 }
+    requires few { length list.now ≤ 16 }
+    ensures { field.new ≡ numbers list.now }
+{
+    let (start, padding) = field.split_at_mut(2 * list.len());
+    LittleEndian::write_u16_into(list, start);
+    write_zeros(padding);
+}

@@ -1,0 +1,209 @@
+//! File slots.
+
+ghost use Rattle.std.specs.Prelude.{◌≡◌, ◌==◌, ◌++◌, ℕ, ◌≤◌, List, length, Option, Some, IfSome, IsSomeAnd, IsTrue};
+ghost use Rattle.std.specs.List.{list_any};
+ghost use Rattle.std.specs.Ordering.{nat_cmp};
+ghost use Rattle.lis_graph.specs.Graph.{is_rising};
+ghost use Rattle.lis_words.specs.Words.{is_file_name};
+ghost use Rattle.lis_model.specs.State.{blocks_needed};
+ghost use Rattle.lis_fields.specs.Records.{FileRecord};
+ghost use Rattle.lis_fields.specs.Layouts.{file_start, numbers, record_bytes, file_bytes, are_distinct, are_tags, are_blocks, is_record, is_file};
+ghost use Rattle.lis_fields.specs.declared.slots.FileSlot.{FileSlot};
+
+use crate::fields::{are_zeros, read_number, read_numbers, read_text, write_number, write_numbers, write_text, write_zeros};
+use crate::slots::{FileRec, FileSlot};
+use arrayvec::ArrayVec;
+use lis_words::{Name, read_name};
+
+/// How many bytes a file slot has.
+pub const FILE_LEN: usize = 256;
+
+/// The most bytes of a file.
+const MAX_SIZE: u32 = 65_536;
+
+fn rise(numbers: &[u16]) -> bool
+    ensures { result ≡ is_rising nat_cmp numbers.now }
+{
+    let mut floor = 0;
+    for number in numbers {
+        if u32::from(*number) < floor {
+            return false;
+        }
+        floor = u32::from(*number) + 1;
+    }
+    true
+}
+
+fn is_among(number: u16, others: &[u16]) -> bool
+    ensures { result ≡ list_any (λ other. other == number) others.now }
+{
+    others.iter().any(|other| *other == number)
+}
+
+fn are_distinct(numbers: &[u16]) -> bool
+    ensures { result ≡ are_distinct numbers.now }
+{
+    for (k, number) in numbers.iter().enumerate() {
+        let (_, behind) = numbers.split_at(k + 1);
+        if is_among(*number, behind) {
+            return false;
+        }
+    }
+    true
+}
+
+/// The name, and how many words the file was given.
+fn read_start(bytes: &[u8]) -> Option<(Name, u8)>
+    requires { length bytes.now ≡ 64 }
+    ensures spelled { IfSome result (λ found. IsTrue (is_file_name found.0) × (bytes.now ≡ file_start found.0 found.1)) }
+    ensures same { (name : List ℕ) (count : ℕ) → IsTrue (is_file_name name) → bytes.now ≡ file_start name count → result ≡ Some (name, count) }
+{
+    let (kind, rest) = bytes.split_first()?;
+    if *kind != 1 {
+        return None;
+    }
+    let (text, end) = rest.split_at(61);
+    let (count, gap) = end.split_first()?;
+    if !are_zeros(gap) {
+        return None;
+    }
+    let name = read_name(read_text(text)?)?;
+    Some((name, *count))
+}
+
+/// The slot numbers of the words that a file was given.
+fn read_tags(field: &[u8], count: usize) -> Option<ArrayVec<u16, 16>>
+    requires { length field.now ≡ 32 }
+    ensures spelled { IfSome result (λ found. (length found.items ≡ count) × IsTrue (are_tags found.items) × (field.now ≡ numbers found.items)) }
+    ensures same { (tags : List ℕ) → length tags ≡ count → IsTrue (are_tags tags) → field.now ≡ numbers tags → IsSomeAnd result (λ found. found.items ≡ tags) }
+{
+    let tags = read_numbers(field, count)?;
+    if !rise(tags.as_slice()) {
+        return None;
+    }
+    Some(tags)
+}
+
+/// The data blocks of a file of that size.
+fn read_blocks(field: &[u8], size: u32) -> Option<ArrayVec<u16, 16>>
+    requires len { length field.now ≡ 32 }
+    requires short { size ≤ 65536 }
+    ensures spelled { IfSome result (λ found. IsTrue (are_blocks size found.items) × (field.now ≡ numbers found.items)) }
+    ensures same { (blocks : List ℕ) → IsTrue (are_blocks size blocks) → field.now ≡ numbers blocks → IsSomeAnd result (λ found. found.items ≡ blocks) }
+{
+    let blocks = read_numbers(field, size.div_ceil(4_096) as usize)?;
+    if !are_distinct(blocks.as_slice()) {
+        return None;
+    }
+    Some(blocks)
+}
+
+/// A file slot, cut into its fields.
+#[derive(Clone, Copy)]
+struct FileFields<'a> {
+    start: &'a [u8],
+    size: &'a [u8],
+    tags: &'a [u8],
+    block_numbers: &'a [u8],
+    end: &'a [u8],
+}
+
+fn cut(bytes: &[u8]) -> FileFields<'_>
+    requires { length bytes.now ≡ 256 }
+    ensures whole { bytes.now ≡ result.start.now ++ (result.size.now ++ (result.tags.now ++ (result.block_numbers.now ++ result.end.now))) }
+    ensures start_len { length result.start.now ≡ 64 }
+    ensures size_len { length result.size.now ≡ 4 }
+    ensures tags_len { length result.tags.now ≡ 32 }
+    ensures blocks_len { length result.block_numbers.now ≡ 32 }
+    ensures end_len { length result.end.now ≡ 124 }
+{
+    let (start, rest) = bytes.split_at(64);
+    let (size, rest) = rest.split_at(4);
+    let (tags, rest) = rest.split_at(32);
+    let (block_numbers, end) = rest.split_at(32);
+    FileFields {
+        start,
+        size,
+        tags,
+        block_numbers,
+        end,
+    }
+}
+
+fn read_record(bytes: &[u8]) -> Option<FileRec>
+    requires { length bytes.now ≡ 256 }
+    ensures spelled { IfSome result (λ rec. IsTrue (is_record rec) × (bytes.now ≡ record_bytes rec)) }
+    ensures same { (rec : FileRecord) → IsTrue (is_record rec) → bytes.now ≡ record_bytes rec → result ≡ Some rec }
+{
+    let fields = cut(bytes);
+    if !are_zeros(fields.end) {
+        return None;
+    }
+    let size = read_number(fields.size);
+    if size > MAX_SIZE {
+        return None;
+    }
+    let (name, count) = read_start(fields.start)?;
+    let tags = read_tags(fields.tags, usize::from(count))?;
+    let numbers = read_blocks(fields.block_numbers, size)?;
+    Some(FileRec {
+        name,
+        size,
+        tags,
+        blocks: numbers,
+    })
+}
+
+/// Reads a file slot. None comes exactly where the bytes are no spelling of one.
+pub fn read_file(bytes: &[u8]) -> Option<FileSlot>
+    ensures spelled { IfSome result (λ slot. IsTrue (is_file slot) × (bytes.now ≡ file_bytes slot)) }
+    ensures same { (slot : FileSlot) → IsTrue (is_file slot) → bytes.now ≡ file_bytes slot → result ≡ Some slot }
+{
+    if bytes.len() != FILE_LEN {
+        return None;
+    }
+    if are_zeros(bytes) {
+        return Some(FileSlot::Free);
+    }
+    let rec = read_record(bytes)?;
+    Some(FileSlot::Used(rec))
+}
+
+fn write_start(name: &Name, count: u8, bytes: &mut [u8])
+    requires { length bytes.old ≡ 64 }
+    ensures { bytes.new ≡ file_start name.now count }
+{
+    let (kind, rest) = bytes.split_at_mut(1);
+    let (text, end) = rest.split_at_mut(61);
+    kind[0] = 1;
+    write_text(name.bytes(), text);
+    end.copy_from_slice(&[count, 0]);
+}
+
+fn write_record(rec: &FileRec, bytes: &mut [u8])
+    requires len { length bytes.old ≡ 256 }
+    requires range { IsTrue (is_record rec.now) }
+    ensures { bytes.new ≡ record_bytes rec.now }
+{
+    let (start, rest) = bytes.split_at_mut(64);
+    let (size, rest) = rest.split_at_mut(4);
+    let (tags, rest) = rest.split_at_mut(32);
+    let (blocks, end) = rest.split_at_mut(32);
+    write_start(&rec.name, rec.tags.len() as u8, start);
+    write_number(rec.size, size);
+    write_numbers(rec.tags.as_slice(), tags);
+    write_numbers(rec.blocks.as_slice(), blocks);
+    write_zeros(end);
+}
+
+/// Writes a file slot.
+pub fn write_file(slot: &FileSlot, bytes: &mut [u8])
+    requires len { length bytes.old ≡ 256 }
+    requires range { IsTrue (is_file slot.now) }
+    ensures { bytes.new ≡ file_bytes slot.now }
+{
+    match slot {
+        FileSlot::Free => write_zeros(bytes),
+        FileSlot::Used(rec) => write_record(rec, bytes),
+    }
+}

@@ -1,0 +1,16 @@
+//! Reads and writes the parts of an image: the super block, property slots, axiom slots and file slots.
+//! No call takes memory.
+#![tactic(auto)]
+
+mod axioms;
+mod fields;
+mod files;
+mod props;
+pub mod slots;
+mod super_block;
+
+pub use axioms::{AXIOM_LEN, read_axiom, write_axiom};
+pub use files::{FILE_LEN, read_file, write_file};
+pub use props::{PROP_LEN, read_prop, write_prop};
+pub use slots::{AxiomSlot, FileRec, FileSlot, PropSlot, SuperRec};
+pub use super_block::{SUPER_LEN, read_super, write_super};

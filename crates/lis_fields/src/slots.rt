@@ -1,0 +1,63 @@
+//! What the parts of an image tell.
+
+use arrayvec::ArrayVec;
+use lis_model::limits::Limits;
+use lis_words::{Name, Word};
+use std::marker::Model;
+
+/// What the super block tells of an image.
+#[derive(Clone, Copy, Debug, PartialEq, Eq)]
+pub struct SuperRec {
+    /// The version of the layouts.
+    pub version: u32,
+    pub limits: Limits,
+}
+
+/// A slot for a word.
+#[derive(Drop, Debug)]
+pub enum PropSlot {
+    /// A slot without a word.
+    Free,
+    /// A word that is known and not declared.
+    Known(Word),
+    /// A declared word.
+    Declared(Word),
+}
+
+/// A slot for an axiom.
+#[derive(Clone, Copy, Debug, PartialEq, Eq)]
+pub enum AxiomSlot {
+    /// A slot without an axiom.
+    Free,
+    /// The slot numbers of the left and of the right word.
+    Pair(u32, u32),
+}
+
+/// A slot for a file.
+#[derive(Drop, Debug)]
+pub enum FileSlot {
+    /// A slot without a file.
+    Free,
+    /// A file.
+    Used(FileRec),
+}
+
+/// What a file slot tells of its file.
+#[derive(Drop, Debug)]
+pub struct FileRec {
+    pub name: Name,
+    /// How many bytes the file has.
+    pub size: u32,
+    /// The slot numbers of the words that the file was given.
+    pub tags: ArrayVec<u16, 16>,
+    /// The numbers of the data blocks of its bytes, in order.
+    pub blocks: ArrayVec<u16, 16>,
+}
+
+impl Model for FileRec {
+    ghost use Rattle.lis_fields.specs.Records.{FileRecord};
+
+    ghost Value = { FileRecord };
+
+    ghost view = { λ f. record { name = f.name; size = f.size; tags = f.tags.items; blocks = f.blocks.items } };
+}
