@@ -15,7 +15,8 @@ use std::test::Fail;
 mod tables;
 
 use tables::{
-    CUT_SESSIONS, FAILING_SHOWS, FIRST_SESSIONS, LONG_LINES, RIGHT_WORDS, SESSIONS, WRONG_WORDS,
+    CUT_SESSIONS, FAILING_SHOWS, FIRST_SESSIONS, LARGE_FILES, LONG_LINES, RIGHT_WORDS, SESSIONS,
+    WRONG_WORDS,
 };
 
 /// The words of most sessions.
@@ -63,10 +64,10 @@ fn bytes_of(alloc: Global, row: &str) -> Result<Vec<u8>, AllocError> {
 fn row_of(alloc: Global, bytes: &[u8]) -> Result<String, AllocError> {
     let mut row = String::new(alloc);
     for byte in bytes {
-        row.push(if *byte == b'\n' {
-            ';'
-        } else {
-            char::from(*byte)
+        row.push(match *byte {
+            b'\n' => ';',
+            b'\r' => '^',
+            byte => char::from(byte),
         })?;
     }
     Ok(row)
@@ -133,6 +134,37 @@ fn a_line_is_long_by_its_bytes(rt: HostRuntime) -> Result<(), Fail> {
         let row = long_row(rt.alloc(), *count, behind)?;
         let seen = run(rt.alloc(), &WORDS, row.as_str(), &SOUND)?;
         assert_eq!(rt; seen.shown.as_str(), *wanted, "{count} and {behind}");
+    }
+    Ok(())
+}
+
+// A line that adds a file of so many bytes, and the bytes.
+fn push_file(row: &mut String, line: &str, size: usize) -> Result<(), AllocError> {
+    row.push_str(line)?;
+    for _ in 0..size {
+        row.push('x')?;
+    }
+    row.push(';')?;
+    Ok(())
+}
+
+#[test]
+fn files_are_as_large_as_there_are_blocks(rt: HostRuntime) -> Result<(), Fail> {
+    for (words, first, second, wanted) in &LARGE_FILES {
+        let mut row = String::new(rt.alloc());
+        push_file(
+            &mut row,
+            format!(in rt.alloc(); "add a {first};")?.as_str(),
+            *first,
+        )?;
+        push_file(
+            &mut row,
+            format!(in rt.alloc(); "add b {second};")?.as_str(),
+            *second,
+        )?;
+        row.push_str("ls;")?;
+        let seen = run(rt.alloc(), words, row.as_str(), &SOUND)?;
+        assert_eq!(rt; seen.shown.as_str(), *wanted, "{first} and {second}");
     }
     Ok(())
 }

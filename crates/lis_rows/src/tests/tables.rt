@@ -11,7 +11,7 @@ pub static FIRST_SESSIONS: [(&str, &str); 3] = [
     ("create a;create b;ls;", "ok;ok;f a;f b;ok;"),
 ];
 
-pub static SESSIONS: [(&str, &str); 25] = [
+pub static SESSIONS: [(&str, &str); 33] = [
     // Blanks, tabs, carriage returns, empty lines, and a last line without a line feed.
     ("mkdir a^;mkdir a;", "ok;no 11 already declared;"),
     ("mkdir a^^;mkdir a;", "no 01 bad line;ok;"),
@@ -92,6 +92,57 @@ pub static SESSIONS: [(&str, &str); 25] = [
         "create x ext:;create x size:0;create x nosuch:v;cd /size>=1;ls;cd /size<1;ls;",
         "no 25 built-in attribute;no 25 built-in attribute;no 06 unknown property;ok;ok;ok;ok;",
     ),
+    // Payloads: their ends, their sizes, and the forms of their lines.
+    (
+        "add a 2;xyz;ls;add b 3;abc;cat b;",
+        "no 04 payload end;ok;ok;b 3;abc;ok;",
+    ),
+    (
+        "add a 0000000000003;ls;add a 000000000003;xyz;cat a;",
+        "no 01 bad line;ok;ok;b 3;xyz;ok;",
+    ),
+    (
+        "add . 1;x;pwd;write a 1;x;write a 1;xx;pwd;add a 65537;",
+        "no 01 bad line;w /;ok;no 01 bad line;no 04 payload end;w /;ok;no 03 cut payload;",
+    ),
+    ("add a 4;a;b;;ls;cat a;add b 0", "ok;f a;ok;b 4;a;b;;ok;ok;"),
+    (
+        "add a 3^;x;^;cat a;add b 1;x^;ls;",
+        "ok;b 3;x;^;ok;no 04 payload end;f a;ok;",
+    ),
+    ("add a 3;xyz", "ok;"),
+    (
+        "add a 1 w w w w w w w w w w w w w w w w w;x;add a 1 w .;x;add a 1 w;x;",
+        "no 18 too many assigned;no 01 bad line;no 06 unknown property;",
+    ),
+    // Files are shown and removed where they are, and a file that is gone gives back its name and its blocks.
+    (
+        "mkdir m;cd m;add a 2;hi;cd /!m;cat a;rm a;cd /size>=2;cat a;rm a;rm a;add b 32768;",
+        "ok;ok;ok;ok;no 10 no such file here;no 10 no such file here;ok;b 2;hi;ok;ok;no 10 no such file here;no 03 cut payload;",
+    ),
+];
+
+/// The words, how many bytes the first and the second file are to have, and what is shown of both and of a listing.
+pub static LARGE_FILES: [([&str; 4], usize, usize, &str); 4] = [
+    (
+        ["try", "64", "64", "16"],
+        65_536,
+        65_537,
+        "ok;no 20 file too large;f a;ok;",
+    ),
+    (
+        ["try", "64", "64", "16"],
+        32_768,
+        32_768,
+        "ok;ok;f a;f b;ok;",
+    ),
+    (
+        ["try", "64", "64", "16"],
+        32_769,
+        32_768,
+        "ok;no 24 no space;f a;ok;",
+    ),
+    (["try", "64", "64", "1"], 1, 0, "ok;ok;f a;f b;ok;"),
 ];
 
 /// How many bytes `a`, what stands behind them, and what is shown.
