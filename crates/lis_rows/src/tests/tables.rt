@@ -207,7 +207,7 @@ type Cut = (
     (&'static str, &'static str),
 );
 
-pub static CUT_SESSIONS: [Cut; 11] = [
+pub static CUT_SESSIONS: [Cut; 15] = [
     (
         99,
         8,
@@ -281,4 +281,33 @@ pub static CUT_SESSIONS: [Cut; 11] = [
         ("mkdir a;", "no 11 already declared;"),
     ),
     (0, 7, None, (";", "", Status::InputLimit), ("ls;", "ok;")),
+    // A payload is whole with its line feed, within the limit and before a fault.
+    (
+        10,
+        3,
+        None,
+        ("add a 1;x;ls", "ok;", Status::InputLimit),
+        ("cat a;", "b 1;x;ok;"),
+    ),
+    (
+        9,
+        3,
+        None,
+        ("add a 1;x;ls", "", Status::InputLimit),
+        ("cat a;", "no 10 no such file here;"),
+    ),
+    (
+        99,
+        3,
+        Some(9),
+        ("add a 1;x;ls;", "", Status::InputFault),
+        ("ls;", "ok;"),
+    ),
+    (
+        99,
+        10,
+        Some(10),
+        ("add a 1;x;ls;", "ok;", Status::InputFault),
+        ("cat a;", "b 1;x;ok;"),
+    ),
 ];
