@@ -33,7 +33,7 @@ abbrev pub super_numbers : SuperRec → List ℕ
 super_numbers rec =
     little_bytes 4 rec.version ++ (little_bytes 4 rec.limits.files ++ (little_bytes 4 rec.limits.props ++ little_bytes 4 rec.limits.blocks))
 
-abbrev pub super_bytes : SuperRec → List ℕ
+unfoldable pub super_bytes : SuperRec → List ℕ
 super_bytes rec = codes "LISFS-IM" ++ (super_numbers rec ++ zeros 4072)
 
 abbrev pub is_super : SuperRec → Bool
@@ -43,7 +43,7 @@ is_super rec = (rec.version == 1) && are_in_range rec.limits
 abbrev pub named : ℕ → List ℕ → List ℕ
 named kind word = kind ∷ text_bytes word ++ zeros 2
 
-abbrev pub prop_bytes : PropSlot → List ℕ
+unfoldable pub prop_bytes : PropSlot → List ℕ
 prop_bytes FreeProp = zeros 64
 prop_bytes (Known word) = named 1 word
 prop_bytes (Declared word) = named 2 word
@@ -58,7 +58,7 @@ is_prop (Known word) = is_undeclared word
 is_prop (Declared word) = is_declarable word
 
 -- an axiom slot: its two slot numbers, each plus 1
-abbrev pub axiom_bytes : AxiomSlot → List ℕ
+unfoldable pub axiom_bytes : AxiomSlot → List ℕ
 axiom_bytes FreeAxiom = zeros 8
 axiom_bytes (Pair left right) = little_bytes 4 (left + 1) ++ little_bytes 4 (right + 1)
 
@@ -78,7 +78,7 @@ abbrev pub record_bytes : FileRecord → List ℕ
 record_bytes rec =
     file_start rec.name (length rec.tags) ++ (little_bytes 4 rec.size ++ (numbers rec.tags ++ (numbers rec.blocks ++ zeros 124)))
 
-abbrev pub file_bytes : FileSlot → List ℕ
+unfoldable pub file_bytes : FileSlot → List ℕ
 file_bytes FreeFile = zeros 256
 file_bytes (Used rec) = record_bytes rec
 

@@ -10,7 +10,10 @@ ghost use Rattle.lis_fields.specs.Records.{FileRecord};
 ghost use Rattle.lis_fields.specs.Layouts.{file_start, numbers, record_bytes, file_bytes, are_distinct, are_tags, are_blocks, is_record, is_file};
 ghost use Rattle.lis_fields.specs.declared.slots.FileSlot.{FileSlot};
 
-use crate::fields::{are_zeros, read_number, read_numbers, read_text, write_number, write_numbers, write_text, write_zeros};
+use crate::fields::{
+    are_zeros, read_number, read_numbers, read_text, write_number, write_numbers, write_text,
+    write_zeros,
+};
 use crate::slots::{FileRec, FileSlot};
 use arrayvec::ArrayVec;
 use lis_words::{Name, read_name};
@@ -155,6 +158,7 @@ fn read_record(bytes: &[u8]) -> Option<FileRec>
 }
 
 /// Reads a file slot. None comes exactly where the bytes are no spelling of one.
+#[tactic(auto, unfolding(crate::specs::Layouts::file_bytes))]
 pub fn read_file(bytes: &[u8]) -> Option<FileSlot>
     ensures spelled { IfSome result (λ slot. IsTrue (is_file slot) × (bytes.now ≡ file_bytes slot)) }
     ensures same { (slot : FileSlot) → IsTrue (is_file slot) → bytes.now ≡ file_bytes slot → result ≡ Some slot }
@@ -197,6 +201,7 @@ fn write_record(rec: &FileRec, bytes: &mut [u8])
 }
 
 /// Writes a file slot.
+#[tactic(auto, unfolding(crate::specs::Layouts::file_bytes))]
 pub fn write_file(slot: &FileSlot, bytes: &mut [u8])
     requires len { length bytes.old ≡ 256 }
     requires range { IsTrue (is_file slot.now) }

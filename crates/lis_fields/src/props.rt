@@ -56,6 +56,7 @@ fn read_named(bytes: &[u8]) -> Option<(u8, Word)>
 }
 
 /// The slot of that kind and word. None comes exactly where there is none.
+#[tactic(auto, unfolding(crate::specs::Layouts::prop_bytes))]
 fn named_slot(kind: u8, word: Word) -> Option<PropSlot>
     ensures spelled { IfSome result (λ slot. IsTrue (is_prop slot) × (named kind word ≡ prop_bytes slot)) }
     ensures known { kind ≡ 1 → IsTrue (is_undeclared word) → result ≡ Some (Known word) }
@@ -79,6 +80,7 @@ fn named_slot(kind: u8, word: Word) -> Option<PropSlot>
 }
 
 /// Reads a property slot. None comes exactly where the bytes are no spelling of one.
+#[tactic(auto, unfolding(crate::specs::Layouts::prop_bytes))]
 pub fn read_prop(bytes: &[u8]) -> Option<PropSlot>
     ensures spelled { IfSome result (λ slot. IsTrue (is_prop slot) × (bytes.now ≡ prop_bytes slot)) }
     ensures same { (slot : PropSlot) → IsTrue (is_prop slot) → bytes.now ≡ prop_bytes slot → result ≡ Some slot }
@@ -105,6 +107,7 @@ fn write_named(kind: u8, word: &Word, bytes: &mut [u8])
 }
 
 /// Writes a property slot.
+#[tactic(auto, unfolding(crate::specs::Layouts::prop_bytes))]
 pub fn write_prop(slot: &PropSlot, bytes: &mut [u8])
     requires len { length bytes.old ≡ 64 }
     requires range { IsTrue (is_prop slot.now) }
