@@ -6,7 +6,7 @@ mod axioms;
 mod fields;
 mod files;
 mod props;
-pub mod slots;
+mod slots;
 mod super_block;
 #[cfg(test)]
 mod tests;

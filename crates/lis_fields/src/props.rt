@@ -7,7 +7,7 @@ ghost use Rattle.lis_fields.specs.Layouts.{named, prop_bytes, is_prop, is_undecl
 ghost use Rattle.lis_fields.specs.declared.slots.PropSlot.{PropSlot};
 ghost use Rattle.lis_fields.specs.declared.slots.PropSlot.TheVariants.{Known, Declared};
 
-use crate::fields::{are_zeros, read_text, write_text, write_zeros};
+use crate::fields::{TEXT_FIELD, are_zeros, read_text, write_text, write_zeros};
 use crate::slots::PropSlot;
 use lis_words::{Word, is_builtin, is_head, is_plain_word, is_valued, read_word};
 
@@ -47,7 +47,7 @@ fn read_named(bytes: &[u8]) -> Option<(u8, Word)>
     ensures same { (kind : ℕ) (word : List ℕ) → IsTrue (is_word word) → bytes.now ≡ named kind word → result ≡ Some (kind, word) }
 {
     let (kind, rest) = bytes.split_first()?;
-    let (text, end) = rest.split_at(61);
+    let (text, end) = rest.split_at(TEXT_FIELD);
     if !are_zeros(end) {
         return None;
     }
@@ -100,7 +100,7 @@ fn write_named(kind: u8, word: &Word, bytes: &mut [u8])
     ensures { bytes.new ≡ named kind word.now }
 {
     let (start, rest) = bytes.split_at_mut(1);
-    let (text, end) = rest.split_at_mut(61);
+    let (text, end) = rest.split_at_mut(TEXT_FIELD);
     start[0] = kind;
     write_text(word.bytes(), text);
     write_zeros(end);
