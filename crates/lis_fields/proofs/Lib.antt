@@ -5,3 +5,5 @@ pub mod Pairs
 pub mod Runs
 pub mod Parts
 pub mod Supers
+pub mod OneSpelling
+mod Examples

@@ -1,7 +1,7 @@
-use Rattle.std.proofs.Common.{◌≡◌, ◌∙◌, ℕ, List, refl, sym, ap, length, Option, Some, subst, IsTrue, arith, false}
+use Rattle.std.proofs.Common.{◌≡◌, ◌∙◌, ℕ, List, refl, sym, ap, length, Option, Some, subst, IsTrue, false}
 use Rattle.lis_words.specs.Words.{is_word}
 use Rattle.lis_model.specs.State.{is_declarable}
-use Rattle.lis_fields.specs.Layouts.{zeros, named, prop_bytes, is_prop, is_undeclared}
+use Rattle.lis_fields.specs.Layouts.{named, prop_bytes, is_prop, is_undeclared}
 use Rattle.lis_fields.specs.declared.slots.PropSlot.{PropSlot}
 use Rattle.lis_fields.specs.declared.slots.PropSlot.TheVariants.{Free, Known, Declared}
 use Rattle.lis_fields.proofs.Widths.{are_zero, not_zeros, zeros_of}
@@ -11,6 +11,7 @@ use Rattle.lis_fields.proofs.props.read_prop.Goals as goal
 -- no slot, where no kind and word are spelled
 none_named : (slot : PropSlot) (bytes : List ℕ) → IsTrue (is_prop slot) → bytes ≡ prop_bytes slot → are_zero bytes ≡ false
     → ((kind : ℕ) (word : List ℕ) → IsTrue (is_word word) → bytes ≡ named kind word → ⊥) → ⊥
+unfolding prop_bytes
 none_named Free bytes is e some never = not_zeros 64 bytes e some
 none_named (Known word) bytes is e some never = never 1 word (undeclared_word word is) e
 none_named (Declared word) bytes is e some never = never 2 word (declarable_word word is) e
@@ -20,6 +21,7 @@ same_named : (slot : PropSlot) (bytes : List ℕ) (found : ℕ × List ℕ) (res
     → ((kind : ℕ) (word : List ℕ) → IsTrue (is_word word) → bytes ≡ named kind word → found ≡ (kind, word))
     → (found.0 ≡ 1 → IsTrue (is_undeclared found.1) → result ≡ Some (Known found.1)) → (found.0 ≡ 2 → IsTrue (is_declarable found.1) → result ≡ Some (Declared found.1))
     → result ≡ Some slot
+unfolding prop_bytes
 same_named Free bytes found result is e some same known declared = absurd (not_zeros 64 bytes e some)
 same_named (Known word) bytes found result is e some same known declared =
     let both = same 1 word (undeclared_word word is) e in
@@ -34,6 +36,7 @@ pub returns-then-bytes-ne-PROP_LEN-clause-same : goal.returns-then-bytes-ne-PROP
 returns-then-bytes-ne-PROP_LEN-clause-same c = λ slot is e. absurd (c.if-bytes-ne-PROP_LEN.true (ap length e ∙ length_prop slot is))
 
 pub returns-then-are_zeros-clause-spelled : goal.returns-then-are_zeros-clause-spelled
+unfolding prop_bytes
 returns-then-are_zeros-clause-spelled c =
     (refl, zeros_of 64 c.args.bytes.now c.if-bytes-ne-PROP_LEN.false (sym c.are_zeros.ensures ∙ c.if-are_zeros.true))
 
@@ -44,4 +47,4 @@ returns-in_err-kind-clause-same c =
 pub returns-clause-same : goal.returns-clause-same
 returns-clause-same c =
     λ slot is e. same_named slot c.args.bytes.now (c.in_ok-kind.kind, c.in_ok-kind.word) c.named_slot.result is e (sym c.are_zeros.ensures ∙ c.if-are_zeros.false)
-        (λ kind word form spelled. let k = c.in_ok-kind.ensures.same kind word form spelled in cc) c.named_slot.ensures.known c.named_slot.ensures.declared
+    (λ kind word form spelled. let k = c.in_ok-kind.ensures.same kind word form spelled in cc) c.named_slot.ensures.known c.named_slot.ensures.declared
