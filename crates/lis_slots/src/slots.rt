@@ -50,7 +50,11 @@ impl Slots {
         requires divides { 4096 % width ≡ 0 }
         ensures { result ≡ record { first = first; count = count; width = width } }
     {
-        Slots { first, count, width }
+        Slots {
+            first,
+            count,
+            width,
+        }
     }
 
     /// How many slots there are.
@@ -89,7 +93,13 @@ impl Slots {
     }
 
     /// Reads a slot, as it is staged or else kept.
-    pub fn get<D: Disk>(&self, journal: &Journal, disk: &mut D, k: u32, buf: &mut [u8]) -> Result<(), Failed>
+    pub fn get<D: Disk>(
+        &self,
+        journal: &Journal,
+        disk: &mut D,
+        k: u32,
+        buf: &mut [u8],
+    ) -> Result<(), Failed>
         requires k { k < self.now.count }
         requires whole { length buf.old ≡ self.now.width }
         requires home { 578 ≤ self.now.first }
@@ -114,7 +124,13 @@ impl Slots {
     }
 
     /// Stages the block of a slot, with these bytes in the slot.
-    pub fn put<D: Disk>(&self, journal: &mut Journal, disk: &mut D, k: u32, bytes: &[u8]) -> Result<(), Failed>
+    pub fn put<D: Disk>(
+        &self,
+        journal: &mut Journal,
+        disk: &mut D,
+        k: u32,
+        bytes: &[u8],
+    ) -> Result<(), Failed>
         requires k { k < self.now.count }
         requires whole { length bytes.now ≡ self.now.width }
         requires home { 578 ≤ self.now.first }

@@ -1,4 +1,4 @@
-use Rattle.std.proofs.Common.{◌≡◌, ℕ, ◌==◌, Bool, false, cond, eqb, List, length, sym, ◌∙◌, ap, arith}
+use Rattle.std.proofs.Common.{◌≡◌, ℕ, cond, eqb, List, length, ◌∙◌, ap}
 use Rattle.lis_ports.specs.Bytes.{part, put}
 use Rattle.lis_journal.specs.Images.{look}
 use Rattle.lis_journal.specs.Phases.{looked}
