@@ -1,11 +1,12 @@
 -- The laws at small states: a listing and a route, states that are well formed, and axioms in a circle, where the laws fail.
-use Rattle.std.proofs.Common.{◌≡◌, ℕ, false, List, [], ◌∷◌, codes, refl, arith}
+use Rattle.std.proofs.Common.{◌≡◌, ℕ, true, false, List, [], ◌∷◌, codes, refl, arith}
 use Rattle.lis_grammar.specs.Formula.Formula.{Has}
 use Rattle.lis_model.specs.declared.limits.Limits.{Limits}
 use Rattle.lis_model.specs.State.{State, File, WellFormed, is_acyclic, description, edges}
 use Rattle.lis_model.specs.Table.{table, entry_of}
 use Rattle.lis_model.specs.Listing.{increments, locals}
 use Rattle.lis_model.specs.Route.{route}
+use Rattle.lis_laws.specs.Steps.{is_payload}
 use Rattle.lis_laws.proofs.Chains.{acyclic_decides}
 
 abbrev small : Limits
@@ -26,12 +27,13 @@ tree = record {
 
 tree_formed : WellFormed tree
 tree_formed = record {
+  limits = refl;
   declared_set = refl;
   axiom_set = refl;
   file_set = refl;
   declared = refl;
   axioms = record { rights = refl; lefts = refl; acyclic = (acyclic_decides (edges tree)).0 refl };
-  files = record { assigned_sets = refl; assigned = refl; few_assigned = refl; few_words = refl; short = refl };
+  files = record { names = refl; assigned_sets = refl; assigned = refl; few_assigned = refl; few_words = refl; short = refl };
   few_files = omega arith;
   few_known = omega arith;
   few_axioms = omega arith;
@@ -77,3 +79,13 @@ circle_shows = refl
 
 circle_keeps : locals (table circle) [] ≡ entry_of (edges circle) (file (codes "y") []) ∷ []
 circle_keeps = refl
+
+-- ---- payloads: of one that is too large for a file its size alone is kept
+whole_payload : is_payload (record { size = 3; bytes = codes "abc" }) ≡ true
+whole_payload = refl
+
+large_payload : is_payload (record { size = 65537; bytes = [] }) ≡ true
+large_payload = refl
+
+short_payload : is_payload (record { size = 3; bytes = codes "ab" }) ≡ false
+short_payload = refl

@@ -53,6 +53,7 @@ keeps_all declared word w h = has_word_from_among (with_word declared word) w (i
 
 pub declares : (s : State) → WellFormed s → (word : List ℕ) → is_declarable word ≡ true → length (known (word_declared s word)) ≤ s.limits.props → WellFormed (word_declared s word)
 declares s formed word form few = record {
+  limits = formed.limits;
   declared_set = rising_insert_key word_cmp word_order s.declared word formed.declared_set;
   axiom_set = formed.axiom_set;
   file_set = formed.file_set;
@@ -63,6 +64,7 @@ declares s formed word form few = record {
     acyclic = formed.axioms.acyclic;
   };
   files = record {
+    names = formed.files.names;
     assigned_sets = formed.files.assigned_sets;
     assigned = all_weaker _ _ s.files (λ file m h. all_weaker _ _ file.assigned (λ w n e. assignable_by s.declared (with_word s.declared word) w (keeps_all s.declared word w) (λ v. keeps_all s.declared word (head_bytes w)) e) h) formed.files.assigned;
     few_assigned = formed.files.few_assigned;
@@ -121,6 +123,7 @@ undeclares s formed word h = by (unused s word h)
 
     by : IsUnused s word → WellFormed (word_undeclared s word)
     by free = record {
+      limits = formed.limits;
       declared_set = rising_filter word_cmp _ s.declared formed.declared_set;
       axiom_set = formed.axiom_set;
       file_set = formed.file_set;
@@ -132,6 +135,7 @@ undeclares s formed word h = by (unused s word h)
         acyclic = formed.axioms.acyclic;
       };
       files = record {
+        names = formed.files.names;
         assigned_sets = formed.files.assigned_sets;
         assigned = all_weaker _ _ s.files (λ file m e. all_weaker _ _ file.assigned (λ w n a. assignable_by s.declared (others s.declared word) w
             (keeps_other s.declared word w (free.in_files file m w (own_has file w w n (up_self (edges s) w))))
@@ -152,6 +156,7 @@ undeclares s formed word h = by (unused s word h)
 -- ---- axioms
 pub adds_axiom : (s : State) → WellFormed s → (pair : List ℕ × List ℕ) → AxiomFits s pair → WellFormed (axiom_added s pair)
 adds_axiom s formed pair fits = record {
+  limits = formed.limits;
   declared_set = formed.declared_set;
   axiom_set = rising_insert_key pair_cmp pair_order s.axioms pair formed.axiom_set;
   file_set = formed.file_set;
@@ -162,6 +167,7 @@ adds_axiom s formed pair fits = record {
     acyclic = (acyclic_with_axiom s.axioms pair).1 (formed.axioms.acyclic, no_way_back);
   };
   files = record {
+    names = formed.files.names;
     assigned_sets = formed.files.assigned_sets;
     assigned = formed.files.assigned;
     few_assigned = formed.files.few_assigned;
@@ -182,6 +188,7 @@ adds_axiom s formed pair fits = record {
 
 pub removes_axiom : (s : State) → WellFormed s → (pair : List ℕ × List ℕ) → WellFormed (axiom_removed s pair)
 removes_axiom s formed pair = record {
+  limits = formed.limits;
   declared_set = formed.declared_set;
   axiom_set = rising_filter pair_cmp _ s.axioms formed.axiom_set;
   file_set = formed.file_set;
@@ -192,6 +199,7 @@ removes_axiom s formed pair = record {
     acyclic = acyclic_within (axiom_removed s pair).axioms s.axioms fewer formed.axioms.acyclic;
   };
   files = record {
+    names = formed.files.names;
     assigned_sets = formed.files.assigned_sets;
     assigned = formed.files.assigned;
     few_assigned = formed.files.few_assigned;
@@ -216,12 +224,14 @@ removes_axiom s formed pair = record {
 -- ---- files
 pub adds_file : (s : State) → WellFormed s → (file : File) → FileFits s file → WellFormed (file_added s file)
 adds_file s formed file fits = record {
+  limits = formed.limits;
   declared_set = formed.declared_set;
   axiom_set = formed.axiom_set;
   file_set = rising_insert_key file_cmp file_order s.files file formed.file_set;
   declared = formed.declared;
   axioms = formed_axioms formed.axioms;
   files = record {
+    names = all_insert_key file_cmp _ s.files file formed.files.names fits.name;
     assigned_sets = all_insert_key file_cmp _ s.files file formed.files.assigned_sets fits.assigned_set;
     assigned = all_insert_key file_cmp _ s.files file formed.files.assigned fits.assigned;
     few_assigned = all_insert_key file_cmp _ s.files file formed.files.few_assigned (le-leb _ _ fits.few_assigned);
@@ -239,12 +249,14 @@ adds_file s formed file fits = record {
 
 pub removes_file : (s : State) → WellFormed s → (name : List ℕ) → WellFormed (file_removed s name)
 removes_file s formed name = record {
+  limits = formed.limits;
   declared_set = formed.declared_set;
   axiom_set = formed.axiom_set;
   file_set = rising_filter file_cmp _ s.files formed.file_set;
   declared = formed.declared;
   axioms = formed_axioms formed.axioms;
   files = record {
+    names = all_filter _ _ s.files formed.files.names;
     assigned_sets = all_filter _ _ s.files formed.files.assigned_sets;
     assigned = all_filter _ _ s.files formed.files.assigned;
     few_assigned = all_filter _ _ s.files formed.files.few_assigned;
@@ -266,6 +278,7 @@ removes_file s formed name = record {
 pub replaces_file : (s : State) → WellFormed s → (old new : File) → Among s.files old → FileReplaces s old new → WellFormed (file_replaced s old.name new)
 replaces_file s formed old new m fits =
     adds_file (file_removed s old.name) (removes_file s formed old.name) new (record {
+      name = fits.name;
       assigned_set = fits.assigned_set;
       assigned = fits.assigned;
       few_assigned = fits.few_assigned;

@@ -1,16 +1,17 @@
--- The words of every item of an input have the forms of words and of names.
-use Rattle.std.proofs.Common.{◌≡◌, ℕ, zero, suc, Bool, true, false, cond, Some, Ok, Err, List, [], ◌∷◌, ◌++◌, length, take, nat_lt, nat_le, refl, ◌∙◌, codes}
+-- The words, names and payload of every item of an input are in form.
+use Rattle.std.proofs.Common.{◌≡◌, ◌==◌, ℕ, zero, suc, Bool, true, false, ◌&&◌, cond, Option, Some, None, Ok, Err, List, [], ◌∷◌, ◌++◌, length, take, drop, nat_lt, nat_le, refl, ◌∙◌, codes, arith, eq-eqb}
 use Rattle.std.specs.Option.{option_to_list}
 use Rattle.std.specs.List.{list_all, list_any}
-use Rattle.std.proofs.lemmas.Bool.{and_from}
+use Rattle.std.proofs.lemmas.Bool.{and_parts, and_from, ltb-false}
+use Rattle.std.proofs.lemmas.List.{length-take}
 use Rattle.std.proofs.lemmas.List.Folds.{list_all-append}
-use Rattle.lis_words.specs.Words.{same_word, is_word, is_file_name}
-use Rattle.lis_model.specs.declared.refusal.Refusal.TheVariants.{BadLine, LongLine, TooManyAssigned}
-use Rattle.lis_model.specs.declared.command.Command.TheVariants.{Mkdir, Pwd, Ls}
-use Rattle.lis_model.specs.Step.{Item, no_payload}
+use Rattle.lis_words.specs.Words.{same_word, is_word, is_file_name, is_count}
+use Rattle.lis_model.specs.declared.refusal.Refusal.TheVariants.{BadLine, LongLine, CutPayload, PayloadEnd, TooManyAssigned}
+use Rattle.lis_model.specs.declared.command.Command.TheVariants.{Mkdir, Cat, Rm, Pwd, Ls}
+use Rattle.lis_model.specs.Step.{Item, Payload, no_payload}
 use Rattle.lis_model.specs.Step.Item.{Do, Bad}
-use Rattle.lis_model.specs.Script.{bad_line, mkdir_form, tags_form, create_named, create_form, cd_form, alone_form, form_of, item_of_words, item_of, words_of, without_return, before_feed, after_feed, items_within, all_items, whole_within, whole_items, script, is_feed}
-use Rattle.lis_laws.specs.Steps.{is_formed}
+use Rattle.lis_model.specs.Script.{bad_line, mkdir_form, tags_form, create_named, create_form, add_named, add_form, file_form, cd_form, alone_form, form_of, item_of_words, item_of, line_words, is_long, payload_of, payload_size, before_feed, after_feed, First, first_ended, first_with, first_by, first_of, items_within, all_items, whole_within, whole_items, script, is_feed}
+use Rattle.lis_laws.specs.Steps.{is_payload, is_formed}
 
 -- a choice of two items in form is one
 chosen : (b : Bool) (x y : Item) → is_formed x ≡ true → is_formed y ≡ true → is_formed (cond b x y) ≡ true
@@ -22,22 +23,54 @@ tested : (b : Bool) (x : Item) → (b ≡ true → is_formed x ≡ true) → is_
 tested true x h = h refl
 tested false x h = refl
 
+-- what is kept of a payload
+payload_formed : (size : ℕ) (bytes : List ℕ) → length bytes ≡ size → is_payload (payload_of size bytes) ≡ true
+payload_formed size bytes is = by (nat_le size 65536)
+  where
+    by : (b : Bool) → (length (cond b bytes []) == cond b size 0) ≡ true
+    by true = eq-eqb (length bytes) size is
+    by false = refl
+
 mkdir_formed : (words : List (List ℕ)) → is_formed (mkdir_form words) ≡ true
 mkdir_formed [] = refl
-mkdir_formed (word ∷ []) = tested (is_word word) (Do (Mkdir word) no_payload) (λ e. e)
+mkdir_formed (word ∷ []) = tested (is_word word) (Do (Mkdir word) no_payload) (λ e. and_from _ _ e refl)
 mkdir_formed (word ∷ more ∷ words) = refl
 
-named_formed : (name : List ℕ) (words : List (List ℕ)) → is_file_name name ≡ true → is_formed (create_named name (tags_form words)) ≡ true
-named_formed name words named = by (list_all is_word words) refl (nat_lt 16 (length words))
+create_named_formed : (name : List ℕ) (words : List (List ℕ)) → is_file_name name ≡ true → is_formed (create_named name (tags_form words)) ≡ true
+create_named_formed name words named = by (list_all is_word words) refl (nat_lt 16 (length words))
   where
     by : (b : Bool) → list_all is_word words ≡ b → (many : Bool) → is_formed (create_named name (cond b (cond many (Err TooManyAssigned) (Ok words)) (Err BadLine))) ≡ true
     by true e true = refl
-    by true e false = and_from _ _ named e
+    by true e false = and_from _ _ (and_from _ _ named e) refl
     by false e many = refl
 
 create_formed : (words : List (List ℕ)) → is_formed (create_form words) ≡ true
 create_formed [] = refl
-create_formed (name ∷ words) = tested (is_file_name name) (create_named name (tags_form words)) (named_formed name words)
+create_formed (name ∷ words) = tested (is_file_name name) (create_named name (tags_form words)) (create_named_formed name words)
+
+add_named_formed : (name : List ℕ) (words : List (List ℕ)) (payload : Payload) → is_payload payload ≡ true → is_file_name name ≡ true → is_formed (add_named name payload (tags_form words)) ≡ true
+add_named_formed name words payload sized named = by (list_all is_word words) refl (nat_lt 16 (length words))
+  where
+    by : (b : Bool) → list_all is_word words ≡ b → (many : Bool) → is_formed (add_named name payload (cond b (cond many (Err TooManyAssigned) (Ok words)) (Err BadLine))) ≡ true
+    by true e true = refl
+    by true e false = and_from _ _ (and_from _ _ named e) sized
+    by false e many = refl
+
+add_formed : (words : List (List ℕ)) (payload : Payload) → is_payload payload ≡ true → is_formed (add_form words payload) ≡ true
+add_formed [] payload sized = refl
+add_formed (name ∷ []) payload sized = refl
+add_formed (name ∷ size ∷ words) payload sized =
+    tested (is_file_name name && is_count size) (add_named name payload (tags_form words)) (λ e. add_named_formed name words payload sized (and_parts _ _ e).0)
+
+cat_formed : (words : List (List ℕ)) → is_formed (file_form (λ name. Do (Cat name) no_payload) words) ≡ true
+cat_formed [] = refl
+cat_formed (name ∷ []) = tested (is_file_name name) (Do (Cat name) no_payload) (λ e. and_from _ _ e refl)
+cat_formed (name ∷ more ∷ words) = refl
+
+rm_formed : (words : List (List ℕ)) → is_formed (file_form (λ name. Do (Rm name) no_payload) words) ≡ true
+rm_formed [] = refl
+rm_formed (name ∷ []) = tested (is_file_name name) (Do (Rm name) no_payload) (λ e. and_from _ _ e refl)
+rm_formed (name ∷ more ∷ words) = refl
 
 cd_formed : (words : List (List ℕ)) → is_formed (cd_form words) ≡ true
 cd_formed [] = refl
@@ -48,25 +81,57 @@ alone_formed : (item : Item) (words : List (List ℕ)) → is_formed item ≡ tr
 alone_formed item [] h = h
 alone_formed item (word ∷ words) h = refl
 
-line_formed : (first : List ℕ) (words : List (List ℕ)) → is_formed (form_of first words) ≡ true
-line_formed first words =
+line_formed : (first : List ℕ) (words : List (List ℕ)) (payload : Payload) → is_payload payload ≡ true → is_formed (form_of first words payload) ≡ true
+line_formed first words payload sized =
     chosen (same_word first (codes "mkdir")) _ _ (mkdir_formed words)
     (chosen (same_word first (codes "create")) _ _ (create_formed words)
+    (chosen (same_word first (codes "add")) _ _ (add_formed words payload sized)
+    (chosen (same_word first (codes "cat")) _ _ (cat_formed words)
+    (chosen (same_word first (codes "rm")) _ _ (rm_formed words)
     (chosen (same_word first (codes "cd")) _ _ (cd_formed words)
     (chosen (same_word first (codes "pwd")) _ _ (alone_formed (Do Pwd no_payload) words refl)
-    (chosen (same_word first (codes "ls")) _ _ (alone_formed (Do Ls no_payload) words refl) refl))))
+    (chosen (same_word first (codes "ls")) _ _ (alone_formed (Do Ls no_payload) words refl) refl)))))))
 
-words_formed : (words : List (List ℕ)) → list_all is_formed (option_to_list (item_of_words words)) ≡ true
-words_formed [] = refl
-words_formed (first ∷ words) = and_from _ _ (line_formed first words) refl
+-- the items of a part of the input, none or one
+abbrev AreFormed : Option Item → Type 0
+AreFormed item = list_all is_formed (option_to_list item) ≡ true
 
-item_formed : (text : List ℕ) → list_all is_formed (option_to_list (item_of text)) ≡ true
-item_formed text = by (nat_lt 1024 (length text)) (words_formed (words_of (without_return text)))
+words_formed : (words : List (List ℕ)) (payload : Payload) → is_payload payload ≡ true → AreFormed (item_of_words words payload)
+words_formed [] payload sized = refl
+words_formed (first ∷ words) payload sized = and_from _ _ (line_formed first words payload sized) refl
+
+item_formed : (text : List ℕ) (payload : Payload) → is_payload payload ≡ true → AreFormed (item_of text payload)
+item_formed text payload sized = by (is_long text) (words_formed (line_words text) payload sized)
   where
-    by : (b : Bool) → list_all is_formed (option_to_list (item_of_words (words_of (without_return text)))) ≡ true
-        → list_all is_formed (option_to_list (cond b (Some (Bad LongLine)) (item_of_words (words_of (without_return text))))) ≡ true
+    by : (b : Bool) → AreFormed (item_of_words (line_words text) payload) → AreFormed (cond b (Some (Bad LongLine)) (item_of_words (line_words text) payload))
     by true rest = refl
     by false rest = rest
+
+ended_formed : (item : Option Item) (bytes : List ℕ) → AreFormed item → AreFormed (first_ended item bytes).item
+ended_formed item [] h = h
+ended_formed item (b ∷ bytes) h = by (is_feed b)
+  where
+    by : (t : Bool) → AreFormed (cond {A = First} t (record { item = item; rest = bytes; is_whole = true }) (record { item = Some (Bad PayloadEnd); rest = after_feed bytes; is_whole = list_any is_feed bytes })).item
+    by true = h
+    by false = refl
+
+with_formed : (text : List ℕ) (size : ℕ) (bytes : List ℕ) → AreFormed (first_with text size bytes).item
+with_formed text size bytes = by (nat_lt (length bytes) size) refl
+  where
+    taken : nat_lt (length bytes) size ≡ false → length (take size bytes) ≡ size
+    taken e = omega (arith, ltb-false _ _ e, length-take size bytes)
+
+    by : (t : Bool) → nat_lt (length bytes) size ≡ t
+        → AreFormed (cond {A = First} t (record { item = Some (Bad CutPayload); rest = []; is_whole = false }) (first_ended (item_of text (payload_of size (take size bytes))) (drop size bytes))).item
+    by true e = refl
+    by false e = ended_formed (item_of text (payload_of size (take size bytes))) (drop size bytes) (item_formed text (payload_of size (take size bytes)) (payload_formed size (take size bytes) (taken e)))
+
+first_formed : (bytes : List ℕ) → AreFormed (first_of bytes).item
+first_formed bytes = by (payload_size (before_feed bytes))
+  where
+    by : (size : Option ℕ) → AreFormed (first_by size bytes).item
+    by None = item_formed (before_feed bytes) no_payload refl
+    by (Some size) = with_formed (before_feed bytes) size (after_feed bytes)
 
 both_formed : (items more : List Item) → list_all is_formed items ≡ true → list_all is_formed more ≡ true → list_all is_formed (items ++ more) ≡ true
 both_formed items more h k = list_all-append is_formed items more ∙ and_from _ _ h k
@@ -75,23 +140,30 @@ within_formed : (n : ℕ) (bytes : List ℕ) → list_all is_formed (items_withi
 within_formed zero bytes = refl
 within_formed (suc n) [] = refl
 within_formed (suc n) (b ∷ bytes) =
-    both_formed (option_to_list (item_of (before_feed (b ∷ bytes)))) (items_within n (after_feed (b ∷ bytes)))
-    (item_formed (before_feed (b ∷ bytes))) (within_formed n (after_feed (b ∷ bytes)))
+    both_formed (option_to_list (first_of (b ∷ bytes)).item) (items_within n (first_of (b ∷ bytes)).rest)
+    (first_formed (b ∷ bytes)) (within_formed n (first_of (b ∷ bytes)).rest)
 
-whole_formed : (n : ℕ) (bytes : List ℕ) → list_all is_formed (whole_within n bytes) ≡ true
-whole_formed zero bytes = refl
-whole_formed (suc n) [] = refl
-whole_formed (suc n) (b ∷ bytes) = by (list_any is_feed (b ∷ bytes)) (whole_formed n (after_feed (b ∷ bytes)))
+whole_within_formed : (n : ℕ) (bytes : List ℕ) → list_all is_formed (whole_within n bytes) ≡ true
+whole_within_formed zero bytes = refl
+whole_within_formed (suc n) [] = refl
+whole_within_formed (suc n) (b ∷ bytes) = by (first_of (b ∷ bytes)).is_whole (whole_within_formed n (first_of (b ∷ bytes)).rest)
   where
-    by : (w : Bool) → list_all is_formed (whole_within n (after_feed (b ∷ bytes))) ≡ true
-        → list_all is_formed (cond w (option_to_list (item_of (before_feed (b ∷ bytes))) ++ whole_within n (after_feed (b ∷ bytes))) []) ≡ true
-    by true rest = both_formed (option_to_list (item_of (before_feed (b ∷ bytes)))) (whole_within n (after_feed (b ∷ bytes))) (item_formed (before_feed (b ∷ bytes))) rest
+    by : (w : Bool) → list_all is_formed (whole_within n (first_of (b ∷ bytes)).rest) ≡ true
+        → list_all is_formed (cond w (option_to_list (first_of (b ∷ bytes)).item ++ whole_within n (first_of (b ∷ bytes)).rest) []) ≡ true
+    by true rest = both_formed (option_to_list (first_of (b ∷ bytes)).item) (whole_within n (first_of (b ∷ bytes)).rest) (first_formed (b ∷ bytes)) rest
     by false rest = refl
 
+pub all_formed : (bytes : List ℕ) → list_all is_formed (all_items bytes) ≡ true
+unfolding all_items
+all_formed bytes = within_formed (length bytes) bytes
+
+pub whole_formed : (bytes : List ℕ) → list_all is_formed (whole_items bytes) ≡ true
+unfolding whole_items
+whole_formed bytes = whole_within_formed (length bytes) bytes
+
 pub items_formed : (bytes : List ℕ) (limit : ℕ) → list_all is_formed (script bytes limit) ≡ true
-unfolding all_items whole_items
 items_formed bytes limit = by (nat_le (length bytes) limit)
   where
     by : (b : Bool) → list_all is_formed (cond b (all_items bytes) (whole_items (take limit bytes))) ≡ true
-    by true = within_formed (length bytes) bytes
-    by false = whole_formed (length (take limit bytes)) (take limit bytes)
+    by true = all_formed bytes
+    by false = whole_formed (take limit bytes)

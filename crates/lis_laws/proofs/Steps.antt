@@ -1,29 +1,31 @@
 -- A step keeps states well formed, command by command.
-use Rattle.std.proofs.Common.{◌≡◌, ◌⊎◌, ℕ, ◌+◌, ◌*◌, ◌≤◌, nat_lt, Bool, true, false, ◌||◌, cond, Option, Some, None, unwrap_or, option_map, List, [], ◌∷◌, length, filter, refl, sym, subst, inl, inr, arith, length-append}
+use Rattle.std.proofs.Common.{◌≡◌, ◌⊎◌, ℕ, ◌+◌, ◌*◌, ◌≤◌, nat_lt, Bool, true, false, not, ◌||◌, cond, Option, Some, None, unwrap_or, option_map, List, [], ◌∷◌, ◌++◌, length, filter, refl, sym, subst, inl, inr, arith, length-append}
 use Rattle.std.specs.List.{list_all, flat_map}
-use Rattle.std.proofs.lemmas.Bool.{and_parts, and_from, or_cases, or_left, or_right, not-false, not_from_false, ltb-false, leb-false}
+use Rattle.std.proofs.lemmas.Bool.{and_parts, and_from, or_cases, or_left, or_right, not-false, not_from_false, ltb-false, leb-false, le-leb, eqb-true}
 use Rattle.lis_graph.specs.Graph.{is_rising}
-use Rattle.lis_words.specs.Words.{word_cmp, has_word, head_bytes, is_plain_word, is_head, is_valued, is_word, is_built_in}
+use Rattle.lis_words.specs.Words.{word_cmp, has_word, head_bytes, is_plain_word, is_head, is_valued, is_word, is_built_in, is_file_name}
 use Rattle.lis_grammar.specs.Formula.{Formula}
 use Rattle.lis_grammar.specs.Places.{Resolution, resolved, text_words}
 use Rattle.lis_grammar.proofs.Placed.{resolved_is_place, root_is_place}
 use Rattle.lis_grammar.specs.Places.Resolution.{NewPlace, BeyondLimits, Unreadable}
 use Rattle.lis_model.specs.declared.limits.Limits.{Limits}
 use Rattle.lis_model.specs.declared.refusal.Refusal.{Refusal}
-use Rattle.lis_model.specs.declared.refusal.Refusal.TheVariants.{UnknownProperty}
-use Rattle.lis_model.specs.declared.command.Command.TheVariants.{Mkdir, Create, Cd, Pwd, Ls}
+use Rattle.lis_model.specs.declared.refusal.Refusal.TheVariants.{UnknownProperty, NoFileHere, NoSpace}
+use Rattle.lis_model.specs.declared.command.Command.{Command}
+use Rattle.lis_model.specs.declared.command.Command.TheVariants.{Mkdir, Create, Add, Cat, Rm, Cd, Pwd, Ls}
+use Rattle.lis_model.specs.Ranges.{are_in_range}
 use Rattle.lis_model.specs.Sets.{with_words, set_of}
 use Rattle.lis_model.specs.Derived.{derived_words}
-use Rattle.lis_model.specs.State.{State, File, WellFormed, empty_state, heads, up, own_words, file_words, known, is_declarable, blocks_needed}
+use Rattle.lis_model.specs.State.{State, File, WellFormed, empty_state, heads, up, own_words, file_words, known, is_declarable, blocks_needed, used_blocks}
 use Rattle.lis_model.specs.Places.{all_conjuncts, place_tags, is_tag}
-use Rattle.lis_model.specs.Step.{Situation, situation_after, start_of, Outcome, Item, refused, judged, exceeds_known, with_declared, mkdir, mkdir_checks, new_file, with_file, assigned_at, create, create_checks, moved, cd_to, step}
+use Rattle.lis_model.specs.Step.{Situation, Payload, situation_after, start_of, Outcome, Item, refused, judged, exceeds_known, with_declared, mkdir, mkdir_checks, new_file, with_file, assigned_at, create, create_checks, free_blocks, add, add_checks, is_here, cat, without_file, rm, moved, cd_to, done, step}
 use Rattle.lis_model.specs.Step.Item.{Do, Bad}
-use Rattle.lis_laws.specs.Changes.{FileFits, blocks_used}
-use Rattle.lis_laws.specs.Steps.{is_formed, IsInForm}
+use Rattle.lis_laws.specs.Changes.{FileFits}
+use Rattle.lis_laws.specs.Steps.{has_forms, is_payload, is_formed, IsInForm}
 use Rattle.lis_laws.proofs.Members.{word_order, sorted_set_of}
 use Rattle.lis_laws.proofs.Chains.{Pairs, acyclic_decides}
 use Rattle.lis_laws.proofs.Counts.{rising_from_sorted, rising_filter, rising_insert_key, insert_key_le}
-use Rattle.lis_laws.proofs.Forms.{declares, adds_file}
+use Rattle.lis_laws.proofs.Forms.{declares, adds_file, removes_file}
 
 -- ---- rows of refusals
 -- no refusal of the row stands
@@ -39,6 +41,11 @@ judged_keeps P now (check ∷ checks) done h k = by check.0 refl (judged_keeps P
         → P (cond b (refused now check.1) (judged now checks done)).next
     by true e rest = h
     by false e rest = rest (λ none. k (e, none))
+
+-- none of a row, so none of its parts
+none_in_both : (checks more : List (Bool × Refusal)) → NoneStands (checks ++ more) → NoneStands checks × NoneStands more
+none_in_both [] more none = (tt, none)
+none_in_both (check ∷ checks) more none = let parts = none_in_both checks more none.1 in ((none.0, parts.0), parts.1)
 
 -- ---- mkdir
 declarable : (word : List ℕ) → is_word word ≡ true → is_valued word ≡ false → is_built_in word ≡ false → is_declarable word ≡ true
@@ -112,29 +119,76 @@ description_le file few =
       derived_few file.name file.bytes,
     )
 
-create_keeps : (now : Situation) (name : List ℕ) (words : List (List ℕ)) → IsInForm now → IsInForm (create now name words).next
-create_keeps now name words before = judged_keeps IsInForm now (create_checks now name words (assigned_at now.place words)) _ before made
+-- what a new file needs, where no refusal of its row stands and its bytes are not too many
+new_file_fits : (now : Situation) (name : List ℕ) (words : List (List ℕ)) (bytes : List ℕ) → IsInForm now → is_file_name name ≡ true
+    → length bytes ≤ 65536 → used_blocks now.state + blocks_needed (length bytes) ≤ now.state.limits.blocks
+    → NoneStands (create_checks now words (new_file name (assigned_at now.place words) bytes)) → FileFits now.state (new_file name (assigned_at now.place words) bytes)
+new_file_fits now name words bytes before named short room clear = record {
+  name = named;
+  assigned_set = words_rising (unwrap_or (place_tags now.place) []) words (tags_rising now.place);
+  assigned = not-false _ clear.1.1.1.1.0;
+  few_assigned = few;
+  few_words = subst (λ (axioms : Pairs). length (file_words axioms file) ≤ 128) (sym before.no_axioms) (description_le file few);
+  short = short;
+  few_files = leb-false _ _ clear.1.1.1.1.1.1.0;
+  few_known = room_for (with_file now.state file) clear.1.1.1.1.1.1.1.0;
+  few_blocks = room;
+}
   where
-    made : NoneStands (create_checks now name words (assigned_at now.place words)) → IsInForm (record { state = with_file now.state (new_file name (assigned_at now.place words)); place = now.place })
-    made none = record { state = adds_file now.state before.state (new_file name (assigned_at now.place words)) (fits none); no_axioms = before.no_axioms; place = before.place }
-      where
-        few : nat_lt 16 (length (assigned_at now.place words)) ≡ false → length (assigned_at now.place words) ≤ 16
-        few h = ltb-false _ _ h
+    file : File
+    file = new_file name (assigned_at now.place words) bytes
 
-        fits : NoneStands (create_checks now name words (assigned_at now.place words)) → FileFits now.state (new_file name (assigned_at now.place words))
-        fits clear = record {
-          assigned_set = words_rising (unwrap_or (place_tags now.place) []) words (tags_rising now.place);
-          assigned = not-false _ clear.1.1.1.1.0;
-          few_assigned = few clear.1.1.1.1.1.0;
-          few_words = subst (λ (axioms : Pairs). length (file_words axioms (new_file name (assigned_at now.place words))) ≤ 128) (sym before.no_axioms) (description_le (new_file name (assigned_at now.place words)) (few clear.1.1.1.1.1.0));
-          short = omega arith;
-          few_files = leb-false _ _ clear.1.1.1.1.1.1.0;
-          few_known = room_for (with_file now.state (new_file name (assigned_at now.place words))) clear.1.1.1.1.1.1.1.0;
-          few_blocks = no_blocks before.state.few_blocks;
-        }
-          where
-            no_blocks : blocks_used now.state ≤ now.state.limits.blocks → blocks_used now.state + blocks_needed 0 ≤ now.state.limits.blocks
-            no_blocks h = let none_needed : blocks_needed 0 ≡ 0 = refl in omega (arith, h, none_needed)
+    few : length (assigned_at now.place words) ≤ 16
+    few = ltb-false _ _ clear.1.1.1.1.1.0
+
+-- a new file keeps a situation in form
+new_file_keeps : (now : Situation) (file : File) → IsInForm now → FileFits now.state file → IsInForm (record { state = with_file now.state file; place = now.place })
+new_file_keeps now file before fits = record { state = adds_file now.state before.state file fits; no_axioms = before.no_axioms; place = before.place }
+
+create_keeps : (now : Situation) (name : List ℕ) (words : List (List ℕ)) → IsInForm now → is_file_name name ≡ true → IsInForm (create now name words).next
+create_keeps now name words before named = judged_keeps IsInForm now (create_checks now words file) _ before made
+  where
+    file : File
+    file = new_file name (assigned_at now.place words) []
+
+    room : used_blocks now.state ≤ now.state.limits.blocks → used_blocks now.state + blocks_needed 0 ≤ now.state.limits.blocks
+    room h = let none_needed : blocks_needed 0 ≡ 0 = refl in omega (arith, h, none_needed)
+
+    made : NoneStands (create_checks now words file) → IsInForm (record { state = with_file now.state file; place = now.place })
+    made none = new_file_keeps now file before (new_file_fits now name words [] before named (omega arith) (room before.state.few_blocks) none)
+
+-- ---- add
+-- a payload that a file may have
+fitting : (payload : Payload) → is_payload payload ≡ true → payload.size ≤ 65536 → length payload.bytes ≡ payload.size
+fitting payload sized small = subst (λ (b : Bool). length payload.bytes ≡ cond b payload.size 0) (le-leb payload.size 65536 small) (eqb-true _ _ sized)
+
+add_keeps : (now : Situation) (name : List ℕ) (words : List (List ℕ)) (payload : Payload) → IsInForm now → is_file_name name ≡ true → is_payload payload ≡ true
+    → IsInForm (add now name words payload).next
+add_keeps now name words payload before named sized = judged_keeps IsInForm now (add_checks now words file payload.size) _ before made
+  where
+    file : File
+    file = new_file name (assigned_at now.place words) payload.bytes
+
+    room : length payload.bytes ≡ payload.size → nat_lt (free_blocks now.state) (blocks_needed payload.size) ≡ false
+        → used_blocks now.state + blocks_needed (length payload.bytes) ≤ now.state.limits.blocks
+    room same h = rw same (omega (arith, ltb-false _ _ h, before.state.few_blocks))
+
+    made : NoneStands (add_checks now words file payload.size) → IsInForm (record { state = with_file now.state file; place = now.place })
+    made none =
+        let small = ltb-false _ _ none.0 in
+        let same = fitting payload sized small in
+        let parts = none_in_both (create_checks now words file) ((nat_lt (free_blocks now.state) (blocks_needed payload.size), NoSpace) ∷ []) none.1 in
+        new_file_keeps now file before (new_file_fits now name words payload.bytes before named (omega (arith, same, small)) (room same parts.1.0) parts.0)
+
+-- ---- cat and rm
+cat_keeps : (now : Situation) (name : List ℕ) → IsInForm now → IsInForm (cat now name).next
+cat_keeps now name before = judged_keeps IsInForm now ((not (is_here now name), NoFileHere) ∷ []) _ before (λ none. before)
+
+rm_keeps : (now : Situation) (name : List ℕ) → IsInForm now → IsInForm (rm now name).next
+rm_keeps now name before = judged_keeps IsInForm now ((not (is_here now name), NoFileHere) ∷ []) _ before made
+  where
+    made : NoneStands ((not (is_here now name), NoFileHere) ∷ []) → IsInForm (record { state = without_file now.state name; place = now.place })
+    made none = record { state = removes_file now.state before.state name; no_axioms = before.no_axioms; place = before.place }
 
 -- ---- cd
 cd_keeps : (now : Situation) (text : List ℕ) (r : Resolution) → resolved now.place text ≡ r → IsInForm now → IsInForm (cd_to now text r).next
@@ -147,13 +201,19 @@ cd_keeps now text (NewPlace place) e before = by (list_all (has_word (known now.
     by false = before
 
 -- ---- all commands
+command_keeps : (now : Situation) (command : Command) (payload : Payload) → IsInForm now → has_forms command ≡ true → is_payload payload ≡ true → IsInForm (done now command payload).next
+command_keeps now (Mkdir word) payload before form sized = mkdir_keeps now word before form
+command_keeps now (Create name words) payload before form sized = create_keeps now name words before (and_parts _ _ form).0
+command_keeps now (Add name words) payload before form sized = add_keeps now name words payload before (and_parts _ _ form).0 sized
+command_keeps now (Cat name) payload before form sized = cat_keeps now name before
+command_keeps now (Rm name) payload before form sized = rm_keeps now name before
+command_keeps now (Cd text) payload before form sized = cd_keeps now text (resolved now.place text) refl before
+command_keeps now Pwd payload before form sized = before
+command_keeps now Ls payload before form sized = before
+
 pub step_keeps : (now : Situation) (item : Item) → IsInForm now → is_formed item ≡ true → IsInForm (step now item).next
 unfolding step
-step_keeps now (Do (Mkdir word) payload) before form = mkdir_keeps now word before form
-step_keeps now (Do (Create name words) payload) before form = create_keeps now name words before
-step_keeps now (Do (Cd text) payload) before form = cd_keeps now text (resolved now.place text) refl before
-step_keeps now (Do Pwd payload) before form = before
-step_keeps now (Do Ls payload) before form = before
+step_keeps now (Do command payload) before form = let parts = and_parts (has_forms command) (is_payload payload) form in command_keeps now command payload before parts.0 parts.1
 step_keeps now (Bad refusal) before form = before
 
 pub items_keep : (now : Situation) (items : List Item) → IsInForm now → list_all is_formed items ≡ true → IsInForm (situation_after now items)
@@ -162,19 +222,20 @@ items_keep now (item ∷ items) before form =
     let parts = and_parts (is_formed item) (list_all is_formed items) form in
     items_keep (step now item).next items (step_keeps now item before parts.0) parts.1
 
-pub empty_formed : (limits : Limits) → WellFormed (empty_state limits)
-empty_formed limits = record {
+pub empty_formed : (limits : Limits) → are_in_range limits ≡ true → WellFormed (empty_state limits)
+empty_formed limits in_range = record {
+  limits = in_range;
   declared_set = refl;
   axiom_set = refl;
   file_set = refl;
   declared = refl;
   axioms = record { rights = refl; lefts = refl; acyclic = (acyclic_decides []).0 refl };
-  files = record { assigned_sets = refl; assigned = refl; few_assigned = refl; few_words = refl; short = refl };
+  files = record { names = refl; assigned_sets = refl; assigned = refl; few_assigned = refl; few_words = refl; short = refl };
   few_files = omega arith;
   few_known = omega arith;
   few_axioms = omega arith;
   few_blocks = omega arith;
 }
 
-pub start_formed : (limits : Limits) → IsInForm (start_of limits)
-start_formed limits = record { state = empty_formed limits; no_axioms = refl; place = root_is_place }
+pub start_formed : (limits : Limits) → are_in_range limits ≡ true → IsInForm (start_of limits)
+start_formed limits in_range = record { state = empty_formed limits in_range; no_axioms = refl; place = root_is_place }

@@ -1,11 +1,11 @@
 -- Changes of a state, and what must hold so that they keep it well formed.
-use Rattle.std.specs.Prelude.{ℕ, ◌+◌, ◌<◌, ◌≤◌, nat_le, Bool, not, ◌&&◌, ◌||◌, List, ◌++◌, length, map, sum, filter, IsTrue}
+use Rattle.std.specs.Prelude.{ℕ, ◌+◌, ◌<◌, ◌≤◌, nat_le, Bool, not, ◌&&◌, ◌||◌, List, ◌++◌, length, map, filter, IsTrue}
 use Rattle.std.specs.List.{list_all, flat_map, fold, Contains}
 use Rattle.std.specs.BTreeSet.{insert_key}
-use Rattle.lis_words.specs.Words.{word_cmp, same_word, has_word, is_plain_word, is_valued, is_built_in}
+use Rattle.lis_words.specs.Words.{word_cmp, same_word, has_word, is_plain_word, is_valued, is_built_in, is_file_name}
 use Rattle.lis_graph.specs.Graph.{is_rising}
 use Rattle.lis_model.specs.Sets.{with_word}
-use Rattle.lis_model.specs.State.{State, File, WellFormed, up, edges, description, known, left_words, is_declarable, is_assignable, is_nameable, file_cmp, blocks_needed}
+use Rattle.lis_model.specs.State.{State, File, WellFormed, up, edges, description, known, left_words, is_declarable, is_assignable, is_nameable, file_cmp, blocks_needed, used_blocks}
 use Rattle.lis_laws.specs.Laws.{with_axiom}
 
 -- ---- the changes
@@ -64,11 +64,8 @@ pub record AxiomFits (s : State) (pair : List ℕ × List ℕ) : Type 0 where
   pub few_known : length (known (axiom_added s pair)) ≤ s.limits.props
   pub few_words : IsTrue (list_all (λ (file : File). nat_le (length (description (axiom_added s pair) file)) 128) s.files)
 
--- how many blocks the files take
-abbrev pub blocks_used : State → ℕ
-blocks_used s = sum (map (λ (file : File). blocks_needed (length file.bytes)) s.files)
-
 pub record FileFits (s : State) (file : File) : Type 0 where
+  pub name : IsTrue (is_file_name file.name)
   pub assigned_set : IsTrue (is_rising word_cmp file.assigned)
   pub assigned : IsTrue (list_all (is_assignable s.declared) file.assigned)
   pub few_assigned : length file.assigned ≤ 16
@@ -76,17 +73,18 @@ pub record FileFits (s : State) (file : File) : Type 0 where
   pub short : length file.bytes ≤ 65536
   pub few_files : length s.files < s.limits.files
   pub few_known : length (known (file_added s file)) ≤ s.limits.props
-  pub few_blocks : blocks_used s + blocks_needed (length file.bytes) ≤ s.limits.blocks
+  pub few_blocks : used_blocks s + blocks_needed (length file.bytes) ≤ s.limits.blocks
 
 -- a file in the place of another one
 pub record FileReplaces (s : State) (old new : File) : Type 0 where
+  pub name : IsTrue (is_file_name new.name)
   pub assigned_set : IsTrue (is_rising word_cmp new.assigned)
   pub assigned : IsTrue (list_all (is_assignable s.declared) new.assigned)
   pub few_assigned : length new.assigned ≤ 16
   pub few_words : length (description s new) ≤ 128
   pub short : length new.bytes ≤ 65536
   pub few_known : length (known (file_replaced s old.name new)) ≤ s.limits.props
-  pub few_blocks : blocks_used s + blocks_needed (length new.bytes) ≤ s.limits.blocks + blocks_needed (length old.bytes)
+  pub few_blocks : used_blocks s + blocks_needed (length new.bytes) ≤ s.limits.blocks + blocks_needed (length old.bytes)
 
 -- Each change keeps a state well formed where what it brings is in form and within the limits; what takes something away needs no more
 -- than that it is not in use.

@@ -1,27 +1,44 @@
 -- What a command keeps.
-use Rattle.std.specs.Prelude.{◌≡◌, ℕ, Bool, true, ◌&&◌, List, [], IsTrue}
+use Rattle.std.specs.Prelude.{◌≡◌, ℕ, ◌==◌, nat_le, Bool, true, ◌&&◌, if◌then◌else◌, List, [], length, IsTrue}
 use Rattle.std.specs.List.{list_all}
 use Rattle.lis_words.specs.Words.{is_word, is_file_name}
 use Rattle.lis_grammar.specs.Places.{IsPlace}
 use Rattle.lis_model.specs.declared.limits.Limits.{Limits}
-use Rattle.lis_model.specs.declared.command.Command.TheVariants.{Mkdir, Create, Cd, Pwd, Ls}
+use Rattle.lis_model.specs.declared.command.Command.{Command}
+use Rattle.lis_model.specs.declared.command.Command.TheVariants.{Mkdir, Create, Add, Cat, Rm, Cd, Pwd, Ls}
+use Rattle.lis_model.specs.Ranges.{are_in_range}
 use Rattle.lis_model.specs.State.{WellFormed}
-use Rattle.lis_model.specs.Step.{Situation, Item, step, start_of, situation_after}
+use Rattle.lis_model.specs.Step.{Situation, Payload, Item, step, start_of, situation_after}
 use Rattle.lis_model.specs.Step.Item.{Do, Bad}
-use Rattle.lis_model.specs.Script.{script}
+use Rattle.lis_model.specs.Script.{all_items, whole_items, script}
 
--- the words of a command have the forms of words and of names
+-- the words and names of a command have their forms
+abbrev pub has_forms : Command → Bool
+has_forms (Mkdir word) = is_word word
+has_forms (Create name words) = is_file_name name && list_all is_word words
+has_forms (Add name words) = is_file_name name && list_all is_word words
+has_forms (Cat name) = is_file_name name
+has_forms (Rm name) = is_file_name name
+has_forms (Cd text) = true
+has_forms Pwd = true
+has_forms Ls = true
+
+-- as many bytes as the size says, where a file may have so many, and else none
+abbrev pub is_payload : Payload → Bool
+is_payload payload = length payload.bytes == (if nat_le payload.size 65536 then payload.size else 0)
+
+-- a command's words, names and payload are in form
 abbrev pub is_formed : Item → Bool
-is_formed (Do (Mkdir word) payload) = is_word word
-is_formed (Do (Create name words) payload) = is_file_name name && list_all is_word words
-is_formed (Do (Cd text) payload) = true
-is_formed (Do Pwd payload) = true
-is_formed (Do Ls payload) = true
+is_formed (Do command payload) = has_forms command && is_payload payload
 is_formed (Bad refusal) = true
 
--- and so are those of every item of an input
+-- and so are those of every item of an input: of all of it, of what is whole in it, and of a script
 abbrev pub ItemsAreFormed : Type 0
-ItemsAreFormed = (bytes : List ℕ) (limit : ℕ) → IsTrue (list_all is_formed (script bytes limit))
+ItemsAreFormed = (bytes : List ℕ) → record {
+  all : IsTrue (list_all is_formed (all_items bytes));
+  whole : IsTrue (list_all is_formed (whole_items bytes));
+  of_script : (limit : ℕ) → IsTrue (list_all is_formed (script bytes limit));
+}
 
 -- a well-formed state, without axioms, which no command makes yet, and a place within its limits
 pub record IsInForm (now : Situation) : Type 0 where
@@ -33,6 +50,6 @@ pub record IsInForm (now : Situation) : Type 0 where
 abbrev pub StepsKeepForm : Type 0
 StepsKeepForm = (now : Situation) (item : Item) → IsInForm now → IsTrue (is_formed item) → IsInForm (step now item).next
 
--- so all that a session from the empty state comes to is in form
+-- so all that a session from the empty state comes to is in form, where the limits are in range
 abbrev pub SessionsAreFormed : Type 0
-SessionsAreFormed = (limits : Limits) (bytes : List ℕ) (limit : ℕ) → IsInForm (situation_after (start_of limits) (script bytes limit))
+SessionsAreFormed = (limits : Limits) → IsTrue (are_in_range limits) → (bytes : List ℕ) (limit : ℕ) → IsInForm (situation_after (start_of limits) (script bytes limit))

@@ -46,7 +46,7 @@ pub fn changes_keep_form()
     ensures { ChangesKeepForm }
 {}
 
-/// The words of every item of an input have the forms of words and of names.
+/// The words, names and payload of every item of an input are in form.
 pub fn items_are_formed()
     ensures { ItemsAreFormed }
 {}
@@ -56,7 +56,7 @@ pub fn steps_keep_form()
     ensures { StepsKeepForm }
 {}
 
-/// All that a session from the empty state comes to is in form.
+/// All that a session from the empty state comes to is in form, where its limits are in range.
 pub fn sessions_are_formed()
     ensures { SessionsAreFormed }
 {}

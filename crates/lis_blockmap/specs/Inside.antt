@@ -1,0 +1,24 @@
+-- The row of free blocks. No public clause cites this module.
+use Rattle.std.specs.Prelude.{◌≡◌, ℕ, ◌<◌, ◌≤◌, nat_lt, Bool, not, false, List, length, map}
+use Rattle.std.specs.List.{range_with_len}
+use Rattle.lis_bits.specs.Rows.{Rows, get}
+use Rattle.lis_blockmap.specs.Bitmap.{free_count}
+
+-- which blocks are taken, by the row of the free ones
+unfoldable pub taken_of : Rows → ℕ → List Bool
+taken_of rows blocks = map (λ n. not (get rows 0 n)) (range_with_len 0 blocks)
+
+-- one row has the bits of so many blocks, and just the first `free` of them are true
+pub record HasFree (rows : Rows) (blocks free : ℕ) : Type 0 where
+  pub tall : length rows.rows ≡ 1
+  pub wide : blocks ≤ rows.bits
+  pub bits : (n : ℕ) → n < rows.bits → get rows 0 n ≡ nat_lt n free
+
+-- what the row keeps
+pub record IsSound (rows : Rows) (blocks free : ℕ) : Type 0 where
+  pub tall : length rows.rows ≡ 1
+  pub wide : blocks ≤ rows.bits
+  pub few : blocks ≤ 32768
+  -- no bit past the last block is true
+  pub past : (n : ℕ) → blocks ≤ n → n < rows.bits → get rows 0 n ≡ false
+  pub counted : free ≡ free_count (taken_of rows blocks)

@@ -1,0 +1,165 @@
+ghost use Rattle.std.specs.Prelude.{◌≡◌, ◌⊎◌, ◌↔◌, ℕ, ◌+◌, ◌*◌, ◌<◌, ◌≤◌, ◌==◌, if◌then◌else◌, false, true, List, length, take, drop, replicate, slice_set, IsTrue, IfOk, IsNone, IfNone, IfSome, OnSome};
+ghost use Rattle.lis_journal.specs.Images.{look};
+ghost use Rattle.lis_journal.specs.Staging.{with_entry, has_entry};
+ghost use Rattle.lis_blockmap.specs.Bitmap.{free_count, is_taken, bits_number, bitmap_bytes};
+ghost use Rattle.lis_blockmap.specs.Inside.{HasFree};
+
+use lis_bits::Rows;
+use lis_journal::Journal;
+use std::alloc::{AllocError, Global};
+use std::marker::Model;
+
+/// Which blocks are taken, by their numbers. All memory is taken by `new`.
+#[derive(Drop)]
+pub struct BlockMap {
+    blocks: u32,
+    free: u32,
+    // One row, of the free blocks. A bit that is past the last block is false, so that none is found there.
+    rows: Rows,
+}
+
+impl Model for BlockMap {
+    ghost use Rattle.std.specs.Prelude.{Bool, List};
+
+    ghost Value = { List Bool };
+
+    ghost use Rattle.lis_blockmap.specs.Inside.{taken_of, IsSound};
+
+    ghost view = { λ m. taken_of m.rows m.blocks };
+
+    ghost invariant = { λ m. IsSound m.rows m.blocks m.free };
+}
+
+// A row with the bits of so many blocks, all of them free.
+fn free_row(alloc: Global, blocks: u32) -> Result<Rows, AllocError>
+    requires { blocks ≤ 32768 }
+    ensures { IfOk result (λ rows. HasFree rows blocks blocks) }
+{
+    let mut rows = Rows::new(alloc, 1, (blocks + 63) / 64 * 64)?;
+    for n in 0..blocks {
+        rows.put(0, n, true);
+    }
+    Ok(rows)
+}
+
+impl BlockMap {
+    /// The bitmap of so many blocks, all of them free.
+    pub fn new(alloc: Global, blocks: u32) -> Result<BlockMap, AllocError>
+        requires some { 1 ≤ blocks }
+        requires few { blocks ≤ 32768 }
+        ensures { IfOk result (λ map. map ≡ replicate blocks false) }
+    {
+        Ok(BlockMap {
+            blocks,
+            free: blocks,
+            rows: free_row(alloc, blocks)?,
+        })
+    }
+
+    /// How many blocks there are.
+    pub fn len(&self) -> usize
+        ensures value { result ≡ length self.now }
+        ensures few { result ≤ 32768 }
+    {
+        self.blocks as usize
+    }
+
+    /// How many blocks are free.
+    pub fn free(&self) -> u32
+        ensures { result ≡ free_count self.now }
+    {
+        self.free
+    }
+
+    /// Whether a block is taken.
+    pub fn is_taken(&self, n: u16) -> bool
+        requires { n < length self.now }
+        ensures { result ≡ is_taken self.now n }
+    {
+        self.tells(u32::from(n))
+    }
+
+    /// Takes a free block, if there is one.
+    pub fn take(&mut self) -> Option<u16>
+        ensures none { IsNone result ↔ (free_count self.old ≡ 0) }
+        ensures stays { IfNone result (self.new ≡ self.old) }
+        ensures within { IfSome result (λ n. n < length self.old) }
+        ensures was_free { IfSome result (λ n. is_taken self.old n ≡ false) }
+        ensures taken { IfSome result (λ n. self.new ≡ slice_set self.old n true) }
+        ensures fewer { OnSome result (free_count self.new + 1 ≡ free_count self.old) }
+    {
+        let n = self.rows.next(0, 0)?;
+        self.rows.put(0, n, false);
+        self.free -= 1;
+        Some(n as u16)
+    }
+
+    /// Makes a taken block free.
+    pub fn give(&mut self, n: u16)
+        requires { IsTrue (is_taken self.old n) }
+        ensures given { self.new ≡ slice_set self.old n false }
+        ensures more { free_count self.new ≡ free_count self.old + 1 }
+    {
+        self.rows.put(0, u32::from(n), true);
+        self.free += 1;
+    }
+
+    /// Takes this free block.
+    pub fn mark(&mut self, n: u16)
+        requires within { n < length self.old }
+        requires free { is_taken self.old n ≡ false }
+        ensures marked { self.new ≡ slice_set self.old n true }
+        ensures fewer { free_count self.new + 1 ≡ free_count self.old }
+    {
+        self.rows.put(0, u32::from(n), false);
+        self.free -= 1;
+    }
+
+    /// Stages the bitmap's block.
+    pub fn stage_to(&self, journal: &mut Journal, n: u32)
+        requires home { 578 ≤ n }
+        requires within { n < journal.old.blocks }
+        requires unbroken { journal.old.is_broken ≡ false }
+        requires room { IsTrue (has_entry journal.old.staged n) ⊎ (length journal.old.staged < 575) }
+        ensures staged { journal.new
+            ≡ record journal.old { staged = with_entry journal.old.staged n (bitmap_bytes self.now) } }
+        ensures looks { (m : ℕ) (old : List ℕ) → look journal.new.staged m old
+            ≡ (if m == n then bitmap_bytes self.now else look journal.old.staged m old) }
+    {
+        let mut bytes = [0; 4096];
+        self.write_to(&mut bytes);
+        journal.stage(n, &bytes);
+    }
+
+    // Writes the bitmap's block.
+    fn write_to(&self, bytes: &mut [u8])
+        requires { length bytes.old ≡ 4096 }
+        ensures { bytes.new ≡ bitmap_bytes self.now }
+    {
+        for k in 0..4096 {
+            bytes[k] = self.byte(k as u32);
+        }
+    }
+
+    // The byte that tells eight blocks, the first of them in its lowest bit.
+    fn byte(&self, k: u32) -> u8
+        requires { k < 4096 }
+        ensures { result ≡ bits_number (take 8 (drop (8 * k) self.now)) }
+    {
+        let mut byte = 0;
+        for i in 0..8 {
+            byte = 2 * byte + u8::from(self.tells(8 * k + 7 - i));
+        }
+        byte
+    }
+
+    // Whether there is such a block, and it is taken.
+    fn tells(&self, n: u32) -> bool
+        ensures { result ≡ is_taken self.now n }
+    {
+        if n >= self.blocks {
+            return false;
+        }
+        !self.rows.get(0, n)
+    }
+}

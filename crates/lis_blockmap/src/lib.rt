@@ -1,0 +1,8 @@
+//! The bitmap of data blocks: which of them are taken, how many are free, and the block that tells it.
+#![tactic(auto)]
+
+mod block_map;
+#[cfg(test)]
+mod tests;
+
+pub use block_map::BlockMap;
