@@ -1,5 +1,5 @@
 -- The first element that passes a test, after a list is filtered or gets one key more.
-use Rattle.std.proofs.Common.{◌≡◌, ◌⊎◌, Bool, true, false, ◌&&◌, cond, Option, Some, None, List, [], ◌∷◌, filter, refl, sym, ap, subst, ◌∙◌, inl, inr}
+use Rattle.std.proofs.Common.{◌≡◌, ◌+◌, Bool, true, false, ◌&&◌, cond, Option, Some, None, List, [], ◌∷◌, filter, length, refl, sym, ap, subst, ◌∙◌, inl, inr, arith}
 use Rattle.std.specs.declared.cmp.Ordering.{Ordering}
 use Rattle.std.specs.declared.cmp.Ordering.TheVariants.{Less, Equal, Greater}
 use Rattle.std.specs.Ordering.{match_ordering}
@@ -78,3 +78,13 @@ module _ {K : Type 0} (test : K → Bool) where
       by Equal e b is absent more = absurd (new x (inl refl) e)
       by Greater e true is absent more = ap (λ t. cond t (Some x) (find test (insert_key cmp xs k))) is ∙ put (test k) absent
       by Greater e false is absent more = ap (λ t. cond t (Some x) (find test (insert_key cmp xs k))) is ∙ more absent
+
+-- a key that no other ties makes the list longer by one
+pub length-insert_key : {K : Type 0} (cmp : K → K → Ordering) (xs : List K) (k : K) → ((x : K) → Among xs x → cmp k x ≡ Equal → ⊥) → length (insert_key cmp xs k) ≡ length xs + 1
+length-insert_key cmp [] k new = omega arith
+length-insert_key cmp (x ∷ xs) k new = by (cmp k x) refl (length-insert_key cmp xs k (λ y m. new y (inr m)))
+  where
+    by : (r : Ordering) → cmp k x ≡ r → length (insert_key cmp xs k) ≡ length xs + 1 → length (match_ordering r (k ∷ x ∷ xs) (x ∷ xs) (x ∷ insert_key cmp xs k)) ≡ length (x ∷ xs) + 1
+    by Less e rest = omega arith
+    by Equal e rest = absurd (new x (inl refl) e)
+    by Greater e rest = omega (arith, rest)

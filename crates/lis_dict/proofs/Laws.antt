@@ -1,5 +1,5 @@
 -- What the calls do to the number of a word and to the word of a number.
-use Rattle.std.proofs.Common.{◌≡◌, ◌⊎◌, ℕ, ◌<◌, ◌≤◌, ◌==◌, nat_lt, Bool, true, false, not, cond, if◌then◌else◌, Option, Some, None, List, [], ◌∷◌, map, filter, length, get_or, IsTrue, refl, sym, ap, subst, ◌∙◌, inl, inr, arith}
+use Rattle.std.proofs.Common.{◌≡◌, ◌⊎◌, ℕ, ◌+◌, ◌<◌, ◌≤◌, ◌==◌, nat_lt, Bool, true, false, not, cond, if◌then◌else◌, Option, Some, None, List, [], ◌∷◌, map, filter, length, get_or, IsTrue, refl, sym, ap, subst, ◌∙◌, inl, inr, arith}
 use Rattle.std.specs.declared.cmp.Ordering.TheVariants.{Equal}
 use Rattle.std.specs.Option.{option_map}
 use Rattle.std.specs.BTreeSet.{insert_key}
@@ -9,9 +9,9 @@ use Rattle.std.proofs.lemmas.Map.Lookups.{exact_bytes}
 use Rattle.lis_graph.proofs.Members.{Among, among_filter, among_insert_key, among_map, map_among}
 use Rattle.lis_words.specs.Words.{is_word, same_word}
 use Rattle.lis_dict.specs.Dict.{Dict, IsDict, words, number_of, word_of, entry_cmp, with_entry, without_word}
-use Rattle.lis_dict.proofs.Finds.{all_among, all_from, find_among, find_none, none_found, find_filter, find_filter_none, find_insert_key}
+use Rattle.lis_dict.proofs.Finds.{all_among, all_from, find_among, find_none, none_found, find_filter, find_filter_none, find_insert_key, length-insert_key}
 use Rattle.lis_dict.proofs.Entries.{Entry, Ordered, Apart, ordered_from_rising, rising_from_ordered, apart_from_distinct, distinct_from_apart, unique_word, unique_number, ordered_insert, apart_insert, ordered_filter, apart_filter}
-use Rattle.lis_dict.proofs.Places.{same_true, same_from, same_false, is_other, other_true, filter_all, among_at, IsGap, gap_absent}
+use Rattle.lis_dict.proofs.Places.{same_true, same_from, same_false, is_other, other_true, filter_all, one_filtered, among_at, IsGap, gap_absent}
 
 abbrev has_this : List ℕ → Entry → Bool
 has_this word e = same_word e.0 word
@@ -131,6 +131,9 @@ module _ (d : Dict) (word : List ℕ) (number : ℕ) (new : number_of d word ≡
       by true = refl
       by false = refl
 
+  pub length-with_entry : length (with_entry d word number).entries ≡ length d.entries + 1
+  length-with_entry = length-insert_key entry_cmp d.entries (word, number) no_tie
+
   pub kept_with_entry : IsDict d → IsTrue (is_word word) → number < d.props → word_of d number ≡ None → length (with_entry d word number).entries ≤ d.props → IsDict (with_entry d word number)
   kept_with_entry kept form below free few = record {
     rising = rising_from_ordered (insert_key entry_cmp d.entries (word, number)) (ordered_insert d.entries (word, number) (ordered d kept));
@@ -177,6 +180,9 @@ module _ (d : Dict) (word : List ℕ) where
               ap not (same_false x.0 word (λ same.
                   let is_it = ap (λ (e : Entry). e.1) (unique_word d.entries (ordered d kept) x (word, number) m here same) in
                   let yes = eq-eqb number other (sym is_it ∙ eqb-true x.1 other has) in cc))))
+
+  pub length-without_word : IsDict d → (number : ℕ) → number_of d word ≡ Some number → length (without_word d word).entries + 1 ≡ length d.entries
+  length-without_word kept number there = one_filtered d.entries (ordered d kept) word number (among_from_number d word number there)
 
   pub kept_without_word : IsDict d → length (without_word d word).entries ≤ d.props → IsDict (without_word d word)
   kept_without_word kept few = record {

@@ -90,6 +90,18 @@ remove_found (e ∷ es) h word (suc k) lt at =
     let differ : e.0 ≡ word → ⊥ = λ same. below_none word (subst (λ w. word_cmp word w ≡ Less) (at e) (subst (λ w. word_cmp w (get_or es k e).0 ≡ Less) same lower)) in
     ap (λ ys. e ∷ ys) (remove_found es h.1 word k less (λ d. at d)) ∙ sym (ap (λ b. cond b (e ∷ filter (is_other word) es) (filter (is_other word) es)) (other_true word e differ))
 
+pub one_filtered : (es : List Entry) → Ordered es → (word : List ℕ) (number : ℕ) → Among es (word, number) → length (filter (is_other word) es) + 1 ≡ length es
+one_filtered [] h word number m = absurd m
+one_filtered (e ∷ es) h word number (inl at) =
+    let same : e.0 ≡ word = ap (λ (x : Entry). x.0) at in
+    let above : (x : Entry) → Among es x → x.0 ≡ word → ⊥ = λ x m there. below_none word (subst (λ w. word_cmp word w ≡ Less) there (subst (λ w. word_cmp w x.0 ≡ Less) same (h.0 x m))) in
+    let gone = ap (λ b. cond (not b) (e ∷ filter (is_other word) es) (filter (is_other word) es)) (same_true e.0 word same) ∙ filter_all (is_other word) es (λ x m. other_true word x (above x m)) in
+    omega (arith, ap length gone)
+one_filtered (e ∷ es) h word number (inr m) =
+    let lower = h.0 (word, number) m in
+    let kept = ap (λ b. cond b (e ∷ filter (is_other word) es) (filter (is_other word) es)) (other_true word e (λ same. below_none word (subst (λ w. word_cmp w word ≡ Less) same lower))) in
+    omega (arith, ap length kept, one_filtered es h.1 word number m)
+
 -- ---- the gap for the word
 abbrev pub IsGap : List Entry → List ℕ → ℕ → Type 0
 IsGap es word k = IsPartitionPoint (λ (e : Entry). word_cmp e.0 word ≡ Less) (λ (e : Entry). word_cmp e.0 word ≡ Greater) es k

@@ -17,7 +17,7 @@ pub struct NoPropertyRoom;
 
 // A word and its number.
 #[derive(Drop)]
-pub struct Entry {
+struct Entry {
     word: Word,
     number: u16,
 }
