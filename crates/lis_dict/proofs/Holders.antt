@@ -1,11 +1,11 @@
 -- The words by their numbers, beside the entries.
-use Rattle.std.proofs.Common.{◌≡◌, ◌⊎◌, ℕ, zero, suc, ◌+◌, ◌<◌, ◌≤◌, ◌==◌, Bool, true, false, cond, if◌then◌else◌, is_some, is_none, nat_lt, Option, Some, None, List, [], ◌∷◌, length, get_or, set, filter, IsTrue, refl, sym, ap, subst, ◌∙◌, inl, inr, arith, eq-eqb, length-set, get_or-set_same, get_or-set_other}
+use Rattle.std.proofs.Common.{◌≡◌, ◌⊎◌, ℕ, suc, ◌+◌, ◌<◌, ◌≤◌, ◌==◌, Bool, true, false, cond, if◌then◌else◌, is_some, is_none, nat_lt, Option, Some, None, List, [], ◌∷◌, length, get_or, set, filter, IsTrue, refl, sym, ap, subst, ◌∙◌, inl, inr, arith, eq-eqb, length-set, get_or-set_same, get_or-set_other}
 use Rattle.std.specs.BTreeSet.{insert_key}
 use Rattle.std.specs.List.{count_by, position, position_or_len}
 use Rattle.std.proofs.lemmas.Bool.{cases_eq, ne_eqb, ltb-false}
 use Rattle.std.proofs.lemmas.List.Sums.{sum_by-cons, sum_by-set, count_by-le-length}
 use Rattle.lis_words.specs.Words.{is_word}
-use Rattle.lis_dict.specs.Dict.{Dict, IsDict, number_of, word_of, entry_cmp, with_entry, without_word}
+use Rattle.lis_dict.specs.Dict.{Dict, IsDict, number_of, word_of, entry_cmp}
 use Rattle.lis_dict.specs.Inside.{dict_of, IsSound}
 use Rattle.lis_dict.proofs.Entries.{Entry}
 use Rattle.lis_dict.proofs.Places.{is_other}

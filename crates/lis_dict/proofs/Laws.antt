@@ -1,9 +1,9 @@
 -- What the calls do to the number of a word and to the word of a number.
-use Rattle.std.proofs.Common.{◌≡◌, ◌⊎◌, ℕ, ◌+◌, ◌<◌, ◌≤◌, ◌==◌, nat_lt, Bool, true, false, not, cond, if◌then◌else◌, Option, Some, None, List, [], ◌∷◌, map, filter, length, get_or, IsTrue, refl, sym, ap, subst, ◌∙◌, inl, inr, arith}
+use Rattle.std.proofs.Common.{◌≡◌, ◌⊎◌, ℕ, ◌+◌, ◌<◌, ◌≤◌, ◌==◌, nat_lt, Bool, true, false, not, cond, if◌then◌else◌, Option, Some, None, List, [], filter, length, get_or, IsTrue, refl, sym, ap, subst, ◌∙◌, inl, inr, arith}
 use Rattle.std.specs.declared.cmp.Ordering.TheVariants.{Equal}
 use Rattle.std.specs.Option.{option_map}
 use Rattle.std.specs.BTreeSet.{insert_key}
-use Rattle.std.specs.List.{find, list_all, HoldsAt}
+use Rattle.std.specs.List.{find, HoldsAt}
 use Rattle.std.proofs.lemmas.Bool.{eq-eqb, eqb-true, ltb-true, lt-ltb, ne_eqb}
 use Rattle.std.proofs.lemmas.Map.Lookups.{exact_bytes}
 use Rattle.lis_graph.proofs.Members.{Among, among_filter, among_insert_key, among_map, map_among}
@@ -174,12 +174,12 @@ module _ (d : Dict) (word : List ℕ) where
       by : (b : Bool) → (number == other) ≡ b → word_of (without_word d word) other ≡ (if b then None else word_of d other)
       by true is =
           ap (option_map (λ (e : Entry). e.0)) (find_filter_none (has_that other) (is_other word) d.entries (λ x m has.
-              ap not (same_true x.0 word (ap (λ (e : Entry). e.0) (unique_number d.entries (apart d kept) x (word, number) m here (eqb-true x.1 other has ∙ sym (eqb-true number other is)))))))
+          ap not (same_true x.0 word (ap (λ (e : Entry). e.0) (unique_number d.entries (apart d kept) x (word, number) m here (eqb-true x.1 other has ∙ sym (eqb-true number other is)))))))
       by false is =
           ap (option_map (λ (e : Entry). e.0)) (find_filter (has_that other) (is_other word) d.entries (λ x m has.
-              ap not (same_false x.0 word (λ same.
-                  let is_it = ap (λ (e : Entry). e.1) (unique_word d.entries (ordered d kept) x (word, number) m here same) in
-                  let yes = eq-eqb number other (sym is_it ∙ eqb-true x.1 other has) in cc))))
+          ap not (same_false x.0 word (λ same.
+          let is_it = ap (λ (e : Entry). e.1) (unique_word d.entries (ordered d kept) x (word, number) m here same) in
+          let yes = eq-eqb number other (sym is_it ∙ eqb-true x.1 other has) in cc))))
 
   pub length-without_word : IsDict d → (number : ℕ) → number_of d word ≡ Some number → length (without_word d word).entries + 1 ≡ length d.entries
   length-without_word kept number there = one_filtered d.entries (ordered d kept) word number (among_from_number d word number there)

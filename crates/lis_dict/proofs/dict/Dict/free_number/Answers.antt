@@ -1,4 +1,4 @@
-use Rattle.std.proofs.Common.{◌≡◌, None, is_none, length, sym, ap, ◌∙◌}
+use Rattle.std.proofs.Common.{is_none, length, sym, ap, ◌∙◌}
 use Rattle.std.specs.List.{position}
 use Rattle.lis_dict.specs.Dict.{Dict, word_of}
 use Rattle.lis_dict.proofs.Holders.{first_is_free, none_is_free}

@@ -1,8 +1,8 @@
-use Rattle.std.proofs.Common.{◌≡◌, ◌+◌, ◌<◌, ◌≤◌, List, Some, None, length, set, sym, ap, subst, ◌∙◌, arith, rules}
+use Rattle.std.proofs.Common.{◌≡◌, List, length, ap, subst, ◌∙◌, arith}
 use Rattle.std.specs.List.{HoldsAt, insert}
 use Rattle.std.proofs.lemmas.List.Edits.{length-insert}
-use Rattle.lis_dict.specs.Dict.{Dict, number_of, word_of, with_entry}
-use Rattle.lis_dict.specs.Inside.{dict_of, IsSound}
+use Rattle.lis_dict.specs.Dict.{Dict, with_entry}
+use Rattle.lis_dict.specs.Inside.{dict_of}
 use Rattle.lis_dict.proofs.Entries.{Entry}
 use Rattle.lis_dict.proofs.Places.{IsGap, insert_gap}
 use Rattle.lis_dict.proofs.Laws.{not_found}
