@@ -1,10 +1,10 @@
 -- What the calls do to the number of a word and to the word of a number.
-use Rattle.std.proofs.Common.{◌≡◌, ◌⊎◌, ℕ, ◌+◌, ◌<◌, ◌≤◌, ◌==◌, nat_lt, Bool, true, false, not, cond, if◌then◌else◌, Option, Some, None, List, [], filter, length, get_or, IsTrue, refl, sym, ap, subst, ◌∙◌, inl, inr, arith}
+use Rattle.std.proofs.Common.{◌≡◌, ◌⊎◌, ℕ, ◌+◌, ◌<◌, ◌≤◌, ◌==◌, nat_lt, Bool, true, false, not, cond, if◌then◌else◌, Option, Some, None, List, [], filter, length, get_or, IsTrue, refl, sym, ap, subst, ◌∙◌, inl, inr}
 use Rattle.std.specs.declared.cmp.Ordering.TheVariants.{Equal}
 use Rattle.std.specs.Option.{option_map}
 use Rattle.std.specs.BTreeSet.{insert_key}
 use Rattle.std.specs.List.{find, HoldsAt}
-use Rattle.std.proofs.lemmas.Bool.{eq-eqb, eqb-true, ltb-true, lt-ltb, ne_eqb}
+use Rattle.std.proofs.lemmas.Bool.{eq-eqb, eqb-true, ltb-true, lt-ltb}
 use Rattle.std.proofs.lemmas.Map.Lookups.{exact_bytes}
 use Rattle.lis_graph.proofs.Members.{Among, among_filter, among_insert_key, among_map, map_among}
 use Rattle.lis_words.specs.Words.{is_word, same_word}
@@ -21,6 +21,7 @@ has_that number e = e.1 == number
 
 -- ---- entries, numbers and words
 module _ (d : Dict) where
+  -- an entry has the word and the number
   pub among_from_number : (word : List ℕ) (number : ℕ) → number_of d word ≡ Some number → Among d.entries (word, number)
   among_from_number word number h = by (find (has_this word) d.entries) refl h
     where
@@ -64,9 +65,6 @@ module _ (d : Dict) where
   pub none_has_word : (word : List ℕ) → ((x : Entry) → Among d.entries x → x.0 ≡ word → ⊥) → number_of d word ≡ None
   none_has_word word none = ap (option_map (λ (e : Entry). e.1)) (none_found (has_this word) d.entries (λ x m. same_false x.0 word (none x m)))
 
-  pub none_has_number : (number : ℕ) → ((x : Entry) → Among d.entries x → x.1 ≡ number → ⊥) → word_of d number ≡ None
-  none_has_number number none = ap (option_map (λ (e : Entry). e.0)) (none_found (has_that number) d.entries (λ x m. ne_eqb x.1 number (none x m)))
-
 module _ (d : Dict) (kept : IsDict d) where
   ordered : Ordered d.entries
   ordered = ordered_from_rising d.entries kept.rising
@@ -96,17 +94,16 @@ module _ (d : Dict) (kept : IsDict d) where
   pub word_from_number : (word : List ℕ) (number : ℕ) → number_of d word ≡ Some number → word_of d number ≡ Some word
   word_from_number word number h = word_from_among word number (among_from_number d word number h)
 
+  -- the number of a number's word is the number
   pub number_from_word : (word : List ℕ) (number : ℕ) → word_of d number ≡ Some word → number_of d word ≡ Some number
   number_from_word word number h = number_from_among word number (among_from_word d word number h)
 
   pub number_below : (word : List ℕ) (number : ℕ) → number_of d word ≡ Some number → number < d.props
   number_below word number h = ltb-true number d.props (all_among (λ (e : Entry). nat_lt e.1 d.props) d.entries (word, number) kept.below (among_from_number d word number h))
 
+  -- what has a number is a word
   pub word_is_formed : (word : List ℕ) (number : ℕ) → number_of d word ≡ Some number → IsTrue (is_word word)
   word_is_formed word number h = all_among is_word (words d) word kept.forms (map_among (λ (e : Entry). e.0) d.entries (word, number) (among_from_number d word number h))
-
-  pub past_is_free : (number : ℕ) → d.props ≤ number → word_of d number ≡ None
-  past_is_free number past = none_has_number d number (λ x m same. let lt = ltb-true x.1 d.props (all_among (λ (e : Entry). nat_lt e.1 d.props) d.entries x kept.below m) in omega (arith, lt, same, past))
 
 -- ---- one word more
 module _ (d : Dict) (word : List ℕ) (number : ℕ) (new : number_of d word ≡ None) where

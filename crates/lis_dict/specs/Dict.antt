@@ -13,9 +13,11 @@ pub record Dict : Type 0 where
   -- each word with its number, in the order of the words
   pub entries : List (List ℕ × ℕ)
 
+-- the words, in their order
 abbrev pub words : Dict → List (List ℕ)
 words d = map (λ e. e.0) d.entries
 
+-- the numbers, in the order of their words
 abbrev pub numbers : Dict → List ℕ
 numbers d = map (λ e. e.1) d.entries
 
@@ -27,6 +29,7 @@ number_of d word = option_map (λ e. e.1) (find (λ e. same_word e.0 word) d.ent
 abbrev pub word_of : Dict → ℕ → Option (List ℕ)
 word_of d number = option_map (λ e. e.0) (find (λ e. e.1 == number) d.entries)
 
+-- entries are ordered by their words
 abbrev pub entry_cmp : List ℕ × ℕ → List ℕ × ℕ → Ordering
 entry_cmp a b = word_cmp a.0 b.0
 
@@ -34,6 +37,7 @@ entry_cmp a b = word_cmp a.0 b.0
 abbrev pub with_entry : Dict → List ℕ → ℕ → Dict
 with_entry d word number = record d { entries = insert_key entry_cmp d.entries (word, number) }
 
+-- the dictionary, without the word
 abbrev pub without_word : Dict → List ℕ → Dict
 without_word d word = record d { entries = filter (λ e. not (same_word e.0 word)) d.entries }
 
