@@ -1,0 +1,6 @@
+//! The file records of an image in the order of their names. All memory is taken when a catalog is made.
+#![tactic(auto)]
+
+mod catalog;
+
+pub use catalog::{Catalog, CatalogFault};
