@@ -1,6 +1,6 @@
 -- What the parts of a catalog keep, with one file more and with one fewer.
-use Rattle.std.proofs.Common.{◌≡◌, ◌⊎◌, ℕ, zero, suc, ◌+◌, ◌<◌, ◌≤◌, Bool, true, false, not, cond, ◌||◌, ◌==◌, nat_lt, List, [], ◌∷◌, length, get_or, set, map, filter, Some, None, IsTrue, refl, sym, ap, subst, ◌∙◌, inl, inr, arith, eq-eqb, length-set, get_or-set_same, get_or-set_other}
-use Rattle.std.specs.List.{find, list_any, list_all, insert, remove, position, count_by}
+use Rattle.std.proofs.Common.{◌≡◌, ◌⊎◌, ℕ, ◌+◌, ◌<◌, ◌≤◌, Bool, true, false, not, cond, ◌||◌, ◌==◌, nat_lt, List, [], ◌∷◌, length, get_or, set, filter, Some, None, IsTrue, refl, sym, ap, subst, ◌∙◌, inl, inr, arith, eq-eqb, length-set, get_or-set_same, get_or-set_other}
+use Rattle.std.specs.List.{find, list_any, insert, remove, position}
 use Rattle.std.specs.List.Sorted.{IsStrictlySortedBy}
 use Rattle.std.proofs.lemmas.Bool.{cases_eq, ltb-true, lt-ltb, eqb-true, ne_eqb, not-true, or_parts}
 use Rattle.std.proofs.lemmas.List.Edits.{length-insert, length-remove}
@@ -10,11 +10,35 @@ use Rattle.std.proofs.lemmas.List.Quantifiers.{position-Some}
 use Rattle.std.proofs.lemmas.List.Sums.{sum_by-set, count_by-le-length, sum_by-cons}
 use Rattle.lis_graph.proofs.Sets.{sorted_insert_key}
 use Rattle.lis_words.specs.Words.{is_file_name}
-use Rattle.lis_catalog.specs.Catalog.{Filed, Catalog, filed_cmp, IsCatalog}
+use Rattle.lis_fields.specs.Records.{FileRecord}
+use Rattle.lis_catalog.specs.Catalog.{Filed, Catalog, rec_at, filed_cmp, IsCatalog}
 use Rattle.lis_catalog.specs.Inside.{has_slot, used_count, IsHeld, PlaceFor}
 use Rattle.lis_catalog.proofs.Order.{filed_order, sorted_from, rising_from}
 use Rattle.lis_catalog.proofs.Places.{no_file, insert_place}
-use Rattle.lis_catalog.proofs.Slots.{none_any, any_none, all_get, all_insert, any_insert, all_filter, none_found, apart_insert, apart_filter, is_other, slot_gone, slot_stays, removed}
+use Rattle.lis_catalog.proofs.Slots.{map_none, none_any, any_none, all_get, all_insert, any_insert, all_filter, none_found, apart_insert, apart_filter, is_other, slot_gone, slot_stays, removed}
+
+-- what a new file and its place must have
+pub record Fits (files : ℕ) (es : List Filed) (f : Filed) (k : ℕ) : Type 0 where
+  pub place : PlaceFor f.rec.name k es
+  pub within : k ≤ length es
+  pub form : IsTrue (is_file_name f.rec.name)
+  pub below : f.slot < files
+  pub free : find (λ (g : Filed). g.slot == f.slot) es ≡ None
+
+-- from what is said of the catalog as it is seen, of the entries as they were read, and of the name as it is held
+pub fits_from : (c : Catalog) (files : ℕ) (es read : List Filed) (slot : ℕ) (rec : FileRecord) (name : List ℕ) (k : ℕ)
+    → record { files = files; entries = es } ≡ c → read ≡ es → name ≡ rec.name
+    → PlaceFor name k read → k ≤ length read → IsTrue (is_file_name name) → slot < c.files → rec_at c slot ≡ None
+    → Fits files es (record { slot = slot; rec = rec }) k
+fits_from c files es read slot rec name k seen same named place within form below free = record {
+  place = subst (λ n. PlaceFor n k es) named (subst (λ xs. PlaceFor name k xs) same place);
+  within = omega (arith, within, ap length same);
+  form = subst (λ n. IsTrue (is_file_name n)) named form;
+  below = omega (arith, below, ap (λ (s : Catalog). s.files) seen);
+  free =
+      map_none (λ (g : Filed). g.rec) (find (λ (g : Filed). g.slot == slot) es)
+      (ap (λ (s : Catalog). rec_at s slot) seen ∙ free);
+}
 
 -- ---- counts
 one_more : (used : List Bool) (n : ℕ) → n < length used → get_or used n false ≡ false → used_count (set used n true) ≡ used_count used + 1
@@ -59,31 +83,31 @@ module _ (files room : ℕ) (es : List Filed) (used : List Bool) (h : IsHeld fil
       ltb-true (get_or es i d).slot files
       (all_get (λ (f : Filed). nat_lt f.slot files) es i d (sym (list_all-map (λ (n : ℕ). nat_lt n files) (λ (f : Filed). f.slot) es) ∙ h.catalog.below) lt)
 
-  module _ (f : Filed) (k : ℕ) (place : PlaceFor f.rec.name k es) (within : k ≤ length es) (form : IsTrue (is_file_name f.rec.name)) (lt : f.slot < files) (free : find (λ (g : Filed). g.slot == f.slot) es ≡ None) where
+  module _ (f : Filed) (k : ℕ) (fits : Fits files es f k) where
     not_there : has_slot es f.slot ≡ false
-    not_there = none_any (λ (g : Filed). g.slot == f.slot) es free
+    not_there = none_any (λ (g : Filed). g.slot == f.slot) es fits.free
 
     in_used : f.slot < length used
-    in_used = omega (arith, h.long)
+    in_used = omega (arith, h.long, fits.below)
 
     count : used_count (set used f.slot true) ≡ used_count used + 1
-    count = one_more used f.slot in_used (h.told f.slot lt ∙ not_there)
+    count = one_more used f.slot in_used (h.told f.slot fits.below ∙ not_there)
 
     pub room_left : length es < files
     room_left = omega (arith, count, count_by-le-length (λ (b : Bool). b) (set used f.slot true), length-set used f.slot true, h.long, h.counted)
 
     longer : length (insert es k f) ≡ length es + 1
-    longer = length-insert es k f within
+    longer = length-insert es k f fits.within
 
     put_catalog : IsCatalog (record { files = files; entries = insert es k f })
     put_catalog = record {
-      rising = rising_from (insert es k f) (subst (IsStrictlySortedBy filed_cmp) (sym (insert_place f k es place)) (sorted_insert_key filed_cmp filed_order es f sorted));
+      rising = rising_from (insert es k f) (subst (IsStrictlySortedBy filed_cmp) (sym (insert_place f k es fits.place)) (sorted_insert_key filed_cmp filed_order es f sorted));
       forms =
           list_all-map is_file_name (λ (g : Filed). g.rec.name) (insert es k f)
-          ∙ all_insert (λ (g : Filed). is_file_name g.rec.name) k es f (sym (list_all-map is_file_name (λ (g : Filed). g.rec.name) es) ∙ h.catalog.forms) form;
+          ∙ all_insert (λ (g : Filed). is_file_name g.rec.name) k es f (sym (list_all-map is_file_name (λ (g : Filed). g.rec.name) es) ∙ h.catalog.forms) fits.form;
       below =
           list_all-map (λ (n : ℕ). nat_lt n files) (λ (g : Filed). g.slot) (insert es k f)
-          ∙ all_insert (λ (g : Filed). nat_lt g.slot files) k es f (sym (list_all-map (λ (n : ℕ). nat_lt n files) (λ (g : Filed). g.slot) es) ∙ h.catalog.below) (lt-ltb f.slot files lt);
+          ∙ all_insert (λ (g : Filed). nat_lt g.slot files) k es f (sym (list_all-map (λ (n : ℕ). nat_lt n files) (λ (g : Filed). g.slot) es) ∙ h.catalog.below) (lt-ltb f.slot files fits.below);
       apart = apart_insert k es f h.catalog.apart not_there;
       few = omega (arith, longer, room_left);
     }

@@ -1,5 +1,5 @@
 -- What is found by a name and by a slot, with one file more and with one fewer.
-use Rattle.std.proofs.Common.{◌≡◌, ℕ, ◌<◌, Bool, true, false, not, cond, if◌then◌else◌, ◌==◌, nat_lt, List, [], ◌∷◌, length, get_or, map, filter, Option, Some, None, IsSome, IsTrue, refl, sym, ap, subst, ◌∙◌, arith}
+use Rattle.std.proofs.Common.{◌≡◌, ℕ, ◌<◌, Bool, true, false, not, cond, if◌then◌else◌, ◌==◌, nat_lt, List, [], ◌∷◌, filter, Option, Some, None, IsSome, IsTrue, refl, sym, ap, subst, ◌∙◌}
 use Rattle.std.specs.declared.cmp.Ordering.{Ordering}
 use Rattle.std.specs.declared.cmp.Ordering.TheVariants.{Less, Equal, Greater}
 use Rattle.std.specs.Ordering.{match_ordering}
@@ -14,10 +14,11 @@ use Rattle.std.proofs.lemmas.Slice.Eq.{bytes_eq-Decides}
 use Rattle.lis_graph.proofs.Sets.{below_tail, sorted_tail}
 use Rattle.lis_words.specs.Words.{word_cmp, same_word}
 use Rattle.lis_fields.specs.Records.{FileRecord}
+use Rattle.lis_fields.specs.Layouts.{are_distinct}
 use Rattle.lis_catalog.specs.Catalog.{Filed, Catalog, slot_of, rec_at, filed_cmp, with_filed, without_slot, IsCatalog}
 use Rattle.lis_catalog.proofs.Order.{filed_order, sorted_from, is_same}
 use Rattle.lis_catalog.proofs.Places.{is_named, none_above}
-use Rattle.lis_catalog.proofs.Slots.{none_any, any_none, map_none, any_filter, is_other, slot_gone}
+use Rattle.lis_catalog.proofs.Slots.{none_any, any_none, map_none, any_filter, slot_list, apart_parts, is_other, slot_gone}
 
 -- ---- one file more
 module _ (test : Filed → Bool) (f : Filed) where
@@ -148,3 +149,69 @@ below_limit files slot (x ∷ xs) all here =
 
 pub slot_is_below : (c : Catalog) (slot : ℕ) → IsCatalog c → IsSome (rec_at c slot) → slot < c.files
 slot_is_below c slot is some = below_limit c.files slot c.entries (sym (list_all-map (λ (n : ℕ). nat_lt n c.files) (λ (f : Filed). f.slot) c.entries) ∙ is.below) some
+
+-- ---- the two ways to a file
+slot_from_name : (name : List ℕ) (f : Filed) (es : List Filed) → IsTrue (are_distinct (slot_list es)) → find (is_named name) es ≡ Some f → find (λ (g : Filed). g.slot == f.slot) es ≡ Some f
+slot_from_name name f [] apart some = absurd cc
+slot_from_name name f (x ∷ xs) apart some =
+    let parts = apart_parts x xs apart in
+    by (is_named name x) some (slot_from_name name f xs parts.1) (any_none (λ (g : Filed). g.slot == x.slot) xs parts.0)
+  where
+    later : (b : Bool) → (x.slot == f.slot) ≡ b → find (λ (g : Filed). g.slot == x.slot) xs ≡ None → find (λ (g : Filed). g.slot == f.slot) xs ≡ Some f → cond b (Some x) (find (λ (g : Filed). g.slot == f.slot) xs) ≡ Some f
+    later true e none there = absurd (let here = subst (λ n. find (λ (g : Filed). g.slot == n) xs ≡ None) (eqb-true x.slot f.slot e) none in cc)
+    later false e none there = there
+
+    by : (b : Bool) → cond b (Some x) (find (is_named name) xs) ≡ Some f → (find (is_named name) xs ≡ Some f → find (λ (g : Filed). g.slot == f.slot) xs ≡ Some f) → find (λ (g : Filed). g.slot == x.slot) xs ≡ None
+        → find (λ (g : Filed). g.slot == f.slot) (x ∷ xs) ≡ Some f
+    by true e more none =
+        let same : x ≡ f = cc in
+        ap (λ b. cond b (Some x) (find (λ (g : Filed). g.slot == f.slot) xs)) (eq-eqb x.slot f.slot (ap (λ (g : Filed). g.slot) same)) ∙ e
+    by false e more none = later (x.slot == f.slot) refl none (more e)
+
+name_from_slot : (slot : ℕ) (f : Filed) (es : List Filed) → IsStrictlySortedBy filed_cmp es → find (λ (g : Filed). g.slot == slot) es ≡ Some f → find (is_named f.rec.name) es ≡ Some f
+name_from_slot slot f [] s some = absurd cc
+name_from_slot slot f (x ∷ xs) s some =
+    by (x.slot == slot) some (name_from_slot slot f xs (sorted_tail filed_cmp filed_order x xs s)) (none_above x.rec.name xs (below_tail filed_cmp filed_order x xs s))
+  where
+    later : (b : Bool) → is_named f.rec.name x ≡ b → find (is_named x.rec.name) xs ≡ None → find (is_named f.rec.name) xs ≡ Some f → cond b (Some x) (find (is_named f.rec.name) xs) ≡ Some f
+    later true e none there = absurd (let here = subst (λ n. find (is_named n) xs ≡ None) ((bytes_eq-Decides x.rec.name f.rec.name).0 e) none in cc)
+    later false e none there = there
+
+    by : (b : Bool) → cond b (Some x) (find (λ (g : Filed). g.slot == slot) xs) ≡ Some f → (find (λ (g : Filed). g.slot == slot) xs ≡ Some f → find (is_named f.rec.name) xs ≡ Some f) → find (is_named x.rec.name) xs ≡ None
+        → find (is_named f.rec.name) (x ∷ xs) ≡ Some f
+    by true e more none =
+        let same : x ≡ f = cc in
+        ap (λ b. cond b (Some x) (find (is_named f.rec.name) xs)) ((bytes_eq-Decides x.rec.name f.rec.name).1 (ap (λ (g : Filed). g.rec.name) same)) ∙ e
+    by false e more none = later (is_named f.rec.name x) refl none (more e)
+
+-- what a test finds passes it
+found_passes : (test : Filed → Bool) (f : Filed) (es : List Filed) → find test es ≡ Some f → test f ≡ true
+found_passes test f [] some = absurd cc
+found_passes test f (x ∷ xs) some = by (test x) refl some (found_passes test f xs)
+  where
+    by : (b : Bool) → test x ≡ b → cond b (Some x) (find test xs) ≡ Some f → (find test xs ≡ Some f → test f ≡ true) → test f ≡ true
+    by true e some more = let same : x ≡ f = cc in subst (λ (g : Filed). test g ≡ true) same e
+    by false e some more = more some
+
+-- the file that was found
+file_of : {B : Type 0} (v : Filed → B) (y : B) (o : Option Filed) → option_map v o ≡ Some y → (f : Filed) × (o ≡ Some f) × (v f ≡ y)
+file_of v y None some = absurd cc
+file_of v y (Some f) some = (f, refl, cc)
+
+-- the slot of a name has the record with that name
+pub rec_at-slot_of : (c : Catalog) (name : List ℕ) (slot : ℕ) → IsCatalog c → slot_of c name ≡ Some slot → (rec : FileRecord) × (rec_at c slot ≡ Some rec) × (rec.name ≡ name)
+rec_at-slot_of c name slot is some =
+    let file = file_of (λ (f : Filed). f.slot) slot (find (is_named name) c.entries) some in
+    let there = slot_from_name name file.0 c.entries is.apart file.1 in (
+      file.0.rec,
+      ap (option_map (λ (f : Filed). f.rec)) (subst (λ n. find (λ (g : Filed). g.slot == n) c.entries ≡ Some file.0) file.2 there),
+      (bytes_eq-Decides file.0.rec.name name).0 (found_passes (is_named name) file.0 c.entries file.1),
+    )
+
+-- and the name of a slot's record is in that slot
+pub slot_of-rec_at : (c : Catalog) (slot : ℕ) (rec : FileRecord) → IsCatalog c → rec_at c slot ≡ Some rec → slot_of c rec.name ≡ Some slot
+slot_of-rec_at c slot rec is some =
+    let file = file_of (λ (f : Filed). f.rec) rec (find (λ (g : Filed). g.slot == slot) c.entries) some in
+    let there = name_from_slot slot file.0 c.entries (sorted_from c.entries is.rising) file.1 in
+    ap (option_map (λ (f : Filed). f.slot)) (subst (λ (r : FileRecord). find (is_named r.name) c.entries ≡ Some file.0) file.2 there)
+    ∙ ap (λ n. Some n) (eqb-true file.0.slot slot (found_passes (λ (g : Filed). g.slot == slot) file.0 c.entries file.1))

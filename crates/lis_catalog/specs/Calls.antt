@@ -1,5 +1,5 @@
 -- What a call does that may refuse.
-use Rattle.std.specs.Prelude.{◌≡◌, ◌≢◌, ℕ, ◌<◌, length, Option, Some, None, Result, Ok, Err, IsSome}
+use Rattle.std.specs.Prelude.{◌≡◌, ◌≢◌, ℕ, ◌<◌, length, Some, None, Result, Ok, Err, IsSome}
 use Rattle.lis_fields.specs.Records.{FileRecord}
 use Rattle.lis_catalog.specs.Catalog.{Catalog, slot_of, rec_at, with_filed, without_slot}
 use Rattle.lis_catalog.specs.declared.catalog.CatalogFault.{CatalogFault}

@@ -1,10 +1,9 @@
 -- How a catalog is held. No public clause cites this module.
 use Rattle.std.specs.Prelude.{◌≡◌, ℕ, zero, suc, ◌<◌, ◌≤◌, ◌==◌, Bool, false, List, [], ◌∷◌, length, slice_index_or}
-use Rattle.std.specs.declared.cmp.Ordering.{Ordering}
 use Rattle.std.specs.declared.cmp.Ordering.TheVariants.{Less, Equal, Greater}
 use Rattle.std.specs.List.{list_any, count_by}
 use Rattle.lis_words.specs.Words.{word_cmp}
-use Rattle.lis_catalog.specs.Catalog.{Filed, Catalog, IsCatalog}
+use Rattle.lis_catalog.specs.Catalog.{Filed, IsCatalog}
 
 -- some file is in the slot
 abbrev pub has_slot : List Filed → ℕ → Bool

@@ -2,5 +2,7 @@
 #![tactic(auto)]
 
 mod catalog;
+#[cfg(test)]
+mod tests;
 
 pub use catalog::{Catalog, CatalogFault};

@@ -1,4 +1,4 @@
-use Rattle.std.proofs.Common.{◌≡◌, ◌<◌, ◌==◌, not, length, None, refl, sym, ◌∙◌, ap, arith, rules}
+use Rattle.std.proofs.Common.{not, refl, sym, ◌∙◌, ap, arith, rules}
 use Rattle.std.specs.List.{position}
 use Rattle.std.specs.Option.{option_map}
 use Rattle.lis_catalog.specs.Catalog.{Filed, Catalog, rec_at}

@@ -1,6 +1,5 @@
-use Rattle.std.proofs.Common.{◌≡◌, List, Some, sym, ◌∙◌, ap, subst}
+use Rattle.std.proofs.Common.{List, Some, sym, ◌∙◌, ap, subst}
 use Rattle.std.specs.Option.{option_map}
-use Rattle.std.proofs.lemmas.List.{get_or_default}
 use Rattle.lis_catalog.specs.Catalog.{Filed, slot_of}
 use Rattle.lis_catalog.specs.Inside.{FoundAt, PlaceFor}
 use Rattle.lis_catalog.proofs.Held.{sorted}

@@ -1,5 +1,5 @@
-use Rattle.std.proofs.Common.{◌≡◌, ◌==◌, List, Some, None, sym, ◌∙◌, ap}
-use Rattle.std.specs.List.{find, position}
+use Rattle.std.proofs.Common.{◌==◌, Some, sym, ◌∙◌, ap}
+use Rattle.std.specs.List.{position}
 use Rattle.std.specs.Option.{option_map}
 use Rattle.lis_catalog.specs.Catalog.{Filed, rec_at}
 use Rattle.lis_catalog.proofs.Slots.{none_found, found_there}

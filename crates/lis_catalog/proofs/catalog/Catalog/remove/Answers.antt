@@ -1,7 +1,7 @@
-use Rattle.std.proofs.Common.{◌≡◌, ◌<◌, ◌==◌, List, Some, None, sym, ◌∙◌, ap, subst, arith}
-use Rattle.std.specs.List.{find, position}
+use Rattle.std.proofs.Common.{◌<◌, ◌==◌, Some, sym, ◌∙◌, ap, arith}
+use Rattle.std.specs.List.{position}
 use Rattle.std.specs.Option.{option_map}
-use Rattle.lis_catalog.specs.Catalog.{Filed, rec_at, without_slot}
+use Rattle.lis_catalog.specs.Catalog.{Filed, rec_at}
 use Rattle.lis_catalog.proofs.Slots.{none_any, none_found, found_there, filter_none}
 use Rattle.lis_catalog.proofs.Held.{in_files, gone, cut_held}
 use Rattle.lis_catalog.proofs.catalog.Catalog.remove.Goals as goal

@@ -1,7 +1,6 @@
-use Rattle.std.proofs.Common.{◌≡◌, ◌<◌, ◌==◌, ℕ, not, None, sym, ◌∙◌, ap, arith, eq-eqb, refl}
-use Rattle.std.proofs.lemmas.Map.Entries.{option_filter}
+use Rattle.std.proofs.Common.{◌≡◌, sym, ◌∙◌, ap, eq-eqb, refl}
 use Rattle.lis_fields.specs.Records.{FileRecord}
-use Rattle.lis_catalog.specs.Catalog.{Catalog, slot_of, rec_at, without_slot}
+use Rattle.lis_catalog.specs.Catalog.{slot_of}
 use Rattle.lis_catalog.proofs.Laws.{slot_of-without_slot, rec_at-without_slot, slot_is_below, filtered_none, filtered_one}
 use Rattle.lis_catalog.proofs.catalog.Catalog.replace.Goals as goal
 use Rattle.lis_catalog.proofs.catalog.Catalog.replace.Goals.{in-Some+else-holder-slot, in_default}
