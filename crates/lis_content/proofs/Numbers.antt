@@ -1,7 +1,8 @@
 -- Lists of block numbers, and what is taken when they are given back or taken.
 use Rattle.std.proofs.Common.{◌≡◌, ◌⊎◌, ℕ, ◌+◌, ◌<◌, ◌≤◌, nat_lt, ◌==◌, Bool, true, false, not, ◌&&◌, ◌||◌, cond, List, [], ◌∷◌, ◌++◌, length, get_or, set, refl, sym, ◌∙◌, ap, subst, inl, inr, zero, suc, arith, length-set, get_or-set_same, get_or-set_other, eqb}
 use Rattle.std.specs.List.{list_all, list_any, fold}
-use Rattle.std.proofs.lemmas.Bool.{and_parts, and_from, ltb-true, lt-ltb, eqb-true, eqb-false, eq-eqb, ne_eqb, cases_eq}
+use Rattle.std.proofs.lemmas.Bool.{and_parts, and_from, ltb-true, lt-ltb, eqb-true, eqb-false, eq-eqb, ne_eqb, cases_eq, cases_lt}
+use Rattle.std.proofs.lemmas.List.{get_or_past}
 use Rattle.std.proofs.lemmas.List.Sums.{fold-append}
 use Rattle.std.proofs.lemmas.List.Folds.{list_all-append, list_any-append}
 use Rattle.lis_blockmap.specs.Bitmap.{free_count, is_taken}
@@ -82,18 +83,53 @@ taken_still taken (b ∷ ns) n held new =
     let unlike = neither (eqb b n) (has_number ns n) new in
     and_from (is_taken (set taken n false) b) (are_taken (set taken n false) ns) (get_or-set_other taken n b false false (eqb-false b n unlike.0) ∙ parts.0) (taken_still taken ns n parts.1 unlike.1)
 
-pub within_at : (base bound : ℕ) (ns : List ℕ) (k d : ℕ) → k < length ns → are_within base bound ns ≡ true → base + get_or ns k d < bound
-within_at base bound [] k d lt within = absurd (omega arith)
-within_at base bound (n ∷ ns) zero d lt within =
-    ltb-true (base + n) bound (and_parts (nat_lt (base + n) bound) (are_within base bound ns) within).0
-within_at base bound (n ∷ ns) (suc k) d lt within =
-    let less : k < length ns = omega (arith, lt) in
-    within_at base bound ns k d less (and_parts (nat_lt (base + n) bound) (are_within base bound ns) within).1
+-- a taken block is one of the map
+pub below_if_taken : (taken : List Bool) (n : ℕ) → is_taken taken n ≡ true → n < length taken
+below_if_taken taken n held = by (cases_lt n (length taken))
+  where
+    by : (n < length taken) ⊎ (length taken ≤ n) → n < length taken
+    by (inl lt) = lt
+    by (inr past) = absurd (let e : true ≡ false = sym held ∙ get_or_past taken n false past in cc)
 
--- no home is that of a block that is none of them
-pub no_home : (base : ℕ) (ns : List ℕ) (n : ℕ) → has_number ns n ≡ false → has_home base ns (base + n) ≡ false
-no_home base [] n new = refl
-no_home base (b ∷ ns) n new =
-    let unlike = neither (eqb b n) (has_number ns n) new in
-    let differ : base + b ≡ base + n → ⊥ = λ e. eqb-false b n unlike.0 (omega (arith, e)) in
-    ap (λ t. t || has_home base ns (base + n)) (ne_eqb (base + b) (base + n) differ) ∙ no_home base ns n unlike.1
+pub below_from_taken : (taken : List Bool) (ns : List ℕ) → are_taken taken ns ≡ true → are_below (length taken) ns ≡ true
+below_from_taken taken [] held = refl
+below_from_taken taken (n ∷ ns) held =
+    let parts = and_parts (is_taken taken n) (are_taken taken ns) held in
+    and_from (nat_lt n (length taken)) (are_below (length taken) ns) (lt-ltb n (length taken) (below_if_taken taken n parts.0)) (below_from_taken taken ns parts.1)
+
+-- the homes of the data blocks are below the last one's end
+pub within_if_below : (base bound m : ℕ) (ns : List ℕ) → base + m ≤ bound → are_below m ns ≡ true → are_within base bound ns ≡ true
+within_if_below base bound m [] le below = refl
+within_if_below base bound m (n ∷ ns) le below =
+    let parts = and_parts (nat_lt n m) (are_below m ns) below in
+    and_from (nat_lt (base + n) bound) (are_within base bound ns) (lt-ltb (base + n) bound (omega (arith, le, ltb-true n m parts.0))) (within_if_below base bound m ns le parts.1)
+
+-- what is taken stays taken where blocks are taken
+pub stays_marked : (taken : List Bool) (ns : List ℕ) (n : ℕ) → is_taken taken n ≡ true → is_taken (marked taken ns) n ≡ true
+stays_marked taken [] n held = held
+stays_marked taken (b ∷ ns) n held = stays_marked (set taken b true) ns n (by (cases_eq n b))
+  where
+    by : (n ≡ b) ⊎ (n ≡ b → ⊥) → is_taken (set taken b true) n ≡ true
+    by (inl same) = rw same (get_or-set_same taken b true false (subst (λ k. k < length taken) same (below_if_taken taken n held)))
+    by (inr differ) = get_or-set_other taken b n true false differ ∙ held
+
+pub stay_marked : (taken : List Bool) (ns ms : List ℕ) → are_taken taken ms ≡ true → are_taken (marked taken ns) ms ≡ true
+stay_marked taken ns [] held = refl
+stay_marked taken ns (m ∷ ms) held =
+    let parts = and_parts (is_taken taken m) (are_taken taken ms) held in
+    and_from (is_taken (marked taken ns) m) (are_taken (marked taken ns) ms) (stays_marked taken ns m parts.0) (stay_marked taken ns ms parts.1)
+
+-- the blocks that were taken are taken
+pub marked_are_taken : (m : ℕ) (taken : List Bool) (ns : List ℕ) → length taken ≡ m → are_below m ns ≡ true → are_taken (marked taken ns) ns ≡ true
+marked_are_taken m taken [] len below = refl
+marked_are_taken m taken (n ∷ ns) len below =
+    let parts = and_parts (nat_lt n m) (are_below m ns) below in
+    let first : is_taken (set taken n true) n ≡ true = get_or-set_same taken n true false (omega (arith, ltb-true n m parts.0, len)) in
+    and_from (is_taken (marked (set taken n true) ns) n) (are_taken (marked (set taken n true) ns) ns) (stays_marked (set taken n true) ns n first) (marked_are_taken m (set taken n true) ns (length-set taken n true ∙ len) parts.1)
+
+-- Taken blocks stay taken where others are given back.
+pub stay_given : (taken : List Bool) (ns ms : List ℕ) → are_taken taken ms ≡ true → list_all (λ n. not (has_number ms n)) ns ≡ true → are_taken (given taken ns) ms ≡ true
+stay_given taken [] ms held apart = held
+stay_given taken (n ∷ ns) ms held apart =
+    let parts = and_parts (not (has_number ms n)) (list_all (λ k. not (has_number ms k)) ns) apart in
+    stay_given (set taken n false) ns ms (taken_still taken ms n held (not_true (has_number ms n) parts.0)) parts.1
