@@ -113,6 +113,13 @@ impl Journal {
         }
     }
 
+    /// How many blocks the image has.
+    pub fn blocks(&self) -> u32
+        ensures { result ≡ self.now.blocks }
+    {
+        self.stage.blocks()
+    }
+
     /// How many blocks are staged.
     pub fn staged(&self) -> u32
         ensures { result ≡ length self.now.staged }

@@ -1,0 +1,80 @@
+//! One data block, or its front.
+
+ghost use Rattle.std.specs.Prelude.{◌≡◌, ◌⊎◌, ◌+◌, ◌*◌, ◌<◌, ◌≤◌, ◌==◌, if◌then◌else◌, ℕ, List, false, length, take, IsTrue, OnOk};
+ghost use Rattle.lis_ports.specs.Runs.{IsDiskRun, Leaves};
+ghost use Rattle.lis_ports.specs.Calls.{HasCause, IsUnchanged};
+ghost use Rattle.lis_journal.specs.Images.{Fits, look};
+ghost use Rattle.lis_journal.specs.Staging.{with_entry, has_entry};
+ghost use Rattle.lis_content.specs.Content.{padded};
+
+use lis_journal::{BLOCK_LEN, Journal};
+use lis_ports::{Disk, Failed};
+
+/// The home of a data block.
+pub fn home(journal: &Journal, base: u32, n: u16) -> u32
+    requires { base + n < journal.now.blocks }
+    ensures { result ≡ base + n }
+{
+    // A journal's blocks have numbers of 32 bits.
+    let _blocks = journal.blocks();
+    base + u32::from(n)
+}
+
+/// Reads as many bytes of a block as the buffer has. A whole block is read straight into it.
+pub fn read_front<D: Disk>(journal: &Journal, disk: &mut D, n: u32, buf: &mut [u8]) -> Result<(), Failed>
+    requires home { 578 ≤ n }
+    requires within { n < journal.now.blocks }
+    requires few { length buf.old ≤ 4096 }
+    requires unbroken { journal.now.is_broken ≡ false }
+    requires long { 4096 * journal.now.blocks ≤ (D.meaning disk.old).len }
+    ensures front { OnOk result ((kept : ℕ → List ℕ) → Fits journal.now.blocks (D.meaning disk.old) kept
+        → buf.new ≡ take (length buf.old) (look journal.now.staged n (kept n))) }
+    ensures whole { OnOk result ((kept : ℕ → List ℕ) → Fits journal.now.blocks (D.meaning disk.old) kept
+        → length (look journal.now.staged n (kept n)) ≡ 4096) }
+    ensures run { IsDiskRun (D.meaning disk.old) (D.meaning disk.new) }
+    ensures cause { HasCause (D.meaning disk.old).disk_faults (D.meaning disk.new).disk_faults result }
+    ensures same { IsTrue (D.meaning disk.old).is_honest → IsUnchanged (D.meaning disk.old) (D.meaning disk.new) }
+    ensures any_moment { IsTrue (D.meaning disk.old).is_honest
+        → Leaves (D.meaning disk.old) (D.meaning disk.new) (D.meaning disk.old).images }
+    ensures fits { (kept : ℕ → List ℕ) → Fits journal.now.blocks (D.meaning disk.old) kept
+        → Fits journal.now.blocks (D.meaning disk.new) kept }
+{
+    if buf.len() == BLOCK_LEN {
+        return journal.read(disk, n, buf);
+    }
+    let mut block = [0; BLOCK_LEN];
+    journal.read(disk, n, &mut block)?;
+    buf.copy_from_slice(&block[..buf.len()]);
+    Ok(())
+}
+
+// Writes the bytes into a block, and zeros behind them.
+fn fill(block: &mut [u8], bytes: &[u8])
+    requires whole { length block.old ≡ 4096 }
+    requires few { length bytes.now ≤ 4096 }
+    ensures { block.new ≡ padded bytes.now }
+{
+    let (front, rest) = block.split_at_mut(bytes.len());
+    front.copy_from_slice(bytes);
+    rest.fill(0);
+}
+
+/// Stages bytes as the front of a block that ends in zeros. A whole block is staged straight from them.
+pub fn stage_front(journal: &mut Journal, n: u32, bytes: &[u8])
+    requires home { 578 ≤ n }
+    requires within { n < journal.old.blocks }
+    requires few { length bytes.now ≤ 4096 }
+    requires unbroken { journal.old.is_broken ≡ false }
+    requires room { IsTrue (has_entry journal.old.staged n) ⊎ (length journal.old.staged < 575) }
+    ensures staged { journal.new ≡ record journal.old { staged = with_entry journal.old.staged n (padded bytes.now) } }
+    ensures looks { (m : ℕ) (old : List ℕ) → look journal.new.staged m old
+        ≡ (if m == n then padded bytes.now else look journal.old.staged m old) }
+{
+    if bytes.len() == BLOCK_LEN {
+        journal.stage(n, bytes);
+        return;
+    }
+    let mut block = [0; BLOCK_LEN];
+    fill(&mut block, bytes);
+    journal.stage(n, &block);
+}

@@ -1,0 +1,116 @@
+//! The bytes of a file: put into data blocks, read from them, and dropped.
+
+ghost use Rattle.std.specs.Prelude.{◌≡◌, ◌+◌, ◌*◌, ◌<◌, ◌≤◌, ℕ, List, [], false, length, IsTrue, OnOk, MatchResult};
+ghost use Rattle.lis_ports.specs.Runs.{IsDiskRun, Leaves};
+ghost use Rattle.lis_ports.specs.Calls.{HasCause, IsUnchanged};
+ghost use Rattle.lis_model.specs.State.{blocks_needed};
+ghost use Rattle.lis_journal.specs.Images.{Fits};
+ghost use Rattle.lis_journal.specs.Phases.{looked};
+ghost use Rattle.lis_blockmap.specs.Bitmap.{free_count};
+ghost use Rattle.lis_content.specs.Content.{content, given, are_taken, are_distinct, are_within};
+ghost use Rattle.lis_content.specs.Putting.{IsPut, IsRefused};
+
+use crate::blocks::{home, read_front, stage_front};
+use crate::fault::PutFault;
+use arrayvec::ArrayVec;
+use lis_blockmap::BlockMap;
+use lis_journal::{BLOCK_LEN, Journal};
+use lis_ports::{Disk, Failed};
+
+/// Gives the old blocks back, and stages the bytes in blocks that it takes. Whole blocks are staged, so the disk is not
+/// asked.
+pub fn put<D: Disk>(
+    map: &mut BlockMap,
+    journal: &mut Journal,
+    disk: &mut D,
+    base: u32,
+    old: &[u16],
+    bytes: &[u8],
+) -> Result<ArrayVec<u16, 16>, PutFault>
+    requires few { length bytes.now ≤ 65536 }
+    requires distinct { IsTrue (are_distinct old.now) }
+    requires taken { IsTrue (are_taken map.old old.now) }
+    requires home { 578 ≤ base }
+    requires within { base + length map.old ≤ journal.old.blocks }
+    requires unbroken { journal.old.is_broken ≡ false }
+    requires room { length journal.old.staged + 16 ≤ 575 }
+    requires long { 4096 * journal.old.blocks ≤ (D.meaning disk.old).len }
+    ensures ended { MatchResult result
+        (λ blocks. IsPut base old.now bytes.now map.old map.new journal.old journal.new blocks.items)
+        (λ fault. IsRefused old.now bytes.now map.old map.new journal.old journal.new fault) }
+    ensures disk { disk.new ≡ disk.old }
+{
+    let needed = (bytes.len() + BLOCK_LEN - 1) / BLOCK_LEN;
+    if map.free() as usize + old.len() < needed {
+        return Err(PutFault::NoSpace);
+    }
+    drop_file(map, old);
+    Ok(stage_bytes(map, journal, base, bytes))
+}
+
+// Stages the bytes in blocks that it takes. All blocks but the last are whole.
+fn stage_bytes(map: &mut BlockMap, journal: &mut Journal, base: u32, bytes: &[u8]) -> ArrayVec<u16, 16>
+    requires few { length bytes.now ≤ 65536 }
+    requires enough { blocks_needed (length bytes.now) ≤ free_count map.old }
+    requires home { 578 ≤ base }
+    requires within { base + length map.old ≤ journal.old.blocks }
+    requires unbroken { journal.old.is_broken ≡ false }
+    requires room { length journal.old.staged + 16 ≤ 575 }
+    ensures { IsPut base [] bytes.now map.old map.new journal.old journal.new result.items }
+{
+    let mut taken = ArrayVec::new();
+    let mut rest = bytes;
+    while !rest.is_empty() {
+        let (front, behind) = rest.split_at(rest.len().min(BLOCK_LEN));
+        let Some(n) = map.take() else { unreachable!() };
+        stage_front(journal, home(journal, base, n), front);
+        taken.push(n);
+        rest = behind;
+    }
+    taken
+}
+
+/// Reads the bytes of a file, whole blocks straight into the buffer.
+pub fn read<D: Disk>(
+    journal: &Journal,
+    disk: &mut D,
+    base: u32,
+    blocks: &[u16],
+    size: u32,
+    buf: &mut [u8],
+) -> Result<(), Failed>
+    requires whole { length buf.old ≡ size }
+    requires count { length blocks.now ≡ blocks_needed size }
+    requires home { 578 ≤ base }
+    requires within { IsTrue (are_within base journal.now.blocks blocks.now) }
+    requires unbroken { journal.now.is_broken ≡ false }
+    requires long { 4096 * journal.now.blocks ≤ (D.meaning disk.old).len }
+    ensures read { OnOk result ((kept : ℕ → List ℕ) → Fits journal.now.blocks (D.meaning disk.old) kept
+        → buf.new ≡ content base blocks.now size (looked journal.now.staged kept)) }
+    ensures run { IsDiskRun (D.meaning disk.old) (D.meaning disk.new) }
+    ensures cause { HasCause (D.meaning disk.old).disk_faults (D.meaning disk.new).disk_faults result }
+    ensures same { IsTrue (D.meaning disk.old).is_honest → IsUnchanged (D.meaning disk.old) (D.meaning disk.new) }
+    ensures any_moment { IsTrue (D.meaning disk.old).is_honest
+        → Leaves (D.meaning disk.old) (D.meaning disk.new) (D.meaning disk.old).images }
+    ensures fits { (kept : ℕ → List ℕ) → Fits journal.now.blocks (D.meaning disk.old) kept
+        → Fits journal.now.blocks (D.meaning disk.new) kept }
+{
+    for (k, n) in blocks.iter().enumerate() {
+        let at = k * BLOCK_LEN;
+        let end = buf.len().min(at + BLOCK_LEN);
+        read_front(journal, disk, home(journal, base, *n), &mut buf[at..end])?;
+    }
+    Ok(())
+}
+
+/// Gives the blocks of a file back.
+pub fn drop_file(map: &mut BlockMap, blocks: &[u16])
+    requires distinct { IsTrue (are_distinct blocks.now) }
+    requires taken { IsTrue (are_taken map.old blocks.now) }
+    ensures given { map.new ≡ given map.old blocks.now }
+    ensures more { free_count map.new ≡ free_count map.old + length blocks.now }
+{
+    for n in blocks {
+        map.give(*n);
+    }
+}

@@ -1,0 +1,157 @@
+//! Slots of equal width in a row of blocks.
+
+ghost use Rattle.std.specs.Prelude.{◌≡◌, ◌⊎◌, ◌+◌, ◌-◌, ◌*◌, ◌/◌, ◌%◌, ◌<◌, ◌≤◌, ℕ, List, false, length, IsTrue, OnOk};
+ghost use Rattle.lis_ports.specs.Bytes.{put};
+ghost use Rattle.lis_ports.specs.Runs.{IsDiskRun, Leaves};
+ghost use Rattle.lis_ports.specs.Calls.{HasCause, IsUnchanged};
+ghost use Rattle.lis_journal.specs.Images.{Fits};
+ghost use Rattle.lis_journal.specs.Phases.{looked};
+ghost use Rattle.lis_journal.specs.Staging.{has_entry};
+
+use lis_journal::{BLOCK_LEN, Journal};
+use lis_ports::{Disk, Failed};
+use std::marker::Model;
+
+/// Slots of equal width in a row of blocks, as many in each block as it has room for.
+#[derive(Clone, Copy)]
+pub struct Slots {
+    first: u32,
+    count: u32,
+    width: u32,
+}
+
+impl Model for Slots {
+    ghost use Rattle.std.specs.Prelude.{◌≡◌, ◌<◌, ◌%◌};
+    ghost use Rattle.lis_slots.specs.Slots as slots;
+
+    ghost Value = { slots.Slots };
+
+    ghost view = { λ s. record { first = s.first; count = s.count; width = s.width } };
+
+    ghost inverse = { λ s. record { first = s.first; count = s.count; width = s.width } };
+
+    ghost invariant = { λ s. (0 < s.width) × (4096 % s.width ≡ 0) };
+}
+
+// Writes the bytes over those of the block from a place on.
+fn overwrite(block: &mut [u8], at: usize, bytes: &[u8])
+    requires { at + length bytes.now ≤ length block.old }
+    ensures { block.new ≡ put block.old at bytes.now }
+{
+    block[at..at + bytes.len()].copy_from_slice(bytes);
+}
+
+impl Slots {
+    ghost use Rattle.lis_slots.specs.Slots.{per_block, home, place, slot, PutEnded};
+
+    /// As many slots of so many bytes, from a block on. No slot lies across two blocks.
+    pub fn new(first: u32, count: u32, width: u32) -> Slots
+        requires width { 0 < width }
+        requires divides { 4096 % width ≡ 0 }
+        ensures { result ≡ record { first = first; count = count; width = width } }
+    {
+        Slots {
+            first,
+            count,
+            width,
+        }
+    }
+
+    /// How many slots there are.
+    pub fn count(&self) -> u32
+        ensures { result ≡ self.now.count }
+    {
+        self.count
+    }
+
+    // How many slots a block has.
+    fn per_block(&self) -> u32
+        ensures per_block { result ≡ per_block self.now }
+        ensures some { 0 < result }
+        ensures all { result * self.now.width ≡ 4096 }
+    {
+        BLOCK_LEN as u32 / self.width
+    }
+
+    // The block of slot k.
+    fn home(&self, journal: &Journal, k: u32) -> u32
+        requires { home self.now k < journal.now.blocks }
+        ensures { result ≡ home self.now k }
+    {
+        // A journal's blocks have numbers of 32 bits.
+        let _blocks = journal.blocks();
+        self.first + k / self.per_block()
+    }
+
+    // Where in its block slot k begins.
+    fn place(&self, k: u32) -> usize
+        ensures place { result ≡ place self.now k }
+        ensures within { result + self.now.width ≤ 4096 }
+        ensures all { per_block self.now * self.now.width ≡ 4096 }
+    {
+        (self.width * (k % self.per_block())) as usize
+    }
+
+    /// Reads a slot, as it is staged or else kept.
+    pub fn get<D: Disk>(
+        &self,
+        journal: &Journal,
+        disk: &mut D,
+        k: u32,
+        buf: &mut [u8],
+    ) -> Result<(), Failed>
+        requires k { k < self.now.count }
+        requires whole { length buf.old ≡ self.now.width }
+        requires home { 578 ≤ self.now.first }
+        requires within { home self.now k < journal.now.blocks }
+        requires unbroken { journal.now.is_broken ≡ false }
+        requires long { 4096 * journal.now.blocks ≤ (D.meaning disk.old).len }
+        ensures read { OnOk result ((kept : ℕ → List ℕ) → Fits journal.now.blocks (D.meaning disk.old) kept
+            → buf.new ≡ slot self.now (looked journal.now.staged kept) k) }
+        ensures run { IsDiskRun (D.meaning disk.old) (D.meaning disk.new) }
+        ensures cause { HasCause (D.meaning disk.old).disk_faults (D.meaning disk.new).disk_faults result }
+        ensures same { IsTrue (D.meaning disk.old).is_honest → IsUnchanged (D.meaning disk.old) (D.meaning disk.new) }
+        ensures any_moment { IsTrue (D.meaning disk.old).is_honest
+            → Leaves (D.meaning disk.old) (D.meaning disk.new) (D.meaning disk.old).images }
+        ensures fits { (kept : ℕ → List ℕ) → Fits journal.now.blocks (D.meaning disk.old) kept
+            → Fits journal.now.blocks (D.meaning disk.new) kept }
+    {
+        let mut block = [0; BLOCK_LEN];
+        journal.read(disk, self.home(journal, k), &mut block)?;
+        let at = self.place(k);
+        buf.copy_from_slice(&block[at..at + buf.len()]);
+        Ok(())
+    }
+
+    /// Stages the block of a slot, with these bytes in the slot.
+    pub fn put<D: Disk>(
+        &self,
+        journal: &mut Journal,
+        disk: &mut D,
+        k: u32,
+        bytes: &[u8],
+    ) -> Result<(), Failed>
+        requires k { k < self.now.count }
+        requires whole { length bytes.now ≡ self.now.width }
+        requires home { 578 ≤ self.now.first }
+        requires within { home self.now k < journal.old.blocks }
+        requires unbroken { journal.old.is_broken ≡ false }
+        requires long { 4096 * journal.old.blocks ≤ (D.meaning disk.old).len }
+        requires room { IsTrue (has_entry journal.old.staged (home self.now k)) ⊎ (length journal.old.staged < 575) }
+        ensures ended { PutEnded self.now k bytes.now journal.old journal.new (D.meaning disk.old) result }
+        ensures run { IsDiskRun (D.meaning disk.old) (D.meaning disk.new) }
+        ensures cause { HasCause (D.meaning disk.old).disk_faults (D.meaning disk.new).disk_faults result }
+        ensures same { IsTrue (D.meaning disk.old).is_honest → IsUnchanged (D.meaning disk.old) (D.meaning disk.new) }
+        ensures any_moment { IsTrue (D.meaning disk.old).is_honest
+            → Leaves (D.meaning disk.old) (D.meaning disk.new) (D.meaning disk.old).images }
+        ensures fits { (kept : ℕ → List ℕ) → Fits journal.old.blocks (D.meaning disk.old) kept
+            → Fits journal.old.blocks (D.meaning disk.new) kept }
+    {
+        let mut block = [0; BLOCK_LEN];
+        let home = self.home(journal, k);
+        journal.read(disk, home, &mut block)?;
+        overwrite(&mut block, self.place(k), bytes);
+        journal.stage(home, &block);
+        Ok(())
+    }
+}
