@@ -5,3 +5,4 @@ pub mod Pairs
 pub mod Runs
 pub mod Parts
 pub mod Supers
+pub mod Unique

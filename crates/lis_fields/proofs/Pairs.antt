@@ -1,11 +1,11 @@
 -- The parts of slots, read back from their spelling.
-use Rattle.std.proofs.Common.{◌≡◌, refl, sym, ap, ap₂, ◌∙◌, ℕ, zero, suc, ◌+◌, ◌-◌, ◌*◌, ◌^◌, ◌<◌, ◌≤◌, nat_lt, Bool, true, false, ◌&&◌, List, [], ◌∷◌, ◌++◌, length, take, drop, IsTrue, Option, Some, arith, length-append}
+use Rattle.std.proofs.Common.{◌≡◌, refl, sym, ap₂, ◌∙◌, ℕ, ◌+◌, ◌-◌, ◌^◌, ◌<◌, nat_lt, List, ◌++◌, length, take, drop, IsTrue, Some, arith}
 use Rattle.std.proofs.lemmas.Bool.{and_parts, ltb-true}
 use Rattle.byteorder.specs.Endian.{little_bytes}
 use Rattle.lis_fields.specs.Layouts.{zeros, axiom_bytes, is_axiom}
 use Rattle.lis_fields.specs.declared.slots.AxiomSlot.{AxiomSlot}
 use Rattle.lis_fields.specs.declared.slots.AxiomSlot.TheVariants.{Free, Pair}
-use Rattle.lis_fields.proofs.Widths.{front_is, behind_is, joined, same_number}
+use Rattle.lis_fields.proofs.Widths.{front_is, behind_is, same_number}
 
 -- the two numbers of an axiom slot
 abbrev pub left_number : AxiomSlot → ℕ
@@ -21,7 +21,7 @@ unfolding zeros
 axiom_spelled Free = refl
 axiom_spelled (Pair left right) = refl
 
-axiom_fits : (slot : AxiomSlot) → IsTrue (is_axiom slot) → (left_number slot < 256 ^ 4) × (right_number slot < 256 ^ 4)
+pub axiom_fits : (slot : AxiomSlot) → IsTrue (is_axiom slot) → (left_number slot < 256 ^ 4) × (right_number slot < 256 ^ 4)
 axiom_fits Free range = (omega arith, omega arith)
 axiom_fits (Pair left right) range =
     let parts = and_parts (nat_lt left (2 ^ 32 - 1)) (nat_lt right (2 ^ 32 - 1)) range in

@@ -1,8 +1,7 @@
 -- The parts of a slot that has a word, of a super block and of a slot that has a file, read back from their spelling.
-use Rattle.std.proofs.Common.{◌≡◌, refl, sym, ap, ap₂, ◌∙◌, ℕ, zero, suc, ◌+◌, ◌-◌, ◌*◌, ◌^◌, ◌<◌, ◌≤◌, ◌==◌, nat_le, Bool, true, false, not, ◌&&◌, ◌||◌, inl, inr, take_at, drop_at, List, [], ◌∷◌, ◌++◌, length, get_or, take, drop, IsTrue, Option, Some, arith, length-append, codes}
+use Rattle.std.proofs.Common.{◌≡◌, refl, sym, ap, ap₂, ◌∙◌, ℕ, ◌≤◌, nat_le, not, ◌&&◌, ◌||◌, inl, inr, take_at, drop_at, List, [], ◌∷◌, ◌++◌, length, get_or, take, drop, IsTrue, Option, Some, arith, length-append}
 use Rattle.std.proofs.lemmas.Bool.{and_parts, and_from, or_cases, or_left, or_right, leb-true, le-leb, eqb-true}
 use Rattle.byteorder.specs.Endian.{little_bytes}
-use Rattle.byteorder.specs.Numbers.{length-bytes_low_first}
 use Rattle.lis_words.specs.Words.{is_word, is_plain_word, is_head, is_valued, is_built_in, is_file_name}
 use Rattle.lis_model.specs.State.{is_declarable, blocks_needed}
 use Rattle.lis_fields.specs.Records.{FileRecord}
@@ -74,7 +73,7 @@ pub few_blocks : (size : ℕ) (blocks : List ℕ) → IsTrue (are_blocks size bl
 few_blocks size blocks h = eqb-true (length blocks) (blocks_needed size) (and_parts _ _ (and_parts _ _ h).0).0
 
 -- two spellings of two parts each, the first of one width
-same_parts : (a b c d : List ℕ) → a ++ b ≡ c ++ d → length a ≡ length c → (a ≡ c) × (b ≡ d)
+pub same_parts : (a b c d : List ℕ) → a ++ b ≡ c ++ d → length a ≡ length c → (a ≡ c) × (b ≡ d)
 same_parts a b c d e len =
     (sym (take_at a b (length a) refl) ∙ front_is (length a) (a ++ b) c d e (sym len), sym (drop_at a b (length a) refl) ∙ behind_is (length a) (a ++ b) c d e (sym len))
 
@@ -85,7 +84,7 @@ file_parts start size tags blocks end rec is e start_len size_len tags_len block
     let needed = few_blocks rec.size rec.blocks tests.blocks in
     let few : length rec.blocks ≤ 16 = omega (arith, needed, tests.small) in
     let one = same_parts start (size ++ (tags ++ (blocks ++ end))) (file_start rec.name (length rec.tags)) (little_bytes 4 rec.size ++ (numbers rec.tags ++ (numbers rec.blocks ++ zeros 124))) e
-        (start_len ∙ sym (length_start rec.name (length rec.tags) (name_short rec.name tests.name))) in
+    (start_len ∙ sym (length_start rec.name (length rec.tags) (name_short rec.name tests.name))) in
     let two = same_parts size (tags ++ (blocks ++ end)) (little_bytes 4 rec.size) (numbers rec.tags ++ (numbers rec.blocks ++ zeros 124)) one.1 size_len in
     let three = same_parts tags (blocks ++ end) (numbers rec.tags) (numbers rec.blocks ++ zeros 124) two.1 (tags_len ∙ sym (length_numbers rec.tags (few_tags rec.tags tests.tags))) in
     let four = same_parts blocks end (numbers rec.blocks) (zeros 124) three.1 (blocks_len ∙ sym (length_numbers rec.blocks few)) in
@@ -114,15 +113,15 @@ length_file (Used rec) is = length_record rec is
 pub undeclared_word : (word : List ℕ) → IsTrue (is_undeclared word) → IsTrue (is_word word)
 undeclared_word word h =
     elim (or_cases (is_valued word) (is_head word && is_built_in word) h) [
-      inl valued ↦ or_right (is_plain_word word || is_head word) (is_valued word) valued
-    | inr head ↦ or_left (is_plain_word word || is_head word) (is_valued word) (or_right (is_plain_word word) (is_head word) (and_parts (is_head word) (is_built_in word) head).0)
+      | inl valued ↦ or_right (is_plain_word word || is_head word) (is_valued word) valued
+      | inr head ↦ or_left (is_plain_word word || is_head word) (is_valued word) (or_right (is_plain_word word) (is_head word) (and_parts (is_head word) (is_built_in word) head).0)
     ]
 
 pub declarable_word : (word : List ℕ) → IsTrue (is_declarable word) → IsTrue (is_word word)
 declarable_word word h =
     elim (or_cases (is_plain_word word) (is_head word && not (is_built_in word)) h) [
-      inl plain ↦ or_left (is_plain_word word || is_head word) (is_valued word) (or_left (is_plain_word word) (is_head word) plain)
-    | inr head ↦ or_left (is_plain_word word || is_head word) (is_valued word) (or_right (is_plain_word word) (is_head word) (and_parts (is_head word) (not (is_built_in word)) head).0)
+      | inl plain ↦ or_left (is_plain_word word || is_head word) (is_valued word) (or_left (is_plain_word word) (is_head word) plain)
+      | inr head ↦ or_left (is_plain_word word || is_head word) (is_valued word) (or_right (is_plain_word word) (is_head word) (and_parts (is_head word) (not (is_built_in word)) head).0)
     ]
 
 pub length_prop : (slot : PropSlot) → IsTrue (is_prop slot) → length (prop_bytes slot) ≡ 64
@@ -137,7 +136,7 @@ record_of name size tags blocks = record { name = name; size = size; tags = tags
 pub same_record : (a b : FileRecord) → a.name ≡ b.name → a.size ≡ b.size → a.tags ≡ b.tags → a.blocks ≡ b.blocks → a ≡ b
 same_record a b name size tags blocks =
     ap (λ x. record_of x a.size a.tags a.blocks) name ∙ (ap (λ x. record_of b.name x a.tags a.blocks) size
-        ∙ (ap (λ x. record_of b.name b.size x a.blocks) tags ∙ ap (λ x. record_of b.name b.size b.tags x) blocks))
+    ∙ (ap (λ x. record_of b.name b.size x a.blocks) tags ∙ ap (λ x. record_of b.name b.size b.tags x) blocks))
 
 pub record_from : (rec : FileRecord) → IsTrue (is_file_name rec.name) → rec.size ≤ 65536 → IsTrue (are_tags rec.tags) → IsTrue (are_blocks rec.size rec.blocks) → IsTrue (is_record rec)
 record_from rec name small tags blocks =

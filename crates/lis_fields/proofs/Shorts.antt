@@ -1,5 +1,5 @@
 -- Numbers of two bytes, one after another.
-use Rattle.std.proofs.Common.{◌≡◌, refl, sym, ap, ap₂, ◌∙◌, ℕ, zero, suc, ◌+◌, ◌*◌, ◌^◌, ◌<◌, ◌≤◌, Bool, true, false, ◌&&◌, nat_lt, List, [], ◌∷◌, ◌++◌, length, get_or, take, drop, ◌/◌, ◌%◌, arith}
+use Rattle.std.proofs.Common.{◌≡◌, refl, ap, ap₂, ◌∙◌, ℕ, suc, ◌+◌, ◌*◌, ◌^◌, ◌<◌, true, List, [], ◌∷◌, ◌++◌, length, get_or, take, drop, ◌/◌, ◌%◌, arith}
 use Rattle.std.specs.List.{flat_map}
 use Rattle.std.proofs.lemmas.Bool.{and_parts, and_from, ltb-true, lt-ltb}
 use Rattle.byteorder.specs.Endian.{little_bytes, little_number, IsRead}
@@ -43,5 +43,5 @@ read_shorts (a ∷ b ∷ bytes) (n ∷ ns) len small read =
     let one = one_short a b n (small 0) (small 1) (read 0 (omega arith)) in
     let next : (k : ℕ) → 2 * suc k ≡ suc (suc (2 * k)) = λ k. omega arith in
     let more = read_shorts bytes ns (omega arith) (λ k. small (suc (suc k)))
-        (λ k lt. read (suc k) (omega (arith, lt)) ∙ ap (λ j. little_number 2 (drop j (a ∷ b ∷ bytes))) (next k)) in
+    (λ k lt. read (suc k) (omega (arith, lt)) ∙ ap (λ j. little_number 2 (drop j (a ∷ b ∷ bytes))) (next k)) in
     (and_from _ _ (lt-ltb _ _ one.0) more.0, ap₂ (λ x xs. x ++ xs) one.1 more.1)

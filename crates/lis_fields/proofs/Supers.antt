@@ -1,12 +1,11 @@
 -- The numbers of a super block, read back from their spelling.
-use Rattle.std.proofs.Common.{◌≡◌, refl, sym, ap, ap₂, ◌∙◌, ℕ, ◌^◌, ◌%◌, ◌<◌, ◌≤◌, ◌==◌, nat_le, Bool, true, ◌&&◌, ◌||◌, inl, inr, List, ◌∷◌, ◌++◌, length, take, drop, codes, IsTrue, arith, length-append}
-use Rattle.std.proofs.lemmas.Bool.{and_parts, or_cases, eqb-true, leb-true}
+use Rattle.std.proofs.Common.{◌≡◌, ap, ◌∙◌, ℕ, ◌^◌, ◌%◌, ◌<◌, ◌≤◌, ◌==◌, nat_le, true, ◌&&◌, List, ◌++◌, length, take, drop, codes, IsTrue, arith}
+use Rattle.std.proofs.lemmas.Bool.{and_parts, eqb-true, leb-true}
 use Rattle.std.proofs.lemmas.Bool.Decides.{nat_tests}
-use Rattle.byteorder.specs.Endian.{little_bytes}
 use Rattle.lis_model.specs.Ranges.{is_files_limit, is_props_limit, is_blocks_limit, are_in_range}
 use Rattle.lis_fields.specs.Layouts.{zeros, super_numbers, super_bytes, is_super}
 use Rattle.lis_fields.specs.declared.slots.SuperRec.{SuperRec}
-use Rattle.lis_fields.proofs.Widths.{front_is, behind_is, joined, same_number, length_zeros}
+use Rattle.lis_fields.proofs.Widths.{joined, same_number, length_zeros}
 
 -- each number has four bytes
 pub record FitsSuper (rec : SuperRec) : Type 0 where
@@ -42,7 +41,7 @@ same_super a b fa fb e =
     let blocks = same_number 4 a.limits.blocks b.limits.blocks fa.blocks fb.blocks (ap (λ xs. drop 12 xs) e) in
     ap (λ n. super_of n a.limits.files a.limits.props a.limits.blocks) version
     ∙ (ap (λ n. super_of b.version n a.limits.props a.limits.blocks) files
-        ∙ (ap (λ n. super_of b.version b.limits.files n a.limits.blocks) props ∙ ap (λ n. super_of b.version b.limits.files b.limits.props n) blocks))
+    ∙ (ap (λ n. super_of b.version b.limits.files n a.limits.blocks) props ∙ ap (λ n. super_of b.version b.limits.files b.limits.props n) blocks))
 
 pub length_super : (rec : SuperRec) → length (super_bytes rec) ≡ 4096
 length_super rec = omega (arith, length_zeros 4072)

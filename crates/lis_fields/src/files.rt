@@ -10,7 +10,10 @@ ghost use Rattle.lis_fields.specs.Records.{FileRecord};
 ghost use Rattle.lis_fields.specs.Layouts.{file_start, numbers, record_bytes, file_bytes, are_distinct, are_tags, are_blocks, is_record, is_file};
 ghost use Rattle.lis_fields.specs.declared.slots.FileSlot.{FileSlot};
 
-use crate::fields::{are_zeros, read_number, read_numbers, read_text, write_number, write_numbers, write_text, write_zeros};
+use crate::fields::{
+    are_zeros, read_number, read_numbers, read_text, write_number, write_numbers, write_text,
+    write_zeros,
+};
 use crate::slots::{FileRec, FileSlot};
 use arrayvec::ArrayVec;
 use lis_words::{Name, read_name};

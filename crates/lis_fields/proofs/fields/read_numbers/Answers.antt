@@ -1,4 +1,4 @@
-use Rattle.std.proofs.Common.{◌≡◌, ◌+◌, ◌-◌, ◌*◌, ◌≤◌, ◌∙◌, sym, ap, length, arith}
+use Rattle.std.proofs.Common.{◌≡◌, ◌*◌, ◌∙◌, sym, ap, length, arith}
 use Rattle.lis_fields.specs.Layouts.{padded}
 use Rattle.lis_fields.proofs.Widths.{are_zero, padding_zero, padded_from, front_is}
 use Rattle.lis_fields.proofs.Shorts.{shorts, length_shorts, same_shorts}
@@ -7,10 +7,10 @@ use Rattle.lis_fields.proofs.fields.read_numbers.Goals as goal
 pub returns-then-not-are_zeros-clause-same : goal.returns-then-not-are_zeros-clause-same
 returns-then-not-are_zeros-clause-same c =
     λ ns len few range e.
-        let size : length (shorts ns) ≡ 2 * c.args.count = length_shorts ns ∙ ap (λ n. 2 * n) len in
-        let pass = padding_zero 32 (2 * c.args.count) (shorts ns) c.args.field.now e size in
-        let same = ap are_zero c.split_at.ensures.back in
-        absurd (cc)
+    let size : length (shorts ns) ≡ 2 * c.args.count = length_shorts ns ∙ ap (λ n. 2 * n) len in
+    let pass = padding_zero 32 (2 * c.args.count) (shorts ns) c.args.field.now e size in
+    let same = ap are_zero c.split_at.ensures.back in
+    absurd (cc)
 
 pub returns-clause-spelled : goal.returns-clause-spelled
 returns-clause-spelled c =
@@ -20,6 +20,6 @@ returns-clause-spelled c =
 pub returns-clause-same : goal.returns-clause-same
 returns-clause-same c =
     λ ns len few range e.
-        let size : length (shorts ns) ≡ 2 * c.args.count = length_shorts ns ∙ ap (λ n. 2 * n) len in
-        let front = front_is (2 * c.args.count) c.args.field.now (shorts ns) _ e size in
-        same_shorts c.read_shorts.result.items ns c.read_shorts.ensures.short range (c.read_shorts.ensures.len ∙ sym len) (sym c.read_shorts.ensures.spelled ∙ (c.split_at.ensures.front ∙ front))
+    let size : length (shorts ns) ≡ 2 * c.args.count = length_shorts ns ∙ ap (λ n. 2 * n) len in
+    let front = front_is (2 * c.args.count) c.args.field.now (shorts ns) _ e size in
+    same_shorts c.read_shorts.result.items ns c.read_shorts.ensures.short range (c.read_shorts.ensures.len ∙ sym len) (sym c.read_shorts.ensures.spelled ∙ (c.split_at.ensures.front ∙ front))

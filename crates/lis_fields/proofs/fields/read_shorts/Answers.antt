@@ -1,4 +1,4 @@
-use Rattle.std.proofs.Common.{◌≡◌, ◌*◌, ◌∙◌, sym, ap, length, arith, subst, rules, IsTrue}
+use Rattle.std.proofs.Common.{◌≡◌, ◌∙◌, sym, ap, arith, subst, rules, IsTrue}
 use Rattle.lis_fields.specs.Layouts.{are_short}
 use Rattle.lis_fields.proofs.Shorts.{shorts, read_shorts}
 use Rattle.lis_fields.proofs.fields.read_shorts.Goals as goal

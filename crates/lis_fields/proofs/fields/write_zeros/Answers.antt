@@ -1,4 +1,4 @@
-use Rattle.std.proofs.Common.{replicate, rules}
+use Rattle.std.proofs.Common.{rules}
 use Rattle.lis_fields.specs.Layouts.{zeros}
 use Rattle.lis_fields.proofs.fields.write_zeros.Goals as goal
 

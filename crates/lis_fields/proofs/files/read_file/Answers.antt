@@ -1,6 +1,6 @@
-use Rattle.std.proofs.Common.{◌≡◌, ◌∙◌, refl, sym, ap, ℕ, List, length, Option, Some, IsTrue, false, arith}
+use Rattle.std.proofs.Common.{◌≡◌, ◌∙◌, refl, sym, ap, ℕ, List, length, Some, IsTrue, false}
 use Rattle.lis_fields.specs.Records.{FileRecord}
-use Rattle.lis_fields.specs.Layouts.{zeros, record_bytes, file_bytes, is_record, is_file}
+use Rattle.lis_fields.specs.Layouts.{record_bytes, file_bytes, is_record, is_file}
 use Rattle.lis_fields.specs.declared.slots.FileSlot.{FileSlot}
 use Rattle.lis_fields.specs.declared.slots.FileSlot.TheVariants.{Free, Used}
 use Rattle.lis_fields.proofs.Widths.{are_zero, not_zeros, zeros_of}

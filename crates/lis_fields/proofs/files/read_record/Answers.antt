@@ -1,53 +1,53 @@
-use Rattle.std.proofs.Common.{◌≡◌, ◌^◌, ◌<◌, ◌∙◌, refl, sym, ap, subst, length, Some, IsSomeAnd, IsTrue, arith}
+use Rattle.std.proofs.Common.{◌≡◌, ◌∙◌, sym, ap, subst, length, Some, IsTrue, arith}
 use Rattle.lis_fields.specs.Records.{FileRecord}
-use Rattle.lis_fields.specs.Layouts.{zeros, file_start, is_record, are_blocks}
+use Rattle.lis_fields.specs.Layouts.{file_start, are_blocks}
 use Rattle.lis_fields.proofs.Widths.{not_zeros, zeros_of, same_number}
-use Rattle.lis_fields.proofs.Parts.{FileParts, IsFileRecord, record_tests, file_parts, file_joined, same_found, same_record, record_from}
+use Rattle.lis_fields.proofs.Parts.{FileParts, record_tests, file_parts, file_joined, same_found, same_record, record_from}
 use Rattle.lis_fields.proofs.files.read_record.Goals as goal
 
 pub returns-then-not-are_zeros-clause-same : goal.returns-then-not-are_zeros-clause-same
 returns-then-not-are_zeros-clause-same c =
     λ rec is e.
-        let f = c.cut-fields.result in
-        let parts = file_parts f.start.now f.size.now f.tags.now f.block_numbers.now f.end.now rec is (sym c.cut-fields.ensures.whole ∙ e) c.cut-fields.ensures.start_len c.cut-fields.ensures.size_len c.cut-fields.ensures.tags_len c.cut-fields.ensures.blocks_len in
-        absurd (not_zeros 124 f.end.now parts.is_end (sym c.are_zeros.ensures ∙ c.if-not-are_zeros.true))
+    let f = c.cut-fields.result in
+    let parts = file_parts f.start.now f.size.now f.tags.now f.block_numbers.now f.end.now rec is (sym c.cut-fields.ensures.whole ∙ e) c.cut-fields.ensures.start_len c.cut-fields.ensures.size_len c.cut-fields.ensures.tags_len c.cut-fields.ensures.blocks_len in
+    absurd (not_zeros 124 f.end.now parts.is_end (sym c.are_zeros.ensures ∙ c.if-not-are_zeros.true))
 
 pub returns-then-size-gt-MAX_SIZE-clause-same : goal.returns-then-size-gt-MAX_SIZE-clause-same
 returns-then-size-gt-MAX_SIZE-clause-same c =
     λ rec is e.
-        let f = c.cut-fields.result in
-        let parts = file_parts f.start.now f.size.now f.tags.now f.block_numbers.now f.end.now rec is (sym c.cut-fields.ensures.whole ∙ e) c.cut-fields.ensures.start_len c.cut-fields.ensures.size_len c.cut-fields.ensures.tags_len c.cut-fields.ensures.blocks_len in
-        let tests = record_tests rec is in
-        let size = same_number 4 c.read_number-size.result rec.size c.read_number-size.type_inv (omega (arith, tests.small)) (sym c.read_number-size.ensures ∙ parts.is_size) in
-        absurd (omega (arith, size, tests.small))
+    let f = c.cut-fields.result in
+    let parts = file_parts f.start.now f.size.now f.tags.now f.block_numbers.now f.end.now rec is (sym c.cut-fields.ensures.whole ∙ e) c.cut-fields.ensures.start_len c.cut-fields.ensures.size_len c.cut-fields.ensures.tags_len c.cut-fields.ensures.blocks_len in
+    let tests = record_tests rec is in
+    let size = same_number 4 c.read_number-size.result rec.size c.read_number-size.type_inv (omega (arith, tests.small)) (sym c.read_number-size.ensures ∙ parts.is_size) in
+    absurd (omega (arith, size, tests.small))
 
 pub returns-in_err-name-clause-same : goal.returns-in_err-name-clause-same
 returns-in_err-name-clause-same c =
     λ rec is e.
-        let f = c.cut-fields.result in
-        let parts = file_parts f.start.now f.size.now f.tags.now f.block_numbers.now f.end.now rec is (sym c.cut-fields.ensures.whole ∙ e) c.cut-fields.ensures.start_len c.cut-fields.ensures.size_len c.cut-fields.ensures.tags_len c.cut-fields.ensures.blocks_len in
-        let tests = record_tests rec is in
-        let none = c.in_err-name.ensures.same rec.name (length rec.tags) tests.name parts.is_start in
-        absurd (cc)
+    let f = c.cut-fields.result in
+    let parts = file_parts f.start.now f.size.now f.tags.now f.block_numbers.now f.end.now rec is (sym c.cut-fields.ensures.whole ∙ e) c.cut-fields.ensures.start_len c.cut-fields.ensures.size_len c.cut-fields.ensures.tags_len c.cut-fields.ensures.blocks_len in
+    let tests = record_tests rec is in
+    let none = c.in_err-name.ensures.same rec.name (length rec.tags) tests.name parts.is_start in
+    absurd (cc)
 
 pub returns-in_err-tags-clause-same : goal.returns-in_err-tags-clause-same
 returns-in_err-tags-clause-same c =
     λ rec is e.
-        let f = c.cut-fields.result in
-        let parts = file_parts f.start.now f.size.now f.tags.now f.block_numbers.now f.end.now rec is (sym c.cut-fields.ensures.whole ∙ e) c.cut-fields.ensures.start_len c.cut-fields.ensures.size_len c.cut-fields.ensures.tags_len c.cut-fields.ensures.blocks_len in
-        let tests = record_tests rec is in
-        let start = c.in_ok-name.ensures.same rec.name (length rec.tags) tests.name parts.is_start in
-        let count = sym (c.from.ensures ∙ (same_found c.in_ok-name.name rec.name c.in_ok-name.count (length rec.tags) start).1) in
-        absurd (c.in_err-tags.ensures.same rec.tags count tests.tags parts.is_tags)
+    let f = c.cut-fields.result in
+    let parts = file_parts f.start.now f.size.now f.tags.now f.block_numbers.now f.end.now rec is (sym c.cut-fields.ensures.whole ∙ e) c.cut-fields.ensures.start_len c.cut-fields.ensures.size_len c.cut-fields.ensures.tags_len c.cut-fields.ensures.blocks_len in
+    let tests = record_tests rec is in
+    let start = c.in_ok-name.ensures.same rec.name (length rec.tags) tests.name parts.is_start in
+    let count = sym (c.from.ensures ∙ (same_found c.in_ok-name.name rec.name c.in_ok-name.count (length rec.tags) start).1) in
+    absurd (c.in_err-tags.ensures.same rec.tags count tests.tags parts.is_tags)
 
 pub returns-in_err-numbers-clause-same : goal.returns-in_err-numbers-clause-same
 returns-in_err-numbers-clause-same c =
     λ rec is e.
-        let f = c.cut-fields.result in
-        let parts = file_parts f.start.now f.size.now f.tags.now f.block_numbers.now f.end.now rec is (sym c.cut-fields.ensures.whole ∙ e) c.cut-fields.ensures.start_len c.cut-fields.ensures.size_len c.cut-fields.ensures.tags_len c.cut-fields.ensures.blocks_len in
-        let tests = record_tests rec is in
-        let size = same_number 4 c.read_number-size.result rec.size c.read_number-size.type_inv (omega (arith, tests.small)) (sym c.read_number-size.ensures ∙ parts.is_size) in
-        absurd (c.in_err-numbers.ensures.same rec.blocks (subst (λ n. IsTrue (are_blocks n rec.blocks)) (sym size) tests.blocks) parts.is_blocks)
+    let f = c.cut-fields.result in
+    let parts = file_parts f.start.now f.size.now f.tags.now f.block_numbers.now f.end.now rec is (sym c.cut-fields.ensures.whole ∙ e) c.cut-fields.ensures.start_len c.cut-fields.ensures.size_len c.cut-fields.ensures.tags_len c.cut-fields.ensures.blocks_len in
+    let tests = record_tests rec is in
+    let size = same_number 4 c.read_number-size.result rec.size c.read_number-size.type_inv (omega (arith, tests.small)) (sym c.read_number-size.ensures ∙ parts.is_size) in
+    absurd (c.in_err-numbers.ensures.same rec.blocks (subst (λ n. IsTrue (are_blocks n rec.blocks)) (sym size) tests.blocks) parts.is_blocks)
 
 pub returns-clause-spelled : goal.returns-clause-spelled
 returns-clause-spelled c =
@@ -68,13 +68,13 @@ returns-clause-spelled c =
 pub returns-clause-same : goal.returns-clause-same
 returns-clause-same c =
     λ rec is e.
-        let f = c.cut-fields.result in
-        let parts = file_parts f.start.now f.size.now f.tags.now f.block_numbers.now f.end.now rec is (sym c.cut-fields.ensures.whole ∙ e) c.cut-fields.ensures.start_len c.cut-fields.ensures.size_len c.cut-fields.ensures.tags_len c.cut-fields.ensures.blocks_len in
-        let tests = record_tests rec is in
-        let size = same_number 4 c.read_number-size.result rec.size c.read_number-size.type_inv (omega (arith, tests.small)) (sym c.read_number-size.ensures ∙ parts.is_size) in
-        let start = c.in_ok-name.ensures.same rec.name (length rec.tags) tests.name parts.is_start in
-        let name = (same_found c.in_ok-name.name rec.name c.in_ok-name.count (length rec.tags) start).0 in
-        let count = sym (c.from.ensures ∙ (same_found c.in_ok-name.name rec.name c.in_ok-name.count (length rec.tags) start).1) in
-        let tags = c.in_ok-tags.ensures.same rec.tags count tests.tags parts.is_tags in
-        let blocks = c.in_ok-numbers.ensures.same rec.blocks (subst (λ n. IsTrue (are_blocks n rec.blocks)) (sym size) tests.blocks) parts.is_blocks in
-        ap (λ r. Some r) (same_record (record { name = c.in_ok-name.name; size = c.read_number-size.result; tags = c.in_ok-tags.tags.items; blocks = c.in_ok-numbers.numbers.items }) rec name size tags blocks)
+    let f = c.cut-fields.result in
+    let parts = file_parts f.start.now f.size.now f.tags.now f.block_numbers.now f.end.now rec is (sym c.cut-fields.ensures.whole ∙ e) c.cut-fields.ensures.start_len c.cut-fields.ensures.size_len c.cut-fields.ensures.tags_len c.cut-fields.ensures.blocks_len in
+    let tests = record_tests rec is in
+    let size = same_number 4 c.read_number-size.result rec.size c.read_number-size.type_inv (omega (arith, tests.small)) (sym c.read_number-size.ensures ∙ parts.is_size) in
+    let start = c.in_ok-name.ensures.same rec.name (length rec.tags) tests.name parts.is_start in
+    let name = (same_found c.in_ok-name.name rec.name c.in_ok-name.count (length rec.tags) start).0 in
+    let count = sym (c.from.ensures ∙ (same_found c.in_ok-name.name rec.name c.in_ok-name.count (length rec.tags) start).1) in
+    let tags = c.in_ok-tags.ensures.same rec.tags count tests.tags parts.is_tags in
+    let blocks = c.in_ok-numbers.ensures.same rec.blocks (subst (λ n. IsTrue (are_blocks n rec.blocks)) (sym size) tests.blocks) parts.is_blocks in
+    ap (λ r. Some r) (same_record (record { name = c.in_ok-name.name; size = c.read_number-size.result; tags = c.in_ok-tags.tags.items; blocks = c.in_ok-numbers.numbers.items }) rec name size tags blocks)

@@ -1,4 +1,4 @@
-use Rattle.std.proofs.Common.{◌≡◌, ◌≤◌, drop, nat_cmp}
+use Rattle.std.proofs.Common.{◌≡◌, drop, nat_cmp}
 use Rattle.lis_graph.specs.Graph.{is_rising}
 use Rattle.lis_fields.proofs.Runs.{rises_from}
 use Rattle.lis_fields.proofs.files.rise.Given as goal

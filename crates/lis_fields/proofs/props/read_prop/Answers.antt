@@ -1,7 +1,7 @@
-use Rattle.std.proofs.Common.{◌≡◌, ◌∙◌, ℕ, List, refl, sym, ap, length, Option, Some, subst, IsTrue, arith, false}
+use Rattle.std.proofs.Common.{◌≡◌, ◌∙◌, ℕ, List, refl, sym, ap, length, Option, Some, subst, IsTrue, false}
 use Rattle.lis_words.specs.Words.{is_word}
 use Rattle.lis_model.specs.State.{is_declarable}
-use Rattle.lis_fields.specs.Layouts.{zeros, named, prop_bytes, is_prop, is_undeclared}
+use Rattle.lis_fields.specs.Layouts.{named, prop_bytes, is_prop, is_undeclared}
 use Rattle.lis_fields.specs.declared.slots.PropSlot.{PropSlot}
 use Rattle.lis_fields.specs.declared.slots.PropSlot.TheVariants.{Free, Known, Declared}
 use Rattle.lis_fields.proofs.Widths.{are_zero, not_zeros, zeros_of}
@@ -44,4 +44,4 @@ returns-in_err-kind-clause-same c =
 pub returns-clause-same : goal.returns-clause-same
 returns-clause-same c =
     λ slot is e. same_named slot c.args.bytes.now (c.in_ok-kind.kind, c.in_ok-kind.word) c.named_slot.result is e (sym c.are_zeros.ensures ∙ c.if-are_zeros.false)
-        (λ kind word form spelled. let k = c.in_ok-kind.ensures.same kind word form spelled in cc) c.named_slot.ensures.known c.named_slot.ensures.declared
+    (λ kind word form spelled. let k = c.in_ok-kind.ensures.same kind word form spelled in cc) c.named_slot.ensures.known c.named_slot.ensures.declared
