@@ -64,7 +64,7 @@ distinct_more (b ∷ ns) n distinct new =
     let differ : n ≡ b → ⊥ = λ e. eqb-false b n unlike.0 (sym e) in
     let none : has_number (ns ++ n ∷ []) b ≡ false =
     list_any-append (λ m. m == b) ns (n ∷ [])
-        ∙ (ap (λ t. t || (eqb n b || false)) (not_true (has_number ns b) parts.0) ∙ ap (λ t. t || false) (ne_eqb n b differ)) in
+    ∙ (ap (λ t. t || (eqb n b || false)) (not_true (has_number ns b) parts.0) ∙ ap (λ t. t || false) (ne_eqb n b differ)) in
     and_from (not (has_number (ns ++ n ∷ []) b)) (are_distinct (ns ++ n ∷ [])) (from_false (has_number (ns ++ n ∷ []) b) none) (distinct_more ns n parts.1 unlike.1)
 
 pub free_more : (taken : List Bool) (ns : List ℕ) (n : ℕ) → are_free taken ns ≡ true → n < length taken → is_taken taken n ≡ false → are_free taken (ns ++ n ∷ []) ≡ true

@@ -15,7 +15,7 @@ use Rattle.lis_journal.proofs.Entries.{length-with_entry}
 use Rattle.lis_blockmap.specs.Bitmap.{free_count, is_taken}
 use Rattle.lis_content.specs.Content.{content, padded, given, marked, are_taken, are_free, has_number, are_distinct, has_home}
 use Rattle.lis_content.specs.Putting.{IsPut}
-use Rattle.lis_content.proofs.Numbers.{length-marked, neither, not_true, below_from_free, free_after, distinct_more, free_more, marked_more, taken_still}
+use Rattle.lis_content.proofs.Numbers.{length-marked, neither, not_true, below_from_free, free_after, distinct_more, free_more, marked_more, marked_are_taken, taken_still}
 
 -- ---- blocks that are given back: those of `left` are still to be given
 pub record Giving (start now : List Bool) (all left : List ℕ) : Type 0 where
@@ -23,14 +23,11 @@ pub record Giving (start now : List Bool) (all left : List ℕ) : Type 0 where
   pub held : are_taken now left ≡ true
   pub distinct : are_distinct left ≡ true
   pub counted : free_count now + length left ≡ free_count start + length all
+  pub len : length now ≡ length start
 
 at_first : (start now : List Bool) (ns : List ℕ) (k : ℕ) → k < length ns → Giving start now ns (drop k ns) → Giving start now ns (get_or ns k 0 ∷ drop (k + 1) ns)
 at_first start now ns k lt giving =
     subst (λ left. Giving start now ns left) (drop-cons ns k 0 lt ∙ ap (λ i. get_or ns k 0 ∷ drop i ns) (sym (add-one k))) giving
-
-pub first_taken : (start now : List Bool) (ns : List ℕ) (k : ℕ) → k < length ns → Giving start now ns (drop k ns) → is_taken now (get_or ns k 0) ≡ true
-first_taken start now ns k lt giving =
-    (and_parts (is_taken now (get_or ns k 0)) (are_taken now (drop (k + 1) ns)) (at_first start now ns k lt giving).held).0
 
 pub giving_on : (start now after : List Bool) (ns : List ℕ) (k : ℕ) → k < length ns → Giving start now ns (drop k ns) → after ≡ set now (get_or ns k 0) false → free_count after ≡ free_count now + 1 → Giving start after ns (drop (k + 1) ns)
 giving_on start now after ns k lt giving is more =
@@ -43,12 +40,8 @@ giving_on start now after ns k lt giving is more =
       held = ap (λ t. are_taken t rest) is ∙ taken_still now rest n (and_parts (is_taken now n) (are_taken now rest) was.held).1 (not_true (has_number rest n) unlike.0);
       distinct = unlike.1;
       counted = omega (arith, more, was.counted);
+      len = ap length is ∙ (length-set now n false ∙ was.len);
     }
-
-pub giving_done : (start now : List Bool) (ns : List ℕ) (k : ℕ) → length ns ≤ k → Giving start now ns (drop k ns) → (now ≡ given start ns) × (free_count now ≡ free_count start + length ns)
-giving_done start now ns k past giving =
-    let was : Giving start now ns [] = subst (λ left. Giving start now ns left) (drop_all k ns past) giving in
-    (was.gives, omega (arith, was.counted))
 
 -- ---- bytes that are put: those of `rest` are still to be put
 pub record Filling (base : ℕ) (bytes rest : List ℕ) (start now_taken : List Bool) (before now : Held) (blocks : List ℕ) : Type 0 where
@@ -89,6 +82,8 @@ filling_done base bytes rest start now_taken before now blocks none was = record
   distinct = was.distinct;
   were_free = was.were_free;
   marks = was.marks;
+  taken_now = ap (λ t. are_taken t blocks) was.marks ∙ marked_are_taken (length start) start blocks refl (below_from_free start blocks was.were_free);
+  len = ap length was.marks ∙ length-marked start blocks;
   counted = omega (arith, was.counted);
   enough = omega (arith, was.count, was.enough, was.counted);
   image = was.image;

@@ -5,7 +5,7 @@ use Rattle.lis_journal.specs.Journal.{Held}
 use Rattle.lis_journal.specs.Images.{look}
 use Rattle.lis_journal.specs.Phases.{looked}
 use Rattle.lis_blockmap.specs.Bitmap.{free_count}
-use Rattle.lis_content.specs.Content.{content, given, marked, are_free, are_distinct, has_home}
+use Rattle.lis_content.specs.Content.{content, given, marked, are_taken, are_free, are_distinct, has_home}
 use Rattle.lis_content.specs.declared.fault.PutFault.{PutFault}
 use Rattle.lis_content.specs.declared.fault.PutFault.TheVariants.{NoSpace, Disk}
 
@@ -15,6 +15,8 @@ pub record IsPut (base : ℕ) (old bytes : List ℕ) (taken now_taken : List Boo
   pub distinct : IsTrue (are_distinct blocks)
   pub were_free : IsTrue (are_free (given taken old) blocks)
   pub marks : now_taken ≡ marked (given taken old) blocks
+  pub taken_now : IsTrue (are_taken now_taken blocks)
+  pub len : length now_taken ≡ length taken
   pub counted : free_count now_taken + length blocks ≡ free_count taken + length old
   pub enough : blocks_needed (length bytes) ≤ free_count taken + length old
   pub image : now.blocks ≡ before.blocks

@@ -21,7 +21,12 @@ pub fn home(journal: &Journal, base: u32, n: u16) -> u32
 }
 
 /// Reads as many bytes of a block as the buffer has. A whole block is read straight into it.
-pub fn read_front<D: Disk>(journal: &Journal, disk: &mut D, n: u32, buf: &mut [u8]) -> Result<(), Failed>
+pub fn read_front<D: Disk>(
+    journal: &Journal,
+    disk: &mut D,
+    n: u32,
+    buf: &mut [u8],
+) -> Result<(), Failed>
     requires home { 578 ≤ n }
     requires within { n < journal.now.blocks }
     requires few { length buf.old ≤ 4096 }

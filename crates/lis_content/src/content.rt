@@ -49,7 +49,12 @@ pub fn put<D: Disk>(
 }
 
 // Stages the bytes in blocks that it takes. All blocks but the last are whole.
-fn stage_bytes(map: &mut BlockMap, journal: &mut Journal, base: u32, bytes: &[u8]) -> ArrayVec<u16, 16>
+fn stage_bytes(
+    map: &mut BlockMap,
+    journal: &mut Journal,
+    base: u32,
+    bytes: &[u8],
+) -> ArrayVec<u16, 16>
     requires few { length bytes.now ≤ 65536 }
     requires enough { blocks_needed (length bytes.now) ≤ free_count map.old }
     requires home { 578 ≤ base }
@@ -108,6 +113,7 @@ pub fn drop_file(map: &mut BlockMap, blocks: &[u16])
     requires distinct { IsTrue (are_distinct blocks.now) }
     requires taken { IsTrue (are_taken map.old blocks.now) }
     ensures given { map.new ≡ given map.old blocks.now }
+    ensures len { length map.new ≡ length map.old }
     ensures more { free_count map.new ≡ free_count map.old + length blocks.now }
 {
     for n in blocks {

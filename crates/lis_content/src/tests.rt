@@ -25,7 +25,8 @@ fn pattern(alloc: Global, size: usize) -> Result<Vec<u8>, AllocError>
     (0..size).map(|k| (k % 251) as u8).collect(alloc)
 }
 
-// Whether so many bytes are read as they were put and kept.
+// Whether so many bytes, put in the place of two blocks, are read as they were put and kept, and then leave all blocks
+// free.
 fn reads_back(alloc: Global, disk: &mut MemStation, size: u32) -> Result<bool, Fail>
     requires long { 4096 * 581 ≤ (meaning_of disk.old).len }
     requires size { size ≤ 12288 }
@@ -34,11 +35,20 @@ fn reads_back(alloc: Global, disk: &mut MemStation, size: u32) -> Result<bool, F
     let bytes = pattern(alloc, size as usize)?;
     let mut map = BlockMap::new(alloc, 3)?;
     let mut journal = Journal::mount(alloc, disk, BLOCKS)?;
-    let blocks = put(&mut map, &mut journal, disk, BASE, &[], &bytes)?;
+    let old = put(
+        &mut map,
+        &mut journal,
+        disk,
+        BASE,
+        &[],
+        &pattern(alloc, 4_097)?,
+    )?;
+    let blocks = put(&mut map, &mut journal, disk, BASE, &old, &bytes)?;
     journal.commit(disk)?;
     let mut buf = vec![in alloc; 9; size as usize]?;
     read(&journal, disk, BASE, &blocks, size, &mut buf)?;
-    Ok(buf == bytes)
+    drop_file(&mut map, &blocks);
+    Ok(buf == bytes && map.free() == 3)
 }
 
 #[test]
