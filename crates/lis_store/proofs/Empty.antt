@@ -17,10 +17,11 @@ use Rattle.lis_fields.specs.declared.slots.AxiomSlot.TheVariants.{Free as FreeAx
 use Rattle.lis_fields.specs.declared.slots.FileSlot.TheVariants.{Free as FreeFile}
 use Rattle.lis_model.specs.declared.limits.Limits.{Limits}
 use Rattle.lis_model.specs.Ranges.{are_in_range}
-use Rattle.lis_model.specs.Image.{data_start, bitmap_start, image_blocks}
+use Rattle.lis_model.specs.Image.{bitmap_start, image_blocks}
 use Rattle.lis_model.specs.Sets.{set_of}
 use Rattle.lis_model.specs.State.{State, file_cmp, empty_state}
 use Rattle.lis_laws.proofs.Steps.{empty_formed}
+use Rattle.lis_store.specs.Blank.{IsBlank}
 use Rattle.lis_store.specs.Stands.{property_slots, axiom_slots, file_slots, Contents, AreSlots, words_in, all_declared, is_free_axiom, all_records, all_blocks, file_of, spelled_state, are_named, Spells, Stands}
 
 -- all slots are free
@@ -31,14 +32,7 @@ empty_contents limits = record {
   files = replicate limits.files FreeFile;
 }
 
--- What an image needs to stand for the empty state, besides its super block. Each byte of the gate block but the first is free, and so is
--- each data block.
-pub record IsBlank (limits : Limits) (image : List ℕ) : Type 0 where
-  pub long : 4096 * image_blocks limits ≤ length image
-  pub gate : part 4096 1 image ≡ 0 ∷ []
-  pub homes : (n : ℕ) → 578 ≤ n → n < data_start limits → block n image ≡ zeros 4096
-
-zeros-part : (at n total : ℕ) → at + n ≤ total → part at n (zeros total) ≡ zeros n
+pub zeros-part : (at n total : ℕ) → at + n ≤ total → part at n (zeros total) ≡ zeros n
 unfolding zeros
 zeros-part at n total le = ap (take n) (drop-replicate at total 0) ∙ take-replicate n (total - at) 0 (omega arith)
 
