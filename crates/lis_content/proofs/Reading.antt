@@ -1,19 +1,17 @@
 -- Reads of blocks one by one, each into its part of a buffer.
-use Rattle.std.proofs.Common.{◌≡◌, ◌⊎◌, ℕ, ◌+◌, ◌-◌, ◌*◌, ◌<◌, ◌≤◌, min, List, [], ◌∷◌, ◌++◌, length, take, drop, get_or, IsTrue, OnOk, Result, refl, sym, ◌∙◌, ap, inl, inr, arith, length-append, length-drop}
+use Rattle.std.proofs.Common.{◌≡◌, ◌⊎◌, ℕ, ◌+◌, ◌-◌, ◌*◌, ◌<◌, ◌≤◌, min, List, [], ◌∷◌, ◌++◌, length, take, drop, get_or, IsTrue, refl, sym, ◌∙◌, ap, inl, inr, arith, length-append}
 use Rattle.std.specs.List.{flat_map}
 use Rattle.std.proofs.Math.Seq.{take-append-add}
 use Rattle.std.proofs.lemmas.Bool.{cases_lt}
 use Rattle.std.proofs.lemmas.Grind.{flat_map-append}
-use Rattle.std.proofs.lemmas.List.{append-nil, take_all, take_at, take_more, drop_all, drop-drop, length-take-le, take-take}
+use Rattle.std.proofs.lemmas.List.{append-nil, take_all, take_at, take_more, drop_all, drop-drop, length-take-le}
 use Rattle.lis_ports.specs.Meaning.{Meaning}
 use Rattle.lis_ports.specs.Runs.{IsDiskRun, Leaves}
 use Rattle.lis_ports.specs.Calls.{IsUnchanged}
-use Rattle.lis_ports.proofs.Moments.{run_none, run_then, leaves_none, leaves_then, leaves_weaken}
 use Rattle.lis_model.specs.State.{blocks_needed}
 use Rattle.lis_journal.specs.Record.{Entry}
 use Rattle.lis_journal.specs.Images.{Fits}
 use Rattle.lis_journal.specs.Phases.{looked}
-use Rattle.lis_content.specs.Content.{content}
 
 -- ---- what reads leave alone
 pub unchanged_none : (m : Meaning) → IsUnchanged m m

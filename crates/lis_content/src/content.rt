@@ -40,7 +40,7 @@ pub fn put<D: Disk>(
         (λ fault. IsRefused old.now bytes.now map.old map.new journal.old journal.new fault) }
     ensures disk { disk.new ≡ disk.old }
 {
-    let needed = (bytes.len() + BLOCK_LEN - 1) / BLOCK_LEN;
+    let needed = bytes.len().div_ceil(BLOCK_LEN);
     if map.free() as usize + old.len() < needed {
         return Err(PutFault::NoSpace);
     }

@@ -5,4 +5,5 @@ pub mod Pairs
 pub mod Runs
 pub mod Parts
 pub mod Supers
-pub mod Unique
+pub mod OneSpelling
+mod Examples

@@ -17,7 +17,7 @@ right_number Free = 0
 right_number (Pair left right) = right + 1
 
 pub axiom_spelled : (slot : AxiomSlot) → axiom_bytes slot ≡ little_bytes 4 (left_number slot) ++ little_bytes 4 (right_number slot)
-unfolding zeros
+unfolding axiom_bytes zeros
 axiom_spelled Free = refl
 axiom_spelled (Pair left right) = refl
 
@@ -61,6 +61,6 @@ other_half_read Free left right read none some = omega (arith, read.is_left)
 other_half_read (Pair l r) left right read none some = omega (arith, read.is_right)
 
 pub length_axiom : (slot : AxiomSlot) → length (axiom_bytes slot) ≡ 8
-unfolding zeros
+unfolding axiom_bytes zeros
 length_axiom Free = refl
 length_axiom (Pair left right) = refl

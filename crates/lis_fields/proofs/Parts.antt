@@ -107,6 +107,7 @@ length_record rec is =
     ∙ omega (arith, start_len, tags_len, blocks_len, length-append (numbers rec.tags) (numbers rec.blocks ++ zeros 124), length-append (numbers rec.blocks) (zeros 124), length_zeros 124)
 
 pub length_file : (slot : FileSlot) → IsTrue (is_file slot) → length (file_bytes slot) ≡ 256
+unfolding file_bytes
 length_file FreeFile is = length_zeros 256
 length_file (Used rec) is = length_record rec is
 
@@ -125,6 +126,7 @@ declarable_word word h =
     ]
 
 pub length_prop : (slot : PropSlot) → IsTrue (is_prop slot) → length (prop_bytes slot) ≡ 64
+unfolding prop_bytes
 length_prop FreeProp is = length_zeros 64
 length_prop (Known word) is = length_named 1 word (word_short word (undeclared_word word is))
 length_prop (Declared word) is = length_named 2 word (word_short word (declarable_word word is))

@@ -44,6 +44,7 @@ same_super a b fa fb e =
     ∙ (ap (λ n. super_of b.version b.limits.files n a.limits.blocks) props ∙ ap (λ n. super_of b.version b.limits.files b.limits.props n) blocks))
 
 pub length_super : (rec : SuperRec) → length (super_bytes rec) ≡ 4096
+unfolding super_bytes
 length_super rec = omega (arith, length_zeros 4072)
 
 -- the parts of a super block
@@ -53,9 +54,11 @@ pub record SuperParts (bytes : List ℕ) (rec : SuperRec) : Type 0 where
   pub end : drop 16 (drop 8 bytes) ≡ zeros 4072
 
 pub super_parts : (bytes : List ℕ) (rec : SuperRec) → bytes ≡ super_bytes rec → SuperParts bytes rec
+unfolding super_bytes
 super_parts bytes rec e =
     record { magic = ap (λ xs. take 8 xs) e; spelled = ap (λ xs. take 16 (drop 8 xs)) e; end = ap (λ xs. drop 16 (drop 8 xs)) e }
 
 pub super_joined : (bytes : List ℕ) (rec : SuperRec) → SuperParts bytes rec → bytes ≡ super_bytes rec
+unfolding super_bytes
 super_joined bytes rec parts =
     joined 8 bytes (codes "LISFS-IM") (super_numbers rec ++ zeros 4072) parts.magic (joined 16 (drop 8 bytes) (super_numbers rec) (zeros 4072) parts.spelled parts.end)

@@ -33,17 +33,20 @@ abbrev pub super_numbers : SuperRec → List ℕ
 super_numbers rec =
     little_bytes 4 rec.version ++ (little_bytes 4 rec.limits.files ++ (little_bytes 4 rec.limits.props ++ little_bytes 4 rec.limits.blocks))
 
-abbrev pub super_bytes : SuperRec → List ℕ
+-- the super block: how it begins, its numbers, and zeros
+unfoldable pub super_bytes : SuperRec → List ℕ
 super_bytes rec = codes "LISFS-IM" ++ (super_numbers rec ++ zeros 4072)
 
+-- version 1, and limits in range
 abbrev pub is_super : SuperRec → Bool
 is_super rec = (rec.version == 1) && are_in_range rec.limits
 
--- a property slot that has a word
+-- a property slot that has a word: the kind, the word, and zeros
 abbrev pub named : ℕ → List ℕ → List ℕ
 named kind word = kind ∷ text_bytes word ++ zeros 2
 
-abbrev pub prop_bytes : PropSlot → List ℕ
+-- a property slot: kind 1 is a word that is known and not declared, kind 2 a declared one
+unfoldable pub prop_bytes : PropSlot → List ℕ
 prop_bytes FreeProp = zeros 64
 prop_bytes (Known word) = named 1 word
 prop_bytes (Declared word) = named 2 word
@@ -52,16 +55,18 @@ prop_bytes (Declared word) = named 2 word
 abbrev pub is_undeclared : List ℕ → Bool
 is_undeclared word = is_valued word || (is_head word && is_built_in word)
 
+-- the word is one of its kind
 abbrev pub is_prop : PropSlot → Bool
 is_prop FreeProp = true
 is_prop (Known word) = is_undeclared word
 is_prop (Declared word) = is_declarable word
 
--- an axiom slot: its two slot numbers, each plus 1
-abbrev pub axiom_bytes : AxiomSlot → List ℕ
+-- an axiom slot: the slot numbers of its two words, each plus 1
+unfoldable pub axiom_bytes : AxiomSlot → List ℕ
 axiom_bytes FreeAxiom = zeros 8
 axiom_bytes (Pair left right) = little_bytes 4 (left + 1) ++ little_bytes 4 (right + 1)
 
+-- each number plus 1 is one of four bytes
 abbrev pub is_axiom : AxiomSlot → Bool
 is_axiom FreeAxiom = true
 is_axiom (Pair left right) = nat_lt left (2 ^ 32 - 1) && nat_lt right (2 ^ 32 - 1)
@@ -70,15 +75,17 @@ is_axiom (Pair left right) = nat_lt left (2 ^ 32 - 1) && nat_lt right (2 ^ 32 - 
 abbrev pub numbers : List ℕ → List ℕ
 numbers ns = padded 32 (flat_map (little_bytes 2) ns)
 
--- how a file slot that is used begins: the name, and how many words the file was given
+-- how a file slot that is used begins: a 1, the name, how many words the file was given, and a 0
 abbrev pub file_start : List ℕ → ℕ → List ℕ
 file_start name count = 1 ∷ text_bytes name ++ count ∷ 0 ∷ []
 
+-- a file slot that is used: the name, how many words, the size, the words' slots, the data blocks, and zeros
 abbrev pub record_bytes : FileRecord → List ℕ
 record_bytes rec =
     file_start rec.name (length rec.tags) ++ (little_bytes 4 rec.size ++ (numbers rec.tags ++ (numbers rec.blocks ++ zeros 124)))
 
-abbrev pub file_bytes : FileSlot → List ℕ
+-- a file slot
+unfoldable pub file_bytes : FileSlot → List ℕ
 file_bytes FreeFile = zeros 256
 file_bytes (Used rec) = record_bytes rec
 
@@ -99,10 +106,12 @@ are_tags tags = nat_le (length tags) 16 && are_short tags && is_rising nat_cmp t
 abbrev pub are_blocks : ℕ → List ℕ → Bool
 are_blocks size blocks = (length blocks == blocks_needed size) && are_short blocks && are_distinct blocks
 
+-- what a file slot may tell of a file
 abbrev pub is_record : FileRecord → Bool
 is_record rec =
     is_file_name rec.name && nat_le rec.size 65536 && are_tags rec.tags && are_blocks rec.size rec.blocks
 
+-- the values of a file slot
 abbrev pub is_file : FileSlot → Bool
 is_file FreeFile = true
 is_file (Used rec) = is_record rec

@@ -11,6 +11,7 @@ use crate::slots::AxiomSlot;
 pub const AXIOM_LEN: usize = 8;
 
 /// Reads an axiom slot. None comes exactly where the bytes are no spelling of one.
+#[tactic(auto, unfolding(crate::specs::Layouts::axiom_bytes))]
 pub fn read_axiom(bytes: &[u8]) -> Option<AxiomSlot>
     ensures spelled { IfSome result (λ slot. IsTrue (is_axiom slot) × (bytes.now ≡ axiom_bytes slot)) }
     ensures same { (slot : AxiomSlot) → IsTrue (is_axiom slot) → bytes.now ≡ axiom_bytes slot → result ≡ Some slot }
@@ -27,6 +28,7 @@ pub fn read_axiom(bytes: &[u8]) -> Option<AxiomSlot>
 }
 
 /// Writes an axiom slot.
+#[tactic(auto, unfolding(crate::specs::Layouts::axiom_bytes))]
 pub fn write_axiom(slot: &AxiomSlot, bytes: &mut [u8])
     requires len { length bytes.old ≡ 8 }
     requires range { IsTrue (is_axiom slot.now) }

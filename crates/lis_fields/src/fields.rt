@@ -8,6 +8,18 @@ ghost use Rattle.lis_fields.specs.Layouts.{text_bytes, zeros, numbers, are_short
 use arrayvec::ArrayVec;
 use byteorder::{ByteOrder, LittleEndian};
 
+/// The most bytes of a text.
+const MAX_TEXT: u8 = 60;
+
+/// How many bytes the field of a text has: the length, and room for the text.
+pub const TEXT_FIELD: usize = 61;
+
+/// The most numbers of a field of numbers.
+const MAX_NUMBERS: usize = 16;
+
+/// How many bytes a field of numbers has.
+pub const NUMBERS_FIELD: usize = 32;
+
 /// Whether all bytes are zero.
 pub fn are_zeros(bytes: &[u8]) -> bool
     ensures { result ≡ list_all (λ b. b == 0) bytes.now }
@@ -45,7 +57,7 @@ pub fn read_text(field: &[u8]) -> Option<&[u8]>
     ensures same { (text : List ℕ) → length text ≤ 60 → field.now ≡ text_bytes text → IsSomeAnd result (λ found. found.now ≡ text) }
 {
     let (len, rest) = field.split_first()?;
-    if *len > 60 {
+    if *len > MAX_TEXT {
         return None;
     }
     let (text, padding) = rest.split_at(*len as usize);
@@ -75,7 +87,7 @@ fn read_shorts(bytes: &[u8], count: usize) -> ArrayVec<u16, 16>
     ensures short { IsTrue (are_short result.items) }
     ensures spelled { bytes.now ≡ flat_map (little_bytes 2) result.items }
 {
-    let mut held = [0; 16];
+    let mut held = [0; MAX_NUMBERS];
     let (used, _) = held.split_at_mut(count);
     LittleEndian::read_u16_into(bytes, used);
     let mut numbers = ArrayVec::new();
@@ -86,10 +98,12 @@ fn read_shorts(bytes: &[u8], count: usize) -> ArrayVec<u16, 16>
 /// So many numbers of a field of 32 bytes. None comes exactly where the field spells no such numbers.
 pub fn read_numbers(field: &[u8], count: usize) -> Option<ArrayVec<u16, 16>>
     requires { length field.now ≡ 32 }
-    ensures spelled { IfSome result (λ found. (length found.items ≡ count) × (count ≤ 16) × IsTrue (are_short found.items) × (field.now ≡ numbers found.items)) }
-    ensures same { (ns : List ℕ) → length ns ≡ count → count ≤ 16 → IsTrue (are_short ns) → field.now ≡ numbers ns → IsSomeAnd result (λ found. found.items ≡ ns) }
+    ensures spelled { IfSome result (λ found.
+        (length found.items ≡ count) × (count ≤ 16) × IsTrue (are_short found.items) × (field.now ≡ numbers found.items)) }
+    ensures same { (ns : List ℕ) → length ns ≡ count → count ≤ 16 → IsTrue (are_short ns) → field.now ≡ numbers ns
+        → IsSomeAnd result (λ found. found.items ≡ ns) }
 {
-    if count > 16 {
+    if count > MAX_NUMBERS {
         return None;
     }
     let (start, padding) = field.split_at(2 * count);

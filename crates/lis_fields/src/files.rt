@@ -11,8 +11,8 @@ ghost use Rattle.lis_fields.specs.Layouts.{file_start, numbers, record_bytes, fi
 ghost use Rattle.lis_fields.specs.declared.slots.FileSlot.{FileSlot};
 
 use crate::fields::{
-    are_zeros, read_number, read_numbers, read_text, write_number, write_numbers, write_text,
-    write_zeros,
+    NUMBERS_FIELD, TEXT_FIELD, are_zeros, read_number, read_numbers, read_text, write_number,
+    write_numbers, write_text, write_zeros,
 };
 use crate::slots::{FileRec, FileSlot};
 use arrayvec::ArrayVec;
@@ -20,6 +20,9 @@ use lis_words::{Name, read_name};
 
 /// How many bytes a file slot has.
 pub const FILE_LEN: usize = 256;
+
+/// How many bytes stand before the size.
+const START_LEN: usize = 64;
 
 /// The most bytes of a file.
 const MAX_SIZE: u32 = 65_536;
@@ -59,13 +62,14 @@ fn are_distinct(numbers: &[u16]) -> bool
 fn read_start(bytes: &[u8]) -> Option<(Name, u8)>
     requires { length bytes.now ≡ 64 }
     ensures spelled { IfSome result (λ found. IsTrue (is_file_name found.0) × (bytes.now ≡ file_start found.0 found.1)) }
-    ensures same { (name : List ℕ) (count : ℕ) → IsTrue (is_file_name name) → bytes.now ≡ file_start name count → result ≡ Some (name, count) }
+    ensures same { (name : List ℕ) (count : ℕ) → IsTrue (is_file_name name) → bytes.now ≡ file_start name count
+        → result ≡ Some (name, count) }
 {
     let (kind, rest) = bytes.split_first()?;
     if *kind != 1 {
         return None;
     }
-    let (text, end) = rest.split_at(61);
+    let (text, end) = rest.split_at(TEXT_FIELD);
     let (count, gap) = end.split_first()?;
     if !are_zeros(gap) {
         return None;
@@ -77,8 +81,10 @@ fn read_start(bytes: &[u8]) -> Option<(Name, u8)>
 /// The slot numbers of the words that a file was given.
 fn read_tags(field: &[u8], count: usize) -> Option<ArrayVec<u16, 16>>
     requires { length field.now ≡ 32 }
-    ensures spelled { IfSome result (λ found. (length found.items ≡ count) × IsTrue (are_tags found.items) × (field.now ≡ numbers found.items)) }
-    ensures same { (tags : List ℕ) → length tags ≡ count → IsTrue (are_tags tags) → field.now ≡ numbers tags → IsSomeAnd result (λ found. found.items ≡ tags) }
+    ensures spelled { IfSome result (λ found.
+        (length found.items ≡ count) × IsTrue (are_tags found.items) × (field.now ≡ numbers found.items)) }
+    ensures same { (tags : List ℕ) → length tags ≡ count → IsTrue (are_tags tags) → field.now ≡ numbers tags
+        → IsSomeAnd result (λ found. found.items ≡ tags) }
 {
     let tags = read_numbers(field, count)?;
     if !rise(tags.as_slice()) {
@@ -92,7 +98,8 @@ fn read_blocks(field: &[u8], size: u32) -> Option<ArrayVec<u16, 16>>
     requires len { length field.now ≡ 32 }
     requires short { size ≤ 65536 }
     ensures spelled { IfSome result (λ found. IsTrue (are_blocks size found.items) × (field.now ≡ numbers found.items)) }
-    ensures same { (blocks : List ℕ) → IsTrue (are_blocks size blocks) → field.now ≡ numbers blocks → IsSomeAnd result (λ found. found.items ≡ blocks) }
+    ensures same { (blocks : List ℕ) → IsTrue (are_blocks size blocks) → field.now ≡ numbers blocks
+        → IsSomeAnd result (λ found. found.items ≡ blocks) }
 {
     let blocks = read_numbers(field, size.div_ceil(4_096) as usize)?;
     if !are_distinct(blocks.as_slice()) {
@@ -113,17 +120,18 @@ struct FileFields<'a> {
 
 fn cut(bytes: &[u8]) -> FileFields<'_>
     requires { length bytes.now ≡ 256 }
-    ensures whole { bytes.now ≡ result.start.now ++ (result.size.now ++ (result.tags.now ++ (result.block_numbers.now ++ result.end.now))) }
+    ensures whole { bytes.now
+        ≡ result.start.now ++ (result.size.now ++ (result.tags.now ++ (result.block_numbers.now ++ result.end.now))) }
     ensures start_len { length result.start.now ≡ 64 }
     ensures size_len { length result.size.now ≡ 4 }
     ensures tags_len { length result.tags.now ≡ 32 }
     ensures blocks_len { length result.block_numbers.now ≡ 32 }
     ensures end_len { length result.end.now ≡ 124 }
 {
-    let (start, rest) = bytes.split_at(64);
+    let (start, rest) = bytes.split_at(START_LEN);
     let (size, rest) = rest.split_at(4);
-    let (tags, rest) = rest.split_at(32);
-    let (block_numbers, end) = rest.split_at(32);
+    let (tags, rest) = rest.split_at(NUMBERS_FIELD);
+    let (block_numbers, end) = rest.split_at(NUMBERS_FIELD);
     FileFields {
         start,
         size,
@@ -158,6 +166,7 @@ fn read_record(bytes: &[u8]) -> Option<FileRec>
 }
 
 /// Reads a file slot. None comes exactly where the bytes are no spelling of one.
+#[tactic(auto, unfolding(crate::specs::Layouts::file_bytes))]
 pub fn read_file(bytes: &[u8]) -> Option<FileSlot>
     ensures spelled { IfSome result (λ slot. IsTrue (is_file slot) × (bytes.now ≡ file_bytes slot)) }
     ensures same { (slot : FileSlot) → IsTrue (is_file slot) → bytes.now ≡ file_bytes slot → result ≡ Some slot }
@@ -177,7 +186,7 @@ fn write_start(name: &Name, count: u8, bytes: &mut [u8])
     ensures { bytes.new ≡ file_start name.now count }
 {
     let (kind, rest) = bytes.split_at_mut(1);
-    let (text, end) = rest.split_at_mut(61);
+    let (text, end) = rest.split_at_mut(TEXT_FIELD);
     kind[0] = 1;
     write_text(name.bytes(), text);
     end.copy_from_slice(&[count, 0]);
@@ -188,10 +197,10 @@ fn write_record(rec: &FileRec, bytes: &mut [u8])
     requires range { IsTrue (is_record rec.now) }
     ensures { bytes.new ≡ record_bytes rec.now }
 {
-    let (start, rest) = bytes.split_at_mut(64);
+    let (start, rest) = bytes.split_at_mut(START_LEN);
     let (size, rest) = rest.split_at_mut(4);
-    let (tags, rest) = rest.split_at_mut(32);
-    let (blocks, end) = rest.split_at_mut(32);
+    let (tags, rest) = rest.split_at_mut(NUMBERS_FIELD);
+    let (blocks, end) = rest.split_at_mut(NUMBERS_FIELD);
     write_start(&rec.name, rec.tags.len() as u8, start);
     write_number(rec.size, size);
     write_numbers(rec.tags.as_slice(), tags);
@@ -200,6 +209,7 @@ fn write_record(rec: &FileRec, bytes: &mut [u8])
 }
 
 /// Writes a file slot.
+#[tactic(auto, unfolding(crate::specs::Layouts::file_bytes))]
 pub fn write_file(slot: &FileSlot, bytes: &mut [u8])
     requires len { length bytes.old ≡ 256 }
     requires range { IsTrue (is_file slot.now) }

@@ -6,8 +6,10 @@ mod axioms;
 mod fields;
 mod files;
 mod props;
-pub mod slots;
+mod slots;
 mod super_block;
+#[cfg(test)]
+mod tests;
 
 pub use axioms::{AXIOM_LEN, read_axiom, write_axiom};
 pub use files::{FILE_LEN, read_file, write_file};

@@ -7,7 +7,7 @@ ghost use Rattle.lis_fields.specs.Layouts.{named, prop_bytes, is_prop, is_undecl
 ghost use Rattle.lis_fields.specs.declared.slots.PropSlot.{PropSlot};
 ghost use Rattle.lis_fields.specs.declared.slots.PropSlot.TheVariants.{Known, Declared};
 
-use crate::fields::{are_zeros, read_text, write_text, write_zeros};
+use crate::fields::{TEXT_FIELD, are_zeros, read_text, write_text, write_zeros};
 use crate::slots::PropSlot;
 use lis_words::{Word, is_builtin, is_head, is_plain_word, is_valued, read_word};
 
@@ -47,7 +47,7 @@ fn read_named(bytes: &[u8]) -> Option<(u8, Word)>
     ensures same { (kind : ℕ) (word : List ℕ) → IsTrue (is_word word) → bytes.now ≡ named kind word → result ≡ Some (kind, word) }
 {
     let (kind, rest) = bytes.split_first()?;
-    let (text, end) = rest.split_at(61);
+    let (text, end) = rest.split_at(TEXT_FIELD);
     if !are_zeros(end) {
         return None;
     }
@@ -56,6 +56,7 @@ fn read_named(bytes: &[u8]) -> Option<(u8, Word)>
 }
 
 /// The slot of that kind and word. None comes exactly where there is none.
+#[tactic(auto, unfolding(crate::specs::Layouts::prop_bytes))]
 fn named_slot(kind: u8, word: Word) -> Option<PropSlot>
     ensures spelled { IfSome result (λ slot. IsTrue (is_prop slot) × (named kind word ≡ prop_bytes slot)) }
     ensures known { kind ≡ 1 → IsTrue (is_undeclared word) → result ≡ Some (Known word) }
@@ -79,6 +80,7 @@ fn named_slot(kind: u8, word: Word) -> Option<PropSlot>
 }
 
 /// Reads a property slot. None comes exactly where the bytes are no spelling of one.
+#[tactic(auto, unfolding(crate::specs::Layouts::prop_bytes))]
 pub fn read_prop(bytes: &[u8]) -> Option<PropSlot>
     ensures spelled { IfSome result (λ slot. IsTrue (is_prop slot) × (bytes.now ≡ prop_bytes slot)) }
     ensures same { (slot : PropSlot) → IsTrue (is_prop slot) → bytes.now ≡ prop_bytes slot → result ≡ Some slot }
@@ -98,13 +100,14 @@ fn write_named(kind: u8, word: &Word, bytes: &mut [u8])
     ensures { bytes.new ≡ named kind word.now }
 {
     let (start, rest) = bytes.split_at_mut(1);
-    let (text, end) = rest.split_at_mut(61);
+    let (text, end) = rest.split_at_mut(TEXT_FIELD);
     start[0] = kind;
     write_text(word.bytes(), text);
     write_zeros(end);
 }
 
 /// Writes a property slot.
+#[tactic(auto, unfolding(crate::specs::Layouts::prop_bytes))]
 pub fn write_prop(slot: &PropSlot, bytes: &mut [u8])
     requires len { length bytes.old ≡ 64 }
     requires range { IsTrue (is_prop slot.now) }

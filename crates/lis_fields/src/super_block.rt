@@ -49,6 +49,7 @@ fn read_limits(bytes: &[u8]) -> SuperRec
 }
 
 /// Reads a super block. None comes exactly where the bytes are no spelling of one.
+#[tactic(auto, unfolding(crate::specs::Layouts::super_bytes))]
 pub fn read_super(bytes: &[u8]) -> Option<SuperRec>
     ensures spelled { IfSome result (λ rec. IsTrue (is_super rec) × (bytes.now ≡ super_bytes rec)) }
     ensures same { (rec : SuperRec) → IsTrue (is_super rec) → bytes.now ≡ super_bytes rec → result ≡ Some rec }
@@ -85,6 +86,7 @@ fn write_limits(rec: &SuperRec, bytes: &mut [u8])
 }
 
 /// Writes a super block.
+#[tactic(auto, unfolding(crate::specs::Layouts::super_bytes))]
 pub fn write_super(rec: &SuperRec, bytes: &mut [u8])
     requires len { length bytes.old ≡ 4096 }
     requires range { IsTrue (is_super rec.now) }

@@ -16,7 +16,7 @@ mod tables;
 
 use tables::{
     CUT_SESSIONS, FAILING_SHOWS, FIRST_SESSIONS, LARGE_FILES, LONG_LINES, RIGHT_WORDS, SESSIONS,
-    WRONG_WORDS,
+    WORDED_SESSIONS, WRONG_WORDS,
 };
 
 /// The words of most sessions.
@@ -145,6 +145,15 @@ fn push_file(row: &mut String, line: &str, size: usize) -> Result<(), AllocError
         row.push('x')?;
     }
     row.push(';')?;
+    Ok(())
+}
+
+#[test]
+fn blocks_are_given_back(rt: HostRuntime) -> Result<(), Fail> {
+    for (words, row, wanted) in &WORDED_SESSIONS {
+        let seen = run(rt.alloc(), words, row, &SOUND)?;
+        assert_eq!(rt; seen.shown.as_str(), *wanted, "{row}");
+    }
     Ok(())
 }
 

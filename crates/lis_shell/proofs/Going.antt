@@ -210,12 +210,12 @@ ends_limit {E} limit input left left_after old new start now before after payloa
 -- a fault of the input
 pub ends_input : {E : Type 0} (limit : ℕ) (input : List ℕ) (left left_after : Option (List ℕ)) (old new : Reading) (start now : Situation) (before after : Option (List ℕ)) (payload : Payload) (result : Result Said E) (failed : E)
     → SoFar limit (Some input) left old start now before after → Says old new left left_after payload result → result ≡ Err failed
-    → ShowsWhole start input left_after before after now
+    → ShowsWhole start limit input left_after before after now
 ends_input {E} limit input left left_after old new start now before after payload result failed so_far says is =
     by (next_said limit (Some input) left left_after old new so_far.first payload result so_far.read says)
   where
     by : (Goes so_far.read.bytes so_far.first × Gives old new left left_after payload result) ⊎ (Ends so_far.read.bytes so_far.first old left × Closes old new left left_after result)
-        → ShowsWhole start input left_after before after now
+        → ShowsWhole start limit input left_after before after now
     by (inr closed) = let ends = closed.1.ends in absurd (cc)
     by (inl going) =
         let gave : Gives {E = E} old new left left_after payload (Err failed) = subst (λ r. Gives old new left left_after payload r) is going.1 in
@@ -227,6 +227,7 @@ ends_input {E} limit input left left_after old new start now before after payloa
         record {
           taken = so_far.read.bytes ++ rest.bytes;
           consumed = subst (λ xs. Consumes (Some input) left_after xs) (ap (λ xs. (so_far.read.bytes ++ rest.bytes) ++ xs) rest.nothing_ahead ∙ append-nil (so_far.read.bytes ++ rest.bytes)) all;
+          within = omega (arith, so_far.read.rest, rest.gave.rest, rest.within, length-append so_far.read.bytes rest.bytes);
           shown = so_far.shown ∙ ap (λ items. append_known before (replies start items)) (sym items);
           at = so_far.at ∙ ap (situation_after start) (sym items);
         }

@@ -10,10 +10,11 @@ use Rattle.lis_line.specs.declared.reader.Item.TheVariants.{Command, Bad, End, L
 use Rattle.lis_shell.specs.declared.status.Status.{Status}
 use Rattle.lis_shell.specs.declared.status.Status.TheVariants.{Done, Usage, NotAnImage, TooShort, DiskFault, InputFault, OutputFault, InputLimit, NoMemory}
 
--- Of the bytes taken, the items that are whole were carried out, and their replies were shown.
-pub record ShowsWhole (start : Situation) (bytes : List ℕ) (left before now : Option (List ℕ)) (end : Situation) : Type 0 where
+-- Of the bytes taken, none of which lies past the limit, the items that are whole were carried out, and their replies were shown.
+pub record ShowsWhole (start : Situation) (limit : ℕ) (bytes : List ℕ) (left before now : Option (List ℕ)) (end : Situation) : Type 0 where
   pub taken : List ℕ
   pub consumed : Consumes (Some bytes) left taken
+  pub within : length taken ≤ limit
   pub shown : now ≡ append_known before (replies start (whole_items taken))
   pub at : end ≡ situation_after start (whole_items taken)
 
@@ -40,7 +41,7 @@ Tries start limit bytes left before now end Done =
     (length bytes ≤ limit) × IsAtEnd left × (now ≡ append_known before (replies start (script bytes limit))) × (end ≡ situation_after start (script bytes limit))
 Tries start limit bytes left before now end InputLimit =
     (limit < length bytes) × (now ≡ append_known before (replies start (script bytes limit))) × (end ≡ situation_after start (script bytes limit))
-Tries start limit bytes left before now end InputFault = ShowsWhole start bytes left before now end
+Tries start limit bytes left before now end InputFault = ShowsWhole start limit bytes left before now end
 Tries start limit bytes left before now end OutputFault = ShowsFront start (script bytes limit) before now end
 Tries start limit bytes left before now end NoMemory = ShowsFirst start (script bytes limit) before now end
 Tries start limit bytes left before now end Usage = ⊥

@@ -6,7 +6,7 @@ use Rattle.lis_fields.specs.Layouts.{prop_bytes, is_prop, file_bytes, is_file, s
 use Rattle.lis_fields.specs.declared.slots.SuperRec.{SuperRec}
 use Rattle.lis_fields.specs.declared.slots.PropSlot.{PropSlot}
 use Rattle.lis_fields.specs.declared.slots.FileSlot.{FileSlot}
-use Rattle.lis_fields.proofs.Unique.{one_super, one_prop, one_file}
+use Rattle.lis_fields.proofs.OneSpelling.{super_once, prop_once, file_once}
 use Rattle.lis_model.specs.declared.limits.Limits.{Limits}
 use Rattle.lis_model.specs.Ranges.{are_in_range}
 use Rattle.lis_model.specs.Image.{image_blocks}
@@ -33,8 +33,8 @@ one_array spelled is_in_range slots at xs ys one are_xs are_ys =
 
 one_spelled : (limits : Limits) (a b : Contents) (at : ℕ → List ℕ) (s t : State) → Spells limits a at s → Spells limits b at t → s ≡ t
 one_spelled limits a b at s t spells_s spells_t =
-    let properties = one_array prop_bytes is_prop (property_slots limits) at a.properties b.properties one_prop spells_s.properties spells_t.properties in
-    let files = one_array file_bytes is_file (file_slots limits) at a.files b.files one_file spells_s.files spells_t.files in
+    let properties = one_array prop_bytes is_prop (property_slots limits) at a.properties b.properties prop_once spells_s.properties spells_t.properties in
+    let files = one_array file_bytes is_file (file_slots limits) at a.files b.files file_once spells_s.files spells_t.files in
     let of_parts : List PropSlot → List FileSlot → State = λ ps fs. spelled_state limits (record { properties = ps; axioms = []; files = fs }) at in
     let same : spelled_state limits a at ≡ spelled_state limits b at = ap₂ of_parts properties files in
     spells_s.state ∙ (same ∙ sym spells_t.state)
@@ -46,7 +46,7 @@ abbrev super_of : Limits → SuperRec
 super_of limits = record { version = 1; limits = limits }
 
 one_limits : (a b : Limits) → IsTrue (are_in_range a) → IsTrue (are_in_range b) → super_bytes (super_of a) ≡ super_bytes (super_of b) → a ≡ b
-one_limits a b in_a in_b e = ap (λ (rec : SuperRec). rec.limits) (one_super (super_of a) (super_of b) in_a in_b e)
+one_limits a b in_a in_b e = ap (λ (rec : SuperRec). rec.limits) (super_once (super_of a) (super_of b) in_a in_b e)
 
 pub one_state : (image : List ℕ) (s t : State) → Stands image s → Stands image t → s ≡ t
 unfolding Stands

@@ -122,6 +122,20 @@ pub static SESSIONS: [(&str, &str); 33] = [
     ),
 ];
 
+/// The words, a session, and what is shown of it.
+pub static WORDED_SESSIONS: [([&str; 4], &str, &str); 2] = [
+    (
+        ["try", "64", "64", "1"],
+        "add a 1;x;add b 0;;add c 1;y;rm a;add c 1;z;cat c;",
+        "ok;ok;no 24 no space;ok;ok;b 1;z;ok;",
+    ),
+    (
+        ["try", "64", "64", "2"],
+        "add a 1;x;add b 1;y;add a 1;z;add c 1;z;rm b;create b;add c 1;z;ls;",
+        "ok;ok;no 09 name taken;no 24 no space;ok;ok;ok;f a;f b;f c;ok;",
+    ),
+];
+
 /// The words, how many bytes the first and the second file are to have, and what is shown of both and of a listing.
 pub static LARGE_FILES: [([&str; 4], usize, usize, &str); 4] = [
     (

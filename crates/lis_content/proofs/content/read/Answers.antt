@@ -1,4 +1,4 @@
-use Rattle.std.proofs.Common.{◌≡◌, ℕ, ◌+◌, ◌-◌, ◌*◌, ◌≤◌, min, length, get_or, sym, ◌∙◌, ap, take, drop, length-drop, arith}
+use Rattle.std.proofs.Common.{◌≡◌, ◌+◌, ◌-◌, ◌*◌, min, length, get_or, sym, ◌∙◌, ap, take, drop, length-drop, arith}
 use Rattle.std.proofs.lemmas.List.{length-take-le}
 use Rattle.lis_ports.proofs.Moments.{run_then, leaves_then, leaves_weaken}
 use Rattle.lis_journal.specs.Images.{look}

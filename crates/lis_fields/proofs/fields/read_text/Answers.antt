@@ -9,6 +9,6 @@ returns-then-not-are_zeros-clause-same c =
 
 pub returns-clause-spelled : goal.returns-clause-spelled
 returns-clause-spelled c =
-    let e = text_from c.in_ok-len.len.now c.in_ok-len.rest.now c.split_at.result.0.now c.split_at.result.1.now (omega (arith, c.in_ok-len.ensures.cases.1, c.requires)) c.if-len-gt60.false c.split_at.ensures.front c.split_at.ensures.back
+    let e = text_from c.in_ok-len.len.now c.in_ok-len.rest.now c.split_at.result.0.now c.split_at.result.1.now (omega (arith, c.in_ok-len.ensures.cases.1, c.requires)) c.if-len-gt-MAX_TEXT.false c.split_at.ensures.front c.split_at.ensures.back
     (sym c.are_zeros.ensures ∙ c.if-not-are_zeros.false) in
     (omega arith, c.in_ok-len.ensures.cases.0 ∙ e)

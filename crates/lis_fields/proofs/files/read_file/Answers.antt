@@ -10,12 +10,14 @@ use Rattle.lis_fields.proofs.files.read_file.Goals as goal
 -- no slot, where no record is spelled
 none_used : (slot : FileSlot) (bytes : List ℕ) → IsTrue (is_file slot) → bytes ≡ file_bytes slot → are_zero bytes ≡ false
     → ((rec : FileRecord) → IsTrue (is_record rec) → bytes ≡ record_bytes rec → ⊥) → ⊥
+unfolding file_bytes
 none_used Free bytes is e some never = not_zeros 256 bytes e some
 none_used (Used rec) bytes is e some never = never rec is e
 
 -- the slot of the record that is spelled
 same_used : (slot : FileSlot) (bytes : List ℕ) (found : FileRecord) → IsTrue (is_file slot) → bytes ≡ file_bytes slot → are_zero bytes ≡ false
     → ((rec : FileRecord) → IsTrue (is_record rec) → bytes ≡ record_bytes rec → found ≡ rec) → Some (Used found) ≡ Some slot
+unfolding file_bytes
 same_used Free bytes found is e some same = absurd (not_zeros 256 bytes e some)
 same_used (Used rec) bytes found is e some same = ap (λ r. Some (Used r)) (same rec is e)
 
@@ -23,6 +25,7 @@ pub returns-then-bytes-ne-FILE_LEN-clause-same : goal.returns-then-bytes-ne-FILE
 returns-then-bytes-ne-FILE_LEN-clause-same c = λ slot is e. absurd (c.if-bytes-ne-FILE_LEN.true (ap length e ∙ length_file slot is))
 
 pub returns-then-are_zeros-clause-spelled : goal.returns-then-are_zeros-clause-spelled
+unfolding file_bytes
 returns-then-are_zeros-clause-spelled c =
     (refl, zeros_of 256 c.args.bytes.now c.if-bytes-ne-FILE_LEN.false (sym c.are_zeros.ensures ∙ c.if-are_zeros.true))
 

@@ -11,6 +11,7 @@ use Rattle.lis_fields.proofs.props.read_prop.Goals as goal
 -- no slot, where no kind and word are spelled
 none_named : (slot : PropSlot) (bytes : List ℕ) → IsTrue (is_prop slot) → bytes ≡ prop_bytes slot → are_zero bytes ≡ false
     → ((kind : ℕ) (word : List ℕ) → IsTrue (is_word word) → bytes ≡ named kind word → ⊥) → ⊥
+unfolding prop_bytes
 none_named Free bytes is e some never = not_zeros 64 bytes e some
 none_named (Known word) bytes is e some never = never 1 word (undeclared_word word is) e
 none_named (Declared word) bytes is e some never = never 2 word (declarable_word word is) e
@@ -20,6 +21,7 @@ same_named : (slot : PropSlot) (bytes : List ℕ) (found : ℕ × List ℕ) (res
     → ((kind : ℕ) (word : List ℕ) → IsTrue (is_word word) → bytes ≡ named kind word → found ≡ (kind, word))
     → (found.0 ≡ 1 → IsTrue (is_undeclared found.1) → result ≡ Some (Known found.1)) → (found.0 ≡ 2 → IsTrue (is_declarable found.1) → result ≡ Some (Declared found.1))
     → result ≡ Some slot
+unfolding prop_bytes
 same_named Free bytes found result is e some same known declared = absurd (not_zeros 64 bytes e some)
 same_named (Known word) bytes found result is e some same known declared =
     let both = same 1 word (undeclared_word word is) e in
@@ -34,6 +36,7 @@ pub returns-then-bytes-ne-PROP_LEN-clause-same : goal.returns-then-bytes-ne-PROP
 returns-then-bytes-ne-PROP_LEN-clause-same c = λ slot is e. absurd (c.if-bytes-ne-PROP_LEN.true (ap length e ∙ length_prop slot is))
 
 pub returns-then-are_zeros-clause-spelled : goal.returns-then-are_zeros-clause-spelled
+unfolding prop_bytes
 returns-then-are_zeros-clause-spelled c =
     (refl, zeros_of 64 c.args.bytes.now c.if-bytes-ne-PROP_LEN.false (sym c.are_zeros.ensures ∙ c.if-are_zeros.true))
 

@@ -1,0 +1,5 @@
+mod Finds
+mod Entries
+mod Places
+mod Holders
+pub mod Laws

@@ -1,0 +1,104 @@
+-- No two values of a part have one spelling.
+use Rattle.std.proofs.Common.{◌≡◌, refl, sym, ap, ap₂, ◌∙◌, ℕ, ◌-◌, ◌≤◌, true, ◌&&◌, List, [], ◌∷◌, ◌++◌, length, get_or, take, drop, IsTrue, nat_le, ◌==◌, nat_cmp, arith}
+use Rattle.std.proofs.lemmas.Bool.{and_parts}
+use Rattle.byteorder.specs.Endian.{little_bytes}
+use Rattle.lis_graph.specs.Graph.{is_rising}
+use Rattle.lis_model.specs.State.{blocks_needed}
+use Rattle.lis_fields.specs.Records.{FileRecord}
+use Rattle.lis_fields.specs.Layouts.{zeros, padded, text_bytes, numbers, super_bytes, is_super, prop_bytes, is_prop, axiom_bytes, is_axiom, file_start, record_bytes, is_record, file_bytes, is_file, are_short, are_distinct, are_tags, are_blocks}
+use Rattle.lis_fields.specs.declared.slots.SuperRec.{SuperRec}
+use Rattle.lis_fields.specs.declared.slots.PropSlot.{PropSlot}
+use Rattle.lis_fields.specs.declared.slots.PropSlot.TheVariants.{Free as FreeProp, Known, Declared}
+use Rattle.lis_fields.specs.declared.slots.AxiomSlot.{AxiomSlot}
+use Rattle.lis_fields.specs.declared.slots.AxiomSlot.TheVariants.{Free as FreeAxiom, Pair}
+use Rattle.lis_fields.specs.declared.slots.FileSlot.{FileSlot}
+use Rattle.lis_fields.specs.declared.slots.FileSlot.TheVariants.{Free as FreeFile, Used}
+use Rattle.lis_fields.proofs.Widths.{front_is, same_number}
+use Rattle.lis_fields.proofs.Shorts.{shorts, length_shorts, same_shorts}
+use Rattle.lis_fields.proofs.Texts.{name_short, word_short}
+use Rattle.lis_fields.proofs.Pairs.{left_number, right_number, axiom_spelled, axiom_fits}
+use Rattle.lis_fields.proofs.Parts.{text_parts, length_start, length_numbers, few_tags, few_blocks, record_tests, file_parts, same_record, undeclared_word, declarable_word}
+use Rattle.lis_fields.proofs.Supers.{super_fits, same_super}
+
+same_text : (a b : List ℕ) → length a ≤ 60 → text_bytes a ≡ text_bytes b → a ≡ b
+same_text a b short e =
+    let size : length a ≡ length b = ap (λ xs. get_or xs 0 0) e in
+    let rest : padded 60 a ≡ padded 60 b = ap (λ xs. drop 1 xs) e in
+    sym (front_is (length a) (padded 60 a) a (zeros (60 - length a)) refl refl) ∙ front_is (length a) (padded 60 a) b (zeros (60 - length b)) rest (sym size)
+
+same_numbers : (ms ns : List ℕ) → length ms ≡ length ns → are_short ms ≡ true → are_short ns ≡ true → numbers ms ≡ numbers ns → ms ≡ ns
+same_numbers ms ns len sm sn e =
+    let of_ms = length_shorts ms in
+    let of_ns = length_shorts ns in
+    let size : length (shorts ns) ≡ length (shorts ms) = omega arith in
+    same_shorts ms ns sm sn len
+    (sym (front_is (length (shorts ms)) (numbers ms) (shorts ms) (zeros (32 - length (shorts ms))) refl refl) ∙ front_is (length (shorts ms)) (numbers ms) (shorts ns) (zeros (32 - length (shorts ns))) e size)
+
+-- a text between a byte and more bytes
+same_framed : (k j : ℕ) (a b end : List ℕ) (more : List ℕ) → length a ≤ 60 → length b ≤ 60 → k ∷ (text_bytes a ++ end) ≡ j ∷ (text_bytes b ++ more) → (a ≡ b) × (end ≡ more)
+same_framed k j a b end more sa sb e =
+    let left = text_parts k (text_bytes a ++ end) k a end sa refl in
+    let right = text_parts k (text_bytes a ++ end) j b more sb e in
+    (same_text a b sa (sym left.is_text ∙ right.is_text), sym left.is_end ∙ right.is_end)
+
+pub super_once : (a b : SuperRec) → IsTrue (is_super a) → IsTrue (is_super b) → super_bytes a ≡ super_bytes b → a ≡ b
+unfolding super_bytes
+super_once a b is_a is_b e = same_super a b (super_fits a is_a) (super_fits b is_b) (ap (λ xs. take 16 (drop 8 xs)) e)
+
+pub axiom_once : (a b : AxiomSlot) → IsTrue (is_axiom a) → IsTrue (is_axiom b) → axiom_bytes a ≡ axiom_bytes b → a ≡ b
+axiom_once a b is_a is_b e =
+    let spelled = sym (axiom_spelled a) ∙ (e ∙ axiom_spelled b) in
+    let fits_a = axiom_fits a is_a in
+    let fits_b = axiom_fits b is_b in
+    from a b (same_number 4 (left_number a) (left_number b) fits_a.0 fits_b.0 (ap (λ xs. take 4 xs) spelled)) (same_number 4 (right_number a) (right_number b) fits_a.1 fits_b.1 (ap (λ xs. drop 4 xs) spelled))
+  where
+    from : (x y : AxiomSlot) → left_number x ≡ left_number y → right_number x ≡ right_number y → x ≡ y
+    from FreeAxiom FreeAxiom left right = refl
+    from FreeAxiom (Pair l r) left right = absurd (omega (arith, left))
+    from (Pair l r) FreeAxiom left right = absurd (omega (arith, left))
+    from (Pair l r) (Pair k q) left right =
+        let one : l ≡ k = omega (arith, left) in
+        let two : r ≡ q = omega (arith, right) in
+        ap₂ (λ x y. Pair x y) one two
+
+pub prop_once : (a b : PropSlot) → IsTrue (is_prop a) → IsTrue (is_prop b) → prop_bytes a ≡ prop_bytes b → a ≡ b
+unfolding prop_bytes zeros
+prop_once FreeProp FreeProp is_a is_b e = refl
+prop_once FreeProp (Known w) is_a is_b e = let first : 0 ≡ 1 = ap (λ xs. get_or xs 0 0) e in absurd (omega (arith, first))
+prop_once FreeProp (Declared w) is_a is_b e = let first : 0 ≡ 2 = ap (λ xs. get_or xs 0 0) e in absurd (omega (arith, first))
+prop_once (Known v) FreeProp is_a is_b e = let first : 1 ≡ 0 = ap (λ xs. get_or xs 0 0) e in absurd (omega (arith, first))
+prop_once (Known v) (Known w) is_a is_b e =
+    ap Known (same_framed 1 1 v w (zeros 2) (zeros 2) (word_short v (undeclared_word v is_a)) (word_short w (undeclared_word w is_b)) e).0
+prop_once (Known v) (Declared w) is_a is_b e = let first : 1 ≡ 2 = ap (λ xs. get_or xs 0 0) e in absurd (omega (arith, first))
+prop_once (Declared v) FreeProp is_a is_b e = let first : 2 ≡ 0 = ap (λ xs. get_or xs 0 0) e in absurd (omega (arith, first))
+prop_once (Declared v) (Known w) is_a is_b e = let first : 2 ≡ 1 = ap (λ xs. get_or xs 0 0) e in absurd (omega (arith, first))
+prop_once (Declared v) (Declared w) is_a is_b e =
+    ap Declared (same_framed 2 2 v w (zeros 2) (zeros 2) (word_short v (declarable_word v is_a)) (word_short w (declarable_word w is_b)) e).0
+
+short_tags : (tags : List ℕ) → IsTrue (are_tags tags) → are_short tags ≡ true
+short_tags tags h = (and_parts (nat_le (length tags) 16) (are_short tags) (and_parts (nat_le (length tags) 16 && are_short tags) (is_rising nat_cmp tags) h).0).1
+
+short_blocks : (size : ℕ) (blocks : List ℕ) → IsTrue (are_blocks size blocks) → are_short blocks ≡ true
+short_blocks size blocks h = (and_parts (length blocks == blocks_needed size) (are_short blocks) (and_parts ((length blocks == blocks_needed size) && are_short blocks) (are_distinct blocks) h).0).1
+
+record_once : (a b : FileRecord) → IsTrue (is_record a) → IsTrue (is_record b) → record_bytes a ≡ record_bytes b → a ≡ b
+record_once a b is_a is_b e =
+    let of_a = record_tests a is_a in
+    let of_b = record_tests b is_b in
+    let needed = few_blocks a.size a.blocks of_a.blocks in
+    let few : length a.blocks ≤ 16 = omega (arith, needed, of_a.small) in
+    let parts = file_parts (file_start a.name (length a.tags)) (little_bytes 4 a.size) (numbers a.tags) (numbers a.blocks) (zeros 124) b is_b e
+    (length_start a.name (length a.tags) (name_short a.name of_a.name)) refl (length_numbers a.tags (few_tags a.tags of_a.tags)) (length_numbers a.blocks few) in
+    let start = same_framed 1 1 a.name b.name (length a.tags ∷ 0 ∷ []) (length b.tags ∷ 0 ∷ []) (name_short a.name of_a.name) (name_short b.name of_b.name) parts.is_start in
+    let count : length a.tags ≡ length b.tags = ap (λ xs. get_or xs 0 0) start.1 in
+    let size = same_number 4 a.size b.size (omega (arith, of_a.small)) (omega (arith, of_b.small)) parts.is_size in
+    let blocks : length a.blocks ≡ length b.blocks = needed ∙ (ap blocks_needed size ∙ sym (few_blocks b.size b.blocks of_b.blocks)) in
+    same_record a b start.0 size (same_numbers a.tags b.tags count (short_tags a.tags of_a.tags) (short_tags b.tags of_b.tags) parts.is_tags)
+    (same_numbers a.blocks b.blocks blocks (short_blocks a.size a.blocks of_a.blocks) (short_blocks b.size b.blocks of_b.blocks) parts.is_blocks)
+
+pub file_once : (a b : FileSlot) → IsTrue (is_file a) → IsTrue (is_file b) → file_bytes a ≡ file_bytes b → a ≡ b
+unfolding file_bytes zeros
+file_once FreeFile FreeFile is_a is_b e = refl
+file_once FreeFile (Used rec) is_a is_b e = let first : 0 ≡ 1 = ap (λ xs. get_or xs 0 0) e in absurd (omega (arith, first))
+file_once (Used rec) FreeFile is_a is_b e = let first : 1 ≡ 0 = ap (λ xs. get_or xs 0 0) e in absurd (omega (arith, first))
+file_once (Used rec) (Used other) is_a is_b e = ap Used (record_once rec other is_a is_b e)

@@ -1,0 +1,97 @@
+//! Spellings that were worked out by hand, read and written back.
+
+use crate::{
+    AxiomSlot, FileSlot, PropSlot, SuperRec, read_axiom, read_file, read_prop, read_super,
+    write_axiom, write_file, write_prop, write_super,
+};
+use lis_model::limits::Limits;
+
+static SUPER_START: [u8; 24] = [
+    0x4c, 0x49, 0x53, 0x46, 0x53, 0x2d, 0x49, 0x4d, 1, 0, 0, 0, 0x40, 0, 0, 0, 0x40, 0, 0, 0, 8, 0,
+    0, 0,
+];
+
+#[test]
+fn super_block_of_64_64_8(rt: HostRuntime) {
+    let rec = SuperRec {
+        version: 1,
+        limits: Limits {
+            files: 64,
+            props: 64,
+            blocks: 8,
+        },
+    };
+    let mut bytes = [0xff; 4_096];
+    write_super(&rec, &mut bytes);
+    assert!(rt; bytes[..24] == SUPER_START[..]);
+    assert!(rt; read_super(&bytes) == Some(rec));
+    bytes[4_095] = 1;
+    assert!(rt; read_super(&bytes) == None);
+}
+
+#[test]
+fn property_slots(rt: HostRuntime) {
+    let mut bytes = [0; 64];
+    assert!(rt; matches!(read_prop(&bytes), Some(PropSlot::Free)));
+    bytes[..3].copy_from_slice(b"\x02\x01a");
+    for (kind, is_slot) in [(0, false), (1, false), (2, true), (3, false)] {
+        bytes[0] = kind;
+        let Some(slot) = read_prop(&bytes) else {
+            assert!(rt; !is_slot, "kind {kind}");
+            continue;
+        };
+        assert!(rt;
+            is_slot && matches!(slot, PropSlot::Declared(_)),
+            "kind {kind}"
+        );
+        let mut back = [0xff; 64];
+        write_prop(&slot, &mut back);
+        assert!(rt; back == bytes, "kind {kind}");
+    }
+}
+
+#[test]
+fn axiom_slots(rt: HostRuntime) {
+    let table = [
+        ([0, 0, 0, 0, 0, 0, 0, 0], Some(AxiomSlot::Free)),
+        ([1, 0, 0, 0, 0, 2, 0, 0], Some(AxiomSlot::Pair(0, 511))),
+        ([1, 0, 0, 0, 0, 0, 0, 0], None),
+    ];
+    for (bytes, want) in table {
+        let found = read_axiom(&bytes);
+        assert!(rt; found == want);
+        if let Some(slot) = found {
+            let mut back = [0xff; 8];
+            write_axiom(&slot, &mut back);
+            assert!(rt; back == bytes);
+        }
+    }
+}
+
+#[test]
+fn file_slots(rt: HostRuntime) {
+    let mut bytes = [0; 256];
+    bytes[..6].copy_from_slice(b"\x01\x04song");
+    bytes[62] = 2;
+    bytes[64..68].copy_from_slice(&[0x88, 0x13, 0, 0]);
+    bytes[68..72].copy_from_slice(&[3, 0, 2, 1]);
+    bytes[100..104].copy_from_slice(&[7, 0, 5, 0]);
+    match read_file(&bytes) {
+        Some(FileSlot::Used(rec)) => {
+            assert!(rt; rec.name.bytes() == b"song".as_slice());
+            assert!(rt; rec.size == 5_000);
+            assert!(rt; rec.tags.as_slice() == [3, 258].as_slice());
+            assert!(rt; rec.blocks.as_slice() == [7, 5].as_slice());
+        }
+        _ => assert!(rt; false),
+    }
+    if let Some(slot) = read_file(&bytes) {
+        let mut back = [0xff; 256];
+        write_file(&slot, &mut back);
+        assert!(rt; back == bytes);
+    }
+    bytes[101] = 1;
+    bytes[102] = 7;
+    bytes[103] = 1;
+    assert!(rt; matches!(read_file(&bytes), None));
+}
