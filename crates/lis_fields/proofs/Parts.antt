@@ -73,7 +73,7 @@ pub few_blocks : (size : ℕ) (blocks : List ℕ) → IsTrue (are_blocks size bl
 few_blocks size blocks h = eqb-true (length blocks) (blocks_needed size) (and_parts _ _ (and_parts _ _ h).0).0
 
 -- two spellings of two parts each, the first of one width
-pub same_parts : (a b c d : List ℕ) → a ++ b ≡ c ++ d → length a ≡ length c → (a ≡ c) × (b ≡ d)
+same_parts : (a b c d : List ℕ) → a ++ b ≡ c ++ d → length a ≡ length c → (a ≡ c) × (b ≡ d)
 same_parts a b c d e len =
     (sym (take_at a b (length a) refl) ∙ front_is (length a) (a ++ b) c d e (sym len), sym (drop_at a b (length a) refl) ∙ behind_is (length a) (a ++ b) c d e (sym len))
 
