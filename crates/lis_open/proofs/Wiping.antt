@@ -22,11 +22,11 @@ use Rattle.lis_open.specs.Makes.{first_byte, IsNameless, IsSpared, AreZeros, res
 use Rattle.lis_open.proofs.Names.{first_is, first-put, named_or_not}
 
 pub rest_is : (limits : Limits) (bytes rest : List ℕ) → bytes ≡ super_bytes (record { version = 1; limits = limits }) → rest ≡ drop 1 bytes → rest ≡ rest_of_super limits
-unfolding rest_of_super
+unfolding rest_of_super super_bytes
 rest_is limits bytes rest is_super is_rest = is_rest ∙ ap (λ xs. drop 1 xs) is_super
 
 pub length-rest : (limits : Limits) → length (rest_of_super limits) ≡ 4095
-unfolding rest_of_super
+unfolding rest_of_super super_bytes
 length-rest limits =
     let whole : length (super_bytes (record { version = 1; limits = limits })) ≡ 4096 = length_super (record { version = 1; limits = limits }) in
     length-drop 1 (super_bytes (record { version = 1; limits = limits })) ∙ ap (λ n. n - 1) whole
@@ -67,7 +67,7 @@ wiped_torn limits from image is torn = record {
 }
 
 whole_super : (limits : Limits) → (76 ∷ []) ++ rest_of_super limits ≡ super_bytes (record { version = 1; limits = limits })
-unfolding rest_of_super
+unfolding rest_of_super super_bytes
 whole_super limits = refl
 
 pub wiped_stands : (limits : Limits) (image : List ℕ) → IsTrue (are_in_range limits) → IsWiped limits image → first_byte image ≡ 76 → Stands image (empty_state limits)

@@ -87,14 +87,17 @@ bitmap-none n =
 
 module _ (limits : Limits) (image : List ℕ) (blank : IsBlank limits image) where
   free_properties : AreSlots prop_bytes is_prop (property_slots limits) (λ n. block n image) (empty_contents limits).properties
+  unfolding prop_bytes
   free_properties = free_slots prop_bytes is_prop (property_slots limits) (λ n. block n image) FreeProp refl refl (λ k lt.
       (blank.homes (578 + k / 64) (omega arith) (omega arith), omega arith))
 
   free_axioms : AreSlots axiom_bytes is_axiom (axiom_slots limits) (λ n. block n image) (empty_contents limits).axioms
+  unfolding axiom_bytes
   free_axioms = free_slots axiom_bytes is_axiom (axiom_slots limits) (λ n. block n image) FreeAxiom refl refl (λ k lt.
       (blank.homes (home (axiom_slots limits) k) (omega arith) (omega arith), omega arith))
 
   free_files : AreSlots file_bytes is_file (file_slots limits) (λ n. block n image) (empty_contents limits).files
+  unfolding file_bytes
   free_files = free_slots file_bytes is_file (file_slots limits) (λ n. block n image) FreeFile refl refl (λ k lt.
       (blank.homes (home (file_slots limits) k) (omega arith) (omega arith), omega arith))
 
@@ -144,7 +147,7 @@ module _ (limits : Limits) (image : List ℕ) (blank : IsBlank limits image) whe
 
 -- an image that does not begin with an L stands for no state
 pub no_state : (image : List ℕ) (s : State) → slice_index (part 0 1 image) 0 ≢ 76 → Stands image s → ⊥
-unfolding Stands
+unfolding Stands super_bytes
 no_state image s no_name stands =
     let front : take 1 (part 0 4096 image) ≡ part 0 1 image = take-take 1 4096 (drop 0 image) (omega arith) in
     let first : slice_index (take 1 (part 0 4096 image)) 0 ≡ 76 = ap (λ xs. slice_index (take 1 xs) 0) stands.super in
