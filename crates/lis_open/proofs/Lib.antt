@@ -1,0 +1,4 @@
+mod Ranges
+mod Zeros
+mod Names
+mod Wiping

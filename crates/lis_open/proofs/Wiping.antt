@@ -1,0 +1,108 @@
+-- All of an empty image but its first byte, and the image with it.
+use Rattle.std.proofs.Common.{◌≡◌, ◌⊎◌, inl, inr, ℕ, ◌+◌, ◌-◌, ◌*◌, ◌≤◌, List, [], ◌∷◌, ◌++◌, length, drop, slice_index, IsTrue, refl, sym, ◌∙◌, ap, ap₂, arith, length-drop}
+use Rattle.std.proofs.Math.Seq.{take-add}
+use Rattle.lis_ports.specs.Meaning.{Meaning}
+use Rattle.lis_ports.specs.Bytes.{part, put, Torn}
+use Rattle.lis_ports.specs.Runs.{Leaves, Always, IsSettled}
+use Rattle.lis_ports.proofs.Always.{always_settled}
+use Rattle.lis_ports.proofs.Moments.{leaves_weaken}
+use Rattle.lis_ports.proofs.Parts.{part-put, part-part, part-torn, torn-put, length-put}
+use Rattle.lis_journal.specs.Record.{block}
+use Rattle.lis_journal.specs.Spreads.{Spreads}
+use Rattle.lis_journal.proofs.Spreading.{leaves_spread}
+use Rattle.lis_fields.specs.Layouts.{zeros, super_bytes}
+use Rattle.lis_fields.proofs.Supers.{length_super}
+use Rattle.lis_model.specs.declared.limits.Limits.{Limits}
+use Rattle.lis_model.specs.Ranges.{are_in_range}
+use Rattle.lis_model.specs.Image.{data_start, image_blocks}
+use Rattle.lis_model.specs.State.{empty_state}
+use Rattle.lis_store.specs.Stands.{Stands}
+use Rattle.lis_store.proofs.Empty.{zeros-part, stands_empty, no_state}
+use Rattle.lis_open.specs.Makes.{first_byte, IsNameless, IsSpared, AreZeros, rest_of_super, IsWiped, IsMaking}
+use Rattle.lis_open.proofs.Names.{first_is, first-put, named_or_not}
+
+pub rest_is : (limits : Limits) (bytes rest : List ℕ) → bytes ≡ super_bytes (record { version = 1; limits = limits }) → rest ≡ drop 1 bytes → rest ≡ rest_of_super limits
+unfolding rest_of_super super_bytes
+rest_is limits bytes rest is_super is_rest = is_rest ∙ ap (λ xs. drop 1 xs) is_super
+
+pub length-rest : (limits : Limits) → length (rest_of_super limits) ≡ 4095
+unfolding rest_of_super super_bytes
+length-rest limits =
+    let whole : length (super_bytes (record { version = 1; limits = limits })) ≡ 4096 = length_super (record { version = 1; limits = limits }) in
+    length-drop 1 (super_bytes (record { version = 1; limits = limits })) ∙ ap (λ n. n - 1) whole
+
+one_zero : part 0 1 (zeros 4096) ≡ 0 ∷ []
+unfolding zeros
+one_zero = zeros-part 0 1 4096 (omega arith)
+
+-- what the writes of all but the first byte lead to, one after another
+pub wiped : (limits : Limits) (end : ℕ) (start rest gate homes : List ℕ) → end ≡ data_start limits → 4096 * image_blocks limits ≤ length start → rest ≡ put start 1 (rest_of_super limits)
+    → Torn 4096 4096 rest gate → AreZeros 1 2 gate → Torn 2367488 (4096 * (end - 578)) gate homes → AreZeros 578 end homes → IsWiped limits homes
+wiped limits end start rest gate homes is_end long is_rest torn_gate zero_gate torn_homes zero_homes =
+    let few : 1 + length (rest_of_super limits) ≤ length start = omega (arith, length-rest limits, long) in
+    let size : length rest ≡ length start = ap length is_rest ∙ length-put start 1 (rest_of_super limits) few in
+    let spelled : part 1 4095 rest ≡ rest_of_super limits =
+    ap (part 1 4095) is_rest ∙ (ap (λ n. part 1 n (put start 1 (rest_of_super limits))) (sym (length-rest limits)) ∙ part-put start 1 (rest_of_super limits) few) in
+    let zero : part 0 1 (block 1 gate) ≡ 0 ∷ [] = ap (part 0 1) (zero_gate 1 (omega arith) (omega arith)) ∙ one_zero in
+    record {
+      rest = part-torn 2367488 (4096 * (end - 578)) gate homes torn_homes 1 4095 (inl (omega arith))
+          ∙ (part-torn 4096 4096 rest gate torn_gate 1 4095 (inl (omega arith)) ∙ spelled);
+      blank = record {
+        long = omega (arith, torn_homes.len, torn_gate.len, size, long);
+        gate = part-torn 2367488 (4096 * (end - 578)) gate homes torn_homes 4096 1 (inl (omega arith))
+            ∙ (sym (part-part 0 1 4096 4096 gate (omega arith)) ∙ zero);
+        homes = λ n above below. zero_homes n above (omega (arith, is_end));
+      };
+    }
+
+-- the first byte is not looked at
+pub wiped_torn : (limits : Limits) (from image : List ℕ) → IsWiped limits from → Torn 0 1 from image → IsWiped limits image
+wiped_torn limits from image is torn = record {
+  rest = part-torn 0 1 from image torn 1 4095 (inr (omega arith)) ∙ is.rest;
+  blank = record {
+    long = omega (arith, torn.len, is.blank.long);
+    gate = part-torn 0 1 from image torn 4096 1 (inr (omega arith)) ∙ is.blank.gate;
+    homes = λ n above below. part-torn 0 1 from image torn (4096 * n) 4096 (inr (omega arith)) ∙ is.blank.homes n above below;
+  };
+}
+
+whole_super : (limits : Limits) → (76 ∷ []) ++ rest_of_super limits ≡ super_bytes (record { version = 1; limits = limits })
+unfolding rest_of_super super_bytes
+whole_super limits = refl
+
+pub wiped_stands : (limits : Limits) (image : List ℕ) → IsTrue (are_in_range limits) → IsWiped limits image → first_byte image ≡ 76 → Stands image (empty_state limits)
+wiped_stands limits image in_range is first =
+    let some : 1 ≤ length image = omega (arith, is.blank.long) in
+    stands_empty limits image is.blank in_range
+    (take-add 1 4095 (drop 0 image) ∙ (ap₂ (λ xs ys. xs ++ ys) (first_is image 76 some first) is.rest ∙ whole_super limits))
+
+-- ---- the moments of each part
+pub spared_moments : {old new : Meaning} (limits : Limits) (bytes : List ℕ) → Leaves old new (IsSpared bytes) → Leaves old new (IsMaking limits bytes)
+spared_moments limits bytes moments = leaves_weaken (IsMaking limits bytes) moments (λ image is. by image is)
+  where
+    by : (image : List ℕ) → IsSpared bytes image → IsMaking limits bytes image
+    by image (inl same) = inl same
+    by image (inr none) = inr (inr (λ s. no_state image s none))
+
+nameless_torn : (n : ℕ) (from image : List ℕ) → IsNameless from → Torn 1 n from image → IsNameless image
+nameless_torn n from image none torn =
+    λ is. none (ap (λ xs. slice_index xs 0) (sym (part-torn 1 n from image torn 0 1 (inl (omega arith)))) ∙ is)
+
+pub wiping_moments : {old new : Meaning} (limits : Limits) (bytes : List ℕ) (n : ℕ) → Always old IsNameless → Spreads old new (Torn 1 n) → Leaves old new (IsMaking limits bytes)
+wiping_moments limits bytes n all spreads =
+    leaves_spread (Torn 1 n) (IsMaking limits bytes) all spreads (λ from image none torn. inr (inr (λ s. no_state image s (nameless_torn n from image none torn))))
+
+pub naming_moments : {old new : Meaning} (limits : Limits) (bytes : List ℕ) → IsTrue (are_in_range limits) → Always old (IsWiped limits) → Spreads old new (Torn 0 1) → Leaves old new (IsMaking limits bytes)
+naming_moments limits bytes in_range all spreads =
+    leaves_spread (Torn 0 1) (IsMaking limits bytes) all spreads (λ from image is torn. by image (wiped_torn limits from image is torn) (named_or_not image))
+  where
+    by : (image : List ℕ) → IsWiped limits image → (first_byte image ≡ 76) ⊎ IsNameless image → IsMaking limits bytes image
+    by image is (inl named) = inr (inl (wiped_stands limits image in_range is named))
+    by image is (inr none) = inr (inr (λ s. no_state image s none))
+
+pub named_stands : {old new : Meaning} (limits : Limits) → IsTrue (are_in_range limits) → Always old (IsWiped limits) → IsSettled new (put old.bytes 0 (76 ∷ [])) → Always new (λ image. Stands image (empty_state limits))
+named_stands {old} limits in_range all settled =
+    let is = all.reads in
+    let some : 1 ≤ length old.bytes = omega (arith, is.blank.long) in
+    always_settled (λ image. Stands image (empty_state limits)) (put old.bytes 0 (76 ∷ [])) settled
+    (wiped_stands limits (put old.bytes 0 (76 ∷ [])) in_range (wiped_torn limits old.bytes (put old.bytes 0 (76 ∷ [])) is (torn-put old.bytes 0 (76 ∷ []) some)) (first-put old.bytes 76 some))

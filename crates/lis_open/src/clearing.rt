@@ -1,0 +1,123 @@
+//! What making an image writes: its first byte in a write of its own, and the blocks that are not left as they are.
+
+ghost use Rattle.std.specs.Prelude.{[], ◌∷◌, ◌≡◌, ◌+◌, ◌-◌, ◌*◌, ◌≤◌, length, drop, IsTrue, IfOk, OnOk};
+ghost use Rattle.lis_ports.specs.Bytes.{put, Torn};
+ghost use Rattle.lis_ports.specs.Runs.{IsDiskRun, Leaves, Always, IsSettled};
+ghost use Rattle.lis_ports.specs.Calls.{HasCause};
+ghost use Rattle.lis_journal.specs.Spreads.{Spreads, Same};
+ghost use Rattle.lis_model.specs.Ranges.{are_in_range};
+ghost use Rattle.lis_model.specs.Image.{data_start, image_blocks};
+ghost use Rattle.lis_open.specs.Makes.{first_byte, IsNameless, IsSpared, AreZeros, IsWiped, rest_of_super};
+
+use lis_fields::{SUPER_LEN, SuperRec, write_super};
+use lis_journal::{BLOCK_LEN, HOMES_START};
+use lis_model::limits::{Limits, image_blocks};
+use lis_ports::{Disk, Failed};
+
+/// The byte that an image begins with.
+pub const FIRST_BYTE: u8 = b'L';
+
+// The block of the gate.
+const GATE_BLOCK: u32 = 1;
+
+// Syncs, and reads the first byte.
+fn read_first<D: Disk>(disk: &mut D) -> Result<u8, Failed>
+    requires { 1 ≤ (D.meaning disk.old).len }
+    ensures run { IsDiskRun (D.meaning disk.old) (D.meaning disk.new) }
+    ensures cause { HasCause (D.meaning disk.old).disk_faults (D.meaning disk.new).disk_faults result }
+    ensures quiet { IsTrue (D.meaning disk.old).is_honest → Spreads (D.meaning disk.old) (D.meaning disk.new) Same }
+    ensures read { IfOk result (λ first. IsTrue (D.meaning disk.old).is_honest
+        → IsSettled (D.meaning disk.new) (D.meaning disk.old).bytes × (first ≡ first_byte (D.meaning disk.old).bytes)) }
+{
+    disk.sync()?;
+    let mut first = [0; 1];
+    disk.read_at(0, &mut first)?;
+    Ok(first[0])
+}
+
+/// Writes the first byte, in a write of its own, and syncs.
+pub fn write_first<D: Disk>(disk: &mut D, value: u8) -> Result<(), Failed>
+    requires { 1 ≤ (D.meaning disk.old).len }
+    ensures run { IsDiskRun (D.meaning disk.old) (D.meaning disk.new) }
+    ensures cause { HasCause (D.meaning disk.old).disk_faults (D.meaning disk.new).disk_faults result }
+    ensures spreads { IsTrue (D.meaning disk.old).is_honest → Spreads (D.meaning disk.old) (D.meaning disk.new) (Torn 0 1) }
+    ensures settled { OnOk result (IsTrue (D.meaning disk.old).is_honest
+        → IsSettled (D.meaning disk.new) (put (D.meaning disk.old).bytes 0 (value ∷ []))) }
+{
+    disk.write_at(0, &[value])?;
+    disk.sync()
+}
+
+/// Syncs. Where the image begins as one that stands for a state, it then gets another first byte, and this is synced.
+pub fn take_name<D: Disk>(disk: &mut D) -> Result<(), Failed>
+    requires { 1 ≤ (D.meaning disk.old).len }
+    ensures run { IsDiskRun (D.meaning disk.old) (D.meaning disk.new) }
+    ensures cause { HasCause (D.meaning disk.old).disk_faults (D.meaning disk.new).disk_faults result }
+    ensures spreads { IsTrue (D.meaning disk.old).is_honest → Spreads (D.meaning disk.old) (D.meaning disk.new) (Torn 0 1) }
+
+    // With nothing unsynced at entry, each image is the one of entry or begins with another byte.
+    ensures any_moment { IsTrue (D.meaning disk.old).is_honest → IsSettled (D.meaning disk.old) (D.meaning disk.old).bytes
+        → Leaves (D.meaning disk.old) (D.meaning disk.new) (IsSpared (D.meaning disk.old).bytes) }
+    ensures nameless { OnOk result (IsTrue (D.meaning disk.old).is_honest → Always (D.meaning disk.new) IsNameless) }
+{
+    if read_first(disk)? == FIRST_BYTE {
+        return write_first(disk, 0);
+    }
+    Ok(())
+}
+
+// Fills the blocks from `first` up to `end` with zeros.
+fn clear_blocks<D: Disk>(disk: &mut D, first: u32, end: u32) -> Result<(), Failed>
+    requires order { first ≤ end }
+    requires long { 4096 * end ≤ (D.meaning disk.old).len }
+    ensures run { IsDiskRun (D.meaning disk.old) (D.meaning disk.new) }
+    ensures cause { HasCause (D.meaning disk.old).disk_faults (D.meaning disk.new).disk_faults result }
+    ensures spreads { IsTrue (D.meaning disk.old).is_honest
+        → Spreads (D.meaning disk.old) (D.meaning disk.new) (Torn (4096 * first) (4096 * (end - first))) }
+    ensures torn { OnOk result (IsTrue (D.meaning disk.old).is_honest
+        → Torn (4096 * first) (4096 * (end - first)) (D.meaning disk.old).bytes (D.meaning disk.new).bytes) }
+    ensures cleared { OnOk result (IsTrue (D.meaning disk.old).is_honest → AreZeros first end (D.meaning disk.new).bytes) }
+{
+    let zeros = [0; BLOCK_LEN];
+    for n in first..end {
+        disk.write_at(u64::from(n) * BLOCK_LEN as u64, &zeros)?;
+    }
+    Ok(())
+}
+
+// Writes the super block, but for its first byte.
+fn write_rest<D: Disk>(disk: &mut D, limits: &Limits) -> Result<(), Failed>
+    requires range { IsTrue (are_in_range limits.now) }
+    requires long { 4096 ≤ (D.meaning disk.old).len }
+    ensures run { IsDiskRun (D.meaning disk.old) (D.meaning disk.new) }
+    ensures cause { HasCause (D.meaning disk.old).disk_faults (D.meaning disk.new).disk_faults result }
+    ensures spreads { IsTrue (D.meaning disk.old).is_honest → Spreads (D.meaning disk.old) (D.meaning disk.new) (Torn 1 4095) }
+    ensures written { OnOk result (IsTrue (D.meaning disk.old).is_honest
+        → (D.meaning disk.new).bytes ≡ put (D.meaning disk.old).bytes 1 (rest_of_super limits.now)) }
+{
+    let mut bytes = [0; SUPER_LEN];
+    let rec = SuperRec {
+        version: 1,
+        limits: *limits,
+    };
+    write_super(&rec, &mut bytes);
+    let (_, rest) = bytes.split_at(1);
+    disk.write_at(1, rest)
+}
+
+/// Writes all of an empty image but its first byte, and syncs: the super block, the gate, and the home blocks that are no
+/// data blocks.
+pub fn wipe<D: Disk>(disk: &mut D, limits: &Limits) -> Result<(), Failed>
+    requires range { IsTrue (are_in_range limits.now) }
+    requires long { 4096 * image_blocks limits.now ≤ (D.meaning disk.old).len }
+    ensures run { IsDiskRun (D.meaning disk.old) (D.meaning disk.new) }
+    ensures cause { HasCause (D.meaning disk.old).disk_faults (D.meaning disk.new).disk_faults result }
+    ensures spreads { IsTrue (D.meaning disk.old).is_honest
+        → Spreads (D.meaning disk.old) (D.meaning disk.new) (Torn 1 (4096 * data_start limits.now - 1)) }
+    ensures wiped { OnOk result (IsTrue (D.meaning disk.old).is_honest → Always (D.meaning disk.new) (IsWiped limits.now)) }
+{
+    write_rest(disk, limits)?;
+    clear_blocks(disk, GATE_BLOCK, GATE_BLOCK + 1)?;
+    clear_blocks(disk, HOMES_START, image_blocks(limits) - limits.blocks)?;
+    disk.sync()
+}

@@ -1,0 +1,85 @@
+//! Making an empty image.
+
+ghost use Rattle.std.specs.Prelude.{◌≡◌, ◌*◌, ◌≤◌, ℕ, IsTrue, OnOk, Err};
+ghost use Rattle.lis_ports.specs.Runs.{IsDiskRun, Leaves, Always, IsSettled};
+ghost use Rattle.lis_ports.specs.Calls.{HasCause};
+ghost use Rattle.lis_journal.specs.Images.{KeepsPast};
+ghost use Rattle.lis_model.specs.Ranges.{are_in_range};
+ghost use Rattle.lis_model.specs.Image.{image_blocks};
+ghost use Rattle.lis_model.specs.State.{empty_state};
+ghost use Rattle.lis_store.specs.Stands.{Stands};
+ghost use Rattle.lis_open.specs.Makes.{IsMaking};
+ghost use Rattle.lis_open.specs.Faults.{IsShortWhere, HasMakeCause};
+ghost use Rattle.lis_open.specs.declared.making.MakeFault.TheVariants.{TooShort};
+
+use crate::clearing::{FIRST_BYTE, take_name, wipe, write_first};
+use lis_journal::BLOCK_LEN;
+use lis_model::limits::{Limits, image_blocks};
+use lis_ports::{Disk, Failed};
+use thiserror::Error;
+
+/// Why an image was not made.
+#[derive(Debug, Drop, Error)]
+pub enum MakeFault {
+    /// How many bytes the disk has, and how many the image takes.
+    #[error("the disk has {0} bytes, and the image takes {1}")]
+    TooShort(u64, u64),
+    #[error("the disk failed")]
+    DiskFault,
+}
+
+impl From<Failed> for MakeFault {
+    ghost use Rattle.std.specs.Prelude.{◌≡◌};
+    ghost use Rattle.lis_open.specs.declared.making.MakeFault.TheVariants.{DiskFault};
+
+    ghost from_gives = { λ _ fault. fault ≡ DiskFault };
+
+    fn from(_: Failed) -> Self {
+        MakeFault::DiskFault
+    }
+}
+
+// Makes an image on a disk that is long enough.
+fn write_image<D: Disk>(disk: &mut D, limits: &Limits) -> Result<(), Failed>
+    requires range { IsTrue (are_in_range limits.now) }
+    requires long { 4096 * image_blocks limits.now ≤ (D.meaning disk.old).len }
+    ensures run { IsDiskRun (D.meaning disk.old) (D.meaning disk.new) }
+    ensures cause { HasCause (D.meaning disk.old).disk_faults (D.meaning disk.new).disk_faults result }
+    ensures made { OnOk result (IsTrue (D.meaning disk.old).is_honest
+        → Always (D.meaning disk.new) (λ image. Stands image (empty_state limits.now))) }
+    ensures any_moment { IsTrue (D.meaning disk.old).is_honest → IsSettled (D.meaning disk.old) (D.meaning disk.old).bytes
+        → Leaves (D.meaning disk.old) (D.meaning disk.new) (IsMaking limits.now (D.meaning disk.old).bytes) }
+    ensures past { IsTrue (D.meaning disk.old).is_honest → IsSettled (D.meaning disk.old) (D.meaning disk.old).bytes
+        → KeepsPast (image_blocks limits.now) (D.meaning disk.old) (D.meaning disk.new) }
+{
+    take_name(disk)?;
+    wipe(disk, limits)?;
+    write_first(disk, FIRST_BYTE)
+}
+
+/// Makes an image of the empty state. What lies past the image, and in its data blocks, stays. It takes no memory.
+pub fn make<D: Disk>(disk: &mut D, limits: &Limits) -> Result<(), MakeFault>
+    requires { IsTrue (are_in_range limits.now) }
+    ensures run { IsDiskRun (D.meaning disk.old) (D.meaning disk.new) }
+
+    // A disk is too short where it has fewer bytes than the image. It is left as it was.
+    ensures short { IsShortWhere (D.meaning disk.old).len (4096 * image_blocks limits.now) result }
+    ensures untouched { (len need : ℕ) → result ≡ Err (TooShort len need) → disk.new ≡ disk.old }
+    ensures cause { HasMakeCause (D.meaning disk.old).disk_faults (D.meaning disk.new).disk_faults result }
+    ensures made { OnOk result (IsTrue (D.meaning disk.old).is_honest
+        → Always (D.meaning disk.new) (λ image. Stands image (empty_state limits.now))) }
+
+    // With nothing unsynced at entry, a crash leaves the image of entry, one of the empty state, or one of no state.
+    ensures any_moment { IsTrue (D.meaning disk.old).is_honest → IsSettled (D.meaning disk.old) (D.meaning disk.old).bytes
+        → Leaves (D.meaning disk.old) (D.meaning disk.new) (IsMaking limits.now (D.meaning disk.old).bytes) }
+    ensures past { IsTrue (D.meaning disk.old).is_honest → IsSettled (D.meaning disk.old) (D.meaning disk.old).bytes
+        → KeepsPast (image_blocks limits.now) (D.meaning disk.old) (D.meaning disk.new) }
+{
+    let need = u64::from(image_blocks(limits)) * BLOCK_LEN as u64;
+    let len = disk.len();
+    if len < need {
+        return Err(MakeFault::TooShort(len, need));
+    }
+    write_image(disk, limits)?;
+    Ok(())
+}
