@@ -3,5 +3,7 @@
 
 mod clearing;
 mod making;
+#[cfg(test)]
+mod tests;
 
 pub use making::{MakeFault, make};
