@@ -1,0 +1,5 @@
+mod Order
+mod Places
+mod Slots
+mod Held
+pub mod Laws

@@ -1,0 +1,44 @@
+use Rattle.std.proofs.Common.{List, ap, subst, arith}
+use Rattle.std.specs.List.{find}
+use Rattle.lis_fields.specs.Records.{FileRecord}
+use Rattle.lis_catalog.specs.Catalog.{Filed, Catalog}
+use Rattle.lis_catalog.specs.Inside.{FoundAt}
+use Rattle.lis_catalog.proofs.Places.{is_named, no_file, found_name, insert_place}
+use Rattle.lis_catalog.proofs.Slots.{map_none}
+use Rattle.lis_catalog.proofs.Held.{fits_from, room_left, put_held}
+use Rattle.lis_catalog.proofs.catalog.Catalog.place.Goals as goal
+
+pub unreachable-requires : goal.unreachable-requires
+unreachable-requires c =
+    let es = c.self.inside.entries.items in
+    let name = c.rec.inside.name in
+    let place : FoundAt name c.in_default.field-0 es = subst (λ (xs : List Filed). FoundAt name c.in_default.field-0 xs) c.deref.ensures.value c.in_default.ensures.place in
+    let found = found_name name c.in_default.field-0 es no_file place in
+    let none = map_none (λ (f : Filed). f.slot) (find (is_named c.args.rec.name) c.args.self.now.entries) c.requires.new in
+    let here = ap (λ (r : FileRecord). find (is_named r.name) c.args.self.now.entries) c.rec.view_is in
+    let there = ap (λ (s : Catalog). find (is_named name) s.entries) c.self.view_is in
+    absurd cc
+
+pub unreachable-requires-in_default-insert : goal.unreachable-requires-in_default-insert
+unreachable-requires-in_default-insert c =
+    let i = c.self.inside in
+    let fits = fits_from c.args.self.now i.files i.entries.items c.deref.result.now c.args.slot c.args.rec c.rec.inside.name c.in-Err.place c.self.view_is c.deref.ensures.value (ap (λ (r : FileRecord). r.name) c.rec.view_is)
+    c.in-Err.ensures.place c.in-Err.ensures.bound c.in-Err.ensures.name c.requires.below c.requires.free in
+    let room = room_left i.files _ i.entries.items i.used.items c.self.invariant (record { slot = c.args.slot; rec = c.args.rec }) c.in-Err.place fits in
+    omega (arith, room, c.self.invariant.has_room, c.in_default-insert.ensures.full)
+
+pub invariant_of-self : goal.invariant_of-self
+invariant_of-self c =
+    let i = c.self.inside in
+    let fits = fits_from c.args.self.now i.files i.entries.items c.deref.result.now c.args.slot c.args.rec c.rec.inside.name c.in-Err.place c.self.view_is c.deref.ensures.value (ap (λ (r : FileRecord). r.name) c.rec.view_is)
+    c.in-Err.ensures.place c.in-Err.ensures.bound c.in-Err.ensures.name c.requires.below c.requires.free in
+    rw (c.in-Ok.ensures.items, c.from.ensures)
+    (put_held i.files _ i.entries.items i.used.items c.self.invariant (record { slot = c.args.slot; rec = c.args.rec }) c.in-Err.place fits _ (omega (arith, c.insert.ensures.capacity, c.self.invariant.has_room)))
+
+pub returns : goal.returns
+returns c =
+    let i = c.self.inside in
+    let fits = fits_from c.args.self.now i.files i.entries.items c.deref.result.now c.args.slot c.args.rec c.rec.inside.name c.in-Err.place c.self.view_is c.deref.ensures.value (ap (λ (r : FileRecord). r.name) c.rec.view_is)
+    c.in-Err.ensures.place c.in-Err.ensures.bound c.in-Err.ensures.name c.requires.below c.requires.free in
+    rw (← c.self.view_is, c.in-Ok.ensures.items)
+    (ap (λ xs. record { files = i.files; entries = xs }) (insert_place (record { slot = c.args.slot; rec = c.args.rec }) c.in-Err.place i.entries.items fits.place))

@@ -1,0 +1,8 @@
+//! The file records of an image in the order of their names. All memory is taken when a catalog is made.
+#![tactic(auto)]
+
+mod catalog;
+#[cfg(test)]
+mod tests;
+
+pub use catalog::{Catalog, CatalogFault};
