@@ -1,5 +1,5 @@
 -- What a store keeps in memory of an image, and when it fits a disk.
-use Rattle.std.specs.Prelude.{◌≡◌, ℕ, ◌+◌, ◌*◌, ◌/◌, Bool, false, if◌then◌else◌, Option, Some, None, List, [], map, replicate, IsTrue}
+use Rattle.std.specs.Prelude.{◌≡◌, ℕ, ◌+◌, ◌*◌, ◌/◌, Bool, false, if◌then◌else◌, Option, Some, None, List, [], map, replicate}
 use Rattle.std.specs.List.{range_with_len}
 use Rattle.lis_ports.specs.Meaning.{Meaning}
 use Rattle.lis_journal.specs.Journal.{Held}
@@ -18,7 +18,7 @@ use Rattle.lis_fields.specs.Layouts.{super_bytes}
 use Rattle.lis_model.specs.declared.limits.Limits.{Limits}
 use Rattle.lis_model.specs.Image.{image_blocks}
 use Rattle.lis_model.specs.State.{State}
-use Rattle.lis_store.specs.Stands.{Contents, axiom_slots, all_records, all_blocks, Spells}
+use Rattle.lis_store.specs.Stands.{Contents, all_records, all_blocks, Spells}
 
 pub record Kept : Type 0 where
   pub limits : Limits
@@ -54,15 +54,19 @@ pub record HasLimits (k : Kept) : Type 0 where
   pub dict : k.dict.props ≡ k.limits.props
   pub catalog : k.catalog.files ≡ k.limits.files
 
--- With nothing staged, it tells the state that these blocks spell.
-pub record Describes (k : Kept) (at : ℕ → List ℕ) (s : State) : Type 0 where
+-- It tells the state that these blocks spell.
+pub record Tells (k : Kept) (at : ℕ → List ℕ) (s : State) : Type 0 where
   pub limits : k.limits ≡ s.limits
   pub sizes : HasLimits k
   pub unbroken : k.journal.is_broken ≡ false
-  pub quiet : k.journal.staged ≡ []
   pub super : at 0 ≡ super_bytes (record { version = 1; limits = s.limits })
   pub spells : Spells k.limits (contents_of k) at s
   pub taken : k.taken ≡ marked (replicate k.limits.blocks false) (all_blocks (all_records (contents_of k).files))
+
+-- and nothing is staged
+pub record Describes (k : Kept) (at : ℕ → List ℕ) (s : State) : Type 0 where
+  pub tells : Tells k at s
+  pub quiet : k.journal.staged ≡ []
 
 -- A store fits a disk at a state: its journal fits the disk, and it tells the state that the kept blocks spell. So every image of the disk
 -- stands for the state.
