@@ -19,9 +19,9 @@ apart-gate n (inr le) = inr (omega (arith, le))
 
 -- What stands.
 
-stands : (blocks : ℕ) (kept : ℕ → List ℕ) (image r : List ℕ) → replayed blocks image ≡ Some r → Keeps blocks kept r → StandsFor blocks kept image
+stands : (blocks : ℕ) (kept : ℕ → List ℕ) (image r : List ℕ) → 4096 * blocks ≤ length image → replayed blocks image ≡ Some r → Keeps blocks kept r → StandsFor blocks kept image
 unfolding StandsFor
-stands blocks kept image r is keeps = subst (λ o. IsSomeAnd o (Keeps blocks kept)) (sym is) keeps
+stands blocks kept image r long is keeps = (long, subst (λ o. IsSomeAnd o (Keeps blocks kept)) (sym is) keeps)
 
 pub replayed-closed : (blocks : ℕ) (image : List ℕ) → is_open image ≡ false → replayed blocks image ≡ Some image
 unfolding replayed
@@ -40,11 +40,11 @@ replayed-bad blocks image opened form =
     ∙ ap (λ b. cond b (Some (apply (recorded (area image)) image)) None) form
 
 pub rest_stands : (blocks : ℕ) (kept : ℕ → List ℕ) (image : List ℕ) → IsAtRest blocks kept image → StandsFor blocks kept image
-rest_stands blocks kept image rest = stands blocks kept image image (replayed-closed blocks image rest.closed) rest.keeps
+rest_stands blocks kept image rest = stands blocks kept image image rest.keeps.long (replayed-closed blocks image rest.closed) rest.keeps
 
 pub open_stands : (blocks : ℕ) (kept : ℕ → List ℕ) (es : List Entry) (image : List ℕ) → Within blocks es → Open blocks kept es image → StandsFor blocks (looked es kept) image
 open_stands blocks kept es image within open_ =
-    stands blocks (looked es kept) image (apply es image)
+    stands blocks (looked es kept) image (apply es image) open_.long
     (replayed-open blocks image open_.opened open_.spelled.form ∙ ap (λ es. Some (apply es image)) open_.spelled.holds)
     (record {
       long = omega (arith, open_.long, length-apply blocks es image within open_.long);
@@ -74,7 +74,7 @@ keeps_again blocks kept es image keeps = record {
 
 stands_again : (blocks : ℕ) (kept : ℕ → List ℕ) (es : List Entry) (image : List ℕ) → StandsFor blocks (looked es (looked es kept)) image → StandsFor blocks (looked es kept) image
 unfolding StandsFor
-stands_again blocks kept es image all = by (replayed blocks image) all
+stands_again blocks kept es image all = (all.0, by (replayed blocks image) all.1)
   where
     by : (o : Option (List ℕ)) → IsSomeAnd o (Keeps blocks (looked es (looked es kept))) → IsSomeAnd o (Keeps blocks (looked es kept))
     by None h = h

@@ -125,8 +125,8 @@ module _ {blocks : ℕ} {old m : Meaning} {s : Staging} (ready : Ready blocks ol
   stands_replayed : (image : List ℕ) → StandsFor s.blocks (looked s.entries (λ n. block n old.bytes)) image → StandsForReplayed blocks old.bytes image
   unfolding StandsFor
   stands_replayed image stands =
-      some_and _ (replayed blocks old.bytes) replayed-ready
-      (by (replayed blocks image) (subst (λ b. IsSomeAnd (replayed b image) (Keeps b (looked s.entries (λ n. block n old.bytes)))) ready.blocks_are stands))
+      let there = subst (λ b. (4096 * b ≤ length image) × IsSomeAnd (replayed b image) (Keeps b (looked s.entries (λ n. block n old.bytes)))) ready.blocks_are stands in
+      some_and _ (replayed blocks old.bytes) replayed-ready (there.0, by (replayed blocks image) there.1)
     where
       by : (o : Option (List ℕ)) → IsSomeAnd o (Keeps blocks (looked s.entries (λ n. block n old.bytes))) → IsSomeAnd o (Keeps blocks (λ n. block n (apply s.entries old.bytes)))
       by None h = h

@@ -13,9 +13,9 @@ pub record Keeps (blocks : ℕ) (kept : ℕ → List ℕ) (image : List ℕ) : T
   pub long : 4096 * blocks ≤ length image
   pub same : (n : ℕ) → IsOutside n → block n image ≡ kept n
 
--- It has a replayed image, which keeps these blocks.
+-- It is long enough itself, and has a replayed image, which keeps these blocks.
 unfoldable pub StandsFor : ℕ → (ℕ → List ℕ) → List ℕ → Type 0
-StandsFor blocks kept image = IsSomeAnd (replayed blocks image) (Keeps blocks kept)
+StandsFor blocks kept image = (4096 * blocks ≤ length image) × IsSomeAnd (replayed blocks image) (Keeps blocks kept)
 
 -- what a block holds when these entries are in their homes, if `old` was there
 abbrev pub look : List Entry → ℕ → List ℕ → List ℕ

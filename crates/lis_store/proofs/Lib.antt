@@ -1,2 +1,3 @@
 pub mod OneState
 pub mod Empty
+pub mod Standing

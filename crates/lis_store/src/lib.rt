@@ -1,9 +1,21 @@
 //! States on an image.
 #![tactic(auto)]
 
-ghost use Rattle.lis_store.specs.Laws.{OneState};
+ghost use Rattle.lis_store.specs.Laws.{OneState, FittingStoresStand, ChangesStand};
+
+use lis_ports::Disk;
 
 /// An image stands for one state at most.
 pub fn one_state()
     ensures { OneState }
+{}
+
+/// Where a store fits a disk at a state, each image of the disk stands for the state.
+pub fn fitting_stores_stand<D: Disk>(disk: &D)
+    ensures { FittingStoresStand (D.meaning disk.now) }
+{}
+
+/// A change of what is kept leads from images of one state to images of the next.
+pub fn changes_stand()
+    ensures { ChangesStand }
 {}

@@ -1,0 +1,167 @@
+-- What home blocks spell, the images with these blocks stand for.
+use Rattle.std.proofs.Common.{◌≡◌, ◌⊎◌, refl, sym, ap, ◌∙◌, subst, inl, inr, ℕ, ◌+◌, ◌*◌, ◌<◌, ◌≤◌, ◌&&◌, nat_lt, nat_le, ◌==◌, Bool, true, false, List, [], ◌∷◌, ◌++◌, length, map, take, drop, Option, Some, None, IsTrue, IsSomeAnd, arith, suc, zero, append_assoc, length-append}
+use Rattle.std.specs.BTreeSet.{insert_key}
+use Rattle.std.specs.List.{fold, flat_map, list_all}
+use Rattle.std.proofs.lemmas.Bool.{and_parts, ltb-true}
+use Rattle.std.proofs.lemmas.List.{take-append-le, take-take, length-take-le}
+use Rattle.lis_ports.specs.Meaning.{Meaning}
+use Rattle.lis_ports.specs.Bytes.{part, put}
+use Rattle.lis_ports.specs.Runs.{Always}
+use Rattle.lis_ports.proofs.Always.{always_weaken}
+use Rattle.lis_journal.specs.Record.{block, is_open, Entry, area, header, count_of, homes_of, rises, is_record, entries_from, recorded, apply, replayed}
+use Rattle.lis_journal.specs.Images.{Keeps, StandsFor as KeptBy, StandsForAllOrNone}
+use Rattle.lis_journal.specs.Phases.{looked}
+use Rattle.lis_journal.proofs.Entries.{AtHome}
+use Rattle.lis_journal.proofs.Phases.{replayed-closed, replayed-open, replayed-bad, rest_stands}
+use Rattle.lis_slots.specs.Slots.{Slots, home, place}
+use Rattle.lis_content.specs.Content.{content}
+use Rattle.lis_fields.specs.Records.{FileRecord}
+use Rattle.lis_fields.specs.Layouts.{super_bytes, prop_bytes, is_prop, axiom_bytes, is_axiom, file_bytes, is_file}
+use Rattle.lis_fields.specs.declared.slots.PropSlot.{PropSlot}
+use Rattle.lis_model.specs.declared.limits.Limits.{Limits}
+use Rattle.lis_model.specs.Image.{data_start, image_blocks}
+use Rattle.lis_model.specs.State.{State, File, file_cmp}
+use Rattle.lis_store.specs.Stands.{property_slots, axiom_slots, file_slots, Contents, AreSlots, all_records, file_of, spelled_state, Spells, Stands}
+use Rattle.lis_store.specs.Kept.{Kept, contents_of, Tells, StoreFits}
+
+-- ---- slots and bytes look at home blocks alone
+le_more : (m a b : ℕ) → m ≤ a → m ≤ a + b
+le_more m a b le = omega arith
+
+map_same : {X Y : Type 0} (f g : X → Y) (xs : List X) → ((x : X) → f x ≡ g x) → map f xs ≡ map g xs
+map_same f g [] same = refl
+map_same f g (x ∷ xs) same = ap (λ y. y ∷ map f xs) (same x) ∙ ap (λ ys. g x ∷ ys) (map_same f g xs same)
+
+module _ (at there : ℕ → List ℕ) (same : (n : ℕ) → 578 ≤ n → at n ≡ there n) where
+  pub same_slots : {X : Type 0} (spelled : X → List ℕ) (is_in_range : X → Bool) (slots : Slots) (values : List X) → 578 ≤ slots.first
+      → AreSlots spelled is_in_range slots at values → AreSlots spelled is_in_range slots there values
+  same_slots spelled is_in_range slots values home_blocks are = record {
+    count = are.count;
+    each = λ k value is.
+        let was = are.each k value is in
+        let here = same (home slots k) (le_more 578 slots.first _ home_blocks) in
+        (sym (ap (part (place slots k) slots.width) here) ∙ was.0, was.1);
+  }
+
+  same_data : (base : ℕ) (blocks : List ℕ) → 578 ≤ base → flat_map (λ b. at (base + b)) blocks ≡ flat_map (λ b. there (base + b)) blocks
+  same_data base [] least = refl
+  same_data base (b ∷ blocks) least =
+      ap (λ xs. xs ++ flat_map (λ n. at (base + n)) blocks) (same (base + b) (le_more 578 base b least))
+      ∙ ap (λ xs. there (base + b) ++ xs) (same_data base blocks least)
+
+  pub same_content : (base : ℕ) (blocks : List ℕ) (size : ℕ) → 578 ≤ base → content base blocks size at ≡ content base blocks size there
+  same_content base blocks size least = ap (take size) (same_data base blocks least)
+
+  data_home : (limits : Limits) → 578 ≤ data_start limits
+  data_home limits = omega arith
+
+  same_file : (limits : Limits) (properties : List PropSlot) (rec : FileRecord) → file_of limits properties at rec ≡ file_of limits properties there rec
+  same_file limits properties rec =
+      let with_bytes : List ℕ → File = λ bytes. record (file_of limits properties at rec) { bytes = bytes } in
+      ap with_bytes (same_content (data_start limits) rec.blocks rec.size (data_home limits))
+
+  same_state : (limits : Limits) (contents : Contents) → spelled_state limits contents at ≡ spelled_state limits contents there
+  same_state limits contents =
+      let with_files : List File → State = λ files. record (spelled_state limits contents at) { files = fold (insert_key file_cmp) [] files } in
+      ap with_files (map_same (file_of limits contents.properties at) (file_of limits contents.properties there) (all_records contents.files) (same_file limits contents.properties))
+
+  pub same_spelled : (limits : Limits) (contents : Contents) (s : State) → Spells limits contents at s → Spells limits contents there s
+  same_spelled limits contents s spells = record {
+    properties = same_slots prop_bytes is_prop (property_slots limits) contents.properties (omega arith) spells.properties;
+    axioms = same_slots axiom_bytes is_axiom (axiom_slots limits) contents.axioms (omega arith) spells.axioms;
+    files = same_slots file_bytes is_file (file_slots limits) contents.files (omega arith) spells.files;
+    no_axioms = spells.no_axioms;
+    named = spells.named;
+    state = spells.state ∙ same_state limits contents;
+    formed = spells.formed;
+    words = spells.words;
+    each_word_once = spells.each_word_once;
+    each_name_once = spells.each_name_once;
+    blocks = spells.blocks;
+    each_block_once = spells.each_block_once;
+    bitmap = sym (same _ (omega arith)) ∙ spells.bitmap;
+  }
+
+-- ---- an image and its replayed image have one super block
+take_le : (k : ℕ) (ys : List ℕ) → length (take k ys) ≤ length ys
+take_le zero ys = omega arith
+take_le (suc k) [] = omega arith
+take_le (suc k) (y ∷ ys) = let less = take_le k ys in omega (arith, less)
+
+front-put : (xs : List ℕ) (at : ℕ) (bytes : List ℕ) → 4096 ≤ at → 4096 ≤ length xs → (take 4096 (put xs at bytes) ≡ take 4096 xs) × (4096 ≤ length (put xs at bytes))
+unfolding put
+front-put xs at bytes behind long =
+    let front : length (take 4096 (take at xs)) ≡ 4096 = ap (λ ys. length ys) (take-take 4096 at xs behind) ∙ length-take-le 4096 xs long in
+    let some : 4096 ≤ length (take at xs) = omega (arith, front, take_le 4096 (take at xs)) in
+    let rest = bytes ++ drop (at + length bytes) xs in
+    let split : put xs at bytes ≡ take at xs ++ rest = append_assoc (take at xs) bytes (drop (at + length bytes) xs) in (
+      ap (take 4096) split ∙ (take-append-le 4096 (take at xs) rest some ∙ take-take 4096 at xs behind),
+      omega (arith, ap (λ ys. length ys) split, length-append (take at xs) rest, some),
+    )
+
+front-apply : (es : List Entry) (image : List ℕ) → AtHome es → 4096 ≤ length image → take 4096 (apply es image) ≡ take 4096 image
+front-apply [] image home long = refl
+front-apply (e ∷ es) image home long =
+    let first = front-put image (4096 * e.home) e.bytes (omega (arith, home.0)) long in
+    front-apply es (put image (4096 * e.home) e.bytes) home.1 first.1 ∙ first.0
+
+at_home : (blocks last k : ℕ) (hs : List ℕ) (bytes : List ℕ) → 577 ≤ last → IsTrue (rises blocks last hs) → AtHome (entries_from k hs bytes)
+at_home blocks last k [] bytes low rise = tt
+at_home blocks last k (h ∷ hs) bytes low rise =
+    let parts = and_parts (nat_lt last h && nat_lt h blocks) (rises blocks h hs) rise in
+    let above : last < h = ltb-true last h (and_parts (nat_lt last h) (nat_lt h blocks) parts.0).0 in
+    (omega (arith, above, low), at_home blocks h (k + 1) hs bytes (omega (arith, above, low)) parts.1)
+
+recorded_home : (blocks : ℕ) (bytes : List ℕ) → is_record blocks bytes ≡ true → AtHome (recorded bytes)
+unfolding is_record recorded
+recorded_home blocks bytes form =
+    let h = header bytes in
+    let in_form : (nat_lt 0 (count_of h) && nat_le (count_of h) 575 && rises blocks 577 (homes_of h) && list_all (λ b. b == 0) (drop (4 * (count_of h + 1)) h)) ≡ true = form in
+    let parts = and_parts (nat_lt 0 (count_of h) && nat_le (count_of h) 575 && rises blocks 577 (homes_of h)) (list_all (λ b. b == 0) (drop (4 * (count_of h + 1)) h)) in_form in
+    at_home blocks 577 1 (homes_of h) bytes (omega arith) (and_parts (nat_lt 0 (count_of h) && nat_le (count_of h) 575) (rises blocks 577 (homes_of h)) parts.0).1
+
+one_image : (a b : List ℕ) → ◌≡◌ {A = Option (List ℕ)} (Some a) (Some b) → a ≡ b
+one_image a b e = cc
+
+pub super-replayed : (blocks : ℕ) (image r : List ℕ) → replayed blocks image ≡ Some r → 4096 ≤ length image → block 0 r ≡ block 0 image
+super-replayed blocks image r is long = by (is_open image) (is_record blocks (area image)) refl refl
+  where
+    by : (opened form : Bool) → is_open image ≡ opened → is_record blocks (area image) ≡ form → block 0 r ≡ block 0 image
+    by false form closed in_form = ap (block 0) (sym (one_image image r (sym (replayed-closed blocks image closed) ∙ is)))
+    by true true opened in_form =
+        ap (block 0) (sym (one_image (apply (recorded (area image)) image) r (sym (replayed-open blocks image opened in_form) ∙ is)))
+        ∙ front-apply (recorded (area image)) image (recorded_home blocks (area image) in_form) long
+    by true false opened bad = absurd (let none = sym (replayed-bad blocks image opened bad) ∙ is in cc)
+
+-- ---- images stand
+pub kept_stands : (s : State) (contents : Contents) (at : ℕ → List ℕ) (image : List ℕ) → at 0 ≡ super_bytes (record { version = 1; limits = s.limits }) → Spells s.limits contents at s → KeptBy (image_blocks s.limits) at image → Stands image s
+unfolding KeptBy Stands
+kept_stands s contents at image super spells keeps = by (replayed (image_blocks s.limits) image) refl keeps.1
+  where
+    by : (o : Option (List ℕ)) → replayed (image_blocks s.limits) image ≡ o → IsSomeAnd o (Keeps (image_blocks s.limits) at) → Stands image s
+    by None is none = absurd none
+    by (Some r) is keep = record {
+      super = sym (super-replayed (image_blocks s.limits) image r is (omega (arith, keeps.0))) ∙ (keep.same 0 (inl refl) ∙ super);
+      long = keeps.0;
+      replay = r;
+      replays = is;
+      contents = contents;
+      spells = same_spelled at (λ n. block n r) (λ n le. sym (keep.same n (inr le))) s.limits contents s spells;
+    }
+
+pub told_stands : (k : Kept) (at : ℕ → List ℕ) (s : State) (image : List ℕ) → Tells k at s → KeptBy k.journal.blocks at image → Stands image s
+told_stands k at s image tells keeps =
+    let spells = subst (λ (limits : Limits). Spells limits (contents_of k) at s) tells.limits tells.spells in
+    let blocks : k.journal.blocks ≡ image_blocks s.limits = tells.sizes.blocks ∙ ap image_blocks tells.limits in
+    kept_stands s (contents_of k) at image tells.super spells (subst (λ b. KeptBy b at image) blocks keeps)
+
+pub fitting_stands : (m : Meaning) (k : Kept) (s : State) → StoreFits k m s → Always m (λ image. Stands image s)
+fitting_stands m k s fits =
+    always_weaken (λ image. Stands image s) fits.journal.all
+    (λ image rest. told_stands k fits.kept s image fits.describes.tells (rest_stands k.journal.blocks fits.kept image rest))
+
+pub change_stands : (old new : Kept) (kept : ℕ → List ℕ) (staged : List Entry) (s t : State) → Tells old kept s → Tells new (looked staged kept) t → new.journal.blocks ≡ old.journal.blocks
+    → (image : List ℕ) → StandsForAllOrNone old.journal.blocks kept staged image → Stands image s ⊎ Stands image t
+change_stands old new kept staged s t told tells same image (inl before) = inl (told_stands old kept s image told before)
+change_stands old new kept staged s t told tells same image (inr after) =
+    inr (told_stands new (looked staged kept) t image tells (subst (λ b. KeptBy b (looked staged kept) image) (sym same) after))
