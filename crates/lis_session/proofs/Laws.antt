@@ -1,0 +1,95 @@
+-- What every step keeps: its reply has a byte, and the limits stay.
+use Rattle.std.proofs.Common.{◌≡◌, ℕ, ◌<◌, Bool, true, false, not, cond, List, [], ◌∷◌, ◌++◌, length, codes, refl, ap, ◌∙◌, arith, append-nil, length-append}
+use Rattle.std.specs.List.{list_all}
+use Rattle.lis_words.specs.Words.{has_word}
+use Rattle.lis_grammar.specs.Printing.{printed}
+use Rattle.lis_grammar.specs.Places.{Resolution, resolved, text_words}
+use Rattle.lis_grammar.specs.Places.Resolution.{NewPlace, BeyondLimits, Unreadable}
+use Rattle.lis_model.specs.declared.refusal.Refusal.{Refusal}
+use Rattle.lis_model.specs.declared.refusal.Refusal.TheVariants.{BadFormula, UnknownProperty, LargeFormula, NoFileHere}
+use Rattle.lis_model.specs.declared.command.Command.{Command}
+use Rattle.lis_model.specs.declared.command.Command.TheVariants.{Mkdir, Create, Add, Cat, Rm, Cd, Pwd, Ls}
+use Rattle.lis_model.specs.State.{State, known}
+use Rattle.lis_model.specs.Table.{table}
+use Rattle.lis_model.specs.Listing.{increments, locals}
+use Rattle.lis_model.specs.Replies.{line, body_line, ok_line, two_digits, number_of, refusal_words, listing_lines, content_lines}
+use Rattle.lis_model.specs.Step.{Situation, Item, Outcome, Payload, refused, changed, shown, judged, moved, mkdir_checks, with_declared, new_file, assigned_at, create_checks, add_checks, with_file, is_here, bytes_of, without_file, cd_to, done, step, replies, situation_after}
+use Rattle.lis_model.specs.Step.Item.{Do, Bad}
+use Rattle.lis_model.proofs.Runs.{replies-append, situation_after-append}
+
+record Regular (now : Situation) (outcome : Outcome) : Type 0 where
+  some : 0 < length outcome.reply
+  limits : outcome.next.state.limits ≡ now.state.limits
+
+line_some : (text : List ℕ) → 0 < length (line text)
+line_some text = omega (arith, length-append text (10 ∷ []))
+
+refused_regular : (now : Situation) (refusal : Refusal) → Regular now (refused now refusal)
+refused_regular now refusal = record {
+  some = line_some (codes "no " ++ two_digits (number_of refusal) ++ 32 ∷ refusal_words refusal);
+  limits = refl;
+}
+
+changed_regular : (now : Situation) (state : State) → state.limits ≡ now.state.limits → Regular now (changed now state)
+changed_regular now state same = record { some = line_some (codes "ok"); limits = same }
+
+shown_regular : (now : Situation) (body : List ℕ) → Regular now (shown now body)
+shown_regular now body = record { some = omega (arith, length-append body ok_line, line_some (codes "ok")); limits = refl }
+
+judged_regular : (now : Situation) (checks : List (Bool × Refusal)) (outcome : Outcome) → Regular now outcome → Regular now (judged now checks outcome)
+judged_regular now [] outcome is = is
+judged_regular now (check ∷ checks) outcome is = by check.0 (judged_regular now checks outcome is)
+  where
+    by : (t : Bool) → Regular now (judged now checks outcome) → Regular now (cond t (refused now check.1) (judged now checks outcome))
+    by true rest = refused_regular now check.1
+    by false rest = rest
+
+cd_regular : (now : Situation) (text : List ℕ) (to : Resolution) → Regular now (cd_to now text to)
+cd_regular now text (Unreadable k) = refused_regular now BadFormula
+cd_regular now text BeyondLimits = refused_regular now LargeFormula
+cd_regular now text (NewPlace place) = by (list_all (has_word (known now.state)) (text_words text))
+  where
+    by : (t : Bool) → Regular now (cond t (moved now place) (refused now UnknownProperty))
+    by true = record { some = line_some (codes "ok"); limits = refl }
+    by false = refused_regular now UnknownProperty
+
+done_regular : (now : Situation) (command : Command) (payload : Payload) → Regular now (done now command payload)
+done_regular now (Mkdir word) payload =
+    judged_regular now (mkdir_checks now word) (changed now (with_declared now.state word)) (changed_regular now (with_declared now.state word) refl)
+done_regular now (Create name words) payload =
+    let file = new_file name (assigned_at now.place words) [] in
+    judged_regular now (create_checks now words file) (changed now (with_file now.state file)) (changed_regular now (with_file now.state file) refl)
+done_regular now (Add name words) payload =
+    let file = new_file name (assigned_at now.place words) payload.bytes in
+    judged_regular now (add_checks now words file payload.size) (changed now (with_file now.state file)) (changed_regular now (with_file now.state file) refl)
+done_regular now (Cat name) payload =
+    let body = content_lines (bytes_of now.state.files name) in
+    judged_regular now ((not (is_here now name), NoFileHere) ∷ []) (shown now body) (shown_regular now body)
+done_regular now (Rm name) payload =
+    judged_regular now ((not (is_here now name), NoFileHere) ∷ []) (changed now (without_file now.state name)) (changed_regular now (without_file now.state name) refl)
+done_regular now (Cd text) payload = cd_regular now text (resolved now.place text)
+done_regular now Pwd payload = shown_regular now (body_line 119 (printed now.place))
+done_regular now Ls payload = shown_regular now (listing_lines (increments (table now.state) now.place) (locals (table now.state) now.place))
+
+step_regular : (now : Situation) (item : Item) → Regular now (step now item)
+unfolding step
+step_regular now (Do command payload) = done_regular now command payload
+step_regular now (Bad refusal) = refused_regular now refusal
+
+-- every reply has a byte
+pub reply_some : (now : Situation) (item : Item) → 0 < length (step now item).reply
+reply_some now item = (step_regular now item).some
+
+pub limits_after : (start : Situation) (items : List Item) → (situation_after start items).state.limits ≡ start.state.limits
+limits_after start [] = refl
+limits_after start (item ∷ items) = limits_after (step start item).next items ∙ (step_regular start item).limits
+
+-- one item more
+pub last_reply : (start : Situation) (first : List Item) (item : Item)
+    → replies start (first ++ item ∷ []) ≡ replies start first ++ (step (situation_after start first) item).reply
+last_reply start first item =
+    replies-append start first (item ∷ []) ∙ ap (λ bytes. replies start first ++ bytes) (append-nil (step (situation_after start first) item).reply)
+
+pub last_situation : (start : Situation) (first : List Item) (item : Item)
+    → situation_after start (first ++ item ∷ []) ≡ (step (situation_after start first) item).next
+last_situation start first item = situation_after-append start first (item ∷ [])

@@ -1,0 +1,60 @@
+-- What a stop may leave of a session over an image.
+use Rattle.std.specs.Prelude.{◌≡◌, ◌⊎◌, ℕ, ◌+◌, ◌-◌, ◌≤◌, ◌<◌, List, [], length, take}
+use Rattle.lis_ports.specs.Meaning.{Meaning, Now}
+use Rattle.lis_ports.specs.Since.{Begins, Since}
+use Rattle.lis_model.specs.State.{State}
+use Rattle.lis_model.specs.Step.{Situation, Item, replies, situation_after}
+use Rattle.lis_store.specs.Stands.{Stands}
+
+-- a state, with the root as the place
+abbrev pub root_of : State → Situation
+root_of state = record { state = state; place = [] }
+
+-- the replies to so many first items, one after another
+abbrev pub out : Situation → List Item → ℕ → List ℕ
+out start items count = replies start (take count items)
+
+-- the state after so many first items
+abbrev pub state_after : Situation → List Item → ℕ → State
+state_after start items count = (situation_after start (take count items)).state
+
+-- The image stands for the state after some first items. All their replies but the last were shown, and nothing past them.
+pub record SessionMoment (start : Situation) (items : List Item) (image shown : List ℕ) : Type 0 where
+  pub count : ℕ
+  pub within : count ≤ length items
+  pub stands : Stands image (state_after start items count)
+  pub no_more : Begins shown (out start items count)
+  pub no_less : Begins (out start items (count - 1)) shown
+
+-- The same by what was shown. Of the items whose replies were shown whole `whole` is the greatest count, and the image stands for the
+-- state after so many items or after one more.
+pub record ShownMoment (start : Situation) (items : List Item) (image shown : List ℕ) : Type 0 where
+  pub whole : ℕ
+  pub within : whole ≤ length items
+  pub is_shown : Begins (out start items whole) shown
+  pub greatest : (more : ℕ) → more ≤ length items → Begins (out start items more) shown → more ≤ whole
+  pub count : ℕ
+  pub which : (count ≡ whole) ⊎ ((count ≡ whole + 1) × (whole < length items))
+  pub stands : Stands image (state_after start items count)
+  pub no_more : Begins shown (out start items count)
+
+-- the two say the same
+pub record SaysTheSame (start : Situation) (items : List Item) (image shown : List ℕ) : Type 0 where
+  pub by_shown : SessionMoment start items image shown → ShownMoment start items image shown
+  pub by_count : ShownMoment start items image shown → SessionMoment start items image shown
+
+abbrev pub OneForm : Type 0
+OneForm = (start : Situation) (items : List Item) (image shown : List ℕ) → SaysTheSame start items image shown
+
+-- a moment of the session from the root, or an image that a crash at its start could have left, with nothing shown since
+abbrev pub RunMoment : Meaning → State → List Item → List ℕ → List ℕ → Type 0
+RunMoment old state items image bytes = Now old image bytes ⊎ Since old.shown (SessionMoment (root_of state) items) image bytes
+
+-- each moment since the start is one of these
+abbrev pub Headline : State → List Item → Meaning → Meaning → Type 0
+Headline state items old new = (image bytes : List ℕ) → new.moments old.clock image bytes → RunMoment old state items image bytes
+
+-- the same with no exception
+abbrev pub FullHeadline : Situation → List Item → Meaning → Meaning → Type 0
+FullHeadline start items old new =
+    (image bytes : List ℕ) → new.moments old.clock image bytes → Since old.shown (SessionMoment start items) image bytes

@@ -1,0 +1,12 @@
+//! A session over an image: what a stop at any moment may leave of it.
+#![tactic(auto)]
+
+ghost use Rattle.lis_session.specs.Session.{OneForm};
+
+pub mod end;
+
+/// A moment of a session told by how many items were carried out, and told by the replies that were shown whole: the two say
+/// the same.
+pub fn one_form()
+    ensures { OneForm }
+{}
