@@ -3,6 +3,10 @@
 
 ghost use Rattle.lis_store.specs.Laws.{OneState, FittingStoresStand, ChangesStand};
 
+mod change;
+
+pub use change::Change;
+
 use lis_ports::Disk;
 
 /// An image stands for one state at most.
