@@ -181,6 +181,13 @@ impl Journal {
         self.stage.clear();
     }
 
+    /// Breaks the journal, where a call beside it failed.
+    pub fn break_off(&mut self)
+        ensures { self.new ≡ record self.old { is_broken = true } }
+    {
+        self.is_broken = true;
+    }
+
     /// Makes the staged blocks kept, all or none of them. With nothing staged it makes no call of the disk.
     pub fn commit<D: Disk>(&mut self, disk: &mut D) -> Result<(), Failed>
         requires unbroken { self.old.is_broken ≡ false }

@@ -1,5 +1,5 @@
 -- What is kept, and what the blocks spell, when a word is declared.
-use Rattle.std.proofs.Common.{◌≡◌, ◌⊎◌, refl, sym, ap, ap₂, ◌∙◌, subst, inl, inr, ℕ, ◌+◌, ◌/◌, ◌%◌, ◌<◌, ◌≤◌, ◌==◌, ◌&&◌, nat_le, Bool, true, false, cond, List, [], ◌∷◌, ◌++◌, length, map, get_or, set, replicate, Option, Some, None, is_some, IsTrue, arith, length-set, get_or-set_same, get_or-set_other}
+use Rattle.std.proofs.Common.{◌≡◌, ◌⊎◌, refl, sym, ap, ap₂, ◌∙◌, subst, inl, inr, ℕ, ◌+◌, ◌%◌, ◌<◌, ◌≤◌, ◌==◌, ◌&&◌, nat_le, Bool, true, false, cond, List, [], ◌∷◌, ◌++◌, length, map, get_or, set, replicate, Option, Some, None, is_some, arith, length-set, get_or-set_same, get_or-set_other}
 use Rattle.std.specs.Option.{option_to_list}
 use Rattle.std.specs.BTreeSet.{insert_key}
 use Rattle.std.specs.List.{fold, flat_map, list_all, range_with_len}
@@ -29,7 +29,7 @@ use Rattle.lis_laws.proofs.Known.{sorted_known}
 use Rattle.lis_laws.proofs.Growth.{known_declares}
 use Rattle.lis_laws.proofs.Forms.{declares}
 use Rattle.lis_laws.proofs.Counts.{insert_key_le}
-use Rattle.lis_store.specs.Stands.{property_slots, axiom_slots, file_slots, Contents, AreSlots, word_in, declared_in, words_in, all_declared, word_at, all_records, all_blocks, file_of, spelled_state, are_named, Spells}
+use Rattle.lis_store.specs.Stands.{property_slots, axiom_slots, file_slots, Contents, word_in, declared_in, words_in, all_declared, word_at, all_records, all_blocks, file_of, spelled_state, are_named, Spells}
 use Rattle.lis_store.specs.Kept.{Kept, property_by, contents_of, Tells}
 use Rattle.lis_store.specs.Keeping.{SetsSlot}
 use Rattle.lis_store.proofs.Standing.{same_slots, same_content}
@@ -43,7 +43,7 @@ property_in d bits m = property_by (word_of d m) (is_taken bits m)
 pub slots_with : (d : Dict) (bits more : List Bool) (word : List ℕ) (n props : ℕ) → number_of d word ≡ None → word_of d n ≡ None → n < props
     → ((m : ℕ) → m < props → is_taken more m ≡ cond (m == n) true (is_taken bits m))
     → map (λ m. property_by (word_of (with_entry d word n) m) (is_taken more m)) (range_with_len 0 props)
-      ≡ set (map (λ m. property_by (word_of d m) (is_taken bits m)) (range_with_len 0 props)) n (Declared word)
+    ≡ set (map (λ m. property_by (word_of d m) (is_taken bits m)) (range_with_len 0 props)) n (Declared word)
 slots_with d bits more word n props new free below are =
     same_lists (map (property_in (with_entry d word n) more) (range_with_len 0 props)) (set (map (property_in d bits) (range_with_len 0 props)) n (Declared word))
     (len_after ∙ sym (length-set (map (property_in d bits) (range_with_len 0 props)) n (Declared word) ∙ len_before)) at

@@ -4,3 +4,5 @@ pub mod Standing
 pub mod OneSlot
 pub mod Told
 pub mod Declaring
+pub mod OnePut
+pub mod Mkdir

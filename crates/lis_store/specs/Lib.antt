@@ -4,3 +4,4 @@ pub mod Laws
 pub mod Blank
 pub mod Changes
 pub mod Keeping
+pub mod Inside

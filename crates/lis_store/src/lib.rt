@@ -1,13 +1,15 @@
-//! States on an image.
+//! States on an image, and a store that keeps in memory what changes need of it.
 #![tactic(auto)]
 
 ghost use Rattle.lis_store.specs.Laws.{OneState, FittingStoresStand, ChangesStand};
 
 mod change;
+mod keeping;
+mod store;
 
 pub use change::Change;
-
 use lis_ports::Disk;
+pub use store::Store;
 
 /// An image stands for one state at most.
 pub fn one_state()
