@@ -4,7 +4,7 @@ use Rattle.std.proofs.lemmas.Bool.{le-ltb}
 use Rattle.lis_ports.specs.Meaning.{Meaning}
 use Rattle.lis_ports.specs.Runs.{Leaves}
 use Rattle.lis_ports.proofs.Moments.{leaves_none, leaves_weaken}
-use Rattle.lis_journal.specs.Images.{StandsFor as KeptBy}
+use Rattle.lis_journal.specs.Images.{StandsFor as KeptBy, KeepsPast}
 use Rattle.lis_bits.specs.Rows.{Rows, row_at, get, with_row}
 use Rattle.lis_bits.proofs.Laws.{get-with_row_same}
 use Rattle.lis_blockmap.specs.Bitmap.{is_taken}
@@ -16,6 +16,7 @@ use Rattle.lis_fields.specs.declared.slots.PropSlot.TheVariants.{Declared}
 use Rattle.lis_words.specs.Words.{is_valued, is_built_in}
 use Rattle.lis_model.specs.declared.refusal.Refusal.{Refusal}
 use Rattle.lis_model.specs.declared.refusal.Refusal.TheVariants.{NoPropertyRoom, BuiltIn, NotAssignable, AlreadyDeclared, NotAPlace}
+use Rattle.lis_model.specs.Image.{image_blocks}
 use Rattle.lis_model.specs.Places.{is_root}
 use Rattle.lis_model.specs.State.{State, known, is_declarable}
 use Rattle.lis_model.specs.Step.{Situation, Outcome, refused, changed, judged, exceeds_known, with_declared, mkdir_checks, mkdir}
@@ -92,7 +93,7 @@ module _ (k : Kept) (m : Meaning) (place : List Formula) (word : List ℕ) (dict
   refused_with : {T : Type 0} (refusal : Refusal) (result : Result T Change) → result ≡ Err (Refused refusal) → mkdir now word ≡ refused now refusal → Changes now (mkdir now word) k m m result
   refused_with refusal result is outcome =
       subst (λ r. Changes now (mkdir now word) k m m r) (sym is)
-      (record { moments = leaves_none m (λ image. Stands image s ⊎ Stands image (mkdir now word).next.state); ended = (outcome, fits) })
+      (record { moments = leaves_none m (λ image. Stands image s ⊎ Stands image (mkdir now word).next.state); past = λ n le. refl; ended = (outcome, fits) })
 
   pub refused_early : {T : Type 0} (refusal : Refusal) (result : Result T Change) → first_refusal (word_checks k place word) ≡ Some refusal → result ≡ Err (Refused refusal) → Changes now (mkdir now word) k m m result
   refused_early refusal result first is =
@@ -145,11 +146,14 @@ module _ (k : Kept) (m : Meaning) (place : List Formula) (word : List ℕ) (dict
               let standing = told_stands after there.0 (with_declared s word) image (told there.0 there.1) there.2 in
               inr (subst (λ (o : Outcome). Stands image o.next.state) (sym (outcome_done there.0 there.1)) standing)
 
+      past_image : (m' : Meaning) → KeepsPast k.journal.blocks m m' → KeepsPast (image_blocks s.limits) m m'
+      past_image m' past = subst (λ b. KeepsPast b m m') (tells.sizes.blocks ∙ ap image_blocks tells.limits) past
+
       pub fault_late : {T T' E' : Type 0} {m' : Meaning} (new_kept : Kept) (kept_so : Result T' E') (result : Result T Change)
           → SlotKept (property_slots k.limits) n (prop_bytes (Declared word)) k.journal.blocks fits.kept m m' kept_so → new_kept.journal.is_broken ≡ true → result ≡ Err Disk
           → Changes now (mkdir now word) new_kept m m' result
       fault_late {m' = m'} new_kept kept_so result slot_kept broken is =
-          subst (λ r. Changes now (mkdir now word) new_kept m m' r) (sym is) (record { moments = change_moments slot_kept.moments; ended = broken })
+          subst (λ r. Changes now (mkdir now word) new_kept m m' r) (sym is) (record { moments = change_moments slot_kept.moments; past = past_image m' slot_kept.past; ended = broken })
 
       pub done_late : {T T' E' : Type 0} {m' : Meaning} (new_kept : Kept) (x : T) (y : T')
           → SlotKept {T = T'} {E = E'} (property_slots k.limits) n (prop_bytes (Declared word)) k.journal.blocks fits.kept m m' (Ok y) → new_kept ≡ after
@@ -164,6 +168,7 @@ module _ (k : Kept) (m : Meaning) (place : List Formula) (word : List ℕ) (dict
           } in
           record {
             moments = change_moments slot_kept.moments;
+            past = past_image m' slot_kept.past;
             ended = (
               ap (λ (o : Outcome). o.reply) outcome,
               subst (λ (held : Kept). StoreFits held m' (mkdir now word).next.state) (sym is) (subst (λ (o : Outcome). StoreFits after m' o.next.state) (sym outcome) fits_then),

@@ -3,12 +3,14 @@ use Rattle.std.specs.Prelude.{◌≡◌, ◌⊎◌, ℕ, Bool, true, false, not,
 use Rattle.lis_ports.specs.Meaning.{Meaning}
 use Rattle.lis_ports.specs.Runs.{Leaves}
 use Rattle.lis_ports.specs.Calls.{Rose}
+use Rattle.lis_journal.specs.Images.{KeepsPast}
 use Rattle.lis_blockmap.specs.Bitmap.{is_taken}
 use Rattle.lis_dict.specs.Dict.{number_of}
 use Rattle.lis_grammar.specs.Formula.{Formula}
 use Rattle.lis_words.specs.Words.{is_valued, is_built_in}
 use Rattle.lis_model.specs.declared.refusal.Refusal.{Refusal}
 use Rattle.lis_model.specs.declared.refusal.Refusal.TheVariants.{BuiltIn, NotAssignable, AlreadyDeclared, NotAPlace}
+use Rattle.lis_model.specs.Image.{image_blocks}
 use Rattle.lis_model.specs.Places.{is_root}
 use Rattle.lis_model.specs.Replies.{ok_line}
 use Rattle.lis_model.specs.Step.{Situation, Outcome, refused}
@@ -42,9 +44,10 @@ ChangeEnded now outcome new m (Ok done) = (outcome.reply ≡ ok_line) × StoreFi
 ChangeEnded now outcome new m (Err (Refused refusal)) = (outcome ≡ refused now refusal) × StoreFits new m now.state
 ChangeEnded now outcome new m (Err Disk) = new.journal.is_broken ≡ true
 
--- At each moment in the call the image stands for the old state or for the new one.
+-- At each moment in the call the image stands for the old state or for the new one, and blocks past the image stay.
 pub record Changes {T : Type 0} (now : Situation) (outcome : Outcome) (new : Kept) (before after : Meaning) (result : Result T Change) : Type 0 where
   pub moments : Leaves before after (λ image. Stands image now.state ⊎ Stands image outcome.next.state)
+  pub past : KeepsPast (image_blocks now.state.limits) before after
   pub ended : ChangeEnded now outcome new after result
 
 -- A fault of the disk comes only where the count rose, and at each other answer the count stays.

@@ -2,7 +2,7 @@
 use Rattle.std.specs.Prelude.{◌≡◌, ◌⊎◌, ℕ, ◌==◌, false, if◌then◌else◌, List, Result, OnOk}
 use Rattle.lis_ports.specs.Meaning.{Meaning}
 use Rattle.lis_ports.specs.Runs.{Leaves}
-use Rattle.lis_journal.specs.Images.{StandsFor, Fits}
+use Rattle.lis_journal.specs.Images.{StandsFor, Fits, KeepsPast}
 use Rattle.lis_slots.specs.Slots.{Slots, home, slot}
 
 -- There are blocks with these bytes in slot k, and else with what each slot and each block had.
@@ -18,7 +18,8 @@ StandsWithSlot blocks kept array k bytes image = (there : ℕ → List ℕ) × S
 abbrev pub FitsWithSlot : ℕ → (ℕ → List ℕ) → Slots → ℕ → List ℕ → Meaning → Type 0
 FitsWithSlot blocks kept array k bytes m = (there : ℕ → List ℕ) × SetsSlot array k bytes kept there × Fits blocks m there
 
--- At each moment an image stands for the blocks as before, or with the slot; at the end the slot is kept.
+-- At each moment an image stands for the blocks as before, or with the slot; at the end the slot is kept. Blocks past the image stay.
 pub record SlotKept {T E : Type 0} (array : Slots) (k : ℕ) (bytes : List ℕ) (blocks : ℕ) (kept : ℕ → List ℕ) (before after : Meaning) (result : Result T E) : Type 0 where
   pub moments : Leaves before after (λ image. StandsFor blocks kept image ⊎ StandsWithSlot blocks kept array k bytes image)
+  pub past : KeepsPast blocks before after
   pub ended : OnOk result (FitsWithSlot blocks kept array k bytes after)

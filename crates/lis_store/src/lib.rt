@@ -8,8 +8,9 @@ mod keeping;
 mod store;
 
 pub use change::Change;
+pub use store::{Built, Store};
+
 use lis_ports::Disk;
-pub use store::Store;
 
 /// An image stands for one state at most.
 pub fn one_state()

@@ -1,11 +1,16 @@
 //! A store: what is kept in memory of an image, and the calls that change both.
 
-ghost use Rattle.std.specs.Prelude.{◌≡◌, ◌*◌, ◌≤◌, false, true, Some, None, IsTrue, OnOk, MatchResult};
+ghost use Rattle.std.specs.Prelude.{[], ◌≡◌, ◌*◌, ◌≤◌, false, true, length, Some, None, Err, IsTrue, OnOk, MatchResult};
 ghost use Rattle.lis_ports.specs.Runs.{IsDiskRun};
 ghost use Rattle.lis_dict.specs.Dict.{IsDict};
 ghost use Rattle.lis_model.specs.State.{State, is_declarable};
+ghost use Rattle.lis_model.specs.declared.refusal.Refusal.{Refusal};
+ghost use Rattle.lis_model.specs.Ranges.{are_in_range};
+ghost use Rattle.lis_model.specs.Image.{image_blocks};
 ghost use Rattle.lis_model.specs.Places.{is_root};
 ghost use Rattle.lis_model.specs.Step.{mkdir};
+ghost use Rattle.lis_bits.specs.Rows.{row_at};
+ghost use Rattle.lis_store.specs.declared.change.Change.TheVariants.{Refused};
 ghost use Rattle.lis_store.specs.Kept.{StoreFits};
 ghost use Rattle.lis_store.specs.Changes.{is_declared, first_refusal, word_checks, Changes, HasChangeCause, ChangeLeft};
 
@@ -22,6 +27,18 @@ use lis_place::Place;
 use lis_ports::Disk;
 use lis_words::{Word, is_builtin, is_valued};
 use std::marker::Model;
+
+/// What opening has read of an image.
+#[derive(Drop)]
+pub struct Built {
+    pub limits: Limits,
+    pub journal: Journal,
+    pub dict: Dict,
+    /// One row: by number, whether the word that has it is declared.
+    pub declared: Rows,
+    pub catalog: Catalog,
+    pub map: BlockMap,
+}
 
 /// What is kept in memory of an image. It holds no bytes of files.
 #[derive(Drop)]
@@ -56,6 +73,27 @@ fn is_root(place: &Place) -> bool
 }
 
 impl Store {
+    /// The store of these parts, which are all of the same limits.
+    pub fn join(built: Built) -> Store
+        requires range { IsTrue (are_in_range built.limits) }
+        requires image { built.journal.blocks ≡ image_blocks built.limits }
+        requires quiet { built.journal.staged ≡ [] }
+        requires numbers { built.dict.props ≡ built.limits.props }
+        requires tall { length built.declared.rows ≡ 1 }
+        requires wide { built.declared.bits ≡ built.limits.props }
+        requires slots { built.catalog.files ≡ built.limits.files }
+        ensures { result ≡ record { limits = built.limits; journal = built.journal; dict = built.dict; declared = row_at built.declared 0; catalog = built.catalog; taken = built.map } }
+    {
+        Store {
+            limits: built.limits,
+            journal: built.journal,
+            dict: built.dict,
+            declared: built.declared,
+            catalog: built.catalog,
+            map: built.map,
+        }
+    }
+
     /// The limits of the image.
     pub fn limits(&self) -> Limits
         ensures { result ≡ self.now.limits }
@@ -104,7 +142,7 @@ impl Store {
         Ok(())
     }
 
-    /// Declares a word: `mkdir` at the place. A refusal makes no call of the disk.
+    /// Declares a word: `mkdir` at the place.
     pub fn declare<D: Disk>(
         &mut self,
         disk: &mut D,
@@ -116,6 +154,9 @@ impl Store {
         ensures changes { (s : State) → StoreFits self.old (D.meaning disk.old) s
             → Changes (record { state = s; place = place.now }) (mkdir (record { state = s; place = place.now }) word.now)
             self.new (D.meaning disk.old) (D.meaning disk.new) result }
+        ensures untouched { (refusal : Refusal) → result ≡ Err (Refused refusal) → disk.new ≡ disk.old }
+        ensures limits { self.new.limits ≡ self.old.limits }
+        ensures image { self.new.journal.blocks ≡ self.old.journal.blocks }
         ensures left { ChangeLeft self.old self.new result }
         ensures run { IsDiskRun (D.meaning disk.old) (D.meaning disk.new) }
         ensures cause { HasChangeCause (D.meaning disk.old).disk_faults (D.meaning disk.new).disk_faults result }
