@@ -6,11 +6,12 @@ ghost use Rattle.lis_store.specs.Laws.{OneState, FittingStoresStand, ChangesStan
 mod change;
 mod keeping;
 mod store;
+#[cfg(test)]
+mod tests;
 
 pub use change::Change;
-pub use store::{Built, Store};
-
 use lis_ports::Disk;
+pub use store::{Built, Store};
 
 /// An image stands for one state at most.
 pub fn one_state()
