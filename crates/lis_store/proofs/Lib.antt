@@ -6,3 +6,4 @@ pub mod Told
 pub mod Declaring
 pub mod OnePut
 pub mod Mkdir
+pub mod EmptyStore
