@@ -66,7 +66,7 @@ all_free : (n : ℕ) → list_all is_free_axiom (replicate n FreeAxiom) ≡ true
 all_free zero = refl
 all_free (suc n) = all_free n
 
-no_records : (n : ℕ) → all_records (replicate n FreeFile) ≡ []
+pub no_records : (n : ℕ) → all_records (replicate n FreeFile) ≡ []
 no_records zero = refl
 no_records (suc n) = no_records n
 
@@ -117,7 +117,7 @@ module _ (limits : Limits) (image : List ℕ) (blank : IsBlank limits image) whe
       ∙ (sym (bitmap-none limits.blocks)
       ∙ ap (λ recs. bitmap_bytes (marked (replicate limits.blocks false) (all_blocks recs))) (sym (no_records limits.files)))
 
-  spells_empty : IsTrue (are_in_range limits) → Spells limits (empty_contents limits) (λ n. block n image) (empty_state limits)
+  pub spells_empty : IsTrue (are_in_range limits) → Spells limits (empty_contents limits) (λ n. block n image) (empty_state limits)
   spells_empty in_range = record {
     properties = free_properties;
     axioms = free_axioms;

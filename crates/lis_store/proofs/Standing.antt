@@ -32,33 +32,36 @@ map_same : {X Y : Type 0} (f g : X → Y) (xs : List X) → ((x : X) → f x ≡
 map_same f g [] same = refl
 map_same f g (x ∷ xs) same = ap (λ y. y ∷ map f xs) (same x) ∙ ap (λ ys. g x ∷ ys) (map_same f g xs same)
 
-module _ (at there : ℕ → List ℕ) (same : (n : ℕ) → 578 ≤ n → at n ≡ there n) where
-  pub same_slots : {X : Type 0} (spelled : X → List ℕ) (is_in_range : X → Bool) (slots : Slots) (values : List X) → 578 ≤ slots.first
+-- blocks that are the same from a number on
+module _ (low : ℕ) (at there : ℕ → List ℕ) (same : (n : ℕ) → low ≤ n → at n ≡ there n) where
+  pub same_slots : {X : Type 0} (spelled : X → List ℕ) (is_in_range : X → Bool) (slots : Slots) (values : List X) → low ≤ slots.first
       → AreSlots spelled is_in_range slots at values → AreSlots spelled is_in_range slots there values
   same_slots spelled is_in_range slots values home_blocks are = record {
     count = are.count;
     each = λ k value is.
         let was = are.each k value is in
-        let here = same (home slots k) (le_more 578 slots.first _ home_blocks) in
+        let here = same (home slots k) (le_more low slots.first _ home_blocks) in
         (sym (ap (part (place slots k) slots.width) here) ∙ was.0, was.1);
   }
 
-  same_data : (base : ℕ) (blocks : List ℕ) → 578 ≤ base → flat_map (λ b. at (base + b)) blocks ≡ flat_map (λ b. there (base + b)) blocks
+  same_data : (base : ℕ) (blocks : List ℕ) → low ≤ base → flat_map (λ b. at (base + b)) blocks ≡ flat_map (λ b. there (base + b)) blocks
   same_data base [] least = refl
   same_data base (b ∷ blocks) least =
-      ap (λ xs. xs ++ flat_map (λ n. at (base + n)) blocks) (same (base + b) (le_more 578 base b least))
+      ap (λ xs. xs ++ flat_map (λ n. at (base + n)) blocks) (same (base + b) (le_more low base b least))
       ∙ ap (λ xs. there (base + b) ++ xs) (same_data base blocks least)
 
-  pub same_content : (base : ℕ) (blocks : List ℕ) (size : ℕ) → 578 ≤ base → content base blocks size at ≡ content base blocks size there
+  pub same_content : (base : ℕ) (blocks : List ℕ) (size : ℕ) → low ≤ base → content base blocks size at ≡ content base blocks size there
   same_content base blocks size least = ap (take size) (same_data base blocks least)
 
+-- blocks that are the same from the first home block on
+module _ (at there : ℕ → List ℕ) (same : (n : ℕ) → 578 ≤ n → at n ≡ there n) where
   data_home : (limits : Limits) → 578 ≤ data_start limits
   data_home limits = omega arith
 
   same_file : (limits : Limits) (properties : List PropSlot) (rec : FileRecord) → file_of limits properties at rec ≡ file_of limits properties there rec
   same_file limits properties rec =
       let with_bytes : List ℕ → File = λ bytes. record (file_of limits properties at rec) { bytes = bytes } in
-      ap with_bytes (same_content (data_start limits) rec.blocks rec.size (data_home limits))
+      ap with_bytes (same_content 578 at there same (data_start limits) rec.blocks rec.size (data_home limits))
 
   same_state : (limits : Limits) (contents : Contents) → spelled_state limits contents at ≡ spelled_state limits contents there
   same_state limits contents =
@@ -67,9 +70,9 @@ module _ (at there : ℕ → List ℕ) (same : (n : ℕ) → 578 ≤ n → at n 
 
   pub same_spelled : (limits : Limits) (contents : Contents) (s : State) → Spells limits contents at s → Spells limits contents there s
   same_spelled limits contents s spells = record {
-    properties = same_slots prop_bytes is_prop (property_slots limits) contents.properties (omega arith) spells.properties;
-    axioms = same_slots axiom_bytes is_axiom (axiom_slots limits) contents.axioms (omega arith) spells.axioms;
-    files = same_slots file_bytes is_file (file_slots limits) contents.files (omega arith) spells.files;
+    properties = same_slots 578 at there same prop_bytes is_prop (property_slots limits) contents.properties (omega arith) spells.properties;
+    axioms = same_slots 578 at there same axiom_bytes is_axiom (axiom_slots limits) contents.axioms (omega arith) spells.axioms;
+    files = same_slots 578 at there same file_bytes is_file (file_slots limits) contents.files (omega arith) spells.files;
     no_axioms = spells.no_axioms;
     named = spells.named;
     state = spells.state ∙ same_state limits contents;

@@ -74,3 +74,14 @@ pub record StoreFits (k : Kept) (m : Meaning) (s : State) : Type 0 where
   pub kept : ℕ → List ℕ
   pub journal : Fits k.journal.blocks m kept
   pub describes : Describes k kept s
+
+-- what is kept where there are no words and no files
+abbrev pub empty_kept : Limits → Kept
+empty_kept limits = record {
+  limits = limits;
+  journal = record { blocks = image_blocks limits; staged = []; is_broken = false };
+  dict = record { props = limits.props; entries = [] };
+  declared = replicate limits.props false;
+  catalog = record { files = limits.files; entries = [] };
+  taken = replicate limits.blocks false;
+}

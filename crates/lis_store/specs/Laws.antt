@@ -1,13 +1,18 @@
 -- Laws on images that stand for a state.
-use Rattle.std.specs.Prelude.{◌≡◌, ◌⊎◌, ℕ, List}
+use Rattle.std.specs.Prelude.{◌≡◌, ◌⊎◌, ℕ, List, IsTrue}
 use Rattle.lis_ports.specs.Meaning.{Meaning}
-use Rattle.lis_ports.specs.Runs.{Always}
+use Rattle.lis_ports.specs.Runs.{Always, IsSettled}
+use Rattle.lis_ports.specs.Bytes.{part}
 use Rattle.lis_journal.specs.Record.{Entry}
 use Rattle.lis_journal.specs.Images.{StandsForAllOrNone}
 use Rattle.lis_journal.specs.Phases.{looked}
-use Rattle.lis_model.specs.State.{State}
+use Rattle.lis_fields.specs.Layouts.{super_bytes}
+use Rattle.lis_model.specs.declared.limits.Limits.{Limits}
+use Rattle.lis_model.specs.Ranges.{are_in_range}
+use Rattle.lis_model.specs.State.{State, empty_state}
+use Rattle.lis_store.specs.Blank.{IsBlank}
 use Rattle.lis_store.specs.Stands.{Stands}
-use Rattle.lis_store.specs.Kept.{Kept, Tells, StoreFits}
+use Rattle.lis_store.specs.Kept.{Kept, Tells, StoreFits, empty_kept}
 
 -- an image stands for one state at most
 abbrev pub OneState : Type 0
@@ -16,6 +21,12 @@ OneState = (image : List ℕ) (s t : State) → Stands image s → Stands image 
 -- where a store fits a disk at a state, the bytes as they read stand for it, and so does every image
 abbrev pub FittingStoresStand : Meaning → Type 0
 FittingStoresStand m = (k : Kept) (s : State) → StoreFits k m s → Always m (λ image. Stands image s)
+
+-- A store without words and files fits an honest disk of one image, where this is a blank one behind its super block.
+abbrev pub EmptyStoresFit : Meaning → Type 0
+EmptyStoresFit m =
+    (limits : Limits) (image : List ℕ) → IsTrue (are_in_range limits) → IsTrue m.is_honest → IsSettled m image
+    → part 0 4096 image ≡ super_bytes (record { version = 1; limits = limits }) → IsBlank limits image → StoreFits (empty_kept limits) m (empty_state limits)
 
 -- What is staged over blocks that tell s makes blocks that tell t: then each image that stands for the one or the other blocks stands for
 -- s or for t.
