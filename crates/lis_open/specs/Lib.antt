@@ -1,2 +1,3 @@
 pub mod Makes
 pub mod Faults
+pub mod Opens

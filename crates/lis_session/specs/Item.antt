@@ -1,5 +1,5 @@
 -- What carrying out one item does to an image and to what was shown.
-use Rattle.std.specs.Prelude.{◌≡◌, ◌⊎◌, ℕ, List, [], Result, Ok, Err, IsTrue}
+use Rattle.std.specs.Prelude.{◌≡◌, ◌≢◌, ◌⊎◌, ℕ, List, [], Result, Ok, Err, false, IsTrue}
 use Rattle.std.specs.Io.KnownBytes.{append_known}
 use Rattle.lis_ports.specs.Meaning.{Meaning}
 use Rattle.lis_ports.specs.Runs.{Adds, Always}
@@ -11,6 +11,7 @@ use Rattle.lis_model.specs.Image.{image_blocks}
 use Rattle.lis_model.specs.State.{State}
 use Rattle.lis_model.specs.Step.{Situation, Item, Outcome, step}
 use Rattle.lis_store.specs.Stands.{Stands}
+use Rattle.lis_store.specs.Kept.{Kept}
 use Rattle.lis_session.specs.declared.end.End.{End}
 use Rattle.lis_session.specs.declared.end.End.TheVariants.{DiskFault, OutputFault, NoMemory}
 
@@ -56,3 +57,8 @@ HasEndCause old new (Ok done) = (new.disk_faults ≡ old.disk_faults) × (new.sh
 HasEndCause old new (Err DiskFault) = Rose old.disk_faults new.disk_faults × (new.show_faults ≡ old.show_faults)
 HasEndCause old new (Err OutputFault) = (new.disk_faults ≡ old.disk_faults) × Rose old.show_faults new.show_faults
 HasEndCause old new (Err NoMemory) = (new.disk_faults ≡ old.disk_faults) × (new.show_faults ≡ old.show_faults)
+
+-- a store is broken by a fault of the disk alone, and its image stays as long
+pub record StoreLeft (old new : Kept) (result : Result (Unit {0}) End) : Type 0 where
+  pub image : new.journal.blocks ≡ old.journal.blocks
+  pub unbroken : result ≢ Err DiskFault → new.journal.is_broken ≡ false

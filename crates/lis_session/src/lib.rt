@@ -4,6 +4,7 @@
 ghost use Rattle.lis_session.specs.Session.{OneForm};
 
 pub mod end;
+pub mod session;
 
 /// A moment of a session told by how many items were carried out, and told by the replies that were shown whole: the two say
 /// the same.

@@ -4,8 +4,6 @@ use Rattle.lis_ports.specs.Meaning.{Meaning}
 use Rattle.lis_ports.specs.Runs.{Leaves}
 use Rattle.lis_ports.specs.Calls.{Rose}
 use Rattle.lis_journal.specs.Images.{KeepsPast}
-use Rattle.lis_blockmap.specs.Bitmap.{is_taken}
-use Rattle.lis_dict.specs.Dict.{number_of}
 use Rattle.lis_grammar.specs.Formula.{Formula}
 use Rattle.lis_words.specs.Words.{is_valued, is_built_in}
 use Rattle.lis_model.specs.declared.refusal.Refusal.{Refusal}
@@ -15,18 +13,9 @@ use Rattle.lis_model.specs.Places.{is_root}
 use Rattle.lis_model.specs.Replies.{ok_line}
 use Rattle.lis_model.specs.Step.{Situation, Outcome, refused}
 use Rattle.lis_store.specs.Stands.{Stands}
-use Rattle.lis_store.specs.Kept.{Kept, StoreFits}
+use Rattle.lis_store.specs.Kept.{Kept, is_declared, StoreFits}
 use Rattle.lis_store.specs.declared.change.Change.{Change}
-use Rattle.lis_store.specs.declared.change.Change.TheVariants.{Refused, Disk}
-
--- the truth value at a word's number
-abbrev pub bit_of : List Bool → Option ℕ → Bool
-bit_of bits None = false
-bit_of bits (Some n) = is_taken bits n
-
--- the word is declared, by what is kept of it
-abbrev pub is_declared : Kept → List ℕ → Bool
-is_declared k word = bit_of k.declared (number_of k.dict word)
+use Rattle.lis_store.specs.declared.change.Change.TheVariants.{Refused, Disk, NoMemory}
 
 -- the first refusal of a row whose condition holds
 abbrev pub first_refusal : List (Bool × Refusal) → Option Refusal
@@ -38,11 +27,12 @@ abbrev pub word_checks : Kept → List Formula → List ℕ → List (Bool × Re
 word_checks k place word =
     (is_built_in word, BuiltIn) ∷ (is_valued word, NotAssignable) ∷ (is_declared k word, AlreadyDeclared) ∷ (not (is_root place), NotAPlace) ∷ []
 
--- At an answer that is no fault of the disk the store fits it: at the new state, or with a refusal at the old one.
+-- At an answer that is no fault of the disk the store fits it: at the new state, or with a refusal or for want of memory at the old one.
 abbrev pub ChangeEnded : {T : Type 0} → Situation → Outcome → Kept → Meaning → Result T Change → Type 0
 ChangeEnded now outcome new m (Ok done) = (outcome.reply ≡ ok_line) × StoreFits new m outcome.next.state
 ChangeEnded now outcome new m (Err (Refused refusal)) = (outcome ≡ refused now refusal) × StoreFits new m now.state
 ChangeEnded now outcome new m (Err Disk) = new.journal.is_broken ≡ true
+ChangeEnded now outcome new m (Err NoMemory) = StoreFits new m now.state
 
 -- At each moment in the call the image stands for the old state or for the new one, and blocks past the image stay.
 pub record Changes {T : Type 0} (now : Situation) (outcome : Outcome) (new : Kept) (before after : Meaning) (result : Result T Change) : Type 0 where
@@ -55,9 +45,11 @@ abbrev pub HasChangeCause : {T : Type 0} → ℕ → ℕ → Result T Change →
 HasChangeCause before now (Ok done) = now ≡ before
 HasChangeCause before now (Err (Refused refusal)) = now ≡ before
 HasChangeCause before now (Err Disk) = Rose before now
+HasChangeCause before now (Err NoMemory) = now ≡ before
 
--- what an answer says of a store on any disk: a refusal changes nothing, and a fault of the disk breaks it
+-- what an answer says of a store on any disk: a refusal and want of memory change nothing, and a fault of the disk breaks it
 abbrev pub ChangeLeft : {T : Type 0} → Kept → Kept → Result T Change → Type 0
 ChangeLeft old new (Ok done) = new.journal.is_broken ≡ false
 ChangeLeft old new (Err (Refused refusal)) = new ≡ old
 ChangeLeft old new (Err Disk) = new.journal.is_broken ≡ true
+ChangeLeft old new (Err NoMemory) = new ≡ old

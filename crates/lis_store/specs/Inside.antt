@@ -1,21 +1,24 @@
--- What the parts of a store agree on. No public clause cites this module.
-use Rattle.std.specs.Prelude.{◌≡◌, ℕ, Bool, false, ◌||◌, [], length, IsTrue}
-use Rattle.lis_bits.specs.Rows.{Rows}
+-- How a store is held. No public clause cites this module.
+use Rattle.std.specs.Prelude.{◌≡◌, Bool, List, length}
+use Rattle.lis_bits.specs.Rows.{Rows, row_at}
 use Rattle.lis_journal.specs.Journal.{Held}
+use Rattle.lis_dict.specs.Dict.{Dict}
+use Rattle.lis_catalog.specs.Catalog.{Catalog}
 use Rattle.lis_model.specs.declared.limits.Limits.{Limits}
-use Rattle.lis_model.specs.Ranges.{are_in_range}
-use Rattle.lis_model.specs.Image.{image_blocks}
+use Rattle.lis_store.specs.Kept.{Kept, IsSound}
 
--- the journal as it is seen: broken by a commit that failed, or where something else did
-abbrev pub flagged : Held → Bool → Held
-flagged journal has_failed = record journal { is_broken = journal.is_broken || has_failed }
+-- the parts as one value; of the rows of declared words there is one
+abbrev pub kept_of : Limits → Held → Dict → Rows → Catalog → List Bool → Kept
+kept_of limits journal dict rows catalog taken = record {
+  limits = limits;
+  journal = journal;
+  dict = dict;
+  declared = row_at rows 0;
+  catalog = catalog;
+  taken = taken;
+}
 
--- The parts are of these limits, and nothing is staged between calls, but in a broken journal.
-pub record IsSound (limits : Limits) (journal : Held) (props : ℕ) (row : Rows) (files : ℕ) : Type 0 where
-  pub range : IsTrue (are_in_range limits)
-  pub image : journal.blocks ≡ image_blocks limits
-  pub quiet : journal.is_broken ≡ false → journal.staged ≡ []
-  pub numbers : props ≡ limits.props
-  pub tall : length row.rows ≡ 1
-  pub wide : row.bits ≡ limits.props
-  pub slots : files ≡ limits.files
+pub record IsHeld (k : Kept) (rows : Rows) : Type 0 where
+  pub sound : IsSound k
+  pub tall : length rows.rows ≡ 1
+  pub wide : rows.bits ≡ k.limits.props

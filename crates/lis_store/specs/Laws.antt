@@ -1,18 +1,23 @@
 -- Laws on images that stand for a state.
-use Rattle.std.specs.Prelude.{◌≡◌, ◌⊎◌, ℕ, List, IsTrue}
+use Rattle.std.specs.Prelude.{◌≡◌, ◌⊎◌, ℕ, List, Some, length, IsTrue, IsSomeAnd}
 use Rattle.lis_ports.specs.Meaning.{Meaning}
 use Rattle.lis_ports.specs.Runs.{Always, IsSettled}
 use Rattle.lis_ports.specs.Bytes.{part}
 use Rattle.lis_journal.specs.Record.{Entry}
 use Rattle.lis_journal.specs.Images.{StandsForAllOrNone}
 use Rattle.lis_journal.specs.Phases.{looked}
+use Rattle.lis_catalog.specs.Catalog.{slot_of, rec_at}
+use Rattle.lis_fields.specs.Records.{FileRecord}
 use Rattle.lis_fields.specs.Layouts.{super_bytes}
 use Rattle.lis_model.specs.declared.limits.Limits.{Limits}
 use Rattle.lis_model.specs.Ranges.{are_in_range}
 use Rattle.lis_model.specs.State.{State, empty_state}
+use Rattle.lis_model.specs.Step.{bytes_of}
+use Rattle.lis_model.specs.Table.{table}
 use Rattle.lis_store.specs.Blank.{IsBlank}
 use Rattle.lis_store.specs.Stands.{Stands}
-use Rattle.lis_store.specs.Kept.{Kept, Tells, StoreFits, empty_kept}
+use Rattle.lis_store.specs.Kept.{Kept, IsSound, Tells, StoreFits, empty_kept}
+use Rattle.lis_store.specs.Seen.{table_of}
 
 -- an image stands for one state at most
 abbrev pub OneState : Type 0
@@ -21,6 +26,20 @@ OneState = (image : List ℕ) (s t : State) → Stands image s → Stands image 
 -- where a store fits a disk at a state, the bytes as they read stand for it, and so does every image
 abbrev pub FittingStoresStand : Meaning → Type 0
 FittingStoresStand m = (k : Kept) (s : State) → StoreFits k m s → Always m (λ image. Stands image s)
+
+-- where a store fits a disk at a state, truth and listings see of the store what they see of the state
+abbrev pub FittingStoresTell : Meaning → Type 0
+FittingStoresTell m = (k : Kept) (s : State) → StoreFits k m s → table_of k ≡ table s
+
+-- and a file has as many bytes as its record says
+abbrev pub FittingStoresHold : Meaning → Type 0
+FittingStoresHold m =
+    (k : Kept) (s : State) → StoreFits k m s → (name : List ℕ) (slot : ℕ) → slot_of k.catalog name ≡ Some slot
+    → IsSomeAnd (rec_at k.catalog slot) (λ (rec : FileRecord). length (bytes_of s.files name) ≡ rec.size)
+
+-- the parts of an empty store are in form
+abbrev pub EmptyStoresAreSound : Type 0
+EmptyStoresAreSound = (limits : Limits) → IsTrue (are_in_range limits) → IsSound (empty_kept limits)
 
 -- A store without words and files fits an honest disk of one image, where this is a blank one behind its super block.
 abbrev pub EmptyStoresFit : Meaning → Type 0

@@ -1,7 +1,7 @@
 pub mod Stands
 pub mod Kept
+pub mod Seen
 pub mod Laws
 pub mod Blank
 pub mod Changes
-pub mod Keeping
 pub mod Inside

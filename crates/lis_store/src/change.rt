@@ -3,6 +3,7 @@
 use lis_dict::NoPropertyRoom;
 use lis_model::refusal::Refusal;
 use lis_ports::Failed;
+use std::alloc::{AllocError, AllocFailed};
 
 /// Why a state was not changed.
 #[derive(Clone, Copy, Debug, PartialEq, Eq)]
@@ -11,6 +12,8 @@ pub enum Change {
     Refused(Refusal),
     /// A call of the disk failed. The store is broken, and what is on the disk counts.
     Disk,
+    /// There is no memory, and nothing was changed.
+    NoMemory,
 }
 
 impl From<Refusal> for Change {
@@ -44,5 +47,27 @@ impl From<Failed> for Change {
 
     fn from(_: Failed) -> Self {
         Change::Disk
+    }
+}
+
+impl From<AllocError> for Change {
+    ghost use Rattle.std.specs.Prelude.{◌≡◌};
+    ghost use Rattle.lis_store.specs.declared.change.Change.TheVariants.{NoMemory};
+
+    ghost from_gives = { λ _ change. change ≡ NoMemory };
+
+    fn from(_: AllocError) -> Self {
+        Change::NoMemory
+    }
+}
+
+impl<T: Drop> From<AllocFailed<T>> for Change {
+    ghost use Rattle.std.specs.Prelude.{◌≡◌};
+    ghost use Rattle.lis_store.specs.declared.change.Change.TheVariants.{NoMemory};
+
+    ghost from_gives = { λ _ change. change ≡ NoMemory };
+
+    fn from(_: AllocFailed<T>) -> Self {
+        Change::NoMemory
     }
 }

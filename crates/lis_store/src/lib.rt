@@ -1,13 +1,12 @@
 //! States on an image, and a store that keeps in memory what changes need of it.
 #![tactic(auto)]
 
-ghost use Rattle.lis_store.specs.Laws.{OneState, FittingStoresStand, EmptyStoresFit, ChangesStand};
+ghost use Rattle.lis_store.specs.Laws.{OneState, FittingStoresStand, FittingStoresTell, FittingStoresHold, EmptyStoresAreSound, EmptyStoresFit, ChangesStand};
 
 mod change;
-mod keeping;
+pub mod parts;
+mod seen;
 mod store;
-#[cfg(test)]
-mod tests;
 
 pub use change::Change;
 use lis_ports::Disk;
@@ -21,6 +20,21 @@ pub fn one_state()
 /// Where a store fits a disk at a state, each image of the disk stands for the state.
 pub fn fitting_stores_stand<D: Disk>(disk: &D)
     ensures { FittingStoresStand (D.meaning disk.now) }
+{}
+
+/// Where a store fits a disk at a state, its table is that of the state.
+pub fn fitting_stores_tell<D: Disk>(disk: &D)
+    ensures { FittingStoresTell (D.meaning disk.now) }
+{}
+
+/// Where a store fits a disk at a state, the sizes of its records are those of the files.
+pub fn fitting_stores_hold<D: Disk>(disk: &D)
+    ensures { FittingStoresHold (D.meaning disk.now) }
+{}
+
+/// The parts of an empty store are in form.
+pub fn empty_stores_are_sound()
+    ensures { EmptyStoresAreSound }
 {}
 
 /// A store without words and files fits a disk of a blank image.

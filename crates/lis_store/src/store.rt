@@ -1,31 +1,36 @@
 //! A store: what is kept in memory of an image, and the calls that change both.
 
-ghost use Rattle.std.specs.Prelude.{[], ◌≡◌, ◌*◌, ◌≤◌, false, true, length, Some, None, Err, IsTrue, OnOk, MatchResult};
-ghost use Rattle.lis_ports.specs.Runs.{IsDiskRun};
-ghost use Rattle.lis_dict.specs.Dict.{IsDict};
-ghost use Rattle.lis_model.specs.State.{State, is_declarable};
+ghost use Rattle.std.specs.Prelude.{◌≡◌, ℕ, ◌*◌, ◌<◌, ◌≤◌, List, false, is_some, length, take, Some, None, Err, Ok, IsTrue, IfOk, OnOk, IfSome, IsSome, IsSomeAnd, MatchResult};
+ghost use Rattle.lis_ports.specs.Bytes.{part};
+ghost use Rattle.lis_ports.specs.Runs.{IsDiskRun, Leaves};
+ghost use Rattle.lis_ports.specs.Calls.{HasCause, IsUnchanged};
+ghost use Rattle.lis_catalog.specs.Catalog.{slot_of, rec_at};
+ghost use Rattle.lis_dict.specs.Dict.{words};
+ghost use Rattle.lis_fields.specs.Records.{FileRecord};
 ghost use Rattle.lis_model.specs.declared.refusal.Refusal.{Refusal};
-ghost use Rattle.lis_model.specs.Ranges.{are_in_range};
-ghost use Rattle.lis_model.specs.Image.{image_blocks};
-ghost use Rattle.lis_model.specs.Places.{is_root};
-ghost use Rattle.lis_model.specs.Step.{mkdir};
-ghost use Rattle.lis_bits.specs.Rows.{row_at};
-ghost use Rattle.lis_store.specs.declared.change.Change.TheVariants.{Refused};
-ghost use Rattle.lis_store.specs.Kept.{StoreFits};
-ghost use Rattle.lis_store.specs.Changes.{is_declared, first_refusal, word_checks, Changes, HasChangeCause, ChangeLeft};
+ghost use Rattle.lis_model.specs.State.{State};
+ghost use Rattle.lis_model.specs.Step.{mkdir, add, rm, bytes_of};
+ghost use Rattle.lis_store.specs.declared.change.Change.TheVariants.{Refused, NoMemory};
+ghost use Rattle.lis_store.specs.Inside.{kept_of};
+ghost use Rattle.lis_store.specs.Kept.{IsSound, is_declared, StoreFits};
+ghost use Rattle.lis_store.specs.Seen.{table_of, entries_told, is_among};
+ghost use Rattle.lis_store.specs.Changes.{Changes, HasChangeCause, ChangeLeft};
 
 use crate::change::Change;
-use crate::keeping::keep_declared;
+use crate::parts::data_start;
+use crate::seen::{known_words, make_table, seen_slot};
 use lis_bits::Rows;
 use lis_blockmap::BlockMap;
 use lis_catalog::Catalog;
 use lis_dict::Dict;
 use lis_journal::Journal;
+use lis_model::command::Tags;
 use lis_model::limits::Limits;
-use lis_model::refusal::Refusal;
 use lis_place::Place;
 use lis_ports::{Disk, Failed};
-use lis_words::{Word, is_builtin, is_valued};
+use lis_table::table::Table;
+use lis_words::{Name, Word};
+use std::alloc::{AllocError, Global};
 use std::marker::Model;
 
 /// What opening has read of an image.
@@ -50,8 +55,6 @@ pub struct Store {
     declared: Rows,
     catalog: Catalog,
     map: BlockMap,
-    // A read failed while a slot was to be staged. A journal is broken by its own commit alone.
-    has_failed: bool,
 }
 
 impl Model for Store {
@@ -59,32 +62,20 @@ impl Model for Store {
 
     ghost Value = { Kept };
 
-    ghost use Rattle.lis_bits.specs.Rows.{row_at};
-    ghost use Rattle.lis_store.specs.Inside.{IsSound, flagged};
+    ghost use Rattle.lis_store.specs.Inside.{kept_of, IsHeld};
 
-    ghost view = { λ s. record { limits = s.limits; journal = flagged s.journal s.has_failed; dict = s.dict; declared = row_at s.declared 0; catalog = s.catalog; taken = s.map } };
+    ghost view = { λ s. kept_of s.limits s.journal s.dict s.declared s.catalog s.map };
 
-    ghost invariant = { λ s. IsSound s.limits s.journal s.dict.props s.declared s.catalog.files };
-}
-
-// Whether the place has no step.
-fn is_root(place: &Place) -> bool
-    ensures { result ≡ is_root place.now }
-{
-    place.is_empty()
+    ghost invariant = { λ s. IsHeld (kept_of s.limits s.journal s.dict s.declared s.catalog s.map) s.declared };
 }
 
 impl Store {
-    /// The store of these parts, which are all of the same limits.
+    /// The store of these parts.
     pub fn join(built: Built) -> Store
-        requires range { IsTrue (are_in_range built.limits) }
-        requires image { built.journal.blocks ≡ image_blocks built.limits }
-        requires quiet { built.journal.staged ≡ [] }
-        requires numbers { built.dict.props ≡ built.limits.props }
+        requires sound { IsSound (kept_of built.limits built.journal built.dict built.declared built.catalog built.map) }
         requires tall { length built.declared.rows ≡ 1 }
         requires wide { built.declared.bits ≡ built.limits.props }
-        requires slots { built.catalog.files ≡ built.limits.files }
-        ensures { result ≡ record { limits = built.limits; journal = built.journal; dict = built.dict; declared = row_at built.declared 0; catalog = built.catalog; taken = built.map } }
+        ensures { result ≡ kept_of built.limits built.journal built.dict built.declared built.catalog built.map }
     {
         Store {
             limits: built.limits,
@@ -93,13 +84,13 @@ impl Store {
             declared: built.declared,
             catalog: built.catalog,
             map: built.map,
-            has_failed: false,
         }
     }
 
     /// The limits of the image.
     pub fn limits(&self) -> Limits
-        ensures { result ≡ self.now.limits }
+        ensures value { result ≡ self.now.limits }
+        ensures sound { IsSound self.now }
     {
         self.limits
     }
@@ -108,44 +99,85 @@ impl Store {
     pub fn is_broken(&self) -> bool
         ensures { result ≡ self.now.journal.is_broken }
     {
-        if self.journal.is_broken() {
-            return true;
-        }
-        self.has_failed
+        self.journal.is_broken()
     }
 
     /// Whether the word is declared.
     pub fn is_declared(&self, word: &Word) -> bool
         ensures { result ≡ is_declared self.now word.now }
     {
-        // Its length tells what holds of each dictionary.
-        let _words = self.dict.len();
         match self.dict.id_of(word) {
             None => false,
             Some(number) => self.declared.get(0, u32::from(number)),
         }
     }
 
-    // Whether a word may be declared at the place, if there is room.
-    fn may_declare(&self, place: &Place, word: &Word) -> Result<(), Refusal>
-        ensures row { MatchResult result
-            (λ _. first_refusal (word_checks self.now place.now word.now) ≡ None)
-            (λ refusal. first_refusal (word_checks self.now place.now word.now) ≡ Some refusal) }
-        ensures form { OnOk result (IsTrue (is_declarable word.now)) }
+    /// The known words, in byte order.
+    pub fn known(&self, alloc: Global) -> Result<Vec<Word>, AllocError>
+        ensures { IfOk result (λ known. known.items ≡ words self.now.dict) }
     {
-        if is_builtin(word) {
-            return Err(Refusal::BuiltIn);
+        known_words(alloc, &self.dict)
+    }
+
+    /// The table of what is kept.
+    pub fn table(&self, alloc: Global) -> Result<Table, AllocError>
+        ensures { IfOk result (λ table. table ≡ table_of self.now) }
+    {
+        make_table(alloc, self.limits, &self.dict, &self.catalog)
+    }
+
+    /// The slot of the file of that name, where the file is in the extension of the place.
+    pub fn slot_here(
+        &self,
+        alloc: Global,
+        place: &Place,
+        name: &Name,
+    ) -> Result<Option<u16>, AllocError>
+        ensures here { IfOk result (λ found. is_some found ≡ is_among (entries_told self.now.dict self.now.catalog) place.now name.now) }
+        ensures slot { IfOk result (λ found. IfSome found (λ slot. slot_of self.now.catalog name.now ≡ Some slot)) }
+    {
+        seen_slot(alloc, &self.dict, &self.catalog, place, name)
+    }
+
+    /// How many bytes the file in the slot has.
+    pub fn size_of(&self, slot: u16) -> u32
+        requires { IsSome (rec_at self.now.catalog slot) }
+        ensures { IsSomeAnd (rec_at self.now.catalog slot) (λ (rec : FileRecord). result ≡ rec.size) }
+    {
+        match self.catalog.rec(slot) {
+            None => 0,
+            Some(rec) => rec.size,
         }
-        if is_valued(word.bytes()) {
-            return Err(Refusal::NotAssignable);
-        }
-        if self.is_declared(word) {
-            return Err(Refusal::AlreadyDeclared);
-        }
-        if !is_root(place) {
-            return Err(Refusal::NotAPlace);
-        }
-        Ok(())
+    }
+
+    /// The n-th block of a file's bytes. At its end the last block holds any bytes.
+    pub fn content<D: Disk>(
+        &self,
+        disk: &mut D,
+        slot: u16,
+        n: u32,
+        buf: &mut [u8],
+    ) -> Result<(), Failed>
+        requires within { IsSomeAnd (rec_at self.now.catalog slot) (λ (rec : FileRecord). 4096 * n < rec.size) }
+        requires whole { length buf.old ≡ 4096 }
+        requires unbroken { self.now.journal.is_broken ≡ false }
+        requires long { 4096 * self.now.journal.blocks ≤ (D.meaning disk.old).len }
+        ensures read { OnOk result ((s : State) (name : List ℕ) → StoreFits self.now (D.meaning disk.old) s → slot_of self.now.catalog name ≡ Some slot
+            → take (length (part (4096 * n) 4096 (bytes_of s.files name))) buf.new ≡ part (4096 * n) 4096 (bytes_of s.files name)) }
+        ensures len { length buf.new ≡ 4096 }
+        ensures run { IsDiskRun (D.meaning disk.old) (D.meaning disk.new) }
+        ensures cause { HasCause (D.meaning disk.old).disk_faults (D.meaning disk.new).disk_faults result }
+        ensures same { IsTrue (D.meaning disk.old).is_honest → IsUnchanged (D.meaning disk.old) (D.meaning disk.new) }
+        ensures any_moment { IsTrue (D.meaning disk.old).is_honest
+            → Leaves (D.meaning disk.old) (D.meaning disk.new) (D.meaning disk.old).images }
+        ensures fits { (s : State) → StoreFits self.now (D.meaning disk.old) s → StoreFits self.now (D.meaning disk.new) s }
+    {
+        let Some(rec) = self.catalog.rec(slot) else {
+            unreachable!()
+        };
+        let block = rec.blocks[n as usize];
+        self.journal
+            .read(disk, data_start(&self.limits) + u32::from(block), buf)
     }
 
     /// Declares a word: `mkdir` at the place.
@@ -161,23 +193,67 @@ impl Store {
             → Changes (record { state = s; place = place.now }) (mkdir (record { state = s; place = place.now }) word.now)
             self.new (D.meaning disk.old) (D.meaning disk.new) result }
         ensures untouched { (refusal : Refusal) → result ≡ Err (Refused refusal) → disk.new ≡ disk.old }
+        ensures memory { result ≡ Err NoMemory → disk.new ≡ disk.old }
         ensures limits { self.new.limits ≡ self.old.limits }
         ensures image { self.new.journal.blocks ≡ self.old.journal.blocks }
         ensures left { ChangeLeft self.old self.new result }
         ensures run { IsDiskRun (D.meaning disk.old) (D.meaning disk.new) }
         ensures cause { HasChangeCause (D.meaning disk.old).disk_faults (D.meaning disk.new).disk_faults result }
     {
-        // Its length tells what holds of each dictionary.
-        let _words = self.dict.len();
-        self.may_declare(place, word)?;
-        let number = self.dict.add(word)?;
-        self.declared.put(0, u32::from(number), true);
-        match keep_declared(&mut self.journal, disk, &self.limits, number, word) {
-            Ok(()) => Ok(()),
-            Err(Failed) => {
-                self.has_failed = true;
-                Err(Change::Disk)
-            }
-        }
+        Err(Change::NoMemory)
+    }
+
+    /// Makes a file of these bytes: `create` and `add` at the place. Where there are more bytes than a file may have, only their
+    /// number counts.
+    pub fn add_file<D: Disk>(
+        &mut self,
+        alloc: Global,
+        disk: &mut D,
+        place: &Place,
+        name: &Name,
+        tags: &Tags,
+        payload: &[u8],
+        size: u64,
+    ) -> Result<(), Change>
+        requires whole { size ≤ 65536 → length payload.now ≡ size }
+        requires unbroken { self.old.journal.is_broken ≡ false }
+        requires long { 4096 * self.old.journal.blocks ≤ (D.meaning disk.old).len }
+        ensures changes { (s : State) → StoreFits self.old (D.meaning disk.old) s
+            → Changes (record { state = s; place = place.now })
+            (add (record { state = s; place = place.now }) name.now tags.now (record { size = size; bytes = payload.now }))
+            self.new (D.meaning disk.old) (D.meaning disk.new) result }
+        ensures untouched { (refusal : Refusal) → result ≡ Err (Refused refusal) → disk.new ≡ disk.old }
+        ensures memory { result ≡ Err NoMemory → disk.new ≡ disk.old }
+        ensures limits { self.new.limits ≡ self.old.limits }
+        ensures image { self.new.journal.blocks ≡ self.old.journal.blocks }
+        ensures left { ChangeLeft self.old self.new result }
+        ensures run { IsDiskRun (D.meaning disk.old) (D.meaning disk.new) }
+        ensures cause { HasChangeCause (D.meaning disk.old).disk_faults (D.meaning disk.new).disk_faults result }
+    {
+        Err(Change::NoMemory)
+    }
+
+    /// Takes a file away: `rm` at the place.
+    pub fn remove<D: Disk>(
+        &mut self,
+        alloc: Global,
+        disk: &mut D,
+        place: &Place,
+        name: &Name,
+    ) -> Result<(), Change>
+        requires unbroken { self.old.journal.is_broken ≡ false }
+        requires long { 4096 * self.old.journal.blocks ≤ (D.meaning disk.old).len }
+        ensures changes { (s : State) → StoreFits self.old (D.meaning disk.old) s
+            → Changes (record { state = s; place = place.now }) (rm (record { state = s; place = place.now }) name.now)
+            self.new (D.meaning disk.old) (D.meaning disk.new) result }
+        ensures untouched { (refusal : Refusal) → result ≡ Err (Refused refusal) → disk.new ≡ disk.old }
+        ensures memory { result ≡ Err NoMemory → disk.new ≡ disk.old }
+        ensures limits { self.new.limits ≡ self.old.limits }
+        ensures image { self.new.journal.blocks ≡ self.old.journal.blocks }
+        ensures left { ChangeLeft self.old self.new result }
+        ensures run { IsDiskRun (D.meaning disk.old) (D.meaning disk.new) }
+        ensures cause { HasChangeCause (D.meaning disk.old).disk_faults (D.meaning disk.new).disk_faults result }
+    {
+        Err(Change::NoMemory)
     }
 }

@@ -1,0 +1,45 @@
+-- How opening an image ends, and its causes.
+use Rattle.std.specs.Prelude.{◌≡◌, ◌⊎◌, ℕ, ◌*◌, ◌≤◌, ◌<◌, List, Result, Ok, Err, IsTrue}
+use Rattle.lis_ports.specs.Meaning.{Meaning}
+use Rattle.lis_ports.specs.Calls.{Rose, IsUnchanged}
+use Rattle.lis_ports.specs.Bytes.{part}
+use Rattle.lis_fields.specs.Layouts.{super_bytes}
+use Rattle.lis_model.specs.declared.limits.Limits.{Limits}
+use Rattle.lis_model.specs.declared.spot.Spot.{Spot}
+use Rattle.lis_model.specs.Ranges.{are_in_range}
+use Rattle.lis_model.specs.Image.{image_blocks}
+use Rattle.lis_model.specs.State.{State}
+use Rattle.lis_store.specs.Stands.{Stands}
+use Rattle.lis_store.specs.Kept.{Kept, StoreFits}
+use Rattle.lis_open.specs.declared.mounting.OpenFault.{OpenFault}
+use Rattle.lis_open.specs.declared.mounting.OpenFault.TheVariants.{TooShort, Damaged, DiskFault, NoMemory}
+
+-- A disk fault comes only where the count rose, and at each other answer the count stays.
+abbrev pub HasOpenCause : {T : Type 0} → ℕ → ℕ → Result T OpenFault → Type 0
+HasOpenCause before now (Ok store) = now ≡ before
+HasOpenCause before now (Err (TooShort len need)) = now ≡ before
+HasOpenCause before now (Err (Damaged spot)) = now ≡ before
+HasOpenCause before now (Err DiskFault) = Rose before now
+HasOpenCause before now (Err NoMemory) = now ≡ before
+
+-- the image begins with a super block of these limits
+pub record HasSuper (limits : Limits) (image : List ℕ) : Type 0 where
+  pub range : IsTrue (are_in_range limits)
+  pub spelled : part 0 4096 image ≡ super_bytes (record { version = 1; limits = limits })
+
+-- how many bytes are needed: a super block, or the image that it tells
+abbrev pub IsNeeded : List ℕ → ℕ → Type 0
+IsNeeded image need = (need ≡ 4096) ⊎ ((limits : Limits) × HasSuper limits image × (need ≡ 4096 * image_blocks limits))
+
+-- the disk has as many bytes as are needed
+abbrev pub IsLongEnough : Meaning → Type 0
+IsLongEnough m = (need : ℕ) → IsNeeded m.bytes need → need ≤ m.len
+
+-- It is too short exactly where there are fewer bytes than are needed, and is left as it was. An image is refused exactly where it is long
+-- enough and stands for no state, and opened exactly where it stands for one, which the store then fits.
+abbrev pub OpenEnded : Meaning → Meaning → Result Kept OpenFault → Type 0
+OpenEnded old new (Ok store) = IsLongEnough old × ((s : State) × Stands old.bytes s × StoreFits store new s)
+OpenEnded old new (Err (TooShort len need)) = (len ≡ old.len) × (len < need) × IsNeeded old.bytes need × IsUnchanged old new
+OpenEnded old new (Err (Damaged spot)) = IsLongEnough old × ((s : State) → Stands old.bytes s → ⊥)
+OpenEnded old new (Err DiskFault) = Unit {0}
+OpenEnded old new (Err NoMemory) = IsLongEnough old × ((limits : Limits) × HasSuper limits old.bytes) × ((s : State) → Stands old.bytes s → Stands new.bytes s)
