@@ -9,33 +9,24 @@ use Rattle.lis_words.specs.Words.{word_cmp}
 use Rattle.lis_grammar.specs.Formula.{Formula}
 use Rattle.lis_model.specs.declared.limits.Limits.{Limits}
 use Rattle.lis_model.specs.Sets.{with_words}
-use Rattle.lis_model.specs.State.{File, file_cmp, file_words, up}
+use Rattle.lis_model.specs.State.{File, file_cmp, file_words}
 use Rattle.lis_model.specs.Listing.{holds_all, is_increment, is_local}
 use Rattle.lis_model.specs.Replies.{listing_lines, ok_line}
 use Rattle.lis_model.specs.Step.{Situation, ls}
 use Rattle.lis_model.specs.Table.{Table, Entry, entry_of, table}
-use Rattle.lis_plain.specs.Places.{entry_cmp}
+use Rattle.lis_table.specs.Tables.{table_of, table_with}
+use Rattle.lis_plain.specs.Entries.{entry_cmp}
 
 pub words_of_entries : (files : List File) → flat_map (λ (e : Entry). e.words) (map (entry_of []) files) ≡ flat_map (file_words []) files
 words_of_entries [] = refl
 words_of_entries (file ∷ files) = ap (λ words. file_words [] file ++ words) (words_of_entries files)
 
-abbrev with_parts : Limits → List (List ℕ) → List Entry → List (List ℕ × List (List ℕ)) → Table
-with_parts limits known files entailed = record { limits = limits; known = known; files = files; entailed = entailed }
-
--- a table made part by part
-pub table_made : (limits : Limits) (declared known told : List (List ℕ)) (files : List File) (entries seen : List Entry) (entailed : List (List ℕ × List (List ℕ)))
-    → entries ≡ map (entry_of []) files → seen ≡ entries → known ≡ with_words declared (flat_map (λ (e : Entry). e.words) seen) → told ≡ known
-    → entailed ≡ map (λ p. (p, up [] p)) told
-    → with_parts limits known entries entailed ≡ table (record { limits = limits; declared = declared; axioms = []; files = files })
-table_made limits declared known told files entries seen entailed are same is as_told all =
-    let words : known ≡ with_words declared (flat_map (file_words []) files) =
-    is ∙ ap (λ es. with_words declared (flat_map (λ (e : Entry). e.words) es)) (same ∙ are) ∙ ap (with_words declared) (words_of_entries files) in
-    let ups : entailed ≡ map (λ p. (p, up [] p)) (with_words declared (flat_map (file_words []) files)) =
-    all ∙ ap (λ ws. map (λ p. (p, up [] p)) ws) (as_told ∙ words) in
-    ap (λ ws. with_parts limits ws entries entailed) words
-    ∙ ap (λ es. with_parts limits (with_words declared (flat_map (file_words []) files)) es entailed) are
-    ∙ ap (λ us. with_parts limits (with_words declared (flat_map (file_words []) files)) (map (entry_of []) files) us) ups
+-- a table put together from the entries of files
+pub table_made : (limits : Limits) (declared : List (List ℕ)) (files : List File) (entries : List Entry) → entries ≡ map (entry_of []) files
+    → table_of limits declared entries ≡ table (record { limits = limits; declared = declared; axioms = []; files = files })
+table_made limits declared files entries are =
+    ap (table_of limits declared) are
+    ∙ ap (λ words. table_with limits (with_words declared words) (map (entry_of []) files)) (words_of_entries files)
 
 pub known_is : (declared known : List (List ℕ)) (files : List File) (entries seen : List Entry) → entries ≡ map (entry_of []) files → seen ≡ entries
     → known ≡ with_words declared (flat_map (λ (e : Entry). e.words) seen) → known ≡ with_words declared (flat_map (file_words []) files)

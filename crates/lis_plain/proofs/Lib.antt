@@ -1,6 +1,2 @@
-mod Places
 mod Entries
-mod Stacks
-mod PlaceWords
-mod KnownWords
 mod Rows

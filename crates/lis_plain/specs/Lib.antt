@@ -1,4 +1,2 @@
 pub mod Carries
-pub mod Places
-pub mod Truth
-pub mod Tags
+pub mod Entries

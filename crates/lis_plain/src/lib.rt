@@ -4,11 +4,7 @@
 mod content;
 pub mod end;
 mod file;
-mod listing;
-mod moving;
 pub mod plain;
 mod room;
 mod sets;
 mod table;
-mod tags;
-mod truth;

@@ -7,12 +7,15 @@ ghost use Rattle.std.specs.Ordering.{is_gt};
 ghost use Rattle.lis_words.specs.Words.{is_head, is_built_in};
 ghost use Rattle.lis_model.specs.Sets.{with_word, with_words};
 ghost use Rattle.lis_model.specs.State.{file_words, file_cmp};
-ghost use Rattle.lis_plain.specs.Places.{first_is, entry_cmp};
+ghost use Rattle.lis_table.specs.Places.{first_is};
+ghost use Rattle.lis_plain.specs.Entries.{entry_cmp};
 
-use crate::file::{Entry, File};
-use crate::sets::{copies, insert_word};
-use crate::table::{all_entries, entry_of, known_words};
+use crate::file::File;
+use crate::table::{all_entries, entry_of};
 use lis_model::limits::Limits;
+use lis_table::entry::Entry;
+use lis_table::table::known_words;
+use lis_table::words::{copies, insert_word};
 use lis_words::{Word, is_builtin, is_head};
 use std::alloc::{AllocError, Global};
 

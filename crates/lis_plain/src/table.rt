@@ -1,50 +1,14 @@
-//! The table of a state: known words, what they entail, and each file's description.
+//! The table of a state, with each file's description.
 
-ghost use Rattle.std.specs.Prelude.{◌≡◌, ℕ, ◌≤◌, List, [], ◌∷◌, ◌++◌, length, map, IfOk, OnOk, OnErr};
-ghost use Rattle.lis_model.specs.Sets.{with_words};
-ghost use Rattle.lis_model.specs.State.{up, file_words, heads};
-ghost use Rattle.lis_model.specs.Table.{Entry, entry_of, table};
-ghost use Rattle.std.specs.List.{flat_map};
+ghost use Rattle.std.specs.Prelude.{◌≡◌, [], map, IfOk};
+ghost use Rattle.lis_model.specs.Table.{entry_of, table};
 
-use crate::file::{Entailed, Entry, File};
-use crate::sets::{copies, insert_word};
+use crate::file::File;
 use lis_model::limits::Limits;
-use lis_words::{Word, head_of};
+use lis_table::entry::{Entry, described};
+use lis_table::table::{Table, table_of};
+use lis_words::Word;
 use std::alloc::{AllocError, Global};
-use std::marker::Model;
-
-/// Puts each of the words into the set.
-pub fn insert_words(words: &mut Vec<Word>, more: &[Word]) -> Result<(), AllocError>
-    ensures ok { OnOk result (words.new.items ≡ with_words words.old.items more.now) }
-{
-    for word in more {
-        insert_word(words, word)?;
-    }
-    Ok(())
-}
-
-/// What a word entails, without axioms: itself, and its head where it is valued.
-pub fn ups(alloc: Global, word: &Word) -> Result<Vec<Word>, AllocError>
-    ensures { IfOk result (λ words. words.items ≡ up [] word.now) }
-{
-    let mut words = Vec::new(alloc);
-    insert_word(&mut words, word)?;
-    if let Some(head) = head_of(word) {
-        insert_word(&mut words, &head)?;
-    }
-    Ok(words)
-}
-
-fn described(alloc: Global, assigned: &[Word]) -> Result<Vec<Word>, AllocError>
-    ensures { IfOk result (λ words. words.items ≡ with_words [] (flat_map (up []) assigned.now)) }
-{
-    let mut words = Vec::new(alloc);
-    for word in assigned {
-        let above = ups(alloc, word)?;
-        insert_words(&mut words, &above)?;
-    }
-    Ok(words)
-}
 
 /// A file with its description.
 pub fn entry_of(alloc: Global, file: &File) -> Result<Entry, AllocError>
@@ -55,24 +19,6 @@ pub fn entry_of(alloc: Global, file: &File) -> Result<Entry, AllocError>
         size: file.bytes.len() as u64,
         words: described(alloc, &file.assigned)?,
     })
-}
-
-/// The table of a state.
-#[derive(Drop)]
-pub struct Table {
-    pub limits: Limits,
-    /// A set, in byte order.
-    pub known: Vec<Word>,
-    pub files: Vec<Entry>,
-    pub entailed: Vec<Entailed>,
-}
-
-impl Model for Table {
-    ghost use Rattle.lis_model.specs.Table.{Table as Told};
-
-    ghost Value = { Told };
-
-    ghost view = { λ t. record { limits = t.limits; known = t.known.items; files = t.files.items; entailed = t.entailed.items } };
 }
 
 /// All files with their descriptions.
@@ -86,35 +32,6 @@ pub fn all_entries(alloc: Global, files: &[File]) -> Result<Vec<Entry>, AllocErr
     Ok(entries)
 }
 
-/// The declared words and all descriptions.
-pub fn known_words(
-    alloc: Global,
-    declared: &[Word],
-    files: &[Entry],
-) -> Result<Vec<Word>, AllocError>
-    ensures { IfOk result (λ known. known.items ≡ with_words declared.now (flat_map (λ (e : Entry). e.words) files.now)) }
-{
-    let mut known = copies(alloc, declared)?;
-    for file in files {
-        insert_words(&mut known, &file.words)?;
-    }
-    Ok(known)
-}
-
-fn all_ups(alloc: Global, known: &[Word]) -> Result<Vec<Entailed>, AllocError>
-    ensures { IfOk result (λ entailed. entailed.items ≡ map (λ p. (p, up [] p)) known.now) }
-{
-    let mut entailed = Vec::new(alloc);
-    for word in known {
-        let above = ups(alloc, word)?;
-        entailed.push(Entailed {
-            word: word.copied(),
-            above,
-        })?;
-    }
-    Ok(entailed)
-}
-
 /// The table of a state without axioms, with these declared words and files.
 pub fn make_table(
     alloc: Global,
@@ -125,12 +42,5 @@ pub fn make_table(
     ensures { IfOk result (λ made. made ≡ table (record { limits = limits; declared = declared.now; axioms = []; files = files.now })) }
 {
     let files = all_entries(alloc, files)?;
-    let known = known_words(alloc, declared, &files)?;
-    let entailed = all_ups(alloc, &known)?;
-    Ok(Table {
-        limits,
-        known,
-        files,
-        entailed,
-    })
+    table_of(alloc, limits, declared, files)
 }

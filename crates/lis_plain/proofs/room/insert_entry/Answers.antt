@@ -1,6 +1,6 @@
 use Rattle.std.proofs.Common.{◌∙◌, sym}
-use Rattle.lis_plain.specs.Places.{entry_cmp}
-use Rattle.lis_plain.proofs.Places.{at_place, place_within, insert_there, insert_at}
+use Rattle.lis_plain.specs.Entries.{entry_cmp}
+use Rattle.lis_table.proofs.Places.{at_place, place_within, insert_there, insert_at}
 use Rattle.lis_plain.proofs.room.insert_entry.Goals as goal
 
 pub split_at-requires : goal.split_at-requires

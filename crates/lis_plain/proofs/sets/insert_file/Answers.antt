@@ -1,6 +1,6 @@
 use Rattle.std.proofs.Common.{◌∙◌, sym}
 use Rattle.lis_model.specs.State.{file_cmp}
-use Rattle.lis_plain.proofs.Places.{at_place, place_within, insert_there, insert_at}
+use Rattle.lis_table.proofs.Places.{at_place, place_within, insert_there, insert_at}
 use Rattle.lis_plain.proofs.sets.insert_file.Goals as goal
 
 pub split_at-requires : goal.split_at-requires

@@ -1,7 +1,0 @@
-use Rattle.std.proofs.Common.{◌≡◌, ◌≤◌, [], length, take}
-use Rattle.std.specs.List.{fold}
-use Rattle.lis_plain.specs.Truth.{with_value}
-use Rattle.lis_plain.proofs.truth.values_of.Given as goal
-
-abbrev pub invariant-loop-node : goal.invariant-loop-node
-invariant-loop-node l = (l.values ≡ fold (with_value l.file) [] (take l.node-index l.nodes)) × (length l.values ≤ l.node-index)

@@ -1,0 +1,4 @@
+pub mod Places
+mod Stacks
+mod PlaceWords
+mod KnownWords

@@ -1,0 +1,4 @@
+pub mod Places
+pub mod Truth
+pub mod Tags
+pub mod Tables

@@ -1,0 +1,49 @@
+//! What leads from a place to another.
+
+ghost use Rattle.std.specs.Prelude.{◌≡◌, List};
+ghost use Rattle.std.specs.List.{list_all};
+ghost use Rattle.lis_words.specs.Words.{has_word};
+ghost use Rattle.lis_grammar.specs.Formula.{Formula};
+ghost use Rattle.lis_grammar.specs.Places.{resolved, text_words};
+ghost use Rattle.lis_grammar.specs.Places.Resolution.{NewPlace};
+ghost use Rattle.lis_place.specs.Nodes.{node_words};
+ghost use Rattle.lis_model.specs.Places.{is_root};
+
+use crate::words::has_word;
+use lis_formula::read_formula;
+use lis_place::{Node, Place};
+use lis_words::Word;
+
+/// Whether the place has no step.
+pub fn is_root(place: &Place) -> bool
+    ensures { result ≡ is_root place.now }
+{
+    place.is_empty()
+}
+
+/// Whether the word of the node is known, where it has one.
+pub fn is_known(known: &[Word], node: &Node) -> bool
+    ensures { result ≡ list_all (has_word known.now) (node_words node.now) }
+{
+    match node {
+        Node::Word(word) => has_word(known, word),
+        _ => true,
+    }
+}
+
+/// Whether all words of the nodes are known.
+pub fn are_known(known: &[Word], nodes: &[Node]) -> bool
+    ensures { result ≡ list_all (λ node. list_all (has_word known.now) (node_words node)) nodes.now }
+{
+    nodes.iter().all(|node| is_known(known, node))
+}
+
+/// Whether each word that the text names is known, where the text leads from some place to another. The text `..` names none.
+pub fn knows_text(known: &[Word], text: &[u8]) -> bool
+    ensures { (place new : List Formula) → resolved place text.now ≡ NewPlace new → result ≡ list_all (has_word known.now) (text_words text.now) }
+{
+    match read_formula(text) {
+        Ok(path) => are_known(known, path.place.nodes()),
+        Err(_) => true,
+    }
+}

@@ -1,0 +1,123 @@
+//! The files of a place.
+
+ghost use Rattle.std.specs.Prelude.{◌≡◌, ℕ, ◌+◌, ◌<◌, ◌≤◌, Bool, List, [], ◌∷◌, filter, fold, length, IfOk};
+ghost use Rattle.std.specs.List.{list_all};
+ghost use Rattle.lis_model.specs.Listing.{holds_all};
+ghost use Rattle.lis_table.specs.Truth.{last_value, below_last, with_value};
+
+use crate::entry::Entry;
+use crate::words::has_word;
+use arrayvec::ArrayVec;
+use lis_place::{Node, Place};
+use std::alloc::{AllocError, Global};
+use std::marker::Model;
+
+// Truth values of trees, seen as a stack, the last first.
+#[derive(Drop)]
+struct Values {
+    held: ArrayVec<bool, 64>,
+}
+
+impl Model for Values {
+    ghost use Rattle.std.specs.Prelude.{Bool, List, reverse};
+
+    ghost Value = { List Bool };
+
+    ghost view = { λ v. reverse v.held.items };
+}
+
+fn are_all_true(values: &[bool]) -> bool
+    ensures { result ≡ list_all (λ value. value) values.now }
+{
+    values.iter().all(|value| *value)
+}
+
+impl Values {
+    fn new() -> Values
+        ensures { result ≡ [] }
+    {
+        Values {
+            held: ArrayVec::new(),
+        }
+    }
+
+    fn push(&mut self, value: bool)
+        requires { length self.old < 64 }
+        ensures { self.new ≡ value ∷ self.old }
+    {
+        self.held.push(value);
+    }
+
+    // Takes the last value; false where there is none.
+    fn pop(&mut self) -> bool
+        ensures last { result ≡ last_value self.old }
+        ensures rest { self.new ≡ below_last self.old }
+    {
+        self.held.pop().unwrap_or(false)
+    }
+
+    fn are_all_true(&self) -> bool
+        ensures { result ≡ list_all (λ value. value) self.now }
+    {
+        are_all_true(self.held.as_slice())
+    }
+
+    // The truth of one more node.
+    fn put(&mut self, node: &Node, file: &Entry)
+        requires { length self.old < 64 }
+        ensures value { self.new ≡ with_value file.now self.old node.now }
+        ensures count { length self.new ≤ length self.old + 1 }
+    {
+        match node {
+            Node::Word(word) => self.push(has_word(&file.words, word)),
+            Node::AtLeast(size) => self.push(*size <= file.size),
+            Node::Below(size) => self.push(file.size < *size),
+            Node::Not => {
+                let value = self.pop();
+                self.push(!value);
+            }
+            Node::And => {
+                let right = self.pop();
+                let left = self.pop();
+                self.push(left && right);
+            }
+            Node::Or => {
+                let right = self.pop();
+                let left = self.pop();
+                self.push(left || right);
+            }
+        }
+    }
+}
+
+fn values_of(nodes: &[Node], file: &Entry) -> Values
+    requires { length nodes.now ≤ 64 }
+    ensures { result ≡ fold (with_value file.now) [] nodes.now }
+{
+    let mut values = Values::new();
+    for node in nodes {
+        values.put(node, file);
+    }
+    values
+}
+
+/// Whether all steps of the place hold of the file.
+pub fn holds_all(place: &Place, file: &Entry) -> bool
+    ensures { result ≡ holds_all place.now file.now }
+{
+    let values = values_of(place.nodes(), file);
+    values.are_all_true()
+}
+
+/// The files of which the place holds.
+pub fn extension(alloc: Global, files: &[Entry], place: &Place) -> Result<Vec<Entry>, AllocError>
+    ensures { IfOk result (λ kept. kept.items ≡ filter (holds_all place.now) files.now) }
+{
+    let mut kept = Vec::new(alloc);
+    for file in files {
+        if holds_all(place, file) {
+            kept.push(file.copied(alloc)?)?;
+        }
+    }
+    Ok(kept)
+}
