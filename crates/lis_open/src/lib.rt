@@ -1,9 +1,15 @@
-//! Makes images.
+//! Makes images and opens them.
 #![tactic(auto)]
 
+mod checks;
 mod clearing;
+mod files;
 mod making;
+mod mounting;
+mod reading;
 #[cfg(test)]
 mod tests;
+mod words;
 
 pub use making::{MakeFault, make};
+pub use mounting::{OpenFault, mount};
