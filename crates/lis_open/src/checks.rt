@@ -1,11 +1,27 @@
 //! What else must hold of an image: that no axiom is there, that each word is in use, and what the bitmap tells.
 
+ghost use Rattle.std.specs.Prelude.{◌≡◌, ◌*◌, ◌<◌, ◌≤◌, ◌||◌, ◌&&◌, not, is_some, nat_lt, ℕ, List, [], length, false, IsTrue, IfOk, MatchBool};
+ghost use Rattle.std.specs.List.{list_all};
+ghost use Rattle.lis_ports.specs.Calls.{HasCause};
+ghost use Rattle.lis_bits.specs.Rows.{get};
+ghost use Rattle.lis_blockmap.specs.Bitmap.{is_taken};
+ghost use Rattle.lis_dict.specs.Dict.{word_of};
+ghost use Rattle.lis_journal.specs.Images.{Fits};
+ghost use Rattle.lis_content.specs.Content.{has_number};
+ghost use Rattle.lis_fields.specs.declared.slots.AxiomSlot.TheVariants.{Free as FreeAxiom};
+ghost use Rattle.lis_model.specs.Ranges.{are_in_range};
+ghost use Rattle.lis_model.specs.Image.{bitmap_start, image_blocks};
+ghost use Rattle.lis_store.specs.Kept.{AxiomsAreFree};
+ghost use Rattle.lis_store.specs.Stands.{axiom_slots};
+ghost use Rattle.lis_open.specs.Opens.{HasOpenCause};
+ghost use Rattle.lis_open.specs.Checks.{IsAxiom};
+ghost use Rattle.lis_open.specs.Reading.{OnlyReads, Ends, bits, AreWords, AreFirstWords, AreFirstFiles, WordsChecked, BitmapChecked, IsUsedRow};
+
 use crate::files::Files;
 use crate::mounting::OpenFault;
 use crate::words::Words;
 use lis_bits::Rows;
 use lis_blockmap::BlockMap;
-use lis_catalog::Catalog;
 use lis_fields::{AXIOM_LEN, AxiomSlot, read_axiom};
 use lis_journal::{BLOCK_LEN, Journal};
 use lis_model::limits::Limits;
@@ -20,7 +36,18 @@ fn is_free_axiom<D: Disk>(
     journal: &Journal,
     limits: &Limits,
     k: u32,
-) -> Result<bool, Failed> {
+) -> Result<bool, Failed>
+    requires range { IsTrue (are_in_range limits.now) }
+    requires k { k < (axiom_slots limits.now).count }
+    requires image { journal.now.blocks ≡ image_blocks limits.now }
+    requires clean { journal.now.staged ≡ [] }
+    requires unbroken { journal.now.is_broken ≡ false }
+    requires long { 4096 * journal.now.blocks ≤ (D.meaning disk.old).len }
+    ensures reads { OnlyReads (D.meaning disk.old) (D.meaning disk.new) }
+    ensures cause { HasCause (D.meaning disk.old).disk_faults (D.meaning disk.new).disk_faults result }
+    ensures read { IfOk result (λ free. (kept : ℕ → List ℕ) → Fits journal.now.blocks (D.meaning disk.old) kept
+        → MatchBool free (IsAxiom limits.now kept k FreeAxiom) (IsAxiom limits.now kept k FreeAxiom → ⊥)) }
+{
     let mut bytes = [0; AXIOM_LEN];
     axiom_slots(limits).get(journal, disk, k, &mut bytes)?;
     Ok(matches!(read_axiom(&bytes), Some(AxiomSlot::Free)))
@@ -31,7 +58,17 @@ pub fn check_axioms<D: Disk>(
     disk: &mut D,
     journal: &Journal,
     limits: &Limits,
-) -> Result<(), OpenFault> {
+) -> Result<(), OpenFault>
+    requires range { IsTrue (are_in_range limits.now) }
+    requires image { journal.now.blocks ≡ image_blocks limits.now }
+    requires clean { journal.now.staged ≡ [] }
+    requires unbroken { journal.now.is_broken ≡ false }
+    requires long { 4096 * journal.now.blocks ≤ (D.meaning disk.old).len }
+    ensures reads { OnlyReads (D.meaning disk.old) (D.meaning disk.new) }
+    ensures cause { HasOpenCause (D.meaning disk.old).disk_faults (D.meaning disk.new).disk_faults result }
+    ensures ended { (kept : ℕ → List ℕ) → Fits journal.now.blocks (D.meaning disk.old) kept
+        → Ends limits.now kept (AxiomsAreFree limits.now kept) result }
+{
     for k in 0..axiom_slots(limits).count() {
         if !is_free_axiom(disk, journal, limits, k)? {
             return Err(OpenFault::Damaged(Spot::Axiom(k)));
@@ -40,17 +77,28 @@ pub fn check_axioms<D: Disk>(
     Ok(())
 }
 
-fn mark_all(used: &mut Rows, numbers: &[u16]) {
+fn mark_all(used: &mut Rows, numbers: &[u16])
+    requires tall { length used.old.rows ≡ 1 }
+    requires below { IsTrue (list_all (λ n. nat_lt n used.old.bits) numbers.now) }
+    ensures tall { length used.new.rows ≡ 1 }
+    ensures wide { used.new.bits ≡ used.old.bits }
+    ensures bits { (n : ℕ) → n < used.old.bits → get used.new 0 n ≡ (has_number numbers.now n || get used.old 0 n) }
+{
     for number in numbers {
         used.put(0, u32::from(*number), true);
     }
 }
 
 // One row: by number, whether some file was given the word that has it.
-fn used_words(alloc: Global, limits: &Limits, catalog: &Catalog) -> Result<Rows, AllocError> {
+fn used_words(alloc: Global, limits: &Limits, words: &Words, files: &Files) -> Result<Rows, AllocError>
+    requires range { IsTrue (are_in_range limits.now) }
+    requires words { AreFirstWords limits.now words.now limits.now.props }
+    requires files { AreFirstFiles limits.now words.now files.now limits.now.files }
+    ensures { IfOk result (IsUsedRow limits.now files.now.catalog) }
+{
     let mut used = Rows::new(alloc, 1, limits.props)?;
     for slot in 0..limits.files {
-        if let Some(rec) = catalog.rec(slot as u16) {
+        if let Some(rec) = files.catalog.rec(slot as u16) {
             mark_all(&mut used, rec.tags.as_slice());
         }
     }
@@ -58,7 +106,13 @@ fn used_words(alloc: Global, limits: &Limits, catalog: &Catalog) -> Result<Rows,
 }
 
 // Whether the number is that of a word that is not declared, and that no file was given.
-fn is_stray(words: &Words, used: &Rows, number: u32) -> bool {
+fn is_stray(words: &Words, used: &Rows, number: u32) -> bool
+    requires are { AreWords words.now }
+    requires tall { length used.now.rows ≡ 1 }
+    requires below { number < used.now.bits }
+    requires wide { used.now.bits ≡ words.now.dict.props }
+    ensures { result ≡ (is_some (word_of words.now.dict number) && not (is_taken (bits words.now) number) && not (get used.now 0 number)) }
+{
     if words.dict.word_of(number as u16).is_none() {
         return false;
     }
@@ -71,8 +125,13 @@ pub fn check_words(
     limits: &Limits,
     words: &Words,
     files: &Files,
-) -> Result<(), OpenFault> {
-    let used = used_words(alloc, limits, &files.catalog)?;
+) -> Result<(), OpenFault>
+    requires range { IsTrue (are_in_range limits.now) }
+    requires words { AreFirstWords limits.now words.now limits.now.props }
+    requires files { AreFirstFiles limits.now words.now files.now limits.now.files }
+    ensures { WordsChecked limits.now words.now files.now.catalog result }
+{
+    let used = used_words(alloc, limits, words, files)?;
     for number in 0..limits.props {
         if is_stray(words, &used, number) {
             return Err(OpenFault::Damaged(Spot::Word(number)));
@@ -87,7 +146,17 @@ pub fn check_bitmap<D: Disk>(
     journal: &Journal,
     limits: &Limits,
     map: &BlockMap,
-) -> Result<(), OpenFault> {
+) -> Result<(), OpenFault>
+    requires range { IsTrue (are_in_range limits.now) }
+    requires image { journal.now.blocks ≡ image_blocks limits.now }
+    requires clean { journal.now.staged ≡ [] }
+    requires unbroken { journal.now.is_broken ≡ false }
+    requires long { 4096 * journal.now.blocks ≤ (D.meaning disk.old).len }
+    ensures reads { OnlyReads (D.meaning disk.old) (D.meaning disk.new) }
+    ensures cause { HasOpenCause (D.meaning disk.old).disk_faults (D.meaning disk.new).disk_faults result }
+    ensures ended { (kept : ℕ → List ℕ) → Fits journal.now.blocks (D.meaning disk.old) kept
+        → BitmapChecked (kept (bitmap_start limits.now)) map.now result }
+{
     let mut bytes = [0; BLOCK_LEN];
     journal.read(disk, bitmap_start(limits), &mut bytes)?;
     match map.first_difference(&bytes) {
