@@ -6,3 +6,6 @@ mod Quiet
 mod Slots
 mod WordsRead
 mod Assignable
+mod Numbers
+mod Entries
+mod FilesRead

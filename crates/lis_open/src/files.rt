@@ -34,6 +34,7 @@ pub struct Files {
 }
 
 /// No files yet.
+#[tactic(auto, unfolding(crate::specs::Reading::no_files))]
 pub fn no_files(alloc: Global, limits: &Limits) -> Result<Files, AllocError>
     requires { IsTrue (are_in_range limits.now) }
     ensures { IfOk result (λ files. files ≡ no_files limits.now) }
