@@ -73,7 +73,7 @@ used_slot : (o : Option FileRecord) (rec : FileRecord) → file_by o ≡ Used re
 used_slot None rec is = cc
 used_slot (Some r) rec is = cc
 
-assignable_some : (words : Words) (o : Option (List ℕ)) → is_assignable_by words o ≡ true → is_some o ≡ true
+pub assignable_some : (words : Words) (o : Option (List ℕ)) → is_assignable_by words o ≡ true → is_some o ≡ true
 assignable_some words None may = cc
 assignable_some words (Some word) may = refl
 
@@ -102,7 +102,7 @@ module _ (limits : Limits) (words : Words) (files : Files) (end : ℕ) (first : 
       ltb-true data_block limits.blocks (all_among (λ k. nat_lt k limits.blocks) rec.blocks data_block all (among_from_has rec.blocks data_block has))
 
   -- a slot that has a file is below the end
-  slot_read : (n : ℕ) (rec : FileRecord) → rec_at files.catalog n ≡ Some rec → n < end
+  pub slot_read : (n : ℕ) (rec : FileRecord) → rec_at files.catalog n ≡ Some rec → n < end
   slot_read n rec is = by (cases_lt n end)
     where
       by : (n < end) ⊎ (end ≤ n) → n < end

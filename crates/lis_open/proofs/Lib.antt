@@ -9,3 +9,4 @@ mod Assignable
 mod Numbers
 mod Entries
 mod FilesRead
+mod Checked

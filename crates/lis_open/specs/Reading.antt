@@ -13,6 +13,8 @@ use Rattle.lis_catalog.specs.Catalog.{Catalog, Filed, IsCatalog, slot_of, rec_at
 use Rattle.lis_fields.specs.Records.{FileRecord}
 use Rattle.lis_fields.specs.declared.slots.PropSlot.{PropSlot}
 use Rattle.lis_fields.specs.declared.slots.PropSlot.TheVariants.{Free as FreeProp, Known, Declared}
+use Rattle.lis_fields.specs.declared.slots.AxiomSlot.{AxiomSlot}
+use Rattle.lis_fields.specs.declared.slots.AxiomSlot.TheVariants.{Free as FreeAxiom, Pair}
 use Rattle.lis_fields.specs.declared.slots.FileSlot.{FileSlot}
 use Rattle.lis_fields.specs.declared.slots.FileSlot.TheVariants.{Free as FreeFile, Used}
 use Rattle.lis_fields.specs.Layouts.{prop_bytes, is_prop, file_bytes}
@@ -158,7 +160,22 @@ abbrev pub FilesAreSpelled : Limits → (ℕ → List ℕ) → Files → ℕ →
 FilesAreSpelled limits at files end =
     (n : ℕ) → n < end → slot (file_slots limits) at n ≡ file_bytes (record_at files.catalog n)
 
+-- ---- axioms
+abbrev pub is_free_slot : Option AxiomSlot → Bool
+is_free_slot None = false
+is_free_slot (Some FreeAxiom) = true
+is_free_slot (Some (Pair left right)) = false
+
 -- ---- words in use
+-- the file, if there is one, was given the word of the number
+abbrev pub has_tag : Option FileRecord → ℕ → Bool
+has_tag None n = false
+has_tag (Some rec) n = has_number rec.tags n
+
+abbrev pub has_tags_below : ℕ → Option FileRecord → Bool
+has_tags_below end None = true
+has_tags_below end (Some rec) = list_all (λ n. nat_lt n end) rec.tags
+
 -- some file was given the word of the number
 abbrev pub is_given : Catalog → ℕ → Bool
 is_given catalog n = list_any (λ (f : Filed). has_number f.rec.tags n) catalog.entries
