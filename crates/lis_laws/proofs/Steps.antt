@@ -85,7 +85,7 @@ words_rising words [] h = h
 words_rising words (w ∷ more) h = words_rising (with_words words (w ∷ [])) more (rising_insert_key word_cmp word_order words w h)
 
 -- a set has no more words than were put into it
-with_words_le : (words more : List (List ℕ)) → length (with_words words more) ≤ length words + length more
+pub with_words_le : (words more : List (List ℕ)) → length (with_words words more) ≤ length words + length more
 with_words_le words [] = omega arith
 with_words_le words (w ∷ more) = omega (arith, with_words_le (with_words words (w ∷ [])) more, insert_key_le word_cmp words w)
 
@@ -108,7 +108,7 @@ derived_few : (name bytes : List ℕ) → length (derived_words name bytes) ≤ 
 derived_few name bytes = omega arith
 
 -- so that the words of a file, which has 16 and 48 words at most by itself, are 128 at most
-description_le : (file : File) → length file.assigned ≤ 16 → length (file_words [] file) ≤ 128
+pub description_le : (file : File) → length file.assigned ≤ 16 → length (file_words [] file) ≤ 128
 description_le file few =
     omega (
       arith,

@@ -54,8 +54,8 @@ module _ (limits : Limits) (at : ℕ → List ℕ) (end : ℕ) (free : AxiomsAre
   none_before (Bitmap n) kind lt fails = omega (arith, kind)
   none_before (Row n) kind lt fails = fails
 
-  pub axiom_fails : end < (axiom_slots limits).count → (IsAxiom limits at end FreeAxiom → ⊥) → IsFirst limits at (Axiom end)
-  axiom_fails below fault = record { fails = record { below = below; fault = fault }; none_before = none_before }
+  pub axiom_fails : end < (axiom_slots limits).count → (IsAxiom limits at end FreeAxiom → ⊥) → IsFirst limits at 3 (Axiom end)
+  axiom_fails below fault = record { fails = record { below = below; fault = fault }; is = refl; none_before = none_before }
 
   pub axioms_on : IsAxiom limits at end FreeAxiom → AxiomsAreFreeBelow limits at (end + 1)
   axioms_on is n lt = by (cases_eq n end)

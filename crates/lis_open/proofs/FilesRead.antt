@@ -342,9 +342,10 @@ module _ (limits : Limits) (at : ℕ → List ℕ) (words : Words) (all : AreFir
   file_fault (Some (Used rec)) below may read file is =
       subst (λ (f : FileSlot). HasFileFault limits at end f) (one_file limits at end (Used rec) file read is) (record_fault rec below may)
 
-  pub file_fails : (found : Option FileSlot) → end < limits.files → may_take_file words files found ≡ false → IsReadAs file_bytes is_file (file_slots limits) at end found → IsFirst limits at (File end)
+  pub file_fails : (found : Option FileSlot) → end < limits.files → may_take_file words files found ≡ false → IsReadAs file_bytes is_file (file_slots limits) at end found → IsFirst limits at 4 (File end)
   file_fails found below may read = record {
     fails = record { below = below; fault = file_fault found below may read };
+    is = refl;
     none_before = none_before;
   }
 

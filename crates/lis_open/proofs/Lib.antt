@@ -10,3 +10,7 @@ mod Numbers
 mod Entries
 mod FilesRead
 mod Checked
+mod Counts
+mod Told
+mod Order
+mod Parts

@@ -220,9 +220,10 @@ module _ (limits : Limits) (at : ℕ → List ℕ) (words : Words) (end : ℕ) (
       let old = old_from (number_of words.dict w) may in
       old_word w property old.0 old.1 (ap word_in (sym (one_property limits at end (Declared w) property read is)))
 
-  pub property_fails : (found : Option PropSlot) → end < limits.props → may_take_property words found ≡ false → IsReadAs prop_bytes is_prop (property_slots limits) at end found → IsFirst limits at (Property end)
+  pub property_fails : (found : Option PropSlot) → end < limits.props → may_take_property words found ≡ false → IsReadAs prop_bytes is_prop (property_slots limits) at end found → IsFirst limits at 2 (Property end)
   property_fails found below may read = record {
     fails = record { below = below; fault = taken_before found may read };
+    is = refl;
     none_before = none_before;
   }
 

@@ -24,12 +24,13 @@ use Rattle.lis_model.specs.declared.spot.Spot.{Spot}
 use Rattle.lis_model.specs.declared.spot.Spot.TheVariants.{Word, Bitmap}
 use Rattle.lis_model.specs.Image.{bitmap_start}
 use Rattle.lis_store.specs.Stands.{property_slots, file_slots}
-use Rattle.lis_store.specs.Kept.{property_at, record_at, bit_of, used_by, is_sound_record}
+use Rattle.lis_model.specs.State.{State}
+use Rattle.lis_store.specs.Kept.{Kept, Tells, AxiomsAreFree, property_at, record_at, bit_of, used_by, is_sound_record}
 use Rattle.lis_open.specs.declared.mounting.OpenFault.{OpenFault}
 use Rattle.lis_open.specs.declared.mounting.OpenFault.TheVariants.{TooShort, Damaged, DiskFault, NoMemory}
 use Rattle.lis_open.specs.declared.words.Words.{Words}
 use Rattle.lis_open.specs.declared.files.Files.{Files}
-use Rattle.lis_open.specs.Checks.{IsSlot, Fails, rank, place}
+use Rattle.lis_open.specs.Checks.{IsSlot, Fails, rank, place, IsBefore}
 
 -- ---- runs that only read
 pub record OnlyReads (old new : Meaning) : Type 0 where
@@ -42,18 +43,22 @@ abbrev pub IsReadAs : {X : Type 0} → (X → List ℕ) → (X → Bool) → Slo
 IsReadAs {X} spelled is_in_range slots at n None = (value : X) → IsSlot spelled is_in_range slots at n value → ⊥
 IsReadAs spelled is_in_range slots at n (Some value) = IsSlot spelled is_in_range slots at n value
 
--- the check of the part fails, and that of no part before it of its kind
-pub record IsFirst (limits : Limits) (at : ℕ → List ℕ) (spot : Spot) : Type 0 where
+-- the check of a part of this kind fails, and that of no part before it of its kind
+pub record IsFirst (limits : Limits) (at : ℕ → List ℕ) (kind : ℕ) (spot : Spot) : Type 0 where
   pub fails : Fails limits at spot
-  pub none_before : (earlier : Spot) → rank earlier ≡ rank spot → place earlier < place spot → Fails limits at earlier → ⊥
+  pub is : rank spot ≡ kind
+  pub none_before : (earlier : Spot) → rank earlier ≡ kind → place earlier < place spot → Fails limits at earlier → ⊥
 
--- how reading some parts ended
-abbrev pub Ends : {T : Type 0} → Limits → (ℕ → List ℕ) → Type 0 → Result T OpenFault → Type 0
-Ends limits at good (Ok done) = good
-Ends limits at good (Err (Damaged spot)) = IsFirst limits at spot
-Ends limits at good (Err DiskFault) = Unit {0}
-Ends limits at good (Err NoMemory) = Unit {0}
-Ends limits at good (Err (TooShort len need)) = ⊥
+-- how reading the parts of a kind ended
+abbrev pub KindFails : Limits → (ℕ → List ℕ) → ℕ → OpenFault → Type 0
+KindFails limits at kind (Damaged spot) = IsFirst limits at kind spot
+KindFails limits at kind DiskFault = Unit {0}
+KindFails limits at kind NoMemory = Unit {0}
+KindFails limits at kind (TooShort len need) = ⊥
+
+abbrev pub Ends : {T : Type 0} → Limits → (ℕ → List ℕ) → ℕ → Type 0 → Result T OpenFault → Type 0
+Ends limits at kind good (Ok done) = good
+Ends limits at kind good (Err fault) = KindFails limits at kind fault
 
 -- ---- words
 unfoldable pub no_words : Limits → Words
@@ -195,17 +200,58 @@ pub record IsFirstStray (limits : Limits) (words : Words) (catalog : Catalog) (n
   pub stray : IsTrue (is_stray words catalog n)
   pub none_before : (m : ℕ) → m < n → is_stray words catalog m ≡ false
 
+abbrev pub HasStray : Limits → Words → Catalog → OpenFault → Type 0
+HasStray limits words catalog (Damaged spot) = (n : ℕ) × (spot ≡ Word n) × IsFirstStray limits words catalog n
+HasStray limits words catalog NoMemory = Unit {0}
+HasStray limits words catalog DiskFault = ⊥
+HasStray limits words catalog (TooShort len need) = ⊥
+
 abbrev pub WordsChecked : {T : Type 0} → Limits → Words → Catalog → Result T OpenFault → Type 0
 WordsChecked limits words catalog (Ok done) = (n : ℕ) → n < limits.props → is_stray words catalog n ≡ false
-WordsChecked limits words catalog (Err (Damaged spot)) = (n : ℕ) × (spot ≡ Word n) × IsFirstStray limits words catalog n
-WordsChecked limits words catalog (Err NoMemory) = Unit {0}
-WordsChecked limits words catalog (Err DiskFault) = ⊥
-WordsChecked limits words catalog (Err (TooShort len need)) = ⊥
+WordsChecked limits words catalog (Err fault) = HasStray limits words catalog fault
 
 -- ---- the bitmap
+abbrev pub Differs : List ℕ → List Bool → OpenFault → Type 0
+Differs bytes taken (Damaged spot) = (n : ℕ) × (spot ≡ Bitmap n) × IsFirstDifference bytes taken n
+Differs bytes taken DiskFault = Unit {0}
+Differs bytes taken NoMemory = ⊥
+Differs bytes taken (TooShort len need) = ⊥
+
 abbrev pub BitmapChecked : {T : Type 0} → List ℕ → List Bool → Result T OpenFault → Type 0
 BitmapChecked bytes taken (Ok done) = bytes ≡ bitmap_bytes taken
-BitmapChecked bytes taken (Err (Damaged spot)) = (n : ℕ) × (spot ≡ Bitmap n) × IsFirstDifference bytes taken n
-BitmapChecked bytes taken (Err DiskFault) = Unit {0}
-BitmapChecked bytes taken (Err NoMemory) = ⊥
-BitmapChecked bytes taken (Err (TooShort len need)) = ⊥
+BitmapChecked bytes taken (Err fault) = Differs bytes taken fault
+
+-- ---- all parts
+-- the check of the part fails, and that of no part before it
+pub record IsFirstOfAll (limits : Limits) (at : ℕ → List ℕ) (spot : Spot) : Type 0 where
+  pub fails : Fails limits at spot
+  pub none_before : (earlier : Spot) → IsBefore earlier spot → Fails limits at earlier → ⊥
+
+-- words and files of all slots, of which each word is declared or was given to a file
+pub record AreRead (limits : Limits) (words : Words) (files : Files) : Type 0 where
+  pub words_are : AreFirstWords limits words limits.props
+  pub files_are : AreFirstFiles limits words files limits.files
+  pub used : (n : ℕ) → n < limits.props → is_stray words files.catalog n ≡ false
+
+-- the blocks of all parts are spelled by them
+pub record AreSpelled (limits : Limits) (at : ℕ → List ℕ) (words : Words) (files : Files) : Type 0 where
+  pub properties : WordsAreSpelled limits at words limits.props
+  pub axioms : AxiomsAreFree limits at
+  pub records : FilesAreSpelled limits at files limits.files
+  pub bitmap : at (bitmap_start limits) ≡ bitmap_bytes files.map
+
+-- how reading all parts ended
+abbrev pub PartsFail : Limits → (ℕ → List ℕ) → OpenFault → Type 0
+PartsFail limits at (Damaged spot) = IsFirstOfAll limits at spot
+PartsFail limits at DiskFault = Unit {0}
+PartsFail limits at NoMemory = Unit {0}
+PartsFail limits at (TooShort len need) = ⊥
+
+abbrev pub PartsEnded : {T : Type 0} → Limits → (ℕ → List ℕ) → Words → Files → Result T OpenFault → Type 0
+PartsEnded limits at words files (Ok done) = AreSpelled limits at words files
+PartsEnded limits at words files (Err fault) = PartsFail limits at fault
+
+-- and with a store made of them
+abbrev pub StoreEnded : Limits → (ℕ → List ℕ) → Result Kept OpenFault → Type 0
+StoreEnded limits at (Ok store) = (s : State) × Tells store at s
+StoreEnded limits at (Err fault) = PartsFail limits at fault

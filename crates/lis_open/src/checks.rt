@@ -74,7 +74,7 @@ pub fn check_axioms<D: Disk>(
     ensures reads { OnlyReads (D.meaning disk.old) (D.meaning disk.new) }
     ensures cause { HasOpenCause (D.meaning disk.old).disk_faults (D.meaning disk.new).disk_faults result }
     ensures ended { (kept : ℕ → List ℕ) → Fits journal.now.blocks (D.meaning disk.old) kept
-        → Ends limits.now kept (AxiomsAreFree limits.now kept) result }
+        → Ends limits.now kept 3 (AxiomsAreFree limits.now kept) result }
 {
     for k in 0..axiom_slots(limits).count() {
         let found = read_axiom_slot(disk, journal, limits, k)?;

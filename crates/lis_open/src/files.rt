@@ -155,7 +155,7 @@ pub fn read_files<D: Disk>(
     ensures read { OnOk result (AreFirstFiles limits.now words.now files.new limits.now.files) }
     ensures ended { (kept : ℕ → List ℕ) → Fits journal.now.blocks (D.meaning disk.old) kept
         → WordsAreSpelled limits.now kept words.now limits.now.props
-        → Ends limits.now kept (FilesAreSpelled limits.now kept files.new limits.now.files) result }
+        → Ends limits.now kept 4 (FilesAreSpelled limits.now kept files.new limits.now.files) result }
 {
     for slot in 0..limits.files {
         let found = read_slot(disk, journal, limits, slot)?;

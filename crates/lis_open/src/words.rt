@@ -124,7 +124,7 @@ pub fn read_words<D: Disk>(
     ensures cause { HasOpenCause (D.meaning disk.old).disk_faults (D.meaning disk.new).disk_faults result }
     ensures read { OnOk result (AreFirstWords limits.now words.new limits.now.props) }
     ensures ended { (kept : ℕ → List ℕ) → Fits journal.now.blocks (D.meaning disk.old) kept
-        → Ends limits.now kept (WordsAreSpelled limits.now kept words.new limits.now.props) result }
+        → Ends limits.now kept 2 (WordsAreSpelled limits.now kept words.new limits.now.props) result }
 {
     for number in 0..limits.props {
         let found = read_property(disk, journal, limits, number)?;

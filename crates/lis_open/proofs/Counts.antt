@@ -1,0 +1,66 @@
+-- How many words and blocks there are, and lists that rise.
+use Rattle.std.proofs.Common.{◌≡◌, ◌∙◌, refl, sym, ap, ap₂, subst, inl, inr, ℕ, zero, suc, ◌+◌, ◌/◌, ◌<◌, ◌≤◌, ◌==◌, eqb, nat_lt, Bool, true, false, not, ◌&&◌, List, [], ◌∷◌, ◌++◌, length, map, take, Option, Some, None, arith, sum, length-append}
+use Rattle.std.specs.declared.cmp.Ordering.{Ordering}
+use Rattle.std.specs.Ordering.{is_lt}
+use Rattle.std.specs.Option.{option_to_list}
+use Rattle.std.specs.List.{list_all, list_any, flat_map, AllByRecursion, IsDistinct}
+use Rattle.std.proofs.lemmas.Bool.{ne_eqb, ltb-true, eqb-true}
+use Rattle.std.proofs.lemmas.List.Folds.{list_all-map}
+use Rattle.std.proofs.lemmas.List.Sums.{sum_by-cons}
+use Rattle.std.proofs.lemmas.Map.Steps.{length-le_from_distinct_below}
+use Rattle.lis_graph.specs.Graph.{is_rising}
+use Rattle.lis_graph.proofs.Members.{Among, among_from_any}
+use Rattle.lis_content.specs.Content.{are_distinct}
+use Rattle.lis_content.proofs.Numbers.{are_below}
+use Rattle.lis_laws.proofs.Counts.{all_among}
+use Rattle.lis_open.proofs.Numbers.{apart_first}
+
+-- ---- numbers below a bound, none of them twice
+unlike_all : (n : ℕ) (ns : List ℕ) → (Among ns n → ⊥) → AllByRecursion (λ m. eqb n m ≡ false) ns
+unlike_all n [] none = tt
+unlike_all n (m ∷ ns) none = (ne_eqb n m (λ e. none (inl (sym e))), unlike_all n ns (λ k. none (inr k)))
+
+each_once : (ns : List ℕ) → are_distinct ns ≡ true → IsDistinct eqb ns
+unfolding IsDistinct
+each_once [] distinct = tt
+each_once (n ∷ ns) distinct =
+    let parts = apart_first n ns distinct in
+    (unlike_all n ns parts.0, each_once ns parts.1)
+
+pub few_below : (ns : List ℕ) (end : ℕ) → are_distinct ns ≡ true → ((n : ℕ) → Among ns n → n < end) → length ns ≤ end
+few_below ns end distinct below =
+    length-le_from_distinct_below ns end (each_once ns distinct)
+    (λ q is. let found = among_from_any (eqb q) ns is in below q (subst (λ n. Among ns n) (sym (eqb-true q found.0 found.2)) found.1))
+
+-- ---- one word at most for each number
+pub few_words : (word_by : ℕ → Option (List ℕ)) (ns : List ℕ) → length (flat_map (λ n. option_to_list (word_by n)) ns) ≤ length ns
+few_words word_by [] = omega arith
+few_words word_by (n ∷ ns) =
+    let rest = few_words word_by ns in
+    omega (arith, rest, one (word_by n), length-append (option_to_list (word_by n)) (flat_map (λ k. option_to_list (word_by k)) ns))
+  where
+    one : (o : Option (List ℕ)) → length (option_to_list o) ≤ 1
+    one None = omega arith
+    one (Some w) = omega arith
+
+-- ---- a front is no longer than it is told
+pub take_few : {X : Type 0} (n : ℕ) (xs : List X) → length (take n xs) ≤ n
+take_few zero xs = omega arith
+take_few (suc n) [] = omega arith
+take_few (suc n) (x ∷ xs) = let rest = take_few n xs in omega (arith, rest)
+
+-- ---- sums
+pub sum_within : {X : Type 0} (count : X → ℕ) (numbers : X → List ℕ) (xs : List X) → ((x : X) → Among xs x → count x ≤ length (numbers x)) → sum (map count xs) ≤ length (flat_map numbers xs)
+sum_within count numbers [] each = omega arith
+sum_within count numbers (x ∷ xs) each =
+    let rest = sum_within count numbers xs (λ y m. each y (inr m)) in
+    omega (arith, rest, each x (inl refl), sum_by-cons (λ n. n) (count x) (map count xs), length-append (numbers x) (flat_map numbers xs))
+
+-- ---- lists that rise by a key
+pub rising_map : {X Y Z : Type 0} (cmp : Y → Y → Ordering) (other : Z → Z → Ordering) (f : X → Y) (g : X → Z) (xs : List X) → ((a b : X) → cmp (f a) (f b) ≡ other (g a) (g b)) → is_rising cmp (map f xs) ≡ is_rising other (map g xs)
+rising_map cmp other f g [] same = refl
+rising_map cmp other f g (x ∷ xs) same = ap₂ (λ a b. a && b) (all xs) (rising_map cmp other f g xs same)
+  where
+    all : (ys : List _) → list_all (λ y. is_lt (cmp (f x) y)) (map f ys) ≡ list_all (λ z. is_lt (other (g x) z)) (map g ys)
+    all [] = refl
+    all (y ∷ ys) = ap₂ (λ a b. a && b) (ap is_lt (same x y)) (all ys)
