@@ -11,7 +11,8 @@ use lis_plain::end::PlainEnd;
 use lis_plain::plain::Plain;
 use lis_ports::{Source, Station};
 
-fn ending(item: &Item) -> Option<Status>
+/// The status at which a session ends by this item, if it does.
+pub fn ending(item: &Item) -> Option<Status>
     ensures { result ≡ ending_of item.now }
 {
     match item {
