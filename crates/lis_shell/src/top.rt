@@ -4,9 +4,10 @@ ghost use Rattle.std.specs.Prelude.{◌≡◌, ◌↔◌, ℕ, ◌^◌, List, ma
 ghost use Rattle.std.specs.String.{string_bytes};
 ghost use Rattle.lis_ports.specs.Calls.{IsShowCall};
 ghost use Rattle.lis_model.specs.Step.{Situation, start_of};
+ghost use Rattle.lis_line.specs.Taking.{TakesFew};
 ghost use Rattle.lis_shell.specs.Words.{try_limits};
 ghost use Rattle.lis_shell.specs.Causes.{counts, HasStatusCause, IsTryStatus};
-ghost use Rattle.lis_shell.specs.Tries.{Tries, TakesFew};
+ghost use Rattle.lis_shell.specs.Tries.{Tries};
 
 use crate::session::try_session;
 use crate::status::Status;
