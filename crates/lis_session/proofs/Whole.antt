@@ -11,7 +11,7 @@ use Rattle.lis_model.specs.Image.{image_blocks}
 use Rattle.lis_model.specs.State.{State}
 use Rattle.lis_model.specs.Step.{Situation, Item}
 use Rattle.lis_model.specs.Script.{all_items}
-use Rattle.lis_session.proofs.Reading.{script_short}
+use Rattle.lis_line.proofs.Given.{script_short}
 use Rattle.lis_store.specs.Stands.{Stands}
 use Rattle.lis_session.specs.Session.{root_of, SessionMoment, RunMoment, Headline, FullHeadline}
 use Rattle.lis_session.specs.Runs.{Carried, CarriedAll, CarriedToLimit, Serves, RunsImage}

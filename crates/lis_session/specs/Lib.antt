@@ -1,4 +1,3 @@
 pub mod Session
 pub mod Item
 pub mod Runs
-pub mod Taking

@@ -1,3 +1,2 @@
 mod Forms
-mod Reading
 mod Going

@@ -1,5 +1,5 @@
--- What was read so far.
-use Rattle.std.proofs.Common.{◌≡◌, ◌⊎◌, ℕ, ◌+◌, ◌-◌, ◌≤◌, ◌<◌, nat_le, Bool, true, false, List, [], ◌∷◌, ◌++◌, length, take, drop, Option, Some, None, Result, ap, sym, subst, ◌∙◌, refl, inl, inr, arith, append_assoc, append-nil, length-append}
+-- What a reader has given so far.
+use Rattle.std.proofs.Common.{◌≡◌, ◌⊎◌, ℕ, ◌+◌, ◌-◌, ◌≤◌, ◌<◌, nat_le, true, false, List, [], ◌∷◌, ◌++◌, length, take, Option, Some, None, Result, ap, sym, subst, ◌∙◌, refl, inl, inr, arith, append_assoc, append-nil, length-append}
 use Rattle.std.specs.Io.KnownBytes.{prepend_known, Consumes, IsAtEnd}
 use Rattle.std.proofs.lemmas.Bool.{le-leb, cases_lt}
 use Rattle.std.proofs.lemmas.Bool.Decides.{leb_tells}
@@ -7,9 +7,10 @@ use Rattle.std.proofs.Math.Seq.{take-append-add}
 use Rattle.lis_model.specs.Step.{Item, Payload}
 use Rattle.lis_model.specs.Script.{all_items, whole_items, script}
 use Rattle.lis_line.specs.Stock.{stream_of}
-use Rattle.lis_line.specs.Reading.{Reading, fresh, IsWhole, IsLast, Gave, GaveWhole, GaveLast, GaveEnd, Overran, GaveRest, GaveItem, Gives, Closes, Says}
+use Rattle.lis_line.specs.Reading.{Reading, fresh, IsWhole, Gave, GaveWhole, GaveLast, GaveItem, Gives, Closes, Says}
 use Rattle.lis_line.specs.declared.reader.Item.{Item as Said}
-use Rattle.lis_shell.specs.Tries.{TakesFew}
+use Rattle.lis_line.specs.Taking.{TakesFew}
+use Rattle.lis_line.proofs.Bytes.{consumes_then}
 
 front_taken : (front behind : List ℕ) (n : ℕ) → length front ≤ n → take n (front ++ behind) ≡ front ++ take (n - length front) behind
 front_taken front behind n le =
@@ -36,37 +37,21 @@ pub record ReadSoFar (limit : ℕ) (left_before left : Option (List ℕ)) (readi
   pub few : length reading.stock.ahead ≤ reading.stock.rest
   pub is : ((reading.is_closed ≡ false) × Goes bytes first) ⊎ ((reading.is_closed ≡ true) × Ends bytes first reading left)
 
-consumes_none : (known : Option (List ℕ)) → Consumes known (prepend_known [] known) []
-consumes_none None = tt
-consumes_none (Some xs) = refl
-
-pub consumes_then : (a b c : Option (List ℕ)) (xs ys : List ℕ) → Consumes a b xs → Consumes b c ys → Consumes a c (xs ++ ys)
-consumes_then None b c xs ys p q = tt
-consumes_then (Some zs) None c xs ys p q = absurd p
-consumes_then (Some zs) (Some bs) None xs ys p q = absurd q
-consumes_then (Some zs) (Some bs) (Some cs) xs ys p q =
-    let first : zs ≡ xs ++ bs = p in
-    let next : bs ≡ ys ++ cs = q in
-    first ∙ ap (λ rest. xs ++ rest) next ∙ sym (append_assoc xs ys cs)
+-- before the first call
+unread : (known : Option (List ℕ)) → Consumes known (prepend_known [] known) []
+unread None = tt
+unread (Some xs) = refl
 
 pub read_none : (limit : ℕ) (left : Option (List ℕ)) (reading : Reading) → reading ≡ fresh limit → ReadSoFar limit left left reading []
 read_none limit left reading is = subst (λ r. ReadSoFar limit left left r []) (sym is) (record {
   bytes = [];
-  took = consumes_none left;
+  took = unread left;
   rest = omega arith;
   within = omega arith;
   going = refl;
   few = omega arith;
   is = inl (refl, record { all = λ more. refl; whole = λ more. refl });
 })
-
--- the same input once nothing is ahead
-stream_empty : (reading : Reading) (left : Option (List ℕ)) → reading.stock.ahead ≡ [] → stream_of reading.stock left ≡ left
-stream_empty reading left none = ap (λ xs. prepend_known xs left) none ∙ same left
-  where
-    same : (known : Option (List ℕ)) → prepend_known [] known ≡ known
-    same None = refl
-    same (Some xs) = refl
 
 goes_more : (bytes more : List ℕ) (first : List Item) (item : Item) → Goes bytes first → IsWhole more item → Goes (bytes ++ more) (first ++ item ∷ [])
 goes_more bytes more first item goes is = record {

@@ -8,9 +8,10 @@ use Rattle.lis_model.specs.Script.{all_items, whole_items, script}
 use Rattle.lis_line.specs.declared.reader.Item.{Item as Said}
 use Rattle.lis_line.specs.declared.reader.Item.TheVariants.{Command, Bad, End, Limit}
 use Rattle.lis_line.specs.Stock.{stream_of}
-use Rattle.lis_session.specs.Taking.{TakesFew}
+use Rattle.lis_line.specs.Taking.{TakesFew}
 use Rattle.lis_line.specs.Reading.{Reading, GaveWhole, GaveLast, Gives, GaveItem, Closes, Says, asked_by}
-use Rattle.lis_session.proofs.Reading.{ReadSoFar, Goes, Ends, NextSaid, next_said, read_item, few_so_far, few_gave, known_split, input_is, script_short, script_long, stream_taken, consumes_then}
+use Rattle.lis_line.proofs.Bytes.{consumes_then}
+use Rattle.lis_line.proofs.Given.{ReadSoFar, Goes, Ends, NextSaid, next_said, read_item, few_so_far, few_gave, known_split, input_is, script_short, script_long, stream_taken}
 
 -- an item more was read
 pub record ItemTaken (limit : ℕ) (left_before left : Option (List ℕ)) (reading : Reading) (first : List Item) (asked : Option Item) : Type 0 where
