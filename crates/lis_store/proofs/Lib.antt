@@ -2,3 +2,4 @@ pub mod OneState
 pub mod Empty
 pub mod Standing
 pub mod EmptyStore
+pub mod Facts
