@@ -4,3 +4,4 @@ pub mod Standing
 pub mod EmptyStore
 mod Finding
 pub mod Facts
+pub mod Here
