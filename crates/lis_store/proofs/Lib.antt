@@ -4,3 +4,6 @@ pub mod SlotOrder
 pub mod Telling
 pub mod Standing
 pub mod EmptyStore
+mod Finding
+pub mod Facts
+pub mod Here
