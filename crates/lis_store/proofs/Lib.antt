@@ -1,6 +1,6 @@
 pub mod OneState
-pub mod Empty
 pub mod SlotOrder
 pub mod Telling
 pub mod Standing
+pub mod Empty
 pub mod EmptyStore
