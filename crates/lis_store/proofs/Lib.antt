@@ -5,3 +5,4 @@ pub mod EmptyStore
 mod Finding
 pub mod Facts
 pub mod Here
+mod Reading
