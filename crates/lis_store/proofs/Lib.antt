@@ -7,3 +7,4 @@ pub mod EmptyStore
 mod Finding
 pub mod Facts
 pub mod Here
+mod Reading

@@ -1,4 +1,4 @@
-use Rattle.std.proofs.Common.{◌∙◌, sym, arith}
+use Rattle.std.proofs.Common.{sym, arith}
 use Rattle.lis_store.proofs.Here.{file_next, file_has_record, file_there}
 use Rattle.lis_store.proofs.seen.all_entries.Goals as goal
 use Rattle.lis_store.proofs.seen.all_entries.Goals.{in-Some+in-Some-rec+in_ok-entry_told+in_ok-push, in-Some+in_default-rec, in_default}

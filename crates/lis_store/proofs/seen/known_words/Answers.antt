@@ -1,4 +1,4 @@
-use Rattle.std.proofs.Common.{ℕ, List, ◌∙◌, sym, arith}
+use Rattle.std.proofs.Common.{ℕ, List, sym, arith}
 use Rattle.lis_store.proofs.Here.{map_next, some_at}
 use Rattle.lis_store.proofs.seen.known_words.Goals as goal
 use Rattle.lis_store.proofs.seen.known_words.Goals.{in-Some+in_ok-push, in_default}
