@@ -5,3 +5,6 @@ pub mod EmptyStore
 pub mod Staged
 pub mod Blocks
 pub mod Committing
+pub mod Judging
+pub mod Declaring
+pub mod Mkdir
