@@ -8,3 +8,9 @@ mod Finding
 pub mod Facts
 pub mod Here
 mod Reading
+pub mod Staged
+pub mod Blocks
+pub mod Committing
+pub mod Judging
+pub mod Declaring
+pub mod Mkdir
