@@ -2,3 +2,5 @@ pub mod OneState
 pub mod Empty
 pub mod Standing
 pub mod EmptyStore
+mod Finding
+pub mod Facts
