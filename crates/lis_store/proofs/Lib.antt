@@ -4,3 +4,5 @@ pub mod Standing
 pub mod EmptyStore
 mod Finding
 pub mod Facts
+mod NewWords
+pub mod Admitted

@@ -1,5 +1,5 @@
 -- What refuses a new file, told by what a store keeps.
-use Rattle.std.specs.Prelude.{◌≡◌, ℕ, ◌+◌, nat_lt, nat_le, Bool, not, ◌&&◌, ◌||◌, is_some, is_none, Option, Some, List, [], ◌∷◌, ◌++◌, length, count_by}
+use Rattle.std.specs.Prelude.{◌≡◌, ℕ, ◌+◌, nat_lt, nat_le, Bool, not, ◌&&◌, ◌||◌, is_some, is_none, Some, List, [], ◌∷◌, ◌++◌, length, count_by}
 use Rattle.std.specs.List.{list_any, list_all}
 use Rattle.lis_blockmap.specs.Bitmap.{free_count}
 use Rattle.lis_dict.specs.Dict.{Dict, number_of}
