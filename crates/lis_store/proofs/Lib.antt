@@ -4,5 +4,6 @@ pub mod Standing
 pub mod EmptyStore
 mod Finding
 pub mod Facts
+pub mod Here
 mod NewWords
 pub mod Admitted
