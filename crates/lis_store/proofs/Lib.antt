@@ -14,3 +14,5 @@ pub mod Committing
 pub mod Judging
 pub mod Declaring
 pub mod Mkdir
+mod NewWords
+pub mod Admitted
