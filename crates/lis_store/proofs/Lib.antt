@@ -2,3 +2,6 @@ pub mod OneState
 pub mod Empty
 pub mod Standing
 pub mod EmptyStore
+pub mod FewerFiles
+pub mod Forgetting
+pub mod Removing
