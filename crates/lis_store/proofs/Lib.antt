@@ -5,3 +5,6 @@ pub mod EmptyStore
 pub mod FewerFiles
 pub mod Forgetting
 pub mod Removing
+pub mod Staged
+pub mod Blocks
+pub mod Committing

@@ -6,3 +6,4 @@ pub mod Blank
 pub mod Changes
 pub mod Inside
 pub mod Removing
+pub mod Staging
