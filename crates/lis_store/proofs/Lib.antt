@@ -8,3 +8,5 @@ pub mod Removing
 pub mod Staged
 pub mod Blocks
 pub mod Committing
+mod Finding
+pub mod Facts
