@@ -36,7 +36,7 @@ pub zeros-part : (at n total : ℕ) → at + n ≤ total → part at n (zeros to
 unfolding zeros
 zeros-part at n total le = ap (take n) (drop-replicate at total 0) ∙ take-replicate n (total - at) 0 (omega arith)
 
-same_given : {X : Type 0} (n k : ℕ) (x y : X) → slice_get (replicate n x) k ≡ Some y → (k < n) × (x ≡ y)
+pub same_given : {X : Type 0} (n k : ℕ) (x y : X) → slice_get (replicate n x) k ≡ Some y → (k < n) × (x ≡ y)
 same_given n k x y is =
     let within : k < n = omega (arith, slice_get_within (replicate n x) k y is, length-replicate n x) in
     (within, sym (get_or-replicate n k x x within) ∙ get_or_from_slice_get (replicate n x) k y x is)
@@ -62,7 +62,7 @@ none_declared : (n : ℕ) → all_declared (replicate n FreeProp) ≡ []
 none_declared zero = refl
 none_declared (suc n) = none_declared n
 
-all_free : (n : ℕ) → list_all is_free_axiom (replicate n FreeAxiom) ≡ true
+pub all_free : (n : ℕ) → list_all is_free_axiom (replicate n FreeAxiom) ≡ true
 all_free zero = refl
 all_free (suc n) = all_free n
 

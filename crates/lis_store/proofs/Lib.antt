@@ -1,5 +1,7 @@
 pub mod OneState
 pub mod Empty
+pub mod SlotOrder
+pub mod Telling
 pub mod Standing
 pub mod EmptyStore
 pub mod FewerFiles
