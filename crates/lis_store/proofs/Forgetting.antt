@@ -1,9 +1,11 @@
 -- What is known of words when those that nothing has any more are forgotten.
-use Rattle.std.proofs.Common.{◌≡◌, ◌⊎◌, refl, sym, ap, ◌∙◌, subst, inl, inr, ℕ, ◌+◌, ◌<◌, ◌≤◌, ◌==◌, ◌&&◌, ◌||◌, not, Bool, true, false, cond, List, [], ◌∷◌, ◌++◌, length, Option, Some, None, IsTrue, arith, length-append}
-use Rattle.std.proofs.lemmas.Bool.{and_parts, both_ways, cases_Bool, or_cases, not-true, not_from_true, false_from_ne_true, eqb-true, eq-eqb}
+use Rattle.std.proofs.Common.{◌≡◌, ◌⊎◌, refl, sym, ap, ◌∙◌, subst, inl, inr, ℕ, ◌+◌, ◌/◌, ◌<◌, ◌≤◌, ◌==◌, ◌&&◌, ◌||◌, not, Bool, true, false, cond, List, [], ◌∷◌, ◌++◌, Option, Some, None, IsTrue, arith, length-append}
+use Rattle.std.proofs.lemmas.Bool.{and_parts, both_ways, or_cases, not-true, false_from_ne_true, eqb-true, ne_eqb}
 use Rattle.std.proofs.lemmas.List.Folds.{list_any-append}
 use Rattle.lis_graph.proofs.Members.{Among, any_from_among}
 use Rattle.lis_journal.specs.Journal.{Held}
+use Rattle.lis_journal.specs.Phases.{looked}
+use Rattle.lis_slots.specs.Slots.{slot}
 use Rattle.lis_blockmap.specs.Bitmap.{is_taken}
 use Rattle.lis_content.specs.Content.{has_number}
 use Rattle.lis_dict.specs.Dict.{Dict, IsDict, number_of, word_of, without_word}
@@ -11,16 +13,18 @@ use Rattle.lis_dict.proofs.Laws.{number_from_word, word_from_number, word_of-wit
 use Rattle.lis_laws.proofs.Counts.{filter_le}
 use Rattle.lis_words.specs.Words.{same_word}
 use Rattle.lis_catalog.specs.Catalog.{Catalog, Filed}
-use Rattle.lis_fields.specs.Layouts.{is_prop}
+use Rattle.lis_fields.specs.Layouts.{prop_bytes, is_prop}
 use Rattle.lis_model.specs.declared.limits.Limits.{Limits}
+use Rattle.lis_model.specs.Ranges.{are_in_range}
+use Rattle.lis_model.specs.Image.{axioms_start}
+use Rattle.lis_store.specs.Stands.{property_slots}
 use Rattle.lis_store.specs.Kept.{property_by, property_at, bit_of}
+use Rattle.lis_store.specs.Staging.{StagesOnly}
 use Rattle.lis_store.specs.Removing.{is_tagged, is_unused, WordsForgotten, Forgets}
 use Rattle.lis_store.proofs.FewerFiles.{number_from_among}
+use Rattle.lis_store.proofs.Staged.{whole_properties, properties_staged}
 
 -- ---- one number after another
-left_by : Bool → Option (List ℕ) → Option (List ℕ)
-left_by unused word = cond unused None word
-
 module _ (declared : List Bool) (catalog : Catalog) where
   forgotten_none : (d : Dict) → IsDict d → WordsForgotten declared catalog [] d d
   forgotten_none d dict = record { props = refl; dict = dict; words = λ n. refl }
@@ -147,6 +151,33 @@ module _ (limits : Limits) (declared : List Bool) (catalog : Catalog) where
     broken = refl;
     few = omega arith;
   }
+
+  -- a word that is taken out, where its slot is staged
+  pub forgets_one : (d new : Dict) (n : ℕ) (word : List ℕ) (before now : Held) → IsTrue (are_in_range limits) → n < limits.props → IsDict d
+      → (is_taken declared n || is_tagged catalog n) ≡ false → word_of d n ≡ Some word → new ≡ without_word d word → StagesOnly (578 + n / 64) before now
+      → ((kept : ℕ → List ℕ) (m : ℕ) → m < limits.props → m / 64 ≡ n / 64 → slot (property_slots limits) (looked now.staged kept) m ≡ prop_bytes (property_at new declared m))
+      → Forgets limits declared catalog (n ∷ []) d new before now
+  forgets_one d new n word before now range below dict unused there is only slots = record {
+    words = words;
+    properties = λ kept are. properties_staged limits d new declared declared before now kept n range below are only (slots kept) other_slot;
+    others = λ m was other. only.others m was (ne_eqb m (578 + n / 64) (λ e. outside m e other));
+    image = only.image;
+    broken = only.broken;
+    few = omega (arith, only.few);
+  }
+    where
+      words : WordsForgotten declared catalog (n ∷ []) d new
+      words = subst (λ (e : Dict). WordsForgotten declared catalog (n ∷ []) d e) (sym is) (forgotten_one declared catalog d n word dict unused there)
+
+      other_slot : (m : ℕ) → (m / 64 ≡ n / 64 → ⊥) → property_at new declared m ≡ property_at d declared m
+      other_slot m differ =
+          let apart : (n == m) ≡ false = ne_eqb n m (λ e. differ (ap (λ i. i / 64) (sym e))) in
+          let used : is_unused declared catalog (n ∷ []) m ≡ false = ap (λ b. (b || false) && not (is_taken declared m) && not (is_tagged catalog m)) apart in
+          ap (λ w. property_by w (is_taken declared m)) (words.words m ∙ ap (λ b. cond b None (word_of d m)) used)
+
+      outside : (m : ℕ) → m ≡ 578 + n / 64 → (m < 578) ⊎ (axioms_start limits ≤ m) → ⊥
+      outside m e (inl before_all) = omega (arith, e, before_all)
+      outside m e (inr behind) = omega (arith, e, behind, below, whole_properties limits range)
 
 -- ---- what is left of the words
 module _ (declared : List Bool) (catalog : Catalog) (numbers : List ℕ) (old new : Dict) (left : WordsForgotten declared catalog numbers old new) where

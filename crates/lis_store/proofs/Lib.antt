@@ -6,7 +6,9 @@ pub mod Standing
 pub mod EmptyStore
 pub mod FewerFiles
 pub mod Forgetting
-pub mod Removing
+pub mod Removed
+pub mod Tags
+pub mod RemovalStaged
 pub mod Staged
 pub mod Blocks
 pub mod Committing

@@ -5,6 +5,7 @@ ghost use Rattle.lis_store.specs.Laws.{OneState, FittingStoresStand, FittingStor
 
 mod change;
 pub mod parts;
+mod removing;
 mod seen;
 mod staging;
 mod store;

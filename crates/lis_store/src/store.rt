@@ -18,6 +18,7 @@ ghost use Rattle.lis_store.specs.Changes.{Changes, HasChangeCause, ChangeLeft};
 
 use crate::change::Change;
 use crate::parts::data_start;
+use crate::removing::remove_file;
 use crate::seen::{known_words, make_table, seen_slot};
 use lis_bits::Rows;
 use lis_blockmap::BlockMap;
@@ -26,6 +27,7 @@ use lis_dict::Dict;
 use lis_journal::Journal;
 use lis_model::command::Tags;
 use lis_model::limits::Limits;
+use lis_model::refusal::Refusal;
 use lis_place::Place;
 use lis_ports::{Disk, Failed};
 use lis_table::table::Table;
@@ -254,6 +256,19 @@ impl Store {
         ensures run { IsDiskRun (D.meaning disk.old) (D.meaning disk.new) }
         ensures cause { HasChangeCause (D.meaning disk.old).disk_faults (D.meaning disk.new).disk_faults result }
     {
-        Err(Change::NoMemory)
+        let Some(slot) = seen_slot(alloc, &self.dict, &self.catalog, place, name)? else {
+            return Err(Change::Refused(Refusal::NoFileHere));
+        };
+        remove_file(
+            &mut self.journal,
+            &self.limits,
+            &mut self.dict,
+            &self.declared,
+            &mut self.catalog,
+            &mut self.map,
+            slot,
+        );
+        self.journal.commit(disk)?;
+        Ok(())
     }
 }
