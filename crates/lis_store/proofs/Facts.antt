@@ -1,5 +1,5 @@
 -- What a store says of the state that it tells, in other words.
-use Rattle.std.proofs.Common.{◌≡◌, refl, sym, ap, ap₂, ◌∙◌, subst, inr, ℕ, ◌+◌, ◌*◌, ◌<◌, ◌≤◌, ◌==◌, ◌&&◌, nat_lt, nat_le, Bool, true, false, cond, is_some, List, [], ◌∷◌, ◌++◌, length, map, take, drop, Option, Some, None, arith, length-drop}
+use Rattle.std.proofs.Common.{◌≡◌, refl, sym, ap, ap₂, ◌∙◌, subst, inr, ℕ, ◌+◌, ◌*◌, ◌<◌, ◌≤◌, ◌==◌, ◌&&◌, nat_lt, nat_le, Bool, true, false, cond, is_some, List, [], ◌∷◌, length, map, drop, Some, arith, length-drop}
 use Rattle.std.specs.Prelude.{sum, option_map}
 use Rattle.std.specs.List.{find, flat_map, list_all}
 use Rattle.std.proofs.lemmas.Bool.{and_parts, eq-eqb, eqb-true, leb-true, ltb-true}
@@ -15,8 +15,8 @@ use Rattle.lis_blockmap.specs.Bitmap.{is_taken, free_count}
 use Rattle.lis_content.specs.Content.{content, are_taken, are_distinct}
 use Rattle.lis_dict.specs.Dict.{Dict, words, number_of, word_of}
 use Rattle.lis_dict.proofs.Laws.{among_from_number, number_from_among}
-use Rattle.lis_catalog.specs.Catalog.{Filed, slot_of, rec_at}
-use Rattle.lis_catalog.proofs.Laws.{slot_of-rec_at}
+use Rattle.lis_catalog.specs.Catalog.{Catalog, Filed, IsCatalog, slot_of, rec_at}
+use Rattle.lis_catalog.proofs.Laws.{rec_at-slot_of, slot_of-rec_at}
 use Rattle.lis_model.specs.declared.limits.Limits.{Limits}
 use Rattle.lis_model.specs.Image.{data_start}
 use Rattle.lis_model.specs.Sets.{set_of}
@@ -27,6 +27,28 @@ use Rattle.lis_laws.proofs.Counts.{all_among, all_from}
 use Rattle.lis_store.specs.Kept.{Kept, IsSound, words_told, file_told, used_by, is_sound_record, Tells, StoreFits}
 use Rattle.lis_store.specs.Seen.{entry_by, entries_told, table_of, is_among}
 use Rattle.lis_store.proofs.Finding.{find_among, any_is_found, any_map, is_some-map, found_has, found_apart, distinct_piece, free_counted, length-whole, counted_pieces, map_same, map_map}
+
+-- ---- files by their slots
+module _ (c : Catalog) (is : IsCatalog c) where
+  pub filed_rec : (f : Filed) → Among c.entries f → rec_at c f.slot ≡ Some f.rec
+  filed_rec f m = ap (option_map (λ (g : Filed). g.rec)) (found_apart (λ (g : Filed). g.slot) c.entries f is.apart m)
+
+  pub filed_slot : (f : Filed) → Among c.entries f → slot_of c f.rec.name ≡ Some f.slot
+  filed_slot f m = slot_of-rec_at c f.slot f.rec is (filed_rec f m)
+
+  pub filed_at_slot : (slot : ℕ) (rec : FileRecord) → rec_at c slot ≡ Some rec → Among c.entries (record { slot = slot; rec = rec })
+  filed_at_slot slot rec there =
+      let found = found_has (λ (f : Filed). f.rec) rec (find (λ (f : Filed). f.slot == slot) c.entries) there in
+      let m = find_among (λ (f : Filed). f.slot == slot) c.entries found.0 found.1 in
+      subst (λ (r : FileRecord). Among c.entries (record { slot = slot; rec = r })) found.2
+      (subst (λ n. Among c.entries (record { slot = n; rec = (found.0).rec })) (eqb-true (found.0).slot slot m.1) m.0)
+
+  -- the record in the slot of a name has the name
+  pub filed_named : (name : List ℕ) (slot : ℕ) (rec : FileRecord) → slot_of c name ≡ Some slot → rec_at c slot ≡ Some rec → Among c.entries (record { slot = slot; rec = rec }) × (rec.name ≡ name)
+  filed_named name slot rec is_slot is_rec =
+      let found = rec_at-slot_of c name slot is is_slot in
+      let same : found.0 ≡ rec = same_Some found.0 rec (sym found.1 ∙ is_rec) in
+      (filed_at_slot slot rec is_rec, ap (λ (r : FileRecord). r.name) (sym same) ∙ found.2)
 
 -- ---- what is sound
 record SoundParts (dict : Dict) (blocks : ℕ) (rec : FileRecord) : Type 0 where
@@ -52,17 +74,13 @@ parts_of dict blocks rec sound =
 module _ (k : Kept) (sound : IsSound k) where
   -- a file's slot and its record are among what is kept, and what is kept is found by the slot and by the name
   pub filed_at : (slot : ℕ) (rec : FileRecord) → rec_at k.catalog slot ≡ Some rec → Among k.catalog.entries (record { slot = slot; rec = rec })
-  filed_at slot rec is =
-      let found = found_has (λ (f : Filed). f.rec) rec (find (λ (f : Filed). f.slot == slot) k.catalog.entries) is in
-      let m = find_among (λ (f : Filed). f.slot == slot) k.catalog.entries found.0 found.1 in
-      subst (λ (r : FileRecord). Among k.catalog.entries (record { slot = slot; rec = r })) found.2
-      (subst (λ n. Among k.catalog.entries (record { slot = n; rec = (found.0).rec })) (eqb-true (found.0).slot slot m.1) m.0)
+  filed_at slot rec is = filed_at_slot k.catalog sound.catalog slot rec is
 
   pub rec_of_filed : (f : Filed) → Among k.catalog.entries f → rec_at k.catalog f.slot ≡ Some f.rec
-  rec_of_filed f m = ap (option_map (λ (g : Filed). g.rec)) (found_apart (λ (g : Filed). g.slot) k.catalog.entries f sound.catalog.apart m)
+  rec_of_filed f m = filed_rec k.catalog sound.catalog f m
 
   pub slot_of_filed : (f : Filed) → Among k.catalog.entries f → slot_of k.catalog f.rec.name ≡ Some f.slot
-  slot_of_filed f m = slot_of-rec_at k.catalog f.slot f.rec sound.catalog (rec_of_filed f m)
+  slot_of_filed f m = filed_slot k.catalog sound.catalog f m
 
   -- the record of a file
   pub rec_is_sound : (f : Filed) → Among k.catalog.entries f → is_sound_record k.dict k.limits.blocks f.rec ≡ true
@@ -142,6 +160,22 @@ module _ (k : Kept) (at : ℕ → List ℕ) (s : State) (tells : Tells k at s) w
 
   pub filed_of_file : (file : File) → Among s.files file → (f : Filed) × Among k.catalog.entries f × (file_told k.limits k.dict at f ≡ file)
   filed_of_file file m = among_map (file_told k.limits k.dict at) k.catalog.entries file (subst (λ fs. Among fs file) (sym tells.files) m)
+
+  -- the file of a name by its slot, and the slot of a file
+  pub file_of_name : (name : List ℕ) (slot : ℕ) (rec : FileRecord) → slot_of k.catalog name ≡ Some slot → rec_at k.catalog slot ≡ Some rec
+      → Among s.files (file_told k.limits k.dict at (record { slot = slot; rec = rec })) × (rec.name ≡ name)
+  file_of_name name slot rec is_slot is_rec =
+      let there = filed_named k.catalog tells.sound.catalog name slot rec is_slot is_rec in
+      (file_of_filed (record { slot = slot; rec = rec }) there.0, there.1)
+
+  pub slot_of_file : (file : File) → Among s.files file → (f : Filed) × (slot_of k.catalog file.name ≡ Some f.slot) × (rec_at k.catalog f.slot ≡ Some f.rec) × (file_told k.limits k.dict at f ≡ file)
+  slot_of_file file m =
+      let found = filed_of_file file m in (
+        found.0,
+        ap (λ (other : File). slot_of k.catalog other.name) (sym found.2) ∙ slot_of_filed k tells.sound found.0 found.1,
+        rec_of_filed k tells.sound found.0 found.1,
+        found.2,
+      )
 
   -- the bytes of the file in a slot
   pub bytes_told : (name : List ℕ) (slot : ℕ) (rec : FileRecord) → slot_of k.catalog name ≡ Some slot → rec_at k.catalog slot ≡ Some rec

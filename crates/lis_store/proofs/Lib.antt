@@ -14,3 +14,5 @@ pub mod Blocks
 pub mod Committing
 mod Finding
 pub mod Facts
+pub mod Here
+mod Reading
