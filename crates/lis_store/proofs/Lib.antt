@@ -1,8 +1,8 @@
 pub mod OneState
-pub mod Empty
 pub mod SlotOrder
 pub mod Telling
 pub mod Standing
+pub mod Empty
 pub mod EmptyStore
 pub mod FewerFiles
 pub mod Forgetting

@@ -1,5 +1,5 @@
 -- What a store tells of a state, its slots and blocks spell.
-use Rattle.std.proofs.Common.{◌≡◌, ◌⊎◌, refl, sym, ap, ap₂, ◌∙◌, subst, inl, inr, ℕ, ◌<◌, ◌≤◌, ◌==◌, ◌||◌, ◌&&◌, nat_lt, eqb, Bool, true, false, is_some, Option, Some, None, option_map, option_to_list, List, [], ◌∷◌, length, get_or, map, set, replicate, IsTrue, arith, append-nil, length-set, get_or-set_same, get_or-set_other}
+use Rattle.std.proofs.Common.{◌≡◌, ◌⊎◌, refl, sym, ap, ap₂, ◌∙◌, subst, inl, inr, ℕ, zero, suc, ◌<◌, ◌≤◌, ◌==◌, ◌||◌, ◌&&◌, nat_lt, eqb, Bool, true, false, is_some, Option, Some, None, option_map, option_to_list, List, [], ◌∷◌, length, get_or, map, set, replicate, slice_get, IsTrue, arith, append-nil, length-set, get_or-set_same, get_or-set_other}
 use Rattle.std.specs.declared.cmp.Ordering.{Ordering}
 use Rattle.std.specs.declared.cmp.Ordering.TheVariants.{Less, Equal, Greater}
 use Rattle.std.specs.Ordering.{match_ordering, ordering_reverse}
@@ -9,6 +9,7 @@ use Rattle.std.specs.List.{AllByRecursion, find, fold, flat_map, list_all, range
 use Rattle.std.specs.List.Sorted.{IsPermutation, IsStrictlySortedBy}
 use Rattle.std.proofs.lemmas.Bool.{and_parts, ltb-true, eq-eqb, ne_eqb, cases_eq, cases_lt}
 use Rattle.std.proofs.lemmas.List.{get_or_default, get_or_past, length-replicate, get_or-replicate, length-map, same_lists}
+use Rattle.std.proofs.lemmas.Option.{slice_get_within, get_or_from_slice_get}
 use Rattle.std.proofs.lemmas.List.Concat.{flat_map_single}
 use Rattle.std.proofs.lemmas.List.Folds.{flat_map-map}
 use Rattle.std.proofs.lemmas.List.FromFn.{length-map-range_with_len, get_or-map-range_with_len}
@@ -38,9 +39,8 @@ use Rattle.lis_laws.proofs.Counts.{all_among, all_from, all_weaker}
 use Rattle.lis_laws.proofs.Forms.{file_order}
 use Rattle.lis_laws.proofs.Known.{sorted_known}
 use Rattle.lis_laws.proofs.Members.{word_order, among_from_has_word, has_word_from_among, among_set_of, set_of_among, sorted_set_of, same_words}
-use Rattle.lis_store.specs.Stands.{property_slots, axiom_slots, file_slots, AreSlots, word_in, declared_in, words_in, all_declared, word_at, records_in, all_records, all_blocks, file_of, spelled_state, are_named, Spells}
+use Rattle.lis_store.specs.Stands.{property_slots, axiom_slots, file_slots, AreSlots, word_in, declared_in, words_in, all_declared, word_at, is_free_axiom, records_in, all_records, all_blocks, file_of, spelled_state, are_named, Spells}
 use Rattle.lis_store.specs.Kept.{Kept, property_by, property_at, file_by, record_at, contents_of, bit_of, is_declared, words_told, file_told, used_by, is_sound_record, IsSound, Tells}
-use Rattle.lis_store.proofs.Empty.{same_given, all_free}
 use Rattle.lis_store.proofs.SlotOrder.{given_at, found_among, flat_map_same, flat_map-flat_map, permuted_among, distinct_permuted, held, held_at, slot_order}
 
 -- ---- points of which no two tie, put into a set
@@ -87,7 +87,7 @@ module _ {K : Type 0} (cmp : K → K → Ordering) (order : IsTotalOrder cmp) wh
   one_point (z ∷ xs) sorted x y (inr here) (inr there) tied = one_point xs (sorted_tail cmp order z xs sorted) x y here there tied
 
   -- the set of these points is a set with the same members
-  pub set_of_points : (xs ys : List K) → IsStrictlySortedBy cmp ys → ((x : K) → Among xs x → Among ys x) → ((x : K) → Among ys x → Among xs x) → ys ≡ with_more cmp [] xs
+  set_of_points : (xs ys : List K) → IsStrictlySortedBy cmp ys → ((x : K) → Among xs x → Among ys x) → ((x : K) → Among ys x → Among xs x) → ys ≡ with_more cmp [] xs
   set_of_points xs ys sorted to from =
       same_sets cmp order ys (with_more cmp [] xs) sorted (sorted_with_more cmp order [] xs (sorted_nil cmp order))
       (λ x m. more_among [] xs one x (from x m))
@@ -101,7 +101,7 @@ module _ {K : Type 0} (cmp : K → K → Ordering) (order : IsTotalOrder cmp) wh
       one k x here there tied = one_point ys sorted k x (to k here) (to x (of_points x there)) tied
 
 -- ---- what is taken
-pub taken_after : (taken : List Bool) (ns : List ℕ) (n : ℕ) → n < length taken → is_taken (marked taken ns) n ≡ (has_number ns n || is_taken taken n)
+taken_after : (taken : List Bool) (ns : List ℕ) (n : ℕ) → n < length taken → is_taken (marked taken ns) n ≡ (has_number ns n || is_taken taken n)
 taken_after taken [] n lt = refl
 taken_after taken (b ∷ ns) n lt = taken_after (set taken b true) ns n (omega (arith, lt, length-set taken b true)) ∙ by (cases_eq b n) (has_number ns n)
   where
@@ -122,7 +122,7 @@ none_or true = refl
 none_or false = refl
 
 -- a row of bits that tells these numbers
-pub marks_are : (taken : List Bool) (ns : List ℕ) (blocks : ℕ) → length taken ≡ blocks → ((n : ℕ) → n < blocks → is_taken taken n ≡ has_number ns n) → taken ≡ marked (replicate blocks false) ns
+marks_are : (taken : List Bool) (ns : List ℕ) (blocks : ℕ) → length taken ≡ blocks → ((n : ℕ) → n < blocks → is_taken taken n ≡ has_number ns n) → taken ≡ marked (replicate blocks false) ns
 marks_are taken ns blocks len each =
     same_lists taken (marked (replicate blocks false) ns) (len ∙ sym long) (λ n d lt.
     let within : n < blocks = omega (arith, lt, len) in
@@ -140,6 +140,15 @@ marks_are taken ns blocks len each =
         ∙ (ap (λ t. has_number ns n || t) (get_or-replicate blocks n false false within) ∙ none_or (has_number ns n))
 
 -- ---- slots by their numbers
+same_given : {X : Type 0} (n k : ℕ) (x y : X) → slice_get (replicate n x) k ≡ Some y → (k < n) × (x ≡ y)
+same_given n k x y is =
+    let within : k < n = omega (arith, slice_get_within (replicate n x) k y is, length-replicate n x) in
+    (within, sym (get_or-replicate n k x x within) ∙ get_or_from_slice_get (replicate n x) k y x is)
+
+all_free : (n : ℕ) → list_all is_free_axiom (replicate n FreeAxiom) ≡ true
+all_free zero = refl
+all_free (suc n) = all_free n
+
 word_by : (o : Option (List ℕ)) (b : Bool) → word_in (property_by o b) ≡ o
 word_by None b = refl
 word_by (Some w) true = refl
@@ -151,10 +160,10 @@ declared_by (Some v) true w (inl same) = (ap Some same, refl)
 declared_by (Some v) true w (inr m) = absurd m
 declared_by (Some v) false w m = absurd m
 
-abbrev pub properties_told : Kept → List PropSlot
+abbrev properties_told : Kept → List PropSlot
 properties_told k = map (property_at k.dict k.declared) (range_with_len 0 k.limits.props)
 
-abbrev pub files_told : Kept → List FileSlot
+abbrev files_told : Kept → List FileSlot
 files_told k = map (record_at k.catalog) (range_with_len 0 k.limits.files)
 
 module _ (k : Kept) (sound : IsSound k) where
@@ -182,7 +191,7 @@ module _ (k : Kept) (sound : IsSound k) where
   entry_in : (e : List ℕ × ℕ) → Among k.dict.entries e → e.1 < k.limits.props
   entry_in e m = number_in e.0 e.1 (number_from_among k.dict sound.dict e.0 e.1 m)
 
-  pub words_permuted : IsPermutation (words k.dict) (words_in (properties_told k))
+  words_permuted : IsPermutation (words k.dict) (words_in (properties_told k))
   words_permuted =
       let parts : List ℕ × ℕ → List (List ℕ) = λ (e : List ℕ × ℕ). e.0 ∷ [] in
       let here : words_in (map property numbers) ≡ flat_map (held_at (λ (e : List ℕ × ℕ). e.1) parts k.dict.entries) numbers =
@@ -198,7 +207,7 @@ module _ (k : Kept) (sound : IsSound k) where
       by None is = refl
       by (Some w) is = absurd (let lt = number_in w n (number_from_word k.dict sound.dict w n is) in omega (arith, lt, past))
 
-  pub word_at_told : (n : ℕ) → word_at (properties_told k) n ≡ word_of k.dict n
+  word_at_told : (n : ℕ) → word_at (properties_told k) n ≡ word_of k.dict n
   word_at_told n = by (cases_lt n k.limits.props)
     where
       by : (n < k.limits.props) ⊎ (k.limits.props ≤ n) → word_at (properties_told k) n ≡ word_of k.dict n
@@ -242,7 +251,7 @@ module _ (k : Kept) (sound : IsSound k) where
   record_once None = refl
   record_once (Some f) = refl
 
-  pub records_permuted : IsPermutation (map (λ (f : Filed). f.rec) k.catalog.entries) (all_records (files_told k))
+  records_permuted : IsPermutation (map (λ (f : Filed). f.rec) k.catalog.entries) (all_records (files_told k))
   records_permuted =
       let parts : Filed → List FileRecord = λ (f : Filed). f.rec ∷ [] in
       let here : all_records (files_told k) ≡ flat_map (held_at (λ (f : Filed). f.slot) parts k.catalog.entries) slots =
@@ -255,7 +264,7 @@ module _ (k : Kept) (sound : IsSound k) where
   blocks_once None = refl
   blocks_once (Some f) = append-nil f.rec.blocks
 
-  pub blocks_permuted : IsPermutation (used_by k.catalog) (all_blocks (all_records (files_told k)))
+  blocks_permuted : IsPermutation (used_by k.catalog) (all_blocks (all_records (files_told k)))
   blocks_permuted =
       let parts : Filed → List ℕ = λ (f : Filed). f.rec.blocks in
       let here : all_blocks (all_records (files_told k)) ≡ flat_map (held_at (λ (f : Filed). f.slot) parts k.catalog.entries) slots =
@@ -265,15 +274,15 @@ module _ (k : Kept) (sound : IsSound k) where
       subst (λ xs. IsPermutation (used_by k.catalog) xs) (sym here) (slot_order (λ (f : Filed). f.slot) parts k.limits.files k.catalog.entries sound.catalog.apart filed_in)
 
   -- a record in a slot is that of an entry, and the other way round
-  pub recorded_entry : (rec : FileRecord) → Among (all_records (files_told k)) rec → (f : Filed) × Among k.catalog.entries f × (f.rec ≡ rec)
+  recorded_entry : (rec : FileRecord) → Among (all_records (files_told k)) rec → (f : Filed) × Among k.catalog.entries f × (f.rec ≡ rec)
   recorded_entry rec m =
       among_map (λ (f : Filed). f.rec) k.catalog.entries rec
       (permuted_among (all_records (files_told k)) (map (λ (f : Filed). f.rec) k.catalog.entries) rec (IsPermutation-sym (map (λ (f : Filed). f.rec) k.catalog.entries) (all_records (files_told k)) records_permuted) m)
 
-  pub entry_recorded : (f : Filed) → Among k.catalog.entries f → Among (all_records (files_told k)) f.rec
+  entry_recorded : (f : Filed) → Among k.catalog.entries f → Among (all_records (files_told k)) f.rec
   entry_recorded f m = permuted_among (map (λ (f : Filed). f.rec) k.catalog.entries) (all_records (files_told k)) f.rec records_permuted (map_among (λ (f : Filed). f.rec) k.catalog.entries f m)
 
-  pub entry_sound : (f : Filed) → Among k.catalog.entries f → is_sound_record k.dict k.limits.blocks f.rec ≡ true
+  entry_sound : (f : Filed) → Among k.catalog.entries f → is_sound_record k.dict k.limits.blocks f.rec ≡ true
   entry_sound f m = all_among (λ (f : Filed). is_sound_record k.dict k.limits.blocks f.rec) k.catalog.entries f sound.records m
 
   sound_parts : (rec : FileRecord) → is_sound_record k.dict k.limits.blocks rec ≡ true
@@ -283,26 +292,26 @@ module _ (k : Kept) (sound : IsSound k) where
       let first = and_parts (is_record rec) (list_all (λ n. is_some (word_of k.dict n)) rec.tags) both.0 in
       (first.0, first.1, both.1)
 
-  pub record_in_form : (n : ℕ) → IsTrue (is_file (record_at k.catalog n))
+  record_in_form : (n : ℕ) → IsTrue (is_file (record_at k.catalog n))
   record_in_form n = by (filed_at n) refl
     where
       by : (o : Option Filed) → filed_at n ≡ o → IsTrue (is_file (file_by (option_map (λ (f : Filed). f.rec) o)))
       by None is = refl
       by (Some f) is = (sound_parts f.rec (entry_sound f (found_among (λ (f : Filed). f.slot == n) k.catalog.entries f is))).0
 
-  pub all_named : IsTrue (are_named (properties_told k) (all_records (files_told k)))
+  all_named : IsTrue (are_named (properties_told k) (all_records (files_told k)))
   all_named = all_from (λ (rec : FileRecord). list_all (λ n. is_some (word_at (properties_told k) n)) rec.tags) (all_records (files_told k)) (λ rec m.
       let f = recorded_entry rec m in
       subst (λ (r : FileRecord). list_all (λ n. is_some (word_at (properties_told k) n)) r.tags ≡ true) f.2
       (all_weaker (λ n. is_some (word_of k.dict n)) (λ n. is_some (word_at (properties_told k) n)) (f.0).rec.tags (λ n there h. ap is_some (word_at_told n) ∙ h) (sound_parts (f.0).rec (entry_sound f.0 f.1)).1))
 
-  pub all_in_image : IsTrue (list_all (λ n. nat_lt n k.limits.blocks) (all_blocks (all_records (files_told k))))
+  all_in_image : IsTrue (list_all (λ n. nat_lt n k.limits.blocks) (all_blocks (all_records (files_told k))))
   all_in_image = all_from (λ n. nat_lt n k.limits.blocks) (all_blocks (all_records (files_told k))) (λ n m.
       let found = among_flat_map (λ (rec : FileRecord). rec.blocks) (all_records (files_told k)) n m in
       let f = recorded_entry found.0 found.1 in
       all_among (λ j. nat_lt j k.limits.blocks) (found.0).blocks n (subst (λ (r : FileRecord). list_all (λ j. nat_lt j k.limits.blocks) r.blocks ≡ true) f.2 (sound_parts (f.0).rec (entry_sound f.0 f.1)).2) found.2)
 
-  pub taken_told : k.taken ≡ marked (replicate k.limits.blocks false) (all_blocks (all_records (files_told k)))
+  taken_told : k.taken ≡ marked (replicate k.limits.blocks false) (all_blocks (all_records (files_told k)))
   taken_told = marks_are k.taken (all_blocks (all_records (files_told k))) k.limits.blocks sound.blocks (λ n lt.
       sound.taken n lt ∙ list_any-IsPermutation (λ j. j == n) (used_by k.catalog) (all_blocks (all_records (files_told k))) blocks_permuted)
 
@@ -319,14 +328,14 @@ module _ (k : Kept) (sound : IsSound k) where
       let with_words : List (List ℕ) → File = λ ws. record (file_by_record at rec) { assigned = set_of ws } in
       ap with_words (flat_map_same (λ n. option_to_list (word_at (properties_told k) n)) (λ n. option_to_list (word_of k.dict n)) rec.tags (λ n m. ap option_to_list (word_at_told n)))
 
-  pub file_from_slot : (at : ℕ → List ℕ) (file : File) → Among (map (file_of k.limits (properties_told k) at) (all_records (files_told k))) file → Among (map (file_told k.limits k.dict at) k.catalog.entries) file
+  file_from_slot : (at : ℕ → List ℕ) (file : File) → Among (map (file_of k.limits (properties_told k) at) (all_records (files_told k))) file → Among (map (file_told k.limits k.dict at) k.catalog.entries) file
   file_from_slot at file m =
       let rec = among_map (file_of k.limits (properties_told k) at) (all_records (files_told k)) file m in
       let f = recorded_entry rec.0 rec.1 in
       let same : file_told k.limits k.dict at f.0 ≡ file = ap (file_by_record at) f.2 ∙ (sym (same_file at rec.0) ∙ rec.2) in
       subst (λ x. Among (map (file_told k.limits k.dict at) k.catalog.entries) x) same (map_among (file_told k.limits k.dict at) k.catalog.entries f.0 f.1)
 
-  pub file_in_slot : (at : ℕ → List ℕ) (file : File) → Among (map (file_told k.limits k.dict at) k.catalog.entries) file → Among (map (file_of k.limits (properties_told k) at) (all_records (files_told k))) file
+  file_in_slot : (at : ℕ → List ℕ) (file : File) → Among (map (file_told k.limits k.dict at) k.catalog.entries) file → Among (map (file_of k.limits (properties_told k) at) (all_records (files_told k))) file
   file_in_slot at file m =
       let f = among_map (file_told k.limits k.dict at) k.catalog.entries file m in
       subst (λ x. Among (map (file_of k.limits (properties_told k) at) (all_records (files_told k))) x) (same_file at (f.0).rec ∙ f.2)
