@@ -9,6 +9,7 @@ pub mod Forgetting
 pub mod Removed
 pub mod Tags
 pub mod RemovalStaged
+pub mod Rm
 pub mod Staged
 pub mod Blocks
 pub mod Committing
