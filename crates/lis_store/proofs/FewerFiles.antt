@@ -1,13 +1,12 @@
 -- What holds of files, their slots and their blocks, where one file fewer is left.
-use Rattle.std.proofs.Common.{◌≡◌, ◌⊎◌, refl, sym, ap, ◌∙◌, subst, inl, inr, ℕ, ◌<◌, ◌≤◌, nat_lt, ◌==◌, ◌&&◌, ◌||◌, not, Bool, true, false, cond, List, [], ◌∷◌, ◌++◌, length, map, filter, get_or, set, Option, Some, None, arith, get_or-set_same, get_or-set_other}
+use Rattle.std.proofs.Common.{◌≡◌, ◌⊎◌, refl, sym, ap, ◌∙◌, subst, inl, inr, ℕ, ◌<◌, ◌≤◌, nat_lt, ◌==◌, ◌&&◌, ◌||◌, not, Bool, true, false, cond, List, [], ◌∷◌, ◌++◌, length, map, filter, get_or, set, Option, Some, arith, get_or-set_same, get_or-set_other}
 use Rattle.std.specs.declared.cmp.Ordering.{Ordering}
-use Rattle.std.specs.Option.{option_map}
 use Rattle.std.specs.Ordering.{is_lt}
-use Rattle.std.specs.List.{flat_map, list_all, list_any, find}
+use Rattle.std.specs.List.{flat_map, list_all, list_any}
 use Rattle.std.proofs.lemmas.Bool.{and_parts, and_from, and_right, both_ways, cases_eq, cases_lt, eq-eqb, eqb-true, ne_eqb, false_from_ne_true, not-true, not_from_false}
 use Rattle.std.proofs.lemmas.List.{get_or_past, set_past}
 use Rattle.lis_graph.specs.Graph.{is_rising}
-use Rattle.lis_graph.proofs.Members.{Among, among_append, among_filter, among_flat_map, among_from_any, among_left, among_map, among_right, any_from_among, filter_among, flat_map_among, map_among}
+use Rattle.lis_graph.proofs.Members.{Among, among_append, among_filter, among_flat_map, among_from_any, among_map, among_right, any_from_among, filter_among, flat_map_among, map_among}
 use Rattle.lis_words.specs.Words.{word_cmp, is_file_name}
 use Rattle.lis_laws.proofs.Counts.{all_among, all_from, filter_le}
 use Rattle.lis_blockmap.specs.Bitmap.{is_taken}
@@ -16,6 +15,8 @@ use Rattle.lis_fields.specs.Records.{FileRecord}
 use Rattle.lis_fields.specs.Layouts.{are_distinct as slots_distinct}
 use Rattle.lis_catalog.specs.Catalog.{Catalog, Filed, IsCatalog, rec_at, without_slot}
 use Rattle.lis_store.specs.Kept.{used_by}
+use Rattle.lis_store.proofs.Finding.{distinct_left, distinct_right}
+use Rattle.lis_store.proofs.Facts.{filed_rec, filed_at_slot}
 
 -- ---- tests
 pub same_tests : (a b : Bool) → (a ≡ true → b ≡ true) → (b ≡ true → a ≡ true) → a ≡ b
@@ -47,17 +48,6 @@ distinct_append (x ∷ xs) ys left right apart =
     by : Among xs x ⊎ Among ys x → ⊥
     by (inl m) = none_among xs x (not-true _ (and_parts (not (has_number xs x)) (are_distinct xs) left).0) m
     by (inr m) = apart x (inl refl) m
-
-distinct_left : (xs ys : List ℕ) → are_distinct (xs ++ ys) ≡ true → are_distinct xs ≡ true
-distinct_left [] ys h = refl
-distinct_left (x ∷ xs) ys h =
-    let parts = and_parts (not (has_number (xs ++ ys) x)) (are_distinct (xs ++ ys)) h in
-    and_from (not (has_number xs x)) (are_distinct xs) (not_from_false _ (no_number xs x (λ m. none_among (xs ++ ys) x (not-true _ parts.0) (among_left xs ys x m))))
-    (distinct_left xs ys parts.1)
-
-distinct_right : (xs ys : List ℕ) → are_distinct (xs ++ ys) ≡ true → are_distinct ys ≡ true
-distinct_right [] ys h = h
-distinct_right (x ∷ xs) ys h = distinct_right xs ys (and_parts (not (has_number (xs ++ ys) x)) (are_distinct (xs ++ ys)) h).1
 
 distinct_apart : (xs ys : List ℕ) → are_distinct (xs ++ ys) ≡ true → (n : ℕ) → Among xs n → Among ys n → ⊥
 distinct_apart [] ys h n in_xs in_ys = in_xs
@@ -94,11 +84,6 @@ distinct_filter keep (e ∷ es) h = by (keep e) (distinct_filter keep es (distin
     by true rest =
         distinct_append e.rec.blocks (flat_map blocks_in (filter keep es)) (distinct_left e.rec.blocks (flat_map blocks_in es) h) rest
         (λ n here there. distinct_apart e.rec.blocks (flat_map blocks_in es) h n here (fewer n there))
-
-pub distinct_in : (es : List Filed) → are_distinct (flat_map blocks_in es) ≡ true → (f : Filed) → Among es f → are_distinct f.rec.blocks ≡ true
-distinct_in [] h f m = absurd m
-distinct_in (e ∷ es) h f (inl same) = subst (λ (k : Filed). are_distinct k.rec.blocks ≡ true) same (distinct_left e.rec.blocks (flat_map blocks_in es) h)
-distinct_in (e ∷ es) h f (inr m) = distinct_in es (distinct_right e.rec.blocks (flat_map blocks_in es) h) f m
 
 -- ---- blocks that are given back
 unset : (taken : List Bool) (n : ℕ) → get_or (set taken n false) n false ≡ false
@@ -167,59 +152,11 @@ catalog_without c slot is =
       few = omega (arith, is.few, filter_le keep c.entries);
     }
 
--- ---- a slot has one file
-one_file : (es : List Filed) → slots_distinct (map slot_in es) ≡ true → (f g : Filed) → Among es f → Among es g → f.slot ≡ g.slot → f ≡ g
-one_file [] h f g in_f in_g same = absurd in_f
-one_file (e ∷ es) h f g (inl is_f) (inl is_g) same = sym is_f ∙ is_g
-one_file (e ∷ es) h f g (inl is_f) (inr m) same =
-    absurd (none_among (map slot_in es) e.slot (not-true _ (and_parts (not (list_any (λ m. m == e.slot) (map slot_in es))) (slots_distinct (map slot_in es)) h).0)
-    (subst (λ k. Among (map slot_in es) k) (sym (ap slot_in is_f ∙ same)) (map_among slot_in es g m)))
-one_file (e ∷ es) h f g (inr m) (inl is_g) same =
-    absurd (none_among (map slot_in es) e.slot (not-true _ (and_parts (not (list_any (λ m. m == e.slot) (map slot_in es))) (slots_distinct (map slot_in es)) h).0)
-    (subst (λ k. Among (map slot_in es) k) (same ∙ sym (ap slot_in is_g)) (map_among slot_in es f m)))
-one_file (e ∷ es) h f g (inr in_f) (inr in_g) same =
-    one_file es (and_parts (not (list_any (λ m. m == e.slot) (map slot_in es))) (slots_distinct (map slot_in es)) h).1 f g in_f in_g same
-
-found_among : (test : Filed → Bool) (es : List Filed) (f : Filed) → find test es ≡ Some f → Among es f × (test f ≡ true)
-found_among test [] f is = absurd cc
-found_among test (e ∷ es) f is = by (test e) refl is (found_among test es f)
-  where
-    by : (b : Bool) → test e ≡ b → cond b (Some e) (find test es) ≡ Some f → (find test es ≡ Some f → Among es f × (test f ≡ true)) → Among (e ∷ es) f × (test f ≡ true)
-    by true passes found more = let same : e ≡ f = cc in (inl same, subst (λ (k : Filed). test k ≡ true) same passes)
-    by false fails found more = let rest = more found in (inr rest.0, rest.1)
-
-among_found : (test : Filed → Bool) (es : List Filed) (f : Filed) → Among es f → test f ≡ true → (g : Filed) × (find test es ≡ Some g)
-among_found test [] f m passes = absurd m
-among_found test (e ∷ es) f m passes = by (test e) refl m (λ deep. among_found test es f deep passes)
-  where
-    by : (b : Bool) → test e ≡ b → Among (e ∷ es) f → (Among es f → (g : Filed) × (find test es ≡ Some g)) → (g : Filed) × (cond b (Some e) (find test es) ≡ Some g)
-    by true is m more = (e, refl)
-    by false is (inl same) more = absurd (both_ways (test e) is (ap test same ∙ passes))
-    by false is (inr deep) more = more deep
-
-pub rec_among : (c : Catalog) (slot : ℕ) (rec : FileRecord) → rec_at c slot ≡ Some rec → Among c.entries (record { slot = slot; rec = rec })
-rec_among c slot rec is = by (find (λ (f : Filed). f.slot == slot) c.entries) refl is
-  where
-    by : (o : Option Filed) → find (λ (f : Filed). f.slot == slot) c.entries ≡ o → option_map (λ (f : Filed). f.rec) o ≡ Some rec → Among c.entries (record { slot = slot; rec = rec })
-    by None none some = absurd cc
-    by (Some f) found some =
-        let m = found_among (λ (g : Filed). g.slot == slot) c.entries f found in
-        let is_rec : f.rec ≡ rec = cc in
-        subst (λ (n : ℕ). Among c.entries (record { slot = n; rec = rec })) (eqb-true f.slot slot m.1)
-        (subst (λ (r : FileRecord). Among c.entries (record { slot = f.slot; rec = r })) is_rec m.0)
-
-pub rec_of_among : (c : Catalog) (f : Filed) → IsCatalog c → Among c.entries f → rec_at c f.slot ≡ Some f.rec
-rec_of_among c f is m =
-    let found = among_found (λ (g : Filed). g.slot == f.slot) c.entries f m (eq-eqb f.slot f.slot refl) in
-    let there = found_among (λ (g : Filed). g.slot == f.slot) c.entries found.0 found.1 in
-    let same = one_file c.entries is.apart found.0 f there.0 m (eqb-true found.0.slot f.slot there.1) in
-    ap (option_map (λ (g : Filed). g.rec)) found.1 ∙ ap (λ (g : Filed). Some g.rec) same
-
 -- ---- one file fewer
 module _ (c : Catalog) (slot : ℕ) (rec : FileRecord) (is : IsCatalog c) (there : rec_at c slot ≡ Some rec) where
   pub file_in_slot : (f : Filed) → Among c.entries f → f.slot ≡ slot → f.rec ≡ rec
   file_in_slot f m same =
-      let some : ◌≡◌ {A = Option FileRecord} (Some f.rec) (Some rec) = sym (rec_of_among c f is m) ∙ (ap (rec_at c) same ∙ there) in
+      let some : ◌≡◌ {A = Option FileRecord} (Some f.rec) (Some rec) = sym (filed_rec c is f m) ∙ (ap (rec_at c) same ∙ there) in
       cc
 
   pub left_among : (f : Filed) → Among (without_slot c slot).entries f → Among c.entries f × (f.slot ≡ slot → ⊥)
@@ -247,7 +184,7 @@ module _ (c : Catalog) (slot : ℕ) (rec : FileRecord) (is : IsCatalog c) (there
       not_own : (f : Filed) → Among (without_slot c slot).entries f → Among f.rec.blocks n → Among rec.blocks n → ⊥
       not_own f m of_f of_rec =
           let left = left_among f m in
-          left.1 (ap slot_in (one_owner c.entries apart f (record { slot = slot; rec = rec }) n left.0 (rec_among c slot rec there) of_f of_rec))
+          left.1 (ap slot_in (one_owner c.entries apart f (record { slot = slot; rec = rec }) n left.0 (filed_at_slot c is slot rec there) of_f of_rec))
 
       from : has_number (used_by (without_slot c slot)) n ≡ true → (has_number (used_by c) n && not (has_number rec.blocks n)) ≡ true
       from has =

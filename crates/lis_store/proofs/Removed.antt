@@ -1,22 +1,20 @@
 -- What is kept, and the state that it tells, when a file is taken away.
-use Rattle.std.proofs.Common.{◌≡◌, ◌⊎◌, refl, sym, ap, ap₂, ◌∙◌, subst, inl, inr, ℕ, ◌+◌, ◌<◌, ◌≤◌, nat_lt, ◌==◌, ◌&&◌, ◌||◌, not, Bool, true, false, cond, is_some, List, [], ◌∷◌, ◌++◌, length, map, filter, take, Option, Some, None, IsTrue, arith}
+use Rattle.std.proofs.Common.{◌≡◌, ◌⊎◌, refl, sym, ap, ap₂, ◌∙◌, subst, inl, inr, ℕ, ◌+◌, ◌≤◌, nat_lt, ◌==◌, ◌&&◌, not, Bool, true, false, cond, is_some, List, [], ◌∷◌, ◌++◌, map, filter, take, Option, Some, None, arith}
 use Rattle.std.specs.Option.{option_to_list}
 use Rattle.std.specs.List.{flat_map, list_all}
-use Rattle.std.proofs.lemmas.Bool.{and_parts, and_from, and_left, both_ways, cases_eq, eq-eqb, eqb-true, or_cases, not-true, not_from_true, not_from_false, false_from_ne_true}
-use Rattle.lis_graph.proofs.Members.{Among, among_append, among_filter, among_flat_map, among_from_any, among_left, among_map, filter_among, flat_map_among, map_among}
+use Rattle.std.proofs.lemmas.Bool.{and_parts, and_from, both_ways, cases_eq, eq-eqb, eqb-true, or_cases, not_from_false}
+use Rattle.lis_graph.proofs.Members.{Among, among_append, among_flat_map, among_from_any, among_left, among_map, flat_map_among, map_among}
 use Rattle.lis_graph.proofs.Sets.{sorted_from_rising}
 use Rattle.lis_journal.specs.Journal.{Held}
 use Rattle.lis_blockmap.specs.Bitmap.{is_taken}
-use Rattle.lis_content.specs.Content.{content, given, has_number}
+use Rattle.lis_content.specs.Content.{given, has_number}
 use Rattle.lis_content.proofs.Numbers.{length-given}
 use Rattle.lis_dict.specs.Dict.{Dict, IsDict, words, number_of, word_of}
 use Rattle.lis_dict.proofs.Laws.{among_from_word, number_from_word, word_from_among, word_from_number}
 use Rattle.lis_catalog.specs.Catalog.{Catalog, Filed, slot_of, rec_at, without_slot}
-use Rattle.lis_catalog.proofs.Laws.{slot_of-rec_at, rec_at-slot_of}
 use Rattle.lis_fields.specs.Records.{FileRecord}
 use Rattle.lis_fields.specs.Layouts.{is_record}
 use Rattle.lis_words.specs.Words.{word_cmp, same_word, has_word, head_bytes, is_plain_word, is_valued}
-use Rattle.lis_model.specs.declared.limits.Limits.{Limits}
 use Rattle.lis_model.specs.Image.{data_start, image_blocks}
 use Rattle.lis_model.specs.Sets.{set_of}
 use Rattle.lis_model.specs.Derived.{derived_words}
@@ -29,21 +27,16 @@ use Rattle.lis_laws.proofs.Counts.{all_among, all_from, all_weaker}
 use Rattle.lis_laws.proofs.Known.{sorted_known}
 use Rattle.lis_laws.proofs.Fresh.{plain_not_valued}
 use Rattle.lis_laws.proofs.Forms.{removes_file}
-use Rattle.lis_store.specs.Kept.{Kept, IsSound, is_sound_record, is_declared, words_told, file_told, bit_of, IsSpelled, Tells}
+use Rattle.lis_store.specs.Kept.{Kept, IsSound, is_sound_record, words_told, file_told, bit_of, IsSpelled, Tells}
 use Rattle.lis_store.specs.Removing.{is_tagged, is_unused, WordsForgotten}
-use Rattle.lis_store.proofs.FewerFiles.{among_from_number, number_from_among, distinct_filter, given_taken, catalog_without, rec_among, rec_of_among, file_in_slot, left_among, among_left_files, used_without, same_tests}
+use Rattle.lis_store.proofs.Finding.{map_same}
+use Rattle.lis_store.proofs.SlotOrder.{flat_map_same}
+use Rattle.lis_store.proofs.Facts.{filed_slot, filed_named}
+use Rattle.lis_store.proofs.FewerFiles.{among_from_number, number_from_among, distinct_filter, given_taken, catalog_without, file_in_slot, left_among, among_left_files, used_without, same_tests}
 use Rattle.lis_store.proofs.Forgetting.{forms_stay, word_was, word_stays, declared_stays, tagged_stays, bits_stay}
 
 -- ---- lists
 module _ {X Y : Type 0} where
-  map_same : (f g : X → Y) (xs : List X) → ((x : X) → Among xs x → f x ≡ g x) → map f xs ≡ map g xs
-  map_same f g [] same = refl
-  map_same f g (x ∷ xs) same = ap₂ (λ y ys. y ∷ ys) (same x (inl refl)) (map_same f g xs (λ z m. same z (inr m)))
-
-  flat_map_same : (f g : X → List Y) (xs : List X) → ((x : X) → Among xs x → f x ≡ g x) → flat_map f xs ≡ flat_map g xs
-  flat_map_same f g [] same = refl
-  flat_map_same f g (x ∷ xs) same = ap₂ (λ ys zs. ys ++ zs) (same x (inl refl)) (flat_map_same f g xs (λ z m. same z (inr m)))
-
   filter-map : (keep : Y → Bool) (f : X → Y) (xs : List X) → filter keep (map f xs) ≡ map f (filter (λ x. keep (f x)) xs)
   filter-map keep f [] = refl
   filter-map keep f (x ∷ xs) = by (keep (f x)) (filter-map keep f xs)
@@ -194,15 +187,13 @@ module _ (k : Kept) (slot : ℕ) (rec : FileRecord) (d : Dict) (at : ℕ → Lis
     where
       to : same_word f.rec.name name ≡ true → (f.slot == slot) ≡ true
       to same =
-          let is = slot_of-rec_at k.catalog f.slot f.rec tells.sound.catalog (rec_of_among k.catalog f tells.sound.catalog m) in
-          let some : ◌≡◌ {A = Option ℕ} (Some f.slot) (Some slot) = sym is ∙ (ap (slot_of k.catalog) ((same_word_decides f.rec.name name).0 same) ∙ named) in
+          let some : ◌≡◌ {A = Option ℕ} (Some f.slot) (Some slot) = sym (filed_slot k.catalog tells.sound.catalog f m) ∙ (ap (slot_of k.catalog) ((same_word_decides f.rec.name name).0 same) ∙ named) in
           eq-eqb f.slot slot cc
 
       from : (f.slot == slot) ≡ true → same_word f.rec.name name ≡ true
       from same =
-          let found = rec_at-slot_of k.catalog name slot tells.sound.catalog named in
-          let is : f.rec ≡ found.0 = file_in_slot k.catalog slot found.0 tells.sound.catalog found.1 f m (eqb-true f.slot slot same) in
-          (same_word_decides f.rec.name name).1 (ap (λ (r : FileRecord). r.name) is ∙ found.2)
+          let is : f.rec ≡ rec = file_in_slot k.catalog slot rec tells.sound.catalog there f m (eqb-true f.slot slot same) in
+          (same_word_decides f.rec.name name).1 (ap (λ (r : FileRecord). r.name) is ∙ (filed_named k.catalog tells.sound.catalog name slot rec named there).1)
 
   left_files : map (file_told k.limits k.dict at) c.entries ≡ t.files
   left_files =

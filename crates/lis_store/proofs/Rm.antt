@@ -1,18 +1,17 @@
 -- What a file that is taken away comes to.
-use Rattle.std.proofs.Common.{◌≡◌, ◌⊎◌, refl, sym, ap, ◌∙◌, subst, ℕ, ◌≤◌, not, Bool, true, false, cond, List, [], Option, Some, None, Result, Ok, Err, IsSomeAnd, arith}
+use Rattle.std.proofs.Common.{◌≡◌, refl, sym, ap, ◌∙◌, subst, ℕ, not, Bool, true, false, cond, List, [], Option, Some, None, Result, Ok, Err, IsSomeAnd}
 use Rattle.lis_ports.specs.Meaning.{Meaning}
 use Rattle.lis_ports.specs.Runs.{Leaves}
 use Rattle.lis_journal.specs.Journal.{Held}
 use Rattle.lis_journal.specs.Images.{StandsForAllOrNone, Fits, KeepsPast, look}
 use Rattle.lis_journal.specs.Phases.{looked}
 use Rattle.lis_content.specs.Content.{given}
-use Rattle.lis_catalog.specs.Catalog.{Catalog, slot_of, rec_at, without_slot}
+use Rattle.lis_catalog.specs.Catalog.{slot_of, rec_at, without_slot}
 use Rattle.lis_fields.specs.Records.{FileRecord}
 use Rattle.lis_grammar.specs.Formula.{Formula}
 use Rattle.lis_model.specs.declared.refusal.Refusal.TheVariants.{NoFileHere}
-use Rattle.lis_model.specs.Image.{data_start, image_blocks}
 use Rattle.lis_model.specs.State.{State}
-use Rattle.lis_model.specs.Step.{Situation, Outcome, refused, changed, is_here, without_file, rm}
+use Rattle.lis_model.specs.Step.{Situation, refused, changed, is_here, without_file, rm}
 use Rattle.lis_store.specs.declared.change.Change.{Change}
 use Rattle.lis_store.specs.declared.change.Change.TheVariants.{Refused, Disk}
 use Rattle.lis_store.specs.Kept.{Kept, IsSound, IsSpelled, Tells, StoreFits}
@@ -20,7 +19,7 @@ use Rattle.lis_store.specs.Seen.{entries_told, is_among}
 use Rattle.lis_store.specs.Changes.{Changes}
 use Rattle.lis_store.specs.Removing.{Removes}
 use Rattle.lis_store.proofs.Facts.{here_told}
-use Rattle.lis_store.proofs.Removed.{left, left_sound, left_tells}
+use Rattle.lis_store.proofs.Removed.{left_sound, left_tells}
 use Rattle.lis_store.proofs.Committing.{change_refused, change_kept, change_broke}
 
 -- ---- what is left is sound, and tells the state without the file

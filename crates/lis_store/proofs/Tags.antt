@@ -10,7 +10,7 @@ use Rattle.lis_content.specs.Content.{has_number}
 use Rattle.lis_catalog.specs.Catalog.{Catalog, Filed, IsCatalog, rec_at}
 use Rattle.lis_fields.specs.Records.{FileRecord}
 use Rattle.lis_store.specs.Removing.{is_tagged}
-use Rattle.lis_store.proofs.FewerFiles.{rec_of_among}
+use Rattle.lis_store.proofs.Facts.{filed_rec}
 
 -- what is told of a file by its place
 abbrev name_and_slot : Filed → List ℕ × ℕ
@@ -36,7 +36,7 @@ module _ (c : Catalog) (n k : ℕ) (is : IsCatalog c) (within : k < length c.ent
     record_there d =
         let some = found ∙ ap (option_map name_and_slot) (slice_get-get_or c.entries k d within) in
         let pair = same_Some (name, slot) (name_and_slot (get_or c.entries k d)) some in
-        ap (λ (p : List ℕ × ℕ). rec_at c p.1) pair ∙ rec_of_among c (get_or c.entries k d) is (file_at d)
+        ap (λ (p : List ℕ × ℕ). rec_at c p.1) pair ∙ filed_rec c is (get_or c.entries k d) (file_at d)
 
     pub some_record : rec_at c slot ≡ None → ⊥
     some_record none = let some = record_there (record { slot = 0; rec = record { name = []; size = 0; tags = []; blocks = [] } }) in cc
