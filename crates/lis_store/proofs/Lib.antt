@@ -4,13 +4,19 @@ pub mod Telling
 pub mod Standing
 pub mod Empty
 pub mod EmptyStore
+pub mod FewerFiles
+pub mod Forgetting
+pub mod Removed
+pub mod Tags
+pub mod RemovalStaged
+pub mod Rm
+pub mod Staged
+pub mod Blocks
+pub mod Committing
 mod Finding
 pub mod Facts
 pub mod Here
 mod Reading
-pub mod Staged
-pub mod Blocks
-pub mod Committing
 pub mod Judging
 pub mod Declaring
 pub mod Mkdir

@@ -6,6 +6,7 @@ ghost use Rattle.lis_store.specs.Laws.{OneState, FittingStoresStand, FittingStor
 mod admitting;
 mod change;
 pub mod parts;
+mod removing;
 mod seen;
 mod staging;
 mod store;

@@ -23,6 +23,7 @@ ghost use Rattle.lis_store.specs.Admitting.{is_assignable_by, named_checks, room
 use crate::admitting::{MAX_FILE, MAX_TAGS, blocks_needed, has_built_in, has_head_word, new_count};
 use crate::change::Change;
 use crate::parts::data_start;
+use crate::removing::remove_file;
 use crate::seen::{known_words, make_table, seen_slot};
 use crate::staging::stage_property;
 use lis_bits::Rows;
@@ -304,7 +305,20 @@ impl Store {
         ensures run { IsDiskRun (D.meaning disk.old) (D.meaning disk.new) }
         ensures cause { HasChangeCause (D.meaning disk.old).disk_faults (D.meaning disk.new).disk_faults result }
     {
-        Err(Change::NoMemory)
+        let Some(slot) = seen_slot(alloc, &self.dict, &self.catalog, place, name)? else {
+            return Err(Change::Refused(Refusal::NoFileHere));
+        };
+        remove_file(
+            &mut self.journal,
+            &self.limits,
+            &mut self.dict,
+            &self.declared,
+            &mut self.catalog,
+            &mut self.map,
+            slot,
+        );
+        self.journal.commit(disk)?;
+        Ok(())
     }
 }
 
