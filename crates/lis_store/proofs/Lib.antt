@@ -17,3 +17,6 @@ mod Finding
 pub mod Facts
 pub mod Here
 mod Reading
+pub mod Judging
+pub mod Declaring
+pub mod Mkdir
