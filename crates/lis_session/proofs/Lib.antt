@@ -3,6 +3,7 @@ pub mod Moments
 mod Same
 pub mod Fitting
 pub mod Saying
+pub mod Answering
 pub mod Going
 pub mod Whole
 mod Examples
