@@ -23,16 +23,22 @@ use Rattle.lis_session.proofs.Moments.{begins_whole}
 use Rattle.lis_session.proofs.Fitting.{store_fits_at, store_shown}
 use Rattle.lis_session.proofs.Saying.{SaidSoFar, said_none, said_change, said_more, said_all, show_broke, change_broke, memory_broke}
 
+-- what was to be shown next was not shown whole
+pub said_broke : {before : Situation} {outcome : Outcome} {old now next : Meaning} {fits : State → Type 0} {said piece : List ℕ} (fits_next : State → Type 0) (place : List Formula) (end : End)
+    → SaidSoFar before outcome old now fits said → Answers now next piece (Err end) → Begins (said ++ piece) outcome.reply → fits_next outcome.next.state
+    → OneItem before outcome old next (Err end) fits_next place
+said_broke fits_next place OutputFault so_far answers begins own = show_broke fits_next place so_far answers.run begins own
+said_broke fits_next place DiskFault so_far answers begins own = absurd (let no : ◌≡◌ {A = End} DiskFault OutputFault = answers.fault in cc)
+said_broke fits_next place NoMemory so_far answers begins own = absurd (let no : ◌≡◌ {A = End} NoMemory OutputFault = answers.fault in cc)
+
 -- the rest of a reply is shown
 pub said_last : {before : Situation} {outcome : Outcome} {old now next : Meaning} {fits : State → Type 0} {said piece : List ℕ} (fits_next : State → Type 0) (place : List Formula) (result : Result (Unit {0}) End)
     → SaidSoFar before outcome old now fits said → Answers now next piece result → said ++ piece ≡ outcome.reply → fits_next outcome.next.state → place ≡ outcome.next.place
     → OneItem before outcome old next result fits_next place
 said_last {outcome = outcome} fits_next place (Ok u) so_far answers all own at =
     said_all place u (said_more {fits_next = fits_next} u so_far answers.run (subst (λ xs. Begins xs outcome.reply) (sym all) (begins_whole outcome.reply)) own) all at
-said_last {outcome = outcome} fits_next place (Err OutputFault) so_far answers all own at =
-    show_broke fits_next place so_far answers.run (subst (λ xs. Begins xs outcome.reply) (sym all) (begins_whole outcome.reply)) own
-said_last fits_next place (Err DiskFault) so_far answers all own at = absurd (let no : ◌≡◌ {A = End} DiskFault OutputFault = answers.fault in cc)
-said_last fits_next place (Err NoMemory) so_far answers all own at = absurd (let no : ◌≡◌ {A = End} NoMemory OutputFault = answers.fault in cc)
+said_last {outcome = outcome} fits_next place (Err end) so_far answers all own at =
+    said_broke fits_next place end so_far answers (subst (λ xs. Begins xs outcome.reply) (sym all) (begins_whole outcome.reply)) own
 
 -- a whole reply is shown, and the state stays
 pub shows_item : {k : Kept} {old new : Meaning} {now : Situation} {reply : List ℕ} {result : Result (Unit {0}) End} (outcome : Outcome) (place : List Formula)
