@@ -1,3 +1,4 @@
 pub mod Session
 pub mod Item
 pub mod Runs
+pub mod Parts

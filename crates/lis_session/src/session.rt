@@ -1,28 +1,28 @@
 //! A session over an image: a place, and one item after another.
 
-ghost use Rattle.std.specs.Prelude.{◌≡◌, ◌*◌, ◌≤◌, [], false, Err, IfSome, IsSome};
+ghost use Rattle.std.specs.Prelude.{◌≡◌, ◌*◌, ◌≤◌, [], false, IfOk, IfSome, IsSome};
+ghost use Rattle.lis_dict.specs.Dict.{words};
+ghost use Rattle.lis_grammar.specs.Places.{resolved};
 ghost use Rattle.lis_line.specs.Reading.{asked_by};
+ghost use Rattle.lis_model.specs.Step.{refused, cd, pwd, ls, done};
 ghost use Rattle.lis_store.specs.Kept.{StoreFits};
 ghost use Rattle.lis_session.specs.Item.{CarriesOut, HasEndCause, StoreLeft};
+ghost use Rattle.lis_session.specs.Parts.{Does, Ends, led_to};
 
+use crate::changes::{add, create, mkdir, rm};
+use crate::content::cat;
 use crate::end::End;
-use lis_formula::{FormulaFault, print, resolve};
+use crate::replies::{answer_bytes, answer_ok, answer_refusal, listing_reply, place_reply};
+use lis_formula::{FormulaFault, resolve};
 use lis_line::reader::{Item, Payload};
 use lis_model::command::Command;
 use lis_model::refusal::Refusal;
 use lis_place::{Place, Text};
-use lis_ports::{Failed, Station};
-use lis_reply::{show_all, show_number, show_ok, show_refusal};
-use lis_store::{Change, Store};
-use lis_table::listing::{listing, push_line};
+use lis_ports::Station;
+use lis_store::Store;
 use lis_table::moving::knows_text;
-use lis_table::truth::extension;
-use lis_words::Name;
 use std::alloc::{AllocError, Global};
 use std::marker::Model;
-
-/// How many bytes a data block has.
-const BLOCK_LEN: usize = 4_096;
 
 /// A session: the place at which its commands are said.
 #[derive(Drop)]
@@ -32,9 +32,13 @@ pub struct Session {
 
 impl Model for Session {
     ghost use Rattle.std.specs.Prelude.{List};
+    ghost use Rattle.std.specs.Coded.{coded_list};
     ghost use Rattle.lis_grammar.specs.Formula.{Formula};
+    ghost use Rattle.lis_grammar.specs.Codes.{formula_code};
 
     ghost Value = { List Formula };
+
+    ghost coded = { coded_list formula_code };
 
     ghost view = { λ s. s.place };
 }
@@ -57,83 +61,15 @@ impl Session {
     }
 }
 
-// Shows what a change of the store comes to.
-fn conclude<T: Station>(station: &mut T, changed: Result<(), Change>) -> Result<(), End> {
-    match changed {
-        Ok(()) => {
-            show_ok(station)?;
-            Ok(())
-        }
-        Err(Change::Refused(refusal)) => {
-            show_refusal(station, &refusal)?;
-            Ok(())
-        }
-        Err(Change::Disk) => Err(End::DiskFault),
-        Err(Change::NoMemory) => Err(End::NoMemory),
-    }
-}
-
-// Shows the bytes of a file, block by block.
-fn show_content<T: Station>(
-    store: &Store,
-    slot: u16,
-    size: u32,
-    station: &mut T,
-) -> Result<(), End> {
-    let mut block = [0; BLOCK_LEN];
-    let mut rest = size as usize;
-    for n in 0..size.div_ceil(BLOCK_LEN as u32) {
-        if let Err(Failed) = store.content(station, slot, n, &mut block) {
-            return Err(End::DiskFault);
-        }
-        let count = rest.min(BLOCK_LEN);
-        show_all(station, &block[..count])?;
-        rest -= count;
-    }
-    Ok(())
-}
-
-// Shows the file of that name: its size, its bytes, and a line feed behind them.
-fn cat<T: Station>(
-    alloc: Global,
-    store: &Store,
-    place: &Place,
-    name: &Name,
-    station: &mut T,
-) -> Result<(), End> {
-    let Some(slot) = store.slot_here(alloc, place, name)? else {
-        show_refusal(station, &Refusal::NoFileHere)?;
-        return Ok(());
-    };
-    let size = store.size_of(slot);
-    show_number(station, b"b", u64::from(size))?;
-    show_content(store, slot, size, station)?;
-    show_all(station, b"\nok\n")?;
-    Ok(())
-}
-
-// The reply of a listing at the place.
-fn listing_reply(alloc: Global, store: &Store, place: &Place) -> Result<Vec<u8>, AllocError> {
-    let table = store.table(alloc)?;
-    let files = extension(alloc, &table.files, place)?;
-    listing(alloc, &table, &files)
-}
-
-// The reply that shows the place.
-fn place_reply(alloc: Global, place: &Place) -> Result<Vec<u8>, AllocError> {
-    let mut reply = Vec::new(alloc);
-    push_line(&mut reply, b'w', print(place).bytes())?;
-    reply.extend_from_slice(b"ok\n")?;
-    Ok(reply)
-}
-
-// Where a text leads from the place, or why it is refused.
-fn moved(
+// The place to which a text leads, or why it is refused.
+fn led_to(
     alloc: Global,
     store: &Store,
     place: &Place,
     text: &Text,
-) -> Result<Result<Place, Refusal>, AllocError> {
+) -> Result<Result<Place, Refusal>, AllocError>
+    ensures { IfOk result (λ judged. judged ≡ led_to (words store.now.dict) text.now (resolved place.now text.now)) }
+{
     let next = match resolve(place, text.bytes()) {
         Ok(next) => next,
         Err(FormulaFault::Syntax(_)) => return Ok(Err(Refusal::BadFormula)),
@@ -146,24 +82,45 @@ fn moved(
     Ok(Err(Refusal::UnknownProperty))
 }
 
+// Shows the place.
+fn pwd<T: Station>(alloc: Global, store: &Store, place: &Place, station: &mut T) -> Result<(), End>
+    ensures carries { Does pwd (StoreFits store.now (T.meaning station.old)) place.now
+        (T.meaning station.old) (T.meaning station.new) result (StoreFits store.now (T.meaning station.new)) place.now }
+    ensures ends { Ends (T.meaning station.old) (T.meaning station.new) result }
+{
+    let reply = place_reply(alloc, place)?;
+    answer_bytes(station, &reply)
+}
+
+// Shows the increments and the locals of the place.
+fn ls<T: Station>(alloc: Global, store: &Store, place: &Place, station: &mut T) -> Result<(), End>
+    ensures carries { Does ls (StoreFits store.now (T.meaning station.old)) place.now
+        (T.meaning station.old) (T.meaning station.new) result (StoreFits store.now (T.meaning station.new)) place.now }
+    ensures ends { Ends (T.meaning station.old) (T.meaning station.new) result }
+{
+    let reply = listing_reply(alloc, store, place)?;
+    answer_bytes(station, &reply)
+}
+
 impl Session {
+    // Goes to the place to which the text leads.
     fn cd<T: Station>(
         &mut self,
         alloc: Global,
         store: &Store,
         text: &Text,
         station: &mut T,
-    ) -> Result<(), End> {
-        match moved(alloc, store, &self.place, text)? {
+    ) -> Result<(), End>
+        ensures carries { Does (λ now. cd now text.now) (StoreFits store.now (T.meaning station.old)) self.old
+            (T.meaning station.old) (T.meaning station.new) result (StoreFits store.now (T.meaning station.new)) self.new }
+        ensures ends { Ends (T.meaning station.old) (T.meaning station.new) result }
+    {
+        match led_to(alloc, store, &self.place, text)? {
             Ok(next) => {
                 self.place = next;
-                show_ok(station)?;
-                Ok(())
+                answer_ok(station)
             }
-            Err(refusal) => {
-                show_refusal(station, &refusal)?;
-                Ok(())
-            }
+            Err(refusal) => answer_refusal(station, &refusal),
         }
     }
 
@@ -174,37 +131,25 @@ impl Session {
         command: &Command,
         payload: &Payload,
         station: &mut T,
-    ) -> Result<(), End> {
+    ) -> Result<(), End>
+        requires unbroken { store.old.journal.is_broken ≡ false }
+        requires long { 4096 * store.old.journal.blocks ≤ (T.meaning station.old).len }
+        ensures carries { Does (λ now. done now command.now payload.now) (StoreFits store.old (T.meaning station.old)) self.old
+            (T.meaning station.old) (T.meaning station.new) result (StoreFits store.new (T.meaning station.new)) self.new }
+        ensures ends { Ends (T.meaning station.old) (T.meaning station.new) result }
+        ensures left { StoreLeft store.old store.new result }
+    {
         match command {
-            Command::Mkdir(word) => {
-                let changed = store.declare(station, &self.place, word);
-                conclude(station, changed)
-            }
-            Command::Create(name, tags) => {
-                let changed = store.add_file(alloc, station, &self.place, name, tags, &[], 0);
-                conclude(station, changed)
-            }
+            Command::Mkdir(word) => mkdir(store, &self.place, word, station),
+            Command::Create(name, tags) => create(alloc, store, &self.place, name, tags, station),
             Command::Add(name, tags) => {
-                let (bytes, size) = (payload.bytes(), payload.size());
-                let changed = store.add_file(alloc, station, &self.place, name, tags, bytes, size);
-                conclude(station, changed)
+                add(alloc, store, &self.place, name, tags, payload, station)
             }
-            Command::Rm(name) => {
-                let changed = store.remove(alloc, station, &self.place, name);
-                conclude(station, changed)
-            }
+            Command::Rm(name) => rm(alloc, store, &self.place, name, station),
             Command::Cat(name) => cat(alloc, store, &self.place, name, station),
             Command::Cd(text) => self.cd(alloc, store, text, station),
-            Command::Pwd => {
-                let reply = place_reply(alloc, &self.place)?;
-                show_all(station, &reply)?;
-                Ok(())
-            }
-            Command::Ls => {
-                let reply = listing_reply(alloc, store, &self.place)?;
-                show_all(station, &reply)?;
-                Ok(())
-            }
+            Command::Pwd => pwd(alloc, store, &self.place, station),
+            Command::Ls => ls(alloc, store, &self.place, station),
         }
     }
 
@@ -229,10 +174,7 @@ impl Session {
     {
         match item {
             Item::Command(command) => self.carry_out(alloc, store, command, payload, station),
-            Item::Bad(refusal) => {
-                show_refusal(station, refusal)?;
-                Ok(())
-            }
+            Item::Bad(refusal) => answer_refusal(station, refusal),
             Item::End | Item::Limit => unreachable!(),
         }
     }
