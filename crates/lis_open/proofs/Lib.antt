@@ -2,3 +2,4 @@ mod Ranges
 mod Zeros
 mod Names
 mod Wiping
+pub mod Needs

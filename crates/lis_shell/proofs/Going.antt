@@ -42,7 +42,7 @@ pub record ItemRead (limit : ℕ) (left_before left : Option (List ℕ)) (readin
   pub shown : after ≡ append_known before (replies start first)
 
 -- what ends no session asks for an item
-asks_some : (said : Said) (payload : Payload) → ending_of said ≡ None → asked_by said payload ≡ None → ⊥
+pub asks_some : (said : Said) (payload : Payload) → ending_of said ≡ None → asked_by said payload ≡ None → ⊥
 asks_some (Command command) payload none no_item = cc no_item
 asks_some (Bad refusal) payload none no_item = cc no_item
 asks_some End payload none no_item = cc none
