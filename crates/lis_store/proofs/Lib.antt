@@ -4,3 +4,6 @@ pub mod Telling
 pub mod Standing
 pub mod Empty
 pub mod EmptyStore
+pub mod Staged
+pub mod Blocks
+pub mod Committing

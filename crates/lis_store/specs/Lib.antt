@@ -5,3 +5,4 @@ pub mod Laws
 pub mod Blank
 pub mod Changes
 pub mod Inside
+pub mod Staging

@@ -6,6 +6,7 @@ ghost use Rattle.lis_store.specs.Laws.{OneState, FittingStoresStand, FittingStor
 mod change;
 pub mod parts;
 mod seen;
+mod staging;
 mod store;
 
 pub use change::Change;
