@@ -7,3 +7,7 @@ pub mod EmptyStore
 pub mod Staged
 pub mod Blocks
 pub mod Committing
+mod Finding
+pub mod Facts
+pub mod Here
+mod Reading
