@@ -11,3 +11,5 @@ mod Finding
 pub mod Facts
 pub mod Here
 mod Reading
+mod NewWords
+pub mod Admitted

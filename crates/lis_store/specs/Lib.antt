@@ -6,3 +6,4 @@ pub mod Blank
 pub mod Changes
 pub mod Inside
 pub mod Staging
+pub mod Admitting

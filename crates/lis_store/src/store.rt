@@ -1,21 +1,25 @@
 //! A store: what is kept in memory of an image, and the calls that change both.
 
-ghost use Rattle.std.specs.Prelude.{◌≡◌, ℕ, ◌*◌, ◌<◌, ◌≤◌, List, false, is_some, length, take, Some, None, Err, Ok, IsTrue, IfOk, OnOk, IfSome, IsSome, IsSomeAnd, MatchResult};
+ghost use Rattle.std.specs.Prelude.{◌≡◌, ℕ, ◌*◌, ◌<◌, ◌≤◌, ◌&&◌, List, false, is_some, length, take, Some, None, Err, Ok, IsTrue, IfOk, OnOk, IfSome, IsSome, IsSomeAnd, MatchResult};
+ghost use Rattle.std.specs.List.{list_all};
 ghost use Rattle.lis_ports.specs.Bytes.{part};
 ghost use Rattle.lis_ports.specs.Runs.{IsDiskRun, Leaves};
 ghost use Rattle.lis_ports.specs.Calls.{HasCause, IsUnchanged};
 ghost use Rattle.lis_catalog.specs.Catalog.{slot_of, rec_at};
 ghost use Rattle.lis_dict.specs.Dict.{words};
 ghost use Rattle.lis_fields.specs.Records.{FileRecord};
+ghost use Rattle.lis_words.specs.Words.{is_valued, head_bytes};
 ghost use Rattle.lis_model.specs.declared.refusal.Refusal.{Refusal};
 ghost use Rattle.lis_model.specs.State.{State};
-ghost use Rattle.lis_model.specs.Step.{mkdir, add, rm, bytes_of};
+ghost use Rattle.lis_model.specs.Step.{mkdir, assigned_at, add, rm, bytes_of};
 ghost use Rattle.lis_store.specs.declared.change.Change.TheVariants.{Refused, NoMemory};
 ghost use Rattle.lis_store.specs.Inside.{kept_of};
 ghost use Rattle.lis_store.specs.Kept.{IsSound, is_declared, StoreFits};
 ghost use Rattle.lis_store.specs.Seen.{table_of, entries_told, is_among};
-ghost use Rattle.lis_store.specs.Changes.{Changes, HasChangeCause, ChangeLeft};
+ghost use Rattle.lis_store.specs.Changes.{first_refusal, Changes, HasChangeCause, ChangeLeft};
+ghost use Rattle.lis_store.specs.Admitting.{is_assignable_by, named_checks, room_checks, told_checks, Refuses};
 
+use crate::admitting::{MAX_FILE, MAX_TAGS, blocks_needed, has_built_in, has_head_word, new_count};
 use crate::change::Change;
 use crate::parts::data_start;
 use crate::seen::{known_words, make_table, seen_slot};
@@ -26,10 +30,12 @@ use lis_dict::Dict;
 use lis_journal::Journal;
 use lis_model::command::Tags;
 use lis_model::limits::Limits;
+use lis_model::refusal::Refusal;
 use lis_place::Place;
 use lis_ports::{Disk, Failed};
 use lis_table::table::Table;
-use lis_words::{Name, Word};
+use lis_table::tags::{assigned_with, place_words};
+use lis_words::{Name, Word, head_of, is_plain_word};
 use std::alloc::{AllocError, Global};
 use std::marker::Model;
 
@@ -255,5 +261,108 @@ impl Store {
         ensures cause { HasChangeCause (D.meaning disk.old).disk_faults (D.meaning disk.new).disk_faults result }
     {
         Err(Change::NoMemory)
+    }
+}
+
+// What a new file is refused for.
+impl Store {
+    // Whether the word is valued with a declared head.
+    fn has_declared_head(&self, word: &Word) -> bool
+        ensures { result ≡ (is_valued word.now && is_declared self.now (head_bytes word.now)) }
+    {
+        match head_of(word) {
+            None => false,
+            Some(head) => self.is_declared(&head),
+        }
+    }
+
+    // Whether the word is plain and declared, or valued with a declared head.
+    fn is_assignable(&self, word: &Word) -> bool
+        ensures { result ≡ is_assignable_by self.now word.now }
+    {
+        if is_plain_word(word.bytes()) {
+            return self.is_declared(word) || self.has_declared_head(word);
+        }
+        self.has_declared_head(word)
+    }
+
+    // Whether each of the words is assignable.
+    fn are_assignable(&self, words: &[Word]) -> bool
+        ensures { result ≡ list_all (is_assignable_by self.now) words.now }
+    {
+        words.iter().all(|word| self.is_assignable(word))
+    }
+
+    // What the words of a new file are to be, or why its name, its place and the named words are refused.
+    fn named(
+        &self,
+        alloc: Global,
+        place: &Place,
+        name: &Name,
+        tags: &Tags,
+    ) -> Result<Vec<Word>, Change>
+        ensures { MatchResult result
+            (λ assigned. (assigned.items ≡ assigned_at place.now tags.now) × (first_refusal (named_checks self.now place.now name.now tags.now) ≡ None))
+            (Refuses (named_checks self.now place.now name.now tags.now)) }
+    {
+        if self.catalog.slot_of(name).is_some() {
+            return Err(Change::Refused(Refusal::NameTaken));
+        }
+        let Some(words) = place_words(alloc, place)? else {
+            return Err(Change::Refused(Refusal::NotAPlace));
+        };
+        if has_built_in(tags.as_slice()) {
+            return Err(Change::Refused(Refusal::BuiltIn));
+        }
+        if has_head_word(tags.as_slice()) {
+            return Err(Change::Refused(Refusal::NotAssignable));
+        }
+        let assigned = assigned_with(alloc, &words, tags.as_slice())?;
+        Ok(assigned)
+    }
+
+    // Whether a new file may have its words, and there is room for it.
+    fn admits(&self, assigned: &[Word], size: u64) -> Result<(), Refusal>
+        ensures { MatchResult result
+            (λ _. first_refusal (room_checks self.now assigned.now size) ≡ None)
+            (λ refusal. first_refusal (room_checks self.now assigned.now size) ≡ Some refusal) }
+    {
+        if !self.are_assignable(assigned) {
+            return Err(Refusal::UnknownProperty);
+        }
+        if assigned.len() > MAX_TAGS {
+            return Err(Refusal::TooManyAssigned);
+        }
+        if self.catalog.len() >= self.limits.files {
+            return Err(Refusal::NoFileRoom);
+        }
+        if self.dict.len() as usize + new_count(&self.dict, assigned) > self.limits.props as usize {
+            return Err(Refusal::NoPropertyRoom);
+        }
+        if u64::from(self.map.free()) < blocks_needed(size) {
+            return Err(Refusal::NoSpace);
+        }
+        Ok(())
+    }
+
+    // What the words of a new file are to be, or why the row of `add` refuses it.
+    fn may_add(
+        &self,
+        alloc: Global,
+        place: &Place,
+        name: &Name,
+        tags: &Tags,
+        size: u64,
+    ) -> Result<Vec<Word>, Change>
+        ensures { MatchResult result
+            (λ assigned. (assigned.items ≡ assigned_at place.now tags.now) × (first_refusal (told_checks self.now place.now name.now tags.now size) ≡ None))
+            (Refuses (told_checks self.now place.now name.now tags.now size)) }
+    {
+        if size > MAX_FILE {
+            return Err(Change::Refused(Refusal::LargeFile));
+        }
+        let assigned = self.named(alloc, place, name, tags)?;
+        self.admits(&assigned, size)?;
+        Ok(assigned)
     }
 }
