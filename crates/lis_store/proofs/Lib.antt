@@ -7,6 +7,7 @@ pub mod EmptyStore
 pub mod Staged
 pub mod Blocks
 pub mod Committing
+pub mod Learning
 mod Finding
 pub mod Facts
 pub mod Here

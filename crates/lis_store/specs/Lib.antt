@@ -6,4 +6,5 @@ pub mod Blank
 pub mod Changes
 pub mod Inside
 pub mod Staging
+pub mod Adding
 pub mod Admitting

@@ -3,6 +3,7 @@
 
 ghost use Rattle.lis_store.specs.Laws.{OneState, FittingStoresStand, FittingStoresTell, FittingStoresHold, EmptyStoresAreSound, EmptyStoresFit, ChangesStand};
 
+mod adding;
 mod admitting;
 mod change;
 pub mod parts;
