@@ -8,6 +8,9 @@ pub mod Staged
 pub mod Blocks
 pub mod Committing
 pub mod Learning
+pub mod NewFile
+pub mod FileAdded
+pub mod FileKept
 mod Finding
 pub mod Facts
 pub mod Here
