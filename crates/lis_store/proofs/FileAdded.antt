@@ -1,8 +1,8 @@
 -- A new file on blocks: what is kept with it tells the state with the file.
-use Rattle.std.proofs.Common.{◌≡◌, ◌⊎◌, refl, sym, ap, ap₂, ◌∙◌, subst, inl, inr, ℕ, ◌+◌, ◌*◌, ◌%◌, ◌/◌, ◌<◌, ◌≤◌, ◌==◌, ◌||◌, nat_lt, Bool, true, false, cond, List, [], ◌∷◌, ◌++◌, length, map, take, Option, Some, None, is_some, IsTrue, arith}
+use Rattle.std.proofs.Common.{◌≡◌, refl, sym, ap, ap₂, ◌∙◌, subst, inl, inr, ℕ, ◌+◌, ◌/◌, ◌<◌, ◌≤◌, ◌==◌, ◌||◌, Bool, true, false, cond, List, [], ◌∷◌, ◌++◌, length, map, take, Some, is_some, arith}
 use Rattle.std.specs.BTreeSet.{insert_key}
 use Rattle.std.specs.Option.{option_to_list}
-use Rattle.std.specs.List.{flat_map, list_all, list_any}
+use Rattle.std.specs.List.{flat_map, list_all}
 use Rattle.std.proofs.lemmas.Bool.{and_parts, eq-eqb, ne_eqb, eqb-true, both_ways, false_from_ne_true}
 use Rattle.lis_graph.specs.Graph.{is_rising}
 use Rattle.lis_graph.proofs.Members.{Among, among_from_any, any_from_among, flat_map_among}
@@ -15,22 +15,20 @@ use Rattle.lis_blockmap.specs.Bitmap.{bitmap_bytes}
 use Rattle.lis_content.specs.Content.{content, has_number, has_home}
 use Rattle.lis_content.proofs.Numbers.{neither}
 use Rattle.lis_dict.specs.Dict.{Dict, words, word_of}
-use Rattle.lis_catalog.specs.Catalog.{Catalog, Filed, rec_at, filed_cmp, with_filed}
+use Rattle.lis_catalog.specs.Catalog.{Catalog, Filed, rec_at, filed_cmp}
 use Rattle.lis_catalog.proofs.Laws.{rec_at-with_filed}
-use Rattle.lis_fields.specs.Records.{FileRecord}
-use Rattle.lis_fields.specs.Layouts.{super_bytes, file_bytes, is_record}
-use Rattle.lis_words.specs.Words.{word_cmp, has_word}
+use Rattle.lis_fields.specs.Layouts.{super_bytes, file_bytes}
+use Rattle.lis_words.specs.Words.{word_cmp}
 use Rattle.lis_model.specs.declared.limits.Limits.{Limits}
 use Rattle.lis_model.specs.Image.{axioms_start, files_start, rows_start, bitmap_start, data_start}
 use Rattle.lis_model.specs.Sets.{with_words, set_of}
 use Rattle.lis_model.specs.State.{State, File, file_cmp, known, WellFormed}
 use Rattle.lis_model.specs.Step.{new_file, with_file}
-use Rattle.lis_laws.proofs.Counts.{all_among}
 use Rattle.lis_store.specs.Stands.{file_slots}
-use Rattle.lis_store.specs.Kept.{Kept, file_by, record_at, words_told, file_told, used_by, is_sound_record, IsSound, PropertiesAre, AxiomsAreFree, RecordsAre, IsSpelled, Tells}
+use Rattle.lis_store.specs.Kept.{Kept, file_by, record_at, file_told, used_by, IsSound, PropertiesAre, AxiomsAreFree, RecordsAre, IsSpelled, Tells}
 use Rattle.lis_store.specs.Staging.{StagesOnly}
 use Rattle.lis_store.proofs.Staged.{whole_files, block_stays, records_staged, same_properties, same_axioms, same_records}
-use Rattle.lis_store.proofs.Facts.{filed_slot, tags_named}
+use Rattle.lis_store.proofs.Facts.{tags_named}
 use Rattle.lis_store.proofs.Learning.{some_of, map_insert_key, set_of_set}
 use Rattle.lis_store.proofs.NewFile.{NewFile, word_stays, unused_blocks, sound_with_file}
 
@@ -75,13 +73,20 @@ pub record FileStaged (limits : Limits) (c : Catalog) (t : List Bool) (slot : �
   pub bitmap_only : StagesOnly (bitmap_start limits) j3 j4
   pub bitmap : (was : List ℕ) → look j4.staged (bitmap_start limits) was ≡ bitmap_bytes t
 
-module _ (k : Kept) (name : List ℕ) (assigned : List (List ℕ)) (bytes : List ℕ) (d : Dict) (b : List Bool) (c : Catalog) (t : List Bool) (j1 j2 j3 j4 : Held) (numbers blocks : List ℕ) (slot : ℕ) (new : NewFile k name assigned bytes d b c t j1 j2 numbers blocks slot) (staged : FileStaged k.limits c t slot j2 j3 j4) where
+module _ {k : Kept} {name : List ℕ} {assigned : List (List ℕ)} {bytes : List ℕ} {d : Dict} {b : List Bool} {c : Catalog} {t : List Bool} {j1 j2 j3 j4 : Held} {numbers blocks : List ℕ} {slot : ℕ} (new : NewFile k name assigned bytes d b c t j1 j2 numbers blocks slot) (staged : FileStaged k.limits c t slot j2 j3 j4) where
   -- the new values of the parts, and the journal behind the commit
   abbrev pub kept_with : Held → Kept
   kept_with j = record { limits = k.limits; journal = j; dict = d; declared = b; catalog = c; taken = t }
 
   pub same_image : j4.blocks ≡ k.journal.blocks
   same_image = staged.bitmap_only.image ∙ (staged.record_only.image ∙ (new.put.image ∙ new.learnt.image))
+
+  -- what is kept is sound behind the commit, whether it was done or failed
+  pub sound_done : (j : Held) → j ≡ record j4 { staged = [] } → IsSound (kept_with j)
+  sound_done j is = sound_with_file new j (ap (λ (h : Held). h.blocks) is ∙ same_image) (λ unbroken. ap (λ (h : Held). h.staged) is)
+
+  pub sound_broken : (j : Held) → j ≡ record j4 { is_broken = true } → IsSound (kept_with j)
+  sound_broken j is = sound_with_file new j (ap (λ (h : Held). h.blocks) is ∙ same_image) (λ unbroken. absurd (both_ways j.is_broken unbroken (ap (λ (h : Held). h.is_broken) is)))
 
   slot_below : slot < k.limits.files
   slot_below = omega (arith, new.below, new.sound.slots)
@@ -164,12 +169,12 @@ module _ (k : Kept) (name : List ℕ) (assigned : List (List ℕ)) (bytes : List
     old_file f m =
         let of_parts : List ℕ → List (List ℕ) → File = λ bytes words. record { name = f.rec.name; bytes = bytes; assigned = words } in
         ap₂ of_parts (same_content (data_start k.limits) f.rec.blocks f.rec.size kept now (λ n here. old_data n (apart n here)))
-        (ap set_of (same_words_of k.dict d (word_stays k name assigned bytes d b c t j1 j2 numbers blocks slot new) f.rec.tags (tags_named k new.sound f m)))
+        (ap set_of (same_words_of k.dict d (word_stays new) f.rec.tags (tags_named k new.sound f m)))
       where
         apart : (n : ℕ) → Among f.rec.blocks n → has_number blocks n ≡ false
         apart n here = false_from_ne_true (has_number blocks n) (λ has.
             let found = among_from_any (λ m. m == n) blocks has in
-            let unused = unused_blocks k name assigned bytes d b c t j1 j2 numbers blocks slot new n (subst (λ m. Among blocks m) (eqb-true found.0 n found.2) found.1) in
+            let unused = unused_blocks new n (subst (λ m. Among blocks m) (eqb-true found.0 n found.2) found.1) in
             let used = any_from_among (λ m. m == n) (used_by k.catalog) n (flat_map_among (λ (g : Filed). g.rec.blocks) k.catalog.entries f n m here) (eq-eqb n n refl) in
             both_ways (has_number (used_by k.catalog) n) unused used)
 
@@ -190,7 +195,7 @@ module _ (k : Kept) (name : List ℕ) (assigned : List (List ℕ)) (bytes : List
         → (j : Held) → j.blocks ≡ k.journal.blocks → j.is_broken ≡ false → j.staged ≡ [] → Tells (kept_with j) now (with_file s (new_file name assigned bytes))
     tells_with_file s tells rising formed known_then j image unbroken none = record {
       limits = tells.limits;
-      sound = sound_with_file k name assigned bytes d b c t j1 j2 numbers blocks slot new j image (λ whole. none);
+      sound = sound_with_file new j image (λ whole. none);
       unbroken = unbroken;
       spelled = spelled_then j tells.spelled;
       formed = formed;

@@ -1,12 +1,10 @@
 -- How the call ends that makes a file.
-use Rattle.std.proofs.Common.{◌≡◌, ◌⊎◌, refl, sym, ap, ◌∙◌, subst, inl, inr, ℕ, ◌+◌, ◌/◌, ◌<◌, ◌≤◌, ◌==◌, ◌&&◌, ◌||◌, not, Bool, true, false, cond, List, [], length, Option, Some, None, is_some, is_none, Result, Ok, Err, arith}
+use Rattle.std.proofs.Common.{◌≡◌, ◌⊎◌, refl, sym, ap, ◌∙◌, subst, inl, inr, ℕ, ◌+◌, ◌/◌, ◌<◌, ◌≤◌, ◌==◌, ◌&&◌, not, nat_lt, Bool, true, false, cond, List, [], ◌∷◌, ◌++◌, length, Option, Some, None, is_some, is_none, Result, Ok, Err, arith}
 use Rattle.std.proofs.lemmas.List.{length-map}
-use Rattle.std.proofs.lemmas.Bool.{and_parts, or_cases, or_left, or_right, both_ways, eq-eqb}
+use Rattle.std.proofs.lemmas.Bool.{and_parts, or_cases, or_left, or_right, both_ways, eq-eqb, le-ltb}
 use Rattle.std.specs.List.{find, list_all}
 use Rattle.lis_ports.specs.Meaning.{Meaning}
 use Rattle.lis_ports.specs.Runs.{Leaves}
-use Rattle.lis_graph.specs.Graph.{is_rising}
-use Rattle.lis_graph.proofs.Members.{Among}
 use Rattle.lis_graph.proofs.Sets.{sorted_from_rising}
 use Rattle.lis_journal.specs.Journal.{Held}
 use Rattle.lis_journal.specs.Images.{StandsForAllOrNone, Fits, KeepsPast, look}
@@ -15,18 +13,19 @@ use Rattle.lis_journal.specs.Staging.{with_entry}
 use Rattle.lis_slots.specs.Slots.{slot as slot_bytes}
 use Rattle.lis_blockmap.specs.Bitmap.{bitmap_bytes}
 use Rattle.lis_content.specs.Putting.{IsPut}
-use Rattle.lis_dict.specs.Dict.{Dict, IsDict, words as all_words, number_of}
-use Rattle.lis_catalog.specs.Catalog.{Catalog, slot_of, rec_at, with_filed}
+use Rattle.lis_dict.specs.Dict.{Dict, words as all_words, number_of}
+use Rattle.lis_catalog.specs.Catalog.{Catalog, with_filed}
 use Rattle.lis_catalog.specs.Calls.{Adds}
-use Rattle.lis_fields.specs.Records.{FileRecord}
-use Rattle.lis_fields.specs.Layouts.{file_bytes, is_file, is_undeclared}
+use Rattle.lis_fields.specs.Layouts.{file_bytes, is_undeclared}
 use Rattle.lis_words.specs.Words.{word_cmp, same_word, has_word, is_plain_word, is_head, is_valued, is_built_in, is_file_name, head_bytes}
 use Rattle.lis_grammar.specs.Formula.{Formula}
 use Rattle.lis_model.specs.declared.limits.Limits.{Limits}
+use Rattle.lis_model.specs.declared.refusal.Refusal.{Refusal}
+use Rattle.lis_model.specs.declared.refusal.Refusal.TheVariants.{NoSpace}
 use Rattle.lis_model.specs.Image.{files_start, bitmap_start, data_start}
 use Rattle.lis_model.specs.Sets.{with_words}
 use Rattle.lis_model.specs.State.{State}
-use Rattle.lis_model.specs.Step.{Situation, Outcome, Payload, changed, new_file, with_file, assigned_at, add}
+use Rattle.lis_model.specs.Step.{Situation, Outcome, Payload, no_payload, refused, changed, judged, new_file, with_file, assigned_at, create_checks, create, free_blocks, add}
 use Rattle.lis_laws.proofs.Members.{word_order}
 use Rattle.lis_laws.proofs.Counts.{all_among, all_from}
 use Rattle.lis_store.specs.declared.change.Change.{Change}
@@ -35,14 +34,14 @@ use Rattle.lis_store.specs.Stands.{file_slots}
 use Rattle.lis_store.specs.Kept.{Kept, bit_of, is_declared, record_at, IsSound, Tells, StoreFits}
 use Rattle.lis_store.specs.Changes.{first_refusal, Changes}
 use Rattle.lis_store.specs.Staging.{StagesOnly}
-use Rattle.lis_store.specs.Admitting.{is_assignable_by, new_count, told_checks, Refuses}
+use Rattle.lis_store.specs.Admitting.{is_assignable_by, told_checks, Refuses}
 use Rattle.lis_store.specs.Adding.{may_be_numbered, Learns}
 use Rattle.lis_store.proofs.Staged.{stages_only}
 use Rattle.lis_store.proofs.Committing.{change_refused, change_none, change_kept, change_broke}
 use Rattle.lis_store.proofs.Finding.{any_is_found, any_map, is_some-map}
 use Rattle.lis_store.proofs.NewWords.{count_same, words_counted, assigned_rising}
 use Rattle.lis_store.proofs.Admitted.{Admitted, admitted, refused_outcome, added_outcome, admitted_words, admitted_formed}
-use Rattle.lis_store.proofs.NewFile.{NewFile, records_in_form, sound_with_file}
+use Rattle.lis_store.proofs.NewFile.{NewFile}
 use Rattle.lis_store.proofs.FileAdded.{FileStaged, kept_with, same_image, tells_with_file}
 
 -- ---- the call that refuses
@@ -55,7 +54,7 @@ refused_add k m s fits place name words payload NoMemory result refuses is =
     change_none k m (record { state = s; place = place }) (add (record { state = s; place = place }) name words payload) result fits is
 
 -- ---- a file that the row doesn't refuse
-module _ (k : Kept) (place : List Formula) (name : List ℕ) (words : List (List ℕ)) (size : ℕ) (sound : IsSound k) (none : first_refusal (told_checks k place name words size) ≡ None) where
+module _ {k : Kept} (sound : IsSound k) (place : List Formula) (name : List ℕ) (words : List (List ℕ)) (size : ℕ) (none : first_refusal (told_checks k place name words size) ≡ None) where
   row : Admitted k place name words size
   row = admitted k place name words size none
 
@@ -92,13 +91,13 @@ module _ (k : Kept) (place : List Formula) (name : List ℕ) (words : List (List
       none_is None = refl
       none_is (Some n) = refl
 
-  module _ (bytes : List ℕ) (form : is_file_name name ≡ true) (whole : size ≤ 65536 → length bytes ≡ size) (d : Dict) (b : List Bool) (c : Catalog) (t : List Bool) (j1 j2 : Held) (numbers blocks : List ℕ) (slot : ℕ) where
+  module _ (bytes : List ℕ) (form : is_file_name name ≡ true) (whole : size ≤ 65536 → length bytes ≡ size) {d : Dict} {b : List Bool} {c : Catalog} {t : List Bool} {j1 j2 : Held} {numbers blocks : List ℕ} {slot : ℕ} where
     -- what the calls say
-    pub new_file_made : (given : List (List ℕ)) (base : ℕ) (copied : List ℕ) → given ≡ assigned → base ≡ data_start k.limits → copied ≡ name
+    pub new_file_made : {given : List (List ℕ)} {base : ℕ} {copied : List ℕ} → given ≡ assigned → base ≡ data_start k.limits → copied ≡ name
         → Learns k.limits given k.dict d k.declared b k.journal j1 numbers → IsPut base [] bytes k.taken t j1 j2 blocks
         → Adds k.catalog (record { name = copied; size = length bytes; tags = numbers; blocks = blocks }) c (Ok slot)
         → NewFile k name assigned bytes d b c t j1 j2 numbers blocks slot
-    new_file_made given base copied is_given is_base is_name learnt put adds = record {
+    new_file_made is_given is_base is_name learnt put adds = record {
       sound = sound;
       form = form;
       short = omega (arith, row.small, whole row.small);
@@ -112,22 +111,12 @@ module _ (k : Kept) (place : List Formula) (name : List ℕ) (words : List (List
       filed = adds.3 ∙ ap (λ n. with_filed k.catalog slot (record { name = n; size = length bytes; tags = numbers; blocks = blocks })) is_name;
     }
 
-    module _ (new : NewFile k name assigned bytes d b c t j1 j2 numbers blocks slot) (j3 j4 : Held) (staged : FileStaged k.limits c t slot j2 j3 j4) where
-      -- the store with the file, behind the commit
-      abbrev then_kept : Held → Kept
-      then_kept j = record { limits = k.limits; journal = j; dict = d; declared = b; catalog = c; taken = t }
-
-      image : j4.blocks ≡ k.journal.blocks
-      image = same_image k name assigned bytes d b c t j1 j2 j3 j4 numbers blocks slot new staged
-
+    module _ (new : NewFile k name assigned bytes d b c t j1 j2 numbers blocks slot) {j3 j4 : Held} (staged : FileStaged k.limits c t slot j2 j3 j4) where
       broken : j4.is_broken ≡ k.journal.is_broken
       broken = staged.bitmap_only.broken ∙ (staged.record_only.broken ∙ (new.put.broken ∙ new.learnt.broken))
 
-      pub sound_done : (j : Held) → j ≡ record j4 { staged = [] } → IsSound (then_kept j)
-      sound_done j is = sound_with_file k name assigned bytes d b c t j1 j2 numbers blocks slot new j (ap (λ (h : Held). h.blocks) is ∙ image) (λ unbroken. ap (λ (h : Held). h.staged) is)
-
-      pub sound_broken : (j : Held) → j ≡ record j4 { is_broken = true } → IsSound (then_kept j)
-      sound_broken j is = sound_with_file k name assigned bytes d b c t j1 j2 numbers blocks slot new j (ap (λ (h : Held). h.blocks) is ∙ image) (λ unbroken. absurd (both_ways j.is_broken unbroken (ap (λ (h : Held). h.is_broken) is)))
+      image : j4.blocks ≡ k.journal.blocks
+      image = same_image new staged
 
       -- what the commit says, which begins with the disk as it was
       module _ (m start after : Meaning) (same : start ≡ m) (s : State) (fits : StoreFits k m s)
@@ -151,33 +140,43 @@ module _ (k : Kept) (place : List Formula) (name : List ℕ) (words : List (List
         past_stays : (kept : ℕ → List ℕ) → Fits j4.blocks m kept → KeepsPast j4.blocks m after
         past_stays = subst (λ (n : Meaning). (kept : ℕ → List ℕ) → Fits j4.blocks n kept → KeepsPast j4.blocks n after) same past
 
-        tells_then : (j : Held) → j.blocks ≡ k.journal.blocks → j.is_broken ≡ false → j.staged ≡ [] → Tells (then_kept j) (looked j4.staged fits.kept) next
+        tells_then : (j : Held) → j.blocks ≡ k.journal.blocks → j.is_broken ≡ false → j.staged ≡ [] → Tells (kept_with new staged j) (looked j4.staged fits.kept) next
         tells_then j blocks_are unbroken quiet =
-            tells_with_file k name assigned bytes d b c t j1 j2 j3 j4 numbers blocks slot new staged fits.kept (sound.quiet fits.tells.unbroken) s fits.tells (assigned_rising place words)
+            tells_with_file new staged fits.kept (sound.quiet fits.tells.unbroken) s fits.tells (assigned_rising place words)
             (admitted_formed k m s fits place name words size row bytes form (whole row.small))
             (admitted_words k m s fits place name words size row bytes) j blocks_are unbroken quiet
 
-        pub add_done : {T : Type 0} (j : Held) (done : T) → j ≡ record j4 { staged = [] } → ((kept : ℕ → List ℕ) → Fits j4.blocks start kept → Fits j4.blocks after (λ n. look j4.staged n (kept n))) → Changes now outcome (then_kept j) m after (Ok done)
+        pub add_done : {T : Type 0} (j : Held) (done : T) → j ≡ record j4 { staged = [] } → ((kept : ℕ → List ℕ) → Fits j4.blocks start kept → Fits j4.blocks after (λ n. look j4.staged n (kept n))) → Changes now outcome (kept_with new staged j) m after (Ok done)
         add_done j done is kept_then =
-            change_kept k (then_kept j) m after now outcome next j4 fits image
+            change_kept k (kept_with new staged j) m after now outcome next j4 fits image
             (tells_then j (ap (λ (h : Held). h.blocks) is ∙ image) (ap (λ (h : Held). h.is_broken) is ∙ (broken ∙ fits.tells.unbroken)) (ap (λ (h : Held). h.staged) is))
             (ap (λ (h : Held). h.blocks) is) outcome_is moments past_stays done
             (subst (λ (n : Meaning). (kept : ℕ → List ℕ) → Fits j4.blocks n kept → Fits j4.blocks after (λ i. look j4.staged i (kept i))) same kept_then)
 
-        pub add_broke : {T : Type 0} (j : Held) (result : Result T Change) → j ≡ record j4 { is_broken = true } → result ≡ Err Disk → Changes now outcome (then_kept j) m after result
+        pub add_broke : {T : Type 0} (j : Held) (result : Result T Change) → j ≡ record j4 { is_broken = true } → result ≡ Err Disk → Changes now outcome (kept_with new staged j) m after result
         add_broke j result is ends =
-            change_broke k (then_kept (record { blocks = j4.blocks; staged = []; is_broken = false })) m after now outcome next j4 fits image
-            (tells_then (record { blocks = j4.blocks; staged = []; is_broken = false }) image refl refl) refl outcome_is moments past_stays (then_kept j) result (ap (λ (h : Held). h.is_broken) is) ends
+            change_broke k (kept_with new staged (record { blocks = j4.blocks; staged = []; is_broken = false })) m after now outcome next j4 fits image
+            (tells_then (record { blocks = j4.blocks; staged = []; is_broken = false }) image refl refl) refl outcome_is moments past_stays (kept_with new staged j) result (ap (λ (h : Held). h.is_broken) is) ends
 
 -- what the calls say of the record and of the bitmap
-pub file_staged : (limits : Limits) (c : Catalog) (t : List Bool) (slot : ℕ) (j2 j3 j4 : Held) (at : ℕ) → StagesOnly (files_start limits + slot / 16) j2 j3
+pub file_staged : {limits : Limits} {c : Catalog} {t : List Bool} {slot : ℕ} {j2 j3 j4 : Held} {at : ℕ} → StagesOnly (files_start limits + slot / 16) j2 j3
     → ((kept : ℕ → List ℕ) (n : ℕ) → n < limits.files → n / 16 ≡ slot / 16 → slot_bytes (file_slots limits) (looked j3.staged kept) n ≡ file_bytes (record_at c n))
     → at ≡ bitmap_start limits → j4 ≡ record j3 { staged = with_entry j3.staged at (bitmap_bytes t) }
     → ((n : ℕ) (was : List ℕ) → look j4.staged n was ≡ cond (n == at) (bitmap_bytes t) (look j3.staged n was))
     → FileStaged limits c t slot j2 j3 j4
-file_staged limits c t slot j2 j3 j4 at only slots is staged looks = record {
+file_staged {limits} {c} {t} {slot} {j2} {j3} {j4} {at} only slots is staged looks = record {
   record_only = only;
   slots = slots;
   bitmap_only = stages_only j3 j4 at (bitmap_start limits) (bitmap_bytes t) staged looks is;
   bitmap = λ was. looks (bitmap_start limits) was ∙ ap (λ b. cond b (bitmap_bytes t) (look j3.staged (bitmap_start limits) was)) (eq-eqb (bitmap_start limits) at (sym is));
 }
+
+-- ---- a file without bytes
+passes_last : (now : Situation) (checks : List (Bool × Refusal)) (last : Bool × Refusal) (done : Outcome) → last.0 ≡ false → judged now (checks ++ last ∷ []) done ≡ judged now checks done
+passes_last now [] last done none = ap (λ b. cond b (refused now last.1) done) none
+passes_last now (check ∷ checks) last done none = ap (λ o. cond check.0 (refused now check.1) o) (passes_last now checks last done none)
+
+pub create_is_add : (now : Situation) (name : List ℕ) (words : List (List ℕ)) → create now name words ≡ add now name words no_payload
+create_is_add now name words =
+    let file = new_file name (assigned_at now.place words) [] in
+    sym (passes_last now (create_checks now words file) (nat_lt (free_blocks now.state) 0, NoSpace) (changed now (with_file now.state file)) (le-ltb (free_blocks now.state) 0 (omega arith)))

@@ -1,12 +1,12 @@
 -- Words that get numbers: one word, and one more.
-use Rattle.std.proofs.Common.{◌≡◌, ◌⊎◌, refl, sym, ap, ap₂, ◌∙◌, subst, inl, inr, ℕ, zero, suc, ◌+◌, ◌%◌, ◌/◌, ◌<◌, ◌≤◌, ◌==◌, ◌||◌, nat_lt, Bool, true, false, cond, List, [], ◌∷◌, ◌++◌, length, map, take, drop, get_or, Option, Some, None, Ok, is_some, IsTrue, arith, length-append, get_or-set_same, take-append-drop}
+use Rattle.std.proofs.Common.{◌≡◌, ◌⊎◌, refl, sym, ap, ap₂, ◌∙◌, subst, inl, inr, ℕ, zero, suc, ◌+◌, ◌/◌, ◌<◌, ◌≤◌, ◌==◌, nat_lt, Bool, true, false, cond, List, [], ◌∷◌, ◌++◌, length, map, take, drop, get_or, Option, Some, None, Ok, is_some, arith, length-append, get_or-set_same, take-append-drop}
 use Rattle.std.specs.declared.cmp.Ordering.{Ordering}
 use Rattle.std.specs.declared.cmp.Ordering.TheVariants.{Less, Equal, Greater}
 use Rattle.std.specs.Ordering.{match_ordering, nat_cmp, is_lt}
 use Rattle.std.specs.Option.{option_to_list}
 use Rattle.std.specs.Cmp.{IsTotalOrder, nat_cmp_is, tied_itself}
 use Rattle.std.specs.BTreeSet.{insert_key}
-use Rattle.std.specs.List.{flat_map, list_all, insert, prefix_len, range_with_len}
+use Rattle.std.specs.List.{flat_map, list_all, insert, prefix_len}
 use Rattle.std.specs.List.Sorted.{IsStrictlySortedBy}
 use Rattle.std.proofs.lemmas.Bool.{and_parts, and_from, or_cases, or_left, or_right, both_ways, false_from_ne_true, cases_eq, cases_lt, eq-eqb, ne_eqb, eqb-true, eqb-false, lt-ltb, le-ltb}
 use Rattle.std.proofs.lemmas.Cmp.{nat_cmp_total}
@@ -21,14 +21,13 @@ use Rattle.lis_graph.proofs.Sets.{members_lt, sorted_from_rising, sorted_insert_
 use Rattle.lis_bits.specs.Rows.{Rows, row_at, row_of, get, with_row}
 use Rattle.lis_bits.proofs.Laws.{get-with_row_same}
 use Rattle.lis_journal.specs.Journal.{Held}
-use Rattle.lis_journal.specs.Images.{look}
 use Rattle.lis_journal.specs.Phases.{looked}
 use Rattle.lis_slots.specs.Slots.{slot}
 use Rattle.lis_blockmap.specs.Bitmap.{is_taken}
 use Rattle.lis_content.specs.Content.{has_number}
 use Rattle.lis_content.proofs.Numbers.{neither}
 use Rattle.lis_dict.specs.Dict.{Dict, IsDict, words, number_of, word_of, entry_cmp, with_entry, Adds}
-use Rattle.lis_dict.proofs.Laws.{among_from_number, new_word, word_from_number, number_from_word, number_below, number_of-with_entry, word_of-with_entry, length-with_entry, kept_with_entry}
+use Rattle.lis_dict.proofs.Laws.{among_from_number, new_word, word_from_number, number_from_word, number_of-with_entry, word_of-with_entry, length-with_entry, kept_with_entry}
 use Rattle.lis_fields.specs.Layouts.{prop_bytes, is_prop, is_undeclared}
 use Rattle.lis_fields.specs.declared.slots.PropSlot.TheVariants.{Known}
 use Rattle.lis_fields.proofs.Parts.{undeclared_word}
@@ -40,7 +39,7 @@ use Rattle.lis_model.specs.Sets.{with_word, with_words, set_of}
 use Rattle.lis_laws.proofs.Members.{word_exact, word_order, same_word_decides, among_from_has_word, has_word_from_among, among_set_of, set_of_among, sorted_set_of, same_words}
 use Rattle.lis_laws.proofs.Counts.{all_among, all_insert_key, rising_insert_key, insert_key_le, le_insert_key}
 use Rattle.lis_store.specs.Stands.{property_slots}
-use Rattle.lis_store.specs.Kept.{property_by, property_at, bit_of, words_told, PropertiesAre}
+use Rattle.lis_store.specs.Kept.{property_by, property_at, bit_of, words_told}
 use Rattle.lis_store.specs.Staging.{StagesOnly}
 use Rattle.lis_store.specs.Adding.{may_be_numbered, Learns}
 use Rattle.lis_store.proofs.Staged.{whole_properties, properties_staged}

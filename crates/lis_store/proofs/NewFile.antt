@@ -1,22 +1,22 @@
 -- A new file in memory: what is kept with it is sound.
-use Rattle.std.proofs.Common.{◌≡◌, ◌⊎◌, refl, sym, ap, ap₂, ◌∙◌, subst, inl, inr, ℕ, ◌+◌, ◌-◌, ◌*◌, ◌%◌, ◌/◌, ◌^◌, ◌<◌, ◌≤◌, ◌==◌, ◌&&◌, ◌||◌, not, nat_lt, nat_le, Bool, true, false, cond, List, [], ◌∷◌, ◌++◌, length, map, set, Option, Some, None, is_some, IsTrue, arith, length-set, get_or-set_same, get_or-set_other}
+use Rattle.std.proofs.Common.{◌≡◌, ◌⊎◌, refl, sym, ap, ap₂, ◌∙◌, subst, inl, inr, ℕ, ◌+◌, ◌%◌, ◌^◌, ◌<◌, ◌≤◌, ◌==◌, ◌&&◌, ◌||◌, not, nat_lt, nat_le, Bool, true, false, List, [], ◌∷◌, ◌++◌, length, map, set, Option, Some, None, is_some, arith, length-set, get_or-set_same, get_or-set_other}
 use Rattle.std.specs.declared.cmp.Ordering.{Ordering}
 use Rattle.std.specs.declared.cmp.Ordering.TheVariants.{Less, Equal, Greater}
 use Rattle.std.specs.Ordering.{match_ordering, nat_cmp}
 use Rattle.std.specs.BTreeSet.{insert_key}
-use Rattle.std.specs.List.{flat_map, list_all, list_any}
+use Rattle.std.specs.List.{flat_map, list_all}
 use Rattle.std.proofs.lemmas.Bool.{and_parts, and_from, both_ways, cases_eq, eq-eqb, ne_eqb, eqb-true, ltb-true, lt-ltb, leb-true, le-leb, false_from_ne_true}
 use Rattle.std.proofs.lemmas.Grind.{flat_map-append}
 use Rattle.std.proofs.lemmas.List.{map-append}
-use Rattle.std.proofs.lemmas.List.Folds.{list_any-append, list_all-map}
+use Rattle.std.proofs.lemmas.List.Folds.{list_any-append}
 use Rattle.lis_graph.specs.Graph.{is_rising}
-use Rattle.lis_graph.proofs.Members.{Among, among_map, map_among, among_insert_key, insert_key_old, among_from_any, any_from_among}
+use Rattle.lis_graph.proofs.Members.{Among, among_map, map_among, among_insert_key, among_from_any}
 use Rattle.lis_journal.specs.Journal.{Held}
 use Rattle.lis_blockmap.specs.Bitmap.{is_taken}
 use Rattle.lis_content.specs.Content.{marked, are_free, has_number, are_distinct}
 use Rattle.lis_content.specs.Putting.{IsPut}
-use Rattle.lis_content.proofs.Numbers.{neither, not_true, from_false, are_below, below_from_free, free_after}
-use Rattle.lis_dict.specs.Dict.{Dict, IsDict, words, number_of, word_of}
+use Rattle.lis_content.proofs.Numbers.{neither, not_true, from_false, are_below, below_from_free}
+use Rattle.lis_dict.specs.Dict.{Dict, word_of}
 use Rattle.lis_dict.proofs.Laws.{word_from_number, number_from_word, number_below}
 use Rattle.lis_catalog.specs.Catalog.{Catalog, Filed, IsCatalog, names, slots, slot_of, rec_at, filed_cmp, with_filed}
 use Rattle.lis_fields.specs.Records.{FileRecord}
@@ -224,7 +224,7 @@ pub record NewFile (k : Kept) (name : List ℕ) (assigned : List (List ℕ)) (by
   pub free : rec_at k.catalog slot ≡ None
   pub filed : c ≡ with_filed k.catalog slot (record { name = name; size = length bytes; tags = numbers; blocks = blocks })
 
-module _ (k : Kept) (name : List ℕ) (assigned : List (List ℕ)) (bytes : List ℕ) (d : Dict) (b : List Bool) (c : Catalog) (t : List Bool) (j1 j2 : Held) (numbers blocks : List ℕ) (slot : ℕ) (new : NewFile k name assigned bytes d b c t j1 j2 numbers blocks slot) where
+module _ {k : Kept} {name : List ℕ} {assigned : List (List ℕ)} {bytes : List ℕ} {d : Dict} {b : List Bool} {c : Catalog} {t : List Bool} {j1 j2 : Held} {numbers blocks : List ℕ} {slot : ℕ} (new : NewFile k name assigned bytes d b c t j1 j2 numbers blocks slot) where
   abbrev pub new_record : FileRecord
   new_record = record { name = name; size = length bytes; tags = numbers; blocks = blocks }
 

@@ -1,5 +1,5 @@
 use Rattle.lis_bits.specs.Rows.{row_at}
-use Rattle.lis_store.proofs.Learning.{learns_none, fit_then, room_then, new_number_then, learnt_then}
+use Rattle.lis_store.proofs.Learning.{fit_then, room_then, new_number_then, learnt_then}
 use Rattle.lis_store.proofs.adding.learn.Goals as goal
 
 pub learn_word-number-requires-clause-fit : goal.learn_word-number-requires-clause-fit

@@ -1,19 +1,16 @@
 use Rattle.std.proofs.Common.{◌≡◌, ◌∙◌, true, sym, ap, subst, List, ℕ, Err, None}
 use Rattle.std.specs.List.{list_all}
 use Rattle.std.proofs.lemmas.Result.{err_from_is_err_and}
-use Rattle.lis_bits.specs.Rows.{row_at}
 use Rattle.lis_graph.specs.Graph.{is_rising}
-use Rattle.lis_dict.specs.Dict.{words}
 use Rattle.lis_words.specs.Words.{word_cmp}
-use Rattle.lis_model.specs.Step.{assigned_at}
 use Rattle.lis_store.specs.Kept.{Kept, StoreFits}
-use Rattle.lis_store.specs.Inside.{kept_of}
 use Rattle.lis_store.specs.Changes.{first_refusal}
 use Rattle.lis_store.specs.Admitting.{told_checks}
 use Rattle.lis_store.specs.Adding.{may_be_numbered}
 use Rattle.lis_store.proofs.NewWords.{assigned_rising}
 use Rattle.lis_store.proofs.NewFile.{records_in_form}
-use Rattle.lis_store.proofs.FileKept.{refused_add, words_numbered, words_fit, new_file_made, file_staged, sound_done, sound_broken, add_done, add_broke}
+use Rattle.lis_store.proofs.FileAdded.{sound_done, sound_broken}
+use Rattle.lis_store.proofs.FileKept.{refused_add, words_numbered, words_fit, new_file_made, file_staged, add_done, add_broke}
 use Rattle.lis_store.proofs.store.Store.add_file.Goals as goal
 
 pub returns-in_err-assigned-clause-changes : goal.returns-in_err-assigned-clause-changes
@@ -29,96 +26,65 @@ learn-tags-requires-clause-set g c =
 
 pub learn-tags-requires-clause-fit : goal.learn-tags-requires-clause-fit
 learn-tags-requires-clause-fit g c =
-    let i = c.self.inside in
-    let v : Kept = kept_of i.limits i.journal i.dict i.declared i.catalog i.map in
     let none = subst (λ (k : Kept). first_refusal (told_checks k c.args.place.now c.args.name.now c.args.tags.now c.args.size) ≡ None) (sym c.self.view_is) c.in_ok-assigned.ensures.1 in
     let given = c.deref.ensures.value ∙ c.in_ok-assigned.ensures.0 in
-    subst (λ (ws : List (List ℕ)). list_all (may_be_numbered i.dict) ws ≡ true) (sym given) (words_numbered v c.args.place.now c.args.name.now c.args.tags.now c.args.size c.self.invariant.sound none)
+    subst (λ (ws : List (List ℕ)). list_all (may_be_numbered c.self.inside.dict) ws ≡ true) (sym given) (words_numbered c.self.invariant.sound c.args.place.now c.args.name.now c.args.tags.now c.args.size none)
 
 pub learn-tags-requires-clause-free : goal.learn-tags-requires-clause-free
 learn-tags-requires-clause-free g c =
-    let i = c.self.inside in
-    let v : Kept = kept_of i.limits i.journal i.dict i.declared i.catalog i.map in
     let none = subst (λ (k : Kept). first_refusal (told_checks k c.args.place.now c.args.name.now c.args.tags.now c.args.size) ≡ None) (sym c.self.view_is) c.in_ok-assigned.ensures.1 in
     let given = c.deref.ensures.value ∙ c.in_ok-assigned.ensures.0 in
-    let fit = words_fit v c.args.place.now c.args.name.now c.args.tags.now c.args.size c.self.invariant.sound none in
+    let fit = words_fit c.self.invariant.sound c.args.place.now c.args.name.now c.args.tags.now c.args.size none in
     rw given fit
 
 pub stage_record-requires-clause-records : goal.stage_record-requires-clause-records
 stage_record-requires-clause-records g c =
-    let i = c.self.inside in
-    let v : Kept = kept_of i.limits i.journal i.dict i.declared i.catalog i.map in
     let none = subst (λ (k : Kept). first_refusal (told_checks k c.args.place.now c.args.name.now c.args.tags.now c.args.size) ≡ None) (sym c.self.view_is) c.in_ok-assigned.ensures.1 in
     let given = c.deref.ensures.value ∙ c.in_ok-assigned.ensures.0 in
     let l = c.learn-tags in
-    let new = new_file_made v c.args.place.now c.args.name.now c.args.tags.now c.args.size c.self.invariant.sound none c.args.payload.now c.bytes-name.ensures.name c.requires.whole
-      l.new.dict (row_at l.new.declared 0) c.add.new.self c.put.new.map l.new.journal c.put.new.journal l.result.items c.in-Ok.blocks.items c.in-Ok-add.slot
-      c.deref.result.now c.data_start-base.result c.copied.result given c.data_start-base.ensures.start c.copied.ensures l.ensures.learnt c.in-Ok.ensures.ended c.in-Ok-add.ensures in
-    records_in_form v c.args.name.now (assigned_at c.args.place.now c.args.tags.now) c.args.payload.now l.new.dict (row_at l.new.declared 0) c.add.new.self c.put.new.map l.new.journal c.put.new.journal l.result.items c.in-Ok.blocks.items c.in-Ok-add.slot new
+    let new = new_file_made c.self.invariant.sound c.args.place.now c.args.name.now c.args.tags.now c.args.size none c.args.payload.now c.bytes-name.ensures.name c.requires.whole
+    given c.data_start-base.ensures.start c.copied.ensures l.ensures.learnt c.in-Ok.ensures.ended c.in-Ok-add.ensures in
+    records_in_form new
 
 pub invariant_of-self : goal.invariant_of-self
 invariant_of-self g c =
-    let i = c.self.inside in
-    let v : Kept = kept_of i.limits i.journal i.dict i.declared i.catalog i.map in
     let none = subst (λ (k : Kept). first_refusal (told_checks k c.args.place.now c.args.name.now c.args.tags.now c.args.size) ≡ None) (sym c.self.view_is) c.in_ok-assigned.ensures.1 in
     let given = c.deref.ensures.value ∙ c.in_ok-assigned.ensures.0 in
     let l = c.learn-tags in
-    let new = new_file_made v c.args.place.now c.args.name.now c.args.tags.now c.args.size c.self.invariant.sound none c.args.payload.now c.bytes-name.ensures.name c.requires.whole
-      l.new.dict (row_at l.new.declared 0) c.add.new.self c.put.new.map l.new.journal c.put.new.journal l.result.items c.in-Ok.blocks.items c.in-Ok-add.slot
-      c.deref.result.now c.data_start-base.result c.copied.result given c.data_start-base.ensures.start c.copied.ensures l.ensures.learnt c.in-Ok.ensures.ended c.in-Ok-add.ensures in
-    let staged = file_staged i.limits c.add.new.self c.put.new.map c.in-Ok-add.slot c.put.new.journal c.stage_record.new.journal c.stage_to.new.journal c.bitmap_start.result
-      c.stage_record.ensures.only c.stage_record.ensures.slots c.bitmap_start.ensures c.stage_to.ensures.staged c.stage_to.ensures.looks in
-    record { sound = sound_broken v c.args.place.now c.args.name.now c.args.tags.now c.args.size c.self.invariant.sound none c.args.payload.now c.bytes-name.ensures.name c.requires.whole
-      l.new.dict (row_at l.new.declared 0) c.add.new.self c.put.new.map l.new.journal c.put.new.journal l.result.items c.in-Ok.blocks.items c.in-Ok-add.slot
-      new c.stage_record.new.journal c.stage_to.new.journal staged c.commit.new.self c.in_err-commit.ensures.broken; tall = l.ensures.tall; wide = l.ensures.wide }
+    let new = new_file_made c.self.invariant.sound c.args.place.now c.args.name.now c.args.tags.now c.args.size none c.args.payload.now c.bytes-name.ensures.name c.requires.whole
+    given c.data_start-base.ensures.start c.copied.ensures l.ensures.learnt c.in-Ok.ensures.ended c.in-Ok-add.ensures in
+    let staged = file_staged c.stage_record.ensures.only c.stage_record.ensures.slots c.bitmap_start.ensures c.stage_to.ensures.staged c.stage_to.ensures.looks in
+    record { sound = sound_broken new staged c.commit.new.self c.in_err-commit.ensures.broken; tall = l.ensures.tall; wide = l.ensures.wide }
 
 pub invariant_of-self-2 : goal.invariant_of-self-2
 invariant_of-self-2 g c =
-    let i = c.self.inside in
-    let v : Kept = kept_of i.limits i.journal i.dict i.declared i.catalog i.map in
     let none = subst (λ (k : Kept). first_refusal (told_checks k c.args.place.now c.args.name.now c.args.tags.now c.args.size) ≡ None) (sym c.self.view_is) c.in_ok-assigned.ensures.1 in
     let given = c.deref.ensures.value ∙ c.in_ok-assigned.ensures.0 in
     let l = c.learn-tags in
-    let new = new_file_made v c.args.place.now c.args.name.now c.args.tags.now c.args.size c.self.invariant.sound none c.args.payload.now c.bytes-name.ensures.name c.requires.whole
-      l.new.dict (row_at l.new.declared 0) c.add.new.self c.put.new.map l.new.journal c.put.new.journal l.result.items c.in-Ok.blocks.items c.in-Ok-add.slot
-      c.deref.result.now c.data_start-base.result c.copied.result given c.data_start-base.ensures.start c.copied.ensures l.ensures.learnt c.in-Ok.ensures.ended c.in-Ok-add.ensures in
-    let staged = file_staged i.limits c.add.new.self c.put.new.map c.in-Ok-add.slot c.put.new.journal c.stage_record.new.journal c.stage_to.new.journal c.bitmap_start.result
-      c.stage_record.ensures.only c.stage_record.ensures.slots c.bitmap_start.ensures c.stage_to.ensures.staged c.stage_to.ensures.looks in
-    record { sound = sound_done v c.args.place.now c.args.name.now c.args.tags.now c.args.size c.self.invariant.sound none c.args.payload.now c.bytes-name.ensures.name c.requires.whole
-      l.new.dict (row_at l.new.declared 0) c.add.new.self c.put.new.map l.new.journal c.put.new.journal l.result.items c.in-Ok.blocks.items c.in-Ok-add.slot
-      new c.stage_record.new.journal c.stage_to.new.journal staged c.commit.new.self c.in_ok-commit.ensures.done; tall = l.ensures.tall; wide = l.ensures.wide }
+    let new = new_file_made c.self.invariant.sound c.args.place.now c.args.name.now c.args.tags.now c.args.size none c.args.payload.now c.bytes-name.ensures.name c.requires.whole
+    given c.data_start-base.ensures.start c.copied.ensures l.ensures.learnt c.in-Ok.ensures.ended c.in-Ok-add.ensures in
+    let staged = file_staged c.stage_record.ensures.only c.stage_record.ensures.slots c.bitmap_start.ensures c.stage_to.ensures.staged c.stage_to.ensures.looks in
+    record { sound = sound_done new staged c.commit.new.self c.in_ok-commit.ensures.done; tall = l.ensures.tall; wide = l.ensures.wide }
 
 pub returns-in_err-commit-clause-changes : goal.returns-in_err-commit-clause-changes
 returns-in_err-commit-clause-changes g c = λ s fits.
-    let i = c.self.inside in
-    let v : Kept = kept_of i.limits i.journal i.dict i.declared i.catalog i.map in
     let none = subst (λ (k : Kept). first_refusal (told_checks k c.args.place.now c.args.name.now c.args.tags.now c.args.size) ≡ None) (sym c.self.view_is) c.in_ok-assigned.ensures.1 in
     let given = c.deref.ensures.value ∙ c.in_ok-assigned.ensures.0 in
     let l = c.learn-tags in
-    let new = new_file_made v c.args.place.now c.args.name.now c.args.tags.now c.args.size c.self.invariant.sound none c.args.payload.now c.bytes-name.ensures.name c.requires.whole
-      l.new.dict (row_at l.new.declared 0) c.add.new.self c.put.new.map l.new.journal c.put.new.journal l.result.items c.in-Ok.blocks.items c.in-Ok-add.slot
-      c.deref.result.now c.data_start-base.result c.copied.result given c.data_start-base.ensures.start c.copied.ensures l.ensures.learnt c.in-Ok.ensures.ended c.in-Ok-add.ensures in
-    let staged = file_staged i.limits c.add.new.self c.put.new.map c.in-Ok-add.slot c.put.new.journal c.stage_record.new.journal c.stage_to.new.journal c.bitmap_start.result
-      c.stage_record.ensures.only c.stage_record.ensures.slots c.bitmap_start.ensures c.stage_to.ensures.staged c.stage_to.ensures.looks in
+    let new = new_file_made c.self.invariant.sound c.args.place.now c.args.name.now c.args.tags.now c.args.size none c.args.payload.now c.bytes-name.ensures.name c.requires.whole
+    given c.data_start-base.ensures.start c.copied.ensures l.ensures.learnt c.in-Ok.ensures.ended c.in-Ok-add.ensures in
+    let staged = file_staged c.stage_record.ensures.only c.stage_record.ensures.slots c.bitmap_start.ensures c.stage_to.ensures.staged c.stage_to.ensures.looks in
     let fits_then = subst (λ (k : Kept). StoreFits k (g.D.Disk.meaning c.args.disk.now) s) (sym c.self.view_is) fits in
     let p = err_from_is_err_and c.from_residual-in_err-commit.result c.from_residual-in_err-commit.ensures.1 in
-    add_broke v c.args.place.now c.args.name.now c.args.tags.now c.args.size c.self.invariant.sound none c.args.payload.now c.bytes-name.ensures.name c.requires.whole
-      l.new.dict (row_at l.new.declared 0) c.add.new.self c.put.new.map l.new.journal c.put.new.journal l.result.items c.in-Ok.blocks.items c.in-Ok-add.slot
-      new c.stage_record.new.journal c.stage_to.new.journal staged (g.D.Disk.meaning c.args.disk.now) (g.D.Disk.meaning c.put.new.disk) (g.D.Disk.meaning c.commit.new.disk) (ap g.D.Disk.meaning c.put.ensures.disk) s fits_then c.in_err-commit.ensures.any_moment c.in_err-commit.ensures.past c.commit.new.self c.from_residual-in_err-commit.result c.in_err-commit.ensures.broken (p.1 ∙ ap Err p.2)
+    add_broke c.self.invariant.sound c.args.place.now c.args.name.now c.args.tags.now c.args.size none c.args.payload.now c.bytes-name.ensures.name c.requires.whole new staged (g.D.Disk.meaning c.args.disk.now) (g.D.Disk.meaning c.put.new.disk) (g.D.Disk.meaning c.commit.new.disk) (ap g.D.Disk.meaning c.put.ensures.disk) s fits_then c.in_err-commit.ensures.any_moment c.in_err-commit.ensures.past c.commit.new.self c.from_residual-in_err-commit.result c.in_err-commit.ensures.broken (p.1 ∙ ap Err p.2)
 
 pub returns-clause-changes : goal.returns-clause-changes
 returns-clause-changes g c = λ s fits.
-    let i = c.self.inside in
-    let v : Kept = kept_of i.limits i.journal i.dict i.declared i.catalog i.map in
     let none = subst (λ (k : Kept). first_refusal (told_checks k c.args.place.now c.args.name.now c.args.tags.now c.args.size) ≡ None) (sym c.self.view_is) c.in_ok-assigned.ensures.1 in
     let given = c.deref.ensures.value ∙ c.in_ok-assigned.ensures.0 in
     let l = c.learn-tags in
-    let new = new_file_made v c.args.place.now c.args.name.now c.args.tags.now c.args.size c.self.invariant.sound none c.args.payload.now c.bytes-name.ensures.name c.requires.whole
-      l.new.dict (row_at l.new.declared 0) c.add.new.self c.put.new.map l.new.journal c.put.new.journal l.result.items c.in-Ok.blocks.items c.in-Ok-add.slot
-      c.deref.result.now c.data_start-base.result c.copied.result given c.data_start-base.ensures.start c.copied.ensures l.ensures.learnt c.in-Ok.ensures.ended c.in-Ok-add.ensures in
-    let staged = file_staged i.limits c.add.new.self c.put.new.map c.in-Ok-add.slot c.put.new.journal c.stage_record.new.journal c.stage_to.new.journal c.bitmap_start.result
-      c.stage_record.ensures.only c.stage_record.ensures.slots c.bitmap_start.ensures c.stage_to.ensures.staged c.stage_to.ensures.looks in
+    let new = new_file_made c.self.invariant.sound c.args.place.now c.args.name.now c.args.tags.now c.args.size none c.args.payload.now c.bytes-name.ensures.name c.requires.whole
+    given c.data_start-base.ensures.start c.copied.ensures l.ensures.learnt c.in-Ok.ensures.ended c.in-Ok-add.ensures in
+    let staged = file_staged c.stage_record.ensures.only c.stage_record.ensures.slots c.bitmap_start.ensures c.stage_to.ensures.staged c.stage_to.ensures.looks in
     let fits_then = subst (λ (k : Kept). StoreFits k (g.D.Disk.meaning c.args.disk.now) s) (sym c.self.view_is) fits in
-    add_done v c.args.place.now c.args.name.now c.args.tags.now c.args.size c.self.invariant.sound none c.args.payload.now c.bytes-name.ensures.name c.requires.whole
-      l.new.dict (row_at l.new.declared 0) c.add.new.self c.put.new.map l.new.journal c.put.new.journal l.result.items c.in-Ok.blocks.items c.in-Ok-add.slot
-      new c.stage_record.new.journal c.stage_to.new.journal staged (g.D.Disk.meaning c.args.disk.now) (g.D.Disk.meaning c.put.new.disk) (g.D.Disk.meaning c.commit.new.disk) (ap g.D.Disk.meaning c.put.ensures.disk) s fits_then c.in_ok-commit.ensures.any_moment c.in_ok-commit.ensures.past c.commit.new.self c.in_ok-commit.field-0 c.in_ok-commit.ensures.done c.in_ok-commit.ensures.kept
+    add_done c.self.invariant.sound c.args.place.now c.args.name.now c.args.tags.now c.args.size none c.args.payload.now c.bytes-name.ensures.name c.requires.whole new staged (g.D.Disk.meaning c.args.disk.now) (g.D.Disk.meaning c.put.new.disk) (g.D.Disk.meaning c.commit.new.disk) (ap g.D.Disk.meaning c.put.ensures.disk) s fits_then c.in_ok-commit.ensures.any_moment c.in_ok-commit.ensures.past c.commit.new.self c.in_ok-commit.field-0 c.in_ok-commit.ensures.done c.in_ok-commit.ensures.kept
