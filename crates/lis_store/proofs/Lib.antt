@@ -13,6 +13,10 @@ pub mod Rm
 pub mod Staged
 pub mod Blocks
 pub mod Committing
+pub mod Learning
+pub mod NewFile
+pub mod FileAdded
+pub mod FileKept
 mod Finding
 pub mod Facts
 pub mod Here

@@ -7,4 +7,5 @@ pub mod Changes
 pub mod Inside
 pub mod Removing
 pub mod Staging
+pub mod Adding
 pub mod Admitting

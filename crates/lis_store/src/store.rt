@@ -20,16 +20,19 @@ ghost use Rattle.lis_store.specs.Seen.{table_of, entries_told, is_among};
 ghost use Rattle.lis_store.specs.Changes.{first_refusal, word_checks, Changes, HasChangeCause, ChangeLeft};
 ghost use Rattle.lis_store.specs.Admitting.{is_assignable_by, named_checks, room_checks, told_checks, Refuses};
 
+use crate::adding::learn;
 use crate::admitting::{MAX_FILE, MAX_TAGS, blocks_needed, has_built_in, has_head_word, new_count};
 use crate::change::Change;
-use crate::parts::data_start;
+use crate::parts::{bitmap_start, data_start};
 use crate::removing::remove_file;
 use crate::seen::{known_words, make_table, seen_slot};
-use crate::staging::stage_property;
+use crate::staging::{stage_property, stage_record};
 use lis_bits::Rows;
 use lis_blockmap::BlockMap;
 use lis_catalog::Catalog;
+use lis_content::put;
 use lis_dict::Dict;
+use lis_fields::FileRec;
 use lis_journal::Journal;
 use lis_model::command::Tags;
 use lis_model::limits::Limits;
@@ -37,8 +40,8 @@ use lis_model::refusal::Refusal;
 use lis_place::Place;
 use lis_ports::{Disk, Failed};
 use lis_table::table::Table;
-use lis_words::{Name, Word, is_builtin, is_valued, head_of, is_plain_word};
 use lis_table::tags::{assigned_with, place_words};
+use lis_words::{Name, Word, head_of, is_builtin, is_plain_word, is_valued};
 use std::alloc::{AllocError, Global};
 use std::marker::Model;
 
@@ -281,7 +284,34 @@ impl Store {
         ensures run { IsDiskRun (D.meaning disk.old) (D.meaning disk.new) }
         ensures cause { HasChangeCause (D.meaning disk.old).disk_faults (D.meaning disk.new).disk_faults result }
     {
-        Err(Change::NoMemory)
+        // Only its bytes tell that a name has a name's form.
+        let _name = name.bytes();
+        let assigned = self.may_add(alloc, place, name, tags, size)?;
+        let tags = learn(
+            &mut self.dict,
+            &mut self.declared,
+            &mut self.journal,
+            &self.limits,
+            &assigned,
+        );
+        let base = data_start(&self.limits);
+        let Ok(blocks) = put(&mut self.map, &mut self.journal, disk, base, &[], payload) else {
+            unreachable!()
+        };
+        let rec = FileRec {
+            name: name.copied(),
+            size: payload.len() as u32,
+            tags,
+            blocks,
+        };
+        let Ok(slot) = self.catalog.add(rec) else {
+            unreachable!()
+        };
+        stage_record(&mut self.journal, &self.limits, &self.catalog, slot);
+        self.map
+            .stage_to(&mut self.journal, bitmap_start(&self.limits));
+        self.journal.commit(disk)?;
+        Ok(())
     }
 
     /// Takes a file away: `rm` at the place.
