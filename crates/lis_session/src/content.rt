@@ -81,7 +81,7 @@ pub fn cat<T: Station>(
         (T.meaning station.old) (T.meaning station.new) result (StoreFits store.now (T.meaning station.new)) place.now }
     ensures ends { Ends (T.meaning station.old) (T.meaning station.new) result }
 {
-    // Its limits tell what holds of every store.
+    // The limits tell that the store is sound, so that a slot that it finds has a record.
     let _limits = store.limits();
     let Some(slot) = store.slot_here(alloc, place, name)? else {
         return answer_refusal(station, &Refusal::NoFileHere);

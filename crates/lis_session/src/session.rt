@@ -5,7 +5,7 @@ ghost use Rattle.lis_dict.specs.Dict.{words};
 ghost use Rattle.lis_grammar.specs.Places.{resolved};
 ghost use Rattle.lis_line.specs.Reading.{asked_by};
 ghost use Rattle.lis_model.specs.Step.{refused, cd, pwd, ls, done};
-ghost use Rattle.lis_store.specs.Kept.{StoreFits};
+ghost use Rattle.lis_store.specs.Kept.{Kept, StoreFits};
 ghost use Rattle.lis_session.specs.Item.{CarriesOut, HasEndCause, StoreLeft};
 ghost use Rattle.lis_session.specs.Parts.{Does, Ends, led_to};
 
@@ -82,10 +82,10 @@ fn led_to(
     Ok(Err(Refusal::UnknownProperty))
 }
 
-// Shows the place.
-fn pwd<T: Station>(alloc: Global, store: &Store, place: &Place, station: &mut T) -> Result<(), End>
-    ensures carries { Does pwd (StoreFits store.now (T.meaning station.old)) place.now
-        (T.meaning station.old) (T.meaning station.new) result (StoreFits store.now (T.meaning station.new)) place.now }
+// Shows the place. No store is looked at, so any one fits as before.
+fn pwd<T: Station>(alloc: Global, place: &Place, station: &mut T) -> Result<(), End>
+    ensures carries { (k : Kept) → Does pwd (StoreFits k (T.meaning station.old)) place.now
+        (T.meaning station.old) (T.meaning station.new) result (StoreFits k (T.meaning station.new)) place.now }
     ensures ends { Ends (T.meaning station.old) (T.meaning station.new) result }
 {
     let reply = place_reply(alloc, place)?;
@@ -148,7 +148,7 @@ impl Session {
             Command::Rm(name) => rm(alloc, store, &self.place, name, station),
             Command::Cat(name) => cat(alloc, store, &self.place, name, station),
             Command::Cd(text) => self.cd(alloc, store, text, station),
-            Command::Pwd => pwd(alloc, store, &self.place, station),
+            Command::Pwd => pwd(alloc, &self.place, station),
             Command::Ls => ls(alloc, store, &self.place, station),
         }
     }

@@ -14,3 +14,6 @@ returns-in-Cat-clause-carries g c = rw c.in-Cat.is (rw c.self-in-Cat.view_is at 
 
 pub returns-in-Ls-clause-carries : goal.returns-in-Ls-clause-carries
 returns-in-Ls-clause-carries g c = rw c.in-Ls.is (rw c.self-in-Ls.view_is at c.ls.ensures.carries)
+
+pub returns-in-Pwd-clause-carries : goal.returns-in-Pwd-clause-carries
+returns-in-Pwd-clause-carries g c = rw c.in-Pwd.is (rw c.self-in-Pwd.view_is at (c.pwd.ensures.carries c.args.store.now))
