@@ -161,6 +161,22 @@ module _ (k : Kept) (at : ℕ → List ℕ) (s : State) (tells : Tells k at s) w
   pub filed_of_file : (file : File) → Among s.files file → (f : Filed) × Among k.catalog.entries f × (file_told k.limits k.dict at f ≡ file)
   filed_of_file file m = among_map (file_told k.limits k.dict at) k.catalog.entries file (subst (λ fs. Among fs file) (sym tells.files) m)
 
+  -- the file of a name by its slot, and the slot of a file
+  pub file_of_name : (name : List ℕ) (slot : ℕ) (rec : FileRecord) → slot_of k.catalog name ≡ Some slot → rec_at k.catalog slot ≡ Some rec
+      → Among s.files (file_told k.limits k.dict at (record { slot = slot; rec = rec })) × (rec.name ≡ name)
+  file_of_name name slot rec is_slot is_rec =
+      let there = filed_named k.catalog tells.sound.catalog name slot rec is_slot is_rec in
+      (file_of_filed (record { slot = slot; rec = rec }) there.0, there.1)
+
+  pub slot_of_file : (file : File) → Among s.files file → (f : Filed) × (slot_of k.catalog file.name ≡ Some f.slot) × (rec_at k.catalog f.slot ≡ Some f.rec) × (file_told k.limits k.dict at f ≡ file)
+  slot_of_file file m =
+      let found = filed_of_file file m in (
+        found.0,
+        ap (λ (other : File). slot_of k.catalog other.name) (sym found.2) ∙ slot_of_filed k tells.sound found.0 found.1,
+        rec_of_filed k tells.sound found.0 found.1,
+        found.2,
+      )
+
   -- the bytes of the file in a slot
   pub bytes_told : (name : List ℕ) (slot : ℕ) (rec : FileRecord) → slot_of k.catalog name ≡ Some slot → rec_at k.catalog slot ≡ Some rec
       → bytes_of s.files name ≡ content (data_start k.limits) rec.blocks rec.size at
