@@ -17,3 +17,6 @@ pub mod Here
 mod Reading
 mod NewWords
 pub mod Admitted
+pub mod Judging
+pub mod Declaring
+pub mod Mkdir

@@ -1,6 +1,8 @@
 -- What blocks spell when one of them is staged.
-use Rattle.std.proofs.Common.{◌≡◌, ◌⊎◌, refl, sym, ap, ◌∙◌, inl, inr, ℕ, ◌+◌, ◌*◌, ◌/◌, ◌%◌, ◌<◌, ◌≤◌, ◌==◌, ◌&&◌, ◌||◌, ◌^◌, nat_lt, nat_le, Bool, true, false, cond, List, [], ◌∷◌, length, IsTrue, arith}
-use Rattle.std.proofs.lemmas.Bool.{and_parts, or_cases, eqb-true, cases_eq, eq-eqb, ne_eqb}
+use Rattle.std.proofs.Common.{◌≡◌, ◌⊎◌, refl, sym, ap, ap₂, ◌∙◌, inl, inr, ℕ, ◌+◌, ◌/◌, ◌%◌, ◌<◌, ◌≤◌, ◌==◌, ◌&&◌, nat_lt, nat_le, Bool, true, false, cond, List, [], ◌∷◌, ◌++◌, length, take, IsTrue, arith}
+use Rattle.std.specs.List.{flat_map}
+use Rattle.std.proofs.lemmas.Bool.{and_parts, eqb-true, cases_eq, eq-eqb, ne_eqb}
+use Rattle.std.proofs.lemmas.Bool.Decides.{nat_tests}
 use Rattle.lis_ports.specs.Bytes.{part}
 use Rattle.lis_journal.specs.Journal.{Held}
 use Rattle.lis_journal.specs.Record.{Entry}
@@ -8,10 +10,10 @@ use Rattle.lis_journal.specs.Staging.{with_entry}
 use Rattle.lis_journal.specs.Images.{look}
 use Rattle.lis_journal.specs.Phases.{looked}
 use Rattle.lis_slots.specs.Slots.{Slots, home, place, slot}
+use Rattle.lis_content.specs.Content.{content}
 use Rattle.lis_dict.specs.Dict.{Dict}
 use Rattle.lis_catalog.specs.Catalog.{Catalog}
-use Rattle.lis_fields.specs.Layouts.{prop_bytes, axiom_bytes, file_bytes}
-use Rattle.lis_fields.specs.declared.slots.AxiomSlot.TheVariants.{Free as FreeAxiom}
+use Rattle.lis_fields.specs.Layouts.{prop_bytes, file_bytes}
 use Rattle.lis_model.specs.declared.limits.Limits.{Limits}
 use Rattle.lis_model.specs.Ranges.{is_files_limit, is_props_limit, is_blocks_limit, are_in_range}
 use Rattle.lis_model.specs.Image.{axioms_start, files_start, rows_start}
@@ -21,34 +23,7 @@ use Rattle.lis_store.specs.Staging.{StagesOnly}
 
 -- ---- limits in range
 files_whole : (n : ℕ) → is_files_limit n ≡ true → n % 16 ≡ 0
-files_whole n is = by6 (or_cases _ _ is)
-  where
-    at : (m : ℕ) → m % 16 ≡ 0 → (n == m) ≡ true → n % 16 ≡ 0
-    at m whole same = ap (λ k. k % 16) (eqb-true n m same) ∙ whole
-
-    by1 : ((n == 64) ≡ true) ⊎ ((n == 128) ≡ true) → n % 16 ≡ 0
-    by1 (inl same) = at 64 refl same
-    by1 (inr same) = at 128 refl same
-
-    by2 : (((n == 64) || (n == 128)) ≡ true) ⊎ ((n == 256) ≡ true) → n % 16 ≡ 0
-    by2 (inl less) = by1 (or_cases _ _ less)
-    by2 (inr same) = at 256 refl same
-
-    by3 : (((n == 64) || (n == 128) || (n == 256)) ≡ true) ⊎ ((n == 512) ≡ true) → n % 16 ≡ 0
-    by3 (inl less) = by2 (or_cases _ _ less)
-    by3 (inr same) = at 512 refl same
-
-    by4 : (((n == 64) || (n == 128) || (n == 256) || (n == 512)) ≡ true) ⊎ ((n == 1024) ≡ true) → n % 16 ≡ 0
-    by4 (inl less) = by3 (or_cases _ _ less)
-    by4 (inr same) = at 1024 refl same
-
-    by5 : (((n == 64) || (n == 128) || (n == 256) || (n == 512) || (n == 1024)) ≡ true) ⊎ ((n == 2048) ≡ true) → n % 16 ≡ 0
-    by5 (inl less) = by4 (or_cases _ _ less)
-    by5 (inr same) = at 2048 refl same
-
-    by6 : (((n == 64) || (n == 128) || (n == 256) || (n == 512) || (n == 1024) || (n == 2048)) ≡ true) ⊎ ((n == 4096) ≡ true) → n % 16 ≡ 0
-    by6 (inl less) = by5 (or_cases _ _ less)
-    by6 (inr same) = at 4096 refl same
+files_whole n is = grind (arith, nat_tests)
 
 pub whole_files : (limits : Limits) → IsTrue (are_in_range limits) → limits.files % 16 ≡ 0
 whole_files limits range =
@@ -167,3 +142,11 @@ records_stay limits catalog old new kept staged range only outside are =
     by : (n : ℕ) → files_start limits ≤ n → n < rows_start limits → n ≡ staged → (staged < files_start limits) ⊎ (rows_start limits ≤ staged) → ⊥
     by n from to e (inl before) = omega (arith, from, e, before)
     by n from to e (inr behind) = omega (arith, to, e, behind)
+
+-- ---- data blocks that are the same hold the same bytes of files
+same_data : (base : ℕ) (blocks : List ℕ) (at there : ℕ → List ℕ) → ((n : ℕ) → base ≤ n → there n ≡ at n) → flat_map (λ b. there (base + b)) blocks ≡ flat_map (λ b. at (base + b)) blocks
+same_data base [] at there same = refl
+same_data base (b ∷ blocks) at there same = ap₂ (λ xs ys. xs ++ ys) (same (base + b) (omega arith)) (same_data base blocks at there same)
+
+pub same_content : (base : ℕ) (blocks : List ℕ) (size : ℕ) (at there : ℕ → List ℕ) → ((n : ℕ) → base ≤ n → there n ≡ at n) → content base blocks size there ≡ content base blocks size at
+same_content base blocks size at there same = ap (take size) (same_data base blocks at there same)

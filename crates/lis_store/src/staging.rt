@@ -21,9 +21,10 @@ use lis_fields::{FILE_LEN, FileRec, FileSlot, PROP_LEN, PropSlot, write_file, wr
 use lis_journal::{BLOCK_LEN, Journal};
 use lis_model::limits::Limits;
 
-// How many slots a block has.
+// How many property slots a block has.
 const PROPS_PER_BLOCK: u16 = 64;
 
+// How many file slots a block has.
 const FILES_PER_BLOCK: u16 = 16;
 
 // The property slot of a number.

@@ -1,6 +1,6 @@
 //! A store: what is kept in memory of an image, and the calls that change both.
 
-ghost use Rattle.std.specs.Prelude.{◌≡◌, ℕ, ◌*◌, ◌<◌, ◌≤◌, ◌&&◌, List, false, is_some, length, take, Some, None, Err, Ok, IsTrue, IfOk, OnOk, IfSome, IsSome, IsSomeAnd, MatchResult};
+ghost use Rattle.std.specs.Prelude.{◌≡◌, ℕ, ◌*◌, ◌<◌, ◌≤◌, ◌≢◌, ◌&&◌, List, false, is_some, length, take, Some, None, Err, Ok, IsTrue, IfOk, OnOk, IfSome, IsSome, IsSomeAnd, MatchResult};
 ghost use Rattle.std.specs.List.{list_all};
 ghost use Rattle.lis_ports.specs.Bytes.{part};
 ghost use Rattle.lis_ports.specs.Runs.{IsDiskRun, Leaves};
@@ -10,13 +10,14 @@ ghost use Rattle.lis_dict.specs.Dict.{words};
 ghost use Rattle.lis_fields.specs.Records.{FileRecord};
 ghost use Rattle.lis_words.specs.Words.{is_valued, head_bytes};
 ghost use Rattle.lis_model.specs.declared.refusal.Refusal.{Refusal};
-ghost use Rattle.lis_model.specs.State.{State};
+ghost use Rattle.lis_model.specs.Places.{is_root};
+ghost use Rattle.lis_model.specs.State.{State, is_declarable};
 ghost use Rattle.lis_model.specs.Step.{mkdir, assigned_at, add, rm, bytes_of};
 ghost use Rattle.lis_store.specs.declared.change.Change.TheVariants.{Refused, NoMemory};
 ghost use Rattle.lis_store.specs.Inside.{kept_of};
 ghost use Rattle.lis_store.specs.Kept.{IsSound, is_declared, StoreFits};
 ghost use Rattle.lis_store.specs.Seen.{table_of, entries_told, is_among};
-ghost use Rattle.lis_store.specs.Changes.{first_refusal, Changes, HasChangeCause, ChangeLeft};
+ghost use Rattle.lis_store.specs.Changes.{first_refusal, word_checks, Changes, HasChangeCause, ChangeLeft};
 ghost use Rattle.lis_store.specs.Admitting.{is_assignable_by, named_checks, room_checks, told_checks, Refuses};
 
 use crate::adding::learn;
@@ -24,7 +25,7 @@ use crate::admitting::{MAX_FILE, MAX_TAGS, blocks_needed, has_built_in, has_head
 use crate::change::Change;
 use crate::parts::{bitmap_start, data_start};
 use crate::seen::{known_words, make_table, seen_slot};
-use crate::staging::stage_record;
+use crate::staging::{stage_property, stage_record};
 use lis_bits::Rows;
 use lis_blockmap::BlockMap;
 use lis_catalog::Catalog;
@@ -39,7 +40,7 @@ use lis_place::Place;
 use lis_ports::{Disk, Failed};
 use lis_table::table::Table;
 use lis_table::tags::{assigned_with, place_words};
-use lis_words::{Name, Word, head_of, is_plain_word};
+use lis_words::{Name, Word, head_of, is_builtin, is_plain_word, is_valued};
 use std::alloc::{AllocError, Global};
 use std::marker::Model;
 
@@ -77,6 +78,13 @@ impl Model for Store {
     ghost view = { λ s. kept_of s.limits s.journal s.dict s.declared s.catalog s.map };
 
     ghost invariant = { λ s. IsHeld (kept_of s.limits s.journal s.dict s.declared s.catalog s.map) s.declared };
+}
+
+// Whether the place has no step.
+fn is_root(place: &Place) -> bool
+    ensures { result ≡ is_root place.now }
+{
+    place.is_empty()
 }
 
 impl Store {
@@ -190,6 +198,28 @@ impl Store {
             .read(disk, data_start(&self.limits) + u32::from(block), buf)
     }
 
+    // Whether a word may be declared at the place, if there is room.
+    fn may_declare(&self, place: &Place, word: &Word) -> Result<(), Refusal>
+        ensures row { MatchResult result
+            (λ _. first_refusal (word_checks self.now place.now word.now) ≡ None)
+            (λ refusal. first_refusal (word_checks self.now place.now word.now) ≡ Some refusal) }
+        ensures form { OnOk result (IsTrue (is_declarable word.now)) }
+    {
+        if is_builtin(word) {
+            return Err(Refusal::BuiltIn);
+        }
+        if is_valued(word.bytes()) {
+            return Err(Refusal::NotAssignable);
+        }
+        if self.is_declared(word) {
+            return Err(Refusal::AlreadyDeclared);
+        }
+        if !is_root(place) {
+            return Err(Refusal::NotAPlace);
+        }
+        Ok(())
+    }
+
     /// Declares a word: `mkdir` at the place.
     pub fn declare<D: Disk>(
         &mut self,
@@ -203,14 +233,27 @@ impl Store {
             → Changes (record { state = s; place = place.now }) (mkdir (record { state = s; place = place.now }) word.now)
             self.new (D.meaning disk.old) (D.meaning disk.new) result }
         ensures untouched { (refusal : Refusal) → result ≡ Err (Refused refusal) → disk.new ≡ disk.old }
-        ensures memory { result ≡ Err NoMemory → disk.new ≡ disk.old }
+        ensures memory { result ≢ Err NoMemory }
         ensures limits { self.new.limits ≡ self.old.limits }
         ensures image { self.new.journal.blocks ≡ self.old.journal.blocks }
         ensures left { ChangeLeft self.old self.new result }
         ensures run { IsDiskRun (D.meaning disk.old) (D.meaning disk.new) }
         ensures cause { HasChangeCause (D.meaning disk.old).disk_faults (D.meaning disk.new).disk_faults result }
     {
-        Err(Change::NoMemory)
+        self.may_declare(place, word)?;
+        let number = self.dict.add(word)?;
+        // Its length tells what holds of every dictionary.
+        let _words = self.dict.len();
+        self.declared.put(0, u32::from(number), true);
+        stage_property(
+            &mut self.journal,
+            &self.limits,
+            &self.dict,
+            &self.declared,
+            number,
+        );
+        self.journal.commit(disk)?;
+        Ok(())
     }
 
     /// Makes a file of these bytes: `create` and `add` at the place. Where there are more bytes than a file may have, only their
