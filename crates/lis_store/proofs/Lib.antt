@@ -4,6 +4,12 @@ pub mod Telling
 pub mod Standing
 pub mod Empty
 pub mod EmptyStore
+pub mod FewerFiles
+pub mod Forgetting
+pub mod Removed
+pub mod Tags
+pub mod RemovalStaged
+pub mod Rm
 pub mod Staged
 pub mod Blocks
 pub mod Committing
@@ -15,8 +21,8 @@ mod Finding
 pub mod Facts
 pub mod Here
 mod Reading
-mod NewWords
-pub mod Admitted
 pub mod Judging
 pub mod Declaring
 pub mod Mkdir
+mod NewWords
+pub mod Admitted

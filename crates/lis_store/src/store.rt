@@ -1,6 +1,6 @@
 //! A store: what is kept in memory of an image, and the calls that change both.
 
-ghost use Rattle.std.specs.Prelude.{◌≡◌, ℕ, ◌*◌, ◌<◌, ◌≤◌, ◌≢◌, ◌&&◌, List, false, is_some, length, take, Some, None, Err, Ok, IsTrue, IfOk, OnOk, IfSome, IsSome, IsSomeAnd, MatchResult};
+ghost use Rattle.std.specs.Prelude.{◌≡◌, ℕ, ◌*◌, ◌<◌, ◌≤◌, ◌≢◌, List, false, is_some, length, take, Some, None, Err, Ok, IsTrue, IfOk, OnOk, IfSome, IsSome, IsSomeAnd, MatchResult, ◌&&◌};
 ghost use Rattle.std.specs.List.{list_all};
 ghost use Rattle.lis_ports.specs.Bytes.{part};
 ghost use Rattle.lis_ports.specs.Runs.{IsDiskRun, Leaves};
@@ -12,7 +12,7 @@ ghost use Rattle.lis_words.specs.Words.{is_valued, head_bytes};
 ghost use Rattle.lis_model.specs.declared.refusal.Refusal.{Refusal};
 ghost use Rattle.lis_model.specs.Places.{is_root};
 ghost use Rattle.lis_model.specs.State.{State, is_declarable};
-ghost use Rattle.lis_model.specs.Step.{mkdir, assigned_at, add, rm, bytes_of};
+ghost use Rattle.lis_model.specs.Step.{mkdir, add, rm, bytes_of, assigned_at};
 ghost use Rattle.lis_store.specs.declared.change.Change.TheVariants.{Refused, NoMemory};
 ghost use Rattle.lis_store.specs.Inside.{kept_of};
 ghost use Rattle.lis_store.specs.Kept.{IsSound, is_declared, StoreFits};
@@ -24,6 +24,7 @@ use crate::adding::learn;
 use crate::admitting::{MAX_FILE, MAX_TAGS, blocks_needed, has_built_in, has_head_word, new_count};
 use crate::change::Change;
 use crate::parts::{bitmap_start, data_start};
+use crate::removing::remove_file;
 use crate::seen::{known_words, make_table, seen_slot};
 use crate::staging::{stage_property, stage_record};
 use lis_bits::Rows;
@@ -334,7 +335,20 @@ impl Store {
         ensures run { IsDiskRun (D.meaning disk.old) (D.meaning disk.new) }
         ensures cause { HasChangeCause (D.meaning disk.old).disk_faults (D.meaning disk.new).disk_faults result }
     {
-        Err(Change::NoMemory)
+        let Some(slot) = seen_slot(alloc, &self.dict, &self.catalog, place, name)? else {
+            return Err(Change::Refused(Refusal::NoFileHere));
+        };
+        remove_file(
+            &mut self.journal,
+            &self.limits,
+            &mut self.dict,
+            &self.declared,
+            &mut self.catalog,
+            &mut self.map,
+            slot,
+        );
+        self.journal.commit(disk)?;
+        Ok(())
     }
 }
 
