@@ -1,13 +1,16 @@
-ghost use Rattle.std.specs.Prelude.{◌≡◌, ◌⊎◌, ◌↔◌, ℕ, ◌+◌, ◌*◌, ◌<◌, ◌≤◌, ◌==◌, if◌then◌else◌, false, true, List, length, take, drop, replicate, slice_set, IsTrue, IfOk, IsNone, IfNone, IfSome, OnSome};
+ghost use Rattle.std.specs.Prelude.{◌≡◌, ◌⊎◌, ◌↔◌, ℕ, ◌+◌, ◌*◌, ◌/◌, ◌<◌, ◌≤◌, ◌==◌, if◌then◌else◌, false, true, List, length, take, drop, replicate, slice_set, IsTrue, IfOk, IsNone, IfNone, IfSome, OnSome};
 ghost use Rattle.lis_journal.specs.Images.{look};
 ghost use Rattle.lis_journal.specs.Staging.{with_entry, has_entry};
-ghost use Rattle.lis_blockmap.specs.Bitmap.{free_count, is_taken, bits_number, bitmap_bytes};
+ghost use Rattle.lis_blockmap.specs.Bitmap.{free_count, is_taken, bits_number, bitmap_bytes, has_bit, IsFirstDifference};
 ghost use Rattle.lis_blockmap.specs.Inside.{HasFree};
 
 use lis_bits::Rows;
 use lis_journal::Journal;
 use std::alloc::{AllocError, Global};
 use std::marker::Model;
+
+// How many bits a block has.
+const BITS: u32 = 32_768;
 
 /// Which blocks are taken, by their numbers. All memory is taken by `new`.
 #[derive(Drop)]
@@ -28,6 +31,14 @@ impl Model for BlockMap {
     ghost view = { λ m. taken_of m.rows m.blocks };
 
     ghost invariant = { λ m. IsSound m.rows m.blocks m.free };
+}
+
+// A bit of a block, the lowest of its first byte being the first.
+fn has_bit(bytes: &[u8], n: u32) -> bool
+    requires { n / 8 < length bytes.now }
+    ensures { result ≡ has_bit bytes.now n }
+{
+    bytes[n as usize / 8] >> (n % 8) & 1 == 1
 }
 
 // A row with the bits of so many blocks, all of them free.
@@ -129,6 +140,20 @@ impl BlockMap {
         let mut bytes = [0; 4096];
         self.write_to(&mut bytes);
         journal.stage(n, &bytes);
+    }
+
+    /// The first bit in which a block differs from the bitmap's block.
+    pub fn first_difference(&self, bytes: &[u8]) -> Option<u32>
+        requires { length bytes.now ≡ 4096 }
+        ensures same { IfNone result (bytes.now ≡ bitmap_bytes self.now) }
+        ensures differs { IfSome result (IsFirstDifference bytes.now self.now) }
+    {
+        for n in 0..BITS {
+            if has_bit(bytes, n) != self.tells(n) {
+                return Some(n);
+            }
+        }
+        None
     }
 
     // Writes the bitmap's block.

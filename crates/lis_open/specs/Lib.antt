@@ -1,3 +1,5 @@
 pub mod Makes
 pub mod Faults
 pub mod Opens
+pub mod Checks
+pub mod Reading

@@ -3,9 +3,12 @@ use Rattle.std.specs.Prelude.{◌≡◌, ◌⊎◌, ℕ, ◌*◌, ◌≤◌, ◌
 use Rattle.lis_ports.specs.Meaning.{Meaning}
 use Rattle.lis_ports.specs.Calls.{Rose, IsUnchanged}
 use Rattle.lis_ports.specs.Bytes.{part}
+use Rattle.lis_journal.specs.declared.journal.JournalFault.{JournalFault}
+use Rattle.lis_journal.specs.declared.journal.JournalFault.TheVariants.{DiskFault as JournalDisk, BadRecord as JournalRecord, NoMemory as JournalMemory}
 use Rattle.lis_fields.specs.Layouts.{super_bytes}
 use Rattle.lis_model.specs.declared.limits.Limits.{Limits}
 use Rattle.lis_model.specs.declared.spot.Spot.{Spot}
+use Rattle.lis_model.specs.declared.spot.Spot.TheVariants.{BadRecord}
 use Rattle.lis_model.specs.Ranges.{are_in_range}
 use Rattle.lis_model.specs.Image.{image_blocks}
 use Rattle.lis_model.specs.State.{State}
@@ -43,3 +46,9 @@ OpenEnded old new (Err (TooShort len need)) = (len ≡ old.len) × (len < need) 
 OpenEnded old new (Err (Damaged spot)) = IsLongEnough old × ((s : State) → Stands old.bytes s → ⊥)
 OpenEnded old new (Err DiskFault) = Unit {0}
 OpenEnded old new (Err NoMemory) = IsLongEnough old × ((limits : Limits) × HasSuper limits old.bytes) × ((s : State) → Stands old.bytes s → Stands new.bytes s)
+
+-- what a fault of the journal is to opening
+abbrev pub journal_fault : JournalFault → OpenFault
+journal_fault JournalDisk = DiskFault
+journal_fault (JournalRecord b) = Damaged (BadRecord b)
+journal_fault JournalMemory = NoMemory

@@ -10,10 +10,14 @@ ghost use Rattle.lis_store.specs.Stands.{Stands};
 ghost use Rattle.lis_open.specs.Opens.{HasOpenCause, OpenEnded};
 ghost use Rattle.lis_open.specs.declared.mounting.OpenFault.TheVariants.{TooShort, DiskFault as DiskFailed};
 
+use crate::reading::read_store;
+use lis_fields::read_super;
+use lis_journal::{BLOCK_LEN, Journal, JournalFault};
+use lis_model::limits::{Limits, image_blocks};
 use lis_model::spot::Spot;
-use lis_ports::Disk;
+use lis_ports::{Disk, Failed};
 use lis_store::Store;
-use std::alloc::Global;
+use std::alloc::{AllocError, Global};
 use thiserror::Error;
 
 /// Why an image was not opened.
@@ -29,6 +33,53 @@ pub enum OpenFault {
     DiskFault,
     #[error("there is no memory")]
     NoMemory,
+}
+
+impl From<Failed> for OpenFault {
+    ghost use Rattle.std.specs.Prelude.{◌≡◌};
+    ghost use Rattle.lis_open.specs.declared.mounting.OpenFault.TheVariants.{DiskFault};
+
+    ghost from_gives = { λ _ fault. fault ≡ DiskFault };
+
+    fn from(_: Failed) -> Self {
+        OpenFault::DiskFault
+    }
+}
+
+impl From<AllocError> for OpenFault {
+    ghost use Rattle.std.specs.Prelude.{◌≡◌};
+    ghost use Rattle.lis_open.specs.declared.mounting.OpenFault.TheVariants.{NoMemory};
+
+    ghost from_gives = { λ _ fault. fault ≡ NoMemory };
+
+    fn from(_: AllocError) -> Self {
+        OpenFault::NoMemory
+    }
+}
+
+impl From<JournalFault> for OpenFault {
+    ghost use Rattle.std.specs.Prelude.{◌≡◌};
+    ghost use Rattle.lis_open.specs.Opens.{journal_fault};
+
+    ghost from_gives = { λ fault opened. opened ≡ journal_fault fault };
+
+    fn from(fault: JournalFault) -> Self {
+        match fault {
+            JournalFault::DiskFault => OpenFault::DiskFault,
+            JournalFault::BadRecord(block) => OpenFault::Damaged(Spot::BadRecord(block)),
+            JournalFault::NoMemory => OpenFault::NoMemory,
+        }
+    }
+}
+
+// Reads the limits of the super block.
+fn read_limits<D: Disk>(disk: &mut D) -> Result<Limits, OpenFault> {
+    let mut block = [0; BLOCK_LEN];
+    disk.read_at(0, &mut block)?;
+    match read_super(&block) {
+        Some(rec) => Ok(rec.limits),
+        None => Err(OpenFault::Damaged(Spot::Super)),
+    }
 }
 
 /// Opens the image on a disk. It writes nothing but what an unfinished record asks for, and before its first sync nothing.
@@ -52,6 +103,15 @@ pub fn mount<D: Disk>(alloc: Global, disk: &mut D) -> Result<Store, OpenFault>
         → (result ≡ Err DiskFailed → IsSettledPast (image_blocks s.limits) (D.meaning disk.old))
         → KeepsPast (image_blocks s.limits) (D.meaning disk.old) (D.meaning disk.new) }
 {
-    let _ = alloc;
-    Err(OpenFault::TooShort(disk.len(), 4096))
+    let len = disk.len();
+    if len < BLOCK_LEN as u64 {
+        return Err(OpenFault::TooShort(len, BLOCK_LEN as u64));
+    }
+    let limits = read_limits(disk)?;
+    let need = u64::from(image_blocks(&limits)) * BLOCK_LEN as u64;
+    if len < need {
+        return Err(OpenFault::TooShort(len, need));
+    }
+    let journal = Journal::mount(alloc, disk, image_blocks(&limits))?;
+    read_store(alloc, disk, limits, journal)
 }

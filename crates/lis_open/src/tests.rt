@@ -1,9 +1,10 @@
 ghost use Rattle.std.specs.Prelude.{◌≡◌, ◌<◌, length, IfOk};
 ghost use Rattle.lis_memdisk.specs.MemStation.{meaning_of};
 
-use crate::{MakeFault, make};
+use crate::{MakeFault, OpenFault, make, mount};
 use lis_memdisk::MemStation;
 use lis_model::limits::Limits;
+use lis_model::spot::Spot;
 use lis_ports::Disk;
 use std::alloc::{AllocError, Global};
 use std::test::Fail;
@@ -54,5 +55,108 @@ fn a_short_disk_is_refused(rt: HostRuntime) -> Result<(), Fail> {
     let mut disk = disk_of(rt.alloc(), 2_433_023)?;
     let answer = make(&mut disk, &LIMITS);
     assert!(rt; matches!(answer, Err(MakeFault::TooShort(2_433_023, 2_433_024))));
+    Ok(())
+}
+
+// An image with the word `rock`, declared, and `song` with it, which has 2 bytes in data block 1.
+fn image_of_one_file(alloc: Global) -> Result<MemStation, Fail>
+    ensures { IfOk result (λ disk. (meaning_of disk).len ≡ 2433024) }
+{
+    let mut disk = disk_of(alloc, 2_433_024)?;
+    make(&mut disk, &LIMITS)?;
+    disk.write_at(578 * 4_096 + 5 * 64, b"\x02\x04rock")?;
+    disk.write_at(580 * 4_096 + 256, b"\x01\x04song")?;
+    disk.write_at(580 * 4_096 + 256 + 62, &[1, 0, 2, 0, 0, 0, 5])?;
+    disk.write_at(580 * 4_096 + 256 + 100, &[1])?;
+    disk.write_at(585 * 4_096, &[2])?;
+    Ok(disk)
+}
+
+// Where opening finds the image of one file damaged, with these bytes written into it.
+fn spot_of(alloc: Global, at: u64, bytes: &[u8]) -> Result<Option<Spot>, Fail>
+    requires { at + length bytes.now ≤ 2433024 }
+{
+    let mut disk = image_of_one_file(alloc)?;
+    disk.write_at(at, bytes)?;
+    match mount(alloc, &mut disk) {
+        Ok(_) => Ok(None),
+        Err(OpenFault::Damaged(spot)) => Ok(Some(spot)),
+        Err(_) => Err(Fail::from("another answer")),
+    }
+}
+
+#[test]
+fn an_empty_image_is_opened(rt: HostRuntime) -> Result<(), Fail> {
+    let mut disk = disk_of(rt.alloc(), 2_433_025)?;
+    make(&mut disk, &LIMITS)?;
+    let store = mount(rt.alloc(), &mut disk)?;
+    assert!(rt; store.limits() == LIMITS);
+    assert_eq!(rt; store.known(rt.alloc())?.len(), 0);
+    Ok(())
+}
+
+#[test]
+fn an_image_of_one_file_is_opened(rt: HostRuntime) -> Result<(), Fail> {
+    let mut disk = image_of_one_file(rt.alloc())?;
+    let store = mount(rt.alloc(), &mut disk)?;
+    let known = store.known(rt.alloc())?;
+    assert_eq!(rt; known.len(), 1);
+    assert_eq!(rt; known[0].bytes(), b"rock".as_slice());
+    assert!(rt; store.is_declared(&known[0]));
+    Ok(())
+}
+
+#[test]
+fn damage_is_found_where_it_is(rt: HostRuntime) -> Result<(), Fail> {
+    for (at, bytes, spot) in [
+        (4_095, b"\x01".as_slice(), Some(Spot::Super)),
+        (4_096, b"\x01".as_slice(), Some(Spot::BadRecord(2))),
+        (4_096, b"\x02".as_slice(), None),
+        (578 * 4_096, b"\x03".as_slice(), Some(Spot::Property(0))),
+        (
+            578 * 4_096 + 64,
+            b"\x02\x04rock".as_slice(),
+            Some(Spot::Property(5)),
+        ),
+        (579 * 4_096 + 80, b"\x01".as_slice(), Some(Spot::Axiom(10))),
+        (
+            580 * 4_096 + 256 + 68,
+            b"\x06".as_slice(),
+            Some(Spot::File(1)),
+        ),
+        (
+            580 * 4_096 + 256 + 100,
+            b"\x08".as_slice(),
+            Some(Spot::File(1)),
+        ),
+        (
+            580 * 4_096 + 512,
+            b"\x01\x04song".as_slice(),
+            Some(Spot::File(2)),
+        ),
+        (580 * 4_096 + 512, b"\x01\x04sung".as_slice(), None),
+        (
+            578 * 4_096 + 128,
+            b"\x01\x06from:x".as_slice(),
+            Some(Spot::Word(2)),
+        ),
+        (585 * 4_096, b"\x03".as_slice(), Some(Spot::Bitmap(0))),
+        (585 * 4_096, b"\0".as_slice(), Some(Spot::Bitmap(1))),
+        (
+            586 * 4_096 - 1,
+            b"\x80".as_slice(),
+            Some(Spot::Bitmap(32_767)),
+        ),
+    ] {
+        assert!(rt; spot_of(rt.alloc(), at, bytes)? == spot, "at {at}");
+    }
+    Ok(())
+}
+
+#[test]
+fn a_disk_shorter_than_its_image_is_not_opened(rt: HostRuntime) -> Result<(), Fail> {
+    let mut disk = disk_of(rt.alloc(), 4_095)?;
+    let small = mount(rt.alloc(), &mut disk);
+    assert!(rt; matches!(small, Err(OpenFault::TooShort(4_095, 4_096))));
     Ok(())
 }

@@ -32,6 +32,7 @@ Does outcome fits_before place_before old new result fits place =
 pub record Ends (old new : Meaning) (result : Result (Unit {0}) End) : Type 0 where
   pub cause : HasEndCause old new result
   pub len : new.len ≡ old.len
+  pub recorded : new.is_recorded ≡ old.is_recorded
 
 -- The bytes were shown whole, or a front of them was, which is an output fault.
 pub record Answers (old new : Meaning) (bytes : List ℕ) (result : Result (Unit {0}) End) : Type 0 where

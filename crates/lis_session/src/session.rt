@@ -171,6 +171,7 @@ impl Session {
         ensures cause { HasEndCause (T.meaning station.old) (T.meaning station.new) result }
         ensures left { StoreLeft store.old store.new result }
         ensures len { (T.meaning station.new).len ≡ (T.meaning station.old).len }
+        ensures recorded { (T.meaning station.new).is_recorded ≡ (T.meaning station.old).is_recorded }
     {
         match item {
             Item::Command(command) => self.carry_out(alloc, store, command, payload, station),

@@ -1,0 +1,40 @@
+-- Runs that only read, one after another.
+use Rattle.std.proofs.Common.{◌≡◌, ◌∙◌, refl, sym, ℕ, List, IsTrue}
+use Rattle.lis_ports.specs.Meaning.{Meaning}
+use Rattle.lis_ports.specs.Runs.{IsDiskRun, Leaves}
+use Rattle.lis_ports.specs.Calls.{IsUnchanged}
+use Rattle.lis_ports.proofs.Always.{always_unchanged}
+use Rattle.lis_ports.proofs.Moments.{run_none, run_then, leaves_none, leaves_weaken, leaves_then}
+use Rattle.lis_journal.specs.Images.{Fits}
+use Rattle.lis_open.specs.Reading.{OnlyReads}
+
+pub reads_none : (m : Meaning) → OnlyReads m m
+reads_none m = record {
+  run = run_none m;
+  same = λ honest. record { bytes = refl; images = record { only = λ image is. is; each = λ recorded image is. is } };
+  moments = λ honest. leaves_none m m.images;
+}
+
+unchanged_then : {a b c : Meaning} → IsDiskRun b c → IsUnchanged a b → IsUnchanged b c → IsUnchanged a c
+unchanged_then run first second = record {
+  bytes = second.bytes ∙ first.bytes;
+  images = record {
+    only = λ image is. first.images.only image (second.images.only image is);
+    each = λ recorded image is. second.images.each recorded image (first.images.each (sym run.recorded ∙ recorded) image is);
+  };
+}
+
+pub reads_then : {a b c : Meaning} → OnlyReads a b → OnlyReads b c → OnlyReads a c
+reads_then {a} first second = record {
+  run = run_then first.run second.run;
+  same = λ honest. unchanged_then second.run (first.same honest) (second.same (first.run.honest ∙ honest));
+  moments = λ honest.
+      leaves_then (first.moments honest)
+      (leaves_weaken a.images (second.moments (first.run.honest ∙ honest)) (first.same honest).images.only);
+}
+
+pub fits_after : {a b : Meaning} (blocks : ℕ) (kept : ℕ → List ℕ) → OnlyReads a b → Fits blocks a kept → Fits blocks b kept
+fits_after blocks kept reads fits = record {
+  honest = reads.run.honest ∙ fits.honest;
+  all = always_unchanged fits.all (reads.same fits.honest);
+}
