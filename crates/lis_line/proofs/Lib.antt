@@ -5,3 +5,5 @@ mod Payloads
 pub mod Sized
 mod Parts
 mod Asking
+pub mod Given
+pub mod Answered

@@ -2,4 +2,5 @@ pub mod Stock
 pub mod Forms
 pub mod Inside
 pub mod Reading
+pub mod Taking
 pub mod Parts

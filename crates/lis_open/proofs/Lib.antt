@@ -2,6 +2,7 @@ mod Ranges
 mod Zeros
 mod Names
 mod Wiping
+pub mod Needs
 mod Quiet
 mod Slots
 mod WordsRead

@@ -1,4 +1,4 @@
-//! Makes images and opens them.
+//! Makes and opens images.
 #![tactic(auto)]
 
 mod checks;

@@ -12,7 +12,7 @@ use lis_shell::top::lisfs;
 use std::alloc::{AllocError, Global};
 use std::test::Fail;
 
-mod tables;
+pub mod tables;
 
 use tables::{
     CUT_SESSIONS, FAILING_SHOWS, FIRST_SESSIONS, LARGE_FILES, LONG_LINES, RIGHT_WORDS, SESSIONS,
@@ -25,15 +25,15 @@ static WORDS: [&str; 4] = ["try", "64", "64", "8"];
 /// How the outside behaves: the bytes that one call of the source gives, the place at which it fails, the bytes that one call
 /// shows, and the number of the call that fails to show, 0 for none.
 #[derive(Clone, Copy)]
-struct Outside {
-    step: usize,
-    fail_at: Option<usize>,
-    show_step: usize,
-    show_fails: u64,
+pub struct Outside {
+    pub step: usize,
+    pub fail_at: Option<usize>,
+    pub show_step: usize,
+    pub show_fails: u64,
 }
 
 /// Nothing fails, and pieces are large.
-static SOUND: Outside = Outside {
+pub static SOUND: Outside = Outside {
     step: 4_096,
     fail_at: None,
     show_step: 65_536,
@@ -48,7 +48,7 @@ struct Seen {
     taken: usize,
 }
 
-fn bytes_of(alloc: Global, row: &str) -> Result<Vec<u8>, AllocError> {
+pub fn bytes_of(alloc: Global, row: &str) -> Result<Vec<u8>, AllocError> {
     let mut bytes = Vec::new(alloc);
     for byte in row.bytes() {
         bytes.push(match byte {
@@ -61,7 +61,7 @@ fn bytes_of(alloc: Global, row: &str) -> Result<Vec<u8>, AllocError> {
     Ok(bytes)
 }
 
-fn row_of(alloc: Global, bytes: &[u8]) -> Result<String, AllocError> {
+pub fn row_of(alloc: Global, bytes: &[u8]) -> Result<String, AllocError> {
     let mut row = String::new(alloc);
     for byte in bytes {
         row.push(match *byte {
@@ -73,7 +73,7 @@ fn row_of(alloc: Global, bytes: &[u8]) -> Result<String, AllocError> {
     Ok(row)
 }
 
-fn source(alloc: Global, row: &str, outside: &Outside) -> Result<MemSource, AllocError> {
+pub fn source(alloc: Global, row: &str, outside: &Outside) -> Result<MemSource, AllocError> {
     Ok(MemSource {
         bytes: bytes_of(alloc, row)?,
         place: 0,

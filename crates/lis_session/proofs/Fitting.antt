@@ -25,7 +25,7 @@ store_shown fits call = record {
     honest = call.honest ∙ fits.journal.honest;
     all = always_unchanged fits.journal.all (call.same fits.journal.honest);
   };
-  describes = fits.describes;
+  tells = fits.tells;
 }
 
 -- a read
@@ -36,5 +36,5 @@ store_read fits run same = record {
     honest = honest_after run fits.journal.honest;
     all = always_unchanged fits.journal.all same;
   };
-  describes = fits.describes;
+  tells = fits.tells;
 }

@@ -18,7 +18,8 @@ use Rattle.lis_model.specs.Script.{script}
 use Rattle.lis_line.specs.declared.reader.Item.{Item as Said}
 use Rattle.lis_line.specs.declared.reader.Item.TheVariants.{End as SaidEnd, Limit as SaidLimit}
 use Rattle.lis_line.specs.Reading.{Reading, fresh, Says, asked_by}
-use Rattle.lis_session.proofs.Reading.{ReadSoFar, read_none, script_front}
+use Rattle.lis_line.proofs.Given.{ReadSoFar, read_none, script_front}
+use Rattle.lis_line.proofs.Answered.{ItemTaken, item_taken, all_taken, limit_taken, whole_taken}
 use Rattle.lis_session.specs.declared.end.End.{End}
 use Rattle.lis_session.specs.declared.end.End.TheVariants.{DiskFault, OutputFault, NoMemory}
 use Rattle.lis_session.specs.Session.{SessionMoment}
@@ -26,7 +27,6 @@ use Rattle.lis_session.specs.Item.{FitsAt, OneItem, CarriesOut}
 use Rattle.lis_session.specs.Runs.{Carried, CarriedAll, CarriedToLimit, CarriedWhole, CarriedFirst, StopsAt, Serves}
 use Rattle.lis_session.proofs.Laws.{limits_after, last_reply, last_situation}
 use Rattle.lis_session.proofs.Moments.{moment_in, moment_more, session_on, session_more}
-use Rattle.lis_session.proofs.Answered.{ItemTaken, item_taken, all_taken, limit_taken, whole_taken}
 
 -- these items were carried out, and all their replies were shown
 pub record DoneSoFar (start : Situation) (first : List Item) (old now : Meaning) (fits : State → Type 0) (place : List Formula) : Type 0 where

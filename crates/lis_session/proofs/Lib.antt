@@ -3,8 +3,9 @@ pub mod Moments
 mod Same
 pub mod Fitting
 pub mod Saying
-pub mod Reading
-pub mod Answered
+pub mod Answering
+pub mod Pieces
+pub mod Blocks
 pub mod Going
 pub mod Whole
 mod Examples

@@ -6,12 +6,10 @@ use Rattle.lis_ports.specs.Runs.{Adds, Leaves, Always}
 use Rattle.lis_ports.specs.Since.{Since}
 use Rattle.lis_ports.proofs.Moments.{adds_then, adds_weaken, each_moment}
 use Rattle.lis_reply.proofs.Showing.{append_known-nil}
-use Rattle.lis_journal.specs.Images.{KeepsPast}
-use Rattle.lis_model.specs.Image.{image_blocks}
 use Rattle.lis_model.specs.State.{State}
 use Rattle.lis_model.specs.Step.{Situation, Item}
 use Rattle.lis_model.specs.Script.{all_items}
-use Rattle.lis_session.proofs.Reading.{script_short}
+use Rattle.lis_line.proofs.Given.{script_short}
 use Rattle.lis_store.specs.Stands.{Stands}
 use Rattle.lis_session.specs.Session.{root_of, SessionMoment, RunMoment, Headline, FullHeadline}
 use Rattle.lis_session.specs.Runs.{Carried, CarriedAll, CarriedToLimit, Serves, RunsImage}
@@ -52,17 +50,16 @@ run_moments {old} {mid} {new} state items opening session =
 
 -- an opening, and the session behind it
 pub run_session : {old mid new : Meaning} (state : State) (items : List Item) (end : Option (List ℕ) → Type 0) → Leaves old mid (λ image. old.images image ⊎ Stands image state)
-    → KeepsPast (image_blocks state.limits) old mid → Serves (root_of state) items mid new (end mid.shown) → RunsImage state items old new (end old.shown)
-run_session {old} {mid} {new} state items end opening past session = record {
+    → Serves (root_of state) items mid new (end mid.shown) → RunsImage state items old new (end old.shown)
+run_session {old} {mid} {new} state items end opening session = record {
   moments = run_moments state items opening session.moments;
-  past = λ n le. session.past n le ∙ past n le;
   ended = subst end opening.run.shown session.ended;
 }
 
 -- an opening with no session behind it
 pub run_none : {old mid : Meaning} (state : State) (items : List Item) (end : Type 0) → Leaves old mid (λ image. old.images image ⊎ Stands image state)
-    → KeepsPast (image_blocks state.limits) old mid → end → RunsImage state items old mid end
-run_none state items end opening past ended = record { moments = opening_moments state items opening; past = past; ended = ended }
+    → end → RunsImage state items old mid end
+run_none state items end opening ended = record { moments = opening_moments state items opening; ended = ended }
 
 pub headline : {old new : Meaning} (state : State) (items : List Item) → OnlyNow old → Adds old new (RunMoment old state items) → Headline state items old new
 headline {old} {new} state items only_now adds = λ image bytes had.

@@ -1,4 +1,4 @@
 pub mod Session
 pub mod Item
 pub mod Runs
-pub mod Taking
+pub mod Parts

@@ -57,5 +57,4 @@ pub record Serves (start : Situation) (items : List Item) (old new : Meaning) (e
 -- the same from the root, with an opening before it
 pub record RunsImage (state : State) (items : List Item) (old new : Meaning) (end : Type 0) : Type 0 where
   pub moments : Adds old new (RunMoment old state items)
-  pub past : KeepsPast (image_blocks state.limits) old new
   pub ended : end

@@ -1,5 +1,8 @@
 //! Why an item could not be carried out, or its reply not be shown.
 
+use lis_ports::Failed;
+use std::alloc::{AllocError, AllocFailed};
+
 /// Why carrying out an item stopped.
 #[derive(Clone, Copy, Debug, PartialEq, Eq)]
 pub enum End {
@@ -9,4 +12,38 @@ pub enum End {
     OutputFault,
     /// There is no memory. State and place are as before, and nothing of the reply was shown.
     NoMemory,
+}
+
+// A call that shows.
+impl From<Failed> for End {
+    ghost use Rattle.std.specs.Prelude.{◌≡◌};
+    ghost use Rattle.lis_session.specs.declared.end.End.TheVariants.{OutputFault};
+
+    ghost from_gives = { λ _ end. end ≡ OutputFault };
+
+    fn from(_failed: Failed) -> End {
+        End::OutputFault
+    }
+}
+
+impl From<AllocError> for End {
+    ghost use Rattle.std.specs.Prelude.{◌≡◌};
+    ghost use Rattle.lis_session.specs.declared.end.End.TheVariants.{NoMemory};
+
+    ghost from_gives = { λ _ end. end ≡ NoMemory };
+
+    fn from(_error: AllocError) -> End {
+        End::NoMemory
+    }
+}
+
+impl<T: Drop> From<AllocFailed<T>> for End {
+    ghost use Rattle.std.specs.Prelude.{◌≡◌};
+    ghost use Rattle.lis_session.specs.declared.end.End.TheVariants.{NoMemory};
+
+    ghost from_gives = { λ _ end. end ≡ NoMemory };
+
+    fn from(_failed: AllocFailed<T>) -> End {
+        End::NoMemory
+    }
 }

@@ -3,7 +3,10 @@
 
 ghost use Rattle.lis_session.specs.Session.{OneForm};
 
+mod changes;
+mod content;
 pub mod end;
+mod replies;
 pub mod session;
 
 /// A moment of a session told by how many items were carried out, and told by the replies that were shown whole: the two say

@@ -1,12 +1,96 @@
--- Words in no form.
-use Rattle.std.proofs.Common.{◌≡◌, ℕ, ◌+◌, ◌<◌, ◌≤◌, List, [], ◌∷◌, length, Option, None, refl, arith}
+-- The forms of words of the command line.
+use Rattle.std.proofs.Common.{◌≡◌, ℕ, ◌<◌, ◌≤◌, ◌&&◌, cond, Bool, true, false, List, [], ◌∷◌, length, map, slice_index_or, Option, Some, None, IsTrue, codes, refl, ap, sym, ◌∙◌, arith, subst}
+use Rattle.std.specs.Option.{option_map}
+use Rattle.std.proofs.lemmas.Bool.{and_parts}
+use Rattle.std.proofs.lemmas.List.{length-map}
+use Rattle.lis_words.specs.Words.{same_word, is_count, count_of}
 use Rattle.lis_model.specs.declared.limits.Limits.{Limits}
-use Rattle.lis_shell.specs.Words.{try_limits}
+use Rattle.lis_model.specs.Ranges.{is_files_limit, is_props_limit, is_blocks_limit, are_in_range}
+use Rattle.lis_shell.specs.declared.words.Task.TheVariants.{Try, Make, Run}
+use Rattle.lis_shell.specs.Words.{limits_of, task_of}
 
-pub other_count : (words : List (List ℕ)) → (length words ≡ 4 → ⊥) → try_limits words ≡ None
-other_count [] other = refl
-other_count (a ∷ []) other = refl
-other_count (a ∷ b ∷ []) other = refl
-other_count (a ∷ b ∷ c ∷ []) other = refl
-other_count (a ∷ b ∷ c ∷ d ∷ []) other = absurd (other refl)
-other_count (a ∷ b ∷ c ∷ d ∷ e ∷ words) other = refl
+-- as many words as no form has
+pub no_form : (words : List (List ℕ)) → (length words ≡ 2 → ⊥) → (length words ≡ 4 → ⊥) → (length words ≡ 5 → ⊥) → task_of words ≡ None
+no_form [] two four five = refl
+no_form (a ∷ []) two four five = refl
+no_form (a ∷ b ∷ []) two four five = absurd (two refl)
+no_form (a ∷ b ∷ c ∷ []) two four five = refl
+no_form (a ∷ b ∷ c ∷ d ∷ []) two four five = absurd (four refl)
+no_form (a ∷ b ∷ c ∷ d ∷ e ∷ []) two four five = absurd (five refl)
+no_form (a ∷ b ∷ c ∷ d ∷ e ∷ f ∷ words) two four five = refl
+
+module _ {W : Type 0} (bytes : W → List ℕ) where
+  pub no_words : (words : List W) → (length words ≡ 2 → ⊥) → (length words ≡ 4 → ⊥) → (length words ≡ 5 → ⊥) → task_of (map bytes words) ≡ None
+  no_words words two four five =
+      let same = length-map words bytes in
+      no_form (map bytes words) (λ e. two (sym same ∙ e)) (λ e. four (sym same ∙ e)) (λ e. five (sym same ∙ e))
+
+  pub two_words : (words : List W) (word : W) (is_run : Bool) → length words ≡ 2 → word ≡ slice_index_or words 0 word
+      → same_word (bytes word) (codes "run") ≡ is_run → task_of (map bytes words) ≡ cond is_run (Some Run) None
+  two_words [] word is_run two is_word is = absurd (omega arith)
+  two_words (a ∷ []) word is_run two is_word is = absurd (omega arith)
+  two_words (a ∷ b ∷ []) word is_run two is_word is =
+      ap (λ t. cond t (Some Run) None) (ap (λ w. same_word (bytes w) (codes "run")) (sym is_word) ∙ is)
+  two_words (a ∷ b ∷ c ∷ words) word is_run two is_word is = absurd (omega arith)
+
+  pub five_words : (words : List W) (word files props blocks : W) (found : Option Limits) → length words ≡ 5 → word ≡ slice_index_or words 0 word
+      → files ≡ slice_index_or words 2 files → props ≡ slice_index_or words 3 props → blocks ≡ slice_index_or words 4 blocks
+      → same_word (bytes word) (codes "make") ≡ true → limits_of (bytes files) (bytes props) (bytes blocks) ≡ found
+      → task_of (map bytes words) ≡ option_map Make found
+  five_words [] word files props blocks found five is_word is_files is_props is_blocks is limits = absurd (omega arith)
+  five_words (a ∷ []) word files props blocks found five is_word is_files is_props is_blocks is limits = absurd (omega arith)
+  five_words (a ∷ b ∷ []) word files props blocks found five is_word is_files is_props is_blocks is limits = absurd (omega arith)
+  five_words (a ∷ b ∷ c ∷ []) word files props blocks found five is_word is_files is_props is_blocks is limits = absurd (omega arith)
+  five_words (a ∷ b ∷ c ∷ d ∷ []) word files props blocks found five is_word is_files is_props is_blocks is limits = absurd (omega arith)
+  five_words (a ∷ b ∷ c ∷ d ∷ e ∷ []) word files props blocks found five is_word is_files is_props is_blocks is limits =
+      let same : limits_of (bytes c) (bytes d) (bytes e) ≡ found =
+      ap (λ x. limits_of (bytes x) (bytes d) (bytes e)) (sym is_files) ∙ (ap (λ x. limits_of (bytes files) (bytes x) (bytes e)) (sym is_props)
+      ∙ (ap (λ x. limits_of (bytes files) (bytes props) (bytes x)) (sym is_blocks) ∙ limits)) in
+      ap (λ t. cond t (option_map Make (limits_of (bytes c) (bytes d) (bytes e))) None) (ap (λ w. same_word (bytes w) (codes "make")) (sym is_word) ∙ is)
+      ∙ ap (option_map Make) same
+  five_words (a ∷ b ∷ c ∷ d ∷ e ∷ f ∷ words) word files props blocks found five is_word is_files is_props is_blocks is limits = absurd (omega arith)
+
+-- ---- limits are in range
+held : (t : Bool) (all limits : Limits) → cond t (Some all) None ≡ Some limits → (t ≡ true) × (all ≡ limits)
+held true all limits e = (refl, (cc))
+held false all limits e = absurd (cc)
+
+limits_in_range : (files props blocks : List ℕ) (limits : Limits) → limits_of files props blocks ≡ Some limits → IsTrue (are_in_range limits)
+limits_in_range files props blocks limits e =
+    let all : Limits = record { files = count_of files; props = count_of props; blocks = count_of blocks } in
+    let of_files : Bool = is_count files && is_files_limit (count_of files) in
+    let of_props : Bool = is_count props && is_props_limit (count_of props) in
+    let of_blocks : Bool = is_count blocks && is_blocks_limit (count_of blocks) in
+    let is = held (of_files && of_props && of_blocks) all limits e in
+    let front = and_parts (of_files && of_props) of_blocks is.0 in
+    let first = and_parts of_files of_props front.0 in
+    let range = both (and_parts (is_count files) (is_files_limit (count_of files)) first.0).1
+    (and_parts (is_count props) (is_props_limit (count_of props)) first.1).1
+    (and_parts (is_count blocks) (is_blocks_limit (count_of blocks)) front.1).1 in
+    subst (λ l. IsTrue (are_in_range l)) is.1 range
+  where
+    both : {a b c : Bool} → a ≡ true → b ≡ true → c ≡ true → IsTrue (a && b && c)
+    both e f g = cc
+
+made_by : (t : Bool) (found : Option Limits) (limits : Limits) → cond t (option_map Make found) None ≡ Some (Make limits) → found ≡ Some limits
+made_by true (Some x) limits e = cc
+made_by true None limits e = absurd (cc)
+made_by false found limits e = absurd (cc)
+
+not_made : (t : Bool) (found : Option Limits) (limits : Limits) → cond t (option_map Try found) None ≡ Some (Make limits) → ⊥
+not_made true (Some x) limits e = cc
+not_made true None limits e = cc
+not_made false found limits e = cc
+
+not_run : (t : Bool) (limits : Limits) → cond t (Some Run) None ≡ Some (Make limits) → ⊥
+not_run true limits e = cc
+not_run false limits e = cc
+
+pub made_in_range : (words : List (List ℕ)) (limits : Limits) → task_of words ≡ Some (Make limits) → IsTrue (are_in_range limits)
+made_in_range [] limits e = absurd (cc)
+made_in_range (a ∷ []) limits e = absurd (cc)
+made_in_range (a ∷ b ∷ []) limits e = absurd (not_run (same_word a (codes "run")) limits e)
+made_in_range (a ∷ b ∷ c ∷ []) limits e = absurd (cc)
+made_in_range (a ∷ b ∷ c ∷ d ∷ []) limits e = absurd (not_made (same_word a (codes "try")) (limits_of b c d) limits e)
+made_in_range (a ∷ b ∷ c ∷ d ∷ f ∷ []) limits e = limits_in_range c d f limits (made_by (same_word a (codes "make")) (limits_of c d f) limits e)
+made_in_range (a ∷ b ∷ c ∷ d ∷ f ∷ g ∷ words) limits e = absurd (cc)

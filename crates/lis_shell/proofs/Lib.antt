@@ -1,3 +1,3 @@
 mod Forms
-mod Reading
 mod Going
+mod Served

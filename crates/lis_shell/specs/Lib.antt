@@ -2,3 +2,5 @@ pub mod Words
 pub mod Causes
 pub mod Endings
 pub mod Tries
+pub mod Runs
+pub mod MakesImage

@@ -1,5 +1,5 @@
 -- How a session over a plain state ends.
-use Rattle.std.specs.Prelude.{◌≡◌, ℕ, ◌+◌, ◌<◌, ◌≤◌, List, ◌∷◌, ◌++◌, length, Option, Some, None}
+use Rattle.std.specs.Prelude.{◌≡◌, ℕ, ◌<◌, ◌≤◌, List, ◌∷◌, ◌++◌, length, Option, Some, None}
 use Rattle.std.specs.Io.KnownBytes.{append_known, Consumes, IsAtEnd}
 use Rattle.lis_ports.specs.Shown.{AppendsFront}
 use Rattle.lis_model.specs.declared.spot.Spot.{Spot}
@@ -48,12 +48,6 @@ Tries start limit bytes left before now end Usage = ⊥
 Tries start limit bytes left before now end (NotAnImage spot) = ⊥
 Tries start limit bytes left before now end (TooShort len need) = ⊥
 Tries start limit bytes left before now end DiskFault = ⊥
-
--- at most one byte past the limit was taken
-pub record TakesFew (limit : ℕ) (left_before left : Option (List ℕ)) : Type 0 where
-  pub taken : List ℕ
-  pub consumed : Consumes left_before left taken
-  pub few : length taken ≤ limit + 1
 
 -- the item at which a session ends, if it is one
 abbrev pub ending_of : Said → Option Status

@@ -1,8 +1,12 @@
 -- What the words of the command line ask for.
-use Rattle.std.specs.Prelude.{ℕ, Bool, ◌&&◌, if◌then◌else◌, Option, Some, None, List, [], ◌∷◌, codes}
+use Rattle.std.specs.Prelude.{ℕ, ◌*◌, Bool, ◌&&◌, if◌then◌else◌, Option, Some, None, List, [], ◌∷◌, codes}
 use Rattle.lis_words.specs.Words.{same_word, is_count, count_of}
 use Rattle.lis_model.specs.declared.limits.Limits.{Limits}
 use Rattle.lis_model.specs.Ranges.{is_files_limit, is_props_limit, is_blocks_limit}
+use Rattle.lis_model.specs.Image.{image_blocks}
+use Rattle.lis_shell.specs.declared.words.Task.{Task}
+use Rattle.lis_shell.specs.declared.words.Task.TheVariants.{Try, Make, Run}
+use Rattle.std.specs.Option.{option_map}
 
 -- three counts that are limits in range
 abbrev pub limits_of : List ℕ → List ℕ → List ℕ → Option Limits
@@ -11,11 +15,19 @@ limits_of files props blocks =
     then Some (record { files = count_of files; props = count_of props; blocks = count_of blocks })
     else None
 
--- `try` and three limits
-abbrev pub try_limits : List (List ℕ) → Option Limits
-try_limits [] = None
-try_limits (word ∷ []) = None
-try_limits (word ∷ files ∷ []) = None
-try_limits (word ∷ files ∷ props ∷ []) = None
-try_limits (word ∷ files ∷ props ∷ blocks ∷ []) = if same_word word (codes "try") then limits_of files props blocks else None
-try_limits (word ∷ files ∷ props ∷ blocks ∷ more ∷ words) = None
+-- `try` and three limits, `make` with an image and three limits, or `run` and an image. An image is any text.
+abbrev pub task_of : List (List ℕ) → Option Task
+task_of [] = None
+task_of (word ∷ []) = None
+task_of (word ∷ image ∷ []) = if same_word word (codes "run") then Some Run else None
+task_of (word ∷ files ∷ props ∷ []) = None
+task_of (word ∷ files ∷ props ∷ blocks ∷ []) = if same_word word (codes "try") then option_map Try (limits_of files props blocks) else None
+task_of (word ∷ image ∷ files ∷ props ∷ blocks ∷ []) = if same_word word (codes "make") then option_map Make (limits_of files props blocks) else None
+task_of (word ∷ image ∷ files ∷ props ∷ blocks ∷ more ∷ words) = None
+
+-- how many bytes an image takes that is to be made
+abbrev pub length_for : Option Task → Option ℕ
+length_for None = None
+length_for (Some (Try limits)) = None
+length_for (Some (Make limits)) = Some (4096 * image_blocks limits)
+length_for (Some Run) = None

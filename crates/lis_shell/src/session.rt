@@ -2,8 +2,9 @@
 
 ghost use Rattle.std.specs.Prelude.{◌≡◌, ℕ, ◌≤◌, ◌^◌, List, Some, false};
 ghost use Rattle.lis_ports.specs.Calls.{IsShowCall};
+ghost use Rattle.lis_line.specs.Taking.{TakesFew};
 ghost use Rattle.lis_shell.specs.Causes.{counts, HasStatusCause, IsTryStatus};
-ghost use Rattle.lis_shell.specs.Tries.{Tries, TakesFew, ending_of};
+ghost use Rattle.lis_shell.specs.Tries.{Tries, ending_of};
 
 use crate::status::Status;
 use lis_line::reader::{Item, LineReader, Payload};
@@ -11,7 +12,8 @@ use lis_plain::end::PlainEnd;
 use lis_plain::plain::Plain;
 use lis_ports::{Source, Station};
 
-fn ending(item: &Item) -> Option<Status>
+/// The status at which a session ends by this item, if it does.
+pub fn ending(item: &Item) -> Option<Status>
     ensures { result ≡ ending_of item.now }
 {
     match item {

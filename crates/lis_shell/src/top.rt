@@ -1,20 +1,38 @@
 //! The top call.
 
-ghost use Rattle.std.specs.Prelude.{◌≡◌, ◌↔◌, ℕ, ◌^◌, List, map, None, Some, IfSome, IsSome};
+ghost use Rattle.std.specs.Prelude.{◌≡◌, ◌≢◌, ◌↔◌, ℕ, ◌≤◌, ◌^◌, List, length, map, None, Some, IsTrue};
 ghost use Rattle.std.specs.String.{string_bytes};
 ghost use Rattle.lis_ports.specs.Calls.{IsShowCall};
+ghost use Rattle.lis_ports.specs.Runs.{IsDiskRun, Leaves, IsSettled};
+ghost use Rattle.lis_journal.specs.Images.{KeepsPast};
+ghost use Rattle.lis_journal.specs.Recovery.{IsSettledPast};
+ghost use Rattle.lis_line.specs.Taking.{TakesFew};
+ghost use Rattle.lis_model.specs.declared.limits.Limits.{Limits as LimitsOf};
+ghost use Rattle.lis_model.specs.Ranges.{are_in_range};
+ghost use Rattle.lis_model.specs.Image.{image_blocks};
+ghost use Rattle.lis_model.specs.Script.{script};
+ghost use Rattle.lis_model.specs.State.{State};
 ghost use Rattle.lis_model.specs.Step.{Situation, start_of};
-ghost use Rattle.lis_shell.specs.Words.{try_limits};
+ghost use Rattle.lis_open.specs.Makes.{IsMaking};
+ghost use Rattle.lis_session.specs.Runs.{RunsImage};
+ghost use Rattle.lis_session.specs.Session.{root_of, Headline, FullHeadline};
+ghost use Rattle.lis_shell.specs.Words.{task_of};
+ghost use Rattle.lis_shell.specs.declared.words.Task.TheVariants.{Try, Make, Run};
 ghost use Rattle.lis_shell.specs.Causes.{counts, HasStatusCause, IsTryStatus};
-ghost use Rattle.lis_shell.specs.Tries.{Tries, TakesFew};
+ghost use Rattle.lis_shell.specs.Tries.{Tries};
+ghost use Rattle.lis_shell.specs.MakesImage.{MadeImage};
+ghost use Rattle.lis_shell.specs.Runs.{Entry, Ran, NoFault, IsComplete, IsJudged, IsIdle};
 
+use crate::serving::serve;
 use crate::session::try_session;
 use crate::status::Status;
-use crate::words::try_limits;
+use crate::words::{Task, task_of};
 use lis_line::reader::Payload;
 use lis_model::limits::Limits;
+use lis_open::{MakeFault, OpenFault, make, mount};
 use lis_plain::plain::Plain;
 use lis_ports::{Source, Station};
+use lis_session::session::Session;
 use std::alloc::Global;
 
 /// The most bytes of an input.
@@ -42,30 +60,125 @@ fn try_from_empty<S: Source, T: Station>(
     try_session(&mut plain, &mut payload, input, station, INPUT_LIMIT)
 }
 
+fn make_image<T: Station>(limits: &Limits, station: &mut T) -> Status
+    requires { IsTrue (are_in_range limits.now) }
+    ensures made { MadeImage limits.now (T.meaning station.old) (T.meaning station.new) result }
+    ensures run { IsDiskRun (T.meaning station.old) (T.meaning station.new) }
+    ensures short { (len need : ℕ) → result ≡ Status.TooShort len need → station.new ≡ station.old }
+    ensures cause { (n : ℕ) → HasStatusCause (counts (T.meaning station.old) n) (counts (T.meaning station.new) n) result }
+    ensures making { IsTrue (T.meaning station.old).is_honest → IsSettled (T.meaning station.old) (T.meaning station.old).bytes
+        → Leaves (T.meaning station.old) (T.meaning station.new) (IsMaking limits.now (T.meaning station.old).bytes) }
+    ensures past { IsTrue (T.meaning station.old).is_honest → IsSettled (T.meaning station.old) (T.meaning station.old).bytes
+        → KeepsPast (image_blocks limits.now) (T.meaning station.old) (T.meaning station.new) }
+{
+    match make(station, limits) {
+        Ok(()) => Status::Done,
+        Err(MakeFault::TooShort(len, need)) => Status::TooShort(len, need),
+        Err(MakeFault::DiskFault) => Status::DiskFault,
+    }
+}
+
+// Opens the image, and carries out the items of the input on it.
+fn run_image<S: Source, T: Station>(alloc: Global, input: &mut S, station: &mut T) -> Status
+    ensures used { result ≢ Status.Usage }
+    ensures cause { HasStatusCause (counts (T.meaning station.old) (S.faults input.old)) (counts (T.meaning station.new) (S.faults input.new)) result }
+    ensures few { TakesFew (2 ^ 40) (S.left input.old) (S.left input.new) }
+    ensures runs { (state : State) (bytes : List ℕ) → Entry (T.meaning station.old) (S.left input.old) state bytes
+        → RunsImage state (script bytes (2 ^ 40)) (T.meaning station.old) (T.meaning station.new)
+        (Ran state (2 ^ 40) bytes (S.left input.new) (T.meaning station.old).shown (T.meaning station.new) result) }
+    ensures past { (state : State) (bytes : List ℕ) → Entry (T.meaning station.old) (S.left input.old) state bytes
+        → (result ≡ Status.DiskFault → IsSettledPast (image_blocks state.limits) (T.meaning station.old))
+        → KeepsPast (image_blocks state.limits) (T.meaning station.old) (T.meaning station.new) }
+    ensures judged { IsTrue (T.meaning station.old).is_honest → IsJudged (T.meaning station.old) result }
+    ensures idle { IsIdle (input.new ≡ input.old) (T.meaning station.old) (T.meaning station.new) result }
+{
+    let mut store = match mount(alloc, station) {
+        Ok(store) => store,
+        Err(OpenFault::TooShort(len, need)) => return Status::TooShort(len, need),
+        Err(OpenFault::Damaged(spot)) => return Status::NotAnImage(spot),
+        Err(OpenFault::DiskFault) => return Status::DiskFault,
+        Err(OpenFault::NoMemory) => return Status::NoMemory,
+    };
+    let Ok(mut payload) = Payload::new(alloc) else {
+        return Status::NoMemory;
+    };
+    let mut session = Session::new();
+    serve(
+        alloc,
+        &mut store,
+        &mut session,
+        &mut payload,
+        input,
+        station,
+        INPUT_LIMIT,
+    )
+}
+
 /// Does what the words after the program's name ask for.
 ///
 /// `try FILES PROPS BLOCKS` carries out the commands of the input on a state that begins empty, and shows the replies. It makes
-/// no call of the disk. Any other words are `Usage`, which is judged before anything is read or taken.
+/// no call of the disk. `make IMAGE FILES PROPS BLOCKS` makes an image of the empty state; it reads no input and shows nothing.
+/// `run IMAGE` opens the image, carries out the commands of the input on it and shows the replies. IMAGE is not looked at here: the
+/// station is the image. Any other words are `Usage`, which is judged before anything is read or taken.
 pub fn lisfs<S: Source, T: Station>(
     alloc: Global,
     words: &[String],
     input: &mut S,
     station: &mut T,
 ) -> Status
-    ensures usage { (result ≡ Status.Usage) ↔ (try_limits (map string_bytes words.now) ≡ None) }
+    ensures usage { (result ≡ Status.Usage) ↔ (task_of (map string_bytes words.now) ≡ None) }
     ensures unused { result ≡ Status.Usage → (input.new ≡ input.old) × (station.new ≡ station.old) }
-    ensures only { IsSome (try_limits (map string_bytes words.now)) → IsTryStatus result }
-
-    // What was shown is what the model replies to the items of the input, however it comes in pieces.
-    ensures tries { IfSome (try_limits (map string_bytes words.now)) (λ limits. (bytes : List ℕ) → S.left input.old ≡ Some bytes
-        → (end : Situation) × Tries (start_of limits) (2 ^ 40) bytes (S.left input.new) (T.meaning station.old).shown (T.meaning station.new).shown end result) }
+    ensures cause { HasStatusCause (counts (T.meaning station.old) (S.faults input.old)) (counts (T.meaning station.new) (S.faults input.new)) result }
     ensures few { TakesFew (2 ^ 40) (S.left input.old) (S.left input.new) }
 
-    ensures cause { HasStatusCause (counts (T.meaning station.old) (S.faults input.old)) (counts (T.meaning station.new) (S.faults input.new)) result }
-    ensures disk { IsShowCall (T.meaning station.old) (T.meaning station.new) }
+    // `try`: what was shown is what the model replies to the items of the input, however it comes in pieces.
+    ensures try_only { (limits : LimitsOf) → task_of (map string_bytes words.now) ≡ Some (Try limits)
+        → IsTryStatus result × IsShowCall (T.meaning station.old) (T.meaning station.new) }
+    ensures tries { (limits : LimitsOf) → task_of (map string_bytes words.now) ≡ Some (Try limits) → (bytes : List ℕ) → S.left input.old ≡ Some bytes
+        → (end : Situation) × Tries (start_of limits) (2 ^ 40) bytes (S.left input.new) (T.meaning station.old).shown (T.meaning station.new).shown end result }
+
+    // `make`: an image of the empty state, where the disk is long enough. With nothing unsynced at entry a crash leaves the image of
+    // entry, one of the empty state, or one of no state.
+    ensures makes { (limits : LimitsOf) → task_of (map string_bytes words.now) ≡ Some (Make limits)
+        → MadeImage limits (T.meaning station.old) (T.meaning station.new) result
+        × IsDiskRun (T.meaning station.old) (T.meaning station.new) × (input.new ≡ input.old) }
+    ensures making { (limits : LimitsOf) → task_of (map string_bytes words.now) ≡ Some (Make limits)
+        → IsTrue (T.meaning station.old).is_honest → IsSettled (T.meaning station.old) (T.meaning station.old).bytes
+        → Leaves (T.meaning station.old) (T.meaning station.new) (IsMaking limits (T.meaning station.old).bytes)
+        × KeepsPast (image_blocks limits) (T.meaning station.old) (T.meaning station.new) }
+    ensures make_short { (limits : LimitsOf) → task_of (map string_bytes words.now) ≡ Some (Make limits)
+        → (len need : ℕ) → result ≡ Status.TooShort len need → station.new ≡ station.old }
+
+    // `run`: stopped at any moment, the image stands for the model's state after some first items, and what was shown is a front of
+    // exactly their replies. Until the first sync a stop leaves what it could have left at entry, with nothing shown.
+    ensures headline { task_of (map string_bytes words.now) ≡ Some Run → (state : State) (bytes : List ℕ)
+        → Entry (T.meaning station.old) (S.left input.old) state bytes
+        → Headline state (script bytes (2 ^ 40)) (T.meaning station.old) (T.meaning station.new) }
+    ensures headline_settled { task_of (map string_bytes words.now) ≡ Some Run → (state : State) (bytes : List ℕ)
+        → Entry (T.meaning station.old) (S.left input.old) state bytes
+        → ((image : List ℕ) → (T.meaning station.old).images image → image ≡ (T.meaning station.old).bytes)
+        → FullHeadline (root_of state) (script bytes (2 ^ 40)) (T.meaning station.old) (T.meaning station.new) }
+    ensures runs { task_of (map string_bytes words.now) ≡ Some Run → (state : State) (bytes : List ℕ)
+        → Entry (T.meaning station.old) (S.left input.old) state bytes
+        → RunsImage state (script bytes (2 ^ 40)) (T.meaning station.old) (T.meaning station.new)
+        (Ran state (2 ^ 40) bytes (S.left input.new) (T.meaning station.old).shown (T.meaning station.new) result) }
+    ensures past { task_of (map string_bytes words.now) ≡ Some Run → (state : State) (bytes : List ℕ)
+        → Entry (T.meaning station.old) (S.left input.old) state bytes
+        → (result ≡ Status.DiskFault → IsSettledPast (image_blocks state.limits) (T.meaning station.old))
+        → KeepsPast (image_blocks state.limits) (T.meaning station.old) (T.meaning station.new) }
+    ensures judged { task_of (map string_bytes words.now) ≡ Some Run → IsTrue (T.meaning station.old).is_honest
+        → IsJudged (T.meaning station.old) result }
+    ensures complete { task_of (map string_bytes words.now) ≡ Some Run → (state : State) (bytes : List ℕ)
+        → Entry (T.meaning station.old) (S.left input.old) state bytes → length bytes ≤ 2 ^ 40
+        → NoFault (counts (T.meaning station.old) (S.faults input.old)) (counts (T.meaning station.new) (S.faults input.new))
+        → IsComplete state (2 ^ 40) bytes (S.left input.new) (T.meaning station.old).shown (T.meaning station.new) result }
+    ensures idle { task_of (map string_bytes words.now) ≡ Some Run
+        → IsIdle (input.new ≡ input.old) (T.meaning station.old) (T.meaning station.new) result }
 {
-    match try_limits(words) {
+    match task_of(words) {
         None => Status::Usage,
-        Some(limits) => try_from_empty(alloc, &limits, input, station),
+        Some(Task::Try(limits)) => try_from_empty(alloc, &limits, input, station),
+        Some(Task::Make(limits)) => make_image(&limits, station),
+        Some(Task::Run) => run_image(alloc, input, station),
     }
 }

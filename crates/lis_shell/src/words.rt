@@ -1,14 +1,32 @@
 //! The words of the command line.
 
-ghost use Rattle.std.specs.Prelude.{◌≡◌, ℕ, ◌<◌, List, map, IsSome, None, IfSome, MatchOption, IsTrue};
+ghost use Rattle.std.specs.Prelude.{◌≡◌, map};
 ghost use Rattle.std.specs.String.{string_bytes};
-ghost use Rattle.lis_shell.specs.Words.{limits_of, try_limits};
+ghost use Rattle.lis_words.specs.Words.{same_word};
+ghost use Rattle.lis_shell.specs.Words.{limits_of, task_of, length_for};
 
-use lis_model::limits::{Limits, is_blocks_limit, is_files_limit, is_props_limit};
+use lis_model::limits::{Limits, image_blocks, is_blocks_limit, is_files_limit, is_props_limit};
 use lis_words::read_count;
 
-/// How many words `try` has, itself included.
-const WORDS: usize = 4;
+/// How many bytes a block of an image has.
+const BLOCK_LEN: u64 = 4_096;
+
+/// What the words of the command line ask for.
+#[derive(Clone, Copy, Debug, PartialEq, Eq)]
+pub enum Task {
+    /// `try FILES PROPS BLOCKS`: a session over a state that begins empty.
+    Try(Limits),
+    /// `make IMAGE FILES PROPS BLOCKS`: an empty image.
+    Make(Limits),
+    /// `run IMAGE`: a session over an image.
+    Run,
+}
+
+fn is_word(word: &String, name: &[u8]) -> bool
+    ensures { result ≡ same_word (string_bytes word.now) name.now }
+{
+    word.as_bytes() == name
+}
 
 fn limits_of(files: &[u8], props: &[u8], blocks: &[u8]) -> Option<Limits>
     ensures { result ≡ limits_of files.now props.now blocks.now }
@@ -32,27 +50,42 @@ fn limits_of(files: &[u8], props: &[u8], blocks: &[u8]) -> Option<Limits>
     })
 }
 
-/// The limits of `try FILES PROPS BLOCKS`. None comes exactly where the words are not in this form, or a limit is out of range.
-pub fn try_limits(words: &[String]) -> Option<Limits>
-    ensures { result ≡ try_limits (map string_bytes words.now) }
+/// What the words after the program's name ask for. None comes exactly where they are in none of the three forms, or a limit is out
+/// of range.
+pub fn task_of(words: &[String]) -> Option<Task>
+    ensures { result ≡ task_of (map string_bytes words.now) }
 {
-    if words.len() != WORDS {
-        return None;
+    match words {
+        [word, _] => {
+            if !is_word(word, b"run") {
+                return None;
+            }
+            Some(Task::Run)
+        }
+        [word, files, props, blocks] => {
+            if !is_word(word, b"try") {
+                return None;
+            }
+            let limits = limits_of(files.as_bytes(), props.as_bytes(), blocks.as_bytes())?;
+            Some(Task::Try(limits))
+        }
+        [word, _, files, props, blocks] => {
+            if !is_word(word, b"make") {
+                return None;
+            }
+            let limits = limits_of(files.as_bytes(), props.as_bytes(), blocks.as_bytes())?;
+            Some(Task::Make(limits))
+        }
+        _ => None,
     }
-    if words[0].as_bytes() != b"try".as_slice() {
-        return None;
-    }
-    limits_of(
-        words[1].as_bytes(),
-        words[2].as_bytes(),
-        words[3].as_bytes(),
-    )
 }
 
-/// How long the image is that the words ask to make. None comes where they are no such words; no words are in this version.
+/// How many bytes the image takes that the words ask to make. None comes exactly where they ask for no image.
 pub fn make_len(words: &[String]) -> Option<u64>
-    ensures { result ≡ None }
+    ensures { result ≡ length_for (task_of (map string_bytes words.now)) }
 {
-    let _words = words;
-    None
+    match task_of(words) {
+        Some(Task::Make(limits)) => Some(u64::from(image_blocks(&limits)) * BLOCK_LEN),
+        _ => None,
+    }
 }

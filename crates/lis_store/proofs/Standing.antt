@@ -23,6 +23,7 @@ use Rattle.lis_model.specs.Image.{data_start, image_blocks}
 use Rattle.lis_model.specs.State.{State, File, file_cmp}
 use Rattle.lis_store.specs.Stands.{property_slots, axiom_slots, file_slots, Contents, AreSlots, all_records, file_of, spelled_state, Spells, Stands}
 use Rattle.lis_store.specs.Kept.{Kept, contents_of, Tells, StoreFits}
+use Rattle.lis_store.proofs.Telling.{tells_spells}
 
 -- ---- slots and bytes look at home blocks alone
 le_more : (m a b : ℕ) → m ≤ a → m ≤ a + b
@@ -154,14 +155,15 @@ kept_stands s contents at image super spells keeps = by (replayed (image_blocks 
 
 pub told_stands : (k : Kept) (at : ℕ → List ℕ) (s : State) (image : List ℕ) → Tells k at s → KeptBy k.journal.blocks at image → Stands image s
 told_stands k at s image tells keeps =
-    let spells = subst (λ (limits : Limits). Spells limits (contents_of k) at s) tells.limits tells.spells in
-    let blocks : k.journal.blocks ≡ image_blocks s.limits = tells.sizes.blocks ∙ ap image_blocks tells.limits in
-    kept_stands s (contents_of k) at image tells.super spells (subst (λ b. KeptBy b at image) blocks keeps)
+    let spells = subst (λ (limits : Limits). Spells limits (contents_of k) at s) tells.limits (tells_spells k at s tells) in
+    let blocks : k.journal.blocks ≡ image_blocks s.limits = tells.sound.image ∙ ap image_blocks tells.limits in
+    let super : at 0 ≡ super_bytes (record { version = 1; limits = s.limits }) = tells.spelled.super ∙ ap (λ (limits : Limits). super_bytes (record { version = 1; limits = limits })) tells.limits in
+    kept_stands s (contents_of k) at image super spells (subst (λ b. KeptBy b at image) blocks keeps)
 
 pub fitting_stands : (m : Meaning) (k : Kept) (s : State) → StoreFits k m s → Always m (λ image. Stands image s)
 fitting_stands m k s fits =
     always_weaken (λ image. Stands image s) fits.journal.all
-    (λ image rest. told_stands k fits.kept s image fits.describes.tells (rest_stands k.journal.blocks fits.kept image rest))
+    (λ image rest. told_stands k fits.kept s image fits.tells (rest_stands k.journal.blocks fits.kept image rest))
 
 pub change_stands : (old new : Kept) (kept : ℕ → List ℕ) (staged : List Entry) (s t : State) → Tells old kept s → Tells new (looked staged kept) t → new.journal.blocks ≡ old.journal.blocks
     → (image : List ℕ) → StandsForAllOrNone old.journal.blocks kept staged image → Stands image s ⊎ Stands image t

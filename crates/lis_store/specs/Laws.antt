@@ -12,7 +12,7 @@ use Rattle.lis_fields.specs.Layouts.{super_bytes}
 use Rattle.lis_model.specs.declared.limits.Limits.{Limits}
 use Rattle.lis_model.specs.Ranges.{are_in_range}
 use Rattle.lis_model.specs.State.{State, empty_state}
-use Rattle.lis_model.specs.Step.{bytes_of}
+use Rattle.lis_model.specs.Step.{Situation, no_payload, create, add, bytes_of}
 use Rattle.lis_model.specs.Table.{table}
 use Rattle.lis_store.specs.Blank.{IsBlank}
 use Rattle.lis_store.specs.Stands.{Stands}
@@ -54,3 +54,7 @@ ChangesStand =
     (old new : Kept) (kept : ℕ → List ℕ) (staged : List Entry) (s t : State) → Tells old kept s → Tells new (looked staged kept) t
     → new.journal.blocks ≡ old.journal.blocks
     → (image : List ℕ) → StandsForAllOrNone old.journal.blocks kept staged image → Stands image s ⊎ Stands image t
+
+-- to create a file is to add one without bytes
+abbrev pub CreateIsAdd : Type 0
+CreateIsAdd = (now : Situation) (name : List ℕ) (words : List (List ℕ)) → create now name words ≡ add now name words no_payload

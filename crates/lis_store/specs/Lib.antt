@@ -5,3 +5,7 @@ pub mod Laws
 pub mod Blank
 pub mod Changes
 pub mod Inside
+pub mod Removing
+pub mod Staging
+pub mod Adding
+pub mod Admitting

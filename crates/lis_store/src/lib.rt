@@ -1,11 +1,15 @@
 //! States on an image, and a store that keeps in memory what changes need of it.
 #![tactic(auto)]
 
-ghost use Rattle.lis_store.specs.Laws.{OneState, FittingStoresStand, FittingStoresTell, FittingStoresHold, EmptyStoresAreSound, EmptyStoresFit, ChangesStand};
+ghost use Rattle.lis_store.specs.Laws.{OneState, FittingStoresStand, FittingStoresTell, FittingStoresHold, EmptyStoresAreSound, EmptyStoresFit, ChangesStand, CreateIsAdd};
 
+mod adding;
+mod admitting;
 mod change;
 pub mod parts;
+mod removing;
 mod seen;
+mod staging;
 mod store;
 
 pub use change::Change;
@@ -45,4 +49,9 @@ pub fn empty_stores_fit<D: Disk>(disk: &D)
 /// A change of what is kept leads from images of one state to images of the next.
 pub fn changes_stand()
     ensures { ChangesStand }
+{}
+
+/// To create a file is to add one without bytes.
+pub fn create_is_add()
+    ensures { CreateIsAdd }
 {}

@@ -1,35 +1,47 @@
 //! A store: what is kept in memory of an image, and the calls that change both.
 
-ghost use Rattle.std.specs.Prelude.{◌≡◌, ℕ, ◌*◌, ◌<◌, ◌≤◌, List, false, is_some, length, take, Some, None, Err, Ok, IsTrue, IfOk, OnOk, IfSome, IsSome, IsSomeAnd, MatchResult};
+ghost use Rattle.std.specs.Prelude.{◌≡◌, ℕ, ◌*◌, ◌<◌, ◌≤◌, ◌≢◌, List, false, is_some, length, take, Some, None, Err, Ok, IsTrue, IfOk, OnOk, IfSome, IsSome, IsSomeAnd, MatchResult, ◌&&◌};
+ghost use Rattle.std.specs.List.{list_all};
 ghost use Rattle.lis_ports.specs.Bytes.{part};
 ghost use Rattle.lis_ports.specs.Runs.{IsDiskRun, Leaves};
 ghost use Rattle.lis_ports.specs.Calls.{HasCause, IsUnchanged};
 ghost use Rattle.lis_catalog.specs.Catalog.{slot_of, rec_at};
 ghost use Rattle.lis_dict.specs.Dict.{words};
 ghost use Rattle.lis_fields.specs.Records.{FileRecord};
+ghost use Rattle.lis_words.specs.Words.{is_valued, head_bytes};
 ghost use Rattle.lis_model.specs.declared.refusal.Refusal.{Refusal};
-ghost use Rattle.lis_model.specs.State.{State};
-ghost use Rattle.lis_model.specs.Step.{mkdir, add, rm, bytes_of};
+ghost use Rattle.lis_model.specs.Places.{is_root};
+ghost use Rattle.lis_model.specs.State.{State, is_declarable};
+ghost use Rattle.lis_model.specs.Step.{mkdir, add, rm, bytes_of, assigned_at};
 ghost use Rattle.lis_store.specs.declared.change.Change.TheVariants.{Refused, NoMemory};
 ghost use Rattle.lis_store.specs.Inside.{kept_of};
 ghost use Rattle.lis_store.specs.Kept.{IsSound, is_declared, StoreFits};
 ghost use Rattle.lis_store.specs.Seen.{table_of, entries_told, is_among};
-ghost use Rattle.lis_store.specs.Changes.{Changes, HasChangeCause, ChangeLeft};
+ghost use Rattle.lis_store.specs.Changes.{first_refusal, word_checks, Changes, HasChangeCause, ChangeLeft};
+ghost use Rattle.lis_store.specs.Admitting.{is_assignable_by, named_checks, room_checks, told_checks, Refuses};
 
+use crate::adding::learn;
+use crate::admitting::{MAX_FILE, MAX_TAGS, blocks_needed, has_built_in, has_head_word, new_count};
 use crate::change::Change;
-use crate::parts::data_start;
+use crate::parts::{bitmap_start, data_start};
+use crate::removing::remove_file;
 use crate::seen::{known_words, make_table, seen_slot};
+use crate::staging::{stage_property, stage_record};
 use lis_bits::Rows;
 use lis_blockmap::BlockMap;
 use lis_catalog::Catalog;
+use lis_content::put;
 use lis_dict::Dict;
+use lis_fields::FileRec;
 use lis_journal::Journal;
 use lis_model::command::Tags;
 use lis_model::limits::Limits;
+use lis_model::refusal::Refusal;
 use lis_place::Place;
 use lis_ports::{Disk, Failed};
 use lis_table::table::Table;
-use lis_words::{Name, Word};
+use lis_table::tags::{assigned_with, place_words};
+use lis_words::{Name, Word, head_of, is_builtin, is_plain_word, is_valued};
 use std::alloc::{AllocError, Global};
 use std::marker::Model;
 
@@ -67,6 +79,13 @@ impl Model for Store {
     ghost view = { λ s. kept_of s.limits s.journal s.dict s.declared s.catalog s.map };
 
     ghost invariant = { λ s. IsHeld (kept_of s.limits s.journal s.dict s.declared s.catalog s.map) s.declared };
+}
+
+// Whether the place has no step.
+fn is_root(place: &Place) -> bool
+    ensures { result ≡ is_root place.now }
+{
+    place.is_empty()
 }
 
 impl Store {
@@ -180,6 +199,28 @@ impl Store {
             .read(disk, data_start(&self.limits) + u32::from(block), buf)
     }
 
+    // Whether a word may be declared at the place, if there is room.
+    fn may_declare(&self, place: &Place, word: &Word) -> Result<(), Refusal>
+        ensures row { MatchResult result
+            (λ _. first_refusal (word_checks self.now place.now word.now) ≡ None)
+            (λ refusal. first_refusal (word_checks self.now place.now word.now) ≡ Some refusal) }
+        ensures form { OnOk result (IsTrue (is_declarable word.now)) }
+    {
+        if is_builtin(word) {
+            return Err(Refusal::BuiltIn);
+        }
+        if is_valued(word.bytes()) {
+            return Err(Refusal::NotAssignable);
+        }
+        if self.is_declared(word) {
+            return Err(Refusal::AlreadyDeclared);
+        }
+        if !is_root(place) {
+            return Err(Refusal::NotAPlace);
+        }
+        Ok(())
+    }
+
     /// Declares a word: `mkdir` at the place.
     pub fn declare<D: Disk>(
         &mut self,
@@ -193,14 +234,27 @@ impl Store {
             → Changes (record { state = s; place = place.now }) (mkdir (record { state = s; place = place.now }) word.now)
             self.new (D.meaning disk.old) (D.meaning disk.new) result }
         ensures untouched { (refusal : Refusal) → result ≡ Err (Refused refusal) → disk.new ≡ disk.old }
-        ensures memory { result ≡ Err NoMemory → disk.new ≡ disk.old }
+        ensures memory { result ≢ Err NoMemory }
         ensures limits { self.new.limits ≡ self.old.limits }
         ensures image { self.new.journal.blocks ≡ self.old.journal.blocks }
         ensures left { ChangeLeft self.old self.new result }
         ensures run { IsDiskRun (D.meaning disk.old) (D.meaning disk.new) }
         ensures cause { HasChangeCause (D.meaning disk.old).disk_faults (D.meaning disk.new).disk_faults result }
     {
-        Err(Change::NoMemory)
+        self.may_declare(place, word)?;
+        let number = self.dict.add(word)?;
+        // Its length tells what holds of every dictionary.
+        let _words = self.dict.len();
+        self.declared.put(0, u32::from(number), true);
+        stage_property(
+            &mut self.journal,
+            &self.limits,
+            &self.dict,
+            &self.declared,
+            number,
+        );
+        self.journal.commit(disk)?;
+        Ok(())
     }
 
     /// Makes a file of these bytes: `create` and `add` at the place. Where there are more bytes than a file may have, only their
@@ -230,7 +284,34 @@ impl Store {
         ensures run { IsDiskRun (D.meaning disk.old) (D.meaning disk.new) }
         ensures cause { HasChangeCause (D.meaning disk.old).disk_faults (D.meaning disk.new).disk_faults result }
     {
-        Err(Change::NoMemory)
+        // Only its bytes tell that a name has a name's form.
+        let _name = name.bytes();
+        let assigned = self.may_add(alloc, place, name, tags, size)?;
+        let tags = learn(
+            &mut self.dict,
+            &mut self.declared,
+            &mut self.journal,
+            &self.limits,
+            &assigned,
+        );
+        let base = data_start(&self.limits);
+        let Ok(blocks) = put(&mut self.map, &mut self.journal, disk, base, &[], payload) else {
+            unreachable!()
+        };
+        let rec = FileRec {
+            name: name.copied(),
+            size: payload.len() as u32,
+            tags,
+            blocks,
+        };
+        let Ok(slot) = self.catalog.add(rec) else {
+            unreachable!()
+        };
+        stage_record(&mut self.journal, &self.limits, &self.catalog, slot);
+        self.map
+            .stage_to(&mut self.journal, bitmap_start(&self.limits));
+        self.journal.commit(disk)?;
+        Ok(())
     }
 
     /// Takes a file away: `rm` at the place.
@@ -254,6 +335,122 @@ impl Store {
         ensures run { IsDiskRun (D.meaning disk.old) (D.meaning disk.new) }
         ensures cause { HasChangeCause (D.meaning disk.old).disk_faults (D.meaning disk.new).disk_faults result }
     {
-        Err(Change::NoMemory)
+        let Some(slot) = seen_slot(alloc, &self.dict, &self.catalog, place, name)? else {
+            return Err(Change::Refused(Refusal::NoFileHere));
+        };
+        remove_file(
+            &mut self.journal,
+            &self.limits,
+            &mut self.dict,
+            &self.declared,
+            &mut self.catalog,
+            &mut self.map,
+            slot,
+        );
+        self.journal.commit(disk)?;
+        Ok(())
+    }
+}
+
+// What a new file is refused for.
+impl Store {
+    // Whether the word is valued with a declared head.
+    fn has_declared_head(&self, word: &Word) -> bool
+        ensures { result ≡ (is_valued word.now && is_declared self.now (head_bytes word.now)) }
+    {
+        match head_of(word) {
+            None => false,
+            Some(head) => self.is_declared(&head),
+        }
+    }
+
+    // Whether the word is plain and declared, or valued with a declared head.
+    fn is_assignable(&self, word: &Word) -> bool
+        ensures { result ≡ is_assignable_by self.now word.now }
+    {
+        if is_plain_word(word.bytes()) {
+            return self.is_declared(word) || self.has_declared_head(word);
+        }
+        self.has_declared_head(word)
+    }
+
+    // Whether each of the words is assignable.
+    fn are_assignable(&self, words: &[Word]) -> bool
+        ensures { result ≡ list_all (is_assignable_by self.now) words.now }
+    {
+        words.iter().all(|word| self.is_assignable(word))
+    }
+
+    // What the words of a new file are to be, or why its name, its place and the named words are refused.
+    fn named(
+        &self,
+        alloc: Global,
+        place: &Place,
+        name: &Name,
+        tags: &Tags,
+    ) -> Result<Vec<Word>, Change>
+        ensures { MatchResult result
+            (λ assigned. (assigned.items ≡ assigned_at place.now tags.now) × (first_refusal (named_checks self.now place.now name.now tags.now) ≡ None))
+            (Refuses (named_checks self.now place.now name.now tags.now)) }
+    {
+        if self.catalog.slot_of(name).is_some() {
+            return Err(Change::Refused(Refusal::NameTaken));
+        }
+        let Some(words) = place_words(alloc, place)? else {
+            return Err(Change::Refused(Refusal::NotAPlace));
+        };
+        if has_built_in(tags.as_slice()) {
+            return Err(Change::Refused(Refusal::BuiltIn));
+        }
+        if has_head_word(tags.as_slice()) {
+            return Err(Change::Refused(Refusal::NotAssignable));
+        }
+        let assigned = assigned_with(alloc, &words, tags.as_slice())?;
+        Ok(assigned)
+    }
+
+    // Whether a new file may have its words, and there is room for it.
+    fn admits(&self, assigned: &[Word], size: u64) -> Result<(), Refusal>
+        ensures { MatchResult result
+            (λ _. first_refusal (room_checks self.now assigned.now size) ≡ None)
+            (λ refusal. first_refusal (room_checks self.now assigned.now size) ≡ Some refusal) }
+    {
+        if !self.are_assignable(assigned) {
+            return Err(Refusal::UnknownProperty);
+        }
+        if assigned.len() > MAX_TAGS {
+            return Err(Refusal::TooManyAssigned);
+        }
+        if self.catalog.len() >= self.limits.files {
+            return Err(Refusal::NoFileRoom);
+        }
+        if self.dict.len() as usize + new_count(&self.dict, assigned) > self.limits.props as usize {
+            return Err(Refusal::NoPropertyRoom);
+        }
+        if u64::from(self.map.free()) < blocks_needed(size) {
+            return Err(Refusal::NoSpace);
+        }
+        Ok(())
+    }
+
+    // What the words of a new file are to be, or why the row of `add` refuses it.
+    fn may_add(
+        &self,
+        alloc: Global,
+        place: &Place,
+        name: &Name,
+        tags: &Tags,
+        size: u64,
+    ) -> Result<Vec<Word>, Change>
+        ensures { MatchResult result
+            (λ assigned. (assigned.items ≡ assigned_at place.now tags.now) × (first_refusal (told_checks self.now place.now name.now tags.now size) ≡ None))
+            (Refuses (told_checks self.now place.now name.now tags.now size)) }
+    {
+        if size > MAX_FILE {
+            return Err(Change::Refused(Refusal::LargeFile));
+        }
+        let assigned = self.named(alloc, place, name, tags)?;
+        self.admits(&assigned, size)?;
+        Ok(assigned)
     }
 }

@@ -1,10 +1,14 @@
 //! The program: it hands the real input and output to the top call, and ends with its exit code.
 #![tactic(auto)]
 
+mod image;
+
 use lis_memdisk::FileStation;
 use lis_ports::StdSource;
 use lis_shell::status::{Status, exit_code, status_text};
 use lis_shell::top::lisfs;
+use lis_shell::words::{Task, make_len, task_of};
+use image::ImageFile;
 use std::io::Write;
 use std::process::ExitCode;
 use std::{env, io};
@@ -23,6 +27,14 @@ fn words(rt: &HostRuntime) -> Result<Vec<String>, Status> {
     Ok(words)
 }
 
+/// The image that the words name, if they name one and it can be opened.
+fn image_of(rt: &HostRuntime, words: &[String]) -> Option<ImageFile> {
+    match task_of(words)? {
+        Task::Try(_) => None,
+        Task::Make(_) | Task::Run => image::open(rt, &words[1], make_len(words)).ok(),
+    }
+}
+
 fn run(rt: &HostRuntime) -> Status {
     let words = match words(rt) {
         Ok(words) => words,
@@ -32,9 +44,14 @@ fn run(rt: &HostRuntime) -> Status {
         reader: rt.reader(),
         faults: 0,
     };
+    // Without a file every call of the disk fails.
+    let (file, len) = match image_of(rt, &words) {
+        None => (None, u64::MAX),
+        Some(image) => (Some(image.file), image.len),
+    };
     let mut station = FileStation {
-        file: None,
-        len: u64::MAX,
+        file,
+        len,
         out: io::writer(rt),
         disk_faults: 0,
         show_faults: 0,

@@ -1,5 +1,6 @@
 //! The rows. What is wanted was worked out by hand from the rules of commands and listings.
 
+use lis_model::spot::Spot;
 use lis_shell::status::Status;
 
 pub static FIRST_SESSIONS: [(&str, &str); 3] = [
@@ -324,4 +325,48 @@ pub static CUT_SESSIONS: [Cut; 15] = [
         ("add a 1;x;ls;", "ok;", Status::InputFault),
         ("cat a;", "b 1;x;ok;"),
     ),
+];
+
+/// Words, the length of the disk, and how a run over zeros ends.
+pub static IMAGE_WORDS: [(&[&str], usize, Status); 8] = [
+    (&["run"], 100, Status::Usage),
+    (&["run", "i", "j"], 100, Status::Usage),
+    (&["make", "i", "63", "64", "8"], 100, Status::Usage),
+    (&["make", "i", "64", "64"], 100, Status::Usage),
+    (&["run", "i"], 100, Status::TooShort(100, 4_096)),
+    (&["run", "i"], 0, Status::TooShort(0, 4_096)),
+    (&["run", "i"], 2_433_024, Status::NotAnImage(Spot::Super)),
+    (
+        &["make", "i", "64", "64", "8"],
+        2_433_023,
+        Status::TooShort(2_433_023, 2_433_024),
+    ),
+];
+
+/// A session over a fresh image with a limit, how it ends, what it shows, and what `ls;mkdir abc;mkdir abcd;` shows then.
+pub static LIMITED_SESSIONS: [(&str, u64, Status, &str, &str); 2] = [
+    ("mkdir abcd;", 10, Status::InputLimit, "", "ok;ok;ok;"),
+    (
+        "mkdir abc;",
+        10,
+        Status::Done,
+        "ok;",
+        "ok;no 11 already declared;ok;",
+    ),
+];
+
+/// Eight commands, each of which changes the state.
+pub static CRASHED_SESSION: &str = "mkdir music;mkdir year:;create s1 music year:2003;add m 5 music;hello;create t;rm s1;add s1 3 year:1999;abc;rm m;";
+
+/// What `ls;cat m;` shows after so many of them.
+pub static CRASHED_STATES: [&str; 9] = [
+    "ok;no 10 no such file here;",
+    "ok;no 10 no such file here;",
+    "ok;no 10 no such file here;",
+    "f s1;ok;no 10 no such file here;",
+    "d year:;f m;ok;b 5;hello;ok;",
+    "d music;d year:;f t;ok;b 5;hello;ok;",
+    "d music;f t;ok;b 5;hello;ok;",
+    "d music;d year:;f t;ok;b 5;hello;ok;",
+    "d year:;f t;ok;no 10 no such file here;",
 ];

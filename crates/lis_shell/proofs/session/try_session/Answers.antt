@@ -1,7 +1,8 @@
 use Rattle.std.proofs.Common.{◌≡◌, List, ℕ, Some, sym, subst, ◌∙◌, refl}
 use Rattle.lis_reply.proofs.Showing.{call_none, call_then}
 use Rattle.lis_line.specs.Reading.{asked_by}
-use Rattle.lis_shell.proofs.Going.{SoFar, ItemRead, so_far_none, so_far_more, item_read, ends_output, ends_memory, ends_said, ends_input, few_said}
+use Rattle.lis_line.proofs.Answered.{few_said}
+use Rattle.lis_shell.proofs.Going.{SoFar, ItemRead, so_far_none, so_far_more, item_read, ends_output, ends_memory, ends_said, ends_input}
 use Rattle.lis_shell.proofs.session.try_session.Goals as goal
 
 pub loop-item-init : goal.loop-item-init

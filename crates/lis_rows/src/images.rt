@@ -1,0 +1,242 @@
+//! Sessions over images in memory: what they show, what is left after a fault, and what a crash leaves after each call of the disk.
+
+ghost use Rattle.std.specs.Prelude.{◌≡◌, IfOk, IsTrue};
+ghost use Rattle.lis_memdisk.specs.MemStation.{meaning_of};
+
+use crate::tests::tables::{
+    CRASHED_SESSION, CRASHED_STATES, FIRST_SESSIONS, IMAGE_WORDS, LIMITED_SESSIONS, SESSIONS,
+};
+use crate::tests::{Outside, SOUND, row_of, source};
+use lis_line::reader::Payload;
+use lis_memdisk::MemStation;
+use lis_open::mount;
+use lis_ports::Disk;
+use lis_session::session::Session;
+use lis_shell::serving::serve;
+use lis_shell::status::Status;
+use lis_shell::top::lisfs;
+use std::alloc::{AllocError, Global};
+use std::test::Fail;
+
+/// How many bytes an image of `64 64 8` takes.
+const IMAGE_LEN: usize = 2_433_024;
+
+/// Room for the record of a session of some commands.
+const ROOM: u64 = 1 << 22;
+
+/// What a crash leaves of bytes that were not synced.
+static PICKS: [u8; 4] = [0, 1, 2, 165];
+
+// How a call of the program ended, and what was shown in it and before it.
+fn call(
+    alloc: Global,
+    words: &[&str],
+    row: &str,
+    station: &mut MemStation,
+) -> Result<Status, AllocError>
+    ensures recorded { (meaning_of station.new).is_recorded ≡ (meaning_of station.old).is_recorded }
+{
+    let mut owned = Vec::new(alloc);
+    for word in words {
+        owned.push(String::from_str(alloc, word)?)?;
+    }
+    let mut input = source(alloc, row, &SOUND)?;
+    Ok(lisfs(alloc, &owned, &mut input, station))
+}
+
+fn zeros(alloc: Global, len: usize) -> Result<Vec<u8>, AllocError> {
+    vec![in alloc; 0; len]
+}
+
+// The bytes of an image without words and files.
+fn fresh(alloc: Global) -> Result<Vec<u8>, Fail> {
+    let mut bytes = zeros(alloc, IMAGE_LEN)?;
+    let mut station = MemStation::new(alloc, &bytes, 0)?;
+    let status = call(alloc, &["make", "i", "64", "64", "8"], "", &mut station)?;
+    if status != Status::Done {
+        return Err("no image was made".into());
+    }
+    if (bytes.len() as u64) <= station.len() {
+        station.read_at(0, &mut bytes)?;
+    }
+    Ok(bytes)
+}
+
+// How a session over these bytes ends, and what it shows.
+fn session(alloc: Global, image: &[u8], row: &str) -> Result<(Status, String), AllocError> {
+    let mut station = MemStation::new(alloc, image, 0)?;
+    let status = call(alloc, &["run", "i"], row, &mut station)?;
+    Ok((status, row_of(alloc, station.shown())?))
+}
+
+#[test]
+fn images_show_what_plain_states_show(rt: HostRuntime) -> Result<(), Fail> {
+    let alloc = rt.alloc();
+    let image = fresh(alloc)?;
+    for (row, wanted) in FIRST_SESSIONS.iter().chain(SESSIONS.iter()) {
+        let (status, shown) = session(alloc, &image, row)?;
+        assert_eq!(rt; shown.as_str(), *wanted, "{row}");
+        assert_eq!(rt; status, Status::Done, "{row}");
+    }
+    Ok(())
+}
+
+#[test]
+fn words_and_images_are_judged(rt: HostRuntime) -> Result<(), Fail> {
+    let alloc = rt.alloc();
+    for (words, len, wanted) in &IMAGE_WORDS {
+        let mut station = MemStation::new(alloc, &zeros(alloc, *len)?, 0)?;
+        let status = call(alloc, words, "mkdir a;", &mut station)?;
+        assert_eq!(rt; status, *wanted, "{words:?}");
+        assert!(rt; station.shown().is_empty(), "{words:?}");
+    }
+    Ok(())
+}
+
+// A session with another limit, and what a second session shows of what it left.
+fn limited(
+    alloc: Global,
+    image: &[u8],
+    row: &str,
+    limit: u64,
+) -> Result<(Status, String, String), Fail> {
+    let mut station = MemStation::new(alloc, image, 0)?;
+    let Ok(mut store) = mount(alloc, &mut station) else {
+        return Err("the image was not opened".into());
+    };
+    if store.is_broken() {
+        return Err("the store is broken".into());
+    }
+    let mut payload = Payload::new(alloc)?;
+    let mut input = source(alloc, row, &SOUND)?;
+    let mut session = Session::new();
+    let status = serve(
+        alloc,
+        &mut store,
+        &mut session,
+        &mut payload,
+        &mut input,
+        &mut station,
+        limit.min(99),
+    );
+    let shown = row_of(alloc, station.shown())?;
+    let before = shown.len();
+    call(alloc, &["run", "i"], "ls;mkdir abc;mkdir abcd;", &mut station)?;
+    let all = row_of(alloc, station.shown())?;
+    Ok((status, shown, String::from_str(alloc, &all.as_str()[before..])?))
+}
+
+#[test]
+fn a_limit_ends_behind_the_items_that_are_whole(rt: HostRuntime) -> Result<(), Fail> {
+    let alloc = rt.alloc();
+    let image = fresh(alloc)?;
+    for (row, limit, wanted, shown, then) in &LIMITED_SESSIONS {
+        let seen = limited(alloc, &image, row, *limit)?;
+        assert_eq!(rt; seen.0, *wanted, "{row}");
+        assert_eq!(rt; seen.1.as_str(), *shown, "{row}");
+        assert_eq!(rt; seen.2.as_str(), *then, "{row}");
+    }
+    Ok(())
+}
+
+// The replies of the first command are shown whole or in part; the second command was carried out where the first reply was whole.
+#[test]
+fn a_failing_show_leaves_what_was_carried_out(rt: HostRuntime) -> Result<(), Fail> {
+    let alloc = rt.alloc();
+    let image = fresh(alloc)?;
+    let mut station = MemStation::new(alloc, &image, 0)?;
+    station.show_fails.push(2)?;
+    let status = call(alloc, &["run", "i"], "create a;create b;ls;", &mut station)?;
+    assert_eq!(rt; status, Status::OutputFault);
+    let shown = row_of(alloc, station.shown())?;
+    assert!(rt; "ok;".starts_with(shown.as_str()));
+    station.show_fails.clear();
+    let before = shown.len();
+    call(alloc, &["run", "i"], "ls;", &mut station)?;
+    let all = row_of(alloc, station.shown())?;
+    let left = if before == 3 { "f a;f b;ok;" } else { "f a;ok;" };
+    assert_eq!(rt; &all.as_str()[before..], left);
+    Ok(())
+}
+
+// The listing that a session over these bytes shows.
+fn listing(alloc: Global, image: &[u8]) -> Result<String, Fail> {
+    let (status, shown) = session(alloc, image, "ls;cat m;")?;
+    if status != Status::Done {
+        return Err("the image was not opened".into());
+    }
+    Ok(shown)
+}
+
+// How many replies these bytes hold whole.
+fn replies_in(shown: &[u8]) -> usize {
+    shown.iter().filter(|byte| **byte == b'\n').count()
+}
+
+// What a crash just after the call leaves is a state that the bytes shown by then allow.
+fn is_allowed(alloc: Global, station: &MemStation, call: u64, pick: u8) -> Result<bool, Fail>
+    requires { IsTrue (meaning_of station.now).is_recorded }
+{
+    if call > station.calls() {
+        return Err("there was no such call".into());
+    }
+    let shown_len = station.shown_at(call) as usize;
+    let image = station.crash(alloc, call, pick)?;
+    let left = listing(alloc, &image)?;
+    let Some(shown) = station.shown().get(..shown_len) else {
+        return Err("more was shown than there is".into());
+    };
+    let whole = replies_in(shown);
+    let next = (whole + 1).min(CRASHED_STATES.len() - 1);
+    Ok(left.as_str() == CRASHED_STATES[whole.min(next)] || left.as_str() == CRASHED_STATES[next])
+}
+
+#[test]
+fn a_crash_leaves_what_the_shown_bytes_allow(rt: HostRuntime) -> Result<(), Fail> {
+    let alloc = rt.alloc();
+    let image = fresh(alloc)?;
+    let mut station = MemStation::new(alloc, &image, ROOM)?;
+    call(alloc, &["run", "i"], "", &mut station)?;
+    let opened = station.calls();
+    let status = call(alloc, &["run", "i"], CRASHED_SESSION, &mut station)?;
+    assert_eq!(rt; status, Status::Done);
+    // The second opening makes as many calls as the first.
+    let start = opened.saturating_add(opened);
+    assert!(rt; start < station.calls());
+    for call in start..station.calls() {
+        for pick in &PICKS {
+            assert!(rt; is_allowed(alloc, &station, call, *pick)?, "the call {call} and {pick}");
+        }
+    }
+    Ok(())
+}
+
+// The call of the disk that fails, counted from the first one behind the opening; nothing is shown, and the state is the old one or
+// the new one.
+#[test]
+fn a_failing_sync_shows_nothing(rt: HostRuntime) -> Result<(), Fail> {
+    let alloc = rt.alloc();
+    let image = fresh(alloc)?;
+    let mut counting = MemStation::new(alloc, &image, 0)?;
+    call(alloc, &["run", "i"], "", &mut counting)?;
+    let opened = counting.calls();
+    for behind in 1..16 {
+        let mut station = MemStation::new(alloc, &image, 0)?;
+        station.fails.push(opened.saturating_add(behind))?;
+        let status = call(alloc, &["run", "i"], "mkdir a;", &mut station)?;
+        if status == Status::DiskFault {
+            assert!(rt; station.shown().is_empty(), "the call {behind}");
+        } else {
+            assert_eq!(rt; station.shown(), b"ok\n".as_slice(), "the call {behind}");
+        }
+        station.fails.clear();
+        let before = station.shown().len();
+        let again = call(alloc, &["run", "i"], "mkdir a;", &mut station)?;
+        assert_eq!(rt; again, Status::Done, "the call {behind}");
+        let all = row_of(alloc, station.shown())?;
+        let reply = &all.as_str()[before..];
+        assert!(rt; reply == "no 11 already declared;" || reply == "ok;", "the call {behind}");
+        assert!(rt; status == Status::DiskFault || reply != "ok;", "the call {behind}");
+    }
+    Ok(())
+}

@@ -1,0 +1,93 @@
+//! Showing the bytes of files.
+
+ghost use Rattle.std.specs.Prelude.{◌≡◌, ◌≢◌, ℕ, ◌*◌, ◌≤◌, ◌<◌, List, [], length, false, Some, Err, IsSomeAnd};
+ghost use Rattle.lis_ports.specs.Bytes.{part};
+ghost use Rattle.lis_catalog.specs.Catalog.{slot_of, rec_at};
+ghost use Rattle.lis_fields.specs.Records.{FileRecord};
+ghost use Rattle.lis_model.specs.Step.{bytes_of, cat};
+ghost use Rattle.lis_store.specs.Kept.{StoreFits};
+ghost use Rattle.lis_session.specs.declared.end.End.TheVariants.{NoMemory};
+ghost use Rattle.lis_session.specs.Parts.{only_shows, Does, Ends};
+
+use crate::end::End;
+use crate::replies::{answer_bytes, answer_refusal, answer_size};
+use lis_model::refusal::Refusal;
+use lis_place::Place;
+use lis_ports::{Failed, Station};
+use lis_store::Store;
+use lis_words::Name;
+use std::alloc::Global;
+
+/// How many bytes a data block has.
+const BLOCK_LEN: usize = 4_096;
+
+// Shows the n-th block of the file in the slot. The buffer has the length of a block.
+fn show_block<T: Station>(
+    store: &Store,
+    slot: u16,
+    size: u32,
+    n: u32,
+    block: &mut [u8],
+    station: &mut T,
+) -> Result<(), End>
+    requires size { IsSomeAnd (rec_at store.now.catalog slot) (λ (rec : FileRecord). size ≡ rec.size) }
+    requires within { 4096 * n < size }
+    requires whole { length block.old ≡ 4096 }
+    requires unbroken { store.now.journal.is_broken ≡ false }
+    requires long { 4096 * store.now.journal.blocks ≤ (T.meaning station.old).len }
+    ensures shows { (name : List ℕ) → slot_of store.now.catalog name ≡ Some slot
+        → Does (λ now. only_shows (part (4096 * n) 4096 (bytes_of now.state.files name)) now) (StoreFits store.now (T.meaning station.old)) []
+        (T.meaning station.old) (T.meaning station.new) result (StoreFits store.now (T.meaning station.new)) [] }
+    ensures ends { Ends (T.meaning station.old) (T.meaning station.new) result }
+    ensures memory { result ≢ Err NoMemory }
+    ensures whole { length block.new ≡ 4096 }
+{
+    if let Err(Failed) = store.content(station, slot, n, block) {
+        return Err(End::DiskFault);
+    }
+    let rest = size as usize - BLOCK_LEN * n as usize;
+    answer_bytes(station, &block[..rest.min(BLOCK_LEN)])
+}
+
+// Shows the bytes of the file in the slot, block by block.
+fn show_content<T: Station>(store: &Store, slot: u16, size: u32, station: &mut T) -> Result<(), End>
+    requires size { IsSomeAnd (rec_at store.now.catalog slot) (λ (rec : FileRecord). size ≡ rec.size) }
+    requires unbroken { store.now.journal.is_broken ≡ false }
+    requires long { 4096 * store.now.journal.blocks ≤ (T.meaning station.old).len }
+    ensures shows { (name : List ℕ) → slot_of store.now.catalog name ≡ Some slot
+        → Does (λ now. only_shows (bytes_of now.state.files name) now) (StoreFits store.now (T.meaning station.old)) []
+        (T.meaning station.old) (T.meaning station.new) result (StoreFits store.now (T.meaning station.new)) [] }
+    ensures ends { Ends (T.meaning station.old) (T.meaning station.new) result }
+    ensures memory { result ≢ Err NoMemory }
+{
+    let mut block = [0; BLOCK_LEN];
+    for n in 0..size.div_ceil(BLOCK_LEN as u32) {
+        show_block(store, slot, size, n, &mut block, station)?;
+    }
+    Ok(())
+}
+
+/// Shows the file of that name: its size, its bytes, and a line feed behind them.
+pub fn cat<T: Station>(
+    alloc: Global,
+    store: &Store,
+    place: &Place,
+    name: &Name,
+    station: &mut T,
+) -> Result<(), End>
+    requires unbroken { store.now.journal.is_broken ≡ false }
+    requires long { 4096 * store.now.journal.blocks ≤ (T.meaning station.old).len }
+    ensures carries { Does (λ now. cat now name.now) (StoreFits store.now (T.meaning station.old)) place.now
+        (T.meaning station.old) (T.meaning station.new) result (StoreFits store.now (T.meaning station.new)) place.now }
+    ensures ends { Ends (T.meaning station.old) (T.meaning station.new) result }
+{
+    // The limits tell that the store is sound, so that a slot that it finds has a record.
+    let _limits = store.limits();
+    let Some(slot) = store.slot_here(alloc, place, name)? else {
+        return answer_refusal(station, &Refusal::NoFileHere);
+    };
+    let size = store.size_of(slot);
+    answer_size(station, size)?;
+    show_content(store, slot, size, station)?;
+    answer_bytes(station, b"\nok\n")
+}

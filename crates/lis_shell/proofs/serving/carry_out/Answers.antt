@@ -1,0 +1,78 @@
+use Rattle.std.proofs.Common.{◌≡◌, sym, ◌∙◌, refl, arith}
+use Rattle.lis_line.proofs.Answered.{few_said}
+use Rattle.lis_store.specs.Kept.{StoreFits}
+use Rattle.lis_session.proofs.Fitting.{store_fits_at}
+use Rattle.lis_session.proofs.Going.{so_far_none, so_far_more, item_read, ends_failed, ends_disk, ends_output, ends_memory}
+use Rattle.lis_shell.proofs.Going.{asks_some}
+use Rattle.lis_shell.proofs.Served.{ends_said}
+use Rattle.lis_shell.proofs.serving.carry_out.Goals as goal
+
+pub loop-item-init : goal.loop-item-init
+loop-item-init g c = record {
+  unbroken = c.requires.unbroken;
+  long = c.requires.long;
+  so_far = so_far_none c.new-reader.ensures;
+  disk_faults = refl;
+  input_faults = refl;
+  show_faults = refl;
+}
+
+pub returns-in-Err-clause-few : goal.returns-in-Err-clause-few
+returns-in-Err-clause-few g c =
+    few_said c.args.limit _ (g.S.Source.left c.loop-item.input) _ c.loop-item.reader c.next.new.self c.loop-item.invariant.so_far.first c.next.new.payload c.next.result
+    c.loop-item.invariant.so_far.read c.next.ensures.says c.next.ensures.few
+
+pub returns-in-Err-clause-serves : goal.returns-in-Err-clause-serves
+returns-in-Err-clause-serves g c = λ state bytes fits told.
+    ends_failed bytes c.in-Err.field-0 state c.loop-item.invariant.so_far told c.next.ensures.says c.in-Err.is (store_fits_at fits)
+
+pub returns-in-Some-clause-few : goal.returns-in-Some-clause-few
+returns-in-Some-clause-few g c =
+    few_said c.args.limit _ (g.S.Source.left c.loop-item.input) _ c.loop-item.reader c.next.new.self c.loop-item.invariant.so_far.first c.next.new.payload c.next.result
+    c.loop-item.invariant.so_far.read c.next.ensures.says c.next.ensures.few
+
+pub returns-in-Some-clause-serves : goal.returns-in-Some-clause-serves
+returns-in-Some-clause-serves g c = λ state bytes fits told.
+    ends_said c.in-Ok.item c.in-Some.status bytes state c.loop-item.invariant.so_far told c.next.ensures.says c.in-Ok.is (sym c.in-Some.ensures) (store_fits_at fits)
+
+pub loop-item-preserved : goal.loop-item-preserved
+loop-item-preserved g c =
+    let read = item_read c.loop-item.invariant.so_far c.next.ensures.says c.in-Ok.is c.next.ensures.few (asks_some c.in-Ok.item c.next.new.payload (sym c.in-None.ensures)) in
+    record {
+      unbroken = c.in-Ok-step.ensures.left.unbroken (λ e. cc);
+      long = omega (arith, c.in-Ok-step.ensures.left.image, c.in-Ok-step.ensures.len, c.loop-item.invariant.long);
+      so_far = so_far_more c.in-Ok-step.field-0 read c.in-Ok-step.ensures.carries;
+      disk_faults = c.in-Ok-step.ensures.cause.0 ∙ c.loop-item.invariant.disk_faults;
+      input_faults = c.in-Ok.ensures.cause.stays ∙ c.loop-item.invariant.input_faults;
+      show_faults = c.in-Ok-step.ensures.cause.1 ∙ c.loop-item.invariant.show_faults;
+    }
+
+pub returns-in-Err-DiskFault-clause-few : goal.returns-in-Err-DiskFault-clause-few
+returns-in-Err-DiskFault-clause-few g c =
+    few_said c.args.limit _ (g.S.Source.left c.loop-item.input) _ c.loop-item.reader c.next.new.self c.loop-item.invariant.so_far.first c.next.new.payload c.next.result
+    c.loop-item.invariant.so_far.read c.next.ensures.says c.next.ensures.few
+
+pub returns-in-Err-DiskFault-clause-serves : goal.returns-in-Err-DiskFault-clause-serves
+returns-in-Err-DiskFault-clause-serves g c = λ state bytes fits told.
+    let read = item_read c.loop-item.invariant.so_far c.next.ensures.says c.in-Ok.is c.next.ensures.few (asks_some c.in-Ok.item c.next.new.payload (sym c.in-None.ensures)) in
+    ends_disk (StoreFits c.step.new.store (g.T.Disk.meaning c.step.new.station)) c.step.new.self bytes state read told (rw c.in-Err-DiskFault.field-0-is at c.in-Err-DiskFault.ensures.carries) (store_fits_at fits)
+
+pub returns-in-Err-OutputFault-clause-few : goal.returns-in-Err-OutputFault-clause-few
+returns-in-Err-OutputFault-clause-few g c =
+    few_said c.args.limit _ (g.S.Source.left c.loop-item.input) _ c.loop-item.reader c.next.new.self c.loop-item.invariant.so_far.first c.next.new.payload c.next.result
+    c.loop-item.invariant.so_far.read c.next.ensures.says c.next.ensures.few
+
+pub returns-in-Err-OutputFault-clause-serves : goal.returns-in-Err-OutputFault-clause-serves
+returns-in-Err-OutputFault-clause-serves g c = λ state bytes fits told.
+    let read = item_read c.loop-item.invariant.so_far c.next.ensures.says c.in-Ok.is c.next.ensures.few (asks_some c.in-Ok.item c.next.new.payload (sym c.in-None.ensures)) in
+    ends_output (StoreFits c.step.new.store (g.T.Disk.meaning c.step.new.station)) c.step.new.self bytes state read told (rw c.in-Err-OutputFault.field-0-is at c.in-Err-OutputFault.ensures.carries) (store_fits_at fits)
+
+pub returns-in-Err-NoMemory-clause-few : goal.returns-in-Err-NoMemory-clause-few
+returns-in-Err-NoMemory-clause-few g c =
+    few_said c.args.limit _ (g.S.Source.left c.loop-item.input) _ c.loop-item.reader c.next.new.self c.loop-item.invariant.so_far.first c.next.new.payload c.next.result
+    c.loop-item.invariant.so_far.read c.next.ensures.says c.next.ensures.few
+
+pub returns-in-Err-NoMemory-clause-serves : goal.returns-in-Err-NoMemory-clause-serves
+returns-in-Err-NoMemory-clause-serves g c = λ state bytes fits told.
+    let read = item_read c.loop-item.invariant.so_far c.next.ensures.says c.in-Ok.is c.next.ensures.few (asks_some c.in-Ok.item c.next.new.payload (sym c.in-None.ensures)) in
+    ends_memory (StoreFits c.step.new.store (g.T.Disk.meaning c.step.new.station)) c.step.new.self bytes state read told (rw c.in-Err-NoMemory.field-0-is at c.in-Err-NoMemory.ensures.carries) (store_fits_at fits)

@@ -1,0 +1,102 @@
+-- How a session over an image ends, and a run of the program on an image.
+use Rattle.std.specs.Prelude.{◌≡◌, ◌⊎◌, ℕ, ◌≤◌, ◌<◌, List, Option, Some, IsTrue}
+use Rattle.std.specs.Io.KnownBytes.{IsAtEnd}
+use Rattle.lis_ports.specs.Meaning.{Meaning}
+use Rattle.lis_ports.specs.Calls.{Rose, IsUnchanged}
+use Rattle.lis_model.specs.declared.limits.Limits.{Limits}
+use Rattle.lis_model.specs.declared.spot.Spot.{Spot}
+use Rattle.lis_model.specs.State.{State}
+use Rattle.lis_model.specs.Step.{Situation}
+use Rattle.lis_model.specs.Script.{all_items, script}
+use Rattle.lis_store.specs.Stands.{Stands}
+use Rattle.lis_open.specs.Opens.{HasSuper, IsNeeded, IsLongEnough}
+use Rattle.lis_session.specs.Session.{root_of}
+use Rattle.lis_session.specs.Runs.{Carried, CarriedAll, CarriedToLimit, CarriedWhole, CarriedFirst, StopsAt}
+use Rattle.lis_shell.specs.Causes.{Counts}
+use Rattle.lis_shell.specs.declared.status.Status.{Status}
+use Rattle.lis_shell.specs.declared.status.Status.TheVariants.{Done, Usage, NotAnImage, TooShort, DiskFault, InputFault, OutputFault, InputLimit, NoMemory}
+
+-- the statuses of a session over an image
+abbrev pub IsSessionStatus : Status → Type 0
+IsSessionStatus Done = Unit {0}
+IsSessionStatus Usage = ⊥
+IsSessionStatus (NotAnImage spot) = ⊥
+IsSessionStatus (TooShort len need) = ⊥
+IsSessionStatus DiskFault = Unit {0}
+IsSessionStatus InputFault = Unit {0}
+IsSessionStatus OutputFault = Unit {0}
+IsSessionStatus InputLimit = Unit {0}
+IsSessionStatus NoMemory = Unit {0}
+
+-- How it ended, by the status, where the source had these bytes left. After a fault of the disk the moments tell what stands.
+abbrev pub Served : Situation → ℕ → List ℕ → Option (List ℕ) → Option (List ℕ) → Meaning → Status → Type 0
+Served start limit bytes left before new Done = CarriedAll start limit bytes left before new
+Served start limit bytes left before new InputLimit = CarriedToLimit start limit bytes before new
+Served start limit bytes left before new InputFault = CarriedWhole start limit bytes left before new
+Served start limit bytes left before new OutputFault = StopsAt start (script bytes limit) before new
+Served start limit bytes left before new NoMemory = CarriedFirst start (script bytes limit) before new
+Served start limit bytes left before new DiskFault = Unit {0}
+Served start limit bytes left before new Usage = ⊥
+Served start limit bytes left before new (NotAnImage spot) = ⊥
+Served start limit bytes left before new (TooShort len need) = ⊥
+
+-- A run: a session from the root. There may be no memory at its opening, and then nothing was read or shown.
+abbrev pub Ran : State → ℕ → List ℕ → Option (List ℕ) → Option (List ℕ) → Meaning → Status → Type 0
+Ran state limit bytes left before new Done = CarriedAll (root_of state) limit bytes left before new
+Ran state limit bytes left before new InputLimit = CarriedToLimit (root_of state) limit bytes before new
+Ran state limit bytes left before new InputFault = CarriedWhole (root_of state) limit bytes left before new
+Ran state limit bytes left before new OutputFault = StopsAt (root_of state) (script bytes limit) before new
+Ran state limit bytes left before new NoMemory =
+    ((new.shown ≡ before) × (left ≡ Some bytes) × Stands new.bytes state) ⊎ CarriedFirst (root_of state) (script bytes limit) before new
+Ran state limit bytes left before new DiskFault = Unit {0}
+Ran state limit bytes left before new Usage = ⊥
+Ran state limit bytes left before new (NotAnImage spot) = ⊥
+Ran state limit bytes left before new (TooShort len need) = ⊥
+
+-- The station is honest, its image stands for the state, and the source tells what it has left.
+pub record Entry (m : Meaning) (left : Option (List ℕ)) (state : State) (bytes : List ℕ) : Type 0 where
+  pub honest : IsTrue m.is_honest
+  pub stands : Stands m.bytes state
+  pub told : left ≡ Some bytes
+
+-- no count of faults rose
+pub record NoFault (old new : Counts) : Type 0 where
+  pub disk : Rose old.disk new.disk → ⊥
+  pub input : Rose old.input new.input → ⊥
+  pub show : Rose old.show new.show → ⊥
+
+-- Every item was carried out and its reply shown, or there was no memory.
+abbrev pub IsComplete : State → ℕ → List ℕ → Option (List ℕ) → Option (List ℕ) → Meaning → Status → Type 0
+IsComplete state limit bytes left before new Done = IsAtEnd left × Carried (root_of state) (all_items bytes) before new
+IsComplete state limit bytes left before new NoMemory = Ran state limit bytes left before new NoMemory
+IsComplete state limit bytes left before new Usage = ⊥
+IsComplete state limit bytes left before new (NotAnImage spot) = ⊥
+IsComplete state limit bytes left before new (TooShort len need) = ⊥
+IsComplete state limit bytes left before new DiskFault = ⊥
+IsComplete state limit bytes left before new InputFault = ⊥
+IsComplete state limit bytes left before new OutputFault = ⊥
+IsComplete state limit bytes left before new InputLimit = ⊥
+
+-- The answers of opening, exactly: too short; long enough and standing for no state; or opened, where it stands for one.
+abbrev pub IsJudged : Meaning → Status → Type 0
+IsJudged m Done = IsLongEnough m × ((s : State) × Stands m.bytes s)
+IsJudged m InputLimit = IsLongEnough m × ((s : State) × Stands m.bytes s)
+IsJudged m InputFault = IsLongEnough m × ((s : State) × Stands m.bytes s)
+IsJudged m OutputFault = IsLongEnough m × ((s : State) × Stands m.bytes s)
+IsJudged m (NotAnImage spot) = IsLongEnough m × ((s : State) → Stands m.bytes s → ⊥)
+IsJudged m (TooShort len need) = (len ≡ m.len) × (len < need) × IsNeeded m.bytes need
+IsJudged m NoMemory = IsLongEnough m × ((limits : Limits) × HasSuper limits m.bytes)
+IsJudged m DiskFault = Unit {0}
+IsJudged m Usage = ⊥
+
+-- what an answer of a run leaves alone: `untouched` says that no input was taken
+abbrev pub IsIdle : Type 0 → Meaning → Meaning → Status → Type 0
+IsIdle untouched old new (NotAnImage spot) = untouched × (new.shown ≡ old.shown)
+IsIdle untouched old new (TooShort len need) = untouched × (new.shown ≡ old.shown) × (IsTrue old.is_honest → IsUnchanged old new)
+IsIdle untouched old new Usage = ⊥
+IsIdle untouched old new Done = Unit {0}
+IsIdle untouched old new DiskFault = Unit {0}
+IsIdle untouched old new InputFault = Unit {0}
+IsIdle untouched old new OutputFault = Unit {0}
+IsIdle untouched old new InputLimit = Unit {0}
+IsIdle untouched old new NoMemory = Unit {0}
