@@ -15,3 +15,6 @@ mod Counts
 mod Told
 mod Order
 mod Parts
+mod Once
+mod Damage
+mod Opening

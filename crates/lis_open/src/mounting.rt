@@ -1,14 +1,18 @@
 //! Opening an image.
 
-ghost use Rattle.std.specs.Prelude.{◌≡◌, ◌⊎◌, ◌*◌, ◌≤◌, ◌<◌, ℕ, List, IsTrue, IfOk, Err, Ok};
+ghost use Rattle.std.specs.Prelude.{◌≡◌, ◌⊎◌, ◌*◌, ◌≤◌, ◌<◌, ℕ, List, false, IsTrue, IfOk, Err, Ok};
 ghost use Rattle.lis_ports.specs.Runs.{IsDiskRun, Leaves};
 ghost use Rattle.lis_journal.specs.Images.{KeepsPast};
 ghost use Rattle.lis_journal.specs.Recovery.{IsSettledPast};
 ghost use Rattle.lis_model.specs.Image.{image_blocks};
 ghost use Rattle.lis_model.specs.State.{State};
 ghost use Rattle.lis_store.specs.Stands.{Stands};
+ghost use Rattle.lis_model.specs.Ranges.{are_in_range};
 ghost use Rattle.lis_open.specs.Opens.{HasOpenCause, OpenEnded};
-ghost use Rattle.lis_open.specs.declared.mounting.OpenFault.TheVariants.{TooShort, DiskFault as DiskFailed};
+ghost use Rattle.lis_open.specs.Checks.{FailsFirst};
+ghost use Rattle.lis_open.specs.Reading.{OnlyReads, SuperRead};
+ghost use Rattle.lis_open.specs.declared.mounting.OpenFault.TheVariants.{TooShort, Damaged, DiskFault as DiskFailed};
+ghost use Rattle.lis_model.specs.declared.spot.Spot.{Spot as SpotOf};
 
 use crate::reading::read_store;
 use lis_fields::read_super;
@@ -73,7 +77,13 @@ impl From<JournalFault> for OpenFault {
 }
 
 // Reads the limits of the super block.
-fn read_limits<D: Disk>(disk: &mut D) -> Result<Limits, OpenFault> {
+fn read_limits<D: Disk>(disk: &mut D) -> Result<Limits, OpenFault>
+    requires { 4096 ≤ (D.meaning disk.old).len }
+    ensures reads { OnlyReads (D.meaning disk.old) (D.meaning disk.new) }
+    ensures cause { HasOpenCause (D.meaning disk.old).disk_faults (D.meaning disk.new).disk_faults result }
+    ensures range { IfOk result (λ limits. IsTrue (are_in_range limits)) }
+    ensures ended { IsTrue (D.meaning disk.old).is_honest → SuperRead (D.meaning disk.old).bytes result }
+{
     let mut block = [0; BLOCK_LEN];
     disk.read_at(0, &mut block)?;
     match read_super(&block) {
@@ -87,6 +97,9 @@ pub fn mount<D: Disk>(alloc: Global, disk: &mut D) -> Result<Store, OpenFault>
     ensures run { IsDiskRun (D.meaning disk.old) (D.meaning disk.new) }
     ensures cause { HasOpenCause (D.meaning disk.old).disk_faults (D.meaning disk.new).disk_faults result }
     ensures ended { IsTrue (D.meaning disk.old).is_honest → OpenEnded (D.meaning disk.old) (D.meaning disk.new) result }
+
+    // The spot is that of the first check that fails.
+    ensures spot { (spot : SpotOf) → result ≡ Err (Damaged spot) → IsTrue (D.meaning disk.old).is_honest → FailsFirst (D.meaning disk.old).bytes spot }
 
     // What is shorter than a super block is not read.
     ensures small { (D.meaning disk.old).len < 4096
