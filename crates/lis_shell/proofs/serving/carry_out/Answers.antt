@@ -1,4 +1,4 @@
-use Rattle.std.proofs.Common.{◌≡◌, sym, ◌∙◌, refl, arith}
+use Rattle.std.proofs.Common.{sym, ◌∙◌, refl, arith}
 use Rattle.lis_line.proofs.Answered.{few_said}
 use Rattle.lis_store.specs.Kept.{StoreFits}
 use Rattle.lis_session.proofs.Fitting.{store_fits_at}
