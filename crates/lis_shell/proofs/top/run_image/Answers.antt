@@ -11,9 +11,9 @@ use Rattle.lis_shell.proofs.top.run_image.Goals as goal
 
 pub returns-in-Err-TooShort-clause-runs : goal.returns-in-Err-TooShort-clause-runs
 returns-in-Err-TooShort-clause-runs g c = λ state bytes entry.
-    let old = g.T.Disk.meaning c.args.station.now in
     let ended = rw c.in-Err-TooShort.field-0-is at (c.in-Err-TooShort.ensures.ended entry.honest) in
-    absurd (not_short old state c.in-Err-TooShort.len c.in-Err-TooShort.need (g.met.T.Disk.reads_len c.args.station.now entry.honest) entry.stands ended.0 ended.1 ended.2)
+    run_none state (script bytes 1099511627776) ⊥ (c.in-Err-TooShort.ensures.any_moment state entry.honest entry.stands)
+    (not_short (g.T.Disk.meaning c.args.station.now) state c.in-Err-TooShort.len c.in-Err-TooShort.need (g.met.T.Disk.reads_len c.args.station.now entry.honest) entry.stands ended.0 ended.1 ended.2)
 
 pub returns-in-Err-Damaged-clause-judged : goal.returns-in-Err-Damaged-clause-judged
 returns-in-Err-Damaged-clause-judged g c = λ honest. rw c.in-Err-Damaged.field-0-is at (c.in-Err-Damaged.ensures.ended honest)
