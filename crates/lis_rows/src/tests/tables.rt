@@ -168,7 +168,7 @@ pub static LONG_LINES: [(usize, &str, &str); 4] = [
     (1_023, "^;", "no 01 bad line;"),
 ];
 
-pub static WRONG_WORDS: [&[&str]; 24] = [
+pub static WRONG_WORDS: [&[&str]; 30] = [
     &[],
     &["try"],
     &["try", "64", "64"],
@@ -191,8 +191,14 @@ pub static WRONG_WORDS: [&[&str]; 24] = [
     &["", "64", "64", "8"],
     &["64", "64", "8"],
     &["64", "64", "8", "try"],
-    &["run", "x"],
     &["run"],
+    &["run", "x", "y"],
+    &["Run", "x"],
+    &["make", "x"],
+    &["make", "64", "64", "8"],
+    &["make", "x", "64", "65", "8"],
+    &["make", "x", "64", "64", "8", "9"],
+    &["try", "x", "64", "64", "8"],
 ];
 
 pub static RIGHT_WORDS: [&[&str]; 4] = [
