@@ -14,6 +14,7 @@ loop-item-init g c = record {
   so_far = so_far_none c.new-reader.ensures;
   disk_faults = refl;
   input_faults = refl;
+  recorded = refl;
   show_faults = refl;
 }
 
@@ -44,6 +45,7 @@ loop-item-preserved g c =
       so_far = so_far_more c.in-Ok-step.field-0 read c.in-Ok-step.ensures.carries;
       disk_faults = c.in-Ok-step.ensures.cause.0 ∙ c.loop-item.invariant.disk_faults;
       input_faults = c.in-Ok.ensures.cause.stays ∙ c.loop-item.invariant.input_faults;
+      recorded = c.in-Ok-step.ensures.recorded ∙ c.loop-item.invariant.recorded;
       show_faults = c.in-Ok-step.ensures.cause.1 ∙ c.loop-item.invariant.show_faults;
     }
 
