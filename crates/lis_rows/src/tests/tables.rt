@@ -362,7 +362,8 @@ pub static LIMITED_SESSIONS: [(&str, u64, Status, &str, &str); 2] = [
 ];
 
 /// Eight commands, each of which changes the state.
-pub static CRASHED_SESSION: &str = "mkdir music;mkdir year:;create s1 music year:2003;add m 5 music;hello;create t;rm s1;add s1 3 year:1999;abc;rm m;";
+pub static CRASHED_SESSION: &str =
+    "mkdir music;mkdir year:;create s1 music year:2003;add m 5 music;hello;create t;rm s1;add s1 3 year:1999;abc;rm m;";
 
 /// What `ls;cat m;` shows after so many of them.
 pub static CRASHED_STATES: [&str; 9] = [
