@@ -21,3 +21,7 @@ pub needs_no_more : (image : List ℕ) (s : State) (need : ℕ) → Stands image
 unfolding Stands
 needs_no_more image s need stands (inl one) = omega (arith, one, stands.long)
 needs_no_more image s need stands (inr told) = omega (arith, ap image_blocks (limits_told image s told.0 stands told.1), told.2, stands.long)
+
+pub has_super : (image : List ℕ) (s : State) → Stands image s → HasSuper s.limits image
+unfolding Stands
+has_super image s stands = record { range = stands.spells.formed.limits; spelled = stands.super }

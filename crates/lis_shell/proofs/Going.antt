@@ -1,5 +1,5 @@
 -- A session on the way, and how it ends.
-use Rattle.std.proofs.Common.{◌≡◌, ℕ, ◌+◌, ◌≤◌, List, [], ◌∷◌, ◌++◌, length, Option, Some, None, Result, Ok, Err, ap, sym, subst, ◌∙◌, refl, append_assoc, append-nil}
+use Rattle.std.proofs.Common.{◌≡◌, ℕ, ◌≤◌, List, [], ◌∷◌, ◌++◌, length, Option, Some, None, Result, Ok, Err, ap, sym, subst, ◌∙◌, refl, append_assoc, append-nil}
 use Rattle.std.specs.Io.KnownBytes.{append_known}
 use Rattle.std.specs.Option.{IfSome}
 use Rattle.lis_ports.specs.Shown.{AppendsFront}
@@ -13,7 +13,6 @@ use Rattle.lis_line.specs.Reading.{Reading, fresh, Says, asked_by}
 use Rattle.lis_line.proofs.Given.{ReadSoFar, read_none, script_front}
 use Rattle.lis_line.proofs.Answered.{ItemTaken, item_taken, all_taken, limit_taken, whole_taken}
 use Rattle.lis_plain.specs.Carries.{Carries}
-use Rattle.lis_plain.specs.declared.end.PlainEnd.{PlainEnd}
 use Rattle.lis_plain.specs.declared.end.PlainEnd.TheVariants.{OutputFault, NoMemory}
 use Rattle.lis_shell.specs.declared.status.Status.{Status}
 use Rattle.lis_shell.specs.declared.status.Status.TheVariants as status

@@ -1,3 +1,4 @@
 mod Forms
 mod Going
 mod Served
+mod Opened

@@ -2,7 +2,6 @@
 use Rattle.std.specs.Prelude.{◌≡◌, ℕ}
 use Rattle.lis_ports.specs.Meaning.{Meaning}
 use Rattle.lis_ports.specs.Calls.{Rose}
-use Rattle.lis_model.specs.declared.spot.Spot.{Spot}
 use Rattle.lis_shell.specs.declared.status.Status.{Status}
 use Rattle.lis_shell.specs.declared.status.Status.TheVariants.{Done, Usage, NotAnImage, TooShort, DiskFault, InputFault, OutputFault, InputLimit, NoMemory}
 

@@ -2,7 +2,6 @@
 use Rattle.std.specs.Prelude.{◌≡◌, ℕ, ◌<◌, ◌≤◌, List, ◌∷◌, ◌++◌, length, Option, Some, None}
 use Rattle.std.specs.Io.KnownBytes.{append_known, Consumes, IsAtEnd}
 use Rattle.lis_ports.specs.Shown.{AppendsFront}
-use Rattle.lis_model.specs.declared.spot.Spot.{Spot}
 use Rattle.lis_model.specs.Step.{Situation, Item, step, replies, situation_after}
 use Rattle.lis_model.specs.Script.{script, whole_items}
 use Rattle.lis_line.specs.declared.reader.Item.{Item as Said}

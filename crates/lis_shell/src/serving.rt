@@ -33,6 +33,7 @@ fn carry_out<S: Source, T: Station>(
     requires unbroken { store.old.journal.is_broken ≡ false }
     requires long { 4096 * store.old.journal.blocks ≤ (T.meaning station.old).len }
     ensures only { IsSessionStatus result }
+    ensures recorded { (T.meaning station.new).is_recorded ≡ (T.meaning station.old).is_recorded }
     ensures cause { HasStatusCause (counts (T.meaning station.old) (S.faults input.old)) (counts (T.meaning station.new) (S.faults input.new)) result }
     ensures few { TakesFew limit (S.left input.old) (S.left input.new) }
     ensures serves { (state : State) (bytes : List ℕ) → StoreFits store.old (T.meaning station.old) state → S.left input.old ≡ Some bytes
@@ -76,6 +77,7 @@ pub fn serve<S: Source, T: Station>(
     requires unbroken { store.old.journal.is_broken ≡ false }
     requires long { 4096 * store.old.journal.blocks ≤ (T.meaning station.old).len }
     ensures only { IsSessionStatus result }
+    ensures recorded { (T.meaning station.new).is_recorded ≡ (T.meaning station.old).is_recorded }
     ensures cause { HasStatusCause (counts (T.meaning station.old) (S.faults input.old)) (counts (T.meaning station.new) (S.faults input.new)) result }
     ensures few { TakesFew limit (S.left input.old) (S.left input.new) }
     ensures serves { (state : State) (bytes : List ℕ) → StoreFits store.old (T.meaning station.old) state → S.left input.old ≡ Some bytes

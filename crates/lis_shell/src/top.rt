@@ -81,6 +81,7 @@ fn make_image<T: Station>(limits: &Limits, station: &mut T) -> Status
 // Opens the image, and carries out the items of the input on it.
 fn run_image<S: Source, T: Station>(alloc: Global, input: &mut S, station: &mut T) -> Status
     ensures used { result ≢ Status.Usage }
+    ensures recorded { (T.meaning station.new).is_recorded ≡ (T.meaning station.old).is_recorded }
     ensures cause { HasStatusCause (counts (T.meaning station.old) (S.faults input.old)) (counts (T.meaning station.new) (S.faults input.new)) result }
     ensures few { TakesFew (2 ^ 40) (S.left input.old) (S.left input.new) }
     ensures runs { (state : State) (bytes : List ℕ) → Entry (T.meaning station.old) (S.left input.old) state bytes
@@ -128,6 +129,7 @@ pub fn lisfs<S: Source, T: Station>(
 ) -> Status
     ensures usage { (result ≡ Status.Usage) ↔ (task_of (map string_bytes words.now) ≡ None) }
     ensures unused { result ≡ Status.Usage → (input.new ≡ input.old) × (station.new ≡ station.old) }
+    ensures recorded { (T.meaning station.new).is_recorded ≡ (T.meaning station.old).is_recorded }
     ensures cause { HasStatusCause (counts (T.meaning station.old) (S.faults input.old)) (counts (T.meaning station.new) (S.faults input.new)) result }
     ensures few { TakesFew (2 ^ 40) (S.left input.old) (S.left input.new) }
 

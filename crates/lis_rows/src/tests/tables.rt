@@ -168,7 +168,7 @@ pub static LONG_LINES: [(usize, &str, &str); 4] = [
     (1_023, "^;", "no 01 bad line;"),
 ];
 
-pub static WRONG_WORDS: [&[&str]; 24] = [
+pub static WRONG_WORDS: [&[&str]; 30] = [
     &[],
     &["try"],
     &["try", "64", "64"],
@@ -191,8 +191,14 @@ pub static WRONG_WORDS: [&[&str]; 24] = [
     &["", "64", "64", "8"],
     &["64", "64", "8"],
     &["64", "64", "8", "try"],
-    &["run", "x"],
     &["run"],
+    &["run", "x", "y"],
+    &["Run", "x"],
+    &["make", "x"],
+    &["make", "64", "64", "8"],
+    &["make", "x", "64", "65", "8"],
+    &["make", "x", "64", "64", "8", "9"],
+    &["try", "x", "64", "64", "8"],
 ];
 
 pub static RIGHT_WORDS: [&[&str]; 4] = [
@@ -356,7 +362,8 @@ pub static LIMITED_SESSIONS: [(&str, u64, Status, &str, &str); 2] = [
 ];
 
 /// Eight commands, each of which changes the state.
-pub static CRASHED_SESSION: &str = "mkdir music;mkdir year:;create s1 music year:2003;add m 5 music;hello;create t;rm s1;add s1 3 year:1999;abc;rm m;";
+pub static CRASHED_SESSION: &str =
+    "mkdir music;mkdir year:;create s1 music year:2003;add m 5 music;hello;create t;rm s1;add s1 3 year:1999;abc;rm m;";
 
 /// What `ls;cat m;` shows after so many of them.
 pub static CRASHED_STATES: [&str; 9] = [

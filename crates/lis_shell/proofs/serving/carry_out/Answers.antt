@@ -1,4 +1,4 @@
-use Rattle.std.proofs.Common.{◌≡◌, sym, ◌∙◌, refl, arith}
+use Rattle.std.proofs.Common.{sym, ◌∙◌, refl, arith}
 use Rattle.lis_line.proofs.Answered.{few_said}
 use Rattle.lis_store.specs.Kept.{StoreFits}
 use Rattle.lis_session.proofs.Fitting.{store_fits_at}
@@ -14,6 +14,7 @@ loop-item-init g c = record {
   so_far = so_far_none c.new-reader.ensures;
   disk_faults = refl;
   input_faults = refl;
+  recorded = refl;
   show_faults = refl;
 }
 
@@ -44,6 +45,7 @@ loop-item-preserved g c =
       so_far = so_far_more c.in-Ok-step.field-0 read c.in-Ok-step.ensures.carries;
       disk_faults = c.in-Ok-step.ensures.cause.0 ∙ c.loop-item.invariant.disk_faults;
       input_faults = c.in-Ok.ensures.cause.stays ∙ c.loop-item.invariant.input_faults;
+      recorded = c.in-Ok-step.ensures.recorded ∙ c.loop-item.invariant.recorded;
       show_faults = c.in-Ok-step.ensures.cause.1 ∙ c.loop-item.invariant.show_faults;
     }
 
@@ -55,7 +57,7 @@ returns-in-Err-DiskFault-clause-few g c =
 pub returns-in-Err-DiskFault-clause-serves : goal.returns-in-Err-DiskFault-clause-serves
 returns-in-Err-DiskFault-clause-serves g c = λ state bytes fits told.
     let read = item_read c.loop-item.invariant.so_far c.next.ensures.says c.in-Ok.is c.next.ensures.few (asks_some c.in-Ok.item c.next.new.payload (sym c.in-None.ensures)) in
-    ends_disk (StoreFits c.step.new.store (g.T.Disk.meaning c.step.new.station)) c.step.new.self bytes state read told (rw c.in-Err-DiskFault.field-0-is at c.in-Err-DiskFault.ensures.carries) (store_fits_at fits)
+    ends_disk {new = g.T.Disk.meaning c.step.new.station} (StoreFits c.step.new.store (g.T.Disk.meaning c.step.new.station)) c.step.new.self bytes state read told (rw c.in-Err-DiskFault.field-0-is at c.in-Err-DiskFault.ensures.carries) (store_fits_at fits)
 
 pub returns-in-Err-OutputFault-clause-few : goal.returns-in-Err-OutputFault-clause-few
 returns-in-Err-OutputFault-clause-few g c =
@@ -65,7 +67,7 @@ returns-in-Err-OutputFault-clause-few g c =
 pub returns-in-Err-OutputFault-clause-serves : goal.returns-in-Err-OutputFault-clause-serves
 returns-in-Err-OutputFault-clause-serves g c = λ state bytes fits told.
     let read = item_read c.loop-item.invariant.so_far c.next.ensures.says c.in-Ok.is c.next.ensures.few (asks_some c.in-Ok.item c.next.new.payload (sym c.in-None.ensures)) in
-    ends_output (StoreFits c.step.new.store (g.T.Disk.meaning c.step.new.station)) c.step.new.self bytes state read told (rw c.in-Err-OutputFault.field-0-is at c.in-Err-OutputFault.ensures.carries) (store_fits_at fits)
+    ends_output {new = g.T.Disk.meaning c.step.new.station} (StoreFits c.step.new.store (g.T.Disk.meaning c.step.new.station)) c.step.new.self bytes state read told (rw c.in-Err-OutputFault.field-0-is at c.in-Err-OutputFault.ensures.carries) (store_fits_at fits)
 
 pub returns-in-Err-NoMemory-clause-few : goal.returns-in-Err-NoMemory-clause-few
 returns-in-Err-NoMemory-clause-few g c =
@@ -75,4 +77,4 @@ returns-in-Err-NoMemory-clause-few g c =
 pub returns-in-Err-NoMemory-clause-serves : goal.returns-in-Err-NoMemory-clause-serves
 returns-in-Err-NoMemory-clause-serves g c = λ state bytes fits told.
     let read = item_read c.loop-item.invariant.so_far c.next.ensures.says c.in-Ok.is c.next.ensures.few (asks_some c.in-Ok.item c.next.new.payload (sym c.in-None.ensures)) in
-    ends_memory (StoreFits c.step.new.store (g.T.Disk.meaning c.step.new.station)) c.step.new.self bytes state read told (rw c.in-Err-NoMemory.field-0-is at c.in-Err-NoMemory.ensures.carries) (store_fits_at fits)
+    ends_memory {new = g.T.Disk.meaning c.step.new.station} (StoreFits c.step.new.store (g.T.Disk.meaning c.step.new.station)) c.step.new.self bytes state read told (rw c.in-Err-NoMemory.field-0-is at c.in-Err-NoMemory.ensures.carries) (store_fits_at fits)

@@ -1,4 +1,4 @@
-use Rattle.std.proofs.Common.{◌≡◌, List, ℕ, Some, sym, subst, ◌∙◌, refl}
+use Rattle.std.proofs.Common.{sym, subst, ◌∙◌, refl}
 use Rattle.lis_reply.proofs.Showing.{call_none, call_then}
 use Rattle.lis_line.specs.Reading.{asked_by}
 use Rattle.lis_line.proofs.Answered.{few_said}

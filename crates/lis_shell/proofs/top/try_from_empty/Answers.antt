@@ -1,4 +1,4 @@
-use Rattle.std.proofs.Common.{◌≡◌, [], refl, sym, subst}
+use Rattle.std.proofs.Common.{[], refl, sym, subst}
 use Rattle.lis_reply.proofs.Showing.{append_known-nil}
 use Rattle.lis_model.specs.Script.{script}
 use Rattle.lis_model.specs.Step.{start_of}

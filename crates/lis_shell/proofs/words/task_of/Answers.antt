@@ -1,6 +1,5 @@
 use Rattle.std.proofs.Common.{◌≡◌, true, false, None, Some, sym, ◌∙◌, arith}
 use Rattle.std.specs.String.{string_bytes}
-use Rattle.lis_shell.specs.Words.{limits_of}
 use Rattle.lis_shell.proofs.Forms.{no_words, two_words, five_words}
 use Rattle.lis_shell.proofs.words.task_of.Goals as goal
 

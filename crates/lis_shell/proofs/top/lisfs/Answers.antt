@@ -1,0 +1,29 @@
+use Rattle.std.proofs.Common.{map, Some, ap, sym, ◌∙◌}
+use Rattle.std.specs.String.{string_bytes}
+use Rattle.lis_model.specs.Script.{script}
+use Rattle.lis_session.proofs.Whole.{headline, headline_settled}
+use Rattle.lis_shell.specs.Causes.{counts}
+use Rattle.lis_shell.proofs.Forms.{made_in_range}
+use Rattle.lis_shell.proofs.Opened.{run_complete}
+use Rattle.lis_shell.proofs.top.lisfs.Goals as goal
+
+pub make_image-requires : goal.make_image-requires
+make_image-requires g c =
+    made_in_range (map string_bytes c.args.words.now) c.in-Some-Make.limits (sym c.task_of.ensures ∙ c.in-Some-Make.is ∙ ap Some c.in-Some-Make.field-0-is)
+
+pub returns-in-Some-Make-clause-cause : goal.returns-in-Some-Make-clause-cause
+returns-in-Some-Make-clause-cause g c = c.make_image.ensures.cause (g.S.Source.faults c.args.input.now)
+
+pub returns-in-Some-Run-clause-headline : goal.returns-in-Some-Run-clause-headline
+returns-in-Some-Run-clause-headline g c = λ is_run state bytes entry.
+    headline state (script bytes 1099511627776) (g.met.T.Disk.only_now c.args.station.now) (c.run_image.ensures.runs state bytes entry).moments
+
+pub returns-in-Some-Run-clause-headline_settled : goal.returns-in-Some-Run-clause-headline_settled
+returns-in-Some-Run-clause-headline_settled g c = λ is_run state bytes entry settled.
+    headline_settled state (script bytes 1099511627776) entry.stands settled (g.met.T.Disk.only_now c.args.station.now) (c.run_image.ensures.runs state bytes entry).moments
+
+pub returns-in-Some-Run-clause-complete : goal.returns-in-Some-Run-clause-complete
+returns-in-Some-Run-clause-complete g c = λ is_run state bytes entry short none.
+    run_complete state 1099511627776 bytes (g.S.Source.left c.run_image.new.input) (g.T.Disk.meaning c.args.station.now).shown (g.T.Disk.meaning c.run_image.new.station)
+    (counts (g.T.Disk.meaning c.args.station.now) (g.S.Source.faults c.args.input.now)) (counts (g.T.Disk.meaning c.run_image.new.station) (g.S.Source.faults c.run_image.new.input))
+    c.run_image.result (c.run_image.ensures.runs state bytes entry).ended c.run_image.ensures.cause none short

@@ -1,0 +1,67 @@
+use Rattle.std.proofs.Common.{List, inl, subst, ◌∙◌}
+use Rattle.lis_grammar.specs.Formula.{Formula}
+use Rattle.lis_model.specs.Script.{script}
+use Rattle.lis_session.specs.Runs.{Serves}
+use Rattle.lis_session.proofs.Fitting.{store_fits_at}
+use Rattle.lis_session.proofs.Whole.{run_none}
+use Rattle.lis_shell.specs.declared.status.Status.TheVariants.{NoMemory}
+use Rattle.lis_shell.specs.Runs.{Served, Ran}
+use Rattle.lis_shell.proofs.Opened.{not_short, opened_fits, runs_session, judged_session}
+use Rattle.lis_shell.proofs.top.run_image.Goals as goal
+
+pub returns-in-Err-TooShort-clause-runs : goal.returns-in-Err-TooShort-clause-runs
+returns-in-Err-TooShort-clause-runs g c = λ state bytes entry.
+    let ended = rw c.in-Err-TooShort.field-0-is at (c.in-Err-TooShort.ensures.ended entry.honest) in
+    run_none state (script bytes 1099511627776) ⊥ (c.in-Err-TooShort.ensures.any_moment state entry.honest entry.stands)
+    (not_short (g.T.Disk.meaning c.args.station.now) state c.in-Err-TooShort.len c.in-Err-TooShort.need (g.met.T.Disk.reads_len c.args.station.now entry.honest) entry.stands ended.0 ended.1 ended.2)
+
+pub returns-in-Err-Damaged-clause-judged : goal.returns-in-Err-Damaged-clause-judged
+returns-in-Err-Damaged-clause-judged g c = λ honest. rw c.in-Err-Damaged.field-0-is at (c.in-Err-Damaged.ensures.ended honest)
+
+pub returns-in-Err-NoMemory-clause-past : goal.returns-in-Err-NoMemory-clause-past
+returns-in-Err-NoMemory-clause-past g c = λ state bytes entry settled. c.in-Err-NoMemory.ensures.past state entry.honest entry.stands (λ e. absurd (cc))
+
+pub returns-in-Err-NoMemory-clause-judged : goal.returns-in-Err-NoMemory-clause-judged
+returns-in-Err-NoMemory-clause-judged g c = λ honest.
+    let ended = rw c.in-Err-NoMemory.field-0-is at (c.in-Err-NoMemory.ensures.ended honest) in
+    (ended.0, ended.1)
+
+pub returns-in_default-clause-runs : goal.returns-in_default-clause-runs
+returns-in_default-clause-runs g c = λ state bytes entry.
+    let old = g.T.Disk.meaning c.args.station.now in
+    let mid = g.T.Disk.meaning c.mount.new.disk in
+    let opening = c.in-Ok.ensures.any_moment state entry.honest entry.stands in
+    let fits = opened_fits c.in-Ok.store old mid state entry.stands (c.in-Ok.ensures.ended entry.honest) in
+    run_none state (script bytes 1099511627776) (Ran state 1099511627776 bytes (g.S.Source.left c.args.input.now) old.shown mid NoMemory) opening
+    (inl (opening.run.shown, entry.told, (store_fits_at fits).stands.reads))
+
+pub returns-in_default-clause-past : goal.returns-in_default-clause-past
+returns-in_default-clause-past g c = λ state bytes entry settled. c.in-Ok.ensures.past state entry.honest entry.stands (λ e. absurd (cc))
+
+pub returns-in_default-clause-judged : goal.returns-in_default-clause-judged
+returns-in_default-clause-judged g c = λ honest.
+    let ended = c.in-Ok.ensures.ended honest in
+    judged_session (g.T.Disk.meaning c.args.station.now) NoMemory ended.1.0 tt ended.0 ended.1.1
+
+pub returns-clause-runs : goal.returns-clause-runs
+returns-clause-runs g c = λ state bytes entry.
+    let old = g.T.Disk.meaning c.args.station.now in
+    let mid = g.T.Disk.meaning c.mount.new.disk in
+    let new = g.T.Disk.meaning c.serve.new.station in
+    let left = g.S.Source.left c.serve.new.input in
+    let fits = opened_fits c.in-Ok.store old mid state entry.stands (c.in-Ok.ensures.ended entry.honest) in
+    let session = subst (λ (place : List Formula). Serves (record { state = state; place = place }) (script bytes 1099511627776) mid new (Served (record { state = state; place = place }) 1099511627776 bytes left mid.shown new c.serve.result))
+    c.new-session.ensures (c.serve.ensures.serves state bytes fits entry.told) in
+    runs_session old mid new state 1099511627776 bytes left c.serve.result (c.in-Ok.ensures.any_moment state entry.honest entry.stands) session
+
+pub returns-clause-past : goal.returns-clause-past
+returns-clause-past g c = λ state bytes entry settled.
+    let fits = opened_fits c.in-Ok.store (g.T.Disk.meaning c.args.station.now) (g.T.Disk.meaning c.mount.new.disk) state entry.stands (c.in-Ok.ensures.ended entry.honest) in
+    let session = c.serve.ensures.serves state bytes fits entry.told in
+    let opening = c.in-Ok.ensures.past state entry.honest entry.stands (λ e. absurd (cc)) in
+    λ n le. session.past n le ∙ opening n le
+
+pub returns-clause-judged : goal.returns-clause-judged
+returns-clause-judged g c = λ honest.
+    let ended = c.in-Ok.ensures.ended honest in
+    judged_session (g.T.Disk.meaning c.args.station.now) c.serve.result ended.1.0 c.serve.ensures.only ended.0 ended.1.1
