@@ -4,7 +4,7 @@ ghost use Rattle.std.specs.Prelude.{◌≡◌, IfOk, IsTrue};
 ghost use Rattle.lis_memdisk.specs.MemStation.{meaning_of};
 
 use crate::tests::tables::{
-    CRASHED_SESSION, CRASHED_STATES, FIRST_SESSIONS, IMAGE_WORDS, LIMITED_SESSIONS, SESSIONS,
+    CRASHED_COMMANDS, FIRST_SESSIONS, IMAGE_WORDS, LIMITED_SESSIONS, SESSIONS,
 };
 use crate::tests::{Outside, SOUND, row_of, source};
 use lis_line::reader::Payload;
@@ -178,72 +178,81 @@ fn listing(alloc: Global, image: &[u8]) -> Result<String, Fail> {
     Ok(shown)
 }
 
-// How many replies these bytes hold whole.
-fn replies_in(shown: &[u8]) -> usize {
-    shown.iter().filter(|byte| **byte == b'\n').count()
-}
-
-// What a crash just after the call leaves is a state that the bytes shown by then allow.
-fn is_allowed(alloc: Global, station: &MemStation, call: u64, pick: u8) -> Result<bool, Fail>
+// What a crash just after the call leaves is the state before the command or behind it; behind it, where some of its reply was shown.
+fn is_allowed(
+    alloc: Global,
+    station: &MemStation,
+    call: u64,
+    pick: u8,
+    states: [&str; 2],
+) -> Result<bool, Fail>
     requires { IsTrue (meaning_of station.now).is_recorded }
 {
     if call > station.calls() {
         return Err("there was no such call".into());
     }
-    let shown_len = station.shown_at(call) as usize;
+    let is_shown = station.shown_at(call) > 0;
     let image = station.crash(alloc, call, pick)?;
     let left = listing(alloc, &image)?;
-    let Some(shown) = station.shown().get(..shown_len) else {
-        return Err("more was shown than there is".into());
-    };
-    let whole = replies_in(shown);
-    let next = (whole + 1).min(CRASHED_STATES.len() - 1);
-    Ok(left.as_str() == CRASHED_STATES[whole.min(next)] || left.as_str() == CRASHED_STATES[next])
+    Ok(left.as_str() == states[1] || (!is_shown && left.as_str() == states[0]))
 }
 
-// Eight commands on a fresh image: the first call of the disk after which the bytes shown do not allow what a crash leaves, if there is
-// one.
-fn first_forbidden(alloc: Global, pick: u8) -> Result<Option<u64>, Fail> {
-    let image = fresh(alloc)?;
-    let mut station = MemStation::new(alloc, &image, ROOM)?;
-    call(alloc, &["run", "i"], "", &mut station)?;
-    let opened = station.calls();
-    let status = call(alloc, &["run", "i"], CRASHED_SESSION, &mut station)?;
-    // The second opening makes as many calls as the first.
-    let start = opened.saturating_add(opened);
-    if status != Status::Done || start >= station.calls() {
-        return Err("the session was not carried out".into());
+// Carries out a command on an image, and answers the bytes of the image behind it. Each crash in it is looked at.
+fn crashed(
+    alloc: Global,
+    image: &[u8],
+    opening: u64,
+    command: &str,
+    pick: u8,
+    states: [&str; 2],
+) -> Result<Vec<u8>, Fail> {
+    let mut station = MemStation::new(alloc, image, ROOM)?;
+    let status = call(alloc, &["run", "i"], command, &mut station)?;
+    if status != Status::Done || opening >= station.calls() {
+        return Err("the command was not carried out".into());
     }
-    for call in start..station.calls() {
-        if !is_allowed(alloc, &station, call, pick)? {
-            return Ok(Some(call));
+    for call in opening..station.calls() {
+        if !is_allowed(alloc, &station, call, pick, states)? {
+            return Err("a crash left another state".into());
         }
     }
-    Ok(None)
+    let mut bytes = zeros(alloc, IMAGE_LEN)?;
+    if (bytes.len() as u64) <= station.len() {
+        station.read_at(0, &mut bytes)?;
+    }
+    Ok(bytes)
+}
+
+// Eight commands, and a crash after each call of the disk.
+fn crash_each(alloc: Global, pick: u8) -> Result<(), Fail> {
+    let mut image = fresh(alloc)?;
+    let mut counting = MemStation::new(alloc, &image, 0)?;
+    call(alloc, &["run", "i"], "", &mut counting)?;
+    let opening = counting.calls();
+    for (command, states) in &CRASHED_COMMANDS {
+        image = crashed(alloc, &image, opening, command, pick, *states)?;
+    }
+    Ok(())
 }
 
 #[test]
 fn a_crash_loses_what_was_not_synced(rt: HostRuntime) -> Result<(), Fail> {
-    assert_eq!(rt; first_forbidden(rt.alloc(), 0)?, None);
-    Ok(())
+    crash_each(rt.alloc(), 0)
 }
 
 #[test]
 fn a_crash_keeps_what_was_not_synced(rt: HostRuntime) -> Result<(), Fail> {
-    assert_eq!(rt; first_forbidden(rt.alloc(), 1)?, None);
-    Ok(())
+    crash_each(rt.alloc(), 1)
 }
 
 #[test]
 fn a_crash_keeps_every_second_byte(rt: HostRuntime) -> Result<(), Fail> {
-    assert_eq!(rt; first_forbidden(rt.alloc(), 2)?, None);
-    Ok(())
+    crash_each(rt.alloc(), 2)
 }
 
 #[test]
 fn a_crash_leaves_other_bytes(rt: HostRuntime) -> Result<(), Fail> {
-    assert_eq!(rt; first_forbidden(rt.alloc(), 165)?, None);
-    Ok(())
+    crash_each(rt.alloc(), 165)
 }
 
 // The call of the disk that fails, counted from the first one behind the opening; nothing is shown, and the state is the old one or

@@ -361,19 +361,56 @@ pub static LIMITED_SESSIONS: [(&str, u64, Status, &str, &str); 2] = [
     ),
 ];
 
-/// Eight commands, each of which changes the state.
-pub static CRASHED_SESSION: &str =
-    "mkdir music;mkdir year:;create s1 music year:2003;add m 5 music;hello;create t;rm s1;add s1 3 year:1999;abc;rm m;";
-
-/// What `ls;cat m;` shows after so many of them.
-pub static CRASHED_STATES: [&str; 9] = [
-    "ok;no 10 no such file here;",
-    "ok;no 10 no such file here;",
-    "ok;no 10 no such file here;",
-    "f s1;ok;no 10 no such file here;",
-    "d year:;f m;ok;b 5;hello;ok;",
-    "d music;d year:;f t;ok;b 5;hello;ok;",
-    "d music;f t;ok;b 5;hello;ok;",
-    "d music;d year:;f t;ok;b 5;hello;ok;",
-    "d year:;f t;ok;no 10 no such file here;",
+/// Eight commands, one after another; what `ls;cat m;` shows before each and behind it.
+pub static CRASHED_COMMANDS: [(&str, [&str; 2]); 8] = [
+    (
+        "mkdir music;",
+        ["ok;no 10 no such file here;", "ok;no 10 no such file here;"],
+    ),
+    (
+        "mkdir year:;",
+        ["ok;no 10 no such file here;", "ok;no 10 no such file here;"],
+    ),
+    (
+        "create s1 music year:2003;",
+        [
+            "ok;no 10 no such file here;",
+            "f s1;ok;no 10 no such file here;",
+        ],
+    ),
+    (
+        "add m 5 music;hello;",
+        [
+            "f s1;ok;no 10 no such file here;",
+            "d year:;f m;ok;b 5;hello;ok;",
+        ],
+    ),
+    (
+        "create t;",
+        [
+            "d year:;f m;ok;b 5;hello;ok;",
+            "d music;d year:;f t;ok;b 5;hello;ok;",
+        ],
+    ),
+    (
+        "rm s1;",
+        [
+            "d music;d year:;f t;ok;b 5;hello;ok;",
+            "d music;f t;ok;b 5;hello;ok;",
+        ],
+    ),
+    (
+        "add s1 3 year:1999;abc;",
+        [
+            "d music;f t;ok;b 5;hello;ok;",
+            "d music;d year:;f t;ok;b 5;hello;ok;",
+        ],
+    ),
+    (
+        "rm m;",
+        [
+            "d music;d year:;f t;ok;b 5;hello;ok;",
+            "d year:;f t;ok;no 10 no such file here;",
+        ],
+    ),
 ];
