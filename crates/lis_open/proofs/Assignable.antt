@@ -1,12 +1,12 @@
 -- Words that files may be given, by what is kept of words and by what slots spell.
-use Rattle.std.proofs.Common.{◌≡◌, ◌⊎◌, ◌∙◌, refl, sym, ap, subst, inl, inr, ℕ, ◌<◌, Bool, true, false, ◌&&◌, ◌||◌, Option, Some, None, List, IsTrue, arith}
+use Rattle.std.proofs.Common.{◌≡◌, ◌⊎◌, ◌∙◌, refl, sym, ap, subst, inl, inr, ℕ, ◌<◌, Bool, true, false, ◌&&◌, ◌||◌, Option, Some, None, List, arith}
 use Rattle.std.proofs.lemmas.Bool.{and_parts, and_from}
 use Rattle.lis_blockmap.specs.Bitmap.{is_taken}
 use Rattle.lis_dict.specs.Dict.{number_of, word_of}
 use Rattle.lis_dict.proofs.Laws.{word_from_number, number_from_word, number_below}
 use Rattle.lis_words.specs.Words.{is_plain_word, is_valued, head_bytes}
 use Rattle.lis_fields.specs.declared.slots.PropSlot.{PropSlot}
-use Rattle.lis_fields.specs.declared.slots.PropSlot.TheVariants.{Free as FreeProp, Known, Declared}
+use Rattle.lis_fields.specs.declared.slots.PropSlot.TheVariants.{Declared}
 use Rattle.lis_laws.proofs.Fresh.{plain_not_valued}
 use Rattle.lis_model.specs.declared.limits.Limits.{Limits}
 use Rattle.lis_store.specs.Kept.{property_by, property_at, bit_of}

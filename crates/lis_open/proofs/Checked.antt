@@ -1,7 +1,7 @@
 -- What is checked behind words and files: axioms, words in use, and the bitmap.
-use Rattle.std.proofs.Common.{◌≡◌, ◌⊎◌, ◌∙◌, refl, sym, ap, subst, inl, inr, ℕ, ◌+◌, ◌<◌, ◌≤◌, ◌==◌, nat_lt, Bool, true, false, not, ◌||◌, cond, is_some, Option, Some, None, List, [], ◌∷◌, length, get_or, drop, IsTrue, arith, eq-eqb, add-one, drop-cons}
-use Rattle.std.specs.List.{list_all, list_any}
-use Rattle.std.proofs.lemmas.Bool.{and_parts, cases_eq, cases_lt, ne_eqb, ltb-true, lt-ltb}
+use Rattle.std.proofs.Common.{◌≡◌, ◌⊎◌, ◌∙◌, refl, sym, ap, subst, inl, inr, ℕ, ◌+◌, ◌<◌, ◌≤◌, ◌==◌, nat_lt, Bool, true, false, ◌||◌, cond, is_some, Option, Some, None, List, [], ◌∷◌, length, get_or, drop, arith, eq-eqb, add-one, drop-cons}
+use Rattle.std.specs.List.{list_all}
+use Rattle.std.proofs.lemmas.Bool.{and_parts, cases_eq, ne_eqb, ltb-true, lt-ltb}
 use Rattle.lis_ports.specs.Meaning.{Meaning}
 use Rattle.lis_bits.specs.Rows.{Rows, get, with_row, empty_rows}
 use Rattle.lis_bits.proofs.Laws.{get-with_row_same, length-with_row, get-empty_rows, length-empty_rows}
@@ -12,9 +12,9 @@ use Rattle.lis_slots.specs.Slots.{slot}
 use Rattle.lis_content.specs.Content.{has_number}
 use Rattle.lis_dict.specs.Dict.{word_of}
 use Rattle.lis_dict.proofs.Laws.{number_from_word, number_below}
-use Rattle.lis_catalog.specs.Catalog.{Catalog, Filed, IsCatalog, rec_at}
+use Rattle.lis_catalog.specs.Catalog.{Catalog, Filed, rec_at}
 use Rattle.lis_fields.specs.Records.{FileRecord}
-use Rattle.lis_fields.specs.Layouts.{axiom_bytes, is_axiom, is_record}
+use Rattle.lis_fields.specs.Layouts.{axiom_bytes, is_axiom}
 use Rattle.lis_fields.specs.declared.slots.AxiomSlot.{AxiomSlot}
 use Rattle.lis_fields.specs.declared.slots.AxiomSlot.TheVariants.{Free as FreeAxiom, Pair}
 use Rattle.lis_fields.proofs.OneSpelling.{axiom_once}
@@ -27,7 +27,7 @@ use Rattle.lis_open.specs.Checks.{IsAxiom, AxiomFails, Fails, rank, place}
 use Rattle.lis_open.specs.declared.words.Words.{Words}
 use Rattle.lis_open.specs.declared.files.Files.{Files}
 use Rattle.lis_open.specs.Reading.{OnlyReads, IsReadAs, IsFirst, is_free_slot, has_tag, has_tags_below, is_given, IsUsedRow, is_assignable_number, AreFirstWords, AreFirstFiles}
-use Rattle.lis_open.proofs.Numbers.{both_ways, same_test, or_parts, or_left, or_right, has_from_among, among_from_has}
+use Rattle.lis_open.proofs.Numbers.{both_ways, same_test, or_parts, or_left, or_right}
 use Rattle.lis_open.proofs.Entries.{rec_at-entry, entry-rec_at}
 use Rattle.lis_open.proofs.FilesRead.{assignable_some, slot_read, given_of}
 

@@ -1,5 +1,5 @@
 -- An image of which a part fails its check stands for no state.
-use Rattle.std.proofs.Common.{◌≡◌, ◌⊎◌, ◌∙◌, refl, sym, ap, subst, inl, inr, ℕ, ◌+◌, ◌*◌, ◌<◌, ◌≤◌, nat_lt, Bool, true, false, not, ◌&&◌, ◌||◌, is_some, List, [], ◌∷◌, ◌++◌, length, map, get_or, replicate, slice_get, slice_index_or, Option, Some, None, IsTrue, arith}
+use Rattle.std.proofs.Common.{◌≡◌, ◌⊎◌, ◌∙◌, refl, sym, ap, subst, inl, inr, ℕ, ◌<◌, ◌≤◌, nat_lt, Bool, true, false, ◌&&◌, ◌||◌, is_some, List, [], ◌∷◌, ◌++◌, length, map, get_or, replicate, slice_get, Option, Some, None, IsTrue, arith}
 use Rattle.std.specs.Option.{option_to_list}
 use Rattle.std.specs.List.{list_all, flat_map}
 use Rattle.std.proofs.lemmas.Bool.{and_parts, ltb-true, cases_lt}
@@ -8,11 +8,11 @@ use Rattle.std.proofs.lemmas.Option.{slice_get-get_or}
 use Rattle.lis_graph.specs.Graph.{with_more}
 use Rattle.lis_graph.proofs.Members.{Among, among_map, map_among, among_append, among_flat_map, flat_map_among, among_with_more}
 use Rattle.lis_journal.specs.Record.{block, replayed}
-use Rattle.lis_blockmap.specs.Bitmap.{is_taken, has_bit, bitmap_bytes}
+use Rattle.lis_blockmap.specs.Bitmap.{is_taken, has_bit}
 use Rattle.lis_blockmap.proofs.Laws.{has_bit-bitmap_bytes}
 use Rattle.lis_content.specs.Content.{marked, has_number, are_distinct}
 use Rattle.lis_fields.specs.Records.{FileRecord}
-use Rattle.lis_fields.specs.Layouts.{super_bytes, prop_bytes, is_prop, axiom_bytes, is_axiom, file_bytes, is_file}
+use Rattle.lis_fields.specs.Layouts.{prop_bytes, is_prop, axiom_bytes, is_axiom, file_bytes, is_file}
 use Rattle.lis_fields.specs.declared.slots.SuperRec.{SuperRec}
 use Rattle.lis_fields.specs.declared.slots.PropSlot.{PropSlot}
 use Rattle.lis_fields.specs.declared.slots.PropSlot.TheVariants.{Free as FreeProp, Known, Declared}
@@ -22,7 +22,7 @@ use Rattle.lis_fields.specs.declared.slots.FileSlot.{FileSlot}
 use Rattle.lis_fields.specs.declared.slots.FileSlot.TheVariants.{Free as FreeFile, Used}
 use Rattle.lis_fields.proofs.OneSpelling.{super_once, prop_once, file_once}
 use Rattle.lis_words.specs.Words.{is_plain_word, is_valued, head_bytes, has_word}
-use Rattle.lis_laws.proofs.Members.{among_from_has_word, with_words_old, among_with_words, among_set_of, set_of_among}
+use Rattle.lis_laws.proofs.Members.{among_from_has_word, among_with_words, among_set_of, set_of_among}
 use Rattle.lis_laws.proofs.Chains.{among_heads}
 use Rattle.lis_laws.proofs.Counts.{all_among}
 use Rattle.lis_laws.proofs.Tables.{words_of_file}
@@ -31,10 +31,10 @@ use Rattle.lis_model.specs.declared.spot.Spot.{Spot}
 use Rattle.lis_model.specs.declared.spot.Spot.TheVariants.{Super, BadRecord, Property, Axiom, File as FileSpot, Word, Bitmap, Row}
 use Rattle.lis_model.specs.Image.{bitmap_start, image_blocks}
 use Rattle.lis_model.specs.Sets.{set_of}
-use Rattle.lis_model.specs.State.{State, File, file_cmp, heads, own_words, description, known, is_assignable}
-use Rattle.lis_store.specs.Stands.{property_slots, axiom_slots, file_slots, Contents, word_in, declared_in, words_in, all_declared, word_at, is_free_axiom, records_in, all_records, all_blocks, file_of, spelled_state, are_named, Spells, Stands}
+use Rattle.lis_model.specs.State.{State, File, file_cmp, heads, description, known, is_assignable}
+use Rattle.lis_store.specs.Stands.{property_slots, axiom_slots, file_slots, Contents, word_in, declared_in, words_in, all_declared, word_at, is_free_axiom, records_in, all_records, all_blocks, file_of, spelled_state, Spells, Stands}
 use Rattle.lis_open.specs.Opens.{HasSuper}
-use Rattle.lis_open.specs.Checks.{IsProperty, IsAxiom, IsFile, HasWord, IsDeclaredIn, IsAssignableIn, IsUsed, HasWordBefore, PropertyFails, AxiomFails, FileFault, HasFileFault, FileFails, WordFails, BitFails, Fails, FailsReplayed, RecordFails, FailsIn}
+use Rattle.lis_open.specs.Checks.{IsProperty, IsFile, HasWord, IsDeclaredIn, IsAssignableIn, IsUsed, PropertyFails, AxiomFails, FileFault, FileFails, WordFails, BitFails, Fails, FailsReplayed, RecordFails, FailsIn}
 use Rattle.lis_open.specs.Checks.FileFault.{NameTaken, WordMissing, BlockMissing, BlockTaken}
 use Rattle.lis_open.proofs.Numbers.{both_ways, or_parts, has_from_among, among_from_has, is_taken-marked}
 use Rattle.lis_open.proofs.Assignable.{valued_not_plain}

@@ -1,10 +1,10 @@
 -- The entries of a catalog, by their slots.
-use Rattle.std.proofs.Common.{◌≡◌, ◌⊎◌, ◌∙◌, refl, sym, ap, subst, inl, inr, ℕ, ◌==◌, Bool, true, false, not, cond, Option, Some, None, List, [], ◌∷◌, map, IsTrue, eq-eqb}
+use Rattle.std.proofs.Common.{◌≡◌, ◌∙◌, refl, sym, ap, inl, inr, ℕ, ◌==◌, Bool, true, false, not, cond, Some, List, [], ◌∷◌, map, eq-eqb}
 use Rattle.std.specs.Option.{option_map}
-use Rattle.std.specs.List.{find, list_any, list_all}
+use Rattle.std.specs.List.{find, list_any}
 use Rattle.std.proofs.lemmas.Bool.{and_parts, eqb-true}
 use Rattle.lis_graph.proofs.Members.{Among, any_from_among, map_among}
-use Rattle.lis_catalog.specs.Catalog.{Catalog, Filed, IsCatalog, slots, rec_at}
+use Rattle.lis_catalog.specs.Catalog.{Catalog, Filed, IsCatalog, rec_at}
 use Rattle.lis_content.proofs.Numbers.{not_true}
 use Rattle.lis_fields.specs.Records.{FileRecord}
 use Rattle.lis_fields.specs.Layouts.{are_distinct}

@@ -1,20 +1,19 @@
 -- The files of file slots, read one after another.
-use Rattle.std.proofs.Common.{◌≡◌, ◌⊎◌, ◌∙◌, refl, sym, ap, subst, inl, inr, ℕ, ◌+◌, ◌<◌, ◌≤◌, ◌==◌, nat_lt, Bool, true, false, not, ◌&&◌, ◌||◌, cond, is_some, Option, Some, None, List, [], ◌∷◌, length, replicate, IsTrue, arith, eq-eqb}
-use Rattle.std.specs.declared.cmp.Ordering.{Ordering}
+use Rattle.std.proofs.Common.{◌≡◌, ◌⊎◌, ◌∙◌, refl, sym, ap, subst, inl, inr, ℕ, ◌+◌, ◌<◌, ◌≤◌, ◌==◌, nat_lt, Bool, true, false, not, ◌&&◌, ◌||◌, cond, is_some, Option, Some, None, List, [], ◌∷◌, length, IsTrue, arith, eq-eqb}
 use Rattle.std.specs.declared.cmp.Ordering.TheVariants.{Equal}
 use Rattle.std.specs.Option.{IfSome}
 use Rattle.std.specs.List.{list_all}
-use Rattle.std.proofs.lemmas.Bool.{and_parts, and_from, cases_eq, cases_lt, ne_eqb, lt-ltb, ltb-true, ltb-false}
+use Rattle.std.proofs.lemmas.Bool.{and_parts, and_from, cases_eq, cases_lt, ne_eqb, lt-ltb, ltb-true}
 use Rattle.std.proofs.lemmas.List.{length-replicate, get_or-replicate}
 use Rattle.lis_ports.specs.Meaning.{Meaning}
-use Rattle.lis_graph.proofs.Members.{Among, among_flat_map, flat_map_among}
+use Rattle.lis_graph.proofs.Members.{Among, among_flat_map}
 use Rattle.lis_journal.specs.Images.{Fits}
 use Rattle.lis_slots.specs.Slots.{slot}
 use Rattle.lis_blockmap.specs.Bitmap.{is_taken}
-use Rattle.lis_content.specs.Content.{marked, are_free, has_number, are_distinct}
+use Rattle.lis_content.specs.Content.{are_free, has_number, are_distinct}
 use Rattle.lis_content.proofs.Numbers.{length-marked, not_true, are_below, below_from_free}
 use Rattle.lis_dict.specs.Dict.{word_of}
-use Rattle.lis_catalog.specs.Catalog.{Catalog, Filed, IsCatalog, slot_of, rec_at, with_filed, filed_cmp}
+use Rattle.lis_catalog.specs.Catalog.{Filed, IsCatalog, slot_of, rec_at, filed_cmp}
 use Rattle.lis_catalog.proofs.Laws.{rec_at-with_filed, rec_at-slot_of, slot_of-rec_at}
 use Rattle.lis_fields.specs.Records.{FileRecord}
 use Rattle.lis_fields.specs.Layouts as layouts
@@ -22,7 +21,7 @@ use Rattle.lis_fields.specs.Layouts.{file_bytes, is_file, is_record, are_short}
 use Rattle.lis_fields.specs.declared.slots.FileSlot.{FileSlot}
 use Rattle.lis_fields.specs.declared.slots.FileSlot.TheVariants.{Free as FreeFile, Used}
 use Rattle.lis_fields.proofs.Parts.{record_tests}
-use Rattle.lis_laws.proofs.Counts.{all_among, all_from, all_weaker, all_insert_key}
+use Rattle.lis_laws.proofs.Counts.{all_among, all_weaker, all_insert_key}
 use Rattle.lis_laws.proofs.Members.{word_exact}
 use Rattle.lis_model.specs.declared.limits.Limits.{Limits}
 use Rattle.lis_model.specs.declared.spot.Spot.{Spot}

@@ -1,5 +1,5 @@
 -- Lists in whose places no word, no name and no number stands twice.
-use Rattle.std.proofs.Common.{◌≡◌, ◌⊎◌, ◌∙◌, refl, sym, ap, subst, inl, inr, ℕ, zero, suc, ◌+◌, ◌<◌, ◌≤◌, Bool, true, false, List, [], ◌∷◌, ◌++◌, length, map, get_or, slice_get, Option, Some, None, arith, length-append}
+use Rattle.std.proofs.Common.{◌≡◌, ◌⊎◌, ◌∙◌, refl, sym, ap, subst, inl, inr, ℕ, zero, suc, ◌+◌, ◌<◌, ◌≤◌, Bool, true, List, [], ◌∷◌, ◌++◌, length, map, get_or, slice_get, Option, Some, None, arith}
 use Rattle.std.specs.declared.cmp.Ordering.{Ordering}
 use Rattle.std.specs.declared.cmp.Ordering.TheVariants.{Less, Equal, Greater}
 use Rattle.std.specs.Ordering.{match_ordering}
@@ -7,11 +7,11 @@ use Rattle.std.specs.BTreeSet.{insert_key}
 use Rattle.std.specs.Option.{option_to_list}
 use Rattle.std.specs.List.{flat_map}
 use Rattle.std.specs.List.Sorted.{IsStrictlySortedBy}
-use Rattle.std.proofs.lemmas.Option.{slice_get_within, slice_get-get_or, get_or_from_slice_get}
+use Rattle.std.proofs.lemmas.Option.{slice_get_within, slice_get-get_or}
 use Rattle.lis_graph.specs.Graph.{with_more}
 use Rattle.lis_graph.proofs.Members.{Among, among_insert_key, insert_key_old, insert_key_new, with_more_old, flat_map_among}
 use Rattle.lis_graph.proofs.Sets.{sorted_nil, sorted_insert_key, members_le}
-use Rattle.lis_slots.specs.Slots.{Slots, slot}
+use Rattle.lis_slots.specs.Slots.{Slots}
 use Rattle.lis_content.specs.Content.{are_distinct}
 use Rattle.lis_words.specs.Words.{word_cmp}
 use Rattle.lis_laws.proofs.Members.{word_exact, word_order}

@@ -1,67 +1,117 @@
 -- How opening an image ends: the super block, the journal, and the parts behind it.
-use Rattle.std.proofs.Common.{◌≡◌, ◌⊎◌, ◌∙◌, refl, sym, ap, subst, inl, inr, ℕ, ◌*◌, ◌<◌, ◌≤◌, Bool, true, false, List, length, Option, Some, None, Result, Ok, Err, IsTrue, IsSomeAnd, arith}
+use Rattle.std.proofs.Common.{◌≡◌, ◌⊎◌, ◌∙◌, refl, sym, ap, subst, inl, inr, ℕ, ◌*◌, ◌<◌, ◌≤◌, ◌==◌, List, length, Option, Some, None, Result, Ok, Err, IsTrue, IsSomeAnd, arith}
+use Rattle.std.proofs.lemmas.Bool.{and_parts, eqb-true}
 use Rattle.lis_ports.specs.Meaning.{Meaning}
 use Rattle.lis_ports.specs.Bytes.{part}
-use Rattle.lis_ports.specs.Runs.{Leaves, IsSettled}
+use Rattle.lis_ports.specs.Calls.{IsUnchanged}
+use Rattle.lis_ports.specs.Runs.{IsDiskRun, Leaves}
 use Rattle.lis_ports.proofs.Moments.{leaves_weaken, leaves_then}
 use Rattle.lis_journal.specs.Record.{block, replayed}
 use Rattle.lis_journal.specs.Images.{StandsFor as KeptBy, IsAtRest, Fits, KeepsPast}
-use Rattle.lis_journal.specs.Journal.{Held}
 use Rattle.lis_journal.specs.Recovery.{StandsForReplayed, MountEnded, IsSettledPast}
 use Rattle.lis_journal.specs.declared.journal.JournalFault.{JournalFault}
 use Rattle.lis_journal.specs.declared.journal.JournalFault.TheVariants.{DiskFault as JournalDisk, BadRecord as JournalRecord, NoMemory as JournalMemory}
 use Rattle.lis_journal.proofs.Phases.{rest_stands}
-use Rattle.lis_fields.specs.Layouts.{super_bytes}
+use Rattle.lis_fields.specs.declared.slots.SuperRec.{SuperRec}
+use Rattle.lis_fields.specs.Layouts.{super_bytes, is_super}
 use Rattle.lis_model.specs.declared.limits.Limits.{Limits}
 use Rattle.lis_model.specs.declared.spot.Spot.{Spot}
 use Rattle.lis_model.specs.declared.spot.Spot.TheVariants.{Super, BadRecord, Property, Axiom, File, Word, Bitmap, Row}
+use Rattle.lis_model.specs.Ranges.{are_in_range}
 use Rattle.lis_model.specs.Image.{image_blocks}
 use Rattle.lis_model.specs.State.{State}
 use Rattle.lis_store.specs.Stands.{Spells, Stands}
-use Rattle.lis_store.specs.Kept.{Kept, contents_of, Tells, StoreFits}
+use Rattle.lis_store.specs.Kept.{Kept, contents_of, Tells}
 use Rattle.lis_store.proofs.Standing.{super-replayed, kept_stands}
 use Rattle.lis_store.proofs.Telling.{tells_spells}
 use Rattle.lis_open.specs.declared.mounting.OpenFault.{OpenFault}
 use Rattle.lis_open.specs.declared.mounting.OpenFault.TheVariants.{TooShort, Damaged, DiskFault, NoMemory}
 use Rattle.lis_open.specs.Opens.{HasSuper, IsNeeded, IsLongEnough, OpenEnded, journal_fault}
-use Rattle.lis_open.specs.Checks.{Fails, FailsReplayed, RecordFails, FailsIn, rank, place, IsBefore, FailsFirst}
-use Rattle.lis_open.specs.Reading.{OnlyReads, IsFirstOfAll, PartsFail, StoreEnded, SuperFails}
-use Rattle.lis_open.proofs.Quiet.{fits_after}
+use Rattle.lis_open.specs.Checks.{Fails, FailsReplayed, RecordFails, FailsIn, IsBefore, FailsFirst}
+use Rattle.lis_open.specs.Reading.{OnlyReads, IsFirstOfAll, StoreEnded, Opened}
+use Rattle.lis_open.proofs.Quiet.{fits_after, unchanged_then}
 use Rattle.lis_open.proofs.Damage.{one_limits, has_super, damaged}
-
--- the exit of a call that failed, where an answer tells the spot
-pub same_fault : (result : Result Kept OpenFault) (a b c : OpenFault) → result ≡ Err a → a ≡ b → result ≡ Err c → b ≡ c
-same_fault result a b c one same other = cc
 
 -- what is said of a value that there is
 pub some_replay : (o : Option (List ℕ)) (P : List ℕ → Type 0) → IsSomeAnd o P → (r : List ℕ) × (o ≡ Some r) × P r
 some_replay None P is = absurd is
 some_replay (Some r) P is = (r, refl, is)
 
--- ---- blocks past the image
-settled_past : (blocks : ℕ) (old mid : Meaning) → mid.bytes ≡ old.bytes → ((image : List ℕ) → mid.images image → old.images image) → IsSettledPast blocks old → IsSettledPast blocks mid
-settled_past blocks old mid same only settled image is n past = settled image (only image is) n past ∙ sym (ap (block n) same)
+-- ---- faults
+same_spot : {T : Type 0} (a b : Spot) → ◌≡◌ {A = Result T OpenFault} (Err (Damaged a)) (Err (Damaged b)) → a ≡ b
+same_spot a b is = cc
 
--- ---- the super block
+-- no part is damaged
+unspotted : (old new : Meaning) (fault : OpenFault) → OpenEnded old new (Err fault) → ((spot : Spot) → fault ≡ Damaged spot → ⊥) → Opened old new (Err fault)
+unspotted old new fault ended none = record { ended = ended; spot = λ spot is. absurd (none spot cc) }
+
+spotted : (old new : Meaning) (spot : Spot) → OpenEnded old new (Err (Damaged spot)) → FailsFirst old.bytes spot → Opened old new (Err (Damaged spot))
+spotted old new spot ended first = record { ended = ended; spot = λ other is. subst (λ (p : Spot). FailsFirst old.bytes p) (same_spot {T = Kept} spot other is) first }
+
+pub short_opened : (old new : Meaning) (len need : ℕ) → len ≡ old.len → len < need → IsNeeded old.bytes need → IsUnchanged old new → Opened old new (Err (TooShort len need))
+short_opened old new len need is short needed same = unspotted old new (TooShort len need) (is, short, needed, same) (λ spot fault. cc)
+
+pub failed_opened : (old new : Meaning) → Opened old new (Err DiskFault)
+failed_opened old new = unspotted old new DiskFault tt (λ spot fault. cc)
+
+-- ---- the super block, as it was read
+super_from : (image : List ℕ) (rec : SuperRec) → IsTrue (is_super rec) → part 0 4096 image ≡ super_bytes rec → HasSuper rec.limits image
+super_from image rec range spelled =
+    let tests = and_parts (rec.version == 1) (are_in_range rec.limits) range in
+    record { range = tests.1; spelled = spelled ∙ ap (λ v. super_bytes (record { version = v; limits = rec.limits })) (eqb-true rec.version 1 tests.0) }
+
+pub super_read : (image read : List ℕ) (rec : SuperRec) → read ≡ part 0 4096 image → IsTrue (is_super rec) × (read ≡ super_bytes rec) → HasSuper rec.limits image
+super_read image read rec is spelled = super_from image rec spelled.0 (sym is ∙ spelled.1)
+
+pub none_read : (image read : List ℕ) (found : Option SuperRec) → found ≡ None → read ≡ part 0 4096 image → ((rec : SuperRec) → IsTrue (is_super rec) → read ≡ super_bytes rec → found ≡ Some rec)
+    → (limits : Limits) → HasSuper limits image → ⊥
+none_read image read found none is same limits super =
+    let some = same (record { version = 1; limits = limits }) super.range (is ∙ super.spelled) in
+    cc
+
+-- ---- no super block
 no_super_needs : (old : Meaning) → 4096 ≤ old.len → ((limits : Limits) → HasSuper limits old.bytes → ⊥) → IsLongEnough old
 no_super_needs old long none need (inl one) = omega (arith, one, long)
 no_super_needs old long none need (inr told) = absurd (none told.0 told.1)
 
-pub super_ended : (old new : Meaning) (fault : OpenFault) → 4096 ≤ old.len → SuperFails old.bytes fault → OpenEnded old new (Err fault)
-super_ended old new (TooShort len need) long fails = absurd fails
-super_ended old new (Damaged spot) long fails = (no_super_needs old long fails.1, λ s stands. fails.1 s.limits (has_super old.bytes s stands))
-super_ended old new DiskFault long fails = tt
-super_ended old new NoMemory long fails = absurd fails
-
-pub super_spot : (image : List ℕ) (fault : OpenFault) (spot : Spot) → SuperFails image fault → fault ≡ Damaged spot → FailsFirst image spot
-super_spot image fault spot fails is = first spot (subst (λ (f : OpenFault). SuperFails image f) is fails)
+super_first : (image : List ℕ) → ((limits : Limits) → HasSuper limits image → ⊥) → FailsFirst image Super
+super_first image none = record { fails = none; none_before = none_before }
   where
-    first : (place_is : Spot) → (place_is ≡ Super) × ((limits : Limits) → HasSuper limits image → ⊥) → FailsFirst image place_is
-    first place_is told = subst (λ (p : Spot). FailsFirst image p) (sym told.0) (record { fails = told.1; none_before = none })
-      where
-        none : (earlier : Spot) → IsBefore earlier Super → FailsIn image earlier → ⊥
-        none earlier (inl lower) there = omega (arith, lower)
-        none earlier (inr same) there = omega (arith, same.1)
+    none_before : (earlier : Spot) → IsBefore earlier Super → FailsIn image earlier → ⊥
+    none_before earlier (inl lower) there = omega (arith, lower)
+    none_before earlier (inr same) there = omega (arith, same.1)
+
+pub no_super_opened : (old new : Meaning) → 4096 ≤ old.len → ((limits : Limits) → HasSuper limits old.bytes → ⊥) → Opened old new (Err (Damaged Super))
+no_super_opened old new long none =
+    spotted old new Super (no_super_needs old long none, λ s stands. none s.limits (has_super old.bytes s stands)) (super_first old.bytes none)
+
+-- ---- after calls that only read
+module _ (old mid : Meaning) (same : IsUnchanged old mid) (len : mid.len ≡ old.len) where
+  needs_before : IsLongEnough mid → IsLongEnough old
+  needs_before long need needed = omega (arith, long need (subst (λ bytes. IsNeeded bytes need) (sym same.bytes) needed), len)
+
+  pub stands_before : (s : State) → Stands old.bytes s → Stands mid.bytes s
+  stands_before s stands = subst (λ bytes. Stands bytes s) (sym same.bytes) stands
+
+  no_state_before : ((s : State) → Stands mid.bytes s → ⊥) → (s : State) → Stands old.bytes s → ⊥
+  no_state_before none s stands = none s (stands_before s stands)
+
+  pub opened_before : (new : Meaning) (result : Result Kept OpenFault) → IsDiskRun mid new → Opened mid new result → Opened old new result
+  opened_before new result run opened = record {
+    ended = by result opened.ended;
+    spot = λ spot is. subst (λ bytes. FailsFirst bytes spot) same.bytes (opened.spot spot is);
+  }
+    where
+      by : (o : Result Kept OpenFault) → OpenEnded mid new o → OpenEnded old new o
+      by (Ok store) ended = (needs_before ended.0, (ended.1.0, subst (λ bytes. Stands bytes ended.1.0) same.bytes ended.1.1, ended.1.2))
+      by (Err (TooShort found need)) ended = (ended.0 ∙ len, ended.1, subst (λ bytes. IsNeeded bytes need) same.bytes ended.2, unchanged_then run same ended.3)
+      by (Err (Damaged spot)) ended = (needs_before ended.0, no_state_before ended.1)
+      by (Err DiskFault) ended = tt
+      by (Err NoMemory) ended =
+          (needs_before ended.0, (ended.1.0, subst (λ bytes. HasSuper ended.1.0 bytes) same.bytes ended.1.1), λ s stands. ended.2 s (stands_before s stands))
+
+  pub settled_before : (blocks : ℕ) → IsSettledPast blocks old → IsSettledPast blocks mid
+  settled_before blocks settled image is n past = settled image (same.images.only image is) n past ∙ sym (ap (block n) same.bytes)
 
 -- ---- the super block tells the limits
 module _ (old : Meaning) (limits : Limits) (super : HasSuper limits old.bytes) (long : 4096 * image_blocks limits ≤ old.len) where
@@ -111,66 +161,49 @@ module _ (old : Meaning) (limits : Limits) (super : HasSuper limits old.bytes) (
       none_before (Row n) (inl lower) fails = omega (arith, lower)
       none_before (Row n) (inr same) fails = omega (arith, same.0)
 
-  -- how mounting it ended, by the bytes as they read before
-  abbrev pub JournalFails : JournalFault → Type 0
-  JournalFails JournalDisk = Unit {0}
-  JournalFails (JournalRecord b) = (replayed (image_blocks limits) old.bytes ≡ None) × (b ≡ 2)
-  JournalFails JournalMemory = Unit {0}
-
-  pub fault_by : {T : Type 0} (mid new : Meaning) (result : Result T JournalFault) (fault : JournalFault) → result ≡ Err fault → mid.bytes ≡ old.bytes → MountEnded (image_blocks limits) mid new result → JournalFails fault
-  fault_by {T} mid new result fault is same ended = by fault (subst (λ (o : Result T JournalFault). MountEnded (image_blocks limits) mid new o) is ended)
+  pub journal_opened : {T : Type 0} (new : Meaning) (outcome : Result T JournalFault) (fault : JournalFault) → outcome ≡ Err fault → MountEnded (image_blocks limits) old new outcome
+      → (outcome ≡ Err JournalMemory → new.bytes ≡ old.bytes) → Opened old new (Err (journal_fault fault))
+  journal_opened {T} new outcome fault is ended unread = by fault (subst (λ (o : Result T JournalFault). MountEnded (image_blocks limits) old new o) is ended) (λ memory. unread (is ∙ ap Err memory))
     where
-      by : (f : JournalFault) → MountEnded {T = T} (image_blocks limits) mid new (Err f) → JournalFails f
-      by JournalDisk told = tt
-      by (JournalRecord b) told = (ap (replayed (image_blocks limits)) (sym same) ∙ told.0, told.1)
-      by JournalMemory told = tt
+      by : (f : JournalFault) → MountEnded {T = T} (image_blocks limits) old new (Err f) → (f ≡ JournalMemory → new.bytes ≡ old.bytes) → Opened old new (Err (journal_fault f))
+      by JournalDisk told same = failed_opened old new
+      by (JournalRecord b) told same =
+          spotted old new (BadRecord b) (long_enough, λ s stands. damaged old.bytes s (BadRecord b) stands (bad_record b told.0 told.1)) (record_first b told.0 told.1)
+      by JournalMemory told same =
+          unspotted old new NoMemory (long_enough, (limits, super), λ s stands. subst (λ bytes. Stands bytes s) (sym (same refl)) stands) (λ spot none. cc)
 
-  pub journal_ended : (new : Meaning) (fault : JournalFault) → (fault ≡ JournalMemory → new.bytes ≡ old.bytes) → JournalFails fault → OpenEnded old new (Err (journal_fault fault))
-  journal_ended new JournalDisk unread fails = tt
-  journal_ended new (JournalRecord b) unread fails = (long_enough, λ s stands. damaged old.bytes s (BadRecord b) stands (bad_record b fails.0 fails.1))
-  journal_ended new JournalMemory unread fails = (long_enough, (limits, super), λ s stands. subst (λ bytes. Stands bytes s) (sym (unread refl)) stands)
-
-  pub journal_spot : (fault : JournalFault) (spot : Spot) → JournalFails fault → journal_fault fault ≡ Damaged spot → FailsFirst old.bytes spot
-  journal_spot JournalDisk spot fails is = absurd cc
-  journal_spot (JournalRecord b) spot fails is =
-      let same : BadRecord b ≡ spot = cc in
-      subst (λ (p : Spot). FailsFirst old.bytes p) same (record_first b fails.0 fails.1)
-  journal_spot JournalMemory spot fails is = absurd cc
-
-  -- ---- moments, up to the journal and behind it
-  pub journal_moments : (s : State) (mid new : Meaning) → Stands old.bytes s → OnlyReads old mid → IsTrue old.is_honest
-      → Leaves mid new (λ image. mid.images image ⊎ StandsForReplayed (image_blocks limits) mid.bytes image) → Leaves old new (λ image. old.images image ⊎ Stands image s)
-  journal_moments s mid new stands reads honest moments =
-      let same = reads.same honest in
-      leaves_then (leaves_weaken (λ image. old.images image ⊎ Stands image s) (reads.moments honest) (λ image is. inl is))
-      (leaves_weaken (λ image. old.images image ⊎ Stands image s) moments (λ image is. by same.bytes image is (same.images.only image)))
+  pub journal_moments : (s : State) (new : Meaning) → Stands old.bytes s → Leaves old new (λ image. old.images image ⊎ StandsForReplayed (image_blocks limits) old.bytes image)
+      → Leaves old new (λ image. old.images image ⊎ Stands image s)
+  journal_moments s new stands moments = leaves_weaken (λ image. old.images image ⊎ Stands image s) moments by
     where
-      by : mid.bytes ≡ old.bytes → (image : List ℕ) → mid.images image ⊎ StandsForReplayed (image_blocks limits) mid.bytes image → (mid.images image → old.images image) → old.images image ⊎ Stands image s
-      by same image (inl is) only = inl (only is)
-      by same image (inr told) only = inr (replayed_stands s image stands (subst (λ bytes. StandsForReplayed (image_blocks limits) bytes image) same told))
+      by : (image : List ℕ) → old.images image ⊎ StandsForReplayed (image_blocks limits) old.bytes image → old.images image ⊎ Stands image s
+      by image (inl is) = inl is
+      by image (inr told) = inr (replayed_stands s image stands told)
 
-  -- blocks past the image, where the journal was not mounted
-  pub journal_past : (s : State) (mid new : Meaning) (fault : JournalFault) → Stands old.bytes s → OnlyReads old mid → IsTrue old.is_honest → JournalFails fault → (fault ≡ JournalMemory → new.bytes ≡ old.bytes)
-      → (fault ≡ JournalDisk → IsSettledPast (image_blocks s.limits) old) → (IsSettledPast (image_blocks limits) mid → KeepsPast (image_blocks limits) mid new) → KeepsPast (image_blocks s.limits) old new
-  journal_past s mid new fault stands reads honest fails unread settled keeps n past = by fault refl fails
+  -- the blocks past the image that the limits tell are those past the state's
+  pub past_state : (s : State) (new : Meaning) → Stands old.bytes s → KeepsPast (image_blocks limits) old new → KeepsPast (image_blocks s.limits) old new
+  past_state s new stands keeps n past = keeps n (omega (arith, past, ap image_blocks (state_limits s stands)))
+
+  -- where the journal was not mounted
+  pub journal_past : {T : Type 0} (s : State) (new : Meaning) (outcome : Result T JournalFault) (fault : JournalFault) → Stands old.bytes s → outcome ≡ Err fault
+      → MountEnded (image_blocks limits) old new outcome → (outcome ≡ Err JournalMemory → new.bytes ≡ old.bytes) → (journal_fault fault ≡ DiskFault → IsSettledPast (image_blocks s.limits) old)
+      → (IsSettledPast (image_blocks limits) old → KeepsPast (image_blocks limits) old new) → KeepsPast (image_blocks s.limits) old new
+  journal_past {T} s new outcome fault stands is ended unread settled keeps =
+      by fault (subst (λ (o : Result T JournalFault). MountEnded (image_blocks limits) old new o) is ended) (λ memory. unread (is ∙ ap Err memory)) (λ failed. settled (ap journal_fault failed))
     where
-      same_blocks : image_blocks limits ≡ image_blocks s.limits
-      same_blocks = ap image_blocks (state_limits s stands)
-
-      by : (f : JournalFault) → fault ≡ f → JournalFails f → block n new.bytes ≡ block n old.bytes
-      by JournalDisk is told =
-          let same = reads.same honest in
-          let there = settled_past (image_blocks s.limits) old mid same.bytes same.images.only (settled is) in
-          keeps (subst (λ b. IsSettledPast b mid) (sym same_blocks) there) n (omega (arith, past, same_blocks)) ∙ ap (block n) same.bytes
-      by (JournalRecord b) is told = absurd (damaged old.bytes s (BadRecord b) stands (bad_record b told.0 told.1))
-      by JournalMemory is told = ap (block n) (unread is)
+      by : (f : JournalFault) → MountEnded {T = T} (image_blocks limits) old new (Err f) → (f ≡ JournalMemory → new.bytes ≡ old.bytes) → (f ≡ JournalDisk → IsSettledPast (image_blocks s.limits) old)
+          → KeepsPast (image_blocks s.limits) old new
+      by JournalDisk told same there =
+          past_state s new stands (keeps (subst (λ b. IsSettledPast b old) (sym (ap image_blocks (state_limits s stands))) (there refl)))
+      by (JournalRecord b) told same there = absurd (damaged old.bytes s (BadRecord b) stands (bad_record b told.0 told.1))
+      by JournalMemory told same there = λ n past. ap (block n) (same refl)
 
   -- ---- the parts behind the journal
   module _ (whole : length old.bytes ≡ old.len) (r : List ℕ) (replays : replayed (image_blocks limits) old.bytes ≡ Some r) where
     abbrev kept : ℕ → List ℕ
     kept n = block n r
 
-    pub super_kept : block 0 r ≡ super_bytes (record { version = 1; limits = limits })
+    super_kept : block 0 r ≡ super_bytes (record { version = 1; limits = limits })
     super_kept = super-replayed (image_blocks limits) old.bytes r replays (omega (arith, whole, long)) ∙ super.spelled
 
     fails_replayed : (spot : Spot) → Fails limits kept spot → FailsReplayed old.bytes spot
@@ -214,18 +247,15 @@ module _ (old : Meaning) (limits : Limits) (super : HasSuper limits old.bytes) (
         none_before (Bitmap n) before fails = first.none_before (Bitmap n) before (replayed_fails (Bitmap n) fails)
         none_before (Row n) before fails = first.none_before (Row n) before (replayed_fails (Row n) fails)
 
-    pub parts_spot : (result : Result Kept OpenFault) (spot : Spot) → StoreEnded limits kept result → result ≡ Err (Damaged spot) → FailsFirst old.bytes spot
-    parts_spot result spot ended is = parts_first spot (subst (λ (o : Result Kept OpenFault). StoreEnded limits kept o) is ended)
-
     module _ (new : Meaning) (fits : Fits (image_blocks limits) new kept) where
       rest_told : (image : List ℕ) → IsAtRest (image_blocks limits) kept image → StandsForReplayed (image_blocks limits) old.bytes image
       rest_told image rest =
           subst (λ (o : Option (List ℕ)). IsSomeAnd o (λ bytes. KeptBy (image_blocks limits) (λ n. block n bytes) image)) (sym replays) (rest_stands (image_blocks limits) kept image rest)
 
-      pub image_stands : (s : State) (image : List ℕ) → Stands old.bytes s → new.images image → Stands image s
+      image_stands : (s : State) (image : List ℕ) → Stands old.bytes s → new.images image → Stands image s
       image_stands s image stands is = replayed_stands s image stands (rest_told image (fits.all.leaves image is))
 
-      pub bytes_stand : (s : State) → Stands old.bytes s → Stands new.bytes s
+      bytes_stand : (s : State) → Stands old.bytes s → Stands new.bytes s
       bytes_stand s stands = replayed_stands s new.bytes stands (rest_told new.bytes fits.all.reads)
 
       -- the state that a store tells
@@ -247,15 +277,42 @@ module _ (old : Meaning) (limits : Limits) (super : HasSuper limits old.bytes) (
       told_limits store s tells =
           one_limits r store.limits limits (record { range = tells.sound.range; spelled = tells.spelled.super }) (record { range = super.range; spelled = super_kept })
 
-      pub store_ended : (result : Result Kept OpenFault) → ((store : Kept) → result ≡ Ok store → store.journal.blocks ≡ image_blocks limits) → StoreEnded limits kept result → OpenEnded old new result
-      store_ended (Ok store) image ended =
+      parts_opened : (result : Result Kept OpenFault) → ((store : Kept) → result ≡ Ok store → store.journal.blocks ≡ image_blocks limits) → StoreEnded limits kept result → Opened old new result
+      parts_opened (Ok store) image ended =
           let s = ended.0 in
-          (long_enough, (s, told_stand store s ended.1 (told_limits store s ended.1), record {
-            kept = kept;
-            journal = subst (λ b. Fits b new kept) (sym (image store refl)) fits;
-            tells = ended.1;
-          }))
-      store_ended (Err (TooShort len need)) image fails = absurd fails
-      store_ended (Err (Damaged spot)) image fails = (long_enough, λ s stands. damaged old.bytes s spot stands (fails_in spot fails.fails))
-      store_ended (Err DiskFault) image fails = tt
-      store_ended (Err NoMemory) image fails = (long_enough, (limits, super), λ s stands. bytes_stand s stands)
+          record {
+            ended = (
+              long_enough,
+              (
+                s,
+                told_stand store s ended.1 (told_limits store s ended.1),
+                record {
+                  kept = kept;
+                  journal = subst (λ b. Fits b new kept) (sym (image store refl)) fits;
+                  tells = ended.1;
+                },
+              ),
+            );
+            spot = λ spot is. absurd cc;
+          }
+      parts_opened (Err (TooShort len need)) image fails = absurd fails
+      parts_opened (Err (Damaged spot)) image fails =
+          spotted old new spot (long_enough, λ s stands. damaged old.bytes s spot stands (fails_in spot fails.fails)) (parts_first spot fails)
+      parts_opened (Err DiskFault) image fails = failed_opened old new
+      parts_opened (Err NoMemory) image fails = unspotted old new NoMemory (long_enough, (limits, super), λ s stands. bytes_stand s stands) (λ spot none. cc)
+
+  -- where it was mounted, and what it fits then was read
+  pub store_opened : length old.bytes ≡ old.len → (mid new : Meaning) (result : Result Kept OpenFault) → IsSomeAnd (replayed (image_blocks limits) old.bytes) (λ r. Fits (image_blocks limits) mid (λ n. block n r))
+      → OnlyReads mid new → ((store : Kept) → result ≡ Ok store → store.journal.blocks ≡ image_blocks limits)
+      → ((kept : ℕ → List ℕ) → Fits (image_blocks limits) mid kept → kept 0 ≡ super_bytes (record { version = 1; limits = limits }) → StoreEnded limits kept result) → Opened old new result
+  store_opened whole mid new result mounted reads image ended =
+      let found = some_replay (replayed (image_blocks limits) old.bytes) (λ r. Fits (image_blocks limits) mid (λ n. block n r)) mounted in
+      let kept : ℕ → List ℕ = λ n. block n found.0 in
+      parts_opened whole found.0 found.1 new (fits_after (image_blocks limits) kept reads found.2) result image (ended kept found.2 (super_kept whole found.0 found.1))
+
+  pub store_moments : (s : State) → length old.bytes ≡ old.len → (mid new : Meaning) → IsSomeAnd (replayed (image_blocks limits) old.bytes) (λ r. Fits (image_blocks limits) mid (λ n. block n r))
+      → Stands old.bytes s → Leaves old mid (λ image. old.images image ⊎ StandsForReplayed (image_blocks limits) old.bytes image) → Leaves mid new mid.images → Leaves old new (λ image. old.images image ⊎ Stands image s)
+  store_moments s whole mid new mounted stands moments reads =
+      let found = some_replay (replayed (image_blocks limits) old.bytes) (λ r. Fits (image_blocks limits) mid (λ n. block n r)) mounted in
+      leaves_then (journal_moments s mid stands moments)
+      (leaves_weaken (λ image. old.images image ⊎ Stands image s) reads (λ image is. inr (image_stands whole found.0 found.1 mid found.2 s image stands is)))

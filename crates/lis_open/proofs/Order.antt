@@ -1,14 +1,12 @@
 -- The parts that pass their checks, and the first one that fails.
-use Rattle.std.proofs.Common.{◌≡◌, ◌≢◌, ◌⊎◌, ◌∙◌, refl, sym, ap, subst, inl, inr, ℕ, ◌+◌, ◌<◌, ◌≤◌, Bool, true, false, not, ◌&&◌, is_some, Option, Some, None, List, length, IsTrue, arith}
-use Rattle.std.specs.List.{list_any}
-use Rattle.std.proofs.lemmas.Bool.{and_parts, and_from, cases_eq, cases_lt}
-use Rattle.std.proofs.lemmas.List.{get_or_past}
+use Rattle.std.proofs.Common.{◌≡◌, ◌≢◌, ◌⊎◌, ◌∙◌, refl, sym, ap, subst, inl, inr, ℕ, ◌+◌, ◌<◌, Bool, true, false, not, ◌&&◌, is_some, Option, Some, None, List, IsTrue, arith}
+use Rattle.std.proofs.lemmas.Bool.{and_parts, and_from, cases_eq}
 use Rattle.lis_graph.proofs.Members.{Among, among_from_any, any_from_among, flat_map_among}
 use Rattle.lis_blockmap.specs.Bitmap.{is_taken, has_bit, IsFirstDifference}
 use Rattle.lis_content.specs.Content.{has_number}
 use Rattle.lis_content.proofs.Numbers.{not_true, below_if_taken}
 use Rattle.lis_dict.specs.Dict.{word_of}
-use Rattle.lis_catalog.specs.Catalog.{Filed, rec_at}
+use Rattle.lis_catalog.specs.Catalog.{Filed}
 use Rattle.lis_fields.specs.Records.{FileRecord}
 use Rattle.lis_fields.specs.declared.slots.PropSlot.{PropSlot}
 use Rattle.lis_fields.specs.declared.slots.PropSlot.TheVariants.{Known}

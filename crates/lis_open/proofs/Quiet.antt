@@ -1,7 +1,7 @@
 -- Runs that only read, one after another.
-use Rattle.std.proofs.Common.{◌≡◌, ◌∙◌, refl, sym, ℕ, List, IsTrue}
+use Rattle.std.proofs.Common.{◌∙◌, refl, sym, ℕ, List}
 use Rattle.lis_ports.specs.Meaning.{Meaning}
-use Rattle.lis_ports.specs.Runs.{IsDiskRun, Leaves}
+use Rattle.lis_ports.specs.Runs.{IsDiskRun}
 use Rattle.lis_ports.specs.Calls.{IsUnchanged}
 use Rattle.lis_ports.proofs.Always.{always_unchanged}
 use Rattle.lis_ports.proofs.Moments.{run_none, run_then, leaves_none, leaves_weaken, leaves_then}
@@ -15,7 +15,7 @@ reads_none m = record {
   moments = λ honest. leaves_none m m.images;
 }
 
-unchanged_then : {a b c : Meaning} → IsDiskRun b c → IsUnchanged a b → IsUnchanged b c → IsUnchanged a c
+pub unchanged_then : {a b c : Meaning} → IsDiskRun b c → IsUnchanged a b → IsUnchanged b c → IsUnchanged a c
 unchanged_then run first second = record {
   bytes = second.bytes ∙ first.bytes;
   images = record {

@@ -1,15 +1,14 @@
 -- Slots and the values that they spell.
-use Rattle.std.proofs.Common.{◌≡◌, ◌∙◌, refl, sym, ap, ℕ, ◌<◌, Bool, Option, Some, None, List, [], IsTrue}
+use Rattle.std.proofs.Common.{◌≡◌, ◌∙◌, sym, ap, ℕ, ◌<◌, Bool, Option, Some, None, List, [], IsTrue}
 use Rattle.std.specs.Option.{IfSome}
 use Rattle.lis_journal.specs.Record.{Entry}
 use Rattle.lis_journal.specs.Phases.{looked}
 use Rattle.lis_slots.specs.Slots.{Slots, slot}
-use Rattle.lis_fields.specs.Layouts.{prop_bytes, is_prop, file_bytes, is_file}
 use Rattle.lis_fields.specs.declared.slots.PropSlot.{PropSlot}
 use Rattle.lis_fields.specs.declared.slots.FileSlot.{FileSlot}
 use Rattle.lis_fields.proofs.OneSpelling.{prop_once, file_once}
 use Rattle.lis_model.specs.declared.limits.Limits.{Limits}
-use Rattle.lis_open.specs.Checks.{IsSlot, IsProperty, IsFile}
+use Rattle.lis_open.specs.Checks.{IsProperty, IsFile}
 use Rattle.lis_open.specs.Reading.{IsReadAs}
 
 -- what is read of a slot where nothing is staged

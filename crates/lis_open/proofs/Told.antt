@@ -1,7 +1,7 @@
 -- What was read and checked tells a state.
-use Rattle.std.proofs.Common.{◌≡◌, ◌⊎◌, ◌∙◌, refl, sym, ap, ap₂, subst, inl, inr, ℕ, ◌+◌, ◌/◌, ◌<◌, ◌≤◌, ◌==◌, nat_lt, nat_le, Bool, true, false, not, ◌&&◌, ◌||◌, is_some, Option, Some, None, List, [], ◌∷◌, ◌++◌, length, map, filter, IsTrue, arith, sum}
+use Rattle.std.proofs.Common.{◌≡◌, ◌⊎◌, ◌∙◌, refl, sym, ap, ap₂, subst, inl, inr, ℕ, ◌+◌, ◌<◌, ◌≤◌, nat_lt, nat_le, Bool, true, false, not, ◌&&◌, ◌||◌, is_some, Option, Some, None, List, [], ◌∷◌, length, map, filter, IsTrue, arith, sum}
 use Rattle.std.specs.Option.{option_to_list}
-use Rattle.std.specs.List.{list_all, list_any, flat_map}
+use Rattle.std.specs.List.{list_all, flat_map}
 use Rattle.std.proofs.lemmas.Bool.{and_parts, and_from, ltb-true, le-leb}
 use Rattle.std.proofs.lemmas.List.{length-map}
 use Rattle.std.proofs.lemmas.List.Folds.{list_all-map}
@@ -9,35 +9,31 @@ use mathlib.Core.List.{map-map}
 use Rattle.lis_graph.specs.Graph.{is_rising}
 use Rattle.lis_graph.proofs.Members.{Among, among_map, map_among, among_filter, filter_among, among_append, among_left, among_flat_map, flat_map_among, among_from_any}
 use Rattle.lis_graph.proofs.Sets.{sorted_from_rising}
-use Rattle.lis_bits.specs.Rows.{row_at}
 use Rattle.lis_journal.specs.Journal.{Held}
 use Rattle.lis_blockmap.specs.Bitmap.{is_taken, bitmap_bytes}
 use Rattle.lis_content.specs.Content.{content, has_number}
-use Rattle.lis_content.proofs.Numbers.{not_true}
 use Rattle.lis_dict.specs.Dict as dict
 use Rattle.lis_dict.specs.Dict.{Dict, IsDict, number_of, word_of}
-use Rattle.lis_dict.proofs.Laws.{among_from_number, number_from_among, word_from_number, number_from_word, number_below, among_from_word}
-use Rattle.lis_catalog.specs.Catalog.{Filed, IsCatalog, names}
-use Rattle.lis_fields.specs.Records.{FileRecord}
+use Rattle.lis_dict.proofs.Laws.{among_from_number, number_from_among, word_from_number, number_from_word, number_below}
+use Rattle.lis_catalog.specs.Catalog.{Filed}
 use Rattle.lis_fields.specs.Layouts.{super_bytes, is_prop, is_record}
 use Rattle.lis_fields.proofs.Parts.{record_tests, few_tags, few_blocks}
 use Rattle.lis_words.specs.Words.{word_cmp, has_word, is_plain_word, is_valued, is_file_name, head_bytes}
-use Rattle.lis_laws.proofs.Members.{word_order, among_from_has_word, has_word_from_among, among_with_words, with_words_old, with_words_new, among_set_of, set_of_among, sorted_set_of, same_words}
+use Rattle.lis_laws.proofs.Members.{word_order, among_from_has_word, has_word_from_among, among_with_words, with_words_old, among_set_of, set_of_among, sorted_set_of, same_words}
 use Rattle.lis_laws.proofs.Chains.{among_heads, up_self, acyclic_decides}
-use Rattle.lis_laws.proofs.Counts.{all_among, all_from, all_weaker, rising_from_sorted, rising_filter}
+use Rattle.lis_laws.proofs.Counts.{all_among, all_from, rising_from_sorted, rising_filter}
 use Rattle.lis_laws.proofs.Known.{sorted_known}
 use Rattle.lis_laws.proofs.Tables.{words_of_file, file_has, described_known}
 use Rattle.lis_laws.proofs.Steps.{with_words_le, description_le}
 use Rattle.lis_model.specs.declared.limits.Limits.{Limits}
 use Rattle.lis_model.specs.Ranges.{are_in_range}
 use Rattle.lis_model.specs.Image.{bitmap_start, data_start, image_blocks}
-use Rattle.lis_model.specs.Sets.{set_of}
-use Rattle.lis_model.specs.State.{State, File, up, heads, own_words, file_words, description, known, is_declarable, is_assignable, file_cmp, blocks_needed, used_blocks, FilesAreFormed, WellFormed}
-use Rattle.lis_store.specs.Kept.{Kept, property_by, property_at, bit_of, is_declared, words_told, file_told, used_by, is_sound_record, IsSound, AxiomsAreFree, IsSpelled, Tells}
+use Rattle.lis_model.specs.State.{State, File, heads, own_words, description, known, is_declarable, is_assignable, file_cmp, blocks_needed, used_blocks, FilesAreFormed, WellFormed}
+use Rattle.lis_store.specs.Kept.{Kept, property_by, bit_of, words_told, file_told, used_by, is_sound_record, IsSound, AxiomsAreFree, Tells}
 use Rattle.lis_store.specs.Inside.{kept_of}
 use Rattle.lis_open.specs.declared.words.Words.{Words}
 use Rattle.lis_open.specs.declared.files.Files.{Files}
-use Rattle.lis_open.specs.Reading.{bits, is_declared_word, is_assignable_word, is_assignable_by, is_assignable_number, is_given, is_stray, AreFirstWords, WordsAreSpelled, AreFirstFiles, FilesAreSpelled}
+use Rattle.lis_open.specs.Reading.{bits, is_declared_word, is_assignable_word, is_assignable_by, is_assignable_number, is_given, is_stray, AreFirstWords, WordsAreSpelled, AreFirstFiles, FilesAreSpelled, AreRead, AreSpelled}
 use Rattle.lis_open.proofs.Numbers.{true_or_false, both_ways, same_test, or_parts, among_from_has}
 use Rattle.lis_open.proofs.Assignable.{valued_not_plain}
 use Rattle.lis_open.proofs.Counts.{few_below, few_words, take_few, sum_within, rising_map}
@@ -281,7 +277,7 @@ module _ (limits : Limits) (words : Words) (files : Files) (at : ℕ → List �
   }
 
   -- ---- and what was read tells it
-  pub tells : (journal : Held) → IsTrue (are_in_range limits) → journal.blocks ≡ image_blocks limits → journal.staged ≡ [] → journal.is_broken ≡ false
+  tells : (journal : Held) → IsTrue (are_in_range limits) → journal.blocks ≡ image_blocks limits → journal.staged ≡ [] → journal.is_broken ≡ false
       → at 0 ≡ super_bytes (record { version = 1; limits = limits }) → WordsAreSpelled limits at words limits.props → AxiomsAreFree limits at → FilesAreSpelled limits at files limits.files
       → at (bitmap_start limits) ≡ bitmap_bytes files.map → Tells (kept_by limits journal words files) at s
   tells journal in_range image clean unbroken super spelled axioms records bitmap = record {
@@ -295,3 +291,12 @@ module _ (limits : Limits) (words : Words) (files : Files) (at : ℕ → List �
     declared = declared_test;
     files = refl;
   }
+
+pub store_told : (limits : Limits) (words : Words) (files : Files) (at : ℕ → List ℕ) (journal : Held) (store : Kept) → AreRead limits words files → AreSpelled limits at words files → IsTrue (are_in_range limits)
+    → journal.blocks ≡ image_blocks limits → journal.staged ≡ [] → journal.is_broken ≡ false → at 0 ≡ super_bytes (record { version = 1; limits = limits })
+    → store ≡ kept_by limits journal words files → (s : State) × Tells store at s
+store_told limits words files at journal store read spelled in_range image clean unbroken super is =
+    let s = told_state limits words files at in
+    let told =
+    tells limits words files at read.words_are read.files_are read.used journal in_range image clean unbroken super spelled.properties spelled.axioms spelled.records spelled.bitmap in
+    (s, subst (λ (k : Kept). Tells k at s) (sym is) told)

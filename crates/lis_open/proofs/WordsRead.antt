@@ -1,7 +1,6 @@
 -- The words of property slots, read one after another.
-use Rattle.std.proofs.Common.{◌≡◌, ◌⊎◌, ◌∙◌, refl, sym, ap, ap₂, subst, inl, inr, ℕ, ◌+◌, ◌<◌, ◌≤◌, ◌==◌, Bool, true, false, not, cond, is_some, Option, Some, None, List, [], length, get_or, replicate, IsTrue, arith, eq-eqb, get_or-set_same}
+use Rattle.std.proofs.Common.{◌≡◌, ◌⊎◌, ◌∙◌, refl, sym, ap, ap₂, subst, inl, inr, ℕ, ◌+◌, ◌<◌, ◌≤◌, ◌==◌, Bool, true, false, not, cond, is_some, Option, Some, None, List, [], length, IsTrue, arith, eq-eqb, get_or-set_same}
 use Rattle.std.specs.Option.{IfSome}
-use Rattle.std.specs.List.{range_with_len}
 use Rattle.std.proofs.lemmas.Bool.{cases_eq, cases_lt, ne_eqb}
 use Rattle.std.proofs.lemmas.List.{length-replicate}
 use Rattle.std.proofs.lemmas.List.FromFn.{length-map-range_with_len}
@@ -11,7 +10,7 @@ use Rattle.lis_bits.proofs.Laws.{get-with_row_same, length-with_row}
 use Rattle.lis_journal.specs.Images.{Fits}
 use Rattle.lis_slots.specs.Slots.{slot}
 use Rattle.lis_blockmap.specs.Bitmap.{is_taken}
-use Rattle.lis_dict.specs.Dict.{Dict, IsDict, number_of, word_of, with_entry}
+use Rattle.lis_dict.specs.Dict.{Dict, IsDict, number_of, word_of}
 use Rattle.lis_dict.proofs.Laws.{word_from_number, number_from_word, number_below, word_of-with_entry}
 use Rattle.lis_fields.specs.Layouts.{prop_bytes, is_prop}
 use Rattle.lis_fields.specs.declared.slots.PropSlot.{PropSlot}
@@ -23,7 +22,7 @@ use Rattle.lis_store.specs.Stands.{property_slots, word_in}
 use Rattle.lis_store.specs.Kept.{property_by, property_at}
 use Rattle.lis_open.specs.declared.words.Words.{Words}
 use Rattle.lis_open.specs.Checks.{IsProperty, HasWord, HasWordBefore, PropertyFails, Fails, rank, place}
-use Rattle.lis_open.specs.Reading.{OnlyReads, IsReadAs, IsFirst, no_words, bits, with_word, is_new_word, may_take_property, with_property, AreWords, AreFirstWords, WordsAreSpelled}
+use Rattle.lis_open.specs.Reading.{OnlyReads, IsReadAs, IsFirst, no_words, bits, with_word, may_take_property, with_property, AreWords, AreFirstWords, WordsAreSpelled}
 use Rattle.lis_open.proofs.Slots.{one_property}
 
 -- ---- what is kept of a slot, and its word

@@ -1,5 +1,5 @@
 -- The checks of opening: which part fails its check, by what the blocks of an image hold, and the order of the parts.
-use Rattle.std.specs.Prelude.{◌≡◌, ◌⊎◌, ℕ, ◌≤◌, ◌<◌, Bool, false, List, Option, Some, None, IsTrue}
+use Rattle.std.specs.Prelude.{◌≡◌, ◌⊎◌, ℕ, ◌≤◌, ◌<◌, Bool, false, List, Some, None, IsTrue}
 use Rattle.lis_journal.specs.Record.{block, replayed}
 use Rattle.lis_slots.specs.Slots.{Slots, slot}
 use Rattle.lis_blockmap.specs.Bitmap.{has_bit}

@@ -21,7 +21,7 @@ use Rattle.lis_fields.specs.Layouts.{prop_bytes, is_prop, file_bytes}
 use Rattle.lis_words.specs.Words.{is_plain_word, is_valued, head_bytes}
 use Rattle.lis_model.specs.declared.limits.Limits.{Limits}
 use Rattle.lis_model.specs.declared.spot.Spot.{Spot}
-use Rattle.lis_model.specs.declared.spot.Spot.TheVariants.{Super, Word, Bitmap}
+use Rattle.lis_model.specs.declared.spot.Spot.TheVariants.{Word, Bitmap}
 use Rattle.lis_model.specs.Image.{bitmap_start}
 use Rattle.lis_store.specs.Stands.{property_slots, file_slots}
 use Rattle.lis_model.specs.State.{State}
@@ -30,8 +30,8 @@ use Rattle.lis_open.specs.declared.mounting.OpenFault.{OpenFault}
 use Rattle.lis_open.specs.declared.mounting.OpenFault.TheVariants.{TooShort, Damaged, DiskFault, NoMemory}
 use Rattle.lis_open.specs.declared.words.Words.{Words}
 use Rattle.lis_open.specs.declared.files.Files.{Files}
-use Rattle.lis_open.specs.Opens.{HasSuper}
-use Rattle.lis_open.specs.Checks.{IsSlot, Fails, rank, place, IsBefore}
+use Rattle.lis_open.specs.Opens.{HasSuper, OpenEnded}
+use Rattle.lis_open.specs.Checks.{IsSlot, Fails, rank, place, IsBefore, FailsFirst}
 
 -- ---- runs that only read
 pub record OnlyReads (old new : Meaning) : Type 0 where
@@ -257,13 +257,13 @@ abbrev pub StoreEnded : Limits → (ℕ → List ℕ) → Result Kept OpenFault 
 StoreEnded limits at (Ok store) = (s : State) × Tells store at s
 StoreEnded limits at (Err fault) = PartsFail limits at fault
 
--- ---- the super block
-abbrev pub SuperFails : List ℕ → OpenFault → Type 0
-SuperFails image (Damaged spot) = (spot ≡ Super) × ((limits : Limits) → HasSuper limits image → ⊥)
-SuperFails image DiskFault = Unit {0}
-SuperFails image NoMemory = ⊥
-SuperFails image (TooShort len need) = ⊥
+-- ---- opening
+-- how it ended; a spot is that of the first check that fails
+pub record Opened (old new : Meaning) (result : Result Kept OpenFault) : Type 0 where
+  pub ended : OpenEnded old new result
+  pub spot : (spot : Spot) → result ≡ Err (Damaged spot) → FailsFirst old.bytes spot
 
-abbrev pub SuperRead : List ℕ → Result Limits OpenFault → Type 0
-SuperRead image (Ok limits) = HasSuper limits image
-SuperRead image (Err fault) = SuperFails image fault
+-- how reading the limits ended
+abbrev pub LimitsRead : Meaning → Meaning → Result Limits OpenFault → Type 0
+LimitsRead old new (Ok limits) = HasSuper limits old.bytes
+LimitsRead old new (Err fault) = Opened old new (Err fault)

@@ -8,9 +8,9 @@ ghost use Rattle.lis_model.specs.Image.{image_blocks};
 ghost use Rattle.lis_model.specs.State.{State};
 ghost use Rattle.lis_store.specs.Stands.{Stands};
 ghost use Rattle.lis_model.specs.Ranges.{are_in_range};
-ghost use Rattle.lis_open.specs.Opens.{HasOpenCause, OpenEnded};
+ghost use Rattle.lis_open.specs.Opens.{HasOpenCause, HasSuper, OpenEnded};
 ghost use Rattle.lis_open.specs.Checks.{FailsFirst};
-ghost use Rattle.lis_open.specs.Reading.{OnlyReads, SuperRead};
+ghost use Rattle.lis_open.specs.Reading.{OnlyReads, Opened, LimitsRead};
 ghost use Rattle.lis_open.specs.declared.mounting.OpenFault.TheVariants.{TooShort, Damaged, DiskFault as DiskFailed};
 ghost use Rattle.lis_model.specs.declared.spot.Spot.{Spot as SpotOf};
 
@@ -76,20 +76,50 @@ impl From<JournalFault> for OpenFault {
     }
 }
 
-// Reads the limits of the super block.
+// Reads the limits of the super block. The disk is as long as they ask for.
 fn read_limits<D: Disk>(disk: &mut D) -> Result<Limits, OpenFault>
-    requires { 4096 ≤ (D.meaning disk.old).len }
     ensures reads { OnlyReads (D.meaning disk.old) (D.meaning disk.new) }
     ensures cause { HasOpenCause (D.meaning disk.old).disk_faults (D.meaning disk.new).disk_faults result }
+    ensures small { (D.meaning disk.old).len < 4096
+        → (result ≡ Err (TooShort (D.meaning disk.old).len 4096)) × (disk.new ≡ disk.old) }
     ensures range { IfOk result (λ limits. IsTrue (are_in_range limits)) }
-    ensures ended { IsTrue (D.meaning disk.old).is_honest → SuperRead (D.meaning disk.old).bytes result }
+    ensures long { IfOk result (λ limits. 4096 * image_blocks limits ≤ (D.meaning disk.new).len) }
+    ensures ended { IsTrue (D.meaning disk.old).is_honest → LimitsRead (D.meaning disk.old) (D.meaning disk.new) result }
 {
+    let len = disk.len();
+    if len < BLOCK_LEN as u64 {
+        return Err(OpenFault::TooShort(len, BLOCK_LEN as u64));
+    }
     let mut block = [0; BLOCK_LEN];
     disk.read_at(0, &mut block)?;
-    match read_super(&block) {
-        Some(rec) => Ok(rec.limits),
-        None => Err(OpenFault::Damaged(Spot::Super)),
+    let Some(rec) = read_super(&block) else {
+        return Err(OpenFault::Damaged(Spot::Super));
+    };
+    let need = u64::from(image_blocks(&rec.limits)) * BLOCK_LEN as u64;
+    if len < need {
+        return Err(OpenFault::TooShort(len, need));
     }
+    Ok(rec.limits)
+}
+
+// Opens the image behind a super block of these limits.
+fn mount_image<D: Disk>(alloc: Global, disk: &mut D, limits: Limits) -> Result<Store, OpenFault>
+    requires range { IsTrue (are_in_range limits) }
+    requires long { 4096 * image_blocks limits ≤ (D.meaning disk.old).len }
+    requires begins { IsTrue (D.meaning disk.old).is_honest → HasSuper limits (D.meaning disk.old).bytes }
+    ensures run { IsDiskRun (D.meaning disk.old) (D.meaning disk.new) }
+    ensures cause { HasOpenCause (D.meaning disk.old).disk_faults (D.meaning disk.new).disk_faults result }
+    ensures opened { IsTrue (D.meaning disk.old).is_honest → Opened (D.meaning disk.old) (D.meaning disk.new) result }
+    ensures ready { IfOk result (λ store. store.journal.is_broken ≡ false) }
+    ensures long { IfOk result (λ store. 4096 * store.journal.blocks ≤ (D.meaning disk.new).len) }
+    ensures any_moment { (s : State) → IsTrue (D.meaning disk.old).is_honest → Stands (D.meaning disk.old).bytes s
+        → Leaves (D.meaning disk.old) (D.meaning disk.new) (λ image. (D.meaning disk.old).images image ⊎ Stands image s) }
+    ensures past { (s : State) → IsTrue (D.meaning disk.old).is_honest → Stands (D.meaning disk.old).bytes s
+        → (result ≡ Err DiskFailed → IsSettledPast (image_blocks s.limits) (D.meaning disk.old))
+        → KeepsPast (image_blocks s.limits) (D.meaning disk.old) (D.meaning disk.new) }
+{
+    let journal = Journal::mount(alloc, disk, image_blocks(&limits))?;
+    read_store(alloc, disk, limits, journal)
 }
 
 /// Opens the image on a disk. It writes nothing but what an unfinished record asks for, and before its first sync nothing.
@@ -116,15 +146,6 @@ pub fn mount<D: Disk>(alloc: Global, disk: &mut D) -> Result<Store, OpenFault>
         → (result ≡ Err DiskFailed → IsSettledPast (image_blocks s.limits) (D.meaning disk.old))
         → KeepsPast (image_blocks s.limits) (D.meaning disk.old) (D.meaning disk.new) }
 {
-    let len = disk.len();
-    if len < BLOCK_LEN as u64 {
-        return Err(OpenFault::TooShort(len, BLOCK_LEN as u64));
-    }
     let limits = read_limits(disk)?;
-    let need = u64::from(image_blocks(&limits)) * BLOCK_LEN as u64;
-    if len < need {
-        return Err(OpenFault::TooShort(len, need));
-    }
-    let journal = Journal::mount(alloc, disk, image_blocks(&limits))?;
-    read_store(alloc, disk, limits, journal)
+    mount_image(alloc, disk, limits)
 }

@@ -1,7 +1,7 @@
 use Rattle.std.proofs.Common.{◌≡◌, ◌<◌, sym, ap, subst, ◌∙◌}
 use Rattle.lis_slots.specs.Slots.{Slots}
 use Rattle.lis_store.specs.Stands.{axiom_slots}
-use Rattle.lis_open.proofs.Quiet.{reads_none, reads_then, fits_after}
+use Rattle.lis_open.proofs.Quiet.{reads_then, fits_after}
 use Rattle.lis_open.proofs.Checked.{axiom_fails, axioms_on, free_from, not_free_from}
 use Rattle.lis_open.proofs.checks.check_axioms.Goals as goal
 

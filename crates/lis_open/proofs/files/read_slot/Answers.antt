@@ -1,4 +1,4 @@
-use Rattle.std.proofs.Common.{◌∙◌, ap, ℕ, List}
+use Rattle.std.proofs.Common.{◌∙◌, ap}
 use Rattle.lis_slots.specs.Slots.{Slots, slot}
 use Rattle.lis_fields.specs.Layouts.{file_bytes, is_file}
 use Rattle.lis_store.specs.Stands.{file_slots}

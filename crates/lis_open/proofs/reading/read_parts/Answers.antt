@@ -1,5 +1,5 @@
 use Rattle.std.proofs.lemmas.Result.{err_from_is_err_and}
-use Rattle.lis_open.proofs.Quiet.{reads_then, fits_after}
+use Rattle.lis_open.proofs.Quiet.{fits_after}
 use Rattle.lis_open.proofs.Order.{none_below, words_read, axioms_free}
 use Rattle.lis_open.proofs.Parts.{kind_failed, words_failed, bitmap_ended}
 use Rattle.lis_open.proofs.reading.read_parts.Goals as goal

@@ -1,4 +1,4 @@
-use Rattle.std.proofs.Common.{sym, ◌∙◌, ap, ℕ, List}
+use Rattle.std.proofs.Common.{◌∙◌, ap}
 use Rattle.lis_slots.specs.Slots.{Slots, slot}
 use Rattle.lis_fields.specs.Layouts.{prop_bytes, is_prop}
 use Rattle.lis_store.specs.Stands.{property_slots}
