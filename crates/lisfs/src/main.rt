@@ -3,12 +3,12 @@
 
 mod image;
 
+use image::ImageFile;
 use lis_memdisk::FileStation;
 use lis_ports::StdSource;
 use lis_shell::status::{Status, exit_code, status_text};
 use lis_shell::top::lisfs;
 use lis_shell::words::{Task, make_len, task_of};
-use image::ImageFile;
 use std::io::Write;
 use std::process::ExitCode;
 use std::{env, io};
