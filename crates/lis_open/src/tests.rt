@@ -1,4 +1,4 @@
-ghost use Rattle.std.specs.Prelude.{◌≡◌, ◌<◌, length, IfOk};
+ghost use Rattle.std.specs.Prelude.{◌≡◌, ◌<◌, ◌≤◌, ◌+◌, length, IfOk};
 ghost use Rattle.lis_memdisk.specs.MemStation.{meaning_of};
 
 use crate::{MakeFault, OpenFault, make, mount};
@@ -58,17 +58,25 @@ fn a_short_disk_is_refused(rt: HostRuntime) -> Result<(), Fail> {
     Ok(())
 }
 
+fn put(disk: &mut MemStation, at: u64, bytes: &[u8]) -> Result<(), Fail>
+    requires { at + length bytes.now ≤ (meaning_of disk.old).len }
+    ensures { (meaning_of disk.new).len ≡ (meaning_of disk.old).len }
+{
+    disk.write_at(at, bytes)?;
+    Ok(())
+}
+
 // An image with the word `rock`, declared, and `song` with it, which has 2 bytes in data block 1.
 fn image_of_one_file(alloc: Global) -> Result<MemStation, Fail>
     ensures { IfOk result (λ disk. (meaning_of disk).len ≡ 2433024) }
 {
     let mut disk = disk_of(alloc, 2_433_024)?;
     make(&mut disk, &LIMITS)?;
-    disk.write_at(578 * 4_096 + 5 * 64, b"\x02\x04rock")?;
-    disk.write_at(580 * 4_096 + 256, b"\x01\x04song")?;
-    disk.write_at(580 * 4_096 + 256 + 62, &[1, 0, 2, 0, 0, 0, 5])?;
-    disk.write_at(580 * 4_096 + 256 + 100, &[1])?;
-    disk.write_at(585 * 4_096, &[2])?;
+    put(&mut disk, 578 * 4_096 + 5 * 64, b"\x02\x04rock")?;
+    put(&mut disk, 580 * 4_096 + 256, b"\x01\x04song")?;
+    put(&mut disk, 580 * 4_096 + 256 + 62, &[1, 0, 2, 0, 0, 0, 5])?;
+    put(&mut disk, 580 * 4_096 + 256 + 100, &[1])?;
+    put(&mut disk, 585 * 4_096, &[2])?;
     Ok(disk)
 }
 
@@ -77,7 +85,7 @@ fn spot_of(alloc: Global, at: u64, bytes: &[u8]) -> Result<Option<Spot>, Fail>
     requires { at + length bytes.now ≤ 2433024 }
 {
     let mut disk = image_of_one_file(alloc)?;
-    disk.write_at(at, bytes)?;
+    put(&mut disk, at, bytes)?;
     match mount(alloc, &mut disk) {
         Ok(_) => Ok(None),
         Err(OpenFault::Damaged(spot)) => Ok(Some(spot)),
@@ -107,49 +115,43 @@ fn an_image_of_one_file_is_opened(rt: HostRuntime) -> Result<(), Fail> {
 }
 
 #[test]
-fn damage_is_found_where_it_is(rt: HostRuntime) -> Result<(), Fail> {
-    for (at, bytes, spot) in [
-        (4_095, b"\x01".as_slice(), Some(Spot::Super)),
-        (4_096, b"\x01".as_slice(), Some(Spot::BadRecord(2))),
-        (4_096, b"\x02".as_slice(), None),
-        (578 * 4_096, b"\x03".as_slice(), Some(Spot::Property(0))),
-        (
-            578 * 4_096 + 64,
-            b"\x02\x04rock".as_slice(),
-            Some(Spot::Property(5)),
-        ),
-        (579 * 4_096 + 80, b"\x01".as_slice(), Some(Spot::Axiom(10))),
-        (
-            580 * 4_096 + 256 + 68,
-            b"\x06".as_slice(),
-            Some(Spot::File(1)),
-        ),
-        (
-            580 * 4_096 + 256 + 100,
-            b"\x08".as_slice(),
-            Some(Spot::File(1)),
-        ),
-        (
-            580 * 4_096 + 512,
-            b"\x01\x04song".as_slice(),
-            Some(Spot::File(2)),
-        ),
-        (580 * 4_096 + 512, b"\x01\x04sung".as_slice(), None),
-        (
-            578 * 4_096 + 128,
-            b"\x01\x06from:x".as_slice(),
-            Some(Spot::Word(2)),
-        ),
-        (585 * 4_096, b"\x03".as_slice(), Some(Spot::Bitmap(0))),
-        (585 * 4_096, b"\0".as_slice(), Some(Spot::Bitmap(1))),
-        (
-            586 * 4_096 - 1,
-            b"\x80".as_slice(),
-            Some(Spot::Bitmap(32_767)),
-        ),
-    ] {
-        assert!(rt; spot_of(rt.alloc(), at, bytes)? == spot, "at {at}");
-    }
+fn a_bad_super_block_or_record_is_found(rt: HostRuntime) -> Result<(), Fail> {
+    let alloc = rt.alloc();
+    assert!(rt; spot_of(alloc, 4_095, b"\x01")? == Some(Spot::Super));
+    assert!(rt; spot_of(alloc, 4_096, b"\x01")? == Some(Spot::BadRecord(2)));
+    assert!(rt; spot_of(alloc, 4_096, b"\x02")?.is_none());
+    Ok(())
+}
+
+#[test]
+fn a_bad_property_or_axiom_is_found(rt: HostRuntime) -> Result<(), Fail> {
+    let alloc = rt.alloc();
+    let slots = 578 * 4_096;
+    assert!(rt; spot_of(alloc, slots, b"\x03")? == Some(Spot::Property(0)));
+    assert!(rt; spot_of(alloc, slots + 64, b"\x02\x04rock")? == Some(Spot::Property(5)));
+    assert!(rt; spot_of(alloc, slots + 128, b"\x01\x06from:x")? == Some(Spot::Word(2)));
+    assert!(rt; spot_of(alloc, 579 * 4_096 + 80, b"\x01")? == Some(Spot::Axiom(10)));
+    Ok(())
+}
+
+#[test]
+fn a_bad_file_is_found(rt: HostRuntime) -> Result<(), Fail> {
+    let alloc = rt.alloc();
+    let slots = 580 * 4_096;
+    assert!(rt; spot_of(alloc, slots + 256 + 68, b"\x06")? == Some(Spot::File(1)));
+    assert!(rt; spot_of(alloc, slots + 256 + 100, b"\x08")? == Some(Spot::File(1)));
+    assert!(rt; spot_of(alloc, slots + 512, b"\x01\x04song")? == Some(Spot::File(2)));
+    assert!(rt; spot_of(alloc, slots + 512, b"\x01\x04sung")?.is_none());
+    Ok(())
+}
+
+#[test]
+fn a_bad_bitmap_is_found(rt: HostRuntime) -> Result<(), Fail> {
+    let alloc = rt.alloc();
+    let bitmap = 585 * 4_096;
+    assert!(rt; spot_of(alloc, bitmap, b"\x03")? == Some(Spot::Bitmap(0)));
+    assert!(rt; spot_of(alloc, bitmap, b"\0")? == Some(Spot::Bitmap(1)));
+    assert!(rt; spot_of(alloc, bitmap + 4_095, b"\x80")? == Some(Spot::Bitmap(32_767)));
     Ok(())
 }
 
