@@ -31,7 +31,10 @@ fn words(rt: &HostRuntime) -> Result<Vec<String>, Status> {
 fn image_of(rt: &HostRuntime, words: &[String]) -> Option<ImageFile> {
     match task_of(words)? {
         Task::Try(_) => None,
-        Task::Make(_) | Task::Run => image::open(rt, &words[1], make_len(words)).ok(),
+        Task::Make(_) | Task::Run => {
+            let path = words.get(1)?;
+            image::open(rt, path, make_len(words)).ok()
+        }
     }
 }
 
