@@ -47,6 +47,7 @@ fn run(rt: &HostRuntime) -> Status {
         reader: rt.reader(),
         faults: 0,
     };
+    let _standard = image::hold_standard(rt);
     // Without a file every call of the disk fails.
     let (file, len) = match image_of(rt, &words) {
         None => (None, u64::MAX),
