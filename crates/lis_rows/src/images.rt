@@ -1,18 +1,12 @@
 //! Sessions over images in memory: what they show, what is left after a fault, and what a crash leaves after each call of the disk.
 
-ghost use Rattle.std.specs.Prelude.{◌≡◌, IfOk, IsTrue};
+ghost use Rattle.std.specs.Prelude.{◌≡◌, IsTrue};
 ghost use Rattle.lis_memdisk.specs.MemStation.{meaning_of};
 
-use crate::tests::tables::{
-    CRASHED_COMMANDS, FIRST_SESSIONS, IMAGE_WORDS, LIMITED_SESSIONS, SESSIONS,
-};
-use crate::tests::{Outside, SOUND, row_of, source};
-use lis_line::reader::Payload;
+use crate::tests::tables::{CRASHED_COMMANDS, FIRST_SESSIONS, IMAGE_WORDS, SESSIONS};
+use crate::tests::{SOUND, row_of, source};
 use lis_memdisk::MemStation;
-use lis_open::mount;
 use lis_ports::Disk;
-use lis_session::session::Session;
-use lis_shell::serving::serve;
 use lis_shell::status::Status;
 use lis_shell::top::lisfs;
 use std::alloc::{AllocError, Global};
@@ -90,59 +84,12 @@ fn words_and_images_are_judged(rt: HostRuntime) -> Result<(), Fail> {
     Ok(())
 }
 
-// A session with another limit, and what a second session shows of what it left.
-fn limited(
-    alloc: Global,
-    image: &[u8],
-    row: &str,
-    limit: u64,
-) -> Result<(Status, String, String), Fail> {
-    let mut station = MemStation::new(alloc, image, 0)?;
-    let Ok(mut store) = mount(alloc, &mut station) else {
-        return Err("the image was not opened".into());
-    };
-    if store.is_broken() {
-        return Err("the store is broken".into());
+// What was shown behind so many bytes.
+fn shown_behind(alloc: Global, station: &MemStation, before: usize) -> Result<String, Fail> {
+    match station.shown().get(before..) {
+        None => Err("less was shown".into()),
+        Some(bytes) => Ok(row_of(alloc, bytes)?),
     }
-    let mut payload = Payload::new(alloc)?;
-    let mut input = source(alloc, row, &SOUND)?;
-    let mut session = Session::new();
-    let status = serve(
-        alloc,
-        &mut store,
-        &mut session,
-        &mut payload,
-        &mut input,
-        &mut station,
-        limit.min(99),
-    );
-    let shown = row_of(alloc, station.shown())?;
-    let before = shown.len();
-    call(
-        alloc,
-        &["run", "i"],
-        "ls;mkdir abc;mkdir abcd;",
-        &mut station,
-    )?;
-    let all = row_of(alloc, station.shown())?;
-    Ok((
-        status,
-        shown,
-        String::from_str(alloc, &all.as_str()[before..])?,
-    ))
-}
-
-#[test]
-fn a_limit_ends_behind_the_items_that_are_whole(rt: HostRuntime) -> Result<(), Fail> {
-    let alloc = rt.alloc();
-    let image = fresh(alloc)?;
-    for (row, limit, wanted, shown, then) in &LIMITED_SESSIONS {
-        let seen = limited(alloc, &image, row, *limit)?;
-        assert_eq!(rt; seen.0, *wanted, "{row}");
-        assert_eq!(rt; seen.1.as_str(), *shown, "{row}");
-        assert_eq!(rt; seen.2.as_str(), *then, "{row}");
-    }
-    Ok(())
 }
 
 // The replies of the first command are shown whole or in part; the second command was carried out where the first reply was whole.

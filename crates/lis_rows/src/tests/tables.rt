@@ -349,18 +349,6 @@ pub static IMAGE_WORDS: [(&[&str], usize, Status); 8] = [
     ),
 ];
 
-/// A session over a fresh image with a limit, how it ends, what it shows, and what `ls;mkdir abc;mkdir abcd;` shows then.
-pub static LIMITED_SESSIONS: [(&str, u64, Status, &str, &str); 2] = [
-    ("mkdir abcd;", 10, Status::InputLimit, "", "ok;ok;ok;"),
-    (
-        "mkdir abc;",
-        10,
-        Status::Done,
-        "ok;",
-        "ok;no 11 already declared;ok;",
-    ),
-];
-
 /// Eight commands, one after another; what `ls;cat m;` shows before each and behind it.
 pub static CRASHED_COMMANDS: [(&str, [&str; 2]); 8] = [
     (
