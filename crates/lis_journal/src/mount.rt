@@ -74,6 +74,8 @@ pub fn recover<D: Disk>(
         (λ image. (D.meaning disk.old).images image ⊎ StandsForReplayed stage.old.blocks (D.meaning disk.old).bytes image) }
     ensures recovered { IfOk result (λ good. IsTrue (D.meaning disk.old).is_honest
         → Recovered stage.old.blocks (D.meaning disk.old) (D.meaning disk.new) good) }
+    ensures closed { OnOk result (IsTrue (D.meaning disk.old).is_honest → is_open (D.meaning disk.old).bytes ≡ false
+        → IsSettled (D.meaning disk.new) (D.meaning disk.old).bytes) }
     ensures past { OnOk result (IsTrue (D.meaning disk.old).is_honest
         → KeepsPast stage.old.blocks (D.meaning disk.old) (D.meaning disk.new)) }
     ensures settled_past { IsTrue (D.meaning disk.old).is_honest → IsSettledPast stage.old.blocks (D.meaning disk.old)
