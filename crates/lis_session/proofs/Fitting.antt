@@ -1,5 +1,5 @@
 -- A store that fits a station, and what calls that write nothing leave of it.
-use Rattle.std.proofs.Common.{◌∙◌}
+use Rattle.std.proofs.Common.{refl, ◌∙◌}
 use Rattle.lis_ports.specs.Meaning.{Meaning}
 use Rattle.lis_ports.specs.Calls.{IsUnchanged, IsShowCall}
 use Rattle.lis_ports.specs.Runs.{IsDiskRun}
@@ -8,7 +8,7 @@ use Rattle.lis_ports.proofs.Always.{always_unchanged}
 use Rattle.lis_model.specs.State.{State}
 use Rattle.lis_store.specs.Kept.{Kept, StoreFits}
 use Rattle.lis_store.proofs.Standing.{fitting_stands}
-use Rattle.lis_session.specs.Item.{FitsAt}
+use Rattle.lis_session.specs.Item.{FitsAt, IsSameStation}
 
 pub store_fits_at : {k : Kept} {m : Meaning} {state : State} → StoreFits k m state → FitsAt (StoreFits k m) m state
 store_fits_at {k} {m} {state} fits = record {
@@ -38,3 +38,20 @@ store_read fits run same = record {
   };
   tells = fits.tells;
 }
+
+-- ---- what no call changes of a station
+pub same_none : (m : Meaning) → IsSameStation m m
+same_none m = record { honest = refl; len = refl; recorded = refl }
+
+pub same_then : {a b c : Meaning} → IsSameStation a b → IsSameStation b c → IsSameStation a c
+same_then first second = record {
+  honest = second.honest ∙ first.honest;
+  len = second.len ∙ first.len;
+  recorded = second.recorded ∙ first.recorded;
+}
+
+pub same_run : {old new : Meaning} → IsDiskRun old new → IsSameStation old new
+same_run run = record { honest = run.honest; len = run.len; recorded = run.recorded }
+
+pub same_shown : {old new : Meaning} → IsShowCall old new → IsSameStation old new
+same_shown call = record { honest = call.honest; len = call.len; recorded = call.recorded }

@@ -62,3 +62,9 @@ HasEndCause old new (Err NoMemory) = (new.disk_faults ≡ old.disk_faults) × (n
 pub record StoreLeft (old new : Kept) (result : Result (Unit {0}) End) : Type 0 where
   pub image : new.journal.blocks ≡ old.journal.blocks
   pub unbroken : result ≢ Err DiskFault → new.journal.is_broken ≡ false
+
+-- what no call changes of a station: whether it is honest, how long its disk is, and whether it tells its moments
+pub record IsSameStation (old new : Meaning) : Type 0 where
+  pub honest : new.is_honest ≡ old.is_honest
+  pub len : new.len ≡ old.len
+  pub recorded : new.is_recorded ≡ old.is_recorded

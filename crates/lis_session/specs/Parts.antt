@@ -16,7 +16,7 @@ use Rattle.lis_store.specs.declared.change.Change.{Change}
 use Rattle.lis_store.specs.declared.change.Change.TheVariants.{Refused, Disk as DiskChange, NoMemory as NoRoom}
 use Rattle.lis_session.specs.declared.end.End.{End}
 use Rattle.lis_session.specs.declared.end.End.TheVariants.{DiskFault, OutputFault, NoMemory}
-use Rattle.lis_session.specs.Item.{FitsAt, OneItem, HasEndCause}
+use Rattle.lis_session.specs.Item.{FitsAt, OneItem, HasEndCause, IsSameStation}
 
 -- nothing changes, and these bytes are shown
 abbrev pub only_shows : List ℕ → Situation → Outcome
@@ -31,8 +31,7 @@ Does outcome fits_before place_before old new result fits place =
 -- what an end says of any station
 pub record Ends (old new : Meaning) (result : Result (Unit {0}) End) : Type 0 where
   pub cause : HasEndCause old new result
-  pub len : new.len ≡ old.len
-  pub recorded : new.is_recorded ≡ old.is_recorded
+  pub same : IsSameStation old new
 
 -- The bytes were shown whole, or a front of them was, which is an output fault.
 pub record Answers (old new : Meaning) (bytes : List ℕ) (result : Result (Unit {0}) End) : Type 0 where

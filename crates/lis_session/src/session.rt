@@ -6,7 +6,7 @@ ghost use Rattle.lis_grammar.specs.Places.{resolved};
 ghost use Rattle.lis_line.specs.Reading.{asked_by};
 ghost use Rattle.lis_model.specs.Step.{refused, cd, pwd, ls, done};
 ghost use Rattle.lis_store.specs.Kept.{Kept, StoreFits};
-ghost use Rattle.lis_session.specs.Item.{CarriesOut, HasEndCause, StoreLeft};
+ghost use Rattle.lis_session.specs.Item.{CarriesOut, HasEndCause, IsSameStation, StoreLeft};
 ghost use Rattle.lis_session.specs.Parts.{Does, Ends, led_to};
 
 use crate::changes::{add, create, mkdir, rm};
@@ -170,8 +170,7 @@ impl Session {
             (StoreFits store.new (T.meaning station.new)) self.new) }
         ensures cause { HasEndCause (T.meaning station.old) (T.meaning station.new) result }
         ensures left { StoreLeft store.old store.new result }
-        ensures len { (T.meaning station.new).len ≡ (T.meaning station.old).len }
-        ensures recorded { (T.meaning station.new).is_recorded ≡ (T.meaning station.old).is_recorded }
+        ensures same { IsSameStation (T.meaning station.old) (T.meaning station.new) }
     {
         match item {
             Item::Command(command) => self.carry_out(alloc, store, command, payload, station),

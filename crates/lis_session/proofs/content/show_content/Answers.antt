@@ -2,6 +2,7 @@ use Rattle.std.proofs.Common.{Err, ap, ◌∙◌, arith}
 use Rattle.std.proofs.lemmas.Result.{err_from_is_err_and}
 use Rattle.lis_session.specs.declared.end.End.{End}
 use Rattle.lis_session.proofs.Blocks.{blocks_more, blocks_broke, blocks_all}
+use Rattle.lis_session.proofs.Fitting.{same_then}
 use Rattle.lis_session.proofs.content.show_content.Goals as goal
 
 pub returns-in_err-show_block-clause-shows : goal.returns-in_err-show_block-clause-shows
@@ -16,7 +17,7 @@ loop-n-preserved g c =
     let was = c.loop-n.invariant.ends in
     let here = c.in_ok-show_block.ensures.ends in
     record {
-      ends = record { cause = (here.cause.0 ∙ was.cause.0, here.cause.1 ∙ was.cause.1); len = here.len ∙ was.len; recorded = here.recorded ∙ was.recorded };
+      ends = record { cause = (here.cause.0 ∙ was.cause.0, here.cause.1 ∙ was.cause.1); same = same_then was.same here.same };
       whole = c.in_ok-show_block.ensures.whole;
       shown = blocks_more c.args.store.now c.args.slot c.loop-n.n (g.T.Disk.meaning c.args.station.now) (g.T.Disk.meaning c.loop-n.station) (g.T.Disk.meaning c.show_block.new.station) c.in_ok-show_block.field-0
           c.loop-n.invariant.shown c.in_ok-show_block.ensures.shows;
