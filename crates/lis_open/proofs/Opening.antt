@@ -1,12 +1,12 @@
 -- How opening an image ends: the super block, the journal, and the parts behind it.
-use Rattle.std.proofs.Common.{◌≡◌, ◌⊎◌, ◌∙◌, refl, sym, ap, subst, inl, inr, ℕ, ◌*◌, ◌<◌, ◌≤◌, ◌==◌, List, length, Option, Some, None, Result, Ok, Err, IsTrue, IsSomeAnd, arith}
+use Rattle.std.proofs.Common.{◌≡◌, ◌⊎◌, ◌∙◌, refl, sym, ap, subst, inl, inr, ℕ, ◌*◌, ◌<◌, ◌≤◌, ◌==◌, false, List, length, Option, Some, None, Result, Ok, Err, IsTrue, IsSomeAnd, arith}
 use Rattle.std.proofs.lemmas.Bool.{and_parts, eqb-true}
 use Rattle.lis_ports.specs.Meaning.{Meaning}
 use Rattle.lis_ports.specs.Bytes.{part}
 use Rattle.lis_ports.specs.Calls.{IsUnchanged}
-use Rattle.lis_ports.specs.Runs.{IsDiskRun, Leaves}
+use Rattle.lis_ports.specs.Runs.{IsDiskRun, IsSettled, Leaves}
 use Rattle.lis_ports.proofs.Moments.{leaves_weaken, leaves_then}
-use Rattle.lis_journal.specs.Record.{block, replayed}
+use Rattle.lis_journal.specs.Record.{block, is_open, replayed}
 use Rattle.lis_journal.specs.Images.{StandsFor as KeptBy, IsAtRest, Fits, KeepsPast}
 use Rattle.lis_journal.specs.Recovery.{StandsForReplayed, MountEnded, IsSettledPast}
 use Rattle.lis_journal.specs.declared.journal.JournalFault.{JournalFault}
@@ -26,10 +26,11 @@ use Rattle.lis_store.proofs.Standing.{super-replayed, kept_stands}
 use Rattle.lis_store.proofs.Telling.{tells_spells}
 use Rattle.lis_open.specs.declared.mounting.OpenFault.{OpenFault}
 use Rattle.lis_open.specs.declared.mounting.OpenFault.TheVariants.{TooShort, Damaged, DiskFault, NoMemory}
-use Rattle.lis_open.specs.Opens.{HasSuper, IsNeeded, IsLongEnough, OpenEnded, journal_fault}
+use Rattle.lis_open.specs.Opens.{HasSuper, IsNeeded, IsLongEnough, OpenEnded, IsRecovered, Recovers, OpenLeft, InOpening, journal_fault}
 use Rattle.lis_open.specs.Checks.{Fails, FailsReplayed, RecordFails, FailsIn, IsBefore, FailsFirst}
 use Rattle.lis_open.specs.Reading.{OnlyReads, IsFirstOfAll, StoreEnded, Opened}
-use Rattle.lis_open.proofs.Quiet.{fits_after, unchanged_then}
+use Rattle.lis_open.proofs.Quiet.{fits_after, settled_after, unchanged_then}
+use Rattle.lis_open.proofs.Needs.{needs_no_more}
 use Rattle.lis_open.proofs.Damage.{one_limits, has_super, damaged}
 
 -- what is said of a value that there is
@@ -37,22 +38,29 @@ pub some_replay : (o : Option (List ℕ)) (P : List ℕ → Type 0) → IsSomeAn
 some_replay None P is = absurd is
 some_replay (Some r) P is = (r, refl, is)
 
+some_one : (a b : List ℕ) → ◌≡◌ {A = Option (List ℕ)} (Some a) (Some b) → a ≡ b
+some_one a b e = cc
+
 -- ---- faults
 same_spot : {T : Type 0} (a b : Spot) → ◌≡◌ {A = Result T OpenFault} (Err (Damaged a)) (Err (Damaged b)) → a ≡ b
 same_spot a b is = cc
 
 -- no part is damaged
-unspotted : (old new : Meaning) (fault : OpenFault) → OpenEnded old new (Err fault) → ((spot : Spot) → fault ≡ Damaged spot → ⊥) → Opened old new (Err fault)
-unspotted old new fault ended none = record { ended = ended; spot = λ spot is. absurd (none spot cc) }
+unspotted : (old new : Meaning) (fault : OpenFault) → OpenEnded old new (Err fault) → OpenLeft old new (Err fault) → ((spot : Spot) → fault ≡ Damaged spot → ⊥) → Opened old new (Err fault)
+unspotted old new fault ended left none = record { ended = ended; left = left; spot = λ spot is. absurd (none spot cc) }
 
-spotted : (old new : Meaning) (spot : Spot) → OpenEnded old new (Err (Damaged spot)) → FailsFirst old.bytes spot → Opened old new (Err (Damaged spot))
-spotted old new spot ended first = record { ended = ended; spot = λ other is. subst (λ (p : Spot). FailsFirst old.bytes p) (same_spot {T = Kept} spot other is) first }
+spotted : (old new : Meaning) (spot : Spot) → OpenEnded old new (Err (Damaged spot)) → OpenLeft old new (Err (Damaged spot)) → FailsFirst old.bytes spot → Opened old new (Err (Damaged spot))
+spotted old new spot ended left first = record {
+  ended = ended;
+  left = left;
+  spot = λ other is. subst (λ (p : Spot). FailsFirst old.bytes p) (same_spot {T = Kept} spot other is) first;
+}
 
 pub short_opened : (old new : Meaning) (len need : ℕ) → len ≡ old.len → len < need → IsNeeded old.bytes need → IsUnchanged old new → Opened old new (Err (TooShort len need))
-short_opened old new len need is short needed same = unspotted old new (TooShort len need) (is, short, needed, same) (λ spot fault. cc)
+short_opened old new len need is short needed same = unspotted old new (TooShort len need) (is, short, needed) same (λ spot fault. cc)
 
 pub failed_opened : (old new : Meaning) → Opened old new (Err DiskFault)
-failed_opened old new = unspotted old new DiskFault tt (λ spot fault. cc)
+failed_opened old new = unspotted old new DiskFault tt tt (λ spot fault. cc)
 
 -- ---- the super block, as it was read
 super_from : (image : List ℕ) (rec : SuperRec) → IsTrue (is_super rec) → part 0 4096 image ≡ super_bytes rec → HasSuper rec.limits image
@@ -81,9 +89,9 @@ super_first image none = record { fails = none; none_before = none_before }
     none_before earlier (inl lower) there = omega (arith, lower)
     none_before earlier (inr same) there = omega (arith, same.1)
 
-pub no_super_opened : (old new : Meaning) → 4096 ≤ old.len → ((limits : Limits) → HasSuper limits old.bytes → ⊥) → Opened old new (Err (Damaged Super))
-no_super_opened old new long none =
-    spotted old new Super (no_super_needs old long none, λ s stands. none s.limits (has_super old.bytes s stands)) (super_first old.bytes none)
+pub no_super_opened : (old new : Meaning) → 4096 ≤ old.len → ((limits : Limits) → HasSuper limits old.bytes → ⊥) → IsUnchanged old new → Opened old new (Err (Damaged Super))
+no_super_opened old new long none same =
+    spotted old new Super (no_super_needs old long none, λ s stands. none s.limits (has_super old.bytes s stands)) (λ missing. same, λ limits super. absurd (none limits super)) (super_first old.bytes none)
 
 -- ---- after calls that only read
 module _ (old mid : Meaning) (same : IsUnchanged old mid) (len : mid.len ≡ old.len) where
@@ -96,15 +104,44 @@ module _ (old mid : Meaning) (same : IsUnchanged old mid) (len : mid.len ≡ old
   no_state_before : ((s : State) → Stands mid.bytes s → ⊥) → (s : State) → Stands old.bytes s → ⊥
   no_state_before none s stands = none s (stands_before s stands)
 
+  recovers_before : (new : Meaning) → Recovers mid new → Recovers old new
+  recovers_before new recovers limits super =
+      let blocks = image_blocks limits in
+      let recovered = recovers limits (subst (λ bytes. HasSuper limits bytes) (sym same.bytes) super) in
+      record {
+        closed = λ closed. subst (λ bytes. IsSettled new bytes) same.bytes (recovered.closed (ap is_open same.bytes ∙ closed));
+        bad = λ none. subst (λ bytes. IsSettled new bytes) same.bytes (recovered.bad (ap (replayed blocks) same.bytes ∙ none));
+        home = λ r replays. recovered.home r (ap (replayed blocks) same.bytes ∙ replays);
+      }
+
+  left_before : (new : Meaning) (result : Result Kept OpenFault) → IsDiskRun mid new → OpenLeft mid new result → OpenLeft old new result
+  left_before new (Ok store) run left = recovers_before new left
+  left_before new (Err (TooShort len need)) run left = unchanged_then run same left
+  left_before new (Err (Damaged spot)) run left = (
+    λ none. unchanged_then run same (left.0 (λ limits super. none limits (subst (λ bytes. HasSuper limits bytes) same.bytes super))),
+    recovers_before new left.1,
+  )
+  left_before new (Err DiskFault) run left = tt
+  left_before new (Err NoMemory) run (inl unchanged) = inl (unchanged_then run same unchanged)
+  left_before new (Err NoMemory) run (inr recovers) = inr (recovers_before new recovers)
+
+  pub opening_before : (new : Meaning) → Leaves old mid old.images → Leaves mid new (InOpening mid) → Leaves old new (InOpening old)
+  opening_before new first second = leaves_then (leaves_weaken (InOpening old) first (λ image is. inl is)) (leaves_weaken (InOpening old) second by)
+    where
+      by : (image : List ℕ) → InOpening mid image → InOpening old image
+      by image (inl is) = inl (same.images.only image is)
+      by image (inr told) = inr (told.0, subst (λ bytes. HasSuper told.0 bytes) same.bytes told.1, subst (λ bytes. StandsForReplayed (image_blocks told.0) bytes image) same.bytes told.2)
+
   pub opened_before : (new : Meaning) (result : Result Kept OpenFault) → IsDiskRun mid new → Opened mid new result → Opened old new result
   opened_before new result run opened = record {
     ended = by result opened.ended;
+    left = left_before new result run opened.left;
     spot = λ spot is. subst (λ bytes. FailsFirst bytes spot) same.bytes (opened.spot spot is);
   }
     where
       by : (o : Result Kept OpenFault) → OpenEnded mid new o → OpenEnded old new o
       by (Ok store) ended = (needs_before ended.0, (ended.1.0, subst (λ bytes. Stands bytes ended.1.0) same.bytes ended.1.1, ended.1.2))
-      by (Err (TooShort found need)) ended = (ended.0 ∙ len, ended.1, subst (λ bytes. IsNeeded bytes need) same.bytes ended.2, unchanged_then run same ended.3)
+      by (Err (TooShort found need)) ended = (ended.0 ∙ len, ended.1, subst (λ bytes. IsNeeded bytes need) same.bytes ended.2)
       by (Err (Damaged spot)) ended = (needs_before ended.0, no_state_before ended.1)
       by (Err DiskFault) ended = tt
       by (Err NoMemory) ended =
@@ -161,24 +198,30 @@ module _ (old : Meaning) (limits : Limits) (super : HasSuper limits old.bytes) (
       none_before (Row n) (inl lower) fails = omega (arith, lower)
       none_before (Row n) (inr same) fails = omega (arith, same.0)
 
+  recovers_by : (new : Meaning) → IsRecovered (image_blocks limits) old new → Recovers old new
+  recovers_by new recovered other told = subst (λ (l : Limits). IsRecovered (image_blocks l) old new) (one_limits old.bytes limits other super told) recovered
+
+  bad_recovered : (new : Meaning) → replayed (image_blocks limits) old.bytes ≡ None → IsSettled new old.bytes → IsRecovered (image_blocks limits) old new
+  bad_recovered new none settled = record { closed = λ closed. settled; bad = λ bad. settled; home = λ r replays. absurd (cc) }
+
   pub journal_opened : {T : Type 0} (new : Meaning) (outcome : Result T JournalFault) (fault : JournalFault) → outcome ≡ Err fault → MountEnded (image_blocks limits) old new outcome
-      → (outcome ≡ Err JournalMemory → new.bytes ≡ old.bytes) → Opened old new (Err (journal_fault fault))
+      → (outcome ≡ Err JournalMemory → IsUnchanged old new) → Opened old new (Err (journal_fault fault))
   journal_opened {T} new outcome fault is ended unread = by fault (subst (λ (o : Result T JournalFault). MountEnded (image_blocks limits) old new o) is ended) (λ memory. unread (is ∙ ap Err memory))
     where
-      by : (f : JournalFault) → MountEnded {T = T} (image_blocks limits) old new (Err f) → (f ≡ JournalMemory → new.bytes ≡ old.bytes) → Opened old new (Err (journal_fault f))
+      by : (f : JournalFault) → MountEnded {T = T} (image_blocks limits) old new (Err f) → (f ≡ JournalMemory → IsUnchanged old new) → Opened old new (Err (journal_fault f))
       by JournalDisk told same = failed_opened old new
       by (JournalRecord b) told same =
-          spotted old new (BadRecord b) (long_enough, λ s stands. damaged old.bytes s (BadRecord b) stands (bad_record b told.0 told.1)) (record_first b told.0 told.1)
+          spotted old new (BadRecord b) (long_enough, λ s stands. damaged old.bytes s (BadRecord b) stands (bad_record b told.0 told.1))
+          (λ none. absurd (none limits super), recovers_by new (bad_recovered new told.0 told.2)) (record_first b told.0 told.1)
       by JournalMemory told same =
-          unspotted old new NoMemory (long_enough, (limits, super), λ s stands. subst (λ bytes. Stands bytes s) (sym (same refl)) stands) (λ spot none. cc)
+          unspotted old new NoMemory (long_enough, (limits, super), λ s stands. subst (λ bytes. Stands bytes s) (sym (same refl).bytes) stands) (inl (same refl)) (λ spot none. cc)
 
-  pub journal_moments : (s : State) (new : Meaning) → Stands old.bytes s → Leaves old new (λ image. old.images image ⊎ StandsForReplayed (image_blocks limits) old.bytes image)
-      → Leaves old new (λ image. old.images image ⊎ Stands image s)
-  journal_moments s new stands moments = leaves_weaken (λ image. old.images image ⊎ Stands image s) moments by
-    where
-      by : (image : List ℕ) → old.images image ⊎ StandsForReplayed (image_blocks limits) old.bytes image → old.images image ⊎ Stands image s
-      by image (inl is) = inl is
-      by image (inr told) = inr (replayed_stands s image stands told)
+  in_opening : (image : List ℕ) → old.images image ⊎ StandsForReplayed (image_blocks limits) old.bytes image → InOpening old image
+  in_opening image (inl is) = inl is
+  in_opening image (inr told) = inr (limits, super, told)
+
+  pub journal_moments : (new : Meaning) → Leaves old new (λ image. old.images image ⊎ StandsForReplayed (image_blocks limits) old.bytes image) → Leaves old new (InOpening old)
+  journal_moments new moments = leaves_weaken (InOpening old) moments in_opening
 
   -- the blocks past the image that the limits tell are those past the state's
   pub past_state : (s : State) (new : Meaning) → Stands old.bytes s → KeepsPast (image_blocks limits) old new → KeepsPast (image_blocks s.limits) old new
@@ -186,17 +229,17 @@ module _ (old : Meaning) (limits : Limits) (super : HasSuper limits old.bytes) (
 
   -- where the journal was not mounted
   pub journal_past : {T : Type 0} (s : State) (new : Meaning) (outcome : Result T JournalFault) (fault : JournalFault) → Stands old.bytes s → outcome ≡ Err fault
-      → MountEnded (image_blocks limits) old new outcome → (outcome ≡ Err JournalMemory → new.bytes ≡ old.bytes) → (journal_fault fault ≡ DiskFault → IsSettledPast (image_blocks s.limits) old)
+      → MountEnded (image_blocks limits) old new outcome → (outcome ≡ Err JournalMemory → IsUnchanged old new) → (journal_fault fault ≡ DiskFault → IsSettledPast (image_blocks s.limits) old)
       → (IsSettledPast (image_blocks limits) old → KeepsPast (image_blocks limits) old new) → KeepsPast (image_blocks s.limits) old new
   journal_past {T} s new outcome fault stands is ended unread settled keeps =
       by fault (subst (λ (o : Result T JournalFault). MountEnded (image_blocks limits) old new o) is ended) (λ memory. unread (is ∙ ap Err memory)) (λ failed. settled (ap journal_fault failed))
     where
-      by : (f : JournalFault) → MountEnded {T = T} (image_blocks limits) old new (Err f) → (f ≡ JournalMemory → new.bytes ≡ old.bytes) → (f ≡ JournalDisk → IsSettledPast (image_blocks s.limits) old)
+      by : (f : JournalFault) → MountEnded {T = T} (image_blocks limits) old new (Err f) → (f ≡ JournalMemory → IsUnchanged old new) → (f ≡ JournalDisk → IsSettledPast (image_blocks s.limits) old)
           → KeepsPast (image_blocks s.limits) old new
       by JournalDisk told same there =
           past_state s new stands (keeps (subst (λ b. IsSettledPast b old) (sym (ap image_blocks (state_limits s stands))) (there refl)))
       by (JournalRecord b) told same there = absurd (damaged old.bytes s (BadRecord b) stands (bad_record b told.0 told.1))
-      by JournalMemory told same there = λ n past. ap (block n) (same refl)
+      by JournalMemory told same there = λ n past. ap (block n) (same refl).bytes
 
   -- ---- the parts behind the journal
   module _ (whole : length old.bytes ≡ old.len) (r : List ℕ) (replays : replayed (image_blocks limits) old.bytes ≡ Some r) where
@@ -219,13 +262,10 @@ module _ (old : Meaning) (limits : Limits) (super : HasSuper limits old.bytes) (
     fails_in (Bitmap n) fails = fails_replayed (Bitmap n) fails
     fails_in (Row n) fails = fails_replayed (Row n) fails
 
-    one_replay : (a b : List ℕ) → ◌≡◌ {A = Option (List ℕ)} (Some a) (Some b) → a ≡ b
-    one_replay a b e = cc
-
     replayed_fails : (spot : Spot) → FailsReplayed old.bytes spot → Fails limits kept spot
     replayed_fails spot told =
         let same = one_limits old.bytes told.limits limits told.super super in
-        let replay = one_replay told.replay r (sym told.replays ∙ (ap (λ (l : Limits). replayed (image_blocks l) old.bytes) same ∙ replays)) in
+        let replay = some_one told.replay r (sym told.replays ∙ (ap (λ (l : Limits). replayed (image_blocks l) old.bytes) same ∙ replays)) in
         subst (λ (l : Limits). Fails l kept spot) same (subst (λ (bytes : List ℕ). Fails told.limits (λ n. block n bytes) spot) replay told.fails)
 
     no_bad_record : (b : ℕ) → RecordFails old.bytes b → ⊥
@@ -247,14 +287,11 @@ module _ (old : Meaning) (limits : Limits) (super : HasSuper limits old.bytes) (
         none_before (Bitmap n) before fails = first.none_before (Bitmap n) before (replayed_fails (Bitmap n) fails)
         none_before (Row n) before fails = first.none_before (Row n) before (replayed_fails (Row n) fails)
 
-    module _ (new : Meaning) (fits : Fits (image_blocks limits) new kept) where
-      rest_told : (image : List ℕ) → IsAtRest (image_blocks limits) kept image → StandsForReplayed (image_blocks limits) old.bytes image
-      rest_told image rest =
-          subst (λ (o : Option (List ℕ)). IsSomeAnd o (λ bytes. KeptBy (image_blocks limits) (λ n. block n bytes) image)) (sym replays) (rest_stands (image_blocks limits) kept image rest)
+    rest_told : (image : List ℕ) → IsAtRest (image_blocks limits) kept image → StandsForReplayed (image_blocks limits) old.bytes image
+    rest_told image rest =
+        subst (λ (o : Option (List ℕ)). IsSomeAnd o (λ bytes. KeptBy (image_blocks limits) (λ n. block n bytes) image)) (sym replays) (rest_stands (image_blocks limits) kept image rest)
 
-      image_stands : (s : State) (image : List ℕ) → Stands old.bytes s → new.images image → Stands image s
-      image_stands s image stands is = replayed_stands s image stands (rest_told image (fits.all.leaves image is))
-
+    module _ (new : Meaning) (fits : Fits (image_blocks limits) new kept) (left : Recovers old new) where
       bytes_stand : (s : State) → Stands old.bytes s → Stands new.bytes s
       bytes_stand s stands = replayed_stands s new.bytes stands (rest_told new.bytes fits.all.reads)
 
@@ -293,26 +330,46 @@ module _ (old : Meaning) (limits : Limits) (super : HasSuper limits old.bytes) (
                 },
               ),
             );
+            left = left;
             spot = λ spot is. absurd cc;
           }
       parts_opened (Err (TooShort len need)) image fails = absurd fails
       parts_opened (Err (Damaged spot)) image fails =
-          spotted old new spot (long_enough, λ s stands. damaged old.bytes s spot stands (fails_in spot fails.fails)) (parts_first spot fails)
+          spotted old new spot (long_enough, λ s stands. damaged old.bytes s spot stands (fails_in spot fails.fails)) (λ none. absurd (none limits super), left) (parts_first spot fails)
       parts_opened (Err DiskFault) image fails = failed_opened old new
-      parts_opened (Err NoMemory) image fails = unspotted old new NoMemory (long_enough, (limits, super), λ s stands. bytes_stand s stands) (λ spot none. cc)
+      parts_opened (Err NoMemory) image fails = unspotted old new NoMemory (long_enough, (limits, super), λ s stands. bytes_stand s stands) (inr left) (λ spot none. cc)
 
   -- where it was mounted, and what it fits then was read
+  read_recovered : (mid new : Meaning) (r : List ℕ) → replayed (image_blocks limits) old.bytes ≡ Some r → Fits (image_blocks limits) mid (λ n. block n r) → (is_open old.bytes ≡ false → IsSettled mid old.bytes)
+      → OnlyReads mid new → IsRecovered (image_blocks limits) old new
+  read_recovered mid new r replays fits closed reads = record {
+    closed = λ is. settled_after reads fits.honest (closed is);
+    bad = λ none. absurd (cc);
+    home = λ other is. subst (λ (bytes : List ℕ). Fits (image_blocks limits) new (λ n. block n bytes)) (some_one r other (sym replays ∙ is)) (fits_after (image_blocks limits) (λ n. block n r) reads fits);
+  }
+
   pub store_opened : length old.bytes ≡ old.len → (mid new : Meaning) (result : Result Kept OpenFault) → IsSomeAnd (replayed (image_blocks limits) old.bytes) (λ r. Fits (image_blocks limits) mid (λ n. block n r))
-      → OnlyReads mid new → ((store : Kept) → result ≡ Ok store → store.journal.blocks ≡ image_blocks limits)
+      → (is_open old.bytes ≡ false → IsSettled mid old.bytes) → OnlyReads mid new → ((store : Kept) → result ≡ Ok store → store.journal.blocks ≡ image_blocks limits)
       → ((kept : ℕ → List ℕ) → Fits (image_blocks limits) mid kept → kept 0 ≡ super_bytes (record { version = 1; limits = limits }) → StoreEnded limits kept result) → Opened old new result
-  store_opened whole mid new result mounted reads image ended =
+  store_opened whole mid new result mounted closed reads image ended =
       let found = some_replay (replayed (image_blocks limits) old.bytes) (λ r. Fits (image_blocks limits) mid (λ n. block n r)) mounted in
       let kept : ℕ → List ℕ = λ n. block n found.0 in
-      parts_opened whole found.0 found.1 new (fits_after (image_blocks limits) kept reads found.2) result image (ended kept found.2 (super_kept whole found.0 found.1))
+      let left = recovers_by new (read_recovered mid new found.0 found.1 found.2 closed reads) in
+      parts_opened whole found.0 found.1 new (fits_after (image_blocks limits) kept reads found.2) left result image (ended kept found.2 (super_kept whole found.0 found.1))
 
-  pub store_moments : (s : State) → length old.bytes ≡ old.len → (mid new : Meaning) → IsSomeAnd (replayed (image_blocks limits) old.bytes) (λ r. Fits (image_blocks limits) mid (λ n. block n r))
-      → Stands old.bytes s → Leaves old mid (λ image. old.images image ⊎ StandsForReplayed (image_blocks limits) old.bytes image) → Leaves mid new mid.images → Leaves old new (λ image. old.images image ⊎ Stands image s)
-  store_moments s whole mid new mounted stands moments reads =
+  pub store_moments : length old.bytes ≡ old.len → (mid new : Meaning) → IsSomeAnd (replayed (image_blocks limits) old.bytes) (λ r. Fits (image_blocks limits) mid (λ n. block n r))
+      → Leaves old mid (λ image. old.images image ⊎ StandsForReplayed (image_blocks limits) old.bytes image) → Leaves mid new mid.images → Leaves old new (InOpening old)
+  store_moments whole mid new mounted moments reads =
       let found = some_replay (replayed (image_blocks limits) old.bytes) (λ r. Fits (image_blocks limits) mid (λ n. block n r)) mounted in
-      leaves_then (journal_moments s mid stands moments)
-      (leaves_weaken (λ image. old.images image ⊎ Stands image s) reads (λ image is. inr (image_stands whole found.0 found.1 mid found.2 s image stands is)))
+      leaves_then (journal_moments mid moments)
+      (leaves_weaken (InOpening old) reads (λ image is. inr (limits, super, rest_told whole found.0 found.1 image (found.2.all.leaves image is))))
+
+-- ---- where the image stood for a state
+pub moments_stand : (old new : Meaning) (s : State) → length old.bytes ≡ old.len → Stands old.bytes s → Leaves old new (InOpening old) → Leaves old new (λ image. old.images image ⊎ Stands image s)
+moments_stand old new s whole stands moments = leaves_weaken (λ image. old.images image ⊎ Stands image s) moments by
+  where
+    by : (image : List ℕ) → InOpening old image → old.images image ⊎ Stands image s
+    by image (inl is) = inl is
+    by image (inr told) =
+        let enough = needs_no_more old.bytes s (4096 * image_blocks told.0) stands (inr (told.0, told.1, refl)) in
+        inr (replayed_stands old told.0 told.1 (omega (arith, enough, whole)) s image stands told.2)

@@ -1,17 +1,20 @@
 -- Runs that only read, one after another.
-use Rattle.std.proofs.Common.{◌∙◌, refl, sym, ℕ, List}
+use Rattle.std.proofs.Common.{◌∙◌, refl, sym, ℕ, List, IsTrue}
 use Rattle.lis_ports.specs.Meaning.{Meaning}
-use Rattle.lis_ports.specs.Runs.{IsDiskRun}
+use Rattle.lis_ports.specs.Runs.{IsDiskRun, IsSettled}
 use Rattle.lis_ports.specs.Calls.{IsUnchanged}
 use Rattle.lis_ports.proofs.Always.{always_unchanged}
 use Rattle.lis_ports.proofs.Moments.{run_none, run_then, leaves_none, leaves_weaken, leaves_then}
 use Rattle.lis_journal.specs.Images.{Fits}
 use Rattle.lis_open.specs.Reading.{OnlyReads}
 
+pub unchanged_none : (m : Meaning) → IsUnchanged m m
+unchanged_none m = record { bytes = refl; images = record { only = λ image is. is; each = λ recorded image is. is } }
+
 pub reads_none : (m : Meaning) → OnlyReads m m
 reads_none m = record {
   run = run_none m;
-  same = λ honest. record { bytes = refl; images = record { only = λ image is. is; each = λ recorded image is. is } };
+  same = λ honest. unchanged_none m;
   moments = λ honest. leaves_none m m.images;
 }
 
@@ -38,3 +41,8 @@ fits_after blocks kept reads fits = record {
   honest = reads.run.honest ∙ fits.honest;
   all = always_unchanged fits.all (reads.same fits.honest);
 }
+
+pub settled_after : {a b : Meaning} {bytes : List ℕ} → OnlyReads a b → IsTrue a.is_honest → IsSettled a bytes → IsSettled b bytes
+settled_after reads honest settled =
+    let same = reads.same honest in
+    record { reads = same.bytes ∙ settled.reads; only = λ image is. settled.only image (same.images.only image is) }

@@ -1,8 +1,12 @@
 -- How opening an image ends, and its causes.
-use Rattle.std.specs.Prelude.{◌≡◌, ◌⊎◌, ℕ, ◌*◌, ◌≤◌, ◌<◌, List, Result, Ok, Err, IsTrue}
+use Rattle.std.specs.Prelude.{◌≡◌, ◌⊎◌, ℕ, ◌*◌, ◌≤◌, ◌<◌, false, List, Some, None, Result, Ok, Err, IsTrue}
 use Rattle.lis_ports.specs.Meaning.{Meaning}
 use Rattle.lis_ports.specs.Calls.{Rose, IsUnchanged}
 use Rattle.lis_ports.specs.Bytes.{part}
+use Rattle.lis_ports.specs.Runs.{IsSettled}
+use Rattle.lis_journal.specs.Record.{block, is_open, replayed}
+use Rattle.lis_journal.specs.Images.{Fits}
+use Rattle.lis_journal.specs.Recovery.{StandsForReplayed}
 use Rattle.lis_journal.specs.declared.journal.JournalFault.{JournalFault}
 use Rattle.lis_journal.specs.declared.journal.JournalFault.TheVariants.{DiskFault as JournalDisk, BadRecord as JournalRecord, NoMemory as JournalMemory}
 use Rattle.lis_fields.specs.Layouts.{super_bytes}
@@ -37,14 +41,37 @@ IsNeeded image need = (need ≡ 4096) ⊎ ((limits : Limits) × HasSuper limits 
 abbrev pub IsLongEnough : Meaning → Type 0
 IsLongEnough m = (need : ℕ) → IsNeeded m.bytes need → need ≤ m.len
 
--- It is too short exactly where there are fewer bytes than are needed, and is left as it was. An image is refused exactly where it is long
--- enough and stands for no state, and opened exactly where it stands for one, which the store then fits.
+-- It is too short exactly where there are fewer bytes than are needed. An image is refused exactly where it is long enough and stands for no
+-- state, and opened exactly where it stands for one, which the store then fits.
 abbrev pub OpenEnded : Meaning → Meaning → Result Kept OpenFault → Type 0
 OpenEnded old new (Ok store) = IsLongEnough old × ((s : State) × Stands old.bytes s × StoreFits store new s)
-OpenEnded old new (Err (TooShort len need)) = (len ≡ old.len) × (len < need) × IsNeeded old.bytes need × IsUnchanged old new
+OpenEnded old new (Err (TooShort len need)) = (len ≡ old.len) × (len < need) × IsNeeded old.bytes need
 OpenEnded old new (Err (Damaged spot)) = IsLongEnough old × ((s : State) → Stands old.bytes s → ⊥)
 OpenEnded old new (Err DiskFault) = Unit {0}
 OpenEnded old new (Err NoMemory) = IsLongEnough old × ((limits : Limits) × HasSuper limits old.bytes) × ((s : State) → Stands old.bytes s → Stands new.bytes s)
+
+-- Its journal was recovered. With a closed gate, or with a record that is not in form, the bytes stay as they read, and a crash leaves just
+-- these. Else the blocks are those of the replayed image, and the gate is closed.
+pub record IsRecovered (blocks : ℕ) (old new : Meaning) : Type 0 where
+  pub closed : is_open old.bytes ≡ false → IsSettled new old.bytes
+  pub bad : replayed blocks old.bytes ≡ None → IsSettled new old.bytes
+  pub home : (r : List ℕ) → replayed blocks old.bytes ≡ Some r → Fits blocks new (λ n. block n r)
+
+-- by the limits that the super block tells
+abbrev pub Recovers : Meaning → Meaning → Type 0
+Recovers old new = (limits : Limits) → HasSuper limits old.bytes → IsRecovered (image_blocks limits) old new
+
+-- What opening leaves where the disk did not fail. Of an image it writes nothing but what its journal asks for.
+abbrev pub OpenLeft : Meaning → Meaning → Result Kept OpenFault → Type 0
+OpenLeft old new (Ok store) = Recovers old new
+OpenLeft old new (Err (TooShort len need)) = IsUnchanged old new
+OpenLeft old new (Err (Damaged spot)) = (((limits : Limits) → HasSuper limits old.bytes → ⊥) → IsUnchanged old new) × Recovers old new
+OpenLeft old new (Err DiskFault) = Unit {0}
+OpenLeft old new (Err NoMemory) = IsUnchanged old new ⊎ Recovers old new
+
+-- what a crash in opening leaves: what it could have left before, or what stands for the replayed image
+abbrev pub InOpening : Meaning → List ℕ → Type 0
+InOpening old image = old.images image ⊎ ((limits : Limits) × HasSuper limits old.bytes × StandsForReplayed (image_blocks limits) old.bytes image)
 
 -- what a fault of the journal is to opening
 abbrev pub journal_fault : JournalFault → OpenFault

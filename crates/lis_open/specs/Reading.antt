@@ -30,7 +30,7 @@ use Rattle.lis_open.specs.declared.mounting.OpenFault.{OpenFault}
 use Rattle.lis_open.specs.declared.mounting.OpenFault.TheVariants.{TooShort, Damaged, DiskFault, NoMemory}
 use Rattle.lis_open.specs.declared.words.Words.{Words}
 use Rattle.lis_open.specs.declared.files.Files.{Files}
-use Rattle.lis_open.specs.Opens.{HasSuper, OpenEnded}
+use Rattle.lis_open.specs.Opens.{HasSuper, OpenEnded, OpenLeft}
 use Rattle.lis_open.specs.Checks.{IsSlot, Fails, rank, place, IsBefore, FailsFirst}
 
 -- ---- runs that only read
@@ -258,9 +258,10 @@ StoreEnded limits at (Ok store) = (s : State) × Tells store at s
 StoreEnded limits at (Err fault) = PartsFail limits at fault
 
 -- ---- opening
--- how it ended; a spot is that of the first check that fails
+-- how it ended, and what it left; a spot is that of the first check that fails
 pub record Opened (old new : Meaning) (result : Result Kept OpenFault) : Type 0 where
   pub ended : OpenEnded old new result
+  pub left : OpenLeft old new result
   pub spot : (spot : Spot) → result ≡ Err (Damaged spot) → FailsFirst old.bytes spot
 
 -- how reading the limits ended

@@ -5,7 +5,7 @@ ghost use Rattle.lis_ports.specs.Runs.{IsDiskRun, Leaves, Always, IsSettled};
 ghost use Rattle.lis_ports.specs.Calls.{HasCause};
 ghost use Rattle.lis_journal.specs.Images.{KeepsPast};
 ghost use Rattle.lis_model.specs.Ranges.{are_in_range};
-ghost use Rattle.lis_model.specs.Image.{image_blocks};
+ghost use Rattle.lis_model.specs.Image.{data_start, image_blocks};
 ghost use Rattle.lis_model.specs.State.{empty_state};
 ghost use Rattle.lis_store.specs.Stands.{Stands};
 ghost use Rattle.lis_open.specs.Makes.{IsMaking};
@@ -50,14 +50,14 @@ fn write_image<D: Disk>(disk: &mut D, limits: &Limits) -> Result<(), Failed>
     ensures any_moment { IsTrue (D.meaning disk.old).is_honest → IsSettled (D.meaning disk.old) (D.meaning disk.old).bytes
         → Leaves (D.meaning disk.old) (D.meaning disk.new) (IsMaking limits.now (D.meaning disk.old).bytes) }
     ensures past { IsTrue (D.meaning disk.old).is_honest → IsSettled (D.meaning disk.old) (D.meaning disk.old).bytes
-        → KeepsPast (image_blocks limits.now) (D.meaning disk.old) (D.meaning disk.new) }
+        → KeepsPast (data_start limits.now) (D.meaning disk.old) (D.meaning disk.new) }
 {
     take_name(disk)?;
     wipe(disk, limits)?;
     write_first(disk, FIRST_BYTE)
 }
 
-/// Makes an image of the empty state. What lies past the image, and in its data blocks, stays. It takes no memory.
+/// Makes an image of the empty state. It takes no memory.
 pub fn make<D: Disk>(disk: &mut D, limits: &Limits) -> Result<(), MakeFault>
     requires { IsTrue (are_in_range limits.now) }
     ensures run { IsDiskRun (D.meaning disk.old) (D.meaning disk.new) }
@@ -72,8 +72,10 @@ pub fn make<D: Disk>(disk: &mut D, limits: &Limits) -> Result<(), MakeFault>
     // With nothing unsynced at entry, a crash leaves the image of entry, one of the empty state, or one of no state.
     ensures any_moment { IsTrue (D.meaning disk.old).is_honest → IsSettled (D.meaning disk.old) (D.meaning disk.old).bytes
         → Leaves (D.meaning disk.old) (D.meaning disk.new) (IsMaking limits.now (D.meaning disk.old).bytes) }
+
+    // The data blocks, and what lies past the image, read as before.
     ensures past { IsTrue (D.meaning disk.old).is_honest → IsSettled (D.meaning disk.old) (D.meaning disk.old).bytes
-        → KeepsPast (image_blocks limits.now) (D.meaning disk.old) (D.meaning disk.new) }
+        → KeepsPast (data_start limits.now) (D.meaning disk.old) (D.meaning disk.new) }
 {
     let need = u64::from(image_blocks(limits)) * BLOCK_LEN as u64;
     let len = disk.len();

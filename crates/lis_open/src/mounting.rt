@@ -8,7 +8,7 @@ ghost use Rattle.lis_model.specs.Image.{image_blocks};
 ghost use Rattle.lis_model.specs.State.{State};
 ghost use Rattle.lis_store.specs.Stands.{Stands};
 ghost use Rattle.lis_model.specs.Ranges.{are_in_range};
-ghost use Rattle.lis_open.specs.Opens.{HasOpenCause, HasSuper, OpenEnded};
+ghost use Rattle.lis_open.specs.Opens.{HasOpenCause, HasSuper, OpenEnded, OpenLeft, InOpening};
 ghost use Rattle.lis_open.specs.Checks.{FailsFirst};
 ghost use Rattle.lis_open.specs.Reading.{OnlyReads, Opened, LimitsRead};
 ghost use Rattle.lis_open.specs.declared.mounting.OpenFault.TheVariants.{TooShort, Damaged, DiskFault as DiskFailed};
@@ -112,8 +112,8 @@ fn mount_image<D: Disk>(alloc: Global, disk: &mut D, limits: Limits) -> Result<S
     ensures opened { IsTrue (D.meaning disk.old).is_honest → Opened (D.meaning disk.old) (D.meaning disk.new) result }
     ensures ready { IfOk result (λ store. store.journal.is_broken ≡ false) }
     ensures long { IfOk result (λ store. 4096 * store.journal.blocks ≤ (D.meaning disk.new).len) }
-    ensures any_moment { (s : State) → IsTrue (D.meaning disk.old).is_honest → Stands (D.meaning disk.old).bytes s
-        → Leaves (D.meaning disk.old) (D.meaning disk.new) (λ image. (D.meaning disk.old).images image ⊎ Stands image s) }
+    ensures any_moment { IsTrue (D.meaning disk.old).is_honest
+        → Leaves (D.meaning disk.old) (D.meaning disk.new) (InOpening (D.meaning disk.old)) }
     ensures past { (s : State) → IsTrue (D.meaning disk.old).is_honest → Stands (D.meaning disk.old).bytes s
         → (result ≡ Err DiskFailed → IsSettledPast (image_blocks s.limits) (D.meaning disk.old))
         → KeepsPast (image_blocks s.limits) (D.meaning disk.old) (D.meaning disk.new) }
@@ -137,8 +137,12 @@ pub fn mount<D: Disk>(alloc: Global, disk: &mut D) -> Result<Store, OpenFault>
     ensures ready { IfOk result (λ store. store.journal.is_broken ≡ false) }
     ensures long { IfOk result (λ store. 4096 * store.journal.blocks ≤ (D.meaning disk.new).len) }
 
-    // A crash leaves what it could have left before, or what stands for the same state.
-    ensures any_moment { (s : State) → IsTrue (D.meaning disk.old).is_honest → Stands (D.meaning disk.old).bytes s
+    // Nothing is written but what the journal asks for, and a crash leaves what it could have left before, or what stands for the
+    // replayed image. This stands for the same state, if the image stood for one.
+    ensures left { IsTrue (D.meaning disk.old).is_honest → OpenLeft (D.meaning disk.old) (D.meaning disk.new) result }
+    ensures any_moment { IsTrue (D.meaning disk.old).is_honest
+        → Leaves (D.meaning disk.old) (D.meaning disk.new) (InOpening (D.meaning disk.old)) }
+    ensures same_state { (s : State) → IsTrue (D.meaning disk.old).is_honest → Stands (D.meaning disk.old).bytes s
         → Leaves (D.meaning disk.old) (D.meaning disk.new) (λ image. (D.meaning disk.old).images image ⊎ Stands image s) }
 
     // What lies past the image stays; where the disk failed, if a crash at entry left it as it read.

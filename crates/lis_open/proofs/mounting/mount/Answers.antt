@@ -1,8 +1,10 @@
-use Rattle.std.proofs.Common.{◌∙◌, sym, ap, Err}
+use Rattle.std.proofs.Common.{◌∙◌, sym, ap, inl, Err}
 use Rattle.std.proofs.lemmas.Result.{err_from_is_err_and}
 use Rattle.lis_journal.specs.Record.{block}
 use Rattle.lis_model.specs.Image.{image_blocks}
-use Rattle.lis_open.proofs.Opening.{opened_before, settled_before, stands_before}
+use Rattle.lis_ports.proofs.Moments.{leaves_weaken}
+use Rattle.lis_open.specs.Opens.{InOpening}
+use Rattle.lis_open.proofs.Opening.{opened_before, opening_before, moments_stand, settled_before, stands_before}
 use Rattle.lis_open.proofs.mounting.mount.Goals as goal
 
 pub returns-in_err-limits-clause-spot : goal.returns-in_err-limits-clause-spot
@@ -32,3 +34,30 @@ returns-clause-past g c = λ s honest stands settled n past.
     let same = reads.same honest in
     c.mount_image.ensures.past s (reads.run.honest ∙ honest) (stands_before old mid same reads.run.len s stands)
     (λ failed. settled_before old mid same reads.run.len (image_blocks s.limits) (settled failed)) n past ∙ ap (block n) same.bytes
+
+pub returns-in_err-limits-clause-any_moment : goal.returns-in_err-limits-clause-any_moment
+returns-in_err-limits-clause-any_moment g c = λ honest.
+    leaves_weaken (InOpening (g.D.Disk.meaning c.args.disk.now)) (c.read_limits.ensures.reads.moments honest) (λ image is. inl is)
+
+pub returns-clause-left : goal.returns-clause-left
+returns-clause-left g c = λ honest.
+    let old = g.D.Disk.meaning c.args.disk.now in
+    let mid = g.D.Disk.meaning c.read_limits.new.disk in
+    let reads = c.read_limits.ensures.reads in
+    (opened_before old mid (reads.same honest) reads.run.len (g.D.Disk.meaning c.mount_image.new.disk) c.mount_image.result c.mount_image.ensures.run (c.mount_image.ensures.opened (reads.run.honest ∙ honest))).left
+
+pub returns-clause-any_moment : goal.returns-clause-any_moment
+returns-clause-any_moment g c = λ honest.
+    let old = g.D.Disk.meaning c.args.disk.now in
+    let mid = g.D.Disk.meaning c.read_limits.new.disk in
+    let reads = c.read_limits.ensures.reads in
+    opening_before old mid (reads.same honest) reads.run.len (g.D.Disk.meaning c.mount_image.new.disk) (reads.moments honest) (c.mount_image.ensures.any_moment (reads.run.honest ∙ honest))
+
+pub returns-clause-same_state : goal.returns-clause-same_state
+returns-clause-same_state g c = λ s honest stands.
+    let old = g.D.Disk.meaning c.args.disk.now in
+    let mid = g.D.Disk.meaning c.read_limits.new.disk in
+    let reads = c.read_limits.ensures.reads in
+    let new = g.D.Disk.meaning c.mount_image.new.disk in
+    moments_stand old new s (g.met.D.Disk.reads_len c.args.disk.now honest) stands
+    (opening_before old mid (reads.same honest) reads.run.len new (reads.moments honest) (c.mount_image.ensures.any_moment (reads.run.honest ∙ honest)))

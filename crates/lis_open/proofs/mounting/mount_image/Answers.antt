@@ -6,10 +6,12 @@ use Rattle.lis_journal.specs.Journal.{Held}
 use Rattle.lis_journal.specs.Recovery.{StandsForReplayed, MountEnded, IsSettledPast}
 use Rattle.lis_journal.specs.declared.journal.JournalFault.{JournalFault}
 use Rattle.lis_ports.specs.Runs.{Leaves}
+use Rattle.lis_ports.specs.Calls.{IsUnchanged}
 use Rattle.lis_model.specs.Image.{image_blocks}
 use Rattle.lis_store.specs.Kept.{Kept}
 use Rattle.lis_open.specs.declared.mounting.OpenFault.{OpenFault}
 use Rattle.lis_open.proofs.Opening.{journal_opened, journal_moments, journal_past, past_state, store_opened, store_moments}
+use Rattle.lis_open.proofs.Quiet.{unchanged_none}
 use Rattle.lis_open.proofs.mounting.mount_image.Goals as goal
 
 pub returns-in_err-journal-clause-opened : goal.returns-in_err-journal-clause-opened
@@ -19,13 +21,13 @@ returns-in_err-journal-clause-opened g c = λ honest.
     let p = err_from_is_err_and c.from_residual.result c.from_residual.ensures.1 in
     let ended = subst (λ b. MountEnded b old new c.mount.result) c.image_blocks.ensures.blocks (c.mount.ensures.ended honest) in
     rw (p.1, p.2) (journal_opened old c.args.limits (c.requires.begins honest) c.requires.long new c.mount.result c.in_err-journal.field-0.0 c.in_err-journal.was ended
-    (λ memory. ap (λ d. (g.D.Disk.meaning d).bytes) (c.mount.ensures.memory memory)))
+    (λ memory. subst (λ d. IsUnchanged old (g.D.Disk.meaning d)) (sym (c.mount.ensures.memory memory)) (unchanged_none old)))
 
 pub returns-in_err-journal-clause-any_moment : goal.returns-in_err-journal-clause-any_moment
-returns-in_err-journal-clause-any_moment g c = λ s honest stands.
+returns-in_err-journal-clause-any_moment g c = λ honest.
     let old = g.D.Disk.meaning c.args.disk.now in
     let new = g.D.Disk.meaning c.mount.new.disk in
-    journal_moments old c.args.limits (c.requires.begins honest) c.requires.long s new stands
+    journal_moments old c.args.limits (c.requires.begins honest) c.requires.long new
     (subst (λ b. Leaves old new (λ image. old.images image ⊎ StandsForReplayed b old.bytes image)) c.image_blocks.ensures.blocks (c.mount.ensures.any_moment honest))
 
 pub returns-in_err-journal-clause-past : goal.returns-in_err-journal-clause-past
@@ -35,7 +37,7 @@ returns-in_err-journal-clause-past g c = λ s honest stands settled.
     let p = err_from_is_err_and c.from_residual.result c.from_residual.ensures.1 in
     let ended = subst (λ b. MountEnded b old new c.mount.result) c.image_blocks.ensures.blocks (c.mount.ensures.ended honest) in
     journal_past old c.args.limits (c.requires.begins honest) c.requires.long s new c.mount.result c.in_err-journal.field-0.0 stands c.in_err-journal.was ended
-    (λ memory. ap (λ d. (g.D.Disk.meaning d).bytes) (c.mount.ensures.memory memory)) (λ is. settled (p.1 ∙ ap Err (p.2 ∙ is)))
+    (λ memory. subst (λ d. IsUnchanged old (g.D.Disk.meaning d)) (sym (c.mount.ensures.memory memory)) (unchanged_none old)) (λ is. settled (p.1 ∙ ap Err (p.2 ∙ is)))
     (subst (λ b. IsSettledPast b old → KeepsPast b old new) c.image_blocks.ensures.blocks (c.mount.ensures.settled_past honest))
 
 pub returns-clause-opened : goal.returns-clause-opened
@@ -45,17 +47,17 @@ returns-clause-opened g c = λ honest.
     let ended = subst (λ b. MountEnded b old mid c.mount.result) c.image_blocks.ensures.blocks (c.mount.ensures.ended honest) in
     let blocks = ap (λ (j : Held). j.blocks) c.in_ok-journal.ensures.held ∙ c.image_blocks.ensures.blocks in
     store_opened old c.args.limits (c.requires.begins honest) c.requires.long (g.met.D.Disk.reads_len c.args.disk.now honest) mid (g.D.Disk.meaning c.read_store.new.disk) c.read_store.result
-    (subst (λ (o : Result Held JournalFault). MountEnded (image_blocks c.args.limits) old mid o) c.in_ok-journal.was ended) c.read_store.ensures.reads
+    (subst (λ (o : Result Held JournalFault). MountEnded (image_blocks c.args.limits) old mid o) c.in_ok-journal.was ended) (c.in_ok-journal.ensures.closed honest) c.read_store.ensures.reads
     (λ store is. ap (λ (j : Held). j.blocks) (subst (λ (o : Result Kept OpenFault). IfOk o (λ k. k.journal ≡ c.in_ok-journal.journal)) is c.read_store.ensures.journal) ∙ blocks)
     (λ kept fits. c.read_store.ensures.ended kept (subst (λ b. Fits b mid kept) (sym blocks) fits))
 
 pub returns-clause-any_moment : goal.returns-clause-any_moment
-returns-clause-any_moment g c = λ s honest stands.
+returns-clause-any_moment g c = λ honest.
     let old = g.D.Disk.meaning c.args.disk.now in
     let mid = g.D.Disk.meaning c.mount.new.disk in
     let ended = subst (λ b. MountEnded b old mid c.mount.result) c.image_blocks.ensures.blocks (c.mount.ensures.ended honest) in
-    store_moments old c.args.limits (c.requires.begins honest) c.requires.long s (g.met.D.Disk.reads_len c.args.disk.now honest) mid (g.D.Disk.meaning c.read_store.new.disk)
-    (subst (λ (o : Result Held JournalFault). MountEnded (image_blocks c.args.limits) old mid o) c.in_ok-journal.was ended) stands
+    store_moments old c.args.limits (c.requires.begins honest) c.requires.long (g.met.D.Disk.reads_len c.args.disk.now honest) mid (g.D.Disk.meaning c.read_store.new.disk)
+    (subst (λ (o : Result Held JournalFault). MountEnded (image_blocks c.args.limits) old mid o) c.in_ok-journal.was ended)
     (subst (λ b. Leaves old mid (λ image. old.images image ⊎ StandsForReplayed b old.bytes image)) c.image_blocks.ensures.blocks (c.mount.ensures.any_moment honest))
     (c.read_store.ensures.reads.moments (c.mount.ensures.run.honest ∙ honest))
 
