@@ -3,12 +3,14 @@ use Rattle.std.specs.Prelude.{◌≡◌, ◌⊎◌, ℕ, ◌<◌, List, Option, 
 use Rattle.std.specs.Io.KnownBytes.{IsAtEnd}
 use Rattle.lis_ports.specs.Meaning.{Meaning}
 use Rattle.lis_ports.specs.Calls.{Rose, IsUnchanged}
+use Rattle.lis_ports.specs.Runs.{Leaves}
 use Rattle.lis_model.specs.declared.limits.Limits.{Limits}
 use Rattle.lis_model.specs.State.{State}
 use Rattle.lis_model.specs.Step.{Situation}
 use Rattle.lis_model.specs.Script.{all_items, script}
 use Rattle.lis_store.specs.Stands.{Stands}
-use Rattle.lis_open.specs.Opens.{HasSuper, IsNeeded, IsLongEnough}
+use Rattle.lis_open.specs.Opens.{HasSuper, IsNeeded, IsLongEnough, Recovers, InOpening}
+use Rattle.lis_open.specs.Checks.{FailsFirst}
 use Rattle.lis_session.specs.Session.{root_of}
 use Rattle.lis_session.specs.Runs.{Carried, CarriedAll, CarriedToLimit, CarriedWhole, CarriedFirst, StopsAt}
 use Rattle.lis_shell.specs.Causes.{Counts}
@@ -76,13 +78,14 @@ IsComplete state limit bytes left before new InputFault = ⊥
 IsComplete state limit bytes left before new OutputFault = ⊥
 IsComplete state limit bytes left before new InputLimit = ⊥
 
--- The answers of opening, exactly: too short; long enough and standing for no state; or opened, where it stands for one.
+-- The answers of opening, exactly: too short; long enough and standing for no state, with the first check that fails; or opened, where it
+-- stands for one.
 abbrev pub IsJudged : Meaning → Status → Type 0
 IsJudged m Done = IsLongEnough m × ((s : State) × Stands m.bytes s)
 IsJudged m InputLimit = IsLongEnough m × ((s : State) × Stands m.bytes s)
 IsJudged m InputFault = IsLongEnough m × ((s : State) × Stands m.bytes s)
 IsJudged m OutputFault = IsLongEnough m × ((s : State) × Stands m.bytes s)
-IsJudged m (NotAnImage spot) = IsLongEnough m × ((s : State) → Stands m.bytes s → ⊥)
+IsJudged m (NotAnImage spot) = IsLongEnough m × ((s : State) → Stands m.bytes s → ⊥) × FailsFirst m.bytes spot
 IsJudged m (TooShort len need) = (len ≡ m.len) × (len < need) × IsNeeded m.bytes need
 IsJudged m NoMemory = IsLongEnough m × ((limits : Limits) × HasSuper limits m.bytes)
 IsJudged m DiskFault = Unit {0}
@@ -99,3 +102,20 @@ IsIdle untouched old new InputFault = Unit {0}
 IsIdle untouched old new OutputFault = Unit {0}
 IsIdle untouched old new InputLimit = Unit {0}
 IsIdle untouched old new NoMemory = Unit {0}
+
+-- What is left of an image that stands for no state, where the disk did not fail. Nothing is written but what its journal asks for.
+abbrev pub BarredLeft : Meaning → Meaning → Status → Type 0
+BarredLeft old new (NotAnImage spot) = (((limits : Limits) → HasSuper limits old.bytes → ⊥) → IsUnchanged old new) × Recovers old new
+BarredLeft old new (TooShort len need) = IsUnchanged old new
+BarredLeft old new NoMemory = IsUnchanged old new ⊎ Recovers old new
+BarredLeft old new DiskFault = Unit {0}
+BarredLeft old new Usage = ⊥
+BarredLeft old new Done = ⊥
+BarredLeft old new InputFault = ⊥
+BarredLeft old new OutputFault = ⊥
+BarredLeft old new InputLimit = ⊥
+
+-- A run on such an image: a crash leaves what it could have left before, or what stands for the replayed image, and nothing was shown.
+pub record Barred (old new : Meaning) (status : Status) : Type 0 where
+  pub moments : Leaves old new (InOpening old)
+  pub left : BarredLeft old new status

@@ -5,6 +5,7 @@ ghost use Rattle.lis_line.specs.Taking.{TakesFew};
 ghost use Rattle.lis_model.specs.State.{State};
 ghost use Rattle.lis_model.specs.Script.{script};
 ghost use Rattle.lis_store.specs.Kept.{StoreFits};
+ghost use Rattle.lis_session.specs.Item.{IsSameStation};
 ghost use Rattle.lis_session.specs.Runs.{Serves};
 ghost use Rattle.lis_session.specs.Session.{FullHeadline};
 ghost use Rattle.lis_shell.specs.Causes.{counts, HasStatusCause};
@@ -33,7 +34,7 @@ fn carry_out<S: Source, T: Station>(
     requires unbroken { store.old.journal.is_broken ≡ false }
     requires long { 4096 * store.old.journal.blocks ≤ (T.meaning station.old).len }
     ensures only { IsSessionStatus result }
-    ensures recorded { (T.meaning station.new).is_recorded ≡ (T.meaning station.old).is_recorded }
+    ensures same { IsSameStation (T.meaning station.old) (T.meaning station.new) }
     ensures cause { HasStatusCause (counts (T.meaning station.old) (S.faults input.old)) (counts (T.meaning station.new) (S.faults input.new)) result }
     ensures few { TakesFew limit (S.left input.old) (S.left input.new) }
     ensures serves { (state : State) (bytes : List ℕ) → StoreFits store.old (T.meaning station.old) state → S.left input.old ≡ Some bytes
@@ -77,7 +78,7 @@ pub fn serve<S: Source, T: Station>(
     requires unbroken { store.old.journal.is_broken ≡ false }
     requires long { 4096 * store.old.journal.blocks ≤ (T.meaning station.old).len }
     ensures only { IsSessionStatus result }
-    ensures recorded { (T.meaning station.new).is_recorded ≡ (T.meaning station.old).is_recorded }
+    ensures same { IsSameStation (T.meaning station.old) (T.meaning station.new) }
     ensures cause { HasStatusCause (counts (T.meaning station.old) (S.faults input.old)) (counts (T.meaning station.new) (S.faults input.new)) result }
     ensures few { TakesFew limit (S.left input.old) (S.left input.new) }
     ensures serves { (state : State) (bytes : List ℕ) → StoreFits store.old (T.meaning station.old) state → S.left input.old ≡ Some bytes

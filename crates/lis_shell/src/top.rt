@@ -9,11 +9,13 @@ ghost use Rattle.lis_journal.specs.Recovery.{IsSettledPast};
 ghost use Rattle.lis_line.specs.Taking.{TakesFew};
 ghost use Rattle.lis_model.specs.declared.limits.Limits.{Limits as LimitsOf};
 ghost use Rattle.lis_model.specs.Ranges.{are_in_range};
-ghost use Rattle.lis_model.specs.Image.{image_blocks};
+ghost use Rattle.lis_model.specs.Image.{data_start, image_blocks};
 ghost use Rattle.lis_model.specs.Script.{script};
 ghost use Rattle.lis_model.specs.State.{State};
 ghost use Rattle.lis_model.specs.Step.{Situation, start_of};
+ghost use Rattle.lis_store.specs.Stands.{Stands};
 ghost use Rattle.lis_open.specs.Makes.{IsMaking};
+ghost use Rattle.lis_session.specs.Item.{IsSameStation};
 ghost use Rattle.lis_session.specs.Runs.{RunsImage};
 ghost use Rattle.lis_session.specs.Session.{root_of, Headline, FullHeadline};
 ghost use Rattle.lis_shell.specs.Words.{task_of};
@@ -21,7 +23,7 @@ ghost use Rattle.lis_shell.specs.declared.words.Task.TheVariants.{Try, Make, Run
 ghost use Rattle.lis_shell.specs.Causes.{counts, HasStatusCause, IsTryStatus};
 ghost use Rattle.lis_shell.specs.Tries.{Tries};
 ghost use Rattle.lis_shell.specs.MakesImage.{MadeImage};
-ghost use Rattle.lis_shell.specs.Runs.{Entry, Ran, NoFault, IsComplete, IsJudged, IsIdle};
+ghost use Rattle.lis_shell.specs.Runs.{Entry, Ran, NoFault, IsComplete, IsJudged, IsIdle, Barred};
 
 use crate::serving::serve;
 use crate::session::try_session;
@@ -69,7 +71,7 @@ fn make_image<T: Station>(limits: &Limits, station: &mut T) -> Status
     ensures making { IsTrue (T.meaning station.old).is_honest → IsSettled (T.meaning station.old) (T.meaning station.old).bytes
         → Leaves (T.meaning station.old) (T.meaning station.new) (IsMaking limits.now (T.meaning station.old).bytes) }
     ensures past { IsTrue (T.meaning station.old).is_honest → IsSettled (T.meaning station.old) (T.meaning station.old).bytes
-        → KeepsPast (image_blocks limits.now) (T.meaning station.old) (T.meaning station.new) }
+        → KeepsPast (data_start limits.now) (T.meaning station.old) (T.meaning station.new) }
 {
     match make(station, limits) {
         Ok(()) => Status::Done,
@@ -81,7 +83,7 @@ fn make_image<T: Station>(limits: &Limits, station: &mut T) -> Status
 // Opens the image, and carries out the items of the input on it.
 fn run_image<S: Source, T: Station>(alloc: Global, input: &mut S, station: &mut T) -> Status
     ensures used { result ≢ Status.Usage }
-    ensures recorded { (T.meaning station.new).is_recorded ≡ (T.meaning station.old).is_recorded }
+    ensures same { IsSameStation (T.meaning station.old) (T.meaning station.new) }
     ensures cause { HasStatusCause (counts (T.meaning station.old) (S.faults input.old)) (counts (T.meaning station.new) (S.faults input.new)) result }
     ensures few { TakesFew (2 ^ 40) (S.left input.old) (S.left input.new) }
     ensures runs { (state : State) (bytes : List ℕ) → Entry (T.meaning station.old) (S.left input.old) state bytes
@@ -92,6 +94,8 @@ fn run_image<S: Source, T: Station>(alloc: Global, input: &mut S, station: &mut 
         → KeepsPast (image_blocks state.limits) (T.meaning station.old) (T.meaning station.new) }
     ensures judged { IsTrue (T.meaning station.old).is_honest → IsJudged (T.meaning station.old) result }
     ensures idle { IsIdle (input.new ≡ input.old) (T.meaning station.old) (T.meaning station.new) result }
+    ensures barred { IsTrue (T.meaning station.old).is_honest → ((state : State) → Stands (T.meaning station.old).bytes state → ⊥)
+        → (input.new ≡ input.old) × Barred (T.meaning station.old) (T.meaning station.new) result }
 {
     let mut store = match mount(alloc, station) {
         Ok(store) => store,
@@ -129,7 +133,7 @@ pub fn lisfs<S: Source, T: Station>(
 ) -> Status
     ensures usage { (result ≡ Status.Usage) ↔ (task_of (map string_bytes words.now) ≡ None) }
     ensures unused { result ≡ Status.Usage → (input.new ≡ input.old) × (station.new ≡ station.old) }
-    ensures recorded { (T.meaning station.new).is_recorded ≡ (T.meaning station.old).is_recorded }
+    ensures same { IsSameStation (T.meaning station.old) (T.meaning station.new) }
     ensures cause { HasStatusCause (counts (T.meaning station.old) (S.faults input.old)) (counts (T.meaning station.new) (S.faults input.new)) result }
     ensures few { TakesFew (2 ^ 40) (S.left input.old) (S.left input.new) }
 
@@ -147,7 +151,7 @@ pub fn lisfs<S: Source, T: Station>(
     ensures making { (limits : LimitsOf) → task_of (map string_bytes words.now) ≡ Some (Make limits)
         → IsTrue (T.meaning station.old).is_honest → IsSettled (T.meaning station.old) (T.meaning station.old).bytes
         → Leaves (T.meaning station.old) (T.meaning station.new) (IsMaking limits (T.meaning station.old).bytes)
-        × KeepsPast (image_blocks limits) (T.meaning station.old) (T.meaning station.new) }
+        × KeepsPast (data_start limits) (T.meaning station.old) (T.meaning station.new) }
     ensures make_short { (limits : LimitsOf) → task_of (map string_bytes words.now) ≡ Some (Make limits)
         → (len need : ℕ) → result ≡ Status.TooShort len need → station.new ≡ station.old }
 
@@ -176,6 +180,12 @@ pub fn lisfs<S: Source, T: Station>(
         → IsComplete state (2 ^ 40) bytes (S.left input.new) (T.meaning station.old).shown (T.meaning station.new) result }
     ensures idle { task_of (map string_bytes words.now) ≡ Some Run
         → IsIdle (input.new ≡ input.old) (T.meaning station.old) (T.meaning station.new) result }
+
+    // `run` on an image that stands for no state: no input is taken, nothing is shown, and nothing is written but what the journal of
+    // the image asks for.
+    ensures barred { task_of (map string_bytes words.now) ≡ Some Run → IsTrue (T.meaning station.old).is_honest
+        → ((state : State) → Stands (T.meaning station.old).bytes state → ⊥)
+        → (input.new ≡ input.old) × Barred (T.meaning station.old) (T.meaning station.new) result }
 {
     match task_of(words) {
         None => Status::Usage,

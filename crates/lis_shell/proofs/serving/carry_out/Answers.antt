@@ -1,7 +1,7 @@
 use Rattle.std.proofs.Common.{sym, ◌∙◌, refl, arith}
 use Rattle.lis_line.proofs.Answered.{few_said}
 use Rattle.lis_store.specs.Kept.{StoreFits}
-use Rattle.lis_session.proofs.Fitting.{store_fits_at}
+use Rattle.lis_session.proofs.Fitting.{store_fits_at, same_none, same_then}
 use Rattle.lis_session.proofs.Going.{so_far_none, so_far_more, item_read, ends_failed, ends_disk, ends_output, ends_memory}
 use Rattle.lis_shell.proofs.Going.{asks_some}
 use Rattle.lis_shell.proofs.Served.{ends_said}
@@ -14,7 +14,7 @@ loop-item-init g c = record {
   so_far = so_far_none c.new-reader.ensures;
   disk_faults = refl;
   input_faults = refl;
-  recorded = refl;
+  same = same_none (g.T.Disk.meaning c.args.station.now);
   show_faults = refl;
 }
 
@@ -41,11 +41,11 @@ loop-item-preserved g c =
     let read = item_read c.loop-item.invariant.so_far c.next.ensures.says c.in-Ok.is c.next.ensures.few (asks_some c.in-Ok.item c.next.new.payload (sym c.in-None.ensures)) in
     record {
       unbroken = c.in-Ok-step.ensures.left.unbroken (λ e. cc);
-      long = omega (arith, c.in-Ok-step.ensures.left.image, c.in-Ok-step.ensures.len, c.loop-item.invariant.long);
+      long = omega (arith, c.in-Ok-step.ensures.left.image, c.in-Ok-step.ensures.same.len, c.loop-item.invariant.long);
       so_far = so_far_more c.in-Ok-step.field-0 read c.in-Ok-step.ensures.carries;
       disk_faults = c.in-Ok-step.ensures.cause.0 ∙ c.loop-item.invariant.disk_faults;
       input_faults = c.in-Ok.ensures.cause.stays ∙ c.loop-item.invariant.input_faults;
-      recorded = c.in-Ok-step.ensures.recorded ∙ c.loop-item.invariant.recorded;
+      same = same_then c.loop-item.invariant.same c.in-Ok-step.ensures.same;
       show_faults = c.in-Ok-step.ensures.cause.1 ∙ c.loop-item.invariant.show_faults;
     }
 
@@ -78,3 +78,12 @@ pub returns-in-Err-NoMemory-clause-serves : goal.returns-in-Err-NoMemory-clause-
 returns-in-Err-NoMemory-clause-serves g c = λ state bytes fits told.
     let read = item_read c.loop-item.invariant.so_far c.next.ensures.says c.in-Ok.is c.next.ensures.few (asks_some c.in-Ok.item c.next.new.payload (sym c.in-None.ensures)) in
     ends_memory {new = g.T.Disk.meaning c.step.new.station} (StoreFits c.step.new.store (g.T.Disk.meaning c.step.new.station)) c.step.new.self bytes state read told (rw c.in-Err-NoMemory.field-0-is at c.in-Err-NoMemory.ensures.carries) (store_fits_at fits)
+
+pub returns-in-Err-DiskFault-clause-same : goal.returns-in-Err-DiskFault-clause-same
+returns-in-Err-DiskFault-clause-same g c = same_then c.loop-item.invariant.same c.in-Err-DiskFault.ensures.same
+
+pub returns-in-Err-OutputFault-clause-same : goal.returns-in-Err-OutputFault-clause-same
+returns-in-Err-OutputFault-clause-same g c = same_then c.loop-item.invariant.same c.in-Err-OutputFault.ensures.same
+
+pub returns-in-Err-NoMemory-clause-same : goal.returns-in-Err-NoMemory-clause-same
+returns-in-Err-NoMemory-clause-same g c = same_then c.loop-item.invariant.same c.in-Err-NoMemory.ensures.same

@@ -1,5 +1,6 @@
 use Rattle.std.proofs.Common.{◌≡◌, ◌*◌, ◌≤◌, false}
 use Rattle.lis_store.specs.Kept.{StoreFits}
+use Rattle.lis_session.specs.Item.{IsSameStation}
 use Rattle.lis_session.proofs.Going.{SoFar}
 use Rattle.lis_shell.proofs.serving.carry_out.Given as goal
 
@@ -10,7 +11,7 @@ invariant-loop-item g l = record {
   so_far : SoFar l.limit (g.S.Source.left l.fn.input) (g.S.Source.left l.input) l.reader l.fn.session (StoreFits l.fn.store (g.T.Disk.meaning l.fn.station)) (g.T.Disk.meaning l.fn.station) (g.T.Disk.meaning l.station) (StoreFits l.store (g.T.Disk.meaning l.station)) l.session;
   disk_faults : (g.T.Disk.meaning l.station).disk_faults ≡ (g.T.Disk.meaning l.fn.station).disk_faults;
   input_faults : g.S.Source.faults l.input ≡ g.S.Source.faults l.fn.input;
-  recorded : (g.T.Disk.meaning l.station).is_recorded ≡ (g.T.Disk.meaning l.fn.station).is_recorded;
+  same : IsSameStation (g.T.Disk.meaning l.fn.station) (g.T.Disk.meaning l.station);
   show_faults : (g.T.Disk.meaning l.station).show_faults ≡ (g.T.Disk.meaning l.fn.station).show_faults;
 }
 

@@ -1,6 +1,7 @@
 use Rattle.std.proofs.Common.{map, Some, ap, sym, ◌∙◌}
 use Rattle.std.specs.String.{string_bytes}
 use Rattle.lis_model.specs.Script.{script}
+use Rattle.lis_session.proofs.Fitting.{same_none, same_run, same_shown}
 use Rattle.lis_session.proofs.Whole.{headline, headline_settled}
 use Rattle.lis_shell.specs.Causes.{counts}
 use Rattle.lis_shell.proofs.Forms.{made_in_range}
@@ -27,3 +28,12 @@ returns-in-Some-Run-clause-complete g c = λ is_run state bytes entry short none
     run_complete state 1099511627776 bytes (g.S.Source.left c.run_image.new.input) (g.T.Disk.meaning c.args.station.now).shown (g.T.Disk.meaning c.run_image.new.station)
     (counts (g.T.Disk.meaning c.args.station.now) (g.S.Source.faults c.args.input.now)) (counts (g.T.Disk.meaning c.run_image.new.station) (g.S.Source.faults c.run_image.new.input))
     c.run_image.result (c.run_image.ensures.runs state bytes entry).ended c.run_image.ensures.cause none short
+
+pub returns-in-None-clause-same : goal.returns-in-None-clause-same
+returns-in-None-clause-same g c = same_none (g.T.Disk.meaning c.args.station.now)
+
+pub returns-in-Some-Try-clause-same : goal.returns-in-Some-Try-clause-same
+returns-in-Some-Try-clause-same g c = same_shown c.try_from_empty.ensures.disk
+
+pub returns-in-Some-Make-clause-same : goal.returns-in-Some-Make-clause-same
+returns-in-Some-Make-clause-same g c = same_run c.make_image.ensures.run
