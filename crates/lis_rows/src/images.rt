@@ -18,8 +18,8 @@ const IMAGE_LEN: usize = 2_433_024;
 /// Room for the record of a session of some commands.
 const ROOM: u64 = 1 << 22;
 
-// How a call of the program ended, and what was shown in it and before it.
-fn call(
+/// How a call of the program ends.
+pub fn call(
     alloc: Global,
     words: &[&str],
     row: &str,
@@ -39,8 +39,8 @@ fn zeros(alloc: Global, len: usize) -> Result<Vec<u8>, AllocError> {
     vec![in alloc; 0; len]
 }
 
-// The bytes of an image without words and files.
-fn fresh(alloc: Global) -> Result<Vec<u8>, Fail> {
+/// The bytes of an image without words and files.
+pub fn fresh(alloc: Global) -> Result<Vec<u8>, Fail> {
     let mut bytes = zeros(alloc, IMAGE_LEN)?;
     let mut station = MemStation::new(alloc, &bytes, 0)?;
     let status = call(alloc, &["make", "i", "64", "64", "8"], "", &mut station)?;
@@ -84,8 +84,8 @@ fn words_and_images_are_judged(rt: HostRuntime) -> Result<(), Fail> {
     Ok(())
 }
 
-// What was shown behind so many bytes.
-fn shown_behind(alloc: Global, station: &MemStation, before: usize) -> Result<String, Fail> {
+/// What was shown behind so many bytes.
+pub fn shown_behind(alloc: Global, station: &MemStation, before: usize) -> Result<String, Fail> {
     match station.shown().get(before..) {
         None => Err("less was shown".into()),
         Some(bytes) => Ok(row_of(alloc, bytes)?),

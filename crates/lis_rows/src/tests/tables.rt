@@ -349,6 +349,12 @@ pub static IMAGE_WORDS: [(&[&str], usize, Status); 8] = [
     ),
 ];
 
+/// Inputs at a limit of ten bytes: how the session ends, what it shows, and what the same input shows then in a run.
+pub static LIMITED: [(&str, Status, &str, &str); 2] = [
+    ("mkdir abcd;", Status::InputLimit, "", "ok;"),
+    ("mkdir abc;", Status::Done, "ok;", "no 11 already declared;"),
+];
+
 /// Eight commands, one after another; what `ls;cat m;` shows before each and behind it.
 pub static CRASHED_COMMANDS: [(&str, [&str; 2]); 8] = [
     (

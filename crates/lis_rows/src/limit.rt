@@ -1,0 +1,78 @@
+//! A session over an image in memory with a small limit.
+
+ghost use Rattle.std.specs.Prelude.{◌≡◌, ◌*◌, ◌≤◌, ◌^◌, false};
+ghost use Rattle.lis_memdisk.specs.MemStation.{meaning_of};
+
+use crate::images::{call, fresh, shown_behind};
+use crate::tests::tables::LIMITED;
+use crate::tests::{SOUND, row_of, source};
+use lis_line::reader::Payload;
+use lis_memdisk::MemStation;
+use lis_open::mount;
+use lis_session::session::Session;
+use lis_shell::serving::serve;
+use lis_shell::status::Status;
+use lis_store::Store;
+use std::alloc::{AllocError, Global};
+use std::test::Fail;
+
+// How a session over an opened image ends.
+fn serve_row(
+    alloc: Global,
+    store: &mut Store,
+    row: &str,
+    station: &mut MemStation,
+    limit: u64,
+) -> Result<Status, AllocError>
+    requires limit { limit ≤ 2 ^ 40 }
+    requires unbroken { store.old.journal.is_broken ≡ false }
+    requires long { 4096 * store.old.journal.blocks ≤ (meaning_of station.old).len }
+{
+    let mut session = Session::new();
+    let mut payload = Payload::new(alloc)?;
+    let mut input = source(alloc, row, &SOUND)?;
+    Ok(serve(
+        alloc,
+        store,
+        &mut session,
+        &mut payload,
+        &mut input,
+        station,
+        limit,
+    ))
+}
+
+// The same, with the opening.
+fn serve_image(
+    alloc: Global,
+    row: &str,
+    station: &mut MemStation,
+    limit: u64,
+) -> Result<Status, Fail>
+    requires limit { limit ≤ 2 ^ 40 }
+{
+    match mount(alloc, station) {
+        Ok(mut store) => Ok(serve_row(alloc, &mut store, row, station, limit)?),
+        Err(_) => Err("the image was not opened".into()),
+    }
+}
+
+#[test]
+fn a_session_ends_at_its_limit(rt: HostRuntime) -> Result<(), Fail> {
+    let alloc = rt.alloc();
+    let image = fresh(alloc)?;
+    for (row, wanted, replies, left) in &LIMITED {
+        let mut station = MemStation::new(alloc, &image, 0)?;
+        let status = serve_image(alloc, row, &mut station, 10)?;
+        assert_eq!(rt; status, *wanted, "{row}");
+        assert_eq!(rt; row_of(alloc, station.shown())?.as_str(), *replies, "{row}");
+        let before = station.shown().len();
+        call(alloc, &["run", "i"], row, &mut station)?;
+        assert_eq!(rt;
+            shown_behind(alloc, &station, before)?.as_str(),
+            *left,
+            "{row}"
+        );
+    }
+    Ok(())
+}
