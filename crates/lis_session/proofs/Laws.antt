@@ -1,21 +1,20 @@
 -- What steps keep, and commands in other words.
-use Rattle.std.proofs.Common.{◌≡◌, ℕ, ◌<◌, nat_lt, Bool, true, false, not, cond, Result, Ok, Err, List, [], ◌∷◌, ◌++◌, length, codes, refl, ap, ◌∙◌, arith, append-nil, length-append}
+use Rattle.std.proofs.Common.{◌≡◌, ℕ, ◌<◌, Bool, true, false, not, cond, Result, Ok, Err, List, [], ◌∷◌, ◌++◌, length, codes, refl, ap, ◌∙◌, arith, append-nil, length-append}
 use Rattle.std.specs.List.{list_all}
-use Rattle.std.proofs.lemmas.Bool.{le-ltb}
 use Rattle.lis_words.specs.Words.{has_word}
 use Rattle.lis_grammar.specs.Formula.{Formula}
 use Rattle.lis_grammar.specs.Printing.{printed}
 use Rattle.lis_grammar.specs.Places.{Resolution, resolved, text_words}
 use Rattle.lis_grammar.specs.Places.Resolution.{NewPlace, BeyondLimits, Unreadable}
 use Rattle.lis_model.specs.declared.refusal.Refusal.{Refusal}
-use Rattle.lis_model.specs.declared.refusal.Refusal.TheVariants.{BadFormula, UnknownProperty, LargeFormula, NoFileHere, NoSpace}
+use Rattle.lis_model.specs.declared.refusal.Refusal.TheVariants.{BadFormula, UnknownProperty, LargeFormula, NoFileHere}
 use Rattle.lis_model.specs.declared.command.Command.{Command}
 use Rattle.lis_model.specs.declared.command.Command.TheVariants.{Mkdir, Create, Add, Cat, Rm, Cd, Pwd, Ls}
-use Rattle.lis_model.specs.State.{State, known, blocks_needed}
+use Rattle.lis_model.specs.State.{State, known}
 use Rattle.lis_model.specs.Table.{table}
 use Rattle.lis_model.specs.Listing.{increments, locals}
 use Rattle.lis_model.specs.Replies.{line, body_line, ok_line, two_digits, number_of, refusal_words, listing_lines, content_lines}
-use Rattle.lis_model.specs.Step.{Situation, Item, Outcome, Payload, no_payload, refused, changed, shown, judged, moved, mkdir_checks, with_declared, mkdir, new_file, assigned_at, create_checks, create, add_checks, add, with_file, free_blocks, is_here, bytes_of, cat, without_file, rm, cd_to, cd, done, step, replies, situation_after}
+use Rattle.lis_model.specs.Step.{Situation, Item, Outcome, Payload, refused, changed, shown, judged, moved, mkdir_checks, with_declared, mkdir, new_file, assigned_at, create_checks, add_checks, add, with_file, is_here, bytes_of, cat, without_file, rm, cd_to, cd, done, step, replies, situation_after}
 use Rattle.lis_model.specs.Step.Item.{Do, Bad}
 use Rattle.lis_session.specs.Parts.{led_to}
 use Rattle.lis_model.proofs.Runs.{replies-append, situation_after-append}
@@ -119,17 +118,6 @@ pub rm_stays : (now : Situation) (name : List ℕ) → (rm now name).next.place 
 rm_stays now name = judged_stays now ((not (is_here now name), NoFileHere) ∷ []) (changed now (without_file now.state name)) refl
 
 -- ---- commands in other words
-judged_past : (now : Situation) (checks : List (Bool × Refusal)) (last : Bool × Refusal) (outcome : Outcome) → last.0 ≡ false → judged now (checks ++ last ∷ []) outcome ≡ judged now checks outcome
-judged_past now [] last outcome never = ap (λ t. cond t (refused now last.1) outcome) never
-judged_past now (check ∷ checks) last outcome never = ap (cond check.0 (refused now check.1)) (judged_past now checks last outcome never)
-
--- a file without bytes takes no space: `create` is `add` with no payload
-pub create_is_add : (now : Situation) (name : List ℕ) (words : List (List ℕ)) → add now name words no_payload ≡ create now name words
-create_is_add now name words =
-    let file = new_file name (assigned_at now.place words) [] in
-    judged_past now (create_checks now words file) (nat_lt (free_blocks now.state) (blocks_needed 0), NoSpace) (changed now (with_file now.state file))
-    (le-ltb (free_blocks now.state) 0 (omega arith))
-
 pub cat_here : (now : Situation) (name : List ℕ) → is_here now name ≡ true → cat now name ≡ shown now (content_lines (bytes_of now.state.files name))
 cat_here now name here = ap (λ t. cond (not t) (refused now NoFileHere) (shown now (content_lines (bytes_of now.state.files name)))) here
 
