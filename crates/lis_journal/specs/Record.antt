@@ -30,6 +30,10 @@ homes entries = map (λ e. e.home) entries
 abbrev pub area : List ℕ → List ℕ
 area image = part 8192 2359296 image
 
+-- all of the journal's bytes but the gate: the rest of block 1, and the record
+abbrev pub behind_gate : List ℕ → List ℕ
+behind_gate image = part 4097 2363391 image
+
 -- block 2: how many blocks, and their homes
 abbrev pub header : List ℕ → List ℕ
 header area = part 0 4096 area

@@ -1,11 +1,12 @@
 -- What opening a journal does.
-use Rattle.std.specs.Prelude.{◌≡◌, ℕ, ◌≤◌, Bool, true, false, List, None, Result, Ok, Err, IsSomeAnd}
+use Rattle.std.specs.Prelude.{◌≡◌, ℕ, ◌≤◌, Bool, true, false, List, [], ◌∷◌, Some, None, Result, Ok, Err, IsSomeAnd}
 use Rattle.lis_ports.specs.Meaning.{Meaning}
+use Rattle.lis_ports.specs.Bytes.{put}
 use Rattle.lis_ports.specs.Runs.{IsSettled}
 use Rattle.lis_ports.specs.Calls.{Rose}
 use Rattle.lis_journal.specs.declared.journal.JournalFault.{JournalFault}
 use Rattle.lis_journal.specs.declared.journal.JournalFault.TheVariants.{DiskFault, BadRecord, NoMemory}
-use Rattle.lis_journal.specs.Record.{block, replayed}
+use Rattle.lis_journal.specs.Record.{block, is_open, behind_gate, replayed}
 use Rattle.lis_journal.specs.Images.{StandsFor, Fits}
 
 -- A disk fault comes only where the count rose, and at each other answer the count stays.
@@ -18,6 +19,19 @@ HasMountCause before now (Err NoMemory) = now ≡ before
 -- The image stands for what the replayed image of these bytes has.
 abbrev pub StandsForReplayed : ℕ → List ℕ → List ℕ → Type 0
 StandsForReplayed blocks bytes image = IsSomeAnd (replayed blocks bytes) (λ r. StandsFor blocks (λ n. block n r) image)
+
+-- What a crash leaves while a record is brought home: the gate was open, the image stands for what the replayed image has, and the journal's
+-- bytes behind the gate are those of before.
+pub record InRecovery (blocks : ℕ) (bytes image : List ℕ) : Type 0 where
+  pub opened : is_open bytes ≡ true
+  pub stands : StandsForReplayed blocks bytes image
+  pub rest : behind_gate image ≡ behind_gate bytes
+
+-- What a recovery leaves, byte for byte: with a closed gate the bytes as they read, with an open one the replayed image with a 0 in the gate. A
+-- crash leaves just these.
+pub record IsRecovered (blocks : ℕ) (old new : Meaning) : Type 0 where
+  pub closed : is_open old.bytes ≡ false → IsSettled new old.bytes
+  pub opened : (r : List ℕ) → is_open old.bytes ≡ true → replayed blocks old.bytes ≡ Some r → IsSettled new (put r 4096 (0 ∷ []))
 
 -- The answer, by the bytes as they read at the call's start.
 abbrev pub MountEnded : {T : Type 0} → ℕ → Meaning → Meaning → Result T JournalFault → Type 0

@@ -4,7 +4,7 @@ ghost use Rattle.std.specs.Prelude.{[], ◌∷◌, ◌≡◌, ◌+◌, ◌*◌, 
 ghost use Rattle.lis_ports.specs.Bytes.{put, Torn};
 ghost use Rattle.lis_ports.specs.Runs.{IsDiskRun, Leaves, Always, IsSettled};
 ghost use Rattle.lis_ports.specs.Calls.{HasCause};
-ghost use Rattle.lis_journal.specs.Record.{Entry, block, apply, homes, homes_of, is_header};
+ghost use Rattle.lis_journal.specs.Record.{Entry, block, behind_gate, apply, homes, homes_of, is_header};
 ghost use Rattle.lis_journal.specs.Images.{StandsFor, StandsForAllOrNone, Fits};
 ghost use Rattle.lis_journal.specs.Spreads.{Spreads, Touched};
 ghost use Rattle.lis_journal.specs.Staging.{IsStaging};
@@ -123,6 +123,11 @@ pub fn finish<D: Disk>(disk: &mut D, stage: &Stage) -> Result<(), Failed>
     ensures past { (kept : ℕ → List ℕ) → IsTrue (D.meaning disk.old).is_honest
         → Always (D.meaning disk.old) (Open stage.now.blocks kept stage.now.entries)
         → (n : ℕ) → stage.now.blocks ≤ n → block n (D.meaning disk.new).bytes ≡ kept n }
+    ensures settled { OnOk result (IsTrue (D.meaning disk.old).is_honest
+        → IsSettled (D.meaning disk.new) (put (apply stage.now.entries (D.meaning disk.old).bytes) 4096 (0 ∷ []))) }
+    ensures rest { (rest : List ℕ) → IsTrue (D.meaning disk.old).is_honest
+        → Always (D.meaning disk.old) (λ image. behind_gate image ≡ rest)
+        → Leaves (D.meaning disk.old) (D.meaning disk.new) (λ image. behind_gate image ≡ rest) }
 {
     write_synced(disk, stage, Target::Homes)?;
     write_gate(disk, 0)

@@ -1,9 +1,9 @@
 //! The journal: blocks are staged, and become kept all at once.
 
 ghost use Rattle.std.specs.Prelude.{[], ◌≡◌, ◌⊎◌, ◌+◌, ◌*◌, ◌<◌, ◌≤◌, ◌∷◌, ℕ, List, Option, None, length, true, false, IsTrue, IfOk, OnOk, OnErr, Ok, Err, if◌then◌else◌, ◌==◌, nat_eq};
-ghost use Rattle.lis_ports.specs.Runs.{IsDiskRun, Leaves, IsSettled};
+ghost use Rattle.lis_ports.specs.Runs.{IsDiskRun, Leaves};
 ghost use Rattle.lis_ports.specs.Calls.{HasCause, IsUnchanged};
-ghost use Rattle.lis_journal.specs.Record.{block, is_open, replayed};
+ghost use Rattle.lis_journal.specs.Record.{block, replayed};
 ghost use Rattle.lis_journal.specs.Images.{StandsForAllOrNone, Fits, KeepsPast, look};
 ghost use Rattle.lis_journal.specs.Staging.{with_entry, has_entry};
 
@@ -67,7 +67,7 @@ fn new_block(alloc: Global) -> Result<Vec<u8>, AllocError>
 }
 
 impl Journal {
-    ghost use Rattle.lis_journal.specs.Recovery.{HasMountCause, StandsForReplayed, MountEnded, IsSettledPast};
+    ghost use Rattle.lis_journal.specs.Recovery.{HasMountCause, InRecovery, IsRecovered, MountEnded, IsSettledPast};
     ghost use Rattle.lis_journal.specs.declared.journal.JournalFault.TheVariants.{NoMemory};
     ghost use Rattle.lis_journal.specs.Journal.{Held};
 
@@ -87,13 +87,12 @@ impl Journal {
         ensures ended { IsTrue (D.meaning disk.old).is_honest
             → MountEnded blocks (D.meaning disk.old) (D.meaning disk.new) result }
 
-        // Until the first sync a crash leaves what it would have left before. After it, it leaves what stands for the
-        // replayed image.
+        // Nothing is written but what an open gate asks for: the record's homes, and then the gate. A crash leaves what it
+        // would have left before, or what stands for the replayed image.
+        ensures left { OnOk result (IsTrue (D.meaning disk.old).is_honest
+            → IsRecovered blocks (D.meaning disk.old) (D.meaning disk.new)) }
         ensures any_moment { IsTrue (D.meaning disk.old).is_honest → Leaves (D.meaning disk.old) (D.meaning disk.new)
-            (λ image. (D.meaning disk.old).images image ⊎ StandsForReplayed blocks (D.meaning disk.old).bytes image) }
-        // With a closed gate the bytes stay as they read, and a crash leaves just these.
-        ensures closed { OnOk result (IsTrue (D.meaning disk.old).is_honest → is_open (D.meaning disk.old).bytes ≡ false
-            → IsSettled (D.meaning disk.new) (D.meaning disk.old).bytes) }
+            (λ image. (D.meaning disk.old).images image ⊎ InRecovery blocks (D.meaning disk.old).bytes image) }
         ensures past { OnOk result (IsTrue (D.meaning disk.old).is_honest
             → KeepsPast blocks (D.meaning disk.old) (D.meaning disk.new)) }
         ensures settled_past { IsTrue (D.meaning disk.old).is_honest → IsSettledPast blocks (D.meaning disk.old)

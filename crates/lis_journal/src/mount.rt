@@ -6,7 +6,7 @@ ghost use Rattle.lis_ports.specs.Calls.{HasCause};
 ghost use Rattle.lis_journal.specs.Record.{is_open, is_header, homes_of, entries_from, area, block, replayed};
 ghost use Rattle.lis_journal.specs.Images.{KeepsPast};
 ghost use Rattle.lis_journal.specs.Spreads.{Spreads, Same};
-ghost use Rattle.lis_journal.specs.Recovery.{StandsForReplayed, Recovered, IsSettledPast};
+ghost use Rattle.lis_journal.specs.Recovery.{InRecovery, IsRecovered, Recovered, IsSettledPast};
 
 use crate::commit::{GATE_AT, HEADER_AT, RECORD_START, finish};
 use crate::header::{is_header, word};
@@ -71,11 +71,11 @@ pub fn recover<D: Disk>(
     ensures cause { HasCause (D.meaning disk.old).disk_faults (D.meaning disk.new).disk_faults result }
     ensures blocks { stage.new.blocks ≡ stage.old.blocks }
     ensures any_moment { IsTrue (D.meaning disk.old).is_honest → Leaves (D.meaning disk.old) (D.meaning disk.new)
-        (λ image. (D.meaning disk.old).images image ⊎ StandsForReplayed stage.old.blocks (D.meaning disk.old).bytes image) }
+        (λ image. (D.meaning disk.old).images image ⊎ InRecovery stage.old.blocks (D.meaning disk.old).bytes image) }
     ensures recovered { IfOk result (λ good. IsTrue (D.meaning disk.old).is_honest
         → Recovered stage.old.blocks (D.meaning disk.old) (D.meaning disk.new) good) }
-    ensures closed { OnOk result (IsTrue (D.meaning disk.old).is_honest → is_open (D.meaning disk.old).bytes ≡ false
-        → IsSettled (D.meaning disk.new) (D.meaning disk.old).bytes) }
+    ensures left { OnOk result (IsTrue (D.meaning disk.old).is_honest
+        → IsRecovered stage.old.blocks (D.meaning disk.old) (D.meaning disk.new)) }
     ensures past { OnOk result (IsTrue (D.meaning disk.old).is_honest
         → KeepsPast stage.old.blocks (D.meaning disk.old) (D.meaning disk.new)) }
     ensures settled_past { IsTrue (D.meaning disk.old).is_honest → IsSettledPast stage.old.blocks (D.meaning disk.old)
