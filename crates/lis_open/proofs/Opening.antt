@@ -8,7 +8,7 @@ use Rattle.lis_ports.specs.Runs.{IsDiskRun, IsSettled, Leaves}
 use Rattle.lis_ports.proofs.Moments.{leaves_weaken, leaves_then}
 use Rattle.lis_journal.specs.Record.{block, is_open, replayed}
 use Rattle.lis_journal.specs.Images.{StandsFor as KeptBy, IsAtRest, Fits, KeepsPast}
-use Rattle.lis_journal.specs.Recovery.{StandsForReplayed, MountEnded, IsSettledPast}
+use Rattle.lis_journal.specs.Recovery.{StandsForReplayed, InRecovery, IsRecovered, MountEnded, IsSettledPast}
 use Rattle.lis_journal.specs.declared.journal.JournalFault.{JournalFault}
 use Rattle.lis_journal.specs.declared.journal.JournalFault.TheVariants.{DiskFault as JournalDisk, BadRecord as JournalRecord, NoMemory as JournalMemory}
 use Rattle.lis_journal.proofs.Phases.{rest_stands}
@@ -26,7 +26,7 @@ use Rattle.lis_store.proofs.Standing.{super-replayed, kept_stands}
 use Rattle.lis_store.proofs.Telling.{tells_spells}
 use Rattle.lis_open.specs.declared.mounting.OpenFault.{OpenFault}
 use Rattle.lis_open.specs.declared.mounting.OpenFault.TheVariants.{TooShort, Damaged, DiskFault, NoMemory}
-use Rattle.lis_open.specs.Opens.{HasSuper, IsNeeded, IsLongEnough, OpenEnded, IsRecovered, Recovers, OpenLeft, InOpening, journal_fault}
+use Rattle.lis_open.specs.Opens.{HasSuper, IsNeeded, IsLongEnough, OpenEnded, IsJournaled, Recovers, OpenLeft, InOpening, journal_fault}
 use Rattle.lis_open.specs.Checks.{Fails, FailsReplayed, RecordFails, FailsIn, IsBefore, FailsFirst}
 use Rattle.lis_open.specs.Reading.{OnlyReads, IsFirstOfAll, StoreEnded, Opened}
 use Rattle.lis_open.proofs.Quiet.{fits_after, settled_after, unchanged_then}
@@ -109,9 +109,11 @@ module _ (old mid : Meaning) (same : IsUnchanged old mid) (len : mid.len ≡ old
       let blocks = image_blocks limits in
       let recovered = recovers limits (subst (λ bytes. HasSuper limits bytes) (sym same.bytes) super) in
       record {
-        closed = λ closed. subst (λ bytes. IsSettled new bytes) same.bytes (recovered.closed (ap is_open same.bytes ∙ closed));
+        recovered = record {
+          closed = λ closed. subst (λ bytes. IsSettled new bytes) same.bytes (recovered.recovered.closed (ap is_open same.bytes ∙ closed));
+          opened = λ r opened replays. recovered.recovered.opened r (ap is_open same.bytes ∙ opened) (ap (replayed blocks) same.bytes ∙ replays);
+        };
         bad = λ none. subst (λ bytes. IsSettled new bytes) same.bytes (recovered.bad (ap (replayed blocks) same.bytes ∙ none));
-        home = λ r replays. recovered.home r (ap (replayed blocks) same.bytes ∙ replays);
       }
 
   left_before : (new : Meaning) (result : Result Kept OpenFault) → IsDiskRun mid new → OpenLeft mid new result → OpenLeft old new result
@@ -130,7 +132,7 @@ module _ (old mid : Meaning) (same : IsUnchanged old mid) (len : mid.len ≡ old
     where
       by : (image : List ℕ) → InOpening mid image → InOpening old image
       by image (inl is) = inl (same.images.only image is)
-      by image (inr told) = inr (told.0, subst (λ bytes. HasSuper told.0 bytes) same.bytes told.1, subst (λ bytes. StandsForReplayed (image_blocks told.0) bytes image) same.bytes told.2)
+      by image (inr told) = inr (told.0, subst (λ bytes. HasSuper told.0 bytes) same.bytes told.1, subst (λ bytes. InRecovery (image_blocks told.0) bytes image) same.bytes told.2)
 
   pub opened_before : (new : Meaning) (result : Result Kept OpenFault) → IsDiskRun mid new → Opened mid new result → Opened old new result
   opened_before new result run opened = record {
@@ -147,8 +149,17 @@ module _ (old mid : Meaning) (same : IsUnchanged old mid) (len : mid.len ≡ old
       by (Err NoMemory) ended =
           (needs_before ended.0, (ended.1.0, subst (λ bytes. HasSuper ended.1.0 bytes) same.bytes ended.1.1), λ s stands. ended.2 s (stands_before s stands))
 
-  pub settled_before : (blocks : ℕ) → IsSettledPast blocks old → IsSettledPast blocks mid
+  settled_before : (blocks : ℕ) → IsSettledPast blocks old → IsSettledPast blocks mid
   settled_before blocks settled image is n past = settled image (same.images.only image is) n past ∙ sym (ap (block n) same.bytes)
+
+  -- what lies past the image stays; the super block was read as `told`
+  pub mount_past : {Fails : Type 0} (new : Meaning) (told other : Limits) → HasSuper told old.bytes → HasSuper other old.bytes → (Fails → IsSettledPast (image_blocks other) old)
+      → ((Fails → IsSettledPast (image_blocks told) mid) → KeepsPast (image_blocks told) mid new) → KeepsPast (image_blocks other) old new
+  mount_past {Fails} new told other super others settled keeps =
+      let is : told ≡ other = one_limits old.bytes told other super others in
+      let settles : Fails → IsSettledPast (image_blocks told) mid =
+      λ failed. settled_before (image_blocks told) (subst (λ (l : Limits). IsSettledPast (image_blocks l) old) (sym is) (settled failed)) in
+      subst (λ (l : Limits). KeepsPast (image_blocks l) old new) is (λ n past. keeps settles n past ∙ ap (block n) same.bytes)
 
 -- ---- the super block tells the limits
 module _ (old : Meaning) (limits : Limits) (super : HasSuper limits old.bytes) (long : 4096 * image_blocks limits ≤ old.len) where
@@ -198,11 +209,14 @@ module _ (old : Meaning) (limits : Limits) (super : HasSuper limits old.bytes) (
       none_before (Row n) (inl lower) fails = omega (arith, lower)
       none_before (Row n) (inr same) fails = omega (arith, same.0)
 
-  recovers_by : (new : Meaning) → IsRecovered (image_blocks limits) old new → Recovers old new
-  recovers_by new recovered other told = subst (λ (l : Limits). IsRecovered (image_blocks l) old new) (one_limits old.bytes limits other super told) recovered
+  recovers_by : (new : Meaning) → IsJournaled (image_blocks limits) old new → Recovers old new
+  recovers_by new recovered other told = subst (λ (l : Limits). IsJournaled (image_blocks l) old new) (one_limits old.bytes limits other super told) recovered
 
-  bad_recovered : (new : Meaning) → replayed (image_blocks limits) old.bytes ≡ None → IsSettled new old.bytes → IsRecovered (image_blocks limits) old new
-  bad_recovered new none settled = record { closed = λ closed. settled; bad = λ bad. settled; home = λ r replays. absurd (cc) }
+  bad_recovered : (new : Meaning) → replayed (image_blocks limits) old.bytes ≡ None → IsSettled new old.bytes → IsJournaled (image_blocks limits) old new
+  bad_recovered new none settled = record {
+    recovered = record { closed = λ closed. settled; opened = λ r opened replays. absurd (cc) };
+    bad = λ bad. settled;
+  }
 
   pub journal_opened : {T : Type 0} (new : Meaning) (outcome : Result T JournalFault) (fault : JournalFault) → outcome ≡ Err fault → MountEnded (image_blocks limits) old new outcome
       → (outcome ≡ Err JournalMemory → IsUnchanged old new) → Opened old new (Err (journal_fault fault))
@@ -216,29 +230,24 @@ module _ (old : Meaning) (limits : Limits) (super : HasSuper limits old.bytes) (
       by JournalMemory told same =
           unspotted old new NoMemory (long_enough, (limits, super), λ s stands. subst (λ bytes. Stands bytes s) (sym (same refl).bytes) stands) (inl (same refl)) (λ spot none. cc)
 
-  in_opening : (image : List ℕ) → old.images image ⊎ StandsForReplayed (image_blocks limits) old.bytes image → InOpening old image
+  in_opening : (image : List ℕ) → old.images image ⊎ InRecovery (image_blocks limits) old.bytes image → InOpening old image
   in_opening image (inl is) = inl is
   in_opening image (inr told) = inr (limits, super, told)
 
-  pub journal_moments : (new : Meaning) → Leaves old new (λ image. old.images image ⊎ StandsForReplayed (image_blocks limits) old.bytes image) → Leaves old new (InOpening old)
+  pub journal_moments : (new : Meaning) → Leaves old new (λ image. old.images image ⊎ InRecovery (image_blocks limits) old.bytes image) → Leaves old new (InOpening old)
   journal_moments new moments = leaves_weaken (InOpening old) moments in_opening
 
-  -- the blocks past the image that the limits tell are those past the state's
-  pub past_state : (s : State) (new : Meaning) → Stands old.bytes s → KeepsPast (image_blocks limits) old new → KeepsPast (image_blocks s.limits) old new
-  past_state s new stands keeps n past = keeps n (omega (arith, past, ap image_blocks (state_limits s stands)))
-
   -- where the journal was not mounted
-  pub journal_past : {T : Type 0} (s : State) (new : Meaning) (outcome : Result T JournalFault) (fault : JournalFault) → Stands old.bytes s → outcome ≡ Err fault
-      → MountEnded (image_blocks limits) old new outcome → (outcome ≡ Err JournalMemory → IsUnchanged old new) → (journal_fault fault ≡ DiskFault → IsSettledPast (image_blocks s.limits) old)
-      → (IsSettledPast (image_blocks limits) old → KeepsPast (image_blocks limits) old new) → KeepsPast (image_blocks s.limits) old new
-  journal_past {T} s new outcome fault stands is ended unread settled keeps =
+  pub journal_past : {T : Type 0} (new : Meaning) (outcome : Result T JournalFault) (fault : JournalFault) → outcome ≡ Err fault → MountEnded (image_blocks limits) old new outcome
+      → (outcome ≡ Err JournalMemory → IsUnchanged old new) → (journal_fault fault ≡ DiskFault → IsSettledPast (image_blocks limits) old)
+      → (IsSettledPast (image_blocks limits) old → KeepsPast (image_blocks limits) old new) → KeepsPast (image_blocks limits) old new
+  journal_past {T} new outcome fault is ended unread settled keeps =
       by fault (subst (λ (o : Result T JournalFault). MountEnded (image_blocks limits) old new o) is ended) (λ memory. unread (is ∙ ap Err memory)) (λ failed. settled (ap journal_fault failed))
     where
-      by : (f : JournalFault) → MountEnded {T = T} (image_blocks limits) old new (Err f) → (f ≡ JournalMemory → IsUnchanged old new) → (f ≡ JournalDisk → IsSettledPast (image_blocks s.limits) old)
-          → KeepsPast (image_blocks s.limits) old new
-      by JournalDisk told same there =
-          past_state s new stands (keeps (subst (λ b. IsSettledPast b old) (sym (ap image_blocks (state_limits s stands))) (there refl)))
-      by (JournalRecord b) told same there = absurd (damaged old.bytes s (BadRecord b) stands (bad_record b told.0 told.1))
+      by : (f : JournalFault) → MountEnded {T = T} (image_blocks limits) old new (Err f) → (f ≡ JournalMemory → IsUnchanged old new) → (f ≡ JournalDisk → IsSettledPast (image_blocks limits) old)
+          → KeepsPast (image_blocks limits) old new
+      by JournalDisk told same there = keeps (there refl)
+      by (JournalRecord b) told same there = λ n past. ap (block n) told.2.reads
       by JournalMemory told same there = λ n past. ap (block n) (same refl).bytes
 
   -- ---- the parts behind the journal
@@ -340,29 +349,28 @@ module _ (old : Meaning) (limits : Limits) (super : HasSuper limits old.bytes) (
       parts_opened (Err NoMemory) image fails = unspotted old new NoMemory (long_enough, (limits, super), λ s stands. bytes_stand s stands) (inr left) (λ spot none. cc)
 
   -- where it was mounted, and what it fits then was read
-  read_recovered : (mid new : Meaning) (r : List ℕ) → replayed (image_blocks limits) old.bytes ≡ Some r → Fits (image_blocks limits) mid (λ n. block n r) → (is_open old.bytes ≡ false → IsSettled mid old.bytes)
-      → OnlyReads mid new → IsRecovered (image_blocks limits) old new
-  read_recovered mid new r replays fits closed reads = record {
-    closed = λ is. settled_after reads fits.honest (closed is);
+  read_recovered : (mid new : Meaning) (r : List ℕ) → replayed (image_blocks limits) old.bytes ≡ Some r → IsTrue mid.is_honest → IsRecovered (image_blocks limits) old mid → OnlyReads mid new → IsJournaled (image_blocks limits) old new
+  read_recovered mid new r replays honest recovered reads = record {
+    recovered = record {
+      closed = λ closed. settled_after reads honest (recovered.closed closed);
+      opened = λ other opened is. settled_after reads honest (recovered.opened other opened is);
+    };
     bad = λ none. absurd (cc);
-    home = λ other is. subst (λ (bytes : List ℕ). Fits (image_blocks limits) new (λ n. block n bytes)) (some_one r other (sym replays ∙ is)) (fits_after (image_blocks limits) (λ n. block n r) reads fits);
   }
 
   pub store_opened : length old.bytes ≡ old.len → (mid new : Meaning) (result : Result Kept OpenFault) → IsSomeAnd (replayed (image_blocks limits) old.bytes) (λ r. Fits (image_blocks limits) mid (λ n. block n r))
-      → (is_open old.bytes ≡ false → IsSettled mid old.bytes) → OnlyReads mid new → ((store : Kept) → result ≡ Ok store → store.journal.blocks ≡ image_blocks limits)
+      → IsRecovered (image_blocks limits) old mid → OnlyReads mid new → ((store : Kept) → result ≡ Ok store → store.journal.blocks ≡ image_blocks limits)
       → ((kept : ℕ → List ℕ) → Fits (image_blocks limits) mid kept → kept 0 ≡ super_bytes (record { version = 1; limits = limits }) → StoreEnded limits kept result) → Opened old new result
-  store_opened whole mid new result mounted closed reads image ended =
+  store_opened whole mid new result mounted recovered reads image ended =
       let found = some_replay (replayed (image_blocks limits) old.bytes) (λ r. Fits (image_blocks limits) mid (λ n. block n r)) mounted in
       let kept : ℕ → List ℕ = λ n. block n found.0 in
-      let left = recovers_by new (read_recovered mid new found.0 found.1 found.2 closed reads) in
+      let left = recovers_by new (read_recovered mid new found.0 found.1 found.2.honest recovered reads) in
       parts_opened whole found.0 found.1 new (fits_after (image_blocks limits) kept reads found.2) left result image (ended kept found.2 (super_kept whole found.0 found.1))
 
-  pub store_moments : length old.bytes ≡ old.len → (mid new : Meaning) → IsSomeAnd (replayed (image_blocks limits) old.bytes) (λ r. Fits (image_blocks limits) mid (λ n. block n r))
-      → Leaves old mid (λ image. old.images image ⊎ StandsForReplayed (image_blocks limits) old.bytes image) → Leaves mid new mid.images → Leaves old new (InOpening old)
-  store_moments whole mid new mounted moments reads =
-      let found = some_replay (replayed (image_blocks limits) old.bytes) (λ r. Fits (image_blocks limits) mid (λ n. block n r)) mounted in
-      leaves_then (journal_moments mid moments)
-      (leaves_weaken (InOpening old) reads (λ image is. inr (limits, super, rest_told whole found.0 found.1 image (found.2.all.leaves image is))))
+  pub store_moments : (mid new : Meaning) → ((image : List ℕ) → mid.images image → old.images image ⊎ InRecovery (image_blocks limits) old.bytes image)
+      → Leaves old mid (λ image. old.images image ⊎ InRecovery (image_blocks limits) old.bytes image) → Leaves mid new mid.images → Leaves old new (InOpening old)
+  store_moments mid new still moments reads =
+      leaves_then (journal_moments mid moments) (leaves_weaken (InOpening old) reads (λ image is. in_opening image (still image is)))
 
 -- ---- where the image stood for a state
 pub moments_stand : (old new : Meaning) (s : State) → length old.bytes ≡ old.len → Stands old.bytes s → Leaves old new (InOpening old) → Leaves old new (λ image. old.images image ⊎ Stands image s)
@@ -372,4 +380,4 @@ moments_stand old new s whole stands moments = leaves_weaken (λ image. old.imag
     by image (inl is) = inl is
     by image (inr told) =
         let enough = needs_no_more old.bytes s (4096 * image_blocks told.0) stands (inr (told.0, told.1, refl)) in
-        inr (replayed_stands old told.0 told.1 (omega (arith, enough, whole)) s image stands told.2)
+        inr (replayed_stands old told.0 told.1 (omega (arith, enough, whole)) s image stands told.2.stands)

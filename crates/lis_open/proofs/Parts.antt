@@ -8,7 +8,8 @@ use Rattle.lis_open.specs.declared.mounting.OpenFault.{OpenFault}
 use Rattle.lis_open.specs.declared.mounting.OpenFault.TheVariants.{TooShort, Damaged, DiskFault, NoMemory}
 use Rattle.lis_open.specs.declared.words.Words.{Words}
 use Rattle.lis_open.specs.declared.files.Files.{Files}
-use Rattle.lis_open.specs.Reading.{KindFails, IsFirst, AreFirstWords, WordsAreSpelled, AreFirstFiles, FilesAreSpelled, is_stray, HasStray, BitmapChecked, PartsFail, PartsEnded}
+use Rattle.lis_open.specs.Reading.{HasPartCause, KindFails, IsFirst, AreFirstWords, WordsAreSpelled, AreFirstFiles, FilesAreSpelled, is_stray, HasStray, BitmapChecked, PartsFail, PartsEnded}
+use Rattle.lis_open.specs.Opens.{HasOpenCause}
 use Rattle.lis_open.proofs.Order.{PassBelow, first_of_all, files_read, first_stray, words_used, first_difference}
 
 -- where a part of a kind fails
@@ -35,3 +36,14 @@ module _ (limits : Limits) (at : ℕ → List ℕ) (words : Words) (files : File
       (subst (λ (place : Spot). IsFirst limits at 6 place) (sym differs.1) (first_difference limits at words first spelled free files all told differs.0 differs.2))
   bitmap_ended (Err DiskFault) used differs = tt
   bitmap_ended (Err NoMemory) used differs = absurd differs
+
+-- ---- causes
+pub open_cause : {T : Type 0} {before now : ℕ} (result : Result T OpenFault) → HasPartCause before now result → HasOpenCause before now result
+open_cause (Ok done) cause = cause
+open_cause (Err (TooShort len need)) cause = absurd cause
+open_cause (Err (Damaged spot)) cause = cause
+open_cause (Err DiskFault) cause = cause
+open_cause (Err NoMemory) cause = cause
+
+pub part_enough : {T : Type 0} {before now : ℕ} (result : Result T OpenFault) → HasPartCause before now result → (len need : ℕ) → result ≡ Err (TooShort len need) → ⊥
+part_enough {T} {before} {now} result cause len need is = subst (λ (r : Result T OpenFault). HasPartCause before now r) is cause

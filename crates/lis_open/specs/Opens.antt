@@ -1,12 +1,11 @@
 -- How opening an image ends, and its causes.
-use Rattle.std.specs.Prelude.{◌≡◌, ◌⊎◌, ℕ, ◌*◌, ◌≤◌, ◌<◌, false, List, Some, None, Result, Ok, Err, IsTrue}
+use Rattle.std.specs.Prelude.{◌≡◌, ◌⊎◌, ℕ, ◌*◌, ◌≤◌, ◌<◌, List, None, Result, Ok, Err, IsTrue}
 use Rattle.lis_ports.specs.Meaning.{Meaning}
 use Rattle.lis_ports.specs.Calls.{Rose, IsUnchanged}
 use Rattle.lis_ports.specs.Bytes.{part}
 use Rattle.lis_ports.specs.Runs.{IsSettled}
-use Rattle.lis_journal.specs.Record.{block, is_open, replayed}
-use Rattle.lis_journal.specs.Images.{Fits}
-use Rattle.lis_journal.specs.Recovery.{StandsForReplayed}
+use Rattle.lis_journal.specs.Record.{replayed}
+use Rattle.lis_journal.specs.Recovery.{InRecovery, IsRecovered}
 use Rattle.lis_journal.specs.declared.journal.JournalFault.{JournalFault}
 use Rattle.lis_journal.specs.declared.journal.JournalFault.TheVariants.{DiskFault as JournalDisk, BadRecord as JournalRecord, NoMemory as JournalMemory}
 use Rattle.lis_fields.specs.Layouts.{super_bytes}
@@ -50,18 +49,16 @@ OpenEnded old new (Err (Damaged spot)) = IsLongEnough old × ((s : State) → St
 OpenEnded old new (Err DiskFault) = Unit {0}
 OpenEnded old new (Err NoMemory) = IsLongEnough old × ((limits : Limits) × HasSuper limits old.bytes) × ((s : State) → Stands old.bytes s → Stands new.bytes s)
 
--- Its journal was recovered. With a closed gate, or with a record that is not in form, the bytes stay as they read, and a crash leaves just
--- these. Else the blocks are those of the replayed image, and the gate is closed.
-pub record IsRecovered (blocks : ℕ) (old new : Meaning) : Type 0 where
-  pub closed : is_open old.bytes ≡ false → IsSettled new old.bytes
+-- Its journal was recovered. With a record that is not in form the bytes stay as they read, and a crash leaves just these.
+pub record IsJournaled (blocks : ℕ) (old new : Meaning) : Type 0 where
+  pub recovered : IsRecovered blocks old new
   pub bad : replayed blocks old.bytes ≡ None → IsSettled new old.bytes
-  pub home : (r : List ℕ) → replayed blocks old.bytes ≡ Some r → Fits blocks new (λ n. block n r)
 
 -- by the limits that the super block tells
 abbrev pub Recovers : Meaning → Meaning → Type 0
-Recovers old new = (limits : Limits) → HasSuper limits old.bytes → IsRecovered (image_blocks limits) old new
+Recovers old new = (limits : Limits) → HasSuper limits old.bytes → IsJournaled (image_blocks limits) old new
 
--- What opening leaves where the disk did not fail. Of an image it writes nothing but what its journal asks for.
+-- What opening leaves where the disk did not fail: it writes nothing but what the journal of the image asks for.
 abbrev pub OpenLeft : Meaning → Meaning → Result Kept OpenFault → Type 0
 OpenLeft old new (Ok store) = Recovers old new
 OpenLeft old new (Err (TooShort len need)) = IsUnchanged old new
@@ -69,9 +66,9 @@ OpenLeft old new (Err (Damaged spot)) = (((limits : Limits) → HasSuper limits 
 OpenLeft old new (Err DiskFault) = Unit {0}
 OpenLeft old new (Err NoMemory) = IsUnchanged old new ⊎ Recovers old new
 
--- what a crash in opening leaves: what it could have left before, or what stands for the replayed image
+-- what a crash in opening leaves: what it could have left before, or an image on which a record is being brought home
 abbrev pub InOpening : Meaning → List ℕ → Type 0
-InOpening old image = old.images image ⊎ ((limits : Limits) × HasSuper limits old.bytes × StandsForReplayed (image_blocks limits) old.bytes image)
+InOpening old image = old.images image ⊎ ((limits : Limits) × HasSuper limits old.bytes × InRecovery (image_blocks limits) old.bytes image)
 
 -- what a fault of the journal is to opening
 abbrev pub journal_fault : JournalFault → OpenFault

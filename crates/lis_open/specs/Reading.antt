@@ -3,7 +3,7 @@ use Rattle.std.specs.Prelude.{◌≡◌, ℕ, ◌≤◌, ◌<◌, ◌==◌, nat_
 use Rattle.std.specs.List.{list_all, list_any}
 use Rattle.lis_ports.specs.Meaning.{Meaning}
 use Rattle.lis_ports.specs.Runs.{IsDiskRun, Leaves}
-use Rattle.lis_ports.specs.Calls.{IsUnchanged}
+use Rattle.lis_ports.specs.Calls.{Rose, IsUnchanged}
 use Rattle.lis_bits.specs.Rows.{Rows, row_at, get, with_row, empty_rows}
 use Rattle.lis_slots.specs.Slots.{Slots, slot}
 use Rattle.lis_blockmap.specs.Bitmap.{is_taken, bitmap_bytes, IsFirstDifference}
@@ -38,6 +38,14 @@ pub record OnlyReads (old new : Meaning) : Type 0 where
   pub run : IsDiskRun old new
   pub same : IsTrue old.is_honest → IsUnchanged old new
   pub moments : IsTrue old.is_honest → Leaves old new old.images
+
+-- The cause of an answer behind the super block, which is never that the disk is too short.
+abbrev pub HasPartCause : {T : Type 0} → ℕ → ℕ → Result T OpenFault → Type 0
+HasPartCause before now (Ok done) = now ≡ before
+HasPartCause before now (Err (TooShort len need)) = ⊥
+HasPartCause before now (Err (Damaged spot)) = now ≡ before
+HasPartCause before now (Err DiskFault) = Rose before now
+HasPartCause before now (Err NoMemory) = now ≡ before
 
 -- the value that a slot was read as, or that it is the spelling of none
 abbrev pub IsReadAs : {X : Type 0} → (X → List ℕ) → (X → Bool) → Slots → (ℕ → List ℕ) → ℕ → Option X → Type 0

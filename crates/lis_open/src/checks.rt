@@ -14,8 +14,7 @@ ghost use Rattle.lis_model.specs.Ranges.{are_in_range};
 ghost use Rattle.lis_model.specs.Image.{bitmap_start, image_blocks};
 ghost use Rattle.lis_store.specs.Kept.{AxiomsAreFree};
 ghost use Rattle.lis_store.specs.Stands.{axiom_slots};
-ghost use Rattle.lis_open.specs.Opens.{HasOpenCause};
-ghost use Rattle.lis_open.specs.Reading.{OnlyReads, IsReadAs, Ends, is_free_slot, has_tag, has_tags_below, bits, AreWords, AreFirstWords, AreFirstFiles, WordsChecked, BitmapChecked, IsUsedRow};
+ghost use Rattle.lis_open.specs.Reading.{OnlyReads, HasPartCause, IsReadAs, Ends, is_free_slot, has_tag, has_tags_below, bits, AreWords, AreFirstWords, AreFirstFiles, WordsChecked, BitmapChecked, IsUsedRow};
 
 use crate::files::Files;
 use crate::mounting::OpenFault;
@@ -72,7 +71,7 @@ pub fn check_axioms<D: Disk>(
     requires unbroken { journal.now.is_broken ≡ false }
     requires long { 4096 * journal.now.blocks ≤ (D.meaning disk.old).len }
     ensures reads { OnlyReads (D.meaning disk.old) (D.meaning disk.new) }
-    ensures cause { HasOpenCause (D.meaning disk.old).disk_faults (D.meaning disk.new).disk_faults result }
+    ensures cause { HasPartCause (D.meaning disk.old).disk_faults (D.meaning disk.new).disk_faults result }
     ensures ended { (kept : ℕ → List ℕ) → Fits journal.now.blocks (D.meaning disk.old) kept
         → Ends limits.now kept 3 (AxiomsAreFree limits.now kept) result }
 {
@@ -178,7 +177,7 @@ pub fn check_bitmap<D: Disk>(
     requires unbroken { journal.now.is_broken ≡ false }
     requires long { 4096 * journal.now.blocks ≤ (D.meaning disk.old).len }
     ensures reads { OnlyReads (D.meaning disk.old) (D.meaning disk.new) }
-    ensures cause { HasOpenCause (D.meaning disk.old).disk_faults (D.meaning disk.new).disk_faults result }
+    ensures cause { HasPartCause (D.meaning disk.old).disk_faults (D.meaning disk.new).disk_faults result }
     ensures ended { (kept : ℕ → List ℕ) → Fits journal.now.blocks (D.meaning disk.old) kept
         → BitmapChecked (kept (bitmap_start limits.now)) map.now result }
 {

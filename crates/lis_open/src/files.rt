@@ -11,8 +11,7 @@ ghost use Rattle.lis_fields.specs.Layouts.{file_bytes, is_file};
 ghost use Rattle.lis_model.specs.Ranges.{are_in_range};
 ghost use Rattle.lis_model.specs.Image.{image_blocks};
 ghost use Rattle.lis_store.specs.Stands.{file_slots};
-ghost use Rattle.lis_open.specs.Opens.{HasOpenCause};
-ghost use Rattle.lis_open.specs.Reading.{OnlyReads, IsReadAs, Ends, AreWords, AreFirstWords, no_files, may_take_record, may_take_file, with_file, AreFirstFiles, FilesAreSpelled, WordsAreSpelled};
+ghost use Rattle.lis_open.specs.Reading.{OnlyReads, HasPartCause, IsReadAs, Ends, AreWords, AreFirstWords, no_files, may_take_record, may_take_file, with_file, AreFirstFiles, FilesAreSpelled, WordsAreSpelled};
 
 use crate::mounting::OpenFault;
 use crate::words::{Words, are_assignable};
@@ -151,7 +150,7 @@ pub fn read_files<D: Disk>(
     requires unbroken { journal.now.is_broken ≡ false }
     requires long { 4096 * journal.now.blocks ≤ (D.meaning disk.old).len }
     ensures reads { OnlyReads (D.meaning disk.old) (D.meaning disk.new) }
-    ensures cause { HasOpenCause (D.meaning disk.old).disk_faults (D.meaning disk.new).disk_faults result }
+    ensures cause { HasPartCause (D.meaning disk.old).disk_faults (D.meaning disk.new).disk_faults result }
     ensures read { OnOk result (AreFirstFiles limits.now words.now files.new limits.now.files) }
     ensures ended { (kept : ℕ → List ℕ) → Fits journal.now.blocks (D.meaning disk.old) kept
         → WordsAreSpelled limits.now kept words.now limits.now.props

@@ -4,13 +4,14 @@ ghost use Rattle.std.specs.Prelude.{◌≡◌, ◌⊎◌, ◌*◌, ◌≤◌, �
 ghost use Rattle.lis_ports.specs.Runs.{IsDiskRun, Leaves};
 ghost use Rattle.lis_journal.specs.Images.{KeepsPast};
 ghost use Rattle.lis_journal.specs.Recovery.{IsSettledPast};
+ghost use Rattle.lis_model.specs.declared.limits.Limits.{Limits as LimitsOf};
 ghost use Rattle.lis_model.specs.Image.{image_blocks};
 ghost use Rattle.lis_model.specs.State.{State};
 ghost use Rattle.lis_store.specs.Stands.{Stands};
 ghost use Rattle.lis_model.specs.Ranges.{are_in_range};
 ghost use Rattle.lis_open.specs.Opens.{HasOpenCause, HasSuper, OpenEnded, OpenLeft, InOpening};
 ghost use Rattle.lis_open.specs.Checks.{FailsFirst};
-ghost use Rattle.lis_open.specs.Reading.{OnlyReads, Opened, LimitsRead};
+ghost use Rattle.lis_open.specs.Reading.{OnlyReads, HasPartCause, Opened, LimitsRead};
 ghost use Rattle.lis_open.specs.declared.mounting.OpenFault.TheVariants.{TooShort, Damaged, DiskFault as DiskFailed};
 ghost use Rattle.lis_model.specs.declared.spot.Spot.{Spot as SpotOf};
 
@@ -82,6 +83,7 @@ fn read_limits<D: Disk>(disk: &mut D) -> Result<Limits, OpenFault>
     ensures cause { HasOpenCause (D.meaning disk.old).disk_faults (D.meaning disk.new).disk_faults result }
     ensures small { (D.meaning disk.old).len < 4096
         → (result ≡ Err (TooShort (D.meaning disk.old).len 4096)) × (disk.new ≡ disk.old) }
+    ensures numbers { (len need : ℕ) → result ≡ Err (TooShort len need) → (len ≡ (D.meaning disk.old).len) × (len < need) }
     ensures range { IfOk result (λ limits. IsTrue (are_in_range limits)) }
     ensures long { IfOk result (λ limits. 4096 * image_blocks limits ≤ (D.meaning disk.new).len) }
     ensures ended { IsTrue (D.meaning disk.old).is_honest → LimitsRead (D.meaning disk.old) (D.meaning disk.new) result }
@@ -108,15 +110,15 @@ fn mount_image<D: Disk>(alloc: Global, disk: &mut D, limits: Limits) -> Result<S
     requires long { 4096 * image_blocks limits ≤ (D.meaning disk.old).len }
     requires begins { IsTrue (D.meaning disk.old).is_honest → HasSuper limits (D.meaning disk.old).bytes }
     ensures run { IsDiskRun (D.meaning disk.old) (D.meaning disk.new) }
-    ensures cause { HasOpenCause (D.meaning disk.old).disk_faults (D.meaning disk.new).disk_faults result }
+    ensures cause { HasPartCause (D.meaning disk.old).disk_faults (D.meaning disk.new).disk_faults result }
     ensures opened { IsTrue (D.meaning disk.old).is_honest → Opened (D.meaning disk.old) (D.meaning disk.new) result }
     ensures ready { IfOk result (λ store. store.journal.is_broken ≡ false) }
     ensures long { IfOk result (λ store. 4096 * store.journal.blocks ≤ (D.meaning disk.new).len) }
     ensures any_moment { IsTrue (D.meaning disk.old).is_honest
         → Leaves (D.meaning disk.old) (D.meaning disk.new) (InOpening (D.meaning disk.old)) }
-    ensures past { (s : State) → IsTrue (D.meaning disk.old).is_honest → Stands (D.meaning disk.old).bytes s
-        → (result ≡ Err DiskFailed → IsSettledPast (image_blocks s.limits) (D.meaning disk.old))
-        → KeepsPast (image_blocks s.limits) (D.meaning disk.old) (D.meaning disk.new) }
+    ensures past { IsTrue (D.meaning disk.old).is_honest
+        → (result ≡ Err DiskFailed → IsSettledPast (image_blocks limits) (D.meaning disk.old))
+        → KeepsPast (image_blocks limits) (D.meaning disk.old) (D.meaning disk.new) }
 {
     let journal = Journal::mount(alloc, disk, image_blocks(&limits))?;
     read_store(alloc, disk, limits, journal)
@@ -131,14 +133,15 @@ pub fn mount<D: Disk>(alloc: Global, disk: &mut D) -> Result<Store, OpenFault>
     // The spot is that of the first check that fails.
     ensures spot { (spot : SpotOf) → result ≡ Err (Damaged spot) → IsTrue (D.meaning disk.old).is_honest → FailsFirst (D.meaning disk.old).bytes spot }
 
-    // What is shorter than a super block is not read.
+    // What is shorter than a super block is not read. Of any disk the answer tells the numbers.
+    ensures numbers { (len need : ℕ) → result ≡ Err (TooShort len need) → (len ≡ (D.meaning disk.old).len) × (len < need) }
     ensures small { (D.meaning disk.old).len < 4096
         → (result ≡ Err (TooShort (D.meaning disk.old).len 4096)) × (disk.new ≡ disk.old) }
     ensures ready { IfOk result (λ store. store.journal.is_broken ≡ false) }
     ensures long { IfOk result (λ store. 4096 * store.journal.blocks ≤ (D.meaning disk.new).len) }
 
-    // Nothing is written but what the journal asks for, and a crash leaves what it could have left before, or what stands for the
-    // replayed image. This stands for the same state, if the image stood for one.
+    // Nothing is written but what an open gate asks for, whatever the image; and where the image stood for a state, each moment
+    // stands for the same one, or is an image that a crash could have left before.
     ensures left { IsTrue (D.meaning disk.old).is_honest → OpenLeft (D.meaning disk.old) (D.meaning disk.new) result }
     ensures any_moment { IsTrue (D.meaning disk.old).is_honest
         → Leaves (D.meaning disk.old) (D.meaning disk.new) (InOpening (D.meaning disk.old)) }
@@ -146,9 +149,9 @@ pub fn mount<D: Disk>(alloc: Global, disk: &mut D) -> Result<Store, OpenFault>
         → Leaves (D.meaning disk.old) (D.meaning disk.new) (λ image. (D.meaning disk.old).images image ⊎ Stands image s) }
 
     // What lies past the image stays; where the disk failed, if a crash at entry left it as it read.
-    ensures past { (s : State) → IsTrue (D.meaning disk.old).is_honest → Stands (D.meaning disk.old).bytes s
-        → (result ≡ Err DiskFailed → IsSettledPast (image_blocks s.limits) (D.meaning disk.old))
-        → KeepsPast (image_blocks s.limits) (D.meaning disk.old) (D.meaning disk.new) }
+    ensures past { (limits : LimitsOf) → IsTrue (D.meaning disk.old).is_honest → HasSuper limits (D.meaning disk.old).bytes
+        → (result ≡ Err DiskFailed → IsSettledPast (image_blocks limits) (D.meaning disk.old))
+        → KeepsPast (image_blocks limits) (D.meaning disk.old) (D.meaning disk.new) }
 {
     let limits = read_limits(disk)?;
     mount_image(alloc, disk, limits)

@@ -5,8 +5,7 @@ ghost use Rattle.lis_journal.specs.Images.{Fits};
 ghost use Rattle.lis_fields.specs.Layouts.{super_bytes};
 ghost use Rattle.lis_model.specs.Ranges.{are_in_range};
 ghost use Rattle.lis_model.specs.Image.{image_blocks};
-ghost use Rattle.lis_open.specs.Opens.{HasOpenCause};
-ghost use Rattle.lis_open.specs.Reading.{OnlyReads, no_words, no_files, AreRead, PartsEnded, StoreEnded};
+ghost use Rattle.lis_open.specs.Reading.{OnlyReads, HasPartCause, no_words, no_files, AreRead, PartsEnded, StoreEnded};
 
 use crate::checks::{check_axioms, check_bitmap, check_words};
 use crate::files::{Files, no_files, read_files};
@@ -35,7 +34,7 @@ fn read_parts<D: Disk>(
     requires no_words { words.old ≡ no_words limits.now }
     requires no_files { files.old ≡ no_files limits.now }
     ensures reads { OnlyReads (D.meaning disk.old) (D.meaning disk.new) }
-    ensures cause { HasOpenCause (D.meaning disk.old).disk_faults (D.meaning disk.new).disk_faults result }
+    ensures cause { HasPartCause (D.meaning disk.old).disk_faults (D.meaning disk.new).disk_faults result }
     ensures read { OnOk result (AreRead limits.now words.new files.new) }
     ensures ended { (kept : ℕ → List ℕ) → Fits journal.now.blocks (D.meaning disk.old) kept → PartsEnded limits.now kept words.new files.new result }
 {
@@ -59,7 +58,7 @@ pub fn read_store<D: Disk>(
     requires unbroken { journal.is_broken ≡ false }
     requires long { 4096 * journal.blocks ≤ (D.meaning disk.old).len }
     ensures reads { OnlyReads (D.meaning disk.old) (D.meaning disk.new) }
-    ensures cause { HasOpenCause (D.meaning disk.old).disk_faults (D.meaning disk.new).disk_faults result }
+    ensures cause { HasPartCause (D.meaning disk.old).disk_faults (D.meaning disk.new).disk_faults result }
     ensures journal { IfOk result (λ store. store.journal ≡ journal) }
     ensures ended { (kept : ℕ → List ℕ) → Fits journal.blocks (D.meaning disk.old) kept
         → kept 0 ≡ super_bytes (record { version = 1; limits = limits }) → StoreEnded limits kept result }

@@ -10,8 +10,7 @@ ghost use Rattle.lis_fields.specs.Layouts.{prop_bytes, is_prop};
 ghost use Rattle.lis_model.specs.Ranges.{are_in_range};
 ghost use Rattle.lis_model.specs.Image.{image_blocks};
 ghost use Rattle.lis_store.specs.Stands.{property_slots};
-ghost use Rattle.lis_open.specs.Opens.{HasOpenCause};
-ghost use Rattle.lis_open.specs.Reading.{OnlyReads, IsReadAs, Ends, no_words, with_word, is_new_word, may_take_property, with_property, AreWords, AreFirstWords, WordsAreSpelled, is_declared_word, is_assignable_word, is_assignable_number};
+ghost use Rattle.lis_open.specs.Reading.{OnlyReads, HasPartCause, IsReadAs, Ends, no_words, with_word, is_new_word, may_take_property, with_property, AreWords, AreFirstWords, WordsAreSpelled, is_declared_word, is_assignable_word, is_assignable_number};
 
 use crate::mounting::OpenFault;
 use lis_bits::Rows;
@@ -121,7 +120,7 @@ pub fn read_words<D: Disk>(
     requires unbroken { journal.now.is_broken ≡ false }
     requires long { 4096 * journal.now.blocks ≤ (D.meaning disk.old).len }
     ensures reads { OnlyReads (D.meaning disk.old) (D.meaning disk.new) }
-    ensures cause { HasOpenCause (D.meaning disk.old).disk_faults (D.meaning disk.new).disk_faults result }
+    ensures cause { HasPartCause (D.meaning disk.old).disk_faults (D.meaning disk.new).disk_faults result }
     ensures read { OnOk result (AreFirstWords limits.now words.new limits.now.props) }
     ensures ended { (kept : ℕ → List ℕ) → Fits journal.now.blocks (D.meaning disk.old) kept
         → Ends limits.now kept 2 (WordsAreSpelled limits.now kept words.new limits.now.props) result }

@@ -1,5 +1,5 @@
 -- How a session over an image ends, and a run of the program on an image.
-use Rattle.std.specs.Prelude.{◌≡◌, ◌⊎◌, ℕ, ◌<◌, List, Option, Some, IsTrue}
+use Rattle.std.specs.Prelude.{◌≡◌, ◌⊎◌, ℕ, ◌≤◌, ◌<◌, List, length, Option, Some, IsTrue}
 use Rattle.std.specs.Io.KnownBytes.{IsAtEnd}
 use Rattle.lis_ports.specs.Meaning.{Meaning}
 use Rattle.lis_ports.specs.Calls.{Rose, IsUnchanged}
@@ -8,7 +8,12 @@ use Rattle.lis_model.specs.declared.limits.Limits.{Limits}
 use Rattle.lis_model.specs.State.{State}
 use Rattle.lis_model.specs.Step.{Situation}
 use Rattle.lis_model.specs.Script.{all_items, script}
+use Rattle.lis_journal.specs.Images.{KeepsPast}
+use Rattle.lis_journal.specs.Recovery.{IsSettledPast}
+use Rattle.lis_grammar.specs.Formula.{Formula}
+use Rattle.lis_model.specs.Image.{image_blocks}
 use Rattle.lis_store.specs.Stands.{Stands}
+use Rattle.lis_store.specs.Kept.{Kept, StoreFits}
 use Rattle.lis_open.specs.Opens.{HasSuper, IsNeeded, IsLongEnough, Recovers, InOpening}
 use Rattle.lis_open.specs.Checks.{FailsFirst}
 use Rattle.lis_session.specs.Session.{root_of}
@@ -40,6 +45,30 @@ Served start limit bytes left before new DiskFault = Unit {0}
 Served start limit bytes left before new Usage = ⊥
 Served start limit bytes left before new (NotAnImage spot) = ⊥
 Served start limit bytes left before new (TooShort len need) = ⊥
+
+-- what two answers say of the input, whatever the disk does
+abbrev pub IsCut : ℕ → List ℕ → Option (List ℕ) → Status → Type 0
+IsCut limit bytes left Done = (length bytes ≤ limit) × IsAtEnd left
+IsCut limit bytes left InputLimit = limit < length bytes
+IsCut limit bytes left InputFault = Unit {0}
+IsCut limit bytes left OutputFault = Unit {0}
+IsCut limit bytes left NoMemory = Unit {0}
+IsCut limit bytes left DiskFault = Unit {0}
+IsCut limit bytes left Usage = Unit {0}
+IsCut limit bytes left (NotAnImage spot) = Unit {0}
+IsCut limit bytes left (TooShort len need) = Unit {0}
+
+-- After a whole input the store fits at the state that was reached, and the session stands at the place, so another session can go on.
+abbrev pub GoesOn : Situation → Kept → List Formula → Meaning → Status → Type 0
+GoesOn reached store place new Done = StoreFits store new reached.state × (place ≡ reached.place)
+GoesOn reached store place new InputLimit = StoreFits store new reached.state × (place ≡ reached.place)
+GoesOn reached store place new InputFault = Unit {0}
+GoesOn reached store place new OutputFault = Unit {0}
+GoesOn reached store place new NoMemory = Unit {0}
+GoesOn reached store place new DiskFault = Unit {0}
+GoesOn reached store place new Usage = Unit {0}
+GoesOn reached store place new (NotAnImage spot) = Unit {0}
+GoesOn reached store place new (TooShort len need) = Unit {0}
 
 -- A run: a session from the root. There may be no memory at its opening, and then nothing was read or shown.
 abbrev pub Ran : State → ℕ → List ℕ → Option (List ℕ) → Option (List ℕ) → Meaning → Status → Type 0
@@ -115,7 +144,8 @@ BarredLeft old new InputFault = ⊥
 BarredLeft old new OutputFault = ⊥
 BarredLeft old new InputLimit = ⊥
 
--- A run on such an image: a crash leaves what it could have left before, or what stands for the replayed image, and nothing was shown.
+-- A run on such an image. Nothing was shown. What lies past the image stays; where the disk failed, if a crash at entry left it as it read.
 pub record Barred (old new : Meaning) (status : Status) : Type 0 where
   pub moments : Leaves old new (InOpening old)
   pub left : BarredLeft old new status
+  pub past : (limits : Limits) → HasSuper limits old.bytes → (status ≡ DiskFault → IsSettledPast (image_blocks limits) old) → KeepsPast (image_blocks limits) old new

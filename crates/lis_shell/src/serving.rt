@@ -1,15 +1,16 @@
 //! A session over an image.
 
-ghost use Rattle.std.specs.Prelude.{◌≡◌, ℕ, ◌*◌, ◌≤◌, ◌^◌, List, Some, false};
+ghost use Rattle.std.specs.Prelude.{◌≡◌, ◌≢◌, ℕ, ◌*◌, ◌≤◌, ◌^◌, List, Some, false};
 ghost use Rattle.lis_line.specs.Taking.{TakesFew};
 ghost use Rattle.lis_model.specs.State.{State};
+ghost use Rattle.lis_model.specs.Step.{situation_after};
 ghost use Rattle.lis_model.specs.Script.{script};
 ghost use Rattle.lis_store.specs.Kept.{StoreFits};
 ghost use Rattle.lis_session.specs.Item.{IsSameStation};
 ghost use Rattle.lis_session.specs.Runs.{Serves};
 ghost use Rattle.lis_session.specs.Session.{FullHeadline};
 ghost use Rattle.lis_shell.specs.Causes.{counts, HasStatusCause};
-ghost use Rattle.lis_shell.specs.Runs.{IsSessionStatus, Served};
+ghost use Rattle.lis_shell.specs.Runs.{IsSessionStatus, IsCut, GoesOn, Served};
 
 use crate::session::ending;
 use crate::status::Status;
@@ -37,9 +38,14 @@ fn carry_out<S: Source, T: Station>(
     ensures same { IsSameStation (T.meaning station.old) (T.meaning station.new) }
     ensures cause { HasStatusCause (counts (T.meaning station.old) (S.faults input.old)) (counts (T.meaning station.new) (S.faults input.new)) result }
     ensures few { TakesFew limit (S.left input.old) (S.left input.new) }
+    ensures cut { (bytes : List ℕ) → S.left input.old ≡ Some bytes → IsCut limit bytes (S.left input.new) result }
+    ensures left { store.new.journal.blocks ≡ store.old.journal.blocks }
+    ensures unbroken { result ≢ Status.DiskFault → store.new.journal.is_broken ≡ false }
     ensures serves { (state : State) (bytes : List ℕ) → StoreFits store.old (T.meaning station.old) state → S.left input.old ≡ Some bytes
         → Serves (record { state = state; place = session.old }) (script bytes limit) (T.meaning station.old) (T.meaning station.new)
         (Served (record { state = state; place = session.old }) limit bytes (S.left input.new) (T.meaning station.old).shown (T.meaning station.new) result) }
+    ensures goes_on { (state : State) (bytes : List ℕ) → StoreFits store.old (T.meaning station.old) state → S.left input.old ≡ Some bytes
+        → GoesOn (situation_after (record { state = state; place = session.old }) (script bytes limit)) store.new session.new (T.meaning station.new) result }
 {
     let mut reader = LineReader::new(limit);
     loop {
@@ -81,9 +87,14 @@ pub fn serve<S: Source, T: Station>(
     ensures same { IsSameStation (T.meaning station.old) (T.meaning station.new) }
     ensures cause { HasStatusCause (counts (T.meaning station.old) (S.faults input.old)) (counts (T.meaning station.new) (S.faults input.new)) result }
     ensures few { TakesFew limit (S.left input.old) (S.left input.new) }
+    ensures cut { (bytes : List ℕ) → S.left input.old ≡ Some bytes → IsCut limit bytes (S.left input.new) result }
+    ensures left { store.new.journal.blocks ≡ store.old.journal.blocks }
+    ensures unbroken { result ≢ Status.DiskFault → store.new.journal.is_broken ≡ false }
     ensures serves { (state : State) (bytes : List ℕ) → StoreFits store.old (T.meaning station.old) state → S.left input.old ≡ Some bytes
         → Serves (record { state = state; place = session.old }) (script bytes limit) (T.meaning station.old) (T.meaning station.new)
         (Served (record { state = state; place = session.old }) limit bytes (S.left input.new) (T.meaning station.old).shown (T.meaning station.new) result) }
+    ensures goes_on { (state : State) (bytes : List ℕ) → StoreFits store.old (T.meaning station.old) state → S.left input.old ≡ Some bytes
+        → GoesOn (situation_after (record { state = state; place = session.old }) (script bytes limit)) store.new session.new (T.meaning station.new) result }
     ensures headline { (state : State) (bytes : List ℕ) → StoreFits store.old (T.meaning station.old) state → S.left input.old ≡ Some bytes
         → FullHeadline (record { state = state; place = session.old }) (script bytes limit) (T.meaning station.old) (T.meaning station.new) }
 {

@@ -1,6 +1,6 @@
 //! The top call.
 
-ghost use Rattle.std.specs.Prelude.{◌≡◌, ◌≢◌, ◌↔◌, ℕ, ◌≤◌, ◌^◌, List, length, map, None, Some, IsTrue};
+ghost use Rattle.std.specs.Prelude.{◌≡◌, ◌≢◌, ◌↔◌, ℕ, ◌≤◌, ◌<◌, ◌^◌, List, length, map, None, Some, IsTrue};
 ghost use Rattle.std.specs.String.{string_bytes};
 ghost use Rattle.lis_ports.specs.Calls.{IsShowCall};
 ghost use Rattle.lis_ports.specs.Runs.{IsDiskRun, Leaves, IsSettled};
@@ -23,7 +23,7 @@ ghost use Rattle.lis_shell.specs.declared.words.Task.TheVariants.{Try, Make, Run
 ghost use Rattle.lis_shell.specs.Causes.{counts, HasStatusCause, IsTryStatus};
 ghost use Rattle.lis_shell.specs.Tries.{Tries};
 ghost use Rattle.lis_shell.specs.MakesImage.{MadeImage};
-ghost use Rattle.lis_shell.specs.Runs.{Entry, Ran, NoFault, IsComplete, IsJudged, IsIdle, Barred};
+ghost use Rattle.lis_shell.specs.Runs.{Entry, Ran, NoFault, IsComplete, IsCut, IsJudged, IsIdle, Barred};
 
 use crate::serving::serve;
 use crate::session::try_session;
@@ -86,6 +86,10 @@ fn run_image<S: Source, T: Station>(alloc: Global, input: &mut S, station: &mut 
     ensures same { IsSameStation (T.meaning station.old) (T.meaning station.new) }
     ensures cause { HasStatusCause (counts (T.meaning station.old) (S.faults input.old)) (counts (T.meaning station.new) (S.faults input.new)) result }
     ensures few { TakesFew (2 ^ 40) (S.left input.old) (S.left input.new) }
+    ensures cut { (bytes : List ℕ) → S.left input.old ≡ Some bytes → IsCut (2 ^ 40) bytes (S.left input.new) result }
+    ensures small { (T.meaning station.old).len < 4096
+        → (result ≡ Status.TooShort (T.meaning station.old).len 4096) × (input.new ≡ input.old) × (station.new ≡ station.old) }
+    ensures numbers { (len need : ℕ) → result ≡ Status.TooShort len need → (len ≡ (T.meaning station.old).len) × (len < need) }
     ensures runs { (state : State) (bytes : List ℕ) → Entry (T.meaning station.old) (S.left input.old) state bytes
         → RunsImage state (script bytes (2 ^ 40)) (T.meaning station.old) (T.meaning station.new)
         (Ran state (2 ^ 40) bytes (S.left input.new) (T.meaning station.old).shown (T.meaning station.new) result) }
@@ -172,6 +176,12 @@ pub fn lisfs<S: Source, T: Station>(
         → Entry (T.meaning station.old) (S.left input.old) state bytes
         → (result ≡ Status.DiskFault → IsSettledPast (image_blocks state.limits) (T.meaning station.old))
         → KeepsPast (image_blocks state.limits) (T.meaning station.old) (T.meaning station.new) }
+    ensures cut { task_of (map string_bytes words.now) ≡ Some Run → (bytes : List ℕ) → S.left input.old ≡ Some bytes
+        → IsCut (2 ^ 40) bytes (S.left input.new) result }
+    ensures small { task_of (map string_bytes words.now) ≡ Some Run → (T.meaning station.old).len < 4096
+        → (result ≡ Status.TooShort (T.meaning station.old).len 4096) × (input.new ≡ input.old) × (station.new ≡ station.old) }
+    ensures numbers { task_of (map string_bytes words.now) ≡ Some Run → (len need : ℕ) → result ≡ Status.TooShort len need
+        → (len ≡ (T.meaning station.old).len) × (len < need) }
     ensures judged { task_of (map string_bytes words.now) ≡ Some Run → IsTrue (T.meaning station.old).is_honest
         → IsJudged (T.meaning station.old) result }
     ensures complete { task_of (map string_bytes words.now) ≡ Some Run → (state : State) (bytes : List ℕ)
@@ -181,8 +191,8 @@ pub fn lisfs<S: Source, T: Station>(
     ensures idle { task_of (map string_bytes words.now) ≡ Some Run
         → IsIdle (input.new ≡ input.old) (T.meaning station.old) (T.meaning station.new) result }
 
-    // `run` on an image that stands for no state: no input is taken, nothing is shown, and nothing is written but what the journal of
-    // the image asks for.
+    // `run` on an image that stands for no state: no input is taken, nothing is shown, and nothing is written but what an open gate
+    // asks for.
     ensures barred { task_of (map string_bytes words.now) ≡ Some Run → IsTrue (T.meaning station.old).is_honest
         → ((state : State) → Stands (T.meaning station.old).bytes state → ⊥)
         → (input.new ≡ input.old) × Barred (T.meaning station.old) (T.meaning station.new) result }

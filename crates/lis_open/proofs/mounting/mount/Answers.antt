@@ -1,10 +1,9 @@
 use Rattle.std.proofs.Common.{◌∙◌, sym, ap, inl, Err}
 use Rattle.std.proofs.lemmas.Result.{err_from_is_err_and}
-use Rattle.lis_journal.specs.Record.{block}
-use Rattle.lis_model.specs.Image.{image_blocks}
 use Rattle.lis_ports.proofs.Moments.{leaves_weaken}
 use Rattle.lis_open.specs.Opens.{InOpening}
-use Rattle.lis_open.proofs.Opening.{opened_before, opening_before, moments_stand, settled_before, stands_before}
+use Rattle.lis_open.proofs.Parts.{open_cause, part_enough}
+use Rattle.lis_open.proofs.Opening.{opened_before, opening_before, moments_stand, mount_past}
 use Rattle.lis_open.proofs.mounting.mount.Goals as goal
 
 pub returns-in_err-limits-clause-spot : goal.returns-in_err-limits-clause-spot
@@ -27,13 +26,18 @@ returns-clause-spot g c = λ spot is honest.
     (opened_before old mid (reads.same honest) reads.run.len (g.D.Disk.meaning c.mount_image.new.disk) c.mount_image.result c.mount_image.ensures.run (c.mount_image.ensures.opened (reads.run.honest ∙ honest))).spot spot is
 
 pub returns-clause-past : goal.returns-clause-past
-returns-clause-past g c = λ s honest stands settled n past.
+returns-clause-past g c = λ limits honest super settled.
     let old = g.D.Disk.meaning c.args.disk.now in
     let mid = g.D.Disk.meaning c.read_limits.new.disk in
     let reads = c.read_limits.ensures.reads in
-    let same = reads.same honest in
-    c.mount_image.ensures.past s (reads.run.honest ∙ honest) (stands_before old mid same reads.run.len s stands)
-    (λ failed. settled_before old mid same reads.run.len (image_blocks s.limits) (settled failed)) n past ∙ ap (block n) same.bytes
+    mount_past old mid (reads.same honest) reads.run.len (g.D.Disk.meaning c.mount_image.new.disk) c.in_ok-limits.limits limits (c.in_ok-limits.ensures.ended honest) super settled
+    (c.mount_image.ensures.past (reads.run.honest ∙ honest))
+
+pub returns-clause-cause : goal.returns-clause-cause
+returns-clause-cause g c = open_cause c.mount_image.result c.mount_image.ensures.cause
+
+pub returns-clause-numbers : goal.returns-clause-numbers
+returns-clause-numbers g c = λ len need is. absurd (part_enough c.mount_image.result c.mount_image.ensures.cause len need is)
 
 pub returns-in_err-limits-clause-any_moment : goal.returns-in_err-limits-clause-any_moment
 returns-in_err-limits-clause-any_moment g c = λ honest.

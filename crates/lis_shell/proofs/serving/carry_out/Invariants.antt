@@ -6,6 +6,7 @@ use Rattle.lis_shell.proofs.serving.carry_out.Given as goal
 
 abbrev pub invariant-loop-item : goal.invariant-loop-item
 invariant-loop-item g l = record {
+  image : l.store.journal.blocks ≡ l.fn.store.journal.blocks;
   unbroken : l.store.journal.is_broken ≡ false;
   long : 4096 * l.store.journal.blocks ≤ (g.T.Disk.meaning l.station).len;
   so_far : SoFar l.limit (g.S.Source.left l.fn.input) (g.S.Source.left l.input) l.reader l.fn.session (StoreFits l.fn.store (g.T.Disk.meaning l.fn.station)) (g.T.Disk.meaning l.fn.station) (g.T.Disk.meaning l.station) (StoreFits l.store (g.T.Disk.meaning l.station)) l.session;

@@ -7,6 +7,7 @@ use Rattle.lis_session.proofs.Whole.{run_none}
 use Rattle.lis_shell.specs.declared.status.Status.TheVariants.{NoMemory}
 use Rattle.lis_shell.specs.Runs.{Served, Ran}
 use Rattle.lis_shell.proofs.Opened.{not_short, opened_fits, runs_session, judged_session}
+use Rattle.lis_open.proofs.Needs.{has_super}
 use Rattle.lis_shell.proofs.top.run_image.Goals as goal
 
 pub returns-in-Err-TooShort-clause-runs : goal.returns-in-Err-TooShort-clause-runs
@@ -21,7 +22,8 @@ returns-in-Err-Damaged-clause-judged g c = λ honest.
     rw c.in-Err-Damaged.field-0-is (ended.0, ended.1, c.in-Err-Damaged.ensures.spot c.in-Err-Damaged.spot (ap Err c.in-Err-Damaged.field-0-is) honest)
 
 pub returns-in-Err-NoMemory-clause-past : goal.returns-in-Err-NoMemory-clause-past
-returns-in-Err-NoMemory-clause-past g c = λ state bytes entry settled. c.in-Err-NoMemory.ensures.past state entry.honest entry.stands (λ e. absurd (cc))
+returns-in-Err-NoMemory-clause-past g c = λ state bytes entry settled.
+    c.in-Err-NoMemory.ensures.past state.limits entry.honest (has_super (g.T.Disk.meaning c.args.station.now).bytes state entry.stands) (λ e. absurd (cc))
 
 pub returns-in-Err-NoMemory-clause-judged : goal.returns-in-Err-NoMemory-clause-judged
 returns-in-Err-NoMemory-clause-judged g c = λ honest.
@@ -38,7 +40,8 @@ returns-in_default-clause-runs g c = λ state bytes entry.
     (inl (opening.run.shown, entry.told, (store_fits_at fits).stands.reads))
 
 pub returns-in_default-clause-past : goal.returns-in_default-clause-past
-returns-in_default-clause-past g c = λ state bytes entry settled. c.in-Ok.ensures.past state entry.honest entry.stands (λ e. absurd (cc))
+returns-in_default-clause-past g c = λ state bytes entry settled.
+    c.in-Ok.ensures.past state.limits entry.honest (has_super (g.T.Disk.meaning c.args.station.now).bytes state entry.stands) (λ e. absurd (cc))
 
 pub returns-in_default-clause-judged : goal.returns-in_default-clause-judged
 returns-in_default-clause-judged g c = λ honest.
@@ -60,7 +63,7 @@ pub returns-clause-past : goal.returns-clause-past
 returns-clause-past g c = λ state bytes entry settled.
     let fits = opened_fits c.in-Ok.store (g.T.Disk.meaning c.args.station.now) (g.T.Disk.meaning c.mount.new.disk) state entry.stands (c.in-Ok.ensures.ended entry.honest) in
     let session = c.serve.ensures.serves state bytes fits entry.told in
-    let opening = c.in-Ok.ensures.past state entry.honest entry.stands (λ e. absurd (cc)) in
+    let opening = c.in-Ok.ensures.past state.limits entry.honest (has_super (g.T.Disk.meaning c.args.station.now).bytes state entry.stands) (λ e. absurd (cc)) in
     λ n le. session.past n le ∙ opening n le
 
 pub returns-clause-judged : goal.returns-clause-judged
@@ -69,16 +72,16 @@ returns-clause-judged g c = λ honest.
     judged_session (g.T.Disk.meaning c.args.station.now) c.serve.result ended.1.0 c.serve.ensures.only ended.0 ended.1.1
 
 pub returns-in-Err-TooShort-clause-barred : goal.returns-in-Err-TooShort-clause-barred
-returns-in-Err-TooShort-clause-barred g c = λ honest none. (refl, record { moments = c.in-Err-TooShort.ensures.any_moment honest; left = rw c.in-Err-TooShort.field-0-is at (c.in-Err-TooShort.ensures.left honest) })
+returns-in-Err-TooShort-clause-barred g c = λ honest none. (refl, record { moments = c.in-Err-TooShort.ensures.any_moment honest; left = rw c.in-Err-TooShort.field-0-is at (c.in-Err-TooShort.ensures.left honest); past = λ limits super settled. c.in-Err-TooShort.ensures.past limits honest super (λ e. absurd (cc)) })
 
 pub returns-in-Err-Damaged-clause-barred : goal.returns-in-Err-Damaged-clause-barred
-returns-in-Err-Damaged-clause-barred g c = λ honest none. (refl, record { moments = c.in-Err-Damaged.ensures.any_moment honest; left = rw c.in-Err-Damaged.field-0-is at (c.in-Err-Damaged.ensures.left honest) })
+returns-in-Err-Damaged-clause-barred g c = λ honest none. (refl, record { moments = c.in-Err-Damaged.ensures.any_moment honest; left = rw c.in-Err-Damaged.field-0-is at (c.in-Err-Damaged.ensures.left honest); past = λ limits super settled. c.in-Err-Damaged.ensures.past limits honest super (λ e. absurd (cc)) })
 
 pub returns-in-Err-DiskFault-clause-barred : goal.returns-in-Err-DiskFault-clause-barred
-returns-in-Err-DiskFault-clause-barred g c = λ honest none. (refl, record { moments = c.in-Err-DiskFault.ensures.any_moment honest; left = tt })
+returns-in-Err-DiskFault-clause-barred g c = λ honest none. (refl, record { moments = c.in-Err-DiskFault.ensures.any_moment honest; left = tt; past = λ limits super settled. c.in-Err-DiskFault.ensures.past limits honest super (λ e. settled refl) })
 
 pub returns-in-Err-NoMemory-clause-barred : goal.returns-in-Err-NoMemory-clause-barred
-returns-in-Err-NoMemory-clause-barred g c = λ honest none. (refl, record { moments = c.in-Err-NoMemory.ensures.any_moment honest; left = rw c.in-Err-NoMemory.field-0-is at (c.in-Err-NoMemory.ensures.left honest) })
+returns-in-Err-NoMemory-clause-barred g c = λ honest none. (refl, record { moments = c.in-Err-NoMemory.ensures.any_moment honest; left = rw c.in-Err-NoMemory.field-0-is at (c.in-Err-NoMemory.ensures.left honest); past = λ limits super settled. c.in-Err-NoMemory.ensures.past limits honest super (λ e. absurd (cc)) })
 
 pub returns-in_default-clause-barred : goal.returns-in_default-clause-barred
 returns-in_default-clause-barred g c = λ honest none.
@@ -107,3 +110,15 @@ returns-in-Err-DiskFault-clause-same g c = same_run c.in-Err-DiskFault.ensures.r
 
 pub returns-in-Err-NoMemory-clause-same : goal.returns-in-Err-NoMemory-clause-same
 returns-in-Err-NoMemory-clause-same g c = same_run c.in-Err-NoMemory.ensures.run
+
+pub returns-in-Err-TooShort-clause-past : goal.returns-in-Err-TooShort-clause-past
+returns-in-Err-TooShort-clause-past g c = λ state bytes entry settled.
+    c.in-Err-TooShort.ensures.past state.limits entry.honest (has_super (g.T.Disk.meaning c.args.station.now).bytes state entry.stands) (λ e. absurd (cc))
+
+pub returns-in-Err-Damaged-clause-past : goal.returns-in-Err-Damaged-clause-past
+returns-in-Err-Damaged-clause-past g c = λ state bytes entry settled.
+    c.in-Err-Damaged.ensures.past state.limits entry.honest (has_super (g.T.Disk.meaning c.args.station.now).bytes state entry.stands) (λ e. absurd (cc))
+
+pub returns-in-Err-DiskFault-clause-past : goal.returns-in-Err-DiskFault-clause-past
+returns-in-Err-DiskFault-clause-past g c = λ state bytes entry settled.
+    c.in-Err-DiskFault.ensures.past state.limits entry.honest (has_super (g.T.Disk.meaning c.args.station.now).bytes state entry.stands) (λ e. settled refl)
