@@ -1,4 +1,4 @@
--- How a store is held. No public clause cites this module.
+-- How a store is put together of its parts, and how it is held.
 use Rattle.std.specs.Prelude.{◌≡◌, Bool, List, length}
 use Rattle.lis_bits.specs.Rows.{Rows, row_at}
 use Rattle.lis_journal.specs.Journal.{Held}

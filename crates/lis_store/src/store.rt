@@ -92,6 +92,7 @@ impl Store {
     /// The store of these parts.
     pub fn join(built: Built) -> Store
         requires sound { IsSound (kept_of built.limits built.journal built.dict built.declared built.catalog built.map) }
+        requires unbroken { built.journal.is_broken ≡ false }
         requires tall { length built.declared.rows ≡ 1 }
         requires wide { built.declared.bits ≡ built.limits.props }
         ensures { result ≡ kept_of built.limits built.journal built.dict built.declared built.catalog built.map }
