@@ -1,19 +1,21 @@
 -- A recovery, call by call: what is known of the disk before it writes, and how it ends.
-use Rattle.std.proofs.Common.{◌≡◌, ◌⊎◌, inl, inr, ℕ, ◌*◌, ◌<◌, ◌≤◌, true, false, List, length, Option, Some, None, IsSomeAnd, IsTrue, refl, sym, ◌∙◌, ap, subst, arith}
+use Rattle.std.proofs.Common.{◌≡◌, ◌⊎◌, inl, inr, ℕ, ◌*◌, ◌<◌, ◌≤◌, Bool, true, false, List, [], ◌∷◌, length, Option, Some, None, unwrap_or, IsSomeAnd, IsTrue, Result, refl, sym, ◌∙◌, ap, subst, arith}
+use Rattle.std.proofs.lemmas.Bool.{false≢true}
+use Rattle.std.proofs.lemmas.Option.{none-some}
 use Rattle.lis_ports.specs.Meaning.{Meaning}
-use Rattle.lis_ports.specs.Bytes.{part}
-use Rattle.lis_ports.specs.Runs.{IsDiskRun, Leaves, Always}
-use Rattle.lis_ports.specs.Calls.{Elapses, IsSynced, IsUnchanged}
+use Rattle.lis_ports.specs.Bytes.{part, put}
+use Rattle.lis_ports.specs.Runs.{IsDiskRun, Leaves, Always, IsSettled}
+use Rattle.lis_ports.specs.Calls.{IsDiskCall, Elapses, IsSynced}
 use Rattle.lis_ports.proofs.Moments.{leaves_call, leaves_then, leaves_weaken}
 use Rattle.lis_ports.proofs.Parts.{part-part}
-use Rattle.lis_journal.specs.Record.{block, is_open, area, header, homes_of, is_header, is_record, recorded, entries_from, apply, replayed}
+use Rattle.lis_journal.specs.Record.{block, is_open, area, behind_gate, header, homes_of, is_header, is_record, recorded, entries_from, apply, replayed}
 use Rattle.lis_journal.specs.Images.{look, Keeps, StandsFor, IsAtRest, Fits, KeepsPast}
 use Rattle.lis_journal.specs.Staging.{Staging, IsStaging}
 use Rattle.lis_journal.specs.Spreads.{Spreads, Same}
 use Rattle.lis_journal.specs.Phases.{Open, looked}
-use Rattle.lis_journal.specs.Recovery.{StandsForReplayed, Recovered}
+use Rattle.lis_journal.specs.Recovery.{StandsForReplayed, InRecovery, IsRecovered, Recovered}
 use Rattle.lis_journal.proofs.Entries.{Within, block-apply}
-use Rattle.lis_journal.proofs.Spreading.{always_spread}
+use Rattle.lis_journal.proofs.Spreading.{always_spread, leaves_both}
 use Rattle.lis_journal.proofs.Phases.{replayed-closed, replayed-open, replayed-bad}
 use Rattle.lis_journal.proofs.Saving.{plan_of}
 
@@ -39,15 +41,21 @@ reading_on {old} {m} {n} reading quiet =
       leaves = leaves_then reading.leaves (leaves_weaken old.images quiet.moments come);
     }
 
-pub reading_read : {old m n : Meaning} → Reading old m → IsDiskRun m n → Elapses m n → IsUnchanged m n → Reading old n
-reading_read {old} {m} {n} reading run time same = record {
-  settled = record {
-    reads = same.bytes ∙ reading.settled.reads;
-    leaves = λ image is. reading.settled.leaves image (same.images.only image is);
-  };
-  within = λ image is. reading.within image (same.images.only image is);
-  leaves = leaves_then reading.leaves (leaves_call old.images run time (λ image is. reading.within image (same.images.only image is)));
-}
+-- What is known once the gate is read: only a sync and a read of it came before.
+pub record Gated (old m : Meaning) (state : Bool) : Type 0 where
+  pub reading : Reading old m
+  pub honest : IsTrue m.is_honest
+  pub gate : is_open old.bytes ≡ state
+
+pub gate_read : {old synced m : Meaning} {T E : Type 0} {result : Result T E} {read state : Bool} → IsDiskCall old synced result → (IsTrue old.is_honest → IsSynced old synced) → IsDiskRun synced m → (IsTrue synced.is_honest → Spreads synced m Same) → (IsTrue synced.is_honest → read ≡ is_open synced.bytes) → read ≡ state → IsTrue old.is_honest → Gated old m state
+gate_read call is_synced run_read quiet is is_state honest =
+    let still = call.run.honest ∙ honest in
+    let here = is_synced honest in
+    record {
+      reading = reading_on (after_sync call.run call.time here) (quiet still);
+      honest = run_read.honest ∙ still;
+      gate = ap is_open (sym here.bytes) ∙ (sym (is still) ∙ is_state);
+    }
 
 some_and : (P : List ℕ → Type 0) {r : List ℕ} (o : Option (List ℕ)) → o ≡ Some r → P r → IsSomeAnd o P
 some_and P o is p = subst (λ o. IsSomeAnd o P) (sym is) p
@@ -59,12 +67,15 @@ always_same Q reading q = record {
 }
 
 -- with a closed gate nothing is to be done
-pub closed_recovered : (blocks : ℕ) (old m : Meaning) → Reading old m → IsTrue m.is_honest → is_open old.bytes ≡ false → 4096 * blocks ≤ length old.bytes → Recovered blocks old m true
-closed_recovered blocks old m reading honest closed long =
-    some_and _ (replayed blocks old.bytes) (replayed-closed blocks old.bytes closed) (record {
-      honest = honest;
-      all = always_same (IsAtRest blocks (λ n. block n old.bytes)) reading (record { closed = closed; keeps = record { long = long; same = λ n out. refl } });
+pub closed_recovered : (blocks : ℕ) (old m : Meaning) → Gated old m false → length old.bytes ≡ old.len → 4096 * blocks ≤ old.len → Recovered blocks old m true
+closed_recovered blocks old m gated len long =
+    some_and _ (replayed blocks old.bytes) (replayed-closed blocks old.bytes gated.gate) (record {
+      honest = gated.honest;
+      all = always_same (IsAtRest blocks (λ n. block n old.bytes)) gated.reading (record { closed = gated.gate; keeps = record { long = omega (arith, len, long); same = λ n out. refl } });
     })
+
+settled_as_read : {old m : Meaning} → Reading old m → IsSettled m old.bytes
+settled_as_read reading = record { reads = reading.settled.reads; only = reading.settled.leaves }
 
 header-area : (bytes : List ℕ) → header (area bytes) ≡ part 8192 4096 bytes
 header-area bytes = part-part 0 4096 8192 2359296 bytes (omega arith)
@@ -77,16 +88,41 @@ pub recorded-header : (bytes head : List ℕ) → head ≡ part 8192 4096 bytes 
 unfolding recorded
 recorded-header bytes head is = ap (λ h. entries_from 1 (homes_of h) (area bytes)) (header-area bytes ∙ sym is)
 
+-- What is known once the record is read behind an open gate.
+pub record RecordRead (blocks : ℕ) (old m : Meaning) (good : Bool) : Type 0 where
+  pub reading : Reading old m
+  pub honest : IsTrue m.is_honest
+  pub opened : is_open old.bytes ≡ true
+  pub form : is_record blocks (area old.bytes) ≡ good
+
+pub record_read : {blocks : ℕ} {old gated m : Meaning} {read good : Bool} → Gated old gated true → IsDiskRun gated m → (IsTrue gated.is_honest → Spreads gated m Same) → (IsTrue gated.is_honest → read ≡ is_record blocks (area gated.bytes)) → read ≡ good → RecordRead blocks old m good
+record_read {blocks} was run quiet is is_good = record {
+  reading = reading_on was.reading (quiet was.honest);
+  honest = run.honest ∙ was.honest;
+  opened = was.gate;
+  form = ap (λ bytes. is_record blocks (area bytes)) (sym was.reading.settled.reads) ∙ (sym (is was.honest) ∙ is_good);
+}
+
 -- a record that is not in form
-pub bad_recovered : (blocks : ℕ) (old m : Meaning) (head : List ℕ) → Reading old m → is_open old.bytes ≡ true → head ≡ part 8192 4096 old.bytes → is_header blocks head ≡ false → Recovered blocks old m false
-bad_recovered blocks old m head reading opened is bad = (
-  replayed-bad blocks old.bytes opened (record-header blocks old.bytes head is ∙ bad),
-  record { reads = reading.settled.reads; only = reading.settled.leaves },
-)
+bad_replayed : {blocks : ℕ} {old m : Meaning} → RecordRead blocks old m false → replayed blocks old.bytes ≡ None
+bad_replayed {blocks} {old} bad = replayed-bad blocks old.bytes bad.opened bad.form
+
+pub bad_leaves : {blocks : ℕ} {old m : Meaning} → RecordRead blocks old m false → Leaves old m (λ image. old.images image ⊎ InRecovery blocks old.bytes image)
+bad_leaves bad = leaves_weaken _ bad.reading.leaves (λ image is. inl is)
+
+pub bad_recovered : {blocks : ℕ} {old m : Meaning} → RecordRead blocks old m false → Recovered blocks old m false
+bad_recovered bad = (bad_replayed bad, settled_as_read bad.reading)
+
+pub bad_left : {blocks : ℕ} {old m : Meaning} → RecordRead blocks old m false → IsRecovered blocks old m
+bad_left bad = record {
+  closed = λ closed. absurd (false≢true (sym closed ∙ bad.opened));
+  opened = λ r opened is. absurd (none-some r (sym (bad_replayed bad) ∙ is));
+}
 
 -- what is known where the record is in form and in memory
 pub record Ready (blocks : ℕ) (old m : Meaning) (s : Staging) : Type 0 where
   pub reading : Reading old m
+  pub honest : IsTrue m.is_honest
   pub opened : is_open old.bytes ≡ true
   pub form : is_record blocks (area old.bytes) ≡ true
   pub loaded : recorded (area old.bytes) ≡ s.entries
@@ -94,6 +130,19 @@ pub record Ready (blocks : ℕ) (old m : Meaning) (s : Staging) : Type 0 where
   pub long : 4096 * blocks ≤ length old.bytes
   pub enough : 578 < blocks
   pub staging : IsStaging s
+
+pub ready_from : {blocks : ℕ} {old gated m : Meaning} {s : Staging} {read : Bool} → Gated old gated true → RecordRead blocks old m true → (IsTrue gated.is_honest → read ≡ true → s.entries ≡ recorded (area gated.bytes)) → read ≡ true → s.blocks ≡ blocks → length old.bytes ≡ old.len → 4096 * blocks ≤ old.len → 578 < blocks → IsStaging s → Ready blocks old m s
+ready_from was now loaded is blocks_are len long enough staging = record {
+  reading = now.reading;
+  honest = now.honest;
+  opened = now.opened;
+  form = now.form;
+  loaded = ap (λ bytes. recorded (area bytes)) (sym was.reading.settled.reads) ∙ sym (loaded was.honest is);
+  blocks_are = blocks_are;
+  long = omega (arith, len, long);
+  enough = enough;
+  staging = staging;
+}
 
 module _ {blocks : ℕ} {old m : Meaning} {s : Staging} (ready : Ready blocks old m s) where
   was : ℕ → List ℕ
@@ -132,9 +181,24 @@ module _ {blocks : ℕ} {old m : Meaning} {s : Staging} (ready : Ready blocks ol
       by None h = h
       by (Some r) h = keeps_replayed r h
 
-  pub finish_leaves : {n : Meaning} → Leaves m n (StandsFor s.blocks (looked s.entries (λ k. block k old.bytes))) → Leaves old n (λ image. old.images image ⊎ StandsForReplayed blocks old.bytes image)
-  finish_leaves leaves =
-      leaves_then (leaves_weaken _ ready.reading.leaves (λ image is. inl is)) (leaves_weaken _ leaves (λ image is. inr (stands_replayed image is)))
+  pub ready_rest : Always m (λ image. behind_gate image ≡ behind_gate old.bytes)
+  ready_rest = always_same (λ image. behind_gate image ≡ behind_gate old.bytes) ready.reading refl
+
+  pub finish_leaves : {n : Meaning} → Leaves m n (StandsFor s.blocks (looked s.entries (λ k. block k old.bytes))) → Leaves m n (λ image. behind_gate image ≡ behind_gate old.bytes) → Leaves old n (λ image. old.images image ⊎ InRecovery blocks old.bytes image)
+  finish_leaves stands rest =
+      leaves_then (leaves_weaken _ ready.reading.leaves (λ image is. inl is)) (leaves_weaken _ (leaves_both stands rest) (λ image is. inr (record {
+        opened = ready.opened;
+        stands = stands_replayed image is.0;
+        rest = is.1;
+      })))
+
+  pub finish_left : {n : Meaning} → IsSettled n (put (apply s.entries m.bytes) 4096 (0 ∷ [])) → IsRecovered blocks old n
+  finish_left {n} settled = record {
+    closed = λ closed. absurd (false≢true (sym closed ∙ ready.opened));
+    opened = λ r opened is.
+        let image : apply s.entries m.bytes ≡ r = ap (apply s.entries) ready.reading.settled.reads ∙ ap (λ o. unwrap_or o old.bytes) (sym replayed-ready ∙ is) in
+        subst (λ bytes. IsSettled n (put bytes 4096 (0 ∷ []))) image settled;
+  }
 
   pub finish_recovered : {n : Meaning} → Fits s.blocks n (looked s.entries (λ k. block k old.bytes)) → Recovered blocks old n true
   finish_recovered {n} fits =
@@ -149,3 +213,8 @@ module _ {blocks : ℕ} {old m : Meaning} {s : Staging} (ready : Ready blocks ol
 
   pub finish_past : (n : Meaning) → ((k : ℕ) → s.blocks ≤ k → block k n.bytes ≡ block k old.bytes) → KeepsPast blocks old n
   finish_past n past = subst (λ b. (k : ℕ) → b ≤ k → block k n.bytes ≡ block k old.bytes) ready.blocks_are past
+
+-- a recovery's moments, for the blocks that a new stage has
+pub new_leaves : {old m : Meaning} {s : Staging} {blocks : ℕ} → s ≡ record { blocks = blocks; entries = [] } → Leaves old m (λ image. old.images image ⊎ InRecovery s.blocks old.bytes image) → Leaves old m (λ image. old.images image ⊎ InRecovery blocks old.bytes image)
+new_leaves {old} {m} is leaves =
+    subst (λ (s : Staging). Leaves old m (λ image. old.images image ⊎ InRecovery s.blocks old.bytes image)) is leaves

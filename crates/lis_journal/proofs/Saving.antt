@@ -5,13 +5,14 @@ use Rattle.lis_ports.specs.Meaning.{Meaning}
 use Rattle.lis_ports.specs.Bytes.{put, Torn}
 use Rattle.lis_ports.specs.Runs.{Leaves, Always, IsSettled}
 use Rattle.lis_ports.proofs.Always.{always_settled}
-use Rattle.lis_ports.proofs.Moments.{leaves_weaken}
-use Rattle.lis_journal.specs.Record.{block, Entry, homes, homes_of, is_header, apply}
+use Rattle.lis_ports.proofs.Moments.{leaves_then, leaves_weaken}
+use Rattle.lis_ports.proofs.Parts.{part-torn}
+use Rattle.lis_journal.specs.Record.{block, behind_gate, Entry, homes, homes_of, is_header, apply}
 use Rattle.lis_journal.specs.Images.{look, StandsFor, StandsForAllOrNone, IsAtRest, Fits}
 use Rattle.lis_journal.specs.Staging.{Staging, IsStaging, has_entry}
 use Rattle.lis_journal.specs.Spreads.{Spreads, Touched}
 use Rattle.lis_journal.specs.Phases.{Unsure, Open, looked, renumbered}
-use Rattle.lis_journal.proofs.Entries.{Within, AtHome}
+use Rattle.lis_journal.proofs.Entries.{Within, AtHome, homes_clear}
 use Rattle.lis_journal.proofs.Areas.{spelled_written}
 use Rattle.lis_journal.proofs.Spreading.{leaves_spread, always_spread}
 use Rattle.lis_journal.proofs.Writing.{within_from, home_from}
@@ -71,6 +72,25 @@ open_past : (blocks : ℕ) (kept : ℕ → List ℕ) (es : List Entry) (image : 
 open_past blocks kept es image plan open_ = λ n le.
     sym (look-past blocks n es (block n image) plan.within le)
     ∙ (open_.looks n (inr (omega (arith, plan.enough, le))) ∙ look-past blocks n es (kept n) plan.within le)
+
+-- The journal's bytes behind the gate are these.
+abbrev pub RestIs : List ℕ → List ℕ → Type 0
+RestIs rest image = behind_gate image ≡ rest
+
+homes_keep_rest : (es : List Entry) (rest from image : List ℕ) → AtHome es → RestIs rest from → Touched es from image → RestIs rest image
+homes_keep_rest es rest from image home is touched = touched.clear 4097 2363391 (homes_clear es 4097 2363391 (omega arith) home) ∙ is
+
+gate_keeps_rest : (rest from image : List ℕ) → RestIs rest from → Torn 4096 1 from image → RestIs rest image
+gate_keeps_rest rest from image is torn = part-torn 4096 1 from image torn 4097 2363391 (inr (omega arith)) ∙ is
+
+-- the homes are written, and the gate is closed, with the rest of the journal as before
+pub homes_rest : {a b : Meaning} {blocks : ℕ} {es : List Entry} → Plan blocks es → (rest : List ℕ) → Always a (RestIs rest) → Spreads a b (Touched es) → Leaves a b (RestIs rest)
+homes_rest {es = es} plan rest all spreads = leaves_spread (Touched es) (RestIs rest) all spreads (λ from image. homes_keep_rest es rest from image plan.home)
+
+pub finish_rest : {a b c : Meaning} {blocks : ℕ} {es : List Entry} → Plan blocks es → (rest : List ℕ) → Always a (RestIs rest) → Spreads a b (Touched es) → Spreads b c (Torn 4096 1) → Leaves a c (RestIs rest)
+finish_rest {es = es} plan rest all homes gate =
+    let written = always_spread (Touched es) (RestIs rest) all homes (λ from image. homes_keep_rest es rest from image plan.home) in
+    leaves_then (homes_rest plan rest all homes) (leaves_spread (Torn 4096 1) (RestIs rest) written gate (gate_keeps_rest rest))
 
 module _ {blocks : ℕ} {es : List Entry} (plan : Plan blocks es) (kept : ℕ → List ℕ) where
   -- the homes are written

@@ -103,3 +103,19 @@ always_spread {a} {b} {S} R T all spreads step = record {
 pub leaves_spread : {a b : Meaning} {S : List ℕ → Type 0} (R : List ℕ → List ℕ → Type 0) (T : List ℕ → Type 0) → Always a S → Spreads a b R → ((from image : List ℕ) → S from → R from image → T image) → Leaves a b T
 leaves_spread R T all spreads step =
     leaves_weaken T spreads.moments (λ image is. step is.0 image (all.leaves is.0 is.1) is.2)
+
+both : {A P Q S : Type 0} → A ⊎ (P × S) → A ⊎ (Q × S) → A ⊎ ((P × Q) × S)
+both (inl a) q = inl a
+both (inr p) (inl a) = inl a
+both (inr p) (inr q) = inr ((p.0, q.0), p.1)
+
+-- what two clauses say of each moment, together
+pub leaves_both : {a b : Meaning} {P Q : List ℕ → Type 0} → Leaves a b P → Leaves a b Q → Leaves a b (λ image. P image × Q image)
+leaves_both one two = record {
+  run = one.run;
+  adds = record {
+    later = one.adds.later;
+    only = λ t image bytes le had. both (one.adds.only t image bytes le had) (two.adds.only t image bytes le had);
+    keeps = one.adds.keeps;
+  };
+}

@@ -1,9 +1,9 @@
 //! Mounting a journal: a record whose gate is open is brought home first.
 
 ghost use Rattle.std.specs.Prelude.{[], ◌∷◌, ◌≡◌, ◌⊎◌, ◌+◌, ◌*◌, ◌<◌, ◌≤◌, ℕ, List, Option, None, length, true, false, IsTrue, IfOk, OnOk, OnErr, Err, MatchBool};
-ghost use Rattle.lis_ports.specs.Runs.{IsDiskRun, Leaves, IsSettled};
+ghost use Rattle.lis_ports.specs.Runs.{IsDiskRun, Leaves};
 ghost use Rattle.lis_ports.specs.Calls.{HasCause};
-ghost use Rattle.lis_journal.specs.Record.{is_open, is_header, homes_of, entries_from, area, block, replayed};
+ghost use Rattle.lis_journal.specs.Record.{is_open, is_header, is_record, recorded, homes_of, entries_from, area, block, replayed};
 ghost use Rattle.lis_journal.specs.Images.{KeepsPast};
 ghost use Rattle.lis_journal.specs.Spreads.{Spreads, Same};
 ghost use Rattle.lis_journal.specs.Recovery.{InRecovery, IsRecovered, Recovered, IsSettledPast};
@@ -54,6 +54,35 @@ fn load<D: Disk>(
     Ok(())
 }
 
+// Reads the record, and stages what it holds if it is in form. It answers whether it is.
+fn read_record<D: Disk>(
+    disk: &mut D,
+    stage: &mut Stage,
+    header: &mut [u8],
+    block: &mut [u8],
+) -> Result<bool, Failed>
+    requires empty { stage.old.entries ≡ [] }
+    requires blocks { 578 < stage.old.blocks }
+    requires long { 4096 * stage.old.blocks ≤ (D.meaning disk.old).len }
+    requires header { length header.old ≡ 4096 }
+    requires whole { length block.old ≡ 4096 }
+    ensures run { IsDiskRun (D.meaning disk.old) (D.meaning disk.new) }
+    ensures cause { HasCause (D.meaning disk.old).disk_faults (D.meaning disk.new).disk_faults result }
+    ensures quiet { IsTrue (D.meaning disk.old).is_honest → Spreads (D.meaning disk.old) (D.meaning disk.new) Same }
+    ensures blocks { stage.new.blocks ≡ stage.old.blocks }
+    ensures form { IfOk result (λ good. IsTrue (D.meaning disk.old).is_honest
+        → good ≡ is_record stage.old.blocks (area (D.meaning disk.old).bytes)) }
+    ensures loaded { IfOk result (λ good. IsTrue (D.meaning disk.old).is_honest → good ≡ true
+        → stage.new.entries ≡ recorded (area (D.meaning disk.old).bytes)) }
+{
+    disk.read_at(HEADER_AT, header)?;
+    if !is_header(header, stage.blocks()) {
+        return Ok(false);
+    }
+    load(disk, header, stage, block)?;
+    Ok(true)
+}
+
 /// Syncs, and where the gate is open brings the record home and closes the gate. It answers whether the record was in
 /// form, if the gate was open.
 pub fn recover<D: Disk>(
@@ -85,11 +114,9 @@ pub fn recover<D: Disk>(
     if !is_gate_open(disk)? {
         return Ok(true);
     }
-    disk.read_at(HEADER_AT, header)?;
-    if !is_header(header, stage.blocks()) {
+    if !read_record(disk, stage, header, block)? {
         return Ok(false);
     }
-    load(disk, header, stage, block)?;
     let _ = stage.len();
     finish(disk, stage)?;
     Ok(true)

@@ -1,0 +1,15 @@
+-- The answers of opening a journal: a recovery's moments, for the blocks that the new stage has.
+use Rattle.lis_journal.proofs.Recovering.{new_leaves}
+use Rattle.lis_journal.proofs.journal.Journal.mount.Goals as goal
+
+pub returns-in-Ok-true-clause-any_moment : goal.returns-in-Ok-true-clause-any_moment
+returns-in-Ok-true-clause-any_moment g c = λ honest.
+    new_leaves c.in_ok-stage.ensures (c.recover.ensures.any_moment honest)
+
+pub returns-in-Ok-false-clause-any_moment : goal.returns-in-Ok-false-clause-any_moment
+returns-in-Ok-false-clause-any_moment g c = λ honest.
+    new_leaves c.in_ok-stage.ensures (c.recover.ensures.any_moment honest)
+
+pub returns-in-Err-clause-any_moment : goal.returns-in-Err-clause-any_moment
+returns-in-Err-clause-any_moment g c = λ honest.
+    new_leaves c.in_ok-stage.ensures (c.recover.ensures.any_moment honest)
