@@ -16,7 +16,7 @@ use Rattle.lis_journal.specs.Phases.{Open, looked}
 use Rattle.lis_journal.specs.Recovery.{StandsForReplayed, InRecovery, IsRecovered, Recovered}
 use Rattle.lis_journal.proofs.Entries.{Within, block-apply}
 use Rattle.lis_journal.proofs.Spreading.{always_spread, leaves_both}
-use Rattle.lis_journal.proofs.Phases.{replayed-closed, replayed-open, replayed-bad}
+use Rattle.lis_journal.proofs.Phases.{rest_stands, replayed-closed, replayed-open, replayed-bad}
 use Rattle.lis_journal.proofs.Saving.{plan_of}
 
 -- So far the disk was synced and read: it reads as at the start, and a crash leaves that and nothing else.
@@ -200,6 +200,14 @@ module _ {blocks : ℕ} {old m : Meaning} {s : Staging} (ready : Ready blocks ol
         subst (λ bytes. IsSettled n (put bytes 4096 (0 ∷ []))) image settled;
   }
 
+  -- at rest with the replayed blocks, an image stands for them
+  pub finish_still : {n : Meaning} → Fits s.blocks n (looked s.entries (λ k. block k old.bytes)) → Always n (λ image. behind_gate image ≡ behind_gate old.bytes) → (image : List ℕ) → n.images image → InRecovery blocks old.bytes image
+  finish_still {n} fits rest image is = record {
+    opened = ready.opened;
+    stands = stands_replayed image (rest_stands s.blocks (looked s.entries (λ k. block k old.bytes)) image (fits.all.leaves image is));
+    rest = rest.leaves image is;
+  }
+
   pub finish_recovered : {n : Meaning} → Fits s.blocks n (looked s.entries (λ k. block k old.bytes)) → Recovered blocks old n true
   finish_recovered {n} fits =
       let same : Fits blocks n (looked s.entries (λ k. block k old.bytes)) = subst (λ b. Fits b n (looked s.entries (λ k. block k old.bytes))) ready.blocks_are fits in
@@ -218,3 +226,7 @@ module _ {blocks : ℕ} {old m : Meaning} {s : Staging} (ready : Ready blocks ol
 pub new_leaves : {old m : Meaning} {s : Staging} {blocks : ℕ} → s ≡ record { blocks = blocks; entries = [] } → Leaves old m (λ image. old.images image ⊎ InRecovery s.blocks old.bytes image) → Leaves old m (λ image. old.images image ⊎ InRecovery blocks old.bytes image)
 new_leaves {old} {m} is leaves =
     subst (λ (s : Staging). Leaves old m (λ image. old.images image ⊎ InRecovery s.blocks old.bytes image)) is leaves
+
+pub new_still : (old m : Meaning) {s : Staging} {blocks : ℕ} → s ≡ record { blocks = blocks; entries = [] } → ((image : List ℕ) → m.images image → old.images image ⊎ InRecovery s.blocks old.bytes image) → (image : List ℕ) → m.images image → old.images image ⊎ InRecovery blocks old.bytes image
+new_still old m is still =
+    subst (λ (s : Staging). (image : List ℕ) → m.images image → old.images image ⊎ InRecovery s.blocks old.bytes image) is still

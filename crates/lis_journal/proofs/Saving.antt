@@ -84,13 +84,17 @@ gate_keeps_rest : (rest from image : List ℕ) → RestIs rest from → Torn 409
 gate_keeps_rest rest from image is torn = part-torn 4096 1 from image torn 4097 2363391 (inr (omega arith)) ∙ is
 
 -- the homes are written, and the gate is closed, with the rest of the journal as before
-pub homes_rest : {a b : Meaning} {blocks : ℕ} {es : List Entry} → Plan blocks es → (rest : List ℕ) → Always a (RestIs rest) → Spreads a b (Touched es) → Leaves a b (RestIs rest)
-homes_rest {es = es} plan rest all spreads = leaves_spread (Touched es) (RestIs rest) all spreads (λ from image. homes_keep_rest es rest from image plan.home)
+pub homes_rest : {a b : Meaning} {blocks : ℕ} {es : List Entry} → Plan blocks es → (rest : List ℕ) → Always a (RestIs rest) → Spreads a b (Touched es) → Leaves a b (RestIs rest) × Always b (RestIs rest)
+homes_rest {es = es} plan rest all spreads =
+    let keep : (from image : List ℕ) → RestIs rest from → Touched es from image → RestIs rest image = λ from image. homes_keep_rest es rest from image plan.home in
+    (leaves_spread (Touched es) (RestIs rest) all spreads keep, always_spread (Touched es) (RestIs rest) all spreads keep)
 
-pub finish_rest : {a b c : Meaning} {blocks : ℕ} {es : List Entry} → Plan blocks es → (rest : List ℕ) → Always a (RestIs rest) → Spreads a b (Touched es) → Spreads b c (Torn 4096 1) → Leaves a c (RestIs rest)
-finish_rest {es = es} plan rest all homes gate =
-    let written = always_spread (Touched es) (RestIs rest) all homes (λ from image. homes_keep_rest es rest from image plan.home) in
-    leaves_then (homes_rest plan rest all homes) (leaves_spread (Torn 4096 1) (RestIs rest) written gate (gate_keeps_rest rest))
+pub finish_rest : {a b c : Meaning} {blocks : ℕ} {es : List Entry} → Plan blocks es → (rest : List ℕ) → Always a (RestIs rest) → Spreads a b (Touched es) → Spreads b c (Torn 4096 1) → Leaves a c (RestIs rest) × Always c (RestIs rest)
+finish_rest plan rest all homes gate =
+    let written = homes_rest plan rest all homes in (
+      leaves_then written.0 (leaves_spread (Torn 4096 1) (RestIs rest) written.1 gate (gate_keeps_rest rest)),
+      always_spread (Torn 4096 1) (RestIs rest) written.1 gate (gate_keeps_rest rest),
+    )
 
 module _ {blocks : ℕ} {es : List Entry} (plan : Plan blocks es) (kept : ℕ → List ℕ) where
   -- the homes are written

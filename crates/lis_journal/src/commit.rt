@@ -127,7 +127,8 @@ pub fn finish<D: Disk>(disk: &mut D, stage: &Stage) -> Result<(), Failed>
         → IsSettled (D.meaning disk.new) (put (apply stage.now.entries (D.meaning disk.old).bytes) 4096 (0 ∷ []))) }
     ensures rest { (rest : List ℕ) → IsTrue (D.meaning disk.old).is_honest
         → Always (D.meaning disk.old) (λ image. behind_gate image ≡ rest)
-        → Leaves (D.meaning disk.old) (D.meaning disk.new) (λ image. behind_gate image ≡ rest) }
+        → Leaves (D.meaning disk.old) (D.meaning disk.new) (λ image. behind_gate image ≡ rest)
+        × Always (D.meaning disk.new) (λ image. behind_gate image ≡ rest) }
 {
     write_synced(disk, stage, Target::Homes)?;
     write_gate(disk, 0)

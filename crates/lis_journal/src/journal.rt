@@ -93,6 +93,8 @@ impl Journal {
             → IsRecovered blocks (D.meaning disk.old) (D.meaning disk.new)) }
         ensures any_moment { IsTrue (D.meaning disk.old).is_honest → Leaves (D.meaning disk.old) (D.meaning disk.new)
             (λ image. (D.meaning disk.old).images image ⊎ InRecovery blocks (D.meaning disk.old).bytes image) }
+        ensures still { OnOk result (IsTrue (D.meaning disk.old).is_honest → (image : List ℕ) → (D.meaning disk.new).images image
+            → (D.meaning disk.old).images image ⊎ InRecovery blocks (D.meaning disk.old).bytes image) }
         ensures past { OnOk result (IsTrue (D.meaning disk.old).is_honest
             → KeepsPast blocks (D.meaning disk.old) (D.meaning disk.new)) }
         ensures settled_past { IsTrue (D.meaning disk.old).is_honest → IsSettledPast blocks (D.meaning disk.old)

@@ -105,6 +105,8 @@ pub fn recover<D: Disk>(
         → Recovered stage.old.blocks (D.meaning disk.old) (D.meaning disk.new) good) }
     ensures left { OnOk result (IsTrue (D.meaning disk.old).is_honest
         → IsRecovered stage.old.blocks (D.meaning disk.old) (D.meaning disk.new)) }
+    ensures still { OnOk result (IsTrue (D.meaning disk.old).is_honest → (image : List ℕ) → (D.meaning disk.new).images image
+        → (D.meaning disk.old).images image ⊎ InRecovery stage.old.blocks (D.meaning disk.old).bytes image) }
     ensures past { OnOk result (IsTrue (D.meaning disk.old).is_honest
         → KeepsPast stage.old.blocks (D.meaning disk.old) (D.meaning disk.new)) }
     ensures settled_past { IsTrue (D.meaning disk.old).is_honest → IsSettledPast stage.old.blocks (D.meaning disk.old)

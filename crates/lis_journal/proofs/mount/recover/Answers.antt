@@ -1,6 +1,7 @@
 -- The answers of a recovery: what was read of the gate and of the record, and what follows.
+use Rattle.std.proofs.Common.{inl, inr}
 use Rattle.lis_journal.specs.Record.{block}
-use Rattle.lis_journal.proofs.Recovering.{gate_read, record_read, ready_from, closed_recovered, bad_leaves, bad_recovered, bad_left, ready_open, ready_rest, finish_leaves, finish_recovered, finish_left, finish_past}
+use Rattle.lis_journal.proofs.Recovering.{gate_read, record_read, ready_from, closed_recovered, bad_leaves, bad_recovered, bad_left, ready_open, ready_rest, finish_leaves, finish_recovered, finish_left, finish_still, finish_past}
 use Rattle.lis_journal.proofs.mount.recover.Goals as goal
 
 pub returns-then-not-branch-clause-recovered : goal.returns-then-not-branch-clause-recovered
@@ -28,7 +29,7 @@ returns-in_err-finish-clause-any_moment g c = λ honest.
     let gated = gate_read c.sync.ensures.call c.in_ok-sync.ensures.synced c.is_gate_open.ensures.run c.is_gate_open.ensures.quiet c.in_ok-is_gate_open.ensures.gate c.if-not-branch.false honest in
     let now = record_read gated c.read_record.ensures.run c.read_record.ensures.quiet c.in_ok-read_record.ensures.form c.if-not-branch-2.false in
     let ready = ready_from gated now c.in_ok-read_record.ensures.loaded c.if-not-branch-2.false c.read_record.ensures.blocks (g.met.D.Disk.reads_len c.args.disk.now honest) c.requires.long c.requires.blocks c.len.ensures.staging in
-    finish_leaves ready (c.finish.ensures.any_moment (λ n. block n (g.D.Disk.meaning c.args.disk.now).bytes) ready.honest (ready_open ready)) (c.finish.ensures.rest _ ready.honest (ready_rest ready))
+    finish_leaves ready (c.finish.ensures.any_moment (λ n. block n (g.D.Disk.meaning c.args.disk.now).bytes) ready.honest (ready_open ready)) (c.finish.ensures.rest _ ready.honest (ready_rest ready)).0
 
 pub returns-in_err-finish-clause-settled_past : goal.returns-in_err-finish-clause-settled_past
 returns-in_err-finish-clause-settled_past g c = λ honest settled.
@@ -42,7 +43,7 @@ returns-clause-any_moment g c = λ honest.
     let gated = gate_read c.sync.ensures.call c.in_ok-sync.ensures.synced c.is_gate_open.ensures.run c.is_gate_open.ensures.quiet c.in_ok-is_gate_open.ensures.gate c.if-not-branch.false honest in
     let now = record_read gated c.read_record.ensures.run c.read_record.ensures.quiet c.in_ok-read_record.ensures.form c.if-not-branch-2.false in
     let ready = ready_from gated now c.in_ok-read_record.ensures.loaded c.if-not-branch-2.false c.read_record.ensures.blocks (g.met.D.Disk.reads_len c.args.disk.now honest) c.requires.long c.requires.blocks c.len.ensures.staging in
-    finish_leaves ready (c.finish.ensures.any_moment (λ n. block n (g.D.Disk.meaning c.args.disk.now).bytes) ready.honest (ready_open ready)) (c.finish.ensures.rest _ ready.honest (ready_rest ready))
+    finish_leaves ready (c.finish.ensures.any_moment (λ n. block n (g.D.Disk.meaning c.args.disk.now).bytes) ready.honest (ready_open ready)) (c.finish.ensures.rest _ ready.honest (ready_rest ready)).0
 
 pub returns-clause-recovered : goal.returns-clause-recovered
 returns-clause-recovered g c = λ honest.
@@ -57,6 +58,23 @@ returns-clause-left g c = λ honest.
     let now = record_read gated c.read_record.ensures.run c.read_record.ensures.quiet c.in_ok-read_record.ensures.form c.if-not-branch-2.false in
     let ready = ready_from gated now c.in_ok-read_record.ensures.loaded c.if-not-branch-2.false c.read_record.ensures.blocks (g.met.D.Disk.reads_len c.args.disk.now honest) c.requires.long c.requires.blocks c.len.ensures.staging in
     finish_left ready (c.in_ok-finish.ensures.settled ready.honest)
+
+pub returns-clause-still : goal.returns-clause-still
+returns-clause-still g c = λ honest image is.
+    let gated = gate_read c.sync.ensures.call c.in_ok-sync.ensures.synced c.is_gate_open.ensures.run c.is_gate_open.ensures.quiet c.in_ok-is_gate_open.ensures.gate c.if-not-branch.false honest in
+    let now = record_read gated c.read_record.ensures.run c.read_record.ensures.quiet c.in_ok-read_record.ensures.form c.if-not-branch-2.false in
+    let ready = ready_from gated now c.in_ok-read_record.ensures.loaded c.if-not-branch-2.false c.read_record.ensures.blocks (g.met.D.Disk.reads_len c.args.disk.now honest) c.requires.long c.requires.blocks c.len.ensures.staging in
+    inr (finish_still ready (c.in_ok-finish.ensures.kept (λ n. block n (g.D.Disk.meaning c.args.disk.now).bytes) ready.honest (ready_open ready)) (c.finish.ensures.rest _ ready.honest (ready_rest ready)).1 image is)
+
+pub returns-then-not-branch-clause-still : goal.returns-then-not-branch-clause-still
+returns-then-not-branch-clause-still g c = λ honest image is.
+    let gated = gate_read c.sync.ensures.call c.in_ok-sync.ensures.synced c.is_gate_open.ensures.run c.is_gate_open.ensures.quiet c.in_ok-is_gate_open.ensures.gate c.if-not-branch.true honest in
+    inl (gated.reading.within image is)
+
+pub returns-then-not-branch-2-clause-still : goal.returns-then-not-branch-2-clause-still
+returns-then-not-branch-2-clause-still g c = λ honest image is.
+    let gated = gate_read c.sync.ensures.call c.in_ok-sync.ensures.synced c.is_gate_open.ensures.run c.is_gate_open.ensures.quiet c.in_ok-is_gate_open.ensures.gate c.if-not-branch.false honest in
+    inl ((record_read gated c.read_record.ensures.run c.read_record.ensures.quiet c.in_ok-read_record.ensures.form c.if-not-branch-2.true).reading.within image is)
 
 pub returns-clause-past : goal.returns-clause-past
 returns-clause-past g c = λ honest.

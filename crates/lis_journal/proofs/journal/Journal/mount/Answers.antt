@@ -1,5 +1,5 @@
 -- The answers of opening a journal: a recovery's moments, for the blocks that the new stage has.
-use Rattle.lis_journal.proofs.Recovering.{new_leaves}
+use Rattle.lis_journal.proofs.Recovering.{new_leaves, new_still}
 use Rattle.lis_journal.proofs.journal.Journal.mount.Goals as goal
 
 pub returns-in-Ok-true-clause-any_moment : goal.returns-in-Ok-true-clause-any_moment
@@ -13,3 +13,7 @@ returns-in-Ok-false-clause-any_moment g c = λ honest.
 pub returns-in-Err-clause-any_moment : goal.returns-in-Err-clause-any_moment
 returns-in-Err-clause-any_moment g c = λ honest.
     new_leaves c.in_ok-stage.ensures (c.recover.ensures.any_moment honest)
+
+pub returns-in-Ok-true-clause-still : goal.returns-in-Ok-true-clause-still
+returns-in-Ok-true-clause-still g c = λ honest.
+    new_still _ _ c.in_ok-stage.ensures (c.in-Ok-true.ensures.still honest)
