@@ -1,6 +1,6 @@
 //! Making an empty image.
 
-ghost use Rattle.std.specs.Prelude.{◌≡◌, ◌*◌, ◌≤◌, ℕ, IsTrue, OnOk, Err};
+ghost use Rattle.std.specs.Prelude.{◌≡◌, ◌*◌, ◌≤◌, ℕ, IsTrue, OnOk, OnErr, Err};
 ghost use Rattle.lis_ports.specs.Runs.{IsDiskRun, Leaves, Always, IsSettled};
 ghost use Rattle.lis_ports.specs.Calls.{HasCause};
 ghost use Rattle.lis_journal.specs.Images.{KeepsPast};
@@ -54,7 +54,7 @@ fn write_image<D: Disk>(disk: &mut D, limits: &Limits) -> Result<(), Failed>
     ensures left { OnOk result (IsTrue (D.meaning disk.old).is_honest
         → Always (D.meaning disk.new) (IsMade limits.now (D.meaning disk.old).bytes)) }
     ensures past { IsTrue (D.meaning disk.old).is_honest
-        → (result ≡ Err Failed → IsSettledPast (data_start limits.now) (D.meaning disk.old))
+        → OnErr result (IsSettledPast (data_start limits.now) (D.meaning disk.old))
         → KeepsPast (data_start limits.now) (D.meaning disk.old) (D.meaning disk.new) }
 {
     take_name(disk)?;
