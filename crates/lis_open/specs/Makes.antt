@@ -28,10 +28,11 @@ AreZeros first end image = (n : ℕ) → first ≤ n → n < end → block n ima
 unfoldable pub rest_of_super : Limits → List ℕ
 rest_of_super limits = drop 1 (super_bytes (record { version = 1; limits = limits }))
 
--- all of an empty image but the first byte
+-- all of an empty image but the first byte, with zeros in all of the gate block
 pub record IsWiped (limits : Limits) (image : List ℕ) : Type 0 where
   pub rest : part 1 4095 image ≡ rest_of_super limits
   pub blank : IsBlank limits image
+  pub zero : block 1 image ≡ zeros 4096
 
 -- a block that making leaves alone: one of the record, a data block, or one past the image
 abbrev pub IsSpare : Limits → ℕ → Type 0
@@ -39,6 +40,11 @@ IsSpare limits n = ((2 ≤ n) × (n < 578)) ⊎ (data_start limits ≤ n)
 
 abbrev pub KeepsSpare : Limits → List ℕ → List ℕ → Type 0
 KeepsSpare limits bytes image = (n : ℕ) → IsSpare limits n → block n image ≡ block n bytes
+
+-- the first byte and the blocks that making leaves alone are as before
+pub record IsWiping (limits : Limits) (from image : List ℕ) : Type 0 where
+  pub first : part 0 1 image ≡ part 0 1 from
+  pub spare : KeepsSpare limits from image
 
 -- What making leaves of a block: the super block, zeros in the gate block and in the home blocks before the data blocks, and each other block as
 -- it was.
