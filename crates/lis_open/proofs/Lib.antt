@@ -2,6 +2,7 @@ mod Ranges
 mod Zeros
 mod Names
 mod Wiping
+mod Made
 pub mod Needs
 mod Quiet
 mod Slots

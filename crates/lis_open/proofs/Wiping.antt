@@ -18,7 +18,7 @@ use Rattle.lis_model.specs.Image.{data_start, image_blocks}
 use Rattle.lis_model.specs.State.{empty_state}
 use Rattle.lis_store.specs.Stands.{Stands}
 use Rattle.lis_store.proofs.Empty.{zeros-part, stands_empty, no_state}
-use Rattle.lis_open.specs.Makes.{first_byte, IsNameless, IsSpared, AreZeros, rest_of_super, IsWiped, IsMaking}
+use Rattle.lis_open.specs.Makes.{first_byte, IsNameless, IsSpared, AreZeros, rest_of_super, IsWiped, IsWiping, IsMaking}
 use Rattle.lis_open.proofs.Names.{first_is, first-put, named_or_not}
 
 pub rest_is : (limits : Limits) (bytes rest : List ℕ) → bytes ≡ super_bytes (record { version = 1; limits = limits }) → rest ≡ drop 1 bytes → rest ≡ rest_of_super limits
@@ -53,6 +53,7 @@ wiped limits end start rest gate homes is_end long is_rest torn_gate zero_gate t
             ∙ (sym (part-part 0 1 4096 4096 gate (omega arith)) ∙ zero);
         homes = λ n above below. zero_homes n above (omega (arith, is_end));
       };
+      zero = part-torn 2367488 (4096 * (end - 578)) gate homes torn_homes 4096 4096 (inl (omega arith)) ∙ zero_gate 1 (omega arith) (omega arith);
     }
 
 -- the first byte is not looked at
@@ -64,17 +65,20 @@ wiped_torn limits from image is torn = record {
     gate = part-torn 0 1 from image torn 4096 1 (inr (omega arith)) ∙ is.blank.gate;
     homes = λ n above below. part-torn 0 1 from image torn (4096 * n) 4096 (inr (omega arith)) ∙ is.blank.homes n above below;
   };
+  zero = part-torn 0 1 from image torn 4096 4096 (inr (omega arith)) ∙ is.zero;
 }
 
 whole_super : (limits : Limits) → (76 ∷ []) ++ rest_of_super limits ≡ super_bytes (record { version = 1; limits = limits })
 unfolding rest_of_super super_bytes
 whole_super limits = refl
 
-pub wiped_stands : (limits : Limits) (image : List ℕ) → IsTrue (are_in_range limits) → IsWiped limits image → first_byte image ≡ 76 → Stands image (empty_state limits)
-wiped_stands limits image in_range is first =
+pub wiped_super : (limits : Limits) (image : List ℕ) → IsWiped limits image → first_byte image ≡ 76 → block 0 image ≡ super_bytes (record { version = 1; limits = limits })
+wiped_super limits image is first =
     let some : 1 ≤ length image = omega (arith, is.blank.long) in
-    stands_empty limits image is.blank in_range
-    (take-add 1 4095 (drop 0 image) ∙ (ap₂ (λ xs ys. xs ++ ys) (first_is image 76 some first) is.rest ∙ whole_super limits))
+    take-add 1 4095 (drop 0 image) ∙ (ap₂ (λ xs ys. xs ++ ys) (first_is image 76 some first) is.rest ∙ whole_super limits)
+
+pub wiped_stands : (limits : Limits) (image : List ℕ) → IsTrue (are_in_range limits) → IsWiped limits image → first_byte image ≡ 76 → Stands image (empty_state limits)
+wiped_stands limits image in_range is first = stands_empty limits image is.blank in_range (wiped_super limits image is first)
 
 -- ---- the moments of each part
 pub spared_moments : {old new : Meaning} (limits : Limits) (bytes : List ℕ) → Leaves old new (IsSpared bytes) → Leaves old new (IsMaking limits bytes)
@@ -84,13 +88,13 @@ spared_moments limits bytes moments = leaves_weaken (IsMaking limits bytes) mome
     by image (inl same) = inl same
     by image (inr none) = inr (inr (λ s. no_state image s none))
 
-nameless_torn : (n : ℕ) (from image : List ℕ) → IsNameless from → Torn 1 n from image → IsNameless image
-nameless_torn n from image none torn =
-    λ is. none (ap (λ xs. slice_index xs 0) (sym (part-torn 1 n from image torn 0 1 (inl (omega arith)))) ∙ is)
+nameless_wiping : (limits : Limits) (from image : List ℕ) → IsNameless from → IsWiping limits from image → IsNameless image
+nameless_wiping limits from image none wiping =
+    λ is. none (ap (λ xs. slice_index xs 0) (sym wiping.first) ∙ is)
 
-pub wiping_moments : {old new : Meaning} (limits : Limits) (bytes : List ℕ) (n : ℕ) → Always old IsNameless → Spreads old new (Torn 1 n) → Leaves old new (IsMaking limits bytes)
-wiping_moments limits bytes n all spreads =
-    leaves_spread (Torn 1 n) (IsMaking limits bytes) all spreads (λ from image none torn. inr (inr (λ s. no_state image s (nameless_torn n from image none torn))))
+pub wiping_moments : {old new : Meaning} (limits : Limits) (bytes : List ℕ) → Always old IsNameless → Spreads old new (IsWiping limits) → Leaves old new (IsMaking limits bytes)
+wiping_moments limits bytes all spreads =
+    leaves_spread (IsWiping limits) (IsMaking limits bytes) all spreads (λ from image none wiping. inr (inr (λ s. no_state image s (nameless_wiping limits from image none wiping))))
 
 pub naming_moments : {old new : Meaning} (limits : Limits) (bytes : List ℕ) → IsTrue (are_in_range limits) → Always old (IsWiped limits) → Spreads old new (Torn 0 1) → Leaves old new (IsMaking limits bytes)
 naming_moments limits bytes in_range all spreads =
@@ -100,9 +104,14 @@ naming_moments limits bytes in_range all spreads =
     by image is (inl named) = inr (inl (wiped_stands limits image in_range is named))
     by image is (inr none) = inr (inr (λ s. no_state image s none))
 
+-- with the first byte it is whole
+pub wiped_named : (limits : Limits) (bytes : List ℕ) → IsWiped limits bytes → IsWiped limits (put bytes 0 (76 ∷ [])) × (first_byte (put bytes 0 (76 ∷ [])) ≡ 76)
+wiped_named limits bytes is =
+    let some : 1 ≤ length bytes = omega (arith, is.blank.long) in
+    (wiped_torn limits bytes (put bytes 0 (76 ∷ [])) is (torn-put bytes 0 (76 ∷ []) some), first-put bytes 76 some)
+
 pub named_stands : {old new : Meaning} (limits : Limits) → IsTrue (are_in_range limits) → Always old (IsWiped limits) → IsSettled new (put old.bytes 0 (76 ∷ [])) → Always new (λ image. Stands image (empty_state limits))
 named_stands {old} limits in_range all settled =
-    let is = all.reads in
-    let some : 1 ≤ length old.bytes = omega (arith, is.blank.long) in
+    let named = wiped_named limits old.bytes all.reads in
     always_settled (λ image. Stands image (empty_state limits)) (put old.bytes 0 (76 ∷ [])) settled
-    (wiped_stands limits (put old.bytes 0 (76 ∷ [])) in_range (wiped_torn limits old.bytes (put old.bytes 0 (76 ∷ [])) is (torn-put old.bytes 0 (76 ∷ []) some)) (first-put old.bytes 76 some))
+    (wiped_stands limits (put old.bytes 0 (76 ∷ [])) in_range named.0 named.1)

@@ -1,9 +1,10 @@
 -- Images while an empty one is made.
-use Rattle.std.specs.Prelude.{◌≡◌, ◌≢◌, ◌⊎◌, ℕ, ◌≤◌, ◌<◌, List, drop, slice_index}
+use Rattle.std.specs.Prelude.{◌≡◌, ◌≢◌, ◌⊎◌, ℕ, ◌≤◌, ◌<◌, ◌==◌, nat_le, nat_lt, ◌&&◌, ◌||◌, if◌then◌else◌, List, drop, slice_index}
 use Rattle.lis_ports.specs.Bytes.{part}
 use Rattle.lis_journal.specs.Record.{block}
 use Rattle.lis_fields.specs.Layouts.{zeros, super_bytes}
 use Rattle.lis_model.specs.declared.limits.Limits.{Limits}
+use Rattle.lis_model.specs.Image.{data_start}
 use Rattle.lis_model.specs.State.{State, empty_state}
 use Rattle.lis_store.specs.Stands.{Stands}
 use Rattle.lis_store.specs.Blank.{IsBlank}
@@ -27,10 +28,33 @@ AreZeros first end image = (n : ℕ) → first ≤ n → n < end → block n ima
 unfoldable pub rest_of_super : Limits → List ℕ
 rest_of_super limits = drop 1 (super_bytes (record { version = 1; limits = limits }))
 
--- all of an empty image but the first byte
+-- all of an empty image but the first byte, with zeros in all of the gate block
 pub record IsWiped (limits : Limits) (image : List ℕ) : Type 0 where
   pub rest : part 1 4095 image ≡ rest_of_super limits
   pub blank : IsBlank limits image
+  pub zero : block 1 image ≡ zeros 4096
+
+-- a block that making leaves alone: one of the record, a data block, or one past the image
+abbrev pub IsSpare : Limits → ℕ → Type 0
+IsSpare limits n = ((2 ≤ n) × (n < 578)) ⊎ (data_start limits ≤ n)
+
+abbrev pub KeepsSpare : Limits → List ℕ → List ℕ → Type 0
+KeepsSpare limits bytes image = (n : ℕ) → IsSpare limits n → block n image ≡ block n bytes
+
+-- the first byte and the blocks that making leaves alone are as before
+pub record IsWiping (limits : Limits) (from image : List ℕ) : Type 0 where
+  pub first : part 0 1 image ≡ part 0 1 from
+  pub spare : KeepsSpare limits from image
+
+-- What making leaves of a block: the super block, zeros in the gate block and in the home blocks before the data blocks, and each other block as
+-- it was.
+abbrev pub made_block : Limits → ℕ → List ℕ → List ℕ
+made_block limits n old =
+    if n == 0 then super_bytes (record { version = 1; limits = limits })
+    else (if n == 1 || (nat_le 578 n && nat_lt n (data_start limits)) then zeros 4096 else old)
+
+abbrev pub IsMade : Limits → List ℕ → List ℕ → Type 0
+IsMade limits bytes image = (n : ℕ) → block n image ≡ made_block limits n (block n bytes)
 
 -- it is as it was, or stands for the empty state or for none
 abbrev pub IsMaking : Limits → List ℕ → List ℕ → Type 0

@@ -6,8 +6,8 @@ ghost use Rattle.lis_ports.specs.Runs.{IsDiskRun, Leaves, Always, IsSettled};
 ghost use Rattle.lis_ports.specs.Calls.{HasCause};
 ghost use Rattle.lis_journal.specs.Spreads.{Spreads, Same};
 ghost use Rattle.lis_model.specs.Ranges.{are_in_range};
-ghost use Rattle.lis_model.specs.Image.{data_start, image_blocks};
-ghost use Rattle.lis_open.specs.Makes.{first_byte, IsNameless, IsSpared, AreZeros, IsWiped, rest_of_super};
+ghost use Rattle.lis_model.specs.Image.{image_blocks};
+ghost use Rattle.lis_open.specs.Makes.{first_byte, IsNameless, IsSpared, AreZeros, IsWiped, IsWiping, rest_of_super};
 
 use lis_fields::{SUPER_LEN, SuperRec, write_super};
 use lis_journal::{BLOCK_LEN, HOMES_START};
@@ -54,6 +54,8 @@ pub fn take_name<D: Disk>(disk: &mut D) -> Result<(), Failed>
     ensures run { IsDiskRun (D.meaning disk.old) (D.meaning disk.new) }
     ensures cause { HasCause (D.meaning disk.old).disk_faults (D.meaning disk.new).disk_faults result }
     ensures spreads { IsTrue (D.meaning disk.old).is_honest → Spreads (D.meaning disk.old) (D.meaning disk.new) (Torn 0 1) }
+    ensures torn { OnOk result (IsTrue (D.meaning disk.old).is_honest
+        → Always (D.meaning disk.new) (Torn 0 1 (D.meaning disk.old).bytes)) }
 
     // With nothing unsynced at entry, each image is the one of entry or begins with another byte.
     ensures any_moment { IsTrue (D.meaning disk.old).is_honest → IsSettled (D.meaning disk.old) (D.meaning disk.old).bytes
@@ -113,7 +115,7 @@ pub fn wipe<D: Disk>(disk: &mut D, limits: &Limits) -> Result<(), Failed>
     ensures run { IsDiskRun (D.meaning disk.old) (D.meaning disk.new) }
     ensures cause { HasCause (D.meaning disk.old).disk_faults (D.meaning disk.new).disk_faults result }
     ensures spreads { IsTrue (D.meaning disk.old).is_honest
-        → Spreads (D.meaning disk.old) (D.meaning disk.new) (Torn 1 (4096 * data_start limits.now - 1)) }
+        → Spreads (D.meaning disk.old) (D.meaning disk.new) (IsWiping limits.now) }
     ensures wiped { OnOk result (IsTrue (D.meaning disk.old).is_honest → Always (D.meaning disk.new) (IsWiped limits.now)) }
 {
     write_rest(disk, limits)?;

@@ -1,16 +1,17 @@
 //! Making an empty image.
 
-ghost use Rattle.std.specs.Prelude.{◌≡◌, ◌*◌, ◌≤◌, ℕ, IsTrue, OnOk, Err};
+ghost use Rattle.std.specs.Prelude.{◌≡◌, ◌*◌, ◌≤◌, ℕ, IsTrue, OnOk, OnErr, Err};
 ghost use Rattle.lis_ports.specs.Runs.{IsDiskRun, Leaves, Always, IsSettled};
 ghost use Rattle.lis_ports.specs.Calls.{HasCause};
 ghost use Rattle.lis_journal.specs.Images.{KeepsPast};
+ghost use Rattle.lis_journal.specs.Recovery.{IsSettledPast};
 ghost use Rattle.lis_model.specs.Ranges.{are_in_range};
 ghost use Rattle.lis_model.specs.Image.{data_start, image_blocks};
 ghost use Rattle.lis_model.specs.State.{empty_state};
 ghost use Rattle.lis_store.specs.Stands.{Stands};
-ghost use Rattle.lis_open.specs.Makes.{IsMaking};
+ghost use Rattle.lis_open.specs.Makes.{IsMaking, KeepsSpare, IsMade};
 ghost use Rattle.lis_open.specs.Faults.{IsShortWhere, HasMakeCause};
-ghost use Rattle.lis_open.specs.declared.making.MakeFault.TheVariants.{TooShort};
+ghost use Rattle.lis_open.specs.declared.making.MakeFault.TheVariants.{TooShort, DiskFault as DiskFailed};
 
 use crate::clearing::{FIRST_BYTE, take_name, wipe, write_first};
 use lis_journal::BLOCK_LEN;
@@ -48,8 +49,12 @@ fn write_image<D: Disk>(disk: &mut D, limits: &Limits) -> Result<(), Failed>
     ensures made { OnOk result (IsTrue (D.meaning disk.old).is_honest
         → Always (D.meaning disk.new) (λ image. Stands image (empty_state limits.now))) }
     ensures any_moment { IsTrue (D.meaning disk.old).is_honest → IsSettled (D.meaning disk.old) (D.meaning disk.old).bytes
-        → Leaves (D.meaning disk.old) (D.meaning disk.new) (IsMaking limits.now (D.meaning disk.old).bytes) }
-    ensures past { IsTrue (D.meaning disk.old).is_honest → IsSettled (D.meaning disk.old) (D.meaning disk.old).bytes
+        → Leaves (D.meaning disk.old) (D.meaning disk.new)
+        (λ image. IsMaking limits.now (D.meaning disk.old).bytes image × KeepsSpare limits.now (D.meaning disk.old).bytes image) }
+    ensures left { OnOk result (IsTrue (D.meaning disk.old).is_honest
+        → Always (D.meaning disk.new) (IsMade limits.now (D.meaning disk.old).bytes)) }
+    ensures past { IsTrue (D.meaning disk.old).is_honest
+        → OnErr result (IsSettledPast (data_start limits.now) (D.meaning disk.old))
         → KeepsPast (data_start limits.now) (D.meaning disk.old) (D.meaning disk.new) }
 {
     take_name(disk)?;
@@ -71,10 +76,15 @@ pub fn make<D: Disk>(disk: &mut D, limits: &Limits) -> Result<(), MakeFault>
 
     // With nothing unsynced at entry, a crash leaves the image of entry, one of the empty state, or one of no state.
     ensures any_moment { IsTrue (D.meaning disk.old).is_honest → IsSettled (D.meaning disk.old) (D.meaning disk.old).bytes
-        → Leaves (D.meaning disk.old) (D.meaning disk.new) (IsMaking limits.now (D.meaning disk.old).bytes) }
+        → Leaves (D.meaning disk.old) (D.meaning disk.new)
+        (λ image. IsMaking limits.now (D.meaning disk.old).bytes image × KeepsSpare limits.now (D.meaning disk.old).bytes image) }
 
-    // The data blocks, and what lies past the image, read as before.
-    ensures past { IsTrue (D.meaning disk.old).is_honest → IsSettled (D.meaning disk.old) (D.meaning disk.old).bytes
+    // It writes the super block, and zeros to the gate block and the home blocks before the data blocks. The data blocks, and what lies
+    // past the image, read as before; where the disk failed, if a crash at entry left them as they read.
+    ensures left { OnOk result (IsTrue (D.meaning disk.old).is_honest
+        → Always (D.meaning disk.new) (IsMade limits.now (D.meaning disk.old).bytes)) }
+    ensures past { IsTrue (D.meaning disk.old).is_honest
+        → (result ≡ Err DiskFailed → IsSettledPast (data_start limits.now) (D.meaning disk.old))
         → KeepsPast (data_start limits.now) (D.meaning disk.old) (D.meaning disk.new) }
 {
     let need = u64::from(image_blocks(limits)) * BLOCK_LEN as u64;

@@ -1,55 +1,54 @@
-use Rattle.std.proofs.Common.{◌≡◌, ◌-◌, ◌*◌, ◌≤◌, ◌∙◌, length, subst, sym, arith}
-use Rattle.lis_ports.specs.Bytes.{Torn}
+use Rattle.std.proofs.Common.{◌≡◌, inl, inr, ◌-◌, ◌*◌, ◌≤◌, ◌∙◌, length, subst, sym, arith}
 use Rattle.lis_ports.proofs.Always.{always_settled, settled_synced}
-use Rattle.lis_ports.proofs.Parts.{torn_refl}
-use Rattle.lis_journal.proofs.Spreading.{spreads_then, spreads_sync, torn_trans}
+use Rattle.lis_journal.proofs.Spreading.{spreads_then, spreads_sync}
 use Rattle.lis_model.specs.Image.{data_start, image_blocks}
-use Rattle.lis_open.specs.Makes.{IsWiped}
-use Rattle.lis_open.proofs.Ranges.{on_ok, spreads_wider}
+use Rattle.lis_open.specs.Makes.{IsWiped, IsWiping}
+use Rattle.lis_open.proofs.Ranges.{on_ok}
 use Rattle.lis_open.proofs.Wiping.{wiped}
+use Rattle.lis_open.proofs.Made.{wiping_refl, wiping_trans, spreads_wiping}
 use Rattle.lis_open.proofs.clearing.wipe.Goals as goal
 
 pub returns-in_err-write_rest-clause-spreads : goal.returns-in_err-write_rest-clause-spreads
 returns-in_err-write_rest-clause-spreads g c = λ honest.
-    spreads_wider 1 4095 1 (4096 * data_start c.args.limits.now - 1) (omega arith) (omega arith) (c.write_rest.ensures.spreads honest)
+    spreads_wiping c.args.limits.now 1 4095 (omega arith) (inl (omega arith)) (c.write_rest.ensures.spreads honest)
 
 pub returns-in_err-clear_blocks-clause-spreads : goal.returns-in_err-clear_blocks-clause-spreads
 returns-in_err-clear_blocks-clause-spreads g c = λ honest.
-    let most = 4096 * data_start c.args.limits.now - 1 in
+    let limits = c.args.limits.now in
     let honest1 = c.write_rest.ensures.run.honest ∙ honest in
-    spreads_then (Torn 1 most) (torn_trans 1 most)
-    (spreads_wider 1 4095 1 most (omega arith) (omega arith) (c.write_rest.ensures.spreads honest))
-    (spreads_wider 4096 4096 1 most (omega arith) (omega arith) (c.clear_blocks.ensures.spreads honest1))
+    spreads_then (IsWiping limits) (wiping_trans limits)
+    (spreads_wiping limits 1 4095 (omega arith) (inl (omega arith)) (c.write_rest.ensures.spreads honest))
+    (spreads_wiping limits 4096 4096 (omega arith) (inl (omega arith)) (c.clear_blocks.ensures.spreads honest1))
 
 pub returns-in_err-clear_blocks-2-clause-spreads :
     goal.returns-in_err-clear_blocks-2-clause-spreads
 returns-in_err-clear_blocks-2-clause-spreads g c = λ honest.
-    let most = 4096 * data_start c.args.limits.now - 1 in
-    let end = c.image_blocks.result - c.args.limits.now.blocks in
-    let is_end : end ≡ data_start c.args.limits.now = omega (arith, c.image_blocks.ensures.blocks) in
+    let limits = c.args.limits.now in
+    let end = c.image_blocks.result - limits.blocks in
+    let is_end : end ≡ data_start limits = omega (arith, c.image_blocks.ensures.blocks) in
     let honest1 = c.write_rest.ensures.run.honest ∙ honest in
     let honest2 = c.clear_blocks.ensures.run.honest ∙ honest1 in
-    spreads_then (Torn 1 most) (torn_trans 1 most)
-    (spreads_then (Torn 1 most) (torn_trans 1 most)
-    (spreads_wider 1 4095 1 most (omega arith) (omega arith) (c.write_rest.ensures.spreads honest))
-    (spreads_wider 4096 4096 1 most (omega arith) (omega arith) (c.clear_blocks.ensures.spreads honest1)))
-    (spreads_wider 2367488 (4096 * (end - 578)) 1 most (omega arith) (omega (arith, is_end)) (c.clear_blocks-2.ensures.spreads honest2))
+    spreads_then (IsWiping limits) (wiping_trans limits)
+    (spreads_then (IsWiping limits) (wiping_trans limits)
+    (spreads_wiping limits 1 4095 (omega arith) (inl (omega arith)) (c.write_rest.ensures.spreads honest))
+    (spreads_wiping limits 4096 4096 (omega arith) (inl (omega arith)) (c.clear_blocks.ensures.spreads honest1)))
+    (spreads_wiping limits 2367488 (4096 * (end - 578)) (omega arith) (inr (omega arith, omega (arith, is_end))) (c.clear_blocks-2.ensures.spreads honest2))
 
 pub returns-clause-spreads : goal.returns-clause-spreads
 returns-clause-spreads g c = λ honest.
-    let most = 4096 * data_start c.args.limits.now - 1 in
-    let end = c.image_blocks.result - c.args.limits.now.blocks in
-    let is_end : end ≡ data_start c.args.limits.now = omega (arith, c.image_blocks.ensures.blocks) in
+    let limits = c.args.limits.now in
+    let end = c.image_blocks.result - limits.blocks in
+    let is_end : end ≡ data_start limits = omega (arith, c.image_blocks.ensures.blocks) in
     let honest1 = c.write_rest.ensures.run.honest ∙ honest in
     let honest2 = c.clear_blocks.ensures.run.honest ∙ honest1 in
     let honest3 = c.clear_blocks-2.ensures.run.honest ∙ honest2 in
-    spreads_then (Torn 1 most) (torn_trans 1 most)
-    (spreads_then (Torn 1 most) (torn_trans 1 most)
-    (spreads_then (Torn 1 most) (torn_trans 1 most)
-    (spreads_wider 1 4095 1 most (omega arith) (omega arith) (c.write_rest.ensures.spreads honest))
-    (spreads_wider 4096 4096 1 most (omega arith) (omega arith) (c.clear_blocks.ensures.spreads honest1)))
-    (spreads_wider 2367488 (4096 * (end - 578)) 1 most (omega arith) (omega (arith, is_end)) (c.clear_blocks-2.ensures.spreads honest2)))
-    (spreads_sync (Torn 1 most) c.sync.result c.sync.ensures.call.run c.sync.ensures.call.time c.sync.ensures.synced c.sync.ensures.unsynced (torn_refl 1 most) honest3)
+    spreads_then (IsWiping limits) (wiping_trans limits)
+    (spreads_then (IsWiping limits) (wiping_trans limits)
+    (spreads_then (IsWiping limits) (wiping_trans limits)
+    (spreads_wiping limits 1 4095 (omega arith) (inl (omega arith)) (c.write_rest.ensures.spreads honest))
+    (spreads_wiping limits 4096 4096 (omega arith) (inl (omega arith)) (c.clear_blocks.ensures.spreads honest1)))
+    (spreads_wiping limits 2367488 (4096 * (end - 578)) (omega arith) (inr (omega arith, omega (arith, is_end))) (c.clear_blocks-2.ensures.spreads honest2)))
+    (spreads_sync (IsWiping limits) c.sync.result c.sync.ensures.call.run c.sync.ensures.call.time c.sync.ensures.synced c.sync.ensures.unsynced (wiping_refl limits) honest3)
 
 pub returns-clause-wiped : goal.returns-clause-wiped
 returns-clause-wiped g c = on_ok c.sync.result (λ synced. λ honest.

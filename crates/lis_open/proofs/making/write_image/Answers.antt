@@ -1,37 +1,45 @@
-use Rattle.std.proofs.Common.{◌-◌, ◌*◌, ◌∙◌, arith}
-use Rattle.lis_ports.specs.Bytes.{Torn}
+use Rattle.std.proofs.Common.{◌∙◌}
+use Rattle.std.proofs.lemmas.Result.{err_from_is_err_and, IfErr-at_err}
 use Rattle.lis_ports.proofs.Moments.{leaves_then}
-use Rattle.lis_journal.proofs.Spreading.{spreads_then, torn_trans}
+use Rattle.lis_journal.specs.Recovery.{IsSettledPast}
 use Rattle.lis_model.specs.Image.{data_start}
-use Rattle.lis_open.proofs.Ranges.{on_ok, spreads_wider, keeps_past}
+use Rattle.lis_open.specs.Makes.{IsMaking}
+use Rattle.lis_open.proofs.Ranges.{on_ok}
 use Rattle.lis_open.proofs.Wiping.{spared_moments, wiping_moments, naming_moments, named_stands}
+use Rattle.lis_open.proofs.Made.{named_spreads, wiped_spreads, made_spreads, moments_spare, past_spreads, made_all, past_either}
 use Rattle.lis_open.proofs.making.write_image.Goals as goal
 
 pub returns-in_err-take_name-clause-any_moment : goal.returns-in_err-take_name-clause-any_moment
 returns-in_err-take_name-clause-any_moment g c = λ honest settled.
-    spared_moments c.args.limits.now _ (c.take_name.ensures.any_moment honest settled)
+    let limits = c.args.limits.now in
+    let bytes = (g.D.Disk.meaning c.args.disk.now).bytes in
+    moments_spare limits (IsMaking limits bytes) settled (spared_moments limits bytes (c.take_name.ensures.any_moment honest settled))
+    (named_spreads limits (c.take_name.ensures.spreads honest))
 
 pub returns-in_err-take_name-clause-past : goal.returns-in_err-take_name-clause-past
 returns-in_err-take_name-clause-past g c = λ honest settled.
-    keeps_past (data_start c.args.limits.now) 1 (omega arith) settled (c.take_name.ensures.spreads honest)
+    let limits = c.args.limits.now in
+    let p = err_from_is_err_and c.from_residual.result c.from_residual.ensures.1 in
+    past_spreads limits (named_spreads limits (c.take_name.ensures.spreads honest))
+    (IfErr-at_err (λ _. IsSettledPast (data_start limits) (g.D.Disk.meaning c.args.disk.now)) p.1 settled)
 
 pub returns-in_err-wipe-clause-any_moment : goal.returns-in_err-wipe-clause-any_moment
 returns-in_err-wipe-clause-any_moment g c = λ honest settled.
     let limits = c.args.limits.now in
     let bytes = (g.D.Disk.meaning c.args.disk.now).bytes in
     let honest1 = c.take_name.ensures.run.honest ∙ honest in
-    leaves_then (spared_moments limits bytes (c.take_name.ensures.any_moment honest settled))
-    (wiping_moments limits bytes (4096 * data_start limits - 1) (c.in_ok-take_name.ensures.nameless honest) (c.wipe.ensures.spreads honest1))
+    moments_spare limits (IsMaking limits bytes) settled
+    (leaves_then (spared_moments limits bytes (c.take_name.ensures.any_moment honest settled))
+    (wiping_moments limits bytes (c.in_ok-take_name.ensures.nameless honest) (c.wipe.ensures.spreads honest1)))
+    (wiped_spreads limits (c.take_name.ensures.spreads honest) (c.wipe.ensures.spreads honest1))
 
 pub returns-in_err-wipe-clause-past : goal.returns-in_err-wipe-clause-past
 returns-in_err-wipe-clause-past g c = λ honest settled.
     let limits = c.args.limits.now in
-    let all = 4096 * data_start limits in
     let honest1 = c.take_name.ensures.run.honest ∙ honest in
-    keeps_past (data_start limits) all (omega arith) settled
-    (spreads_then (Torn 0 all) (torn_trans 0 all)
-    (spreads_wider 0 1 0 all (omega arith) (omega arith) (c.take_name.ensures.spreads honest))
-    (spreads_wider 1 (4096 * data_start limits - 1) 0 all (omega arith) (omega arith) (c.wipe.ensures.spreads honest1)))
+    let p = err_from_is_err_and c.from_residual-in_err-wipe.result c.from_residual-in_err-wipe.ensures.1 in
+    past_spreads limits (wiped_spreads limits (c.take_name.ensures.spreads honest) (c.wipe.ensures.spreads honest1))
+    (IfErr-at_err (λ _. IsSettledPast (data_start limits) (g.D.Disk.meaning c.args.disk.now)) p.1 settled)
 
 pub returns-clause-made : goal.returns-clause-made
 returns-clause-made g c = on_ok c.write_first.result (λ written. λ honest.
@@ -46,19 +54,26 @@ returns-clause-any_moment g c = λ honest settled.
     let bytes = (g.D.Disk.meaning c.args.disk.now).bytes in
     let honest1 = c.take_name.ensures.run.honest ∙ honest in
     let honest2 = c.wipe.ensures.run.honest ∙ honest1 in
-    leaves_then (spared_moments limits bytes (c.take_name.ensures.any_moment honest settled))
-    (leaves_then (wiping_moments limits bytes (4096 * data_start limits - 1) (c.in_ok-take_name.ensures.nameless honest) (c.wipe.ensures.spreads honest1))
-    (naming_moments limits bytes c.requires.range (c.in_ok-wipe.ensures.wiped honest1) (c.write_first.ensures.spreads honest2)))
+    moments_spare limits (IsMaking limits bytes) settled
+    (leaves_then (spared_moments limits bytes (c.take_name.ensures.any_moment honest settled))
+    (leaves_then (wiping_moments limits bytes (c.in_ok-take_name.ensures.nameless honest) (c.wipe.ensures.spreads honest1))
+    (naming_moments limits bytes c.requires.range (c.in_ok-wipe.ensures.wiped honest1) (c.write_first.ensures.spreads honest2))))
+    (made_spreads limits (c.take_name.ensures.spreads honest) (c.wipe.ensures.spreads honest1) (c.write_first.ensures.spreads honest2))
 
-pub returns-clause-past : goal.returns-clause-past
-returns-clause-past g c = λ honest settled.
-    let limits = c.args.limits.now in
-    let all = 4096 * data_start limits in
+pub returns-clause-left : goal.returns-clause-left
+returns-clause-left g c = on_ok c.write_first.result (λ written. λ honest.
     let honest1 = c.take_name.ensures.run.honest ∙ honest in
     let honest2 = c.wipe.ensures.run.honest ∙ honest1 in
-    keeps_past (data_start limits) all (omega arith) settled
-    (spreads_then (Torn 0 all) (torn_trans 0 all)
-    (spreads_then (Torn 0 all) (torn_trans 0 all)
-    (spreads_wider 0 1 0 all (omega arith) (omega arith) (c.take_name.ensures.spreads honest))
-    (spreads_wider 1 (4096 * data_start limits - 1) 0 all (omega arith) (omega arith) (c.wipe.ensures.spreads honest1)))
-    (spreads_wider 0 1 0 all (omega arith) (omega arith) (c.write_first.ensures.spreads honest2)))
+    made_all c.args.limits.now (g.D.Disk.meaning c.args.disk.now).bytes (c.in_ok-take_name.ensures.torn honest) (c.wipe.ensures.spreads honest1)
+    (c.in_ok-wipe.ensures.wiped honest1) (written honest2) (c.write_first.ensures.spreads honest2))
+    c.write_first.ensures.settled
+
+pub returns-clause-past : goal.returns-clause-past
+returns-clause-past g c = λ honest.
+    let limits = c.args.limits.now in
+    let honest1 = c.take_name.ensures.run.honest ∙ honest in
+    let honest2 = c.wipe.ensures.run.honest ∙ honest1 in
+    past_either limits c.write_first.result
+    (on_ok c.write_first.result (λ written. made_all limits (g.D.Disk.meaning c.args.disk.now).bytes (c.in_ok-take_name.ensures.torn honest) (c.wipe.ensures.spreads honest1)
+    (c.in_ok-wipe.ensures.wiped honest1) (written honest2) (c.write_first.ensures.spreads honest2)) c.write_first.ensures.settled)
+    (made_spreads limits (c.take_name.ensures.spreads honest) (c.wipe.ensures.spreads honest1) (c.write_first.ensures.spreads honest2))
