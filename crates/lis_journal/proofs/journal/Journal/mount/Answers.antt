@@ -16,4 +16,4 @@ returns-in-Err-clause-any_moment g c = λ honest.
 
 pub returns-in-Ok-true-clause-still : goal.returns-in-Ok-true-clause-still
 returns-in-Ok-true-clause-still g c = λ honest.
-    new_still _ _ c.in_ok-stage.ensures (c.in-Ok-true.ensures.still honest)
+    new_still (g.D.Disk.meaning c.args.disk.now) (g.D.Disk.meaning c.recover.new.disk) c.in_ok-stage.ensures (c.in-Ok-true.ensures.still honest)
