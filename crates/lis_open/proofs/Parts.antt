@@ -38,12 +38,12 @@ module _ (limits : Limits) (at : ℕ → List ℕ) (words : Words) (files : File
   bitmap_ended (Err NoMemory) used differs = absurd differs
 
 -- ---- causes
-pub open_cause : {T : Type 0} {before now : ℕ} (result : Result T OpenFault) → HasPartCause before now result → HasOpenCause before now result
-open_cause (Ok done) cause = cause
-open_cause (Err (TooShort len need)) cause = absurd cause
-open_cause (Err (Damaged spot)) cause = cause
-open_cause (Err DiskFault) cause = cause
-open_cause (Err NoMemory) cause = cause
+pub open_cause : {T : Type 0} (before now : ℕ) (result : Result T OpenFault) → HasPartCause before now result → HasOpenCause before now result
+open_cause before now (Ok done) cause = cause
+open_cause before now (Err (TooShort len need)) cause = absurd cause
+open_cause before now (Err (Damaged spot)) cause = cause
+open_cause before now (Err DiskFault) cause = cause
+open_cause before now (Err NoMemory) cause = cause
 
-pub part_enough : {T : Type 0} {before now : ℕ} (result : Result T OpenFault) → HasPartCause before now result → (len need : ℕ) → result ≡ Err (TooShort len need) → ⊥
-part_enough {T} {before} {now} result cause len need is = subst (λ (r : Result T OpenFault). HasPartCause before now r) is cause
+pub part_enough : {T : Type 0} (before now : ℕ) (result : Result T OpenFault) → HasPartCause before now result → (len need : ℕ) → result ≡ Err (TooShort len need) → ⊥
+part_enough {T} before now result cause len need is = subst (λ (r : Result T OpenFault). HasPartCause before now r) is cause

@@ -34,10 +34,10 @@ returns-clause-past g c = λ limits honest super settled.
     (c.mount_image.ensures.past (reads.run.honest ∙ honest))
 
 pub returns-clause-cause : goal.returns-clause-cause
-returns-clause-cause g c = open_cause c.mount_image.result c.mount_image.ensures.cause
+returns-clause-cause g c = open_cause _ _ c.mount_image.result c.mount_image.ensures.cause
 
 pub returns-clause-numbers : goal.returns-clause-numbers
-returns-clause-numbers g c = λ len need is. absurd (part_enough c.mount_image.result c.mount_image.ensures.cause len need is)
+returns-clause-numbers g c = λ len need is. absurd (part_enough _ _ c.mount_image.result c.mount_image.ensures.cause len need is)
 
 pub returns-in_err-limits-clause-any_moment : goal.returns-in_err-limits-clause-any_moment
 returns-in_err-limits-clause-any_moment g c = λ honest.
