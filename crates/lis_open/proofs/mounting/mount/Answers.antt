@@ -1,7 +1,7 @@
-use Rattle.std.proofs.Common.{◌∙◌, sym, ap, inl, Err}
+use Rattle.std.proofs.Common.{◌∙◌, sym, ap, subst, inl, Err}
 use Rattle.std.proofs.lemmas.Result.{err_from_is_err_and}
 use Rattle.lis_ports.proofs.Moments.{leaves_weaken}
-use Rattle.lis_open.specs.Opens.{InOpening}
+use Rattle.lis_open.specs.Opens.{HasOpenCause, InOpening}
 use Rattle.lis_open.proofs.Parts.{open_cause, part_enough}
 use Rattle.lis_open.proofs.Opening.{opened_before, opening_before, moments_stand, mount_past}
 use Rattle.lis_open.proofs.mounting.mount.Goals as goal
@@ -34,7 +34,8 @@ returns-clause-past g c = λ limits honest super settled.
     (c.mount_image.ensures.past (reads.run.honest ∙ honest))
 
 pub returns-clause-cause : goal.returns-clause-cause
-returns-clause-cause g c = open_cause _ _ c.mount_image.result c.mount_image.ensures.cause
+returns-clause-cause g c =
+    subst (λ before. HasOpenCause before (g.D.Disk.meaning c.mount_image.new.disk).disk_faults c.mount_image.result) c.in_ok-limits.ensures.cause (open_cause _ _ c.mount_image.result c.mount_image.ensures.cause)
 
 pub returns-clause-numbers : goal.returns-clause-numbers
 returns-clause-numbers g c = λ len need is. absurd (part_enough _ _ c.mount_image.result c.mount_image.ensures.cause len need is)
