@@ -6,6 +6,7 @@ use Rattle.std.proofs.lemmas.List.{length-map}
 use Rattle.lis_words.specs.Words.{same_word, is_count, count_of}
 use Rattle.lis_model.specs.declared.limits.Limits.{Limits}
 use Rattle.lis_model.specs.Ranges.{is_files_limit, is_props_limit, is_blocks_limit, are_in_range}
+use Rattle.lis_shell.specs.declared.words.Task.{Task}
 use Rattle.lis_shell.specs.declared.words.Task.TheVariants.{Try, Make, Run}
 use Rattle.lis_shell.specs.Words.{limits_of, task_of}
 
@@ -94,3 +95,7 @@ made_in_range (a ∷ b ∷ c ∷ []) limits e = absurd (cc)
 made_in_range (a ∷ b ∷ c ∷ d ∷ []) limits e = absurd (not_made (same_word a (codes "try")) (limits_of b c d) limits e)
 made_in_range (a ∷ b ∷ c ∷ d ∷ f ∷ []) limits e = limits_in_range c d f limits (made_by (same_word a (codes "make")) (limits_of c d f) limits e)
 made_in_range (a ∷ b ∷ c ∷ d ∷ f ∷ g ∷ words) limits e = absurd (cc)
+
+-- the limits of an image that is asked for are those that were said
+pub one_make : (a b : Limits) → ◌≡◌ {A = Option Task} (Some (Make a)) (Some (Make b)) → a ≡ b
+one_make a b is = cc

@@ -14,7 +14,7 @@ ghost use Rattle.lis_model.specs.Script.{script};
 ghost use Rattle.lis_model.specs.State.{State};
 ghost use Rattle.lis_model.specs.Step.{Situation, start_of};
 ghost use Rattle.lis_store.specs.Stands.{Stands};
-ghost use Rattle.lis_open.specs.Makes.{IsMaking};
+ghost use Rattle.lis_open.specs.Makes.{IsMaking, KeepsSpare};
 ghost use Rattle.lis_session.specs.Item.{IsSameStation};
 ghost use Rattle.lis_session.specs.Runs.{RunsImage};
 ghost use Rattle.lis_session.specs.Session.{root_of, Headline, FullHeadline};
@@ -69,8 +69,10 @@ fn make_image<T: Station>(limits: &Limits, station: &mut T) -> Status
     ensures short { (len need : ℕ) → result ≡ Status.TooShort len need → station.new ≡ station.old }
     ensures cause { (n : ℕ) → HasStatusCause (counts (T.meaning station.old) n) (counts (T.meaning station.new) n) result }
     ensures making { IsTrue (T.meaning station.old).is_honest → IsSettled (T.meaning station.old) (T.meaning station.old).bytes
-        → Leaves (T.meaning station.old) (T.meaning station.new) (IsMaking limits.now (T.meaning station.old).bytes) }
-    ensures past { IsTrue (T.meaning station.old).is_honest → IsSettled (T.meaning station.old) (T.meaning station.old).bytes
+        → Leaves (T.meaning station.old) (T.meaning station.new)
+        (λ image. IsMaking limits.now (T.meaning station.old).bytes image × KeepsSpare limits.now (T.meaning station.old).bytes image) }
+    ensures past { IsTrue (T.meaning station.old).is_honest
+        → (result ≡ Status.DiskFault → IsSettledPast (data_start limits.now) (T.meaning station.old))
         → KeepsPast (data_start limits.now) (T.meaning station.old) (T.meaning station.new) }
 {
     match make(station, limits) {
@@ -148,14 +150,19 @@ pub fn lisfs<S: Source, T: Station>(
         → (end : Situation) × Tries (start_of limits) (2 ^ 40) bytes (S.left input.new) (T.meaning station.old).shown (T.meaning station.new).shown end result }
 
     // `make`: an image of the empty state, where the disk is long enough. With nothing unsynced at entry a crash leaves the image of
-    // entry, one of the empty state, or one of no state.
+    // entry, one of the empty state, or one of no state. The data blocks, and what lies past the image, stay; where the disk failed,
+    // if a crash at entry left them as they read.
     ensures makes { (limits : LimitsOf) → task_of (map string_bytes words.now) ≡ Some (Make limits)
         → MadeImage limits (T.meaning station.old) (T.meaning station.new) result
         × IsDiskRun (T.meaning station.old) (T.meaning station.new) × (input.new ≡ input.old) }
     ensures making { (limits : LimitsOf) → task_of (map string_bytes words.now) ≡ Some (Make limits)
         → IsTrue (T.meaning station.old).is_honest → IsSettled (T.meaning station.old) (T.meaning station.old).bytes
-        → Leaves (T.meaning station.old) (T.meaning station.new) (IsMaking limits (T.meaning station.old).bytes)
-        × KeepsPast (data_start limits) (T.meaning station.old) (T.meaning station.new) }
+        → Leaves (T.meaning station.old) (T.meaning station.new)
+        (λ image. IsMaking limits (T.meaning station.old).bytes image × KeepsSpare limits (T.meaning station.old).bytes image) }
+    ensures make_past { (limits : LimitsOf) → task_of (map string_bytes words.now) ≡ Some (Make limits)
+        → IsTrue (T.meaning station.old).is_honest
+        → (result ≡ Status.DiskFault → IsSettledPast (data_start limits) (T.meaning station.old))
+        → KeepsPast (data_start limits) (T.meaning station.old) (T.meaning station.new) }
     ensures make_short { (limits : LimitsOf) → task_of (map string_bytes words.now) ≡ Some (Make limits)
         → (len need : ℕ) → result ≡ Status.TooShort len need → station.new ≡ station.old }
 
