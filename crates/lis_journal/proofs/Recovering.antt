@@ -1,19 +1,17 @@
 -- A recovery, call by call: what is known of the disk before it writes, and how it ends.
-use Rattle.std.proofs.Common.{◌≡◌, ◌⊎◌, inl, inr, ℕ, ◌*◌, ◌<◌, ◌≤◌, Bool, true, false, List, [], ◌∷◌, length, Option, Some, None, unwrap_or, IsSomeAnd, IsTrue, Result, refl, sym, ◌∙◌, ap, subst, arith}
-use Rattle.std.proofs.lemmas.Bool.{false≢true}
-use Rattle.std.proofs.lemmas.Option.{none-some}
+use Rattle.std.proofs.Common.{◌≡◌, ◌⊎◌, inl, inr, ℕ, ◌*◌, ◌<◌, ◌≤◌, Bool, true, false, List, [], ◌∷◌, length, Option, Some, None, IsSomeAnd, IsTrue, Result, refl, sym, ◌∙◌, ap, subst, arith, cond, ◌&&◌}
 use Rattle.lis_ports.specs.Meaning.{Meaning}
 use Rattle.lis_ports.specs.Bytes.{part, put}
 use Rattle.lis_ports.specs.Runs.{IsDiskRun, Leaves, Always, IsSettled}
 use Rattle.lis_ports.specs.Calls.{IsDiskCall, Elapses, IsSynced}
 use Rattle.lis_ports.proofs.Moments.{leaves_call, leaves_then, leaves_weaken}
 use Rattle.lis_ports.proofs.Parts.{part-part}
-use Rattle.lis_journal.specs.Record.{block, is_open, area, behind_gate, header, homes_of, is_header, is_record, recorded, entries_from, apply, replayed}
+use Rattle.lis_journal.specs.Record.{block, is_open, area, behind_gate, header, homes_of, is_header, is_record, recorded, entries_from, apply, replayed, recovered}
 use Rattle.lis_journal.specs.Images.{look, Keeps, StandsFor, IsAtRest, Fits, KeepsPast}
 use Rattle.lis_journal.specs.Staging.{Staging, IsStaging}
 use Rattle.lis_journal.specs.Spreads.{Spreads, Same}
 use Rattle.lis_journal.specs.Phases.{Open, looked}
-use Rattle.lis_journal.specs.Recovery.{StandsForReplayed, InRecovery, IsRecovered, Recovered}
+use Rattle.lis_journal.specs.Recovery.{StandsForReplayed, InRecovery, RecoveryEnded}
 use Rattle.lis_journal.proofs.Entries.{Within, block-apply}
 use Rattle.lis_journal.proofs.Spreading.{always_spread, leaves_both}
 use Rattle.lis_journal.proofs.Phases.{rest_stands, replayed-closed, replayed-open, replayed-bad}
@@ -66,8 +64,33 @@ always_same Q reading q = record {
   leaves = λ image is. subst Q (sym (reading.settled.leaves image is)) q;
 }
 
+-- ---- what a recovery makes of an image
+recovered-closed : (blocks : ℕ) (image : List ℕ) → is_open image ≡ false → recovered blocks image ≡ image
+unfolding recovered
+recovered-closed blocks image closed = ap (λ b. cond (b && is_record blocks (area image)) (put (apply (recorded (area image)) image) 4096 (0 ∷ [])) image) closed
+
+recovered-bad : (blocks : ℕ) (image : List ℕ) → is_record blocks (area image) ≡ false → recovered blocks image ≡ image
+unfolding recovered
+recovered-bad blocks image bad = ap (λ b. cond b (put (apply (recorded (area image)) image) 4096 (0 ∷ [])) image) (and_false (is_open image) (is_record blocks (area image)) bad)
+  where
+    and_false : (a b : Bool) → b ≡ false → (a && b) ≡ false
+    and_false true b is = is
+    and_false false b is = refl
+
+recovered-open : (blocks : ℕ) (image : List ℕ) → is_open image ≡ true → is_record blocks (area image) ≡ true → recovered blocks image ≡ put (apply (recorded (area image)) image) 4096 (0 ∷ [])
+unfolding recovered
+recovered-open blocks image opened form =
+    ap (λ b. cond (b && is_record blocks (area image)) (put (apply (recorded (area image)) image) 4096 (0 ∷ [])) image) opened
+    ∙ ap (λ b. cond b (put (apply (recorded (area image)) image) 4096 (0 ∷ [])) image) form
+
+reading_settled : {old m : Meaning} → Reading old m → IsSettled m old.bytes
+reading_settled reading = record { reads = reading.settled.reads; only = reading.settled.leaves }
+
+pub closed_left : (blocks : ℕ) {old m : Meaning} → Gated old m false → IsSettled m (recovered blocks old.bytes)
+closed_left blocks {old} {m} gated = subst (IsSettled m) (sym (recovered-closed blocks old.bytes gated.gate)) (reading_settled gated.reading)
+
 -- with a closed gate nothing is to be done
-pub closed_recovered : (blocks : ℕ) (old m : Meaning) → Gated old m false → length old.bytes ≡ old.len → 4096 * blocks ≤ old.len → Recovered blocks old m true
+pub closed_recovered : (blocks : ℕ) (old m : Meaning) → Gated old m false → length old.bytes ≡ old.len → 4096 * blocks ≤ old.len → RecoveryEnded blocks old m true
 closed_recovered blocks old m gated len long =
     some_and _ (replayed blocks old.bytes) (replayed-closed blocks old.bytes gated.gate) (record {
       honest = gated.honest;
@@ -110,14 +133,11 @@ bad_replayed {blocks} {old} bad = replayed-bad blocks old.bytes bad.opened bad.f
 pub bad_leaves : {blocks : ℕ} {old m : Meaning} → RecordRead blocks old m false → Leaves old m (λ image. old.images image ⊎ InRecovery blocks old.bytes image)
 bad_leaves bad = leaves_weaken _ bad.reading.leaves (λ image is. inl is)
 
-pub bad_recovered : {blocks : ℕ} {old m : Meaning} → RecordRead blocks old m false → Recovered blocks old m false
+pub bad_recovered : {blocks : ℕ} {old m : Meaning} → RecordRead blocks old m false → RecoveryEnded blocks old m false
 bad_recovered bad = (bad_replayed bad, settled_as_read bad.reading)
 
-pub bad_left : {blocks : ℕ} {old m : Meaning} → RecordRead blocks old m false → IsRecovered blocks old m
-bad_left bad = record {
-  closed = λ closed. absurd (false≢true (sym closed ∙ bad.opened));
-  opened = λ r opened is. absurd (none-some r (sym (bad_replayed bad) ∙ is));
-}
+pub bad_left : {blocks : ℕ} {old m : Meaning} → RecordRead blocks old m false → IsSettled m (recovered blocks old.bytes)
+bad_left {blocks} {old} {m} read = subst (IsSettled m) (sym (recovered-bad blocks old.bytes read.form)) (reading_settled read.reading)
 
 -- what is known where the record is in form and in memory
 pub record Ready (blocks : ℕ) (old m : Meaning) (s : Staging) : Type 0 where
@@ -192,23 +212,20 @@ module _ {blocks : ℕ} {old m : Meaning} {s : Staging} (ready : Ready blocks ol
         rest = is.1;
       })))
 
-  pub finish_left : {n : Meaning} → IsSettled n (put (apply s.entries m.bytes) 4096 (0 ∷ [])) → IsRecovered blocks old n
-  finish_left {n} settled = record {
-    closed = λ closed. absurd (false≢true (sym closed ∙ ready.opened));
-    opened = λ r opened is.
-        let image : apply s.entries m.bytes ≡ r = ap (apply s.entries) ready.reading.settled.reads ∙ ap (λ o. unwrap_or o old.bytes) (sym replayed-ready ∙ is) in
-        subst (λ bytes. IsSettled n (put bytes 4096 (0 ∷ []))) image settled;
-  }
+  pub finish_left : {n : Meaning} → IsSettled n (put (apply s.entries m.bytes) 4096 (0 ∷ [])) → IsSettled n (recovered blocks old.bytes)
+  finish_left {n} settled =
+      let image : apply s.entries m.bytes ≡ apply (recorded (area old.bytes)) old.bytes = ap (apply s.entries) ready.reading.settled.reads ∙ ap (λ es. apply es old.bytes) (sym ready.loaded) in
+      subst (IsSettled n) (ap (λ bytes. put bytes 4096 (0 ∷ [])) image ∙ sym (recovered-open blocks old.bytes ready.opened ready.form)) settled
 
   -- at rest with the replayed blocks, an image stands for them
-  pub finish_still : {n : Meaning} → Fits s.blocks n (looked s.entries (λ k. block k old.bytes)) → Always n (λ image. behind_gate image ≡ behind_gate old.bytes) → (image : List ℕ) → n.images image → InRecovery blocks old.bytes image
-  finish_still {n} fits rest image is = record {
+  pub finish_images : {n : Meaning} → Fits s.blocks n (looked s.entries (λ k. block k old.bytes)) → Always n (λ image. behind_gate image ≡ behind_gate old.bytes) → (image : List ℕ) → n.images image → InRecovery blocks old.bytes image
+  finish_images {n} fits rest image is = record {
     opened = ready.opened;
     stands = stands_replayed image (rest_stands s.blocks (looked s.entries (λ k. block k old.bytes)) image (fits.all.leaves image is));
     rest = rest.leaves image is;
   }
 
-  pub finish_recovered : {n : Meaning} → Fits s.blocks n (looked s.entries (λ k. block k old.bytes)) → Recovered blocks old n true
+  pub finish_recovered : {n : Meaning} → Fits s.blocks n (looked s.entries (λ k. block k old.bytes)) → RecoveryEnded blocks old n true
   finish_recovered {n} fits =
       let same : Fits blocks n (looked s.entries (λ k. block k old.bytes)) = subst (λ b. Fits b n (looked s.entries (λ k. block k old.bytes))) ready.blocks_are fits in
       some_and _ (replayed blocks old.bytes) replayed-ready (record {
@@ -227,6 +244,6 @@ pub new_leaves : {old m : Meaning} {s : Staging} {blocks : ℕ} → s ≡ record
 new_leaves {old} {m} is leaves =
     subst (λ (s : Staging). Leaves old m (λ image. old.images image ⊎ InRecovery s.blocks old.bytes image)) is leaves
 
-pub new_still : (old m : Meaning) {s : Staging} {blocks : ℕ} → s ≡ record { blocks = blocks; entries = [] } → ((image : List ℕ) → m.images image → old.images image ⊎ InRecovery s.blocks old.bytes image) → (image : List ℕ) → m.images image → old.images image ⊎ InRecovery blocks old.bytes image
-new_still old m is still =
-    subst (λ (s : Staging). (image : List ℕ) → m.images image → old.images image ⊎ InRecovery s.blocks old.bytes image) is still
+pub new_images : (old m : Meaning) {s : Staging} {blocks : ℕ} → s ≡ record { blocks = blocks; entries = [] } → ((image : List ℕ) → m.images image → old.images image ⊎ InRecovery s.blocks old.bytes image) → (image : List ℕ) → m.images image → old.images image ⊎ InRecovery blocks old.bytes image
+new_images old m is images =
+    subst (λ (s : Staging). (image : List ℕ) → m.images image → old.images image ⊎ InRecovery s.blocks old.bytes image) is images

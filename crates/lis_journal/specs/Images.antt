@@ -37,6 +37,6 @@ pub record Fits (blocks : ℕ) (m : Meaning) (kept : ℕ → List ℕ) : Type 0 
   pub honest : IsTrue m.is_honest
   pub all : Always m (IsAtRest blocks kept)
 
--- The blocks past the image read as before.
+-- The blocks from this number on read as before.
 abbrev pub KeepsPast : ℕ → Meaning → Meaning → Type 0
 KeepsPast blocks old new = (n : ℕ) → blocks ≤ n → block n new.bytes ≡ block n old.bytes

@@ -86,3 +86,8 @@ apply (e ∷ entries) image = apply entries (put image (4096 * e.home) e.bytes)
 unfoldable pub replayed : ℕ → List ℕ → Option (List ℕ)
 replayed blocks image =
     if is_open image then (if is_record blocks (area image) then Some (apply (recorded (area image)) image) else None) else Some image
+
+-- What a recovery makes of an image: with an open gate and a record in form the replayed image with a 0 in the gate, and else the image itself.
+unfoldable pub recovered : ℕ → List ℕ → List ℕ
+recovered blocks image =
+    if is_open image && is_record blocks (area image) then put (apply (recorded (area image)) image) 4096 (0 ∷ []) else image

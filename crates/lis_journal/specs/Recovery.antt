@@ -1,7 +1,6 @@
 -- What opening a journal does.
-use Rattle.std.specs.Prelude.{◌≡◌, ℕ, ◌≤◌, Bool, true, false, List, [], ◌∷◌, Some, None, Result, Ok, Err, IsSomeAnd}
+use Rattle.std.specs.Prelude.{◌≡◌, ℕ, ◌≤◌, Bool, true, false, List, None, Result, Ok, Err, IsSomeAnd}
 use Rattle.lis_ports.specs.Meaning.{Meaning}
-use Rattle.lis_ports.specs.Bytes.{put}
 use Rattle.lis_ports.specs.Runs.{IsSettled}
 use Rattle.lis_ports.specs.Calls.{Rose}
 use Rattle.lis_journal.specs.declared.journal.JournalFault.{JournalFault}
@@ -27,12 +26,6 @@ pub record InRecovery (blocks : ℕ) (bytes image : List ℕ) : Type 0 where
   pub stands : StandsForReplayed blocks bytes image
   pub rest : behind_gate image ≡ behind_gate bytes
 
--- What a recovery leaves, byte for byte: with a closed gate the bytes as they read, with an open one the replayed image with a 0 in the gate. A
--- crash leaves just these.
-pub record IsRecovered (blocks : ℕ) (old new : Meaning) : Type 0 where
-  pub closed : is_open old.bytes ≡ false → IsSettled new old.bytes
-  pub opened : (r : List ℕ) → is_open old.bytes ≡ true → replayed blocks old.bytes ≡ Some r → IsSettled new (put r 4096 (0 ∷ []))
-
 -- The answer, by the bytes as they read at the call's start.
 abbrev pub MountEnded : {T : Type 0} → ℕ → Meaning → Meaning → Result T JournalFault → Type 0
 MountEnded blocks old new (Ok journal) = IsSomeAnd (replayed blocks old.bytes) (λ r. Fits blocks new (λ n. block n r))
@@ -41,10 +34,10 @@ MountEnded blocks old new (Err (BadRecord b)) = (replayed blocks old.bytes ≡ N
 MountEnded blocks old new (Err NoMemory) = Unit {0}
 
 -- How a recovery ended, by whether the record was in form where the gate was open.
-abbrev pub Recovered : ℕ → Meaning → Meaning → Bool → Type 0
-Recovered blocks old new true = IsSomeAnd (replayed blocks old.bytes) (λ r. Fits blocks new (λ n. block n r))
-Recovered blocks old new false = (replayed blocks old.bytes ≡ None) × IsSettled new old.bytes
+abbrev pub RecoveryEnded : ℕ → Meaning → Meaning → Bool → Type 0
+RecoveryEnded blocks old new true = IsSomeAnd (replayed blocks old.bytes) (λ r. Fits blocks new (λ n. block n r))
+RecoveryEnded blocks old new false = (replayed blocks old.bytes ≡ None) × IsSettled new old.bytes
 
--- A crash leaves the blocks past the image as they read.
+-- A crash leaves the blocks from this number on as they read.
 abbrev pub IsSettledPast : ℕ → Meaning → Type 0
 IsSettledPast blocks m = (image : List ℕ) → m.images image → (n : ℕ) → blocks ≤ n → block n image ≡ block n m.bytes

@@ -1,9 +1,9 @@
 //! The journal: blocks are staged, and become kept all at once.
 
 ghost use Rattle.std.specs.Prelude.{[], ◌≡◌, ◌⊎◌, ◌+◌, ◌*◌, ◌<◌, ◌≤◌, ◌∷◌, ℕ, List, Option, None, length, true, false, IsTrue, IfOk, OnOk, OnErr, Ok, Err, if◌then◌else◌, ◌==◌, nat_eq};
-ghost use Rattle.lis_ports.specs.Runs.{IsDiskRun, Leaves};
+ghost use Rattle.lis_ports.specs.Runs.{IsDiskRun, Leaves, IsSettled};
 ghost use Rattle.lis_ports.specs.Calls.{HasCause, IsUnchanged};
-ghost use Rattle.lis_journal.specs.Record.{block, replayed};
+ghost use Rattle.lis_journal.specs.Record.{block, replayed, recovered};
 ghost use Rattle.lis_journal.specs.Images.{StandsForAllOrNone, Fits, KeepsPast, look};
 ghost use Rattle.lis_journal.specs.Staging.{with_entry, has_entry};
 
@@ -67,8 +67,8 @@ fn new_block(alloc: Global) -> Result<Vec<u8>, AllocError>
 }
 
 impl Journal {
-    ghost use Rattle.lis_journal.specs.Recovery.{HasMountCause, InRecovery, IsRecovered, MountEnded, IsSettledPast};
-    ghost use Rattle.lis_journal.specs.declared.journal.JournalFault.TheVariants.{NoMemory};
+    ghost use Rattle.lis_journal.specs.Recovery.{HasMountCause, InRecovery, MountEnded, IsSettledPast};
+    ghost use Rattle.lis_journal.specs.declared.journal.JournalFault.TheVariants.{DiskFault, NoMemory};
     ghost use Rattle.lis_journal.specs.Journal.{Held};
 
     /// Opens the journal of an image of so many blocks, with nothing staged. It takes its memory before its first call
@@ -87,17 +87,18 @@ impl Journal {
         ensures ended { IsTrue (D.meaning disk.old).is_honest
             → MountEnded blocks (D.meaning disk.old) (D.meaning disk.new) result }
 
-        // Nothing is written but what an open gate asks for: the record's homes, and then the gate. A crash leaves what it
-        // would have left before, or what stands for the replayed image.
+        // Nothing is written but what an open gate asks for: the record's homes, and then the gate. A crash in the call, and
+        // after it (`images`), leaves what it could have left before, or, where the gate was open, what stands for the replayed
+        // image with the journal's bytes behind the gate as before.
         ensures left { OnOk result (IsTrue (D.meaning disk.old).is_honest
-            → IsRecovered blocks (D.meaning disk.old) (D.meaning disk.new)) }
+            → IsSettled (D.meaning disk.new) (recovered blocks (D.meaning disk.old).bytes)) }
         ensures any_moment { IsTrue (D.meaning disk.old).is_honest → Leaves (D.meaning disk.old) (D.meaning disk.new)
             (λ image. (D.meaning disk.old).images image ⊎ InRecovery blocks (D.meaning disk.old).bytes image) }
-        ensures still { OnOk result (IsTrue (D.meaning disk.old).is_honest → (image : List ℕ) → (D.meaning disk.new).images image
+        ensures images { OnOk result (IsTrue (D.meaning disk.old).is_honest → (image : List ℕ) → (D.meaning disk.new).images image
             → (D.meaning disk.old).images image ⊎ InRecovery blocks (D.meaning disk.old).bytes image) }
-        ensures past { OnOk result (IsTrue (D.meaning disk.old).is_honest
-            → KeepsPast blocks (D.meaning disk.old) (D.meaning disk.new)) }
-        ensures settled_past { IsTrue (D.meaning disk.old).is_honest → IsSettledPast blocks (D.meaning disk.old)
+
+        // What lies past the image reads as before; where the disk failed, if a crash at entry left it as it read.
+        ensures past { IsTrue (D.meaning disk.old).is_honest → (result ≡ Err DiskFault → IsSettledPast blocks (D.meaning disk.old))
             → KeepsPast blocks (D.meaning disk.old) (D.meaning disk.new) }
     {
         let mut stage = Stage::new(alloc, blocks)?;

@@ -1,12 +1,12 @@
 //! Mounting a journal: a record whose gate is open is brought home first.
 
 ghost use Rattle.std.specs.Prelude.{[], ◌∷◌, ◌≡◌, ◌⊎◌, ◌+◌, ◌*◌, ◌<◌, ◌≤◌, ℕ, List, Option, None, length, true, false, IsTrue, IfOk, OnOk, OnErr, Err, MatchBool};
-ghost use Rattle.lis_ports.specs.Runs.{IsDiskRun, Leaves};
+ghost use Rattle.lis_ports.specs.Runs.{IsDiskRun, Leaves, IsSettled};
 ghost use Rattle.lis_ports.specs.Calls.{HasCause};
-ghost use Rattle.lis_journal.specs.Record.{is_open, is_header, is_record, recorded, homes_of, entries_from, area, block, replayed};
+ghost use Rattle.lis_journal.specs.Record.{is_open, is_header, is_record, recorded, homes_of, entries_from, area, block, replayed, recovered};
 ghost use Rattle.lis_journal.specs.Images.{KeepsPast};
 ghost use Rattle.lis_journal.specs.Spreads.{Spreads, Same};
-ghost use Rattle.lis_journal.specs.Recovery.{InRecovery, IsRecovered, Recovered, IsSettledPast};
+ghost use Rattle.lis_journal.specs.Recovery.{InRecovery, RecoveryEnded, IsSettledPast};
 
 use crate::commit::{GATE_AT, HEADER_AT, RECORD_START, finish};
 use crate::header::{is_header, word};
@@ -102,10 +102,10 @@ pub fn recover<D: Disk>(
     ensures any_moment { IsTrue (D.meaning disk.old).is_honest → Leaves (D.meaning disk.old) (D.meaning disk.new)
         (λ image. (D.meaning disk.old).images image ⊎ InRecovery stage.old.blocks (D.meaning disk.old).bytes image) }
     ensures recovered { IfOk result (λ good. IsTrue (D.meaning disk.old).is_honest
-        → Recovered stage.old.blocks (D.meaning disk.old) (D.meaning disk.new) good) }
+        → RecoveryEnded stage.old.blocks (D.meaning disk.old) (D.meaning disk.new) good) }
     ensures left { OnOk result (IsTrue (D.meaning disk.old).is_honest
-        → IsRecovered stage.old.blocks (D.meaning disk.old) (D.meaning disk.new)) }
-    ensures still { OnOk result (IsTrue (D.meaning disk.old).is_honest → (image : List ℕ) → (D.meaning disk.new).images image
+        → IsSettled (D.meaning disk.new) (recovered stage.old.blocks (D.meaning disk.old).bytes)) }
+    ensures images { OnOk result (IsTrue (D.meaning disk.old).is_honest → (image : List ℕ) → (D.meaning disk.new).images image
         → (D.meaning disk.old).images image ⊎ InRecovery stage.old.blocks (D.meaning disk.old).bytes image) }
     ensures past { OnOk result (IsTrue (D.meaning disk.old).is_honest
         → KeepsPast stage.old.blocks (D.meaning disk.old) (D.meaning disk.new)) }

@@ -11,7 +11,7 @@ use Rattle.lis_journal.specs.Record.{block}
 use Rattle.lis_journal.specs.Images.{KeepsPast}
 use Rattle.lis_journal.specs.Recovery.{IsSettledPast}
 use Rattle.lis_journal.specs.Spreads.{Spreads}
-use Rattle.lis_journal.proofs.Spreading.{spreads_then, spreads_weaken, always_spread}
+use Rattle.lis_journal.proofs.Spreading.{leaves_both, spreads_then, spreads_weaken, always_spread}
 use Rattle.lis_fields.specs.Layouts.{zeros, super_bytes}
 use Rattle.lis_model.specs.declared.limits.Limits.{Limits}
 use Rattle.lis_model.specs.Image.{data_start}
@@ -60,28 +60,11 @@ pub made_spreads : {old mid next new : Meaning} (limits : Limits) → Spreads ol
 made_spreads limits first second third =
     spreads_then (KeepsSpare limits) (spare_trans limits) (wiped_spreads limits first second) (named_spreads limits third)
 
-leaves_both : {old new : Meaning} (P Q : List ℕ → Type 0) → Leaves old new P → Leaves old new Q → Leaves old new (λ image. P image × Q image)
-leaves_both {old} {new} P Q left right = record {
-  run = left.run;
-  adds = record {
-    later = left.adds.later;
-    only = λ t image bytes le had.
-        elim (left.adds.only t image bytes le had) as (λ _. old.moments t image bytes ⊎ ((P image × Q image) × (old.shown ≡ Some bytes))) [
-          | inl was ↦ inl was
-          | inr p ↦ elim (right.adds.only t image bytes le had) as (λ _. old.moments t image bytes ⊎ ((P image × Q image) × (old.shown ≡ Some bytes))) [
-            | inl was ↦ inl was
-            | inr q ↦ inr ((p.0, q.0), p.1)
-          ]
-        ];
-    keeps = left.adds.keeps;
-  };
-}
-
 -- each moment's image has P, and keeps those blocks of the bytes of entry
 pub moments_spare : {old new : Meaning} (limits : Limits) (P : List ℕ → Type 0) → IsSettled old old.bytes → Leaves old new P → Spreads old new (KeepsSpare limits)
     → Leaves old new (λ image. P image × KeepsSpare limits old.bytes image)
 moments_spare {old} limits P settled moments spreads =
-    leaves_both P (KeepsSpare limits old.bytes) moments
+    leaves_both moments
     (leaves_weaken (KeepsSpare limits old.bytes) spreads.moments (λ image is. subst (λ from. KeepsSpare limits from image) (settled.only is.0 is.1) is.2))
 
 -- what lies past the image, where making failed

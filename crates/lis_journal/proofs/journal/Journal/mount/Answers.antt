@@ -1,5 +1,5 @@
 -- The answers of opening a journal: a recovery's moments, for the blocks that the new stage has.
-use Rattle.lis_journal.proofs.Recovering.{new_leaves, new_still}
+use Rattle.lis_journal.proofs.Recovering.{new_leaves, new_images}
 use Rattle.lis_journal.proofs.journal.Journal.mount.Goals as goal
 
 pub returns-in-Ok-true-clause-any_moment : goal.returns-in-Ok-true-clause-any_moment
@@ -14,6 +14,6 @@ pub returns-in-Err-clause-any_moment : goal.returns-in-Err-clause-any_moment
 returns-in-Err-clause-any_moment g c = λ honest.
     new_leaves c.in_ok-stage.ensures (c.recover.ensures.any_moment honest)
 
-pub returns-in-Ok-true-clause-still : goal.returns-in-Ok-true-clause-still
-returns-in-Ok-true-clause-still g c = λ honest.
-    new_still (g.D.Disk.meaning c.args.disk.now) (g.D.Disk.meaning c.recover.new.disk) c.in_ok-stage.ensures (c.in-Ok-true.ensures.still honest)
+pub returns-in-Ok-true-clause-images : goal.returns-in-Ok-true-clause-images
+returns-in-Ok-true-clause-images g c = λ honest.
+    new_images (g.D.Disk.meaning c.args.disk.now) (g.D.Disk.meaning c.recover.new.disk) c.in_ok-stage.ensures (c.in-Ok-true.ensures.images honest)
