@@ -1,17 +1,17 @@
 -- How opening an image ends: the super block, the journal, and the parts behind it.
-use Rattle.std.proofs.Common.{◌≡◌, ◌⊎◌, ◌∙◌, refl, sym, ap, subst, inl, inr, ℕ, ◌*◌, ◌<◌, ◌≤◌, ◌==◌, false, List, length, Option, Some, None, Result, Ok, Err, IsTrue, IsSomeAnd, arith}
+use Rattle.std.proofs.Common.{◌≡◌, ◌⊎◌, ◌∙◌, refl, sym, ap, subst, inl, inr, ℕ, ◌*◌, ◌<◌, ◌≤◌, ◌==◌, false, List, length, Option, Some, None, Result, Ok, Err, IsTrue, IsSomeAnd, arith, Bool, true, cond, ◌&&◌, [], ◌∷◌}
 use Rattle.std.proofs.lemmas.Bool.{and_parts, eqb-true}
 use Rattle.lis_ports.specs.Meaning.{Meaning}
-use Rattle.lis_ports.specs.Bytes.{part}
+use Rattle.lis_ports.specs.Bytes.{part, put}
 use Rattle.lis_ports.specs.Calls.{IsUnchanged}
 use Rattle.lis_ports.specs.Runs.{IsDiskRun, IsSettled, Leaves}
 use Rattle.lis_ports.proofs.Moments.{leaves_weaken, leaves_then}
-use Rattle.lis_journal.specs.Record.{block, is_open, replayed}
+use Rattle.lis_journal.specs.Record.{block, is_open, area, is_record, recorded as entries_of, apply, replayed, recovered}
 use Rattle.lis_journal.specs.Images.{StandsFor as KeptBy, IsAtRest, Fits, KeepsPast}
-use Rattle.lis_journal.specs.Recovery.{StandsForReplayed, InRecovery, IsRecovered, MountEnded, IsSettledPast}
+use Rattle.lis_journal.specs.Recovery.{StandsForReplayed, InRecovery, MountEnded, IsSettledPast}
 use Rattle.lis_journal.specs.declared.journal.JournalFault.{JournalFault}
 use Rattle.lis_journal.specs.declared.journal.JournalFault.TheVariants.{DiskFault as JournalDisk, BadRecord as JournalRecord, NoMemory as JournalMemory}
-use Rattle.lis_journal.proofs.Phases.{rest_stands}
+use Rattle.lis_journal.proofs.Phases.{rest_stands, replayed-open}
 use Rattle.lis_fields.specs.declared.slots.SuperRec.{SuperRec}
 use Rattle.lis_fields.specs.Layouts.{super_bytes, is_super}
 use Rattle.lis_model.specs.declared.limits.Limits.{Limits}
@@ -26,7 +26,7 @@ use Rattle.lis_store.proofs.Standing.{super-replayed, kept_stands}
 use Rattle.lis_store.proofs.Telling.{tells_spells}
 use Rattle.lis_open.specs.declared.mounting.OpenFault.{OpenFault}
 use Rattle.lis_open.specs.declared.mounting.OpenFault.TheVariants.{TooShort, Damaged, DiskFault, NoMemory}
-use Rattle.lis_open.specs.Opens.{HasSuper, IsNeeded, IsLongEnough, OpenEnded, IsJournaled, Recovers, OpenLeft, InOpening, journal_fault}
+use Rattle.lis_open.specs.Opens.{HasSuper, IsNeeded, IsLongEnough, OpenEnded, Recovers, OpenLeft, InOpening, journal_fault}
 use Rattle.lis_open.specs.Checks.{Fails, FailsReplayed, RecordFails, FailsIn, IsBefore, FailsFirst}
 use Rattle.lis_open.specs.Reading.{OnlyReads, IsFirstOfAll, StoreEnded, Opened}
 use Rattle.lis_open.proofs.Quiet.{fits_after, settled_after, unchanged_then}
@@ -41,7 +41,23 @@ some_replay (Some r) P is = (r, refl, is)
 some_one : (a b : List ℕ) → ◌≡◌ {A = Option (List ℕ)} (Some a) (Some b) → a ≡ b
 some_one a b e = cc
 
+-- with a record that is not in form nothing is to be done
+recovered-none : (blocks : ℕ) (image : List ℕ) → replayed blocks image ≡ None → recovered blocks image ≡ image
+unfolding recovered
+recovered-none blocks image none = by (is_open image) (is_record blocks (area image)) refl refl
+  where
+    made : List ℕ
+    made = put (apply (entries_of (area image)) image) 4096 (0 ∷ [])
+
+    by : (opened form : Bool) → is_open image ≡ opened → is_record blocks (area image) ≡ form → cond (is_open image && is_record blocks (area image)) made image ≡ image
+    by false form closed in_form = ap (λ b. cond (b && is_record blocks (area image)) made image) closed
+    by true false opened bad = ap (λ b. cond (b && is_record blocks (area image)) made image) opened ∙ ap (λ b. cond b made image) bad
+    by true true opened good = absurd (let some = sym none ∙ replayed-open blocks image opened good in cc)
+
 -- ---- faults
+pub one_fault : {T : Type 0} {a b : JournalFault} → ◌≡◌ {A = Result T JournalFault} (Err a) (Err b) → a ≡ b
+one_fault is = cc
+
 same_spot : {T : Type 0} (a b : Spot) → ◌≡◌ {A = Result T OpenFault} (Err (Damaged a)) (Err (Damaged b)) → a ≡ b
 same_spot a b is = cc
 
@@ -91,7 +107,7 @@ super_first image none = record { fails = none; none_before = none_before }
 
 pub no_super_opened : (old new : Meaning) → 4096 ≤ old.len → ((limits : Limits) → HasSuper limits old.bytes → ⊥) → IsUnchanged old new → Opened old new (Err (Damaged Super))
 no_super_opened old new long none same =
-    spotted old new Super (no_super_needs old long none, λ s stands. none s.limits (has_super old.bytes s stands)) (λ missing. same, λ limits super. absurd (none limits super)) (super_first old.bytes none)
+    spotted old new Super (no_super_needs old long none, λ s stands. none s.limits (has_super old.bytes s stands)) (inl (none, same)) (super_first old.bytes none)
 
 -- ---- after calls that only read
 module _ (old mid : Meaning) (same : IsUnchanged old mid) (len : mid.len ≡ old.len) where
@@ -105,24 +121,18 @@ module _ (old mid : Meaning) (same : IsUnchanged old mid) (len : mid.len ≡ old
   no_state_before none s stands = none s (stands_before s stands)
 
   recovers_before : (new : Meaning) → Recovers mid new → Recovers old new
-  recovers_before new recovers limits super =
-      let blocks = image_blocks limits in
-      let recovered = recovers limits (subst (λ bytes. HasSuper limits bytes) (sym same.bytes) super) in
-      record {
-        recovered = record {
-          closed = λ closed. subst (λ bytes. IsSettled new bytes) same.bytes (recovered.recovered.closed (ap is_open same.bytes ∙ closed));
-          opened = λ r opened replays. recovered.recovered.opened r (ap is_open same.bytes ∙ opened) (ap (replayed blocks) same.bytes ∙ replays);
-        };
-        bad = λ none. subst (λ bytes. IsSettled new bytes) same.bytes (recovered.bad (ap (replayed blocks) same.bytes ∙ none));
-      }
+  recovers_before new recovers = (
+    recovers.0,
+    subst (λ bytes. HasSuper recovers.0 bytes) same.bytes recovers.1,
+    subst (λ bytes. IsSettled new (recovered (image_blocks recovers.0) bytes)) same.bytes recovers.2,
+  )
 
   left_before : (new : Meaning) (result : Result Kept OpenFault) → IsDiskRun mid new → OpenLeft mid new result → OpenLeft old new result
   left_before new (Ok store) run left = recovers_before new left
   left_before new (Err (TooShort len need)) run left = unchanged_then run same left
-  left_before new (Err (Damaged spot)) run left = (
-    λ none. unchanged_then run same (left.0 (λ limits super. none limits (subst (λ bytes. HasSuper limits bytes) same.bytes super))),
-    recovers_before new left.1,
-  )
+  left_before new (Err (Damaged spot)) run (inl unread) =
+      inl (λ limits super. unread.0 limits (subst (λ bytes. HasSuper limits bytes) (sym same.bytes) super), unchanged_then run same unread.1)
+  left_before new (Err (Damaged spot)) run (inr recovers) = inr (recovers_before new recovers)
   left_before new (Err DiskFault) run left = tt
   left_before new (Err NoMemory) run (inl unchanged) = inl (unchanged_then run same unchanged)
   left_before new (Err NoMemory) run (inr recovers) = inr (recovers_before new recovers)
@@ -209,15 +219,6 @@ module _ (old : Meaning) (limits : Limits) (super : HasSuper limits old.bytes) (
       none_before (Row n) (inl lower) fails = omega (arith, lower)
       none_before (Row n) (inr same) fails = omega (arith, same.0)
 
-  recovers_by : (new : Meaning) → IsJournaled (image_blocks limits) old new → Recovers old new
-  recovers_by new recovered other told = subst (λ (l : Limits). IsJournaled (image_blocks l) old new) (one_limits old.bytes limits other super told) recovered
-
-  bad_recovered : (new : Meaning) → replayed (image_blocks limits) old.bytes ≡ None → IsSettled new old.bytes → IsJournaled (image_blocks limits) old new
-  bad_recovered new none settled = record {
-    recovered = record { closed = λ closed. settled; opened = λ r opened replays. absurd (cc) };
-    bad = λ bad. settled;
-  }
-
   pub journal_opened : {T : Type 0} (new : Meaning) (outcome : Result T JournalFault) (fault : JournalFault) → outcome ≡ Err fault → MountEnded (image_blocks limits) old new outcome
       → (outcome ≡ Err JournalMemory → IsUnchanged old new) → Opened old new (Err (journal_fault fault))
   journal_opened {T} new outcome fault is ended unread = by fault (subst (λ (o : Result T JournalFault). MountEnded (image_blocks limits) old new o) is ended) (λ memory. unread (is ∙ ap Err memory))
@@ -226,7 +227,7 @@ module _ (old : Meaning) (limits : Limits) (super : HasSuper limits old.bytes) (
       by JournalDisk told same = failed_opened old new
       by (JournalRecord b) told same =
           spotted old new (BadRecord b) (long_enough, λ s stands. damaged old.bytes s (BadRecord b) stands (bad_record b told.0 told.1))
-          (λ none. absurd (none limits super), recovers_by new (bad_recovered new told.0 told.2)) (record_first b told.0 told.1)
+          (inr (limits, super, subst (λ bytes. IsSettled new bytes) (sym (recovered-none (image_blocks limits) old.bytes told.0)) told.2)) (record_first b told.0 told.1)
       by JournalMemory told same =
           unspotted old new NoMemory (long_enough, (limits, super), λ s stands. subst (λ bytes. Stands bytes s) (sym (same refl).bytes) stands) (inl (same refl)) (λ spot none. cc)
 
@@ -236,19 +237,6 @@ module _ (old : Meaning) (limits : Limits) (super : HasSuper limits old.bytes) (
 
   pub journal_moments : (new : Meaning) → Leaves old new (λ image. old.images image ⊎ InRecovery (image_blocks limits) old.bytes image) → Leaves old new (InOpening old)
   journal_moments new moments = leaves_weaken (InOpening old) moments in_opening
-
-  -- where the journal was not mounted
-  pub journal_past : {T : Type 0} (new : Meaning) (outcome : Result T JournalFault) (fault : JournalFault) → outcome ≡ Err fault → MountEnded (image_blocks limits) old new outcome
-      → (outcome ≡ Err JournalMemory → IsUnchanged old new) → (journal_fault fault ≡ DiskFault → IsSettledPast (image_blocks limits) old)
-      → (IsSettledPast (image_blocks limits) old → KeepsPast (image_blocks limits) old new) → KeepsPast (image_blocks limits) old new
-  journal_past {T} new outcome fault is ended unread settled keeps =
-      by fault (subst (λ (o : Result T JournalFault). MountEnded (image_blocks limits) old new o) is ended) (λ memory. unread (is ∙ ap Err memory)) (λ failed. settled (ap journal_fault failed))
-    where
-      by : (f : JournalFault) → MountEnded {T = T} (image_blocks limits) old new (Err f) → (f ≡ JournalMemory → IsUnchanged old new) → (f ≡ JournalDisk → IsSettledPast (image_blocks limits) old)
-          → KeepsPast (image_blocks limits) old new
-      by JournalDisk told same there = keeps (there refl)
-      by (JournalRecord b) told same there = λ n past. ap (block n) told.2.reads
-      by JournalMemory told same there = λ n past. ap (block n) (same refl).bytes
 
   -- ---- the parts behind the journal
   module _ (whole : length old.bytes ≡ old.len) (r : List ℕ) (replays : replayed (image_blocks limits) old.bytes ≡ Some r) where
@@ -344,27 +332,18 @@ module _ (old : Meaning) (limits : Limits) (super : HasSuper limits old.bytes) (
           }
       parts_opened (Err (TooShort len need)) image fails = absurd fails
       parts_opened (Err (Damaged spot)) image fails =
-          spotted old new spot (long_enough, λ s stands. damaged old.bytes s spot stands (fails_in spot fails.fails)) (λ none. absurd (none limits super), left) (parts_first spot fails)
+          spotted old new spot (long_enough, λ s stands. damaged old.bytes s spot stands (fails_in spot fails.fails)) (inr left) (parts_first spot fails)
       parts_opened (Err DiskFault) image fails = failed_opened old new
       parts_opened (Err NoMemory) image fails = unspotted old new NoMemory (long_enough, (limits, super), λ s stands. bytes_stand s stands) (inr left) (λ spot none. cc)
 
   -- where it was mounted, and what it fits then was read
-  read_recovered : (mid new : Meaning) (r : List ℕ) → replayed (image_blocks limits) old.bytes ≡ Some r → IsTrue mid.is_honest → IsRecovered (image_blocks limits) old mid → OnlyReads mid new → IsJournaled (image_blocks limits) old new
-  read_recovered mid new r replays honest recovered reads = record {
-    recovered = record {
-      closed = λ closed. settled_after reads honest (recovered.closed closed);
-      opened = λ other opened is. settled_after reads honest (recovered.opened other opened is);
-    };
-    bad = λ none. absurd (cc);
-  }
-
   pub store_opened : length old.bytes ≡ old.len → (mid new : Meaning) (result : Result Kept OpenFault) → IsSomeAnd (replayed (image_blocks limits) old.bytes) (λ r. Fits (image_blocks limits) mid (λ n. block n r))
-      → IsRecovered (image_blocks limits) old mid → OnlyReads mid new → ((store : Kept) → result ≡ Ok store → store.journal.blocks ≡ image_blocks limits)
+      → IsSettled mid (recovered (image_blocks limits) old.bytes) → OnlyReads mid new → ((store : Kept) → result ≡ Ok store → store.journal.blocks ≡ image_blocks limits)
       → ((kept : ℕ → List ℕ) → Fits (image_blocks limits) mid kept → kept 0 ≡ super_bytes (record { version = 1; limits = limits }) → StoreEnded limits kept result) → Opened old new result
-  store_opened whole mid new result mounted recovered reads image ended =
+  store_opened whole mid new result mounted settled reads image ended =
       let found = some_replay (replayed (image_blocks limits) old.bytes) (λ r. Fits (image_blocks limits) mid (λ n. block n r)) mounted in
       let kept : ℕ → List ℕ = λ n. block n found.0 in
-      let left = recovers_by new (read_recovered mid new found.0 found.1 found.2.honest recovered reads) in
+      let left : Recovers old new = (limits, super, settled_after reads found.2.honest settled) in
       parts_opened whole found.0 found.1 new (fits_after (image_blocks limits) kept reads found.2) left result image (ended kept found.2 (super_kept whole found.0 found.1))
 
   pub store_moments : (mid new : Meaning) → ((image : List ℕ) → mid.images image → old.images image ⊎ InRecovery (image_blocks limits) old.bytes image)

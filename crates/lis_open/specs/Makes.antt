@@ -1,5 +1,6 @@
 -- Images while an empty one is made.
-use Rattle.std.specs.Prelude.{◌≡◌, ◌≢◌, ◌⊎◌, ℕ, ◌≤◌, ◌<◌, ◌==◌, nat_le, nat_lt, ◌&&◌, ◌||◌, if◌then◌else◌, List, drop, slice_index}
+use Rattle.std.specs.Prelude.{◌≡◌, ◌≢◌, ◌⊎◌, ℕ, ◌≤◌, ◌<◌, List, drop, slice_index}
+use Rattle.lis_ports.specs.Meaning.{Meaning}
 use Rattle.lis_ports.specs.Bytes.{part}
 use Rattle.lis_journal.specs.Record.{block}
 use Rattle.lis_fields.specs.Layouts.{zeros, super_bytes}
@@ -46,16 +47,22 @@ pub record IsWiping (limits : Limits) (from image : List ℕ) : Type 0 where
   pub first : part 0 1 image ≡ part 0 1 from
   pub spare : KeepsSpare limits from image
 
--- What making leaves of a block: the super block, zeros in the gate block and in the home blocks before the data blocks, and each other block as
--- it was.
-abbrev pub made_block : Limits → ℕ → List ℕ → List ℕ
-made_block limits n old =
-    if n == 0 then super_bytes (record { version = 1; limits = limits })
-    else (if n == 1 || (nat_le 578 n && nat_lt n (data_start limits)) then zeros 4096 else old)
-
-abbrev pub IsMade : Limits → List ℕ → List ℕ → Type 0
-IsMade limits bytes image = (n : ℕ) → block n image ≡ made_block limits n (block n bytes)
+-- What making leaves: the super block, zeros in the gate block and in the home blocks before the data blocks, and each other block as it was.
+pub record IsMade (limits : Limits) (bytes image : List ℕ) : Type 0 where
+  pub super : block 0 image ≡ super_bytes (record { version = 1; limits = limits })
+  pub gate : block 1 image ≡ zeros 4096
+  pub homes : AreZeros 578 (data_start limits) image
+  pub spare : KeepsSpare limits bytes image
 
 -- it is as it was, or stands for the empty state or for none
 abbrev pub IsMaking : Limits → List ℕ → List ℕ → Type 0
 IsMaking limits bytes image = (image ≡ bytes) ⊎ (Stands image (empty_state limits) ⊎ ((s : State) → Stands image s → ⊥))
+
+-- and the blocks that making leaves alone are as they were
+pub record InMaking (limits : Limits) (bytes image : List ℕ) : Type 0 where
+  pub stands : IsMaking limits bytes image
+  pub spare : KeepsSpare limits bytes image
+
+-- a crash leaves the block as it reads
+abbrev pub IsSettledAt : Meaning → ℕ → Type 0
+IsSettledAt m n = (image : List ℕ) → m.images image → block n image ≡ block n m.bytes

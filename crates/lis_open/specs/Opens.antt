@@ -1,11 +1,11 @@
 -- How opening an image ends, and its causes.
-use Rattle.std.specs.Prelude.{◌≡◌, ◌⊎◌, ℕ, ◌*◌, ◌≤◌, ◌<◌, List, None, Result, Ok, Err, IsTrue}
+use Rattle.std.specs.Prelude.{◌≡◌, ◌⊎◌, ℕ, ◌*◌, ◌≤◌, ◌<◌, List, Result, Ok, Err, IsTrue}
 use Rattle.lis_ports.specs.Meaning.{Meaning}
 use Rattle.lis_ports.specs.Calls.{Rose, IsUnchanged}
 use Rattle.lis_ports.specs.Bytes.{part}
 use Rattle.lis_ports.specs.Runs.{IsSettled}
-use Rattle.lis_journal.specs.Record.{replayed}
-use Rattle.lis_journal.specs.Recovery.{InRecovery, IsRecovered}
+use Rattle.lis_journal.specs.Record.{recovered}
+use Rattle.lis_journal.specs.Recovery.{InRecovery}
 use Rattle.lis_journal.specs.declared.journal.JournalFault.{JournalFault}
 use Rattle.lis_journal.specs.declared.journal.JournalFault.TheVariants.{DiskFault as JournalDisk, BadRecord as JournalRecord, NoMemory as JournalMemory}
 use Rattle.lis_fields.specs.Layouts.{super_bytes}
@@ -49,20 +49,19 @@ OpenEnded old new (Err (Damaged spot)) = IsLongEnough old × ((s : State) → St
 OpenEnded old new (Err DiskFault) = Unit {0}
 OpenEnded old new (Err NoMemory) = IsLongEnough old × ((limits : Limits) × HasSuper limits old.bytes) × ((s : State) → Stands old.bytes s → Stands new.bytes s)
 
--- Its journal was recovered. With a record that is not in form the bytes stay as they read, and a crash leaves just these.
-pub record IsJournaled (blocks : ℕ) (old new : Meaning) : Type 0 where
-  pub recovered : IsRecovered blocks old new
-  pub bad : replayed blocks old.bytes ≡ None → IsSettled new old.bytes
-
--- by the limits that the super block tells
+-- Its journal was recovered, by the limits that the super block tells: it reads as what a recovery makes of it, and a crash leaves just this.
 abbrev pub Recovers : Meaning → Meaning → Type 0
-Recovers old new = (limits : Limits) → HasSuper limits old.bytes → IsJournaled (image_blocks limits) old new
+Recovers old new = (limits : Limits) × HasSuper limits old.bytes × IsSettled new (recovered (image_blocks limits) old.bytes)
+
+-- what is left where a check failed
+abbrev pub RefusedLeft : Meaning → Meaning → Type 0
+RefusedLeft old new = (((limits : Limits) → HasSuper limits old.bytes → ⊥) × IsUnchanged old new) ⊎ Recovers old new
 
 -- What opening leaves where the disk did not fail: it writes nothing but what the journal of the image asks for.
 abbrev pub OpenLeft : Meaning → Meaning → Result Kept OpenFault → Type 0
 OpenLeft old new (Ok store) = Recovers old new
 OpenLeft old new (Err (TooShort len need)) = IsUnchanged old new
-OpenLeft old new (Err (Damaged spot)) = (((limits : Limits) → HasSuper limits old.bytes → ⊥) → IsUnchanged old new) × Recovers old new
+OpenLeft old new (Err (Damaged spot)) = RefusedLeft old new
 OpenLeft old new (Err DiskFault) = Unit {0}
 OpenLeft old new (Err NoMemory) = IsUnchanged old new ⊎ Recovers old new
 

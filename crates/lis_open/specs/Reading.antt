@@ -39,7 +39,7 @@ pub record OnlyReads (old new : Meaning) : Type 0 where
   pub same : IsTrue old.is_honest → IsUnchanged old new
   pub moments : IsTrue old.is_honest → Leaves old new old.images
 
--- The cause of an answer behind the super block, which is never that the disk is too short.
+-- The cause of an answer once the super block was read: as for opening, but never that the disk is too short.
 abbrev pub HasPartCause : {T : Type 0} → ℕ → ℕ → Result T OpenFault → Type 0
 HasPartCause before now (Ok done) = now ≡ before
 HasPartCause before now (Err (TooShort len need)) = ⊥

@@ -3,13 +3,12 @@
 ghost use Rattle.std.specs.Prelude.{◌≡◌, ◌*◌, ◌≤◌, ℕ, IsTrue, OnOk, OnErr, Err};
 ghost use Rattle.lis_ports.specs.Runs.{IsDiskRun, Leaves, Always, IsSettled};
 ghost use Rattle.lis_ports.specs.Calls.{HasCause};
-ghost use Rattle.lis_journal.specs.Images.{KeepsPast};
-ghost use Rattle.lis_journal.specs.Recovery.{IsSettledPast};
+ghost use Rattle.lis_journal.specs.Record.{block};
 ghost use Rattle.lis_model.specs.Ranges.{are_in_range};
-ghost use Rattle.lis_model.specs.Image.{data_start, image_blocks};
+ghost use Rattle.lis_model.specs.Image.{image_blocks};
 ghost use Rattle.lis_model.specs.State.{empty_state};
 ghost use Rattle.lis_store.specs.Stands.{Stands};
-ghost use Rattle.lis_open.specs.Makes.{IsMaking, KeepsSpare, IsMade};
+ghost use Rattle.lis_open.specs.Makes.{InMaking, IsMade, IsSettledAt, IsSpare};
 ghost use Rattle.lis_open.specs.Faults.{IsShortWhere, HasMakeCause};
 ghost use Rattle.lis_open.specs.declared.making.MakeFault.TheVariants.{TooShort, DiskFault as DiskFailed};
 
@@ -49,13 +48,12 @@ fn write_image<D: Disk>(disk: &mut D, limits: &Limits) -> Result<(), Failed>
     ensures made { OnOk result (IsTrue (D.meaning disk.old).is_honest
         → Always (D.meaning disk.new) (λ image. Stands image (empty_state limits.now))) }
     ensures any_moment { IsTrue (D.meaning disk.old).is_honest → IsSettled (D.meaning disk.old) (D.meaning disk.old).bytes
-        → Leaves (D.meaning disk.old) (D.meaning disk.new)
-        (λ image. IsMaking limits.now (D.meaning disk.old).bytes image × KeepsSpare limits.now (D.meaning disk.old).bytes image) }
+        → Leaves (D.meaning disk.old) (D.meaning disk.new) (InMaking limits.now (D.meaning disk.old).bytes) }
     ensures left { OnOk result (IsTrue (D.meaning disk.old).is_honest
         → Always (D.meaning disk.new) (IsMade limits.now (D.meaning disk.old).bytes)) }
-    ensures past { IsTrue (D.meaning disk.old).is_honest
-        → OnErr result (IsSettledPast (data_start limits.now) (D.meaning disk.old))
-        → KeepsPast (data_start limits.now) (D.meaning disk.old) (D.meaning disk.new) }
+    ensures spare { (n : ℕ) → IsTrue (D.meaning disk.old).is_honest → IsSpare limits.now n
+        → OnErr result (IsSettledAt (D.meaning disk.old) n)
+        → block n (D.meaning disk.new).bytes ≡ block n (D.meaning disk.old).bytes }
 {
     take_name(disk)?;
     wipe(disk, limits)?;
@@ -74,18 +72,18 @@ pub fn make<D: Disk>(disk: &mut D, limits: &Limits) -> Result<(), MakeFault>
     ensures made { OnOk result (IsTrue (D.meaning disk.old).is_honest
         → Always (D.meaning disk.new) (λ image. Stands image (empty_state limits.now))) }
 
-    // With nothing unsynced at entry, a crash leaves the image of entry, one of the empty state, or one of no state.
+    // With nothing unsynced at entry, a crash leaves the image of entry, one of the empty state, or one of no state. In each the
+    // record, the data blocks and what lies past the image are as they were.
     ensures any_moment { IsTrue (D.meaning disk.old).is_honest → IsSettled (D.meaning disk.old) (D.meaning disk.old).bytes
-        → Leaves (D.meaning disk.old) (D.meaning disk.new)
-        (λ image. IsMaking limits.now (D.meaning disk.old).bytes image × KeepsSpare limits.now (D.meaning disk.old).bytes image) }
+        → Leaves (D.meaning disk.old) (D.meaning disk.new) (InMaking limits.now (D.meaning disk.old).bytes) }
 
-    // It writes the super block, and zeros to the gate block and the home blocks before the data blocks. The data blocks, and what lies
-    // past the image, read as before; where the disk failed, if a crash at entry left them as they read.
+    // It writes the super block, and zeros to the gate block and the home blocks before the data blocks; every other block is as it
+    // was. Where the disk failed, each of these reads as before that a crash at entry left as it read.
     ensures left { OnOk result (IsTrue (D.meaning disk.old).is_honest
         → Always (D.meaning disk.new) (IsMade limits.now (D.meaning disk.old).bytes)) }
-    ensures past { IsTrue (D.meaning disk.old).is_honest
-        → (result ≡ Err DiskFailed → IsSettledPast (data_start limits.now) (D.meaning disk.old))
-        → KeepsPast (data_start limits.now) (D.meaning disk.old) (D.meaning disk.new) }
+    ensures spare { (n : ℕ) → IsTrue (D.meaning disk.old).is_honest → IsSpare limits.now n
+        → (result ≡ Err DiskFailed → IsSettledAt (D.meaning disk.old) n)
+        → block n (D.meaning disk.new).bytes ≡ block n (D.meaning disk.old).bytes }
 {
     let need = u64::from(image_blocks(limits)) * BLOCK_LEN as u64;
     let len = disk.len();

@@ -133,7 +133,8 @@ pub fn mount<D: Disk>(alloc: Global, disk: &mut D) -> Result<Store, OpenFault>
     // The spot is that of the first check that fails.
     ensures spot { (spot : SpotOf) → result ≡ Err (Damaged spot) → IsTrue (D.meaning disk.old).is_honest → FailsFirst (D.meaning disk.old).bytes spot }
 
-    // What is shorter than a super block is not read. Of any disk the answer tells the numbers.
+    // Of any disk: at `TooShort` the first number is its length, and the second is greater. What is shorter than a super block is not
+    // read.
     ensures numbers { (len need : ℕ) → result ≡ Err (TooShort len need) → (len ≡ (D.meaning disk.old).len) × (len < need) }
     ensures small { (D.meaning disk.old).len < 4096
         → (result ≡ Err (TooShort (D.meaning disk.old).len 4096)) × (disk.new ≡ disk.old) }

@@ -17,7 +17,7 @@ use Rattle.lis_session.proofs.Going.{SoFar, DoneSoFar, ends_done, ends_limit}
 use Rattle.lis_shell.specs.declared.status.Status.{Status}
 use Rattle.lis_shell.specs.declared.status.Status.TheVariants.{Done, InputLimit}
 use Rattle.lis_shell.specs.Tries.{ending_of}
-use Rattle.lis_shell.specs.Runs.{IsCut, GoesOn, Served}
+use Rattle.lis_shell.specs.Runs.{InputRead, GoesOn, Served}
 
 -- the end or the limit, as it is said
 pub ends_said : {E : Type 0} {limit : ℕ} {left_before left left_after : Option (List ℕ)} {reading next : Reading} {place_before : List Formula} {fits_before : State → Type 0} {old now : Meaning} {fits : State → Type 0} {place : List Formula} {payload : Payload} {result : Result Said E} (said : Said) (end : Status) (input : List ℕ) (state : State)
@@ -36,20 +36,20 @@ ends_said {limit = limit} {left_after = left_after} {place_before = place_before
     subst (λ s. Serves start (script input limit) old now (Served start limit input left_after old.shown now s)) same (ends_limit input state so_far told says is fitting)
 
 -- what the end and the limit say of the input
-pub cut_said : {E : Type 0} {limit : ℕ} {left_before left left_after : Option (List ℕ)} {reading next : Reading} {place_before : List Formula} {fits_before : State → Type 0} {old now : Meaning} {fits : State → Type 0} {place : List Formula} {payload : Payload} {result : Result Said E} (said : Said) (end : Status) (input : List ℕ)
+pub input_said : {E : Type 0} {limit : ℕ} {left_before left left_after : Option (List ℕ)} {reading next : Reading} {place_before : List Formula} {fits_before : State → Type 0} {old now : Meaning} {fits : State → Type 0} {place : List Formula} {payload : Payload} {result : Result Said E} (said : Said) (end : Status) (input : List ℕ)
     → SoFar limit left_before left reading place_before fits_before old now fits place → left_before ≡ Some input → Says reading next left left_after payload result → result ≡ Ok said
-    → ending_of said ≡ Some end → IsCut limit input left_after end
-cut_said (Command command) end input so_far told says is ends = absurd (cc)
-cut_said (Bad refusal) end input so_far told says is ends = absurd (cc)
-cut_said {limit = limit} {left_before = left_before} {left = left} {left_after = left_after} {reading = reading} {next = next} {payload = payload} {result = result} End end input so_far told says is ends =
+    → ending_of said ≡ Some end → InputRead limit input left_after end
+input_said (Command command) end input so_far told says is ends = absurd (cc)
+input_said (Bad refusal) end input so_far told says is ends = absurd (cc)
+input_said {limit = limit} {left_before = left_before} {left = left} {left_after = left_after} {reading = reading} {next = next} {payload = payload} {result = result} End end input so_far told says is ends =
     let same : Done ≡ end = cc in
     let read = subst (λ known. ReadSoFar limit known left reading so_far.first) told so_far.read in
     let all = all_taken limit input left left_after reading next so_far.first payload result read says is in
-    subst (λ s. IsCut limit input left_after s) same (all.short, all.at_end)
-cut_said {limit = limit} {left_before = left_before} {left = left} {left_after = left_after} {reading = reading} {next = next} {payload = payload} {result = result} Limit end input so_far told says is ends =
+    subst (λ s. InputRead limit input left_after s) same (all.short, all.at_end)
+input_said {limit = limit} {left_before = left_before} {left = left} {left_after = left_after} {reading = reading} {next = next} {payload = payload} {result = result} Limit end input so_far told says is ends =
     let same : InputLimit ≡ end = cc in
     let read = subst (λ known. ReadSoFar limit known left reading so_far.first) told so_far.read in
-    subst (λ s. IsCut limit input left_after s) same (limit_taken limit input left left_after reading next so_far.first payload result read says is).long
+    subst (λ s. InputRead limit input left_after s) same (limit_taken limit input left left_after reading next so_far.first payload result read says is).long
 
 -- what can go on after them
 reached : (start : Situation) (first items : List Item) (store : Kept) (old now : Meaning) (place : List Formula) → DoneSoFar start first old now (StoreFits store now) place → items ≡ first

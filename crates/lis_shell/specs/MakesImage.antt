@@ -10,7 +10,7 @@ use Rattle.lis_open.specs.Makes.{IsMade}
 use Rattle.lis_shell.specs.declared.status.Status.{Status}
 use Rattle.lis_shell.specs.declared.status.Status.TheVariants.{Done, Usage, NotAnImage, TooShort, DiskFault, InputFault, OutputFault, InputLimit, NoMemory}
 
--- Done, and each image stands for the empty state and has just what making writes; too short, exactly where there are fewer bytes than the image takes; or the disk failed.
+-- Done, and each image stands for the empty state and is as making leaves it; too short, exactly where there are fewer bytes than the image takes; or the disk failed.
 abbrev pub MadeImage : Limits → Meaning → Meaning → Status → Type 0
 MadeImage limits old new Done =
     (4096 * image_blocks limits ≤ old.len) × (IsTrue old.is_honest → Always new (λ image. Stands image (empty_state limits) × IsMade limits old.bytes image))

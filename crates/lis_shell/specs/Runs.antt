@@ -14,7 +14,7 @@ use Rattle.lis_grammar.specs.Formula.{Formula}
 use Rattle.lis_model.specs.Image.{image_blocks}
 use Rattle.lis_store.specs.Stands.{Stands}
 use Rattle.lis_store.specs.Kept.{Kept, StoreFits}
-use Rattle.lis_open.specs.Opens.{HasSuper, IsNeeded, IsLongEnough, Recovers, InOpening}
+use Rattle.lis_open.specs.Opens.{HasSuper, IsNeeded, IsLongEnough, Recovers, RefusedLeft, InOpening}
 use Rattle.lis_open.specs.Checks.{FailsFirst}
 use Rattle.lis_session.specs.Session.{root_of}
 use Rattle.lis_session.specs.Runs.{Carried, CarriedAll, CarriedToLimit, CarriedWhole, CarriedFirst, StopsAt}
@@ -47,18 +47,19 @@ Served start limit bytes left before new (NotAnImage spot) = ⊥
 Served start limit bytes left before new (TooShort len need) = ⊥
 
 -- what two answers say of the input, whatever the disk does
-abbrev pub IsCut : ℕ → List ℕ → Option (List ℕ) → Status → Type 0
-IsCut limit bytes left Done = (length bytes ≤ limit) × IsAtEnd left
-IsCut limit bytes left InputLimit = limit < length bytes
-IsCut limit bytes left InputFault = Unit {0}
-IsCut limit bytes left OutputFault = Unit {0}
-IsCut limit bytes left NoMemory = Unit {0}
-IsCut limit bytes left DiskFault = Unit {0}
-IsCut limit bytes left Usage = Unit {0}
-IsCut limit bytes left (NotAnImage spot) = Unit {0}
-IsCut limit bytes left (TooShort len need) = Unit {0}
+abbrev pub InputRead : ℕ → List ℕ → Option (List ℕ) → Status → Type 0
+InputRead limit bytes left Done = (length bytes ≤ limit) × IsAtEnd left
+InputRead limit bytes left InputLimit = limit < length bytes
+InputRead limit bytes left InputFault = Unit {0}
+InputRead limit bytes left OutputFault = Unit {0}
+InputRead limit bytes left NoMemory = Unit {0}
+InputRead limit bytes left DiskFault = Unit {0}
+InputRead limit bytes left Usage = Unit {0}
+InputRead limit bytes left (NotAnImage spot) = Unit {0}
+InputRead limit bytes left (TooShort len need) = Unit {0}
 
--- After a whole input the store fits at the state that was reached, and the session stands at the place, so another session can go on.
+-- At the end of the input, and at its limit, the store fits at the state that was reached, and the session stands at its place, so that another
+-- session can go on.
 abbrev pub GoesOn : Situation → Kept → List Formula → Meaning → Status → Type 0
 GoesOn reached store place new Done = StoreFits store new reached.state × (place ≡ reached.place)
 GoesOn reached store place new InputLimit = StoreFits store new reached.state × (place ≡ reached.place)
@@ -132,9 +133,9 @@ IsIdle untouched old new OutputFault = Unit {0}
 IsIdle untouched old new InputLimit = Unit {0}
 IsIdle untouched old new NoMemory = Unit {0}
 
--- What is left of an image that stands for no state, where the disk did not fail. Nothing is written but what its journal asks for.
+-- What a run leaves of an image that stands for no state, where the disk did not fail.
 abbrev pub BarredLeft : Meaning → Meaning → Status → Type 0
-BarredLeft old new (NotAnImage spot) = (((limits : Limits) → HasSuper limits old.bytes → ⊥) → IsUnchanged old new) × Recovers old new
+BarredLeft old new (NotAnImage spot) = RefusedLeft old new
 BarredLeft old new (TooShort len need) = IsUnchanged old new
 BarredLeft old new NoMemory = IsUnchanged old new ⊎ Recovers old new
 BarredLeft old new DiskFault = Unit {0}

@@ -10,7 +10,7 @@ ghost use Rattle.lis_session.specs.Item.{IsSameStation};
 ghost use Rattle.lis_session.specs.Runs.{Serves};
 ghost use Rattle.lis_session.specs.Session.{FullHeadline};
 ghost use Rattle.lis_shell.specs.Causes.{counts, HasStatusCause};
-ghost use Rattle.lis_shell.specs.Runs.{IsSessionStatus, IsCut, GoesOn, Served};
+ghost use Rattle.lis_shell.specs.Runs.{IsSessionStatus, InputRead, GoesOn, Served};
 
 use crate::session::ending;
 use crate::status::Status;
@@ -38,8 +38,8 @@ fn carry_out<S: Source, T: Station>(
     ensures same { IsSameStation (T.meaning station.old) (T.meaning station.new) }
     ensures cause { HasStatusCause (counts (T.meaning station.old) (S.faults input.old)) (counts (T.meaning station.new) (S.faults input.new)) result }
     ensures few { TakesFew limit (S.left input.old) (S.left input.new) }
-    ensures cut { (bytes : List ℕ) → S.left input.old ≡ Some bytes → IsCut limit bytes (S.left input.new) result }
-    ensures left { store.new.journal.blocks ≡ store.old.journal.blocks }
+    ensures input { (bytes : List ℕ) → S.left input.old ≡ Some bytes → InputRead limit bytes (S.left input.new) result }
+    ensures image { store.new.journal.blocks ≡ store.old.journal.blocks }
     ensures unbroken { result ≢ Status.DiskFault → store.new.journal.is_broken ≡ false }
     ensures serves { (state : State) (bytes : List ℕ) → StoreFits store.old (T.meaning station.old) state → S.left input.old ≡ Some bytes
         → Serves (record { state = state; place = session.old }) (script bytes limit) (T.meaning station.old) (T.meaning station.new)
@@ -87,8 +87,8 @@ pub fn serve<S: Source, T: Station>(
     ensures same { IsSameStation (T.meaning station.old) (T.meaning station.new) }
     ensures cause { HasStatusCause (counts (T.meaning station.old) (S.faults input.old)) (counts (T.meaning station.new) (S.faults input.new)) result }
     ensures few { TakesFew limit (S.left input.old) (S.left input.new) }
-    ensures cut { (bytes : List ℕ) → S.left input.old ≡ Some bytes → IsCut limit bytes (S.left input.new) result }
-    ensures left { store.new.journal.blocks ≡ store.old.journal.blocks }
+    ensures input { (bytes : List ℕ) → S.left input.old ≡ Some bytes → InputRead limit bytes (S.left input.new) result }
+    ensures image { store.new.journal.blocks ≡ store.old.journal.blocks }
     ensures unbroken { result ≢ Status.DiskFault → store.new.journal.is_broken ≡ false }
     ensures serves { (state : State) (bytes : List ℕ) → StoreFits store.old (T.meaning station.old) state → S.left input.old ≡ Some bytes
         → Serves (record { state = state; place = session.old }) (script bytes limit) (T.meaning station.old) (T.meaning station.new)

@@ -4,17 +4,18 @@ ghost use Rattle.std.specs.Prelude.{◌≡◌, ◌≢◌, ◌↔◌, ℕ, ◌≤
 ghost use Rattle.std.specs.String.{string_bytes};
 ghost use Rattle.lis_ports.specs.Calls.{IsShowCall};
 ghost use Rattle.lis_ports.specs.Runs.{IsDiskRun, Leaves, IsSettled};
+ghost use Rattle.lis_journal.specs.Record.{block};
 ghost use Rattle.lis_journal.specs.Images.{KeepsPast};
 ghost use Rattle.lis_journal.specs.Recovery.{IsSettledPast};
 ghost use Rattle.lis_line.specs.Taking.{TakesFew};
 ghost use Rattle.lis_model.specs.declared.limits.Limits.{Limits as LimitsOf};
 ghost use Rattle.lis_model.specs.Ranges.{are_in_range};
-ghost use Rattle.lis_model.specs.Image.{data_start, image_blocks};
+ghost use Rattle.lis_model.specs.Image.{image_blocks};
 ghost use Rattle.lis_model.specs.Script.{script};
 ghost use Rattle.lis_model.specs.State.{State};
 ghost use Rattle.lis_model.specs.Step.{Situation, start_of};
 ghost use Rattle.lis_store.specs.Stands.{Stands};
-ghost use Rattle.lis_open.specs.Makes.{IsMaking, KeepsSpare};
+ghost use Rattle.lis_open.specs.Makes.{InMaking, IsSettledAt, IsSpare};
 ghost use Rattle.lis_session.specs.Item.{IsSameStation};
 ghost use Rattle.lis_session.specs.Runs.{RunsImage};
 ghost use Rattle.lis_session.specs.Session.{root_of, Headline, FullHeadline};
@@ -23,7 +24,7 @@ ghost use Rattle.lis_shell.specs.declared.words.Task.TheVariants.{Try, Make, Run
 ghost use Rattle.lis_shell.specs.Causes.{counts, HasStatusCause, IsTryStatus};
 ghost use Rattle.lis_shell.specs.Tries.{Tries};
 ghost use Rattle.lis_shell.specs.MakesImage.{MadeImage};
-ghost use Rattle.lis_shell.specs.Runs.{Entry, Ran, NoFault, IsComplete, IsCut, IsJudged, IsIdle, Barred};
+ghost use Rattle.lis_shell.specs.Runs.{Entry, Ran, NoFault, IsComplete, InputRead, IsJudged, IsIdle, Barred};
 
 use crate::serving::serve;
 use crate::session::try_session;
@@ -69,11 +70,10 @@ fn make_image<T: Station>(limits: &Limits, station: &mut T) -> Status
     ensures short { (len need : ℕ) → result ≡ Status.TooShort len need → station.new ≡ station.old }
     ensures cause { (n : ℕ) → HasStatusCause (counts (T.meaning station.old) n) (counts (T.meaning station.new) n) result }
     ensures making { IsTrue (T.meaning station.old).is_honest → IsSettled (T.meaning station.old) (T.meaning station.old).bytes
-        → Leaves (T.meaning station.old) (T.meaning station.new)
-        (λ image. IsMaking limits.now (T.meaning station.old).bytes image × KeepsSpare limits.now (T.meaning station.old).bytes image) }
-    ensures past { IsTrue (T.meaning station.old).is_honest
-        → (result ≡ Status.DiskFault → IsSettledPast (data_start limits.now) (T.meaning station.old))
-        → KeepsPast (data_start limits.now) (T.meaning station.old) (T.meaning station.new) }
+        → Leaves (T.meaning station.old) (T.meaning station.new) (InMaking limits.now (T.meaning station.old).bytes) }
+    ensures spare { (n : ℕ) → IsTrue (T.meaning station.old).is_honest → IsSpare limits.now n
+        → (result ≡ Status.DiskFault → IsSettledAt (T.meaning station.old) n)
+        → block n (T.meaning station.new).bytes ≡ block n (T.meaning station.old).bytes }
 {
     match make(station, limits) {
         Ok(()) => Status::Done,
@@ -88,7 +88,7 @@ fn run_image<S: Source, T: Station>(alloc: Global, input: &mut S, station: &mut 
     ensures same { IsSameStation (T.meaning station.old) (T.meaning station.new) }
     ensures cause { HasStatusCause (counts (T.meaning station.old) (S.faults input.old)) (counts (T.meaning station.new) (S.faults input.new)) result }
     ensures few { TakesFew (2 ^ 40) (S.left input.old) (S.left input.new) }
-    ensures cut { (bytes : List ℕ) → S.left input.old ≡ Some bytes → IsCut (2 ^ 40) bytes (S.left input.new) result }
+    ensures input { (bytes : List ℕ) → S.left input.old ≡ Some bytes → InputRead (2 ^ 40) bytes (S.left input.new) result }
     ensures small { (T.meaning station.old).len < 4096
         → (result ≡ Status.TooShort (T.meaning station.old).len 4096) × (input.new ≡ input.old) × (station.new ≡ station.old) }
     ensures numbers { (len need : ℕ) → result ≡ Status.TooShort len need → (len ≡ (T.meaning station.old).len) × (len < need) }
@@ -150,19 +150,18 @@ pub fn lisfs<S: Source, T: Station>(
         → (end : Situation) × Tries (start_of limits) (2 ^ 40) bytes (S.left input.new) (T.meaning station.old).shown (T.meaning station.new).shown end result }
 
     // `make`: an image of the empty state, where the disk is long enough. With nothing unsynced at entry a crash leaves the image of
-    // entry, one of the empty state, or one of no state. The data blocks, and what lies past the image, stay; where the disk failed,
-    // if a crash at entry left them as they read.
+    // entry, one of the empty state, or one of no state. The record, the data blocks and what lies past the image stay; where the disk
+    // failed, each block of these that a crash at entry left as it read.
     ensures makes { (limits : LimitsOf) → task_of (map string_bytes words.now) ≡ Some (Make limits)
         → MadeImage limits (T.meaning station.old) (T.meaning station.new) result
         × IsDiskRun (T.meaning station.old) (T.meaning station.new) × (input.new ≡ input.old) }
     ensures making { (limits : LimitsOf) → task_of (map string_bytes words.now) ≡ Some (Make limits)
         → IsTrue (T.meaning station.old).is_honest → IsSettled (T.meaning station.old) (T.meaning station.old).bytes
-        → Leaves (T.meaning station.old) (T.meaning station.new)
-        (λ image. IsMaking limits (T.meaning station.old).bytes image × KeepsSpare limits (T.meaning station.old).bytes image) }
-    ensures make_past { (limits : LimitsOf) → task_of (map string_bytes words.now) ≡ Some (Make limits)
-        → IsTrue (T.meaning station.old).is_honest
-        → (result ≡ Status.DiskFault → IsSettledPast (data_start limits) (T.meaning station.old))
-        → KeepsPast (data_start limits) (T.meaning station.old) (T.meaning station.new) }
+        → Leaves (T.meaning station.old) (T.meaning station.new) (InMaking limits (T.meaning station.old).bytes) }
+    ensures make_spare { (limits : LimitsOf) → task_of (map string_bytes words.now) ≡ Some (Make limits)
+        → (n : ℕ) → IsTrue (T.meaning station.old).is_honest → IsSpare limits n
+        → (result ≡ Status.DiskFault → IsSettledAt (T.meaning station.old) n)
+        → block n (T.meaning station.new).bytes ≡ block n (T.meaning station.old).bytes }
     ensures make_short { (limits : LimitsOf) → task_of (map string_bytes words.now) ≡ Some (Make limits)
         → (len need : ℕ) → result ≡ Status.TooShort len need → station.new ≡ station.old }
 
@@ -183,12 +182,6 @@ pub fn lisfs<S: Source, T: Station>(
         → Entry (T.meaning station.old) (S.left input.old) state bytes
         → (result ≡ Status.DiskFault → IsSettledPast (image_blocks state.limits) (T.meaning station.old))
         → KeepsPast (image_blocks state.limits) (T.meaning station.old) (T.meaning station.new) }
-    ensures cut { task_of (map string_bytes words.now) ≡ Some Run → (bytes : List ℕ) → S.left input.old ≡ Some bytes
-        → IsCut (2 ^ 40) bytes (S.left input.new) result }
-    ensures small { task_of (map string_bytes words.now) ≡ Some Run → (T.meaning station.old).len < 4096
-        → (result ≡ Status.TooShort (T.meaning station.old).len 4096) × (input.new ≡ input.old) × (station.new ≡ station.old) }
-    ensures numbers { task_of (map string_bytes words.now) ≡ Some Run → (len need : ℕ) → result ≡ Status.TooShort len need
-        → (len ≡ (T.meaning station.old).len) × (len < need) }
     ensures judged { task_of (map string_bytes words.now) ≡ Some Run → IsTrue (T.meaning station.old).is_honest
         → IsJudged (T.meaning station.old) result }
     ensures complete { task_of (map string_bytes words.now) ≡ Some Run → (state : State) (bytes : List ℕ)
@@ -197,6 +190,14 @@ pub fn lisfs<S: Source, T: Station>(
         → IsComplete state (2 ^ 40) bytes (S.left input.new) (T.meaning station.old).shown (T.meaning station.new) result }
     ensures idle { task_of (map string_bytes words.now) ≡ Some Run
         → IsIdle (input.new ≡ input.old) (T.meaning station.old) (T.meaning station.new) result }
+
+    // `run`, whatever the disk does: how the answer goes with the length of the input, and with that of the disk.
+    ensures input { task_of (map string_bytes words.now) ≡ Some Run → (bytes : List ℕ) → S.left input.old ≡ Some bytes
+        → InputRead (2 ^ 40) bytes (S.left input.new) result }
+    ensures small { task_of (map string_bytes words.now) ≡ Some Run → (T.meaning station.old).len < 4096
+        → (result ≡ Status.TooShort (T.meaning station.old).len 4096) × (input.new ≡ input.old) × (station.new ≡ station.old) }
+    ensures numbers { task_of (map string_bytes words.now) ≡ Some Run → (len need : ℕ) → result ≡ Status.TooShort len need
+        → (len ≡ (T.meaning station.old).len) × (len < need) }
 
     // `run` on an image that stands for no state: no input is taken, nothing is shown, and nothing is written but what an open gate
     // asks for.

@@ -4,7 +4,7 @@ use Rattle.lis_store.specs.Kept.{StoreFits}
 use Rattle.lis_session.proofs.Fitting.{store_fits_at, same_none, same_then}
 use Rattle.lis_session.proofs.Going.{so_far_none, so_far_more, item_read, ends_failed, ends_disk, ends_output, ends_memory}
 use Rattle.lis_shell.proofs.Going.{asks_some}
-use Rattle.lis_shell.proofs.Served.{ends_said, cut_said, goes_on_said}
+use Rattle.lis_shell.proofs.Served.{ends_said, input_said, goes_on_said}
 use Rattle.lis_shell.proofs.serving.carry_out.Goals as goal
 
 pub loop-item-init : goal.loop-item-init
@@ -90,19 +90,19 @@ returns-in-Err-OutputFault-clause-same g c = same_then c.loop-item.invariant.sam
 pub returns-in-Err-NoMemory-clause-same : goal.returns-in-Err-NoMemory-clause-same
 returns-in-Err-NoMemory-clause-same g c = same_then c.loop-item.invariant.same c.in-Err-NoMemory.ensures.same
 
-pub returns-in-Some-clause-cut : goal.returns-in-Some-clause-cut
-returns-in-Some-clause-cut g c = λ bytes told.
-    cut_said c.in-Ok.item c.in-Some.status bytes c.loop-item.invariant.so_far told c.next.ensures.says c.in-Ok.is (sym c.in-Some.ensures)
+pub returns-in-Some-clause-input : goal.returns-in-Some-clause-input
+returns-in-Some-clause-input g c = λ bytes told.
+    input_said c.in-Ok.item c.in-Some.status bytes c.loop-item.invariant.so_far told c.next.ensures.says c.in-Ok.is (sym c.in-Some.ensures)
 
 pub returns-in-Some-clause-goes_on : goal.returns-in-Some-clause-goes_on
 returns-in-Some-clause-goes_on g c = λ state bytes fits told.
     goes_on_said c.in-Ok.item c.in-Some.status bytes state c.loop-item.store c.loop-item.invariant.so_far told c.next.ensures.says c.in-Ok.is (sym c.in-Some.ensures) (store_fits_at fits)
 
-pub returns-in-Err-DiskFault-clause-left : goal.returns-in-Err-DiskFault-clause-left
-returns-in-Err-DiskFault-clause-left g c = c.in-Err-DiskFault.ensures.left.image ∙ c.loop-item.invariant.image
+pub returns-in-Err-DiskFault-clause-image : goal.returns-in-Err-DiskFault-clause-image
+returns-in-Err-DiskFault-clause-image g c = c.in-Err-DiskFault.ensures.left.image ∙ c.loop-item.invariant.image
 
-pub returns-in-Err-OutputFault-clause-left : goal.returns-in-Err-OutputFault-clause-left
-returns-in-Err-OutputFault-clause-left g c = c.in-Err-OutputFault.ensures.left.image ∙ c.loop-item.invariant.image
+pub returns-in-Err-OutputFault-clause-image : goal.returns-in-Err-OutputFault-clause-image
+returns-in-Err-OutputFault-clause-image g c = c.in-Err-OutputFault.ensures.left.image ∙ c.loop-item.invariant.image
 
-pub returns-in-Err-NoMemory-clause-left : goal.returns-in-Err-NoMemory-clause-left
-returns-in-Err-NoMemory-clause-left g c = c.in-Err-NoMemory.ensures.left.image ∙ c.loop-item.invariant.image
+pub returns-in-Err-NoMemory-clause-image : goal.returns-in-Err-NoMemory-clause-image
+returns-in-Err-NoMemory-clause-image g c = c.in-Err-NoMemory.ensures.left.image ∙ c.loop-item.invariant.image

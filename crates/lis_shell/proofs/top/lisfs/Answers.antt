@@ -1,9 +1,7 @@
 use Rattle.std.proofs.Common.{map, Some, ap, sym, subst, ◌∙◌}
 use Rattle.std.specs.String.{string_bytes}
-use Rattle.lis_journal.specs.Images.{KeepsPast}
-use Rattle.lis_journal.specs.Recovery.{IsSettledPast}
 use Rattle.lis_model.specs.declared.limits.Limits.{Limits}
-use Rattle.lis_model.specs.Image.{data_start}
+use Rattle.lis_open.specs.Makes.{IsSpare}
 use Rattle.lis_model.specs.Script.{script}
 use Rattle.lis_session.proofs.Fitting.{same_none, same_run, same_shown}
 use Rattle.lis_session.proofs.Whole.{headline, headline_settled}
@@ -42,10 +40,7 @@ returns-in-Some-Try-clause-same g c = same_shown c.try_from_empty.ensures.disk
 pub returns-in-Some-Make-clause-same : goal.returns-in-Some-Make-clause-same
 returns-in-Some-Make-clause-same g c = same_run c.make_image.ensures.run
 
-pub returns-in-Some-Make-clause-make_past : goal.returns-in-Some-Make-clause-make_past
-returns-in-Some-Make-clause-make_past g c = λ limits is_make honest settled.
-    let old = g.T.Disk.meaning c.args.station.now in
-    let new = g.T.Disk.meaning c.make_image.new.station in
+pub returns-in-Some-Make-clause-make_spare : goal.returns-in-Some-Make-clause-make_spare
+returns-in-Some-Make-clause-make_spare g c = λ limits is_make n honest is settled.
     let same = one_make c.in-Some-Make.limits limits (sym (sym c.task_of.ensures ∙ c.in-Some-Make.is ∙ ap Some c.in-Some-Make.field-0-is) ∙ is_make) in
-    subst (λ (l : Limits). KeepsPast (data_start l) old new) same
-    (c.make_image.ensures.past honest (λ failed. subst (λ (l : Limits). IsSettledPast (data_start l) old) (sym same) (settled failed)))
+    c.make_image.ensures.spare n honest (subst (λ (l : Limits). IsSpare l n) (sym same) is) settled
