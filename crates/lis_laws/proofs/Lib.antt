@@ -1,16 +1,3 @@
 pub mod Members
-pub mod Chains
 pub mod Tops
-pub mod Tables
-pub mod Locals
-pub mod Routes
-pub mod Axioms
-pub mod Descriptions
 pub mod Counts
-pub mod Known
-pub mod Forms
-pub mod Fresh
-pub mod Items
-pub mod Steps
-pub mod Growth
-pub mod Examples
