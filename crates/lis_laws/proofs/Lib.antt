@@ -1,3 +1,4 @@
 pub mod Members
 pub mod Tops
 pub mod Counts
+pub mod Chains
