@@ -2,3 +2,8 @@ pub mod Members
 pub mod Tops
 pub mod Counts
 pub mod Chains
+pub mod Axioms
+pub mod Closures
+pub mod Apart
+pub mod Leads
+pub mod Derived
