@@ -3,3 +3,8 @@ pub mod Tops
 pub mod Counts
 pub mod Chains
 pub mod Items
+pub mod Axioms
+pub mod Closures
+pub mod Apart
+pub mod Leads
+pub mod Derived
