@@ -8,3 +8,7 @@ pub mod Closures
 pub mod Apart
 pub mod Leads
 pub mod Derived
+pub mod Sources
+pub mod Tables
+pub mod Locals
+pub mod Routes
