@@ -12,3 +12,6 @@ pub mod Sources
 pub mod Tables
 pub mod Locals
 pub mod Routes
+pub mod Known
+pub mod Reached
+pub mod Growth

@@ -1,0 +1,240 @@
+-- Which words become known when something comes into a state.
+use Rattle.std.proofs.Common.{◌≡◌, ◌⊎◌, ℕ, true, false, ◌&&◌, List, [], ◌∷◌, refl, sym, ap, subst, ◌∙◌, inl, inr}
+use Rattle.std.specs.declared.cmp.Ordering.{Ordering}
+use Rattle.std.specs.declared.cmp.Ordering.TheVariants.{Less, Equal, Greater}
+use Rattle.std.specs.Ordering.{match_ordering}
+use Rattle.std.specs.BTreeSet.{insert_key}
+use Rattle.std.specs.List.{fold, list_all}
+use Rattle.std.proofs.lemmas.Bool.{and_parts, both_ways}
+use Rattle.lis_graph.specs.Graph.{is_rising}
+use Rattle.lis_graph.proofs.Members.{Among, any_from_among, among_insert_key, insert_key_old, insert_key_new}
+use Rattle.lis_graph.proofs.Sets as sets
+use Rattle.lis_words.specs.Words.{word_cmp, same_word, has_word, is_plain_word, is_valued}
+use Rattle.lis_model.specs.Sets.{with_word, with_words}
+use Rattle.lis_model.specs.State.{State, File, WellFormed, heads, file_words, description, known, is_declarable, pair_cmp, file_cmp}
+use Rattle.lis_model.specs.Changes.{with_axiom, declared_under, axiom_added, has_name, file_added}
+use Rattle.lis_laws.proofs.Members.{word_exact, word_order, pair_exact, same_word_decides, among_from_has_word, among_with_words, with_words_old, with_words_new, sorted_with_words, same_words}
+use Rattle.lis_laws.proofs.Chains.{Pairs, IsWeakerIn, among_heads}
+use Rattle.lis_laws.proofs.Chains.OwnLink.{Head, Weaker}
+use Rattle.lis_laws.proofs.Counts.{all_among, rising_insert_key}
+use Rattle.lis_laws.proofs.Apart.{declarable_not_valued}
+use Rattle.lis_laws.proofs.Sources.{OwnWord, own_from, Source, source_of, known_from, rights_are, right_declared}
+use Rattle.lis_laws.proofs.Sources.OwnWord.{Assigned, Derived, Met}
+use Rattle.lis_laws.proofs.Sources.Source.{Declared, Left, LeftHead, Described}
+use Rattle.lis_laws.proofs.Closures.{all_up_has}
+use Rattle.lis_laws.proofs.Reached.{OneLink, described_link, described_keeps}
+use Rattle.lis_laws.proofs.Known.{IsWithin, known_within, sorted_known}
+
+-- the declared words are no valued ones, and the right sides of axioms are among them
+pub record IsSettled (declared : List (List ℕ)) (axioms : Pairs) : Type 0 where
+  pub not_valued : (w : List ℕ) → Among declared w → is_valued w ≡ false
+  pub rights : (e : List ℕ × List ℕ) → Among axioms e → Among declared e.1
+
+-- Then a file's words are declared, or those that it has with any other declared words and axioms.
+pub declared_or_had : (some more : List (List ℕ)) (axioms others : Pairs) → IsSettled more others → (file : File) (w : List ℕ) → Among (file_words more others file) w
+    → Among (file_words some axioms file) w ⊎ Among more w
+declared_or_had some more axioms others settled file = described_keeps more others (λ w. Among (file_words some axioms file) w ⊎ Among more w) link file own
+  where
+    own : (w : List ℕ) → OwnWord more file w → Among (file_words some axioms file) w ⊎ Among more w
+    own w (Assigned m) = inl (all_up_has some axioms _ w (own_from some file w (Assigned m)))
+    own w (Derived m) = inl (all_up_has some axioms _ w (own_from some file w (Derived m)))
+    own w (Met m met) = inr m
+
+    link : (p r : List ℕ) → Among (file_words some axioms file) p ⊎ Among more p → OneLink more others p r → Among (file_words some axioms file) r ⊎ Among more r
+    link p r (inl at) (inl (Head valued is)) = inl (described_link some axioms file p r at (inl (Head valued is)))
+    link p r (inr at) (inl (Head valued is)) = absurd (both_ways (is_valued p) (settled.not_valued p at) valued)
+    link p r at (inl (Weaker w)) = inr w.to
+    link p r at (inr edge) = inr (settled.rights (p, r) edge)
+
+pub settled : (s : State) → WellFormed s → IsSettled s.declared s.axioms
+settled s formed = record {
+  not_valued = λ w m. declarable_not_valued w (all_among is_declarable s.declared w formed.declared m);
+  rights = λ e m. right_declared s e.1 (rights_are s formed e m);
+}
+
+-- ---- a word declared under others
+abbrev pub under : List ℕ → Pairs → List (List ℕ) → Pairs
+under word axioms words = fold (λ (some : Pairs) (q : List ℕ). with_axiom some (word, q)) axioms words
+
+pub under_old : (word : List ℕ) (axioms : Pairs) (words : List (List ℕ)) (e : List ℕ × List ℕ) → Among axioms e → Among (under word axioms words) e
+under_old word axioms [] e m = m
+under_old word axioms (q ∷ words) e m = under_old word (with_axiom axioms (word, q)) words e (insert_key_old pair_cmp axioms (word, q) e m)
+
+-- an axiom from the word to one of the others
+pub record IsUnder (word : List ℕ) (words : List (List ℕ)) (e : List ℕ × List ℕ) : Type 0 where
+  pub left : e.0 ≡ word
+  pub right : Among words e.1
+
+pub under_cases : (word : List ℕ) (axioms : Pairs) (words : List (List ℕ)) (e : List ℕ × List ℕ) → Among (under word axioms words) e → Among axioms e ⊎ IsUnder word words e
+under_cases word axioms [] e m = inl m
+under_cases word axioms (q ∷ words) e m = by (under_cases word (with_axiom axioms (word, q)) words e m)
+  where
+    front : ((word, q) ≡ e) ⊎ Among axioms e → Among axioms e ⊎ IsUnder word (q ∷ words) e
+    front (inl same) = inr (record { left = ap (λ (k : List ℕ × List ℕ). k.0) (sym same); right = inl (ap (λ (k : List ℕ × List ℕ). k.1) same) })
+    front (inr old) = inl old
+
+    by : Among (with_axiom axioms (word, q)) e ⊎ IsUnder word words e → Among axioms e ⊎ IsUnder word (q ∷ words) e
+    by (inl found) = front (among_insert_key pair_cmp axioms (word, q) e found)
+    by (inr more) = inr (record { left = more.left; right = inr more.right })
+
+-- what a word needs to be declared under others
+pub record IsPlaced (s : State) (word : List ℕ) (words : List (List ℕ)) : Type 0 where
+  pub form : is_declarable word ≡ true
+  pub over : list_all (λ q. is_plain_word q && has_word s.declared q) words ≡ true
+
+pub under_settled : (s : State) → WellFormed s → (word : List ℕ) (words : List (List ℕ)) → IsPlaced s word words
+    → IsSettled (declared_under s word words).declared (declared_under s word words).axioms
+under_settled s formed word words placed = record {
+  not_valued = λ w m. plain w (among_insert_key word_cmp s.declared word w m);
+  rights = λ e m. insert_key_old word_cmp s.declared word e.1 (right e (under_cases word s.axioms words e m));
+}
+  where
+    plain : (w : List ℕ) → (word ≡ w) ⊎ Among s.declared w → is_valued w ≡ false
+    plain w (inl same) = subst (λ k. is_valued k ≡ false) same (declarable_not_valued word placed.form)
+    plain w (inr m) = (settled s formed).not_valued w m
+
+    right : (e : List ℕ × List ℕ) → Among s.axioms e ⊎ IsUnder word words e → Among s.declared e.1
+    right e (inl old) = (settled s formed).rights e old
+    right e (inr new) = among_from_has_word s.declared e.1 (and_parts (is_plain_word e.1) (has_word s.declared e.1) (all_among (λ q. is_plain_word q && has_word s.declared q) words e.1 placed.over new.right)).1
+
+pub under_within : (s : State) (word : List ℕ) (words : List (List ℕ)) → IsWithin s (declared_under s word words)
+under_within s word words = record { declared = insert_key_old word_cmp s.declared word; axioms = under_old word s.axioms words; files = λ f m. m }
+
+pub known_declares : (s : State) → WellFormed s → (word : List ℕ) (words : List (List ℕ)) → IsPlaced s word words → known (declared_under s word words) ≡ with_word (known s) word
+known_declares s formed word words placed =
+    same_words (known (declared_under s word words)) (with_word (known s) word)
+    (sorted_known (declared_under s word words) (rising_insert_key word_cmp word_order s.declared word formed.declared_set))
+    (sets.sorted_insert_key word_cmp word_order (known s) word (sorted_known s formed.declared_set))
+    (λ w m. to w (source_of (declared_under s word words) w m)) (λ w m. from w (among_insert_key word_cmp (known s) word w m))
+  where
+    old : (w : List ℕ) → Source s w → Among (with_word (known s) word) w
+    old w source = insert_key_old word_cmp (known s) word w (known_from s w source)
+
+    new : (w : List ℕ) → word ≡ w → Among (with_word (known s) word) w
+    new w same = subst (λ (k : List ℕ). Among (with_word (known s) word) k) same (insert_key_new word_cmp word_exact (known s) word)
+
+    declared : (w : List ℕ) → (word ≡ w) ⊎ Among s.declared w → Among (with_word (known s) word) w
+    declared w (inl same) = new w same
+    declared w (inr m) = old w (Declared m)
+
+    left : (w : List ℕ) (e : List ℕ × List ℕ) → e.0 ≡ w → Among s.axioms e ⊎ IsUnder word words e → Among (with_word (known s) word) w
+    left w e is (inl m) = old w (Left e m is)
+    left w e is (inr more) = new w (sym more.left ∙ is)
+
+    above : (w : List ℕ) (e : List ℕ × List ℕ) → Among (heads e.0) w → Among s.axioms e ⊎ IsUnder word words e → Among (with_word (known s) word) w
+    above w e head (inl m) = old w (LeftHead e m head)
+    above w e head (inr more) =
+        absurd (both_ways (is_valued word) (declarable_not_valued word placed.form) (subst (λ k. is_valued k ≡ true) more.left (among_heads e.0 w head).0))
+
+    described : (w : List ℕ) (file : File) → Among s.files file → Among (description s file) w ⊎ Among (with_word s.declared word) w → Among (with_word (known s) word) w
+    described w file m (inl has) = old w (Described file m has)
+    described w file m (inr there) = declared w (among_insert_key word_cmp s.declared word w there)
+
+    to : (w : List ℕ) → Source (declared_under s word words) w → Among (with_word (known s) word) w
+    to w (Declared m) = declared w (among_insert_key word_cmp s.declared word w m)
+    to w (Left e m is) = left w e is (under_cases word s.axioms words e m)
+    to w (LeftHead e m head) = above w e head (under_cases word s.axioms words e m)
+    to w (Described file m has) =
+        described w file m (declared_or_had s.declared (with_word s.declared word) s.axioms (under word s.axioms words) (under_settled s formed word words placed) file w has)
+
+    from : (w : List ℕ) → (word ≡ w) ⊎ Among (known s) w → Among (known (declared_under s word words)) w
+    from w (inl same) =
+        known_from (declared_under s word words) w (Declared (subst (λ (k : List ℕ). Among (with_word s.declared word) k) same (insert_key_new word_cmp word_exact s.declared word)))
+    from w (inr m) = known_within s (declared_under s word words) (under_within s word words) w m
+
+-- ---- a new file
+module _ {K : Type 0} (cmp : K → K → Ordering) where
+  -- what equals no member is put in
+  insert_key_there : (xs : List K) (k : K) → ((x : K) → Among xs x → cmp k x ≡ Equal → ⊥) → Among (insert_key cmp xs k) k
+  insert_key_there [] k other = inl refl
+  insert_key_there (y ∷ ys) k other = by (cmp k y) refl (insert_key_there ys k (λ x m. other x (inr m)))
+    where
+      by : (r : Ordering) → cmp k y ≡ r → Among (insert_key cmp ys k) k → Among (match_ordering r (k ∷ y ∷ ys) (y ∷ ys) (y ∷ insert_key cmp ys k)) k
+      by Less e rest = inl refl
+      by Equal e rest = absurd (other y (inl refl) e)
+      by Greater e rest = inr rest
+
+pub file_there : (s : State) (file : File) → has_name s.files file.name ≡ false → Among (file_added s file).files file
+file_there s file new = insert_key_there file_cmp s.files file apart
+  where
+    apart : (other : File) → Among s.files other → file_cmp file other ≡ Equal → ⊥
+    apart other m e =
+        let same = (same_word_decides other.name file.name).1 (sym (word_exact file.name other.name e)) in
+        both_ways (has_name s.files file.name) new (any_from_among (λ (f : File). same_word f.name file.name) s.files other m same)
+
+file_within : (s : State) (file : File) → IsWithin s (file_added s file)
+file_within s file = record { declared = λ w m. m; axioms = λ e m. m; files = insert_key_old file_cmp s.files file }
+
+pub known_adds_file : (s : State) → is_rising word_cmp s.declared ≡ true → (file : File) → has_name s.files file.name ≡ false
+    → known (file_added s file) ≡ with_words (known s) (description s file)
+known_adds_file s rising file new =
+    same_words (known (file_added s file)) (with_words (known s) (description s file))
+    (sorted_known (file_added s file) rising) (sorted_with_words (known s) (description s file) (sorted_known s rising))
+    (λ w m. to w (source_of (file_added s file) w m)) (λ w m. from w (among_with_words (known s) (description s file) w m))
+  where
+    old : (w : List ℕ) → Source s w → Among (with_words (known s) (description s file)) w
+    old w source = with_words_old (known s) (description s file) w (known_from s w source)
+
+    described : (w : List ℕ) (f : File) → (file ≡ f) ⊎ Among s.files f → Among (description s f) w → Among (with_words (known s) (description s file)) w
+    described w f (inl same) has = with_words_new (known s) (description s file) w (subst (λ (o : File). Among (description s o) w) (sym same) has)
+    described w f (inr m) has = old w (Described f m has)
+
+    to : (w : List ℕ) → Source (file_added s file) w → Among (with_words (known s) (description s file)) w
+    to w (Declared m) = old w (Declared m)
+    to w (Left e m is) = old w (Left e m is)
+    to w (LeftHead e m head) = old w (LeftHead e m head)
+    to w (Described f m has) = described w f (among_insert_key file_cmp s.files file f m) has
+
+    from : (w : List ℕ) → Among (known s) w ⊎ Among (description s file) w → Among (known (file_added s file)) w
+    from w (inl m) = known_within s (file_added s file) (file_within s file) w m
+    from w (inr has) = known_from (file_added s file) w (Described file (file_there s file new) has)
+
+-- ---- a new axiom
+axiom_within : (s : State) (pair : List ℕ × List ℕ) → IsWithin s (axiom_added s pair)
+axiom_within s pair = record { declared = λ w m. m; axioms = insert_key_old pair_cmp s.axioms pair; files = λ f m. m }
+
+pub known_adds_axiom : (s : State) → WellFormed s → (l r : List ℕ) → (is_plain_word r && has_word s.declared r) ≡ true
+    → known (axiom_added s (l, r)) ≡ with_words (known s) (l ∷ heads l)
+known_adds_axiom s formed l r right =
+    same_words (known (axiom_added s (l, r))) (with_words (known s) (l ∷ heads l))
+    (sorted_known (axiom_added s (l, r)) formed.declared_set) (sorted_with_words (known s) (l ∷ heads l) (sorted_known s formed.declared_set))
+    (λ w m. to w (source_of (axiom_added s (l, r)) w m)) (λ w m. from w (among_with_words (known s) (l ∷ heads l) w m))
+  where
+    old : (w : List ℕ) → Source s w → Among (with_words (known s) (l ∷ heads l)) w
+    old w source = with_words_old (known s) (l ∷ heads l) w (known_from s w source)
+
+    new : (w : List ℕ) → Among (l ∷ heads l) w → Among (with_words (known s) (l ∷ heads l)) w
+    new w m = with_words_new (known s) (l ∷ heads l) w m
+
+    left : (w : List ℕ) (e : List ℕ × List ℕ) → e.0 ≡ w → ((l, r) ≡ e) ⊎ Among s.axioms e → Among (with_words (known s) (l ∷ heads l)) w
+    left w e is (inl same) = new w (inl (ap (λ (k : List ℕ × List ℕ). k.0) same ∙ is))
+    left w e is (inr m) = old w (Left e m is)
+
+    above : (w : List ℕ) (e : List ℕ × List ℕ) → Among (heads e.0) w → ((l, r) ≡ e) ⊎ Among s.axioms e → Among (with_words (known s) (l ∷ heads l)) w
+    above w e head (inl same) = new w (inr (subst (λ (k : List ℕ × List ℕ). Among (heads k.0) w) (sym same) head))
+    above w e head (inr m) = old w (LeftHead e m head)
+
+    rights : (e : List ℕ × List ℕ) → ((l, r) ≡ e) ⊎ Among s.axioms e → Among s.declared e.1
+    rights e (inl same) = subst (λ (k : List ℕ × List ℕ). Among s.declared k.1) same (right_declared s r right)
+    rights e (inr m) = (settled s formed).rights e m
+
+    now_settled : IsSettled s.declared (with_axiom s.axioms (l, r))
+    now_settled = record { not_valued = (settled s formed).not_valued; rights = λ e m. rights e (among_insert_key pair_cmp s.axioms (l, r) e m) }
+
+    described : (w : List ℕ) (file : File) → Among s.files file → Among (description s file) w ⊎ Among s.declared w → Among (with_words (known s) (l ∷ heads l)) w
+    described w file m (inl has) = old w (Described file m has)
+    described w file m (inr there) = old w (Declared there)
+
+    to : (w : List ℕ) → Source (axiom_added s (l, r)) w → Among (with_words (known s) (l ∷ heads l)) w
+    to w (Declared m) = old w (Declared m)
+    to w (Left e m is) = left w e is (among_insert_key pair_cmp s.axioms (l, r) e m)
+    to w (LeftHead e m head) = above w e head (among_insert_key pair_cmp s.axioms (l, r) e m)
+    to w (Described file m has) = described w file m (declared_or_had s.declared s.declared s.axioms (with_axiom s.axioms (l, r)) now_settled file w has)
+
+    there : Among (axiom_added s (l, r)).axioms (l, r)
+    there = insert_key_new pair_cmp pair_exact s.axioms (l, r)
+
+    from : (w : List ℕ) → Among (known s) w ⊎ Among (l ∷ heads l) w → Among (known (axiom_added s (l, r))) w
+    from w (inl m) = known_within s (axiom_added s (l, r)) (axiom_within s (l, r)) w m
+    from w (inr (inl same)) = known_from (axiom_added s (l, r)) w (Left (l, r) there same)
+    from w (inr (inr head)) = known_from (axiom_added s (l, r)) w (LeftHead (l, r) there head)
