@@ -11,3 +11,5 @@ pub mod Sources
 pub mod Tables
 pub mod Locals
 pub mod Routes
+pub mod Known
+pub mod Forms
