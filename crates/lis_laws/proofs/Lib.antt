@@ -15,3 +15,4 @@ pub mod Routes
 pub mod Known
 pub mod Reached
 pub mod Growth
+pub mod Forms
