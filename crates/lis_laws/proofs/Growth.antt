@@ -18,11 +18,13 @@ use Rattle.lis_laws.proofs.Chains.{Pairs, IsWeakerIn, among_heads}
 use Rattle.lis_laws.proofs.Chains.OwnLink.{Head, Weaker}
 use Rattle.lis_laws.proofs.Counts.{all_among, rising_insert_key}
 use Rattle.lis_laws.proofs.Apart.{declarable_not_valued}
-use Rattle.lis_laws.proofs.Sources.{OwnWord, own_from, Source, source_of, known_from, rights_are, right_declared}
+use Rattle.lis_laws.proofs.Sources.{OwnWord, own_from, Source, source_of, known_from, is_right, rights_are, right_declared}
 use Rattle.lis_laws.proofs.Sources.OwnWord.{Assigned, Derived, Met}
 use Rattle.lis_laws.proofs.Sources.Source.{Declared, Left, LeftHead, Described}
 use Rattle.lis_laws.proofs.Closures.{all_up_has}
 use Rattle.lis_laws.proofs.Reached.{OneLink, described_link, described_keeps}
+use Rattle.lis_laws.proofs.Forms.{under, under_old, among_under, over_right}
+use Rattle.lis_laws.proofs.Named.{file_there}
 use Rattle.lis_laws.proofs.Known.{IsWithin, known_within, sorted_known}
 
 -- the declared words are no valued ones, and the right sides of axioms are among them
@@ -53,29 +55,9 @@ settled s formed = record {
 }
 
 -- ---- a word declared under others
-abbrev pub under : List ℕ → Pairs → List (List ℕ) → Pairs
-under word axioms words = fold (λ (some : Pairs) (q : List ℕ). with_axiom some (word, q)) axioms words
-
-pub under_old : (word : List ℕ) (axioms : Pairs) (words : List (List ℕ)) (e : List ℕ × List ℕ) → Among axioms e → Among (under word axioms words) e
-under_old word axioms [] e m = m
-under_old word axioms (q ∷ words) e m = under_old word (with_axiom axioms (word, q)) words e (insert_key_old pair_cmp axioms (word, q) e m)
-
 -- an axiom from the word to one of the others
-pub record IsUnder (word : List ℕ) (words : List (List ℕ)) (e : List ℕ × List ℕ) : Type 0 where
-  pub left : e.0 ≡ word
-  pub right : Among words e.1
-
-pub under_cases : (word : List ℕ) (axioms : Pairs) (words : List (List ℕ)) (e : List ℕ × List ℕ) → Among (under word axioms words) e → Among axioms e ⊎ IsUnder word words e
-under_cases word axioms [] e m = inl m
-under_cases word axioms (q ∷ words) e m = by (under_cases word (with_axiom axioms (word, q)) words e m)
-  where
-    front : ((word, q) ≡ e) ⊎ Among axioms e → Among axioms e ⊎ IsUnder word (q ∷ words) e
-    front (inl same) = inr (record { left = ap (λ (k : List ℕ × List ℕ). k.0) (sym same); right = inl (ap (λ (k : List ℕ × List ℕ). k.1) same) })
-    front (inr old) = inl old
-
-    by : Among (with_axiom axioms (word, q)) e ⊎ IsUnder word words e → Among axioms e ⊎ IsUnder word (q ∷ words) e
-    by (inl found) = front (among_insert_key pair_cmp axioms (word, q) e found)
-    by (inr more) = inr (record { left = more.left; right = inr more.right })
+abbrev pub IsUnder : List ℕ → List (List ℕ) → List ℕ × List ℕ → Type 0
+IsUnder word words e = (q : List ℕ) × Among words q × ((word, q) ≡ e)
 
 -- what a word needs to be declared under others
 pub record IsPlaced (s : State) (word : List ℕ) (words : List (List ℕ)) : Type 0 where
@@ -86,7 +68,7 @@ pub under_settled : (s : State) → WellFormed s → (word : List ℕ) (words : 
     → IsSettled (declared_under s word words).declared (declared_under s word words).axioms
 under_settled s formed word words placed = record {
   not_valued = λ w m. plain w (among_insert_key word_cmp s.declared word w m);
-  rights = λ e m. insert_key_old word_cmp s.declared word e.1 (right e (under_cases word s.axioms words e m));
+  rights = λ e m. insert_key_old word_cmp s.declared word e.1 (right e (among_under word s.axioms words e m));
 }
   where
     plain : (w : List ℕ) → (word ≡ w) ⊎ Among s.declared w → is_valued w ≡ false
@@ -95,7 +77,7 @@ under_settled s formed word words placed = record {
 
     right : (e : List ℕ × List ℕ) → Among s.axioms e ⊎ IsUnder word words e → Among s.declared e.1
     right e (inl old) = (settled s formed).rights e old
-    right e (inr new) = among_from_has_word s.declared e.1 (and_parts (is_plain_word e.1) (has_word s.declared e.1) (all_among (λ q. is_plain_word q && has_word s.declared q) words e.1 placed.over new.right)).1
+    right e (inr new) = subst (λ (k : List ℕ × List ℕ). Among s.declared k.1) new.2 (right_declared s new.0 (over_right s words placed.over new.0 new.1))
 
 pub under_within : (s : State) (word : List ℕ) (words : List (List ℕ)) → IsWithin s (declared_under s word words)
 under_within s word words = record { declared = insert_key_old word_cmp s.declared word; axioms = under_old word s.axioms words; files = λ f m. m }
@@ -119,12 +101,12 @@ known_declares s formed word words placed =
 
     left : (w : List ℕ) (e : List ℕ × List ℕ) → e.0 ≡ w → Among s.axioms e ⊎ IsUnder word words e → Among (with_word (known s) word) w
     left w e is (inl m) = old w (Left e m is)
-    left w e is (inr more) = new w (sym more.left ∙ is)
+    left w e is (inr more) = new w (ap (λ (k : List ℕ × List ℕ). k.0) more.2 ∙ is)
 
     above : (w : List ℕ) (e : List ℕ × List ℕ) → Among (heads e.0) w → Among s.axioms e ⊎ IsUnder word words e → Among (with_word (known s) word) w
     above w e head (inl m) = old w (LeftHead e m head)
     above w e head (inr more) =
-        absurd (both_ways (is_valued word) (declarable_not_valued word placed.form) (subst (λ k. is_valued k ≡ true) more.left (among_heads e.0 w head).0))
+        absurd (both_ways (is_valued word) (declarable_not_valued word placed.form) (subst (λ (k : List ℕ × List ℕ). is_valued k.0 ≡ true) (sym more.2) (among_heads e.0 w head).0))
 
     described : (w : List ℕ) (file : File) → Among s.files file → Among (description s file) w ⊎ Among (with_word s.declared word) w → Among (with_word (known s) word) w
     described w file m (inl has) = old w (Described file m has)
@@ -132,8 +114,8 @@ known_declares s formed word words placed =
 
     to : (w : List ℕ) → Source (declared_under s word words) w → Among (with_word (known s) word) w
     to w (Declared m) = declared w (among_insert_key word_cmp s.declared word w m)
-    to w (Left e m is) = left w e is (under_cases word s.axioms words e m)
-    to w (LeftHead e m head) = above w e head (under_cases word s.axioms words e m)
+    to w (Left e m is) = left w e is (among_under word s.axioms words e m)
+    to w (LeftHead e m head) = above w e head (among_under word s.axioms words e m)
     to w (Described file m has) =
         described w file m (declared_or_had s.declared (with_word s.declared word) s.axioms (under word s.axioms words) (under_settled s formed word words placed) file w has)
 
@@ -143,25 +125,6 @@ known_declares s formed word words placed =
     from w (inr m) = known_within s (declared_under s word words) (under_within s word words) w m
 
 -- ---- a new file
-module _ {K : Type 0} (cmp : K → K → Ordering) where
-  -- what equals no member is put in
-  insert_key_there : (xs : List K) (k : K) → ((x : K) → Among xs x → cmp k x ≡ Equal → ⊥) → Among (insert_key cmp xs k) k
-  insert_key_there [] k other = inl refl
-  insert_key_there (y ∷ ys) k other = by (cmp k y) refl (insert_key_there ys k (λ x m. other x (inr m)))
-    where
-      by : (r : Ordering) → cmp k y ≡ r → Among (insert_key cmp ys k) k → Among (match_ordering r (k ∷ y ∷ ys) (y ∷ ys) (y ∷ insert_key cmp ys k)) k
-      by Less e rest = inl refl
-      by Equal e rest = absurd (other y (inl refl) e)
-      by Greater e rest = inr rest
-
-pub file_there : (s : State) (file : File) → has_name s.files file.name ≡ false → Among (file_added s file).files file
-file_there s file new = insert_key_there file_cmp s.files file apart
-  where
-    apart : (other : File) → Among s.files other → file_cmp file other ≡ Equal → ⊥
-    apart other m e =
-        let same = (same_word_decides other.name file.name).1 (sym (word_exact file.name other.name e)) in
-        both_ways (has_name s.files file.name) new (any_from_among (λ (f : File). same_word f.name file.name) s.files other m same)
-
 file_within : (s : State) (file : File) → IsWithin s (file_added s file)
 file_within s file = record { declared = λ w m. m; axioms = λ e m. m; files = insert_key_old file_cmp s.files file }
 
@@ -193,8 +156,14 @@ known_adds_file s rising file new =
 axiom_within : (s : State) (pair : List ℕ × List ℕ) → IsWithin s (axiom_added s pair)
 axiom_within s pair = record { declared = λ w m. m; axioms = insert_key_old pair_cmp s.axioms pair; files = λ f m. m }
 
-pub known_adds_axiom : (s : State) → WellFormed s → (l r : List ℕ) → (is_plain_word r && has_word s.declared r) ≡ true
-    → known (axiom_added s (l, r)) ≡ with_words (known s) (l ∷ heads l)
+pub axiom_settled : (s : State) → WellFormed s → (l r : List ℕ) → is_right s r ≡ true → IsSettled s.declared (with_axiom s.axioms (l, r))
+axiom_settled s formed l r right = record { not_valued = (settled s formed).not_valued; rights = λ e m. rights e (among_insert_key pair_cmp s.axioms (l, r) e m) }
+  where
+    rights : (e : List ℕ × List ℕ) → ((l, r) ≡ e) ⊎ Among s.axioms e → Among s.declared e.1
+    rights e (inl same) = subst (λ (k : List ℕ × List ℕ). Among s.declared k.1) same (right_declared s r right)
+    rights e (inr m) = (settled s formed).rights e m
+
+pub known_adds_axiom : (s : State) → WellFormed s → (l r : List ℕ) → is_right s r ≡ true → known (axiom_added s (l, r)) ≡ with_words (known s) (l ∷ heads l)
 known_adds_axiom s formed l r right =
     same_words (known (axiom_added s (l, r))) (with_words (known s) (l ∷ heads l))
     (sorted_known (axiom_added s (l, r)) formed.declared_set) (sorted_with_words (known s) (l ∷ heads l) (sorted_known s formed.declared_set))
@@ -214,13 +183,6 @@ known_adds_axiom s formed l r right =
     above w e head (inl same) = new w (inr (subst (λ (k : List ℕ × List ℕ). Among (heads k.0) w) (sym same) head))
     above w e head (inr m) = old w (LeftHead e m head)
 
-    rights : (e : List ℕ × List ℕ) → ((l, r) ≡ e) ⊎ Among s.axioms e → Among s.declared e.1
-    rights e (inl same) = subst (λ (k : List ℕ × List ℕ). Among s.declared k.1) same (right_declared s r right)
-    rights e (inr m) = (settled s formed).rights e m
-
-    now_settled : IsSettled s.declared (with_axiom s.axioms (l, r))
-    now_settled = record { not_valued = (settled s formed).not_valued; rights = λ e m. rights e (among_insert_key pair_cmp s.axioms (l, r) e m) }
-
     described : (w : List ℕ) (file : File) → Among s.files file → Among (description s file) w ⊎ Among s.declared w → Among (with_words (known s) (l ∷ heads l)) w
     described w file m (inl has) = old w (Described file m has)
     described w file m (inr there) = old w (Declared there)
@@ -229,7 +191,7 @@ known_adds_axiom s formed l r right =
     to w (Declared m) = old w (Declared m)
     to w (Left e m is) = left w e is (among_insert_key pair_cmp s.axioms (l, r) e m)
     to w (LeftHead e m head) = above w e head (among_insert_key pair_cmp s.axioms (l, r) e m)
-    to w (Described file m has) = described w file m (declared_or_had s.declared s.declared s.axioms (with_axiom s.axioms (l, r)) now_settled file w has)
+    to w (Described file m has) = described w file m (declared_or_had s.declared s.declared s.axioms (with_axiom s.axioms (l, r)) (axiom_settled s formed l r right) file w has)
 
     there : Among (axiom_added s (l, r)).axioms (l, r)
     there = insert_key_new pair_cmp pair_exact s.axioms (l, r)

@@ -16,3 +16,5 @@ pub mod Known
 pub mod Reached
 pub mod Growth
 pub mod Forms
+pub mod Named
+pub mod Touched
