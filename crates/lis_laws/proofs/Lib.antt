@@ -13,3 +13,5 @@ pub mod Locals
 pub mod Routes
 pub mod Known
 pub mod Forms
+pub mod Named
+pub mod Items
