@@ -18,3 +18,4 @@ pub mod Growth
 pub mod Forms
 pub mod Named
 pub mod Touched
+pub mod Items
