@@ -1,20 +1,16 @@
 -- Which words become known when something comes into a state.
-use Rattle.std.proofs.Common.{◌≡◌, ◌⊎◌, ℕ, true, false, ◌&&◌, List, [], ◌∷◌, refl, sym, ap, subst, ◌∙◌, inl, inr}
-use Rattle.std.specs.declared.cmp.Ordering.{Ordering}
-use Rattle.std.specs.declared.cmp.Ordering.TheVariants.{Less, Equal, Greater}
-use Rattle.std.specs.Ordering.{match_ordering}
-use Rattle.std.specs.BTreeSet.{insert_key}
-use Rattle.std.specs.List.{fold, list_all}
-use Rattle.std.proofs.lemmas.Bool.{and_parts, both_ways}
+use Rattle.std.proofs.Common.{◌≡◌, ◌⊎◌, ℕ, true, false, ◌&&◌, List, ◌∷◌, sym, ap, subst, ◌∙◌, inl, inr}
+use Rattle.std.specs.List.{list_all}
+use Rattle.std.proofs.lemmas.Bool.{both_ways}
 use Rattle.lis_graph.specs.Graph.{is_rising}
-use Rattle.lis_graph.proofs.Members.{Among, any_from_among, among_insert_key, insert_key_old, insert_key_new}
+use Rattle.lis_graph.proofs.Members.{Among, among_insert_key, insert_key_old, insert_key_new}
 use Rattle.lis_graph.proofs.Sets as sets
-use Rattle.lis_words.specs.Words.{word_cmp, same_word, has_word, is_plain_word, is_valued}
+use Rattle.lis_words.specs.Words.{word_cmp, has_word, is_plain_word, is_valued}
 use Rattle.lis_model.specs.Sets.{with_word, with_words}
 use Rattle.lis_model.specs.State.{State, File, WellFormed, heads, file_words, description, known, is_declarable, pair_cmp, file_cmp}
 use Rattle.lis_model.specs.Changes.{with_axiom, declared_under, axiom_added, has_name, file_added}
-use Rattle.lis_laws.proofs.Members.{word_exact, word_order, pair_exact, same_word_decides, among_from_has_word, among_with_words, with_words_old, with_words_new, sorted_with_words, same_words}
-use Rattle.lis_laws.proofs.Chains.{Pairs, IsWeakerIn, among_heads}
+use Rattle.lis_laws.proofs.Members.{word_exact, word_order, pair_exact, among_with_words, with_words_old, with_words_new, sorted_with_words, same_words}
+use Rattle.lis_laws.proofs.Chains.{Pairs, among_heads}
 use Rattle.lis_laws.proofs.Chains.OwnLink.{Head, Weaker}
 use Rattle.lis_laws.proofs.Counts.{all_among, rising_insert_key}
 use Rattle.lis_laws.proofs.Apart.{declarable_not_valued}

@@ -18,4 +18,4 @@ pub mod Growth
 pub mod Forms
 pub mod Named
 pub mod Touched
-pub mod Items
+pub mod Few

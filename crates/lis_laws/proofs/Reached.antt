@@ -1,5 +1,5 @@
 -- What all words of a file have in common, shown link by link.
-use Rattle.std.proofs.Common.{◌≡◌, ◌⊎◌, ℕ, zero, suc, List, subst, inl, inr}
+use Rattle.std.proofs.Common.{◌⊎◌, ℕ, zero, suc, List, subst, inl, inr}
 use Rattle.lis_graph.specs.Graph.{Chain}
 use Rattle.lis_graph.proofs.Members.{Among}
 use Rattle.lis_model.specs.State.{File, links, up, own_words, file_words}

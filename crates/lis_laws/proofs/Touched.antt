@@ -1,11 +1,11 @@
 -- What each change touches.
-use Rattle.std.proofs.Common.{◌≡◌, ◌⊎◌, ℕ, Bool, true, false, not, ◌&&◌, ◌||◌, cond, Option, Some, None, is_some, List, [], ◌∷◌, ◌++◌, length, map, filter, refl, sym, ap, subst, ◌∙◌, inl, inr}
+use Rattle.std.proofs.Common.{◌≡◌, ◌⊎◌, ℕ, Bool, true, false, not, ◌&&◌, cond, Option, Some, None, is_some, List, [], ◌∷◌, ◌++◌, length, map, filter, refl, sym, ap, subst, ◌∙◌, inl, inr}
 use Rattle.std.specs.declared.cmp.Ordering.{Ordering}
 use Rattle.std.specs.declared.cmp.Ordering.TheVariants.{Less, Equal, Greater}
 use Rattle.std.specs.Ordering.{match_ordering, ordering_reverse, is_lt}
 use Rattle.std.specs.BTreeSet.{insert_key}
 use Rattle.std.specs.Cmp as tests
-use Rattle.std.specs.List.{list_any, list_all, flat_map}
+use Rattle.std.specs.List.{flat_map}
 use Rattle.std.proofs.lemmas.Bool.{and_parts, and_cases, or_parts, or_cases, or_left, not-true, not-false, not_from_false, both_ways}
 use Rattle.std.proofs.lemmas.List.Folds.{list_any-append}
 use Rattle.lis_graph.specs.Graph.{is_rising}
@@ -18,7 +18,7 @@ use Rattle.lis_model.specs.State.{State, File, WellFormed, heads, up, own_words,
 use Rattle.lis_model.specs.Changes.{with_axiom, same_pair, declared_under, undeclared, axiom_added, axiom_removed, has_name, file_added, file_removed, file_replaced}
 use Rattle.lis_model.specs.Step.{is_side, is_in_use}
 use Rattle.lis_laws.specs.Touches.{holders, KeepsHolders, KeepsKnown, Touches, is_held, where_held}
-use Rattle.lis_laws.proofs.Members.{word_exact, word_order, same_word_decides, among_from_has_word, has_word_from_among, among_with_words, with_words_old}
+use Rattle.lis_laws.proofs.Members.{word_order, same_word_decides, among_from_has_word, has_word_from_among, among_with_words, with_words_old}
 use Rattle.lis_laws.proofs.Chains.{Pairs, weaker_tests_are, up_self, up_trans}
 use Rattle.lis_laws.proofs.Chains.OwnLink.{Head, Weaker}
 use Rattle.lis_laws.proofs.Axioms.{axiom_in_front}
@@ -32,8 +32,8 @@ use Rattle.lis_laws.proofs.Sources.Assignable.{Plain, Valued}
 use Rattle.lis_laws.proofs.Derived.{derived_built_in}
 use Rattle.lis_laws.proofs.Reached.{OneLink, linked_up, described_link, described_keeps}
 use Rattle.lis_laws.proofs.Known.{IsWithin, described_within, known_within}
-use Rattle.lis_laws.proofs.Forms.{under, among_under, over_right, undeclared_within, file_removed_within}
-use Rattle.lis_laws.proofs.Growth.{IsSettled, settled, declared_or_had, IsPlaced, IsUnder, under_within, axiom_settled, known_declares, known_adds_file, known_adds_axiom}
+use Rattle.lis_laws.proofs.Forms.{among_under, over_right, undeclared_within, file_removed_within}
+use Rattle.lis_laws.proofs.Growth.{IsSettled, settled, declared_or_had, IsPlaced, IsUnder, under_within, axiom_settled, known_declares, known_adds_file}
 
 -- ---- lists of words
 pub not_in : (words : List (List ℕ)) (w : List ℕ) → not (has_word words w) ≡ true → Among words w → ⊥
