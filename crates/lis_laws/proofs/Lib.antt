@@ -15,3 +15,4 @@ pub mod Known
 pub mod Forms
 pub mod Named
 pub mod Items
+pub mod Steps
