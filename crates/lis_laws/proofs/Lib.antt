@@ -19,5 +19,4 @@ pub mod Forms
 pub mod Named
 pub mod Touched
 pub mod Few
-pub mod Items
 pub mod Steps
