@@ -2,7 +2,7 @@
 use Rattle.std.specs.Prelude.{ℕ, ◌==◌, Bool, not, List, filter}
 use Rattle.std.specs.List.{slice_split, list_any}
 use Rattle.lis_words.specs.Words.{is_plain_byte}
-use Rattle.lis_mail.specs.Lines.{is_some_bytes}
+use Rattle.lis_transducers.specs.Lines.{is_some_bytes}
 
 abbrev pub is_between : ℕ → Bool
 is_between b = not (is_plain_byte b)

@@ -1,6 +1,6 @@
 -- Joined lines: a backslash before a line end joins lines, before comments are seen (C). A line end is LF, or CR and LF.
 use Rattle.std.specs.Prelude.{ℕ, zero, suc, ◌-◌, ◌==◌, ◌&&◌, if◌then◌else◌, List, [], ◌∷◌}
-use Rattle.lis_csource.specs.Bytes.{is_feed, is_return, is_backslash}
+use Rattle.lis_transducers.specs.Bytes.{is_feed, is_return, is_backslash}
 
 -- how many bytes the joint has that the bytes begin with; 0 where they begin with none
 abbrev pub joint_len : List ℕ → ℕ

@@ -1,12 +1,12 @@
 -- What counts in a source: the paths of its includes, and the tokens outside directives.
 use Rattle.std.specs.Prelude.{ℕ, ◌==◌, Bool, true, false, if◌then◌else◌, List, [], ◌∷◌}
 use Rattle.std.specs.List.{list_any}
-use Rattle.lis_csource.specs.Bytes.{is_slash}
-use Rattle.lis_csource.specs.Pieces.{Piece, context_after}
-use Rattle.lis_csource.specs.declared.pieces.Kind.{Kind}
-use Rattle.lis_csource.specs.declared.pieces.Kind.TheVariants.{Blank, White, Feed, Comment, Literal, Identifier, Number, Path, Mark}
-use Rattle.lis_csource.specs.declared.pieces.Context.{Context}
-use Rattle.lis_csource.specs.declared.pieces.Context.TheVariants.{LineStart, Code, Hash, Include, Directive}
+use Rattle.lis_transducers.specs.Bytes.{is_slash}
+use Rattle.lis_transducers.specs.Pieces.{Piece, context_after}
+use Rattle.lis_transducers.specs.declared.piece.Kind.{Kind}
+use Rattle.lis_transducers.specs.declared.piece.Kind.TheVariants.{Blank, White, Feed, Comment, Literal, Identifier, Number, Path, Mark}
+use Rattle.lis_transducers.specs.declared.piece.Context.{Context}
+use Rattle.lis_transducers.specs.declared.piece.Context.TheVariants.{LineStart, Code, Hash, Include, Directive}
 
 -- outside directives
 abbrev pub is_code : Context → Bool

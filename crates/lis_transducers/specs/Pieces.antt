@@ -2,11 +2,11 @@
 use Rattle.std.specs.Prelude.{◌≡◌, ℕ, zero, suc, ◌==◌, Bool, true, false, not, ◌&&◌, ◌||◌, if◌then◌else◌, List, [], ◌∷◌, length, codes}
 use Rattle.std.specs.Char.{is_ascii_digit}
 use Rattle.lis_words.specs.Words.{same_word}
-use Rattle.lis_csource.specs.Bytes.{is_feed, is_backslash, is_slash, is_star, is_blank, is_white, is_name_start, is_name_byte, is_number_byte, is_no_feed, front, past, begins_with, but_first}
-use Rattle.lis_csource.specs.declared.pieces.Kind.{Kind}
-use Rattle.lis_csource.specs.declared.pieces.Kind.TheVariants.{Blank, White, Feed, Comment, Literal, Identifier, Number, Path, Mark}
-use Rattle.lis_csource.specs.declared.pieces.Context.{Context}
-use Rattle.lis_csource.specs.declared.pieces.Context.TheVariants.{LineStart, Code, Hash, Include, Directive}
+use Rattle.lis_transducers.specs.Bytes.{is_feed, is_backslash, is_slash, is_star, is_blank, is_white, is_name_start, is_name_byte, is_number_byte, is_no_feed, front, past, begins_with, but_first}
+use Rattle.lis_transducers.specs.declared.piece.Kind.{Kind}
+use Rattle.lis_transducers.specs.declared.piece.Kind.TheVariants.{Blank, White, Feed, Comment, Literal, Identifier, Number, Path, Mark}
+use Rattle.lis_transducers.specs.declared.piece.Context.{Context}
+use Rattle.lis_transducers.specs.declared.piece.Context.TheVariants.{LineStart, Code, Hash, Include, Directive}
 
 -- a piece, with its bytes where it is an identifier or a path
 pub record Piece : Type 0 where

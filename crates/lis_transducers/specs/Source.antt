@@ -1,12 +1,12 @@
 -- The words that a C source gives. Which words it gives is this project's own.
 use Rattle.std.specs.Prelude.{ℕ, ◌+◌, ◌-◌, ◌==◌, Bool, true, false, not, ◌&&◌, if◌then◌else◌, List, [], ◌∷◌, ◌++◌, filter, codes}
 use Rattle.lis_words.specs.Words.{is_word, has_word}
-use Rattle.lis_csource.specs.Joined.{joined}
-use Rattle.lis_csource.specs.Pieces.{Piece, pieces}
-use Rattle.lis_csource.specs.Entries.{entries, tokens, last_part}
-use Rattle.lis_csource.specs.declared.pieces.Kind.{Kind}
-use Rattle.lis_csource.specs.declared.pieces.Kind.TheVariants.{Identifier, Path, Mark}
-use Rattle.lis_csource.specs.declared.pieces.Context.TheVariants.{LineStart}
+use Rattle.lis_transducers.specs.Joined.{joined}
+use Rattle.lis_transducers.specs.Pieces.{Piece, pieces}
+use Rattle.lis_transducers.specs.Entries.{entries, tokens, last_part}
+use Rattle.lis_transducers.specs.declared.piece.Kind.{Kind}
+use Rattle.lis_transducers.specs.declared.piece.Kind.TheVariants.{Identifier, Path, Mark}
+use Rattle.lis_transducers.specs.declared.piece.Context.TheVariants.{LineStart}
 
 -- whether a token is this byte
 abbrev pub is_byte : ℕ → Kind → Bool
