@@ -3,5 +3,7 @@ mod Bits
 mod Joined
 mod Counts
 mod Subset
-mod Copied
+mod SharedBits
+mod OneRow
+pub mod Numbers
 pub mod Laws

@@ -1,4 +1,4 @@
 pub mod Rows
 pub mod Words
 pub mod Inside
-pub mod Across
+pub mod Bytes
