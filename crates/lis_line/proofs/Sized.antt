@@ -10,7 +10,7 @@ use Rattle.lis_model.specs.declared.command.Command.{Command}
 use Rattle.lis_model.specs.declared.command.Command.TheVariants.{Mkdir, Rmdir, Axiom, Unaxiom, Create, Add, Write, Cat, Mv, Rename, Rm, Cd, Pwd, Ls, Props, Way, Stat}
 use Rattle.lis_model.specs.Step.{Item, Payload, no_payload}
 use Rattle.lis_model.specs.Step.Item.{Do, Bad}
-use Rattle.lis_model.specs.Script.{bad_line, tags_form, add_named, add_form, form_of, item_of, item_of_words, is_long, line_words, size_of_words, payload_size}
+use Rattle.lis_model.specs.Script.{bad_line, tags_form, add_named, add_form, write_form, form_of, item_of, item_of_words, is_long, line_words, size_of_words, payload_size}
 use Rattle.lis_line.specs.Forms.{command_with, line_asks}
 use Rattle.lis_line.specs.Parts.{part_asks}
 
@@ -35,7 +35,7 @@ size_kept text = elim (cases_lt 1025 (length text)) as (λ _. payload_size (take
   | inr le ↦ ap payload_size (take_all 1025 text le)
 ]
 
--- `add` alone makes a command of a line that a payload follows, and it has that payload
+-- the command of a line that a payload follows has that payload
 named_with : (name : List ℕ) (payload other : Payload) (words : Result (List (List ℕ)) Refusal) (command : Command)
     → add_named name payload words ≡ Do command other → other ≡ payload
 named_with name payload other (Ok words) command is = cc
@@ -49,6 +49,15 @@ add_with name size words payload other command = by (is_file_name name && is_cou
     by true is = named_with name payload other (tags_form words) command is
     by false is = absurd (cc)
 
+write_with : (name size : List ℕ) (words : List (List ℕ)) (payload other : Payload) (command : Command)
+    → write_form (name ∷ size ∷ words) payload ≡ Do command other → other ≡ payload
+write_with name size [] payload other command is = by (is_file_name name && is_count size) is
+  where
+    by : (t : Bool) → cond t (Do (Write name) payload) bad_line ≡ Do command other → other ≡ payload
+    by true is = cc
+    by false is = absurd (cc)
+write_with name size (word ∷ words) payload other command is = absurd (cc)
+
 form_with : (first second size : List ℕ) (words : List (List ℕ)) (payload other : Payload) (command : Command)
     → (same_word first (codes "add") || same_word first (codes "write")) ≡ true → form_of first (second ∷ size ∷ words) payload ≡ Do command other → other ≡ payload
 form_with first second size words payload other command either is = by (same_word first (codes "add")) refl either
@@ -59,8 +68,7 @@ form_with first second size words payload other command either is = by (same_wor
         add_with second size words payload other command (ap (λ w. form_of w (second ∷ size ∷ words) payload) (sym same) ∙ is)
     by false h e =
         let same : first ≡ codes "write" = (bytes_eq-Decides first (codes "write")).0 e in
-        let bad : bad_line ≡ Do command other = ap (λ w. form_of w (second ∷ size ∷ words) payload) (sym same) ∙ is in
-        absurd (cc)
+        write_with second size words payload other command (ap (λ w. form_of w (second ∷ size ∷ words) payload) (sym same) ∙ is)
 
 words_with : (words : List (List ℕ)) (size : ℕ) (payload other : Payload) (command : Command)
     → size_of_words words ≡ Some size → item_of_words words payload ≡ Some (Do command other) → other ≡ payload

@@ -35,7 +35,11 @@ abbrev pub line_asks : Payload → Option (Result Command Refusal) → Option It
 line_asks payload None = None
 line_asks payload (Some asked) = Some (asked_of payload asked)
 
--- what a line asks for that is to have the name of a file behind its first word
-abbrev pub name_asks : (List ℕ → Item) → Option (List ℕ) → Item
-name_asks item None = bad_line
-name_asks item (Some name) = item name
+-- what a line asks for that is to have one word of some kind behind its first word, or two
+abbrev pub word_asks : (List ℕ → Item) → Option (List ℕ) → Item
+word_asks item None = bad_line
+word_asks item (Some word) = item word
+
+abbrev pub pair_asks : (List ℕ → List ℕ → Item) → Option (List ℕ × List ℕ) → Item
+pair_asks item None = bad_line
+pair_asks item (Some two) = item two.0 two.1

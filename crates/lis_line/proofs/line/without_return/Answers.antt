@@ -1,7 +1,7 @@
 use Rattle.std.proofs.Common.{◌<◌, length, get_or, ◌∙◌, ap, sym, arith}
 use Rattle.std.proofs.lemmas.Bool.{eqb-false}
 use Rattle.lis_line.proofs.Words.{return_dropped, no_return}
-use Rattle.lis_line.proofs.forms.without_return.Goals as goal
+use Rattle.lis_line.proofs.line.without_return.Goals as goal
 
 pub returns-then-last-eq13-clause-line : goal.returns-then-last-eq13-clause-line
 returns-then-last-eq13-clause-line c =

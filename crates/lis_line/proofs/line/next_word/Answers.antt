@@ -2,7 +2,7 @@ use Rattle.std.proofs.Common.{◌<◌, ◌∷◌, length, drop, ◌∙◌, ap, s
 use Rattle.std.proofs.lemmas.Bool.{eqb-true, eqb-false}
 use Rattle.lis_model.specs.Script.{words_of}
 use Rattle.lis_line.proofs.Words.{no_words, one_word, blanks_within, word_within, some_word}
-use Rattle.lis_line.proofs.forms.next_word.Goals as goal
+use Rattle.lis_line.proofs.line.next_word.Goals as goal
 
 pub split_at-requires : goal.split_at-requires
 split_at-requires c = blanks_within c.args.text.now c.blanks.result c.blanks.ensures
