@@ -1,8 +1,8 @@
 -- The parts of an image that memory spells, and the blocks that are yet to be written.
-use Rattle.std.specs.Prelude.{◌≡◌, ℕ, ◌+◌, ◌*◌, ◌/◌, ◌<◌, false, true, Bool, List, count_by}
+use Rattle.std.specs.Prelude.{◌≡◌, ℕ, ◌+◌, ◌*◌, ◌/◌, ◌<◌, false, Bool, List, count_by}
 use Rattle.lis_slots.specs.Slots.{Slots, slot, home}
 use Rattle.lis_blockmap.specs.Bitmap.{is_taken, bitmap_bytes}
-use Rattle.lis_ext.specs.Ext.{row_bytes}
+use Rattle.lis_kept.specs.Rows.{row_bytes}
 use Rattle.lis_fields.specs.Layouts.{prop_bytes, axiom_bytes, file_bytes}
 use Rattle.lis_model.specs.declared.limits.Limits.{Limits}
 use Rattle.lis_model.specs.Image.{properties_start, axioms_start, files_start, rows_start, bitmap_start}

@@ -1,9 +1,8 @@
 -- What memory keeps of an image, and the slots that it spells.
-use Rattle.std.specs.Prelude.{ℕ, ◌+◌, ◌*◌, ◌/◌, Bool, false, if◌then◌else◌, Option, Some, None, List, [], slice_index_or}
-use Rattle.std.specs.List.{flat_map}
+use Rattle.std.specs.Prelude.{ℕ, Bool, if◌then◌else◌, Option, Some, None, List, slice_index_or}
 use Rattle.lis_blockmap.specs.Bitmap.{is_taken}
 use Rattle.lis_dict.specs.Dict.{Dict, word_of}
-use Rattle.lis_catalog.specs.Catalog.{Catalog, Filed, rec_at}
+use Rattle.lis_catalog.specs.Catalog.{Catalog, rec_at}
 use Rattle.lis_ext.specs.Ext.{Ext}
 use Rattle.lis_fields.specs.Records.{FileRecord}
 use Rattle.lis_fields.specs.declared.slots.PropSlot.{PropSlot}
@@ -28,6 +27,18 @@ pub record Kept : Type 0 where
   pub ext : Ext
   -- by block: it is to be written
   pub marks : List Bool
+
+abbrev pub kept_of : Limits → Dict → List Bool → List AxiomSlot → Catalog → List Bool → Ext → List Bool → Kept
+kept_of limits dict declared axioms catalog taken ext marks = record {
+  limits = limits;
+  dict = dict;
+  declared = declared;
+  axioms = axioms;
+  catalog = catalog;
+  taken = taken;
+  ext = ext;
+  marks = marks;
+}
 
 -- ---- the slots that it spells
 -- the property slot of a word, if there is one

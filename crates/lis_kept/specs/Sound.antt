@@ -1,12 +1,9 @@
 -- What holds of memory alone, whatever blocks hold.
 use Rattle.std.specs.Prelude.{◌≡◌, ℕ, ◌<◌, ◌≤◌, nat_lt, true, false, Bool, ◌&&◌, is_some, Some, None, List, [], length, IsTrue, IsSome, slice_get}
-use Rattle.std.specs.List.{list_all, Contains}
-use Rattle.std.specs.FinSet as set
-use Rattle.lis_content.specs.Content.{has_number}
+use Rattle.std.specs.List.{list_all}
 use Rattle.lis_dict.specs.Dict.{Dict, IsDict, number_of, word_of}
 use Rattle.lis_catalog.specs.Catalog.{Catalog, IsCatalog, rec_at}
 use Rattle.lis_ext.specs.Ext.{has}
-use Rattle.lis_taxonomy.specs.Taxonomy.{Taxonomy, has_edge}
 use Rattle.lis_fields.specs.Records.{FileRecord}
 use Rattle.lis_fields.specs.declared.slots.AxiomSlot.TheVariants.{Pair}
 use Rattle.lis_fields.specs.Layouts.{is_prop, is_record}
@@ -15,7 +12,6 @@ use Rattle.lis_model.specs.Ranges.{are_in_range}
 use Rattle.lis_model.specs.Image.{data_start}
 use Rattle.lis_kept.specs.Kept.{Kept, property_at}
 use Rattle.lis_kept.specs.Areas.{axiom_slots}
-use Rattle.lis_kept.specs.Telling.{is_linked}
 
 -- a record in the ranges of its layout, whose words have numbers and whose blocks there are
 abbrev pub is_sound_record : Dict → ℕ → FileRecord → Bool
@@ -23,10 +19,10 @@ is_sound_record dict blocks rec =
     is_record rec && list_all (λ n. is_some (word_of dict n)) rec.tags && list_all (λ n. nat_lt n blocks) rec.blocks
 
 -- the numbers of an axiom slot have words; slots past the last number are free
-pub record IsSoundAxiom (k : Kept) (slot left right : ℕ) : Type 0 where
+pub record IsSoundAxiom (k : Kept) (slot p q : ℕ) : Type 0 where
   pub below : slot < k.limits.props
-  pub left : IsSome (word_of k.dict left)
-  pub right : IsSome (word_of k.dict right)
+  pub left : IsSome (word_of k.dict p)
+  pub right : IsSome (word_of k.dict q)
 
 pub record AreSound (k : Kept) : Type 0 where
   pub range : IsTrue (are_in_range k.limits)
@@ -49,11 +45,6 @@ pub record AreSound (k : Kept) : Type 0 where
   -- rows that changed are marked by their blocks alone
   pub settled : k.ext.marks ≡ []
   pub marks : data_start k.limits ≤ length k.marks
-
--- The edges are the links between the words that have numbers.
-pub record TellsLinks (k : Kept) (t : Taxonomy) : Type 0 where
-  pub props : t.props ≡ k.limits.props
-  pub edges : (p q : ℕ) → p < k.limits.props → q < k.limits.props → has_edge t p q ≡ is_linked k p q
 
 -- a slot without a file has no numbers
 abbrev pub FreeSlotsAreEmpty : Kept → Type 0
