@@ -5,7 +5,7 @@ use Rattle.lis_region.specs.Region.{Region, get, with_frame, empty_region}
 use Rattle.lis_region.proofs.Frames.{refill_same, frame_in_range, get-with_frame_same}
 use Rattle.std.specs.List.{refill}
 use Rattle.lis_bits.specs.Rows.{row_of, with_row, one_more, empty_rows}
-use Rattle.lis_bits.specs.Words.{Joins, word_bit}
+use Rattle.lis_bits.specs.Words.{word_bit}
 use Rattle.lis_bits.specs.Inside.{bit_from, rows_of, words_of, seen, IsBitwise}
 use Rattle.lis_bits.proofs.View.{row_same, get-rows_of, rows_written, rows_of-zero}
 
@@ -17,24 +17,27 @@ words_lent r frame old new some long same =
     ap (λ o. unwrap_or o []) (get-with_frame_same r frame (Some (refill r.width (words_of r frame) new)) (frame_in_range r frame old some))
     ∙ refill_same r.width (words_of r frame) new (ap length was ∙ long) (same ∙ long)
 
-module _ (old new : List ℕ) (rows width to from : ℕ) (op : ℕ → ℕ → ℕ → Type 0) (join : Bool → Bool → Bool)
-    (to_in : to < rows) (from_in : from < rows) (fit : (i : ℕ) → get_or old i 0 < 2 ^ 64)
-    (joins : Joins op old new (to * width) (from * width) width) (bitwise : IsBitwise join op) where
+-- the words of a row were joined with words that show as other truth values
+module _ (old new : List ℕ) (rows width to : ℕ) (op : ℕ → ℕ → ℕ → Type 0) (join : Bool → Bool → Bool) (other : ℕ → ℕ) (shown : ℕ → Bool)
+    (to_in : to < rows) (fit : (i : ℕ) → get_or old i 0 < 2 ^ 64) (other_fits : (i : ℕ) → other i < 2 ^ 64)
+    (joined : (i : ℕ) → i < width → op (get_or old (to * width + i) 0) (other i) (get_or new (to * width + i) 0))
+    (others : (k : ℕ) → (k < to * width) ⊎ (to * width + width ≤ k) → get_or new k 0 ≡ get_or old k 0) (bitwise : IsBitwise join op)
+    (same : (bit : ℕ) → bit < 64 * width → shown bit ≡ word_bit (other (bit / 64)) (bit % 64)) where
   joined_value : ℕ → Bool
-  joined_value bit = join (bit_from old (to * width) bit) (bit_from old (from * width) bit)
+  joined_value bit = join (bit_from old (to * width) bit) (word_bit (other (bit / 64)) (bit % 64))
 
   word_written : (i bit : ℕ) → i < width → bit < 64 → word_bit (get_or new (to * width + i) 0) bit ≡ joined_value (64 * i + bit)
   unfolding joined_value
   word_written i bit lt in_word =
       let place : (64 * i + bit) / 64 ≡ i = omega arith in
       let rest : (64 * i + bit) % 64 ≡ bit = omega arith in
-      rw (place, rest) (bitwise (get_or old (to * width + i) 0) (get_or old (from * width + i) 0) (get_or new (to * width + i) 0) (fit _) (fit _) (joins.joined i lt) bit in_word)
+      rw (place, rest) (bitwise (get_or old (to * width + i) 0) (other i) (get_or new (to * width + i) 0) (fit _) (other_fits i) (joined i lt) bit in_word)
 
-  pub rows_joined : rows_of new rows width ≡ set (rows_of old rows width) to (row_of (64 * width) (λ bit. join (get_or (get_or (rows_of old rows width) to []) bit false) (get_or (get_or (rows_of old rows width) from []) bit false)))
+  pub rows_joined : rows_of new rows width ≡ set (rows_of old rows width) to (row_of (64 * width) (λ bit. join (get_or (get_or (rows_of old rows width) to []) bit false) (shown bit)))
   unfolding joined_value
-  rows_joined = rows_written old new rows width to joined_value to_in word_written joins.others
-      ∙ ap (λ row. set (rows_of old rows width) to row) (row_same (64 * width) joined_value (λ bit. join (get_or (get_or (rows_of old rows width) to []) bit false) (get_or (get_or (rows_of old rows width) from []) bit false))
-      (λ b lt. rw (get-rows_of old rows width to b to_in lt, get-rows_of old rows width from b from_in lt)))
+  rows_joined = rows_written old new rows width to joined_value to_in word_written others
+      ∙ ap (λ row. set (rows_of old rows width) to row) (row_same (64 * width) joined_value (λ bit. join (get_or (get_or (rows_of old rows width) to []) bit false) (shown bit))
+      (λ b lt. rw (get-rows_of old rows width to b to_in lt, same b lt)))
 
 -- what a contract sees after a row's words were written in the lent frame
 pub seen_written : (r : Region ℕ) (frame rows width row edits edits' : ℕ) (value : ℕ → Bool) (old new : List ℕ) → get r frame ≡ Some old → length old ≡ r.width → length new ≡ length old

@@ -2,11 +2,14 @@
 use Rattle.std.proofs.Common.{◌≡◌, ◌≢◌, ℕ, ◌<◌, ◌≤◌, ◌⊎◌, inl, inr, Bool, false, [], length, get_or, set, replicate, ap, ◌∙◌, arith, length-set, get_or-set_same, get_or-set_other}
 use Rattle.std.proofs.lemmas.List.{get_or-replicate, length-replicate, get_or_past}
 use Rattle.std.proofs.lemmas.Bool.{cases_lt}
-use Rattle.lis_bits.specs.Rows.{Rows, get, row_of, with_row, empty_rows, SetsRow}
+use Rattle.lis_bits.specs.Rows.{Rows, HasShape, get, row_at, row_of, with_row, empty_rows, SetsRow, SetsBits}
 use Rattle.lis_bits.proofs.View.{get-row_of, row_same}
 
 pub get-with_row_same : (r : Rows) (row bit : ℕ) (value : ℕ → Bool) → row < length r.rows → bit < r.bits → get (with_row r row value) row bit ≡ value bit
 get-with_row_same r row bit value in_rows in_row = ap (λ values. get_or values bit false) (get_or-set_same r.rows row (row_of r.bits value) [] in_rows) ∙ get-row_of r.bits value bit in_row
+
+pub row-with_row : (r : Rows) (row : ℕ) (value : ℕ → Bool) → row < length r.rows → row_at (with_row r row value) row ≡ row_of r.bits value
+row-with_row r row value in_rows = get_or-set_same r.rows row (row_of r.bits value) [] in_rows
 
 pub get-with_row_other : (r : Rows) (row other bit : ℕ) (value : ℕ → Bool) → other ≢ row → get (with_row r row value) other bit ≡ get r other bit
 get-with_row_other r row other bit value differ = ap (λ values. get_or values bit false) (get_or-set_other r.rows row other (row_of r.bits value) [] differ)
@@ -44,3 +47,25 @@ length-sets_row old new row value sets = ap length sets.rows ∙ length-set old.
 -- other truth values that are the same at each bit of a row
 pub sets_row_same : (old new : Rows) (row : ℕ) (f g : ℕ → Bool) → SetsRow old new row f → ((bit : ℕ) → bit < old.bits → f bit ≡ g bit) → SetsRow old new row g
 sets_row_same old new row f g sets same = record { bits = sets.bits; rows = sets.rows ∙ ap (λ values. set old.rows row values) (row_same old.bits f g same) }
+
+-- ---- rows of one shape, of which one row is set
+pub bits_set : (old : Rows) (rows bits row : ℕ) (value : ℕ → Bool) → HasShape old rows bits → row < rows → SetsBits old (with_row old row value) rows bits row value
+bits_set old rows bits row value shape lt = record {
+  shape = record { tall = length-with_row old row value ∙ shape.tall; wide = shape.wide };
+  at = λ bit in_row. get-with_row_same old row bit value (omega (arith, shape.tall)) (omega (arith, shape.wide));
+  others = λ other bit differ. get-with_row_other old row other bit value differ;
+}
+
+pub row_sets : (old new : Rows) (rows bits row : ℕ) (value : ℕ → Bool) → HasShape old rows bits → row < rows → SetsRow old new row value → SetsBits old new rows bits row value
+row_sets old new rows bits row value shape lt sets = record {
+  shape = record { tall = length-sets_row old new row value sets ∙ shape.tall; wide = sets.bits ∙ shape.wide };
+  at = λ bit in_row. get-sets_row_same old new row bit value sets (omega (arith, shape.tall)) (omega (arith, shape.wide));
+  others = λ other bit differ. get-sets_row_other old new row other bit value sets differ;
+}
+
+pub bits_again : (old mid new : Rows) (rows bits row : ℕ) (f g : ℕ → Bool) → SetsBits old mid rows bits row f → SetsBits mid new rows bits row g → SetsBits old new rows bits row g
+bits_again old mid new rows bits row f g first second = record {
+  shape = second.shape;
+  at = second.at;
+  others = λ other bit differ. second.others other bit differ ∙ first.others other bit differ;
+}

@@ -3,5 +3,6 @@ mod Bits
 mod Joined
 mod Counts
 mod Subset
-mod Copied
+mod SharedBits
+mod OneRow
 pub mod Laws

@@ -1,8 +1,8 @@
 -- How the words of a frame make the rows that a contract sees. No public clause cites this module.
-use Rattle.std.specs.Prelude.{◌≡◌, ℕ, ◌+◌, ◌*◌, ◌/◌, ◌%◌, ◌^◌, ◌<◌, ◌≤◌, Bool, List, [], map, unwrap_or, slice_index}
+use Rattle.std.specs.Prelude.{◌≡◌, ℕ, ◌+◌, ◌*◌, ◌/◌, ◌%◌, ◌^◌, ◌<◌, ◌≤◌, Bool, List, [], length, map, unwrap_or, slice_index}
 use Rattle.std.specs.List.{range_with_len}
 use Rattle.lis_region.specs.Region as region
-use Rattle.lis_bits.specs.Rows.{Rows, row_of}
+use Rattle.lis_bits.specs.Rows.{Rows, HasShape, row_at, row_of}
 use Rattle.lis_bits.specs.Words.{word_bit}
 
 -- a bit of the row whose first word is at this place
@@ -31,3 +31,8 @@ pub record IsSound (r : region.Region ℕ) (frame rows width : ℕ) : Type 0 whe
 abbrev pub IsBitwise : (Bool → Bool → Bool) → (ℕ → ℕ → ℕ → Type 0) → Type 0
 IsBitwise join op = (a b word : ℕ) → a < 2 ^ 64 → b < 2 ^ 64 → op a b word → (bit : ℕ) → bit < 64
     → word_bit word bit ≡ join (word_bit a bit) (word_bit b bit)
+
+-- one row of so many bits
+pub record IsOneRow (r : Rows) (bits : ℕ) : Type 0 where
+  pub shape : HasShape r 1 bits
+  pub long : length (row_at r 0) ≡ bits

@@ -1,4 +1,3 @@
 pub mod Rows
 pub mod Words
 pub mod Inside
-pub mod Across

@@ -1,5 +1,5 @@
 -- What a contract sees of `Rows`.
-use Rattle.std.specs.Prelude.{◌≡◌, ℕ, ◌+◌, ◌-◌, ◌^◌, ◌<◌, ◌≤◌, min, Bool, false, List, [], map, count_by, slice_index_or, slice_set, replicate}
+use Rattle.std.specs.Prelude.{◌≡◌, ◌≢◌, ℕ, ◌+◌, ◌-◌, ◌^◌, ◌<◌, ◌≤◌, min, Bool, false, List, [], IsTrue, length, map, count_by, slice_index_or, slice_set, replicate}
 use Rattle.std.specs.List.{range_with_len}
 
 -- how many bits a row has, the truth values of each row by their bits, and how often a row was changed, up to the
@@ -45,3 +45,18 @@ NoneTrue r row start end = (bit : ℕ) → start ≤ bit → bit < end → get r
 pub record SetsRow (old new : Rows) (row : ℕ) (value : ℕ → Bool) : Type 0 where
   pub bits : new.bits ≡ old.bits
   pub rows : new.rows ≡ slice_set old.rows row (row_of old.bits value)
+
+-- so many rows of so many bits
+pub record HasShape (r : Rows) (rows bits : ℕ) : Type 0 where
+  pub tall : length r.rows ≡ rows
+  pub wide : r.bits ≡ bits
+
+-- one row of so many rows has these truth values now, bit by bit, and the others stay
+pub record SetsBits (old new : Rows) (rows bits row : ℕ) (value : ℕ → Bool) : Type 0 where
+  pub shape : HasShape new rows bits
+  pub at : (bit : ℕ) → bit < bits → get new row bit ≡ value bit
+  pub others : (other bit : ℕ) → other ≢ row → get new other bit ≡ get old other bit
+
+-- some bit is true in both rows
+abbrev pub Meets : Rows → ℕ → Rows → ℕ → Type 0
+Meets a row b at = (bit : ℕ) × (bit < a.bits) × IsTrue (get a row bit) × IsTrue (get b at bit)

@@ -7,6 +7,12 @@ pub record Joins (op : ℕ → ℕ → ℕ → Type 0) (old new : List ℕ) (to 
   pub joined : (i : ℕ) → i < width → op (slice_index old (to + i)) (slice_index old (from + i)) (slice_index new (to + i))
   pub others : (k : ℕ) → (k < to) ⊎ (to + width ≤ k) → slice_index new k ≡ slice_index old k
 
+-- each of the words from `to` on has what `op` gives of it and of the other word of its place, and the words before and
+-- after them stay
+pub record JoinsWith (op : ℕ → ℕ → ℕ → Type 0) (old new : List ℕ) (to : ℕ) (others : List ℕ) (width : ℕ) : Type 0 where
+  pub joined : (i : ℕ) → i < width → op (slice_index old (to + i)) (slice_index others i) (slice_index new (to + i))
+  pub around : (k : ℕ) → (k < to) ⊎ (to + width ≤ k) → slice_index new k ≡ slice_index old k
+
 -- the two runs of words are one, or have no word in common
 abbrev pub AreApart : ℕ → ℕ → ℕ → Type 0
 AreApart to from width = (from ≡ to) ⊎ ((from + width ≤ to) ⊎ (to + width ≤ from))

@@ -2,10 +2,12 @@
 #![tactic(auto)]
 
 mod across;
+mod flags;
 mod rows;
 #[cfg(test)]
 mod tests;
 mod words;
 
-pub use across::copy_row;
+pub use across::{and_not_row, and_row, copy_row, meets, within};
+pub use flags::Flags;
 pub use rows::Rows;

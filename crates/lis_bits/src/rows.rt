@@ -131,8 +131,8 @@ impl Rows {
         self.join(row, row, |a, _| !a);
     }
 
-    /// How many calls of those above that change a row were made since `new`. It stays at its last value,
-    /// 2^64 - 1.
+    /// How many calls that change a row, of those above and of the joins with a row of other rows, were made since
+    /// `new`. It stays at its last value, 2^64 - 1.
     pub fn edits(&self) -> u64
         ensures { result ≡ self.now.edits }
     {
@@ -172,7 +172,7 @@ impl Rows {
     }
 
     // The words of a row.
-    fn words(&self, row: u32) -> &[u64]
+    pub(crate) fn words(&self, row: u32) -> &[u64]
         requires { row < length self.now.rows }
         ensures bits { 64 * length result.now ≡ self.now.bits }
         ensures small { 64 * length result.now ≤ 2 ^ 27 }
@@ -198,6 +198,27 @@ impl Rows {
         let to = to as usize * width;
         let from = from as usize * width;
         words::join(self.region.items_mut(&self.frame), to, from, width, op);
+        self.edits = self.edits.saturating_add(1);
+    }
+
+    // Sets a row to what `op` gives, word by word, of it and of a row of other rows.
+    pub(crate) fn join_with<F: Fn(u64, u64) -> u64>(
+        &mut self,
+        to: u32,
+        other: &Rows,
+        from: u32,
+        op: F,
+    )
+        requires callable { F.IsAlwaysCallable op }
+        requires to { to < length self.old.rows }
+        requires from { from < length other.now.rows }
+        requires bits { other.now.bits ≡ self.old.bits }
+        ensures { (join : Bool → Bool → Bool) → IsBitwise join (F.post op)
+            → self.new ≡ with_row self.old to (λ bit. join (get self.old to bit) (get other.now from bit)) }
+    {
+        let to = to as usize * self.width as usize;
+        let others = other.words(from);
+        words::join_with(self.region.items_mut(&self.frame), to, others, op);
         self.edits = self.edits.saturating_add(1);
     }
 }

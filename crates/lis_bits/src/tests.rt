@@ -1,4 +1,4 @@
-use crate::{Rows, copy_row};
+use crate::{Flags, Rows, and_not_row, and_row, copy_row, meets, within};
 use std::test::Fail;
 
 #[test]
@@ -15,7 +15,7 @@ fn finds_and_counts_true_bits(rt: HostRuntime) -> Result<(), Fail> {
     let mut copies = Rows::new(rt.alloc(), 1, 128)?;
     copy_row(&rows, 0, &mut copies, 0);
     assert_eq!(rt; copies.next(0, 65), Some(100));
-    assert_eq!(rt; rows.edits(), 3);
+    assert_eq!(rt; (rows.edits(), copies.edits()), (3, 1));
     Ok(())
 }
 
@@ -33,5 +33,30 @@ fn joins_rows(rt: HostRuntime) -> Result<(), Fail> {
     rows.and(2, 0);
     assert!(rt; rows.get(2, 5) && !rows.get(2, 6));
     assert_eq!(rt; rows.edits(), 7);
+    Ok(())
+}
+
+#[test]
+fn joins_rows_across(rt: HostRuntime) -> Result<(), Fail> {
+    let mut low = Rows::new(rt.alloc(), 1, 64)?;
+    let mut both = Rows::new(rt.alloc(), 2, 64)?;
+    low.put(0, 5, true);
+    both.fill(1, true);
+    assert!(rt; !meets(&low, 0, &both, 0) && meets(&low, 0, &both, 1));
+    assert!(rt; within(&low, 0, &both, 1) && !within(&both, 1, &low, 0));
+    and_not_row(&low, 0, &mut both, 1);
+    assert_eq!(rt; both.count(1), 63);
+    and_row(&low, 0, &mut both, 1);
+    assert_eq!(rt; both.count(1), 0);
+    Ok(())
+}
+
+#[test]
+fn keeps_flags(rt: HostRuntime) -> Result<(), Fail> {
+    let mut flags = Flags::new(rt.alloc(), 128)?;
+    flags.put(100, true);
+    assert!(rt; flags.get(100) && !flags.get(99));
+    flags.fill(true);
+    assert!(rt; flags.get(99) && flags.len() == 128);
     Ok(())
 }

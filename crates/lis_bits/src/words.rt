@@ -1,7 +1,7 @@
 ghost use Rattle.std.specs.Prelude.{ℕ, ◌+◌, ◌^◌, ◌<◌, ◌≤◌, length, slice_index};
-ghost use Rattle.std.specs.Prelude.{◌*◌, ◌≡◌, ◌==◌, ◌↔◌, IsTrue, MatchOption, sum_by, count_ones, bit_and, if◌then◌else◌};
+ghost use Rattle.std.specs.Prelude.{◌*◌, ◌≡◌, ◌≢◌, ◌==◌, ◌↔◌, IsTrue, MatchOption, sum_by, count_ones, bit_and, if◌then◌else◌};
 ghost use Rattle.std.specs.Int.{bit_not, w64};
-ghost use Rattle.lis_bits.specs.Words.{Joins, AreApart, word_bit, IsNextIn, NoneNextIn, IsNextFrom, NoneNextFrom};
+ghost use Rattle.lis_bits.specs.Words.{Joins, JoinsWith, AreApart, word_bit, IsNextIn, NoneNextIn, IsNextFrom, NoneNextFrom};
 
 // Sets each of the `width` words from `to` on to what `op` gives of it and of the word as far on from `from`.
 pub(crate) fn join<F: Fn(u64, u64) -> u64>(
@@ -20,6 +20,18 @@ pub(crate) fn join<F: Fn(u64, u64) -> u64>(
 {
     for i in 0..width {
         words[to + i] = op(words[to + i], words[from + i]);
+    }
+}
+
+// Sets each of the words from `to` on to what `op` gives of it and of the other word of its place.
+pub(crate) fn join_with<F: Fn(u64, u64) -> u64>(words: &mut [u64], to: usize, others: &[u64], op: F)
+    requires callable { F.IsAlwaysCallable op }
+    requires to_in { to + length others.now ≤ length words.old }
+    ensures joined { JoinsWith (F.post op) words.old words.new to others.now (length others.now) }
+    ensures fit { (k : ℕ) → slice_index words.old k < 2 ^ 64 }
+{
+    for i in 0..others.len() {
+        words[to + i] = op(words[to + i], others[i]);
     }
 }
 
@@ -51,6 +63,15 @@ pub(crate) fn is_subset(a: &[u64], b: &[u64]) -> bool
         → bit_and (slice_index a.now i) (bit_not w64 (slice_index b.now i)) ≡ 0) }
 {
     a.iter().zip(b).all(|(a, b)| a & !b == 0)
+}
+
+// Whether some bit is 1 in both words of one place.
+pub(crate) fn meets(a: &[u64], b: &[u64]) -> bool
+    requires { length a.now ≡ length b.now }
+    ensures { IsTrue result ↔ ((i : ℕ) × (i < length a.now)
+        × (bit_and (slice_index a.now i) (slice_index b.now i) ≢ 0)) }
+{
+    a.iter().zip(b).any(|(a, b)| a & b != 0)
 }
 
 // The least bit of a word from `start` on that is 1.

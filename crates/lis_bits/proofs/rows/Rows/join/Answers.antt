@@ -1,6 +1,6 @@
-use Rattle.std.proofs.Common.{[], unwrap_or, ap, arith}
-use Rattle.lis_bits.specs.Inside.{words_of}
-use Rattle.lis_bits.proofs.View.{in_rows, run_in, runs_apart}
+use Rattle.std.proofs.Common.{◌+◌, ◌*◌, [], false, get_or, unwrap_or, ap, arith}
+use Rattle.lis_bits.specs.Inside.{words_of, rows_of}
+use Rattle.lis_bits.proofs.View.{in_rows, run_in, runs_apart, get-rows_of}
 use Rattle.lis_bits.proofs.Joined.{seen_written, rows_joined}
 use Rattle.lis_bits.proofs.rows.Rows.join.Goals as goal
 
@@ -29,5 +29,6 @@ returns g c = λ join bitwise.
     let new = c.join.new.words in
     let some = c.items_mut.ensures.value in
     let was = ap (λ o. unwrap_or o []) some in
-    let rows = rows_joined old new inside.rows inside.width c.args.to c.args.from _ join to_in from_in c.join.ensures.fit c.join.ensures.joined bitwise in
+    let rows = rows_joined old new inside.rows inside.width c.args.to _ join (λ i. get_or old (c.args.from * inside.width + i) 0) (λ b. get_or (get_or (rows_of old inside.rows inside.width) c.args.from []) b false)
+    to_in c.join.ensures.fit (λ i. c.join.ensures.fit (c.args.from * inside.width + i)) c.join.ensures.joined.joined c.join.ensures.joined.others bitwise (λ b lt. get-rows_of old inside.rows inside.width c.args.from b from_in lt) in
     rw (← c.self.view_is) (seen_written inside.region inside.frame inside.rows inside.width c.args.to inside.edits _ _ old new some c.items_mut.ensures.width c.join.auto.words (rw was rows) c.saturating_add-self-inside.ensures)
