@@ -1,7 +1,8 @@
 -- What sound parts spell is in the ranges of its layouts.
-use Rattle.std.proofs.Common.{◌≡◌, ℕ, ◌+◌, ◌-◌, ◌^◌, ◌<◌, ◌≤◌, ◌&&◌, nat_lt, Bool, true, false, List, length, get_or, Option, Some, None, is_some, slice_get, IsSome, refl, sym, ap, ◌∙◌, subst, arith}
+use Rattle.std.proofs.Common.{◌≡◌, ℕ, ◌+◌, ◌-◌, ◌^◌, ◌<◌, ◌≤◌, ◌&&◌, nat_lt, Bool, true, false, List, length, get_or, Option, Some, None, is_some, unwrap_or, slice_get, IsSome, refl, sym, ap, ◌∙◌, subst, arith}
 use Rattle.std.specs.List.{list_all}
 use Rattle.std.proofs.lemmas.Bool.{and_parts, and_from, lt-ltb}
+use Rattle.std.proofs.lemmas.Option.{unwrap_or-slice_get, get_or_from_slice_get}
 use Rattle.lis_dict.specs.Dict.{Dict, IsDict, word_of}
 use Rattle.lis_dict.proofs.Laws.{number_from_word, number_below}
 use Rattle.lis_catalog.specs.Catalog.{Catalog, rec_at}
@@ -15,7 +16,7 @@ use Rattle.lis_kept.specs.Sound.{AreSound, is_sound_record}
 use Rattle.lis_kept.proofs.InArea.{few_properties}
 
 pub some_word : (o : Option (List ℕ)) → IsSome o → (w : List ℕ) × (o ≡ Some w)
-some_word None h = absurd h
+some_word None h = absurd cc
 some_word (Some w) h = (w, refl)
 
 module _ (k : Kept) (sound : AreSound k) where
@@ -39,8 +40,8 @@ module _ (k : Kept) (sound : AreSound k) where
           and_from (nat_lt left (2 ^ 32 - 1)) (nat_lt right (2 ^ 32 - 1)) (small left one.left) (small right one.right)
 
       by : (o : Option AxiomSlot) → slice_get k.axioms n ≡ o → is_axiom (axiom_at k.axioms n) ≡ true
-      by None is = ?
-      by (Some a) is = ?
+      by None is = ap is_axiom (sym (unwrap_or-slice_get k.axioms n FreeAxiom) ∙ ap (λ o. unwrap_or o FreeAxiom) is)
+      by (Some a) is = ap is_axiom (get_or_from_slice_get k.axioms n a FreeAxiom is) ∙ slot a is
 
   pub records_formed : (n : ℕ) → is_file (record_at k.catalog n) ≡ true
   records_formed n = by (rec_at k.catalog n) refl
@@ -69,7 +70,7 @@ sound_marks k marks sound same = record {
   bits = sound.bits;
   properties = sound.properties;
   axiom_count = sound.axiom_count;
-  axioms = λ slot left right is. sound.axioms slot left right is;
+  axioms = λ slot left right is. let one = sound.axioms slot left right is in record { below = one.below; left = one.left; right = one.right };
   slots = sound.slots;
   catalog = sound.catalog;
   records = sound.records;

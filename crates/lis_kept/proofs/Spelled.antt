@@ -1,8 +1,9 @@
 -- Blocks whose slots are spelled by what memory keeps.
-use Rattle.std.proofs.Common.{◌≡◌, ℕ, ◌+◌, ◌*◌, ◌-◌, ◌/◌, ◌%◌, ◌<◌, ◌≤◌, List, IsTrue, sym, ap, ◌∙◌, subst, arith}
+use Rattle.std.proofs.Common.{◌≡◌, ℕ, ◌+◌, ◌*◌, ◌-◌, ◌/◌, ◌%◌, ◌<◌, ◌≤◌, List, IsTrue, refl, ap, ◌∙◌, arith}
 use Rattle.std.proofs.Math.Nat.{mod-lt}
 use Rattle.lis_ports.specs.Bytes.{part}
 use Rattle.lis_blockmap.specs.Bitmap.{bitmap_bytes}
+use Rattle.lis_fields.specs.declared.slots.AxiomSlot.{AxiomSlot}
 use Rattle.lis_fields.specs.Layouts.{prop_bytes, axiom_bytes, file_bytes}
 use Rattle.lis_model.specs.Ranges.{are_in_range}
 use Rattle.lis_model.specs.Image.{axioms_start, files_start, rows_start, bitmap_start}
@@ -18,24 +19,22 @@ module _ (k : Kept) (range : IsTrue (are_in_range k.limits)) (n : ℕ) (block : 
   properties_block from to is = one_area k range Properties n block from to (λ m lt here.
       is (m % 64) (omega arith) ∙ ap (λ j. prop_bytes (property_at k.dict k.declared j)) (omega (arith, here)))
 
-  pub axioms_block : axioms_start k.limits ≤ n → n < files_start k.limits
-      → ((j : ℕ) → j < 512 → part (8 * j) 8 block ≡ axiom_bytes (axiom_at k.axioms (512 * (n - axioms_start k.limits) + j))) → IsBlock k n block
-  axioms_block from to is = one_area k range Axioms n block from to (λ m lt here.
-      is (m % 512) (omega arith) ∙ ap (λ j. axiom_bytes (axiom_at k.axioms j)) (omega (arith, here)))
+  pub axioms_block : (start : ℕ) (axioms : List AxiomSlot) → start ≡ axioms_start k.limits → axioms ≡ k.axioms → axioms_start k.limits ≤ n → n < files_start k.limits
+      → ((j : ℕ) → j < 512 → part (8 * j) 8 block ≡ axiom_bytes (axiom_at axioms (512 * (n - start) + j))) → IsBlock k n block
+  axioms_block start axioms at are from to is = one_area k range Axioms n block from to (λ m lt here.
+      is (m % 512) (omega arith) ∙ (ap (λ j. axiom_bytes (axiom_at axioms j)) (omega (arith, here, at)) ∙ ap (λ slots. axiom_bytes (axiom_at slots m)) are))
 
-  pub files_block : files_start k.limits ≤ n → n < rows_start k.limits
-      → ((j : ℕ) → j < 16 → part (256 * j) 256 block ≡ file_bytes (record_at k.catalog (16 * (n - files_start k.limits) + j))) → IsBlock k n block
-  files_block from to is = one_area k range Files n block from to (λ m lt here.
-      is (m % 16) (omega arith) ∙ ap (λ j. file_bytes (record_at k.catalog j)) (omega (arith, here)))
+  pub files_block : (start : ℕ) → start ≡ files_start k.limits → files_start k.limits ≤ n → n < rows_start k.limits
+      → ((j : ℕ) → j < 16 → part (256 * j) 256 block ≡ file_bytes (record_at k.catalog (16 * (n - start) + j))) → IsBlock k n block
+  files_block start at from to is = one_area k range Files n block from to (λ m lt here.
+      is (m % 16) (omega arith) ∙ ap (λ j. file_bytes (record_at k.catalog j)) (omega (arith, here, at)))
 
-  pub rows_block : (width count : ℕ) → width ≡ k.limits.files / 8 → count ≡ 4096 / (k.limits.files / 8) → rows_start k.limits ≤ n → n < bitmap_start k.limits
-      → ((j : ℕ) → j < count → part (width * j) width block ≡ row_bytes k.ext (count * (n - rows_start k.limits) + j)) → IsBlock k n block
-  rows_block width count wide many from to is = one_area k range Rows n block from to (λ m lt here.
+  pub rows_block : (start : ℕ) → start ≡ rows_start k.limits → rows_start k.limits ≤ n → n < bitmap_start k.limits
+      → ((j : ℕ) → j < 4096 / (k.limits.files / 8) → part (k.limits.files / 8 * j) (k.limits.files / 8) block ≡ row_bytes k.ext (4096 / (k.limits.files / 8) * (n - start) + j)) → IsBlock k n block
+  rows_block start at from to is = one_area k range Rows n block from to (λ m lt here.
       let p : ℕ = 4096 / (k.limits.files / 8) in
-      let rest : m % p < p = mod-lt m (some_rows k.limits range) in
-      ap (λ w. part (w * (m % p)) w block) (sym wide)
-      ∙ (is (m % p) (omega (arith, rest, many))
-      ∙ ap (row_bytes k.ext) (slot_placed count (rows_start k.limits) m n p (some_rows k.limits range) (sym many) here)))
+      is (m % p) (mod-lt m (some_rows k.limits range))
+      ∙ ap (row_bytes k.ext) (ap (λ b. p * (n - b) + m % p) at ∙ slot_placed p (rows_start k.limits) m n p (some_rows k.limits range) refl here))
 
   pub bitmap_block : n ≡ bitmap_start k.limits → block ≡ bitmap_bytes k.taken → IsBlock k n block
   bitmap_block here is = one_area k range Bitmap n block (omega (arith, here)) (omega (arith, here)) (λ m lt at. is)

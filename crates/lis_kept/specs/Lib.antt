@@ -4,4 +4,3 @@ pub mod Areas
 pub mod Sound
 pub mod Staging
 pub mod Inside
-pub mod OneRow

@@ -3,7 +3,6 @@
 //! Each change of memory marks the blocks that it touches, and one loop stages all marked blocks, each spelled whole.
 #![tactic(auto)]
 
-mod flags;
 mod parts;
 mod places;
 mod rows;

@@ -3,7 +3,7 @@
 ghost use Rattle.std.specs.Prelude.{◌≡◌, ℕ, ◌+◌, ◌<◌, ◌≤◌, false, length, replicate, IsTrue};
 ghost use Rattle.lis_model.specs.Image.{bitmap_start, data_start, image_blocks};
 
-use crate::flags::Flags;
+use lis_bits::Flags;
 use crate::places::{PROPERTIES_START, axioms_start, bitmap_start, data_start, files_start, rows_start};
 use crate::rows::write_rows;
 use crate::spelling::{

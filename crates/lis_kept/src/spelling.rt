@@ -6,7 +6,7 @@ ghost use Rattle.lis_fields.specs.Layouts.{prop_bytes, is_prop, axiom_bytes, is_
 ghost use Rattle.lis_kept.specs.Kept.{property_at, axiom_at, record_at};
 
 use arrayvec::ArrayVec;
-use crate::flags::Flags;
+use lis_bits::Flags;
 use lis_catalog::Catalog;
 use lis_dict::Dict;
 use lis_fields::{
