@@ -6,13 +6,15 @@ use Rattle.std.proofs.lemmas.Option.{unwrap_or-slice_get, get_or_from_slice_get}
 use Rattle.lis_dict.specs.Dict.{Dict, IsDict, word_of}
 use Rattle.lis_dict.proofs.Laws.{number_from_word, number_below}
 use Rattle.lis_catalog.specs.Catalog.{Catalog, rec_at}
-use Rattle.lis_ext.specs.Ext.{has}
+use Rattle.lis_ext.specs.Ext.{Ext, has}
+use Rattle.lis_taxonomy.specs.Taxonomy.{Taxonomy}
 use Rattle.lis_fields.specs.Records.{FileRecord}
 use Rattle.lis_fields.specs.declared.slots.AxiomSlot.{AxiomSlot}
 use Rattle.lis_fields.specs.declared.slots.AxiomSlot.TheVariants.{Free as FreeAxiom, Pair}
 use Rattle.lis_fields.specs.Layouts.{is_axiom, is_file, is_record}
 use Rattle.lis_kept.specs.Kept.{Kept, axiom_at, file_by, record_at}
 use Rattle.lis_kept.specs.Sound.{AreSound, is_sound_record}
+use Rattle.lis_kept.specs.Links.{TellsLinks, AreHeld}
 use Rattle.lis_kept.proofs.InArea.{few_properties}
 
 pub some_word : (o : Option (List ℕ)) → IsSome o → (w : List ℕ) × (o ≡ Some w)
@@ -60,24 +62,32 @@ module _ (k : Kept) (sound : AreSound k) where
       by true is = absurd (let lt = named_below n (sound.named n slot is) in omega (arith, lt, past))
       by false is = refl
 
--- parts with other marks
-pub sound_marks : (k : Kept) (marks : List Bool) → AreSound k → length marks ≡ length k.marks → AreSound (record k { marks = marks })
-sound_marks k marks sound same = record {
-  range = sound.range;
-  numbers = sound.numbers;
-  dict = sound.dict;
-  heads = sound.heads;
-  bits = sound.bits;
-  properties = sound.properties;
-  axiom_count = sound.axiom_count;
-  axioms = λ slot left right is. let one = sound.axioms slot left right is in record { below = one.below; left = one.left; right = one.right };
-  slots = sound.slots;
-  catalog = sound.catalog;
-  records = sound.records;
-  blocks = sound.blocks;
-  rows = sound.rows;
-  files = sound.files;
-  named = sound.named;
-  settled = sound.settled;
-  marks = omega (arith, same, sound.marks);
+-- ---- parts of which words, axioms and the like stay
+pub links_stay : (p : Kept) (catalog : Catalog) (taken : List Bool) (ext : Ext) (marks : List Bool) (t : Taxonomy) → TellsLinks p t
+    → TellsLinks (record p { catalog = catalog; taken = taken; ext = ext; marks = marks }) t
+links_stay p catalog taken ext marks t links = record { props = links.props; edges = links.edges }
+
+-- other marks, as many
+pub held_marks : (k : Kept) (t : Taxonomy) (marks : List Bool) → AreHeld k t → length marks ≡ length k.marks → AreHeld (record k { marks = marks }) t
+held_marks k t marks held same = record {
+  sound = record {
+    range = held.sound.range;
+    numbers = held.sound.numbers;
+    dict = held.sound.dict;
+    heads = held.sound.heads;
+    bits = held.sound.bits;
+    properties = held.sound.properties;
+    axiom_count = held.sound.axiom_count;
+    axioms = λ slot left right is. let one = held.sound.axioms slot left right is in record { below = one.below; left = one.left; right = one.right };
+    slots = held.sound.slots;
+    catalog = held.sound.catalog;
+    records = held.sound.records;
+    blocks = held.sound.blocks;
+    rows = held.sound.rows;
+    files = held.sound.files;
+    named = held.sound.named;
+    settled = held.sound.settled;
+    marks = omega (arith, same, held.sound.marks);
+  };
+  links = links_stay k k.catalog k.taken k.ext marks t held.links;
 }

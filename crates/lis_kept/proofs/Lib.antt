@@ -4,3 +4,5 @@ pub mod RowBytes
 pub mod Staged
 pub mod Formed
 pub mod Spelled
+pub mod Marking
+pub mod Described

@@ -19,3 +19,19 @@ row_bytes_none e prop n wide none =
     fill_by_all (λ k. bits_number (map (has e prop) (range_with_len (8 * k) 8))) (replicate n 0) n 0 (length-replicate n 0)
     (λ k lt. get_or-replicate n k 0 0 lt ∙ sym (no_bits (has e prop) none (range_with_len (8 * k) 8)))
     ∙ ap (λ m. map (λ k. bits_number (map (has e prop) (range_with_len (8 * k) 8))) (range_with_len 0 m)) (sym count)
+
+-- what the row tells is all that it depends on
+same_number : (f g : ℕ → Bool) → ((n : ℕ) → f n ≡ g n) → (ns : List ℕ) → bits_number (map f ns) ≡ bits_number (map g ns)
+same_number f g same [] = refl
+same_number f g same (n ∷ ns) = rw (same n, same_number f g same ns) refl
+
+same_map : (f g : ℕ → ℕ) → ((n : ℕ) → f n ≡ g n) → (ns : List ℕ) → map f ns ≡ map g ns
+same_map f g same [] = refl
+same_map f g same (n ∷ ns) = rw (same n, same_map f g same ns) refl
+
+pub row_bytes_same : (d e : Ext) (prop : ℕ) → length e.sets ≡ length d.sets → ((file : ℕ) → has e prop file ≡ has d prop file) → row_bytes e prop ≡ row_bytes d prop
+unfolding row_bytes
+row_bytes_same d e prop count same =
+    same_map (λ k. bits_number (map (has e prop) (range_with_len (8 * k) 8))) (λ k. bits_number (map (has d prop) (range_with_len (8 * k) 8)))
+    (λ k. same_number (has e prop) (has d prop) same (range_with_len (8 * k) 8)) (range_with_len 0 (length e.sets / 8))
+    ∙ ap (λ n. map (λ k. bits_number (map (has d prop) (range_with_len (8 * k) 8))) (range_with_len 0 (n / 8))) count

@@ -1,6 +1,10 @@
 pub mod Kept
 pub mod Rows
 pub mod Areas
+pub mod Telling
 pub mod Sound
+pub mod Links
+pub mod Changes
 pub mod Staging
 pub mod Inside
+pub mod Old

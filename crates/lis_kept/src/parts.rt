@@ -23,19 +23,19 @@ use std::marker::Model;
 /// What memory keeps of an image, and which of its blocks are yet to be written.
 #[derive(Drop)]
 pub struct Parts {
-    limits: Limits,
-    dict: Dict,
+    pub(crate) limits: Limits,
+    pub(crate) dict: Dict,
     // By number: the word that has it is declared.
-    declared: Flags,
+    pub(crate) declared: Flags,
     // By slot, as many as whole blocks have.
-    axioms: Vec<AxiomSlot>,
+    pub(crate) axioms: Vec<AxiomSlot>,
     // The links between the words that have numbers.
-    taxonomy: Taxonomy,
-    catalog: Catalog,
-    map: BlockMap,
-    ext: Ext,
+    pub(crate) taxonomy: Taxonomy,
+    pub(crate) catalog: Catalog,
+    pub(crate) map: BlockMap,
+    pub(crate) ext: Ext,
     // By block: it is to be written.
-    marks: Flags,
+    pub(crate) marks: Flags,
 }
 
 impl Model for Parts {
@@ -44,11 +44,11 @@ impl Model for Parts {
     ghost Value = { Kept };
 
     ghost use Rattle.lis_kept.specs.Kept.{kept_of};
-    ghost use Rattle.lis_kept.specs.Sound.{AreSound};
+    ghost use Rattle.lis_kept.specs.Links.{AreHeld};
 
     ghost view = { λ p. kept_of p.limits p.dict p.declared p.axioms.items p.catalog p.map p.ext p.marks };
 
-    ghost invariant = { λ p. AreSound (kept_of p.limits p.dict p.declared p.axioms.items p.catalog p.map p.ext p.marks) };
+    ghost invariant = { λ p. AreHeld (kept_of p.limits p.dict p.declared p.axioms.items p.catalog p.map p.ext p.marks) p.taxonomy };
 }
 
 impl Parts {

@@ -12,7 +12,7 @@ returns-then-n-bitmap_start c =
     let block = bitmap_bytes c.self.inside.map in
     let P : Kept → Type 0 = λ k. IsBlock k c.args.n block in
     stages_block c.args.self.now c.args.n c.args.journal.now c.stage_to.new.journal block c.stage_to.ensures.staged c.stage_to.ensures.looks
-    (subst P c.self.view_is (bitmap_block (the_view c.self.inside) c.self.invariant.range c.args.n block (c.if-n-bitmap_start.true ∙ c.bitmap_start.ensures) refl))
+    (subst P c.self.view_is (bitmap_block (the_view c.self.inside) c.self.invariant.sound.range c.args.n block (c.if-n-bitmap_start.true ∙ c.bitmap_start.ensures) refl))
 
 pub returns : goal.returns
 returns c = stages_block c.args.self.now c.args.n c.args.journal.now c.stage.new.self c.write_block.new.block c.stage.ensures.staged c.stage.ensures.looks c.write_block.ensures
