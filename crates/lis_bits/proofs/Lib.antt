@@ -5,4 +5,5 @@ mod Counts
 mod Subset
 mod SharedBits
 mod OneRow
+pub mod Numbers
 pub mod Laws

@@ -32,6 +32,7 @@ impl Model for Rows {
 impl Rows {
     ghost use Rattle.lis_bits.specs.Rows.{get, empty_rows, with_row, true_count, NoneTrue};
     ghost use Rattle.lis_bits.specs.Rows.{row_at, row_of};
+    ghost use Rattle.lis_bits.specs.Bytes.{bits_bytes};
     ghost use Rattle.lis_bits.specs.Words.{words_bit};
     ghost use Rattle.lis_bits.specs.Inside.{IsBitwise};
 
@@ -169,6 +170,18 @@ impl Rows {
     {
         let bit = words::next(self.words(row), start as usize)?;
         Some(bit as u32)
+    }
+
+    /// Writes a row as bytes: bit i % 8 of byte i / 8, bit 0 the lowest, tells bit i of the row.
+    pub fn row_bytes(&self, row: u32, buf: &mut [u8])
+        requires row { row < length self.now.rows }
+        requires room { 8 * length buf.old ≡ self.now.bits }
+        ensures { buf.new ≡ bits_bytes (length buf.old) (get self.now row) }
+    {
+        let words = self.words(row);
+        for k in 0..buf.len() {
+            buf[k] = words::byte(words, k);
+        }
     }
 
     // The words of a row.

@@ -1,7 +1,8 @@
 ghost use Rattle.std.specs.Prelude.{ℕ, ◌+◌, ◌^◌, ◌<◌, ◌≤◌, length, slice_index};
 ghost use Rattle.std.specs.Prelude.{◌*◌, ◌≡◌, ◌≢◌, ◌==◌, ◌↔◌, IsTrue, MatchOption, sum_by, count_ones, bit_and, if◌then◌else◌};
 ghost use Rattle.std.specs.Int.{bit_not, w64};
-ghost use Rattle.lis_bits.specs.Words.{Joins, JoinsWith, AreApart, word_bit, IsNextIn, NoneNextIn, IsNextFrom, NoneNextFrom};
+ghost use Rattle.lis_bits.specs.Bytes.{bits_number};
+ghost use Rattle.lis_bits.specs.Words.{Joins, JoinsWith, AreApart, word_bit, words_bit, IsNextIn, NoneNextIn, IsNextFrom, NoneNextFrom};
 
 // Sets each of the `width` words from `to` on to what `op` gives of it and of the word as far on from `from`.
 pub(crate) fn join<F: Fn(u64, u64) -> u64>(
@@ -100,4 +101,12 @@ pub(crate) fn next(words: &[u64], start: usize) -> Option<usize>
         }
     }
     None
+}
+
+// A byte of the words, of which the first has the lowest bits of the first word.
+pub(crate) fn byte(words: &[u64], k: usize) -> u8
+    requires { k < 8 * length words.now }
+    ensures { result ≡ bits_number 8 (λ i. words_bit words.now (8 * k + i)) }
+{
+    (words[k / 8] >> (k % 8 * 8) & 0xff) as u8
 }

@@ -1,8 +1,8 @@
 -- Sources worked by the definitions alone.
 use Rattle.std.proofs.Common.{◌≡◌, [], ◌∷◌, codes, refl}
-use Rattle.lis_csource.specs.Joined.{joined}
-use Rattle.lis_csource.specs.Pieces.{pieces}
-use Rattle.lis_csource.specs.Source.{source_words}
+use Rattle.lis_transducers.specs.Joined.{joined}
+use Rattle.lis_transducers.specs.Pieces.{pieces}
+use Rattle.lis_transducers.specs.Source.{source_words}
 
 -- a comment hides an include, a string hides a brace, and a call inside braces defines nothing
 a_source : source_words (codes "/* #include \"no.h\" */\n#include <stdio.h>\n#include \"sub/list.h\"\nstatic const char *s = \"{\";\nint main(void) {\n  puts(s);\n}\n")

@@ -3,7 +3,7 @@ use Rattle.std.proofs.Common.{◌≡◌, ◌≢◌, ℕ, suc, zero, ◌-◌, ◌
 use Rattle.std.proofs.lemmas.Bool.{eq-eqb}
 use Rattle.std.proofs.lemmas.List.{take_rest}
 use Rattle.std.proofs.Math.Dec.{eqb-suc-zero}
-use Rattle.lis_csource.specs.Joined.{joint_len, joined_behind, joined}
+use Rattle.lis_transducers.specs.Joined.{joint_len, joined_behind, joined}
 
 pub joined_nil : joined [] ≡ []
 unfolding joined

@@ -1,8 +1,8 @@
 -- The last part of a path, found from its front on.
 use Rattle.std.proofs.Common.{◌≡◌, ℕ, Bool, true, false, cond, ◌||◌, List, [], ◌∷◌, refl, sym, ap, ◌∙◌}
 use Rattle.std.specs.List.{list_any}
-use Rattle.lis_csource.specs.Bytes.{is_slash}
-use Rattle.lis_csource.specs.Entries.{last_part}
+use Rattle.lis_transducers.specs.Bytes.{is_slash}
+use Rattle.lis_transducers.specs.Entries.{last_part}
 
 -- the last part of some bytes that end with the rest, where no / stands before the rest
 abbrev pub last_or : List ℕ → List ℕ → List ℕ

@@ -1,11 +1,11 @@
 -- The pieces of some bytes: the first one, and those of what stands behind it.
 use Rattle.std.proofs.Common.{◌≡◌, ℕ, suc, zero, ◌≤◌, Bool, true, false, cond, ◌==◌, ◌&&◌, List, [], ◌∷◌, length, refl, sym, ap, ◌∙◌, arith}
 use Rattle.std.specs.Char.{is_ascii_digit}
-use Rattle.lis_csource.specs.Bytes.{is_feed, is_backslash, is_slash, is_star, is_blank, is_white, is_name_start, is_name_byte, is_number_byte, is_no_feed, past, begins_with, but_first}
-use Rattle.lis_csource.specs.declared.pieces.Kind.{Kind}
-use Rattle.lis_csource.specs.declared.pieces.Kind.TheVariants.{Blank, White, Feed, Comment, Literal, Identifier, Number, Mark}
-use Rattle.lis_csource.specs.declared.pieces.Context.{Context}
-use Rattle.lis_csource.specs.Pieces.{Read, IsFirst, read, piece_of, pieces, pieces_within, after_block, after_literal, is_in_path, close_of, slash_piece, quote_piece, is_open, opens_path, path_piece, open_piece, first_piece, context_after}
+use Rattle.lis_transducers.specs.Bytes.{is_feed, is_backslash, is_slash, is_star, is_blank, is_white, is_name_start, is_name_byte, is_number_byte, is_no_feed, past, begins_with, but_first}
+use Rattle.lis_transducers.specs.declared.piece.Kind.{Kind}
+use Rattle.lis_transducers.specs.declared.piece.Kind.TheVariants.{Blank, White, Feed, Comment, Literal, Identifier, Number, Mark}
+use Rattle.lis_transducers.specs.declared.piece.Context.{Context}
+use Rattle.lis_transducers.specs.Pieces.{Read, IsFirst, read, piece_of, pieces, pieces_within, after_block, after_literal, is_in_path, close_of, slash_piece, quote_piece, is_open, opens_path, path_piece, open_piece, first_piece, context_after}
 
 -- a piece takes no byte from before it
 past_shorter : (test : ℕ → Bool) (bytes : List ℕ) → length (past test bytes) ≤ length bytes

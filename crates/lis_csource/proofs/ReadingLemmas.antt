@@ -5,14 +5,14 @@ use Rattle.std.proofs.lemmas.List.Sums.{fold-append}
 use Rattle.std.proofs.lemmas.List.Elements.{filter-append}
 use Rattle.lis_words.specs.Words.{is_word, has_word}
 use Rattle.lis_model.specs.Noted.{noted, noted_all}
-use Rattle.lis_csource.specs.Bytes.{front, is_name_byte}
-use Rattle.lis_csource.specs.declared.pieces.Kind.{Kind}
-use Rattle.lis_csource.specs.declared.pieces.Kind.TheVariants.{Blank, White, Feed, Comment, Literal, Identifier, Number, Path, Mark}
+use Rattle.lis_transducers.specs.Bytes.{front, is_name_byte}
+use Rattle.lis_transducers.specs.declared.piece.Kind.{Kind}
+use Rattle.lis_transducers.specs.declared.piece.Kind.TheVariants.{Blank, White, Feed, Comment, Literal, Identifier, Number, Path, Mark}
 use Rattle.lis_csource.specs.declared.source.Stage.{Stage}
 use Rattle.lis_csource.specs.declared.source.Stage.TheVariants.{Nothing, Named, Open, Closed}
-use Rattle.lis_csource.specs.Pieces.{Piece, piece_of}
-use Rattle.lis_csource.specs.Entries.{tokens}
-use Rattle.lis_csource.specs.Source.{is_identifier, is_candidate, is_defined, keywords, defined_word, words_at, braces_after, parens_after}
+use Rattle.lis_transducers.specs.Pieces.{Piece, piece_of}
+use Rattle.lis_transducers.specs.Entries.{tokens}
+use Rattle.lis_transducers.specs.Source.{is_identifier, is_candidate, is_defined, keywords, defined_word, words_at, braces_after, parens_after}
 use Rattle.lis_csource.specs.Reading.{noted_words, stage_after, right_words, IsSound}
 
 noted_in_parts : (out xs ys : List (List ℕ)) → noted_words (noted_words out xs) ys ≡ noted_words out (xs ++ ys)

@@ -1,6 +1,6 @@
 -- Fronts of bytes that pass a test, one byte more.
 use Rattle.std.proofs.Common.{◌≡◌, ℕ, ◌<◌, Bool, true, false, cond, List, [], ◌∷◌, ◌++◌, length, sym, ap, ◌∙◌, arith, length-append, append_assoc, append-nil}
-use Rattle.lis_csource.specs.Bytes.{front, past}
+use Rattle.lis_transducers.specs.Bytes.{front, past}
 
 module _ (test : ℕ → Bool) where
   pub past_in : (xs : List ℕ) (b : ℕ) (ys : List ℕ) → xs ≡ b ∷ ys → test b ≡ true → past test xs ≡ past test ys

@@ -2,8 +2,8 @@
 use Rattle.std.specs.Prelude.{◌≡◌, ℕ, ◌==◌, ◌<◌, Bool, false, ◌&&◌, if◌then◌else◌, Option, Some, None, List, [], ◌∷◌, filter}
 use Rattle.lis_words.specs.Words.{is_word}
 use Rattle.lis_model.specs.Noted.{noted_all}
-use Rattle.lis_csource.specs.Source.{is_byte, begins_with_byte, behind_call, is_defined, defined_word}
-use Rattle.lis_csource.specs.declared.pieces.Kind.{Kind}
+use Rattle.lis_transducers.specs.Source.{is_byte, begins_with_byte, behind_call, is_defined, defined_word}
+use Rattle.lis_transducers.specs.declared.piece.Kind.{Kind}
 use Rattle.lis_csource.specs.declared.source.Stage.{Stage}
 use Rattle.lis_csource.specs.declared.source.Stage.TheVariants.{Nothing, Named, Open, Closed}
 

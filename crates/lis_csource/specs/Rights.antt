@@ -1,12 +1,12 @@
 -- The words that are right at a place of a source, by what stands behind it.
 use Rattle.std.specs.Prelude.{ℕ, List}
-use Rattle.lis_csource.specs.Bytes.{front, is_name_byte}
-use Rattle.lis_csource.specs.Joined.{joined}
-use Rattle.lis_csource.specs.Pieces.{Piece}
-use Rattle.lis_csource.specs.Entries.{tokens}
-use Rattle.lis_csource.specs.Source.{words_at}
+use Rattle.lis_transducers.specs.Bytes.{front, is_name_byte}
+use Rattle.lis_transducers.specs.Joined.{joined}
+use Rattle.lis_transducers.specs.Pieces.{Piece}
+use Rattle.lis_transducers.specs.Entries.{tokens}
+use Rattle.lis_transducers.specs.Source.{words_at}
 use Rattle.lis_csource.specs.Reading.{right_words, noted_words}
-use Rattle.lis_csource.specs.declared.pieces.Kind.{Kind}
+use Rattle.lis_transducers.specs.declared.piece.Kind.{Kind}
 use Rattle.lis_csource.specs.declared.source.Reading.{Reading}
 
 -- the words that are right, where these tokens follow

@@ -1,8 +1,8 @@
 -- Runs of bytes of one kind in a source.
 use Rattle.std.specs.Prelude.{ℕ, Bool, List}
-use Rattle.lis_csource.specs.Bytes.{is_name_byte, is_number_byte, is_no_feed, front, past}
-use Rattle.lis_csource.specs.Joined.{joined}
-use Rattle.lis_csource.specs.Pieces.{is_in_path}
+use Rattle.lis_transducers.specs.Bytes.{is_name_byte, is_number_byte, is_no_feed, front, past}
+use Rattle.lis_transducers.specs.Joined.{joined}
+use Rattle.lis_transducers.specs.Pieces.{is_in_path}
 use Rattle.lis_csource.specs.declared.runs.Run.{Run}
 use Rattle.lis_csource.specs.declared.runs.Run.TheVariants.{Name, Number, Line, Path}
 

@@ -1,51 +1,14 @@
 //! The pieces of a source, one after another.
 
 ghost use Rattle.std.specs.Prelude.{◌≡◌, ℕ, ◌<◌, ◌≤◌, List, [], ◌∷◌, length, true, false, MatchOption, IfSome};
-ghost use Rattle.lis_csource.specs.Bytes.{is_blank, is_white, is_name_start, is_name_byte, begins_with, front, past, but_first};
-ghost use Rattle.lis_csource.specs.Joined.{joined};
-ghost use Rattle.lis_csource.specs.Pieces.{IsFirst, read, piece_of, pieces, after_block, after_literal, is_in_path, has_close, close_of, slash_piece, quote_piece, is_open, open_piece, first_piece, other_after, white_after, hash_after, name_after, context_after};
+ghost use Rattle.lis_transducers.specs.Bytes.{is_blank, is_white, is_name_start, is_name_byte, begins_with, front, past, but_first};
+ghost use Rattle.lis_transducers.specs.Joined.{joined};
+ghost use Rattle.lis_transducers.specs.Pieces.{IsFirst, read, piece_of, pieces, after_block, after_literal, is_in_path, has_close, close_of, slash_piece, quote_piece, is_open, open_piece, first_piece, other_after, white_after, hash_after, name_after, context_after};
 
 use crate::joined::next_byte;
 use crate::runs::Run;
 use crate::words::is_include;
-
-/// What a piece of a source is.
-#[derive(Clone, Copy, Debug, PartialEq, Eq)]
-pub enum Kind {
-    /// A space or a tab.
-    Blank,
-    /// Other white space but a line feed.
-    White,
-    /// A line feed outside comments.
-    Feed,
-    /// A comment of either form.
-    Comment,
-    /// A string or a character literal.
-    Literal,
-    /// An identifier or a keyword.
-    Identifier,
-    /// A number.
-    Number,
-    /// The path of an include, by the byte that closes it.
-    Path(u8),
-    /// Any other byte.
-    Mark(u8),
-}
-
-/// Where a piece stands in its line.
-#[derive(Clone, Copy, Debug, PartialEq, Eq)]
-pub enum Context {
-    /// Behind white space and comments alone.
-    LineStart,
-    /// Behind something else, outside directives.
-    Code,
-    /// Behind the `#` of a directive.
-    Hash,
-    /// Behind the `include` of a directive.
-    Include,
-    /// Behind something else in a directive.
-    Directive,
-}
+use lis_transducers::piece::{Context, Kind};
 
 /// A piece, where its text begins, and what stands behind it.
 #[derive(Clone, Copy)]

@@ -1,8 +1,8 @@
 //! Runs of bytes of one kind.
 
 ghost use Rattle.std.specs.Prelude.{◌≡◌, ℕ, ◌<◌, ◌≤◌, ◌++◌, List, [], ◌∷◌, length, MatchOption};
-ghost use Rattle.lis_csource.specs.Bytes.{is_name_byte, is_number_byte, past, front};
-ghost use Rattle.lis_csource.specs.Joined.{joined};
+ghost use Rattle.lis_transducers.specs.Bytes.{is_name_byte, is_number_byte, past, front};
+ghost use Rattle.lis_transducers.specs.Joined.{joined};
 
 use crate::joined::next_byte;
 use arrayvec::ArrayVec;

@@ -2,16 +2,17 @@
 
 ghost use Rattle.std.specs.Prelude.{◌≡◌, ℕ, ◌+◌, ◌-◌, ◌^◌, ◌<◌, ◌≤◌, ◌==◌, ◌&&◌, List, [], ◌∷◌, true, false, Some, None};
 ghost use Rattle.lis_model.specs.Noted.{noted_all};
-ghost use Rattle.lis_csource.specs.Joined.{joined};
-ghost use Rattle.lis_csource.specs.Bytes.{front, is_name_byte};
-ghost use Rattle.lis_csource.specs.Pieces.{Piece, piece_of, context_after, is_in_path};
-ghost use Rattle.lis_csource.specs.Entries.{counts, entries, is_code, is_token, tokens};
-ghost use Rattle.lis_csource.specs.Source.{is_byte, depth_after, braces_after, parens_after, is_candidate, included_word, words_at, source_words};
+ghost use Rattle.lis_transducers.specs.Joined.{joined};
+ghost use Rattle.lis_transducers.specs.Bytes.{front, is_name_byte};
+ghost use Rattle.lis_transducers.specs.Pieces.{Piece, piece_of, context_after, is_in_path};
+ghost use Rattle.lis_transducers.specs.Entries.{counts, entries, is_code, is_token, tokens};
+ghost use Rattle.lis_transducers.specs.Source.{is_byte, depth_after, braces_after, parens_after, is_candidate, included_word, words_at, source_words};
 ghost use Rattle.lis_csource.specs.Reading.{noted_words, comes_true, stage_after, with_name, right_words, IsSound};
 
-use crate::pieces::{Context, Found, Kind, context_after, first_piece};
+use crate::pieces::{Found, context_after, first_piece};
 use crate::words::{is_keyword, note_defined, note_included};
 use lis_model::derived::Derived;
+use lis_transducers::piece::{Context, Kind};
 
 /// How much has been read of an identifier that may turn out to be defined.
 #[derive(Clone, Copy, Debug, PartialEq, Eq)]
@@ -107,7 +108,7 @@ fn stage_after(stage: Stage, parens: usize, kind: Kind) -> Stage
 }
 
 impl<'a> Reading<'a> {
-    ghost use Rattle.lis_csource.specs.declared.pieces.Kind.{Kind};
+    ghost use Rattle.lis_transducers.specs.declared.piece.Kind.{Kind};
     ghost use Rattle.lis_csource.specs.Rights.{right_words_of, words_to_come};
 
     fn is_candidate(&self, kind: Kind, text: &[u8]) -> bool

@@ -4,17 +4,17 @@ ghost use Rattle.std.specs.Prelude.{◌≡◌, ℕ, ◌<◌, ◌≤◌, ◌↔�
 ghost use Rattle.std.specs.List.{list_any};
 ghost use Rattle.lis_words.specs.Words.{is_word, has_word, same_word};
 ghost use Rattle.lis_model.specs.Noted.{noted_all};
-ghost use Rattle.lis_csource.specs.Bytes.{is_name_byte, front};
-ghost use Rattle.lis_csource.specs.Joined.{joined};
-ghost use Rattle.lis_csource.specs.Entries.{last_part};
-ghost use Rattle.lis_csource.specs.Source.{keywords};
-ghost use Rattle.lis_csource.specs.Pieces.{is_in_path};
+ghost use Rattle.lis_transducers.specs.Bytes.{is_name_byte, front};
+ghost use Rattle.lis_transducers.specs.Joined.{joined};
+ghost use Rattle.lis_transducers.specs.Entries.{last_part};
+ghost use Rattle.lis_transducers.specs.Source.{keywords};
+ghost use Rattle.lis_transducers.specs.Pieces.{is_in_path};
 ghost use Rattle.lis_csource.specs.Runs.{run_text};
 
 use crate::joined::next_byte;
 use crate::runs::Run;
 use lis_model::derived::Derived;
-use lis_words::{Word, read_word};
+use lis_words::{Word, read_operand};
 
 fn is_short_keyword(name: &[u8]) -> bool
     ensures { result ≡ has_word keywords name.now }
@@ -62,7 +62,7 @@ fn word_of(head: &[u8], run: Run, bytes: &[u8]) -> Option<Word>
     ensures text { IfSome result (λ word. word ≡ head.now ++ run_text run bytes.now) }
 {
     let text = run.text(head, bytes)?;
-    read_word(text.as_slice())
+    read_operand(text.as_slice())
 }
 
 fn note_word(head: &[u8], run: Run, bytes: &[u8], out: &mut Derived)

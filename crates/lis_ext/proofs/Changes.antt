@@ -2,10 +2,10 @@
 use Rattle.std.proofs.Common.{◌≡◌, ◌⊎◌, ℕ, ◌+◌, ◌<◌, ◌==◌, Bool, true, false, not, ◌&&◌, ◌||◌, if◌then◌else◌, List, length, get_or, take, refl, sym, ap, ◌∙◌, inl, inr, arith, eq-eqb}
 use Rattle.std.specs.List.Sorted.{IsStrictlyIncreasing}
 use Rattle.std.proofs.lemmas.Bool.{cases_eq, ne_eqb}
-use Rattle.lis_bits.specs.Rows.{Rows, get, with_row}
+use Rattle.lis_bits.specs.Rows.{HasShape, Rows, get, with_row}
 use Rattle.lis_bits.proofs.Laws.{get-with_row_same, get-with_row_other, length-with_row}
 use Rattle.lis_ext.specs.Numbers.{has_number}
-use Rattle.lis_ext.specs.Inside.{HasShape, Changes, AddsNumbers, DropsNumbers}
+use Rattle.lis_ext.specs.Inside.{Changes, AddsNumbers, DropsNumbers}
 use Rattle.lis_ext.proofs.Numbers.{numbers_more, numbers_le, has_more, not_before}
 
 shaped : (r : Rows) (rows bits row : ℕ) (value : ℕ → Bool) → HasShape r rows bits → HasShape (with_row r row value) rows bits

@@ -7,11 +7,11 @@ use Rattle.std.proofs.lemmas.List.{get_or-replicate, length-replicate, get_or-ma
 use Rattle.std.proofs.lemmas.List.FromFn.{fill_by_all, length-map-range_with_len, get_or-map-range_with_len}
 use Rattle.std.proofs.lemmas.Map.Keys.{IsStrictlyIncreasing-from_sorted}
 use Rattle.lis_graph.proofs.Members.{Among, among_from_contains, contains_from_among}
-use Rattle.lis_bits.specs.Rows.{Rows, get, with_row, empty_rows}
+use Rattle.lis_bits.specs.Rows.{HasShape, Rows, get, with_row, empty_rows}
 use Rattle.lis_bits.proofs.Laws.{get-with_row_same, get-empty_rows}
 use Rattle.lis_ext.specs.Numbers.{has_number, numbers_where, differs}
 use Rattle.lis_ext.specs.Ext.{Ext, empty_ext, is_lacked}
-use Rattle.lis_ext.specs.Inside.{HasShape, AddsNumbers, DropsNumbers, Widens, lacks, sets_of, seen}
+use Rattle.lis_ext.specs.Inside.{AddsNumbers, DropsNumbers, Widens, lacks, sets_of, seen}
 use Rattle.lis_ext.proofs.Numbers.{among_where, sorted_where, has-numbers_where, numbers_same, numbers_of, numbers_none, numbers_apart}
 
 module _ (rows : Rows) (props files : ℕ) where

@@ -1,14 +1,9 @@
 -- The rows of an `Ext`, and what the functions over them do. No public clause cites this module.
 use Rattle.std.specs.Prelude.{◌≡◌, ℕ, ◌+◌, ◌<◌, ◌≤◌, Bool, not, ◌&&◌, ◌||◌, ◌==◌, if◌then◌else◌, List, length, map}
 use Rattle.std.specs.List.{range_with_len, list_any}
-use Rattle.lis_bits.specs.Rows.{Rows, get}
+use Rattle.lis_bits.specs.Rows.{Rows, HasShape, get}
 use Rattle.lis_ext.specs.Numbers.{has_number, numbers_where}
 use Rattle.lis_ext.specs.Ext.{Ext}
-
--- so many rows of so many bits
-pub record HasShape (r : Rows) (rows bits : ℕ) : Type 0 where
-  pub tall : length r.rows ≡ rows
-  pub wide : r.bits ≡ bits
 
 -- the rows have these bits, the numbers that pass the test are marked, and no more edits were made than there are such
 pub record Changes (old new old_marks new_marks : Rows) (props files : ℕ) (touched : ℕ → Bool) (value : ℕ → ℕ → Bool) : Type 0 where

@@ -1,6 +1,7 @@
-ghost use Rattle.std.specs.Prelude.{◌≡◌, ℕ, ◌+◌, ◌%◌, ◌<◌, ◌≤◌, All, ◌&&◌, [], length, slice_get, slice_set, IfOk};
+ghost use Rattle.std.specs.Prelude.{◌≡◌, ℕ, ◌+◌, ◌*◌, ◌%◌, ◌<◌, ◌≤◌, All, ◌&&◌, [], length, slice_get, slice_set, IfOk};
 ghost use Rattle.std.specs.List.Sorted.{IsStrictlyIncreasing};
-ghost use Rattle.lis_bits.specs.Rows.{get, SetsRow};
+ghost use Rattle.lis_bits.specs.Rows.{HasShape, get, SetsRow};
+ghost use Rattle.lis_bits.specs.Bytes.{bits_bytes};
 ghost use Rattle.lis_ext.specs.Numbers.{differs, numbers_where};
 
 use crate::tables;
@@ -139,14 +140,26 @@ impl Ext {
         self.marks.fill(0, false);
     }
 
-    /// The rows: a row for each number, with a bit for each file.
+    /// The rows: a row for each number, with a bit for each file. The contract also tells what each `Ext` keeps.
     pub fn rows(&self) -> &Rows
-        ensures rows { length result.now.rows ≡ self.now.props }
-        ensures bits { result.now.bits ≡ length self.now.sets }
+        ensures shape { HasShape result.now self.now.props (length self.now.sets) }
         ensures values { (p i : ℕ) → p < self.now.props → i < length self.now.sets
             → get result.now p i ≡ has self.now p i }
         ensures edits { result.now.edits ≡ self.now.edits }
+        ensures rise { (i : ℕ) → i < length self.now.sets → IsStrictlyIncreasing (set_of self.now i) }
+        ensures in_range { (i : ℕ) → i < length self.now.sets → All (λ p. p < self.now.props) (set_of self.now i) }
+        ensures few_props { self.now.props ≤ 8192 }
+        ensures few_files { length self.now.sets ≤ 4096 }
     {
         &self.rows
+    }
+
+    /// Writes the files that have a number as bytes: bit i % 8 of byte i / 8, bit 0 the lowest, tells file i.
+    pub fn row_bytes(&self, prop: u32, buf: &mut [u8])
+        requires prop { prop < self.now.props }
+        requires room { 8 * length buf.old ≡ length self.now.sets }
+        ensures { buf.new ≡ bits_bytes (length buf.old) (has self.now prop) }
+    {
+        self.rows.row_bytes(prop, buf);
     }
 }

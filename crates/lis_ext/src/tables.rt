@@ -1,8 +1,8 @@
 ghost use Rattle.std.specs.Prelude.{◌≡◌, ℕ, ◌+◌, ◌<◌, ◌≤◌, All, length, slice_get};
 ghost use Rattle.std.specs.List.Sorted.{IsStrictlyIncreasing};
-ghost use Rattle.lis_bits.specs.Rows.{get};
+ghost use Rattle.lis_bits.specs.Rows.{HasShape, get};
 ghost use Rattle.lis_ext.specs.Numbers.{has_number, numbers_where};
-ghost use Rattle.lis_ext.specs.Inside.{HasShape, AddsNumbers, DropsNumbers, Widens};
+ghost use Rattle.lis_ext.specs.Inside.{AddsNumbers, DropsNumbers, Widens};
 
 use lis_bits::Rows;
 

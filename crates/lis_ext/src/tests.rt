@@ -14,6 +14,9 @@ fn marks_what_differs(rt: HostRuntime) -> Result<(), Fail> {
     assert_eq!(rt; ext.changed(2), None);
     assert_eq!(rt; ext.rows().edits(), 4);
     assert!(rt; ext.has(1, 3) && !ext.has(5, 3) && ext.has(7, 3));
+    let mut bytes = [0; 8];
+    ext.row_bytes(7, &mut bytes);
+    assert_eq!(rt; bytes, [8, 0, 0, 0, 0, 0, 0, 0]);
     Ok(())
 }
 

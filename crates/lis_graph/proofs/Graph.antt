@@ -4,7 +4,7 @@ use Rattle.std.specs.declared.cmp.Ordering.{Ordering}
 use Rattle.std.specs.Cmp.{IsTotalOrder}
 use Rattle.std.specs.List.Sorted.{IsStrictlySortedBy}
 use Rattle.std.proofs.lemmas.Map.Lookups.{CmpEqualImpliesEq}
-use Rattle.lis_graph.specs.Graph.{Linked, Chain, Entails, Acyclic, has, with_more, up, is_acyclic}
+use Rattle.lis_graph.specs.Graph.{Linked, Chain, Entails, Acyclic, IsOrdered, has, with_more, up, is_acyclic}
 use Rattle.lis_graph.proofs.Members.{Among, among_from_contains, contains_from_among, among_with_more, with_more_old, with_more_new, among_from_has, has_from_among}
 use Rattle.lis_graph.proofs.Sets.{sorted_nil, sorted_with_more, same_sets}
 
@@ -32,9 +32,31 @@ module _ {K : Type 0} (own : K → List K) where
   pub acyclic_within : (edges more : List (K × K)) → ((e : K × K) → Among edges e → Among more e) → Acyclic own more → Acyclic own edges
   acyclic_within edges more within none n p c = none n p (chain_within edges more within (suc n) p p c)
 
+-- ---- two ways to link: each link of the first is one of the second
+abbrev pub IsLinkedWithin : {K : Type 0} → (K → List K) → (K → List K) → List (K × K) → List (K × K) → Type 0
+IsLinkedWithin {K} own wide edges more = (p r : K) → Linked own edges p r → Linked wide more p r
+
+module _ {K : Type 0} (own wide : K → List K) (edges more : List (K × K)) (within : IsLinkedWithin own wide edges more) where
+  pub chain_wider : (n : ℕ) (p q : K) → Chain own edges n p q → Chain wide more n p q
+  chain_wider zero p q c = c
+  chain_wider (suc n) p q c = (c.0, within p c.0 c.1, chain_wider n c.0 q c.2)
+
+  pub entails_wider : (p q : K) → Entails own edges p q → Entails wide more p q
+  entails_wider p q e = (e.0, chain_wider e.0 p q e.1)
+
+  -- fewer links have no circle where more have none
+  pub acyclic_wider : Acyclic wide more → Acyclic own edges
+  acyclic_wider none n p c = none n p (chain_wider (suc n) p p c)
+
 module _ {K : Type 0} (eq : K → K → Bool) (cmp : K → K → Ordering) (own : K → List K)
     (decides : (x y : K) → Decides (eq x y) (x ≡ y)) (exact : CmpEqualImpliesEq cmp)
-    (ended : (p q r : K) → Among (own p) q → Among (own q) r → ⊥) where
+    (ordered : IsOrdered own) where
+  own_joined : (p q r : K) → Among (own p) q → Among (own q) r → Among (own p) r
+  own_joined p q r first next = among_from_contains (own p) r (ordered.joined p q r (contains_from_among (own p) q first) (contains_from_among (own q) r next))
+
+  own_apart : (p : K) → Among (own p) p → ⊥
+  own_apart p loop = ordered.apart p (contains_from_among (own p) p loop)
+
   -- ---- one more edge
   pub up_cons : (edge : K × K) (edges : List (K × K)) (p q : K) → Among (up eq cmp own (edge ∷ edges) p) q
       → Among (up eq cmp own edges p) q ⊎ (Among (up eq cmp own edges p) edge.0 × Among (up eq cmp own edges edge.1) q)
@@ -93,7 +115,7 @@ module _ {K : Type 0} (eq : K → K → Bool) (cmp : K → K → Ordering) (own 
       by : (p ≡ q) ⊎ Among (own p) q → (q ≡ r) ⊎ Among (own q) r → Among (up eq cmp own [] p) r
       by (inl same) found = subst (λ k. Among (up eq cmp own [] k) r) (sym same) rest
       by (inr given) (inl same) = subst (λ k. Among (up eq cmp own [] p) k) same first
-      by (inr given) (inr again) = absurd (ended p q r given again)
+      by (inr given) (inr again) = up_own [] p r (own_joined p q r given again)
   up_trans (edge ∷ edges) p q r first rest = by (up_cons edge edges p q first) (up_cons edge edges q r rest) (up_trans edges)
     where
       by : Among (up eq cmp own edges p) q ⊎ (Among (up eq cmp own edges p) edge.0 × Among (up eq cmp own edges edge.1) q)
@@ -177,7 +199,7 @@ module _ {K : Type 0} (eq : K → K → Bool) (cmp : K → K → Ordering) (own 
       by : (p ≡ q) ⊎ Among (own p) q → (q ≡ p) ⊎ Among (own q) p → p ≡ q
       by (inl same) found = same
       by (inr given) (inl same) = sym same
-      by (inr given) (inr again) = absurd (ended p q p given again)
+      by (inr given) (inr again) = absurd (own_apart p (own_joined p q p given again))
   up_antisym (edge ∷ edges) h p q there back = by (up_cons edge edges p q there) (up_cons edge edges q p back) (up_antisym edges (rest_acyclic edge edges h) p q)
     where
       ends : Among (up eq cmp own edges edge.1) edge.0 → ⊥
@@ -209,9 +231,7 @@ module _ {K : Type 0} (eq : K → K → Bool) (cmp : K → K → Ordering) (own 
       same = up_antisym edges h c.0 p (up_from_chain edges n c.0 p c.2) (up_from_link edges p c.0 c.1)
 
       by : Linked own edges p c.0 → ⊥
-      by (inl given) =
-          let loop = subst (λ k. Among (own p) k) same (among_from_contains (own p) c.0 given) in
-          ended p p p loop loop
+      by (inl given) = own_apart p (subst (λ k. Among (own p) k) same (among_from_contains (own p) c.0 given))
       by (inr edge) = no_loop edges h p (subst (λ k. Among edges (p, k)) same (among_from_contains edges (p, c.0) edge))
 
   pub is_acyclic_from : (edges : List (K × K)) → Acyclic own edges → is_acyclic eq cmp own edges ≡ true
@@ -260,3 +280,23 @@ module _ {K : Type 0} (eq : K → K → Bool) (cmp : K → K → Ordering) (own 
   pub up_same : IsTotalOrder cmp → (edges more : List (K × K)) → ((e : K × K) → Among edges e → Among more e) → ((e : K × K) → Among more e → Among edges e) → (p : K) → up eq cmp own edges p ≡ up eq cmp own more p
   up_same order edges more to from p =
       same_sets cmp order (up eq cmp own edges p) (up eq cmp own more p) (sorted_up order edges p) (sorted_up order more p) (up_within edges more to p) (up_within more edges from p)
+
+-- ---- what a point entails by fewer links, it entails by more
+module _ {K : Type 0} (eq : K → K → Bool) (cmp : K → K → Ordering)
+    (decides : (x y : K) → Decides (eq x y) (x ≡ y)) (exact : CmpEqualImpliesEq cmp)
+    (own wide : K → List K) (own_ordered : IsOrdered own) (wide_ordered : IsOrdered wide) where
+  pub up_wider : (edges more : List (K × K)) → IsLinkedWithin own wide edges more → (p q : K) → Among (up eq cmp own edges p) q → Among (up eq cmp wide more p) q
+  up_wider edges more within p q h =
+      let chain = entails_wider own wide edges more within p q (entails_from_up eq cmp own decides exact own_ordered edges p q h) in
+      up_from_chain eq cmp wide decides exact wide_ordered more chain.0 p q chain.1
+
+-- links within each other make the same sets
+module _ {K : Type 0} (eq : K → K → Bool) (cmp : K → K → Ordering)
+    (decides : (x y : K) → Decides (eq x y) (x ≡ y)) (exact : CmpEqualImpliesEq cmp)
+    (own wide : K → List K) (own_ordered : IsOrdered own) (wide_ordered : IsOrdered wide) (order : IsTotalOrder cmp) where
+  pub up_alike : (edges more : List (K × K)) → IsLinkedWithin own wide edges more → IsLinkedWithin wide own more edges → (p : K) → up eq cmp own edges p ≡ up eq cmp wide more p
+  up_alike edges more to from p =
+      same_sets cmp order (up eq cmp own edges p) (up eq cmp wide more p)
+      (sorted_up eq cmp own decides exact own_ordered order edges p) (sorted_up eq cmp wide decides exact wide_ordered order more p)
+      (up_wider eq cmp decides exact own wide own_ordered wide_ordered edges more to p)
+      (up_wider eq cmp decides exact wide own wide_ordered own_ordered more edges from p)

@@ -22,6 +22,11 @@ Entails own edges p q = (n : ℕ) × Chain own edges n p q
 abbrev pub Acyclic : {K : Type 0} → (K → List K) → List (K × K) → Type 0
 Acyclic {K} own edges = (n : ℕ) (p : K) → Chain own edges (suc n) p p → ⊥
 
+-- links that each point has by itself are an order: two in a row are one, and none leads from a point to itself
+pub record IsOrdered {K : Type 0} (own : K → List K) : Type 0 where
+  pub joined : (p q r : K) → Contains (own p) q → Contains (own q) r → Contains (own p) r
+  pub apart : (p : K) → Contains (own p) p → ⊥
+
 -- whether x is one of the points, by a test of equality
 abbrev pub has : {K : Type 0} → (K → K → Bool) → List K → K → Bool
 has eq xs x = list_any (λ y. eq y x) xs

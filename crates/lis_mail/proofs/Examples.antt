@@ -1,6 +1,6 @@
 -- Mails worked by the definitions alone.
 use Rattle.std.proofs.Common.{◌≡◌, [], ◌∷◌, codes, refl}
-use Rattle.lis_mail.specs.Mail.{mail_words}
+use Rattle.lis_transducers.specs.Mail.{mail_words}
 
 -- a continuation belongs to the field before it; what stands behind the empty line is no part of the header
 a_mail : mail_words (codes "From: Alice <alice@example.org>\nTo: bob@example.org,\n Carol <carol@example.org>\nSubject: Re: Lunch plan\n\nSee you.\n")

@@ -6,7 +6,7 @@ use Rattle.std.proofs.lemmas.List.Sums.{position_or_len_is, take_while-cons}
 use Rattle.std.proofs.lemmas.List.Splits.{slice_split_first}
 use Rattle.std.proofs.Math.ListN.{drop_of_length-le}
 use Rattle.memchr.specs.Find.{IsFirstByte, Passes}
-use Rattle.lis_mail.specs.Lines.{without_return, is_feed, is_some_bytes, lines, header}
+use Rattle.lis_transducers.specs.Lines.{without_return, is_feed, is_some_bytes, lines, header}
 
 one_more : (n : ℕ) → 1 + n ≡ suc n
 one_more n = omega arith

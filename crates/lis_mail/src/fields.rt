@@ -2,24 +2,12 @@
 
 ghost use Rattle.std.specs.Prelude.{◌≡◌, ℕ, ◌<◌, ◌≤◌, List, [], ◌∷◌, length, if◌then◌else◌};
 ghost use Rattle.std.specs.List.{list_all, after_first};
-ghost use Rattle.lis_mail.specs.Lines.{is_name_byte, is_field_name, is_colon};
-ghost use Rattle.lis_mail.specs.Mail.{small_kind, kind_of, begun_kind};
+ghost use Rattle.lis_transducers.specs.Lines.{is_name_byte, is_field_name, is_colon};
+ghost use Rattle.lis_transducers.specs.Mail.{small_kind, kind_of, begun_kind};
 
 use crate::words::with_head;
+use lis_transducers::field::FieldKind;
 use memchr::memchr;
-
-/// What a field of a mail is, as far as words are taken from it.
-#[derive(Clone, Copy, Debug, PartialEq, Eq)]
-pub enum FieldKind {
-    /// Who sent the mail.
-    From,
-    /// Who is to have it.
-    To,
-    /// What it is about.
-    Subject,
-    /// Any other field, and a line that is no field.
-    Other,
-}
 
 fn is_name_byte(byte: u8) -> bool
     ensures { result ≡ is_name_byte byte }

@@ -3,14 +3,15 @@
 ghost use Rattle.std.specs.Prelude.{◌≡◌, ℕ, List, [], ◌∷◌, filter};
 ghost use Rattle.lis_words.specs.Words.{is_word};
 ghost use Rattle.lis_model.specs.Noted.{noted_all};
-ghost use Rattle.lis_mail.specs.Tokens.{tokens};
-ghost use Rattle.lis_mail.specs.Mail.{mail_words, token_words};
+ghost use Rattle.lis_transducers.specs.Tokens.{tokens};
+ghost use Rattle.lis_transducers.specs.Mail.{mail_words, token_words};
 
-use crate::fields::{FieldKind, begun_field};
+use crate::fields::begun_field;
 use crate::lines::{first_line, is_folded};
 use crate::tokens::{has_at, next_token};
 use crate::words::note_under;
 use lis_model::derived::Derived;
+use lis_transducers::field::FieldKind;
 
 fn note_token(kind: FieldKind, token: &[u8], out: &mut Derived)
     ensures { out.new ≡ noted_all out.old (filter is_word (token_words kind (token.now ∷ []))) }

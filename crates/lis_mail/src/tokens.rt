@@ -3,7 +3,7 @@
 ghost use Rattle.std.specs.Prelude.{◌≡◌, ℕ, ◌<◌, ◌≤◌, List, [], ◌∷◌, length, MatchOption, IfSome};
 ghost use Rattle.std.specs.List.{prefix_len};
 ghost use Rattle.lis_words.specs.Words.{is_plain_byte};
-ghost use Rattle.lis_mail.specs.Tokens.{tokens, has_at, is_between};
+ghost use Rattle.lis_transducers.specs.Tokens.{tokens, has_at, is_between};
 
 use lis_words::is_plain_byte;
 

@@ -10,10 +10,10 @@ use Rattle.lis_model.specs.Step.{start_of, replies, step}
 use Rattle.lis_model.specs.Script.{script, all_items, whole_items}
 
 small : Limits
-small = record { files = 64; props = 64; blocks = 8 }
+small = record { files = 64; props = 64; blocks = 8; version = 1 }
 
 abbrev session : List ℕ → List ℕ
-session bytes = replies (start_of (record { files = 64; props = 64; blocks = 8 })) (script bytes 1000)
+session bytes = replies (start_of (record { files = 64; props = 64; blocks = 8; version = 1 })) (script bytes 1000)
 
 nothing_said : session [] ≡ []
 unfolding all_items whole_items step
@@ -37,7 +37,7 @@ unfolding all_items whole_items step
 odd_lines = refl
 
 -- past the limit, only what is whole within it is done
-past_the_limit : replies (start_of (record { files = 64; props = 64; blocks = 8 })) (script (codes "mkdir a\nmkdir b\n") 12) ≡ line (codes "ok")
+past_the_limit : replies (start_of (record { files = 64; props = 64; blocks = 8; version = 1 })) (script (codes "mkdir a\nmkdir b\n") 12) ≡ line (codes "ok")
 unfolding all_items whole_items step
 past_the_limit = refl
 
@@ -62,7 +62,7 @@ unfolding all_items whole_items step resolved text_words text_steps printed is_p
 made_at_places = refl
 
 abbrev with_blocks : ℕ → List ℕ → List ℕ
-with_blocks blocks bytes = replies (start_of (record { files = 64; props = 64; blocks = blocks })) (script bytes 1000)
+with_blocks blocks bytes = replies (start_of (record { files = 64; props = 64; blocks = blocks; version = 1 })) (script bytes 1000)
 
 -- files with bytes: one block is used, given back, and used again
 one_block : with_blocks 1 (codes "add a 1\nx\nadd b 0\n\nadd c 1\ny\nrm a\nadd c 1\nz\nls\ncat c\n")
@@ -89,7 +89,7 @@ last_payload : session (codes "add a 3\nxyz") ++ session (codes "add a 0") ++ se
 unfolding all_items whole_items step
 last_payload = refl
 
-payload_at_the_limit : replies (start_of (record { files = 64; props = 64; blocks = 8 })) (script (codes "add a 1\nx\nls") 10)
-    ++ replies (start_of (record { files = 64; props = 64; blocks = 8 })) (script (codes "add a 1\nx\nls") 9) ≡ line (codes "ok")
+payload_at_the_limit : replies (start_of (record { files = 64; props = 64; blocks = 8; version = 1 })) (script (codes "add a 1\nx\nls") 10)
+    ++ replies (start_of (record { files = 64; props = 64; blocks = 8; version = 1 })) (script (codes "add a 1\nx\nls") 9) ≡ line (codes "ok")
 unfolding all_items whole_items step
 payload_at_the_limit = refl

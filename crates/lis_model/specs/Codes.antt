@@ -12,7 +12,8 @@ word_code = coded_list coded_ℕ
 
 abbrev pub limits_code : Coded Limits
 limits_code =
-    code_by (ℕ × (ℕ × ℕ)) (coded× coded_ℕ (coded× coded_ℕ coded_ℕ)) (λ l. (l.files, (l.props, l.blocks))) (λ p. record { files = p.0; props = p.1.0; blocks = p.1.1 }) (λ _. refl)
+    code_by (ℕ × (ℕ × (ℕ × ℕ))) (coded× coded_ℕ (coded× coded_ℕ (coded× coded_ℕ coded_ℕ))) (λ l. (l.files, (l.props, (l.blocks, l.version))))
+    (λ p. record { files = p.0; props = p.1.0; blocks = p.1.1.0; version = p.1.1.1 }) (λ _. refl)
 
 abbrev pub file_code : Coded File
 file_code =

@@ -1,9 +1,12 @@
 pub mod Words
 pub mod Sets
+pub mod Noted
 pub mod Derived
+pub mod Tests
 pub mod Ranges
 pub mod Image
 pub mod State
+pub mod Changes
 pub mod Table
 pub mod Listing
 pub mod Route
@@ -12,4 +15,3 @@ pub mod Places
 pub mod Step
 pub mod Codes
 pub mod Script
-pub mod Noted

@@ -14,5 +14,9 @@ is_props_limit n = nat_le 64 n && nat_le n 8192 && (n % 64 == 0)
 abbrev pub is_blocks_limit : ℕ → Bool
 is_blocks_limit n = nat_le 1 n && nat_le n 32768
 
+abbrev pub is_version : ℕ → Bool
+is_version n = (n == 1) || (n == 2)
+
 abbrev pub are_in_range : Limits → Bool
-are_in_range limits = is_files_limit limits.files && is_props_limit limits.props && is_blocks_limit limits.blocks
+are_in_range limits =
+    is_files_limit limits.files && is_props_limit limits.props && is_blocks_limit limits.blocks && is_version limits.version

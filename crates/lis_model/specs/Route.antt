@@ -3,7 +3,7 @@ use Rattle.std.specs.Prelude.{◌≡◌, ℕ, zero, suc, not, if◌then◌else�
 use Rattle.std.specs.List.{find, Contains}
 use Rattle.lis_words.specs.Words.{has_word}
 use Rattle.lis_grammar.specs.Formula.{Formula}
-use Rattle.lis_grammar.specs.Formula.Formula.{Has}
+use Rattle.lis_model.specs.Tests.{step_of}
 use Rattle.lis_model.specs.Table.{Table, Entry}
 use Rattle.lis_model.specs.Listing.{extension, increments, is_local, locals}
 
@@ -21,7 +21,7 @@ abbrev pub route_within : ℕ → Table → List Formula → Entry → List (Lis
 route_within zero t place file = []
 route_within (suc n) t place file =
     if is_local (extension t place) file then []
-    else word_then (first_increment t place file) (λ p. route_within n t (place ++ Has p ∷ []) file)
+    else word_then (first_increment t place file) (λ p. route_within n t (place ++ step_of p ∷ []) file)
 
 -- The increments that lead to a file: none where it is a local, else the first increment that it has, and the route from there. There are
 -- fewer of them than files in the extension.
@@ -34,7 +34,7 @@ IsRoute t place file [] = IsTrue (is_local (extension t place) file)
 IsRoute t place file (p ∷ words) =
     IsTrue (not (is_local (extension t place) file))
     × (first_increment t place file ≡ Some p)
-    × IsRoute t (place ++ Has p ∷ []) file words
+    × IsRoute t (place ++ step_of p ∷ []) file words
 
 -- each word is an increment of the formula reached by then, the file is in the extension of each formula on the route, and a local at its end
 abbrev pub Leads : Table → List Formula → Entry → List (List ℕ) → Type 0
@@ -42,4 +42,4 @@ Leads t place file [] = Contains (locals t place) file
 Leads t place file (p ∷ words) =
     Contains (extension t place) file
     × Contains (increments t place) p
-    × Leads t (place ++ Has p ∷ []) file words
+    × Leads t (place ++ step_of p ∷ []) file words

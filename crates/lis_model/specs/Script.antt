@@ -5,7 +5,7 @@ use Rattle.std.specs.List.{list_any, list_all}
 use Rattle.lis_words.specs.Words.{same_word, is_word, is_file_name, is_count, count_of}
 use Rattle.lis_model.specs.declared.refusal.Refusal.{Refusal}
 use Rattle.lis_model.specs.declared.refusal.Refusal.TheVariants.{BadLine, LongLine, CutPayload, PayloadEnd, TooManyAssigned}
-use Rattle.lis_model.specs.declared.command.Command.TheVariants.{Mkdir, Create, Add, Cat, Rm, Cd, Pwd, Ls}
+use Rattle.lis_model.specs.declared.command.Command.TheVariants.{Mkdir, Rmdir, Axiom, Unaxiom, Create, Add, Write, Cat, Mv, Rename, Rm, Cd, Pwd, Ls, Props, Way, Stat}
 use Rattle.lis_model.specs.Step.{Item, Payload, no_payload}
 use Rattle.lis_model.specs.Step.Item.{Do, Bad}
 
@@ -47,15 +47,26 @@ words_of text = filter is_some_bytes (pieces_on [] text)
 abbrev pub bad_line : Item
 bad_line = Bad BadLine
 
-abbrev pub mkdir_form : List (List ℕ) → Item
-mkdir_form [] = bad_line
-mkdir_form (word ∷ []) = if is_word word then Do (Mkdir word) no_payload else bad_line
-mkdir_form (word ∷ more ∷ words) = bad_line
+-- A word of a line that may be a property. Tests are not read yet; then it is `is_property word`.
+abbrev pub is_line_word : List ℕ → Bool
+is_line_word word = is_word word
+
+-- one word, and two words
+abbrev pub word_form : (List ℕ → Item) → List (List ℕ) → Item
+word_form item [] = bad_line
+word_form item (word ∷ []) = if is_line_word word then item word else bad_line
+word_form item (word ∷ more ∷ words) = bad_line
+
+abbrev pub pair_form : (List ℕ → List ℕ → Item) → List (List ℕ) → Item
+pair_form item [] = bad_line
+pair_form item (left ∷ []) = bad_line
+pair_form item (left ∷ right ∷ []) = if is_line_word left && is_line_word right then item left right else bad_line
+pair_form item (left ∷ right ∷ more ∷ words) = bad_line
 
 -- words that a file is to be given: at most 16 in one line
 abbrev pub tags_form : List (List ℕ) → Result (List (List ℕ)) Refusal
 tags_form words =
-    if list_all is_word words then (if nat_lt 16 (length words) then Err TooManyAssigned else Ok words) else Err BadLine
+    if list_all is_line_word words then (if nat_lt 16 (length words) then Err TooManyAssigned else Ok words) else Err BadLine
 
 abbrev pub create_named : List ℕ → Result (List (List ℕ)) Refusal → Item
 create_named name (Ok words) = Do (Create name words) no_payload
@@ -77,6 +88,13 @@ add_form (name ∷ []) payload = bad_line
 add_form (name ∷ size ∷ words) payload =
     if is_file_name name && is_count size then add_named name payload (tags_form words) else bad_line
 
+-- a file's name, and how many bytes it is to have
+abbrev pub write_form : List (List ℕ) → Payload → Item
+write_form [] payload = bad_line
+write_form (name ∷ []) payload = bad_line
+write_form (name ∷ size ∷ []) payload = if is_file_name name && is_count size then Do (Write name) payload else bad_line
+write_form (name ∷ size ∷ more ∷ words) payload = bad_line
+
 -- the name of a file
 abbrev pub file_form : (List ℕ → Item) → List (List ℕ) → Item
 file_form item [] = bad_line
@@ -89,13 +107,50 @@ cd_form [] = bad_line
 cd_form (text ∷ []) = Do (Cd text) no_payload
 cd_form (text ∷ more ∷ words) = bad_line
 
+-- a file's name, and any word of the line as a text
+abbrev pub mv_form : List (List ℕ) → Item
+mv_form [] = bad_line
+mv_form (name ∷ []) = bad_line
+mv_form (name ∷ text ∷ []) = if is_file_name name then Do (Mv name text) no_payload else bad_line
+mv_form (name ∷ text ∷ more ∷ words) = bad_line
+
+-- two names
+abbrev pub rename_form : List (List ℕ) → Item
+rename_form [] = bad_line
+rename_form (name ∷ []) = bad_line
+rename_form (name ∷ other ∷ []) = if is_file_name name && is_file_name other then Do (Rename name other) no_payload else bad_line
+rename_form (name ∷ other ∷ more ∷ words) = bad_line
+
 abbrev pub alone_form : Item → List (List ℕ) → Item
 alone_form item [] = item
 alone_form item (word ∷ words) = bad_line
 
-abbrev pub form_of : List ℕ → List (List ℕ) → Payload → Item
-form_of first words payload =
-    if same_word first (codes "mkdir") then mkdir_form words
+-- the lines of all commands
+abbrev pub all_forms : List ℕ → List (List ℕ) → Payload → Item
+all_forms first words payload =
+    if same_word first (codes "mkdir") then word_form (λ word. Do (Mkdir word) no_payload) words
+    else if same_word first (codes "rmdir") then word_form (λ word. Do (Rmdir word) no_payload) words
+    else if same_word first (codes "axiom") then pair_form (λ left right. Do (Axiom left right) no_payload) words
+    else if same_word first (codes "unaxiom") then pair_form (λ left right. Do (Unaxiom left right) no_payload) words
+    else if same_word first (codes "create") then create_form words
+    else if same_word first (codes "add") then add_form words payload
+    else if same_word first (codes "write") then write_form words payload
+    else if same_word first (codes "cat") then file_form (λ name. Do (Cat name) no_payload) words
+    else if same_word first (codes "mv") then mv_form words
+    else if same_word first (codes "rename") then rename_form words
+    else if same_word first (codes "rm") then file_form (λ name. Do (Rm name) no_payload) words
+    else if same_word first (codes "cd") then cd_form words
+    else if same_word first (codes "pwd") then alone_form (Do Pwd no_payload) words
+    else if same_word first (codes "ls") then alone_form (Do Ls no_payload) words
+    else if same_word first (codes "props") then file_form (λ name. Do (Props name) no_payload) words
+    else if same_word first (codes "way") then file_form (λ name. Do (Way name) no_payload) words
+    else if same_word first (codes "stat") then alone_form (Do Stat no_payload) words
+    else bad_line
+
+-- the lines that are read so far
+abbrev pub first_forms : List ℕ → List (List ℕ) → Payload → Item
+first_forms first words payload =
+    if same_word first (codes "mkdir") then word_form (λ word. Do (Mkdir word) no_payload) words
     else if same_word first (codes "create") then create_form words
     else if same_word first (codes "add") then add_form words payload
     else if same_word first (codes "cat") then file_form (λ name. Do (Cat name) no_payload) words
@@ -104,6 +159,10 @@ form_of first words payload =
     else if same_word first (codes "pwd") then alone_form (Do Pwd no_payload) words
     else if same_word first (codes "ls") then alone_form (Do Ls no_payload) words
     else bad_line
+
+-- Not all commands are read yet; then it is `all_forms first words payload`.
+abbrev pub form_of : List ℕ → List (List ℕ) → Payload → Item
+form_of first words payload = first_forms first words payload
 
 -- a line without words asks for nothing
 abbrev pub item_of_words : List (List ℕ) → Payload → Option Item
@@ -133,9 +192,13 @@ size_of_words (first ∷ second ∷ size ∷ words) =
 abbrev pub payload_size : List ℕ → Option ℕ
 payload_size text = if is_long text then None else size_of_words (line_words text)
 
--- a file may have so many bytes; of a larger payload its size alone is kept
+-- The most bytes of a payload that are kept. Until version 2 comes they are those that a file may have.
+abbrev pub payload_limit : ℕ
+payload_limit = 65536
+
+-- of a larger payload its size alone is kept
 abbrev pub payload_of : ℕ → List ℕ → Payload
-payload_of size bytes = record { size = size; bytes = if nat_le size 65536 then bytes else [] }
+payload_of size bytes = record { size = size; bytes = if nat_le size payload_limit then bytes else [] }
 
 -- the first part of an input: what it asks for, what is left behind it, and whether it ended with its own line feed
 pub record First : Type 0 where

@@ -1,15 +1,16 @@
 -- What is kept: declared words, axioms and files, and the description of a file.
-use Rattle.std.specs.Prelude.{ℕ, ◌+◌, ◌/◌, ◌≤◌, nat_le, Bool, not, ◌&&◌, ◌||◌, if◌then◌else◌, List, [], ◌∷◌, ◌++◌, length, map, sum, IsTrue}
+use Rattle.std.specs.Prelude.{ℕ, ◌+◌, ◌/◌, ◌==◌, ◌≤◌, nat_lt, nat_le, Bool, not, ◌&&◌, ◌||◌, if◌then◌else◌, List, [], ◌∷◌, ◌++◌, length, map, sum, IsTrue}
 use Rattle.std.specs.List.{list_all, flat_map}
 use Rattle.std.specs.declared.cmp.Ordering.{Ordering}
 use Rattle.std.specs.Ordering.{ordering_then}
 use Rattle.lis_graph.specs.Graph as graph
 use Rattle.lis_graph.specs.Graph.{is_rising}
-use Rattle.lis_words.specs.Words.{word_cmp, same_word, has_word, head_bytes, is_plain_word, is_head, is_valued, is_built_in, is_file_name}
+use Rattle.lis_words.specs.Words.{word_cmp, same_word, has_word, head_bytes, is_plain_word, is_head, is_valued, is_test, is_built_in, is_file_name}
 use Rattle.lis_model.specs.declared.limits.Limits.{Limits}
 use Rattle.lis_model.specs.Ranges.{are_in_range}
 use Rattle.lis_model.specs.Sets.{with_words, set_of}
 use Rattle.lis_model.specs.Derived.{derived_words}
+use Rattle.lis_model.specs.Tests.{weaker_tests, met_tests}
 
 pub record File : Type 0 where
   pub name : List ℕ
@@ -33,37 +34,41 @@ empty_state limits = record { limits = limits; declared = []; axioms = []; files
 abbrev pub heads : List ℕ → List (List ℕ)
 heads word = if is_valued word then head_bytes word ∷ [] else []
 
--- the pairs of words that a link joins, beside each valued word and its head
-abbrev pub edges : State → List (List ℕ × List ℕ)
-edges s = s.axioms
+-- what a word leads to by itself: its head, and the declared tests that are weaker
+abbrev pub links : List (List ℕ) → List ℕ → List (List ℕ)
+links declared word = heads word ++ weaker_tests declared word
 
--- Some chain of links leads from p to q; it may be empty. A link goes from a valued word to its head, and from the left side of an
--- axiom to its right side.
-abbrev pub Entails : List (List ℕ × List ℕ) → List ℕ → List ℕ → Type 0
-Entails axioms p q = graph.Entails heads axioms p q
+-- Some chain of links leads from p to q; it may be empty. A link goes from a valued word to its head, from a declared test to a weaker one,
+-- and from the left side of an axiom to its right side.
+abbrev pub Entails : List (List ℕ) → List (List ℕ × List ℕ) → List ℕ → List ℕ → Type 0
+Entails declared axioms p q = graph.Entails (links declared) axioms p q
 
 -- no chain of at least one link leads from a word to itself
-abbrev pub Acyclic : List (List ℕ × List ℕ) → Type 0
-Acyclic axioms = graph.Acyclic heads axioms
+abbrev pub Acyclic : List (List ℕ) → List (List ℕ × List ℕ) → Type 0
+Acyclic declared axioms = graph.Acyclic (links declared) axioms
 
 -- what a word entails, itself included
-abbrev pub up : List (List ℕ × List ℕ) → List ℕ → List (List ℕ)
-up axioms p = graph.up same_word word_cmp heads axioms p
+abbrev pub up : List (List ℕ) → List (List ℕ × List ℕ) → List ℕ → List (List ℕ)
+up declared axioms p = graph.up same_word word_cmp (links declared) axioms p
 
 -- the test of `Acyclic`
-abbrev pub is_acyclic : List (List ℕ × List ℕ) → Bool
-is_acyclic axioms = graph.is_acyclic same_word word_cmp heads axioms
+abbrev pub is_acyclic : List (List ℕ) → List (List ℕ × List ℕ) → Bool
+is_acyclic declared axioms = graph.is_acyclic same_word word_cmp (links declared) axioms
 
--- the words that a file has by itself: those it was given, and those derived from its name and bytes
-abbrev pub own_words : File → List (List ℕ)
-own_words file = file.assigned ++ derived_words file.name file.bytes
+-- what any of the words entails
+abbrev pub all_up : List (List ℕ) → List (List ℕ × List ℕ) → List (List ℕ) → List (List ℕ)
+all_up declared axioms words = set_of (flat_map (up declared axioms) words)
+
+-- the words that a file has by itself: those it was given, those derived from its name and bytes, and the declared tests that it meets
+abbrev pub own_words : List (List ℕ) → File → List (List ℕ)
+own_words declared file = file.assigned ++ derived_words file.name file.bytes ++ met_tests declared (length file.bytes)
 
 -- with all that they entail
-abbrev pub file_words : List (List ℕ × List ℕ) → File → List (List ℕ)
-file_words axioms file = set_of (flat_map (up axioms) (own_words file))
+abbrev pub file_words : List (List ℕ) → List (List ℕ × List ℕ) → File → List (List ℕ)
+file_words declared axioms file = all_up declared axioms (own_words declared file)
 
 abbrev pub description : State → File → List (List ℕ)
-description s file = file_words (edges s) file
+description s file = file_words s.declared s.axioms file
 
 -- the left sides of axioms, and their heads
 abbrev pub left_words : State → List (List ℕ)
@@ -75,7 +80,7 @@ known s = with_words s.declared (left_words s ++ flat_map (description s) s.file
 
 -- what may be declared, assigned, and named by an axiom or a formula
 abbrev pub is_declarable : List ℕ → Bool
-is_declarable word = is_plain_word word || (is_head word && not (is_built_in word))
+is_declarable word = is_plain_word word || is_test word || (is_head word && not (is_built_in word))
 
 abbrev pub is_assignable : List (List ℕ) → List ℕ → Bool
 is_assignable declared word =
@@ -86,7 +91,8 @@ is_known_head declared word = is_head word && (has_word declared word || is_buil
 
 abbrev pub is_nameable : List (List ℕ) → List ℕ → Bool
 is_nameable declared word =
-    (is_plain_word word && has_word declared word) || is_known_head declared word || (is_valued word && is_known_head declared (head_bytes word))
+    ((is_plain_word word || is_test word) && has_word declared word) || is_known_head declared word
+    || (is_valued word && is_known_head declared (head_bytes word))
 
 -- axioms are in the order of their left sides, and then of their right sides; files in the order of their names
 abbrev pub pair_cmp : List ℕ × List ℕ → List ℕ × List ℕ → Ordering
@@ -95,19 +101,27 @@ pair_cmp a b = ordering_then (word_cmp a.0 b.0) (word_cmp a.1 b.1)
 abbrev pub file_cmp : File → File → Ordering
 file_cmp a b = word_cmp a.name b.name
 
+-- how many bytes a file may have
+abbrev pub file_limit : ℕ → ℕ
+file_limit version = if version == 2 then 1048576 else 65536
+
 -- how many blocks so many bytes take
 abbrev pub blocks_needed : ℕ → ℕ
 blocks_needed bytes = (bytes + 4095) / 4096
 
--- the blocks that the files' bytes take
+-- with the block that numbers them, which version 2 has where they are more than 16
+abbrev pub blocks_taken : ℕ → ℕ → ℕ
+blocks_taken version bytes = if (version == 2) && nat_lt 16 (blocks_needed bytes) then blocks_needed bytes + 1 else blocks_needed bytes
+
+-- the blocks that the files take
 abbrev pub used_blocks : State → ℕ
-used_blocks s = sum (map (λ (file : File). blocks_needed (length file.bytes)) s.files)
+used_blocks s = sum (map (λ (file : File). blocks_taken s.limits.version (length file.bytes)) s.files)
 
 -- the axioms speak of what is there, and lead in no circle
 pub record AxiomsAreFormed (s : State) : Type 0 where
   pub rights : IsTrue (list_all (λ pair. is_plain_word pair.1 && has_word s.declared pair.1) s.axioms)
   pub lefts : IsTrue (list_all (λ pair. is_nameable s.declared pair.0) s.axioms)
-  pub acyclic : Acyclic (edges s)
+  pub acyclic : Acyclic s.declared s.axioms
 
 -- each file's name, words and bytes are within the limits
 pub record FilesAreFormed (s : State) : Type 0 where
@@ -116,7 +130,7 @@ pub record FilesAreFormed (s : State) : Type 0 where
   pub assigned : IsTrue (list_all (λ (file : File). list_all (is_assignable s.declared) file.assigned) s.files)
   pub few_assigned : IsTrue (list_all (λ (file : File). nat_le (length file.assigned) 16) s.files)
   pub few_words : IsTrue (list_all (λ (file : File). nat_le (length (description s file)) 128) s.files)
-  pub short : IsTrue (list_all (λ (file : File). nat_le (length file.bytes) 65536) s.files)
+  pub short : IsTrue (list_all (λ (file : File). nat_le (length file.bytes) (file_limit s.limits.version)) s.files)
 
 -- what every command keeps
 pub record WellFormed (s : State) : Type 0 where

@@ -1,23 +1,25 @@
--- What a command does: the new state and place, and the reply.
-use Rattle.std.specs.Prelude.{ℕ, ◌-◌, nat_lt, nat_le, Bool, not, if◌then◌else◌, is_some, unwrap_or, List, [], ◌∷◌, ◌++◌, length, filter}
-use Rattle.std.specs.List.{list_any, list_all}
-use Rattle.std.specs.BTreeSet.{insert_key}
-use Rattle.lis_words.specs.Words.{same_word, has_word, is_head, is_valued, is_built_in}
+-- What a command does: the new state and place, and the reply. Each command has a row of conditions under which it is refused, in their order; those on
+-- the state that it would give are told of `made`.
+use Rattle.std.specs.Prelude.{ℕ, ◌+◌, ◌-◌, ◌==◌, nat_lt, nat_le, Bool, false, not, ◌&&◌, ◌||◌, if◌then◌else◌, is_some, unwrap_or, Option, Some, None, List, [], ◌∷◌, ◌++◌, length, map, filter, codes}
+use Rattle.std.specs.List.{list_any, list_all, flat_map}
+use Rattle.lis_words.specs.Words.{same_word, has_word, is_plain_word, is_head, is_valued, is_test, is_built_in}
 use Rattle.lis_grammar.specs.Formula.{Formula}
 use Rattle.lis_grammar.specs.Printing.{printed}
 use Rattle.lis_grammar.specs.Places.{Resolution, resolved, text_words}
 use Rattle.lis_grammar.specs.Places.Resolution.{NewPlace, BeyondLimits, Unreadable}
 use Rattle.lis_model.specs.declared.limits.Limits.{Limits}
 use Rattle.lis_model.specs.declared.refusal.Refusal.{Refusal}
-use Rattle.lis_model.specs.declared.refusal.Refusal.TheVariants.{BadFormula, UnknownProperty, LargeFormula, NotAPlace, NameTaken, NoFileHere, AlreadyDeclared, NotAssignable, TooManyAssigned, LargeFile, NoFileRoom, NoPropertyRoom, NoSpace, BuiltIn}
+use Rattle.lis_model.specs.declared.refusal.Refusal.TheVariants.{BadFormula, UnknownProperty, LargeFormula, NotAPlace, NameTaken, NoFileHere, AlreadyDeclared, NotDeclared, InUse, NotAssignable, Cycle, AxiomThere, NoAxiom, TooManyAssigned, LargeDescription, LargeFile, NoFileRoom, NoPropertyRoom, NoAxiomRoom, NoSpace, BuiltIn}
 use Rattle.lis_model.specs.declared.command.Command.{Command}
-use Rattle.lis_model.specs.declared.command.Command.TheVariants.{Mkdir, Create, Add, Cat, Rm, Cd, Pwd, Ls}
-use Rattle.lis_model.specs.Sets.{with_word, with_words}
-use Rattle.lis_model.specs.State.{State, File, empty_state, file_cmp, known, is_assignable, blocks_needed, used_blocks}
-use Rattle.lis_model.specs.Places.{is_root, place_words, place_tags}
-use Rattle.lis_model.specs.Table.{Entry, table}
+use Rattle.lis_model.specs.declared.command.Command.TheVariants.{Mkdir, Rmdir, Axiom, Unaxiom, Create, Add, Write, Cat, Mv, Rename, Rm, Cd, Pwd, Ls, Props, Way, Stat}
+use Rattle.lis_model.specs.Sets.{with_words}
+use Rattle.lis_model.specs.State.{State, File, empty_state, heads, up, description, known, is_assignable, is_nameable, file_limit, blocks_taken, used_blocks}
+use Rattle.lis_model.specs.Changes.{has_axiom, declared_under, undeclared, axiom_added, axiom_removed, new_file, has_name, file_of, file_added, file_removed, file_replaced}
+use Rattle.lis_model.specs.Places.{place_words, place_tags}
+use Rattle.lis_model.specs.Table.{Entry, table, entry_of}
 use Rattle.lis_model.specs.Listing.{extension, increments, locals}
-use Rattle.lis_model.specs.Replies.{body_line, ok_line, refusal_line, listing_lines, content_lines}
+use Rattle.lis_model.specs.Route.{route}
+use Rattle.lis_model.specs.Replies.{body_line, number_line, ok_line, refusal_line, listing_lines, content_lines}
 
 -- a state, and the place at which commands are said
 pub record Situation : Type 0 where
@@ -61,95 +63,247 @@ abbrev pub judged : Situation → List (Bool × Refusal) → Outcome → Outcome
 judged now [] done = done
 judged now (check ∷ checks) done = if check.0 then refused now check.1 else judged now checks done
 
-abbrev pub has_name : List File → List ℕ → Bool
-has_name files name = list_any (λ (file : File). same_word file.name name) files
+-- ---- what rows ask
+-- there would be more than there is room for
+abbrev pub exceeds_axioms : State → Bool
+exceeds_axioms s = nat_lt s.limits.props (length s.axioms)
 
--- Known would have more words than there is room for
 abbrev pub exceeds_known : State → Bool
 exceeds_known s = nat_lt s.limits.props (length (known s))
 
--- declares a word
-abbrev pub with_declared : State → List ℕ → State
-with_declared s word = record s { declared = with_word s.declared word }
+abbrev pub exceeds_words : State → Bool
+exceeds_words s = list_any (λ (file : File). nat_lt 128 (length (description s file))) s.files
 
--- Until axioms come, a word is declared at the root alone.
-abbrev pub mkdir_checks : Situation → List ℕ → List (Bool × Refusal)
-mkdir_checks now word =
-    (is_built_in word, BuiltIn)
-    ∷ (is_valued word, NotAssignable)
-    ∷ (has_word now.state.declared word, AlreadyDeclared)
-    ∷ (not (is_root now.place), NotAPlace)
-    ∷ (exceeds_known (with_declared now.state word), NoPropertyRoom)
-    ∷ []
+-- the words and the tags of a place; none where it has none
+abbrev pub words_at : List Formula → List (List ℕ)
+words_at place = unwrap_or (place_words place) []
 
-abbrev pub mkdir : Situation → List ℕ → Outcome
-mkdir now word = judged now (mkdir_checks now word) (changed now (with_declared now.state word))
+abbrev pub tags_at : List Formula → List (List ℕ)
+tags_at place = unwrap_or (place_tags place) []
 
-abbrev pub new_file : List ℕ → List (List ℕ) → List ℕ → File
-new_file name assigned bytes = record { name = name; bytes = bytes; assigned = assigned }
-
-abbrev pub with_file : State → File → State
-with_file s file = record s { files = insert_key file_cmp s.files file }
-
--- the words of a new file: the tags of the place, and those that are named
-abbrev pub assigned_at : List Formula → List (List ℕ) → List (List ℕ)
-assigned_at place words = with_words (unwrap_or (place_tags place) []) words
-
--- What a new file is refused for, given the words that are named. A description has 16 words and their heads at most until axioms come,
--- so its own limit is met.
-abbrev pub create_checks : Situation → List (List ℕ) → File → List (Bool × Refusal)
-create_checks now words file =
-    (has_name now.state.files file.name, NameTaken)
-    ∷ (not (is_some (place_words now.place)), NotAPlace)
-    ∷ (list_any is_built_in words, BuiltIn)
-    ∷ (list_any is_head words, NotAssignable)
-    ∷ (not (list_all (is_assignable now.state.declared) file.assigned), UnknownProperty)
-    ∷ (nat_lt 16 (length file.assigned), TooManyAssigned)
-    ∷ (nat_le now.state.limits.files (length now.state.files), NoFileRoom)
-    ∷ (exceeds_known (with_file now.state file), NoPropertyRoom)
-    ∷ []
-
--- makes an empty file
-abbrev pub create_with : Situation → List (List ℕ) → File → Outcome
-create_with now words file = judged now (create_checks now words file) (changed now (with_file now.state file))
-
-abbrev pub create : Situation → List ℕ → List (List ℕ) → Outcome
-create now name words = create_with now words (new_file name (assigned_at now.place words) [])
-
--- the blocks that no file uses
+-- the blocks that no file takes
 abbrev pub free_blocks : State → ℕ
 free_blocks s = s.limits.blocks - used_blocks s
 
--- makes a file of these bytes, where the payload has so many and a file may
-abbrev pub add_checks : Situation → List (List ℕ) → File → ℕ → List (Bool × Refusal)
-add_checks now words file size =
-    (nat_lt 65536 size, LargeFile) ∷ create_checks now words file ++ (nat_lt (free_blocks now.state) (blocks_needed size), NoSpace) ∷ []
-
-abbrev pub add_with : Situation → List (List ℕ) → File → ℕ → Outcome
-add_with now words file size = judged now (add_checks now words file size) (changed now (with_file now.state file))
-
-abbrev pub add : Situation → List ℕ → List (List ℕ) → Payload → Outcome
-add now name words payload = add_with now words (new_file name (assigned_at now.place words) payload.bytes) payload.size
+abbrev pub is_large : State → ℕ → Bool
+is_large s size = nat_lt (file_limit s.limits.version) size
 
 -- a file of that name is in the extension of the place
 abbrev pub is_here : Situation → List ℕ → Bool
 is_here now name = list_any (λ (file : Entry). same_word file.name name) (extension (table now.state) now.place)
 
--- the bytes of the file of that name
-abbrev pub bytes_of : List File → List ℕ → List ℕ
-bytes_of [] name = []
-bytes_of (file ∷ files) name = if same_word file.name name then file.bytes else bytes_of files name
+abbrev pub here_checks : Situation → List ℕ → List (Bool × Refusal)
+here_checks now name = (not (is_here now name), NoFileHere) ∷ []
 
-abbrev pub cat : Situation → List ℕ → Outcome
-cat now name = judged now ((not (is_here now name), NoFileHere) ∷ []) (shown now (content_lines (bytes_of now.state.files name)))
+abbrev pub room_checks : State → List (Bool × Refusal)
+room_checks made = (exceeds_words made, LargeDescription) ∷ (exceeds_known made, NoPropertyRoom) ∷ []
 
--- all files but that of this name
-abbrev pub without_file : State → List ℕ → State
-without_file s name = record s { files = filter (λ (file : File). not (same_word file.name name)) s.files }
+-- ---- words
+abbrev pub is_plain_place : Option (List (List ℕ)) → Bool
+is_plain_place None = false
+is_plain_place (Some words) = list_all is_plain_word words
+
+abbrev pub mkdir_checks : Situation → List ℕ → State → List (Bool × Refusal)
+mkdir_checks now word made =
+    (is_built_in word, BuiltIn)
+    ∷ (is_valued word, NotAssignable)
+    ∷ (has_word now.state.declared word, AlreadyDeclared)
+    ∷ (not (is_plain_place (place_words now.place)), NotAPlace)
+    ∷ (not (list_all (has_word now.state.declared) (words_at now.place)), UnknownProperty)
+    ∷ (exceeds_axioms made, NoAxiomRoom)
+    ∷ (exceeds_known made, NoPropertyRoom)
+    ∷ (exceeds_words made, LargeDescription)
+    ∷ []
+
+abbrev pub mkdir_to : Situation → List ℕ → State → Outcome
+mkdir_to now word made = judged now (mkdir_checks now word made) (changed now made)
+
+-- declares a word, with an axiom to each word of the place
+abbrev pub mkdir : Situation → List ℕ → Outcome
+mkdir now word = mkdir_to now word (declared_under now.state word (words_at now.place))
+
+-- a side of an axiom
+abbrev pub is_side : State → List ℕ → Bool
+is_side s word = has_word (map (λ pair. pair.0) s.axioms ++ map (λ pair. pair.1) s.axioms) word
+
+-- the head of a left side, or a word of some file
+abbrev pub is_had : State → List ℕ → Bool
+is_had s word = has_word (flat_map (λ pair. heads pair.0) s.axioms ++ flat_map (description s) s.files) word
+
+-- a test is in files by its size alone, and goes with its declaration
+abbrev pub is_in_use : State → List ℕ → Bool
+is_in_use s word = is_side s word || (not (is_test word) && is_had s word)
+
+abbrev pub rmdir_checks : State → List ℕ → List (Bool × Refusal)
+rmdir_checks s word =
+    (is_built_in word, BuiltIn)
+    ∷ (is_valued word, NotAssignable)
+    ∷ (not (has_word s.declared word), NotDeclared)
+    ∷ (is_in_use s word, InUse)
+    ∷ []
+
+abbrev pub rmdir : Situation → List ℕ → Outcome
+rmdir now word = judged now (rmdir_checks now.state word) (changed now (undeclared now.state word))
+
+-- ---- axioms
+abbrev pub axiom_checks : State → List ℕ × List ℕ → State → List (Bool × Refusal)
+axiom_checks s pair made =
+    (not (is_plain_word pair.1), NotAssignable)
+    ∷ (not (has_word s.declared pair.1 && is_nameable s.declared pair.0), UnknownProperty)
+    ∷ (has_axiom s.axioms pair, AxiomThere)
+    ∷ (has_word (up s.declared s.axioms pair.1) pair.0, Cycle)
+    ∷ (exceeds_axioms made, NoAxiomRoom)
+    ∷ (exceeds_known made, NoPropertyRoom)
+    ∷ (exceeds_words made, LargeDescription)
+    ∷ []
+
+abbrev pub axiom_to : Situation → List ℕ × List ℕ → State → Outcome
+axiom_to now pair made = judged now (axiom_checks now.state pair made) (changed now made)
+
+-- the left word entails the right one from now on
+abbrev pub add_axiom : Situation → List ℕ × List ℕ → Outcome
+add_axiom now pair = axiom_to now pair (axiom_added now.state pair)
+
+abbrev pub unaxiom_checks : State → List ℕ × List ℕ → List (Bool × Refusal)
+unaxiom_checks s pair = (not (has_axiom s.axioms pair), NoAxiom) ∷ []
+
+abbrev pub unaxiom : Situation → List ℕ × List ℕ → Outcome
+unaxiom now pair = judged now (unaxiom_checks now.state pair) (changed now (axiom_removed now.state pair))
+
+-- ---- files
+abbrev pub is_head_or_test : List ℕ → Bool
+is_head_or_test word = is_head word || is_test word
+
+-- the words of a new file: the tags of the place, and those that are named
+abbrev pub assigned_at : List Formula → List (List ℕ) → List (List ℕ)
+assigned_at place words = with_words (tags_at place) words
+
+-- what a new file is refused for, given the words that are named
+abbrev pub create_checks : Situation → List (List ℕ) → File → State → List (Bool × Refusal)
+create_checks now words file made =
+    (has_name now.state.files file.name, NameTaken)
+    ∷ (not (is_some (place_words now.place)), NotAPlace)
+    ∷ (list_any is_built_in words, BuiltIn)
+    ∷ (list_any is_head_or_test words, NotAssignable)
+    ∷ (not (list_all (is_assignable now.state.declared) file.assigned), UnknownProperty)
+    ∷ (nat_lt 16 (length file.assigned), TooManyAssigned)
+    ∷ (nat_le now.state.limits.files (length now.state.files), NoFileRoom)
+    ∷ (exceeds_words made, LargeDescription)
+    ∷ (exceeds_known made, NoPropertyRoom)
+    ∷ []
+
+abbrev pub create_to : Situation → List (List ℕ) → File → State → Outcome
+create_to now words file made = judged now (create_checks now words file made) (changed now made)
+
+abbrev pub create_with : Situation → List (List ℕ) → File → Outcome
+create_with now words file = create_to now words file (file_added now.state file)
+
+-- makes an empty file
+abbrev pub create : Situation → List ℕ → List (List ℕ) → Outcome
+create now name words = create_with now words (new_file name (assigned_at now.place words) [])
+
+abbrev pub add_checks : Situation → List (List ℕ) → File → State → ℕ → List (Bool × Refusal)
+add_checks now words file made size =
+    (is_large now.state size, LargeFile)
+    ∷ create_checks now words file made
+    ++ (nat_lt (free_blocks now.state) (blocks_taken now.state.limits.version size), NoSpace) ∷ []
+
+abbrev pub add_to : Situation → List (List ℕ) → File → State → ℕ → Outcome
+add_to now words file made size = judged now (add_checks now words file made size) (changed now made)
+
+abbrev pub add_with : Situation → List (List ℕ) → File → ℕ → Outcome
+add_with now words file size = add_to now words file (file_added now.state file) size
+
+-- makes a file of the payload's bytes
+abbrev pub add : Situation → List ℕ → List (List ℕ) → Payload → Outcome
+add now name words payload = add_with now words (new_file name (assigned_at now.place words) payload.bytes) payload.size
+
+-- Version 1 may write a file's bytes over its old blocks; version 2 keeps these until the command is done.
+abbrev pub blocks_for : State → File → ℕ
+blocks_for s old = if s.limits.version == 2 then free_blocks s else free_blocks s + blocks_taken s.limits.version (length old.bytes)
+
+abbrev pub write_checks : Situation → File → State → ℕ → List (Bool × Refusal)
+write_checks now old made size =
+    (is_large now.state size, LargeFile)
+    ∷ here_checks now old.name ++ room_checks made
+    ++ (nat_lt (blocks_for now.state old) (blocks_taken now.state.limits.version size), NoSpace) ∷ []
+
+abbrev pub write_to : Situation → File → State → ℕ → Outcome
+write_to now old made size = judged now (write_checks now old made size) (changed now made)
+
+abbrev pub write_with : Situation → File → Payload → Outcome
+write_with now old payload =
+    write_to now old (file_replaced now.state old.name (new_file old.name old.assigned payload.bytes)) payload.size
+
+-- the file's bytes become the payload's
+abbrev pub write : Situation → List ℕ → Payload → Outcome
+write now name payload = write_with now (file_of now.state.files name) payload
+
+-- without the words of one place, and with those of another
+abbrev pub retagged : List (List ℕ) → List (List ℕ) → List (List ℕ) → List (List ℕ)
+retagged assigned here there = with_words (filter (λ word. not (has_word here word)) assigned) there
+
+abbrev pub mv_checks : Situation → List Formula → List (List ℕ) → File → State → List (Bool × Refusal)
+mv_checks now place words new made =
+    (not (is_some (place_words now.place) && is_some (place_words place)), NotAPlace)
+    ∷ (list_any is_built_in words, BuiltIn)
+    ∷ (list_any is_head words, NotAssignable)
+    ∷ (not (list_all (is_assignable now.state.declared) (tags_at place)), UnknownProperty)
+    ∷ (nat_lt 16 (length new.assigned), TooManyAssigned)
+    ∷ room_checks made
+
+abbrev pub mv_made : Situation → List Formula → List (List ℕ) → File → File → State → Outcome
+mv_made now place words old new made =
+    judged now (here_checks now old.name ++ mv_checks now place words new made) (changed now made)
+
+abbrev pub mv_with : Situation → List Formula → List (List ℕ) → File → File → Outcome
+mv_with now place words old new = mv_made now place words old new (file_replaced now.state old.name new)
+
+abbrev pub mv_to : Situation → File → List ℕ → Resolution → Outcome
+mv_to now old text (Unreadable k) = refused now BadFormula
+mv_to now old text BeyondLimits = refused now LargeFormula
+mv_to now old text (NewPlace place) =
+    mv_with now place (text_words text) old (new_file old.name (retagged old.assigned (tags_at now.place) (tags_at place)) old.bytes)
+
+-- the file loses the tags of the place, and gains those of the place that a text makes of it
+abbrev pub mv : Situation → List ℕ → List ℕ → Outcome
+mv now name text = mv_to now (file_of now.state.files name) text (resolved now.place text)
+
+abbrev pub rename_checks : Situation → List ℕ → File → State → List (Bool × Refusal)
+rename_checks now name new made = here_checks now name ++ (has_name now.state.files new.name, NameTaken) ∷ room_checks made
+
+abbrev pub rename_to : Situation → List ℕ → File → State → Outcome
+rename_to now name new made = judged now (rename_checks now name new made) (changed now made)
+
+abbrev pub rename_with : Situation → File → File → Outcome
+rename_with now old new = rename_to now old.name new (file_replaced now.state old.name new)
+
+abbrev pub rename_as : Situation → File → List ℕ → Outcome
+rename_as now old name = rename_with now old (new_file name old.assigned old.bytes)
+
+abbrev pub rename : Situation → List ℕ → List ℕ → Outcome
+rename now name other = rename_as now (file_of now.state.files name) other
 
 abbrev pub rm : Situation → List ℕ → Outcome
-rm now name = judged now ((not (is_here now name), NoFileHere) ∷ []) (changed now (without_file now.state name))
+rm now name = judged now (here_checks now name) (changed now (file_removed now.state name))
 
+-- shows something of a file of that name
+abbrev pub shown_here : Situation → List ℕ → List ℕ → Outcome
+shown_here now name body = judged now (here_checks now name) (shown now body)
+
+abbrev pub cat : Situation → List ℕ → Outcome
+cat now name = shown_here now name (content_lines (file_of now.state.files name).bytes)
+
+abbrev pub props : Situation → List ℕ → Outcome
+props now name = shown_here now name (flat_map (body_line 112) (description now.state (file_of now.state.files name)))
+
+abbrev pub entry_at : State → List ℕ → Entry
+entry_at s name = entry_of s.declared s.axioms (file_of s.files name)
+
+abbrev pub way : Situation → List ℕ → Outcome
+way now name = shown_here now name (flat_map (body_line 100) (route (table now.state) now.place (entry_at now.state name)))
+
+-- ---- places
 -- the place becomes another, and the state stays
 abbrev pub moved : Situation → List Formula → Outcome
 moved now place = record { next = record { state = now.state; place = place }; reply = ok_line }
@@ -170,15 +324,35 @@ pwd now = shown now (body_line 119 (printed now.place))
 abbrev pub ls : Situation → Outcome
 ls now = shown now (listing_lines (increments (table now.state) now.place) (locals (table now.state) now.place))
 
+-- how many files, known words, axioms and free blocks there are
+abbrev pub count_lines : State → List ℕ
+count_lines s =
+    number_line (codes "s files") (length s.files)
+    ++ number_line (codes "s known") (length (known s))
+    ++ number_line (codes "s axioms") (length s.axioms)
+    ++ number_line (codes "s free") (free_blocks s)
+
+abbrev pub stat : Situation → Outcome
+stat now = shown now (count_lines now.state)
+
 abbrev pub done : Situation → Command → Payload → Outcome
 done now (Mkdir word) payload = mkdir now word
+done now (Rmdir word) payload = rmdir now word
+done now (Axiom left right) payload = add_axiom now (left, right)
+done now (Unaxiom left right) payload = unaxiom now (left, right)
 done now (Create name words) payload = create now name words
 done now (Add name words) payload = add now name words payload
+done now (Write name) payload = write now name payload
 done now (Cat name) payload = cat now name
+done now (Mv name text) payload = mv now name text
+done now (Rename name other) payload = rename now name other
 done now (Rm name) payload = rm now name
 done now (Cd text) payload = cd now text
 done now Pwd payload = pwd now
 done now Ls payload = ls now
+done now (Props name) payload = props now name
+done now (Way name) payload = way now name
+done now Stat payload = stat now
 
 unfoldable pub step : Situation → Item → Outcome
 step now (Do command payload) = done now command payload

@@ -3,7 +3,7 @@ use Rattle.std.specs.Prelude.{ℕ, Bool, ◌&&◌, List, length, map}
 use Rattle.std.specs.List.{list_any}
 use Rattle.lis_words.specs.Words.{same_word, has_word}
 use Rattle.lis_model.specs.declared.limits.Limits.{Limits}
-use Rattle.lis_model.specs.State.{State, File, known, up, edges, file_words}
+use Rattle.lis_model.specs.State.{State, File, known, up, file_words}
 
 pub record Entry : Type 0 where
   pub name : List ℕ
@@ -17,15 +17,15 @@ pub record Table : Type 0 where
   -- each known word, and what it entails
   pub entailed : List (List ℕ × List (List ℕ))
 
-abbrev pub entry_of : List (List ℕ × List ℕ) → File → Entry
-entry_of axioms file = record { name = file.name; size = length file.bytes; words = file_words axioms file }
+abbrev pub entry_of : List (List ℕ) → List (List ℕ × List ℕ) → File → Entry
+entry_of declared axioms file = record { name = file.name; size = length file.bytes; words = file_words declared axioms file }
 
 abbrev pub table : State → Table
 table s = record {
   limits = s.limits;
   known = known s;
-  files = map (entry_of (edges s)) s.files;
-  entailed = map (λ p. (p, up (edges s) p)) (known s);
+  files = map (entry_of s.declared s.axioms) s.files;
+  entailed = map (λ p. (p, up s.declared s.axioms p)) (known s);
 }
 
 abbrev pub entails : Table → List ℕ → List ℕ → Bool

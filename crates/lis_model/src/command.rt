@@ -76,14 +76,26 @@ impl Tags {
 /// What a line asks for.
 #[derive(Drop, Debug)]
 pub enum Command {
-    /// Declares the word.
+    /// Declares the word, with an axiom to each word of the place.
     Mkdir(Word),
+    /// Takes the word's declaration back.
+    Rmdir(Word),
+    /// Lets the first word entail the second.
+    Axiom(Word, Word),
+    /// Takes this axiom back.
+    Unaxiom(Word, Word),
     /// Makes an empty file of that name with these words, and with those of the place.
     Create(Name, Tags),
     /// Makes a file of that name as `Create` does; its bytes are the payload behind the line.
     Add(Name, Tags),
+    /// Puts the payload behind the line in the place of the bytes of the file of that name.
+    Write(Name),
     /// Shows the bytes of the file of that name.
     Cat(Name),
+    /// Takes the tags of the place from the file of that name, and gives it those of the place that the text makes of it.
+    Mv(Name, Text),
+    /// Gives the file of the first name the second one.
+    Rename(Name, Name),
     /// Removes the file of that name.
     Rm(Name),
     /// Goes to the place that the text makes of the place.
@@ -92,4 +104,10 @@ pub enum Command {
     Pwd,
     /// Shows the increments and the locals of the place.
     Ls,
+    /// Shows the description of the file of that name.
+    Props(Name),
+    /// Shows the increments that lead to the file of that name.
+    Way(Name),
+    /// Shows how many files, known words, axioms and free blocks there are.
+    Stat,
 }

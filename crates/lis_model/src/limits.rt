@@ -1,11 +1,11 @@
 //! The limits of a state.
 
 ghost use Rattle.std.specs.Prelude.{◌≡◌, ◌^◌, ◌<◌, ◌≤◌, IsTrue};
-ghost use Rattle.lis_model.specs.Ranges.{is_files_limit, is_props_limit, is_blocks_limit, are_in_range};
+ghost use Rattle.lis_model.specs.Ranges.{is_files_limit, is_props_limit, is_blocks_limit, is_version, are_in_range};
 ghost use Rattle.lis_model.specs.Image.{image_blocks};
 
 /// How much a state may hold. In range are: files a power of two from 64 to 4,096, properties a multiple of 64
-/// from 64 to 8,192, and 1 to 32,768 data blocks of 4,096 bytes.
+/// from 64 to 8,192, 1 to 32,768 data blocks of 4,096 bytes, and the versions 1 and 2.
 #[derive(Clone, Copy, Debug, PartialEq, Eq)]
 pub struct Limits {
     /// The most files.
@@ -14,6 +14,8 @@ pub struct Limits {
     pub props: u32,
     /// The data blocks.
     pub blocks: u32,
+    /// How large a file may be: 65,536 bytes in version 1, and 1,048,576 in version 2.
+    pub version: u32,
 }
 
 /// Whether so many files are in range.
@@ -41,6 +43,13 @@ pub fn is_blocks_limit(blocks: u64) -> bool
     ensures { result ≡ is_blocks_limit blocks }
 {
     1 <= blocks && blocks <= 32_768
+}
+
+/// Whether there is such a version.
+pub fn is_version(version: u64) -> bool
+    ensures { result ≡ is_version version }
+{
+    version == 1 || version == 2
 }
 
 /// How many blocks of 4,096 bytes an image of these limits has: at most 34,771.

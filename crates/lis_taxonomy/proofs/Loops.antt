@@ -1,9 +1,9 @@
 -- The loops over rows, a step at a time.
 use Rattle.std.proofs.Common.{◌≡◌, ◌⊎◌, ◌↔◌, ℕ, ◌+◌, ◌<◌, ◌≤◌, ◌==◌, Bool, true, false, ◌&&◌, ◌||◌, nat_eq, if◌then◌else◌, refl, sym, ap, ◌∙◌, inl, inr, arith, eq-eqb}
 use Rattle.std.proofs.lemmas.Bool.{cases_eq, cases_lt, cases_order, ne_eqb, eqb-true}
-use Rattle.lis_bits.specs.Rows.{Rows, get, with_row, NoneTrue}
+use Rattle.lis_bits.specs.Rows.{HasShape, Rows, get, with_row, NoneTrue}
 use Rattle.lis_bits.proofs.Laws.{get-with_row_same, get-with_row_other, length-with_row}
-use Rattle.lis_taxonomy.specs.Inside.{HasShape, Gathers}
+use Rattle.lis_taxonomy.specs.Inside.{Gathers}
 use Rattle.lis_taxonomy.specs.Steps.{ReachThemselves, WidensTo, GathersTo, MarksTo}
 
 pub shaped : (r : Rows) (rows bits row : ℕ) (value : ℕ → Bool) → HasShape r rows bits → HasShape (with_row r row value) rows bits

@@ -7,15 +7,15 @@ use Rattle.std.specs.Cmp.{IsTotalOrder, nat_cmp_total, Equal-is, tied_itself}
 use Rattle.std.specs.FinSet as set
 use Rattle.std.proofs.lemmas.Bool.{cases_eq, ne_eqb, eqb-true}
 use Rattle.std.proofs.lemmas.Map.Lookups.{CmpEqualImpliesEq, exact_unsigned}
-use Rattle.lis_bits.specs.Rows.{Rows, get, with_row, empty_rows}
+use Rattle.lis_bits.specs.Rows.{HasShape, Rows, get, with_row, empty_rows}
 use Rattle.lis_bits.proofs.Laws.{get-with_row_other, get-empty_rows}
 use Rattle.lis_graph.specs.Graph.{Linked}
 use Rattle.lis_graph.proofs.Members.{Among, among_from_any, any_from_among, among_from_contains, contains_from_among}
 use Rattle.lis_graph.proofs.Pairs.{pairs_total, pairs_exact}
 use Rattle.lis_graph.proofs.Graph as graph
 use Rattle.lis_taxonomy.specs.Taxonomy.{pair_cmp, no_links, has_edge, Entails, IsAcyclic, entails, with_edge, without_edge, empty_taxonomy}
-use Rattle.lis_taxonomy.specs.Inside.{HasShape, edge_list, reach, IsAcyclicTable, seen, IsSound, IsWidened, IsPartlyRight}
-use Rattle.lis_taxonomy.proofs.Edges.{IsOneMore, among_edges, edges_among, big_among, among_big, reach_with, acyclic_with, acyclic_without, reach_decides, acyclic_decides, first_step, reach_self, nat_decides, ended}
+use Rattle.lis_taxonomy.specs.Inside.{edge_list, reach, IsAcyclicTable, seen, IsSound, IsWidened, IsPartlyRight}
+use Rattle.lis_taxonomy.proofs.Edges.{IsOneMore, among_edges, edges_among, big_among, among_big, reach_with, acyclic_with, acyclic_without, reach_decides, acyclic_decides, first_step, reach_self, nat_decides, no_links_ordered}
 use Rattle.lis_taxonomy.proofs.Loops.{shaped, new_row}
 
 -- ---- sets of pairs
@@ -61,6 +61,9 @@ edge_decides linked props p q p_in q_in = (λ bit. edges_among linked props p q 
 pub has_edge-seen : (linked : Rows) (props p q : ℕ) → p < props → q < props → get linked p q ≡ has_edge (seen linked props) p q
 has_edge-seen linked props p q p_in q_in = one_answer (get linked p q) (has_edge (seen linked props) p q) (edge_decides linked props p q p_in q_in) (contains_decides (edge_list linked props) (p, q))
 
+pub edges_in_range : (linked : Rows) (props p q : ℕ) → has_edge (seen linked props) p q ≡ true → (p < props) × (q < props)
+edges_in_range linked props p q h = let e = among_edges linked props (p, q) ((contains_decides (edge_list linked props) (p, q)).0 h) in (e.left, e.right)
+
 pub entails_from_reach : (linked : Rows) (props p q : ℕ) → reach linked props p q ≡ true → Entails (seen linked props) p q
 entails_from_reach linked props p q h = graph.entails_within no_links (edge_list linked props) (set.items (seen linked props).edges) (to_items (edge_list linked props)) p q ((reach_decides linked props p q).0 h)
 
@@ -71,7 +74,7 @@ pub entails-seen : (linked : Rows) (props p q : ℕ) → entails (seen linked pr
 unfolding entails reach
 entails-seen linked props p q =
     ap (λ words. list_any (λ y. nat_eq y q) words)
-    (graph.up_same nat_eq nat_cmp no_links nat_decides exact_unsigned ended nat_cmp_total (set.items (seen linked props).edges) (edge_list linked props) (from_items (edge_list linked props)) (to_items (edge_list linked props)) p)
+    (graph.up_same nat_eq nat_cmp no_links nat_decides exact_unsigned no_links_ordered nat_cmp_total (set.items (seen linked props).edges) (edge_list linked props) (from_items (edge_list linked props)) (to_items (edge_list linked props)) p)
 
 pub acyclic-seen : (linked : Rows) (props : ℕ) → IsAcyclicTable linked props → IsAcyclic (seen linked props)
 acyclic-seen linked props acyclic = graph.acyclic_within no_links (set.items (seen linked props).edges) (edge_list linked props) (from_items (edge_list linked props)) ((acyclic_decides linked props).0 acyclic)

@@ -1,16 +1,11 @@
 -- The rows of a taxonomy, and what the functions over them do. No public clause cites this module.
-use Rattle.std.specs.Prelude.{◌≡◌, ◌≢◌, ℕ, ◌<◌, ◌≤◌, Bool, true, false, ◌&&◌, ◌||◌, ◌↔◌, ◌⊎◌, nat_eq, List, length, map, filter}
+use Rattle.std.specs.Prelude.{◌≡◌, ◌≢◌, ℕ, ◌<◌, ◌≤◌, Bool, true, false, ◌&&◌, ◌||◌, ◌↔◌, ◌⊎◌, nat_eq, List, map, filter}
 use Rattle.std.specs.List.{range_with_len, flat_map}
 use Rattle.std.specs.Ordering.{nat_cmp}
 use Rattle.std.specs.FinSet as set
-use Rattle.lis_bits.specs.Rows.{Rows, get}
+use Rattle.lis_bits.specs.Rows.{Rows, HasShape, get}
 use Rattle.lis_graph.specs.Graph as graph
 use Rattle.lis_taxonomy.specs.Taxonomy.{Taxonomy, no_links}
-
--- so many rows of so many bits
-pub record HasShape (r : Rows) (rows bits : ℕ) : Type 0 where
-  pub tall : length r.rows ≡ rows
-  pub wide : r.bits ≡ bits
 
 -- the edges that rows tell
 unfoldable pub edge_list : Rows → ℕ → List (ℕ × ℕ)

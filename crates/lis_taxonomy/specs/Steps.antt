@@ -1,7 +1,7 @@
 -- How far the loops over rows have come. No public clause cites this module.
 use Rattle.std.specs.Prelude.{◌≡◌, ◌≢◌, ℕ, ◌<◌, ◌≤◌, true, false, ◌||◌, ◌&&◌, ◌==◌, ◌↔◌, ◌⊎◌}
-use Rattle.lis_bits.specs.Rows.{Rows, get}
-use Rattle.lis_taxonomy.specs.Inside.{HasShape, IsPartlyRight}
+use Rattle.lis_bits.specs.Rows.{HasShape, Rows, get}
+use Rattle.lis_taxonomy.specs.Inside.{IsPartlyRight}
 
 -- the words below `word` are in their own rows, which hold no other word
 pub record ReachThemselves (reached : Rows) (props word : ℕ) : Type 0 where

@@ -1,6 +1,6 @@
 ghost use Rattle.std.specs.Prelude.{◌≡◌, ℕ, ◌<◌, ◌≤◌, ◌==◌, Bool, false};
-ghost use Rattle.lis_bits.specs.Rows.{get};
-ghost use Rattle.lis_taxonomy.specs.Inside.{HasShape, IsWidened, Gathers, IsPartlyRight, IsAcyclicTable, reach};
+ghost use Rattle.lis_bits.specs.Rows.{HasShape, get};
+ghost use Rattle.lis_taxonomy.specs.Inside.{IsWidened, Gathers, IsPartlyRight, IsAcyclicTable, reach};
 
 use lis_bits::Rows;
 

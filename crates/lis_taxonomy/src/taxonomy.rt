@@ -1,5 +1,5 @@
 ghost use Rattle.std.specs.Prelude.{◌≡◌, ◌≢◌, ℕ, ◌%◌, ◌<◌, ◌≤◌, ◌↔◌, false, length, IfOk, OnOk, OnErr, IsTrue, Err};
-ghost use Rattle.lis_bits.specs.Rows.{get, SetsRow};
+ghost use Rattle.lis_bits.specs.Rows.{HasShape, get, SetsRow};
 
 use crate::tables;
 use lis_bits::{Rows, copy_row};
@@ -133,5 +133,18 @@ impl Taxonomy {
         ensures row { SetsRow to.old to.new row (entails self.now p) }
     {
         copy_row(&self.reached, p, to, row);
+    }
+
+    /// The rows of entailment: row p has bit q where a chain of edges leads from p to q, as it does where p is q. The
+    /// contract also tells what each taxonomy keeps.
+    pub fn rows(&self) -> &Rows
+        ensures shape { HasShape result.now self.now.props self.now.props }
+        ensures values { (p q : ℕ) → p < self.now.props → q < self.now.props
+            → get result.now p q ≡ entails self.now p q }
+        ensures acyclic { IsAcyclic self.now }
+        ensures in_range { (p q : ℕ) → IsTrue (has_edge self.now p q) → (p < self.now.props) × (q < self.now.props) }
+        ensures few { self.now.props ≤ 8192 }
+    {
+        &self.reached
     }
 }

@@ -4,7 +4,7 @@ use Rattle.std.specs.List.{list_any}
 use Rattle.std.proofs.lemmas.List.Folds.{list_any-append}
 use Rattle.std.proofs.lemmas.Bool.{or_right, or_left, and_from, and_parts, leb-true, le-leb}
 use Rattle.std.proofs.Common.{length-append, ◌==◌, ◌∙◌}
-use Rattle.lis_words.specs.Words.{is_colon, stem, value, is_head, is_valued, is_word, is_plain_word, head_bytes}
+use Rattle.lis_words.specs.Words.{is_colon, stem, value, is_head, is_valued, is_word, is_property, is_plain_word, head_bytes}
 
 pub stem_joined : (bytes : List ℕ) → stem (head_bytes bytes) ≡ stem bytes
 stem_joined [] = refl
@@ -63,3 +63,6 @@ head_is_head bytes h =
 
 pub head_is_word : (bytes : List ℕ) → is_valued bytes ≡ true → is_word (head_bytes bytes) ≡ true
 head_is_word bytes h = or_left _ _ (or_right _ _ (head_is_head bytes h))
+
+pub head_is_property : (bytes : List ℕ) → is_valued bytes ≡ true → is_property (head_bytes bytes) ≡ true
+head_is_property bytes h = or_left _ _ (head_is_word bytes h)

@@ -1,5 +1,5 @@
 -- Words, file names and counts, as tests on whole lists of bytes.
-use Rattle.std.specs.Prelude.{ℕ, ◌+◌, ◌-◌, ◌*◌, ◌==◌, nat_eq, nat_lt, nat_le, Bool, false, not, ◌&&◌, ◌||◌, if◌then◌else◌, List, [], ◌∷◌, ◌++◌, length, codes}
+use Rattle.std.specs.Prelude.{ℕ, ◌+◌, ◌-◌, ◌*◌, ◌==◌, nat_eq, nat_lt, nat_le, Bool, true, false, not, ◌&&◌, ◌||◌, if◌then◌else◌, Option, Some, None, is_some, List, [], ◌∷◌, ◌++◌, length, take, drop, codes}
 use Rattle.std.specs.Char.{is_ascii_alphanumeric, is_ascii_digit}
 use Rattle.std.specs.Cmp.Lexicographic.{pointwise, slice_cmp}
 use Rattle.std.specs.Ordering.{nat_cmp}
@@ -10,6 +10,13 @@ use Rattle.std.specs.List.{list_any, list_all, fold}
 abbrev pub is_plain_byte : ℕ → Bool
 is_plain_byte b =
     is_ascii_alphanumeric b || (b == 95) || (b == 45) || (b == 46) || (b == 43) || (b == 64)
+
+-- words and names are ordered by their bytes
+abbrev pub word_cmp : List ℕ → List ℕ → Ordering
+word_cmp a b = slice_cmp nat_cmp a b
+
+abbrev pub same_word : List ℕ → List ℕ → Bool
+same_word a b = pointwise nat_eq a b
 
 abbrev pub is_colon : ℕ → Bool
 is_colon b = b == 58
@@ -48,16 +55,50 @@ is_valued bytes = has_stem bytes && nat_lt 0 (length (value bytes)) && list_all 
 abbrev pub is_word : List ℕ → Bool
 is_word bytes = is_plain_word bytes || is_head bytes || is_valued bytes
 
+-- 1 to 12 decimal digits; leading zeros are allowed
+abbrev pub is_count : List ℕ → Bool
+is_count digits = nat_lt 0 (length digits) && nat_le (length digits) 12 && list_all is_ascii_digit digits
+
+-- a number with one more digit behind it
+abbrev pub with_digit : ℕ → ℕ → ℕ
+with_digit n digit = 10 * n + (digit - 48)
+
+-- the number that the digits spell
+abbrev pub count_of : List ℕ → ℕ
+count_of digits = fold with_digit 0 digits
+
+abbrev pub begins_with_zero : List ℕ → Bool
+begins_with_zero [] = false
+begins_with_zero (b ∷ bytes) = b == 48
+
+-- a count in its one spelling: without a leading zero, unless it is 0
+abbrev pub is_number : List ℕ → Bool
+is_number digits = is_count digits && (not (begins_with_zero digits) || (length digits == 1))
+
+-- the number behind a sign, where nothing else stands there
+abbrev pub number_behind : List ℕ → List ℕ → Option ℕ
+number_behind sign word =
+    if same_word (take (length sign) word) sign && is_number (drop (length sign) word) then Some (count_of (drop (length sign) word)) else None
+
+abbrev pub test_by : Option ℕ → Option ℕ → Option (Bool × ℕ)
+test_by (Some n) below = Some (true, n)
+test_by None (Some n) = Some (false, n)
+test_by None None = None
+
+-- which test a word is: whether it asks for so many bytes at least, or for fewer, and its number; none where the word is no test
+abbrev pub test_of : List ℕ → Option (Bool × ℕ)
+test_of word = test_by (number_behind (codes "size>=") word) (number_behind (codes "size<") word)
+
+abbrev pub is_test : List ℕ → Bool
+is_test word = is_some (test_of word)
+
+-- what may be a property: a word of a formula, or a test
+abbrev pub is_property : List ℕ → Bool
+is_property bytes = is_word bytes || is_test bytes
+
 -- the head of a valued word
 abbrev pub head_bytes : List ℕ → List ℕ
 head_bytes bytes = stem bytes ++ 58 ∷ []
-
--- words and names are ordered by their bytes
-abbrev pub word_cmp : List ℕ → List ℕ → Ordering
-word_cmp a b = slice_cmp nat_cmp a b
-
-abbrev pub same_word : List ℕ → List ℕ → Bool
-same_word a b = pointwise nat_eq a b
 
 abbrev pub has_word : List (List ℕ) → List ℕ → Bool
 has_word words word = list_any (λ w. same_word w word) words
@@ -79,15 +120,3 @@ is_stops bytes = same_word bytes (codes ".") || same_word bytes (codes "..")
 abbrev pub is_file_name : List ℕ → Bool
 is_file_name bytes =
     nat_lt 0 (length bytes) && nat_le (length bytes) 60 && not (is_stops bytes) && list_all is_plain_byte bytes
-
--- 1 to 12 decimal digits; leading zeros are allowed
-abbrev pub is_count : List ℕ → Bool
-is_count digits = nat_lt 0 (length digits) && nat_le (length digits) 12 && list_all is_ascii_digit digits
-
--- a number with one more digit behind it
-abbrev pub with_digit : ℕ → ℕ → ℕ
-with_digit n digit = 10 * n + (digit - 48)
-
--- the number that the digits spell
-abbrev pub count_of : List ℕ → ℕ
-count_of digits = fold with_digit 0 digits

@@ -1,7 +1,7 @@
 //! The tests on bytes that words, names and counts rest on.
 
-ghost use Rattle.std.specs.Prelude.{◌≡◌, ℕ, ◌+◌, ◌<◌, ◌≤◌, ◌^◌, ◌↔◌, List, length, take, drop, not, IsTrue, IsSome, IfSome, MatchOption};
-ghost use Rattle.lis_words.specs.Words.{is_plain_byte, is_plain_word, is_head, is_valued, is_word, is_file_name, has_stem, stem, value, is_colon, is_count, count_of, begins_with_stop, is_stops};
+ghost use Rattle.std.specs.Prelude.{◌≡◌, ℕ, ◌+◌, ◌<◌, ◌≤◌, ◌^◌, ◌↔◌, List, length, take, drop, codes, not, ◌==◌, ◌&&◌, ◌||◌, is_some, IsTrue, IsSome, IfSome, MatchOption};
+ghost use Rattle.lis_words.specs.Words.{is_plain_byte, is_plain_word, is_head, is_valued, is_word, is_property, is_test, is_number, begins_with_zero, number_behind, test_of, is_file_name, has_stem, stem, value, is_colon, is_count, count_of, begins_with_stop, is_stops};
 ghost use Rattle.std.specs.List.{list_any, list_all, prefix_len};
 ghost use Rattle.std.specs.Char.{is_ascii_digit};
 
@@ -116,6 +116,7 @@ pub fn is_valued(bytes: &[u8]) -> bool
     are_plain(value)
 }
 
+/// Whether these are the bytes of a word that a formula may have: a plain word, a head or a valued word.
 pub fn is_word(bytes: &[u8]) -> bool
     ensures { result ≡ is_word bytes.now }
 {
@@ -194,4 +195,58 @@ pub fn read_count(bytes: &[u8]) -> Option<u64>
         return None;
     }
     Some(digits_value(bytes))
+}
+
+fn begins_with_zero(digits: &[u8]) -> bool
+    ensures { result ≡ begins_with_zero digits.now }
+{
+    match digits {
+        [] => false,
+        [first, ..] => *first == b'0',
+    }
+}
+
+fn is_number(digits: &[u8]) -> bool
+    ensures { result ≡ is_number digits.now }
+{
+    if !is_count(digits) {
+        return false;
+    }
+    !begins_with_zero(digits) || digits.len() == 1
+}
+
+/// The number behind a sign, where nothing else stands there.
+fn number_behind(sign: &[u8], bytes: &[u8]) -> Option<u64>
+    ensures { result ≡ number_behind sign.now bytes.now }
+{
+    let (front, digits) = bytes.split_at(sign.len().min(bytes.len()));
+    if front != sign {
+        return None;
+    }
+    if !is_number(digits) {
+        return None;
+    }
+    read_count(digits)
+}
+
+/// Which test the bytes are: whether it is `size>=` or `size<`, and its number. None comes exactly where they are none.
+pub fn test_in(bytes: &[u8]) -> Option<(bool, u64)>
+    ensures { result ≡ test_of bytes.now }
+{
+    if let Some(number) = number_behind(b"size>=".as_slice(), bytes) {
+        return Some((true, number));
+    }
+    match number_behind(b"size<".as_slice(), bytes) {
+        Some(number) => Some((false, number)),
+        None => None,
+    }
+}
+
+pub fn is_property(bytes: &[u8]) -> bool
+    ensures { result ≡ is_property bytes.now }
+{
+    if is_word(bytes) {
+        return true;
+    }
+    test_in(bytes).is_some()
 }

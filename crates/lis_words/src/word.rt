@@ -1,10 +1,12 @@
 //! Words: properties as they are written.
 
 ghost use Rattle.std.specs.Prelude.{◌≡◌, ℕ, ◌≤◌, ◌<◌, ◌↔◌, [], ◌∷◌, ◌++◌, ◌&&◌, List, length, codes, IsTrue, IsSome, IfSome};
-ghost use Rattle.lis_words.specs.Words.{is_word, is_head, is_valued, is_built_in, has_word, head_bytes, built_in_heads};
+ghost use Rattle.lis_words.specs.Words.{is_word, is_property, test_of, is_head, is_valued, is_built_in, has_word, head_bytes, built_in_heads};
 ghost use Rattle.lis_words.specs.Kind.{kind_of};
 
-use crate::forms::{is_head, is_plain_word, is_valued, is_word, split_at_colon};
+use crate::forms::{
+    is_head, is_plain_word, is_property, is_valued, is_word, split_at_colon, test_in,
+};
 use arrayvec::ArrayVec;
 use std::marker::Model;
 
@@ -17,9 +19,11 @@ pub enum PropKind {
     Head,
     /// A head and a value, as `year:2003`.
     Valued,
+    /// A test of a file's size, as `size>=1000`.
+    Test,
 }
 
-/// A word: a plain word, a head or a valued word, of 1 to 60 bytes. Words are ordered by their bytes.
+/// A word: a plain word, a head, a valued word or a test, of 1 to 60 bytes. Words are ordered by their bytes.
 #[derive(Drop, Debug, Clone, PartialEq, Eq, PartialOrd, Ord)]
 pub struct Word {
     held: ArrayVec<u8, 60>,
@@ -27,13 +31,13 @@ pub struct Word {
 
 impl Model for Word {
     ghost use Rattle.std.specs.Prelude.{ℕ, List, IsTrue};
-    ghost use Rattle.lis_words.specs.Words.{is_word};
+    ghost use Rattle.lis_words.specs.Words.{is_property};
 
     ghost Value = { List ℕ };
 
     ghost view = { λ w. w.held.items };
 
-    ghost invariant = { λ w. IsTrue (is_word w.held.items) };
+    ghost invariant = { λ w. IsTrue (is_property w.held.items) };
 
     ghost inverse = { λ bytes. record { held = record { items = bytes } } };
 }
@@ -49,24 +53,45 @@ impl Default for Word {
     }
 }
 
-/// Reads a word. None comes exactly where the bytes are no word.
+fn word_of(bytes: &[u8]) -> Word
+    requires property { IsTrue (is_property bytes.now) }
+    requires short { length bytes.now ≤ 60 }
+    ensures { result ≡ bytes.now }
+{
+    let mut held = ArrayVec::new();
+    held.try_extend_from_slice(bytes).unwrap();
+    Word { held }
+}
+
+#[tactic(auto, using(crate::proofs::Tests::property_short))]
+/// Reads a word. None comes exactly where the bytes are neither a plain word, a head, a valued word nor a test.
 pub fn read_word(bytes: &[u8]) -> Option<Word>
+    ensures word { IsSome result ↔ IsTrue (is_property bytes.now) }
+    ensures same { IfSome result (λ word. word ≡ bytes.now) }
+{
+    if !is_property(bytes) {
+        return None;
+    }
+    Some(word_of(bytes))
+}
+
+#[tactic(auto, using(crate::proofs::Tests::word_is_property, crate::proofs::Tests::property_short))]
+/// Reads a word that a formula may have, which is no test. None comes exactly where the bytes are no such word.
+pub fn read_operand(bytes: &[u8]) -> Option<Word>
     ensures word { IsSome result ↔ IsTrue (is_word bytes.now) }
     ensures same { IfSome result (λ word. word ≡ bytes.now) }
 {
     if !is_word(bytes) {
         return None;
     }
-    let mut held = ArrayVec::new();
-    held.try_extend_from_slice(bytes).ok()?;
-    Some(Word { held })
+    Some(word_of(bytes))
 }
 
 impl Word {
     /// The word's bytes.
     pub fn bytes(&self) -> &[u8]
         ensures bytes { result.now ≡ self.now }
-        ensures word { IsTrue (is_word self.now) }
+        ensures property { IsTrue (is_property self.now) }
         ensures short { length result.now ≤ 60 }
     {
         self.held.as_slice()
@@ -100,7 +125,17 @@ pub fn kind(word: &Word) -> PropKind
     if is_head(word.bytes()) {
         return PropKind::Head;
     }
-    PropKind::Valued
+    if is_valued(word.bytes()) {
+        return PropKind::Valued;
+    }
+    PropKind::Test
+}
+
+/// Which test the word is: whether it is `size>=` or `size<`, and its number. None comes exactly where it is no test.
+pub fn test_of(word: &Word) -> Option<(bool, u64)>
+    ensures { result ≡ test_of word.now }
+{
+    test_in(word.bytes())
 }
 
 fn with_colon(stem: &[u8]) -> ArrayVec<u8, 60>
@@ -177,6 +212,7 @@ pub fn is_builtin(word: &Word) -> bool
     has_builtin_head(word)
 }
 
+#[tactic(auto, using(crate::proofs::Tests::valued_is_property))]
 /// The word of a head and a value. None comes exactly where the first is no head, or the two are no valued word.
 pub fn with_value(head: &Word, value: &[u8]) -> Option<Word>
     ensures valued { IsSome result ↔ (IsTrue (is_head head.now) × IsTrue (is_valued (head.now ++ value.now))) }

@@ -1,5 +1,5 @@
 use Rattle.std.proofs.Common.{sym, ap, ◌∙◌, arith}
-use Rattle.lis_csource.specs.Joined.{joined}
+use Rattle.lis_transducers.specs.Joined.{joined}
 use Rattle.lis_csource.proofs.JoinedLemmas.{joined_past}
 use Rattle.lis_csource.proofs.joined.past_joints.Goals as goal
 

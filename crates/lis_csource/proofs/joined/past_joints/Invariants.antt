@@ -1,5 +1,5 @@
 use Rattle.std.proofs.Common.{◌≡◌, ◌≤◌, length}
-use Rattle.lis_csource.specs.Joined.{joined}
+use Rattle.lis_transducers.specs.Joined.{joined}
 use Rattle.lis_csource.proofs.joined.past_joints.Given as goal
 
 abbrev pub invariant-loop-rest : goal.invariant-loop-rest

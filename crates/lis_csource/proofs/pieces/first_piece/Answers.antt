@@ -1,4 +1,4 @@
-use Rattle.lis_csource.specs.Joined.{joined}
+use Rattle.lis_transducers.specs.Joined.{joined}
 use Rattle.lis_csource.proofs.PieceLemmas.{first_read, nothing_read}
 use Rattle.lis_csource.proofs.pieces.first_piece.Goals as goal
 

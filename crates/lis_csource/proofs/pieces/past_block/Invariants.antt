@@ -1,6 +1,6 @@
 use Rattle.std.proofs.Common.{◌≡◌, ◌≤◌, length}
-use Rattle.lis_csource.specs.Joined.{joined}
-use Rattle.lis_csource.specs.Pieces.{after_block}
+use Rattle.lis_transducers.specs.Joined.{joined}
+use Rattle.lis_transducers.specs.Pieces.{after_block}
 use Rattle.lis_csource.proofs.pieces.past_block.Given as goal
 
 abbrev pub invariant-loop-byte : goal.invariant-loop-byte

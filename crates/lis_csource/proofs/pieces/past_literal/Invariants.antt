@@ -1,6 +1,6 @@
 use Rattle.std.proofs.Common.{◌≡◌, ◌≤◌, false, length}
-use Rattle.lis_csource.specs.Joined.{joined}
-use Rattle.lis_csource.specs.Pieces.{after_literal}
+use Rattle.lis_transducers.specs.Joined.{joined}
+use Rattle.lis_transducers.specs.Pieces.{after_literal}
 use Rattle.lis_csource.proofs.pieces.past_literal.Given as goal
 
 abbrev pub invariant-loop-byte : goal.invariant-loop-byte

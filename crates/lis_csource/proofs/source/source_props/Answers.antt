@@ -1,5 +1,5 @@
 use Rattle.std.proofs.Common.{refl, arith}
-use Rattle.lis_csource.specs.Source.{source_words}
+use Rattle.lis_transducers.specs.Source.{source_words}
 use Rattle.lis_csource.proofs.source.source_props.Goals as goal
 
 pub loop-found-init : goal.loop-found-init

@@ -1,9 +1,9 @@
 use Rattle.std.proofs.Common.{◌≡◌, ◌+◌, ◌≤◌, length}
 use Rattle.lis_model.specs.Noted.{noted_all}
-use Rattle.lis_csource.specs.Joined.{joined}
-use Rattle.lis_csource.specs.Pieces.{pieces}
-use Rattle.lis_csource.specs.Entries.{entries}
-use Rattle.lis_csource.specs.Source.{source_words}
+use Rattle.lis_transducers.specs.Joined.{joined}
+use Rattle.lis_transducers.specs.Pieces.{pieces}
+use Rattle.lis_transducers.specs.Entries.{entries}
+use Rattle.lis_transducers.specs.Source.{source_words}
 use Rattle.lis_csource.specs.Reading.{IsSound}
 use Rattle.lis_csource.specs.Rights.{words_to_come}
 use Rattle.lis_csource.proofs.source.source_props.Given as goal

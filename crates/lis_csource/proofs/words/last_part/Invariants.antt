@@ -1,5 +1,5 @@
 use Rattle.std.proofs.Common.{◌≡◌, length}
-use Rattle.lis_csource.specs.Entries.{last_part}
+use Rattle.lis_transducers.specs.Entries.{last_part}
 use Rattle.lis_csource.specs.Runs.{run_text}
 use Rattle.lis_csource.specs.declared.runs.Run.TheVariants.{Path}
 use Rattle.lis_csource.proofs.PathLemmas.{last_or}

@@ -1,5 +1,5 @@
 use Rattle.std.proofs.Common.{◌≡◌, ◌+◌, [], ◌∷◌, cond, ◌∙◌, ap, sym, take, drop}
-use Rattle.lis_mail.specs.Lines.{without_return, header, is_some_bytes}
+use Rattle.lis_transducers.specs.Lines.{without_return, header, is_some_bytes}
 use Rattle.lis_mail.proofs.LineLemmas.{header_whole, header_at}
 use Rattle.lis_mail.proofs.lines.first_line.Goals as goal
 

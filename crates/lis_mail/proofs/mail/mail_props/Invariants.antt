@@ -1,8 +1,8 @@
 use Rattle.std.proofs.Common.{◌≡◌, filter, length}
 use Rattle.lis_words.specs.Words.{is_word}
 use Rattle.lis_model.specs.Noted.{noted_all}
-use Rattle.lis_mail.specs.Lines.{header}
-use Rattle.lis_mail.specs.Mail.{mail_words}
+use Rattle.lis_transducers.specs.Lines.{header}
+use Rattle.lis_transducers.specs.Mail.{mail_words}
 use Rattle.lis_mail.proofs.MailLemmas.{rest_words}
 use Rattle.lis_mail.proofs.mail.mail_props.Given as goal
 

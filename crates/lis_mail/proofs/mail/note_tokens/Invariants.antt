@@ -1,8 +1,8 @@
 use Rattle.std.proofs.Common.{◌≡◌, filter, length}
 use Rattle.lis_words.specs.Words.{is_word}
 use Rattle.lis_model.specs.Noted.{noted_all}
-use Rattle.lis_mail.specs.Tokens.{tokens}
-use Rattle.lis_mail.specs.Mail.{token_words}
+use Rattle.lis_transducers.specs.Tokens.{tokens}
+use Rattle.lis_transducers.specs.Mail.{token_words}
 use Rattle.lis_mail.proofs.mail.note_tokens.Given as goal
 
 abbrev pub invariant-loop-token : goal.invariant-loop-token

@@ -2,7 +2,7 @@ use Rattle.std.proofs.Common.{◌∷◌, drop, ap, sym, ◌∙◌, arith}
 use Rattle.std.proofs.lemmas.Grind.{common_steps}
 use Rattle.std.proofs.lemmas.List.Sums.{prefix_len-le-length}
 use Rattle.lis_words.specs.Words.{is_plain_byte}
-use Rattle.lis_mail.specs.Tokens.{tokens, is_between}
+use Rattle.lis_transducers.specs.Tokens.{tokens, is_between}
 use Rattle.lis_mail.proofs.TokenLemmas.{no_token, first_token}
 use Rattle.lis_mail.proofs.tokens.next_token.Goals as goal
 

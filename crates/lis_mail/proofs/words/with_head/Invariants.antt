@@ -1,5 +1,5 @@
 use Rattle.std.proofs.Common.{◌≡◌, take}
-use Rattle.lis_mail.specs.Mail.{with_head}
+use Rattle.lis_transducers.specs.Mail.{with_head}
 use Rattle.lis_mail.proofs.words.with_head.Given as goal
 
 abbrev pub invariant-loop-byte : goal.invariant-loop-byte

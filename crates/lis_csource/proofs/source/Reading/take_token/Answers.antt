@@ -1,9 +1,9 @@
 use Rattle.std.proofs.Common.{◌≡◌, true, ap, sym, ◌∙◌}
-use Rattle.lis_csource.specs.Joined.{joined}
-use Rattle.lis_csource.specs.Pieces.{piece_of}
-use Rattle.lis_csource.specs.Entries.{tokens}
-use Rattle.lis_csource.specs.Source.{is_candidate}
-use Rattle.lis_csource.specs.Bytes.{front, is_name_byte}
+use Rattle.lis_transducers.specs.Joined.{joined}
+use Rattle.lis_transducers.specs.Pieces.{piece_of}
+use Rattle.lis_transducers.specs.Entries.{tokens}
+use Rattle.lis_transducers.specs.Source.{is_candidate}
+use Rattle.lis_transducers.specs.Bytes.{front, is_name_byte}
 use Rattle.lis_csource.specs.Rights.{right_words_of}
 use Rattle.lis_csource.proofs.ReadingLemmas.{begins}
 use Rattle.lis_csource.proofs.source.Reading.take_token.Goals as goal

@@ -1,7 +1,6 @@
 use Rattle.std.proofs.Common.{length, refl, ap, ◌∙◌}
-use Rattle.lis_bits.specs.Rows.{Rows}
+use Rattle.lis_bits.specs.Rows.{HasShape, Rows}
 use Rattle.lis_bits.proofs.Laws.{length-empty_rows}
-use Rattle.lis_taxonomy.specs.Inside.{HasShape}
 use Rattle.lis_taxonomy.proofs.Seen.{sound_new, seen_new}
 use Rattle.lis_taxonomy.proofs.taxonomy.Taxonomy.new.Goals as goal
 
