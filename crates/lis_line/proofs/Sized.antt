@@ -7,7 +7,7 @@ use Rattle.lis_words.specs.Words.{same_word, is_file_name, is_count, count_of}
 use Rattle.lis_model.specs.declared.refusal.Refusal.{Refusal}
 use Rattle.lis_model.specs.declared.refusal.Refusal.TheVariants.{LongLine}
 use Rattle.lis_model.specs.declared.command.Command.{Command}
-use Rattle.lis_model.specs.declared.command.Command.TheVariants.{Mkdir, Create, Add, Cat, Rm, Cd, Pwd, Ls}
+use Rattle.lis_model.specs.declared.command.Command.TheVariants.{Mkdir, Rmdir, Axiom, Unaxiom, Create, Add, Write, Cat, Mv, Rename, Rm, Cd, Pwd, Ls, Props, Way, Stat}
 use Rattle.lis_model.specs.Step.{Item, Payload, no_payload}
 use Rattle.lis_model.specs.Step.Item.{Do, Bad}
 use Rattle.lis_model.specs.Script.{bad_line, tags_form, add_named, add_form, form_of, item_of, item_of_words, is_long, line_words, size_of_words, payload_size}
@@ -92,13 +92,22 @@ line_with line size payload other command = by (is_long line)
 payload_said : (payload : Payload) (command : Command) → ((other : Payload) → command_with payload command ≡ Do command other → other ≡ payload)
     → command_with payload command ≡ Do command payload
 payload_said payload (Mkdir word) only = ap (λ p. Do (Mkdir word) p) (only no_payload refl)
+payload_said payload (Rmdir word) only = ap (λ p. Do (Rmdir word) p) (only no_payload refl)
+payload_said payload (Axiom left right) only = ap (λ p. Do (Axiom left right) p) (only no_payload refl)
+payload_said payload (Unaxiom left right) only = ap (λ p. Do (Unaxiom left right) p) (only no_payload refl)
 payload_said payload (Create name words) only = ap (λ p. Do (Create name words) p) (only no_payload refl)
 payload_said payload (Add name words) only = refl
+payload_said payload (Write name) only = refl
 payload_said payload (Cat name) only = ap (λ p. Do (Cat name) p) (only no_payload refl)
+payload_said payload (Mv name text) only = ap (λ p. Do (Mv name text) p) (only no_payload refl)
+payload_said payload (Rename name other) only = ap (λ p. Do (Rename name other) p) (only no_payload refl)
 payload_said payload (Rm name) only = ap (λ p. Do (Rm name) p) (only no_payload refl)
 payload_said payload (Cd text) only = ap (λ p. Do (Cd text) p) (only no_payload refl)
 payload_said payload Pwd only = ap (λ p. Do Pwd p) (only no_payload refl)
 payload_said payload Ls only = ap (λ p. Do Ls p) (only no_payload refl)
+payload_said payload (Props name) only = ap (λ p. Do (Props name) p) (only no_payload refl)
+payload_said payload (Way name) only = ap (λ p. Do (Way name) p) (only no_payload refl)
+payload_said payload Stat only = ap (λ p. Do Stat p) (only no_payload refl)
 
 -- where a payload follows a line, it is the payload of the command
 pub asks_with : (line : List ℕ) (size : ℕ) (payload : Payload) (asked : Option (Result Command Refusal))
@@ -112,10 +121,19 @@ pub asks_alone : (asked : Option (Result Command Refusal)) → line_asks no_payl
 asks_alone None = refl
 asks_alone (Some (Err refusal)) = refl
 asks_alone (Some (Ok (Mkdir word))) = refl
+asks_alone (Some (Ok (Rmdir word))) = refl
+asks_alone (Some (Ok (Axiom left right))) = refl
+asks_alone (Some (Ok (Unaxiom left right))) = refl
 asks_alone (Some (Ok (Create name words))) = refl
 asks_alone (Some (Ok (Add name words))) = refl
+asks_alone (Some (Ok (Write name))) = refl
 asks_alone (Some (Ok (Cat name))) = refl
+asks_alone (Some (Ok (Mv name text))) = refl
+asks_alone (Some (Ok (Rename name other))) = refl
 asks_alone (Some (Ok (Rm name))) = refl
 asks_alone (Some (Ok (Cd text))) = refl
 asks_alone (Some (Ok Pwd)) = refl
 asks_alone (Some (Ok Ls)) = refl
+asks_alone (Some (Ok (Props name))) = refl
+asks_alone (Some (Ok (Way name))) = refl
+asks_alone (Some (Ok Stat)) = refl

@@ -5,8 +5,8 @@ ghost use Rattle.std.specs.List.{prefix_len};
 ghost use Rattle.lis_words.specs.Words.{same_word};
 ghost use Rattle.lis_model.specs.Step.{Item, Payload, no_payload};
 ghost use Rattle.lis_model.specs.Step.Item.{Do};
-ghost use Rattle.lis_model.specs.declared.command.Command.TheVariants.{Cat, Rm, Pwd, Ls};
-ghost use Rattle.lis_model.specs.Script.{is_blank, without_return, words_of, mkdir_form, tags_form, create_form, add_form, file_form, cd_form, alone_form, form_of, item_of, is_long, payload_size};
+ghost use Rattle.lis_model.specs.declared.command.Command.TheVariants.{Mkdir, Cat, Rm, Pwd, Ls};
+ghost use Rattle.lis_model.specs.Script.{is_blank, without_return, words_of, word_form, tags_form, create_form, add_form, file_form, cd_form, alone_form, form_of, item_of, is_long, payload_size};
 ghost use Rattle.lis_line.specs.Forms.{asked_of, line_asks, name_asks};
 
 use lis_model::command::{Command, Tags};
@@ -85,7 +85,7 @@ fn no_words(text: &[u8]) -> bool
 }
 
 fn mkdir_form(text: &[u8]) -> Result<Command, Refusal>
-    ensures { (payload : Payload) → asked_of payload result ≡ mkdir_form (words_of text.now) }
+    ensures { (payload : Payload) → asked_of payload result ≡ word_form (λ word. Do (Mkdir word) no_payload) (words_of text.now) }
 {
     let Some(word) = only_word(text) else {
         return Err(Refusal::BadLine);

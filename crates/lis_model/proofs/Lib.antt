@@ -1,4 +1,5 @@
 pub mod Runs
 pub mod Lines
+pub mod NoTests
 mod Examples
 pub mod NotedLemmas
