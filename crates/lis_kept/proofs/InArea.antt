@@ -5,7 +5,7 @@ use Rattle.std.proofs.lemmas.Bool.{and_parts, or_cases, eqb-true}
 use Rattle.std.proofs.lemmas.Bool.Decides.{nat_tests}
 use Rattle.lis_slots.specs.Slots.{home, per_block}
 use Rattle.lis_model.specs.declared.limits.Limits.{Limits}
-use Rattle.lis_model.specs.Ranges.{is_files_limit, is_props_limit, is_blocks_limit, are_in_range}
+use Rattle.lis_model.specs.Ranges.{is_files_limit, is_props_limit, is_blocks_limit, is_version, are_in_range}
 use Rattle.lis_model.specs.Image.{axioms_start, files_start, rows_start, bitmap_start, data_start}
 use Rattle.lis_kept.specs.Kept.{Kept}
 use Rattle.lis_kept.specs.Areas.{Area, slots_of, block_of, spelled, held_in, row_slots, row_blocks}
@@ -13,15 +13,17 @@ use Rattle.lis_kept.specs.Areas.Area.{Properties, Axioms, Files, Rows, Bitmap}
 use Rattle.lis_kept.specs.Inside.{bytes_in, IsBlock}
 
 -- ---- limits in range
+limit_parts : (limits : Limits) → IsTrue (are_in_range limits) → (is_files_limit limits.files ≡ true) × (is_props_limit limits.props ≡ true)
+limit_parts limits range =
+    let most = and_parts (is_files_limit limits.files && is_props_limit limits.props && is_blocks_limit limits.blocks) (is_version limits.version) range in
+    let both = and_parts (is_files_limit limits.files && is_props_limit limits.props) (is_blocks_limit limits.blocks) most.0 in
+    and_parts (is_files_limit limits.files) (is_props_limit limits.props) both.0
+
 pub files_range : (limits : Limits) → IsTrue (are_in_range limits) → is_files_limit limits.files ≡ true
-files_range limits range =
-    let most = and_parts (is_files_limit limits.files && is_props_limit limits.props) (is_blocks_limit limits.blocks) range in
-    (and_parts (is_files_limit limits.files) (is_props_limit limits.props) most.0).0
+files_range limits range = (limit_parts limits range).0
 
 pub props_range : (limits : Limits) → IsTrue (are_in_range limits) → is_props_limit limits.props ≡ true
-props_range limits range =
-    let most = and_parts (is_files_limit limits.files && is_props_limit limits.props) (is_blocks_limit limits.blocks) range in
-    (and_parts (is_files_limit limits.files) (is_props_limit limits.props) most.0).1
+props_range limits range = (limit_parts limits range).1
 
 files_whole : (n : ℕ) → is_files_limit n ≡ true → n % 16 ≡ 0
 files_whole n is = grind (arith, nat_tests)

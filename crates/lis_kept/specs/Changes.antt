@@ -11,7 +11,7 @@ use Rattle.lis_ext.specs.Numbers.{differs, numbers_where}
 use Rattle.lis_fields.specs.Records.{FileRecord}
 use Rattle.lis_model.specs.Image.{bitmap_start, data_start}
 use Rattle.lis_model.specs.Sets.{with_word}
-use Rattle.lis_kept.specs.Old.{declared_under, new_file, file_added, file_removed}
+use Rattle.lis_model.specs.Changes.{declared_under, new_file, file_added, file_removed}
 use Rattle.lis_kept.specs.Kept.{Kept}
 use Rattle.lis_kept.specs.Areas.{IsSaved, block_of, marked_count}
 use Rattle.lis_kept.specs.Areas.Area.{Properties, Files}

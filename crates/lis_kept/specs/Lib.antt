@@ -7,4 +7,3 @@ pub mod Links
 pub mod Changes
 pub mod Staging
 pub mod Inside
-pub mod Old

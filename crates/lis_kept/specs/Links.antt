@@ -6,7 +6,7 @@ use Rattle.lis_taxonomy.specs.Taxonomy.{Taxonomy, has_edge}
 use Rattle.lis_fields.specs.declared.slots.AxiomSlot.{AxiomSlot}
 use Rattle.lis_fields.specs.declared.slots.AxiomSlot.TheVariants.{Free as FreeAxiom, Pair}
 use Rattle.lis_words.specs.Words.{has_word}
-use Rattle.lis_kept.specs.Old.{links}
+use Rattle.lis_model.specs.State.{links}
 use Rattle.lis_kept.specs.Kept.{Kept}
 use Rattle.lis_kept.specs.Telling.{declared_of}
 use Rattle.lis_kept.specs.Sound.{AreSound}

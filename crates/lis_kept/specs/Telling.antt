@@ -11,12 +11,12 @@ use Rattle.lis_ext.specs.Ext.{Ext, set_of as numbers_at}
 use Rattle.lis_fields.specs.Records.{FileRecord}
 use Rattle.lis_fields.specs.declared.slots.AxiomSlot.{AxiomSlot}
 use Rattle.lis_fields.specs.declared.slots.AxiomSlot.TheVariants.{Free as FreeAxiom, Pair}
+use Rattle.lis_fields.specs.Layouts.{super_bytes}
 use Rattle.lis_words.specs.Words.{same_word, is_valued, head_bytes, has_word}
 use Rattle.lis_model.specs.declared.limits.Limits.{Limits}
 use Rattle.lis_model.specs.Image.{data_start}
 use Rattle.lis_model.specs.Sets.{set_of}
 use Rattle.lis_model.specs.State.{State, File, pair_cmp, description, WellFormed}
-use Rattle.lis_kept.specs.Old.{IsSuperOf}
 use Rattle.lis_kept.specs.Kept.{Kept}
 
 -- ---- words
@@ -119,7 +119,7 @@ pub record IsFileBlock (k : Kept) (at : ℕ → List ℕ) (data_block : ℕ) : T
 -- Where blocks hold these bytes, what is kept tells the state: its words, axioms and files are those of the state, the numbers of each
 -- file are those of its description, a free slot has none, and the taken blocks are those of the files, none of them used twice.
 pub record Tells (k : Kept) (at : ℕ → List ℕ) (s : State) : Type 0 where
-  pub super : IsSuperOf s.limits (at 0)
+  pub super : at 0 ≡ super_bytes s.limits
   pub state : state_of k at ≡ s
   pub formed : WellFormed s
   pub used : AreUsed k

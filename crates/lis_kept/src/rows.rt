@@ -7,21 +7,6 @@ ghost use Rattle.lis_kept.specs.Rows.{row_bytes};
 
 use lis_ext::Ext;
 
-/// Writes the row of a number.
-fn write_bits(ext: &Ext, prop: u32, row: &mut [u8])
-    requires prop { prop < ext.now.props }
-    requires whole { 8 * length row.old ≡ length ext.now.sets }
-    ensures { row.new ≡ row_bytes ext.now prop }
-{
-    for k in 0..row.len() {
-        let mut byte = 0;
-        for i in 0..8 {
-            byte = 2 * byte + u8::from(ext.has(prop, 8 * k as u32 + 7 - i));
-        }
-        row[k] = byte;
-    }
-}
-
 // Writes the row of a number, which is empty past the last one.
 fn write_row(ext: &Ext, props: u32, number: u32, row: &mut [u8])
     requires props { props ≡ ext.now.props }
@@ -30,7 +15,7 @@ fn write_row(ext: &Ext, props: u32, number: u32, row: &mut [u8])
     ensures { row.new ≡ row_bytes ext.now number }
 {
     if number < props {
-        write_bits(ext, number, row);
+        ext.row_bytes(number, row);
         return;
     }
     row.fill(0);
