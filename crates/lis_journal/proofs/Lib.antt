@@ -3,3 +3,11 @@ pub mod Spreading
 mod Frames
 mod Places
 mod Headers
+mod Gates
+mod Series
+mod Writing
+mod Areas
+mod Phases
+mod Saving
+mod Absorbing
+mod Holding

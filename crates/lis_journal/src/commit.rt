@@ -52,6 +52,7 @@ fn write_blocks<D: Disk>(disk: &mut D, stage: &Stage, target: Target) -> Result<
     requires room { HasRoom target (length stage.now.entries) }
     ensures run { IsDiskRun (D.meaning disk.old) (D.meaning disk.new) }
     ensures cause { HasCause (D.meaning disk.old).disk_faults (D.meaning disk.new).disk_faults result }
+    ensures staging { IsStaging stage.now }
     ensures spreads { IsTrue (D.meaning disk.old).is_honest
         → Spreads (D.meaning disk.old) (D.meaning disk.new) (Touched (at_target target stage.now.entries)) }
     ensures written { OnOk result (IsTrue (D.meaning disk.old).is_honest
@@ -70,6 +71,7 @@ fn write_synced<D: Disk>(disk: &mut D, stage: &Stage, target: Target) -> Result<
     requires room { HasRoom target (length stage.now.entries) }
     ensures run { IsDiskRun (D.meaning disk.old) (D.meaning disk.new) }
     ensures cause { HasCause (D.meaning disk.old).disk_faults (D.meaning disk.new).disk_faults result }
+    ensures staging { IsStaging stage.now }
     ensures spreads { IsTrue (D.meaning disk.old).is_honest
         → Spreads (D.meaning disk.old) (D.meaning disk.new) (Touched (at_target target stage.now.entries)) }
     ensures settled { OnOk result (IsTrue (D.meaning disk.old).is_honest
@@ -117,7 +119,6 @@ fn write_record<D: Disk>(
 ) -> Result<(), Failed>
     requires blocks { 578 < stage.now.blocks }
     requires long { 4096 * stage.now.blocks ≤ (D.meaning disk.old).len }
-    requires staging { IsStaging stage.now }
     requires header { length header.now ≡ 4096 }
     requires room { first + length stage.now.entries + 1 ≤ 578 }
     ensures run { IsDiskRun (D.meaning disk.old) (D.meaning disk.new) }
@@ -169,7 +170,6 @@ pub fn append<D: Disk>(
 pub fn checkpoint<D: Disk>(disk: &mut D, latest: &Stage) -> Result<(), Failed>
     requires blocks { 578 < latest.now.blocks }
     requires long { 4096 * latest.now.blocks ≤ (D.meaning disk.old).len }
-    requires staging { IsStaging latest.now }
     ensures run { IsDiskRun (D.meaning disk.old) (D.meaning disk.new) }
     ensures cause { HasCause (D.meaning disk.old).disk_faults (D.meaning disk.new).disk_faults result }
     ensures any_moment { (count next : ℕ) (placed : List ℕ) (kept : ℕ → List ℕ)

@@ -7,7 +7,6 @@ ghost use Rattle.lis_ports.specs.Calls.{HasCause};
 ghost use Rattle.lis_journal.specs.Record.{gates, is_header, is_record, record_end, recorded, homes_of, entries_from, first_bad, all_recorded};
 ghost use Rattle.lis_journal.specs.Images.{look};
 ghost use Rattle.lis_journal.specs.Spreads.{OnlyReads};
-ghost use Rattle.lis_journal.specs.Staging.{IsStaging};
 ghost use Rattle.lis_journal.specs.Phases.{Absorbs, IsLoaded, Closes};
 ghost use Rattle.lis_journal.specs.Recovery.{Recovers};
 
@@ -158,7 +157,6 @@ fn load_records<D: Disk>(
 fn close_gates<D: Disk>(disk: &mut D, count: u32, latest: &Stage) -> Result<(), Failed>
     requires blocks { 578 < latest.now.blocks }
     requires long { 4096 * latest.now.blocks ≤ (D.meaning disk.old).len }
-    requires staging { IsStaging latest.now }
     ensures run { IsDiskRun (D.meaning disk.old) (D.meaning disk.new) }
     ensures cause { HasCause (D.meaning disk.old).disk_faults (D.meaning disk.new).disk_faults result }
     ensures closes { IsLoaded latest.now.blocks count latest.now.entries (D.meaning disk.old)
@@ -198,7 +196,6 @@ pub fn recover<D: Disk>(
     if let Some(bad) = load_records(disk, count, latest, header, block)? {
         return Ok(Some(bad));
     }
-    let _ = latest.len();
     close_gates(disk, count, latest)?;
     Ok(None)
 }
