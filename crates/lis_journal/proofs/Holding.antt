@@ -11,6 +11,7 @@ use Rattle.lis_journal.specs.Record.{block, Entry}
 use Rattle.lis_journal.specs.Journal.{OpenRecords, no_records}
 use Rattle.lis_journal.specs.Images.{IsOutside, StandsBut, StandsForAllOrNone, is_among, look, Holds, IsAtRest, FitsAt, with_kept}
 use Rattle.lis_journal.specs.Staging.{has_entry}
+use Rattle.lis_journal.specs.Spreads.{SamePast}
 use Rattle.lis_journal.specs.Phases.{IsOpened, looked}
 use Rattle.lis_journal.proofs.Entries.{block-put, look-absent, blocks-apart}
 use Rattle.lis_journal.proofs.Gates.{gate-torn}
@@ -33,8 +34,11 @@ fits_placed placed fits = record {
 }
 
 -- ---- two calls in a row
-pub save_moments : {a b c : Meaning} {blocks : ℕ} {placed : List ℕ} {kept : ℕ → List ℕ} {es : List Entry} → Leaves a b (StandsBut blocks placed kept) → Leaves b c (StandsForAllOrNone blocks placed kept es) → Leaves a c (StandsForAllOrNone blocks placed kept es)
-save_moments one two = leaves_then (leaves_weaken _ one (λ image stands. inl stands)) two
+pub save_moments : {a b c : Meaning} (blocks : ℕ) (placed : List ℕ) (kept : ℕ → List ℕ) (es : List Entry) → Leaves a b (StandsBut blocks placed kept) → Leaves b c (StandsForAllOrNone blocks placed kept es) → Leaves a c (StandsForAllOrNone blocks placed kept es)
+save_moments blocks placed kept es one two = leaves_then (leaves_weaken _ one (λ image stands. inl stands)) two
+
+pub saving_moments : {a b : Meaning} (blocks : ℕ) (placed : List ℕ) (kept : ℕ → List ℕ) (es : List Entry) → Leaves a b (StandsBut blocks placed kept) → Leaves a b (StandsForAllOrNone blocks placed kept es)
+saving_moments blocks placed kept es one = leaves_weaken _ one (λ image stands. inl stands)
 
 among_head : (n m : ℕ) (placed : List ℕ) → is_among (n ∷ placed) m ≡ false → (n ≡ m → ⊥) × (is_among placed m ≡ false)
 among_head n m placed e = by (n == m) refl e
@@ -43,8 +47,8 @@ among_head n m placed e = by (n == m) refl e
     by true is e = absurd (false≢true (sym e))
     by false is e = (eqb-false n m is, e)
 
-pub more_stands : {a b : Meaning} {blocks : ℕ} {placed : List ℕ} {kept : ℕ → List ℕ} (n : ℕ) → Leaves a b (StandsBut blocks placed kept) → Leaves a b (StandsBut blocks (n ∷ placed) kept)
-more_stands {blocks = blocks} {placed = placed} {kept = kept} n leaves =
+pub more_stands : {a b : Meaning} (blocks : ℕ) (placed : List ℕ) (kept : ℕ → List ℕ) (n : ℕ) → Leaves a b (StandsBut blocks placed kept) → Leaves a b (StandsBut blocks (n ∷ placed) kept)
+more_stands blocks placed kept n leaves =
     leaves_weaken _ leaves (λ image. stands_less blocks placed (n ∷ placed) kept image (λ m e. (among_head n m placed e).1))
 
 -- ---- a block that is placed
@@ -98,14 +102,19 @@ written_rest {blocks} {records} {kept} {from} n bytes home within whole free res
     by m out true is = look-absent records.latest m bytes (subst (λ k. has_entry records.latest k ≡ false) (sym (eqb-true m n is)) free)
     by m out false is = rest.holds.same m out refl
 
-module _ {blocks : ℕ} {records : OpenRecords} {placed : List ℕ} {kept : ℕ → List ℕ} {a b : Meaning} (n at len : ℕ) (home : 578 ≤ n) (at_is : at ≡ 4096 * n) (len_is : len ≡ 4096) (fits : FitsAt blocks records placed a kept) where
-  place_torn : (from image : List ℕ) → Torn at len from image → Torn (4096 * n) 4096 from image
-  place_torn from image torn = subst (λ p. Torn p 4096 from image) at_is (subst (λ l. Torn at l from image) len_is torn)
+place_torn : (n at len : ℕ) → at ≡ 4096 * n → len ≡ 4096 → (from image : List ℕ) → Torn at len from image → Torn (4096 * n) 4096 from image
+place_torn n at len at_is len_is from image torn = subst (λ p. Torn p 4096 from image) at_is (subst (λ l. Torn at l from image) len_is torn)
 
+-- a write of a home block leaves what lies past the image
+pub home_past : (blocks n at len : ℕ) → n < blocks → at ≡ 4096 * n → len ≡ 4096 → (from image : List ℕ) → Torn at len from image → SamePast blocks from image
+home_past blocks n at len within at_is len_is from image torn = λ k le.
+    part-torn at len from image torn (4096 * k) 4096 (inr (omega (arith, at_is, len_is, within, le)))
+
+module _ {blocks : ℕ} {records : OpenRecords} {placed : List ℕ} {kept : ℕ → List ℕ} {a b : Meaning} (n at len : ℕ) (home : 578 ≤ n) (at_is : at ≡ 4096 * n) (len_is : len ≡ 4096) (fits : FitsAt blocks records placed a kept) where
   pub place_moments : IsDiskRun a b → Elapses a b → IsTorn at len a b → Leaves a b (StandsBut blocks (n ∷ placed) kept)
   place_moments run time torn = leaves_call _ run time (λ image is.
       let was = torn.only image is in
-      rest_stands blocks records (n ∷ placed) kept image (torn_rest n image home (fits.leaves was.0 was.1) (place_torn was.0 image was.2)))
+      rest_stands blocks records (n ∷ placed) kept image (torn_rest n image home (fits.leaves was.0 was.1) (place_torn n at len at_is len_is was.0 image was.2)))
 
   pub placed_fits : (bytes : List ℕ) → n < blocks → length bytes ≡ 4096 → has_entry records.latest n ≡ false → IsDiskRun a b → IsTorn at len a b → IsWritten at bytes a b → FitsAt blocks records (n ∷ placed) b (with_kept n bytes kept)
   placed_fits bytes within whole free run torn written = record {
@@ -113,7 +122,7 @@ module _ {blocks : ℕ} {records : OpenRecords} {placed : List ℕ} {kept : ℕ 
     reads = subst (IsAtRest blocks records [] (with_kept n bytes kept)) (sym (written.reads ∙ ap (λ p. put a.bytes p bytes) at_is)) (written_rest n bytes home within whole free fits.reads);
     leaves = λ image is.
         let was = torn.only image is in
-        torn_kept n bytes (torn_rest n image home (fits.leaves was.0 was.1) (place_torn was.0 image was.2));
+        torn_kept n bytes (torn_rest n image home (fits.leaves was.0 was.1) (place_torn n at len at_is len_is was.0 image was.2));
   }
 
 -- the order in which blocks were placed, and how often, is nothing to the images
@@ -134,3 +143,16 @@ fits_among {blocks} {records} {m} {kept} placed others less fits = record {
     gates = rest.gates;
   };
 }
+
+-- ---- a record more, told by the log
+pub append_moments : {a b : Meaning} {blocks now : ℕ} {records now_records : OpenRecords} (es : List Entry) → blocks ≡ now → records ≡ now_records → ((placed : List ℕ) (kept : ℕ → List ℕ) → FitsAt blocks records placed a kept → Leaves a b (StandsForAllOrNone blocks placed kept es)) → (placed : List ℕ) (kept : ℕ → List ℕ) → FitsAt now now_records placed a kept → Leaves a b (StandsForAllOrNone now placed kept es)
+append_moments {a} {b} {now = now} {records = records} es blocks_are records_are moments =
+    subst (λ (r : OpenRecords). (placed : List ℕ) (kept : ℕ → List ℕ) → FitsAt now r placed a kept → Leaves a b (StandsForAllOrNone now placed kept es)) records_are
+    (subst (λ n. (placed : List ℕ) (kept : ℕ → List ℕ) → FitsAt n records placed a kept → Leaves a b (StandsForAllOrNone n placed kept es)) blocks_are moments)
+
+pub append_kept : {a b : Meaning} {blocks now then : ℕ} {records now_records last then_records : OpenRecords} (es : List Entry) → blocks ≡ now → blocks ≡ then → records ≡ now_records → last ≡ then_records → ((placed : List ℕ) (kept : ℕ → List ℕ) → FitsAt blocks records placed a kept → FitsAt blocks last [] b (looked es kept)) → (placed : List ℕ) (kept : ℕ → List ℕ) → FitsAt now now_records placed a kept → FitsAt then then_records [] b (looked es kept)
+append_kept {a} {b} {blocks} {then = then} {now_records = now_records} {last = last} es blocks_are blocks_then records_are last_is keeps = λ placed kept fits.
+    let back = subst (λ n. FitsAt n now_records placed a kept) (sym blocks_are) fits in
+    subst (λ (r : OpenRecords). FitsAt then r [] b (looked es kept)) last_is
+    (subst (λ n. FitsAt n last [] b (looked es kept)) blocks_then
+    (keeps placed kept (subst (λ (r : OpenRecords). FitsAt blocks r placed a kept) (sym records_are) back)))

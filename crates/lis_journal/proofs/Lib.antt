@@ -11,3 +11,4 @@ mod Phases
 mod Saving
 mod Absorbing
 mod Holding
+mod Loading

@@ -22,6 +22,10 @@ pub on_ok : {T E P Q : Type 0} (r : Result T E) → (P → Q) → OnOk r P → O
 on_ok (Ok x) step p = step p
 on_ok (Err e) step p = p
 
+pub on_both : {T E P Q R : Type 0} (r : Result T E) → (P → Q → R) → OnOk r P → OnOk r Q → OnOk r R
+on_both (Ok x) step p q = step p q
+on_both (Err e) step p q = p
+
 -- what is known of the staged blocks
 pub record Plan (blocks : ℕ) (es : List Entry) : Type 0 where
   pub enough : 578 < blocks
