@@ -1,6 +1,8 @@
 -- What entries put into an image, block by block.
-use Rattle.std.proofs.Common.{◌≡◌, ◌⊎◌, ℕ, ◌+◌, ◌*◌, ◌<◌, ◌≤◌, Bool, true, false, cond, List, [], ◌∷◌, length, refl, sym, ◌∙◌, ap, subst, inl, inr, arith, eqb, get_or, zero, suc, nat_lt, ◌||◌, ◌==◌}
+use Rattle.std.proofs.Common.{◌++◌, take, ◌≡◌, ◌⊎◌, ℕ, ◌+◌, ◌*◌, ◌<◌, ◌≤◌, Bool, true, false, cond, List, [], ◌∷◌, length, refl, sym, ◌∙◌, ap, subst, inl, inr, arith, eqb, get_or, zero, suc, nat_lt, ◌||◌, ◌==◌}
 use Rattle.std.proofs.lemmas.Bool.{eqb-true, eqb-false, ne_eqb, cond-false, false≢true, cases_lt}
+use Rattle.std.proofs.lemmas.List.{take_all}
+use Rattle.std.proofs.Math.Seq.{take-add}
 use Rattle.lis_ports.specs.Bytes.{part, put, Torn}
 use Rattle.lis_ports.proofs.Parts.{Apart, length-put, part-put, part-put_other, part-torn, torn-put}
 use Rattle.lis_journal.specs.Record.{block, Entry, apply}
@@ -101,6 +103,28 @@ touched_torn es k d lt from image torn = record {
   len = torn.len;
   clear = λ at n clear. part-torn (4096 * (get_or es k d).home) 4096 from image torn at n (clear_at es k d at n lt clear);
 }
+
+-- lists of one length with the same blocks are one
+by_blocks : (xs ys : List ℕ) → length xs ≡ length ys → ((n : ℕ) → block n xs ≡ block n ys) → xs ≡ ys
+by_blocks xs ys len same =
+    sym (take_all (4096 * length xs) xs (omega arith)) ∙ (fronts (length xs) ∙ take_all (4096 * length xs) ys (omega (arith, len)))
+  where
+    fronts : (k : ℕ) → take (4096 * k) xs ≡ take (4096 * k) ys
+    fronts zero = refl
+    fronts (suc k) =
+        let more : 4096 * suc k ≡ 4096 * k + 4096 = omega arith in
+        ap (λ n. take n xs) more
+        ∙ (take-add (4096 * k) 4096 xs
+        ∙ (ap (λ front. front ++ block k xs) (fronts k)
+        ∙ (ap (λ b. take (4096 * k) ys ++ b) (same k)
+        ∙ (sym (take-add (4096 * k) 4096 ys) ∙ ap (λ n. take n ys) (sym more)))))
+
+-- entries that look alike write the same image
+pub apply_alike : (blocks : ℕ) (es fs : List Entry) (image : List ℕ) → Within blocks es → Within blocks fs → 4096 * blocks ≤ length image → ((n : ℕ) (old : List ℕ) → look es n old ≡ look fs n old) → apply es image ≡ apply fs image
+apply_alike blocks es fs image within_es within_fs long alike =
+    by_blocks (apply es image) (apply fs image)
+    (length-apply blocks es image within_es long ∙ sym (length-apply blocks fs image within_fs long))
+    (λ n. block-apply blocks es image n within_es long ∙ (alike n (block n image) ∙ sym (block-apply blocks fs image n within_fs long)))
 
 clear_rest : (e : Entry) (es : List Entry) (x y : List ℕ) → Touched es x y → Touched (e ∷ es) x y
 clear_rest e es x y touched = record { len = touched.len; clear = λ at n clear. touched.clear at n clear.1 }

@@ -12,3 +12,5 @@ mod Saving
 mod Absorbing
 mod Holding
 mod Loading
+mod Recovering
+pub mod Fitting

@@ -117,6 +117,9 @@ load_on {old} {now} {next} b k home before s t h buf so_far is_home run time fau
     }
 
 -- ---- a record by its header
+pub head_at : (b at : ℕ) (bytes head : List ℕ) {n : ℕ} → at ≡ 4096 * b → n ≡ 4096 → head ≡ part at n bytes → head ≡ block b bytes
+head_at b at bytes head at_is n_is read = read ∙ (ap (λ m. part at m bytes) n_is ∙ ap (λ p. part p 4096 bytes) at_is)
+
 pub header_read : (blocks b : ℕ) (bytes head : List ℕ) → head ≡ block b bytes → is_header blocks head ≡ false → is_record blocks b bytes ≡ false
 unfolding is_record
 header_read blocks b bytes head is bad =
@@ -135,7 +138,7 @@ form_read blocks b bytes head is good le =
 pub long_read : (blocks b : ℕ) (bytes head : List ℕ) → head ≡ block b bytes → 578 < b + count_of head + 1 → is_record blocks b bytes ≡ false
 unfolding is_record
 long_read blocks b bytes head is gt =
-    ap (λ f. is_header blocks (block b bytes) && f) (lt-leb 578 (record_end b bytes) (omega (arith, end_read b bytes head is, gt))) ∙ no_and (is_header blocks (block b bytes))
+    ap (λ f. is_header blocks (block b bytes) && f) (lt-leb (record_end b bytes) 578 (omega (arith, end_read b bytes head is, gt))) ∙ no_and (is_header blocks (block b bytes))
   where
     no_and : (a : Bool) → (a && false) ≡ false
     no_and true = refl

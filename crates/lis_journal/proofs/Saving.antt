@@ -139,6 +139,9 @@ pub gate_around : {a b c : Meaning} (blocks : ℕ) → 578 < blocks → (at n : 
 gate_around blocks enough at n high before spreads =
     spreads_then _ (around_trans blocks) before (spreads_weaken _ spreads (around_torn blocks at n enough high))
 
+pub gates_around : {a b : Meaning} (blocks : ℕ) → 578 < blocks → (at n : ℕ) → at + n ≤ 4160 → Spreads a b (Torn at n) → Spreads a b (SameAround blocks)
+gates_around blocks enough at n high spreads = spreads_weaken _ spreads (around_torn blocks at n enough high)
+
 pub around_past : {a b : Meaning} {blocks : ℕ} → Spreads a b (SameAround blocks) → Spreads a b (SamePast blocks)
 around_past spreads = spreads_weaken _ spreads (λ from image same. same.past)
 

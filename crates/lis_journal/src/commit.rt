@@ -172,6 +172,7 @@ pub fn checkpoint<D: Disk>(disk: &mut D, latest: &Stage) -> Result<(), Failed>
     requires long { 4096 * latest.now.blocks ≤ (D.meaning disk.old).len }
     ensures run { IsDiskRun (D.meaning disk.old) (D.meaning disk.new) }
     ensures cause { HasCause (D.meaning disk.old).disk_faults (D.meaning disk.new).disk_faults result }
+    ensures staging { IsStaging latest.now }
     ensures any_moment { (count next : ℕ) (placed : List ℕ) (kept : ℕ → List ℕ)
         → IsOpened latest.now.blocks (records_of count next latest.now.entries) placed (D.meaning disk.old) kept
         → Leaves (D.meaning disk.old) (D.meaning disk.new) (StandsBut latest.now.blocks placed kept) }

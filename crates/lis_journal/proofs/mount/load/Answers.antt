@@ -9,7 +9,7 @@ use Rattle.lis_journal.proofs.mount.load.Goals as goal
 
 pub read_at-requires : goal.read_at-requires
 read_at-requires g c =
-    omega (arith, c.from.ensures, c.from-2.ensures, c.loop-k.auto.block, c.requires.whole, c.requires.fits, c.loop-k-test.true, c.word-count.ensures, length-words 1 (count_of c.args.header.now) c.args.header.now, c.requires.long, c.requires.blocks, c.loop-k.invariant.run.len)
+    omega (arith, c.from.ensures, c.from-in-loop-k.ensures, c.loop-k.auto.block, c.requires.whole, c.requires.fits, c.loop-k-test.true, c.word-count.ensures, length-words 1 (count_of c.args.header.now) c.args.header.now, c.requires.long, c.requires.blocks, c.loop-k.invariant.run.len)
 
 pub put-requires-clause-home : goal.put-requires-clause-home
 put-requires-clause-home g c =
@@ -33,11 +33,19 @@ loop-k-preserved g c =
     let k = c.loop-k.k in
     let b = c.args.first in
     let now = g.D.Disk.meaning c.loop-k.disk in
-    let at : (c.from.result + 1 + c.from-2.result) * 4096 ≡ 4096 * (b + 1 + k) = omega (arith, c.from.ensures, c.from-2.ensures) in
+    let at : (c.from.result + 1 + c.from-in-loop-k.result) * 4096 ≡ 4096 * (b + 1 + k) = omega (arith, c.from.ensures, c.from-in-loop-k.ensures) in
     let len : length c.loop-k.block ≡ 4096 = omega (arith, c.loop-k.auto.block, c.requires.whole) in
     let read : IsTrue now.is_honest → c.read_at.new.buf ≡ part (4096 * (b + 1 + k)) 4096 now.bytes =
-    λ honest. c.in_ok-read_at.ensures.read honest ∙ (ap (λ m. part ((c.from.result + 1 + c.from-2.result) * 4096) m now.bytes) len ∙ ap (λ p. part p 4096 now.bytes) at) in
+    λ honest. c.in_ok-read_at.ensures.read honest ∙ (ap (λ m. part ((c.from.result + 1 + c.from-in-loop-k.result) * 4096) m now.bytes) len ∙ ap (λ p. part p 4096 now.bytes) at) in
     load_on b k c.word.result _ c.loop-k.latest c.put.new.self h c.read_at.new.buf c.loop-k.invariant c.word.ensures c.read_at.ensures.call.run c.read_at.ensures.call.time c.in_ok-read_at.ensures.call.cause.stays c.read_at.ensures.same read
     (ap (λ (s : Staging). s.blocks) c.put.ensures.put)
     (omega (arith, ap (λ (s : Staging). length s.entries) c.put.ensures.put, length-with_entry c.loop-k.latest.entries c.word.result c.read_at.new.buf))
     c.put.ensures.looks
+
+pub returns-in_err-read_at-clause-few : goal.returns-in_err-read_at-clause-few
+returns-in_err-read_at-clause-few g c =
+    omega (arith, c.loop-k.invariant.few, c.loop-k-test.true, c.word-count.ensures, length-words 1 (count_of c.args.header.now) c.args.header.now)
+
+pub returns-clause-few : goal.returns-clause-few
+returns-clause-few g c =
+    omega (arith, c.loop-k.invariant.few, c.loop-k.auto.k-end, c.word-count.ensures, length-words 1 (count_of c.args.header.now) c.args.header.now)

@@ -1,2 +1,2 @@
-use Rattle.lis_journal.proofs.Holding.{fits_placed}
+use Rattle.lis_journal.proofs.Fitting.{past_kept}
 use Rattle.lis_journal.proofs.stage.Stage.blocks.Goals as goal
