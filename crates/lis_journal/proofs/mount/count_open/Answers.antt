@@ -1,0 +1,1 @@
+use Rattle.lis_journal.proofs.mount.count_open.Goals as goal
