@@ -24,13 +24,16 @@ fn write_spot(error: &mut impl Write, spot: &Spot) -> io::Result<()> {
 }
 
 // What the system says of its error, without its number.
+fn words_of(text: &str) -> &str {
+    match text.split_once(" (os error ") {
+        Some((words, _)) => words,
+        None => text,
+    }
+}
+
 fn write_cause(rt: &HostRuntime, error: &mut impl Write, cause: &Error) -> io::Result<()> {
     let text = format!(in rt.alloc(); "{cause}")?;
-    let words = match text.split_once(" (os error ") {
-        Some((words, _)) => words,
-        None => text.as_str(),
-    };
-    writeln!(error, "{words}")
+    writeln!(error, "{}", words_of(text.as_str()))
 }
 
 /// Prints the text of a status, and below it what more is known of its cause.
