@@ -16,3 +16,4 @@ pub mod Forms
 pub mod Named
 pub mod Items
 pub mod Steps
+pub mod Growth
