@@ -17,3 +17,4 @@ pub mod Named
 pub mod Items
 pub mod Steps
 pub mod Growth
+pub mod Touched
