@@ -18,3 +18,4 @@ pub mod Items
 pub mod Steps
 pub mod Growth
 pub mod Touched
+pub mod Few
