@@ -19,3 +19,4 @@ pub mod Steps
 pub mod Growth
 pub mod Touched
 pub mod Few
+pub mod Examples
