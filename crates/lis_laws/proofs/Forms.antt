@@ -84,7 +84,7 @@ under_rising : (word : List ℕ) (axioms : Pairs) (words : List (List ℕ)) → 
 under_rising word axioms [] h = h
 under_rising word axioms (q ∷ words) h = under_rising word (with_axiom axioms (word, q)) words (rising_insert_key pair_cmp pair_order axioms (word, q) h)
 
-under_all : (test : List ℕ × List ℕ → Bool) (word : List ℕ) (axioms : Pairs) (words : List (List ℕ)) → ((e : List ℕ × List ℕ) → Among axioms e → test e ≡ true)
+pub under_all : (test : List ℕ × List ℕ → Bool) (word : List ℕ) (axioms : Pairs) (words : List (List ℕ)) → ((e : List ℕ × List ℕ) → Among axioms e → test e ≡ true)
     → ((q : List ℕ) → Among words q → test (word, q) ≡ true) → (e : List ℕ × List ℕ) → Among (under word axioms words) e → test e ≡ true
 under_all test word axioms words old new e m = by (among_under word axioms words e m)
   where

@@ -20,3 +20,7 @@ pub mod Named
 pub mod Touched
 pub mod Few
 pub mod Steps
+pub mod Growth
+pub mod Touched
+pub mod Few
+pub mod Examples
