@@ -2,15 +2,15 @@
 use Rattle.std.proofs.Common.{◌≡◌, ◌==◌, ℕ, zero, suc, Bool, true, false, ◌&&◌, cond, Option, Some, None, Ok, Err, List, [], ◌∷◌, ◌++◌, length, take, drop, nat_lt, nat_le, refl, ◌∙◌, codes, arith, eq-eqb}
 use Rattle.std.specs.Option.{option_to_list}
 use Rattle.std.specs.List.{list_all, list_any}
-use Rattle.std.proofs.lemmas.Bool.{and_parts, and_from, ltb-false}
+use Rattle.std.proofs.lemmas.Bool.{and_parts, and_from, or_left, ltb-false}
 use Rattle.std.proofs.lemmas.List.{length-take}
 use Rattle.std.proofs.lemmas.List.Folds.{list_all-append}
-use Rattle.lis_words.specs.Words.{same_word, is_word, is_file_name, is_count}
+use Rattle.lis_words.specs.Words.{same_word, is_word, is_property, is_file_name, is_count}
 use Rattle.lis_model.specs.declared.refusal.Refusal.TheVariants.{BadLine, LongLine, CutPayload, PayloadEnd, TooManyAssigned}
-use Rattle.lis_model.specs.declared.command.Command.TheVariants.{Mkdir, Cat, Rm, Pwd, Ls}
+use Rattle.lis_model.specs.declared.command.Command.TheVariants.{Mkdir, Rmdir, Axiom, Unaxiom, Write, Cat, Mv, Rename, Rm, Pwd, Ls, Props, Way, Stat}
 use Rattle.lis_model.specs.Step.{Item, Payload, no_payload}
 use Rattle.lis_model.specs.Step.Item.{Do, Bad}
-use Rattle.lis_model.specs.Script.{bad_line, mkdir_form, tags_form, create_named, create_form, add_named, add_form, file_form, cd_form, alone_form, form_of, item_of_words, item_of, line_words, is_long, payload_of, payload_size, before_feed, after_feed, First, first_ended, first_with, first_by, first_of, items_within, all_items, whole_within, whole_items, script, is_feed}
+use Rattle.lis_model.specs.Script.{bad_line, is_line_word, word_form, pair_form, tags_form, create_named, create_form, add_named, add_form, write_form, file_form, cd_form, mv_form, rename_form, alone_form, all_forms, first_forms, form_of, item_of_words, item_of, line_words, is_long, payload_limit, payload_of, payload_size, before_feed, after_feed, First, first_ended, first_with, first_by, first_of, items_within, all_items, whole_within, whole_items, script, is_feed}
 use Rattle.lis_laws.specs.Steps.{is_payload, is_formed}
 
 -- a choice of two items in form is one
@@ -25,23 +25,43 @@ tested false x h = refl
 
 -- what is kept of a payload
 payload_formed : (size : ℕ) (bytes : List ℕ) → length bytes ≡ size → is_payload (payload_of size bytes) ≡ true
-payload_formed size bytes is = by (nat_le size 65536)
+payload_formed size bytes is = by (nat_le size payload_limit)
   where
     by : (b : Bool) → (length (cond b bytes []) == cond b size 0) ≡ true
     by true = eq-eqb (length bytes) size is
     by false = refl
 
-mkdir_formed : (words : List (List ℕ)) → is_formed (mkdir_form words) ≡ true
-mkdir_formed [] = refl
-mkdir_formed (word ∷ []) = tested (is_word word) (Do (Mkdir word) no_payload) (λ e. and_from _ _ e refl)
-mkdir_formed (word ∷ more ∷ words) = refl
+-- what a line may have for a property is one
+line_property : (word : List ℕ) → is_line_word word ≡ true → is_property word ≡ true
+line_property word h = or_left _ _ h
+
+line_properties : (words : List (List ℕ)) → list_all is_line_word words ≡ true → list_all is_property words ≡ true
+line_properties [] h = refl
+line_properties (word ∷ words) h =
+    let parts = and_parts (is_line_word word) (list_all is_line_word words) h in
+    and_from _ _ (line_property word parts.0) (line_properties words parts.1)
+
+word_formed : (item : List ℕ → Item) → ((word : List ℕ) → is_property word ≡ true → is_formed (item word) ≡ true) → (words : List (List ℕ)) → is_formed (word_form item words) ≡ true
+word_formed item formed [] = refl
+word_formed item formed (word ∷ []) = tested (is_line_word word) (item word) (λ e. formed word (line_property word e))
+word_formed item formed (word ∷ more ∷ words) = refl
+
+pair_formed : (item : List ℕ → List ℕ → Item) → ((left right : List ℕ) → is_property left ≡ true → is_property right ≡ true → is_formed (item left right) ≡ true)
+    → (words : List (List ℕ)) → is_formed (pair_form item words) ≡ true
+pair_formed item formed [] = refl
+pair_formed item formed (left ∷ []) = refl
+pair_formed item formed (left ∷ right ∷ []) = tested (is_line_word left && is_line_word right) (item left right) both
+  where
+    both : (is_line_word left && is_line_word right) ≡ true → is_formed (item left right) ≡ true
+    both e = let parts = and_parts (is_line_word left) (is_line_word right) e in formed left right (line_property left parts.0) (line_property right parts.1)
+pair_formed item formed (left ∷ right ∷ more ∷ words) = refl
 
 create_named_formed : (name : List ℕ) (words : List (List ℕ)) → is_file_name name ≡ true → is_formed (create_named name (tags_form words)) ≡ true
-create_named_formed name words named = by (list_all is_word words) refl (nat_lt 16 (length words))
+create_named_formed name words named = by (list_all is_line_word words) refl (nat_lt 16 (length words))
   where
-    by : (b : Bool) → list_all is_word words ≡ b → (many : Bool) → is_formed (create_named name (cond b (cond many (Err TooManyAssigned) (Ok words)) (Err BadLine))) ≡ true
+    by : (b : Bool) → list_all is_line_word words ≡ b → (many : Bool) → is_formed (create_named name (cond b (cond many (Err TooManyAssigned) (Ok words)) (Err BadLine))) ≡ true
     by true e true = refl
-    by true e false = and_from _ _ (and_from _ _ named e) refl
+    by true e false = and_from _ _ (and_from _ _ named (line_properties words e)) refl
     by false e many = refl
 
 create_formed : (words : List (List ℕ)) → is_formed (create_form words) ≡ true
@@ -49,11 +69,11 @@ create_formed [] = refl
 create_formed (name ∷ words) = tested (is_file_name name) (create_named name (tags_form words)) (create_named_formed name words)
 
 add_named_formed : (name : List ℕ) (words : List (List ℕ)) (payload : Payload) → is_payload payload ≡ true → is_file_name name ≡ true → is_formed (add_named name payload (tags_form words)) ≡ true
-add_named_formed name words payload sized named = by (list_all is_word words) refl (nat_lt 16 (length words))
+add_named_formed name words payload sized named = by (list_all is_line_word words) refl (nat_lt 16 (length words))
   where
-    by : (b : Bool) → list_all is_word words ≡ b → (many : Bool) → is_formed (add_named name payload (cond b (cond many (Err TooManyAssigned) (Ok words)) (Err BadLine))) ≡ true
+    by : (b : Bool) → list_all is_line_word words ≡ b → (many : Bool) → is_formed (add_named name payload (cond b (cond many (Err TooManyAssigned) (Ok words)) (Err BadLine))) ≡ true
     by true e true = refl
-    by true e false = and_from _ _ (and_from _ _ named e) sized
+    by true e false = and_from _ _ (and_from _ _ named (line_properties words e)) sized
     by false e many = refl
 
 add_formed : (words : List (List ℕ)) (payload : Payload) → is_payload payload ≡ true → is_formed (add_form words payload) ≡ true
@@ -62,15 +82,29 @@ add_formed (name ∷ []) payload sized = refl
 add_formed (name ∷ size ∷ words) payload sized =
     tested (is_file_name name && is_count size) (add_named name payload (tags_form words)) (λ e. add_named_formed name words payload sized (and_parts _ _ e).0)
 
-cat_formed : (words : List (List ℕ)) → is_formed (file_form (λ name. Do (Cat name) no_payload) words) ≡ true
-cat_formed [] = refl
-cat_formed (name ∷ []) = tested (is_file_name name) (Do (Cat name) no_payload) (λ e. and_from _ _ e refl)
-cat_formed (name ∷ more ∷ words) = refl
+write_formed : (words : List (List ℕ)) (payload : Payload) → is_payload payload ≡ true → is_formed (write_form words payload) ≡ true
+write_formed [] payload sized = refl
+write_formed (name ∷ []) payload sized = refl
+write_formed (name ∷ size ∷ []) payload sized =
+    tested (is_file_name name && is_count size) (Do (Write name) payload) (λ e. and_from _ _ (and_parts (is_file_name name) (is_count size) e).0 sized)
+write_formed (name ∷ size ∷ more ∷ words) payload sized = refl
 
-rm_formed : (words : List (List ℕ)) → is_formed (file_form (λ name. Do (Rm name) no_payload) words) ≡ true
-rm_formed [] = refl
-rm_formed (name ∷ []) = tested (is_file_name name) (Do (Rm name) no_payload) (λ e. and_from _ _ e refl)
-rm_formed (name ∷ more ∷ words) = refl
+file_formed : (item : List ℕ → Item) → ((name : List ℕ) → is_file_name name ≡ true → is_formed (item name) ≡ true) → (words : List (List ℕ)) → is_formed (file_form item words) ≡ true
+file_formed item formed [] = refl
+file_formed item formed (name ∷ []) = tested (is_file_name name) (item name) (formed name)
+file_formed item formed (name ∷ more ∷ words) = refl
+
+mv_formed : (words : List (List ℕ)) → is_formed (mv_form words) ≡ true
+mv_formed [] = refl
+mv_formed (name ∷ []) = refl
+mv_formed (name ∷ text ∷ []) = tested (is_file_name name) (Do (Mv name text) no_payload) (λ e. and_from _ _ e refl)
+mv_formed (name ∷ text ∷ more ∷ words) = refl
+
+rename_formed : (words : List (List ℕ)) → is_formed (rename_form words) ≡ true
+rename_formed [] = refl
+rename_formed (name ∷ []) = refl
+rename_formed (name ∷ other ∷ []) = tested (is_file_name name && is_file_name other) (Do (Rename name other) no_payload) (λ e. and_from _ _ e refl)
+rename_formed (name ∷ other ∷ more ∷ words) = refl
 
 cd_formed : (words : List (List ℕ)) → is_formed (cd_form words) ≡ true
 cd_formed [] = refl
@@ -81,16 +115,44 @@ alone_formed : (item : Item) (words : List (List ℕ)) → is_formed item ≡ tr
 alone_formed item [] h = h
 alone_formed item (word ∷ words) h = refl
 
-line_formed : (first : List ℕ) (words : List (List ℕ)) (payload : Payload) → is_payload payload ≡ true → is_formed (form_of first words payload) ≡ true
-line_formed first words payload sized =
-    chosen (same_word first (codes "mkdir")) _ _ (mkdir_formed words)
+alone : (b : Bool) → b ≡ true → (b && true) ≡ true
+alone b e = and_from _ _ e refl
+
+-- the lines of all commands, and those that are read so far
+all_line_formed : (first : List ℕ) (words : List (List ℕ)) (payload : Payload) → is_payload payload ≡ true → is_formed (all_forms first words payload) ≡ true
+all_line_formed first words payload sized =
+    chosen (same_word first (codes "mkdir")) _ _ (word_formed (λ word. Do (Mkdir word) no_payload) (λ word e. alone _ e) words)
+    (chosen (same_word first (codes "rmdir")) _ _ (word_formed (λ word. Do (Rmdir word) no_payload) (λ word e. alone _ e) words)
+    (chosen (same_word first (codes "axiom")) _ _ (pair_formed (λ left right. Do (Axiom left right) no_payload) (λ left right e f. alone _ (and_from _ _ e f)) words)
+    (chosen (same_word first (codes "unaxiom")) _ _ (pair_formed (λ left right. Do (Unaxiom left right) no_payload) (λ left right e f. alone _ (and_from _ _ e f)) words)
     (chosen (same_word first (codes "create")) _ _ (create_formed words)
     (chosen (same_word first (codes "add")) _ _ (add_formed words payload sized)
-    (chosen (same_word first (codes "cat")) _ _ (cat_formed words)
-    (chosen (same_word first (codes "rm")) _ _ (rm_formed words)
+    (chosen (same_word first (codes "write")) _ _ (write_formed words payload sized)
+    (chosen (same_word first (codes "cat")) _ _ (file_formed (λ name. Do (Cat name) no_payload) (λ name e. alone _ e) words)
+    (chosen (same_word first (codes "mv")) _ _ (mv_formed words)
+    (chosen (same_word first (codes "rename")) _ _ (rename_formed words)
+    (chosen (same_word first (codes "rm")) _ _ (file_formed (λ name. Do (Rm name) no_payload) (λ name e. alone _ e) words)
+    (chosen (same_word first (codes "cd")) _ _ (cd_formed words)
+    (chosen (same_word first (codes "pwd")) _ _ (alone_formed (Do Pwd no_payload) words refl)
+    (chosen (same_word first (codes "ls")) _ _ (alone_formed (Do Ls no_payload) words refl)
+    (chosen (same_word first (codes "props")) _ _ (file_formed (λ name. Do (Props name) no_payload) (λ name e. alone _ e) words)
+    (chosen (same_word first (codes "way")) _ _ (file_formed (λ name. Do (Way name) no_payload) (λ name e. alone _ e) words)
+    (chosen (same_word first (codes "stat")) _ _ (alone_formed (Do Stat no_payload) words refl) refl))))))))))))))))
+
+first_line_formed : (first : List ℕ) (words : List (List ℕ)) (payload : Payload) → is_payload payload ≡ true → is_formed (first_forms first words payload) ≡ true
+first_line_formed first words payload sized =
+    chosen (same_word first (codes "mkdir")) _ _ (word_formed (λ word. Do (Mkdir word) no_payload) (λ word e. alone _ e) words)
+    (chosen (same_word first (codes "create")) _ _ (create_formed words)
+    (chosen (same_word first (codes "add")) _ _ (add_formed words payload sized)
+    (chosen (same_word first (codes "cat")) _ _ (file_formed (λ name. Do (Cat name) no_payload) (λ name e. alone _ e) words)
+    (chosen (same_word first (codes "rm")) _ _ (file_formed (λ name. Do (Rm name) no_payload) (λ name e. alone _ e) words)
     (chosen (same_word first (codes "cd")) _ _ (cd_formed words)
     (chosen (same_word first (codes "pwd")) _ _ (alone_formed (Do Pwd no_payload) words refl)
     (chosen (same_word first (codes "ls")) _ _ (alone_formed (Do Ls no_payload) words refl) refl)))))))
+
+-- Not all commands are read yet; then it is `all_line_formed`.
+line_formed : (first : List ℕ) (words : List (List ℕ)) (payload : Payload) → is_payload payload ≡ true → is_formed (form_of first words payload) ≡ true
+line_formed first words payload sized = first_line_formed first words payload sized
 
 -- the items of a part of the input, none or one
 abbrev AreFormed : Option Item → Type 0

@@ -1,71 +1,49 @@
--- The known words of states of which one has all that the other has.
-use Rattle.std.proofs.Common.{◌≡◌, ◌⊎◌, ℕ, ◌≤◌, true, List, ◌++◌, length, map, subst, inl, inr}
+-- The descriptions and the known words of states of which one has all that the other has.
+use Rattle.std.proofs.Common.{◌≡◌, ◌⊎◌, ℕ, ◌≤◌, true, List, ◌++◌, length}
 use Rattle.std.specs.List.{flat_map}
 use Rattle.std.specs.List.Sorted.{IsStrictlySortedBy}
 use Rattle.lis_graph.specs.Graph.{is_rising}
-use Rattle.lis_graph.proofs.Members.{Among, among_append, among_left, among_right, among_map, map_among, among_flat_map, flat_map_among}
+use Rattle.lis_graph.proofs.Members.{Among}
 use Rattle.lis_graph.proofs.Sets.{members_le, sorted_from_rising}
 use Rattle.lis_words.specs.Words.{word_cmp}
-use Rattle.lis_model.specs.State.{State, File, heads, up, edges, own_words, file_words, description, known, left_words}
-use Rattle.lis_laws.proofs.Members.{among_from_has_word, has_word_from_among, among_with_words, with_words_old, with_words_new, word_order, sorted_with_words, sorted_set_of}
-use Rattle.lis_laws.proofs.Chains.{Pairs, up_decides, entails_within}
-use Rattle.lis_laws.proofs.Tables.{words_of_file, file_has, described_known}
+use Rattle.lis_model.specs.State.{State, File, own_words, description, known, left_words}
+use Rattle.lis_laws.proofs.Members.{word_order, sorted_with_words}
+use Rattle.lis_laws.proofs.Closures.{IsLess, all_up_within, all_up_le}
+use Rattle.lis_laws.proofs.Sources.{OwnWord, own_word, own_from, Source, source_of, known_from}
+use Rattle.lis_laws.proofs.Sources.OwnWord.{Assigned, Derived, Met}
+use Rattle.lis_laws.proofs.Sources.Source.{Declared, Left, LeftHead, Described}
 
 -- what is in s is in t
 pub record IsWithin (s t : State) : Type 0 where
   pub declared : (w : List ℕ) → Among s.declared w → Among t.declared w
   pub axioms : (e : List ℕ × List ℕ) → Among s.axioms e → Among t.axioms e
-  pub edges : (e : List ℕ × List ℕ) → Among (edges s) e → Among (edges t) e
   pub files : (f : File) → Among s.files f → Among t.files f
 
-up_within : (some more : Pairs) → ((e : List ℕ × List ℕ) → Among some e → Among more e) → (p q : List ℕ) → Among (up some p) q → Among (up more p) q
-up_within some more within p q m =
-    among_from_has_word (up more p) q ((up_decides more p q).1 (entails_within some more within p q ((up_decides some p q).0 (has_word_from_among (up some p) q m))))
-
--- fewer axioms give a file no more words
-pub file_words_within : (some more : Pairs) → ((e : List ℕ × List ℕ) → Among some e → Among more e) → (file : File) (q : List ℕ) → Among (file_words some file) q → Among (file_words more file) q
-file_words_within some more within file q m =
-    let source = words_of_file some file q m in
-    file_has more file source.0 q source.1 (up_within some more within source.0 q source.2)
-
-pub file_words_le : (some more : Pairs) → ((e : List ℕ × List ℕ) → Among some e → Among more e) → (file : File) → length (file_words some file) ≤ length (file_words more file)
-file_words_le some more within file =
-    members_le word_cmp word_order (file_words some file) (file_words more file)
-    (sorted_set_of (flat_map (up some) (own_words file))) (sorted_set_of (flat_map (up more) (own_words file)))
-    (file_words_within some more within file)
-
-left_within : (s t : State) → ((e : List ℕ × List ℕ) → Among s.axioms e → Among t.axioms e) → (w : List ℕ) → Among (left_words s) w → Among (left_words t) w
-left_within s t within w m = by (among_append (map (λ (pair : List ℕ × List ℕ). pair.0) s.axioms) (flat_map (λ (pair : List ℕ × List ℕ). heads pair.0) s.axioms) w m)
+pub own_within : (some more : List (List ℕ)) → ((w : List ℕ) → Among some w → Among more w) → (file : File) (w : List ℕ) → Among (own_words some file) w → Among (own_words more file) w
+own_within some more within file w m = own_from more file w (by (own_word some file w m))
   where
-    side : (e : List ℕ × List ℕ) × Among s.axioms e × (e.0 ≡ w) → Among (map (λ (pair : List ℕ × List ℕ). pair.0) t.axioms) w
-    side found = subst (λ (k : List ℕ). Among (map (λ (pair : List ℕ × List ℕ). pair.0) t.axioms) k) found.2 (map_among (λ (pair : List ℕ × List ℕ). pair.0) t.axioms found.0 (within found.0 found.1))
+    by : OwnWord some file w → OwnWord more file w
+    by (Assigned given) = Assigned given
+    by (Derived derived) = Derived derived
+    by (Met there met) = Met (within w there) met
 
-    above : (e : List ℕ × List ℕ) × Among s.axioms e × Among (heads e.0) w → Among (flat_map (λ (pair : List ℕ × List ℕ). heads pair.0) t.axioms) w
-    above found = flat_map_among (λ (pair : List ℕ × List ℕ). heads pair.0) t.axioms found.0 w (within found.0 found.1) found.2
+pub less_within : (s t : State) → IsWithin s t → (file : File) → IsLess s.declared t.declared s.axioms t.axioms (own_words s.declared file) (own_words t.declared file)
+less_within s t within file = record { in_declared = within.declared; in_axioms = within.axioms; in_words = own_within s.declared t.declared within.declared file }
 
-    by : Among (map (λ (pair : List ℕ × List ℕ). pair.0) s.axioms) w ⊎ Among (flat_map (λ (pair : List ℕ × List ℕ). heads pair.0) s.axioms) w → Among (left_words t) w
-    by (inl left) =
-        among_left (map (λ (pair : List ℕ × List ℕ). pair.0) t.axioms) (flat_map (λ (pair : List ℕ × List ℕ). heads pair.0) t.axioms) w
-        (side (among_map (λ (pair : List ℕ × List ℕ). pair.0) s.axioms w left))
-    by (inr head) =
-        among_right (map (λ (pair : List ℕ × List ℕ). pair.0) t.axioms) (flat_map (λ (pair : List ℕ × List ℕ). heads pair.0) t.axioms) w
-        (above (among_flat_map (λ (pair : List ℕ × List ℕ). heads pair.0) s.axioms w head))
+pub described_within : (s t : State) → IsWithin s t → (file : File) (w : List ℕ) → Among (description s file) w → Among (description t file) w
+described_within s t within file = all_up_within s.declared t.declared s.axioms t.axioms (own_words s.declared file) (own_words t.declared file) (less_within s t within file)
+
+pub described_le : (s t : State) → IsWithin s t → (file : File) → length (description s file) ≤ length (description t file)
+described_le s t within file = all_up_le s.declared t.declared s.axioms t.axioms (own_words s.declared file) (own_words t.declared file) (less_within s t within file)
 
 pub known_within : (s t : State) → IsWithin s t → (w : List ℕ) → Among (known s) w → Among (known t) w
-known_within s t within w m = by (among_with_words s.declared (left_words s ++ flat_map (description s) s.files) w m)
+known_within s t within w m = known_from t w (by (source_of s w m))
   where
-    described : (file : File) × Among s.files file × Among (description s file) w → Among (known t) w
-    described found = described_known t found.0 w (within.files found.0 found.1) (file_words_within (edges s) (edges t) within.edges found.0 w found.2)
-
-    other : Among (left_words s) w ⊎ Among (flat_map (description s) s.files) w → Among (known t) w
-    other (inl left) =
-        with_words_new t.declared (left_words t ++ flat_map (description t) t.files) w
-        (among_left (left_words t) (flat_map (description t) t.files) w (left_within s t within.axioms w left))
-    other (inr some) = described (among_flat_map (description s) s.files w some)
-
-    by : Among s.declared w ⊎ Among (left_words s ++ flat_map (description s) s.files) w → Among (known t) w
-    by (inl declared) = with_words_old t.declared (left_words t ++ flat_map (description t) t.files) w (within.declared w declared)
-    by (inr more) = other (among_append (left_words s) (flat_map (description s) s.files) w more)
+    by : Source s w → Source t w
+    by (Declared there) = Declared (within.declared w there)
+    by (Left e there is) = Left e (within.axioms e there) is
+    by (LeftHead e there head) = LeftHead e (within.axioms e there) head
+    by (Described file there has) = Described file (within.files file there) (described_within s t within file w has)
 
 pub sorted_known : (s : State) → is_rising word_cmp s.declared ≡ true → IsStrictlySortedBy word_cmp (known s)
 sorted_known s rising = sorted_with_words s.declared (left_words s ++ flat_map (description s) s.files) (sorted_from_rising word_cmp word_order s.declared rising)

@@ -1,26 +1,26 @@
 -- The laws on entailment, on listings and on routes.
 use Rattle.std.specs.Prelude.{◌≡◌, ◌↔◌, ◌⊎◌, ℕ, ◌<◌, Bool, not, if◌then◌else◌, List, ◌∷◌, length, filter}
 use Rattle.std.specs.Bool.{Decides}
-use Rattle.std.specs.BTreeSet.{insert_key}
 use Rattle.std.specs.List.{list_any, Contains}
 use Rattle.lis_words.specs.Words.{has_word}
 use Rattle.lis_grammar.specs.Formula.{Formula}
 use Rattle.lis_model.specs.Sets.{with_words}
-use Rattle.lis_model.specs.State.{State, File, WellFormed, Entails, Acyclic, up, is_acyclic, edges, pair_cmp, file_words}
+use Rattle.lis_model.specs.State.{State, File, WellFormed, Entails, Acyclic, up, is_acyclic, file_words}
+use Rattle.lis_model.specs.Changes.{with_axiom}
 use Rattle.lis_model.specs.Table.{Entry, table}
 use Rattle.lis_model.specs.Listing.{extension, increments, locals}
 use Rattle.lis_model.specs.Route.{route, IsRoute, Leads}
 
 -- what a word entails is what chains of links lead to
 abbrev pub TestsAreChains : Type 0
-TestsAreChains = (axioms : List (List ℕ × List ℕ)) → record {
-  up : (p q : List ℕ) → Decides (has_word (up axioms p) q) (Entails axioms p q);
-  acyclic : Decides (is_acyclic axioms) (Acyclic axioms);
+TestsAreChains = (declared : List (List ℕ)) (axioms : List (List ℕ × List ℕ)) → record {
+  up : (p q : List ℕ) → Decides (has_word (up declared axioms p) q) (Entails declared axioms p q);
+  acyclic : Decides (is_acyclic declared axioms) (Acyclic declared axioms);
 }
 
 -- in a well-formed state two different words never entail each other
 abbrev pub NoTies : Type 0
-NoTies = (s : State) → WellFormed s → (p q : List ℕ) → Entails (edges s) p q → Entails (edges s) q p → p ≡ q
+NoTies = (s : State) → WellFormed s → (p q : List ℕ) → Entails s.declared s.axioms p q → Entails s.declared s.axioms q p → p ≡ q
 
 -- the file has none of the words
 abbrev pub is_uncovered : List (List ℕ) → Entry → Bool
@@ -49,20 +49,17 @@ pub record HasRoute (s : State) (place : List Formula) (file : Entry) : Type 0 w
 abbrev pub RoutesLead : Type 0
 RoutesLead = (s : State) → WellFormed s → (place : List Formula) (file : Entry) → Contains (extension (table s) place) file → HasRoute s place file
 
-abbrev pub with_axiom : List (List ℕ × List ℕ) → List ℕ × List ℕ → List (List ℕ × List ℕ)
-with_axiom axioms pair = insert_key pair_cmp axioms pair
-
 -- what one more axiom adds
 abbrev pub AxiomsAdd : Type 0
-AxiomsAdd = (axioms : List (List ℕ × List ℕ)) (l r : List ℕ) → record {
-  entails : (p q : List ℕ) → Entails (with_axiom axioms (l, r)) p q ↔ (Entails axioms p q ⊎ (Entails axioms p l × Entails axioms r q));
-  acyclic : Acyclic (with_axiom axioms (l, r)) ↔ (Acyclic axioms × (Entails axioms r l → ⊥));
+AxiomsAdd = (declared : List (List ℕ)) (axioms : List (List ℕ × List ℕ)) (l r : List ℕ) → record {
+  entails : (p q : List ℕ) → Entails declared (with_axiom axioms (l, r)) p q ↔ (Entails declared axioms p q ⊎ (Entails declared axioms p l × Entails declared axioms r q));
+  acyclic : Acyclic declared (with_axiom axioms (l, r)) ↔ (Acyclic declared axioms × (Entails declared axioms r l → ⊥));
   -- the sets are equal as lists, so that nothing depends on where an axiom stands
-  up : (p : List ℕ) → up (with_axiom axioms (l, r)) p ≡ up ((l, r) ∷ axioms) p;
+  up : (p : List ℕ) → up declared (with_axiom axioms (l, r)) p ≡ up declared ((l, r) ∷ axioms) p;
 }
 
 -- one more axiom gives each file that has its left side all that its right side entails, and no other file anything
 abbrev pub DescriptionsAdd : Type 0
-DescriptionsAdd = (axioms : List (List ℕ × List ℕ)) (l r : List ℕ) (file : File) →
-    file_words (with_axiom axioms (l, r)) file
-    ≡ (if has_word (file_words axioms file) l then with_words (file_words axioms file) (up axioms r) else file_words axioms file)
+DescriptionsAdd = (declared : List (List ℕ)) (axioms : List (List ℕ × List ℕ)) (l r : List ℕ) (file : File) →
+    file_words declared (with_axiom axioms (l, r)) file
+    ≡ (if has_word (file_words declared axioms file) l then with_words (file_words declared axioms file) (up declared axioms r) else file_words declared axioms file)

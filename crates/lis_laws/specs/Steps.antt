@@ -1,31 +1,40 @@
 -- What a command keeps.
-use Rattle.std.specs.Prelude.{◌≡◌, ℕ, ◌==◌, nat_le, Bool, true, ◌&&◌, if◌then◌else◌, List, [], length, IsTrue}
+use Rattle.std.specs.Prelude.{ℕ, ◌==◌, nat_le, Bool, true, ◌&&◌, if◌then◌else◌, List, length, IsTrue}
 use Rattle.std.specs.List.{list_all}
-use Rattle.lis_words.specs.Words.{is_word, is_file_name}
+use Rattle.lis_words.specs.Words.{is_property, is_file_name}
 use Rattle.lis_grammar.specs.Places.{IsPlace}
 use Rattle.lis_model.specs.declared.limits.Limits.{Limits}
 use Rattle.lis_model.specs.declared.command.Command.{Command}
-use Rattle.lis_model.specs.declared.command.Command.TheVariants.{Mkdir, Create, Add, Cat, Rm, Cd, Pwd, Ls}
+use Rattle.lis_model.specs.declared.command.Command.TheVariants.{Mkdir, Rmdir, Axiom, Unaxiom, Create, Add, Write, Cat, Mv, Rename, Rm, Cd, Pwd, Ls, Props, Way, Stat}
 use Rattle.lis_model.specs.Ranges.{are_in_range}
 use Rattle.lis_model.specs.State.{WellFormed}
 use Rattle.lis_model.specs.Step.{Situation, Payload, Item, step, start_of, situation_after}
 use Rattle.lis_model.specs.Step.Item.{Do, Bad}
-use Rattle.lis_model.specs.Script.{all_items, whole_items, script}
+use Rattle.lis_model.specs.Script.{payload_limit, all_items, whole_items, script}
 
 -- the words and names of a command have their forms
 abbrev pub has_forms : Command → Bool
-has_forms (Mkdir word) = is_word word
-has_forms (Create name words) = is_file_name name && list_all is_word words
-has_forms (Add name words) = is_file_name name && list_all is_word words
+has_forms (Mkdir word) = is_property word
+has_forms (Rmdir word) = is_property word
+has_forms (Axiom left right) = is_property left && is_property right
+has_forms (Unaxiom left right) = is_property left && is_property right
+has_forms (Create name words) = is_file_name name && list_all is_property words
+has_forms (Add name words) = is_file_name name && list_all is_property words
+has_forms (Write name) = is_file_name name
 has_forms (Cat name) = is_file_name name
+has_forms (Mv name text) = is_file_name name
+has_forms (Rename name other) = is_file_name name && is_file_name other
 has_forms (Rm name) = is_file_name name
 has_forms (Cd text) = true
 has_forms Pwd = true
 has_forms Ls = true
+has_forms (Props name) = is_file_name name
+has_forms (Way name) = is_file_name name
+has_forms Stat = true
 
--- as many bytes as the size says, where a file may have so many, and else none
+-- as many bytes as the size says, where so many are kept, and else none
 abbrev pub is_payload : Payload → Bool
-is_payload payload = length payload.bytes == (if nat_le payload.size 65536 then payload.size else 0)
+is_payload payload = length payload.bytes == (if nat_le payload.size payload_limit then payload.size else 0)
 
 -- a command's words, names and payload are in form
 abbrev pub is_formed : Item → Bool
@@ -40,10 +49,9 @@ ItemsAreFormed = (bytes : List ℕ) → record {
   of_script : (limit : ℕ) → IsTrue (list_all is_formed (script bytes limit));
 }
 
--- a well-formed state, without axioms, which no command makes yet, and a place within its limits
+-- a well-formed state, and a place within its limits
 pub record IsInForm (now : Situation) : Type 0 where
   pub state : WellFormed now.state
-  pub no_axioms : now.state.axioms ≡ []
   pub place : IsPlace now.place
 
 -- a step keeps states well formed and places within their limits

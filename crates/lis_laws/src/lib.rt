@@ -5,6 +5,7 @@ ghost use Rattle.lis_laws.specs.Changes.{ChangesKeepForm};
 ghost use Rattle.lis_laws.specs.Growth.{KnownGrows};
 ghost use Rattle.lis_laws.specs.Laws.{TestsAreChains, NoTies, LocalsAreUncovered, LocalsByFile, RoutesLead, AxiomsAdd, DescriptionsAdd};
 ghost use Rattle.lis_laws.specs.Steps.{ItemsAreFormed, StepsKeepForm, SessionsAreFormed};
+ghost use Rattle.lis_laws.specs.Touches.{ChangesTouch, StepsTouchFew};
 
 /// What a word entails, and whether axioms lead in a circle, is what chains of links say.
 pub fn tests_are_chains()
@@ -64,4 +65,14 @@ pub fn sessions_are_formed()
 /// Which words become known when a word, a file or an axiom comes into a state.
 pub fn known_grows()
     ensures { KnownGrows }
+{}
+
+/// Which words gain or lose a file, and which enter or leave the known ones, in each change.
+pub fn changes_touch()
+    ensures { ChangesTouch }
+{}
+
+/// In one step at most 256 words gain or lose a file, and at most 256 enter or leave the known ones.
+pub fn steps_touch_few()
+    ensures { StepsTouchFew }
 {}

@@ -7,7 +7,7 @@ use Rattle.std.proofs.lemmas.Bool.{eqb-true}
 use Rattle.std.proofs.lemmas.Map.Lookups.{exact_unsigned}
 use Rattle.std.specs.List.Sorted.{IsStrictlySortedBy}
 use Rattle.lis_bits.specs.Rows.{Rows, get}
-use Rattle.lis_graph.specs.Graph.{Chain, Entails, Acyclic, Linked, up}
+use Rattle.lis_graph.specs.Graph.{Chain, Entails, Acyclic, IsOrdered, Linked, up}
 use Rattle.lis_graph.proofs.Members.{Among, among_map, map_among, among_filter, filter_among, among_flat_map, flat_map_among, among_from_has, has_from_among, among_from_contains, contains_from_among}
 use Rattle.lis_graph.proofs.Ranges.{among_range, range_among}
 use Rattle.lis_graph.proofs.Sets.{members_lt}
@@ -19,8 +19,8 @@ use Rattle.lis_taxonomy.specs.Inside.{edge_list, reach, IsAcyclicTable}
 pub nat_decides : (x y : ℕ) → Decides (nat_eq x y) (x ≡ y)
 nat_decides x y = (eqb-true x y, eq-eqb x y)
 
-pub ended : (p q r : ℕ) → Among (no_links p) q → Among (no_links q) r → ⊥
-ended p q r h k = h
+pub no_links_ordered : IsOrdered no_links
+no_links_ordered = record { joined = λ p q r h k. absurd (among_from_contains [] q h); apart = λ p h. absurd (among_from_contains [] p h) }
 
 -- ---- the list of edges
 pub record IsEdge (linked : Rows) (props : ℕ) (e : ℕ × ℕ) : Type 0 where
@@ -58,10 +58,10 @@ among_from_reach linked props p q h = among_from_has nat_eq nat_decides (ups lin
 
 pub reach_decides : (linked : Rows) (props p q : ℕ) → Decides (reach linked props p q) (Entails no_links (edge_list linked props) p q)
 unfolding reach
-reach_decides linked props p q = graph.up_decides nat_eq nat_cmp no_links nat_decides exact_unsigned ended (edge_list linked props) p q
+reach_decides linked props p q = graph.up_decides nat_eq nat_cmp no_links nat_decides exact_unsigned no_links_ordered (edge_list linked props) p q
 
 pub acyclic_decides : (linked : Rows) (props : ℕ) → (IsAcyclicTable linked props → Acyclic no_links (edge_list linked props)) × (Acyclic no_links (edge_list linked props) → IsAcyclicTable linked props)
-acyclic_decides linked props = graph.acyclic_decides nat_eq nat_cmp no_links nat_decides exact_unsigned ended (edge_list linked props)
+acyclic_decides linked props = graph.acyclic_decides nat_eq nat_cmp no_links nat_decides exact_unsigned no_links_ordered (edge_list linked props)
 
 -- no number is linked to itself
 pub no_loop : (linked : Rows) (props p : ℕ) → IsAcyclicTable linked props → p < props → get linked p p ≡ false
@@ -87,28 +87,28 @@ first_step linked props p q h = by chain.0 chain.1
     by (suc n) c = let e = link c.0 c.1 in inr (c.0, e.right, e.bit, (reach_decides linked props c.0 q).1 (n, c.2))
 
 pub reach_self : (linked : Rows) (props p : ℕ) → reach linked props p p ≡ true
-reach_self linked props p = reach_from_among linked props p p (graph.up_self nat_eq nat_cmp no_links nat_decides exact_unsigned ended (edge_list linked props) p)
+reach_self linked props p = reach_from_among linked props p p (graph.up_self nat_eq nat_cmp no_links nat_decides exact_unsigned no_links_ordered (edge_list linked props) p)
 
 pub reach_step : (linked : Rows) (props p next q : ℕ) → p < props → next < props → get linked p next ≡ true → reach linked props next q ≡ true → reach linked props p q ≡ true
 reach_step linked props p next q p_in next_in bit rest =
-    reach_from_among linked props p q (graph.up_trans nat_eq nat_cmp no_links nat_decides exact_unsigned ended (edge_list linked props) p next q
-    (graph.up_edge nat_eq nat_cmp no_links nat_decides exact_unsigned ended (edge_list linked props) p next (edges_among linked props p next p_in next_in bit))
+    reach_from_among linked props p q (graph.up_trans nat_eq nat_cmp no_links nat_decides exact_unsigned no_links_ordered (edge_list linked props) p next q
+    (graph.up_edge nat_eq nat_cmp no_links nat_decides exact_unsigned no_links_ordered (edge_list linked props) p next (edges_among linked props p next p_in next_in bit))
     (among_from_reach linked props next q rest))
 
 -- what a number is linked to entails less than it
 pub fewer_ups : (linked : Rows) (props p next : ℕ) → IsAcyclicTable linked props → p < props → next < props → get linked p next ≡ true → length (ups linked props next) < length (ups linked props p)
 fewer_ups linked props p next acyclic p_in next_in bit =
     members_lt nat_cmp nat_cmp_total (ups linked props next) (ups linked props p) p (sorted next) (sorted p)
-    (λ z m. over p next z step m) (graph.up_self nat_eq nat_cmp no_links nat_decides exact_unsigned ended (edge_list linked props) p) (λ back. circle (graph.entails_from_up nat_eq nat_cmp no_links nat_decides exact_unsigned ended (edge_list linked props) next p back))
+    (λ z m. over p next z step m) (graph.up_self nat_eq nat_cmp no_links nat_decides exact_unsigned no_links_ordered (edge_list linked props) p) (λ back. circle (graph.entails_from_up nat_eq nat_cmp no_links nat_decides exact_unsigned no_links_ordered (edge_list linked props) next p back))
   where
     sorted : (k : ℕ) → IsStrictlySortedBy nat_cmp (ups linked props k)
-    sorted k = graph.sorted_up nat_eq nat_cmp no_links nat_decides exact_unsigned ended nat_cmp_total (edge_list linked props) k
+    sorted k = graph.sorted_up nat_eq nat_cmp no_links nat_decides exact_unsigned no_links_ordered nat_cmp_total (edge_list linked props) k
 
     over : (a b c : ℕ) → Among (ups linked props a) b → Among (ups linked props b) c → Among (ups linked props a) c
-    over = graph.up_trans nat_eq nat_cmp no_links nat_decides exact_unsigned ended (edge_list linked props)
+    over = graph.up_trans nat_eq nat_cmp no_links nat_decides exact_unsigned no_links_ordered (edge_list linked props)
 
     step : Among (ups linked props p) next
-    step = graph.up_edge nat_eq nat_cmp no_links nat_decides exact_unsigned ended (edge_list linked props) p next (edges_among linked props p next p_in next_in bit)
+    step = graph.up_edge nat_eq nat_cmp no_links nat_decides exact_unsigned no_links_ordered (edge_list linked props) p next (edges_among linked props p next p_in next_in bit)
 
     circle : Entails no_links (edge_list linked props) next p → ⊥
     circle chain = (acyclic_decides linked props).0 acyclic chain.0 p (next, inr (contains_from_among (edge_list linked props) (p, next) (edges_among linked props p next p_in next_in bit)), chain.1)
@@ -143,7 +143,7 @@ module _ (small big : Rows) (props p q : ℕ) (one : IsOneMore small big props p
   reach_with a b = both (reach big props a b) (reach small props a b) (reach small props a p) (reach small props q b) refl refl refl refl
     where
       apart : reach big props a b ≡ true → (reach small props a b ≡ true) ⊎ ((reach small props a p ≡ true) × (reach small props q b ≡ true))
-      apart h = by (graph.entails_apart nat_eq nat_cmp no_links nat_decides exact_unsigned ended (p, q) (edge_list small props) a b (narrower a b ((reach_decides big props a b).0 h)))
+      apart h = by (graph.entails_apart nat_eq nat_cmp no_links nat_decides exact_unsigned no_links_ordered (p, q) (edge_list small props) a b (narrower a b ((reach_decides big props a b).0 h)))
         where
           by : Entails no_links (edge_list small props) a b ⊎ (Entails no_links (edge_list small props) a p × Entails no_links (edge_list small props) q b)
               → (reach small props a b ≡ true) ⊎ ((reach small props a p ≡ true) × (reach small props q b ≡ true))
@@ -154,7 +154,7 @@ module _ (small big : Rows) (props p q : ℕ) (one : IsOneMore small big props p
       old h = (reach_decides big props a b).1 (wider a b (graph.entails_within no_links (edge_list small props) ((p, q) ∷ edge_list small props) (λ e m. inr m) a b ((reach_decides small props a b).0 h)))
 
       through : reach small props a p ≡ true → reach small props q b ≡ true → reach big props a b ≡ true
-      through h k = (reach_decides big props a b).1 (wider a b (graph.entails_through nat_eq nat_cmp no_links nat_decides exact_unsigned ended (p, q) (edge_list small props) a b ((reach_decides small props a p).0 h) ((reach_decides small props q b).0 k)))
+      through h k = (reach_decides big props a b).1 (wider a b (graph.entails_through nat_eq nat_cmp no_links nat_decides exact_unsigned no_links_ordered (p, q) (edge_list small props) a b ((reach_decides small props a p).0 h) ((reach_decides small props q b).0 k)))
 
       no_way : reach small props a b ≡ false → (reach small props a p ≡ true → reach small props q b ≡ true → ⊥) → reach big props a b ≡ true → ⊥
       no_way none ends h = by (apart h)
@@ -175,7 +175,7 @@ module _ (small big : Rows) (props p q : ℕ) (one : IsOneMore small big props p
 
   pub acyclic_with : IsAcyclicTable small props → reach small props q p ≡ false → IsAcyclicTable big props
   acyclic_with acyclic apart =
-      let more = graph.acyclic_cons nat_eq nat_cmp no_links nat_decides exact_unsigned ended (p, q) (edge_list small props) ((acyclic_decides small props).0 acyclic) (λ chain. let k = (reach_decides small props q p).1 chain in cc) in
+      let more = graph.acyclic_cons nat_eq nat_cmp no_links nat_decides exact_unsigned no_links_ordered (p, q) (edge_list small props) ((acyclic_decides small props).0 acyclic) (λ chain. let k = (reach_decides small props q p).1 chain in cc) in
       (acyclic_decides big props).1 (graph.acyclic_within no_links (edge_list big props) ((p, q) ∷ edge_list small props) big_among more)
 
   pub acyclic_without : IsAcyclicTable big props → IsAcyclicTable small props

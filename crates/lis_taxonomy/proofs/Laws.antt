@@ -5,9 +5,9 @@ use Rattle.std.specs.FinSet as set
 use Rattle.std.proofs.lemmas.Map.Lookups.{exact_unsigned}
 use Rattle.lis_graph.proofs.Graph.{up_decides}
 use Rattle.lis_taxonomy.specs.Taxonomy.{Taxonomy, Entails, entails, no_links}
-use Rattle.lis_taxonomy.proofs.Edges.{nat_decides, ended}
+use Rattle.lis_taxonomy.proofs.Edges.{nat_decides, no_links_ordered}
 
 -- the test of entailment tells what chains of edges lead to
 pub entails_decides : (t : Taxonomy) (p q : ℕ) → Decides (entails t p q) (Entails t p q)
 unfolding entails
-entails_decides t p q = up_decides nat_eq nat_cmp no_links nat_decides exact_unsigned ended (set.items t.edges) p q
+entails_decides t p q = up_decides nat_eq nat_cmp no_links nat_decides exact_unsigned no_links_ordered (set.items t.edges) p q

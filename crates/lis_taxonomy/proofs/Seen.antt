@@ -15,7 +15,7 @@ use Rattle.lis_graph.proofs.Pairs.{pairs_total, pairs_exact}
 use Rattle.lis_graph.proofs.Graph as graph
 use Rattle.lis_taxonomy.specs.Taxonomy.{pair_cmp, no_links, has_edge, Entails, IsAcyclic, entails, with_edge, without_edge, empty_taxonomy}
 use Rattle.lis_taxonomy.specs.Inside.{HasShape, edge_list, reach, IsAcyclicTable, seen, IsSound, IsWidened, IsPartlyRight}
-use Rattle.lis_taxonomy.proofs.Edges.{IsOneMore, among_edges, edges_among, big_among, among_big, reach_with, acyclic_with, acyclic_without, reach_decides, acyclic_decides, first_step, reach_self, nat_decides, ended}
+use Rattle.lis_taxonomy.proofs.Edges.{IsOneMore, among_edges, edges_among, big_among, among_big, reach_with, acyclic_with, acyclic_without, reach_decides, acyclic_decides, first_step, reach_self, nat_decides, no_links_ordered}
 use Rattle.lis_taxonomy.proofs.Loops.{shaped, new_row}
 
 -- ---- sets of pairs
@@ -71,7 +71,7 @@ pub entails-seen : (linked : Rows) (props p q : ℕ) → entails (seen linked pr
 unfolding entails reach
 entails-seen linked props p q =
     ap (λ words. list_any (λ y. nat_eq y q) words)
-    (graph.up_same nat_eq nat_cmp no_links nat_decides exact_unsigned ended nat_cmp_total (set.items (seen linked props).edges) (edge_list linked props) (from_items (edge_list linked props)) (to_items (edge_list linked props)) p)
+    (graph.up_same nat_eq nat_cmp no_links nat_decides exact_unsigned no_links_ordered nat_cmp_total (set.items (seen linked props).edges) (edge_list linked props) (from_items (edge_list linked props)) (to_items (edge_list linked props)) p)
 
 pub acyclic-seen : (linked : Rows) (props : ℕ) → IsAcyclicTable linked props → IsAcyclic (seen linked props)
 acyclic-seen linked props acyclic = graph.acyclic_within no_links (set.items (seen linked props).edges) (edge_list linked props) (from_items (edge_list linked props)) ((acyclic_decides linked props).0 acyclic)

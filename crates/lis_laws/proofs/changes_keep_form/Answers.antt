@@ -1,12 +1,10 @@
 use Rattle.lis_graph.proofs.Members.{among_from_contains}
 use Rattle.lis_laws.proofs.Forms as forms
-use Rattle.lis_laws.proofs.Fresh as fresh
 use Rattle.lis_laws.proofs.changes_keep_form.Goals as goal
 
 pub returns : goal.returns
 returns c s formed = record {
   declares = forms.declares s formed;
-  declares_under = fresh.declares_under s formed;
   undeclares = forms.undeclares s formed;
   adds_axiom = forms.adds_axiom s formed;
   removes_axiom = forms.removes_axiom s formed;

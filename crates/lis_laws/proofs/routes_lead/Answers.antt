@@ -9,4 +9,4 @@ pub returns : goal.returns
 returns c s formed place file there =
     let m = among_from_contains (extension (table s) place) file there in
     let reached = route_reaches (table s) (table_sound s formed) place file m in
-    record { is_route = reached.is_route; only = route_only (table s) place file m; leads = reached.leads; shorter = reached.shorter }
+    record { is_route = reached.is_route; only = route_only (table s) (table_sound s formed) place file m; leads = reached.leads; shorter = reached.shorter }
