@@ -2,6 +2,7 @@ pub mod Members
 pub mod Tops
 pub mod Counts
 pub mod Chains
+pub mod Items
 pub mod Axioms
 pub mod Closures
 pub mod Apart
@@ -12,8 +13,11 @@ pub mod Tables
 pub mod Locals
 pub mod Routes
 pub mod Known
+pub mod Reached
+pub mod Growth
 pub mod Forms
 pub mod Named
-pub mod Items
+pub mod Touched
+pub mod Few
 pub mod Steps
 pub mod Growth

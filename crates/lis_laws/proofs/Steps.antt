@@ -248,7 +248,7 @@ replaced_keeps : (now : Situation) (old new : File) → IsInForm now → Replace
 replaced_keeps now old new before r = record { state = replaces_file now.state before.state old new r.there r.fits; place = before.place }
 
 -- a file that is here by its own name
-file_here : (now : Situation) (name : List ℕ) → NoneStands (here_checks now (file_of now.state.files name).name) → Among now.state.files (file_of now.state.files name)
+pub file_here : (now : Situation) (name : List ℕ) → NoneStands (here_checks now (file_of now.state.files name).name) → Among now.state.files (file_of now.state.files name)
 file_here now name none =
     file_of_there now.state.files name (here_named now name (subst (λ (n : List ℕ). is_here now n ≡ true) (file_of_name now.state.files name) (not-false _ none.0)))
 
