@@ -20,4 +20,3 @@ pub mod Named
 pub mod Touched
 pub mod Few
 pub mod Steps
-pub mod Growth
