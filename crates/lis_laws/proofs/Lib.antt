@@ -20,7 +20,3 @@ pub mod Named
 pub mod Touched
 pub mod Few
 pub mod Steps
-pub mod Growth
-pub mod Touched
-pub mod Few
-pub mod Examples

@@ -5,7 +5,7 @@ use Rattle.std.specs.BTreeSet.{insert_key}
 use Rattle.std.specs.Ordering.{match_ordering}
 use Rattle.std.specs.declared.cmp.Ordering.{Ordering}
 use Rattle.std.specs.declared.cmp.Ordering.TheVariants.{Less, Equal, Greater}
-use Rattle.std.proofs.lemmas.Bool.{and_parts, or_cases}
+use Rattle.std.proofs.lemmas.Bool.{and_parts, and_from, or_cases}
 use Rattle.lis_words.specs.Words.{word_cmp, has_word, head_bytes, is_word, is_plain_word, is_head, is_valued, is_test, test_of}
 use Rattle.lis_words.proofs.Tests.{plain_not_test, head_not_test, valued_not_test}
 use Rattle.lis_model.specs.Tests.{are_weaker, weaker_tests, is_met, met_tests, has_no_tests}
@@ -134,3 +134,15 @@ flat_up_le (word ∷ words) =
 pub words_le : (file : File) → length (file_words [] [] file) ≤ 2 * length file.assigned
 words_le file =
     omega (arith, ap length (words_of_assigned file), with_words_le [] (flat_map (up [] []) file.assigned), flat_up_le file.assigned)
+
+-- one word more that is no test
+pub no_tests_with : (words : List (List ℕ)) (word : List ℕ) → has_no_tests words ≡ true → is_test word ≡ false → has_no_tests (insert_key word_cmp words word) ≡ true
+no_tests_with [] word none one = rw one refl
+no_tests_with (first ∷ words) word none one =
+    by (word_cmp word first) (no_tests_with words word (and_parts (not (is_test first)) (has_no_tests words) none).1 one)
+  where
+    by : (o : Ordering) → has_no_tests (insert_key word_cmp words word) ≡ true
+        → has_no_tests (match_ordering o (word ∷ first ∷ words) (first ∷ words) (first ∷ insert_key word_cmp words word)) ≡ true
+    by Less more = rw one none
+    by Equal more = none
+    by Greater more = and_from (not (is_test first)) _ (and_parts (not (is_test first)) (has_no_tests words) none).0 more

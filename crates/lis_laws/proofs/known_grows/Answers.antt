@@ -4,7 +4,7 @@ use Rattle.lis_laws.proofs.known_grows.Goals as goal
 
 pub returns : goal.returns
 returns c s formed = record {
-  declares = known_declares s formed;
+  declares = λ word words form over. known_declares s formed word words (record { form = form; over = over });
   adds_file = λ file new. known_adds_file s formed.declared_set file (not-true _ new);
   adds_axiom = known_adds_axiom s formed;
 }
