@@ -93,6 +93,12 @@ weaker_among declared p q w = by (has_word declared p) (has_word_from_among decl
     by true e = filter_among (λ v. are_weaker (test_of v) (test_of p)) declared q w.to w.weaker
     by false e = absurd cc
 
+pub weaker_joined : (declared : List (List ℕ)) (p q r : List ℕ) → IsWeakerIn declared p q → IsWeakerIn declared q r → IsWeakerIn declared p r
+weaker_joined declared p q r w v = record { from = w.from; to = v.to; weaker = weaker_trans (test_of r) (test_of q) (test_of p) v.weaker w.weaker }
+
+pub not_weaker_itself : (declared : List (List ℕ)) (p : List ℕ) → IsWeakerIn declared p p → ⊥
+not_weaker_itself declared p w = weaker_apart (test_of p) w.weaker
+
 -- ---- what a word leads to by itself
 pub data OwnLink (declared : List (List ℕ)) (p q : List ℕ) : Type 0 where
   Head : is_valued p ≡ true → head_bytes p ≡ q → OwnLink declared p q
@@ -119,12 +125,11 @@ links_joined declared p q r (Head valued is) (Head again to) =
     absurd (both_ways (is_valued (head_bytes p)) (head_not_valued p) (subst (λ w. is_valued w ≡ true) (sym is) again))
 links_joined declared p q r (Head valued is) (Weaker w) = absurd (head_no_test p (subst (λ k. is_test k ≡ true) (sym is) (weaker_tests_are declared q r w).0))
 links_joined declared p q r (Weaker w) (Head valued to) = absurd (both_ways (is_test q) (valued_not_test q valued) (weaker_tests_are declared p q w).1)
-links_joined declared p q r (Weaker w) (Weaker v) =
-    links_weaker declared p r (record { from = w.from; to = v.to; weaker = weaker_trans (test_of r) (test_of q) (test_of p) v.weaker w.weaker })
+links_joined declared p q r (Weaker w) (Weaker v) = links_weaker declared p r (weaker_joined declared p q r w v)
 
 links_apart : (declared : List (List ℕ)) (p : List ℕ) → OwnLink declared p p → ⊥
 links_apart declared p (Head valued is) = both_ways (is_valued (head_bytes p)) (head_not_valued p) (subst (λ w. is_valued w ≡ true) (sym is) valued)
-links_apart declared p (Weaker w) = weaker_apart (test_of p) w.weaker
+links_apart declared p (Weaker w) = not_weaker_itself declared p w
 
 pub links_ordered : (declared : List (List ℕ)) → IsOrdered (links declared)
 links_ordered declared = record {
