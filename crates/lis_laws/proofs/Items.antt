@@ -10,7 +10,7 @@ use Rattle.lis_model.specs.declared.refusal.Refusal.TheVariants.{BadLine, LongLi
 use Rattle.lis_model.specs.declared.command.Command.TheVariants.{Mkdir, Rmdir, Axiom, Unaxiom, Write, Cat, Mv, Rename, Rm, Pwd, Ls, Props, Way, Stat}
 use Rattle.lis_model.specs.Step.{Item, Payload, no_payload}
 use Rattle.lis_model.specs.Step.Item.{Do, Bad}
-use Rattle.lis_model.specs.Script.{bad_line, is_line_word, word_form, pair_form, tags_form, create_named, create_form, add_named, add_form, write_form, file_form, cd_form, mv_form, rename_form, alone_form, all_forms, first_forms, form_of, item_of_words, item_of, line_words, is_long, payload_limit, payload_of, payload_size, before_feed, after_feed, First, first_ended, first_with, first_by, first_of, items_within, all_items, whole_within, whole_items, script, is_feed}
+use Rattle.lis_model.specs.Script.{bad_line, is_line_word, word_form, pair_form, tags_form, create_named, create_form, add_named, add_form, write_form, file_form, cd_form, mv_form, rename_form, alone_form, form_of, item_of_words, item_of, line_words, is_long, payload_limit, payload_of, payload_size, before_feed, after_feed, First, first_ended, first_with, first_by, first_of, items_within, all_items, whole_within, whole_items, script, is_feed}
 use Rattle.lis_laws.specs.Steps.{is_payload, is_formed}
 
 -- a choice of two items in form is one
@@ -118,9 +118,9 @@ alone_formed item (word ∷ words) h = refl
 alone : (b : Bool) → b ≡ true → (b && true) ≡ true
 alone b e = and_from _ _ e refl
 
--- the lines of all commands, and those that are read so far
-all_line_formed : (first : List ℕ) (words : List (List ℕ)) (payload : Payload) → is_payload payload ≡ true → is_formed (all_forms first words payload) ≡ true
-all_line_formed first words payload sized =
+-- the lines of all commands
+line_formed : (first : List ℕ) (words : List (List ℕ)) (payload : Payload) → is_payload payload ≡ true → is_formed (form_of first words payload) ≡ true
+line_formed first words payload sized =
     chosen (same_word first (codes "mkdir")) _ _ (word_formed (λ word. Do (Mkdir word) no_payload) (λ word e. alone _ e) words)
     (chosen (same_word first (codes "rmdir")) _ _ (word_formed (λ word. Do (Rmdir word) no_payload) (λ word e. alone _ e) words)
     (chosen (same_word first (codes "axiom")) _ _ (pair_formed (λ left right. Do (Axiom left right) no_payload) (λ left right e f. alone _ (and_from _ _ e f)) words)
@@ -138,21 +138,6 @@ all_line_formed first words payload sized =
     (chosen (same_word first (codes "props")) _ _ (file_formed (λ name. Do (Props name) no_payload) (λ name e. alone _ e) words)
     (chosen (same_word first (codes "way")) _ _ (file_formed (λ name. Do (Way name) no_payload) (λ name e. alone _ e) words)
     (chosen (same_word first (codes "stat")) _ _ (alone_formed (Do Stat no_payload) words refl) refl))))))))))))))))
-
-first_line_formed : (first : List ℕ) (words : List (List ℕ)) (payload : Payload) → is_payload payload ≡ true → is_formed (first_forms first words payload) ≡ true
-first_line_formed first words payload sized =
-    chosen (same_word first (codes "mkdir")) _ _ (word_formed (λ word. Do (Mkdir word) no_payload) (λ word e. alone _ e) words)
-    (chosen (same_word first (codes "create")) _ _ (create_formed words)
-    (chosen (same_word first (codes "add")) _ _ (add_formed words payload sized)
-    (chosen (same_word first (codes "cat")) _ _ (file_formed (λ name. Do (Cat name) no_payload) (λ name e. alone _ e) words)
-    (chosen (same_word first (codes "rm")) _ _ (file_formed (λ name. Do (Rm name) no_payload) (λ name e. alone _ e) words)
-    (chosen (same_word first (codes "cd")) _ _ (cd_formed words)
-    (chosen (same_word first (codes "pwd")) _ _ (alone_formed (Do Pwd no_payload) words refl)
-    (chosen (same_word first (codes "ls")) _ _ (alone_formed (Do Ls no_payload) words refl) refl)))))))
-
--- Not all commands are read yet; then it is `all_line_formed`.
-line_formed : (first : List ℕ) (words : List (List ℕ)) (payload : Payload) → is_payload payload ≡ true → is_formed (form_of first words payload) ≡ true
-line_formed first words payload sized = first_line_formed first words payload sized
 
 -- the items of a part of the input, none or one
 abbrev AreFormed : Option Item → Type 0
