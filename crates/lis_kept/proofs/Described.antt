@@ -23,7 +23,7 @@ use Rattle.lis_kept.specs.Links.{AreHeld}
 use Rattle.lis_kept.specs.Changes.{Marks, Describes}
 use Rattle.lis_kept.proofs.InArea.{rows_counted, among_slots}
 use Rattle.lis_kept.proofs.RowBytes.{row_bytes_same}
-use Rattle.lis_kept.proofs.Formed.{links_stay, named_below}
+use Rattle.lis_kept.proofs.Formed.{held_files, named_below}
 use Rattle.lis_kept.proofs.Marking.{AreBelow, blocks_marked}
 
 -- ---- numbers
@@ -125,28 +125,17 @@ module _ (p : Kept) (t : Taxonomy) (held : AreHeld p t) (slot : ℕ) (old new : 
       subst M (length-map touched (block_of p.limits Rows)) (blocks_marked p described (map (block_of p.limits Rows) touched) refl are_marks homes_below spelled_before)
 
   held_described : AreHeld described t
-  held_described = record {
-    sound = record {
-      range = held.sound.range;
-      numbers = held.sound.numbers;
-      dict = held.sound.dict;
-      heads = held.sound.heads;
-      bits = held.sound.bits;
-      properties = held.sound.properties;
-      axiom_count = held.sound.axiom_count;
-      axioms = λ s left right is. let one = held.sound.axioms s left right is in record { below = one.below; left = one.left; right = one.right };
-      slots = held.sound.slots;
-      catalog = held.sound.catalog;
-      records = held.sound.records;
-      blocks = held.sound.blocks;
-      rows = props ∙ held.sound.rows;
-      files = ap length sets ∙ (length-set p.ext.sets slot new ∙ held.sound.files);
-      named = λ n s. by n s (cases_eq s slot);
-      settled = settled;
-      marks = omega (arith, ap length are_marks, length-marked p.marks (map (block_of p.limits Rows) touched), held.sound.marks);
-    };
-    links = links_stay p p.catalog p.taken e marks t held.links;
-  }
+  held_described = held_files p t p.catalog p.taken e marks held (record {
+    slots = refl;
+    catalog_is = held.sound.catalog;
+    records = held.sound.records;
+    blocks = refl;
+    rows = props;
+    files = ap length sets ∙ length-set p.ext.sets slot new;
+    named = λ n s. by n s (cases_eq s slot);
+    settled = settled;
+    as_many = ap length are_marks ∙ length-marked p.marks (map (block_of p.limits Rows) touched);
+  })
     where
       by : (n s : ℕ) → (s ≡ slot) ⊎ (s ≡ slot → ⊥) → has e n s ≡ true → IsSome (word_of p.dict n)
       by n s (inl same) has_it = new_named n (ap (λ ns. has_number ns n) (sym (ap (set_of e) same ∙ set_in)) ∙ has_it)

@@ -1,11 +1,11 @@
 -- What sound parts spell is in the ranges of its layouts.
-use Rattle.std.proofs.Common.{◌≡◌, ℕ, ◌+◌, ◌-◌, ◌^◌, ◌<◌, ◌≤◌, ◌&&◌, nat_lt, Bool, true, false, List, length, get_or, Option, Some, None, is_some, unwrap_or, slice_get, IsSome, refl, sym, ap, ◌∙◌, subst, arith}
+use Rattle.std.proofs.Common.{◌≡◌, ℕ, ◌+◌, ◌-◌, ◌^◌, ◌<◌, ◌≤◌, ◌&&◌, nat_lt, Bool, true, false, List, [], length, get_or, Option, Some, None, is_some, unwrap_or, slice_get, IsSome, refl, sym, ap, ◌∙◌, subst, arith}
 use Rattle.std.specs.List.{list_all}
 use Rattle.std.proofs.lemmas.Bool.{and_parts, and_from, lt-ltb}
 use Rattle.std.proofs.lemmas.Option.{unwrap_or-slice_get, get_or_from_slice_get}
 use Rattle.lis_dict.specs.Dict.{Dict, IsDict, word_of}
 use Rattle.lis_dict.proofs.Laws.{number_from_word, number_below}
-use Rattle.lis_catalog.specs.Catalog.{Catalog, rec_at}
+use Rattle.lis_catalog.specs.Catalog.{Catalog, IsCatalog, rec_at}
 use Rattle.lis_ext.specs.Ext.{Ext, has}
 use Rattle.lis_taxonomy.specs.Taxonomy.{Taxonomy}
 use Rattle.lis_fields.specs.Records.{FileRecord}
@@ -67,9 +67,21 @@ pub links_stay : (p : Kept) (catalog : Catalog) (taken : List Bool) (ext : Ext) 
     → TellsLinks (record p { catalog = catalog; taken = taken; ext = ext; marks = marks }) t
 links_stay p catalog taken ext marks t links = record { props = links.props; edges = links.edges }
 
--- other marks, as many
-pub held_marks : (k : Kept) (t : Taxonomy) (marks : List Bool) → AreHeld k t → length marks ≡ length k.marks → AreHeld (record k { marks = marks }) t
-held_marks k t marks held same = record {
+-- files, blocks, numbers and marks that may stand beside words and axioms
+pub record FilesHold (p : Kept) (catalog : Catalog) (taken : List Bool) (ext : Ext) (marks : List Bool) : Type 0 where
+  pub slots : catalog.files ≡ p.catalog.files
+  pub catalog_is : IsCatalog catalog
+  pub records : (slot : ℕ) (rec : FileRecord) → rec_at catalog slot ≡ Some rec → is_sound_record p.dict p.limits.blocks rec ≡ true
+  pub blocks : length taken ≡ length p.taken
+  pub rows : ext.props ≡ p.ext.props
+  pub files : length ext.sets ≡ length p.ext.sets
+  pub named : (n slot : ℕ) → has ext n slot ≡ true → IsSome (word_of p.dict n)
+  pub settled : ext.marks ≡ []
+  pub as_many : length marks ≡ length p.marks
+
+pub held_files : (p : Kept) (t : Taxonomy) (catalog : Catalog) (taken : List Bool) (ext : Ext) (marks : List Bool) → AreHeld p t → FilesHold p catalog taken ext marks
+    → AreHeld (record p { catalog = catalog; taken = taken; ext = ext; marks = marks }) t
+held_files p t catalog taken ext marks held hold = record {
   sound = record {
     range = held.sound.range;
     numbers = held.sound.numbers;
@@ -79,15 +91,29 @@ held_marks k t marks held same = record {
     properties = held.sound.properties;
     axiom_count = held.sound.axiom_count;
     axioms = λ slot left right is. let one = held.sound.axioms slot left right is in record { below = one.below; left = one.left; right = one.right };
-    slots = held.sound.slots;
-    catalog = held.sound.catalog;
-    records = held.sound.records;
-    blocks = held.sound.blocks;
-    rows = held.sound.rows;
-    files = held.sound.files;
-    named = held.sound.named;
-    settled = held.sound.settled;
-    marks = omega (arith, same, held.sound.marks);
+    slots = hold.slots ∙ held.sound.slots;
+    catalog = hold.catalog_is;
+    records = hold.records;
+    blocks = hold.blocks ∙ held.sound.blocks;
+    rows = hold.rows ∙ held.sound.rows;
+    files = hold.files ∙ held.sound.files;
+    named = hold.named;
+    settled = hold.settled;
+    marks = omega (arith, hold.as_many, held.sound.marks);
   };
-  links = links_stay k k.catalog k.taken k.ext marks t held.links;
+  links = links_stay p catalog taken ext marks t held.links;
 }
+
+-- other marks, as many
+pub held_marks : (k : Kept) (t : Taxonomy) (marks : List Bool) → AreHeld k t → length marks ≡ length k.marks → AreHeld (record k { marks = marks }) t
+held_marks k t marks held same = held_files k t k.catalog k.taken k.ext marks held (record {
+  slots = refl;
+  catalog_is = held.sound.catalog;
+  records = held.sound.records;
+  blocks = refl;
+  rows = refl;
+  files = refl;
+  named = held.sound.named;
+  settled = held.sound.settled;
+  as_many = same;
+})

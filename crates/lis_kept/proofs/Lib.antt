@@ -6,3 +6,6 @@ pub mod Formed
 pub mod Spelled
 pub mod Marking
 pub mod Described
+pub mod Filing
+pub mod Dropped
+

@@ -1,21 +1,25 @@
 //! Changes of what memory keeps. Each marks the blocks that it touches.
 
-ghost use Rattle.std.specs.Prelude.{◌≡◌, ℕ, ◌+◌, ◌<◌, ◌≤◌, nat_lt, is_some, map, length, IsTrue};
+ghost use Rattle.std.specs.Prelude.{◌≡◌, ℕ, ◌+◌, ◌<◌, ◌≤◌, nat_lt, true, is_some, map, length, slice_set, IsTrue, IsSome};
 ghost use Rattle.std.specs.List.{list_all};
 ghost use Rattle.std.specs.List.Sorted.{IsStrictlyIncreasing};
 ghost use Rattle.lis_content.specs.Content.{marked};
+ghost use Rattle.lis_catalog.specs.Catalog.{rec_at};
 ghost use Rattle.lis_dict.specs.Dict.{word_of};
 ghost use Rattle.lis_ext.specs.Ext.{set_of};
-ghost use Rattle.lis_model.specs.Image.{data_start};
+ghost use Rattle.lis_model.specs.Image.{bitmap_start, data_start};
 ghost use Rattle.lis_model.specs.Ranges.{are_in_range};
 ghost use Rattle.lis_kept.specs.Areas.{block_of};
-ghost use Rattle.lis_kept.specs.Areas.Area.{Rows};
-ghost use Rattle.lis_kept.specs.Changes.{Describes};
+ghost use Rattle.lis_kept.specs.Areas.Area.{Files, Rows};
+ghost use Rattle.lis_kept.specs.Sound.{BlocksAreTaken};
+ghost use Rattle.lis_kept.specs.Changes.{Describes, Drops};
 
 use crate::parts::Parts;
-use crate::places::rows_start;
+use crate::places::{bitmap_start, files_start, rows_start};
+use crate::spelling::FILES_PER_BLOCK;
 use lis_bits::Flags;
 use lis_ext::Ext;
+use lis_fields::FileRec;
 use lis_journal::BLOCK_LEN;
 use lis_model::limits::Limits;
 
@@ -37,6 +41,17 @@ fn mark_rows(ext: &Ext, limits: &Limits, marks: &mut Flags)
     }
 }
 
+// Marks the blocks of a file slot and of the bitmap.
+fn mark_file(marks: &mut Flags, limits: &Limits, slot: u16)
+    requires range { IsTrue (are_in_range limits.now) }
+    requires slot { slot < limits.now.files }
+    requires long { data_start limits.now ≤ length marks.old }
+    ensures { marks.new ≡ slice_set (slice_set marks.old (block_of limits.now Files slot) true) (bitmap_start limits.now) true }
+{
+    marks.put(files_start(limits) + u32::from(slot / FILES_PER_BLOCK), true);
+    marks.put(bitmap_start(limits), true);
+}
+
 impl Parts {
     /// Gives a file slot other numbers, those of its file's description.
     pub fn describe(&mut self, slot: u16, old: &[u16], new: &[u16])
@@ -49,5 +64,19 @@ impl Parts {
         self.ext.set_file(u32::from(slot), old, new);
         mark_rows(&self.ext, &self.limits, &mut self.marks);
         self.ext.settle();
+    }
+
+    /// Takes the file out of its slot, and gives its blocks back. Answers its record.
+    pub fn drop_file(&mut self, slot: u16) -> FileRec
+        requires there { IsSome (rec_at self.old.catalog slot) }
+        requires taken { BlocksAreTaken self.old }
+        ensures { Drops slot result self.old self.new }
+    {
+        let Some(rec) = self.catalog.remove(slot) else {
+            unreachable!()
+        };
+        lis_content::drop_file(&mut self.map, rec.blocks.as_slice());
+        mark_file(&mut self.marks, &self.limits, slot);
+        rec
     }
 }
