@@ -1,5 +1,5 @@
 -- A record's blocks, as they are written and read.
-use Rattle.std.proofs.Common.{◌≡◌, inl, inr, ℕ, ◌+◌, ◌-◌, ◌*◌, ◌<◌, ◌≤◌, ◌==◌, nat_le, ◌&&◌, List, [], ◌∷◌, length, take, drop, IsTrue, refl, sym, ◌∙◌, ap, subst, arith, length-drop}
+use Rattle.std.proofs.Common.{◌≡◌, inl, inr, ℕ, ◌+◌, ◌-◌, ◌*◌, ◌<◌, ◌≤◌, ◌==◌, nat_le, List, [], ◌∷◌, length, take, drop, IsTrue, refl, sym, ◌∙◌, ap, subst, arith, length-drop}
 use Rattle.std.proofs.lemmas.Bool.{cond-false, ne_eqb, and_from, le-leb}
 use Rattle.std.proofs.lemmas.List.{take-take, drop-drop, take_all, length-map}
 use Rattle.lis_ports.specs.Bytes.{part, put, Torn}
@@ -8,7 +8,7 @@ use Rattle.lis_journal.specs.Record.{block, Entry, homes, homes_of, count_of, is
 use Rattle.lis_journal.specs.Images.{look}
 use Rattle.lis_journal.specs.Spreads.{IsClear, Touched}
 use Rattle.lis_journal.specs.Phases.{Spelled, renumbered}
-use Rattle.lis_journal.proofs.Entries.{Within, block-apply, length-apply, touched_apply}
+use Rattle.lis_journal.proofs.Entries.{Within, block-apply, touched_apply}
 use Rattle.lis_journal.proofs.Headers.{length-words}
 use Rattle.lis_journal.proofs.Spreading.{torn_trans}
 

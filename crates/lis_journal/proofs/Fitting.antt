@@ -1,6 +1,6 @@
 -- What a journal that fits a disk says, for what stands on it.
-use Rattle.std.proofs.Common.{◌≡◌, ◌⊎◌, inl, inr, ℕ, ◌+◌, ◌*◌, ◌<◌, ◌≤◌, ◌==◌, nat_lt, ◌||◌, Bool, true, false, cond, List, [], ◌∷◌, ◌++◌, length, Option, Some, None, is_some, IsTrue, refl, sym, ◌∙◌, ap, subst, arith}
-use Rattle.std.specs.List.{list_all, list_any}
+use Rattle.std.proofs.Common.{◌≡◌, inl, inr, ℕ, ◌*◌, ◌<◌, ◌≤◌, ◌==◌, nat_lt, ◌||◌, Bool, true, false, cond, List, [], ◌∷◌, ◌++◌, length, Option, Some, None, is_some, IfSome, IsTrue, refl, sym, ◌∙◌, ap, subst, arith}
+use Rattle.std.specs.List.{list_all}
 use Rattle.std.proofs.lemmas.Bool.{and_parts, ltb-true, eqb-true, ne_eqb, cond-false, false≢true}
 use Rattle.std.proofs.lemmas.List.Folds.{list_any-append}
 use Rattle.lis_ports.specs.Meaning.{Meaning}
@@ -10,9 +10,10 @@ use Rattle.lis_ports.proofs.Always.{always_settled}
 use Rattle.lis_ports.proofs.Parts.{length-part}
 use Rattle.lis_journal.specs.Record.{block, has_open, Entry, first_bad, all_recorded, apply, bad_record, replayed, open_count}
 use Rattle.lis_journal.specs.Journal.{Held, OpenRecords, no_records}
-use Rattle.lis_journal.specs.Images.{IsOutside, Keeps, StandsFor, StandsBut, is_among, look, IsAtRest, FitsAt, Fits, KeepsPast, with_placed}
+use Rattle.lis_journal.specs.Images.{IsOutside, StandsFor, StandsBut, is_among, look, IsAtRest, FitsAt, Fits, KeepsPast, with_placed}
 use Rattle.lis_journal.specs.Spreads.{Spreads, SamePast}
-use Rattle.lis_journal.proofs.Entries.{AtHome, block-apply, length-look, look-past}
+use Rattle.lis_journal.specs.Staging.{has_entry}
+use Rattle.lis_journal.proofs.Entries.{AtHome, block-apply, length-look, look-past, look-absent}
 use Rattle.lis_journal.proofs.Series.{all_sound}
 use Rattle.lis_journal.proofs.Gates.{all_closed}
 use Rattle.lis_journal.proofs.Holding.{fits_placed}
@@ -120,10 +121,10 @@ past_kept {blocks} {records} {placed} {a} {b} {kept} within fits spreads n le =
     let was = spreads.reads in
     let at : (others image : List ℕ) → is_among others n ≡ false → IsAtRest blocks records others kept image → block n image ≡ kept n =
     λ others image not_in rest.
-        let holds = rest.holds in
-        let sound = all_sound blocks 2 records.count image (full holds) holds.form in
-        sym (look-past blocks n (all_recorded 2 records.count image) (block n image) sound.within le)
-        ∙ (holds.latest n (block n image) ∙ holds.same n out not_in) in
+    let holds = rest.holds in
+    let sound = all_sound blocks 2 records.count image (full holds) holds.form in
+    sym (look-past blocks n (all_recorded 2 records.count image) (block n image) sound.within le)
+    ∙ (holds.latest n (block n image) ∙ holds.same n out not_in) in
     let from : block n was.0 ≡ block n a.bytes = elim was.1 as (λ _. block n was.0 ≡ block n a.bytes) [
       | inl image ↦ at placed was.0 (placed_within blocks n placed within le) (fits.leaves was.0 image) ∙ sym (at [] a.bytes refl fits.reads)
       | inr same ↦ ap (block n) same
@@ -144,3 +145,15 @@ among_more placed n m e = by (is_among placed n) (n == m) refl refl e
         let parts = neither (is_among placed m) ((n == m) || false) (sym (list_any-append (λ k. k == m) placed (n ∷ [])) ∙ e) in
         let other = neither (n == m) false parts.1 in
         ap (λ b. b || is_among placed m) (sym here ∙ other.0) ∙ parts.0
+
+-- told by other words for the blocks, the records and the placed blocks
+pub fits_told : {blocks now : ℕ} {records now_records : OpenRecords} {placed now_placed : List ℕ} {m : Meaning} {kept : ℕ → List ℕ} → blocks ≡ now → records ≡ now_records → placed ≡ now_placed → FitsAt blocks records placed m kept → FitsAt now now_records now_placed m kept
+fits_told {now = now} {records = records} {now_records = now_records} {placed = placed} {m = m} {kept = kept} blocks_are records_are placed_are fits =
+    subst (λ p. FitsAt now now_records p m kept) placed_are
+    (subst (λ (r : OpenRecords). FitsAt now r placed m kept) records_are
+    (subst (λ b. FitsAt b records placed m kept) blocks_are fits))
+
+-- what is staged for a block over its latest content
+pub content_some : {T : Type 0} (o : Option T) (bytes_of : T → List ℕ) (staged latest : List Entry) (n : ℕ) → has_entry staged n ≡ false → IfSome o (λ x. (old : List ℕ) → look latest n old ≡ bytes_of x) → IfSome o (λ x. (old : List ℕ) → look staged n (look latest n old) ≡ bytes_of x)
+content_some None bytes_of staged latest n absent some = tt
+content_some (Some x) bytes_of staged latest n absent some = λ old. look-absent staged n (look latest n old) absent ∙ some old

@@ -1,11 +1,11 @@
 -- The gates, one by one and counted.
-use Rattle.std.proofs.Common.{◌≡◌, ◌≢◌, ◌⊎◌, inl, inr, ℕ, zero, suc, ◌+◌, ◌-◌, ◌<◌, ◌≤◌, ◌==◌, ◌||◌, nat_lt, Bool, true, false, List, [], ◌∷◌, length, get_or, slice_index, take, drop, replicate, refl, sym, ◌∙◌, ap, subst, arith}
-use Rattle.std.specs.List.{list_any, prefix_len}
+use Rattle.std.proofs.Common.{◌≡◌, ◌≢◌, ◌⊎◌, inl, inr, ℕ, zero, suc, ◌+◌, ◌-◌, ◌<◌, ◌≤◌, ◌==◌, ◌||◌, nat_lt, Bool, true, false, List, [], ◌∷◌, length, get_or, slice_index, drop, replicate, refl, sym, ◌∙◌, ap, subst, arith}
+use Rattle.std.specs.List.{list_any}
 use Rattle.std.proofs.lemmas.Bool.{lt-ltb, le-ltb, false≢true}
 use Rattle.std.proofs.lemmas.List.{get_or-take, get_or-drop}
 use Rattle.std.proofs.lemmas.List.Sums.{prefix_len_is, prefix_len_passes, prefix_len_stops, prefix_len-le-length}
 use Rattle.lis_ports.specs.Bytes.{part, put, Torn}
-use Rattle.lis_ports.proofs.Parts.{Apart, length-part, part-torn, part-put, part-put_other, part-part}
+use Rattle.lis_ports.proofs.Parts.{Apart, length-part, part-torn, part-put}
 use Rattle.lis_journal.specs.Record.{gates, is_open, has_open, open_count}
 
 index-part : (at n k : ℕ) (xs : List ℕ) → k < n → slice_index (part at n xs) k ≡ slice_index xs (at + k)

@@ -1,6 +1,6 @@
 -- A journal's open records over a disk, by the log that is seen of them.
-use Rattle.std.proofs.Common.{◌≡◌, ◌⊎◌, inl, inr, ℕ, ◌+◌, ◌*◌, ◌<◌, ◌≤◌, ◌==◌, ◌||◌, Bool, true, false, cond, List, [], ◌∷◌, ◌++◌, length, IsTrue, refl, sym, ◌∙◌, ap, subst, arith}
-use Rattle.std.proofs.lemmas.Bool.{eqb-true, eqb-false, eq-eqb, ne_eqb, false≢true}
+use Rattle.std.proofs.Common.{◌≡◌, inl, inr, ℕ, ◌+◌, ◌*◌, ◌<◌, ◌≤◌, ◌==◌, ◌||◌, Bool, true, false, cond, List, [], ◌∷◌, length, refl, sym, ◌∙◌, ap, subst, arith}
+use Rattle.std.proofs.lemmas.Bool.{eqb-true, eqb-false, ne_eqb, false≢true}
 use Rattle.lis_ports.specs.Meaning.{Meaning}
 use Rattle.lis_ports.specs.Bytes.{put, Torn}
 use Rattle.lis_ports.specs.Runs.{IsDiskRun, Leaves}
@@ -8,8 +8,8 @@ use Rattle.lis_ports.specs.Calls.{Elapses, IsTorn, IsWritten}
 use Rattle.lis_ports.proofs.Moments.{leaves_call, leaves_then, leaves_weaken}
 use Rattle.lis_ports.proofs.Parts.{part-torn, torn-put}
 use Rattle.lis_journal.specs.Record.{block, Entry}
-use Rattle.lis_journal.specs.Journal.{OpenRecords, no_records}
-use Rattle.lis_journal.specs.Images.{IsOutside, StandsBut, StandsForAllOrNone, is_among, look, Holds, IsAtRest, FitsAt, with_kept}
+use Rattle.lis_journal.specs.Journal.{OpenRecords}
+use Rattle.lis_journal.specs.Images.{IsOutside, StandsBut, StandsForAllOrNone, is_among, look, IsAtRest, FitsAt, with_kept}
 use Rattle.lis_journal.specs.Staging.{has_entry}
 use Rattle.lis_journal.specs.Spreads.{SamePast}
 use Rattle.lis_journal.specs.Phases.{IsOpened, looked}
@@ -70,8 +70,8 @@ other_block n m from image ne torn =
 pub torn_rest : {blocks : ℕ} {records : OpenRecords} {placed : List ℕ} {kept : ℕ → List ℕ} {from : List ℕ} (n : ℕ) (image : List ℕ) → 578 ≤ n → IsAtRest blocks records placed kept from → Torn (4096 * n) 4096 from image → IsAtRest blocks records (n ∷ placed) kept image
 torn_rest {records = records} {placed = placed} {kept = kept} {from = from} n image home rest torn =
     placed_torn n (n ∷ placed) kept image home rest torn (λ m out not_in.
-        let parts = among_head n m placed not_in in
-        ap (look records.latest m) (other_block n m from image parts.0 torn) ∙ rest.holds.same m out parts.1)
+    let parts = among_head n m placed not_in in
+    ap (look records.latest m) (other_block n m from image parts.0 torn) ∙ rest.holds.same m out parts.1)
 
 -- the blocks that are kept where it is placed
 torn_kept : {blocks : ℕ} {records : OpenRecords} {placed : List ℕ} {kept : ℕ → List ℕ} {image : List ℕ} (n : ℕ) (bytes : List ℕ) → IsAtRest blocks records (n ∷ placed) kept image → IsAtRest blocks records (n ∷ placed) (with_kept n bytes kept) image

@@ -1,19 +1,19 @@
 -- Reading records into memory.
-use Rattle.std.proofs.Common.{◌≡◌, ℕ, zero, suc, ◌+◌, ◌-◌, ◌*◌, ◌<◌, ◌≤◌, ◌==◌, Bool, true, false, cond, ◌&&◌, nat_le, List, [], ◌∷◌, ◌++◌, length, Option, Some, None, MatchOption, IsTrue, refl, sym, ◌∙◌, ap, subst, arith}
+use Rattle.std.proofs.Common.{◌≡◌, ℕ, zero, suc, ◌+◌, ◌-◌, ◌*◌, ◌<◌, ◌≤◌, ◌==◌, Bool, true, false, cond, ◌&&◌, nat_le, List, [], ◌∷◌, ◌++◌, length, Some, None, IsTrue, refl, sym, ◌∙◌, ap, subst, arith}
 use Rattle.std.proofs.lemmas.Bool.{le-leb, lt-leb}
 use Rattle.lis_ports.specs.Meaning.{Meaning}
 use Rattle.lis_ports.specs.Bytes.{part}
 use Rattle.lis_ports.specs.Runs.{IsDiskRun}
 use Rattle.lis_ports.specs.Calls.{Elapses, IsUnchanged}
 use Rattle.lis_ports.proofs.Moments.{run_none, run_then, leaves_none, leaves_call, leaves_then, leaves_weaken}
-use Rattle.lis_journal.specs.Record.{Entry, block, homes, word, words, count_of, homes_of, rises, is_header, record_end, is_record, entries_from, recorded, first_bad, all_recorded, behind}
+use Rattle.lis_journal.specs.Record.{block, word, words, count_of, homes_of, rises, is_header, record_end, is_record, entries_from, recorded, first_bad, all_recorded, behind}
 use Rattle.lis_journal.specs.Images.{look}
-use Rattle.lis_journal.specs.Staging.{Staging, with_entry}
+use Rattle.lis_journal.specs.Staging.{Staging}
 use Rattle.lis_journal.specs.Spreads.{OnlyReads}
 use Rattle.lis_journal.specs.Phases.{Absorbs}
 use Rattle.lis_journal.proofs.Headers.{words-snoc, IsForm, length-words}
 use Rattle.lis_journal.proofs.Places.{rise_parts}
-use Rattle.lis_journal.proofs.Series.{look-append, behind-more, entries-more, form-more, form-bad}
+use Rattle.lis_journal.proofs.Series.{behind-more, entries-more, form-more, form-bad}
 use Rattle.lis_journal.proofs.Absorbing.{absorbs_put, absorbs_then}
 
 -- ---- reads in a row

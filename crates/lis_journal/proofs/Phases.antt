@@ -1,15 +1,15 @@
 -- The phases, each as a fact about one image: what keeps it, what stands in it, and where it leads.
-use Rattle.std.proofs.Common.{◌≡◌, ◌≢◌, ◌⊎◌, inl, inr, ℕ, zero, suc, ◌+◌, ◌*◌, ◌<◌, ◌≤◌, ◌==◌, nat_lt, Bool, true, false, cond, List, [], ◌∷◌, ◌++◌, length, replicate, Option, Some, None, is_some, IsSomeAnd, slice_index, IsTrue, refl, sym, ◌∙◌, ap, subst, arith}
+use Rattle.std.proofs.Common.{◌≡◌, ◌≢◌, ◌⊎◌, inl, inr, ℕ, zero, suc, ◌+◌, ◌*◌, ◌<◌, ◌≤◌, ◌==◌, nat_lt, Bool, true, false, cond, List, [], ◌∷◌, ◌++◌, length, replicate, Option, Some, None, is_some, IsSomeAnd, slice_index, refl, sym, ◌∙◌, ap, subst, arith}
 use Rattle.std.proofs.lemmas.Bool.{lt-ltb, le-ltb, cases_eq, cases_order}
-use Rattle.lis_ports.specs.Bytes.{part, put, Torn}
+use Rattle.lis_ports.specs.Bytes.{put, Torn}
 use Rattle.lis_ports.proofs.Parts.{Apart, part-torn, torn-put}
 use Rattle.lis_journal.specs.Record.{block, is_open, open_count, Entry, record_end, is_record, recorded, first_bad, all_recorded, behind, apply, bad_record, replayed}
 use Rattle.lis_journal.specs.Journal.{OpenRecords, records_of, no_records}
 use Rattle.lis_journal.specs.Images.{IsOutside, Keeps, KeepsBut, StandsFor, StandsBut, StandsForAllOrNone, look, is_among, Holds, IsAtRest}
 use Rattle.lis_journal.specs.Spreads.{Touched}
 use Rattle.lis_journal.specs.Phases.{Spelled, Unsure, Opened, Homed, Shut, looked, Absorbs}
-use Rattle.lis_journal.proofs.Entries.{Within, AtHome, block-apply, length-apply, look_again, home_or_clear, homes_clear}
-use Rattle.lis_journal.proofs.Gates.{gate-torn, other_gate-torn, gate-put, others-put, open_count-is, open_count-same, open_count-gates, open_count-shut, open_before}
+use Rattle.lis_journal.proofs.Entries.{Within, AtHome, block-apply, length-apply, home_or_clear, homes_clear}
+use Rattle.lis_journal.proofs.Gates.{gate-torn, other_gate-torn, gate-put, others-put, open_count-same, open_count-gates, open_count-shut, open_before}
 use Rattle.lis_journal.proofs.Series.{behind_from, behind_within, records_same, behind-more, entries-more, form-more, look-append, all_sound, spelled_same}
 
 -- ---- what stands

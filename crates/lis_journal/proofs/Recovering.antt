@@ -1,24 +1,24 @@
 -- A recovery, call by call: what is known of the disk before it writes, and how it ends.
-use Rattle.std.proofs.Common.{◌≡◌, ◌⊎◌, inl, inr, ℕ, zero, suc, ◌+◌, ◌*◌, ◌<◌, ◌≤◌, ◌==◌, Bool, true, false, List, [], ◌∷◌, length, replicate, Option, Some, None, IsSomeAnd, IsTrue, Result, Ok, Err, IsErr, OnOk, IfOk, refl, sym, ◌∙◌, ap, subst, arith, cond}
+use Rattle.std.proofs.Common.{◌≡◌, inl, inr, ℕ, ◌*◌, ◌<◌, ◌≤◌, ◌==◌, Bool, true, false, List, [], length, replicate, Option, Some, None, IsSomeAnd, IsTrue, Result, Ok, Err, IsErr, OnOk, refl, sym, ◌∙◌, ap, subst, arith, cond}
 use Rattle.std.specs.List.{list_any, prefix_len}
 use Rattle.std.proofs.lemmas.Bool.{false≢true}
 use Rattle.lis_ports.specs.Meaning.{Meaning}
-use Rattle.lis_ports.specs.Bytes.{part, put, Torn}
+use Rattle.lis_ports.specs.Bytes.{put, Torn}
 use Rattle.lis_ports.specs.Runs.{IsDiskRun, Leaves, Always, IsSettled}
 use Rattle.lis_ports.specs.Calls.{Elapses, IsSynced, IsUnsynced}
 use Rattle.lis_ports.proofs.Always.{always_settled}
 use Rattle.lis_ports.proofs.Moments.{leaves_call, leaves_then, leaves_weaken}
 use Rattle.lis_journal.specs.Record.{block, gates, is_open, has_open, open_count, behind_gates, gates_closed, Entry, first_bad, all_recorded, behind, apply, bad_record, replayed, recovered_as, recovered}
 use Rattle.lis_journal.specs.Journal.{records_of, no_records}
-use Rattle.lis_journal.specs.Images.{look, Keeps, StandsFor, StandsBut, IsAtRest, FitsAt, KeepsPast}
-use Rattle.lis_journal.specs.Spreads.{Spreads, OnlyReads, SamePast, SameAround}
+use Rattle.lis_journal.specs.Images.{look, StandsFor, StandsBut, IsAtRest, FitsAt, KeepsPast}
+use Rattle.lis_journal.specs.Spreads.{Spreads, OnlyReads, SameAround}
 use Rattle.lis_journal.specs.Phases.{Opened, IsOpened, Shut, IsLoaded, Closes}
-use Rattle.lis_journal.specs.Recovery.{StandsForReplayed, InRecovery, RecoveryEnded, IsSettledPast, LeftOrRecovering, Recovers}
+use Rattle.lis_journal.specs.Recovery.{StandsForReplayed, InRecovery, LeftOrRecovering, Recovers}
 use Rattle.lis_journal.proofs.Entries.{Within, block-apply, apply_alike}
-use Rattle.lis_journal.proofs.Spreading.{leaves_both, always_spread, leaves_spread}
-use Rattle.lis_journal.proofs.Gates.{all_closed, open_before, shut_first, open_count-shut}
-use Rattle.lis_journal.proofs.Series.{all_sound, behind_from}
-use Rattle.lis_journal.proofs.Phases.{replayed-good, replayed-bad, replayed-closed, shut_rest, stands_full, opened_stands, rest_stands}
+use Rattle.lis_journal.proofs.Spreading.{leaves_both}
+use Rattle.lis_journal.proofs.Gates.{all_closed, open_before, shut_first}
+use Rattle.lis_journal.proofs.Series.{all_sound}
+use Rattle.lis_journal.proofs.Phases.{replayed-good, replayed-bad, replayed-closed, shut_rest, stands_full, rest_stands}
 use Rattle.lis_journal.proofs.Saving.{on_ok, others_stand, others_fit, around_past, gates_around}
 
 -- ---- what the sync and the reads leave

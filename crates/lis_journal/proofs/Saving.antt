@@ -1,20 +1,20 @@
 -- The phases over a disk: what stands at each moment, and what each phase leads to.
-use Rattle.std.proofs.Common.{◌≡◌, ◌⊎◌, inl, inr, ℕ, ◌+◌, ◌*◌, ◌<◌, ◌≤◌, List, [], ◌∷◌, length, replicate, true, IsTrue, refl, sym, ◌∙◌, ap, subst, arith, OnOk, Result, Ok, Err}
+use Rattle.std.proofs.Common.{◌≡◌, inl, inr, ℕ, ◌+◌, ◌*◌, ◌<◌, ◌≤◌, List, [], ◌∷◌, length, replicate, true, IsTrue, ◌∙◌, ap, subst, arith, OnOk, Result, Ok, Err}
 use Rattle.lis_ports.specs.Meaning.{Meaning}
-use Rattle.lis_ports.specs.Bytes.{part, put, Torn}
-use Rattle.lis_ports.specs.Runs.{IsDiskRun, Leaves, Always, IsSettled}
+use Rattle.lis_ports.specs.Bytes.{put, Torn}
+use Rattle.lis_ports.specs.Runs.{Leaves, Always, IsSettled}
 use Rattle.lis_ports.proofs.Always.{always_settled}
-use Rattle.lis_ports.proofs.Moments.{leaves_then, leaves_weaken}
+use Rattle.lis_ports.proofs.Moments.{leaves_weaken}
 use Rattle.lis_ports.proofs.Parts.{part-torn}
-use Rattle.lis_journal.specs.Record.{block, gates_closed, behind_gates, Entry, homes, homes_of, is_header, apply}
+use Rattle.lis_journal.specs.Record.{gates_closed, Entry, homes, homes_of, is_header, apply}
 use Rattle.lis_journal.specs.Journal.{records_of, no_records}
 use Rattle.lis_journal.specs.Images.{StandsFor, StandsBut, StandsForAllOrNone, IsAtRest, FitsAt}
 use Rattle.lis_journal.specs.Staging.{Staging, IsStaging}
 use Rattle.lis_journal.specs.Spreads.{Spreads, IsClear, Touched, SamePast, SameAround}
-use Rattle.lis_journal.specs.Phases.{Unsure, Opened, Homed, Shut, IsOpened, Absorbs, looked, renumbered}
+use Rattle.lis_journal.specs.Phases.{Unsure, Homed, Shut, IsOpened, Absorbs, looked, renumbered}
 use Rattle.lis_journal.proofs.Entries.{Within, AtHome, homes_clear, touched_apply}
 use Rattle.lis_journal.proofs.Areas.{torn_record, within_record, spelled_written}
-use Rattle.lis_journal.proofs.Spreading.{leaves_spread, always_spread, spreads_weaken, spreads_then}
+use Rattle.lis_journal.proofs.Spreading.{leaves_spread, spreads_weaken, spreads_then}
 use Rattle.lis_journal.proofs.Writing.{within_from, home_from}
 use Rattle.lis_journal.proofs.Phases.{full, torn_behind, rest_stands, opened_stands, touched_opened, homes_written, stands_for_but, closing_stands, gate_shut, torn_others, shut_stands, others_shut, torn_gate, unsure_stands, gate_opened, record_unsure}
 
@@ -43,8 +43,8 @@ plan_of s enough staging = record {
 pub record_moments : {blocks count next : ℕ} {latest : List Entry} {placed : List ℕ} {kept : ℕ → List ℕ} {a b : Meaning} (es : List Entry) → next + length es + 1 ≤ 578 → FitsAt blocks (records_of count next latest) placed a kept → Spreads a b (Torn (4096 * next) (4096 * (length es + 1))) → Leaves a b (StandsForAllOrNone blocks placed kept es)
 record_moments {blocks} {count} {next} {latest} {placed} {kept} es room fits spreads =
     leaves_weaken _ spreads.moments (λ image is.
-        inl (rest_stands blocks (records_of count next latest) placed kept image
-        (torn_behind blocks (records_of count next latest) placed kept (4096 * (length es + 1)) is.0 image (omega (arith, room)) (fits.leaves is.0 is.1) is.2)))
+    inl (rest_stands blocks (records_of count next latest) placed kept image
+    (torn_behind blocks (records_of count next latest) placed kept (4096 * (length es + 1)) is.0 image (omega (arith, room)) (fits.leaves is.0 is.1) is.2)))
 
 pub record_written : {blocks count next : ℕ} {latest : List Entry} {placed : List ℕ} {kept : ℕ → List ℕ} {a b : Meaning} (es : List Entry) (head : List ℕ) → Plan blocks es → count < 64 → next + length es + 1 ≤ 578 → length head ≡ 4096 → IsTrue (is_header blocks head) → homes_of head ≡ homes es → FitsAt blocks (records_of count next latest) placed a kept → IsSettled b (apply (renumbered (next + 1) es) (put a.bytes (4096 * next) head)) → Always b (Unsure blocks (records_of count next latest) kept es)
 record_written {blocks} {count} {next} {latest} {placed} {kept} {a} {b} es head plan few room len form homes_are fits settled =

@@ -1,14 +1,14 @@
 -- Records one after another.
-use Rattle.std.proofs.Common.{◌≡◌, ℕ, zero, suc, ◌+◌, ◌*◌, ◌<◌, ◌≤◌, ◌==◌, nat_le, Bool, true, false, cond, ◌&&◌, List, [], ◌∷◌, ◌++◌, length, Option, Some, None, IsTrue, refl, sym, ◌∙◌, ap, subst, arith, append_assoc}
-use Rattle.std.proofs.lemmas.Bool.{and_parts, leb-true, false≢true}
+use Rattle.std.proofs.Common.{◌≡◌, ℕ, zero, suc, ◌+◌, ◌*◌, ◌<◌, ◌≤◌, ◌==◌, nat_le, Bool, true, false, cond, ◌&&◌, List, [], ◌∷◌, ◌++◌, length, Some, None, IsTrue, refl, sym, ◌∙◌, ap, arith, append_assoc}
+use Rattle.std.proofs.lemmas.Bool.{and_parts, leb-true}
 use Rattle.std.proofs.lemmas.List.{append-nil}
 use Rattle.lis_ports.proofs.Parts.{length-part}
-use Rattle.lis_journal.specs.Record.{block, Entry, homes_of, words, count_of, rises, is_header, record_end, is_record, entries_from, recorded, behind, first_bad, all_recorded}
+use Rattle.lis_journal.specs.Record.{block, Entry, homes_of, count_of, rises, is_header, record_end, is_record, entries_from, recorded, behind, first_bad, all_recorded}
 use Rattle.lis_journal.specs.Images.{look}
 use Rattle.lis_journal.specs.Phases.{Spelled}
 use Rattle.lis_journal.proofs.Entries.{Within, AtHome}
 use Rattle.lis_journal.proofs.Places.{rise_parts}
-use Rattle.lis_journal.proofs.Headers.{IsForm, form_of, length-words}
+use Rattle.lis_journal.proofs.Headers.{form_of, length-words}
 
 -- ---- where n records end
 pub behind_from : (b n : ℕ) (image : List ℕ) → b + n ≤ behind b n image

@@ -10,7 +10,7 @@ use Rattle.lis_ports.specs.Calls.{Elapses, IsTorn, IsWritten}
 use Rattle.lis_ports.proofs.Moments.{run_none}
 use Rattle.lis_journal.specs.Record.{Entry, homes, rises, apply}
 use Rattle.lis_journal.specs.Spreads.{Spreads, Touched}
-use Rattle.lis_journal.specs.Phases.{renumbered, at_target, HasRoom}
+use Rattle.lis_journal.specs.Phases.{renumbered, at_target}
 use Rattle.lis_journal.specs.declared.commit.Target.{Target}
 use Rattle.lis_journal.specs.declared.commit.Target.TheVariants.{Record, Homes}
 use Rattle.lis_journal.proofs.Entries.{Within, AtHome, touched_refl, touched_trans, touched_torn}

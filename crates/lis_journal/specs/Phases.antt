@@ -3,10 +3,9 @@ use Rattle.std.specs.Prelude.{◌≡◌, ◌≢◌, ℕ, ◌+◌, ◌*◌, ◌<�
 use Rattle.lis_ports.specs.Meaning.{Meaning}
 use Rattle.lis_ports.specs.Runs.{Leaves, IsSettled}
 use Rattle.lis_journal.specs.Record.{block, is_open, has_open, open_count, Entry, record_end, is_record, recorded, first_bad, all_recorded, apply, recovered}
-use Rattle.lis_journal.specs.Journal.{OpenRecords, records_of, no_records}
+use Rattle.lis_journal.specs.Journal.{OpenRecords, no_records}
 use Rattle.lis_journal.specs.Images.{IsOutside, Keeps, Holds, look, FitsAt}
 use Rattle.lis_journal.specs.Spreads.{Spreads, SamePast}
-use Rattle.lis_journal.specs.Staging.{Staging}
 use Rattle.lis_journal.specs.Recovery.{InRecovery}
 use Rattle.lis_journal.specs.declared.commit.Target.{Target}
 use Rattle.lis_journal.specs.declared.commit.Target.TheVariants.{Record, Homes}

@@ -21,6 +21,7 @@ pub const GATES_AT: u64 = 4_096;
 pub const MAX_OPEN: u32 = 64;
 
 const CLOSED: u8 = 0;
+
 const OPEN: u8 = 1;
 
 /// Where staged blocks are written: in a row of blocks from this one on, or at home.
@@ -153,12 +154,12 @@ pub fn append<D: Disk>(
     ensures any_moment { (latest : List Entry) (placed : List ℕ) (kept : ℕ → List ℕ)
         → FitsAt stage.now.blocks (records_of count next latest) placed (D.meaning disk.old) kept
         → Leaves (D.meaning disk.old) (D.meaning disk.new)
-            (StandsForAllOrNone stage.now.blocks placed kept stage.now.entries) }
+        (StandsForAllOrNone stage.now.blocks placed kept stage.now.entries) }
     ensures kept { OnOk result ((latest later : List Entry) (placed : List ℕ) (kept : ℕ → List ℕ)
         → Absorbs latest stage.now.entries later
         → FitsAt stage.now.blocks (records_of count next latest) placed (D.meaning disk.old) kept
         → FitsAt stage.now.blocks (records_of (count + 1) (next + length stage.now.entries + 1) later) [] (D.meaning disk.new)
-            (looked stage.now.entries kept)) }
+        (looked stage.now.entries kept)) }
     ensures past { IsTrue (D.meaning disk.old).is_honest
         → Spreads (D.meaning disk.old) (D.meaning disk.new) (SamePast stage.now.blocks) }
 {

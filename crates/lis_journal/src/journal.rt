@@ -224,7 +224,7 @@ impl Journal {
         // or for all of them with all that is staged.
         ensures any_moment { (kept : ℕ → List ℕ) → Fits self.old (D.meaning disk.old) kept
             → Leaves (D.meaning disk.old) (D.meaning disk.new)
-                (StandsForAllOrNone self.old.blocks self.old.placed kept self.old.staged) }
+            (StandsForAllOrNone self.old.blocks self.old.placed kept self.old.staged) }
         ensures kept { OnOk result ((kept : ℕ → List ℕ) → Fits self.old (D.meaning disk.old) kept
             → Fits self.new (D.meaning disk.new) (λ n. look self.old.staged n (kept n))) }
         ensures past { (kept : ℕ → List ℕ) → Fits self.old (D.meaning disk.old) kept

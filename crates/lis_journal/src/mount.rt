@@ -77,7 +77,10 @@ fn load<D: Disk>(
 {
     let count = word(header, 0);
     for k in 0..count {
-        disk.read_at((u64::from(first) + 1 + u64::from(k)) * BLOCK_LEN as u64, block)?;
+        disk.read_at(
+            (u64::from(first) + 1 + u64::from(k)) * BLOCK_LEN as u64,
+            block,
+        )?;
         latest.put(word(header, k as usize + 1), block);
     }
     Ok(())
@@ -105,8 +108,8 @@ fn read_record<D: Disk>(
     ensures form { IfOk result (λ end. IsTrue (D.meaning disk.old).is_honest → MatchOption end
         (is_record latest.old.blocks first (D.meaning disk.old).bytes ≡ false)
         (λ behind. (is_record latest.old.blocks first (D.meaning disk.old).bytes ≡ true)
-            × (behind ≡ record_end first (D.meaning disk.old).bytes)
-            × Absorbs latest.old.entries (recorded first (D.meaning disk.old).bytes) latest.new.entries)) }
+        × (behind ≡ record_end first (D.meaning disk.old).bytes)
+        × Absorbs latest.old.entries (recorded first (D.meaning disk.old).bytes) latest.new.entries)) }
     ensures room { IfOk result (λ end. IfSome end (λ behind. (length latest.new.entries + 2 ≤ behind) × (behind ≤ 578))) }
 {
     disk.read_at(u64::from(first) * BLOCK_LEN as u64, header)?;

@@ -149,7 +149,7 @@ impl Records {
         ensures any_moment { (placed : List ℕ) (kept : ℕ → List ℕ)
             → FitsAt self.old.blocks self.old.records placed (D.meaning disk.old) kept
             → Leaves (D.meaning disk.old) (D.meaning disk.new)
-                (StandsForAllOrNone self.old.blocks placed kept stage.now.entries) }
+            (StandsForAllOrNone self.old.blocks placed kept stage.now.entries) }
         ensures kept { OnOk result ((placed : List ℕ) (kept : ℕ → List ℕ)
             → FitsAt self.old.blocks self.old.records placed (D.meaning disk.old) kept
             → FitsAt self.new.blocks self.new.records [] (D.meaning disk.new) (looked stage.now.entries kept)) }
@@ -165,7 +165,12 @@ impl Records {
     }
 
     /// Makes the staged blocks kept, by a record more. Where there is no room for it, it makes a checkpoint first.
-    pub fn save<D: Disk>(&mut self, disk: &mut D, header: &[u8], stage: &Stage) -> Result<(), Failed>
+    pub fn save<D: Disk>(
+        &mut self,
+        disk: &mut D,
+        header: &[u8],
+        stage: &Stage,
+    ) -> Result<(), Failed>
         requires long { 4096 * self.old.blocks ≤ (D.meaning disk.old).len }
         requires same { stage.now.blocks ≡ self.old.blocks }
         requires staging { IsStaging stage.now }
@@ -177,7 +182,7 @@ impl Records {
         ensures any_moment { (placed : List ℕ) (kept : ℕ → List ℕ)
             → FitsAt self.old.blocks self.old.records placed (D.meaning disk.old) kept
             → Leaves (D.meaning disk.old) (D.meaning disk.new)
-                (StandsForAllOrNone self.old.blocks placed kept stage.now.entries) }
+            (StandsForAllOrNone self.old.blocks placed kept stage.now.entries) }
         ensures kept { OnOk result ((placed : List ℕ) (kept : ℕ → List ℕ)
             → FitsAt self.old.blocks self.old.records placed (D.meaning disk.old) kept
             → FitsAt self.new.blocks self.new.records [] (D.meaning disk.new) (looked stage.now.entries kept)) }

@@ -1,5 +1,3 @@
-use Rattle.std.proofs.Common.{refl, ◌∙◌, length, replicate, subst}
-use Rattle.lis_ports.specs.Bytes.{Torn, put}
 use Rattle.lis_journal.proofs.Spreading.{spreads_write_sync}
 use Rattle.lis_journal.proofs.commit.close_others.Goals as goal
 

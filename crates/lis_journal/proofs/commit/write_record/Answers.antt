@@ -1,5 +1,4 @@
-use Rattle.std.proofs.Common.{ℕ, List, ◌*◌, ◌+◌, length, ◌∙◌, arith}
-use Rattle.lis_ports.specs.Bytes.{Torn}
+use Rattle.std.proofs.Common.{◌*◌, ◌+◌, length, ◌∙◌, arith}
 use Rattle.lis_journal.proofs.Spreading.{spreads_torn, spreads_then, spreads_weaken, torn_trans}
 use Rattle.lis_journal.proofs.Areas.{torn_within, touched_record}
 use Rattle.lis_journal.proofs.commit.write_record.Goals as goal

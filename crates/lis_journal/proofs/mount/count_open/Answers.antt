@@ -1,1 +1,0 @@
-use Rattle.lis_journal.proofs.mount.count_open.Goals as goal

@@ -1,4 +1,3 @@
-use Rattle.std.proofs.Common.{◌∙◌}
 use Rattle.lis_journal.proofs.Loading.{through_on, through_bad}
 use Rattle.lis_journal.proofs.mount.load_records.Goals as goal
 

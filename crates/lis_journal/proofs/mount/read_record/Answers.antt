@@ -1,8 +1,6 @@
 -- The answers of reading a record: its header is the first block that is read.
-use Rattle.std.proofs.Common.{◌≡◌, ℕ, List, ◌+◌, ◌*◌, IsTrue, false, true, length, sym, ◌∙◌, ap, arith}
-use Rattle.lis_ports.specs.Bytes.{part}
-use Rattle.lis_ports.specs.Meaning.{Meaning}
-use Rattle.lis_journal.specs.Record.{block, is_header, count_of, homes_of, entries_from}
+use Rattle.std.proofs.Common.{◌≡◌, ◌+◌, ◌*◌, true, sym, ◌∙◌, ap, arith}
+use Rattle.lis_journal.specs.Record.{is_header, count_of, homes_of, entries_from}
 use Rattle.lis_journal.specs.Images.{look}
 use Rattle.lis_journal.proofs.Headers.{length-words}
 use Rattle.lis_journal.proofs.Loading.{header_read, long_read, form_read, end_read, recorded_read, head_at}

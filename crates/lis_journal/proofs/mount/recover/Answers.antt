@@ -1,5 +1,5 @@
 -- The answers of a recovery: what was read of the gates and of the records, and what follows.
-use Rattle.std.proofs.Common.{Ok, Some, None, sym, ◌∙◌, ap, subst, arith}
+use Rattle.std.proofs.Common.{Ok, None, sym, ◌∙◌, subst, arith}
 use Rattle.lis_ports.specs.declared.disk.Failed.{Failed}
 use Rattle.lis_journal.specs.Phases.{IsLoaded}
 use Rattle.lis_journal.specs.Recovery.{Recovers}

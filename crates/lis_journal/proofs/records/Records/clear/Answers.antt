@@ -1,4 +1,4 @@
-use Rattle.std.proofs.Common.{ℕ, List, [], ◌<◌, IsTrue, ap, subst, arith}
+use Rattle.std.proofs.Common.{ℕ, List, [], ◌<◌, ap, subst, arith}
 use Rattle.lis_ports.specs.Runs.{Leaves}
 use Rattle.lis_journal.specs.Journal.{no_records}
 use Rattle.lis_journal.specs.Images.{StandsBut, FitsAt}

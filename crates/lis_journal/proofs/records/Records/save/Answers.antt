@@ -1,6 +1,5 @@
 use Rattle.std.proofs.Common.{◌∙◌, subst}
 use Rattle.lis_ports.specs.Runs.{Leaves}
-use Rattle.lis_ports.proofs.Moments.{leaves_weaken}
 use Rattle.lis_journal.specs.Images.{StandsForAllOrNone}
 use Rattle.lis_journal.specs.Spreads.{Spreads, SamePast}
 use Rattle.lis_journal.proofs.Saving.{on_ok, then_past}

@@ -1,4 +1,4 @@
-use Rattle.std.proofs.Common.{[], ◌∷◌, ◌≡◌, ◌*◌, ◌<◌, length, ◌∙◌, subst, arith}
+use Rattle.std.proofs.Common.{◌∷◌, ◌≡◌, ◌*◌, length, ◌∙◌, subst, arith}
 use Rattle.lis_ports.specs.Runs.{Leaves}
 use Rattle.lis_ports.proofs.Moments.{leaves_then}
 use Rattle.lis_journal.specs.Images.{StandsBut}
