@@ -20,3 +20,4 @@ pub mod Named
 pub mod Touched
 pub mod Few
 pub mod Steps
+mod Examples

@@ -1,367 +1,474 @@
--- What each change touches. Taking something out is putting it back, read backwards.
-use Rattle.std.proofs.Common.{◌≡◌, ◌⊎◌, ℕ, zero, suc, Bool, true, false, not, ◌&&◌, ◌||◌, cond, List, [], ◌∷◌, ◌++◌, length, map, filter, refl, sym, ap, subst, ◌∙◌, inl, inr}
+-- What each change touches.
+use Rattle.std.proofs.Common.{◌≡◌, ◌⊎◌, ℕ, Bool, true, false, not, ◌&&◌, cond, Option, Some, None, is_some, List, [], ◌∷◌, ◌++◌, length, map, filter, refl, sym, ap, subst, ◌∙◌, inl, inr}
 use Rattle.std.specs.declared.cmp.Ordering.{Ordering}
 use Rattle.std.specs.declared.cmp.Ordering.TheVariants.{Less, Equal, Greater}
-use Rattle.std.specs.Ordering.{match_ordering, ordering_reverse}
-use Rattle.std.specs.Cmp.{IsTotalOrder, tied_itself}
+use Rattle.std.specs.Ordering.{match_ordering, ordering_reverse, is_lt}
 use Rattle.std.specs.BTreeSet.{insert_key}
-use Rattle.std.specs.List.{AllByRecursion, list_any, list_all, flat_map}
-use Rattle.std.specs.List.Sorted.{IsStrictlySortedBy}
-use Rattle.std.proofs.lemmas.Bool.{and_parts, and_from, or_parts, or_left, or_right, and_cases, not-true, not-false, not_from_false, false_from_ne_true, both_ways}
+use Rattle.std.specs.Cmp as tests
+use Rattle.std.specs.List.{flat_map}
+use Rattle.std.proofs.lemmas.Bool.{and_parts, and_cases, or_parts, or_cases, or_left, not-true, not-false, not_from_false, both_ways}
 use Rattle.std.proofs.lemmas.List.Folds.{list_any-append}
-use Rattle.lis_graph.specs.Graph.{Chain, is_rising}
-use Rattle.lis_graph.proofs.Members.{Among, any_from_among, among_from_any, filter_among, among_filter, among_insert_key, insert_key_old, insert_key_new, among_left, among_right, map_among, flat_map_among}
-use Rattle.lis_graph.proofs.Sets.{same_sets, sorted_insert_key, sorted_from_rising, below_tail, sorted_tail}
-use Rattle.lis_words.specs.Words.{word_cmp, same_word, has_word, is_plain_word, is_valued, is_test, test_of}
+use Rattle.lis_graph.specs.Graph.{is_rising}
+use Rattle.lis_graph.proofs.Members.{Among, among_from_any, any_from_among, among_filter, filter_among, among_left, among_right, map_among, flat_map_among, among_insert_key, insert_key_old}
+use Rattle.lis_words.specs.Words.{word_cmp, same_word, has_word, head_bytes, is_valued, is_test, is_built_in, built_in_heads, test_of}
+use Rattle.lis_words.proofs.Tests.{valued_not_test}
+use Rattle.lis_model.specs.Tests.{is_met}
 use Rattle.lis_model.specs.Sets.{with_word, with_words}
-use Rattle.lis_model.specs.State.{State, File, WellFormed, Entails, heads, links, up, description, known, is_declarable, pair_cmp, file_cmp}
-use Rattle.lis_model.specs.Changes.{with_axiom, same_pair, has_axiom, declared_under, undeclared, axiom_added, axiom_removed, has_name, file_added, file_removed, file_replaced}
-use Rattle.lis_model.specs.Step.{is_side, is_had, is_in_use}
-use Rattle.lis_laws.specs.Changes.{WordFits, AxiomFits}
+use Rattle.lis_model.specs.State.{State, File, WellFormed, heads, up, own_words, file_words, description, known, file_cmp}
+use Rattle.lis_model.specs.Changes.{with_axiom, same_pair, declared_under, undeclared, axiom_added, axiom_removed, has_name, file_added, file_removed, file_replaced}
+use Rattle.lis_model.specs.Step.{is_side, is_in_use}
 use Rattle.lis_laws.specs.Touches.{holders, KeepsHolders, KeepsKnown, Touches, is_held, where_held}
-use Rattle.lis_laws.proofs.Members.{word_order, word_exact, pair_order, pair_exact, same_word_decides, among_from_has_word, has_word_from_among, among_with_words, with_words_old, with_words_new}
-use Rattle.lis_laws.proofs.Chains.{OwnLink, IsWeakerIn, weaker_joined, not_weaker_itself, entails_from_up, up_from_entails}
+use Rattle.lis_laws.proofs.Members.{word_order, same_word_decides, among_from_has_word, has_word_from_among, among_with_words, with_words_old}
+use Rattle.lis_laws.proofs.Chains.{Pairs, weaker_tests_are, up_self, up_trans}
 use Rattle.lis_laws.proofs.Chains.OwnLink.{Head, Weaker}
-use Rattle.lis_laws.proofs.Counts.{all_among, rising_filter}
-use Rattle.lis_laws.proofs.Apart.{test_not_valued}
-use Rattle.lis_laws.proofs.Leads.{link_cases, test_leads}
-use Rattle.lis_laws.proofs.Closures.{with_one_axiom}
-use Rattle.lis_laws.proofs.Locals.{same_tests, filter_same}
-use Rattle.lis_laws.proofs.Sources.{is_right, right_plain, rights_are, file_has, IsMetBy, test_had, met_weaker}
-use Rattle.lis_laws.proofs.Sources.OwnWord.{Met}
-use Rattle.lis_laws.proofs.Known.{IsWithin, described_within}
-use Rattle.lis_laws.proofs.Named.{file_there, gone_free}
-use Rattle.lis_laws.proofs.Forms.{file_order, undeclares, removes_axiom, removes_file}
-use Rattle.lis_laws.proofs.Growth.{declared_within, chain_split, described_split, word_leads, known_declares, brought_is_test, known_adds_file, axiom_within, axiom_split, known_adds_axiom}
+use Rattle.lis_laws.proofs.Axioms.{axiom_in_front}
+use Rattle.lis_laws.proofs.Closures.{all_up_has, all_up_within, new_word}
+use Rattle.lis_laws.proofs.Counts.{all_among}
+use Rattle.lis_laws.proofs.Apart.{plain_not_valued, declarable_not_valued, declarable_not_built_in}
+use Rattle.lis_laws.proofs.Sources.{OwnWord, own_from, Source, source_of, known_from, is_right, right_declared, assigned_are, Assignable, assignable_cases, IsMetBy, test_had}
+use Rattle.lis_laws.proofs.Sources.OwnWord.{Assigned, Derived, Met}
+use Rattle.lis_laws.proofs.Sources.Source.{Declared, Left, LeftHead, Described}
+use Rattle.lis_laws.proofs.Sources.Assignable.{Plain, Valued}
+use Rattle.lis_laws.proofs.Derived.{derived_built_in}
+use Rattle.lis_laws.proofs.Reached.{OneLink, linked_up, described_link, described_keeps}
+use Rattle.lis_laws.proofs.Known.{IsWithin, described_within, known_within}
+use Rattle.lis_laws.proofs.Forms.{among_under, over_right, undeclared_within, file_removed_within}
+use Rattle.lis_laws.proofs.Growth.{IsSettled, settled, declared_or_had, IsPlaced, IsUnder, under_within, axiom_settled, known_declares, known_adds_file}
 
--- ---- what is touched
-out_of : (words : List (List ℕ)) (w : List ℕ) → not (has_word words w) ≡ true → Among words w → ⊥
-out_of words w out m = both_ways (has_word words w) (not-true _ out) (has_word_from_among words w m)
+-- ---- lists of words
+pub not_in : (words : List (List ℕ)) (w : List ℕ) → not (has_word words w) ≡ true → Among words w → ⊥
+not_in words w none m = both_ways (has_word words w) (not-true _ none) (has_word_from_among words w m)
 
-pub touches_back : (s t : State) (words learned : List (List ℕ)) → Touches s t words learned → Touches t s words learned
-touches_back s t words learned both = (λ w out. sym (both.0 w out), λ w out. sym (both.1 w out))
+has_alike : (words more : List (List ℕ)) (w : List ℕ) → (Among words w → Among more w) → (Among more w → Among words w) → has_word words w ≡ has_word more w
+has_alike words more w to from =
+    tests.both_ways (has_word words w) (has_word more w) (λ h. has_word_from_among more w (to (among_from_has_word words w h))) (λ h. has_word_from_among words w (from (among_from_has_word more w h)))
 
-out_of_both : (words more : List (List ℕ)) (w : List ℕ) → not (has_word (words ++ more) w) ≡ true → (not (has_word words w) ≡ true) × (not (has_word more w) ≡ true)
-out_of_both words more w out =
-    let parts = or_parts (has_word words w) (has_word more w) (sym (list_any-append (λ v. same_word v w) words more) ∙ not-true _ out) in
-    (not_from_false _ parts.0, not_from_false _ parts.1)
+-- ---- lists that tests leave
+module _ {K : Type 0} where
+  filter_alike : (p q : K → Bool) (xs : List K) → ((x : K) → Among xs x → p x ≡ q x) → filter p xs ≡ filter q xs
+  filter_alike p q [] same = refl
+  filter_alike p q (x ∷ xs) same =
+      ap (λ (b : Bool). cond b (x ∷ filter p xs) (filter p xs)) (same x (inl refl)) ∙ ap (λ (ys : List K). cond (q x) (x ∷ ys) ys) (filter_alike p q xs (λ y m. same y (inr m)))
 
-pub touches_joined : (s r t : State) (words learned more others : List (List ℕ)) → Touches s r words learned → Touches r t more others → Touches s t (words ++ more) (learned ++ others)
-touches_joined s r t words learned more others first second = (
-  λ w out. let parts = out_of_both words more w out in second.0 w parts.1 ∙ first.0 w parts.0,
-  λ w out. let parts = out_of_both learned others w out in second.1 w parts.1 ∙ first.1 w parts.0,
-)
+  filter_insert : (cmp : K → K → Ordering) (p : K → Bool) (xs : List K) (k : K) → p k ≡ false → filter p (insert_key cmp xs k) ≡ filter p xs
+  filter_insert cmp p [] k e = ap (λ (b : Bool). cond b (k ∷ []) []) e
+  filter_insert cmp p (y ∷ ys) k e = by (cmp k y) (filter_insert cmp p ys k e)
+    where
+      by : (r : Ordering) → filter p (insert_key cmp ys k) ≡ filter p ys → filter p (match_ordering r (k ∷ y ∷ ys) (y ∷ ys) (y ∷ insert_key cmp ys k)) ≡ filter p (y ∷ ys)
+      by Less more = ap (λ (b : Bool). cond b (k ∷ filter p (y ∷ ys)) (filter p (y ∷ ys))) e
+      by Equal more = refl
+      by Greater more = ap (λ (zs : List K). cond (p y) (y ∷ zs) zs) more
 
--- the files stay, and each has a word or has it not as before
-kept_holders : (s : State) (f g : File → Bool) → ((file : File) → Among s.files file → f file ≡ g file)
-    → map (λ (file : File). file.name) (filter f s.files) ≡ map (λ (file : File). file.name) (filter g s.files)
-kept_holders s f g same = ap (λ (files : List File). map (λ (file : File). file.name) files) (filter_same f g s.files same)
+  filter_skips : (p keep : K → Bool) (xs : List K) → ((x : K) → Among xs x → keep x ≡ false → p x ≡ false) → filter p (filter keep xs) ≡ filter p xs
+  filter_skips p keep [] skip = refl
+  filter_skips p keep (x ∷ xs) skip = by (keep x) refl (filter_skips p keep xs (λ y m. skip y (inr m)))
+    where
+      by : (b : Bool) → keep x ≡ b → filter p (filter keep xs) ≡ filter p xs → filter p (cond b (x ∷ filter keep xs) (filter keep xs)) ≡ filter p (x ∷ xs)
+      by true e more = ap (λ (zs : List K). cond (p x) (x ∷ zs) zs) more
+      by false e more = more ∙ sym (ap (λ (b : Bool). cond b (x ∷ filter p xs) (filter p xs)) (skip x (inl refl) e))
 
--- what becomes known is known to be these words
-kept_known : (s t : State) (learned : List (List ℕ)) → known t ≡ with_words (known s) learned → KeepsKnown s t learned
-kept_known s t learned is w out = same_tests (has_word (known t) w) (has_word (known s) w) to from
+-- the same files have a word, by two ways to describe them
+names_alike : (files : List File) (some more : File → List (List ℕ)) (w : List ℕ) → ((file : File) → Among files file → has_word (some file) w ≡ has_word (more file) w)
+    → map (λ (file : File). file.name) (filter (λ (file : File). has_word (some file) w) files) ≡ map (λ (file : File). file.name) (filter (λ (file : File). has_word (more file) w) files)
+names_alike files some more w same = ap (λ (fs : List File). map (λ (file : File). file.name) fs) (filter_alike (λ (file : File). has_word (some file) w) (λ (file : File). has_word (more file) w) files same)
+
+held_among : (s : State) (word : List ℕ) (words : List (List ℕ)) (file : File) (w : List ℕ) → Among s.files file → Among (description s file) word → Among words w → Among (where_held s word words) w
+held_among s word words file w m has there = subst (λ (b : Bool). Among (cond b words []) w) (sym held) there
   where
-    old : Among (known s) w ⊎ Among learned w → has_word (known s) w ≡ true
-    old (inl m) = has_word_from_among (known s) w m
-    old (inr m) = absurd (out_of learned w out m)
+    held : is_held s word ≡ true
+    held = any_from_among (λ (f : File). has_word (description s f) word) s.files file m (has_word_from_among (description s file) word has)
 
-    to : has_word (known t) w ≡ true → has_word (known s) w ≡ true
-    to h = old (among_with_words (known s) learned w (subst (λ (ws : List (List ℕ)). Among ws w) is (among_from_has_word (known t) w h)))
+-- ---- a word declared under others
+-- what a file has then it had, or it has the word and what that entails
+record IsBrought (t : State) (word : List ℕ) (file : File) (w : List ℕ) : Type 0 where
+  has : Among (description t file) word
+  entails : Among (up t.declared t.axioms word) w
 
-    from : has_word (known s) w ≡ true → has_word (known t) w ≡ true
-    from h = has_word_from_among (known t) w (subst (λ (ws : List (List ℕ)). Among ws w) (sym is) (with_words_old (known s) learned w (among_from_has_word (known s) w h)))
-
-pub held : (s : State) (word : List ℕ) (file : File) → Among s.files file → Among (description s file) word → is_held s word ≡ true
-held s word file m has = any_from_among (λ (f : File). has_word (description s f) word) s.files file m (has_word_from_among (description s file) word has)
-
--- a word that is not among those where a file has it
-not_held : (s : State) (word : List ℕ) (words : List (List ℕ)) (w : List ℕ) → not (has_word (where_held s word words) w) ≡ true → (file : File) → Among s.files file → Among (description s file) word → Among words w → ⊥
-not_held s word words w out file m has found = out_of (where_held s word words) w out (subst (λ (b : Bool). Among (cond b words []) w) (sym (held s word file m has)) found)
-
--- ---- a word declared
-pub declares_touch : (s : State) → WellFormed s → (word : List ℕ) (words : List (List ℕ)) → WordFits s word words
-    → Touches s (declared_under s word words) (where_held (declared_under s word words) word (up (declared_under s word words).declared (declared_under s word words).axioms word)) (word ∷ [])
-declares_touch s formed word words fits = (
-  λ w out. kept_holders s (λ (file : File). has_word (description t file) w) (λ (file : File). has_word (description s file) w) (same w out),
-  kept_known s t (word ∷ []) (known_declares s formed word words fits.form fits.over),
-)
+under_split : (s : State) (word : List ℕ) (words : List (List ℕ)) (file : File) (w : List ℕ) → Among (description (declared_under s word words) file) w
+    → Among (description s file) w ⊎ IsBrought (declared_under s word words) word file w
+under_split s word words file = described_keeps t.declared t.axioms (λ w. Among (description s file) w ⊎ IsBrought t word file w) link file own
   where
     t : State
     t = declared_under s word words
 
-    same : (w : List ℕ) → not (has_word (where_held t word (up t.declared t.axioms word)) w) ≡ true → (file : File) → Among s.files file → has_word (description t file) w ≡ has_word (description s file) w
-    same w out file m = same_tests (has_word (description t file) w) (has_word (description s file) w) to from
+    brought : Among (description t file) word → IsBrought t word file word
+    brought has = record { has = has; entails = up_self t.declared t.axioms word }
+
+    met : (w : List ℕ) → Among (description t file) w → is_met (test_of w) (length file.bytes) ≡ true → (word ≡ w) ⊎ Among s.declared w → Among (description s file) w ⊎ IsBrought t word file w
+    met w has is (inl same) = inr (subst (λ (k : List ℕ). IsBrought t word file k) same (brought (subst (λ (k : List ℕ). Among (description t file) k) (sym same) has)))
+    met w has is (inr old) = inl (all_up_has s.declared s.axioms _ w (own_from s.declared file w (Met old is)))
+
+    own : (w : List ℕ) → OwnWord t.declared file w → Among (description s file) w ⊎ IsBrought t word file w
+    own w (Assigned m) = inl (all_up_has s.declared s.axioms _ w (own_from s.declared file w (Assigned m)))
+    own w (Derived m) = inl (all_up_has s.declared s.axioms _ w (own_from s.declared file w (Derived m)))
+    own w (Met m is) = met w (all_up_has t.declared t.axioms _ w (own_from t.declared file w (Met m is))) is (among_insert_key word_cmp s.declared word w m)
+
+    -- from the word itself
+    through : (p r : List ℕ) → word ≡ p → Among (description s file) p → OneLink t.declared t.axioms p r → IsBrought t word file r
+    through p r same at step = record {
+      has = subst (λ (k : List ℕ). Among (description t file) k) (sym same) (described_within s t (under_within s word words) file p at);
+      entails = subst (λ (k : List ℕ). Among (up t.declared t.axioms k) r) (sym same) (linked_up t.declared t.axioms p r step);
+    }
+
+    -- to the word
+    reached : (p r : List ℕ) → word ≡ r → Among (description s file) p → OneLink t.declared t.axioms p r → IsBrought t word file r
+    reached p r same at step =
+        subst (λ (k : List ℕ). IsBrought t word file k) same
+        (brought (subst (λ (k : List ℕ). Among (description t file) k) (sym same)
+        (described_link t.declared t.axioms file p r (described_within s t (under_within s word words) file p at) step)))
+
+    link : (p r : List ℕ) → Among (description s file) p ⊎ IsBrought t word file p → OneLink t.declared t.axioms p r → Among (description s file) r ⊎ IsBrought t word file r
+    link p r (inr b) step = inr (record { has = b.has; entails = up_trans t.declared t.axioms word p r b.entails (linked_up t.declared t.axioms p r step) })
+    link p r (inl at) (inl (Head valued is)) = inl (described_link s.declared s.axioms file p r at (inl (Head valued is)))
+    link p r (inl at) (inl (Weaker v)) = by (among_insert_key word_cmp s.declared word p v.from) (among_insert_key word_cmp s.declared word r v.to)
       where
-        old : Among (description s file) w ⊎ (Among (description t file) word × Among (up t.declared t.axioms word) w) → has_word (description s file) w ≡ true
-        old (inl has) = has_word_from_among (description s file) w has
-        old (inr new) = absurd (not_held t word (up t.declared t.axioms word) w out file m new.0 new.1)
+        by : (word ≡ p) ⊎ Among s.declared p → (word ≡ r) ⊎ Among s.declared r → Among (description s file) r ⊎ IsBrought t word file r
+        by (inl same) to = inr (through p r same at (inl (Weaker v)))
+        by (inr from) (inl same) = inr (reached p r same at (inl (Weaker v)))
+        by (inr from) (inr to) = inl (described_link s.declared s.axioms file p r at (inl (Weaker (record { from = from; to = to; weaker = v.weaker }))))
+    link p r (inl at) (inr edge) = by (among_under word s.axioms words (p, r) edge)
+      where
+        by : Among s.axioms (p, r) ⊎ IsUnder word words (p, r) → Among (description s file) r ⊎ IsBrought t word file r
+        by (inl old) = inl (described_link s.declared s.axioms file p r at (inr old))
+        by (inr new) = inr (through p r (ap (λ (e : List ℕ × List ℕ). e.0) new.2) at (inr edge))
 
-        to : has_word (description t file) w ≡ true → has_word (description s file) w ≡ true
-        to h = old (described_split s word words file w (among_from_has_word (description t file) w h))
+declares_holders : (s : State) (word : List ℕ) (words : List (List ℕ)) → let t = declared_under s word words in KeepsHolders s t (where_held t word (up t.declared t.axioms word))
+declares_holders s word words w none = names_alike s.files (description (declared_under s word words)) (description s) w at
+  where
+    t : State
+    t = declared_under s word words
 
-        from : has_word (description s file) w ≡ true → has_word (description t file) w ≡ true
-        from h = has_word_from_among (description t file) w (described_within s t (declared_within s word words) file w (among_from_has_word (description s file) w h))
+    to : (file : File) → Among s.files file → Among (description s file) w ⊎ IsBrought t word file w → Among (description s file) w
+    to file m (inl old) = old
+    to file m (inr new) = absurd (not_in (where_held t word (up t.declared t.axioms word)) w none (held_among t word (up t.declared t.axioms word) file w m new.has new.entails))
 
-pub brings : (s : State) → WellFormed s → (word : List ℕ) (words : List (List ℕ)) → WordFits s word words → is_held (declared_under s word words) word ≡ true → is_test word ≡ true
-brings s formed word words fits h =
-    let found = among_from_any (λ (f : File). has_word (description (declared_under s word words) f) word) s.files h in
-    brought_is_test s formed word words fits.form (not-true _ fits.new) fits.over found.0 found.1 (among_from_has_word (description (declared_under s word words) found.0) word found.2)
+    at : (file : File) → Among s.files file → has_word (description t file) w ≡ has_word (description s file) w
+    at file m = has_alike (description t file) (description s file) w (λ has. to file m (under_split s word words file w has)) (described_within s t (under_within s word words) file w)
 
--- ---- put back what was taken out
-module _ {K : Type 0} (cmp : K → K → Ordering) (order : IsTotalOrder cmp) where
-  put_back : (xs : List K) (k : K) (is : K → Bool) → is_rising cmp xs ≡ true → Among xs k → ((x : K) → Among xs x → is x ≡ true → x ≡ k) → Among (insert_key cmp (filter (λ x. not (is x)) xs) k) k
-      → insert_key cmp (filter (λ x. not (is x)) xs) k ≡ xs
-  put_back xs k is rising there only put =
-      same_sets cmp order (insert_key cmp (filter (λ x. not (is x)) xs) k) xs
-      (sorted_insert_key cmp order (filter (λ x. not (is x)) xs) k (sorted_from_rising cmp order (filter (λ x. not (is x)) xs) (rising_filter cmp (λ x. not (is x)) xs rising)))
-      (sorted_from_rising cmp order xs rising)
-      (λ z m. from z (among_insert_key cmp (filter (λ x. not (is x)) xs) k z m)) (λ z m. to z m (is z) refl)
-    where
-      from : (z : K) → (k ≡ z) ⊎ Among (filter (λ x. not (is x)) xs) z → Among xs z
-      from z (inl same) = subst (λ (y : K). Among xs y) same there
-      from z (inr m) = (among_filter (λ x. not (is x)) xs z m).0
+pub declares_touches : (s : State) → WellFormed s → (word : List ℕ) (words : List (List ℕ)) → IsPlaced s word words → let t = declared_under s word words in
+    Touches s t (where_held t word (up t.declared t.axioms word)) (word ∷ [])
+declares_touches s formed word words placed = (declares_holders s word words, learned)
+  where
+    learned : KeepsKnown s (declared_under s word words) (word ∷ [])
+    learned w none = ap (λ (ws : List (List ℕ)). has_word ws w) (known_declares s formed word words placed) ∙ has_alike (with_word (known s) word) (known s) w (λ m. to (among_insert_key word_cmp (known s) word w m)) (insert_key_old word_cmp (known s) word w)
+      where
+        to : (word ≡ w) ⊎ Among (known s) w → Among (known s) w
+        to (inl same) = absurd (not_in (word ∷ []) w none (inl same))
+        to (inr m) = m
 
-      to : (z : K) → Among xs z → (b : Bool) → is z ≡ b → Among (insert_key cmp (filter (λ x. not (is x)) xs) k) z
-      to z m true e = subst (λ (y : K). Among (insert_key cmp (filter (λ x. not (is x)) xs) k) y) (sym (only z m e)) put
-      to z m false e = insert_key_old cmp (filter (λ x. not (is x)) xs) k z (filter_among (λ x. not (is x)) xs z m (not_from_false _ e))
+-- ---- what a file can have: declared words, built-in ones, valued ones and tests
+record Stands (declared : List (List ℕ)) (w : List ℕ) : Type 0 where
+  there : Among declared w ⊎ ((is_built_in w ≡ true) ⊎ ((is_valued w ≡ true) ⊎ (is_test w ≡ true)))
+  head : is_valued w ≡ true → Among declared (head_bytes w) ⊎ (is_built_in (head_bytes w) ≡ true)
 
-  below_all : (x : K) (xs : List K) (y : K) → AllByRecursion (λ z. cmp x z ≡ Less) xs → Among xs y → cmp x y ≡ Less
-  below_all x [] y all m = absurd m
-  below_all x (z ∷ zs) y all (inl same) = subst (λ (k : K). cmp x k ≡ Less) same all.0
-  below_all x (z ∷ zs) y all (inr m) = below_all x zs y all.1 m
+built_in_stands : (declared : List (List ℕ)) (w : List ℕ) → is_built_in w ≡ true → Stands declared w
+built_in_stands declared w h = record { there = inr (inl h); head = λ valued. inr (or_left _ _ (head_of valued (or_cases _ _ h))) }
+  where
+    head_of : is_valued w ≡ true → (has_word built_in_heads w ≡ true) ⊎ ((is_valued w && has_word built_in_heads (head_bytes w)) ≡ true) → has_word built_in_heads (head_bytes w) ≡ true
+    head_of valued (inl itself) =
+        let none = all_among (λ k. not (is_valued k)) built_in_heads w refl (among_from_has_word built_in_heads w itself) in
+        absurd (both_ways (is_valued w) (not-true _ none) valued)
+    head_of valued (inr both) = (and_parts (is_valued w) (has_word built_in_heads (head_bytes w)) both).1
 
-  -- two members that tie are one
-  tied_members : (xs : List K) → IsStrictlySortedBy cmp xs → (a b : K) → Among xs a → Among xs b → cmp a b ≡ Equal → a ≡ b
-  tied_members [] sorted a b m n e = absurd m
-  tied_members (x ∷ xs) sorted a b (inl p) (inl q) e = sym p ∙ q
-  tied_members (x ∷ xs) sorted a b (inl p) (inr n) e =
-      let less = below_all x xs b (below_tail cmp order x xs sorted) n in
-      let level = subst (λ (y : K). cmp y b ≡ Equal) (sym p) e in
-      absurd cc
-  tied_members (x ∷ xs) sorted a b (inr m) (inl q) e =
-      let less = below_all x xs a (below_tail cmp order x xs sorted) m in
-      let level = subst (λ (y : K). cmp a y ≡ Equal) (sym q) e in
-      let turned = order.antisymm x a ∙ ap ordering_reverse level in
-      absurd cc
-  tied_members (x ∷ xs) sorted a b (inr m) (inr n) e = tied_members xs (sorted_tail cmp order x xs sorted) a b m n e
+test_stands : (declared : List (List ℕ)) (w : List ℕ) → is_test w ≡ true → Stands declared w
+test_stands declared w test = record { there = inr (inr (inr test)); head = λ valued. absurd (both_ways (is_test w) (valued_not_test w valued) test) }
 
--- nothing is left out
-left_alone : {K : Type 0} (is : K → Bool) (xs : List K) → ((x : K) → Among xs x → is x ≡ false) → filter (λ x. not (is x)) xs ≡ xs
-left_alone is [] none = refl
-left_alone is (x ∷ xs) none = rw (none x (inl refl)) (ap (λ ys. x ∷ ys) (left_alone is xs (λ y m. none y (inr m))))
+declared_stands : (s : State) → WellFormed s → (w : List ℕ) → Among s.declared w → Stands s.declared w
+declared_stands s formed w m = record { there = inl m; head = λ valued. absurd (both_ways (is_valued w) ((settled s formed).not_valued w m) valued) }
+
+met_is_test : (test : Option (Bool × ℕ)) (size : ℕ) → is_met test size ≡ true → is_some {T = Bool × ℕ} test ≡ true
+met_is_test None size h = absurd cc
+met_is_test (Some test) size h = refl
+
+under_stands : (s : State) → WellFormed s → (word : List ℕ) (words : List (List ℕ)) → IsPlaced s word words → (file : File) → Among s.files file
+    → (w : List ℕ) → Among (description (declared_under s word words) file) w → Stands s.declared w
+under_stands s formed word words placed file m = described_keeps t.declared t.axioms (Stands s.declared) link file own
+  where
+    t : State
+    t = declared_under s word words
+
+    own : (w : List ℕ) → OwnWord t.declared file w → Stands s.declared w
+    own w (Assigned given) = by (assignable_cases s.declared w (assigned_are s formed file m w given))
+      where
+        by : Assignable s.declared w → Stands s.declared w
+        by (Plain plain there) = record { there = inl there; head = λ valued. absurd (both_ways (is_valued w) (plain_not_valued w plain) valued) }
+        by (Valued valued there) = record { there = inr (inr (inl valued)); head = λ v. inl there }
+    own w (Derived derived) = built_in_stands s.declared w (derived_built_in file.name file.bytes w derived)
+    own w (Met there is) = test_stands s.declared w (met_is_test (test_of w) (length file.bytes) is)
+
+    link : (p r : List ℕ) → Stands s.declared p → OneLink t.declared t.axioms p r → Stands s.declared r
+    link p r at (inl (Head valued is)) = subst (λ (k : List ℕ). Stands s.declared k) is (by (at.head valued))
+      where
+        by : Among s.declared (head_bytes p) ⊎ (is_built_in (head_bytes p) ≡ true) → Stands s.declared (head_bytes p)
+        by (inl there) = declared_stands s formed (head_bytes p) there
+        by (inr built_in) = built_in_stands s.declared (head_bytes p) built_in
+    link p r at (inl (Weaker v)) = test_stands s.declared r (weaker_tests_are t.declared p r v).1
+    link p r at (inr edge) = declared_stands s formed r (by (among_under word s.axioms words (p, r) edge))
+      where
+        by : Among s.axioms (p, r) ⊎ IsUnder word words (p, r) → Among s.declared r
+        by (inl old) = (settled s formed).rights (p, r) old
+        by (inr new) = subst (λ (e : List ℕ × List ℕ). Among s.declared e.1) new.2 (right_declared s new.0 (over_right s words placed.over new.0 new.1))
+
+-- a new word that a file then has is a test
+pub brought_is_test : (s : State) → WellFormed s → (word : List ℕ) (words : List (List ℕ)) → IsPlaced s word words → not (has_word s.declared word) ≡ true
+    → is_held (declared_under s word words) word ≡ true → is_test word ≡ true
+brought_is_test s formed word words placed new held = by (among_from_any (λ (f : File). has_word (description (declared_under s word words) f) word) s.files held)
+  where
+    is : Stands s.declared word → is_test word ≡ true
+    is at = on at.there
+      where
+        on : Among s.declared word ⊎ ((is_built_in word ≡ true) ⊎ ((is_valued word ≡ true) ⊎ (is_test word ≡ true))) → is_test word ≡ true
+        on (inl there) = absurd (not_in s.declared word new there)
+        on (inr (inl built_in)) = absurd (both_ways (is_built_in word) (declarable_not_built_in word placed.form) built_in)
+        on (inr (inr (inl valued))) = absurd (both_ways (is_valued word) (declarable_not_valued word placed.form) valued)
+        on (inr (inr (inr test))) = test
+
+    by : (file : File) × Among s.files file × (has_word (description (declared_under s word words) file) word ≡ true) → is_test word ≡ true
+    by found = is (under_stands s formed word words placed found.0 found.1 word (among_from_has_word (description (declared_under s word words) found.0) word found.2))
 
 -- ---- a word no longer declared
--- the state before, by the state after
-undeclared_touch : (r : State) → WellFormed r → (word : List ℕ) → is_declarable word ≡ true → WellFormed (declared_under r word []) → not (is_in_use (declared_under r word []) word) ≡ true
-    → Touches r (declared_under r word []) (word ∷ []) (word ∷ [])
-undeclared_touch r formed word form before unused = (
-  λ w out. kept_holders r (λ (file : File). has_word (description s file) w) (λ (file : File). has_word (description r file) w) (same w out),
-  kept_known r s (word ∷ []) (known_declares r formed word [] form refl),
+module _ (s : State) (formed : WellFormed s) (word : List ℕ) (unused : not (is_in_use s word) ≡ true) where
+  no_left : (e : List ℕ × List ℕ) → Among s.axioms e → e.0 ≡ word → ⊥
+  no_left e m same =
+      both_ways (is_side s word) (or_parts _ _ (not-true _ unused)).0
+      (has_word_from_among _ word (among_left (map (λ (k : List ℕ × List ℕ). k.0) s.axioms) (map (λ (k : List ℕ × List ℕ). k.1) s.axioms) word
+      (subst (λ (w : List ℕ). Among (map (λ (k : List ℕ × List ℕ). k.0) s.axioms) w) same (map_among (λ (k : List ℕ × List ℕ). k.0) s.axioms e m))))
+
+  had_test : (file : File) → Among s.files file → Among (description s file) word → is_test word ≡ true
+  had_test file m has = by (and_cases _ _ (or_parts _ _ (not-true _ unused)).1)
+    where
+      had : List (List ℕ)
+      had = flat_map (λ (k : List ℕ × List ℕ). heads k.0) s.axioms ++ flat_map (description s) s.files
+
+      by : (not (is_test word) ≡ false) ⊎ (has_word had word ≡ false) → is_test word ≡ true
+      by (inl test) = not-false _ test
+      by (inr none) =
+          absurd (both_ways (has_word had word) none
+          (has_word_from_among had word (among_right (flat_map (λ (k : List ℕ × List ℕ). heads k.0) s.axioms) (flat_map (description s) s.files) word (flat_map_among (description s) s.files file word m has))))
+
+  other_declared : (w : List ℕ) → Among s.declared w → (word ≡ w) ⊎ Among (undeclared s word).declared w
+  other_declared w m = by (same_word w word) refl
+    where
+      by : (b : Bool) → same_word w word ≡ b → (word ≡ w) ⊎ Among (undeclared s word).declared w
+      by true e = inl (sym ((same_word_decides w word).0 e))
+      by false e = inr (filter_among (λ k. not (same_word k word)) s.declared w m (not_from_false _ e))
+
+  -- what a file had and has, or the word itself
+  record IsLeft (file : File) (w : List ℕ) : Type 0 where
+    was : Among (description s file) w
+    now : (word ≡ w) ⊎ Among (description (undeclared s word) file) w
+
+  undeclared_split : (file : File) → Among s.files file → (w : List ℕ) → Among (description s file) w → IsLeft file w
+  undeclared_split file m = described_keeps s.declared s.axioms (IsLeft file) link file own
+    where
+      u : State
+      u = undeclared s word
+
+      met : (w : List ℕ) → IsMetBy s.declared file w → (word ≡ w) ⊎ Among (description u file) w
+      met w is = by (other_declared w is.there)
+        where
+          by : (word ≡ w) ⊎ Among u.declared w → (word ≡ w) ⊎ Among (description u file) w
+          by (inl same) = inl same
+          by (inr there) = inr (all_up_has u.declared u.axioms _ w (own_from u.declared file w (Met there is.met)))
+
+      still : (w : List ℕ) → OwnWord s.declared file w → (word ≡ w) ⊎ Among (description u file) w
+      still w (Assigned given) = inr (all_up_has u.declared u.axioms _ w (own_from u.declared file w (Assigned given)))
+      still w (Derived derived) = inr (all_up_has u.declared u.axioms _ w (own_from u.declared file w (Derived derived)))
+      still w (Met there is) = met w (record { there = there; met = is })
+
+      own : (w : List ℕ) → OwnWord s.declared file w → IsLeft file w
+      own w o = record { was = all_up_has s.declared s.axioms _ w (own_from s.declared file w o); now = still w o }
+
+      goes_on : (p r : List ℕ) → Among (description s file) p → Among (description s file) r → (word ≡ p) ⊎ Among (description u file) p → OneLink s.declared s.axioms p r
+          → (word ≡ r) ⊎ Among (description u file) r
+      goes_on p r was is (inl same) (inl (Head valued to)) =
+          absurd (both_ways (is_test p) (valued_not_test p valued) (subst (λ (k : List ℕ). is_test k ≡ true) same (had_test file m (subst (λ (k : List ℕ). Among (description s file) k) (sym same) was))))
+      goes_on p r was is (inr at) (inl (Head valued to)) = inr (described_link u.declared u.axioms file p r at (inl (Head valued to)))
+      goes_on p r was is at (inl (Weaker v)) = met r (test_had s formed file m r (weaker_tests_are s.declared p r v).1 is)
+      goes_on p r was is (inl same) (inr edge) = absurd (no_left (p, r) edge (sym same))
+      goes_on p r was is (inr at) (inr edge) = inr (described_link u.declared u.axioms file p r at (inr edge))
+
+      link : (p r : List ℕ) → IsLeft file p → OneLink s.declared s.axioms p r → IsLeft file r
+      link p r at step =
+          let is = described_link s.declared s.axioms file p r at.was step in
+          record { was = is; now = goes_on p r at.was is at.now step }
+
+  pub undeclares_touches : Touches s (undeclared s word) (word ∷ []) (word ∷ [])
+  undeclares_touches = (changed, learned)
+    where
+      u : State
+      u = undeclared s word
+
+      other : (w : List ℕ) → not (has_word (word ∷ []) w) ≡ true → (xs : List (List ℕ)) → (word ≡ w) ⊎ Among xs w → Among xs w
+      other w none xs (inl same) = absurd (not_in (word ∷ []) w none (inl same))
+      other w none xs (inr m) = m
+
+      changed : KeepsHolders s u (word ∷ [])
+      changed w none = names_alike s.files (description u) (description s) w at
+        where
+          at : (file : File) → Among s.files file → has_word (description u file) w ≡ has_word (description s file) w
+          at file m =
+              has_alike (description u file) (description s file) w (described_within u s (undeclared_within s word) file w)
+              (λ has. other w none (description u file) (undeclared_split file m w has).now)
+
+      learned : KeepsKnown s u (word ∷ [])
+      learned w none = has_alike (known u) (known s) w (known_within u s (undeclared_within s word) w) (λ m. known_from u w (from (source_of s w m)))
+        where
+          from : Source s w → Source u w
+          from (Declared m) = Declared (other w none u.declared (other_declared w m))
+          from (Left e m is) = Left e m is
+          from (LeftHead e m head) = LeftHead e m head
+          from (Described file m has) = Described file m (other w none (description u file) (undeclared_split file m w has).now)
+
+-- ---- an axiom more, or one less
+module _ (s : State) (axioms : Pairs) (l r : List ℕ) (front : (e : List ℕ × List ℕ) → Among axioms e → Among ((l, r) ∷ s.axioms) e) (within : (e : List ℕ × List ℕ) → Among s.axioms e → Among axioms e) where
+  more_within : IsWithin s (record s { axioms = axioms })
+  more_within = record { declared = λ w m. m; axioms = within; files = λ f m. m }
+
+  axiom_holders : (w : List ℕ) → not (has_word (where_held s l (up s.declared s.axioms r)) w) ≡ true → holders (record s { axioms = axioms }) w ≡ holders s w
+  axiom_holders w none = names_alike s.files (file_words s.declared axioms) (description s) w at
+    where
+      to : (file : File) → Among s.files file → Among (description s file) w ⊎ (Among (description s file) l × Among (up s.declared s.axioms r) w) → Among (description s file) w
+      to file m (inl old) = old
+      to file m (inr new) = absurd (not_in (where_held s l (up s.declared s.axioms r)) w none (held_among s l (up s.declared s.axioms r) file w m new.0 new.1))
+
+      at : (file : File) → Among s.files file → has_word (file_words s.declared axioms file) w ≡ has_word (description s file) w
+      at file m =
+          has_alike (file_words s.declared axioms file) (description s file) w
+          (λ has. to file m (new_word s.declared (l, r) s.axioms (own_words s.declared file) w
+          (all_up_within s.declared s.declared axioms ((l, r) ∷ s.axioms) (own_words s.declared file) (own_words s.declared file) (record { in_declared = λ k n. n; in_axioms = front; in_words = λ k n. n }) w has)))
+          (described_within s (record s { axioms = axioms }) more_within file w)
+
+  axiom_known : IsSettled s.declared axioms → (w : List ℕ) → not (has_word (l ∷ heads l) w) ≡ true → has_word (known (record s { axioms = axioms })) w ≡ has_word (known s) w
+  axiom_known is_settled w none =
+      has_alike (known (record s { axioms = axioms })) (known s) w (λ m. known_from s w (to (source_of (record s { axioms = axioms }) w m))) (known_within s (record s { axioms = axioms }) more_within w)
+    where
+      left : (e : List ℕ × List ℕ) → e.0 ≡ w → Among ((l, r) ∷ s.axioms) e → Source s w
+      left e is (inl same) = absurd (not_in (l ∷ heads l) w none (inl (ap (λ (k : List ℕ × List ℕ). k.0) same ∙ is)))
+      left e is (inr m) = Left e m is
+
+      above : (e : List ℕ × List ℕ) → Among (heads e.0) w → Among ((l, r) ∷ s.axioms) e → Source s w
+      above e head (inl same) = absurd (not_in (l ∷ heads l) w none (inr (subst (λ (k : List ℕ × List ℕ). Among (heads k.0) w) (sym same) head)))
+      above e head (inr m) = LeftHead e m head
+
+      described : (file : File) → Among s.files file → Among (description s file) w ⊎ Among s.declared w → Source s w
+      described file m (inl has) = Described file m has
+      described file m (inr there) = Declared there
+
+      to : Source (record s { axioms = axioms }) w → Source s w
+      to (Declared m) = Declared m
+      to (Left e m is) = left e is (front e m)
+      to (LeftHead e m head) = above e head (front e m)
+      to (Described file m has) = described file m (declared_or_had s.declared s.declared s.axioms axioms is_settled file w has)
+
+pub adds_axiom_touches : (s : State) → WellFormed s → (l r : List ℕ) → is_right s r ≡ true → Touches s (axiom_added s (l, r)) (where_held s l (up s.declared s.axioms r)) (l ∷ heads l)
+adds_axiom_touches s formed l r right = (
+  axiom_holders s (with_axiom s.axioms (l, r)) l r (axiom_in_front s.axioms (l, r)) (more s.axioms),
+  axiom_known s (with_axiom s.axioms (l, r)) l r (axiom_in_front s.axioms (l, r)) (more s.axioms) (axiom_settled s formed l r right),
 )
   where
-    s : State
-    s = declared_under r word []
+    more : (axioms : Pairs) (e : List ℕ × List ℕ) → Among axioms e → Among (with_axiom axioms (l, r)) e
+    more axioms e m = insert_key_old _ axioms (l, r) e m
 
-    parts : (is_side s word ≡ false) × ((not (is_test word) && is_had s word) ≡ false)
-    parts = or_parts _ _ (not-true _ unused)
-
-    no_left : (x : List ℕ) → Among s.axioms (word, x) → ⊥
-    no_left x m =
-        both_ways (is_side s word) parts.0
-        (has_word_from_among (map (λ (pair : List ℕ × List ℕ). pair.0) s.axioms ++ map (λ (pair : List ℕ × List ℕ). pair.1) s.axioms) word
-            (among_left (map (λ (pair : List ℕ × List ℕ). pair.0) s.axioms) (map (λ (pair : List ℕ × List ℕ). pair.1) s.axioms) word (map_among (λ (pair : List ℕ × List ℕ). pair.0) s.axioms (word, x) m)))
-
-    had : (file : File) → Among s.files file → Among (description s file) word → is_had s word ≡ true
-    had file m has =
-        has_word_from_among (flat_map (λ (pair : List ℕ × List ℕ). heads pair.0) s.axioms ++ flat_map (description s) s.files) word
-        (among_right (flat_map (λ (pair : List ℕ × List ℕ). heads pair.0) s.axioms) (flat_map (description s) s.files) word (flat_map_among (description s) s.files file word m has))
-
-    is_a_test : (file : File) → Among s.files file → Among (description s file) word → is_test word ≡ true
-    is_a_test file m has = by (and_cases _ _ parts.1)
-      where
-        by : (not (is_test word) ≡ false) ⊎ (is_had s word ≡ false) → is_test word ≡ true
-        by (inl test) = not-false _ test
-        by (inr none) = absurd (both_ways (is_had s word) none (had file m has))
-
-    -- what the word leads to, a weaker test of the file leads to
-    still : (w : List ℕ) → (word ≡ w → ⊥) → (file : File) → Among s.files file → Among (description s file) word → Among (up s.declared s.axioms word) w → Among (description r file) w
-    still w other file m has up_w = by (entails_from_up s.declared s.axioms word w up_w)
-      where
-        test : is_test word ≡ true
-        test = is_a_test file m has
-
-        met : IsMetBy s.declared file word
-        met = test_had s before file m word test has
-
-        -- no chain leads back from the weaker test
-        back : (x : List ℕ) → IsWeakerIn s.declared word x → Entails s.declared s.axioms x word → ⊥
-        back x less chain = either (test_leads (is_right s) (right_plain s) s.axioms (rights_are s before) s.declared chain.0 x word test chain.1)
-          where
-            either : (x ≡ word) ⊎ IsWeakerIn s.declared x word → ⊥
-            either (inl loop) = not_weaker_itself s.declared word (subst (λ (k : List ℕ). IsWeakerIn s.declared word k) loop less)
-            either (inr more) = not_weaker_itself s.declared word (weaker_joined s.declared word x word less more)
-
-        on : (x : List ℕ) → IsWeakerIn s.declared word x → Among r.declared x → Entails r.declared r.axioms x w ⊎ (Entails s.declared s.axioms x word × Entails s.declared s.axioms word w) → Among (description r file) w
-        on x less there (inl chain) =
-            file_has r file x w (Met there (met_weaker (test_of x) (test_of word) (length file.bytes) less.weaker met.met)) (up_from_entails r.declared r.axioms x w chain)
-        on x less there (inr through) = absurd (back x less through.0)
-
-        inside : (x : List ℕ) → IsWeakerIn s.declared word x → (word ≡ x) ⊎ Among r.declared x → Among r.declared x
-        inside x less (inl same) = absurd (not_weaker_itself s.declared word (subst (λ (k : List ℕ). IsWeakerIn s.declared word k) (sym same) less))
-        inside x less (inr there) = there
-
-        link : (n : ℕ) (x : List ℕ) → OwnLink s.declared word x ⊎ Among s.axioms (word, x) → Chain (links s.declared) s.axioms n x w → Among (description r file) w
-        link n x (inl (Head valued is)) chain = absurd (both_ways (is_valued word) (test_not_valued word test) valued)
-        link n x (inl (Weaker less)) chain = on x less (inside x less (among_insert_key word_cmp r.declared word x less.to)) (chain_split r word [] n x w chain)
-        link n x (inr edge) chain = absurd (no_left x edge)
-
-        along : (n : ℕ) → Chain (links s.declared) s.axioms n word w → Among (description r file) w
-        along zero chain = absurd (other chain)
-        along (suc n) chain = link n chain.0 (link_cases s.declared s.axioms word chain.0 chain.1) chain.2
-
-        by : Entails s.declared s.axioms word w → Among (description r file) w
-        by chain = along chain.0 chain.1
-
-    same : (w : List ℕ) → not (has_word (word ∷ []) w) ≡ true → (file : File) → Among r.files file → has_word (description s file) w ≡ has_word (description r file) w
-    same w out file m = same_tests (has_word (description s file) w) (has_word (description r file) w) to from
-      where
-        old : Among (description r file) w ⊎ (Among (description s file) word × Among (up s.declared s.axioms word) w) → Among (description r file) w
-        old (inl has) = has
-        old (inr new) = still w (λ e. out_of (word ∷ []) w out (inl e)) file m new.0 new.1
-
-        to : has_word (description s file) w ≡ true → has_word (description r file) w ≡ true
-        to h = has_word_from_among (description r file) w (old (described_split r word [] file w (among_from_has_word (description s file) w h)))
-
-        from : has_word (description r file) w ≡ true → has_word (description s file) w ≡ true
-        from h = has_word_from_among (description s file) w (described_within r s (declared_within r word []) file w (among_from_has_word (description r file) w h))
-
-pub undeclares_touch : (s : State) → WellFormed s → (word : List ℕ) → not (is_in_use s word) ≡ true → Touches s (undeclared s word) (word ∷ []) (word ∷ [])
-undeclares_touch s formed word unused = by (has_word s.declared word) refl
-  where
-    t : State
-    t = undeclared s word
-
-    back : Among s.declared word → declared_under t word [] ≡ s
-    back there =
-        ap (λ (words : List (List ℕ)). record s { declared = words })
-        (put_back word_cmp word_order s.declared word (λ w. same_word w word) formed.declared_set there (λ w m e. (same_word_decides w word).0 e)
-            (insert_key_new word_cmp word_exact (filter (λ w. not (same_word w word)) s.declared) word))
-
-    none_same : has_word s.declared word ≡ false → (w : List ℕ) → Among s.declared w → same_word w word ≡ false
-    none_same none w m = false_from_ne_true _ (λ e. both_ways (has_word s.declared word) none (any_from_among (λ v. same_word v word) s.declared w m e))
-
-    alone : has_word s.declared word ≡ false → s ≡ t
-    alone none = sym (ap (λ (words : List (List ℕ)). record s { declared = words }) (left_alone (λ w. same_word w word) s.declared (none_same none)))
-
-    by : (b : Bool) → has_word s.declared word ≡ b → Touches s t (word ∷ []) (word ∷ [])
-    by true e =
-        let there = among_from_has_word s.declared word e in
-        let is = back there in
-        touches_back t s (word ∷ []) (word ∷ [])
-        (subst (λ (x : State). Touches t x (word ∷ []) (word ∷ [])) is
-            (undeclared_touch t (undeclares s formed word unused) word (all_among is_declarable s.declared word formed.declared there)
-                (subst (λ (x : State). WellFormed x) (sym is) formed) (subst (λ (x : State). not (is_in_use x word) ≡ true) (sym is) unused)))
-    by false e = subst (λ (x : State). Touches s x (word ∷ []) (word ∷ [])) (alone e) (λ w out. refl, λ w out. refl)
-
--- ---- axioms
-pub adds_axiom_touch : (s : State) → WellFormed s → (l r : List ℕ) → is_right s r ≡ true → Touches s (axiom_added s (l, r)) (where_held s l (up s.declared s.axioms r)) (l ∷ heads l)
-adds_axiom_touch s formed l r right = (
-  λ w out. kept_holders s (λ (file : File). has_word (description t file) w) (λ (file : File). has_word (description s file) w) (same w out),
-  kept_known s t (l ∷ heads l) (known_adds_axiom s formed l r right),
+pub removes_axiom_touches : (s : State) → WellFormed s → (l r : List ℕ) → let t = axiom_removed s (l, r) in Touches s t (where_held t l (up t.declared t.axioms r)) (l ∷ heads l)
+removes_axiom_touches s formed l r = (
+  λ w none. sym (axiom_holders (axiom_removed s (l, r)) s.axioms l r front within w none),
+  λ w none. sym (axiom_known (axiom_removed s (l, r)) s.axioms l r front within (settled s formed) w none),
 )
   where
-    t : State
-    t = axiom_added s (l, r)
+    within : (e : List ℕ × List ℕ) → Among (axiom_removed s (l, r)).axioms e → Among s.axioms e
+    within e m = (among_filter (λ (p : List ℕ × List ℕ). not (same_pair p (l, r))) s.axioms e m).0
 
-    same : (w : List ℕ) → not (has_word (where_held s l (up s.declared s.axioms r)) w) ≡ true → (file : File) → Among s.files file → has_word (description t file) w ≡ has_word (description s file) w
-    same w out file m = same_tests (has_word (description t file) w) (has_word (description s file) w) to from
+    front : (e : List ℕ × List ℕ) → Among s.axioms e → Among ((l, r) ∷ (axiom_removed s (l, r)).axioms) e
+    front e m = by (same_pair e (l, r)) refl
       where
-        old : Among (description s file) w ⊎ (Among (description s file) l × Among (up s.declared s.axioms r) w) → has_word (description s file) w ≡ true
-        old (inl has) = has_word_from_among (description s file) w has
-        old (inr new) = absurd (not_held s l (up s.declared s.axioms r) w out file m new.0 new.1)
+        same : same_pair e (l, r) ≡ true → (l, r) ≡ e
+        same h =
+            let parts = and_parts (same_word e.0 l) (same_word e.1 r) h in
+            ap (λ (k : List ℕ). (k, r)) (sym ((same_word_decides e.0 l).0 parts.0)) ∙ ap (λ (k : List ℕ). (e.0, k)) (sym ((same_word_decides e.1 r).0 parts.1))
 
-        to : has_word (description t file) w ≡ true → has_word (description s file) w ≡ true
-        to h = old (axiom_split s l r file w (among_from_has_word (description t file) w h))
-
-        from : has_word (description s file) w ≡ true → has_word (description t file) w ≡ true
-        from h = has_word_from_among (description t file) w (described_within s t (axiom_within s (l, r)) file w (among_from_has_word (description s file) w h))
-
-same_pair_is : (a b : List ℕ × List ℕ) → same_pair a b ≡ true → a ≡ b
-same_pair_is a b h =
-    let parts = and_parts (same_word a.0 b.0) (same_word a.1 b.1) h in
-    ap (λ (x : List ℕ). (x, a.1)) ((same_word_decides a.0 b.0).0 parts.0) ∙ ap (λ (y : List ℕ). (b.0, y)) ((same_word_decides a.1 b.1).0 parts.1)
-
-pub axiom_there : (axioms : List (List ℕ × List ℕ)) (pair : List ℕ × List ℕ) → has_axiom axioms pair ≡ true → Among axioms pair
-axiom_there axioms pair h =
-    let found = among_from_any (λ p. same_pair p pair) axioms h in
-    subst (λ (k : List ℕ × List ℕ). Among axioms k) (same_pair_is found.0 pair found.2) found.1
-
-pub removes_axiom_touch : (s : State) → WellFormed s → (l r : List ℕ)
-    → Touches s (axiom_removed s (l, r)) (where_held (axiom_removed s (l, r)) l (up (axiom_removed s (l, r)).declared (axiom_removed s (l, r)).axioms r)) (l ∷ heads l)
-removes_axiom_touch s formed l r = by (has_axiom s.axioms (l, r)) refl
-  where
-    t : State
-    t = axiom_removed s (l, r)
-
-    changed : List (List ℕ)
-    changed = where_held t l (up t.declared t.axioms r)
-
-    back : Among s.axioms (l, r) → axiom_added t (l, r) ≡ s
-    back there =
-        ap (λ (axioms : List (List ℕ × List ℕ)). record s { axioms = axioms })
-        (put_back pair_cmp pair_order s.axioms (l, r) (λ p. same_pair p (l, r)) formed.axiom_set there (λ p m e. same_pair_is p (l, r) e)
-            (insert_key_new pair_cmp pair_exact (filter (λ p. not (same_pair p (l, r))) s.axioms) (l, r)))
-
-    none_same : has_axiom s.axioms (l, r) ≡ false → (p : List ℕ × List ℕ) → Among s.axioms p → same_pair p (l, r) ≡ false
-    none_same none p m = false_from_ne_true _ (λ e. both_ways (has_axiom s.axioms (l, r)) none (any_from_among (λ q. same_pair q (l, r)) s.axioms p m e))
-
-    alone : has_axiom s.axioms (l, r) ≡ false → s ≡ t
-    alone none = sym (ap (λ (axioms : List (List ℕ × List ℕ)). record s { axioms = axioms }) (left_alone (λ p. same_pair p (l, r)) s.axioms (none_same none)))
-
-    by : (b : Bool) → has_axiom s.axioms (l, r) ≡ b → Touches s t changed (l ∷ heads l)
-    by true e =
-        let there = axiom_there s.axioms (l, r) e in
-        touches_back t s changed (l ∷ heads l)
-        (subst (λ (x : State). Touches t x changed (l ∷ heads l)) (back there)
-            (adds_axiom_touch t (removes_axiom s formed (l, r)) l r (rights_are s formed (l, r) there)))
-    by false e = subst (λ (x : State). Touches s x changed (l ∷ heads l)) (alone e) (λ w out. refl, λ w out. refl)
+        by : (b : Bool) → same_pair e (l, r) ≡ b → Among ((l, r) ∷ (axiom_removed s (l, r)).axioms) e
+        by true h = inl (same h)
+        by false h = inr (filter_among (λ (p : List ℕ × List ℕ). not (same_pair p (l, r))) s.axioms e m (not_from_false _ h))
 
 -- ---- files
-filter_insert_key : {K : Type 0} (cmp : K → K → Ordering) (test : K → Bool) (xs : List K) (k : K) → test k ≡ false → filter test (insert_key cmp xs k) ≡ filter test xs
-filter_insert_key cmp test [] k none = rw none refl
-filter_insert_key cmp test (y ∷ ys) k none = by (cmp k y) (filter_insert_key cmp test ys k none)
+not_below : (n : List ℕ) → is_lt (word_cmp n n) ≡ true → ⊥
+not_below n h = by (word_cmp n n) refl h
   where
-    by : (r : Ordering) → filter test (insert_key cmp ys k) ≡ filter test ys → filter test (match_ordering r (k ∷ y ∷ ys) (y ∷ ys) (y ∷ insert_key cmp ys k)) ≡ filter test (y ∷ ys)
-    by Less more = rw none refl
-    by Equal more = refl
-    by Greater more = ap (λ zs. cond (test y) (y ∷ zs) zs) more
+    by : (o : Ordering) → word_cmp n n ≡ o → is_lt o ≡ true → ⊥
+    by Less e below = let flipped : Less ≡ ordering_reverse Less = sym e ∙ word_order.antisymm n n ∙ ap ordering_reverse e in cc
+    by Equal e below = absurd cc
+    by Greater e below = absurd cc
 
-pub adds_file_touch : (s : State) → is_rising word_cmp s.declared ≡ true → (file : File) → has_name s.files file.name ≡ false → Touches s (file_added s file) (description s file) (description s file)
-adds_file_touch s rising file new = (
-  λ w out. ap (λ (files : List File). map (λ (f : File). f.name) files) (filter_insert_key file_cmp (λ (f : File). has_word (description s f) w) s.files file (not-true _ out)),
-  kept_known s (file_added s file) (description s file) (known_adds_file s rising file new),
+-- one file of each name
+one_of_name : (files : List File) → is_rising file_cmp files ≡ true → (file other : File) → Among files file → Among files other → file.name ≡ other.name → file ≡ other
+one_of_name [] rising file other m n same = absurd m
+one_of_name (first ∷ files) rising file other (inl here) (inl there) same = sym here ∙ there
+one_of_name (first ∷ files) rising file other (inl here) (inr n) same =
+    let below = all_among (λ (f : File). is_lt (file_cmp first f)) files other (and_parts _ _ rising).0 n in
+    absurd (not_below other.name (subst (λ (k : List ℕ). is_lt (word_cmp k other.name) ≡ true) (ap (λ (f : File). f.name) here ∙ same) below))
+one_of_name (first ∷ files) rising file other (inr m) (inl there) same =
+    let below = all_among (λ (f : File). is_lt (file_cmp first f)) files file (and_parts _ _ rising).0 m in
+    absurd (not_below file.name (subst (λ (k : List ℕ). is_lt (word_cmp k file.name) ≡ true) (ap (λ (f : File). f.name) there ∙ sym same) below))
+one_of_name (first ∷ files) rising file other (inr m) (inr n) same = one_of_name files (and_parts _ _ rising).1 file other m n same
+
+pub adds_file_touches : (s : State) → is_rising word_cmp s.declared ≡ true → (file : File) → has_name s.files file.name ≡ false → Touches s (file_added s file) (description s file) (description s file)
+adds_file_touches s rising file new = (changed, learned)
+  where
+    changed : KeepsHolders s (file_added s file) (description s file)
+    changed w none = ap (λ (fs : List File). map (λ (f : File). f.name) fs) (filter_insert file_cmp (λ (f : File). has_word (description s f) w) s.files file (not-true _ none))
+
+    learned : KeepsKnown s (file_added s file) (description s file)
+    learned w none =
+        ap (λ (ws : List (List ℕ)). has_word ws w) (known_adds_file s rising file new)
+        ∙ has_alike (with_words (known s) (description s file)) (known s) w (λ m. to (among_with_words (known s) (description s file) w m)) (with_words_old (known s) (description s file) w)
+      where
+        to : Among (known s) w ⊎ Among (description s file) w → Among (known s) w
+        to (inl m) = m
+        to (inr has) = absurd (not_in (description s file) w none has)
+
+pub removes_file_touches : (s : State) → WellFormed s → (file : File) → Among s.files file → Touches s (file_removed s file.name) (description s file) (description s file)
+removes_file_touches s formed file m = (changed, learned)
+  where
+    u : State
+    u = file_removed s file.name
+
+    is_file : (f : File) → Among s.files f → same_word f.name file.name ≡ true → f ≡ file
+    is_file f n same = one_of_name s.files formed.file_set f file n m ((same_word_decides f.name file.name).0 same)
+
+    changed : KeepsHolders s u (description s file)
+    changed w none = ap (λ (fs : List File). map (λ (f : File). f.name) fs) (filter_skips (λ (f : File). has_word (description s f) w) (λ (f : File). not (same_word f.name file.name)) s.files skip)
+      where
+        skip : (f : File) → Among s.files f → not (same_word f.name file.name) ≡ false → has_word (description s f) w ≡ false
+        skip f n gone = subst (λ (k : File). has_word (description s k) w ≡ false) (sym (is_file f n (not-false _ gone))) (not-true _ none)
+
+    learned : KeepsKnown s u (description s file)
+    learned w none = has_alike (known u) (known s) w (known_within u s (file_removed_within s file.name) w) (λ k. known_from u w (from (source_of s w k)))
+      where
+        described : (f : File) → Among s.files f → Among (description s f) w → (b : Bool) → same_word f.name file.name ≡ b → Source u w
+        described f n has true same = absurd (not_in (description s file) w none (subst (λ (k : File). Among (description s k) w) (is_file f n same) has))
+        described f n has false other = Described f (filter_among (λ (k : File). not (same_word k.name file.name)) s.files f n (not_from_false _ other)) has
+
+        from : Source s w → Source u w
+        from (Declared n) = Declared n
+        from (Left e n is) = Left e n is
+        from (LeftHead e n head) = LeftHead e n head
+        from (Described f n has) = described f n has (same_word f.name file.name) refl
+
+-- two changes, one after the other
+touches_both : (s u t : State) (some more : List (List ℕ)) → Touches s u some some → Touches u t more more → Touches s t (some ++ more) (some ++ more)
+touches_both s u t some more first next = (
+  λ w none. let parts = apart w none in next.0 w parts.1 ∙ first.0 w parts.0,
+  λ w none. let parts = apart w none in next.1 w parts.1 ∙ first.1 w parts.0,
 )
-
-pub removes_file_touch : (s : State) → WellFormed s → (file : File) → Among s.files file → Touches s (file_removed s file.name) (description s file) (description s file)
-removes_file_touch s formed file there =
-    touches_back r s (description s file) (description s file)
-    (subst (λ (x : State). Touches r x (description s file) (description s file)) back (adds_file_touch r formed.declared_set file (gone_free s file.name)))
   where
-    r : State
-    r = file_removed s file.name
+    apart : (w : List ℕ) → not (has_word (some ++ more) w) ≡ true → (not (has_word some w) ≡ true) × (not (has_word more w) ≡ true)
+    apart w none =
+        let parts = or_parts (has_word some w) (has_word more w) (sym (list_any-append (λ k. same_word k w) some more) ∙ not-true _ none) in
+        (not_from_false _ parts.0, not_from_false _ parts.1)
 
-    only : (f : File) → Among s.files f → same_word f.name file.name ≡ true → f ≡ file
-    only f m e =
-        tied_members file_cmp file_order s.files (sorted_from_rising file_cmp file_order s.files formed.file_set) f file m there
-        (ap (λ (name : List ℕ). word_cmp name file.name) ((same_word_decides f.name file.name).0 e) ∙ tied_itself word_order file.name)
-
-    back : file_added r file ≡ s
-    back =
-        ap (λ (files : List File). record s { files = files })
-        (put_back file_cmp file_order s.files file (λ (f : File). same_word f.name file.name) formed.file_set there only (file_there r file (gone_free s file.name)))
-
-pub replaces_file_touch : (s : State) → WellFormed s → (old new : File) → Among s.files old → has_name (file_removed s old.name).files new.name ≡ false
+pub replaces_file_touches : (s : State) → WellFormed s → (old new : File) → Among s.files old → has_name (file_removed s old.name).files new.name ≡ false
     → Touches s (file_replaced s old.name new) (description s old ++ description s new) (description s old ++ description s new)
-replaces_file_touch s formed old new there free =
-    touches_joined s (file_removed s old.name) (file_replaced s old.name new) (description s old) (description s old) (description s new) (description s new)
-    (removes_file_touch s formed old there) (adds_file_touch (file_removed s old.name) formed.declared_set new free)
+replaces_file_touches s formed old new m free =
+    touches_both s (file_removed s old.name) (file_replaced s old.name new) (description s old) (description s new)
+    (removes_file_touches s formed old m) (adds_file_touches (file_removed s old.name) formed.declared_set new free)

@@ -13,12 +13,21 @@ use Rattle.lis_model.specs.declared.command.Command.TheVariants.{Mkdir, Rmdir, A
 use Rattle.lis_model.specs.Derived.{all_derived_words}
 use Rattle.lis_model.specs.State.{file_limit, blocks_taken}
 use Rattle.lis_model.specs.Replies.{line}
-use Rattle.lis_model.specs.Step.{Item, Payload, no_payload, start_of, replies, step}
-use Rattle.lis_model.specs.Step.Item.{Do}
+use Rattle.lis_model.specs.Step.{Situation, Outcome, Item, Payload, no_payload, start_of, all_done}
+use Rattle.lis_model.specs.Step.Item.{Do, Bad}
 use Rattle.lis_model.specs.Tests.{is_weaker}
 
+-- what all commands reply, those that have not come yet among them
+abbrev reply_then : Outcome → (Situation → List ℕ) → List ℕ
+reply_then outcome next = outcome.reply ++ next outcome.next
+
+abbrev all_replies : Situation → List Item → List ℕ
+all_replies now [] = []
+all_replies now (Do command payload ∷ items) = reply_then (all_done now command payload) (λ next. all_replies next items)
+all_replies now (Bad refusal ∷ items) = all_replies now items
+
 abbrev said : List Item → List ℕ
-said items = replies (start_of (record { files = 64; props = 64; blocks = 2; version = 1 })) items
+said items = all_replies (start_of (record { files = 64; props = 64; blocks = 2; version = 1 })) items
 
 abbrev plain : Command → Item
 plain command = Do command no_payload
@@ -38,7 +47,7 @@ music =
 axioms_hide : said (music ++ plain Ls ∷ plain (Cd (codes "!music|rock")) ∷ plain Ls ∷ plain (Cd (codes "/music")) ∷ plain Ls ∷ [])
     ≡ ok ++ ok ++ ok ++ ok ++ ok ++ ok ++ ok ++ line (codes "d music") ++ line (codes "d text") ++ ok ++ ok ++ line (codes "d music") ++ line (codes "d text") ++ ok
     ++ ok ++ line (codes "d rock") ++ line (codes "f s2") ++ ok
-unfolding step resolved text_words text_steps printed is_place
+unfolding resolved text_words text_steps printed is_place
 axioms_hide = refl
 
 axioms_refused : said (music ++ plain (Axiom (codes "music") (codes "rock")) ∷ plain (Axiom (codes "rock") (codes "music")) ∷ plain (Axiom (codes "rock") (codes "k:"))
@@ -47,7 +56,6 @@ axioms_refused : said (music ++ plain (Axiom (codes "music") (codes "rock")) ∷
     ≡ ok ++ ok ++ ok ++ ok ++ ok ++ ok ++ ok ++ line (codes "no 15 cycle") ++ line (codes "no 16 axiom there") ++ line (codes "no 14 not assignable")
     ++ line (codes "no 06 unknown property") ++ line (codes "no 17 no such axiom") ++ line (codes "no 13 in use") ++ line (codes "no 25 built-in attribute")
     ++ line (codes "no 14 not assignable") ++ line (codes "no 12 not declared")
-unfolding step
 axioms_refused = refl
 
 -- two ways up: with one of them gone the other still leads there
@@ -55,22 +63,14 @@ two_ways : said (plain (Mkdir (codes "top")) ∷ plain (Mkdir (codes "l")) ∷ p
     ∷ plain (Axiom (codes "bot") (codes "l")) ∷ plain (Axiom (codes "bot") (codes "r")) ∷ plain (Create (codes "x") (codes "bot" ∷ [])) ∷ plain (Create (codes "y") [])
     ∷ plain (Unaxiom (codes "bot") (codes "l")) ∷ plain Ls ∷ plain (Unaxiom (codes "bot") (codes "r")) ∷ plain Ls ∷ [])
     ≡ ok ++ ok ++ ok ++ ok ++ ok ++ ok ++ ok ++ ok ++ ok ++ ok ++ ok ++ line (codes "d top") ++ line (codes "f y") ++ ok ++ ok ++ line (codes "d bot") ++ line (codes "f y") ++ ok
-unfolding step
 two_ways = refl
 
 -- a word declared under a place entails the words of the place
-declared_under_places : said (plain (Mkdir (codes "a")) ∷ plain (Mkdir (codes "k:")) ∷ plain (Cd (codes "a")) ∷ plain (Mkdir (codes "b")) ∷ plain (Cd (codes "/")) ∷ plain (Create (codes "x") (codes "b" ∷ [])) ∷ plain (Create (codes "y") [])
-    ∷ plain (Way (codes "x")) ∷ plain (Cd (codes "/k:")) ∷ plain (Mkdir (codes "c")) ∷ plain (Cd (codes "/!a")) ∷ plain (Mkdir (codes "c")) ∷ plain (Mkdir (codes "a")) ∷ [])
-    ≡ ok ++ ok ++ ok ++ ok ++ ok ++ ok ++ ok ++ line (codes "d a") ++ ok ++ ok ++ line (codes "no 08 not a place") ++ ok ++ line (codes "no 08 not a place") ++ line (codes "no 11 already declared")
-unfolding step resolved text_words text_steps printed is_place
-declared_under_places = refl
-
--- ---- files: bytes over their old blocks, tags by places, names
 bytes_change : said (Do (Add (codes "a") []) (bytes (codes "xy")) ∷ Do (Write (codes "a")) (bytes (codes "z")) ∷ plain (Cat (codes "a")) ∷ Do (Write (codes "b")) (bytes (codes "z"))
     ∷ Do (Write (codes "a")) (record { size = 4097; bytes = [] }) ∷ Do (Add (codes "c") []) (bytes (codes "z")) ∷ Do (Add (codes "d") []) (bytes (codes "z"))
     ∷ Do (Write (codes "a")) (record { size = 65537; bytes = [] }) ∷ [])
     ≡ ok ++ ok ++ line (codes "b 1") ++ line (codes "z") ++ ok ++ line (codes "no 10 no such file here") ++ ok ++ ok ++ ok ++ line (codes "no 20 file too large")
-unfolding step digits
+unfolding digits
 bytes_change = refl
 
 tags_change : said (plain (Mkdir (codes "a")) ∷ plain (Mkdir (codes "b")) ∷ plain (Create (codes "x") (codes "a" ∷ [])) ∷ plain (Create (codes "y") []) ∷ plain (Mv (codes "x") (codes "a/")) ∷ plain (Mv (codes "z") (codes "a"))
@@ -78,24 +78,22 @@ tags_change : said (plain (Mkdir (codes "a")) ∷ plain (Mkdir (codes "b")) ∷ 
     ∷ plain (Cd (codes "a")) ∷ plain (Mv (codes "x") (codes "/b")) ∷ plain Ls ∷ plain (Cd (codes "/b")) ∷ plain (Mv (codes "x") (codes "..")) ∷ plain (Cd (codes "/")) ∷ plain Ls ∷ [])
     ≡ ok ++ ok ++ ok ++ ok ++ line (codes "no 05 formula") ++ line (codes "no 10 no such file here") ++ line (codes "no 08 not a place") ++ line (codes "no 25 built-in attribute")
     ++ line (codes "no 14 not assignable") ++ line (codes "no 06 unknown property") ++ ok ++ ok ++ ok ++ ok ++ ok ++ ok ++ line (codes "f x") ++ line (codes "f y") ++ ok
-unfolding step resolved text_words text_steps broken_at printed is_place
+unfolding resolved text_words text_steps broken_at printed is_place
 tags_change = refl
 
 names_change : said (plain (Create (codes "x") []) ∷ plain (Create (codes "y") []) ∷ plain (Rename (codes "z") (codes "y")) ∷ plain (Rename (codes "x") (codes "y")) ∷ plain (Rename (codes "x") (codes "x"))
     ∷ plain (Rename (codes "x") (codes "z")) ∷ plain Ls ∷ [])
     ≡ ok ++ ok ++ line (codes "no 10 no such file here") ++ line (codes "no 09 name taken") ++ line (codes "no 09 name taken") ++ ok ++ line (codes "f y") ++ line (codes "f z") ++ ok
-unfolding step
 names_change = refl
 
 -- ---- routes and counts
 routes_shown : said (music ++ plain (Way (codes "s1")) ∷ plain (Way (codes "x")) ∷ [])
     ≡ ok ++ ok ++ ok ++ ok ++ ok ++ ok ++ ok ++ line (codes "d music") ++ line (codes "d rock") ++ ok ++ line (codes "no 10 no such file here")
-unfolding step
 routes_shown = refl
 
 counts_shown : said (plain (Mkdir (codes "a")) ∷ plain (Mkdir (codes "b")) ∷ plain (Axiom (codes "size:small") (codes "b")) ∷ plain Stat ∷ [])
     ≡ ok ++ ok ++ ok ++ line (codes "s files 0") ++ line (codes "s known 4") ++ line (codes "s axioms 1") ++ line (codes "s free 2") ++ ok
-unfolding step digits
+unfolding digits
 counts_shown = refl
 
 -- ---- declared tests
@@ -103,11 +101,10 @@ tests_shown : said (plain (Mkdir (codes "size>=1")) ∷ plain (Mkdir (codes "siz
     ∷ Do (Add (codes "c") []) (bytes (codes "xx")) ∷ plain (Cd (codes "big")) ∷ plain (Way (codes "c")) ∷ plain (Cd (codes "/!big")) ∷ plain (Cat (codes "b")) ∷ plain (Create (codes "d") (codes "size>=1" ∷ []))
     ∷ plain (Rmdir (codes "size>=2")) ∷ plain (Unaxiom (codes "size>=2") (codes "big")) ∷ plain (Rmdir (codes "size>=2")) ∷ plain (Mkdir (codes "size>=1")) ∷ [])
     ≡ ok ++ ok ++ ok ++ ok ++ ok ++ ok ++ ok ++ ok ++ ok ++ line (codes "b 1") ++ line (codes "x") ++ ok ++ line (codes "no 08 not a place") ++ line (codes "no 13 in use") ++ ok ++ ok ++ line (codes "no 11 already declared")
-unfolding step resolved text_words text_steps printed is_place digits
+unfolding resolved text_words text_steps printed is_place digits
 tests_shown = refl
 
 test_not_assigned : said (plain (Mkdir (codes "size<1")) ∷ plain (Create (codes "d") (codes "size<1" ∷ [])) ∷ []) ≡ ok ++ line (codes "no 14 not assignable")
-unfolding step
 test_not_assigned = refl
 
 -- size>=1 is weaker than size>=2, and size<3 than size<2
