@@ -9,7 +9,7 @@ use Rattle.lis_transducers.specs.Source.{source_words}
 use Rattle.lis_transducers.specs.Pieces.{pieces}
 use Rattle.lis_transducers.specs.Joined.{joined}
 use Rattle.lis_model.specs.declared.command.Command.{Command}
-use Rattle.lis_model.specs.declared.command.Command.TheVariants.{Mkdir, Rmdir, Axiom, Unaxiom, Create, Add, Write, Cat, Mv, Rename, Rm, Cd, Pwd, Ls, Props, Way, Stat}
+use Rattle.lis_model.specs.declared.command.Command.TheVariants.{Mkdir, Rmdir, Axiom, Unaxiom, Create, Add, Write, Cat, Mv, Rename, Cd, Ls, Way, Stat}
 use Rattle.lis_model.specs.Derived.{all_derived_words}
 use Rattle.lis_model.specs.State.{file_limit, blocks_taken}
 use Rattle.lis_model.specs.Replies.{line}
@@ -42,8 +42,8 @@ unfolding step resolved text_words text_steps printed is_place
 axioms_hide = refl
 
 axioms_refused : said (music ++ plain (Axiom (codes "music") (codes "rock")) ∷ plain (Axiom (codes "rock") (codes "music")) ∷ plain (Axiom (codes "rock") (codes "k:"))
-        ∷ plain (Axiom (codes "nosuch") (codes "music")) ∷ plain (Unaxiom (codes "text") (codes "music")) ∷ plain (Rmdir (codes "rock")) ∷ plain (Rmdir (codes "size:"))
-        ∷ plain (Rmdir (codes "a:b")) ∷ plain (Rmdir (codes "other")) ∷ [])
+    ∷ plain (Axiom (codes "nosuch") (codes "music")) ∷ plain (Unaxiom (codes "text") (codes "music")) ∷ plain (Rmdir (codes "rock")) ∷ plain (Rmdir (codes "size:"))
+    ∷ plain (Rmdir (codes "a:b")) ∷ plain (Rmdir (codes "other")) ∷ [])
     ≡ ok ++ ok ++ ok ++ ok ++ ok ++ ok ++ ok ++ line (codes "no 15 cycle") ++ line (codes "no 16 axiom there") ++ line (codes "no 14 not assignable")
     ++ line (codes "no 06 unknown property") ++ line (codes "no 17 no such axiom") ++ line (codes "no 13 in use") ++ line (codes "no 25 built-in attribute")
     ++ line (codes "no 14 not assignable") ++ line (codes "no 12 not declared")
@@ -52,37 +52,37 @@ axioms_refused = refl
 
 -- two ways up: with one of them gone the other still leads there
 two_ways : said (plain (Mkdir (codes "top")) ∷ plain (Mkdir (codes "l")) ∷ plain (Mkdir (codes "r")) ∷ plain (Mkdir (codes "bot")) ∷ plain (Axiom (codes "l") (codes "top")) ∷ plain (Axiom (codes "r") (codes "top"))
-        ∷ plain (Axiom (codes "bot") (codes "l")) ∷ plain (Axiom (codes "bot") (codes "r")) ∷ plain (Create (codes "x") (codes "bot" ∷ [])) ∷ plain (Create (codes "y") [])
-        ∷ plain (Unaxiom (codes "bot") (codes "l")) ∷ plain Ls ∷ plain (Unaxiom (codes "bot") (codes "r")) ∷ plain Ls ∷ [])
+    ∷ plain (Axiom (codes "bot") (codes "l")) ∷ plain (Axiom (codes "bot") (codes "r")) ∷ plain (Create (codes "x") (codes "bot" ∷ [])) ∷ plain (Create (codes "y") [])
+    ∷ plain (Unaxiom (codes "bot") (codes "l")) ∷ plain Ls ∷ plain (Unaxiom (codes "bot") (codes "r")) ∷ plain Ls ∷ [])
     ≡ ok ++ ok ++ ok ++ ok ++ ok ++ ok ++ ok ++ ok ++ ok ++ ok ++ ok ++ line (codes "d top") ++ line (codes "f y") ++ ok ++ ok ++ line (codes "d bot") ++ line (codes "f y") ++ ok
 unfolding step
 two_ways = refl
 
 -- a word declared under a place entails the words of the place
 declared_under_places : said (plain (Mkdir (codes "a")) ∷ plain (Mkdir (codes "k:")) ∷ plain (Cd (codes "a")) ∷ plain (Mkdir (codes "b")) ∷ plain (Cd (codes "/")) ∷ plain (Create (codes "x") (codes "b" ∷ [])) ∷ plain (Create (codes "y") [])
-        ∷ plain (Way (codes "x")) ∷ plain (Cd (codes "/k:")) ∷ plain (Mkdir (codes "c")) ∷ plain (Cd (codes "/!a")) ∷ plain (Mkdir (codes "c")) ∷ plain (Mkdir (codes "a")) ∷ [])
+    ∷ plain (Way (codes "x")) ∷ plain (Cd (codes "/k:")) ∷ plain (Mkdir (codes "c")) ∷ plain (Cd (codes "/!a")) ∷ plain (Mkdir (codes "c")) ∷ plain (Mkdir (codes "a")) ∷ [])
     ≡ ok ++ ok ++ ok ++ ok ++ ok ++ ok ++ ok ++ line (codes "d a") ++ ok ++ ok ++ line (codes "no 08 not a place") ++ ok ++ line (codes "no 08 not a place") ++ line (codes "no 11 already declared")
 unfolding step resolved text_words text_steps printed is_place
 declared_under_places = refl
 
 -- ---- files: bytes over their old blocks, tags by places, names
 bytes_change : said (Do (Add (codes "a") []) (bytes (codes "xy")) ∷ Do (Write (codes "a")) (bytes (codes "z")) ∷ plain (Cat (codes "a")) ∷ Do (Write (codes "b")) (bytes (codes "z"))
-        ∷ Do (Write (codes "a")) (record { size = 4097; bytes = [] }) ∷ Do (Add (codes "c") []) (bytes (codes "z")) ∷ Do (Add (codes "d") []) (bytes (codes "z"))
-        ∷ Do (Write (codes "a")) (record { size = 65537; bytes = [] }) ∷ [])
+    ∷ Do (Write (codes "a")) (record { size = 4097; bytes = [] }) ∷ Do (Add (codes "c") []) (bytes (codes "z")) ∷ Do (Add (codes "d") []) (bytes (codes "z"))
+    ∷ Do (Write (codes "a")) (record { size = 65537; bytes = [] }) ∷ [])
     ≡ ok ++ ok ++ line (codes "b 1") ++ line (codes "z") ++ ok ++ line (codes "no 10 no such file here") ++ ok ++ ok ++ ok ++ line (codes "no 20 file too large")
 unfolding step digits
 bytes_change = refl
 
 tags_change : said (plain (Mkdir (codes "a")) ∷ plain (Mkdir (codes "b")) ∷ plain (Create (codes "x") (codes "a" ∷ [])) ∷ plain (Create (codes "y") []) ∷ plain (Mv (codes "x") (codes "a/")) ∷ plain (Mv (codes "z") (codes "a"))
-        ∷ plain (Mv (codes "x") (codes "a|b")) ∷ plain (Mv (codes "x") (codes "size:")) ∷ plain (Mv (codes "x") (codes "k:")) ∷ plain (Mv (codes "x") (codes "c"))
-        ∷ plain (Cd (codes "a")) ∷ plain (Mv (codes "x") (codes "/b")) ∷ plain Ls ∷ plain (Cd (codes "/b")) ∷ plain (Mv (codes "x") (codes "..")) ∷ plain (Cd (codes "/")) ∷ plain Ls ∷ [])
+    ∷ plain (Mv (codes "x") (codes "a|b")) ∷ plain (Mv (codes "x") (codes "size:")) ∷ plain (Mv (codes "x") (codes "k:")) ∷ plain (Mv (codes "x") (codes "c"))
+    ∷ plain (Cd (codes "a")) ∷ plain (Mv (codes "x") (codes "/b")) ∷ plain Ls ∷ plain (Cd (codes "/b")) ∷ plain (Mv (codes "x") (codes "..")) ∷ plain (Cd (codes "/")) ∷ plain Ls ∷ [])
     ≡ ok ++ ok ++ ok ++ ok ++ line (codes "no 05 formula") ++ line (codes "no 10 no such file here") ++ line (codes "no 08 not a place") ++ line (codes "no 25 built-in attribute")
     ++ line (codes "no 14 not assignable") ++ line (codes "no 06 unknown property") ++ ok ++ ok ++ ok ++ ok ++ ok ++ ok ++ line (codes "f x") ++ line (codes "f y") ++ ok
 unfolding step resolved text_words text_steps broken_at printed is_place
 tags_change = refl
 
 names_change : said (plain (Create (codes "x") []) ∷ plain (Create (codes "y") []) ∷ plain (Rename (codes "z") (codes "y")) ∷ plain (Rename (codes "x") (codes "y")) ∷ plain (Rename (codes "x") (codes "x"))
-        ∷ plain (Rename (codes "x") (codes "z")) ∷ plain Ls ∷ [])
+    ∷ plain (Rename (codes "x") (codes "z")) ∷ plain Ls ∷ [])
     ≡ ok ++ ok ++ line (codes "no 10 no such file here") ++ line (codes "no 09 name taken") ++ line (codes "no 09 name taken") ++ ok ++ line (codes "f y") ++ line (codes "f z") ++ ok
 unfolding step
 names_change = refl
@@ -100,8 +100,8 @@ counts_shown = refl
 
 -- ---- declared tests
 tests_shown : said (plain (Mkdir (codes "size>=1")) ∷ plain (Mkdir (codes "size>=2")) ∷ plain (Mkdir (codes "big")) ∷ plain (Axiom (codes "size>=2") (codes "big")) ∷ Do (Add (codes "b") []) (bytes (codes "x"))
-        ∷ Do (Add (codes "c") []) (bytes (codes "xx")) ∷ plain (Cd (codes "big")) ∷ plain (Way (codes "c")) ∷ plain (Cd (codes "/!big")) ∷ plain (Cat (codes "b")) ∷ plain (Create (codes "d") (codes "size>=1" ∷ []))
-        ∷ plain (Rmdir (codes "size>=2")) ∷ plain (Unaxiom (codes "size>=2") (codes "big")) ∷ plain (Rmdir (codes "size>=2")) ∷ plain (Mkdir (codes "size>=1")) ∷ [])
+    ∷ Do (Add (codes "c") []) (bytes (codes "xx")) ∷ plain (Cd (codes "big")) ∷ plain (Way (codes "c")) ∷ plain (Cd (codes "/!big")) ∷ plain (Cat (codes "b")) ∷ plain (Create (codes "d") (codes "size>=1" ∷ []))
+    ∷ plain (Rmdir (codes "size>=2")) ∷ plain (Unaxiom (codes "size>=2") (codes "big")) ∷ plain (Rmdir (codes "size>=2")) ∷ plain (Mkdir (codes "size>=1")) ∷ [])
     ≡ ok ++ ok ++ ok ++ ok ++ ok ++ ok ++ ok ++ ok ++ ok ++ line (codes "b 1") ++ line (codes "x") ++ ok ++ line (codes "no 08 not a place") ++ line (codes "no 13 in use") ++ ok ++ ok ++ line (codes "no 11 already declared")
 unfolding step resolved text_words text_steps printed is_place digits
 tests_shown = refl
