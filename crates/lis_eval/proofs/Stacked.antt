@@ -1,20 +1,20 @@
 -- What a node does to the stack of rows.
-use Rattle.std.proofs.Common.{◌≡◌, ◌≢◌, ℕ, zero, suc, ◌+◌, ◌-◌, ◌<◌, ◌≤◌, Bool, true, false, not, ◌&&◌, ◌||◌, nat_le, nat_lt, List, [], ◌∷◌, ◌++◌, length, reverse, refl, sym, ap, ◌∙◌, arith, add-one}
-use Rattle.std.specs.List.{Contains, list_all}
+use Rattle.std.proofs.Common.{◌≡◌, ℕ, ◌+◌, ◌-◌, ◌<◌, ◌≤◌, Bool, true, false, not, ◌&&◌, nat_le, nat_lt, List, [], ◌∷◌, ◌++◌, length, reverse, refl, sym, ap, ◌∙◌, arith, add-one}
+use Rattle.std.specs.List.{Contains}
 use Rattle.std.proofs.lemmas.Bool.Decides.{nat_tests}
 use Rattle.std.proofs.lemmas.List.{reverse-append}
 use Rattle.std.proofs.lemmas.List.Folds.{list_all-append}
 use Rattle.lis_bits.specs.Rows.{Rows, HasShape, get, with_row, SetsBits}
 use Rattle.lis_bits.proofs.Laws.{bits_set}
 use Rattle.lis_grammar.specs.Formula.{Formula}
-use Rattle.lis_grammar.specs.Formula.Formula.{Has, SizeAtLeast, SizeBelow, Negation, Both, Either}
+use Rattle.lis_grammar.specs.Formula.Formula.{Negation}
 use Rattle.lis_model.specs.Table.{Entry}
 use Rattle.lis_model.specs.Listing.{holds, holds_all}
 use Rattle.lis_place.specs.declared.node.Node.{Node}
 use Rattle.lis_place.specs.declared.node.Node.TheVariants.{Not}
 use Rattle.lis_place.specs.Nodes.{with_node, joined}
 use Rattle.lis_eval.specs.View.{Placed, Seen, IsView}
-use Rattle.lis_eval.specs.Stack.{RowIs, Stacks, IsStack, Pushes, PutsNode, in_all}
+use Rattle.lis_eval.specs.Stack.{Stacks, IsStack, Pushes, PutsNode, in_all}
 
 -- a row with the truth of a formula is that formula's
 pub pushes : (v : Seen) → IsView v → (old new : Rows) (files row : ℕ) (value : ℕ → Bool) (f : Formula) → files ≡ v.limits.files → SetsBits old new 65 files row value

@@ -5,6 +5,8 @@ use Rattle.std.specs.List.{find, list_any, Contains}
 use Rattle.lis_words.specs.Words.{same_word, has_word}
 use Rattle.lis_model.specs.declared.limits.Limits.{Limits}
 use Rattle.lis_model.specs.Table.{Table, Entry, entails}
+use Rattle.lis_model.specs.Tests.{step_of}
+use Rattle.lis_model.specs.Listing.{holds}
 use Rattle.lis_ext.specs.Ext as ext
 use Rattle.lis_taxonomy.specs.Taxonomy as taxonomy
 
@@ -65,6 +67,8 @@ pub record IsView (v : Seen) : Type 0 where
   pub known : (f : Placed) (word : List ℕ) → Contains v.files f → Contains f.entry.words word → (w : List ℕ × ℕ) × Contains v.words w × (w.0 ≡ word)
   pub closed : (f : Placed) (w x : List ℕ × ℕ) → Contains v.files f → Contains v.words w → Contains v.words x → has_word f.entry.words w.0 ≡ true → entails (table_of v) w.0 x.0 ≡ true
       → has_word f.entry.words x.0 ≡ true
+  -- the step of a place that a word stands for asks for the word
+  pub steps : (f : Placed) (w : List ℕ × ℕ) → Contains v.files f → Contains v.words w → holds (step_of w.0) f.entry ≡ has_word f.entry.words w.0
 
 -- the rows have, for each known word, exactly the slots of the files that have the word
 pub record TellsFiles (v : Seen) (e : ext.Ext) : Type 0 where

@@ -6,7 +6,7 @@ ghost use Rattle.lis_grammar.specs.Formula.{Formula};
 ghost use Rattle.lis_grammar.specs.Formula.Formula.{Has};
 ghost use Rattle.lis_bits.specs.Rows.{HasShape, get};
 ghost use Rattle.lis_model.specs.Listing.{holds_all};
-ghost use Rattle.lis_eval.specs.View.{TellsFiles, TellsTest};
+ghost use Rattle.lis_eval.specs.View.{IsView, TellsFiles, TellsTest};
 ghost use Rattle.lis_eval.specs.Room.{HasRoom, CanMark};
 ghost use Rattle.lis_eval.specs.Stack.{Pushes, PutsNode, IsStack, in_all};
 
@@ -116,6 +116,7 @@ pub fn evaluate<V: View>(view: &V, scratch: &mut Scratch, place: &Place)
     requires { HasRoom scratch.old (V.seen view.now).limits }
     ensures room { HasRoom scratch.new (V.seen view.now).limits }
     ensures found { TellsTest (V.seen view.now) (get scratch.new.files 0) (holds_all place.now) }
+    ensures kept { IsView (V.seen view.now) }
 {
     let ext = view.ext();
     let files = scratch.limits.files;

@@ -1,4 +1,4 @@
-use Rattle.std.proofs.Common.{◌≡◌, ◌+◌, ◌&&◌, ◌∙◌, arith}
+use Rattle.std.proofs.Common.{◌+◌, ◌&&◌, ◌∙◌, arith}
 use Rattle.lis_bits.specs.Rows.{get}
 use Rattle.lis_bits.proofs.Laws.{bits_set}
 use Rattle.lis_eval.proofs.Stacked.{all_more}

@@ -1,9 +1,7 @@
-use Rattle.std.proofs.Common.{◌≡◌, ◌<◌, true, false, ◌&&◌, nat_le, reverse, refl, sym, ap, ◌∙◌, arith}
+use Rattle.std.proofs.Common.{◌&&◌, nat_le, reverse, sym, ap, ◌∙◌, arith}
 use Rattle.std.proofs.lemmas.Bool.{le-leb}
 use Rattle.lis_model.specs.declared.limits.Limits.{Limits}
-use Rattle.lis_model.specs.Listing.{holds_all}
 use Rattle.lis_model.specs.Table.{Entry}
-use Rattle.lis_bits.specs.Rows.{get}
 use Rattle.lis_eval.specs.Stack.{in_all}
 use Rattle.lis_eval.proofs.Slots.{passes_at, passes_none}
 use Rattle.lis_eval.proofs.Stacked.{all_hold, turned_round, and_true, and_false}

@@ -1,12 +1,10 @@
-use Rattle.std.proofs.Common.{◌≡◌, ◌-◌, ◌+◌, Bool, not, nat_le, ◌&&◌, ◌||◌, List, [], ◌∷◌, length, refl, sym, ap, ◌∙◌, arith}
+use Rattle.std.proofs.Common.{◌-◌, ◌+◌, not, nat_le, ◌&&◌, ◌||◌, refl, ap, ◌∙◌, arith}
 use Rattle.lis_bits.specs.Rows.{get}
 use Rattle.lis_bits.proofs.Laws.{bits_set, bits_again}
-use Rattle.lis_grammar.specs.Formula.{Formula}
 use Rattle.lis_grammar.specs.Formula.Formula.{Has, SizeAtLeast, SizeBelow, Both, Either}
 use Rattle.lis_model.specs.Table.{Entry}
 use Rattle.lis_place.specs.declared.node.Node.TheVariants.{And, Or}
 use Rattle.lis_place.specs.Nodes.{with_node}
-use Rattle.lis_eval.specs.View.{slot_passes}
 use Rattle.lis_eval.proofs.Slots.{passes_at}
 use Rattle.lis_eval.proofs.Stacked.{pushes, puts, stands, changes, negates, joins, below_is, few_negated, few_joined}
 use Rattle.lis_eval.proofs.evaluation.put_node.Goals as goal

@@ -1,4 +1,4 @@
-use Rattle.std.proofs.Common.{◌≡◌, [], List, reverse, subst, sym, ap, ◌∙◌, arith}
+use Rattle.std.proofs.Common.{[], List, reverse, subst, sym, ap, ◌∙◌, arith}
 use Rattle.std.specs.List.{fold}
 use Rattle.std.proofs.lemmas.List.{take_all, reverse-reverse}
 use Rattle.lis_grammar.specs.Formula.{Formula}

@@ -1,4 +1,4 @@
-use Rattle.std.proofs.Common.{◌≡◌, ◌<◌, Some, false, sym, ap, ◌∙◌, arith}
+use Rattle.std.proofs.Common.{false, sym, ap, ◌∙◌, arith}
 use Rattle.std.specs.List.{find}
 use Rattle.lis_words.specs.Words.{same_word, has_word}
 use Rattle.lis_bits.proofs.Laws.{bits_set, row_sets}

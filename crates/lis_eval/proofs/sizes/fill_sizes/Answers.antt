@@ -1,10 +1,9 @@
-use Rattle.std.proofs.Common.{◌≡◌, ℕ, ◌+◌, ◌==◌, nat_le, ◌&&◌, ◌||◌, Bool, false, Some, length, take, sym, ap, ◌∙◌, arith}
+use Rattle.std.proofs.Common.{◌==◌, nat_le, ◌&&◌, ◌||◌, Bool, false, take, sym, ap, ◌∙◌, arith}
 use Rattle.std.specs.List.{slice_get}
 use Rattle.std.proofs.lemmas.List.{take_all}
-use Rattle.lis_bits.specs.Rows.{get}
 use Rattle.lis_bits.proofs.Laws.{bits_set, bits_again}
 use Rattle.lis_model.specs.Table.{Entry}
-use Rattle.lis_eval.specs.View.{Placed, name_and_slot, slot_passes}
+use Rattle.lis_eval.specs.View.{name_and_slot, slot_passes}
 use Rattle.lis_eval.proofs.Members.{all_taken, mapped_none}
 use Rattle.lis_eval.proofs.Slots.{bits_same, file_given, passes_more}
 use Rattle.lis_eval.proofs.sizes.fill_sizes.Goals as goal

@@ -1,8 +1,7 @@
-use Rattle.std.proofs.Common.{◌≡◌, ℕ, ◌≤◌, ◌<◌, ◌==◌, Bool, true, false, nat_le, ◌&&◌, ◌||◌, Some, IsSomeAnd, if◌then◌else◌, refl, sym, subst, ap, ◌∙◌, arith}
+use Rattle.std.proofs.Common.{◌≡◌, ◌==◌, true, false, nat_le, if◌then◌else◌, arith}
 use Rattle.std.proofs.lemmas.Bool.{le-leb, lt-leb}
 use Rattle.lis_bits.specs.Rows.{get}
 use Rattle.lis_bits.proofs.Laws.{bits_set}
-use Rattle.lis_eval.specs.View.{Placed, file_in}
 use Rattle.lis_eval.proofs.Slots.{bits_same, bits_stay, set_passes, stay_passes}
 use Rattle.lis_eval.proofs.sizes.put_size.Goals as goal
 

@@ -1,0 +1,5 @@
+mod Found
+mod Marked
+mod Tops
+mod Shown
+mod Routes

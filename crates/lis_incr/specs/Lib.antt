@@ -1,0 +1,5 @@
+pub mod Marked
+pub mod Lines
+pub mod Ways
+pub mod Walking
+pub mod Left

@@ -1,0 +1,60 @@
+-- Rows of marks on words and on files. No public clause cites this module.
+use Rattle.std.specs.Prelude.{◌≡◌, ℕ, ◌<◌, ◌==◌, Bool, false, not, ◌&&◌, ◌||◌, Option, None, List, map, filter, take}
+use Rattle.std.specs.List.{list_any, Contains}
+use Rattle.lis_words.specs.Words.{same_word, has_word}
+use Rattle.lis_bits.specs.Rows.{Rows, HasShape, get, SetsBits}
+use Rattle.lis_model.specs.Table.{Table, Entry, entails}
+use Rattle.lis_model.specs.Listing.{is_candidate, is_local}
+use Rattle.lis_eval.specs.View.{Placed, Seen, file_in, IsView}
+
+-- the files whose slots are in the row
+abbrev pub found_files : Seen → Rows → List Entry
+found_files v found = map (λ (f : Placed). f.entry) (filter (λ (f : Placed). get found 0 f.slot) v.files)
+
+-- the row has slots of files alone
+pub record Finds (v : Seen) (found : Rows) : Type 0 where
+  pub shape : HasShape found 65 v.limits.files
+  pub none : (slot : ℕ) → slot < v.limits.files → file_in v slot ≡ None → get found 0 slot ≡ false
+
+-- one of the words has the number and passes the test
+abbrev pub number_passes : List (List ℕ × ℕ) → (List ℕ → Bool) → ℕ → Bool
+number_passes words test n = list_any (λ (w : List ℕ × ℕ). (w.1 == n) && test w.0) words
+
+-- the row has the numbers of the words that pass the test
+pub record AreMarked (v : Seen) (test : List ℕ → Bool) (marks : Rows) : Type 0 where
+  pub shape : HasShape marks 1 v.limits.props
+  pub marked : (n : ℕ) → n < v.limits.props → get marks 0 n ≡ number_passes v.words test n
+
+-- the row has those of the first k words
+pub record MarkedTo (v : Seen) (test : List ℕ → Bool) (k : ℕ) (marks : Rows) : Type 0 where
+  pub shape : HasShape marks 1 v.limits.props
+  pub marked : (n : ℕ) → n < v.limits.props → get marks 0 n ≡ number_passes (take k v.words) test n
+
+-- the row is the same, bit by bit
+pub record IsSame (old new : Rows) (bits : ℕ) : Type 0 where
+  pub shape : HasShape new 1 bits
+  pub same : (n : ℕ) → n < bits → get new 0 n ≡ get old 0 n
+
+-- the word is marked where it splits the files, and then no local has it
+pub record MarksWord (v : Seen) (files : List Entry) (w : List ℕ × ℕ) (old_marks new_marks old_locals new_locals : Rows) : Type 0 where
+  pub marks : SetsBits old_marks new_marks 1 v.limits.props 0 (λ n. get old_marks 0 n || ((w.1 == n) && is_candidate files w.0))
+  pub shape : HasShape new_locals 1 v.limits.files
+  pub locals : (f : Placed) → Contains v.files f → get new_locals 0 f.slot ≡ (get old_locals 0 f.slot && not (is_candidate files w.0 && has_word f.entry.words w.0))
+
+-- the row has the files found of which no word splits the files
+pub record LeavesLocals (v : Seen) (files : List Entry) (found locals : Rows) : Type 0 where
+  pub shape : HasShape locals 1 v.limits.files
+  pub left : (f : Placed) → Contains v.files f → get locals 0 f.slot ≡ (get found 0 f.slot && is_local files f.entry)
+
+-- one of the words splits the files, and the file has it
+abbrev pub is_covered : List Entry → List (List ℕ × ℕ) → Entry → Bool
+is_covered files words e = list_any (λ (w : List ℕ × ℕ). is_candidate files w.0 && has_word e.words w.0) words
+
+-- the row has the files found that none of the first k words covers
+pub record LeftTo (v : Seen) (files : List Entry) (found : Rows) (k : ℕ) (locals : Rows) : Type 0 where
+  pub shape : HasShape locals 1 v.limits.files
+  pub left : (f : Placed) → Contains v.files f → get locals 0 f.slot ≡ (get found 0 f.slot && not (is_covered files (take k v.words) f.entry))
+
+-- the word passes the test, and no other known word that it entails does
+abbrev pub is_top : Table → (List ℕ → Bool) → List ℕ → Bool
+is_top t test p = test p && not (list_any (λ q. entails t p q && not (same_word q p) && test q) t.known)
