@@ -8,4 +8,4 @@ pub mod Marking
 pub mod Described
 pub mod Filing
 pub mod Dropped
-
+pub mod Added
