@@ -9,3 +9,6 @@ pub mod Described
 pub mod Filing
 pub mod Dropped
 pub mod Added
+pub mod OwnLinks
+pub mod WordMore
+pub mod WordDeclared
