@@ -88,6 +88,7 @@ held_files p t catalog taken ext marks held hold = record {
     dict = held.sound.dict;
     heads = held.sound.heads;
     bits = held.sound.bits;
+    flagged = held.sound.flagged;
     properties = held.sound.properties;
     axiom_count = held.sound.axiom_count;
     axioms = λ slot left right is. let one = held.sound.axioms slot left right is in record { below = one.below; left = one.left; right = one.right };

@@ -37,11 +37,19 @@ whole_files limits range = files_whole limits.files (files_range limits range)
 pub few_files : (limits : Limits) → IsTrue (are_in_range limits) → limits.files ≤ 4096
 few_files limits range = files_few limits.files (files_range limits range)
 
+blocks_few : (n : ℕ) → is_blocks_limit n ≡ true → n ≤ 32768
+blocks_few n is = grind (arith, nat_tests)
+
 props_whole : (n : ℕ) → is_props_limit n ≡ true → n % 64 ≡ 0
 props_whole n is = grind (arith, nat_tests)
 
 props_few : (n : ℕ) → is_props_limit n ≡ true → n ≤ 8192
 props_few n is = grind (arith, nat_tests)
+
+pub few_blocks : (limits : Limits) → IsTrue (are_in_range limits) → limits.blocks ≤ 32768
+few_blocks limits range =
+    let most = and_parts (is_files_limit limits.files && is_props_limit limits.props && is_blocks_limit limits.blocks) (is_version limits.version) range in
+    blocks_few limits.blocks (and_parts (is_files_limit limits.files && is_props_limit limits.props) (is_blocks_limit limits.blocks) most.0).1
 
 pub whole_properties : (limits : Limits) → IsTrue (are_in_range limits) → limits.props % 64 ≡ 0
 whole_properties limits range = props_whole limits.props (props_range limits range)

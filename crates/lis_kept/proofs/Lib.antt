@@ -8,4 +8,7 @@ pub mod Marking
 pub mod Described
 pub mod Filing
 pub mod Dropped
-
+pub mod Added
+pub mod OwnLinks
+pub mod WordMore
+pub mod WordDeclared

@@ -1,5 +1,5 @@
 -- The links between the words that have numbers.
-use Rattle.std.specs.Prelude.{◌≡◌, ℕ, ◌<◌, Bool, false, ◌&&◌, ◌||◌, ◌==◌, Option, Some, None, List}
+use Rattle.std.specs.Prelude.{◌≡◌, ℕ, Bool, false, ◌&&◌, ◌||◌, ◌==◌, Option, Some, None, List}
 use Rattle.std.specs.List.{list_any}
 use Rattle.lis_dict.specs.Dict.{word_of}
 use Rattle.lis_taxonomy.specs.Taxonomy.{Taxonomy, has_edge}
@@ -31,7 +31,7 @@ is_linked k p q = is_own_link (declared_of k) (word_of k.dict p) (word_of k.dict
 -- The edges are the links between the words that have numbers.
 pub record TellsLinks (k : Kept) (t : Taxonomy) : Type 0 where
   pub props : t.props ≡ k.limits.props
-  pub edges : (p q : ℕ) → p < k.limits.props → q < k.limits.props → has_edge t p q ≡ is_linked k p q
+  pub edges : (p q : ℕ) → has_edge t p q ≡ is_linked k p q
 
 -- what memory keeps, with the taxonomy that it derives from it
 pub record AreHeld (k : Kept) (t : Taxonomy) : Type 0 where

@@ -1,6 +1,7 @@
 -- What holds of memory alone, whatever blocks hold.
 use Rattle.std.specs.Prelude.{◌≡◌, ℕ, ◌<◌, ◌≤◌, nat_lt, true, false, Bool, ◌&&◌, is_some, Some, None, List, [], length, IsTrue, IsSome, slice_get}
 use Rattle.std.specs.List.{list_all}
+use Rattle.lis_blockmap.specs.Bitmap.{is_taken}
 use Rattle.lis_content.specs.Content.{are_taken}
 use Rattle.lis_dict.specs.Dict.{Dict, IsDict, number_of, word_of}
 use Rattle.lis_catalog.specs.Catalog.{Catalog, IsCatalog, rec_at}
@@ -32,6 +33,8 @@ pub record AreSound (k : Kept) : Type 0 where
   -- the head of a valued word has a number too
   pub heads : (n : ℕ) (word : List ℕ) → word_of k.dict n ≡ Some word → is_valued word ≡ true → IsSome (number_of k.dict (head_bytes word))
   pub bits : length k.declared ≡ k.limits.props
+  -- what is declared has a word
+  pub flagged : (n : ℕ) → is_taken k.declared n ≡ true → IsSome (word_of k.dict n)
   pub properties : (n : ℕ) → IsTrue (is_prop (property_at k.dict k.declared n))
   pub axiom_count : length k.axioms ≡ (axiom_slots k.limits).count
   pub axioms : (slot left right : ℕ) → slice_get k.axioms slot ≡ Some (Pair left right) → IsSoundAxiom k slot left right

@@ -8,6 +8,7 @@ mod parts;
 mod places;
 mod rows;
 mod spelling;
+mod words;
 
 pub use parts::Parts;
 pub use places::{
