@@ -1,5 +1,11 @@
-//! Tests of crashes: what a journal reads after a stop at any call of the disk, in a commit and in a recovery.
+//! Tests of crashes: what a journal reads after a stop at any call of the disk, in a commit, in a checkpoint and in a recovery.
 #![tactic(auto)]
 
 #[cfg(test)]
+mod checkpoint;
+#[cfg(test)]
+mod disk;
+#[cfg(test)]
 mod journal;
+#[cfg(test)]
+mod mount;

@@ -9,7 +9,7 @@ use Rattle.lis_ports.specs.Calls.{IsUnchanged}
 use Rattle.lis_ports.proofs.Always.{always_settled}
 use Rattle.lis_ports.proofs.Parts.{length-part}
 use Rattle.lis_journal.specs.Record.{block, has_open, Entry, first_bad, all_recorded, apply, bad_record, replayed, open_count}
-use Rattle.lis_journal.specs.Journal.{Held, OpenRecords, no_records}
+use Rattle.lis_journal.specs.Journal.{Held, OpenRecords, no_records, IsOverSame}
 use Rattle.lis_journal.specs.Images.{IsOutside, StandsFor, StandsBut, is_among, look, IsAtRest, FitsAt, Fits, KeepsPast, with_placed}
 use Rattle.lis_journal.specs.Spreads.{Spreads, SamePast}
 use Rattle.lis_journal.specs.Staging.{has_entry}
@@ -17,7 +17,7 @@ use Rattle.lis_journal.proofs.Entries.{AtHome, block-apply, length-look, look-pa
 use Rattle.lis_journal.proofs.Series.{all_sound}
 use Rattle.lis_journal.proofs.Gates.{all_closed}
 use Rattle.lis_journal.proofs.Holding.{fits_placed}
-use Rattle.lis_journal.proofs.Phases.{full, rest_stands, stands_full, shut_rest}
+use Rattle.lis_journal.proofs.Phases.{full, rest_stands, stands_full as stands_whole, shut_rest, replayed-closed as replayed-shut}
 
 -- a block that is kept has 4,096 bytes
 pub kept_whole : (journal : Held) {m : Meaning} {kept : ℕ → List ℕ} → Fits journal m kept → (n : ℕ) → IsOutside n → n < journal.blocks → length (kept n) ≡ 4096
@@ -31,6 +31,9 @@ kept_whole journal {m} {kept} fits n out lt =
 -- Each image, and the bytes as they read, stand for what is kept, but for the placed blocks.
 pub fits_but : (journal : Held) {m : Meaning} {kept : ℕ → List ℕ} → Fits journal m kept → (image : List ℕ) → m.images image → StandsBut journal.blocks journal.placed kept image
 fits_but journal {kept = kept} fits image is = rest_stands journal.blocks journal.records journal.placed kept image (fits.leaves image is)
+
+pub stands_full : (blocks : ℕ) (kept : ℕ → List ℕ) (image : List ℕ) → StandsBut blocks [] kept image → StandsFor blocks kept image
+stands_full = stands_whole
 
 -- With nothing placed, each image, and the bytes as they read, stand for what is kept.
 pub fits_stand : (journal : Held) {m : Meaning} {kept : ℕ → List ℕ} → journal.placed ≡ [] → Fits journal m kept → Always m (StandsFor journal.blocks kept)
@@ -97,6 +100,10 @@ look-front (e ∷ es) old home =
     let ne : 0 ≡ e.home → ⊥ = λ same. absurd (omega (arith, same, home.0)) in
     ap (look es 0) (cond-false (0 == e.home) e.bytes old (ne_eqb 0 e.home ne)) ∙ look-front es old home.1
 
+-- with all gates closed the replayed image is the image itself
+pub replayed-closed : (blocks : ℕ) (image : List ℕ) → 578 < blocks → 4096 * blocks ≤ length image → has_open image ≡ false → replayed blocks image ≡ Some image
+replayed-closed blocks image enough long closed = replayed-shut blocks image (omega (arith, enough, long)) (all_closed image closed 0)
+
 -- no record has block 0
 pub replayed-front : (blocks : ℕ) (image replay : List ℕ) → 578 < blocks → 4096 * blocks ≤ length image → replayed blocks image ≡ Some replay → block 0 replay ≡ block 0 image
 replayed-front blocks image replay enough long is =
@@ -157,3 +164,25 @@ fits_told {now = now} {records = records} {now_records = now_records} {placed = 
 pub content_some : {T : Type 0} (o : Option T) (bytes_of : T → List ℕ) (staged latest : List Entry) (n : ℕ) → has_entry staged n ≡ false → IfSome o (λ x. (old : List ℕ) → look latest n old ≡ bytes_of x) → IfSome o (λ x. (old : List ℕ) → look staged n (look latest n old) ≡ bytes_of x)
 content_some None bytes_of staged latest n absent some = tt
 content_some (Some x) bytes_of staged latest n absent some = λ old. look-absent staged n (look latest n old) absent ∙ some old
+
+-- a journal over the same records fits where the other does
+pub fits_over : (old new : Held) {m : Meaning} {kept : ℕ → List ℕ} → IsOverSame old new → Fits old m kept → Fits new m kept
+fits_over old new over fits = fits_told (sym over.blocks) (sym over.records) (sym over.placed) fits
+
+pub over_none : (journal : Held) → IsOverSame journal journal
+over_none journal = record { blocks = refl; records = refl; placed = refl }
+
+pub over_then : {a b c : Held} → IsOverSame a b → IsOverSame b c → IsOverSame a c
+over_then one two = record {
+  blocks = two.blocks ∙ one.blocks;
+  records = two.records ∙ one.records;
+  placed = two.placed ∙ one.placed;
+}
+
+-- a commit with nothing placed leaves nothing placed
+pub none_placed : (old new : Held) {A B : Type 0} → old.placed ≡ [] → (old.staged ≡ [] → A × B × (new ≡ old)) → (0 < length old.staged → new.placed ≡ []) → new.placed ≡ []
+none_placed old new none idle some = by old.staged refl
+  where
+    by : (es : List Entry) → old.staged ≡ es → new.placed ≡ []
+    by [] is = ap (λ (h : Held). h.placed) (idle is).2 ∙ none
+    by (e ∷ es) is = some (omega (arith, ap length is))

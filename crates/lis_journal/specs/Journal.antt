@@ -1,5 +1,5 @@
 -- A journal as it is seen.
-use Rattle.std.specs.Prelude.{ℕ, Bool, List, []}
+use Rattle.std.specs.Prelude.{◌≡◌, ℕ, Bool, List, []}
 use Rattle.lis_journal.specs.Record.{Entry}
 
 -- The open records: how many there are, the block behind them, and the latest content of each block that is in them, in the order
@@ -23,3 +23,13 @@ pub record Held : Type 0 where
   -- the blocks that were written without a record since the last commit
   pub placed : List ℕ
   pub is_broken : Bool
+
+-- nothing is staged, and nothing is placed
+abbrev pub IsIdle : Held → Type 0
+IsIdle journal = (journal.staged ≡ []) × (journal.placed ≡ [])
+
+-- They are over the same image, with the same open records and the same placed blocks.
+pub record IsOverSame (old new : Held) : Type 0 where
+  pub blocks : new.blocks ≡ old.blocks
+  pub records : new.records ≡ old.records
+  pub placed : new.placed ≡ old.placed

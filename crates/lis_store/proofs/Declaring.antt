@@ -9,7 +9,7 @@ use Rattle.std.specs.List.{flat_map, list_all}
 use Rattle.std.proofs.lemmas.Bool.{and_parts, and_from, not_from_false, cases_eq, eq-eqb, ne_eqb, lt-ltb, le-ltb}
 use Rattle.std.proofs.lemmas.List.{length-map}
 use Rattle.lis_graph.proofs.Members.{Among, among_insert_key, insert_key_old, insert_key_new}
-use Rattle.lis_journal.specs.Journal.{Held}
+use Rattle.lis_journal.specs.Journal.{Held, IsIdle}
 use Rattle.lis_blockmap.specs.Bitmap.{is_taken}
 use Rattle.lis_dict.specs.Dict.{Dict, IsDict, words, number_of, word_of, entry_cmp, with_entry}
 use Rattle.lis_dict.proofs.Laws.{word_from_number, number_of-with_entry, word_of-with_entry, length-with_entry}
@@ -185,7 +185,7 @@ module _ (k : Kept) (word : List ℕ) (n : ℕ) (bits : List Bool) (sound : IsSo
       and_from (is_sound_record (with_entry k.dict word n) k.limits.blocks f.rec) (list_all (λ (f : Filed). is_sound_record (with_entry k.dict word n) k.limits.blocks f.rec) files)
       (sound_record f.rec parts.0) (sound_records files parts.1)
 
-  sound_with : (journal : Held) → journal.blocks ≡ k.journal.blocks → (journal.is_broken ≡ false → journal.staged ≡ []) → IsSound (declared_kept journal)
+  sound_with : (journal : Held) → journal.blocks ≡ k.journal.blocks → (journal.is_broken ≡ false → IsIdle journal) → IsSound (declared_kept journal)
   sound_with journal image quiet = record {
     range = sound.range;
     version = sound.version;
@@ -253,7 +253,7 @@ module _ (k : Kept) (word : List ℕ) (n : ℕ) (bits : List Bool) (sound : IsSo
     within_limit : exceeds_known (declared_under s word []) ≡ false
     within_limit = le-ltb s.limits.props (length (known (declared_under s word []))) room_known
 
-    tells_with : (journal : Held) → journal.blocks ≡ k.journal.blocks → (journal.is_broken ≡ false) → journal.staged ≡ []
+    tells_with : (journal : Held) → journal.blocks ≡ k.journal.blocks → (journal.is_broken ≡ false) → IsIdle journal
         → PropertiesAre k.limits (with_entry k.dict word n) bits there → there 0 ≡ at 0 → ((m : ℕ) → axioms_start k.limits ≤ m → there m ≡ at m)
         → Tells (declared_kept journal) there (declared_under s word [])
     tells_with journal image unbroken quiet spelled front behind = record {
@@ -285,7 +285,7 @@ module _ (k : Kept) (word : List ℕ) (n : ℕ) (dict : Dict) (bits : List Bool)
   pub others_declared : (m : ℕ) → (m ≡ n → ⊥) → property_at dict bits m ≡ property_at k.dict k.declared m
   others_declared m differ = ap (λ (d : Dict). property_at d bits m) is.grown ∙ other_properties k word n bits sound is.form is.new is.below is.free grown_kept is.wide is.are m differ
 
-  pub sound_declared : (journal : Held) → journal.blocks ≡ k.journal.blocks → (journal.is_broken ≡ false → journal.staged ≡ []) → IsSound (record k { journal = journal; dict = dict; declared = bits })
+  pub sound_declared : (journal : Held) → journal.blocks ≡ k.journal.blocks → (journal.is_broken ≡ false → IsIdle journal) → IsSound (record k { journal = journal; dict = dict; declared = bits })
   sound_declared journal image quiet =
       subst (λ (d : Dict). IsSound (record k { journal = journal; dict = d; declared = bits })) (sym is.grown)
       (sound_with k word n bits sound is.form is.new is.below is.free grown_kept is.wide is.are journal image quiet)
@@ -293,7 +293,7 @@ module _ (k : Kept) (word : List ℕ) (n : ℕ) (dict : Dict) (bits : List Bool)
   pub limit_declared : (at : ℕ → List ℕ) (s : State) → Tells k at s → exceeds_known (declared_under s word []) ≡ false
   limit_declared at s tells = within_limit k word n bits sound is.form is.new is.below is.free grown_kept is.wide is.are at at s tells
 
-  pub tells_declared : (at there : ℕ → List ℕ) (s : State) → Tells k at s → (journal : Held) → journal.blocks ≡ k.journal.blocks → journal.is_broken ≡ false → journal.staged ≡ []
+  pub tells_declared : (at there : ℕ → List ℕ) (s : State) → Tells k at s → (journal : Held) → journal.blocks ≡ k.journal.blocks → journal.is_broken ≡ false → IsIdle journal
       → PropertiesAre k.limits dict bits there → there 0 ≡ at 0 → ((m : ℕ) → axioms_start k.limits ≤ m → there m ≡ at m)
       → Tells (record k { journal = journal; dict = dict; declared = bits }) there (declared_under s word [])
   tells_declared at there s tells journal image unbroken quiet spelled front behind =

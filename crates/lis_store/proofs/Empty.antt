@@ -4,7 +4,7 @@ use Rattle.std.specs.List.{range_with_len}
 use Rattle.std.proofs.lemmas.List.{length-replicate, drop-replicate, take-replicate, get_or-replicate, take-take}
 use Rattle.lis_ports.specs.Bytes.{part}
 use Rattle.lis_journal.specs.Record.{block}
-use Rattle.lis_journal.proofs.Phases.{replayed-closed}
+use Rattle.lis_journal.proofs.Fitting.{replayed-closed}
 use Rattle.lis_slots.specs.Slots.{Slots, home, place, slot}
 use Rattle.lis_blockmap.specs.Bitmap.{bits_number, bitmap_bytes}
 use Rattle.lis_dict.specs.Dict.{IsDict}
@@ -32,7 +32,7 @@ empty_sound limits in_range version = record {
   range = in_range;
   version = version;
   image = refl;
-  quiet = λ unbroken. refl;
+  quiet = λ unbroken. (refl, refl);
   numbers = refl;
   dict = empty_dict limits;
   bits = length-replicate limits.props false;
@@ -111,7 +111,7 @@ module _ (limits : Limits) (image : List ℕ) (blank : IsBlank limits image) whe
       version = version;
       long = blank.long;
       replay = image;
-      replays = replayed-closed (image_blocks limits) image (ap (λ xs. slice_index xs 0 == 1) blank.gate);
+      replays = replayed-closed (image_blocks limits) image (omega arith) blank.long blank.gates;
       contents = contents_of (empty_kept limits);
       spells = tells_spells (empty_kept limits) (λ n. block n image) (empty_state limits) tells_empty;
     }

@@ -11,6 +11,7 @@ use Rattle.lis_words.specs.Words.{same_word, has_word, is_file_name, is_test, is
 use Rattle.lis_grammar.specs.Formula.{Formula}
 use Rattle.lis_fields.specs.Records.{FileRecord}
 use Rattle.lis_fields.specs.Layouts.{are_short, are_tags, are_blocks, is_record, are_distinct as distinct}
+use Rattle.lis_journal.proofs.Fitting.{kept_whole}
 use Rattle.lis_blockmap.specs.Bitmap.{is_taken, free_count}
 use Rattle.lis_content.specs.Content.{content, are_taken, are_distinct}
 use Rattle.lis_dict.specs.Dict.{Dict, words, number_of, word_of}
@@ -206,10 +207,7 @@ module _ (k : Kept) (m : Meaning) (s : State) (fits : StoreFits k m s) where
   pub block_is_whole : (b : ℕ) → b < k.limits.blocks → length (fits.kept (data_start k.limits + b)) ≡ 4096
   block_is_whole b lt =
       let n : ℕ = data_start k.limits + b in
-      let keeps = fits.journal.all.reads.keeps in
-      let within : n < k.journal.blocks = omega (arith, lt, fits.tells.sound.image) in
-      let long : 4096 ≤ length (drop (4096 * n) m.bytes) = omega (arith, keeps.long, within, length-drop (4096 * n) m.bytes) in
-      ap (λ xs. length xs) (sym (keeps.same n (inr (omega arith)))) ∙ length-take-le 4096 (drop (4096 * n) m.bytes) long
+      kept_whole k.journal fits.journal n (inr (omega arith)) (omega (arith, lt, fits.tells.sound.image))
 
   -- each file has as many bytes as its record says
   pub size_of_filed : (f : Filed) → Among k.catalog.entries f → length (content (data_start k.limits) f.rec.blocks f.rec.size fits.kept) ≡ f.rec.size

@@ -6,7 +6,8 @@ use Rattle.std.specs.List.{flat_map, list_all}
 use Rattle.std.proofs.lemmas.Bool.{and_parts, eq-eqb, ne_eqb, eqb-true, both_ways, false_from_ne_true}
 use Rattle.lis_graph.specs.Graph.{is_rising}
 use Rattle.lis_graph.proofs.Members.{Among, among_from_any, any_from_among, flat_map_among}
-use Rattle.lis_journal.specs.Journal.{Held}
+use Rattle.lis_journal.specs.Journal.{Held, IsIdle, IsOverSame}
+use Rattle.lis_journal.proofs.Fitting.{over_then}
 use Rattle.lis_journal.specs.Record.{Entry}
 use Rattle.lis_journal.specs.Images.{look}
 use Rattle.lis_journal.specs.Phases.{looked}
@@ -82,10 +83,15 @@ module _ {k : Kept} {name : List ℕ} {assigned : List (List ℕ)} {bytes : List
   same_image = staged.bitmap_only.image ∙ (staged.record_only.image ∙ (new.put.image ∙ new.learnt.image))
 
   -- what is kept is sound behind the commit, whether it was done or failed
-  pub sound_done : (j : Held) → j ≡ record j4 { staged = [] } → IsSound (kept_with j)
-  sound_done j is = sound_with_file new j (ap (λ (h : Held). h.blocks) is ∙ same_image) (λ unbroken. ap (λ (h : Held). h.staged) is)
+  pub same_over : IsOverSame k.journal j4
+  same_over =
+      over_then new.learnt.over (over_then (record { blocks = new.put.image; records = new.put.records; placed = new.put.placed })
+      (over_then staged.record_only.over staged.bitmap_only.over))
 
-  pub sound_broken : (j : Held) → j ≡ record j4 { is_broken = true } → IsSound (kept_with j)
+  pub sound_done : (j : Held) → j ≡ record j4 { staged = []; records = j.records; placed = j.placed } → j.placed ≡ [] → IsSound (kept_with j)
+  sound_done j is none = sound_with_file new j (ap (λ (h : Held). h.blocks) is ∙ same_image) (λ unbroken. (ap (λ (h : Held). h.staged) is, none))
+
+  pub sound_broken : (j : Held) → j ≡ record j4 { records = j.records; is_broken = true } → IsSound (kept_with j)
   sound_broken j is = sound_with_file new j (ap (λ (h : Held). h.blocks) is ∙ same_image) (λ unbroken. absurd (both_ways j.is_broken unbroken (ap (λ (h : Held). h.is_broken) is)))
 
   slot_below : slot < k.limits.files
@@ -192,7 +198,7 @@ module _ {k : Kept} {name : List ℕ} {assigned : List (List ℕ)} {bytes : List
 
     -- ---- the state
     pub tells_with_file : (s : State) → Tells k kept s → is_rising word_cmp assigned ≡ true → WellFormed (file_added s (new_file name assigned bytes)) → known (file_added s (new_file name assigned bytes)) ≡ with_words (words k.dict) assigned
-        → (j : Held) → j.blocks ≡ k.journal.blocks → j.is_broken ≡ false → j.staged ≡ [] → Tells (kept_with j) now (file_added s (new_file name assigned bytes))
+        → (j : Held) → j.blocks ≡ k.journal.blocks → j.is_broken ≡ false → IsIdle j → Tells (kept_with j) now (file_added s (new_file name assigned bytes))
     tells_with_file s tells rising formed known_then j image unbroken none = record {
       limits = tells.limits;
       sound = sound_with_file new j image (λ whole. none);

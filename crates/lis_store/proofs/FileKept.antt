@@ -6,7 +6,7 @@ use Rattle.std.specs.List.{find, list_all}
 use Rattle.lis_ports.specs.Meaning.{Meaning}
 use Rattle.lis_ports.specs.Runs.{Leaves}
 use Rattle.lis_graph.proofs.Sets.{sorted_from_rising}
-use Rattle.lis_journal.specs.Journal.{Held}
+use Rattle.lis_journal.specs.Journal.{Held, IsIdle}
 use Rattle.lis_journal.specs.Images.{StandsForAllOrNone, Fits, KeepsPast, look}
 use Rattle.lis_journal.specs.Phases.{looked}
 use Rattle.lis_journal.specs.Staging.{with_entry}
@@ -43,7 +43,7 @@ use Rattle.lis_store.proofs.Finding.{any_is_found, any_map, is_some-map}
 use Rattle.lis_store.proofs.NewWords.{count_same, words_counted, assigned_rising}
 use Rattle.lis_store.proofs.Admitted.{Admitted, admitted, refused_outcome, added_outcome, admitted_words, admitted_formed}
 use Rattle.lis_store.proofs.NewFile.{NewFile}
-use Rattle.lis_store.proofs.FileAdded.{FileStaged, kept_with, same_image, tells_with_file}
+use Rattle.lis_store.proofs.FileAdded.{FileStaged, kept_with, same_image, same_over, tells_with_file}
 
 -- ---- the call that refuses
 pub refused_add : {T : Type 0} (k : Kept) (m : Meaning) (s : State) (fits : StoreFits k m s) (place : List Formula) (name : List ℕ) (words : List (List ℕ)) (payload : Payload) (change : Change) (result : Result T Change) → Refuses (told_checks k place name words payload.size) change → result ≡ Err change
@@ -121,8 +121,8 @@ module _ {k : Kept} (sound : IsSound k) (place : List Formula) (name : List ℕ)
 
       -- what the commit says, which begins with the disk as it was
       module _ (m start after : Meaning) (same : start ≡ m) (s : State) (fits : StoreFits k m s)
-          (any_moment : (kept : ℕ → List ℕ) → Fits j4.blocks start kept → Leaves start after (StandsForAllOrNone j4.blocks kept j4.staged))
-          (past : (kept : ℕ → List ℕ) → Fits j4.blocks start kept → KeepsPast j4.blocks start after) where
+          (any_moment : (kept : ℕ → List ℕ) → Fits j4 start kept → Leaves start after (StandsForAllOrNone j4.blocks j4.placed kept j4.staged))
+          (past : (kept : ℕ → List ℕ) → Fits j4 start kept → KeepsPast j4.blocks start after) where
         abbrev now : Situation
         now = record { state = s; place = place }
 
@@ -135,29 +135,32 @@ module _ {k : Kept} (sound : IsSound k) (place : List Formula) (name : List ℕ)
         outcome_is : outcome ≡ changed now next
         outcome_is = added_outcome k m s fits place name words (record { size = size; bytes = bytes }) none
 
-        moments : (kept : ℕ → List ℕ) → Fits j4.blocks m kept → Leaves m after (StandsForAllOrNone j4.blocks kept j4.staged)
-        moments = subst (λ (n : Meaning). (kept : ℕ → List ℕ) → Fits j4.blocks n kept → Leaves n after (StandsForAllOrNone j4.blocks kept j4.staged)) same any_moment
+        moments : (kept : ℕ → List ℕ) → Fits j4 m kept → Leaves m after (StandsForAllOrNone j4.blocks j4.placed kept j4.staged)
+        moments = subst (λ (n : Meaning). (kept : ℕ → List ℕ) → Fits j4 n kept → Leaves n after (StandsForAllOrNone j4.blocks j4.placed kept j4.staged)) same any_moment
 
-        past_stays : (kept : ℕ → List ℕ) → Fits j4.blocks m kept → KeepsPast j4.blocks m after
-        past_stays = subst (λ (n : Meaning). (kept : ℕ → List ℕ) → Fits j4.blocks n kept → KeepsPast j4.blocks n after) same past
+        unplaced : j4.placed ≡ []
+        unplaced = (same_over new staged).placed ∙ (sound.quiet fits.tells.unbroken).1
 
-        tells_then : (j : Held) → j.blocks ≡ k.journal.blocks → j.is_broken ≡ false → j.staged ≡ [] → Tells (kept_with new staged j) (looked j4.staged fits.kept) next
+        past_stays : (kept : ℕ → List ℕ) → Fits j4 m kept → KeepsPast j4.blocks m after
+        past_stays = subst (λ (n : Meaning). (kept : ℕ → List ℕ) → Fits j4 n kept → KeepsPast j4.blocks n after) same past
+
+        tells_then : (j : Held) → j.blocks ≡ k.journal.blocks → j.is_broken ≡ false → IsIdle j → Tells (kept_with new staged j) (looked j4.staged fits.kept) next
         tells_then j blocks_are unbroken quiet =
-            tells_with_file new staged fits.kept (sound.quiet fits.tells.unbroken) s fits.tells (assigned_rising place words)
+            tells_with_file new staged fits.kept (sound.quiet fits.tells.unbroken).0 s fits.tells (assigned_rising place words)
             (admitted_formed k m s fits place name words size row bytes form (whole row.small))
             (admitted_words k m s fits place name words size row bytes) j blocks_are unbroken quiet
 
-        pub add_done : {T : Type 0} (j : Held) (done : T) → j ≡ record j4 { staged = [] } → ((kept : ℕ → List ℕ) → Fits j4.blocks start kept → Fits j4.blocks after (λ n. look j4.staged n (kept n))) → Changes now outcome (kept_with new staged j) m after (Ok done)
-        add_done j done is kept_then =
-            change_kept k (kept_with new staged j) m after now outcome next j4 fits image
-            (tells_then j (ap (λ (h : Held). h.blocks) is ∙ image) (ap (λ (h : Held). h.is_broken) is ∙ (broken ∙ fits.tells.unbroken)) (ap (λ (h : Held). h.staged) is))
+        pub add_done : {T : Type 0} (j : Held) (done : T) → j ≡ record j4 { staged = []; records = j.records; placed = j.placed } → j.placed ≡ [] → ((kept : ℕ → List ℕ) → Fits j4 start kept → Fits j after (λ n. look j4.staged n (kept n))) → Changes now outcome (kept_with new staged j) m after (Ok done)
+        add_done j done is no_placed kept_then =
+            change_kept k (kept_with new staged j) m after now outcome next j4 fits (same_over new staged) unplaced
+            (tells_then j (ap (λ (h : Held). h.blocks) is ∙ image) (ap (λ (h : Held). h.is_broken) is ∙ (broken ∙ fits.tells.unbroken)) (ap (λ (h : Held). h.staged) is, no_placed))
             (ap (λ (h : Held). h.blocks) is) outcome_is moments past_stays done
-            (subst (λ (n : Meaning). (kept : ℕ → List ℕ) → Fits j4.blocks n kept → Fits j4.blocks after (λ i. look j4.staged i (kept i))) same kept_then)
+            (subst (λ (n : Meaning). (kept : ℕ → List ℕ) → Fits j4 n kept → Fits j after (λ i. look j4.staged i (kept i))) same kept_then)
 
-        pub add_broke : {T : Type 0} (j : Held) (result : Result T Change) → j ≡ record j4 { is_broken = true } → result ≡ Err Disk → Changes now outcome (kept_with new staged j) m after result
+        pub add_broke : {T : Type 0} (j : Held) (result : Result T Change) → j ≡ record j4 { records = j.records; is_broken = true } → result ≡ Err Disk → Changes now outcome (kept_with new staged j) m after result
         add_broke j result is ends =
-            change_broke k (kept_with new staged (record { blocks = j4.blocks; staged = []; is_broken = false })) m after now outcome next j4 fits image
-            (tells_then (record { blocks = j4.blocks; staged = []; is_broken = false }) image refl refl) refl outcome_is moments past_stays (kept_with new staged j) result (ap (λ (h : Held). h.is_broken) is) ends
+            change_broke k (kept_with new staged (record { blocks = j4.blocks; staged = []; records = j4.records; placed = []; is_broken = false })) m after now outcome next j4 fits (same_over new staged) unplaced
+            (tells_then (record { blocks = j4.blocks; staged = []; records = j4.records; placed = []; is_broken = false }) image refl (refl, refl)) refl outcome_is moments past_stays (kept_with new staged j) result (ap (λ (h : Held). h.is_broken) is) ends
 
 -- what the calls say of the record and of the bitmap
 pub file_staged : {limits : Limits} {c : Catalog} {t : List Bool} {slot : ℕ} {j2 j3 j4 : Held} {at : ℕ} → StagesOnly (files_start limits + slot / 16) j2 j3

@@ -3,6 +3,7 @@ use Rattle.std.proofs.Common.{◌≡◌, ◌⊎◌, refl, sym, ap, ◌∙◌, su
 use Rattle.std.proofs.lemmas.Bool.{and_parts, both_ways, or_cases, not-true, false_from_ne_true, eqb-true, ne_eqb}
 use Rattle.std.proofs.lemmas.List.Folds.{list_any-append}
 use Rattle.lis_graph.proofs.Members.{Among, any_from_among}
+use Rattle.lis_journal.proofs.Fitting.{over_none, over_then}
 use Rattle.lis_journal.specs.Journal.{Held}
 use Rattle.lis_journal.specs.Phases.{looked}
 use Rattle.lis_slots.specs.Slots.{slot}
@@ -126,6 +127,7 @@ module _ (limits : Limits) (declared : List Bool) (catalog : Catalog) where
     properties = λ kept are. are;
     others = λ n was other. refl;
     image = refl;
+    over = over_none journal;
     broken = refl;
     few = omega arith;
   }
@@ -137,6 +139,7 @@ module _ (limits : Limits) (declared : List Bool) (catalog : Catalog) where
     properties = λ kept are. more.properties kept (one.properties kept are);
     others = λ m was other. more.others m was other ∙ one.others m was other;
     image = more.image ∙ one.image;
+    over = over_then one.over more.over;
     broken = more.broken ∙ one.broken;
     few = omega (arith, one.few, more.few, length-append numbers (n ∷ []));
   }
@@ -148,6 +151,7 @@ module _ (limits : Limits) (declared : List Bool) (catalog : Catalog) where
     properties = λ kept are. are;
     others = λ m was other. refl;
     image = refl;
+    over = over_none journal;
     broken = refl;
     few = omega arith;
   }
@@ -162,6 +166,7 @@ module _ (limits : Limits) (declared : List Bool) (catalog : Catalog) where
     properties = λ kept are. properties_staged limits d new declared declared before now kept n range below are only (slots kept) other_slot;
     others = λ m was other. only.others m was (ne_eqb m (578 + n / 64) (λ e. outside m e other));
     image = only.image;
+    over = only.over;
     broken = only.broken;
     few = omega (arith, only.few);
   }

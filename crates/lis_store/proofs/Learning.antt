@@ -20,6 +20,7 @@ use Rattle.lis_graph.proofs.Members.{Among, among_from_any, among_from_contains,
 use Rattle.lis_graph.proofs.Sets.{members_lt, sorted_from_rising, sorted_insert_key}
 use Rattle.lis_bits.specs.Rows.{Rows, row_at, row_of, get, with_row}
 use Rattle.lis_bits.proofs.Laws.{get-with_row_same}
+use Rattle.lis_journal.proofs.Fitting.{over_none, over_then}
 use Rattle.lis_journal.specs.Journal.{Held}
 use Rattle.lis_journal.specs.Phases.{looked}
 use Rattle.lis_slots.specs.Slots.{slot}
@@ -143,6 +144,7 @@ learns_none limits d b j dict forms = record {
   named = refl;
   told = refl;
   image = refl;
+  over = over_none j;
   broken = refl;
   few = omega arith;
   others = λ n was out. refl;
@@ -170,6 +172,7 @@ learns_there limits d b j word n dict forms there = record {
   named = named_one d word n here;
   told = told_one d word n here;
   image = refl;
+  over = over_none j;
   broken = refl;
   few = omega arith;
   others = λ m was out. refl;
@@ -273,6 +276,7 @@ module _ (limits : Limits) (d : Dict) (word : List ℕ) (n : ℕ) (b0 b1 : List 
     named = named_one d1 word n word_here;
     told = told_one d1 word n word_here;
     image = only.image;
+    over = only.over;
     broken = only.broken;
     few = only.few;
     others = λ m was out. only.others m was (ne_eqb m (578 + n / 64) (elsewhere m out));
@@ -404,6 +408,7 @@ module _ (limits : Limits) (assigned : List (List ℕ)) (word : List ℕ) (d0 d1
     named = named_more;
     told = told_more;
     image = b.image ∙ a.image;
+    over = over_then a.over b.over;
     broken = b.broken ∙ a.broken;
     few = omega (arith, a.few, b.few, one_more);
     others = λ m was out. b.others m was out ∙ a.others m was out;

@@ -6,7 +6,7 @@ use Rattle.std.proofs.lemmas.List.{get_or_past}
 use Rattle.std.proofs.lemmas.List.FromFn.{length-map-range_with_len}
 use Rattle.lis_ports.specs.Meaning.{Meaning}
 use Rattle.lis_ports.specs.Runs.{Leaves}
-use Rattle.lis_journal.specs.Journal.{Held}
+use Rattle.lis_journal.specs.Journal.{Held, IsIdle}
 use Rattle.lis_journal.specs.Record.{Entry}
 use Rattle.lis_journal.specs.Images.{StandsForAllOrNone, Fits, KeepsPast, look}
 use Rattle.lis_journal.specs.Phases.{looked}
@@ -176,7 +176,7 @@ module _ (limits : Limits) (journal : Held) (dict grown : Dict) (rows more : Row
         are = bits_are rows more n at held.tall wide_row in_row put same;
       }
 
-  pub held_after : (now : Held) → now.blocks ≡ journal.blocks → (now.is_broken ≡ false → now.staged ≡ []) → IsHeld (kept_of limits now grown more catalog taken) more
+  pub held_after : (now : Held) → now.blocks ≡ journal.blocks → (now.is_broken ≡ false → IsIdle now) → IsHeld (kept_of limits now grown more catalog taken) more
   held_after now image quiet = record {
     sound = sound_declared parts word n grown (row_at more 0) held.sound declared_parts now image quiet;
     tall = ap (λ (r : Rows). length r.rows) put ∙ (length-with_row rows 0 (λ i. cond (i == at) true (get rows 0 i)) ∙ held.tall);
@@ -186,22 +186,26 @@ module _ (limits : Limits) (journal : Held) (dict grown : Dict) (rows more : Row
 -- ---- its slot is staged and kept
 module _ (k : Kept) (before after : Meaning) (place : List Formula) (word : List ℕ) (n : ℕ) (dict : Dict) (bits : List Bool) (sound : IsSound k) (is : IsDeclared k word n dict bits) (none : first_refusal (word_checks k place word) ≡ None) (unbroken : k.journal.is_broken ≡ false) (s : State) (fits : StoreFits k before s) (mid : Held) (only : StagesOnly (578 + n / 64) k.journal mid)
     (slots : (kept : ℕ → List ℕ) (i : ℕ) → i < k.limits.props → i / 64 ≡ n / 64 → slot (property_slots k.limits) (looked mid.staged kept) i ≡ prop_bytes (property_at dict bits i))
-    (any_moment : (kept : ℕ → List ℕ) → Fits mid.blocks before kept → Leaves before after (StandsForAllOrNone mid.blocks kept mid.staged))
-    (past : (kept : ℕ → List ℕ) → Fits mid.blocks before kept → KeepsPast mid.blocks before after) where
+    (any_moment : (kept : ℕ → List ℕ) → Fits mid before kept → Leaves before after (StandsForAllOrNone mid.blocks mid.placed kept mid.staged))
+    (past : (kept : ℕ → List ℕ) → Fits mid before kept → KeepsPast mid.blocks before after) where
   abbrev situation : Situation
   situation = record { state = s; place = place }
 
   abbrev idle : Held
   idle = record mid { staged = [] }
 
-  abbrev told : Kept
-  told = record k { journal = idle; dict = dict; declared = bits }
+  unplaced : mid.placed ≡ []
+  unplaced = only.over.placed ∙ (sound.quiet unbroken).1
+
+  -- what is kept with the journal behind the commit
+  abbrev told : Held → Kept
+  told journal = record k { journal = journal; dict = dict; declared = bits }
 
   abbrev there : ℕ → List ℕ
   there = looked mid.staged fits.kept
 
   quiet : k.journal.staged ≡ []
-  quiet = sound.quiet unbroken
+  quiet = (sound.quiet unbroken).0
 
   -- a block that is not the slot's is as it was kept
   stays : (i : ℕ) → (i ≡ 578 + n / 64 → ⊥) → there i ≡ fits.kept i
@@ -216,9 +220,9 @@ module _ (k : Kept) (before after : Meaning) (place : List Formula) (word : List
   behind : (i : ℕ) → axioms_start k.limits ≤ i → i ≡ 578 + n / 64 → ⊥
   behind i from e = omega (arith, from, e, is.below, whole_properties k.limits sound.range)
 
-  tells : Tells told there (declared_under s word [])
-  tells =
-      tells_declared k word n dict bits sound is fits.kept there s fits.tells idle only.image (only.broken ∙ unbroken) refl spelled
+  tells : (journal : Held) → journal.blocks ≡ mid.blocks → journal.is_broken ≡ false → IsIdle journal → Tells (told journal) there (declared_under s word [])
+  tells journal same whole none =
+      tells_declared k word n dict bits sound is fits.kept there s fits.tells journal (same ∙ only.image) whole none spelled
       (stays 0 (λ e. omega (arith, e))) (λ i from. stays i (behind i from))
 
   outcome : mkdir situation word ≡ changed situation (declared_under s word [])
@@ -226,12 +230,15 @@ module _ (k : Kept) (before after : Meaning) (place : List Formula) (word : List
       outcome_is k before place word s fits is.form none
       ∙ ap (λ b. cond b (refused situation NoPropertyRoom) (changed situation (declared_under s word []))) (limit_declared k word n dict bits sound is fits.kept s fits.tells)
 
-  pub word_kept : {T : Type 0} (new : Kept) (value : T) → new ≡ told → ((kept : ℕ → List ℕ) → Fits mid.blocks before kept → Fits mid.blocks after (λ i. look mid.staged i (kept i)))
-      → Changes situation (mkdir situation word) new before after (Ok value)
-  word_kept new value same kept =
+  pub word_kept : {T : Type 0} (new : Kept) (value : T) (journal : Held) → new ≡ told journal → journal ≡ record mid { staged = []; records = journal.records; placed = journal.placed } → journal.placed ≡ []
+      → ((kept : ℕ → List ℕ) → Fits mid before kept → Fits journal after (λ i. look mid.staged i (kept i))) → Changes situation (mkdir situation word) new before after (Ok value)
+  word_kept new value journal same done none kept =
+      let blocks = ap (λ (h : Held). h.blocks) done in
       subst (λ (held : Kept). Changes situation (mkdir situation word) held before after (Ok value)) (sym same)
-      (change_kept k told before after situation (mkdir situation word) (declared_under s word []) mid fits only.image tells refl outcome any_moment past value kept)
+      (change_kept k (told journal) before after situation (mkdir situation word) (declared_under s word []) mid fits only.over unplaced
+      (tells journal blocks (ap (λ (h : Held). h.is_broken) done ∙ (only.broken ∙ unbroken)) (ap (λ (h : Held). h.staged) done, none)) blocks outcome any_moment past value kept)
 
   pub word_lost : {T : Type 0} (new : Kept) (result : Result T Change) → new.journal.is_broken ≡ true → result ≡ Err Disk → Changes situation (mkdir situation word) new before after result
   word_lost new result broken ends =
-      change_broke k told before after situation (mkdir situation word) (declared_under s word []) mid fits only.image tells refl outcome any_moment past new result broken ends
+      change_broke k (told idle) before after situation (mkdir situation word) (declared_under s word []) mid fits only.over unplaced
+      (tells idle refl (only.broken ∙ unbroken) (refl, unplaced)) refl outcome any_moment past new result broken ends

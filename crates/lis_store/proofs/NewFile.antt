@@ -11,7 +11,7 @@ use Rattle.std.proofs.lemmas.List.{map-append}
 use Rattle.std.proofs.lemmas.List.Folds.{list_any-append}
 use Rattle.lis_graph.specs.Graph.{is_rising}
 use Rattle.lis_graph.proofs.Members.{Among, among_map, map_among, among_insert_key, among_from_any}
-use Rattle.lis_journal.specs.Journal.{Held}
+use Rattle.lis_journal.specs.Journal.{Held, IsIdle}
 use Rattle.lis_blockmap.specs.Bitmap.{is_taken}
 use Rattle.lis_content.specs.Content.{marked, are_free, has_number, are_distinct}
 use Rattle.lis_content.specs.Putting.{IsPut}
@@ -295,7 +295,7 @@ module _ {k : Kept} {name : List ℕ} {assigned : List (List ℕ)} {bytes : List
   pub records_in_form : (n : ℕ) → is_file (record_at c n) ≡ true
   records_in_form = forms_of_records d k.limits.blocks c catalog_in_form records_sound
 
-  pub sound_with_file : (j : Held) → j.blocks ≡ k.journal.blocks → (j.is_broken ≡ false → j.staged ≡ []) → IsSound (record { limits = k.limits; journal = j; dict = d; declared = b; catalog = c; taken = t })
+  pub sound_with_file : (j : Held) → j.blocks ≡ k.journal.blocks → (j.is_broken ≡ false → IsIdle j) → IsSound (record { limits = k.limits; journal = j; dict = d; declared = b; catalog = c; taken = t })
   sound_with_file j image quiet = record {
     range = new.sound.range;
     version = new.sound.version;

@@ -106,12 +106,12 @@ module _ (k now : Kept) (slot n : ℕ) (rec : FileRecord) (ns : List ℕ) (has :
       (part_of_pieces 4096 at rec.blocks n rec.size 0 (λ b among. block_is_whole k m s fits b (below b among)) in_record (omega arith))
 
   pub block_read : (m : Meaning) (base number : ℕ) (buf : List ℕ) → base ≡ data_start k.limits → number ≡ get_or ns n 0
-      → ((kept : ℕ → List ℕ) → Fits k.journal.blocks m kept → buf ≡ look k.journal.staged (base + number) (kept (base + number)))
+      → ((kept : ℕ → List ℕ) → Fits k.journal m kept → buf ≡ look k.journal.staged (base + number) (kept (base + number)))
       → (s : State) (name : List ℕ) → StoreFits now m s → slot_of now.catalog name ≡ Some slot
       → take (length (part (4096 * n) 4096 (file_of s.files name).bytes)) buf ≡ part (4096 * n) 4096 (file_of s.files name).bytes
   block_read m base number buf is_base is read s name fits_now is_slot =
       let fits = subst (λ (j : Kept). StoreFits j m s) (sym has.same) fits_now in
-      let held = ap (λ es. look es (base + number) (fits.kept (base + number))) (has.sound.quiet fits.tells.unbroken) in
+      let held = ap (λ es. look es (base + number) (fits.kept (base + number))) (has.sound.quiet fits.tells.unbroken).0 in
       let is_block = read fits.kept fits.journal ∙ (held ∙ ap₂ (λ a b. fits.kept (a + b)) is_base (number_is number is)) in
       ap (take (length (part (4096 * n) 4096 (file_of s.files name).bytes))) is_block
       ∙ block_told m s fits name (ap (λ (j : Kept). slot_of j.catalog name) has.same ∙ is_slot)

@@ -3,6 +3,7 @@ use Rattle.std.proofs.Common.{◌≡◌, ◌⊎◌, refl, sym, ap, ap₂, ◌∙
 use Rattle.std.specs.List.{list_all}
 use Rattle.std.proofs.lemmas.Bool.{and_parts, eq-eqb, lt-ltb, ne_eqb}
 use Rattle.lis_laws.proofs.Counts.{all_weaker}
+use Rattle.lis_journal.proofs.Fitting.{over_then}
 use Rattle.lis_journal.specs.Journal.{Held}
 use Rattle.lis_journal.specs.Record.{Entry}
 use Rattle.lis_journal.specs.Images.{look}
@@ -126,6 +127,7 @@ module _ (k : Kept) (number : ℕ) (rec : FileRecord) (sound : IsSound k) (quiet
     spelled = spelled;
     data_blocks = λ n was behind. same_block n (inr (omega (arith, behind))) (λ e. omega (arith, e, behind, home_below)) (λ e. omega (arith, e, behind)) was;
     image = bitmap.image ∙ (file.image ∙ forgets.image);
+    over = over_then forgets.over (over_then file.over bitmap.over);
     broken = bitmap.broken ∙ (file.broken ∙ forgets.broken);
   }
 

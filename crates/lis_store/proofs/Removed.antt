@@ -5,7 +5,7 @@ use Rattle.std.specs.List.{flat_map, list_all}
 use Rattle.std.proofs.lemmas.Bool.{and_parts, and_from, both_ways, cases_eq, eq-eqb, eqb-true, or_cases, not_from_false}
 use Rattle.lis_graph.proofs.Members.{Among, among_append, among_flat_map, among_from_any, among_left, among_map, flat_map_among, map_among}
 use Rattle.lis_graph.proofs.Sets.{sorted_from_rising}
-use Rattle.lis_journal.specs.Journal.{Held}
+use Rattle.lis_journal.specs.Journal.{Held, IsIdle}
 use Rattle.lis_blockmap.specs.Bitmap.{is_taken}
 use Rattle.lis_content.specs.Content.{given, has_number}
 use Rattle.lis_content.proofs.Numbers.{length-given}
@@ -140,7 +140,7 @@ module _ (k : Kept) (slot : ℕ) (rec : FileRecord) (d : Dict) (sound : IsSound 
       (and_from (is_record f.rec) (list_all (λ n. is_some (word_of d n)) f.rec.tags) first.0
       (all_weaker (λ n. is_some (word_of k.dict n)) (λ n. is_some (word_of d n)) f.rec.tags (λ n tag has. ap (λ (o : Option (List ℕ)). is_some o) (tag_stays f m n tag) ∙ has) first.1)) parts.1
 
-  pub left_sound : (journal : Held) → journal.blocks ≡ image_blocks k.limits → (journal.is_broken ≡ false → journal.staged ≡ []) → IsSound (record left { journal = journal })
+  pub left_sound : (journal : Held) → journal.blocks ≡ image_blocks k.limits → (journal.is_broken ≡ false → IsIdle journal) → IsSound (record left { journal = journal })
   left_sound journal image quiet = record {
     range = sound.range;
     version = sound.version;

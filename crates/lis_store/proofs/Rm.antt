@@ -2,7 +2,7 @@
 use Rattle.std.proofs.Common.{◌≡◌, refl, sym, ap, ◌∙◌, subst, ℕ, not, Bool, true, false, cond, List, [], Option, Some, None, Result, Ok, Err, IsSomeAnd}
 use Rattle.lis_ports.specs.Meaning.{Meaning}
 use Rattle.lis_ports.specs.Runs.{Leaves}
-use Rattle.lis_journal.specs.Journal.{Held}
+use Rattle.lis_journal.specs.Journal.{Held, IsIdle}
 use Rattle.lis_journal.specs.Images.{StandsForAllOrNone, Fits, KeepsPast, look}
 use Rattle.lis_journal.specs.Phases.{looked}
 use Rattle.lis_content.specs.Content.{given}
@@ -47,12 +47,15 @@ module _ (slot : ℕ) (old mid : Kept) (sound : IsSound old) (some : IsSomeAnd (
   with_journal : (journal : Held) → record mid { journal = journal } ≡ after journal
   with_journal journal = ap (λ (k : Kept). record k { journal = journal }) this.removes.parts
 
-  pub sound_after : (journal : Held) → journal.blocks ≡ mid.journal.blocks → (journal.is_broken ≡ false → journal.staged ≡ []) → IsSound (record mid { journal = journal })
+  pub sound_after : (journal : Held) → journal.blocks ≡ mid.journal.blocks → (journal.is_broken ≡ false → IsIdle journal) → IsSound (record mid { journal = journal })
   sound_after journal image quiet =
       subst (λ (k : Kept). IsSound k) (sym (with_journal journal))
       (left_sound old slot this.rec mid.dict sound this.there this.removes.words journal (image ∙ (this.removes.image ∙ sound.image)) quiet)
 
-  told_after : (at : ℕ → List ℕ) (s : State) (name : List ℕ) → Tells old at s → slot_of old.catalog name ≡ Some slot → (journal : Held) → journal.blocks ≡ mid.journal.blocks → journal.is_broken ≡ false → journal.staged ≡ []
+  pub placed_after : old.journal.is_broken ≡ false → mid.journal.placed ≡ []
+  placed_after unbroken = this.removes.over.placed ∙ (sound.quiet unbroken).1
+
+  told_after : (at : ℕ → List ℕ) (s : State) (name : List ℕ) → Tells old at s → slot_of old.catalog name ≡ Some slot → (journal : Held) → journal.blocks ≡ mid.journal.blocks → journal.is_broken ≡ false → IsIdle journal
       → Tells (record mid { journal = journal }) (looked mid.journal.staged at) (file_removed s name)
   told_after at s name tells named journal image unbroken quiet = subst (λ (k : Kept). Tells k (looked mid.journal.staged at) (file_removed s name)) (sym (with_journal journal)) told
     where
@@ -93,8 +96,8 @@ module _ (k : Kept) (m : Meaning) (s : State) (place : List Formula) (name : Lis
 
   -- ---- a file that is taken away
   module _ (after : Meaning) (mid : Kept) (slot : ℕ) (here : true ≡ is_among (entries_told k.dict k.catalog) place name) (named : slot_of k.catalog name ≡ Some slot) (some : IsSomeAnd (rec_at k.catalog slot) (λ rec. Removes slot rec k mid))
-      (any_moment : (kept : ℕ → List ℕ) → Fits mid.journal.blocks m kept → Leaves m after (StandsForAllOrNone mid.journal.blocks kept mid.journal.staged))
-      (past : (kept : ℕ → List ℕ) → Fits mid.journal.blocks m kept → KeepsPast mid.journal.blocks m after) where
+      (any_moment : (kept : ℕ → List ℕ) → Fits mid.journal m kept → Leaves m after (StandsForAllOrNone mid.journal.blocks mid.journal.placed kept mid.journal.staged))
+      (past : (kept : ℕ → List ℕ) → Fits mid.journal m kept → KeepsPast mid.journal.blocks m after) where
     outcome : rm now name ≡ changed now (file_removed s name)
     outcome = ap (λ b. cond (not b) (refused now NoFileHere) (changed now (file_removed s name))) (here_is true here)
 
@@ -104,15 +107,23 @@ module _ (k : Kept) (m : Meaning) (s : State) (place : List Formula) (name : Lis
     removes : Taken slot k mid
     removes = taken slot k mid some
 
-    tells : Tells (record mid { journal = quiet }) (looked mid.journal.staged fits.kept) (file_removed s name)
-    tells = told_after slot k mid fits.tells.sound some fits.kept s name fits.tells named quiet refl (removes.removes.broken ∙ fits.tells.unbroken) refl
+    unplaced : mid.journal.placed ≡ []
+    unplaced = removes.removes.over.placed ∙ (fits.tells.sound.quiet fits.tells.unbroken).1
 
-    pub removed : {T : Type 0} (new : Kept) (done : T) → new ≡ record mid { journal = quiet }
-        → ((kept : ℕ → List ℕ) → Fits mid.journal.blocks m kept → Fits mid.journal.blocks after (λ n. look mid.journal.staged n (kept n))) → Changes now (rm now name) new m after (Ok done)
-    removed {T = T} new done is kept =
-        subst (λ (told : Kept). Changes {T = T} now (rm now name) told m after (Ok done)) (sym is)
-        (change_kept k (record mid { journal = quiet }) m after now (rm now name) (file_removed s name) mid.journal fits removes.removes.image tells refl outcome any_moment past done kept)
+    whole : mid.journal.is_broken ≡ false
+    whole = removes.removes.broken ∙ fits.tells.unbroken
+
+    tells : (journal : Held) → journal.blocks ≡ mid.journal.blocks → journal.is_broken ≡ false → IsIdle journal → Tells (record mid { journal = journal }) (looked mid.journal.staged fits.kept) (file_removed s name)
+    tells journal = told_after slot k mid fits.tells.sound some fits.kept s name fits.tells named journal
+
+    pub removed : {T : Type 0} (journal : Held) (done : T) → journal ≡ record mid.journal { staged = []; records = journal.records; placed = journal.placed } → journal.placed ≡ []
+        → ((kept : ℕ → List ℕ) → Fits mid.journal m kept → Fits journal after (λ n. look mid.journal.staged n (kept n))) → Changes now (rm now name) (record mid { journal = journal }) m after (Ok done)
+    removed journal done is none kept =
+        let blocks = ap (λ (h : Held). h.blocks) is in
+        change_kept k (record mid { journal = journal }) m after now (rm now name) (file_removed s name) mid.journal fits removes.removes.over unplaced
+        (tells journal blocks (ap (λ (h : Held). h.is_broken) is ∙ whole) (ap (λ (h : Held). h.staged) is, none)) blocks outcome any_moment past done kept
 
     pub broke : {T : Type 0} (new : Kept) (result : Result T Change) → new.journal.is_broken ≡ true → result ≡ Err Disk → Changes now (rm now name) new m after result
     broke new result broken ends =
-        change_broke k (record mid { journal = quiet }) m after now (rm now name) (file_removed s name) mid.journal fits removes.removes.image tells refl outcome any_moment past new result broken ends
+        change_broke k (record mid { journal = quiet }) m after now (rm now name) (file_removed s name) mid.journal fits removes.removes.over unplaced
+        (tells quiet refl whole (refl, unplaced)) refl outcome any_moment past new result broken ends

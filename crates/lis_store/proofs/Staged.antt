@@ -60,6 +60,7 @@ pub stages_only : (old new : Held) (home staged : ℕ) (block : List ℕ) → ne
     → ((m : ℕ) (was : List ℕ) → look new.staged m was ≡ cond (m == home) block (look old.staged m was)) → home ≡ staged → StagesOnly staged old new
 stages_only old new home staged block is looks at = record {
   image = ap (λ (h : Held). h.blocks) is;
+  over = record { blocks = ap (λ (h : Held). h.blocks) is; records = ap (λ (h : Held). h.records) is; placed = ap (λ (h : Held). h.placed) is };
   broken = ap (λ (h : Held). h.is_broken) is;
   few = omega (arith, ap (λ (h : Held). length h.staged) is, length-with_entry old.staged home block);
   others = λ n was other. looks n was ∙ (ap (λ i. cond (n == i) block (look old.staged n was)) at ∙ ap (λ b. cond b block (look old.staged n was)) other);

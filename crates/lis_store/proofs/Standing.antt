@@ -8,11 +8,10 @@ use Rattle.lis_ports.specs.Meaning.{Meaning}
 use Rattle.lis_ports.specs.Bytes.{part, put}
 use Rattle.lis_ports.specs.Runs.{Always}
 use Rattle.lis_ports.proofs.Always.{always_weaken}
-use Rattle.lis_journal.specs.Record.{block, is_open, Entry, area, header, count_of, homes_of, rises, is_record, entries_from, recorded, apply, replayed}
+use Rattle.lis_journal.specs.Record.{block, Entry, replayed}
 use Rattle.lis_journal.specs.Images.{Keeps, StandsFor as KeptBy, StandsForAllOrNone}
 use Rattle.lis_journal.specs.Phases.{looked}
-use Rattle.lis_journal.proofs.Entries.{AtHome}
-use Rattle.lis_journal.proofs.Phases.{replayed-closed, replayed-open, replayed-bad, rest_stands}
+use Rattle.lis_journal.proofs.Fitting.{fits_stand, stands_full, replayed-front}
 use Rattle.lis_slots.specs.Slots.{Slots, home, place}
 use Rattle.lis_content.specs.Content.{content}
 use Rattle.lis_fields.specs.Records.{FileRecord}
@@ -87,55 +86,8 @@ module _ (at there : ℕ → List ℕ) (same : (n : ℕ) → 578 ≤ n → at n 
   }
 
 -- ---- an image and its replayed image have one super block
-take_le : (k : ℕ) (ys : List ℕ) → length (take k ys) ≤ length ys
-take_le zero ys = omega arith
-take_le (suc k) [] = omega arith
-take_le (suc k) (y ∷ ys) = let less = take_le k ys in omega (arith, less)
-
-front-put : (xs : List ℕ) (at : ℕ) (bytes : List ℕ) → 4096 ≤ at → 4096 ≤ length xs → (take 4096 (put xs at bytes) ≡ take 4096 xs) × (4096 ≤ length (put xs at bytes))
-unfolding put
-front-put xs at bytes behind long =
-    let front : length (take 4096 (take at xs)) ≡ 4096 = ap (λ ys. length ys) (take-take 4096 at xs behind) ∙ length-take-le 4096 xs long in
-    let some : 4096 ≤ length (take at xs) = omega (arith, front, take_le 4096 (take at xs)) in
-    let rest = bytes ++ drop (at + length bytes) xs in
-    let split : put xs at bytes ≡ take at xs ++ rest = append_assoc (take at xs) bytes (drop (at + length bytes) xs) in (
-      ap (take 4096) split ∙ (take-append-le 4096 (take at xs) rest some ∙ take-take 4096 at xs behind),
-      omega (arith, ap (λ ys. length ys) split, length-append (take at xs) rest, some),
-    )
-
-front-apply : (es : List Entry) (image : List ℕ) → AtHome es → 4096 ≤ length image → take 4096 (apply es image) ≡ take 4096 image
-front-apply [] image home long = refl
-front-apply (e ∷ es) image home long =
-    let first = front-put image (4096 * e.home) e.bytes (omega (arith, home.0)) long in
-    front-apply es (put image (4096 * e.home) e.bytes) home.1 first.1 ∙ first.0
-
-at_home : (blocks last k : ℕ) (hs : List ℕ) (bytes : List ℕ) → 577 ≤ last → IsTrue (rises blocks last hs) → AtHome (entries_from k hs bytes)
-at_home blocks last k [] bytes low rise = tt
-at_home blocks last k (h ∷ hs) bytes low rise =
-    let parts = and_parts (nat_lt last h && nat_lt h blocks) (rises blocks h hs) rise in
-    let above : last < h = ltb-true last h (and_parts (nat_lt last h) (nat_lt h blocks) parts.0).0 in
-    (omega (arith, above, low), at_home blocks h (k + 1) hs bytes (omega (arith, above, low)) parts.1)
-
-recorded_home : (blocks : ℕ) (bytes : List ℕ) → is_record blocks bytes ≡ true → AtHome (recorded bytes)
-unfolding is_record recorded
-recorded_home blocks bytes form =
-    let h = header bytes in
-    let in_form : (nat_lt 0 (count_of h) && nat_le (count_of h) 575 && rises blocks 577 (homes_of h) && list_all (λ b. b == 0) (drop (4 * (count_of h + 1)) h)) ≡ true = form in
-    let parts = and_parts (nat_lt 0 (count_of h) && nat_le (count_of h) 575 && rises blocks 577 (homes_of h)) (list_all (λ b. b == 0) (drop (4 * (count_of h + 1)) h)) in_form in
-    at_home blocks 577 1 (homes_of h) bytes (omega arith) (and_parts (nat_lt 0 (count_of h) && nat_le (count_of h) 575) (rises blocks 577 (homes_of h)) parts.0).1
-
-one_image : (a b : List ℕ) → ◌≡◌ {A = Option (List ℕ)} (Some a) (Some b) → a ≡ b
-one_image a b e = cc
-
-pub super-replayed : (blocks : ℕ) (image r : List ℕ) → replayed blocks image ≡ Some r → 4096 ≤ length image → block 0 r ≡ block 0 image
-super-replayed blocks image r is long = by (is_open image) (is_record blocks (area image)) refl refl
-  where
-    by : (opened form : Bool) → is_open image ≡ opened → is_record blocks (area image) ≡ form → block 0 r ≡ block 0 image
-    by false form closed in_form = ap (block 0) (sym (one_image image r (sym (replayed-closed blocks image closed) ∙ is)))
-    by true true opened in_form =
-        ap (block 0) (sym (one_image (apply (recorded (area image)) image) r (sym (replayed-open blocks image opened in_form) ∙ is)))
-        ∙ front-apply (recorded (area image)) image (recorded_home blocks (area image) in_form) long
-    by true false opened bad = absurd (let none = sym (replayed-bad blocks image opened bad) ∙ is in cc)
+pub super-replayed : (blocks : ℕ) (image r : List ℕ) → 578 < blocks → 4096 * blocks ≤ length image → replayed blocks image ≡ Some r → block 0 r ≡ block 0 image
+super-replayed = replayed-front
 
 -- ---- images stand
 pub kept_stands : (s : State) (contents : Contents) (at : ℕ → List ℕ) (image : List ℕ) → s.limits.version ≡ 1 → at 0 ≡ super_bytes s.limits → Spells s.limits contents at s → KeptBy (image_blocks s.limits) at image → Stands image s
@@ -145,7 +97,7 @@ kept_stands s contents at image version super spells keeps = by (replayed (image
     by : (o : Option (List ℕ)) → replayed (image_blocks s.limits) image ≡ o → IsSomeAnd o (Keeps (image_blocks s.limits) at) → Stands image s
     by None is none = absurd none
     by (Some r) is keep = record {
-      super = sym (super-replayed (image_blocks s.limits) image r is (omega (arith, keeps.0))) ∙ (keep.same 0 (inl refl) ∙ super);
+      super = sym (super-replayed (image_blocks s.limits) image r (omega arith) keeps.0 is) ∙ (keep.same 0 (inl refl) ∙ super);
       version = version;
       long = keeps.0;
       replay = r;
@@ -163,11 +115,11 @@ told_stands k at s image tells keeps =
 
 pub fitting_stands : (m : Meaning) (k : Kept) (s : State) → StoreFits k m s → Always m (λ image. Stands image s)
 fitting_stands m k s fits =
-    always_weaken (λ image. Stands image s) fits.journal.all
-    (λ image rest. told_stands k fits.kept s image fits.tells (rest_stands k.journal.blocks fits.kept image rest))
+    always_weaken (λ image. Stands image s) (fits_stand k.journal (fits.tells.sound.quiet fits.tells.unbroken).1 fits.journal)
+    (λ image keeps. told_stands k fits.kept s image fits.tells keeps)
 
 pub change_stands : (old new : Kept) (kept : ℕ → List ℕ) (staged : List Entry) (s t : State) → Tells old kept s → Tells new (looked staged kept) t → new.journal.blocks ≡ old.journal.blocks
-    → (image : List ℕ) → StandsForAllOrNone old.journal.blocks kept staged image → Stands image s ⊎ Stands image t
-change_stands old new kept staged s t told tells same image (inl before) = inl (told_stands old kept s image told before)
+    → (image : List ℕ) → StandsForAllOrNone old.journal.blocks [] kept staged image → Stands image s ⊎ Stands image t
+change_stands old new kept staged s t told tells same image (inl before) = inl (told_stands old kept s image told (stands_full old.journal.blocks kept image before))
 change_stands old new kept staged s t told tells same image (inr after) =
     inr (told_stands new (looked staged kept) t image tells (subst (λ b. KeptBy b (looked staged kept) image) (sym same) after))

@@ -3,7 +3,7 @@ use Rattle.std.specs.Prelude.{◌≡◌, ◌⊎◌, ℕ, ◌+◌, ◌<◌, ◌�
 use Rattle.std.specs.List.{list_all}
 use Rattle.std.specs.Ordering.{nat_cmp}
 use Rattle.lis_graph.specs.Graph.{is_rising}
-use Rattle.lis_journal.specs.Journal.{Held}
+use Rattle.lis_journal.specs.Journal.{Held, IsOverSame}
 use Rattle.lis_journal.specs.Images.{look}
 use Rattle.lis_journal.specs.Phases.{looked}
 use Rattle.lis_dict.specs.Dict.{Dict, IsDict, words, number_of, word_of}
@@ -32,6 +32,7 @@ pub record Learns (limits : Limits) (assigned : List (List ℕ)) (d0 d1 : Dict) 
   pub named : IsTrue (list_all (λ n. is_some (word_of d1 n)) numbers)
   pub told : words_told d1 numbers ≡ set_of assigned
   pub image : new.blocks ≡ old.blocks
+  pub over : IsOverSame old new
   pub broken : new.is_broken ≡ old.is_broken
   pub few : length new.staged ≤ length old.staged + length assigned
   pub others : (n : ℕ) (was : List ℕ) → (n < properties_start) ⊎ (axioms_start limits ≤ n) → look new.staged n was ≡ look old.staged n was

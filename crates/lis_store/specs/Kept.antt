@@ -3,7 +3,7 @@ use Rattle.std.specs.Prelude.{◌≡◌, ℕ, ◌+◌, ◌*◌, ◌/◌, ◌<◌
 use Rattle.std.specs.Option.{option_to_list}
 use Rattle.std.specs.List.{range_with_len, flat_map, list_all}
 use Rattle.lis_ports.specs.Meaning.{Meaning}
-use Rattle.lis_journal.specs.Journal.{Held}
+use Rattle.lis_journal.specs.Journal.{Held, IsIdle, no_records}
 use Rattle.lis_journal.specs.Images.{Fits}
 use Rattle.lis_slots.specs.Slots.{slot}
 use Rattle.lis_blockmap.specs.Bitmap.{is_taken, bitmap_bytes}
@@ -100,7 +100,7 @@ pub record IsSound (k : Kept) : Type 0 where
   -- until there are images of version 2
   pub version : k.limits.version ≡ 1
   pub image : k.journal.blocks ≡ image_blocks k.limits
-  pub quiet : k.journal.is_broken ≡ false → k.journal.staged ≡ []
+  pub quiet : k.journal.is_broken ≡ false → IsIdle k.journal
   pub numbers : k.dict.props ≡ k.limits.props
   pub dict : IsDict k.dict
   pub bits : length k.declared ≡ k.limits.props
@@ -149,14 +149,14 @@ pub record Tells (k : Kept) (at : ℕ → List ℕ) (s : State) : Type 0 where
 -- image of the disk stands for the state.
 pub record StoreFits (k : Kept) (m : Meaning) (s : State) : Type 0 where
   pub kept : ℕ → List ℕ
-  pub journal : Fits k.journal.blocks m kept
+  pub journal : Fits k.journal m kept
   pub tells : Tells k kept s
 
 -- what is kept where there are no words and no files
 abbrev pub empty_kept : Limits → Kept
 empty_kept limits = record {
   limits = limits;
-  journal = record { blocks = image_blocks limits; staged = []; is_broken = false };
+  journal = record { blocks = image_blocks limits; staged = []; records = no_records; placed = []; is_broken = false };
   dict = record { props = limits.props; entries = [] };
   declared = replicate limits.props false;
   catalog = record { files = limits.files; entries = [] };

@@ -54,7 +54,7 @@ abbrev pub ChangesStand : Type 0
 ChangesStand =
     (old new : Kept) (kept : ℕ → List ℕ) (staged : List Entry) (s t : State) → Tells old kept s → Tells new (looked staged kept) t
     → new.journal.blocks ≡ old.journal.blocks
-    → (image : List ℕ) → StandsForAllOrNone old.journal.blocks kept staged image → Stands image s ⊎ Stands image t
+    → (image : List ℕ) → StandsForAllOrNone old.journal.blocks [] kept staged image → Stands image s ⊎ Stands image t
 
 -- to create a file is to add one without bytes
 abbrev pub CreateIsAdd : Type 0

@@ -1,7 +1,7 @@
 -- What is left when a file is taken away.
 use Rattle.std.specs.Prelude.{◌≡◌, ◌⊎◌, ℕ, ◌+◌, ◌<◌, ◌≤◌, Bool, not, ◌&&◌, if◌then◌else◌, None, List, length}
 use Rattle.std.specs.List.{list_any}
-use Rattle.lis_journal.specs.Journal.{Held}
+use Rattle.lis_journal.specs.Journal.{Held, IsOverSame}
 use Rattle.lis_journal.specs.Images.{look}
 use Rattle.lis_journal.specs.Phases.{looked}
 use Rattle.lis_blockmap.specs.Bitmap.{is_taken}
@@ -34,6 +34,7 @@ pub record Forgets (limits : Limits) (declared : List Bool) (catalog : Catalog) 
   pub properties : (kept : ℕ → List ℕ) → PropertiesAre limits old declared (looked before.staged kept) → PropertiesAre limits new declared (looked now.staged kept)
   pub others : (n : ℕ) (was : List ℕ) → (n < properties_start) ⊎ (axioms_start limits ≤ n) → look now.staged n was ≡ look before.staged n was
   pub image : now.blocks ≡ before.blocks
+  pub over : IsOverSame before now
   pub broken : now.is_broken ≡ before.is_broken
   pub few : length now.staged ≤ length before.staged + length numbers
 
@@ -46,4 +47,5 @@ pub record Removes (slot : ℕ) (rec : FileRecord) (old new : Kept) : Type 0 whe
   pub spelled : (kept : ℕ → List ℕ) → IsSpelled old kept → IsSpelled new (looked new.journal.staged kept)
   pub data_blocks : (n : ℕ) (was : List ℕ) → data_start old.limits ≤ n → look new.journal.staged n was ≡ was
   pub image : new.journal.blocks ≡ old.journal.blocks
+  pub over : IsOverSame old.journal new.journal
   pub broken : new.journal.is_broken ≡ old.journal.is_broken

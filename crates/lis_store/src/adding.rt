@@ -42,6 +42,7 @@ pub fn learn(
     requires forms { (n : ℕ) → IsTrue (is_prop (property_at dict.old (row_at declared.old 0) n)) }
     requires image { journal.old.blocks ≡ image_blocks limits.now }
     requires unbroken { journal.old.is_broken ≡ false }
+    requires unplaced { journal.old.placed ≡ [] }
     requires room { length journal.old.staged + 16 ≤ 575 }
     requires set { IsTrue (is_rising word_cmp words.now) }
     requires few { length words.now ≤ 16 }
@@ -77,6 +78,7 @@ fn learn_word(
     requires forms { (n : ℕ) → IsTrue (is_prop (property_at dict.old (row_at declared.old 0) n)) }
     requires image { journal.old.blocks ≡ image_blocks limits.now }
     requires unbroken { journal.old.is_broken ≡ false }
+    requires unplaced { journal.old.placed ≡ [] }
     requires room { length journal.old.staged < 575 }
     requires fit { IsTrue (may_be_numbered dict.old word.now) }
     requires free { number_of dict.old word.now ≡ None → length dict.old.entries < dict.old.props }

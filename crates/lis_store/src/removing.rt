@@ -69,6 +69,7 @@ fn forget_word(
     requires wide { declared.now.bits ≡ limits.now.props }
     requires image { journal.old.blocks ≡ image_blocks limits.now }
     requires unbroken { journal.old.is_broken ≡ false }
+    requires unplaced { journal.old.placed ≡ [] }
     requires room { length journal.old.staged < 575 }
     ensures { Forgets limits.now (row_at declared.now 0) catalog.now (number ∷ []) dict.old dict.new journal.old journal.new }
 {
@@ -99,6 +100,7 @@ fn forget(
     requires wide { declared.now.bits ≡ limits.now.props }
     requires image { journal.old.blocks ≡ image_blocks limits.now }
     requires unbroken { journal.old.is_broken ≡ false }
+    requires unplaced { journal.old.placed ≡ [] }
     requires room { length journal.old.staged + length numbers.now ≤ 575 }
     ensures { Forgets limits.now (row_at declared.now 0) catalog.now numbers.now dict.old dict.new journal.old journal.new }
 {
@@ -121,6 +123,7 @@ pub fn remove_file(
     requires tall { length declared.now.rows ≡ 1 }
     requires wide { declared.now.bits ≡ limits.now.props }
     requires unbroken { journal.old.is_broken ≡ false }
+    requires unplaced { journal.old.placed ≡ [] }
     requires there { IsSome (rec_at catalog.old slot) }
     ensures { IsSomeAnd (rec_at catalog.old slot) (λ (rec : FileRecord). Removes slot rec
         (kept_of limits.now journal.old dict.old declared.now catalog.old map.old)

@@ -73,6 +73,7 @@ pub fn stage_property(
     requires wide { declared.now.bits ≡ limits.now.props }
     requires image { journal.old.blocks ≡ image_blocks limits.now }
     requires unbroken { journal.old.is_broken ≡ false }
+    requires unplaced { journal.old.placed ≡ [] }
     requires room { length journal.old.staged < 575 }
     ensures only { StagesOnly (578 + number / 64) journal.old journal.new }
     ensures slots { (kept : ℕ → List ℕ) (n : ℕ) → n < limits.now.props → n / 64 ≡ number / 64
@@ -135,6 +136,7 @@ pub fn stage_record(journal: &mut Journal, limits: &Limits, catalog: &Catalog, n
     requires records { (n : ℕ) → IsTrue (is_file (record_at catalog.now n)) }
     requires image { journal.old.blocks ≡ image_blocks limits.now }
     requires unbroken { journal.old.is_broken ≡ false }
+    requires unplaced { journal.old.placed ≡ [] }
     requires room { length journal.old.staged < 575 }
     ensures only { StagesOnly (files_start limits.now + number / 16) journal.old journal.new }
     ensures slots { (kept : ℕ → List ℕ) (n : ℕ) → n < limits.now.files → n / 16 ≡ number / 16

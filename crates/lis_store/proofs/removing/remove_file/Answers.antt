@@ -45,6 +45,6 @@ returns c =
     let blocks = c.as_slice.ensures.value ∙ ap (λ (r : FileRecord). r.blocks) c.rec.view_is in
     let tags = c.as_slice-2.ensures.value ∙ ap (λ (r : FileRecord). r.tags) c.rec.view_is in
     subst (λ o. IsSomeAnd o (λ (rec : FileRecord). Removes c.args.slot rec k new)) c.in-Some.ensures.was
-    (removes_by k c.args.slot c.in-Some.rec c.requires.sound (c.requires.sound.quiet c.requires.unbroken) (sym c.in-Some.ensures.was) c.forget.new.dict c.remove.new.self c.drop_file.new.map
+    (removes_by k c.args.slot c.in-Some.rec c.requires.sound (c.requires.sound.quiet c.requires.unbroken).0 (sym c.in-Some.ensures.was) c.forget.new.dict c.remove.new.self c.drop_file.new.map
     c.as_slice-2.result.now c.as_slice.result.now c.bitmap_start.result c.forget.new.journal c.stage_record.new.journal c.stage_to.new.journal
     c.in-Some.ensures.gone c.drop_file.ensures.given tags blocks c.bitmap_start.ensures c.forget.ensures c.stage_record.ensures.only c.stage_record.ensures.slots c.stage_to.ensures.staged c.stage_to.ensures.looks)

@@ -3,13 +3,14 @@ use Rattle.std.specs.List.{list_all}
 use Rattle.std.proofs.lemmas.Result.{err_from_is_err_and}
 use Rattle.lis_graph.specs.Graph.{is_rising}
 use Rattle.lis_words.specs.Words.{word_cmp}
+use Rattle.lis_journal.proofs.Fitting.{none_placed}
 use Rattle.lis_store.specs.Kept.{Kept, StoreFits}
 use Rattle.lis_store.specs.Changes.{first_refusal}
 use Rattle.lis_store.specs.Admitting.{told_checks}
 use Rattle.lis_store.specs.Adding.{may_be_numbered}
 use Rattle.lis_store.proofs.NewWords.{assigned_rising}
 use Rattle.lis_store.proofs.NewFile.{records_in_form}
-use Rattle.lis_store.proofs.FileAdded.{sound_done, sound_broken}
+use Rattle.lis_store.proofs.FileAdded.{same_over, sound_done, sound_broken}
 use Rattle.lis_store.proofs.FileKept.{refused_add, words_numbered, words_fit, new_file_made, file_staged, add_done, add_broke}
 use Rattle.lis_store.proofs.store.Store.add_file.Goals as goal
 
@@ -64,7 +65,8 @@ invariant_of-self-2 g c =
     let new = new_file_made c.self.invariant.sound c.args.place.now c.args.name.now c.args.tags.now c.args.size none c.args.payload.now c.bytes-name.ensures.name c.requires.whole
     given c.data_start-base.ensures.start c.copied.ensures l.ensures.learnt c.in-Ok.ensures.ended c.in-Ok-add.ensures in
     let staged = file_staged c.stage_record.ensures.only c.stage_record.ensures.slots c.bitmap_start.ensures c.stage_to.ensures.staged c.stage_to.ensures.looks in
-    record { sound = sound_done new staged c.commit.new.self c.in_ok-commit.ensures.done; tall = l.ensures.tall; wide = l.ensures.wide }
+    let unplaced = none_placed c.stage_to.new.journal c.commit.new.self ((same_over new staged).placed ∙ (c.self.invariant.sound.quiet (ap (λ (k : Kept). k.journal.is_broken) c.self.view_is ∙ c.requires.unbroken)).1) c.commit.ensures.idle c.in_ok-commit.ensures.none_placed in
+    record { sound = sound_done new staged c.commit.new.self c.in_ok-commit.ensures.done unplaced; tall = l.ensures.tall; wide = l.ensures.wide }
 
 pub returns-in_err-commit-clause-changes : goal.returns-in_err-commit-clause-changes
 returns-in_err-commit-clause-changes g c = λ s fits.
@@ -86,5 +88,6 @@ returns-clause-changes g c = λ s fits.
     let new = new_file_made c.self.invariant.sound c.args.place.now c.args.name.now c.args.tags.now c.args.size none c.args.payload.now c.bytes-name.ensures.name c.requires.whole
     given c.data_start-base.ensures.start c.copied.ensures l.ensures.learnt c.in-Ok.ensures.ended c.in-Ok-add.ensures in
     let staged = file_staged c.stage_record.ensures.only c.stage_record.ensures.slots c.bitmap_start.ensures c.stage_to.ensures.staged c.stage_to.ensures.looks in
+    let unplaced = none_placed c.stage_to.new.journal c.commit.new.self ((same_over new staged).placed ∙ (c.self.invariant.sound.quiet (ap (λ (k : Kept). k.journal.is_broken) c.self.view_is ∙ c.requires.unbroken)).1) c.commit.ensures.idle c.in_ok-commit.ensures.none_placed in
     let fits_then = subst (λ (k : Kept). StoreFits k (g.D.Disk.meaning c.args.disk.now) s) (sym c.self.view_is) fits in
-    add_done c.self.invariant.sound c.args.place.now c.args.name.now c.args.tags.now c.args.size none c.args.payload.now c.bytes-name.ensures.name c.requires.whole new staged (g.D.Disk.meaning c.args.disk.now) (g.D.Disk.meaning c.put.new.disk) (g.D.Disk.meaning c.commit.new.disk) (ap g.D.Disk.meaning c.put.ensures.disk) s fits_then c.in_ok-commit.ensures.any_moment c.in_ok-commit.ensures.past c.commit.new.self c.in_ok-commit.field-0 c.in_ok-commit.ensures.done c.in_ok-commit.ensures.kept
+    add_done c.self.invariant.sound c.args.place.now c.args.name.now c.args.tags.now c.args.size none c.args.payload.now c.bytes-name.ensures.name c.requires.whole new staged (g.D.Disk.meaning c.args.disk.now) (g.D.Disk.meaning c.put.new.disk) (g.D.Disk.meaning c.commit.new.disk) (ap g.D.Disk.meaning c.put.ensures.disk) s fits_then c.in_ok-commit.ensures.any_moment c.in_ok-commit.ensures.past c.commit.new.self c.in_ok-commit.field-0 c.in_ok-commit.ensures.done unplaced c.in_ok-commit.ensures.kept

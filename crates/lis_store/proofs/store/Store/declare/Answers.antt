@@ -1,9 +1,10 @@
-use Rattle.std.proofs.Common.{◌≡◌, ◌∙◌, sym, ap, subst, None, Err, arith}
+use Rattle.std.proofs.Common.{◌≡◌, ◌∙◌, refl, sym, ap, subst, None, Err, arith}
 use Rattle.std.proofs.lemmas.Result.{err_from_is_err_and}
 use Rattle.lis_bits.specs.Rows.{row_at}
 use Rattle.lis_dict.specs.Dict.{Dict}
 use Rattle.lis_dict.specs.declared.dict.NoPropertyRoom.{NoPropertyRoom}
 use Rattle.lis_journal.specs.Journal.{Held}
+use Rattle.lis_journal.proofs.Fitting.{none_placed}
 use Rattle.lis_store.specs.Inside.{kept_of}
 use Rattle.lis_store.specs.Kept.{Kept, StoreFits}
 use Rattle.lis_store.specs.Changes.{first_refusal, word_checks}
@@ -63,10 +64,11 @@ invariant_of-self-in_err-commit g c =
 pub invariant_of-self-2 : goal.invariant_of-self-2
 invariant_of-self-2 g c =
     let i = c.self.inside in
+    let unplaced = none_placed c.stage_property.new.journal c.commit.new.self (c.stage_property.ensures.only.over.placed ∙ (c.self.invariant.sound.quiet (ap (λ (was : Kept). was.journal.is_broken) c.self.view_is ∙ c.requires.unbroken)).1) c.commit.ensures.idle c.in_ok-commit.ensures.none_placed in
     let none = subst (λ (was : Kept). first_refusal (word_checks was c.args.place.now c.args.word.now) ≡ None) (sym c.self.view_is) c.in_ok-may_declare.ensures.row in
     held_after i.limits i.journal i.dict c.add.new.self i.declared c.put.new.self i.catalog i.map c.args.place.now c.args.word.now c.in_ok-number.number c.from.result c.self.invariant none
     c.in_ok-may_declare.ensures.form NoPropertyRoom c.in_ok-number.ensures c.len-words.ensures.kept c.put.ensures c.from.ensures c.commit.new.self
-    (ap (λ (h : Held). h.blocks) c.in_ok-commit.ensures.done ∙ c.stage_property.ensures.only.image) (λ whole. ap (λ (h : Held). h.staged) c.in_ok-commit.ensures.done)
+    (ap (λ (h : Held). h.blocks) c.in_ok-commit.ensures.done ∙ c.stage_property.ensures.only.image) (λ whole. (ap (λ (h : Held). h.staged) c.in_ok-commit.ensures.done, unplaced))
 
 pub returns-in_err-commit-clause-changes : goal.returns-in_err-commit-clause-changes
 returns-in_err-commit-clause-changes g c = λ s fits.
@@ -84,6 +86,7 @@ returns-in_err-commit-clause-changes g c = λ s fits.
 pub returns-clause-changes : goal.returns-clause-changes
 returns-clause-changes g c = λ s fits.
     let i = c.self.inside in
+    let unplaced = none_placed c.stage_property.new.journal c.commit.new.self (c.stage_property.ensures.only.over.placed ∙ (c.self.invariant.sound.quiet (ap (λ (was : Kept). was.journal.is_broken) c.self.view_is ∙ c.requires.unbroken)).1) c.commit.ensures.idle c.in_ok-commit.ensures.none_placed in
     let k : Kept = kept_of i.limits i.journal i.dict i.declared i.catalog i.map in
     let none = subst (λ (was : Kept). first_refusal (word_checks was c.args.place.now c.args.word.now) ≡ None) (sym c.self.view_is) c.in_ok-may_declare.ensures.row in
     let is = declared_parts i.limits i.journal i.dict c.add.new.self i.declared c.put.new.self i.catalog i.map c.args.place.now c.args.word.now c.in_ok-number.number c.from.result c.self.invariant none
@@ -91,5 +94,4 @@ returns-clause-changes g c = λ s fits.
     let fits_then = subst (λ (was : Kept). StoreFits was (g.D.Disk.meaning c.args.disk.now) s) (sym c.self.view_is) fits in
     word_kept k (g.D.Disk.meaning c.args.disk.now) (g.D.Disk.meaning c.commit.new.disk) c.args.place.now c.args.word.now c.in_ok-number.number c.add.new.self (row_at c.put.new.self 0) c.self.invariant.sound is none
     (ap (λ (was : Kept). was.journal.is_broken) c.self.view_is ∙ c.requires.unbroken) s fits_then c.stage_property.new.journal c.stage_property.ensures.only c.stage_property.ensures.slots c.commit.ensures.any_moment c.commit.ensures.past
-    (record k { journal = c.commit.new.self; dict = c.add.new.self; declared = row_at c.put.new.self 0 }) _
-    (ap (λ (h : Held). record k { journal = h; dict = c.add.new.self; declared = row_at c.put.new.self 0 }) c.in_ok-commit.ensures.done) c.in_ok-commit.ensures.kept
+    (record k { journal = c.commit.new.self; dict = c.add.new.self; declared = row_at c.put.new.self 0 }) _ c.commit.new.self refl c.in_ok-commit.ensures.done unplaced c.in_ok-commit.ensures.kept
