@@ -1,24 +1,23 @@
 -- A step touches few words.
-use Rattle.std.proofs.Common.{◌≡◌, ℕ, ◌+◌, ◌≤◌, nat_le, Bool, true, false, not, ◌&&◌, cond, List, [], ◌∷◌, ◌++◌, length, filter, refl, sym, subst, inl, inr, arith, length-append}
+use Rattle.std.proofs.Common.{◌≡◌, ℕ, ◌≤◌, nat_le, Bool, true, false, cond, List, [], ◌∷◌, ◌++◌, length, refl, subst, arith, length-append}
 use Rattle.std.specs.List.{list_all, flat_map}
-use Rattle.std.proofs.lemmas.Bool.{and_parts, not-false, not_from_false, leb-true}
+use Rattle.std.proofs.lemmas.Bool.{and_parts, not-false, leb-true}
 use Rattle.lis_graph.proofs.Members.{Among, among_from_any, insert_key_new}
 use Rattle.lis_graph.proofs.Sets.{members_le}
 use Rattle.lis_words.specs.Words.{word_cmp, has_word, head_bytes, is_valued, is_property, is_file_name}
-use Rattle.lis_grammar.specs.Formula.{Formula}
 use Rattle.lis_grammar.specs.Places.{Resolution, resolved, text_words}
 use Rattle.lis_grammar.specs.Places.Resolution.{NewPlace, BeyondLimits, Unreadable}
 use Rattle.lis_model.specs.declared.refusal.Refusal.TheVariants.{UnknownProperty}
 use Rattle.lis_model.specs.declared.command.Command.{Command}
 use Rattle.lis_model.specs.declared.command.Command.TheVariants.{Mkdir, Rmdir, Axiom, Unaxiom, Create, Add, Write, Cat, Mv, Rename, Rm, Cd, Pwd, Ls, Props, Way, Stat}
 use Rattle.lis_model.specs.State.{State, File, WellFormed, heads, up, own_words, description, known, pair_cmp}
-use Rattle.lis_model.specs.Changes.{has_axiom, declared_under, undeclared, axiom_added, axiom_removed, new_file, has_name, file_of, file_added, file_removed, file_replaced}
+use Rattle.lis_model.specs.Changes.{declared_under, undeclared, axiom_added, axiom_removed, new_file, has_name, file_of, file_added, file_removed, file_replaced}
 use Rattle.lis_model.specs.Table.{table}
 use Rattle.lis_model.specs.Route.{route}
 use Rattle.lis_model.specs.Replies.{body_line, content_lines}
-use Rattle.lis_model.specs.Step.{Situation, Payload, Outcome, Item, refused, changed, shown, words_at, tags_at, here_checks, mkdir, mkdir_checks, rmdir, rmdir_checks, add_axiom, axiom_checks, unaxiom, unaxiom_checks, assigned_at, create, create_checks, add, add_checks, write, write_checks, retagged, mv_to, mv_checks, rename, rename_checks, rm, shown_here, entry_at, moved, cd_to, done, step}
+use Rattle.lis_model.specs.Step.{Situation, Payload, Item, refused, changed, shown, words_at, tags_at, here_checks, mkdir, mkdir_checks, rmdir, rmdir_checks, add_axiom, axiom_checks, unaxiom, unaxiom_checks, assigned_at, create, create_checks, add, add_checks, write, write_checks, retagged, mv_to, mv_checks, rename, rename_checks, rm, shown_here, entry_at, moved, cd_to, done, step}
 use Rattle.lis_model.specs.Step.Item.{Do, Bad}
-use Rattle.lis_laws.specs.Changes.{WordFits, AxiomFits, FileFits, FileReplaces}
+use Rattle.lis_laws.specs.Changes.{WordFits, AxiomFits, FileFits}
 use Rattle.lis_laws.specs.Steps.{has_forms, is_payload, is_formed, IsInForm}
 use Rattle.lis_laws.specs.Touches.{Touches, is_held, where_held, TouchesFew}
 use Rattle.lis_laws.proofs.Members.{word_order, pair_exact, among_from_has_word}
@@ -29,7 +28,7 @@ use Rattle.lis_laws.proofs.Known.{IsWithin, described_within}
 use Rattle.lis_laws.proofs.Named.{file_of_name, file_of_there, here_named}
 use Rattle.lis_laws.proofs.Forms.{declares, adds_axiom, axiom_removed_within}
 use Rattle.lis_laws.proofs.Growth.{axiom_within}
-use Rattle.lis_laws.proofs.Steps.{NoneStands, judged_keeps, mkdir_fits, rmdir_unused, axiom_fits, create_fits, add_fits, Replaces, file_here, write_replaces, mv_replaces, rename_replaces}
+use Rattle.lis_laws.proofs.Steps.{judged_keeps, mkdir_fits, rmdir_unused, axiom_fits, create_fits, add_fits, Replaces, file_here, write_replaces, mv_replaces, rename_replaces}
 use Rattle.lis_laws.proofs.Touched.{declares_touch, undeclares_touch, adds_axiom_touch, axiom_there, removes_axiom_touch, adds_file_touch, removes_file_touch, replaces_file_touch}
 
 -- ---- how many words
@@ -47,7 +46,7 @@ heads_le word = by (is_valued word)
 up_few : (s : State) → WellFormed s → (file : File) → Among s.files file → (word : List ℕ) → Among (description s file) word → length (up s.declared s.axioms word) ≤ 128
 up_few s formed file m word has =
     let inside = members_le word_cmp word_order (up s.declared s.axioms word) (description s file) (sorted_up s.declared s.axioms word) (sorted_all_up s.declared s.axioms (own_words s.declared file))
-        (λ q n. all_up_closed s.declared s.axioms (own_words s.declared file) word q has n) in
+    (λ q n. all_up_closed s.declared s.axioms (own_words s.declared file) word q has n) in
     omega (arith, inside, file_few s formed file m)
 
 -- and so is, with an axiom from it, what the right side entailed without the axiom

@@ -1,21 +1,21 @@
 -- Which words become known when something comes into a state, and which a file then has.
-use Rattle.std.proofs.Common.{◌≡◌, ◌⊎◌, ℕ, zero, suc, Bool, true, false, not, ◌&&◌, Option, Some, None, is_some, List, [], ◌∷◌, ◌++◌, length, refl, sym, ap, subst, ◌∙◌, inl, inr}
+use Rattle.std.proofs.Common.{◌≡◌, ◌⊎◌, ℕ, zero, suc, Bool, true, false, ◌&&◌, Option, Some, None, is_some, List, ◌∷◌, length, refl, sym, ap, subst, ◌∙◌, inl, inr}
 use Rattle.std.specs.List.{list_all}
-use Rattle.std.proofs.lemmas.Bool.{and_parts, both_ways}
+use Rattle.std.proofs.lemmas.Bool.{both_ways}
 use Rattle.lis_graph.specs.Graph.{Linked, Chain, is_rising}
 use Rattle.lis_graph.proofs.Members.{Among, among_insert_key, insert_key_old, insert_key_new, contains_from_among}
 use Rattle.lis_graph.proofs.Sets as sets
-use Rattle.lis_words.specs.Words.{word_cmp, has_word, head_bytes, is_plain_word, is_valued, is_test, test_of, is_built_in, built_in_heads}
+use Rattle.lis_words.specs.Words.{word_cmp, has_word, head_bytes, is_plain_word, is_valued, is_test, test_of, is_built_in}
 use Rattle.lis_model.specs.Sets.{with_word, with_words}
 use Rattle.lis_model.specs.Tests.{is_met}
 use Rattle.lis_model.specs.State.{State, File, WellFormed, Entails, heads, links, up, own_words, description, known, is_declarable, pair_cmp, file_cmp}
 use Rattle.lis_model.specs.Changes.{declared_under, axiom_added, has_name, file_added}
-use Rattle.lis_laws.proofs.Members.{word_exact, word_order, pair_exact, among_from_has_word, has_word_from_among, among_with_words, with_words_old, with_words_new, sorted_with_words, same_words}
+use Rattle.lis_laws.proofs.Members.{word_exact, word_order, pair_exact, has_word_from_among, among_with_words, with_words_old, with_words_new, sorted_with_words, same_words}
 use Rattle.lis_laws.proofs.Chains.{OwnLink, IsWeakerIn, among_heads, links_head, links_weaker, entails_from_up, up_from_entails, weaker_tests_are}
 use Rattle.lis_laws.proofs.Chains.OwnLink.{Head, Weaker}
 use Rattle.lis_laws.proofs.Counts.{all_among, rising_insert_key}
 use Rattle.lis_laws.proofs.Axioms.{axiom_in_front}
-use Rattle.lis_laws.proofs.Closures.{IsLess, all_up_within, new_word}
+use Rattle.lis_laws.proofs.Closures.{all_up_within, new_word}
 use Rattle.lis_laws.proofs.Apart.{declarable_not_valued, declarable_not_built_in, plain_not_valued, head_built_in, test_not_valued}
 use Rattle.lis_laws.proofs.Leads.{link_cases, chain_last, declared_leads, right_leads, valued_leads}
 use Rattle.lis_laws.proofs.Derived.{derived_built_in}
@@ -275,7 +275,7 @@ pub axiom_split : (s : State) (l r : List ℕ) (file : File) (w : List ℕ) → 
 axiom_split s l r file w has =
     new_word s.declared (l, r) s.axioms (own_words s.declared file) w
     (all_up_within s.declared s.declared (axiom_added s (l, r)).axioms ((l, r) ∷ s.axioms) (own_words s.declared file) (own_words s.declared file)
-        (record { in_declared = λ v m. m; in_axioms = axiom_in_front s.axioms (l, r); in_words = λ v m. m }) w has)
+    (record { in_declared = λ v m. m; in_axioms = axiom_in_front s.axioms (l, r); in_words = λ v m. m }) w has)
 
 pub known_adds_axiom : (s : State) → WellFormed s → (l r : List ℕ) → is_right s r ≡ true → known (axiom_added s (l, r)) ≡ with_words (known s) (l ∷ heads l)
 known_adds_axiom s formed l r right =

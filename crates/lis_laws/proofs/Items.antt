@@ -5,7 +5,7 @@ use Rattle.std.specs.List.{list_all, list_any}
 use Rattle.std.proofs.lemmas.Bool.{and_parts, and_from, or_left, ltb-false}
 use Rattle.std.proofs.lemmas.List.{length-take}
 use Rattle.std.proofs.lemmas.List.Folds.{list_all-append}
-use Rattle.lis_words.specs.Words.{same_word, is_word, is_property, is_file_name, is_count}
+use Rattle.lis_words.specs.Words.{same_word, is_property, is_file_name, is_count}
 use Rattle.lis_model.specs.declared.refusal.Refusal.TheVariants.{BadLine, LongLine, CutPayload, PayloadEnd, TooManyAssigned}
 use Rattle.lis_model.specs.declared.command.Command.TheVariants.{Mkdir, Rmdir, Axiom, Unaxiom, Write, Cat, Mv, Rename, Rm, Pwd, Ls, Props, Way, Stat}
 use Rattle.lis_model.specs.Step.{Item, Payload, no_payload}

@@ -1,6 +1,7 @@
 -- A file has a candidate among its words exactly where it has an increment.
 use Rattle.std.proofs.Common.{◌≡◌, ◌⊎◌, ◌↔◌, ℕ, Bool, true, false, not, ◌&&◌, cond, List, [], ◌∷◌, filter, refl, sym, ap, subst, ◌∙◌, inl, inr}
 use Rattle.std.specs.List.{list_any, Contains}
+use Rattle.std.specs.Cmp.{both_ways as same_tests}
 use Rattle.std.proofs.lemmas.Bool.{and_parts, and_from, not-true, not_from_false, false_from_ne_true}
 use Rattle.lis_graph.proofs.Members.{Among, among_from_any, any_from_among, among_filter, filter_among, among_from_contains, contains_from_among}
 use Rattle.lis_words.specs.Words.{same_word, has_word}
@@ -11,12 +12,6 @@ use Rattle.lis_laws.specs.Laws.{is_uncovered}
 use Rattle.lis_laws.proofs.Members.{same_word_decides, among_from_has_word, has_word_from_among}
 use Rattle.lis_laws.proofs.Tops.{Top, topmost}
 use Rattle.lis_laws.proofs.Tables.{Sound}
-
--- two tests with the same meaning are one
-pub same_tests : (a b : Bool) → (a ≡ true → b ≡ true) → (b ≡ true → a ≡ true) → a ≡ b
-same_tests true b to from = sym (to refl)
-same_tests false true to from = from refl
-same_tests false false to from = refl
 
 -- a filter by one of two tests that agree on the members
 pub filter_same : {K : Type 0} (f g : K → Bool) (xs : List K) → ((x : K) → Among xs x → f x ≡ g x) → filter f xs ≡ filter g xs

@@ -10,6 +10,7 @@ use Rattle.lis_model.specs.Tests.{step_of}
 use Rattle.lis_model.specs.Table.{Table, Entry}
 use Rattle.lis_model.specs.Listing.{holds, holds_all, extension, is_increment, increments, is_local, locals}
 use Rattle.lis_model.specs.Route.{first_increment, word_then, route_within, route, IsRoute, Leads}
+use Rattle.lis_laws.proofs.Counts.{filter_le}
 use Rattle.lis_laws.proofs.Tables.{Sound}
 use Rattle.lis_laws.proofs.Locals.{filter_same, local_is, candidate_of_increment}
 
@@ -23,14 +24,6 @@ filter_twice f g (x ∷ xs) = by (f x) (g x) refl (filter_twice f g xs)
     by true true e rest = rw e (ap (λ ys. x ∷ ys) rest)
     by true false e rest = rw e rest
     by false b e rest = rest
-
-filter_le : {K : Type 0} (f : K → Bool) (xs : List K) → length (filter f xs) ≤ length xs
-filter_le f [] = omega arith
-filter_le f (x ∷ xs) = by (f x) (filter_le f xs)
-  where
-    by : (b : Bool) → length (filter f xs) ≤ length xs → length (cond b (x ∷ filter f xs) (filter f xs)) ≤ length (x ∷ xs)
-    by true more = omega (arith, more)
-    by false more = omega (arith, more)
 
 filter_fewer : {K : Type 0} (f : K → Bool) (xs : List K) → list_any (λ x. not (f x)) xs ≡ true → length (filter f xs) < length xs
 filter_fewer f [] h = absurd cc

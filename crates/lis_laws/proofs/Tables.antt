@@ -1,9 +1,9 @@
 -- What a table keeps: its entailment has no ties, each file has all that its words entail, and the step of a word asks for the word.
-use Rattle.std.proofs.Common.{◌≡◌, ◌⊎◌, ℕ, Bool, true, false, nat_lt, nat_le, ◌&&◌, cond, Option, Some, None, is_some, List, [], ◌∷◌, ◌++◌, length, refl, sym, ap, subst, ◌∙◌}
+use Rattle.std.proofs.Common.{◌≡◌, ℕ, Bool, true, false, nat_lt, nat_le, ◌&&◌, cond, Option, Some, None, is_some, List, length, refl, sym, ap, subst, ◌∙◌}
+use Rattle.std.specs.Cmp.{both_ways as same_tests}
 use Rattle.std.proofs.lemmas.Bool.{and_parts, and_from}
 use Rattle.lis_graph.proofs.Members.{Among, among_from_any, any_from_among, among_map, map_among}
 use Rattle.lis_words.specs.Words.{same_word, has_word, test_of, is_test}
-use Rattle.lis_grammar.specs.Formula.{Formula}
 use Rattle.lis_grammar.specs.Formula.Formula.{SizeAtLeast, SizeBelow}
 use Rattle.lis_model.specs.Tests.{is_met, step_by, step_of}
 use Rattle.lis_model.specs.State.{State, File, WellFormed, up, own_words, description, known}
@@ -12,7 +12,7 @@ use Rattle.lis_model.specs.Listing.{holds}
 use Rattle.lis_laws.proofs.Members.{same_word_decides, among_from_has_word, has_word_from_among}
 use Rattle.lis_laws.proofs.Chains.{up_self, up_trans, entails_from_up, no_ties}
 use Rattle.lis_laws.proofs.Closures.{all_up_closed}
-use Rattle.lis_laws.proofs.Sources.{OwnWord, file_has, described_known, IsMetBy, test_had, known_test}
+use Rattle.lis_laws.proofs.Sources.{file_has, described_known, test_had, known_test}
 use Rattle.lis_laws.proofs.Sources.OwnWord.{Met}
 
 -- The laws of listings and of routes hold of every such table.
@@ -49,11 +49,6 @@ entails_made s p q m h =
     (and_from _ _ ((same_word_decides p p).1 refl) (has_word_from_among (up s.declared s.axioms p) q h))
 
 -- ---- the step of a word
-same_truth : (a b : Bool) → (a ≡ true → b ≡ true) → (b ≡ true → a ≡ true) → a ≡ b
-same_truth true b to from = sym (to refl)
-same_truth false true to from = from refl
-same_truth false false to from = refl
-
 step_holds : (s : State) → WellFormed s → (file : File) → Among s.files file → (p : List ℕ) → Among (known s) p
     → holds (step_of p) (entry_of s.declared s.axioms file) ≡ has_word (description s file) p
 step_holds s formed file m p there = by (test_of p) refl
@@ -76,7 +71,7 @@ step_holds s formed file m p there = by (test_of p) refl
     by (Some test) e =
         let is : is_test p ≡ true = ap (λ (o : Option (Bool × ℕ)). is_some o) e in
         size_of test ∙ sym (ap (λ (o : Option (Bool × ℕ)). is_met o (length file.bytes)) e)
-        ∙ same_truth (is_met (test_of p) (length file.bytes)) (has_word (description s file) p) (had is) (meets is)
+        ∙ same_tests (is_met (test_of p) (length file.bytes)) (has_word (description s file) p) (had is) (meets is)
 
 -- ---- the table of a state
 pub table_sound : (s : State) → WellFormed s → Sound (table s)

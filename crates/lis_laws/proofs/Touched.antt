@@ -1,38 +1,37 @@
 -- What each change touches. Taking something out is putting it back, read backwards.
-use Rattle.std.proofs.Common.{◌≡◌, ◌⊎◌, ℕ, zero, suc, Bool, true, false, not, ◌&&◌, ◌||◌, cond, List, [], ◌∷◌, ◌++◌, length, map, filter, refl, sym, ap, subst, ◌∙◌, inl, inr}
+use Rattle.std.proofs.Common.{◌≡◌, ◌⊎◌, ℕ, zero, suc, Bool, true, false, not, ◌&&◌, cond, List, [], ◌∷◌, ◌++◌, length, map, filter, refl, sym, ap, subst, ◌∙◌, inl, inr}
 use Rattle.std.specs.declared.cmp.Ordering.{Ordering}
 use Rattle.std.specs.declared.cmp.Ordering.TheVariants.{Less, Equal, Greater}
 use Rattle.std.specs.Ordering.{match_ordering, ordering_reverse}
-use Rattle.std.specs.Cmp.{IsTotalOrder, tied_itself}
+use Rattle.std.specs.Cmp.{IsTotalOrder, tied_itself, both_ways as same_tests}
 use Rattle.std.specs.BTreeSet.{insert_key}
-use Rattle.std.specs.List.{AllByRecursion, list_any, list_all, flat_map}
+use Rattle.std.specs.List.{AllByRecursion, flat_map}
 use Rattle.std.specs.List.Sorted.{IsStrictlySortedBy}
-use Rattle.std.proofs.lemmas.Bool.{and_parts, and_from, or_parts, or_left, or_right, and_cases, not-true, not-false, not_from_false, false_from_ne_true, both_ways}
+use Rattle.std.proofs.lemmas.Bool.{and_parts, or_parts, and_cases, not-true, not-false, not_from_false, false_from_ne_true, both_ways}
 use Rattle.std.proofs.lemmas.List.Folds.{list_any-append}
 use Rattle.lis_graph.specs.Graph.{Chain, is_rising}
 use Rattle.lis_graph.proofs.Members.{Among, any_from_among, among_from_any, filter_among, among_filter, among_insert_key, insert_key_old, insert_key_new, among_left, among_right, map_among, flat_map_among}
 use Rattle.lis_graph.proofs.Sets.{same_sets, sorted_insert_key, sorted_from_rising, below_tail, sorted_tail}
-use Rattle.lis_words.specs.Words.{word_cmp, same_word, has_word, is_plain_word, is_valued, is_test, test_of}
-use Rattle.lis_model.specs.Sets.{with_word, with_words}
+use Rattle.lis_words.specs.Words.{word_cmp, same_word, has_word, is_valued, is_test, test_of}
+use Rattle.lis_model.specs.Sets.{with_words}
 use Rattle.lis_model.specs.State.{State, File, WellFormed, Entails, heads, links, up, description, known, is_declarable, pair_cmp, file_cmp}
-use Rattle.lis_model.specs.Changes.{with_axiom, same_pair, has_axiom, declared_under, undeclared, axiom_added, axiom_removed, has_name, file_added, file_removed, file_replaced}
+use Rattle.lis_model.specs.Changes.{same_pair, has_axiom, declared_under, undeclared, axiom_added, axiom_removed, has_name, file_added, file_removed, file_replaced}
 use Rattle.lis_model.specs.Step.{is_side, is_had, is_in_use}
-use Rattle.lis_laws.specs.Changes.{WordFits, AxiomFits}
-use Rattle.lis_laws.specs.Touches.{holders, KeepsHolders, KeepsKnown, Touches, is_held, where_held}
-use Rattle.lis_laws.proofs.Members.{word_order, word_exact, pair_order, pair_exact, same_word_decides, among_from_has_word, has_word_from_among, among_with_words, with_words_old, with_words_new}
+use Rattle.lis_laws.specs.Changes.{WordFits}
+use Rattle.lis_laws.specs.Touches.{KeepsKnown, Touches, is_held, where_held}
+use Rattle.lis_laws.proofs.Members.{word_order, word_exact, pair_order, pair_exact, same_word_decides, among_from_has_word, has_word_from_among, among_with_words, with_words_old}
 use Rattle.lis_laws.proofs.Chains.{OwnLink, IsWeakerIn, weaker_joined, not_weaker_itself, entails_from_up, up_from_entails}
 use Rattle.lis_laws.proofs.Chains.OwnLink.{Head, Weaker}
 use Rattle.lis_laws.proofs.Counts.{all_among, rising_filter}
 use Rattle.lis_laws.proofs.Apart.{test_not_valued}
 use Rattle.lis_laws.proofs.Leads.{link_cases, test_leads}
-use Rattle.lis_laws.proofs.Closures.{with_one_axiom}
-use Rattle.lis_laws.proofs.Locals.{same_tests, filter_same}
+use Rattle.lis_laws.proofs.Locals.{filter_same}
 use Rattle.lis_laws.proofs.Sources.{is_right, right_plain, rights_are, file_has, IsMetBy, test_had, met_weaker}
 use Rattle.lis_laws.proofs.Sources.OwnWord.{Met}
-use Rattle.lis_laws.proofs.Known.{IsWithin, described_within}
+use Rattle.lis_laws.proofs.Known.{described_within}
 use Rattle.lis_laws.proofs.Named.{file_there, gone_free}
-use Rattle.lis_laws.proofs.Forms.{file_order, undeclares, removes_axiom, removes_file}
-use Rattle.lis_laws.proofs.Growth.{declared_within, chain_split, described_split, word_leads, known_declares, brought_is_test, known_adds_file, axiom_within, axiom_split, known_adds_axiom}
+use Rattle.lis_laws.proofs.Forms.{file_order, undeclares, removes_axiom}
+use Rattle.lis_laws.proofs.Growth.{declared_within, chain_split, described_split, known_declares, brought_is_test, known_adds_file, axiom_within, axiom_split, known_adds_axiom}
 
 -- ---- what is touched
 out_of : (words : List (List ℕ)) (w : List ℕ) → not (has_word words w) ≡ true → Among words w → ⊥
@@ -169,7 +168,7 @@ undeclared_touch r formed word form before unused = (
     no_left x m =
         both_ways (is_side s word) parts.0
         (has_word_from_among (map (λ (pair : List ℕ × List ℕ). pair.0) s.axioms ++ map (λ (pair : List ℕ × List ℕ). pair.1) s.axioms) word
-            (among_left (map (λ (pair : List ℕ × List ℕ). pair.0) s.axioms) (map (λ (pair : List ℕ × List ℕ). pair.1) s.axioms) word (map_among (λ (pair : List ℕ × List ℕ). pair.0) s.axioms (word, x) m)))
+        (among_left (map (λ (pair : List ℕ × List ℕ). pair.0) s.axioms) (map (λ (pair : List ℕ × List ℕ). pair.1) s.axioms) word (map_among (λ (pair : List ℕ × List ℕ). pair.0) s.axioms (word, x) m)))
 
     had : (file : File) → Among s.files file → Among (description s file) word → is_had s word ≡ true
     had file m has =
@@ -245,7 +244,7 @@ undeclares_touch s formed word unused = by (has_word s.declared word) refl
     back there =
         ap (λ (words : List (List ℕ)). record s { declared = words })
         (put_back word_cmp word_order s.declared word (λ w. same_word w word) formed.declared_set there (λ w m e. (same_word_decides w word).0 e)
-            (insert_key_new word_cmp word_exact (filter (λ w. not (same_word w word)) s.declared) word))
+        (insert_key_new word_cmp word_exact (filter (λ w. not (same_word w word)) s.declared) word))
 
     none_same : has_word s.declared word ≡ false → (w : List ℕ) → Among s.declared w → same_word w word ≡ false
     none_same none w m = false_from_ne_true _ (λ e. both_ways (has_word s.declared word) none (any_from_among (λ v. same_word v word) s.declared w m e))
@@ -259,8 +258,8 @@ undeclares_touch s formed word unused = by (has_word s.declared word) refl
         let is = back there in
         touches_back t s (word ∷ []) (word ∷ [])
         (subst (λ (x : State). Touches t x (word ∷ []) (word ∷ [])) is
-            (undeclared_touch t (undeclares s formed word unused) word (all_among is_declarable s.declared word formed.declared there)
-                (subst (λ (x : State). WellFormed x) (sym is) formed) (subst (λ (x : State). not (is_in_use x word) ≡ true) (sym is) unused)))
+        (undeclared_touch t (undeclares s formed word unused) word (all_among is_declarable s.declared word formed.declared there)
+        (subst (λ (x : State). WellFormed x) (sym is) formed) (subst (λ (x : State). not (is_in_use x word) ≡ true) (sym is) unused)))
     by false e = subst (λ (x : State). Touches s x (word ∷ []) (word ∷ [])) (alone e) (λ w out. refl, λ w out. refl)
 
 -- ---- axioms
@@ -310,7 +309,7 @@ removes_axiom_touch s formed l r = by (has_axiom s.axioms (l, r)) refl
     back there =
         ap (λ (axioms : List (List ℕ × List ℕ)). record s { axioms = axioms })
         (put_back pair_cmp pair_order s.axioms (l, r) (λ p. same_pair p (l, r)) formed.axiom_set there (λ p m e. same_pair_is p (l, r) e)
-            (insert_key_new pair_cmp pair_exact (filter (λ p. not (same_pair p (l, r))) s.axioms) (l, r)))
+        (insert_key_new pair_cmp pair_exact (filter (λ p. not (same_pair p (l, r))) s.axioms) (l, r)))
 
     none_same : has_axiom s.axioms (l, r) ≡ false → (p : List ℕ × List ℕ) → Among s.axioms p → same_pair p (l, r) ≡ false
     none_same none p m = false_from_ne_true _ (λ e. both_ways (has_axiom s.axioms (l, r)) none (any_from_among (λ q. same_pair q (l, r)) s.axioms p m e))
@@ -323,7 +322,7 @@ removes_axiom_touch s formed l r = by (has_axiom s.axioms (l, r)) refl
         let there = axiom_there s.axioms (l, r) e in
         touches_back t s changed (l ∷ heads l)
         (subst (λ (x : State). Touches t x changed (l ∷ heads l)) (back there)
-            (adds_axiom_touch t (removes_axiom s formed (l, r)) l r (rights_are s formed (l, r) there)))
+        (adds_axiom_touch t (removes_axiom s formed (l, r)) l r (rights_are s formed (l, r) there)))
     by false e = subst (λ (x : State). Touches s x changed (l ∷ heads l)) (alone e) (λ w out. refl, λ w out. refl)
 
 -- ---- files
