@@ -61,10 +61,7 @@ fn suffix_word(suffix: &[u8]) -> Option<Word>
         return None;
     }
     let text = suffix_text(suffix);
-    match read_operand(text.as_slice()) {
-        None => None,
-        Some(word) => Some(word),
-    }
+    read_operand(text.as_slice())
 }
 
 /// Notes the word of a suffix, where it is one.

@@ -21,10 +21,7 @@ fn read_property(bytes: &[u8]) -> Option<Word>
     ensures word { IsSome result ↔ IsTrue (is_line_word bytes.now) }
     ensures same { IfSome result (λ word. word ≡ bytes.now) }
 {
-    match read_operand(bytes) {
-        None => None,
-        Some(word) => Some(word),
-    }
+    read_operand(bytes)
 }
 
 /// The only word of a text, where it may be a property.
@@ -32,10 +29,7 @@ fn property(text: &[u8]) -> Option<Word>
     ensures { (item : List ℕ → Item) → word_asks item result ≡ word_form item (words_of text.now) }
 {
     let word = only_word(text)?;
-    match read_property(word) {
-        None => None,
-        Some(word) => Some(word),
-    }
+    read_property(word)
 }
 
 /// The two words of a text that has no others, where both may be properties.
@@ -43,13 +37,9 @@ fn two_properties(text: &[u8]) -> Option<(Word, Word)>
     ensures { (item : List ℕ → List ℕ → Item) → pair_asks item result ≡ pair_form item (words_of text.now) }
 {
     let (first, second) = two_words(text)?;
-    let Some(left) = read_property(first) else {
-        return None;
-    };
-    match read_property(second) {
-        None => None,
-        Some(right) => Some((left, right)),
-    }
+    let left = read_property(first)?;
+    let right = read_property(second)?;
+    Some((left, right))
 }
 
 /// The only word of a text, where it is the name of a file.

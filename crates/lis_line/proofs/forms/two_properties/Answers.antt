@@ -1,6 +1,7 @@
 use Rattle.std.proofs.Common.{◌≡◌, ℕ, Bool, true, false, cond, ◌&&◌, List, [], ◌∷◌, ap, sym, ◌∙◌, refl}
 use Rattle.lis_model.specs.Step.{Item}
 use Rattle.lis_model.specs.Script.{bad_line, is_line_word, pair_form}
+use Rattle.lis_line.specs.Forms.{pair_asks}
 use Rattle.lis_line.proofs.Tags.{no_word}
 use Rattle.lis_line.proofs.forms.two_properties.Goals as goal
 
@@ -16,8 +17,12 @@ right_bad item words left right two bad = sym (ap (pair_form item) two ∙ ap (�
     by true = refl
     by false = refl
 
-pub returns-in_default : goal.returns-in_default
-returns-in_default c = λ item. left_bad item _ c.in_ok-first.first.now c.in_ok-first.second.now c.in_ok-first.ensures.words (no_word _ (λ h. c.in_default.ensures.word.1 h))
+pub returns-in_err-left : goal.returns-in_err-left
+returns-in_err-left c = λ item.
+    ap (pair_asks item) c.from_residual-in_err-left.ensures
+    ∙ left_bad item _ c.in_ok-first.first.now c.in_ok-first.second.now c.in_ok-first.ensures.words (no_word _ (λ h. c.in_err-left.ensures.word.1 h))
 
-pub returns-in-None : goal.returns-in-None
-returns-in-None c = λ item. right_bad item _ c.in_ok-first.first.now c.in_ok-first.second.now c.in_ok-first.ensures.words (no_word _ (λ h. c.in-None.ensures.word.1 h))
+pub returns-in_err-right : goal.returns-in_err-right
+returns-in_err-right c = λ item.
+    ap (pair_asks item) c.from_residual-in_err-right.ensures
+    ∙ right_bad item _ c.in_ok-first.first.now c.in_ok-first.second.now c.in_ok-first.ensures.words (no_word _ (λ h. c.in_err-right.ensures.word.1 h))
