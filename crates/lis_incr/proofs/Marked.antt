@@ -1,19 +1,18 @@
 -- Rows of marks on words, word by word.
-use Rattle.std.proofs.Common.{◌≡◌, ◌⊎◌, ℕ, ◌+◌, ◌<◌, ◌==◌, Bool, true, false, not, ◌&&◌, ◌||◌, Option, Some, None, List, length, take, get_or, refl, sym, ap, subst, ◌∙◌, inl, inr, arith, eq-eqb}
+use Rattle.std.proofs.Common.{◌≡◌, ℕ, ◌+◌, ◌<◌, ◌==◌, Bool, true, false, not, ◌&&◌, ◌||◌, Some, List, take, refl, sym, ap, ◌∙◌, arith, eq-eqb}
 use Rattle.std.specs.Bool.{one_answer}
 use Rattle.std.specs.List.{slice_get, list_any, Contains}
 use Rattle.std.proofs.lemmas.Bool.{eqb-true}
 use Rattle.std.proofs.lemmas.List.Folds.{list_any_more}
 use Rattle.std.proofs.lemmas.Option.{slice_get_within, get_or_from_slice_get}
 use Rattle.std.proofs.lemmas.Slice.Eq.{bytes_eq-Decides}
-use Rattle.lis_graph.proofs.Members.{Among, among_from_contains, contains_from_among, among_from_any, any_from_among}
+use Rattle.lis_graph.proofs.Members.{among_from_contains, contains_from_among, among_from_any, any_from_among}
 use Rattle.lis_words.specs.Words.{same_word, has_word}
 use Rattle.lis_bits.specs.Rows.{Rows, HasShape, get, with_row, SetsBits}
 use Rattle.lis_bits.proofs.Laws.{bits_set}
 use Rattle.lis_model.specs.Table.{Entry}
-use Rattle.lis_model.specs.Listing.{is_candidate, is_local}
+use Rattle.lis_model.specs.Listing.{is_candidate}
 use Rattle.lis_eval.specs.View.{Placed, Seen, IsView}
-use Rattle.lis_eval.proofs.Members.{contains_at}
 use Rattle.lis_eval.proofs.Slots.{both_parts, both_true}
 use Rattle.lis_incr.specs.Marked.{number_passes, AreMarked, MarkedTo, IsSame, MarksWord, LeavesLocals, LeftTo, is_covered}
 

@@ -1,6 +1,5 @@
 -- The way to a file, step by step, is the route of the model.
-use Rattle.std.proofs.Common.{◌≡◌, ◌⊎◌, ℕ, zero, suc, ◌+◌, ◌-◌, ◌<◌, ◌≤◌, ◌==◌, Bool, true, false, cond, not, ◌&&◌, ◌||◌, Option, Some, None, List, [], ◌∷◌, ◌++◌, length, map, filter, take, drop, set, get_or, unwrap_or, refl, sym, ap, subst, ◌∙◌, inl, inr, arith, add-zero, append_assoc, length-append, length-take, get_or-take}
-use Rattle.std.specs.Bool.{one_answer}
+use Rattle.std.proofs.Common.{◌≡◌, ◌⊎◌, ℕ, zero, suc, ◌+◌, ◌<◌, ◌≤◌, ◌==◌, Bool, true, false, cond, not, ◌&&◌, ◌||◌, Option, Some, None, List, [], ◌∷◌, ◌++◌, length, map, filter, take, drop, get_or, unwrap_or, refl, sym, ap, subst, ◌∙◌, inl, inr, arith, add-zero, append_assoc, length-append, length-take, get_or-take}
 use Rattle.std.specs.Option.{option_map, option_or}
 use Rattle.std.specs.List.{slice_get, find, list_any, Contains}
 use Rattle.std.proofs.lemmas.Bool.{cases_lt}
@@ -15,18 +14,18 @@ use Rattle.lis_graph.proofs.Members.{Among, among_from_contains, contains_from_a
 use Rattle.lis_words.specs.Words.{same_word, has_word}
 use Rattle.lis_grammar.specs.Formula.{Formula}
 use Rattle.lis_bits.specs.Rows.{Rows, get}
-use Rattle.lis_model.specs.Table.{Table, Entry, entails}
+use Rattle.lis_model.specs.Table.{Entry, entails}
 use Rattle.lis_model.specs.Tests.{step_of}
 use Rattle.lis_model.specs.Listing.{holds, holds_all, extension, increments, is_candidate, is_increment, is_above, is_local}
-use Rattle.lis_model.specs.Route.{first_increment, word_then, route_within, route}
+use Rattle.lis_model.specs.Route.{first_increment, word_then, route_within}
 use Rattle.lis_eval.specs.View.{Placed, Seen, IsView, TellsTest, table_of}
 use Rattle.lis_eval.proofs.Members.{contains_at, find_is, find_first, mapped_some}
-use Rattle.lis_eval.proofs.Slots.{both_parts, both_true}
+use Rattle.lis_eval.proofs.Slots.{both_parts}
 use Rattle.std.proofs.Math.Bool.{and-true, and-false}
 use Rattle.lis_incr.specs.Marked.{found_files, is_top}
 use Rattle.lis_incr.specs.Walking.{is_step}
 use Rattle.lis_incr.specs.Ways.{word_of, words_of, AreKnown, file_here, further, Walks}
-use Rattle.lis_incr.proofs.Shown.{filter_same, filter_twice, filter_mapped, found_is}
+use Rattle.lis_incr.proofs.Shown.{filter_same, filter_twice, found_is}
 
 -- ---- the first member that passes, place by place
 module _ {X : Type 0} (test : X → Bool) (xs : List X) (k : ℕ) (x : X) (none : find test (take k xs) ≡ None) (at : slice_get xs k ≡ Some x) where

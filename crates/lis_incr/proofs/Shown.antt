@@ -1,6 +1,6 @@
 -- Lines from rows of marks are those of the listing.
-use Rattle.std.proofs.Common.{◌≡◌, ℕ, ◌+◌, ◌<◌, ◌≤◌, Bool, true, false, cond, not, ◌&&◌, Option, Some, None, List, [], ◌∷◌, ◌++◌, length, map, filter, drop, get_or, refl, sym, ap, ◌∙◌, inl, inr}
-use Rattle.std.specs.List.{slice_get, Contains}
+use Rattle.std.proofs.Common.{◌≡◌, ℕ, ◌+◌, ◌≤◌, Bool, true, false, cond, ◌&&◌, Some, List, [], ◌∷◌, length, map, filter, drop, refl, sym, ap, ◌∙◌, inl, inr}
+use Rattle.std.specs.List.{slice_get}
 use Rattle.std.proofs.lemmas.List.{drop_more, drop_all}
 use Rattle.std.proofs.lemmas.Simd.{map-map}
 use Rattle.std.proofs.lemmas.Option.{slice_get_within, get_or_from_slice_get}
@@ -11,7 +11,7 @@ use Rattle.lis_model.specs.Table.{Entry}
 use Rattle.lis_model.specs.Listing.{holds_all, extension, increments, locals, is_candidate, is_increment, is_local}
 use Rattle.lis_eval.specs.View.{Placed, Seen, IsView, TellsTest, table_of}
 use Rattle.lis_incr.specs.Marked.{found_files, AreMarked, LeavesLocals, is_top}
-use Rattle.lis_incr.specs.Lines.{lines_of, listing, words_from, names_from, lines_from}
+use Rattle.lis_incr.specs.Lines.{listing, words_from, names_from, lines_from}
 use Rattle.lis_incr.proofs.Marked.{marked_at}
 
 -- ---- filters

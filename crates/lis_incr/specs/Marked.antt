@@ -1,11 +1,11 @@
 -- Rows of marks on words and on files. No public clause cites this module.
-use Rattle.std.specs.Prelude.{◌≡◌, ℕ, ◌<◌, ◌==◌, Bool, false, not, ◌&&◌, ◌||◌, Option, None, List, map, filter, take}
+use Rattle.std.specs.Prelude.{◌≡◌, ℕ, ◌<◌, ◌==◌, Bool, false, not, ◌&&◌, ◌||◌, None, List, map, filter, take}
 use Rattle.std.specs.List.{list_any, Contains}
 use Rattle.lis_words.specs.Words.{same_word, has_word}
 use Rattle.lis_bits.specs.Rows.{Rows, HasShape, get, SetsBits}
 use Rattle.lis_model.specs.Table.{Table, Entry, entails}
 use Rattle.lis_model.specs.Listing.{is_candidate, is_local}
-use Rattle.lis_eval.specs.View.{Placed, Seen, file_in, IsView}
+use Rattle.lis_eval.specs.View.{Placed, Seen, file_in}
 
 -- the files whose slots are in the row
 abbrev pub found_files : Seen → Rows → List Entry

@@ -1,5 +1,5 @@
 -- The steps of a route, as places in the order of words.
-use Rattle.std.specs.Prelude.{◌≡◌, ℕ, ◌-◌, ◌<◌, Option, Some, None, List, [], ◌++◌, length, map, find, MatchOption, unwrap_or, slice_get, slice_index_or}
+use Rattle.std.specs.Prelude.{◌≡◌, ℕ, ◌<◌, Option, Some, List, [], ◌++◌, length, map, find, unwrap_or, slice_get, slice_index_or}
 use Rattle.std.specs.Option.{option_map}
 use Rattle.lis_words.specs.Words.{same_word}
 use Rattle.lis_grammar.specs.Formula.{Formula}
@@ -8,7 +8,7 @@ use Rattle.lis_model.specs.Table.{Table, Entry}
 use Rattle.lis_model.specs.Tests.{step_of}
 use Rattle.lis_model.specs.Listing.{extension, holds_all}
 use Rattle.lis_model.specs.Route.{route, route_within}
-use Rattle.lis_eval.specs.View.{Placed, Seen, TellsTest, table_of}
+use Rattle.lis_eval.specs.View.{Seen, TellsTest, table_of}
 
 -- the word at a place
 abbrev pub word_of : Seen → ℕ → List ℕ

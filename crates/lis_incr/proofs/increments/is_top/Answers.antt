@@ -1,6 +1,4 @@
-use Rattle.std.proofs.Common.{◌≡◌, true, sym, ap, ◌∙◌, arith}
-use Rattle.lis_bits.specs.Rows.{get}
-use Rattle.lis_taxonomy.specs.Taxonomy as taxonomy
+use Rattle.std.proofs.Common.{sym, ◌∙◌}
 use Rattle.lis_incr.proofs.Tops.{same_after, no_top, top_is, entailed_told}
 use Rattle.lis_incr.proofs.increments.is_top.Goals as goal
 

@@ -1,8 +1,8 @@
-use Rattle.std.proofs.Common.{◌≡◌, ℕ, ◌+◌, ◌≤◌, true, false, Some, List, ◌∷◌, refl, sym, ap, ◌∙◌, arith}
+use Rattle.std.proofs.Common.{ℕ, ◌+◌, List, ◌∷◌, sym, ap, ◌∙◌, arith}
 use Rattle.std.specs.List.{slice_get}
 use Rattle.lis_bits.specs.Rows.{get}
 use Rattle.lis_eval.specs.View.{Placed, name_and_slot}
-use Rattle.lis_eval.proofs.Members.{contains_at, past_end, mapped_none}
+use Rattle.lis_eval.proofs.Members.{past_end, mapped_none}
 use Rattle.lis_eval.proofs.Slots.{file_given}
 use Rattle.lis_incr.specs.Lines.{names_from}
 use Rattle.lis_incr.proofs.Shown.{shown_next, shown_later, shown_end}

@@ -1,9 +1,8 @@
-use Rattle.std.proofs.Common.{◌≡◌, ℕ, ◌<◌, List, length, take, true, false, sym, ap, ◌∙◌, arith}
+use Rattle.std.proofs.Common.{◌≡◌, ℕ, List, length, take, sym, ap, ◌∙◌, arith}
 use Rattle.std.proofs.lemmas.List.{length-map, with_items_is}
 use Rattle.std.specs.List.{find}
 use Rattle.lis_words.specs.Words.{same_word}
 use Rattle.lis_bits.specs.Rows.{get}
-use Rattle.lis_model.specs.Table.{Entry}
 use Rattle.lis_model.specs.Listing.{extension}
 use Rattle.lis_model.specs.Route.{route_within}
 use Rattle.lis_eval.specs.View.{Placed, table_of}

@@ -1,4 +1,4 @@
-use Rattle.std.proofs.Common.{◌≡◌, ◌+◌, length, take, filter, sym, ap, ◌∙◌, arith}
+use Rattle.std.proofs.Common.{◌+◌, sym, ap, ◌∙◌, arith}
 use Rattle.lis_bits.specs.Rows.{get}
 use Rattle.lis_eval.specs.View.{Placed}
 use Rattle.lis_eval.proofs.Slots.{file_given}

@@ -1,13 +1,12 @@
-use Rattle.std.proofs.Common.{◌≡◌, ℕ, suc, ◌+◌, ◌-◌, ◌&&◌, false, List, ◌++◌, [], ◌∷◌, take, length, sym, ap, subst, ◌∙◌, arith}
+use Rattle.std.proofs.Common.{◌≡◌, suc, ◌+◌, ◌-◌, ◌&&◌, ◌++◌, [], ◌∷◌, take, sym, ap, subst, ◌∙◌, arith}
 use Rattle.std.proofs.lemmas.List.{take_more_set, append-nil}
 use Rattle.std.proofs.lemmas.Option.{slice_get_within}
 use Rattle.lis_bits.specs.Rows.{get}
 use Rattle.lis_bits.proofs.Laws.{bits_set}
-use Rattle.lis_model.specs.Table.{Entry}
 use Rattle.lis_model.specs.Route.{route_within}
 use Rattle.lis_eval.specs.View.{table_of}
 use Rattle.lis_eval.proofs.Members.{contains_at}
-use Rattle.lis_incr.specs.Ways.{AreKnown, words_of, further, Walks}
+use Rattle.lis_incr.specs.Ways.{words_of, further, Walks}
 use Rattle.lis_incr.proofs.Found.{row_told}
 use Rattle.lis_incr.proofs.Routes.{ends, known_more, walks_on, both_first, none_both}
 use Rattle.lis_incr.proofs.walk.walk.Goals as goal
