@@ -1,5 +1,5 @@
 -- A word that is known, and not declared.
-use Rattle.std.proofs.Common.{◌≡◌, ◌⊎◌, refl, sym, ap, ap₂, ◌∙◌, subst, inl, inr, ℕ, ◌+◌, ◌<◌, ◌≤◌, if◌then◌else◌, ◌&&◌, ◌||◌, ◌==◌, Bool, true, false, List, length, set, map, Option, Some, None, is_some, IsSome, arith}
+use Rattle.std.proofs.Common.{rules, ◌≡◌, ◌⊎◌, refl, sym, ap, ap₂, ◌∙◌, subst, inl, inr, ℕ, ◌+◌, ◌<◌, ◌≤◌, if◌then◌else◌, ◌&&◌, ◌||◌, ◌==◌, Bool, true, false, List, length, set, map, Option, Some, None, is_some, IsSome, IfSome, arith}
 use Rattle.std.specs.BTreeSet.{insert_key}
 use Rattle.std.proofs.lemmas.Bool.{cases_eq, both_ways, false_from_ne_true}
 use Rattle.std.proofs.lemmas.Option.{same_Some}
@@ -20,9 +20,10 @@ use Rattle.lis_kept.specs.Areas.{block_of}
 use Rattle.lis_kept.specs.Areas.Area.{Properties}
 use Rattle.lis_kept.specs.Edges.{head_number, with_edge_to}
 use Rattle.lis_kept.specs.Telling.{bit_of, declared_of, is_declared, state_of}
+use Rattle.lis_kept.specs.Sound.{AreSound}
 use Rattle.lis_kept.specs.Links.{AreHeld, is_linked}
 use Rattle.lis_kept.specs.Changes.{Marks, Learns}
-use Rattle.lis_kept.proofs.Formed.{some_word}
+use Rattle.lis_kept.proofs.OwnLinks.{unnamed_to, unnamed_from}
 use Rattle.lis_kept.proofs.Filing.{map_insert_key}
 use Rattle.lis_kept.proofs.HeadEdges.{has_edge-with_edge}
 use Rattle.lis_kept.proofs.WordMore.{NewWord, learnt, sound_then, marks_then, declared_then, state_then, no_new_link, head_linked, word_here, word_other, word_stays, declared_there, there_declared, sorted_declared, dict_kept}
@@ -141,3 +142,26 @@ learns_there k p t word number is held there =
         let sorted = sorted_from_rising word_cmp word_order (words p.dict) held.sound.dict.rising in
         same_words (with_word (words p.dict) word) (words p.dict) (sorted_insert_key word_cmp word_order (words p.dict) word sorted) sorted
         (λ v n. either v (among_insert_key word_cmp (words p.dict) word v n)) (insert_key_old word_cmp (words p.dict) word)
+
+-- ---- the number of a head, and a number that has no word
+pub head_below : (p : Kept) (t : Taxonomy) → AreHeld p t → (word : List ℕ) (o : Option ℕ) → o ≡ head_number p.dict word → IfSome o (λ h. h < t.props)
+head_below p t held word None is = search rules
+head_below p t held word (Some h) is = by (is_valued word) is
+  where
+    by : (b : Bool) → ◌≡◌ {A = Option ℕ} (Some h) (if b then number_of p.dict (head_bytes word) else None) → h < t.props
+    by true at = omega (arith, number_below p.dict held.sound.dict (head_bytes word) h (sym at), held.sound.numbers, held.links.props)
+    by false at = absurd cc
+
+pub head_apart : (p : Kept) → AreSound p → (word : List ℕ) (number : ℕ) (o : Option ℕ) → o ≡ head_number p.dict word → word_of p.dict number ≡ None → o ≡ Some number → ⊥
+head_apart p sound word number o is free same = by (is_valued word) (sym is ∙ same)
+  where
+    by : (b : Bool) → (if b then number_of p.dict (head_bytes word) else None) ≡ Some number → ⊥
+    by true at = let both : ◌≡◌ {A = Option (List ℕ)} None (Some (head_bytes word)) = sym free ∙ word_from_number p.dict sound.dict (head_bytes word) number at in cc
+    by false at = cc
+
+pub none_to : (p : Kept) (t : Taxonomy) → AreHeld p t → (number : ℕ) → word_of p.dict number ≡ None → (x : ℕ) → has_edge t x number ≡ false
+none_to p t held number free x = held.links.edges x number ∙ unnamed_to p held.sound number free x
+
+pub none_from : (p : Kept) (t : Taxonomy) → AreHeld p t → (number : ℕ) → word_of p.dict number ≡ None → (x : ℕ) → has_edge t number x ≡ false
+none_from p t held number free x = held.links.edges number x ∙ unnamed_from p held.sound number free x
+

@@ -5,9 +5,9 @@ use Rattle.std.specs.BTreeSet.{insert_key}
 use Rattle.std.specs.List.{flat_map, list_all, list_any, fold}
 use Rattle.std.specs.List.Sorted.{IsStrictlySortedBy}
 use Rattle.std.proofs.lemmas.Bool.{and_parts, and_from, both_ways, cases_eq, eq-eqb, eqb-true, ne_eqb, false_from_ne_true, or_cases, or_left, or_right}
-use Rattle.std.proofs.lemmas.Option.{same_Some, slice_get-get_or}
+use Rattle.std.proofs.lemmas.Option.{same_Some}
 use Rattle.std.proofs.lemmas.List.Kept.{IsStrictlySortedBy-filter}
-use Rattle.lis_graph.proofs.Members.{Among, among_filter, filter_among, among_from_any, any_from_among, among_insert_key, insert_key_old, insert_key_new, contains_from_among, map_among}
+use Rattle.lis_graph.proofs.Members.{Among, among_filter, filter_among, among_from_any, any_from_among, among_insert_key, insert_key_old, insert_key_new, map_among}
 use Rattle.lis_graph.proofs.Sets.{sorted_from_rising, sorted_insert_key}
 use Rattle.lis_blockmap.specs.Bitmap.{is_taken}
 use Rattle.lis_dict.specs.Dict.{Dict, IsDict, words, number_of, word_of, with_entry}
@@ -35,7 +35,7 @@ use Rattle.lis_kept.proofs.InArea.{among_slots}
 use Rattle.lis_kept.proofs.Formed.{some_word}
 use Rattle.lis_kept.proofs.Marking.{block_marked}
 use Rattle.lis_kept.proofs.Filing.{map_all, filed_rec}
-use Rattle.lis_kept.proofs.OwnLinks.{own_link_is}
+use Rattle.lis_kept.proofs.OwnLinks.{own_link_is, slot_at, none_before}
 
 -- ---- lists
 flat_all : {X Y : Type 0} (f g : X → List Y) (xs : List X) → ((x : X) → Among xs x → f x ≡ g x) → flat_map f xs ≡ flat_map g xs
@@ -44,12 +44,6 @@ flat_all f g (x ∷ xs) same = ap₂ (λ ys zs. ys ++ zs) (same x (inl refl)) (f
 
 any_all : {X : Type 0} (f g : X → Bool) (xs : List X) → ((x : X) → f x ≡ true → g x ≡ true) → list_any f xs ≡ true → list_any g xs ≡ true
 any_all f g xs same has = let found = among_from_any f xs has in any_from_among g xs found.0 found.1 (same found.0 found.2)
-
--- a slot that is there has an index
-pub slot_at : (axioms : List AxiomSlot) (a : AxiomSlot) → Among axioms a → (i : ℕ) × (slice_get axioms i ≡ Some a)
-slot_at axioms a m =
-    let found = contains_from_among axioms a m in
-    (found.0, slice_get-get_or axioms found.0 a found.1 ∙ ap Some found.2)
 
 -- ---- a word's bit
 -- a declared word is one whose bit is set
@@ -263,10 +257,6 @@ module _ (p : Kept) (t : Taxonomy) (held : AreHeld p t) {word : List ℕ} {numbe
           let none : is_some (number_of p.dict word) ≡ false = ap is_some w.new in
           absurd (both_ways (is_some (number_of p.dict word)) none some)
 
-  none_before : (o : Option (List ℕ)) → is_head_by o None ≡ false
-  none_before None = refl
-  none_before (Some v) = refl
-
   -- other numbers have the links that they had
   links_elsewhere : (x y : ℕ) → (x ≡ number → ⊥) → is_linked learnt x y ≡ is_linked p x y
   links_elsewhere x y differ =
@@ -331,39 +321,6 @@ module _ (p : Kept) (t : Taxonomy) (held : AreHeld p t) {word : List ℕ} {numbe
           ∙ (ap₂ (λ a b. a || b) (at_head (word_of d y) refl (cases_eq y h)) (sym (own_before y))
           ∙ sym (ap (λ b. (b && (y == h)) || is_linked p number y) (eq-eqb number number refl))))
       by (inr differ) = links_elsewhere x y differ ∙ sym (ap (λ b. (b && (y == h)) || is_linked p x y) (ne_eqb x number differ))
-
-  -- no link led to the number or from it
-  pub not_linked_to : (x : ℕ) → is_linked p x number ≡ false
-  not_linked_to x =
-      ap₂ (λ a b. a || b) (own_link_is p held.sound.dict x number ∙ (ap (is_head_by (word_of p.dict x)) w.free ∙ none_before (word_of p.dict x)))
-      (false_from_ne_true (has_pair p.axioms x number) (λ has. unnamed (among_from_any (is_pair x number) p.axioms has)))
-    where
-      unnamed : (a : AxiomSlot) × Among p.axioms a × (is_pair x number a ≡ true) → ⊥
-      unnamed found = by found.0 found.1 found.2
-        where
-          by : (a : AxiomSlot) → Among p.axioms a → is_pair x number a ≡ true → ⊥
-          by FreeAxiom m is = cc
-          by (Pair left right) m is =
-              let at = slot_at p.axioms (Pair left right) m in
-              let one = held.sound.axioms at.0 left right at.1 in
-              let same = eqb-true right number (and_parts (left == x) (right == number) is).1 in
-              let found = some_word (word_of p.dict right) one.right in
-              no_word right found.0 found.1 same
-
-  pub not_linked_from : (y : ℕ) → is_linked p number y ≡ false
-  not_linked_from y = own_before y ∙ false_from_ne_true (has_pair p.axioms number y) (λ has. unnamed (among_from_any (is_pair number y) p.axioms has))
-    where
-      unnamed : (a : AxiomSlot) × Among p.axioms a × (is_pair number y a ≡ true) → ⊥
-      unnamed found = by found.0 found.1 found.2
-        where
-          by : (a : AxiomSlot) → Among p.axioms a → is_pair number y a ≡ true → ⊥
-          by FreeAxiom m is = cc
-          by (Pair left right) m is =
-              let at = slot_at p.axioms (Pair left right) m in
-              let one = held.sound.axioms at.0 left right at.1 in
-              let same = eqb-true left number (and_parts (left == number) (right == y) is).0 in
-              let found = some_word (word_of p.dict left) one.left in
-              no_word left found.0 found.1 same
 
 -- what a call of the dictionary says of a new word
 pub added_word : (d new : Dict) (word : List ℕ) (n : ℕ)
