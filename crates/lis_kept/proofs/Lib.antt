@@ -12,3 +12,5 @@ pub mod Added
 pub mod OwnLinks
 pub mod WordMore
 pub mod WordDeclared
+pub mod HeadEdges
+pub mod WordLearnt

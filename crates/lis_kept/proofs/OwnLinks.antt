@@ -1,9 +1,12 @@
 -- The links that words of a dictionary have by themselves: none of them is a test, so a link leads to a head.
-use Rattle.std.proofs.Common.{◌≡◌, ◌⊎◌, ℕ, Bool, true, false, cond, not, ◌&&◌, ◌||◌, Option, Some, None, List, [], ◌∷◌, ◌++◌, IsTrue, refl, sym, ap, ◌∙◌, subst}
+use Rattle.std.proofs.Common.{◌≡◌, ◌⊎◌, ℕ, Bool, true, false, cond, not, ◌&&◌, ◌||◌, ◌==◌, Option, Some, None, is_some, IsSome, slice_get, List, [], ◌∷◌, ◌++◌, IsTrue, refl, sym, ap, ap₂, ◌∙◌, subst}
 use Rattle.std.specs.List.{list_all}
-use Rattle.std.proofs.lemmas.Bool.{not_from_false}
-use Rattle.lis_graph.proofs.Members.{Among, among_filter}
+use Rattle.std.proofs.lemmas.Bool.{not_from_false, and_parts, both_ways, eqb-true, false_from_ne_true}
+use Rattle.std.proofs.lemmas.Option.{slice_get-get_or}
+use Rattle.lis_graph.proofs.Members.{Among, among_filter, among_from_any, contains_from_among}
 use Rattle.lis_dict.specs.Dict.{IsDict, words, word_of}
+use Rattle.lis_fields.specs.declared.slots.AxiomSlot.{AxiomSlot}
+use Rattle.lis_fields.specs.declared.slots.AxiomSlot.TheVariants.{Free as FreeAxiom, Pair}
 use Rattle.lis_words.specs.Words.{same_word, has_word, head_bytes, is_valued, is_kept_word, is_test}
 use Rattle.lis_model.specs.State.{heads}
 use Rattle.lis_model.specs.Tests.{weaker_tests, has_no_tests}
@@ -11,7 +14,8 @@ use Rattle.lis_model.proofs.NoTests.{word_not_test, no_weaker}
 use Rattle.lis_laws.proofs.Counts.{all_among, all_from}
 use Rattle.lis_kept.specs.Kept.{Kept}
 use Rattle.lis_kept.specs.Telling.{is_declared, declared_of, is_head_by}
-use Rattle.lis_kept.specs.Links.{is_own_link}
+use Rattle.lis_kept.specs.Sound.{AreSound}
+use Rattle.lis_kept.specs.Links.{is_own_link, is_linked, is_pair, has_pair}
 
 pub declared_no_tests : (k : Kept) → IsDict k.dict → has_no_tests (declared_of k) ≡ true
 declared_no_tests k dict =
@@ -38,3 +42,44 @@ own_link_is k dict p q = by (word_of k.dict p) (word_of k.dict q)
     by None r = refl
     by (Some w) None = refl
     by (Some w) (Some v) = ap (λ ws. has_word (heads w ++ ws) v) (no_weaker (declared_of k) w (declared_no_tests k dict)) ∙ head_link w v
+
+pub none_before : (o : Option (List ℕ)) → is_head_by o None ≡ false
+none_before None = refl
+none_before (Some v) = refl
+
+-- a slot that is there has an index
+pub slot_at : (axioms : List AxiomSlot) (a : AxiomSlot) → Among axioms a → (i : ℕ) × (slice_get axioms i ≡ Some a)
+slot_at axioms a m =
+    let found = contains_from_among axioms a m in
+    (found.0, slice_get-get_or axioms found.0 a found.1 ∙ ap Some found.2)
+
+-- ---- a number that has no word has no link
+module _ (k : Kept) (sound : AreSound k) (number : ℕ) (free : word_of k.dict number ≡ None) where
+  no_some : IsSome (word_of k.dict number) → ⊥
+  no_some some = both_ways (is_some (word_of k.dict number)) (ap is_some free) some
+
+  pub unnamed_to : (x : ℕ) → is_linked k x number ≡ false
+  unnamed_to x =
+      ap₂ (λ a b. a || b) (own_link_is k sound.dict x number ∙ (ap (is_head_by (word_of k.dict x)) free ∙ none_before (word_of k.dict x)))
+      (false_from_ne_true (has_pair k.axioms x number) (λ has. let found = among_from_any (is_pair x number) k.axioms has in by found.0 found.1 found.2))
+    where
+      by : (a : AxiomSlot) → Among k.axioms a → is_pair x number a ≡ true → ⊥
+      by FreeAxiom m is = cc
+      by (Pair left right) m is =
+          let at = slot_at k.axioms (Pair left right) m in
+          let one = sound.axioms at.0 left right at.1 in
+          let same = eqb-true right number (and_parts (left == x) (right == number) is).1 in
+          no_some (subst (λ n. IsSome (word_of k.dict n)) same one.right)
+
+  pub unnamed_from : (y : ℕ) → is_linked k number y ≡ false
+  unnamed_from y =
+      ap₂ (λ a b. a || b) (own_link_is k sound.dict number y ∙ ap (λ o. is_head_by o (word_of k.dict y)) free)
+      (false_from_ne_true (has_pair k.axioms number y) (λ has. let found = among_from_any (is_pair number y) k.axioms has in by found.0 found.1 found.2))
+    where
+      by : (a : AxiomSlot) → Among k.axioms a → is_pair number y a ≡ true → ⊥
+      by FreeAxiom m is = cc
+      by (Pair left right) m is =
+          let at = slot_at k.axioms (Pair left right) m in
+          let one = sound.axioms at.0 left right at.1 in
+          let same = eqb-true left number (and_parts (left == number) (right == y) is).0 in
+          no_some (subst (λ n. IsSome (word_of k.dict n)) same one.left)

@@ -4,14 +4,14 @@ use Rattle.std.specs.Option.{option_to_list}
 use Rattle.std.specs.BTreeSet.{insert_key}
 use Rattle.std.specs.List.{flat_map, list_all, list_any, fold}
 use Rattle.std.specs.List.Sorted.{IsStrictlySortedBy}
-use Rattle.std.proofs.lemmas.Bool.{and_parts, and_from, both_ways, cases_eq, eq-eqb, ne_eqb, or_cases, or_left, or_right}
-use Rattle.std.proofs.lemmas.Option.{same_Some, slice_get-get_or}
+use Rattle.std.proofs.lemmas.Bool.{and_parts, and_from, both_ways, cases_eq, eq-eqb, eqb-true, ne_eqb, false_from_ne_true, or_cases, or_left, or_right}
+use Rattle.std.proofs.lemmas.Option.{same_Some}
 use Rattle.std.proofs.lemmas.List.Kept.{IsStrictlySortedBy-filter}
-use Rattle.lis_graph.proofs.Members.{Among, among_filter, filter_among, among_from_any, any_from_among, among_insert_key, insert_key_old, insert_key_new, contains_from_among, map_among}
+use Rattle.lis_graph.proofs.Members.{Among, among_filter, filter_among, among_from_any, any_from_among, among_insert_key, insert_key_old, insert_key_new, map_among}
 use Rattle.lis_graph.proofs.Sets.{sorted_from_rising, sorted_insert_key}
 use Rattle.lis_blockmap.specs.Bitmap.{is_taken}
 use Rattle.lis_dict.specs.Dict.{Dict, IsDict, words, number_of, word_of, with_entry}
-use Rattle.lis_dict.proofs.Laws.{among_from_number, word_from_number, number_of-with_entry, word_of-with_entry, length-with_entry, kept_with_entry}
+use Rattle.lis_dict.proofs.Laws.{among_from_number, word_from_number, number_from_word, number_of-with_entry, word_of-with_entry, length-with_entry, kept_with_entry}
 use Rattle.lis_catalog.specs.Catalog.{Filed}
 use Rattle.lis_fields.specs.Records.{FileRecord}
 use Rattle.lis_fields.specs.Layouts.{prop_bytes, is_prop, is_record}
@@ -22,6 +22,7 @@ use Rattle.lis_words.specs.Words.{word_cmp, same_word, is_kept_word, is_valued, 
 use Rattle.lis_model.specs.Sets.{with_word, set_of}
 use Rattle.lis_model.specs.State.{State, File, pair_cmp}
 use Rattle.lis_laws.proofs.Members.{word_exact, word_order, same_word_decides, same_words}
+use Rattle.lis_laws.proofs.Chains.{head_not_valued}
 use Rattle.lis_laws.proofs.Counts.{all_among, all_weaker}
 use Rattle.lis_kept.specs.Kept.{Kept, property_by, property_at}
 use Rattle.lis_kept.specs.Areas.{Area, slots_of, block_of, spelled}
@@ -34,7 +35,7 @@ use Rattle.lis_kept.proofs.InArea.{among_slots}
 use Rattle.lis_kept.proofs.Formed.{some_word}
 use Rattle.lis_kept.proofs.Marking.{block_marked}
 use Rattle.lis_kept.proofs.Filing.{map_all, filed_rec}
-use Rattle.lis_kept.proofs.OwnLinks.{own_link_is}
+use Rattle.lis_kept.proofs.OwnLinks.{own_link_is, slot_at, none_before}
 
 -- ---- lists
 flat_all : {X Y : Type 0} (f g : X → List Y) (xs : List X) → ((x : X) → Among xs x → f x ≡ g x) → flat_map f xs ≡ flat_map g xs
@@ -43,12 +44,6 @@ flat_all f g (x ∷ xs) same = ap₂ (λ ys zs. ys ++ zs) (same x (inl refl)) (f
 
 any_all : {X : Type 0} (f g : X → Bool) (xs : List X) → ((x : X) → f x ≡ true → g x ≡ true) → list_any f xs ≡ true → list_any g xs ≡ true
 any_all f g xs same has = let found = among_from_any f xs has in any_from_among g xs found.0 found.1 (same found.0 found.2)
-
--- a slot that is there has an index
-pub slot_at : (axioms : List AxiomSlot) (a : AxiomSlot) → Among axioms a → (i : ℕ) × (slice_get axioms i ≡ Some a)
-slot_at axioms a m =
-    let found = contains_from_among axioms a m in
-    (found.0, slice_get-get_or axioms found.0 a found.1 ∙ ap Some found.2)
 
 -- ---- a word's bit
 -- a declared word is one whose bit is set
@@ -262,28 +257,70 @@ module _ (p : Kept) (t : Taxonomy) (held : AreHeld p t) {word : List ℕ} {numbe
           let none : is_some (number_of p.dict word) ≡ false = ap is_some w.new in
           absurd (both_ways (is_some (number_of p.dict word)) none some)
 
+  -- other numbers have the links that they had
+  links_elsewhere : (x y : ℕ) → (x ≡ number → ⊥) → is_linked learnt x y ≡ is_linked p x y
+  links_elsewhere x y differ =
+      ap (λ b. b || has_pair p.axioms x y)
+      (own_link_is learnt dict_kept x y ∙ (by (cases_eq y number) ∙ sym (own_link_is p held.sound.dict x y)))
+    where
+      by : (y ≡ number) ⊎ (y ≡ number → ⊥) → is_head_by (word_of d x) (word_of d y) ≡ is_head_by (word_of p.dict x) (word_of p.dict y)
+      by (inl same) =
+          ap₂ is_head_by (word_other x differ) (ap (word_of d) same ∙ word_here)
+          ∙ (no_head_there (word_of p.dict x) x refl ∙ sym (ap (λ o. is_head_by (word_of p.dict x) o) (ap (word_of p.dict) same ∙ w.free) ∙ none_before (word_of p.dict x)))
+      by (inr apart) = ap₂ is_head_by (word_other x differ) (word_other y apart)
+
+  -- the number had none
+  own_here : (y : ℕ) → is_linked learnt number y ≡ (is_head_by (Some word) (word_of d y) || has_pair p.axioms number y)
+  own_here y = ap (λ b. b || has_pair p.axioms number y) (own_link_is learnt dict_kept number y ∙ ap (λ o. is_head_by o (word_of d y)) word_here)
+
+  own_before : (y : ℕ) → is_linked p number y ≡ has_pair p.axioms number y
+  own_before y = ap (λ b. b || has_pair p.axioms number y) (own_link_is p held.sound.dict number y ∙ ap (λ o. is_head_by o (word_of p.dict y)) w.free)
+
   -- where the word is no valued one, no link is new
   pub no_new_link : is_valued word ≡ false → (x y : ℕ) → is_linked learnt x y ≡ is_linked p x y
-  no_new_link plain x y =
-      ap (λ b. b || has_pair p.axioms x y)
-      (own_link_is learnt dict_kept x y ∙ (by (cases_eq x number) (cases_eq y number) ∙ sym (own_link_is p held.sound.dict x y)))
+  no_new_link plain x y = by (cases_eq x number)
     where
       none_behind : (o : Option (List ℕ)) → is_head_by (Some word) o ≡ false
       none_behind None = refl
       none_behind (Some v) = ap (λ b. b && same_word (head_bytes word) v) plain
 
-      none_before : (o : Option (List ℕ)) → is_head_by o None ≡ false
-      none_before None = refl
-      none_before (Some v) = refl
+      by : (x ≡ number) ⊎ (x ≡ number → ⊥) → is_linked learnt x y ≡ is_linked p x y
+      by (inl same) =
+          subst (λ n. is_linked learnt n y ≡ is_linked p n y) (sym same)
+          (own_here y ∙ (ap (λ b. b || has_pair p.axioms number y) (none_behind (word_of d y)) ∙ sym (own_before y)))
+      by (inr differ) = links_elsewhere x y differ
 
-      by : (x ≡ number) ⊎ (x ≡ number → ⊥) → (y ≡ number) ⊎ (y ≡ number → ⊥) → is_head_by (word_of d x) (word_of d y) ≡ is_head_by (word_of p.dict x) (word_of p.dict y)
-      by (inl same) other =
-          ap (λ o. is_head_by o (word_of d y)) (ap (word_of d) same ∙ word_here)
-          ∙ (none_behind (word_of d y) ∙ sym (ap (λ o. is_head_by o (word_of p.dict y)) (ap (word_of p.dict) same ∙ w.free)))
-      by (inr differ) (inl same) =
-          ap₂ is_head_by (word_other x differ) (ap (word_of d) same ∙ word_here)
-          ∙ (no_head_there (word_of p.dict x) x refl ∙ sym (ap (λ o. is_head_by (word_of p.dict x) o) (ap (word_of p.dict) same ∙ w.free) ∙ none_before (word_of p.dict x)))
-      by (inr differ) (inr apart) = ap₂ is_head_by (word_other x differ) (word_other y apart)
+  -- a valued word has a link to its head
+  pub head_linked : (h : ℕ) → is_valued word ≡ true → number_of p.dict (head_bytes word) ≡ Some h → (x y : ℕ) → is_linked learnt x y ≡ (((x == number) && (y == h)) || is_linked p x y)
+  head_linked h valued at x y = by (cases_eq x number)
+    where
+      there : number_of d (head_bytes word) ≡ Some h
+      there = number_then (head_bytes word) ∙ other (same_word word (head_bytes word)) refl
+        where
+          other : (b : Bool) → same_word word (head_bytes word) ≡ b → (if b then Some number else number_of p.dict (head_bytes word)) ≡ Some h
+          other false e = at
+          other true e =
+              let same = (same_word_decides word (head_bytes word)).0 e in
+              let none : is_valued word ≡ false = ap is_valued same ∙ head_not_valued word in
+              absurd (both_ways (is_valued word) none valued)
+
+      at_head : (o : Option (List ℕ)) → word_of d y ≡ o → (y ≡ h) ⊎ (y ≡ h → ⊥) → is_head_by (Some word) o ≡ (y == h)
+      at_head o is (inl same) =
+          let here : o ≡ Some (head_bytes word) = sym is ∙ (ap (word_of d) same ∙ word_from_number d dict_kept (head_bytes word) h there) in
+          ap (is_head_by (Some word)) here
+          ∙ (and_from (is_valued word) (same_word (head_bytes word) (head_bytes word)) valued ((same_word_decides (head_bytes word) (head_bytes word)).1 refl) ∙ sym (eq-eqb y h same))
+      at_head None is (inr differ) = sym (ne_eqb y h differ)
+      at_head (Some v) is (inr differ) = false_from_ne_true (is_valued word && same_word (head_bytes word) v) (λ both.
+          let head = (same_word_decides (head_bytes word) v).0 (and_parts (is_valued word) (same_word (head_bytes word) v) both).1 in
+          differ (same_Some y h (sym (number_from_word d dict_kept v y is) ∙ (ap (number_of d) (sym head) ∙ there)))) ∙ sym (ne_eqb y h differ)
+
+      by : (x ≡ number) ⊎ (x ≡ number → ⊥) → is_linked learnt x y ≡ (((x == number) && (y == h)) || is_linked p x y)
+      by (inl same) =
+          subst (λ n. is_linked learnt n y ≡ (((n == number) && (y == h)) || is_linked p n y)) (sym same)
+          (own_here y
+          ∙ (ap₂ (λ a b. a || b) (at_head (word_of d y) refl (cases_eq y h)) (sym (own_before y))
+          ∙ sym (ap (λ b. (b && (y == h)) || is_linked p number y) (eq-eqb number number refl))))
+      by (inr differ) = links_elsewhere x y differ ∙ sym (ap (λ b. (b && (y == h)) || is_linked p x y) (ne_eqb x number differ))
 
 -- what a call of the dictionary says of a new word
 pub added_word : (d new : Dict) (word : List ℕ) (n : ℕ)

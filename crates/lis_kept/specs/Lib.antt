@@ -7,3 +7,4 @@ pub mod Links
 pub mod Changes
 pub mod Staging
 pub mod Inside
+pub mod Edges

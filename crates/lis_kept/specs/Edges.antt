@@ -1,0 +1,14 @@
+-- The edge from a valued word to its head.
+use Rattle.std.specs.Prelude.{ℕ, if◌then◌else◌, Option, Some, None, List}
+use Rattle.lis_dict.specs.Dict.{Dict, number_of}
+use Rattle.lis_taxonomy.specs.Taxonomy.{Taxonomy, with_edge}
+use Rattle.lis_words.specs.Words.{is_valued, head_bytes}
+
+-- the number of the head of a valued word
+abbrev pub head_number : Dict → List ℕ → Option ℕ
+head_number dict word = if is_valued word then number_of dict (head_bytes word) else None
+
+-- with the edge to a number, if there is one
+abbrev pub with_edge_to : Taxonomy → ℕ → Option ℕ → Taxonomy
+with_edge_to t number None = t
+with_edge_to t number (Some head) = with_edge t number head
