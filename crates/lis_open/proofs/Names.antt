@@ -7,8 +7,8 @@ use Rattle.lis_ports.specs.Runs.{Leaves, Always, IsSettled}
 use Rattle.lis_ports.proofs.Always.{always_settled}
 use Rattle.lis_ports.proofs.Moments.{leaves_then, leaves_weaken}
 use Rattle.lis_ports.proofs.Parts.{part-put, length-part, torn_refl}
-use Rattle.lis_journal.specs.Spreads.{Spreads, Same}
-use Rattle.lis_open.specs.Makes.{first_byte, IsNameless, IsSpared}
+use Rattle.lis_journal.specs.Spreads.{Spreads}
+use Rattle.lis_open.specs.Makes.{Same, first_byte, IsNameless, IsSpared}
 
 one_byte : (xs : List ℕ) (b : ℕ) → length xs ≡ 1 → slice_index xs 0 ≡ b → xs ≡ b ∷ []
 one_byte [] b len is = absurd (omega arith)

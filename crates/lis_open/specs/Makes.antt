@@ -10,6 +10,9 @@ use Rattle.lis_model.specs.State.{State, empty_state}
 use Rattle.lis_store.specs.Stands.{Stands}
 use Rattle.lis_store.specs.Blank.{IsBlank}
 
+abbrev pub Same : List ℕ → List ℕ → Type 0
+Same from image = image ≡ from
+
 abbrev pub first_byte : List ℕ → ℕ
 first_byte image = slice_index (part 0 1 image) 0
 
@@ -35,7 +38,7 @@ pub record IsWiped (limits : Limits) (image : List ℕ) : Type 0 where
   pub blank : IsBlank limits image
   pub zero : block 1 image ≡ zeros 4096
 
--- a block that making leaves alone: one of the record, a data block, or one past the image
+-- a block that making leaves alone: one of the records, a data block, or one past the image
 abbrev pub IsSpare : Limits → ℕ → Type 0
 IsSpare limits n = ((2 ≤ n) × (n < 578)) ⊎ (data_start limits ≤ n)
 

@@ -67,7 +67,7 @@ OpenLeft old new (Err (Damaged spot)) = RefusedLeft old new
 OpenLeft old new (Err DiskFault) = Unit {0}
 OpenLeft old new (Err NoMemory) = IsUnchanged old new ⊎ Recovers old new
 
--- what a crash in opening leaves: what it could have left before, or an image on which a record is being brought home
+-- what a crash in opening leaves: what it could have left before, or an image on which records are being brought home
 abbrev pub InOpening : Meaning → List ℕ → Type 0
 InOpening old image = old.images image ⊎ ((limits : Limits) × HasSuper limits old.bytes × InRecovery (image_blocks limits) old.bytes image)
 

@@ -4,10 +4,10 @@ ghost use Rattle.std.specs.Prelude.{[], ◌∷◌, ◌≡◌, ◌+◌, ◌-◌, 
 ghost use Rattle.lis_ports.specs.Bytes.{put, Torn};
 ghost use Rattle.lis_ports.specs.Runs.{IsDiskRun, Leaves, Always, IsSettled};
 ghost use Rattle.lis_ports.specs.Calls.{HasCause};
-ghost use Rattle.lis_journal.specs.Spreads.{Spreads, Same};
+ghost use Rattle.lis_journal.specs.Spreads.{Spreads};
 ghost use Rattle.lis_model.specs.Ranges.{are_in_range};
 ghost use Rattle.lis_model.specs.Image.{image_blocks};
-ghost use Rattle.lis_open.specs.Makes.{first_byte, IsNameless, IsSpared, AreZeros, IsWiped, IsWiping, rest_of_super};
+ghost use Rattle.lis_open.specs.Makes.{Same, first_byte, IsNameless, IsSpared, AreZeros, IsWiped, IsWiping, rest_of_super};
 
 use lis_fields::{SUPER_LEN, write_super};
 use lis_journal::{BLOCK_LEN, HOMES_START};
@@ -17,7 +17,7 @@ use lis_ports::{Disk, Failed};
 /// The byte that an image begins with.
 pub const FIRST_BYTE: u8 = b'L';
 
-// The block of the gate.
+// The block of the gates.
 const GATE_BLOCK: u32 = 1;
 
 // Syncs, and reads the first byte.
@@ -104,7 +104,7 @@ fn write_rest<D: Disk>(disk: &mut D, limits: &Limits) -> Result<(), Failed>
     disk.write_at(1, rest)
 }
 
-/// Writes all of an empty image but its first byte, and syncs: the super block, the gate, and the home blocks that are no
+/// Writes all of an empty image but its first byte, and syncs: the super block, the gates, and the home blocks that are no
 /// data blocks.
 pub fn wipe<D: Disk>(disk: &mut D, limits: &Limits) -> Result<(), Failed>
     requires range { IsTrue (are_in_range limits.now) }

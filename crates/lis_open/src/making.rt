@@ -75,7 +75,7 @@ pub fn make<D: Disk>(disk: &mut D, limits: &Limits) -> Result<(), MakeFault>
         → Always (D.meaning disk.new) (λ image. Stands image (empty_state limits.now))) }
 
     // With nothing unsynced at entry, a crash leaves the image of entry, one of the empty state, or one of no state. In each the
-    // record, the data blocks and what lies past the image are as they were.
+    // records, the data blocks and what lies past the image are as they were.
     ensures any_moment { IsTrue (D.meaning disk.old).is_honest → IsSettled (D.meaning disk.old) (D.meaning disk.old).bytes
         → Leaves (D.meaning disk.old) (D.meaning disk.new) (InMaking limits.now (D.meaning disk.old).bytes) }
 

@@ -41,7 +41,7 @@ fn an_empty_image_is_made(rt: HostRuntime) -> Result<(), Fail> {
     disk.read_at(0, &mut start)?;
     assert!(rt; start == *b"LISFS-IM\x01\0\0\0\x40\0\0\0\x40\0\0\0\x08\0\0\0\0");
 
-    // The gate, the record, the first home block, the bitmap, the data blocks, and what lies past the image.
+    // The gates, the records, the first home block, the bitmap, the data blocks, and what lies past the image.
     assert!(rt; byte_at(&mut disk, 4_096)? == 0);
     assert!(rt; byte_at(&mut disk, 8_192)? == b'L');
     assert!(rt; byte_at(&mut disk, 578 * 4_096)? == 0);

@@ -1,5 +1,5 @@
 -- A store without words and files fits a blank image.
-use Rattle.std.proofs.Common.{◌≡◌, refl, ap, ℕ, ◌==◌, List, slice_index, IsTrue}
+use Rattle.std.proofs.Common.{◌≡◌, refl, ℕ, List, IsTrue, arith}
 use Rattle.lis_ports.specs.Meaning.{Meaning}
 use Rattle.lis_ports.specs.Bytes.{part}
 use Rattle.lis_ports.specs.Runs.{IsSettled}
