@@ -8,7 +8,7 @@ use Rattle.lis_ports.specs.Runs.{IsDiskRun, Always, IsSettled}
 use Rattle.lis_ports.specs.Calls.{IsUnchanged}
 use Rattle.lis_ports.proofs.Always.{always_settled}
 use Rattle.lis_ports.proofs.Parts.{length-part}
-use Rattle.lis_journal.specs.Record.{block, has_open, Entry, first_bad, all_recorded, apply, bad_record, replayed, open_count}
+use Rattle.lis_journal.specs.Record.{block, has_open, Entry, first_bad, all_recorded, apply, bad_record, replayed, recovered_as, recovered, open_count}
 use Rattle.lis_journal.specs.Journal.{Held, OpenRecords, no_records, IsOverSame}
 use Rattle.lis_journal.specs.Images.{IsOutside, StandsFor, StandsBut, is_among, look, IsAtRest, FitsAt, Fits, KeepsPast, with_placed}
 use Rattle.lis_journal.specs.Spreads.{Spreads, SamePast}
@@ -186,3 +186,12 @@ none_placed old new none idle some = by old.staged refl
     by : (es : List Entry) → old.staged ≡ es → new.placed ≡ []
     by [] is = ap (λ (h : Held). h.placed) (idle is).2 ∙ none
     by (e ∷ es) is = some (omega (arith, ap length is))
+
+-- without a replayed image nothing is to be done
+pub recovered-none : (blocks : ℕ) (image : List ℕ) → replayed blocks image ≡ None → recovered blocks image ≡ image
+unfolding recovered
+recovered-none blocks image none = by (has_open image)
+  where
+    by : (opened : Bool) → cond opened (recovered_as image (replayed blocks image)) image ≡ image
+    by true = ap (recovered_as image) none
+    by false = refl

@@ -7,6 +7,7 @@ use Rattle.lis_bits.specs.Rows.{Rows, get, with_row, empty_rows}
 use Rattle.lis_bits.proofs.Laws.{get-with_row_same, length-with_row, get-empty_rows, length-empty_rows}
 use Rattle.lis_graph.proofs.Members.{Among, among_from_any, any_from_among}
 use Rattle.lis_journal.specs.Record.{Entry}
+use Rattle.lis_journal.specs.Journal.{Held}
 use Rattle.lis_journal.specs.Images.{Fits, look}
 use Rattle.lis_slots.specs.Slots.{slot}
 use Rattle.lis_content.specs.Content.{has_number}
@@ -35,10 +36,10 @@ use Rattle.lis_open.proofs.FilesRead.{assignable_some, slot_read, given_of}
 abbrev pub AxiomsAreFreeBelow : Limits → (ℕ → List ℕ) → ℕ → Type 0
 AxiomsAreFreeBelow limits at end = (n : ℕ) → n < end → slot (axiom_slots limits) at n ≡ axiom_bytes FreeAxiom
 
-pub record AxiomsTurn (blocks : ℕ) (limits : Limits) (old now : Meaning) (end : ℕ) : Type 0 where
+pub record AxiomsTurn (journal : Held) (limits : Limits) (old now : Meaning) (end : ℕ) : Type 0 where
   pub reads : OnlyReads old now
   pub faults : now.disk_faults ≡ old.disk_faults
-  pub free : (kept : ℕ → List ℕ) → Fits blocks old kept → AxiomsAreFreeBelow limits kept end
+  pub free : (kept : ℕ → List ℕ) → Fits journal old kept → AxiomsAreFreeBelow limits kept end
 
 module _ (limits : Limits) (at : ℕ → List ℕ) (end : ℕ) (free : AxiomsAreFreeBelow limits at end) where
   pub axiom_passes : (n : ℕ) → n < end → AxiomFails limits at n → ⊥

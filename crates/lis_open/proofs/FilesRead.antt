@@ -7,6 +7,7 @@ use Rattle.std.proofs.lemmas.Bool.{and_parts, and_from, cases_eq, cases_lt, ne_e
 use Rattle.std.proofs.lemmas.List.{length-replicate, get_or-replicate}
 use Rattle.lis_ports.specs.Meaning.{Meaning}
 use Rattle.lis_graph.proofs.Members.{Among, among_flat_map}
+use Rattle.lis_journal.specs.Journal.{Held}
 use Rattle.lis_journal.specs.Images.{Fits}
 use Rattle.lis_slots.specs.Slots.{slot}
 use Rattle.lis_blockmap.specs.Bitmap.{is_taken}
@@ -349,11 +350,11 @@ module _ (limits : Limits) (at : ℕ → List ℕ) (words : Words) (all : AreFir
   }
 
 -- ---- the loop
-pub record FilesTurn (blocks : ℕ) (limits : Limits) (words : Words) (old now : Meaning) (files : Files) (end : ℕ) : Type 0 where
+pub record FilesTurn (journal : Held) (limits : Limits) (words : Words) (old now : Meaning) (files : Files) (end : ℕ) : Type 0 where
   pub reads : OnlyReads old now
   pub faults : now.disk_faults ≡ old.disk_faults
   pub first : AreFirstFiles limits words files end
-  pub spelled : (kept : ℕ → List ℕ) → Fits blocks old kept → FilesAreSpelled limits kept files end
+  pub spelled : (kept : ℕ → List ℕ) → Fits journal old kept → FilesAreSpelled limits kept files end
 
 pub no_files_yet : (limits : Limits) (words : Words) → AreFirstFiles limits words (no_files limits) 0
 unfolding no_files

@@ -6,12 +6,13 @@ use Rattle.lis_ports.specs.Bytes.{part, put}
 use Rattle.lis_ports.specs.Calls.{IsUnchanged}
 use Rattle.lis_ports.specs.Runs.{IsDiskRun, IsSettled, Leaves}
 use Rattle.lis_ports.proofs.Moments.{leaves_weaken, leaves_then}
-use Rattle.lis_journal.specs.Record.{block, is_open, area, is_record, recorded as entries_of, apply, replayed, recovered}
-use Rattle.lis_journal.specs.Images.{StandsFor as KeptBy, IsAtRest, Fits, KeepsPast}
+use Rattle.lis_journal.specs.Record.{block, bad_record, replayed, recovered}
+use Rattle.lis_journal.specs.Images.{StandsFor as KeptBy, Fits, KeepsPast}
 use Rattle.lis_journal.specs.Recovery.{StandsForReplayed, InRecovery, MountEnded, IsSettledPast}
 use Rattle.lis_journal.specs.declared.journal.JournalFault.{JournalFault}
 use Rattle.lis_journal.specs.declared.journal.JournalFault.TheVariants.{DiskFault as JournalDisk, BadRecord as JournalRecord, NoMemory as JournalMemory}
-use Rattle.lis_journal.proofs.Phases.{rest_stands, replayed-open}
+use Rattle.lis_journal.specs.Journal.{Held}
+use Rattle.lis_journal.proofs.Fitting.{fits_stand, recovered-none}
 use Rattle.lis_fields.specs.declared.slots.SuperRec.{SuperRec}
 use Rattle.lis_fields.specs.Layouts.{super_bytes, is_super}
 use Rattle.lis_model.specs.declared.limits.Limits.{Limits}
@@ -40,19 +41,6 @@ some_replay (Some r) P is = (r, refl, is)
 
 some_one : (a b : List ℕ) → ◌≡◌ {A = Option (List ℕ)} (Some a) (Some b) → a ≡ b
 some_one a b e = cc
-
--- with a record that is not in form nothing is to be done
-recovered-none : (blocks : ℕ) (image : List ℕ) → replayed blocks image ≡ None → recovered blocks image ≡ image
-unfolding recovered
-recovered-none blocks image none = by (is_open image) (is_record blocks (area image)) refl refl
-  where
-    made : List ℕ
-    made = put (apply (entries_of (area image)) image) 4096 (0 ∷ [])
-
-    by : (opened form : Bool) → is_open image ≡ opened → is_record blocks (area image) ≡ form → cond (is_open image && is_record blocks (area image)) made image ≡ image
-    by false form closed in_form = ap (λ b. cond (b && is_record blocks (area image)) made image) closed
-    by true false opened bad = ap (λ b. cond (b && is_record blocks (area image)) made image) opened ∙ ap (λ b. cond b made image) bad
-    by true true opened good = absurd (let some = sym none ∙ replayed-open blocks image opened good in cc)
 
 -- ---- faults
 pub one_fault : {T : Type 0} {a b : JournalFault} → ◌≡◌ {A = Result T JournalFault} (Err a) (Err b) → a ≡ b
@@ -193,19 +181,25 @@ module _ (old : Meaning) (limits : Limits) (super : HasSuper limits old.bytes) (
       by : (o : Option (List ℕ)) → o ≡ Some stands.replay → IsSomeAnd o (λ r. KeptBy (image_blocks s.limits) (λ n. block n r) image) → Stands image s
       by o is kept =
           kept_stands s stands.contents (λ n. block n stands.replay) image
-          (super-replayed (image_blocks s.limits) old.bytes stands.replay stands.replays (omega (arith, stands.long)) ∙ stands.super) stands.spells (at_replay o is kept)
+          (super-replayed (image_blocks s.limits) old.bytes stands.replay (omega arith) stands.long stands.replays ∙ stands.super) stands.spells (at_replay o is kept)
 
   -- ---- the journal
-  bad_record : (b : ℕ) → replayed (image_blocks limits) old.bytes ≡ None → b ≡ 2 → RecordFails old.bytes b
-  bad_record b none is = record { limits = limits; super = super; replays = none; header = is }
+  record_fails : (b : ℕ) → replayed (image_blocks limits) old.bytes ≡ None → bad_record (image_blocks limits) old.bytes ≡ Some b → RecordFails old.bytes b
+  record_fails b none is = record { limits = limits; super = super; replays = none; first = is }
 
-  pub record_first : (b : ℕ) → replayed (image_blocks limits) old.bytes ≡ None → b ≡ 2 → FailsFirst old.bytes (BadRecord b)
-  record_first b none is = record { fails = bad_record b none is; none_before = none_before }
+  one_bad : (a b : ℕ) → RecordFails old.bytes a → bad_record (image_blocks limits) old.bytes ≡ Some b → a ≡ b
+  one_bad a b fails is =
+      let same = ap (λ (l : Limits). bad_record (image_blocks l) old.bytes) (one_limits old.bytes fails.limits limits fails.super super) in
+      let both : ◌≡◌ {A = Option ℕ} (Some a) (Some b) = sym fails.first ∙ (same ∙ is) in
+      cc
+
+  pub record_first : (b : ℕ) → replayed (image_blocks limits) old.bytes ≡ None → bad_record (image_blocks limits) old.bytes ≡ Some b → FailsFirst old.bytes (BadRecord b)
+  record_first b none is = record { fails = record_fails b none is; none_before = none_before }
     where
       none_before : (earlier : Spot) → IsBefore earlier (BadRecord b) → FailsIn old.bytes earlier → ⊥
       none_before Super before fails = fails limits super
       none_before (BadRecord a) (inl lower) fails = omega (arith, lower)
-      none_before (BadRecord a) (inr same) fails = omega (arith, same.1, fails.header, is)
+      none_before (BadRecord a) (inr same) fails = omega (arith, same.1, one_bad a b fails is)
       none_before (Property n) (inl lower) fails = omega (arith, lower)
       none_before (Property n) (inr same) fails = omega (arith, same.0)
       none_before (Axiom n) (inl lower) fails = omega (arith, lower)
@@ -219,14 +213,14 @@ module _ (old : Meaning) (limits : Limits) (super : HasSuper limits old.bytes) (
       none_before (Row n) (inl lower) fails = omega (arith, lower)
       none_before (Row n) (inr same) fails = omega (arith, same.0)
 
-  pub journal_opened : {T : Type 0} (new : Meaning) (outcome : Result T JournalFault) (fault : JournalFault) → outcome ≡ Err fault → MountEnded (image_blocks limits) old new outcome
+  pub journal_opened : (new : Meaning) (outcome : Result Held JournalFault) (fault : JournalFault) → outcome ≡ Err fault → MountEnded (image_blocks limits) old new outcome
       → (outcome ≡ Err JournalMemory → IsUnchanged old new) → Opened old new (Err (journal_fault fault))
-  journal_opened {T} new outcome fault is ended unread = by fault (subst (λ (o : Result T JournalFault). MountEnded (image_blocks limits) old new o) is ended) (λ memory. unread (is ∙ ap Err memory))
+  journal_opened new outcome fault is ended unread = by fault (subst (λ (o : Result Held JournalFault). MountEnded (image_blocks limits) old new o) is ended) (λ memory. unread (is ∙ ap Err memory))
     where
-      by : (f : JournalFault) → MountEnded {T = T} (image_blocks limits) old new (Err f) → (f ≡ JournalMemory → IsUnchanged old new) → Opened old new (Err (journal_fault f))
+      by : (f : JournalFault) → MountEnded (image_blocks limits) old new (Err f) → (f ≡ JournalMemory → IsUnchanged old new) → Opened old new (Err (journal_fault f))
       by JournalDisk told same = failed_opened old new
       by (JournalRecord b) told same =
-          spotted old new (BadRecord b) (long_enough, λ s stands. damaged old.bytes s (BadRecord b) stands (bad_record b told.0 told.1))
+          spotted old new (BadRecord b) (long_enough, λ s stands. damaged old.bytes s (BadRecord b) stands (record_fails b told.0 told.1))
           (inr (limits, super, subst (λ bytes. IsSettled new bytes) (sym (recovered-none (image_blocks limits) old.bytes told.0)) told.2)) (record_first b told.0 told.1)
       by JournalMemory told same =
           unspotted old new NoMemory (long_enough, (limits, super), λ s stands. subst (λ bytes. Stands bytes s) (sym (same refl).bytes) stands) (inl (same refl)) (λ spot none. cc)
@@ -244,7 +238,7 @@ module _ (old : Meaning) (limits : Limits) (super : HasSuper limits old.bytes) (
     kept n = block n r
 
     super_kept : block 0 r ≡ super_bytes (record { version = 1; limits = limits })
-    super_kept = super-replayed (image_blocks limits) old.bytes r replays (omega (arith, whole, long)) ∙ super.spelled
+    super_kept = super-replayed (image_blocks limits) old.bytes r (omega arith) (omega (arith, whole, long)) replays ∙ super.spelled
 
     fails_replayed : (spot : Spot) → Fails limits kept spot → FailsReplayed old.bytes spot
     fails_replayed spot fails = record { limits = limits; super = super; replay = r; replays = replays; fails = fails }
@@ -284,13 +278,13 @@ module _ (old : Meaning) (limits : Limits) (super : HasSuper limits old.bytes) (
         none_before (Bitmap n) before fails = first.none_before (Bitmap n) before (replayed_fails (Bitmap n) fails)
         none_before (Row n) before fails = first.none_before (Row n) before (replayed_fails (Row n) fails)
 
-    rest_told : (image : List ℕ) → IsAtRest (image_blocks limits) kept image → StandsForReplayed (image_blocks limits) old.bytes image
-    rest_told image rest =
-        subst (λ (o : Option (List ℕ)). IsSomeAnd o (λ bytes. KeptBy (image_blocks limits) (λ n. block n bytes) image)) (sym replays) (rest_stands (image_blocks limits) kept image rest)
+    rest_told : (image : List ℕ) → KeptBy (image_blocks limits) kept image → StandsForReplayed (image_blocks limits) old.bytes image
+    rest_told image stands =
+        subst (λ (o : Option (List ℕ)). IsSomeAnd o (λ bytes. KeptBy (image_blocks limits) (λ n. block n bytes) image)) (sym replays) stands
 
-    module _ (new : Meaning) (fits : Fits (image_blocks limits) new kept) (left : Recovers old new) where
+    module _ (journal : Held) (new : Meaning) (fits : Fits journal new kept) (blocks : journal.blocks ≡ image_blocks limits) (unplaced : journal.placed ≡ []) (left : Recovers old new) where
       bytes_stand : (s : State) → Stands old.bytes s → Stands new.bytes s
-      bytes_stand s stands = replayed_stands s new.bytes stands (rest_told new.bytes fits.all.reads)
+      bytes_stand s stands = replayed_stands s new.bytes stands (rest_told new.bytes (subst (λ b. KeptBy b kept new.bytes) blocks (fits_stand journal unplaced fits).reads))
 
       -- the state that a store tells
       told_stand : (store : Kept) (s : State) → Tells store kept s → store.limits ≡ limits → Stands old.bytes s
@@ -311,7 +305,7 @@ module _ (old : Meaning) (limits : Limits) (super : HasSuper limits old.bytes) (
       told_limits store s tells =
           one_limits r store.limits limits (record { range = tells.sound.range; spelled = tells.spelled.super }) (record { range = super.range; spelled = super_kept })
 
-      parts_opened : (result : Result Kept OpenFault) → ((store : Kept) → result ≡ Ok store → store.journal.blocks ≡ image_blocks limits) → StoreEnded limits kept result → Opened old new result
+      parts_opened : (result : Result Kept OpenFault) → ((store : Kept) → result ≡ Ok store → store.journal ≡ journal) → StoreEnded limits kept result → Opened old new result
       parts_opened (Ok store) image ended =
           let s = ended.0 in
           record {
@@ -322,7 +316,7 @@ module _ (old : Meaning) (limits : Limits) (super : HasSuper limits old.bytes) (
                 told_stand store s ended.1 (told_limits store s ended.1),
                 record {
                   kept = kept;
-                  journal = subst (λ b. Fits b new kept) (sym (image store refl)) fits;
+                  journal = subst (λ (j : Held). Fits j new kept) (sym (image store refl)) fits;
                   tells = ended.1;
                 },
               ),
@@ -337,14 +331,14 @@ module _ (old : Meaning) (limits : Limits) (super : HasSuper limits old.bytes) (
       parts_opened (Err NoMemory) image fails = unspotted old new NoMemory (long_enough, (limits, super), λ s stands. bytes_stand s stands) (inr left) (λ spot none. cc)
 
   -- where it was mounted, and what it fits then was read
-  pub store_opened : length old.bytes ≡ old.len → (mid new : Meaning) (result : Result Kept OpenFault) → IsSomeAnd (replayed (image_blocks limits) old.bytes) (λ r. Fits (image_blocks limits) mid (λ n. block n r))
-      → IsSettled mid (recovered (image_blocks limits) old.bytes) → OnlyReads mid new → ((store : Kept) → result ≡ Ok store → store.journal.blocks ≡ image_blocks limits)
-      → ((kept : ℕ → List ℕ) → Fits (image_blocks limits) mid kept → kept 0 ≡ super_bytes (record { version = 1; limits = limits }) → StoreEnded limits kept result) → Opened old new result
-  store_opened whole mid new result mounted settled reads image ended =
-      let found = some_replay (replayed (image_blocks limits) old.bytes) (λ r. Fits (image_blocks limits) mid (λ n. block n r)) mounted in
+  pub store_opened : length old.bytes ≡ old.len → (journal : Held) → journal.blocks ≡ image_blocks limits → journal.placed ≡ [] → (mid new : Meaning) (result : Result Kept OpenFault) → IsSomeAnd (replayed (image_blocks limits) old.bytes) (λ r. Fits journal mid (λ n. block n r))
+      → IsSettled mid (recovered (image_blocks limits) old.bytes) → OnlyReads mid new → ((store : Kept) → result ≡ Ok store → store.journal ≡ journal)
+      → ((kept : ℕ → List ℕ) → Fits journal mid kept → kept 0 ≡ super_bytes (record { version = 1; limits = limits }) → StoreEnded limits kept result) → Opened old new result
+  store_opened whole journal blocks unplaced mid new result mounted settled reads image ended =
+      let found = some_replay (replayed (image_blocks limits) old.bytes) (λ r. Fits journal mid (λ n. block n r)) mounted in
       let kept : ℕ → List ℕ = λ n. block n found.0 in
       let left : Recovers old new = (limits, super, settled_after reads found.2.honest settled) in
-      parts_opened whole found.0 found.1 new (fits_after (image_blocks limits) kept reads found.2) left result image (ended kept found.2 (super_kept whole found.0 found.1))
+      parts_opened whole found.0 found.1 journal new (fits_after journal kept reads found.2) blocks unplaced left result image (ended kept found.2 (super_kept whole found.0 found.1))
 
   pub store_moments : (mid new : Meaning) → ((image : List ℕ) → mid.images image → old.images image ⊎ InRecovery (image_blocks limits) old.bytes image)
       → Leaves old mid (λ image. old.images image ⊎ InRecovery (image_blocks limits) old.bytes image) → Leaves mid new mid.images → Leaves old new (InOpening old)

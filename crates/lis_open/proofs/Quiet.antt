@@ -5,6 +5,8 @@ use Rattle.lis_ports.specs.Runs.{IsDiskRun, IsSettled}
 use Rattle.lis_ports.specs.Calls.{IsUnchanged}
 use Rattle.lis_ports.proofs.Always.{always_unchanged}
 use Rattle.lis_ports.proofs.Moments.{run_none, run_then, leaves_none, leaves_weaken, leaves_then}
+use Rattle.lis_journal.specs.Journal.{Held}
+use Rattle.lis_journal.proofs.Fitting.{fits_unchanged}
 use Rattle.lis_journal.specs.Images.{Fits}
 use Rattle.lis_open.specs.Reading.{OnlyReads}
 
@@ -36,11 +38,8 @@ reads_then {a} first second = record {
       (leaves_weaken a.images (second.moments (first.run.honest ∙ honest)) (first.same honest).images.only);
 }
 
-pub fits_after : {a b : Meaning} (blocks : ℕ) (kept : ℕ → List ℕ) → OnlyReads a b → Fits blocks a kept → Fits blocks b kept
-fits_after blocks kept reads fits = record {
-  honest = reads.run.honest ∙ fits.honest;
-  all = always_unchanged fits.all (reads.same fits.honest);
-}
+pub fits_after : {a b : Meaning} (journal : Held) (kept : ℕ → List ℕ) → OnlyReads a b → Fits journal a kept → Fits journal b kept
+fits_after journal kept reads fits = fits_unchanged journal reads.run (reads.same fits.honest) fits
 
 pub settled_after : {a b : Meaning} {bytes : List ℕ} → OnlyReads a b → IsTrue a.is_honest → IsSettled a bytes → IsSettled b bytes
 settled_after reads honest settled =

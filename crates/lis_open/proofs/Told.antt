@@ -9,7 +9,7 @@ use mathlib.Core.List.{map-map}
 use Rattle.lis_graph.specs.Graph.{is_rising}
 use Rattle.lis_graph.proofs.Members.{Among, among_map, map_among, among_filter, filter_among, among_append, among_left, among_flat_map, flat_map_among, among_from_any}
 use Rattle.lis_graph.proofs.Sets.{sorted_from_rising}
-use Rattle.lis_journal.specs.Journal.{Held}
+use Rattle.lis_journal.specs.Journal.{Held, IsIdle}
 use Rattle.lis_blockmap.specs.Bitmap.{is_taken, bitmap_bytes}
 use Rattle.lis_content.specs.Content.{content, has_number}
 use Rattle.lis_dict.specs.Dict as dict
@@ -44,7 +44,7 @@ kept_by limits journal words files = kept_of limits journal words.dict words.dec
 
 -- ---- what holds without a look at blocks
 module _ (limits : Limits) (journal : Held) (words : Words) (files : Files) (first : AreFirstWords limits words limits.props) (all : AreFirstFiles limits words files limits.files) where
-  pub sound : IsTrue (are_in_range limits) → journal.blocks ≡ image_blocks limits → journal.staged ≡ [] → IsSound (kept_by limits journal words files)
+  pub sound : IsTrue (are_in_range limits) → journal.blocks ≡ image_blocks limits → IsIdle journal → IsSound (kept_by limits journal words files)
   sound in_range image clean = record {
     range = in_range;
     image = image;
@@ -277,7 +277,7 @@ module _ (limits : Limits) (words : Words) (files : Files) (at : ℕ → List �
   }
 
   -- ---- and what was read tells it
-  tells : (journal : Held) → IsTrue (are_in_range limits) → journal.blocks ≡ image_blocks limits → journal.staged ≡ [] → journal.is_broken ≡ false
+  tells : (journal : Held) → IsTrue (are_in_range limits) → journal.blocks ≡ image_blocks limits → IsIdle journal → journal.is_broken ≡ false
       → at 0 ≡ super_bytes (record { version = 1; limits = limits }) → WordsAreSpelled limits at words limits.props → AxiomsAreFree limits at → FilesAreSpelled limits at files limits.files
       → at (bitmap_start limits) ≡ bitmap_bytes files.map → Tells (kept_by limits journal words files) at s
   tells journal in_range image clean unbroken super spelled axioms records bitmap = record {
@@ -293,7 +293,7 @@ module _ (limits : Limits) (words : Words) (files : Files) (at : ℕ → List �
   }
 
 pub store_told : (limits : Limits) (words : Words) (files : Files) (at : ℕ → List ℕ) (journal : Held) (store : Kept) → AreRead limits words files → AreSpelled limits at words files → IsTrue (are_in_range limits)
-    → journal.blocks ≡ image_blocks limits → journal.staged ≡ [] → journal.is_broken ≡ false → at 0 ≡ super_bytes (record { version = 1; limits = limits })
+    → journal.blocks ≡ image_blocks limits → IsIdle journal → journal.is_broken ≡ false → at 0 ≡ super_bytes (record { version = 1; limits = limits })
     → store ≡ kept_by limits journal words files → (s : State) × Tells store at s
 store_told limits words files at journal store read spelled in_range image clean unbroken super is =
     let s = told_state limits words files at in

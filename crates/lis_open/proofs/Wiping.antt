@@ -1,13 +1,14 @@
 -- All of an empty image but its first byte, and the image with it.
 use Rattle.std.proofs.Common.{◌≡◌, ◌⊎◌, inl, inr, ℕ, ◌+◌, ◌-◌, ◌*◌, ◌≤◌, List, [], ◌∷◌, ◌++◌, length, drop, slice_index, IsTrue, refl, sym, ◌∙◌, ap, ap₂, arith, length-drop}
 use Rattle.std.proofs.Math.Seq.{take-add}
+use Rattle.std.specs.List.{list_any}
 use Rattle.lis_ports.specs.Meaning.{Meaning}
 use Rattle.lis_ports.specs.Bytes.{part, put, Torn}
 use Rattle.lis_ports.specs.Runs.{Leaves, Always, IsSettled}
 use Rattle.lis_ports.proofs.Always.{always_settled}
 use Rattle.lis_ports.proofs.Moments.{leaves_weaken}
 use Rattle.lis_ports.proofs.Parts.{part-put, part-part, part-torn, torn-put, length-put}
-use Rattle.lis_journal.specs.Record.{block}
+use Rattle.lis_journal.specs.Record.{block, has_open}
 use Rattle.lis_journal.specs.Spreads.{Spreads}
 use Rattle.lis_journal.proofs.Spreading.{leaves_spread}
 use Rattle.lis_fields.specs.Layouts.{zeros, super_bytes}
@@ -31,9 +32,12 @@ length-rest limits =
     let whole : length (super_bytes (record { version = 1; limits = limits })) ≡ 4096 = length_super (record { version = 1; limits = limits }) in
     length-drop 1 (super_bytes (record { version = 1; limits = limits })) ∙ ap (λ n. n - 1) whole
 
-one_zero : part 0 1 (zeros 4096) ≡ 0 ∷ []
+-- a gate block of zeros has no open gate
+no_gates : (image : List ℕ) → block 1 image ≡ zeros 4096 → has_open image ≡ false
 unfolding zeros
-one_zero = zeros-part 0 1 4096 (omega arith)
+no_gates image zero =
+    ap (list_any (λ gate. gate == 1))
+    (sym (part-part 0 64 4096 4096 image (omega arith)) ∙ (ap (part 0 64) zero ∙ zeros-part 0 64 4096 (omega arith)))
 
 -- what the writes of all but the first byte lead to, one after another
 pub wiped : (limits : Limits) (end : ℕ) (start rest gate homes : List ℕ) → end ≡ data_start limits → 4096 * image_blocks limits ≤ length start → rest ≡ put start 1 (rest_of_super limits)
@@ -43,17 +47,16 @@ wiped limits end start rest gate homes is_end long is_rest torn_gate zero_gate t
     let size : length rest ≡ length start = ap length is_rest ∙ length-put start 1 (rest_of_super limits) few in
     let spelled : part 1 4095 rest ≡ rest_of_super limits =
     ap (part 1 4095) is_rest ∙ (ap (λ n. part 1 n (put start 1 (rest_of_super limits))) (sym (length-rest limits)) ∙ part-put start 1 (rest_of_super limits) few) in
-    let zero : part 0 1 (block 1 gate) ≡ 0 ∷ [] = ap (part 0 1) (zero_gate 1 (omega arith) (omega arith)) ∙ one_zero in
+    let zero : block 1 homes ≡ zeros 4096 = part-torn 2367488 (4096 * (end - 578)) gate homes torn_homes 4096 4096 (inl (omega arith)) ∙ zero_gate 1 (omega arith) (omega arith) in
     record {
       rest = part-torn 2367488 (4096 * (end - 578)) gate homes torn_homes 1 4095 (inl (omega arith))
           ∙ (part-torn 4096 4096 rest gate torn_gate 1 4095 (inl (omega arith)) ∙ spelled);
       blank = record {
         long = omega (arith, torn_homes.len, torn_gate.len, size, long);
-        gate = part-torn 2367488 (4096 * (end - 578)) gate homes torn_homes 4096 1 (inl (omega arith))
-            ∙ (sym (part-part 0 1 4096 4096 gate (omega arith)) ∙ zero);
+        gates = no_gates homes zero;
         homes = λ n above below. zero_homes n above (omega (arith, is_end));
       };
-      zero = part-torn 2367488 (4096 * (end - 578)) gate homes torn_homes 4096 4096 (inl (omega arith)) ∙ zero_gate 1 (omega arith) (omega arith);
+      zero = zero;
     }
 
 -- the first byte is not looked at
@@ -62,7 +65,7 @@ wiped_torn limits from image is torn = record {
   rest = part-torn 0 1 from image torn 1 4095 (inr (omega arith)) ∙ is.rest;
   blank = record {
     long = omega (arith, torn.len, is.blank.long);
-    gate = part-torn 0 1 from image torn 4096 1 (inr (omega arith)) ∙ is.blank.gate;
+    gates = ap (list_any (λ gate. gate == 1)) (part-torn 0 1 from image torn 4096 64 (inr (omega arith))) ∙ is.blank.gates;
     homes = λ n above below. part-torn 0 1 from image torn (4096 * n) 4096 (inr (omega arith)) ∙ is.blank.homes n above below;
   };
   zero = part-torn 0 1 from image torn 4096 4096 (inr (omega arith)) ∙ is.zero;

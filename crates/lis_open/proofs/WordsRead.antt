@@ -7,6 +7,7 @@ use Rattle.std.proofs.lemmas.List.FromFn.{length-map-range_with_len}
 use Rattle.lis_ports.specs.Meaning.{Meaning}
 use Rattle.lis_bits.specs.Rows.{get, row_of}
 use Rattle.lis_bits.proofs.Laws.{get-with_row_same, length-with_row}
+use Rattle.lis_journal.specs.Journal.{Held}
 use Rattle.lis_journal.specs.Images.{Fits}
 use Rattle.lis_slots.specs.Slots.{slot}
 use Rattle.lis_blockmap.specs.Bitmap.{is_taken}
@@ -227,11 +228,11 @@ module _ (limits : Limits) (at : ℕ → List ℕ) (words : Words) (end : ℕ) (
   }
 
 -- ---- the loop
-pub record WordsTurn (blocks : ℕ) (limits : Limits) (old now : Meaning) (words : Words) (end : ℕ) : Type 0 where
+pub record WordsTurn (journal : Held) (limits : Limits) (old now : Meaning) (words : Words) (end : ℕ) : Type 0 where
   pub reads : OnlyReads old now
   pub faults : now.disk_faults ≡ old.disk_faults
   pub first : AreFirstWords limits words end
-  pub spelled : (kept : ℕ → List ℕ) → Fits blocks old kept → WordsAreSpelled limits kept words end
+  pub spelled : (kept : ℕ → List ℕ) → Fits journal old kept → WordsAreSpelled limits kept words end
 
 pub no_words_yet : (limits : Limits) → AreFirstWords limits (no_words limits) 0
 unfolding no_words

@@ -1,6 +1,6 @@
 -- The checks of opening: which part fails its check, by what the blocks of an image hold, and the order of the parts.
 use Rattle.std.specs.Prelude.{◌≡◌, ◌⊎◌, ℕ, ◌≤◌, ◌<◌, Bool, false, List, Some, None, IsTrue}
-use Rattle.lis_journal.specs.Record.{block, replayed}
+use Rattle.lis_journal.specs.Record.{block, replayed, bad_record}
 use Rattle.lis_slots.specs.Slots.{Slots, slot}
 use Rattle.lis_blockmap.specs.Bitmap.{has_bit}
 use Rattle.lis_content.specs.Content.{has_number}
@@ -129,12 +129,12 @@ pub record FailsReplayed (image : List ℕ) (spot : Spot) : Type 0 where
   pub replays : replayed (image_blocks limits) image ≡ Some replay
   pub fails : Fails limits (λ n. block n replay) spot
 
--- the gate is open, and the record whose count is in block 2 is not in form
+-- there is no replayed image, since the record that begins at this block is the first open one that is not in form
 pub record RecordFails (image : List ℕ) (b : ℕ) : Type 0 where
   pub limits : Limits
   pub super : HasSuper limits image
   pub replays : replayed (image_blocks limits) image ≡ None
-  pub header : b ≡ 2
+  pub first : bad_record (image_blocks limits) image ≡ Some b
 
 -- the check of a part of an image fails
 abbrev pub FailsIn : List ℕ → Spot → Type 0

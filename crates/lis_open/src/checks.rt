@@ -45,7 +45,7 @@ fn read_axiom_slot<D: Disk>(
     requires long { 4096 * journal.now.blocks ≤ (D.meaning disk.old).len }
     ensures reads { OnlyReads (D.meaning disk.old) (D.meaning disk.new) }
     ensures cause { HasCause (D.meaning disk.old).disk_faults (D.meaning disk.new).disk_faults result }
-    ensures read { IfOk result (λ found. (kept : ℕ → List ℕ) → Fits journal.now.blocks (D.meaning disk.old) kept
+    ensures read { IfOk result (λ found. (kept : ℕ → List ℕ) → Fits journal.now (D.meaning disk.old) kept
         → IsReadAs axiom_bytes is_axiom (axiom_slots limits.now) kept k found) }
 {
     let mut bytes = [0; AXIOM_LEN];
@@ -72,7 +72,7 @@ pub fn check_axioms<D: Disk>(
     requires long { 4096 * journal.now.blocks ≤ (D.meaning disk.old).len }
     ensures reads { OnlyReads (D.meaning disk.old) (D.meaning disk.new) }
     ensures cause { HasPartCause (D.meaning disk.old).disk_faults (D.meaning disk.new).disk_faults result }
-    ensures ended { (kept : ℕ → List ℕ) → Fits journal.now.blocks (D.meaning disk.old) kept
+    ensures ended { (kept : ℕ → List ℕ) → Fits journal.now (D.meaning disk.old) kept
         → Ends limits.now kept 3 (AxiomsAreFree limits.now kept) result }
 {
     for k in 0..axiom_slots(limits).count() {
@@ -178,7 +178,7 @@ pub fn check_bitmap<D: Disk>(
     requires long { 4096 * journal.now.blocks ≤ (D.meaning disk.old).len }
     ensures reads { OnlyReads (D.meaning disk.old) (D.meaning disk.new) }
     ensures cause { HasPartCause (D.meaning disk.old).disk_faults (D.meaning disk.new).disk_faults result }
-    ensures ended { (kept : ℕ → List ℕ) → Fits journal.now.blocks (D.meaning disk.old) kept
+    ensures ended { (kept : ℕ → List ℕ) → Fits journal.now (D.meaning disk.old) kept
         → BitmapChecked (kept (bitmap_start limits.now)) map.now result }
 {
     let mut bytes = [0; BLOCK_LEN];

@@ -60,7 +60,7 @@ fn read_slot<D: Disk>(
     ensures reads { OnlyReads (D.meaning disk.old) (D.meaning disk.new) }
     ensures cause { HasCause (D.meaning disk.old).disk_faults (D.meaning disk.new).disk_faults result }
     ensures form { IfOk result (λ found. IfSome found (λ file. IsTrue (is_file file))) }
-    ensures read { IfOk result (λ found. (kept : ℕ → List ℕ) → Fits journal.now.blocks (D.meaning disk.old) kept
+    ensures read { IfOk result (λ found. (kept : ℕ → List ℕ) → Fits journal.now (D.meaning disk.old) kept
         → IsReadAs file_bytes is_file (file_slots limits.now) kept slot found) }
 {
     let mut bytes = [0; FILE_LEN];
@@ -152,7 +152,7 @@ pub fn read_files<D: Disk>(
     ensures reads { OnlyReads (D.meaning disk.old) (D.meaning disk.new) }
     ensures cause { HasPartCause (D.meaning disk.old).disk_faults (D.meaning disk.new).disk_faults result }
     ensures read { OnOk result (AreFirstFiles limits.now words.now files.new limits.now.files) }
-    ensures ended { (kept : ℕ → List ℕ) → Fits journal.now.blocks (D.meaning disk.old) kept
+    ensures ended { (kept : ℕ → List ℕ) → Fits journal.now (D.meaning disk.old) kept
         → WordsAreSpelled limits.now kept words.now limits.now.props
         → Ends limits.now kept 4 (FilesAreSpelled limits.now kept files.new limits.now.files) result }
 {

@@ -36,7 +36,7 @@ fn read_parts<D: Disk>(
     ensures reads { OnlyReads (D.meaning disk.old) (D.meaning disk.new) }
     ensures cause { HasPartCause (D.meaning disk.old).disk_faults (D.meaning disk.new).disk_faults result }
     ensures read { OnOk result (AreRead limits.now words.new files.new) }
-    ensures ended { (kept : ℕ → List ℕ) → Fits journal.now.blocks (D.meaning disk.old) kept → PartsEnded limits.now kept words.new files.new result }
+    ensures ended { (kept : ℕ → List ℕ) → Fits journal.now (D.meaning disk.old) kept → PartsEnded limits.now kept words.new files.new result }
 {
     read_words(disk, journal, limits, words)?;
     check_axioms(disk, journal, limits)?;
@@ -55,12 +55,13 @@ pub fn read_store<D: Disk>(
     requires range { IsTrue (are_in_range limits) }
     requires image { journal.blocks ≡ image_blocks limits }
     requires clean { journal.staged ≡ [] }
+    requires unplaced { journal.placed ≡ [] }
     requires unbroken { journal.is_broken ≡ false }
     requires long { 4096 * journal.blocks ≤ (D.meaning disk.old).len }
     ensures reads { OnlyReads (D.meaning disk.old) (D.meaning disk.new) }
     ensures cause { HasPartCause (D.meaning disk.old).disk_faults (D.meaning disk.new).disk_faults result }
     ensures journal { IfOk result (λ store. store.journal ≡ journal) }
-    ensures ended { (kept : ℕ → List ℕ) → Fits journal.blocks (D.meaning disk.old) kept
+    ensures ended { (kept : ℕ → List ℕ) → Fits journal (D.meaning disk.old) kept
         → kept 0 ≡ super_bytes (record { version = 1; limits = limits }) → StoreEnded limits kept result }
 {
     let mut words = no_words(alloc, &limits)?;

@@ -60,7 +60,7 @@ fn read_property<D: Disk>(
     ensures reads { OnlyReads (D.meaning disk.old) (D.meaning disk.new) }
     ensures cause { HasCause (D.meaning disk.old).disk_faults (D.meaning disk.new).disk_faults result }
     ensures form { IfOk result (λ found. IfSome found (λ property. IsTrue (is_prop property))) }
-    ensures read { IfOk result (λ found. (kept : ℕ → List ℕ) → Fits journal.now.blocks (D.meaning disk.old) kept
+    ensures read { IfOk result (λ found. (kept : ℕ → List ℕ) → Fits journal.now (D.meaning disk.old) kept
         → IsReadAs prop_bytes is_prop (property_slots limits.now) kept number found) }
 {
     let mut bytes = [0; PROP_LEN];
@@ -122,7 +122,7 @@ pub fn read_words<D: Disk>(
     ensures reads { OnlyReads (D.meaning disk.old) (D.meaning disk.new) }
     ensures cause { HasPartCause (D.meaning disk.old).disk_faults (D.meaning disk.new).disk_faults result }
     ensures read { OnOk result (AreFirstWords limits.now words.new limits.now.props) }
-    ensures ended { (kept : ℕ → List ℕ) → Fits journal.now.blocks (D.meaning disk.old) kept
+    ensures ended { (kept : ℕ → List ℕ) → Fits journal.now (D.meaning disk.old) kept
         → Ends limits.now kept 2 (WordsAreSpelled limits.now kept words.new limits.now.props) result }
 {
     for number in 0..limits.props {

@@ -1,6 +1,6 @@
 //! Staging blocks of slots, each spelled whole by what is kept in memory.
 
-ghost use Rattle.std.specs.Prelude.{◌≡◌, ℕ, ◌+◌, ◌*◌, ◌/◌, ◌<◌, ◌≤◌, List, false, length, IsTrue};
+ghost use Rattle.std.specs.Prelude.{[], ◌≡◌, ℕ, ◌+◌, ◌*◌, ◌/◌, ◌<◌, ◌≤◌, List, false, length, IsTrue};
 ghost use Rattle.lis_bits.specs.Rows.{row_at};
 ghost use Rattle.lis_ports.specs.Bytes.{part};
 ghost use Rattle.lis_journal.specs.Phases.{looked};

@@ -11,7 +11,7 @@ returns-then-not-is_free-clause-ended g c = λ kept fits.
     let limits = c.args.limits.now in
     let count : c.count-k-end.result ≡ (axiom_slots limits).count = c.count-k-end.ensures ∙ ap (λ (s : Slots). s.count) c.axiom_slots.ensures in
     axiom_fails limits kept l.k (l.invariant.free kept fits) (subst (λ n. l.k < n) count c.loop-k-test.true)
-    (not_free_from limits kept l.k c.in_ok-found.found (sym c.if-not-is_free.ensures) (c.in_ok-found.ensures.read kept (fits_after c.args.journal.now.blocks kept l.invariant.reads fits)))
+    (not_free_from limits kept l.k c.in_ok-found.found (sym c.if-not-is_free.ensures) (c.in_ok-found.ensures.read kept (fits_after c.args.journal.now kept l.invariant.reads fits)))
 
 pub loop-k-preserved : goal.loop-k-preserved
 loop-k-preserved g c =
@@ -22,5 +22,5 @@ loop-k-preserved g c =
       faults = c.in_ok-found.ensures.cause.stays ∙ l.invariant.faults;
       free = λ kept fits.
           axioms_on limits kept l.k (l.invariant.free kept fits)
-          (free_from limits kept l.k c.in_ok-found.found (sym c.if-not-is_free.ensures) (c.in_ok-found.ensures.read kept (fits_after c.args.journal.now.blocks kept l.invariant.reads fits)));
+          (free_from limits kept l.k c.in_ok-found.found (sym c.if-not-is_free.ensures) (c.in_ok-found.ensures.read kept (fits_after c.args.journal.now kept l.invariant.reads fits)));
     }

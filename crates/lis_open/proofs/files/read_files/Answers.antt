@@ -17,7 +17,7 @@ pub returns-then-not-take_file-clause-ended : goal.returns-then-not-take_file-cl
 returns-then-not-take_file-clause-ended g c = λ kept fits told.
     let l = c.loop-slot in
     file_fails c.args.limits.now kept c.args.words.now c.requires.words told l.files l.slot l.invariant.first (l.invariant.spelled kept fits) c.in_ok-found.found c.loop-slot-test.true
-    (sym c.if-not-take_file.ensures.answer) (c.in_ok-found.ensures.read kept (fits_after c.args.journal.now.blocks kept l.invariant.reads fits))
+    (sym c.if-not-take_file.ensures.answer) (c.in_ok-found.ensures.read kept (fits_after c.args.journal.now kept l.invariant.reads fits))
 
 pub loop-slot-preserved : goal.loop-slot-preserved
 loop-slot-preserved g c =
@@ -32,5 +32,5 @@ loop-slot-preserved g c =
       first = files_on limits words l.files l.slot l.invariant.first c.in_ok-found.found next c.in_ok-found.ensures.form may c.if-not-take_file.ensures.kept c.if-not-take_file.ensures.taken;
       spelled = λ kept fits.
           files_spelled_on limits words l.files l.slot l.invariant.first kept (l.invariant.spelled kept fits) c.in_ok-found.found next c.in_ok-found.ensures.form may c.if-not-take_file.ensures.taken
-          (c.in_ok-found.ensures.read kept (fits_after c.args.journal.now.blocks kept l.invariant.reads fits));
+          (c.in_ok-found.ensures.read kept (fits_after c.args.journal.now kept l.invariant.reads fits));
     }

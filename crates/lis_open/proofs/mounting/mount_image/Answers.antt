@@ -47,11 +47,11 @@ returns-clause-opened g c = λ honest.
     let mid = g.D.Disk.meaning c.mount.new.disk in
     let ended = subst (λ b. MountEnded b old mid c.mount.result) c.image_blocks.ensures.blocks (c.mount.ensures.ended honest) in
     let blocks = ap (λ (j : Held). j.blocks) c.in_ok-journal.ensures.held ∙ c.image_blocks.ensures.blocks in
-    store_opened old c.args.limits (c.requires.begins honest) c.requires.long (g.met.D.Disk.reads_len c.args.disk.now honest) mid (g.D.Disk.meaning c.read_store.new.disk) c.read_store.result
+    store_opened old c.args.limits (c.requires.begins honest) c.requires.long (g.met.D.Disk.reads_len c.args.disk.now honest) c.in_ok-journal.journal blocks (ap (λ (j : Held). j.placed) c.in_ok-journal.ensures.held) mid (g.D.Disk.meaning c.read_store.new.disk) c.read_store.result
     (subst (λ (o : Result Held JournalFault). MountEnded (image_blocks c.args.limits) old mid o) c.in_ok-journal.was ended)
     (subst (λ b. IsSettled mid (recovered b old.bytes)) c.image_blocks.ensures.blocks (c.in_ok-journal.ensures.left honest)) c.read_store.ensures.reads
-    (λ store is. ap (λ (j : Held). j.blocks) (subst (λ (o : Result Kept OpenFault). IfOk o (λ k. k.journal ≡ c.in_ok-journal.journal)) is c.read_store.ensures.journal) ∙ blocks)
-    (λ kept fits. c.read_store.ensures.ended kept (subst (λ b. Fits b mid kept) (sym blocks) fits))
+    (λ store is. subst (λ (o : Result Kept OpenFault). IfOk o (λ k. k.journal ≡ c.in_ok-journal.journal)) is c.read_store.ensures.journal)
+    c.read_store.ensures.ended
 
 pub returns-clause-any_moment : goal.returns-clause-any_moment
 returns-clause-any_moment g c = λ honest.

@@ -17,7 +17,7 @@ pub returns-then-not-take_property-clause-ended : goal.returns-then-not-take_pro
 returns-then-not-take_property-clause-ended g c = λ kept fits.
     let l = c.loop-number in
     property_fails c.args.limits.now kept l.words l.number l.invariant.first (l.invariant.spelled kept fits) c.in_ok-found.found c.loop-number-test.true (sym c.if-not-take_property.ensures.answer)
-    (c.in_ok-found.ensures.read kept (fits_after c.args.journal.now.blocks kept l.invariant.reads fits))
+    (c.in_ok-found.ensures.read kept (fits_after c.args.journal.now kept l.invariant.reads fits))
 
 pub loop-number-preserved : goal.loop-number-preserved
 loop-number-preserved g c =
@@ -32,5 +32,5 @@ loop-number-preserved g c =
           c.if-not-take_property.ensures.taken;
       spelled = λ kept fits.
           spelled_on limits l.words l.number l.invariant.first c.loop-number-test.true kept (l.invariant.spelled kept fits) c.in_ok-found.found next may c.if-not-take_property.ensures.taken
-          (c.in_ok-found.ensures.read kept (fits_after c.args.journal.now.blocks kept l.invariant.reads fits));
+          (c.in_ok-found.ensures.read kept (fits_after c.args.journal.now kept l.invariant.reads fits));
     }
