@@ -1,5 +1,5 @@
 ghost use Rattle.std.specs.Prelude.{◌≡◌, ◌⊎◌, ◌↔◌, ℕ, ◌+◌, ◌*◌, ◌/◌, ◌<◌, ◌≤◌, ◌==◌, if◌then◌else◌, false, true, List, length, take, drop, replicate, slice_set, IsTrue, IfOk, IsNone, IfNone, IfSome, OnSome};
-ghost use Rattle.lis_journal.specs.Images.{look};
+ghost use Rattle.lis_journal.specs.Images.{look, is_among};
 ghost use Rattle.lis_journal.specs.Staging.{with_entry, has_entry};
 ghost use Rattle.lis_blockmap.specs.Bitmap.{free_count, is_taken, bits_number, bitmap_bytes, has_bit, IsFirstDifference};
 ghost use Rattle.lis_blockmap.specs.Inside.{HasFree};
@@ -131,6 +131,7 @@ impl BlockMap {
         requires home { 578 ≤ n }
         requires within { n < journal.old.blocks }
         requires unbroken { journal.old.is_broken ≡ false }
+        requires unplaced { is_among journal.old.placed n ≡ false }
         requires room { IsTrue (has_entry journal.old.staged n) ⊎ (length journal.old.staged < 575) }
         ensures staged { journal.new
             ≡ record journal.old { staged = with_entry journal.old.staged n (bitmap_bytes self.now) } }

@@ -9,7 +9,7 @@ use Rattle.lis_ports.specs.Meaning.{Meaning}
 use Rattle.lis_ports.specs.Runs.{IsDiskRun, Leaves}
 use Rattle.lis_ports.specs.Calls.{IsUnchanged}
 use Rattle.lis_model.specs.State.{blocks_needed}
-use Rattle.lis_journal.specs.Record.{Entry}
+use Rattle.lis_journal.specs.Journal.{Held}
 use Rattle.lis_journal.specs.Images.{Fits}
 use Rattle.lis_journal.specs.Phases.{looked}
 
@@ -34,13 +34,13 @@ pub record IsFilled (at : ℕ → List ℕ) (ns : List ℕ) (k size : ℕ) (buf 
   pub long : length (flat_map at (take k ns)) ≡ 4096 * k
   pub front : take (4096 * k) buf ≡ take size (flat_map at (take k ns))
 
-pub record SoFar (old now : Meaning) (blocks : ℕ) (staged : List Entry) (base : ℕ) (ns : List ℕ) (k size : ℕ) (buf : List ℕ) : Type 0 where
+pub record SoFar (old now : Meaning) (journal : Held) (base : ℕ) (ns : List ℕ) (k size : ℕ) (buf : List ℕ) : Type 0 where
   pub run : IsDiskRun old now
   pub faults : now.disk_faults ≡ old.disk_faults
   pub same : IsTrue old.is_honest → IsUnchanged old now
   pub moments : IsTrue old.is_honest → Leaves old now old.images
-  pub fits : (kept : ℕ → List ℕ) → Fits blocks old kept → Fits blocks now kept
-  pub filled : (kept : ℕ → List ℕ) → Fits blocks old kept → IsFilled (λ b. looked staged kept (base + b)) ns k size buf
+  pub fits : (kept : ℕ → List ℕ) → Fits journal old kept → Fits journal now kept
+  pub filled : (kept : ℕ → List ℕ) → Fits journal old kept → IsFilled (λ b. looked journal.staged kept (base + b)) ns k size buf
 
 pub filled_none : (at : ℕ → List ℕ) (ns : List ℕ) (size : ℕ) (buf : List ℕ) → IsFilled at ns 0 size buf
 filled_none at ns size buf = record { long = refl; front = sym (take_all size [] (omega arith)) }

@@ -51,6 +51,8 @@ pub record Filling (base : ℕ) (bytes rest : List ℕ) (start now_taken : List 
   pub count : length blocks + blocks_needed (length rest) ≡ blocks_needed (length bytes)
   pub enough : blocks_needed (length rest) ≤ free_count now_taken
   pub image : now.blocks ≡ before.blocks
+  pub records : now.records ≡ before.records
+  pub placed : now.placed ≡ before.placed
   pub broken : now.is_broken ≡ before.is_broken
   pub left : 0 < length rest → 4096 * length blocks + length rest ≡ length bytes
   pub long : (kept : ℕ → List ℕ) → length (flat_map (λ b. looked now.staged kept (base + b)) blocks) ≡ 4096 * length blocks
@@ -67,6 +69,8 @@ filling_none base bytes start before enough = record {
   count = omega arith;
   enough = enough;
   image = refl;
+  records = refl;
+  placed = refl;
   broken = refl;
   left = λ some. omega arith;
   long = λ kept. refl;
@@ -86,6 +90,8 @@ filling_done base bytes rest start now_taken before now blocks none was = record
   counted = omega (arith, was.counted);
   enough = omega (arith, was.count, was.enough, was.counted);
   image = was.image;
+  records = was.records;
+  placed = was.placed;
   broken = was.broken;
   holds = λ kept.
       ap (take (length bytes)) (sym (append-nil (flat_map (λ b. looked now.staged kept (base + b)) blocks)) ∙ ap (λ r. flat_map (λ b. looked now.staged kept (base + b)) blocks ++ r) (sym (empty rest none)))
@@ -153,6 +159,8 @@ filling_more base bytes rest front behind start now_taken next_taken before now 
   count = omega (arith, was.count, longer, size, some, both);
   enough = omega (arith, was.enough, fewer, size, some, both);
   image = ap (λ (h : Held). h.blocks) staged ∙ was.image;
+  records = ap (λ (h : Held). h.records) staged ∙ was.records;
+  placed = ap (λ (h : Held). h.placed) staged ∙ was.placed;
   broken = ap (λ (h : Held). h.is_broken) staged ∙ was.broken;
   left = λ more. omega (arith, was.left some, longer, size, both, more);
   long = λ kept.

@@ -20,6 +20,8 @@ pub record IsPut (base : ℕ) (old bytes : List ℕ) (taken now_taken : List Boo
   pub counted : free_count now_taken + length blocks ≡ free_count taken + length old
   pub enough : blocks_needed (length bytes) ≤ free_count taken + length old
   pub image : now.blocks ≡ before.blocks
+  pub records : now.records ≡ before.records
+  pub placed : now.placed ≡ before.placed
   pub broken : now.is_broken ≡ before.is_broken
   pub holds : (kept : ℕ → List ℕ) → content base blocks (length bytes) (looked now.staged kept) ≡ bytes
   pub others : (n : ℕ) (was : List ℕ) → has_home base blocks n ≡ false → look now.staged n was ≡ look before.staged n was

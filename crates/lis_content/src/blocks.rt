@@ -3,7 +3,7 @@
 ghost use Rattle.std.specs.Prelude.{◌≡◌, ◌⊎◌, ◌+◌, ◌*◌, ◌<◌, ◌≤◌, ◌==◌, if◌then◌else◌, ℕ, List, false, length, take, IsTrue, OnOk};
 ghost use Rattle.lis_ports.specs.Runs.{IsDiskRun, Leaves};
 ghost use Rattle.lis_ports.specs.Calls.{HasCause, IsUnchanged};
-ghost use Rattle.lis_journal.specs.Images.{Fits, look};
+ghost use Rattle.lis_journal.specs.Images.{Fits, look, is_among};
 ghost use Rattle.lis_journal.specs.Staging.{with_entry, has_entry};
 ghost use Rattle.lis_content.specs.Content.{padded};
 
@@ -32,17 +32,17 @@ pub fn read_front<D: Disk>(
     requires few { length buf.old ≤ 4096 }
     requires unbroken { journal.now.is_broken ≡ false }
     requires long { 4096 * journal.now.blocks ≤ (D.meaning disk.old).len }
-    ensures front { OnOk result ((kept : ℕ → List ℕ) → Fits journal.now.blocks (D.meaning disk.old) kept
+    ensures front { OnOk result ((kept : ℕ → List ℕ) → Fits journal.now (D.meaning disk.old) kept
         → buf.new ≡ take (length buf.old) (look journal.now.staged n (kept n))) }
-    ensures whole { OnOk result ((kept : ℕ → List ℕ) → Fits journal.now.blocks (D.meaning disk.old) kept
+    ensures whole { OnOk result ((kept : ℕ → List ℕ) → Fits journal.now (D.meaning disk.old) kept
         → length (look journal.now.staged n (kept n)) ≡ 4096) }
     ensures run { IsDiskRun (D.meaning disk.old) (D.meaning disk.new) }
     ensures cause { HasCause (D.meaning disk.old).disk_faults (D.meaning disk.new).disk_faults result }
     ensures same { IsTrue (D.meaning disk.old).is_honest → IsUnchanged (D.meaning disk.old) (D.meaning disk.new) }
     ensures any_moment { IsTrue (D.meaning disk.old).is_honest
         → Leaves (D.meaning disk.old) (D.meaning disk.new) (D.meaning disk.old).images }
-    ensures fits { (kept : ℕ → List ℕ) → Fits journal.now.blocks (D.meaning disk.old) kept
-        → Fits journal.now.blocks (D.meaning disk.new) kept }
+    ensures fits { (kept : ℕ → List ℕ) → Fits journal.now (D.meaning disk.old) kept
+        → Fits journal.now (D.meaning disk.new) kept }
 {
     if buf.len() == BLOCK_LEN {
         return journal.read(disk, n, buf);
@@ -70,6 +70,7 @@ pub fn stage_front(journal: &mut Journal, n: u32, bytes: &[u8])
     requires within { n < journal.old.blocks }
     requires few { length bytes.now ≤ 4096 }
     requires unbroken { journal.old.is_broken ≡ false }
+    requires unplaced { is_among journal.old.placed n ≡ false }
     requires room { IsTrue (has_entry journal.old.staged n) ⊎ (length journal.old.staged < 575) }
     ensures staged { journal.new ≡ record journal.old { staged = with_entry journal.old.staged n (padded bytes.now) } }
     ensures looks { (m : ℕ) (old : List ℕ) → look journal.new.staged m old

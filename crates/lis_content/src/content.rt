@@ -33,6 +33,7 @@ pub fn put<D: Disk>(
     requires home { 578 ≤ base }
     requires within { base + length map.old ≤ journal.old.blocks }
     requires unbroken { journal.old.is_broken ≡ false }
+    requires unplaced { journal.old.placed ≡ [] }
     requires room { length journal.old.staged + 16 ≤ 575 }
     requires long { 4096 * journal.old.blocks ≤ (D.meaning disk.old).len }
     ensures ended { MatchResult result
@@ -60,6 +61,7 @@ fn stage_bytes(
     requires home { 578 ≤ base }
     requires within { base + length map.old ≤ journal.old.blocks }
     requires unbroken { journal.old.is_broken ≡ false }
+    requires unplaced { journal.old.placed ≡ [] }
     requires room { length journal.old.staged + 16 ≤ 575 }
     ensures { IsPut base [] bytes.now map.old map.new journal.old journal.new result.items }
 {
@@ -90,15 +92,15 @@ pub fn read<D: Disk>(
     requires within { IsTrue (are_within base journal.now.blocks blocks.now) }
     requires unbroken { journal.now.is_broken ≡ false }
     requires long { 4096 * journal.now.blocks ≤ (D.meaning disk.old).len }
-    ensures read { OnOk result ((kept : ℕ → List ℕ) → Fits journal.now.blocks (D.meaning disk.old) kept
+    ensures read { OnOk result ((kept : ℕ → List ℕ) → Fits journal.now (D.meaning disk.old) kept
         → buf.new ≡ content base blocks.now size (looked journal.now.staged kept)) }
     ensures run { IsDiskRun (D.meaning disk.old) (D.meaning disk.new) }
     ensures cause { HasCause (D.meaning disk.old).disk_faults (D.meaning disk.new).disk_faults result }
     ensures same { IsTrue (D.meaning disk.old).is_honest → IsUnchanged (D.meaning disk.old) (D.meaning disk.new) }
     ensures any_moment { IsTrue (D.meaning disk.old).is_honest
         → Leaves (D.meaning disk.old) (D.meaning disk.new) (D.meaning disk.old).images }
-    ensures fits { (kept : ℕ → List ℕ) → Fits journal.now.blocks (D.meaning disk.old) kept
-        → Fits journal.now.blocks (D.meaning disk.new) kept }
+    ensures fits { (kept : ℕ → List ℕ) → Fits journal.now (D.meaning disk.old) kept
+        → Fits journal.now (D.meaning disk.new) kept }
 {
     for (k, n) in blocks.iter().enumerate() {
         let at = k * BLOCK_LEN;

@@ -6,7 +6,7 @@ use Rattle.lis_graph.specs.Graph.{is_rising}
 use Rattle.lis_model.specs.State.{blocks_needed}
 use Rattle.lis_fields.specs.Records.{FileRecord}
 use Rattle.lis_fields.specs.Layouts.{zeros, padded, text_bytes, numbers, super_bytes, is_super, prop_bytes, is_prop, axiom_bytes, is_axiom, file_start, record_bytes, is_record, file_bytes, is_file, are_short, are_distinct, are_tags, are_blocks}
-use Rattle.lis_fields.specs.declared.slots.SuperRec.{SuperRec}
+use Rattle.lis_model.specs.declared.limits.Limits.{Limits}
 use Rattle.lis_fields.specs.declared.slots.PropSlot.{PropSlot}
 use Rattle.lis_fields.specs.declared.slots.PropSlot.TheVariants.{Free as FreeProp, Known, Declared}
 use Rattle.lis_fields.specs.declared.slots.AxiomSlot.{AxiomSlot}
@@ -41,7 +41,7 @@ same_framed k j a b end more sa sb e =
     let right = text_parts k (text_bytes a ++ end) j b more sb e in
     (same_text a b sa (sym left.is_text ∙ right.is_text), sym left.is_end ∙ right.is_end)
 
-pub super_once : (a b : SuperRec) → IsTrue (is_super a) → IsTrue (is_super b) → super_bytes a ≡ super_bytes b → a ≡ b
+pub super_once : (a b : Limits) → IsTrue (is_super a) → IsTrue (is_super b) → super_bytes a ≡ super_bytes b → a ≡ b
 unfolding super_bytes
 super_once a b is_a is_b e = same_super a b (super_fits a is_a) (super_fits b is_b) (ap (λ xs. take 16 (drop 8 xs)) e)
 

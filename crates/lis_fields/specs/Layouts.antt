@@ -4,11 +4,11 @@ use Rattle.std.specs.List.{list_any, list_all, flat_map}
 use Rattle.std.specs.Ordering.{nat_cmp}
 use Rattle.byteorder.specs.Endian.{little_bytes}
 use Rattle.lis_graph.specs.Graph.{is_rising}
-use Rattle.lis_words.specs.Words.{is_head, is_valued, is_built_in, is_file_name}
+use Rattle.lis_words.specs.Words.{is_kept_word, is_head, is_valued, is_built_in, is_file_name}
+use Rattle.lis_model.specs.declared.limits.Limits.{Limits}
 use Rattle.lis_model.specs.Ranges.{are_in_range}
 use Rattle.lis_model.specs.State.{is_declarable, blocks_needed}
 use Rattle.lis_fields.specs.Records.{FileRecord}
-use Rattle.lis_fields.specs.declared.slots.SuperRec.{SuperRec}
 use Rattle.lis_fields.specs.declared.slots.PropSlot.{PropSlot}
 use Rattle.lis_fields.specs.declared.slots.PropSlot.TheVariants.{Free as FreeProp, Known, Declared}
 use Rattle.lis_fields.specs.declared.slots.AxiomSlot.{AxiomSlot}
@@ -29,17 +29,17 @@ abbrev pub text_bytes : List ℕ → List ℕ
 text_bytes text = length text ∷ padded 60 text
 
 -- the version and the limits of a super block
-abbrev pub super_numbers : SuperRec → List ℕ
-super_numbers rec =
-    little_bytes 4 rec.version ++ (little_bytes 4 rec.limits.files ++ (little_bytes 4 rec.limits.props ++ little_bytes 4 rec.limits.blocks))
+abbrev pub super_numbers : Limits → List ℕ
+super_numbers limits =
+    little_bytes 4 limits.version ++ (little_bytes 4 limits.files ++ (little_bytes 4 limits.props ++ little_bytes 4 limits.blocks))
 
 -- the super block: how it begins, its numbers, and zeros
-unfoldable pub super_bytes : SuperRec → List ℕ
-super_bytes rec = codes "LISFS-IM" ++ (super_numbers rec ++ zeros 4072)
+unfoldable pub super_bytes : Limits → List ℕ
+super_bytes limits = codes "LISFS-IM" ++ (super_numbers limits ++ zeros 4072)
 
--- version 1, and limits in range
-abbrev pub is_super : SuperRec → Bool
-is_super rec = (rec.version == 1) && are_in_range rec.limits
+-- Limits of an image. There are no images of version 2 yet; then this is `are_in_range limits`.
+abbrev pub is_super : Limits → Bool
+is_super limits = (limits.version == 1) && are_in_range limits
 
 -- a property slot that has a word: the kind, the word, and zeros
 abbrev pub named : ℕ → List ℕ → List ℕ
@@ -55,11 +55,15 @@ prop_bytes (Declared word) = named 2 word
 abbrev pub is_undeclared : List ℕ → Bool
 is_undeclared word = is_valued word || (is_head word && is_built_in word)
 
+-- What may stand in a slot of a declared word. The code keeps no tests yet; then this is `is_declarable word`.
+abbrev pub is_slot_word : List ℕ → Bool
+is_slot_word word = is_kept_word word && is_declarable word
+
 -- the word is one of its kind
 abbrev pub is_prop : PropSlot → Bool
 is_prop FreeProp = true
 is_prop (Known word) = is_undeclared word
-is_prop (Declared word) = is_declarable word
+is_prop (Declared word) = is_slot_word word
 
 -- an axiom slot: the slot numbers of its two words, each plus 1
 unfoldable pub axiom_bytes : AxiomSlot → List ℕ

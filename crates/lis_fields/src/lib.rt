@@ -14,5 +14,5 @@ mod tests;
 pub use axioms::{AXIOM_LEN, read_axiom, write_axiom};
 pub use files::{FILE_LEN, read_file, write_file};
 pub use props::{PROP_LEN, read_prop, write_prop};
-pub use slots::{AxiomSlot, FileRec, FileSlot, PropSlot, SuperRec};
+pub use slots::{AxiomSlot, FileRec, FileSlot, PropSlot};
 pub use super_block::{SUPER_LEN, read_super, write_super};

@@ -2,8 +2,7 @@
 
 ghost use Rattle.std.specs.Prelude.{◌≡◌, ℕ, ◌^◌, ◌<◌, List, length, Option, Some, IfSome, IsTrue};
 ghost use Rattle.lis_words.specs.Words.{is_word};
-ghost use Rattle.lis_model.specs.State.{is_declarable};
-ghost use Rattle.lis_fields.specs.Layouts.{named, prop_bytes, is_prop, is_undeclared};
+ghost use Rattle.lis_fields.specs.Layouts.{named, prop_bytes, is_prop, is_undeclared, is_slot_word};
 ghost use Rattle.lis_fields.specs.declared.slots.PropSlot.{PropSlot};
 ghost use Rattle.lis_fields.specs.declared.slots.PropSlot.TheVariants.{Known, Declared};
 
@@ -28,8 +27,9 @@ fn is_undeclared(word: &Word) -> bool
 }
 
 /// Whether the word may be declared.
-fn is_declarable(word: &Word) -> bool
-    ensures { result ≡ is_declarable word.now }
+#[tactic(auto, using(crate::proofs::Parts::plain_slot, crate::proofs::Parts::other_slot))]
+fn is_slot_word(word: &Word) -> bool
+    ensures { result ≡ is_slot_word word.now }
 {
     if is_plain_word(word.bytes()) {
         return true;
@@ -60,7 +60,7 @@ fn read_named(bytes: &[u8]) -> Option<(u8, Word)>
 fn named_slot(kind: u8, word: Word) -> Option<PropSlot>
     ensures spelled { IfSome result (λ slot. IsTrue (is_prop slot) × (named kind word ≡ prop_bytes slot)) }
     ensures known { kind ≡ 1 → IsTrue (is_undeclared word) → result ≡ Some (Known word) }
-    ensures declared { kind ≡ 2 → IsTrue (is_declarable word) → result ≡ Some (Declared word) }
+    ensures declared { kind ≡ 2 → IsTrue (is_slot_word word) → result ≡ Some (Declared word) }
 {
     match kind {
         1 => {
@@ -70,7 +70,7 @@ fn named_slot(kind: u8, word: Word) -> Option<PropSlot>
             Some(PropSlot::Known(word))
         }
         2 => {
-            if !is_declarable(&word) {
+            if !is_slot_word(&word) {
                 return None;
             }
             Some(PropSlot::Declared(word))

@@ -1,17 +1,8 @@
 //! What the parts of an image tell.
 
 use arrayvec::ArrayVec;
-use lis_model::limits::Limits;
 use lis_words::{Name, Word};
 use std::marker::Model;
-
-/// What the super block tells of an image.
-#[derive(Clone, Copy, Debug, PartialEq, Eq)]
-pub struct SuperRec {
-    /// The version of the layouts.
-    pub version: u32,
-    pub limits: Limits,
-}
 
 /// A slot for a word.
 #[derive(Drop, Debug)]

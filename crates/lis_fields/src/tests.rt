@@ -1,8 +1,8 @@
 //! Spellings that were worked out by hand, read and written back.
 
 use crate::{
-    AxiomSlot, FileSlot, PropSlot, SuperRec, read_axiom, read_file, read_prop, read_super,
-    write_axiom, write_file, write_prop, write_super,
+    AxiomSlot, FileSlot, PropSlot, read_axiom, read_file, read_prop, read_super, write_axiom,
+    write_file, write_prop, write_super,
 };
 use lis_model::limits::Limits;
 
@@ -13,18 +13,16 @@ static SUPER_START: [u8; 24] = [
 
 #[test]
 fn super_block_of_64_64_8(rt: HostRuntime) {
-    let rec = SuperRec {
+    let limits = Limits {
+        files: 64,
+        props: 64,
+        blocks: 8,
         version: 1,
-        limits: Limits {
-            files: 64,
-            props: 64,
-            blocks: 8,
-        },
     };
     let mut bytes = [0xff; 4_096];
-    write_super(&rec, &mut bytes);
+    write_super(&limits, &mut bytes);
     assert!(rt; bytes[..24] == SUPER_START[..]);
-    assert!(rt; read_super(&bytes) == Some(rec));
+    assert!(rt; read_super(&bytes) == Some(limits));
     bytes[4_095] = 1;
     assert!(rt; read_super(&bytes) == None);
 }

@@ -1,8 +1,10 @@
 -- What entries put into an image, block by block.
-use Rattle.std.proofs.Common.{◌≡◌, ◌⊎◌, ℕ, ◌+◌, ◌*◌, ◌<◌, ◌≤◌, Bool, true, false, cond, List, [], ◌∷◌, length, refl, sym, ◌∙◌, ap, subst, inl, inr, arith, eqb, get_or, zero, suc, nat_lt, ◌||◌, ◌==◌}
-use Rattle.std.proofs.lemmas.Bool.{eqb-true, eqb-false, cases_lt}
+use Rattle.std.proofs.Common.{◌++◌, take, ◌≡◌, ◌⊎◌, ℕ, ◌+◌, ◌*◌, ◌<◌, ◌≤◌, Bool, true, false, cond, List, [], ◌∷◌, length, refl, sym, ◌∙◌, ap, subst, inl, inr, arith, eqb, get_or, zero, suc, nat_lt, ◌||◌, ◌==◌}
+use Rattle.std.proofs.lemmas.Bool.{eqb-true, eqb-false, ne_eqb, cond-false, false≢true, cases_lt}
+use Rattle.std.proofs.lemmas.List.{take_all}
+use Rattle.std.proofs.Math.Seq.{take-add}
 use Rattle.lis_ports.specs.Bytes.{part, put, Torn}
-use Rattle.lis_ports.proofs.Parts.{Apart, length-put, part-put, part-put_other, part-torn}
+use Rattle.lis_ports.proofs.Parts.{Apart, length-put, part-put, part-put_other, part-torn, torn-put}
 use Rattle.lis_journal.specs.Record.{block, Entry, apply}
 use Rattle.lis_journal.specs.Images.{look}
 use Rattle.lis_journal.specs.Spreads.{IsClear, Touched}
@@ -14,7 +16,7 @@ Within blocks [] = Unit {0}
 Within blocks (e ∷ es) = (e.home < blocks) × (length e.bytes ≡ 4096) × Within blocks es
 
 -- places of different blocks have nothing in common
-blocks-apart : (n h : ℕ) → eqb n h ≡ false → Apart (4096 * h) 4096 (4096 * n) 4096
+pub blocks-apart : (n h : ℕ) → eqb n h ≡ false → Apart (4096 * h) 4096 (4096 * n) 4096
 blocks-apart n h differ = cases (cases_lt n h)
   where
     ne : n ≡ h → ⊥
@@ -101,6 +103,68 @@ touched_torn es k d lt from image torn = record {
   len = torn.len;
   clear = λ at n clear. part-torn (4096 * (get_or es k d).home) 4096 from image torn at n (clear_at es k d at n lt clear);
 }
+
+-- lists of one length with the same blocks are one
+by_blocks : (xs ys : List ℕ) → length xs ≡ length ys → ((n : ℕ) → block n xs ≡ block n ys) → xs ≡ ys
+by_blocks xs ys len same =
+    sym (take_all (4096 * length xs) xs (omega arith)) ∙ (fronts (length xs) ∙ take_all (4096 * length xs) ys (omega (arith, len)))
+  where
+    fronts : (k : ℕ) → take (4096 * k) xs ≡ take (4096 * k) ys
+    fronts zero = refl
+    fronts (suc k) =
+        let more : 4096 * suc k ≡ 4096 * k + 4096 = omega arith in
+        ap (λ n. take n xs) more
+        ∙ (take-add (4096 * k) 4096 xs
+        ∙ (ap (λ front. front ++ block k xs) (fronts k)
+        ∙ (ap (λ b. take (4096 * k) ys ++ b) (same k)
+        ∙ (sym (take-add (4096 * k) 4096 ys) ∙ ap (λ n. take n ys) (sym more)))))
+
+-- entries that look alike write the same image
+pub apply_alike : (blocks : ℕ) (es fs : List Entry) (image : List ℕ) → Within blocks es → Within blocks fs → 4096 * blocks ≤ length image → ((n : ℕ) (old : List ℕ) → look es n old ≡ look fs n old) → apply es image ≡ apply fs image
+apply_alike blocks es fs image within_es within_fs long alike =
+    by_blocks (apply es image) (apply fs image)
+    (length-apply blocks es image within_es long ∙ sym (length-apply blocks fs image within_fs long))
+    (λ n. block-apply blocks es image n within_es long ∙ (alike n (block n image) ∙ sym (block-apply blocks fs image n within_fs long)))
+
+clear_rest : (e : Entry) (es : List Entry) (x y : List ℕ) → Touched es x y → Touched (e ∷ es) x y
+clear_rest e es x y touched = record { len = touched.len; clear = λ at n clear. touched.clear at n clear.1 }
+
+-- the entries in their homes touch the entries' blocks alone
+pub touched_apply : (blocks : ℕ) (es : List Entry) (image : List ℕ) → Within blocks es → 4096 * blocks ≤ length image → Touched es image (apply es image)
+touched_apply blocks [] image within long = touched_refl [] image
+touched_apply blocks (e ∷ es) image within long =
+    let next = put image (4096 * e.home) e.bytes in
+    let fits : 4096 * e.home + length e.bytes ≤ length image = omega (arith, within.0, within.1, long) in
+    let torn : Torn (4096 * e.home) 4096 image next = subst (λ n. Torn (4096 * e.home) n image next) within.1 (torn-put image (4096 * e.home) e.bytes fits) in
+    touched_trans (e ∷ es) image next (apply es next)
+    (touched_torn (e ∷ es) 0 e (omega arith) image next torn)
+    (clear_rest e es next (apply es next) (touched_apply blocks es next within.2 (omega (arith, long, torn.len))))
+
+pub length-look : (blocks : ℕ) (es : List Entry) (n : ℕ) (old : List ℕ) → Within blocks es → length old ≡ 4096 → length (look es n old) ≡ 4096
+length-look blocks [] n old within len = len
+length-look blocks (e ∷ es) n old within len = length-look blocks es n (cond (n == e.home) e.bytes old) within.2 (by (n == e.home) within.1)
+  where
+    by : (same : Bool) → length e.bytes ≡ 4096 → length (cond same e.bytes old) ≡ 4096
+    by true whole = whole
+    by false whole = len
+
+pub look-past : (blocks n : ℕ) (es : List Entry) (old : List ℕ) → Within blocks es → blocks ≤ n → look es n old ≡ old
+look-past blocks n [] old within le = refl
+look-past blocks n (e ∷ es) old within le =
+    let ne : n ≡ e.home → ⊥ = λ same. absurd (omega (arith, same, within.0, le)) in
+    ap (look es n) (cond-false (n == e.home) e.bytes old (ne_eqb n e.home ne)) ∙ look-past blocks n es old within.2 le
+
+neither : (a b : Bool) → (a || b) ≡ false → (a ≡ false) × (b ≡ false)
+neither true b e = absurd (false≢true (sym e))
+neither false b e = (refl, e)
+
+-- a block that is not staged is what was there
+pub look-absent : (es : List Entry) (n : ℕ) (old : List ℕ) → has_entry es n ≡ false → look es n old ≡ old
+look-absent [] n old absent = refl
+look-absent (e ∷ es) n old absent =
+    let parts = neither (e.home == n) (has_entry es n) absent in
+    let ne : n ≡ e.home → ⊥ = λ same. eqb-false e.home n parts.0 (sym same) in
+    ap (look es n) (cond-false (n == e.home) e.bytes old (ne_eqb n e.home ne)) ∙ look-absent es n old parts.1
 
 -- What the entries are after one is staged.
 

@@ -275,3 +275,12 @@ pub looked_put : (blocks n : ℕ) (bytes : List ℕ) (es es' : List Entry) (s : 
 looked_put blocks n bytes es es' s same rise is m old =
     ap (λ es. look es m old) is
     ∙ (look-with_entry blocks 577 n bytes es m old rise ∙ ap (λ (s : Staging). cond (m == n) bytes (look s.entries m old)) same)
+
+pub has-found : (r : region.Region ℕ) (xs : List Staged) (n k : ℕ) → FoundAt n k xs → has_entry (entries_of r xs) n ≡ true
+has-found r [] n k found = absurd found
+has-found r (x ∷ xs) n zero found = ap (λ b. b || has_entry (entries_of r xs) n) (eq-eqb x.home n found)
+has-found r (x ∷ xs) n (suc k) found = ap (λ b. (x.home == n) || b) (has-found r xs n k found.1) ∙ or_yes (x.home == n)
+  where
+    or_yes : (a : Bool) → (a || true) ≡ true
+    or_yes true = refl
+    or_yes false = refl

@@ -2,7 +2,7 @@
 use Rattle.std.proofs.Common.{◌≡◌, ◌⊎◌, inl, inr, ℕ, zero, suc, ◌+◌, ◌-◌, ◌*◌, ◌^◌, ◌<◌, ◌≤◌, ◌==◌, nat_lt, nat_le, Bool, true, false, ◌&&◌, List, [], ◌∷◌, ◌++◌, length, get_or, take, drop, replicate, IsTrue, refl, sym, ◌∙◌, ap, subst, arith, append_assoc}
 use Rattle.std.specs.Int.{w32, to_le_bytes, from_le_bytes}
 use Rattle.std.specs.List.{list_all}
-use Rattle.std.proofs.lemmas.Bool.{and_parts, and_from, lt-ltb, le-ltb, le-leb}
+use Rattle.std.proofs.lemmas.Bool.{and_parts, and_from, lt-ltb, le-ltb, le-leb, leb-true, ltb-true}
 use Rattle.std.proofs.lemmas.List.{drop-drop, take_more, map-append}
 use Rattle.std.proofs.lemmas.Nat.{from_le_bytes-to_le_bytes_4}
 use Rattle.lis_ports.specs.Bytes.{put}
@@ -129,6 +129,22 @@ pub homes-take : (es : List Entry) (k : ℕ) (d : Entry) (home : ℕ) → k < le
 homes-take es k d home lt is =
     ap (λ h. homes (take k es) ++ h ∷ []) is
     ∙ (sym (map-append (λ (e : Entry). e.home) (take k es) (get_or es k d ∷ [])) ∙ ap homes (sym (take_more es k d lt)))
+
+pub record IsForm (blocks : ℕ) (h : List ℕ) : Type 0 where
+  pub some : 0 < count_of h
+  pub few : count_of h ≤ 575
+  pub rise : IsTrue (rises blocks 577 (homes_of h))
+
+pub form_of : (blocks : ℕ) (h : List ℕ) → IsTrue (is_header blocks h) → IsForm blocks h
+form_of blocks h form =
+    let a = and_parts (nat_lt 0 (count_of h) && nat_le (count_of h) 575 && rises blocks 577 (homes_of h)) (list_all (λ b. b == 0) (drop (4 * (count_of h + 1)) h)) form in
+    let b = and_parts (nat_lt 0 (count_of h) && nat_le (count_of h) 575) (rises blocks 577 (homes_of h)) a.0 in
+    let c = and_parts (nat_lt 0 (count_of h)) (nat_le (count_of h) 575) b.0 in
+    record { some = ltb-true 0 (count_of h) c.0; few = leb-true (count_of h) 575 c.1; rise = b.1 }
+
+pub length-words : (m n : ℕ) (h : List ℕ) → length (words m n h) ≡ n
+length-words m zero h = refl
+length-words m (suc n) h = ap suc (length-words (m + 1) n h)
 
 -- one comparison of the homes
 pub rises_step : (blocks last home k c : ℕ) (h : List ℕ) → k ≤ c → home ≡ word k h → last < home → home < blocks → rises blocks last (words k (c + 1 - k) h) ≡ rises blocks home (words (k + 1) (c + 1 - (k + 1)) h)

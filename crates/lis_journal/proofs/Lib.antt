@@ -1,11 +1,16 @@
 pub mod Entries
 pub mod Spreading
-pub mod Phases
 mod Frames
 mod Places
 mod Headers
+mod Gates
+mod Series
 mod Writing
 mod Areas
+mod Phases
 mod Saving
+mod Absorbing
+mod Holding
 mod Loading
 mod Recovering
+pub mod Fitting

@@ -1,33 +1,40 @@
--- Reading a record into memory.
-use Rattle.std.proofs.Common.{◌≡◌, ℕ, zero, suc, ◌+◌, ◌-◌, ◌*◌, ◌<◌, ◌≤◌, ◌==◌, nat_lt, nat_le, ◌&&◌, cond, List, [], ◌∷◌, ◌++◌, length, drop, IsTrue, refl, sym, ◌∙◌, ap, subst, arith}
-use Rattle.std.specs.List.{list_all}
-use Rattle.std.proofs.lemmas.Bool.{and_parts, cond-true, lt-ltb, leb-true, ltb-true}
-use Rattle.std.proofs.lemmas.List.{length-map}
+-- Reading records into memory.
+use Rattle.std.proofs.Common.{◌≡◌, ℕ, zero, suc, ◌+◌, ◌-◌, ◌*◌, ◌<◌, ◌≤◌, ◌==◌, Bool, true, false, cond, ◌&&◌, nat_le, List, [], ◌∷◌, ◌++◌, length, Some, None, IsTrue, refl, sym, ◌∙◌, ap, subst, arith}
+use Rattle.std.proofs.lemmas.Bool.{le-leb, lt-leb}
 use Rattle.lis_ports.specs.Meaning.{Meaning}
 use Rattle.lis_ports.specs.Bytes.{part}
 use Rattle.lis_ports.specs.Runs.{IsDiskRun}
 use Rattle.lis_ports.specs.Calls.{Elapses, IsUnchanged}
-use Rattle.lis_ports.proofs.Moments.{run_none, run_then}
-use Rattle.lis_journal.specs.Record.{Entry, block, area, homes, word, words, count_of, homes_of, rises, is_header, entries_from}
-use Rattle.lis_journal.specs.Staging.{Staging, with_entry}
-use Rattle.lis_journal.specs.Spreads.{Spreads, Same}
-use Rattle.lis_journal.proofs.Headers.{words-snoc}
+use Rattle.lis_ports.proofs.Moments.{run_none, run_then, leaves_none, leaves_call, leaves_then, leaves_weaken}
+use Rattle.lis_journal.specs.Record.{block, word, words, count_of, homes_of, rises, is_header, record_end, is_record, entries_from, recorded, first_bad, all_recorded, behind}
+use Rattle.lis_journal.specs.Images.{look}
+use Rattle.lis_journal.specs.Staging.{Staging}
+use Rattle.lis_journal.specs.Spreads.{OnlyReads}
+use Rattle.lis_journal.specs.Phases.{Absorbs}
+use Rattle.lis_journal.proofs.Headers.{words-snoc, IsForm, length-words}
 use Rattle.lis_journal.proofs.Places.{rise_parts}
-use Rattle.lis_journal.proofs.Areas.{block-of_area}
-use Rattle.lis_journal.proofs.Spreading.{spreads_none, spreads_unchanged, spreads_then}
+use Rattle.lis_journal.proofs.Series.{behind-more, entries-more, form-more, form-bad}
+use Rattle.lis_journal.proofs.Absorbing.{absorbs_put, absorbs_then}
 
-pub record IsForm (blocks : ℕ) (h : List ℕ) : Type 0 where
-  pub some : 0 < count_of h
-  pub few : count_of h ≤ 575
-  pub rise : IsTrue (rises blocks 577 (homes_of h))
+-- ---- reads in a row
+pub reads_none : (m : Meaning) → OnlyReads m m
+reads_none m = record { bytes = refl; images = λ image is. is; moments = leaves_none m m.images }
 
-pub form_of : (blocks : ℕ) (h : List ℕ) → IsTrue (is_header blocks h) → IsForm blocks h
-form_of blocks h form =
-    let a = and_parts (nat_lt 0 (count_of h) && nat_le (count_of h) 575 && rises blocks 577 (homes_of h)) (list_all (λ b. b == 0) (drop (4 * (count_of h + 1)) h)) form in
-    let b = and_parts (nat_lt 0 (count_of h) && nat_le (count_of h) 575) (rises blocks 577 (homes_of h)) a.0 in
-    let c = and_parts (nat_lt 0 (count_of h)) (nat_le (count_of h) 575) b.0 in
-    record { some = ltb-true 0 (count_of h) c.0; few = leb-true (count_of h) 575 c.1; rise = b.1 }
+pub reads_call : {a b : Meaning} → IsDiskRun a b → Elapses a b → IsUnchanged a b → OnlyReads a b
+reads_call {a} run time same = record {
+  bytes = same.bytes;
+  images = same.images.only;
+  moments = leaves_call a.images run time same.images.only;
+}
 
+pub reads_then : {a b c : Meaning} → OnlyReads a b → OnlyReads b c → OnlyReads a c
+reads_then {a} one two = record {
+  bytes = two.bytes ∙ one.bytes;
+  images = λ image is. one.images image (two.images image is);
+  moments = leaves_then one.moments (leaves_weaken a.images two.moments one.images);
+}
+
+-- ---- the homes of a header, one by one
 words-split : (m a b : ℕ) (h : List ℕ) → words m (a + suc b) h ≡ words m a h ++ word (m + a) h ∷ words (m + a + 1) b h
 words-split m zero b h =
     let none : 0 + suc b ≡ suc b = omega arith in
@@ -39,31 +46,22 @@ words-split m (suc a) b h =
     ap (λ n. words m n h) more
     ∙ ap (λ ws. word m h ∷ ws) (words-split (m + 1) a b h ∙ ap (λ j. words (m + 1) a h ++ word j h ∷ words (j + 1) b h) same)
 
-pub rises_at : (blocks c k : ℕ) (h : List ℕ) → k < c → IsTrue (rises blocks 577 (words 1 c h)) → (rest : List ℕ) × IsTrue (rises blocks 577 (words 1 k h ++ word (k + 1) h ∷ rest))
-rises_at blocks c k h lt rise =
-    let split : c ≡ k + suc (c - k - 1) = omega arith in
-    let at : 1 + k ≡ k + 1 = omega arith in
-    let rest = words (1 + k + 1) (c - k - 1) h in (
-      rest,
-      subst (λ hs. IsTrue (rises blocks 577 hs))
-          (ap (λ n. words 1 n h) split ∙ (words-split 1 k (c - k - 1) h ∙ ap (λ j. words 1 k h ++ word j h ∷ rest) at)) rise,
-    )
-
-pub last_rises : (blocks last home : ℕ) (hs rest : List ℕ) → IsTrue (rises blocks last (hs ++ home ∷ rest)) → (last < home) × (home < blocks)
+last_rises : (blocks last home : ℕ) (hs rest : List ℕ) → IsTrue (rises blocks last (hs ++ home ∷ rest)) → (last < home) × (home < blocks)
 last_rises blocks last home [] rest rise = let parts = rise_parts blocks last home rest rise in (parts.0, parts.1)
 last_rises blocks last home (h ∷ hs) rest rise =
     let parts = rise_parts blocks last h (hs ++ home ∷ rest) rise in
     let more = last_rises blocks h home hs rest parts.2 in
     (omega (arith, parts.0, more.0), more.1)
 
--- an entry above all others comes last
-pub with_entry-last : (blocks last home : ℕ) (bytes : List ℕ) (es : List Entry) (rest : List ℕ) → IsTrue (rises blocks last (homes es ++ home ∷ rest)) → with_entry es home bytes ≡ es ++ record { home = home; bytes = bytes } ∷ []
-with_entry-last blocks last home bytes [] rest rise = refl
-with_entry-last blocks last home bytes (e ∷ es) rest rise =
-    let parts = rise_parts blocks last e.home (homes es ++ home ∷ rest) rise in
-    let above = last_rises blocks e.home home (homes es) rest parts.2 in
-    cond-true (nat_lt e.home home) (e ∷ with_entry es home bytes) (cond (e.home == home) (record { home = home; bytes = bytes } ∷ es) (record { home = home; bytes = bytes } ∷ e ∷ es)) (lt-ltb e.home home above.0)
-    ∙ ap (λ es. e ∷ es) (with_entry-last blocks e.home home bytes es rest parts.2)
+-- each home of a header in form is a home block within the image
+pub home_at : (blocks k : ℕ) (h : List ℕ) → IsForm blocks h → k < count_of h → (577 < word (k + 1) h) × (word (k + 1) h < blocks)
+home_at blocks k h form lt =
+    let split : count_of h ≡ k + suc (count_of h - k - 1) = omega arith in
+    let at : 1 + k ≡ k + 1 = omega arith in
+    let rest = words (1 + k + 1) (count_of h - k - 1) h in
+    last_rises blocks 577 (word (k + 1) h) (words 1 k h) rest
+    (subst (λ hs. IsTrue (rises blocks 577 hs))
+    (ap (λ n. words 1 n h) split ∙ (words-split 1 k (count_of h - k - 1) h ∙ ap (λ j. words 1 k h ++ word j h ∷ rest) at)) form.rise)
 
 entries-snoc : (m : ℕ) (hs : List ℕ) (home : ℕ) (a : List ℕ) → entries_from m (hs ++ home ∷ []) a ≡ entries_from m hs a ++ record { home = home; bytes = block (m + length hs) a } ∷ []
 entries-snoc m [] home a = let same : m ≡ m + 0 = omega arith in ap (λ j. record { home = home; bytes = block j a } ∷ []) same
@@ -72,53 +70,31 @@ entries-snoc m (h ∷ hs) home a =
     ap (λ es. record { home = h; bytes = block m a } ∷ es)
     (entries-snoc (m + 1) hs home a ∙ ap (λ j. entries_from (m + 1) hs a ++ record { home = home; bytes = block j a } ∷ []) same)
 
-pub length-words : (m n : ℕ) (h : List ℕ) → length (words m n h) ≡ n
-length-words m zero h = refl
-length-words m (suc n) h = ap suc (length-words (m + 1) n h)
-
-homes-append : (es : List Entry) (e : Entry) → homes (es ++ e ∷ []) ≡ homes es ++ e.home ∷ []
-homes-append [] e = refl
-homes-append (x ∷ es) e = ap (λ hs. x.home ∷ hs) (homes-append es e)
-
--- What was loaded by the k-th turn.
-pub record Loaded (old now : Meaning) (blocks : ℕ) (s : Staging) (h : List ℕ) (k : ℕ) : Type 0 where
+-- What was loaded of a record by the k-th turn.
+pub record Loaded (old now : Meaning) (before after : Staging) (h : List ℕ) (b k : ℕ) : Type 0 where
   pub run : IsDiskRun old now
   pub faults : now.disk_faults ≡ old.disk_faults
-  pub quiet : IsTrue old.is_honest → Spreads old now Same
-  pub same : IsTrue old.is_honest → now.bytes ≡ old.bytes
-  pub blocks_are : s.blocks ≡ blocks
-  pub homes_are : homes s.entries ≡ words 1 k h
-  pub loaded : IsTrue old.is_honest → s.entries ≡ entries_from 1 (words 1 k h) (area old.bytes)
+  pub quiet : IsTrue old.is_honest → OnlyReads old now
+  pub blocks_are : after.blocks ≡ before.blocks
+  pub few : length after.entries ≤ length before.entries + k
+  pub loaded : IsTrue old.is_honest → Absorbs before.entries (entries_from (b + 1) (words 1 k h) old.bytes) after.entries
 
-same_refl : (image : List ℕ) → Same image image
-same_refl image = refl
-
-same_trans : (x y z : List ℕ) → Same x y → Same y z → Same x z
-same_trans x y z xy yz = yz ∙ xy
-
-pub begin_load : (m : Meaning) (s : Staging) (h : List ℕ) → s.entries ≡ [] → Loaded m m s.blocks s h 0
-begin_load m s h empty = record {
+pub begin_load : (m : Meaning) (s : Staging) (h : List ℕ) (b : ℕ) → Loaded m m s s h b 0
+begin_load m s h b = record {
   run = run_none m;
   faults = refl;
-  quiet = λ honest. spreads_none m Same same_refl;
-  same = λ honest. refl;
+  quiet = λ honest. reads_none m;
   blocks_are = refl;
-  homes_are = ap homes empty;
-  loaded = λ honest. empty;
+  few = omega arith;
+  loaded = λ honest n old. refl;
 }
 
--- a read, failed or not
-pub quiet_on : {old now next : Meaning} → IsDiskRun old now → (IsTrue old.is_honest → Spreads old now Same) → IsDiskRun now next → Elapses now next → (IsTrue now.is_honest → IsUnchanged now next) → IsTrue old.is_honest → Spreads old next Same
+pub quiet_on : {old now next : Meaning} → IsDiskRun old now → (IsTrue old.is_honest → OnlyReads old now) → IsDiskRun now next → Elapses now next → (IsTrue now.is_honest → IsUnchanged now next) → IsTrue old.is_honest → OnlyReads old next
 quiet_on run quiet run_next time unchanged honest =
-    spreads_then Same same_trans (quiet honest) (spreads_unchanged Same run_next time (unchanged (run.honest ∙ honest)) same_refl)
+    reads_then (quiet honest) (reads_call run_next time (unchanged (run.honest ∙ honest)))
 
-pub load_on : {old now next : Meaning} (blocks k home : ℕ) (s t : Staging) (h buf : List ℕ) → Loaded old now blocks s h k → IsForm blocks h → k < count_of h → home ≡ word (k + 1) h → IsDiskRun now next → Elapses now next → next.disk_faults ≡ now.disk_faults → (IsTrue now.is_honest → IsUnchanged now next) → (IsTrue now.is_honest → buf ≡ part (4096 * (3 + k)) 4096 now.bytes) → t ≡ record { blocks = s.blocks; entries = with_entry s.entries home buf } → Loaded old next blocks t h (k + 1)
-load_on {old} {now} {next} blocks k home s t h buf so_far form lt is_home run time faults unchanged read put =
-    let at = rises_at blocks (count_of h) k h lt form.rise in
-    let rise : IsTrue (rises blocks 577 (homes s.entries ++ home ∷ at.0)) =
-    subst (λ hs. IsTrue (rises blocks 577 (hs ++ home ∷ at.0))) (sym so_far.homes_are) (subst (λ w. IsTrue (rises blocks 577 (words 1 k h ++ w ∷ at.0))) (sym is_home) at.1) in
-    let entries : t.entries ≡ s.entries ++ record { home = home; bytes = buf } ∷ [] =
-    ap (λ (s : Staging). s.entries) put ∙ with_entry-last blocks 577 home buf s.entries at.0 rise in
+pub load_on : {old now next : Meaning} (b k home : ℕ) (before s t : Staging) (h buf : List ℕ) → Loaded old now before s h b k → home ≡ word (k + 1) h → IsDiskRun now next → Elapses now next → next.disk_faults ≡ now.disk_faults → (IsTrue now.is_honest → IsUnchanged now next) → (IsTrue now.is_honest → buf ≡ part (4096 * (b + 1 + k)) 4096 now.bytes) → t.blocks ≡ s.blocks → length t.entries ≤ length s.entries + 1 → ((m : ℕ) (old : List ℕ) → look t.entries m old ≡ cond (m == home) buf (look s.entries m old)) → Loaded old next before t h b (k + 1)
+load_on {old} {now} {next} b k home before s t h buf so_far is_home run time faults unchanged read blocks few looks =
     let next_k : k + 1 ≡ suc k = omega arith in
     let one : 1 + k ≡ k + 1 = omega arith in
     let spelled : words 1 (k + 1) h ≡ words 1 k h ++ home ∷ [] =
@@ -127,22 +103,122 @@ load_on {old} {now} {next} blocks k home s t h buf so_far form lt is_home run ti
       run = run_then so_far.run run;
       faults = faults ∙ so_far.faults;
       quiet = quiet_on so_far.run so_far.quiet run time unchanged;
-      same = λ honest. (unchanged (so_far.run.honest ∙ honest)).bytes ∙ so_far.same honest;
-      blocks_are = ap (λ (s : Staging). s.blocks) put ∙ so_far.blocks_are;
-      homes_are = ap homes entries ∙ (homes-append s.entries (record { home = home; bytes = buf }) ∙ (ap (λ hs. hs ++ home ∷ []) so_far.homes_are ∙ sym spelled));
-      loaded = λ honest.
-          let few : 1 + k < 576 = omega (arith, lt, form.few) in
-          let place : 4096 * (3 + k) ≡ 4096 * (1 + k + 2) = omega arith in
-          let content : buf ≡ block (1 + k) (area old.bytes) =
+      blocks_are = blocks ∙ so_far.blocks_are;
+      few = omega (arith, few, so_far.few);
+      loaded = λ honest m was.
+          let count : b + 1 + length (words 1 k h) ≡ b + 1 + k = ap (λ n. b + 1 + n) (length-words 1 k h) in
+          let content : buf ≡ block (b + 1 + length (words 1 k h)) old.bytes =
           read (so_far.run.honest ∙ honest)
-          ∙ (ap (λ xs. part (4096 * (3 + k)) 4096 xs) (so_far.same honest)
-          ∙ (ap (λ p. part p 4096 old.bytes) place ∙ sym (block-of_area (1 + k) old.bytes few))) in
-          let count : 1 + length (words 1 k h) ≡ 1 + k = ap (λ n. 1 + n) (length-words 1 k h) in
-          entries
-          ∙ (ap (λ es. es ++ record { home = home; bytes = buf } ∷ []) (so_far.loaded honest)
-          ∙ (ap (λ bytes. entries_from 1 (words 1 k h) (area old.bytes) ++ record { home = home; bytes = bytes } ∷ []) (content ∙ ap (λ j. block j (area old.bytes)) (sym count))
-          ∙ (sym (entries-snoc 1 (words 1 k h) home (area old.bytes)) ∙ ap (λ hs. entries_from 1 hs (area old.bytes)) (sym spelled))));
+          ∙ (ap (λ xs. part (4096 * (b + 1 + k)) 4096 xs) (so_far.quiet honest).bytes ∙ ap (λ j. block j old.bytes) (sym count)) in
+          absorbs_put before.entries (entries_from (b + 1) (words 1 k h) old.bytes) s.entries t.entries home buf (so_far.loaded honest) looks m was
+          ∙ ap (λ fs. look fs m (look before.entries m was))
+          (ap (λ bytes. entries_from (b + 1) (words 1 k h) old.bytes ++ record { home = home; bytes = bytes } ∷ []) content
+          ∙ (sym (entries-snoc (b + 1) (words 1 k h) home old.bytes) ∙ ap (λ hs. entries_from (b + 1) hs old.bytes) (sym spelled)));
     }
 
-pub room_for : (s : Staging) (h : List ℕ) (k : ℕ) → homes s.entries ≡ words 1 k h → length s.entries ≡ k
-room_for s h k is = sym (length-map s.entries (λ (e : Entry). e.home)) ∙ (ap length is ∙ length-words 1 k h)
+-- ---- a record by its header
+pub head_at : (b at : ℕ) (bytes head : List ℕ) {n : ℕ} → at ≡ 4096 * b → n ≡ 4096 → head ≡ part at n bytes → head ≡ block b bytes
+head_at b at bytes head at_is n_is read = read ∙ (ap (λ m. part at m bytes) n_is ∙ ap (λ p. part p 4096 bytes) at_is)
+
+pub header_read : (blocks b : ℕ) (bytes head : List ℕ) → head ≡ block b bytes → is_header blocks head ≡ false → is_record blocks b bytes ≡ false
+unfolding is_record
+header_read blocks b bytes head is bad =
+    ap (λ f. f && nat_le (record_end b bytes) 578) (ap (is_header blocks) (sym is) ∙ bad)
+
+pub end_read : (b : ℕ) (bytes head : List ℕ) → head ≡ block b bytes → record_end b bytes ≡ b + count_of head + 1
+unfolding record_end
+end_read b bytes head is = ap (λ header. b + count_of header + 1) (sym is)
+
+pub form_read : (blocks b : ℕ) (bytes head : List ℕ) → head ≡ block b bytes → is_header blocks head ≡ true → b + count_of head + 1 ≤ 578 → is_record blocks b bytes ≡ true
+unfolding is_record
+form_read blocks b bytes head is good le =
+    ap (λ f. f && nat_le (record_end b bytes) 578) (ap (is_header blocks) (sym is) ∙ good)
+    ∙ le-leb (record_end b bytes) 578 (omega (arith, end_read b bytes head is, le))
+
+pub long_read : (blocks b : ℕ) (bytes head : List ℕ) → head ≡ block b bytes → 578 < b + count_of head + 1 → is_record blocks b bytes ≡ false
+unfolding is_record
+long_read blocks b bytes head is gt =
+    ap (λ f. is_header blocks (block b bytes) && f) (lt-leb (record_end b bytes) 578 (omega (arith, end_read b bytes head is, gt))) ∙ no_and (is_header blocks (block b bytes))
+  where
+    no_and : (a : Bool) → (a && false) ≡ false
+    no_and true = refl
+    no_and false = refl
+
+pub recorded_read : (b : ℕ) (bytes head : List ℕ) → head ≡ block b bytes → entries_from (b + 1) (homes_of head) bytes ≡ recorded b bytes
+unfolding recorded
+recorded_read b bytes head is = ap (λ header. entries_from (b + 1) (homes_of header) bytes) is
+
+-- ---- records in a row
+-- The first k records are in form, and their latest contents are in memory.
+pub record Through (old now : Meaning) (before after : Staging) (first k : ℕ) : Type 0 where
+  pub run : IsDiskRun old now
+  pub faults : now.disk_faults ≡ old.disk_faults
+  pub quiet : IsTrue old.is_honest → OnlyReads old now
+  pub blocks_are : after.blocks ≡ before.blocks
+  pub room : length after.entries + 2 ≤ first
+  pub within : first ≤ 578
+  pub form : IsTrue old.is_honest → first_bad before.blocks 2 k old.bytes ≡ None
+  pub ends : IsTrue old.is_honest → first ≡ behind 2 k old.bytes
+  pub latest : IsTrue old.is_honest → Absorbs [] (all_recorded 2 k old.bytes) after.entries
+
+pub begin_through : (m : Meaning) (s : Staging) → s.entries ≡ [] → Through m m s s 2 0
+begin_through m s empty = record {
+  run = run_none m;
+  faults = refl;
+  quiet = λ honest. reads_none m;
+  blocks_are = refl;
+  room = omega (arith, ap length empty);
+  within = omega arith;
+  form = λ honest. refl;
+  ends = λ honest. refl;
+  latest = λ honest n old. ap (λ es. look es n old) empty;
+}
+
+pub through_on : {old now next : Meaning} (before s t : Staging) (first last k : ℕ) → Through old now before s first k → IsDiskRun now next → next.disk_faults ≡ now.disk_faults → (IsTrue now.is_honest → OnlyReads now next) → t.blocks ≡ s.blocks → length t.entries + 2 ≤ last → last ≤ 578 → (IsTrue now.is_honest → (is_record s.blocks first now.bytes ≡ true) × (last ≡ record_end first now.bytes) × Absorbs s.entries (recorded first now.bytes) t.entries) → Through old next before t last (k + 1)
+through_on {old} {now} {next} before s t first last k so_far run faults quiet blocks room within read =
+    let one : suc k ≡ k + 1 = omega arith in
+    record {
+      run = run_then so_far.run run;
+      faults = faults ∙ so_far.faults;
+      quiet = λ honest. reads_then (so_far.quiet honest) (quiet (so_far.run.honest ∙ honest));
+      blocks_are = blocks ∙ so_far.blocks_are;
+      room = room;
+      within = within;
+      form = λ honest.
+          let found = read (so_far.run.honest ∙ honest) in
+          let there = so_far.ends honest in
+          ap (λ n. first_bad before.blocks 2 n old.bytes) (sym one)
+          ∙ form-more before.blocks 2 k old.bytes (so_far.form honest)
+          (ap (λ b. is_record before.blocks b old.bytes) (sym there)
+          ∙ (ap (λ bytes. is_record before.blocks first bytes) (sym (so_far.quiet honest).bytes)
+          ∙ (ap (λ n. is_record n first now.bytes) (sym so_far.blocks_are) ∙ found.0)));
+      ends = λ honest.
+          let found = read (so_far.run.honest ∙ honest) in
+          found.1
+          ∙ (ap (record_end first) (so_far.quiet honest).bytes
+          ∙ (ap (λ b. record_end b old.bytes) (so_far.ends honest)
+          ∙ (sym (behind-more 2 k old.bytes) ∙ ap (λ n. behind 2 n old.bytes) one)));
+      latest = λ honest n was.
+          let found = read (so_far.run.honest ∙ honest) in
+          absorbs_then [] (all_recorded 2 k old.bytes) s.entries (recorded first now.bytes) t.entries (so_far.latest honest) found.2 n was
+          ∙ ap (λ es. look es n was)
+          (ap (λ bytes. all_recorded 2 k old.bytes ++ recorded first bytes) (so_far.quiet honest).bytes
+          ∙ (ap (λ b. all_recorded 2 k old.bytes ++ recorded b old.bytes) (so_far.ends honest)
+          ∙ (sym (entries-more 2 k old.bytes) ∙ ap (λ m. all_recorded 2 m old.bytes) one)));
+    }
+
+pub through_bad : {old now : Meaning} (before s : Staging) (first k count : ℕ) → Through old now before s first k → k < count → IsTrue old.is_honest → (IsTrue now.is_honest → is_record s.blocks first now.bytes ≡ false) → Some first ≡ first_bad before.blocks 2 count old.bytes
+through_bad {old} {now} before s first k count so_far lt honest bad =
+    let there = so_far.ends honest in
+    let form : is_record before.blocks (behind 2 k old.bytes) old.bytes ≡ false =
+    ap (λ b. is_record before.blocks b old.bytes) (sym there)
+    ∙ (ap (λ bytes. is_record before.blocks first bytes) (sym (so_far.quiet honest).bytes)
+    ∙ (ap (λ n. is_record n first now.bytes) (sym so_far.blocks_are) ∙ bad (so_far.run.honest ∙ honest))) in
+    ap Some there ∙ sym (form-bad before.blocks 2 k count old.bytes lt (so_far.form honest) form)
+
+pub through_good : {old now : Meaning} (before s : Staging) (first k count : ℕ) → Through old now before s first k → k ≡ count → IsTrue old.is_honest → None ≡ first_bad before.blocks 2 count old.bytes
+through_good {old} before s first k count so_far is honest = sym (so_far.form honest) ∙ ap (λ n. first_bad before.blocks 2 n old.bytes) is
+
+pub through_latest : {old now : Meaning} (before s : Staging) (first k count : ℕ) → Through old now before s first k → k ≡ count → IsTrue old.is_honest → (n : ℕ) (was : List ℕ) → look (all_recorded 2 count old.bytes) n was ≡ look s.entries n was
+through_latest {old} before s first k count so_far is honest n was =
+    ap (λ m. look (all_recorded 2 m old.bytes) n was) (sym is) ∙ sym (so_far.latest honest n was)

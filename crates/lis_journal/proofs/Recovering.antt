@@ -1,249 +1,307 @@
 -- A recovery, call by call: what is known of the disk before it writes, and how it ends.
-use Rattle.std.proofs.Common.{◌≡◌, ◌⊎◌, inl, inr, ℕ, ◌*◌, ◌<◌, ◌≤◌, Bool, true, false, List, [], ◌∷◌, length, Option, Some, None, IsSomeAnd, IsTrue, Result, refl, sym, ◌∙◌, ap, subst, arith, cond, ◌&&◌}
+use Rattle.std.proofs.Common.{◌≡◌, inl, inr, ℕ, ◌*◌, ◌<◌, ◌≤◌, ◌==◌, Bool, true, false, List, [], length, replicate, Option, Some, None, IsSomeAnd, IsTrue, Result, Ok, Err, IsErr, OnOk, refl, sym, ◌∙◌, ap, subst, arith, cond}
+use Rattle.std.specs.List.{list_any, prefix_len}
+use Rattle.std.proofs.lemmas.Bool.{false≢true}
 use Rattle.lis_ports.specs.Meaning.{Meaning}
-use Rattle.lis_ports.specs.Bytes.{part, put}
+use Rattle.lis_ports.specs.Bytes.{put, Torn}
 use Rattle.lis_ports.specs.Runs.{IsDiskRun, Leaves, Always, IsSettled}
-use Rattle.lis_ports.specs.Calls.{IsDiskCall, Elapses, IsSynced}
+use Rattle.lis_ports.specs.Calls.{Elapses, IsSynced, IsUnsynced}
+use Rattle.lis_ports.proofs.Always.{always_settled}
 use Rattle.lis_ports.proofs.Moments.{leaves_call, leaves_then, leaves_weaken}
-use Rattle.lis_ports.proofs.Parts.{part-part}
-use Rattle.lis_journal.specs.Record.{block, is_open, area, behind_gate, header, homes_of, is_header, is_record, recorded, entries_from, apply, replayed, recovered}
-use Rattle.lis_journal.specs.Images.{look, Keeps, StandsFor, IsAtRest, Fits, KeepsPast}
-use Rattle.lis_journal.specs.Staging.{Staging, IsStaging}
-use Rattle.lis_journal.specs.Spreads.{Spreads, Same}
-use Rattle.lis_journal.specs.Phases.{Open, looked}
-use Rattle.lis_journal.specs.Recovery.{StandsForReplayed, InRecovery, RecoveryEnded}
-use Rattle.lis_journal.proofs.Entries.{Within, block-apply}
-use Rattle.lis_journal.proofs.Spreading.{always_spread, leaves_both}
-use Rattle.lis_journal.proofs.Phases.{rest_stands, replayed-closed, replayed-open, replayed-bad}
-use Rattle.lis_journal.proofs.Saving.{plan_of}
+use Rattle.lis_journal.specs.Record.{block, gates, is_open, has_open, open_count, behind_gates, gates_closed, Entry, first_bad, all_recorded, behind, apply, bad_record, replayed, recovered_as, recovered}
+use Rattle.lis_journal.specs.Journal.{records_of, no_records}
+use Rattle.lis_journal.specs.Images.{look, StandsFor, StandsBut, IsAtRest, FitsAt, KeepsPast}
+use Rattle.lis_journal.specs.Spreads.{Spreads, OnlyReads, SameAround}
+use Rattle.lis_journal.specs.Phases.{Opened, IsOpened, Shut, IsLoaded, Closes}
+use Rattle.lis_journal.specs.Recovery.{StandsForReplayed, InRecovery, LeftOrRecovering, Recovers}
+use Rattle.lis_journal.proofs.Entries.{Within, block-apply, apply_alike}
+use Rattle.lis_journal.proofs.Spreading.{leaves_both}
+use Rattle.lis_journal.proofs.Gates.{all_closed, open_before, shut_first}
+use Rattle.lis_journal.proofs.Series.{all_sound}
+use Rattle.lis_journal.proofs.Phases.{replayed-good, replayed-bad, replayed-closed, shut_rest, stands_full, rest_stands}
+use Rattle.lis_journal.proofs.Saving.{on_ok, others_stand, others_fit, around_past, gates_around}
 
+-- ---- what the sync and the reads leave
 -- So far the disk was synced and read: it reads as at the start, and a crash leaves that and nothing else.
 pub record Reading (old m : Meaning) : Type 0 where
-  pub settled : Always m (Same old.bytes)
+  pub honest : IsTrue m.is_honest
+  pub reads : m.bytes ≡ old.bytes
+  pub only : (image : List ℕ) → m.images image → image ≡ old.bytes
   pub within : (image : List ℕ) → m.images image → old.images image
   pub leaves : Leaves old m old.images
 
-pub after_sync : {old m : Meaning} → IsDiskRun old m → Elapses old m → IsSynced old m → Reading old m
-after_sync {old} {m} run time synced = record {
-  settled = record { reads = synced.bytes; leaves = λ image is. (synced.images.only image is).1 };
+pub after_sync : {old m : Meaning} → IsTrue old.is_honest → IsDiskRun old m → Elapses old m → IsSynced old m → Reading old m
+after_sync {old} {m} honest run time synced = record {
+  honest = run.honest ∙ honest;
+  reads = synced.bytes;
+  only = λ image is. (synced.images.only image is).1;
   within = λ image is. (synced.images.only image is).0;
   leaves = leaves_call old.images run time (λ image is. (synced.images.only image is).0);
 }
 
-pub reading_on : {old m n : Meaning} → Reading old m → Spreads m n Same → Reading old n
-reading_on {old} {m} {n} reading quiet =
-    let come : (image : List ℕ) → (from : List ℕ) × m.images from × Same from image → old.images image = λ image was. subst old.images (sym was.2) (reading.within was.0 was.1) in
-    record {
-      settled = always_spread Same (Same old.bytes) reading.settled quiet (λ from image s e. e ∙ s);
-      within = λ image is. come image (quiet.images image is);
-      leaves = leaves_then reading.leaves (leaves_weaken old.images quiet.moments come);
-    }
+pub reading_on : {old m n : Meaning} → Reading old m → IsDiskRun m n → OnlyReads m n → Reading old n
+reading_on {old} {m} {n} reading run quiet = record {
+  honest = run.honest ∙ reading.honest;
+  reads = quiet.bytes ∙ reading.reads;
+  only = λ image is. reading.only image (quiet.images image is);
+  within = λ image is. reading.within image (quiet.images image is);
+  leaves = leaves_then reading.leaves (leaves_weaken old.images quiet.moments reading.within);
+}
 
--- What is known once the gate is read: only a sync and a read of it came before.
-pub record Gated (old m : Meaning) (state : Bool) : Type 0 where
-  pub reading : Reading old m
-  pub honest : IsTrue m.is_honest
-  pub gate : is_open old.bytes ≡ state
-
-pub gate_read : {old synced m : Meaning} {T E : Type 0} {result : Result T E} {read state : Bool} → IsDiskCall old synced result → (IsTrue old.is_honest → IsSynced old synced) → IsDiskRun synced m → (IsTrue synced.is_honest → Spreads synced m Same) → (IsTrue synced.is_honest → read ≡ is_open synced.bytes) → read ≡ state → IsTrue old.is_honest → Gated old m state
-gate_read call is_synced run_read quiet is is_state honest =
-    let still = call.run.honest ∙ honest in
-    let here = is_synced honest in
-    record {
-      reading = reading_on (after_sync call.run call.time here) (quiet still);
-      honest = run_read.honest ∙ still;
-      gate = ap is_open (sym here.bytes) ∙ (sym (is still) ∙ is_state);
-    }
+reading_settled : {old m : Meaning} → Reading old m → IsSettled m old.bytes
+reading_settled reading = record { reads = reading.reads; only = reading.only }
 
 some_and : (P : List ℕ → Type 0) {r : List ℕ} (o : Option (List ℕ)) → o ≡ Some r → P r → IsSomeAnd o P
 some_and P o is p = subst (λ o. IsSomeAnd o P) (sym is) p
 
-always_same : {old m : Meaning} (Q : List ℕ → Type 0) → Reading old m → Q old.bytes → Always m Q
-always_same Q reading q = record {
-  reads = subst Q (sym reading.settled.reads) q;
-  leaves = λ image is. subst Q (sym (reading.settled.leaves image is)) q;
-}
-
 -- ---- what a recovery makes of an image
-recovered-closed : (blocks : ℕ) (image : List ℕ) → is_open image ≡ false → recovered blocks image ≡ image
+recovered-closed : (blocks : ℕ) (image : List ℕ) → has_open image ≡ false → recovered blocks image ≡ image
 unfolding recovered
-recovered-closed blocks image closed = ap (λ b. cond (b && is_record blocks (area image)) (put (apply (recorded (area image)) image) 4096 (0 ∷ [])) image) closed
+recovered-closed blocks image none = ap (λ b. cond b (recovered_as image (replayed blocks image)) image) none
 
-recovered-bad : (blocks : ℕ) (image : List ℕ) → is_record blocks (area image) ≡ false → recovered blocks image ≡ image
+recovered-none : (blocks : ℕ) (image : List ℕ) → has_open image ≡ true → replayed blocks image ≡ None → recovered blocks image ≡ image
 unfolding recovered
-recovered-bad blocks image bad = ap (λ b. cond b (put (apply (recorded (area image)) image) 4096 (0 ∷ [])) image) (and_false (is_open image) (is_record blocks (area image)) bad)
-  where
-    and_false : (a b : Bool) → b ≡ false → (a && b) ≡ false
-    and_false true b is = is
-    and_false false b is = refl
+recovered-none blocks image some none =
+    ap (λ b. cond b (recovered_as image (replayed blocks image)) image) some ∙ ap (recovered_as image) none
 
-recovered-open : (blocks : ℕ) (image : List ℕ) → is_open image ≡ true → is_record blocks (area image) ≡ true → recovered blocks image ≡ put (apply (recorded (area image)) image) 4096 (0 ∷ [])
+recovered-some : (blocks : ℕ) (image replay : List ℕ) → has_open image ≡ true → replayed blocks image ≡ Some replay → recovered blocks image ≡ gates_closed (is_open 0 image) replay
 unfolding recovered
-recovered-open blocks image opened form =
-    ap (λ b. cond (b && is_record blocks (area image)) (put (apply (recorded (area image)) image) 4096 (0 ∷ [])) image) opened
-    ∙ ap (λ b. cond b (put (apply (recorded (area image)) image) 4096 (0 ∷ [])) image) form
+recovered-some blocks image replay some is =
+    ap (λ b. cond b (recovered_as image (replayed blocks image)) image) some ∙ ap (recovered_as image) is
 
-reading_settled : {old m : Meaning} → Reading old m → IsSettled m old.bytes
-reading_settled reading = record { reads = reading.settled.reads; only = reading.settled.leaves }
+-- ---- where no gate is open
+pub quiet_recovers : {E : Type 0} (blocks : ℕ) {old m : Meaning} → 578 < blocks → 4096 * blocks ≤ length old.bytes → Reading old m → has_open old.bytes ≡ false → Recovers {E = E} blocks old m (Ok None)
+quiet_recovers blocks {old} {m} enough long reading none =
+    let closed = all_closed old.bytes none in
+    let rest = shut_rest blocks (λ n. block n old.bytes) old.bytes enough (record { long = long; same = λ n out. refl }) (λ k lt. closed k) in
+    let at = always_settled (IsAtRest blocks no_records [] (λ n. block n old.bytes)) old.bytes (reading_settled reading) rest in
+    record {
+      moments = leaves_weaken _ reading.leaves (λ image is. inl is);
+      images = λ image is. inl (reading.within image is);
+      ended = some_and _ (replayed blocks old.bytes) (replayed-closed blocks old.bytes (omega (arith, enough, long)) (closed 0)) (record { honest = reading.honest; reads = at.reads; leaves = at.leaves });
+      left = subst (IsSettled m) (sym (recovered-closed blocks old.bytes none)) (reading_settled reading);
+      past = λ n le. ap (block n) reading.reads;
+      settled_past = λ settled n le. ap (block n) reading.reads;
+    }
 
-pub closed_left : (blocks : ℕ) {old m : Meaning} → Gated old m false → IsSettled m (recovered blocks old.bytes)
-closed_left blocks {old} {m} gated = subst (IsSettled m) (sym (recovered-closed blocks old.bytes gated.gate)) (reading_settled gated.reading)
+-- ---- where a record is not in form
+pub bad_recovers : {E : Type 0} (blocks b : ℕ) {old m : Meaning} → Reading old m → has_open old.bytes ≡ true → bad_record blocks old.bytes ≡ Some b → Recovers {E = E} blocks old m (Ok (Some b))
+bad_recovers blocks b {old} {m} reading some bad =
+    let none = replayed-bad blocks b old.bytes bad in
+    record {
+      moments = leaves_weaken _ reading.leaves (λ image is. inl is);
+      images = λ image is. inl (reading.within image is);
+      ended = (none, bad, reading_settled reading);
+      left = subst (IsSettled m) (sym (recovered-none blocks old.bytes some none)) (reading_settled reading);
+      past = λ n le. ap (block n) reading.reads;
+      settled_past = λ settled n le. ap (block n) reading.reads;
+    }
 
--- with a closed gate nothing is to be done
-pub closed_recovered : (blocks : ℕ) (old m : Meaning) → Gated old m false → length old.bytes ≡ old.len → 4096 * blocks ≤ old.len → RecoveryEnded blocks old m true
-closed_recovered blocks old m gated len long =
-    some_and _ (replayed blocks old.bytes) (replayed-closed blocks old.bytes gated.gate) (record {
-      honest = gated.honest;
-      all = always_same (IsAtRest blocks (λ n. block n old.bytes)) gated.reading (record { closed = gated.gate; keeps = record { long = omega (arith, len, long); same = λ n out. refl } });
-    })
-
-settled_as_read : {old m : Meaning} → Reading old m → IsSettled m old.bytes
-settled_as_read reading = record { reads = reading.settled.reads; only = reading.settled.leaves }
-
-header-area : (bytes : List ℕ) → header (area bytes) ≡ part 8192 4096 bytes
-header-area bytes = part-part 0 4096 8192 2359296 bytes (omega arith)
-
-pub record-header : (blocks : ℕ) (bytes head : List ℕ) → head ≡ part 8192 4096 bytes → is_record blocks (area bytes) ≡ is_header blocks head
-unfolding is_record
-record-header blocks bytes head is = ap (is_header blocks) (header-area bytes ∙ sym is)
-
-pub recorded-header : (bytes head : List ℕ) → head ≡ part 8192 4096 bytes → recorded (area bytes) ≡ entries_from 1 (homes_of head) (area bytes)
-unfolding recorded
-recorded-header bytes head is = ap (λ h. entries_from 1 (homes_of h) (area bytes)) (header-area bytes ∙ sym is)
-
--- What is known once the record is read behind an open gate.
-pub record RecordRead (blocks : ℕ) (old m : Meaning) (good : Bool) : Type 0 where
-  pub reading : Reading old m
-  pub honest : IsTrue m.is_honest
-  pub opened : is_open old.bytes ≡ true
-  pub form : is_record blocks (area old.bytes) ≡ good
-
-pub record_read : {blocks : ℕ} {old gated m : Meaning} {read good : Bool} → Gated old gated true → IsDiskRun gated m → (IsTrue gated.is_honest → Spreads gated m Same) → (IsTrue gated.is_honest → read ≡ is_record blocks (area gated.bytes)) → read ≡ good → RecordRead blocks old m good
-record_read {blocks} was run quiet is is_good = record {
-  reading = reading_on was.reading (quiet was.honest);
-  honest = run.honest ∙ was.honest;
-  opened = was.gate;
-  form = ap (λ bytes. is_record blocks (area bytes)) (sym was.reading.settled.reads) ∙ (sym (is was.honest) ∙ is_good);
+-- ---- where a call failed before the first write
+pub failed_recovers : {E : Type 0} (blocks : ℕ) {old m : Meaning} (result : Result (Option ℕ) E) → IsErr result → Reading old m → Recovers {E = E} blocks old m result
+failed_recovers blocks (Ok x) failed reading = absurd (false≢true failed)
+failed_recovers blocks (Err e) failed reading = record {
+  moments = leaves_weaken _ reading.leaves (λ image is. inl is);
+  images = tt;
+  ended = tt;
+  left = tt;
+  past = tt;
+  settled_past = λ settled n le. ap (block n) reading.reads;
 }
 
--- a record that is not in form
-bad_replayed : {blocks : ℕ} {old m : Meaning} → RecordRead blocks old m false → replayed blocks old.bytes ≡ None
-bad_replayed {blocks} {old} bad = replayed-bad blocks old.bytes bad.opened bad.form
-
-pub bad_leaves : {blocks : ℕ} {old m : Meaning} → RecordRead blocks old m false → Leaves old m (λ image. old.images image ⊎ InRecovery blocks old.bytes image)
-bad_leaves bad = leaves_weaken _ bad.reading.leaves (λ image is. inl is)
-
-pub bad_recovered : {blocks : ℕ} {old m : Meaning} → RecordRead blocks old m false → RecoveryEnded blocks old m false
-bad_recovered bad = (bad_replayed bad, settled_as_read bad.reading)
-
-pub bad_left : {blocks : ℕ} {old m : Meaning} → RecordRead blocks old m false → IsSettled m (recovered blocks old.bytes)
-bad_left {blocks} {old} {m} read = subst (IsSettled m) (sym (recovered-bad blocks old.bytes read.form)) (reading_settled read.reading)
-
--- what is known where the record is in form and in memory
-pub record Ready (blocks : ℕ) (old m : Meaning) (s : Staging) : Type 0 where
-  pub reading : Reading old m
-  pub honest : IsTrue m.is_honest
-  pub opened : is_open old.bytes ≡ true
-  pub form : is_record blocks (area old.bytes) ≡ true
-  pub loaded : recorded (area old.bytes) ≡ s.entries
-  pub blocks_are : s.blocks ≡ blocks
-  pub long : 4096 * blocks ≤ length old.bytes
-  pub enough : 578 < blocks
-  pub staging : IsStaging s
-
-pub ready_from : {blocks : ℕ} {old gated m : Meaning} {s : Staging} {read : Bool} → Gated old gated true → RecordRead blocks old m true → (IsTrue gated.is_honest → read ≡ true → s.entries ≡ recorded (area gated.bytes)) → read ≡ true → s.blocks ≡ blocks → length old.bytes ≡ old.len → 4096 * blocks ≤ old.len → 578 < blocks → IsStaging s → Ready blocks old m s
-ready_from was now loaded is blocks_are len long enough staging = record {
-  reading = now.reading;
-  honest = now.honest;
-  opened = now.opened;
-  form = now.form;
-  loaded = ap (λ bytes. recorded (area bytes)) (sym was.reading.settled.reads) ∙ sym (loaded was.honest is);
-  blocks_are = blocks_are;
-  long = omega (arith, len, long);
-  enough = enough;
-  staging = staging;
+-- at the first sync
+pub unsynced_recovers : {E : Type 0} (blocks : ℕ) {old m : Meaning} (e : E) → IsDiskRun old m → Elapses old m → IsUnsynced old m → Recovers {E = E} blocks old m (Err e)
+unsynced_recovers blocks {old} {m} e run time unsynced = record {
+  moments = leaves_call _ run time (λ image is. inl (unsynced.images.only image is));
+  images = tt;
+  ended = tt;
+  left = tt;
+  past = tt;
+  settled_past = λ settled. elim unsynced.bytes as (λ _. KeepsPast blocks old m) [
+    | inl image ↦ λ n le. settled m.bytes image n le
+    | inr same ↦ λ n le. ap (block n) same
+  ];
 }
 
-module _ {blocks : ℕ} {old m : Meaning} {s : Staging} (ready : Ready blocks old m s) where
-  was : ℕ → List ℕ
-  was n = block n old.bytes
+-- ---- closing the gates
+module _ {blocks count : ℕ} {latest : List Entry} {m : Meaning} (loaded : IsLoaded blocks count latest m) where
+  loaded_full : 2367488 ≤ length m.bytes
+  loaded_full = omega (arith, loaded.enough, loaded.long)
 
-  pub ready_open : Always m (Open s.blocks (λ n. block n old.bytes) s.entries)
-  ready_open = subst (λ b. Always m (Open b (λ n. block n old.bytes) s.entries)) (sym ready.blocks_are)
-      (always_same (Open blocks (λ n. block n old.bytes) s.entries) ready.reading (record {
-        opened = ready.opened;
-        long = ready.long;
-        spelled = record { form = ready.form; holds = ready.loaded };
-        looks = λ n out. refl;
-      }))
+  replayed-loaded : replayed blocks m.bytes ≡ Some (apply (all_recorded 2 count m.bytes) m.bytes)
+  replayed-loaded = replayed-good blocks count m.bytes loaded.counted loaded.form
 
-  ready_within : Within blocks s.entries
-  ready_within =
-      let enough : 578 < s.blocks = subst (λ b. 578 < b) (sym ready.blocks_are) ready.enough in
-      subst (λ b. Within b s.entries) ready.blocks_are (plan_of s enough ready.staging).within
-
-  replayed-ready : replayed blocks old.bytes ≡ Some (apply s.entries old.bytes)
-  replayed-ready = replayed-open blocks old.bytes ready.opened ready.form ∙ ap (λ es. Some (apply es old.bytes)) ready.loaded
-
-  block-ready : (n : ℕ) → look s.entries n (block n old.bytes) ≡ block n (apply s.entries old.bytes)
-  block-ready n = sym (block-apply blocks s.entries old.bytes n ready_within ready.long)
-
-  keeps_replayed : (image : List ℕ) → Keeps blocks (looked s.entries (λ n. block n old.bytes)) image → Keeps blocks (λ n. block n (apply s.entries old.bytes)) image
-  keeps_replayed image keeps = record { long = keeps.long; same = λ n out. keeps.same n out ∙ block-ready n }
-
-  stands_replayed : (image : List ℕ) → StandsFor s.blocks (looked s.entries (λ n. block n old.bytes)) image → StandsForReplayed blocks old.bytes image
-  unfolding StandsFor
+  stands_replayed : (image : List ℕ) → StandsFor blocks (λ n. block n (apply (all_recorded 2 count m.bytes) m.bytes)) image → StandsForReplayed blocks m.bytes image
   stands_replayed image stands =
-      let there = subst (λ b. (4096 * b ≤ length image) × IsSomeAnd (replayed b image) (Keeps b (looked s.entries (λ n. block n old.bytes)))) ready.blocks_are stands in
-      some_and _ (replayed blocks old.bytes) replayed-ready (there.0, by (replayed blocks image) there.1)
-    where
-      by : (o : Option (List ℕ)) → IsSomeAnd o (Keeps blocks (looked s.entries (λ n. block n old.bytes))) → IsSomeAnd o (Keeps blocks (λ n. block n (apply s.entries old.bytes)))
-      by None h = h
-      by (Some r) h = keeps_replayed r h
+      some_and (λ r. StandsFor blocks (λ n. block n r) image) (replayed blocks m.bytes) replayed-loaded stands
 
-  pub ready_rest : Always m (λ image. behind_gate image ≡ behind_gate old.bytes)
-  ready_rest = always_same (λ image. behind_gate image ≡ behind_gate old.bytes) ready.reading refl
-
-  pub finish_leaves : {n : Meaning} → Leaves m n (StandsFor s.blocks (looked s.entries (λ k. block k old.bytes))) → Leaves m n (λ image. behind_gate image ≡ behind_gate old.bytes) → Leaves old n (λ image. old.images image ⊎ InRecovery blocks old.bytes image)
-  finish_leaves stands rest =
-      leaves_then (leaves_weaken _ ready.reading.leaves (λ image is. inl is)) (leaves_weaken _ (leaves_both stands rest) (λ image is. inr (record {
-        opened = ready.opened;
+  pub recovering : {n : Meaning} → Leaves m n (StandsFor blocks (λ k. block k (apply (all_recorded 2 count m.bytes) m.bytes))) → Spreads m n (SameAround blocks) → Leaves m n (InRecovery blocks m.bytes)
+  recovering stands around =
+      leaves_weaken _ (leaves_both stands around.moments) (λ image is. record {
+        opened = loaded.opened;
         stands = stands_replayed image is.0;
-        rest = is.1;
-      })))
-
-  pub finish_left : {n : Meaning} → IsSettled n (put (apply s.entries m.bytes) 4096 (0 ∷ [])) → IsSettled n (recovered blocks old.bytes)
-  finish_left {n} settled =
-      let image : apply s.entries m.bytes ≡ apply (recorded (area old.bytes)) old.bytes = ap (apply s.entries) ready.reading.settled.reads ∙ ap (λ es. apply es old.bytes) (sym ready.loaded) in
-      subst (IsSettled n) (ap (λ bytes. put bytes 4096 (0 ∷ [])) image ∙ sym (recovered-open blocks old.bytes ready.opened ready.form)) settled
-
-  -- at rest with the replayed blocks, an image stands for them
-  pub finish_images : {n : Meaning} → Fits s.blocks n (looked s.entries (λ k. block k old.bytes)) → Always n (λ image. behind_gate image ≡ behind_gate old.bytes) → (image : List ℕ) → n.images image → InRecovery blocks old.bytes image
-  finish_images {n} fits rest image is = record {
-    opened = ready.opened;
-    stands = stands_replayed image (rest_stands s.blocks (looked s.entries (λ k. block k old.bytes)) image (fits.all.leaves image is));
-    rest = rest.leaves image is;
-  }
-
-  pub finish_recovered : {n : Meaning} → Fits s.blocks n (looked s.entries (λ k. block k old.bytes)) → RecoveryEnded blocks old n true
-  finish_recovered {n} fits =
-      let same : Fits blocks n (looked s.entries (λ k. block k old.bytes)) = subst (λ b. Fits b n (looked s.entries (λ k. block k old.bytes))) ready.blocks_are fits in
-      some_and _ (replayed blocks old.bytes) replayed-ready (record {
-        honest = same.honest;
-        all = record {
-          reads = record { closed = same.all.reads.closed; keeps = keeps_replayed n.bytes same.all.reads.keeps };
-          leaves = λ image is. let rest = same.all.leaves image is in record { closed = rest.closed; keeps = keeps_replayed image rest.keeps };
-        };
+        rest = is.1.2.rest ∙ ap behind_gates (loaded.settled.only is.1.0 is.1.1);
       })
 
-  pub finish_past : (n : Meaning) → ((k : ℕ) → s.blocks ≤ k → block k n.bytes ≡ block k old.bytes) → KeepsPast blocks old n
-  finish_past n past = subst (λ b. (k : ℕ) → b ≤ k → block k n.bytes ≡ block k old.bytes) ready.blocks_are past
+  pub recovering_images : {n : Meaning} → FitsAt blocks no_records [] n (λ k. block k (apply (all_recorded 2 count m.bytes) m.bytes)) → Spreads m n (SameAround blocks) → (image : List ℕ) → n.images image → InRecovery blocks m.bytes image
+  recovering_images fits around image is =
+      let was = around.images image is in
+      record {
+        opened = loaded.opened;
+        stands = stands_replayed image (stands_full blocks _ image (rest_stands blocks no_records [] _ image (fits.leaves image is)));
+        rest = was.2.rest ∙ ap behind_gates (loaded.settled.only was.0 was.1);
+      }
 
--- a recovery's moments, for the blocks that a new stage has
-pub new_leaves : {old m : Meaning} {s : Staging} {blocks : ℕ} → s ≡ record { blocks = blocks; entries = [] } → Leaves old m (λ image. old.images image ⊎ InRecovery s.blocks old.bytes image) → Leaves old m (λ image. old.images image ⊎ InRecovery blocks old.bytes image)
-new_leaves {old} {m} is leaves =
-    subst (λ (s : Staging). Leaves old m (λ image. old.images image ⊎ InRecovery s.blocks old.bytes image)) is leaves
+  -- with the records that a checkpoint brings home
+  loaded_holds : Opened blocks (records_of count (behind 2 count m.bytes) latest) [] (λ k. block k (apply (all_recorded 2 count m.bytes) m.bytes)) m.bytes
+  loaded_holds =
+      let sound = all_sound blocks 2 count m.bytes loaded_full loaded.form in
+      record {
+        holds = record {
+          enough = loaded.enough;
+          long = loaded.long;
+          form = loaded.form;
+          ends = refl;
+          latest = loaded.latest_is;
+          same = λ n out not_in.
+              sym (loaded.latest_is n (block n m.bytes)) ∙ sym (block-apply blocks (all_recorded 2 count m.bytes) m.bytes n sound.within loaded.long);
+        };
+        counted = loaded.counted;
+      }
 
-pub new_images : (old m : Meaning) {s : Staging} {blocks : ℕ} → s ≡ record { blocks = blocks; entries = [] } → ((image : List ℕ) → m.images image → old.images image ⊎ InRecovery s.blocks old.bytes image) → (image : List ℕ) → m.images image → old.images image ⊎ InRecovery blocks old.bytes image
-new_images old m is images =
-    subst (λ (s : Staging). (image : List ℕ) → m.images image → old.images image ⊎ InRecovery s.blocks old.bytes image) is images
+  pub loaded_opened : 0 < count → IsOpened blocks (records_of count (behind 2 count m.bytes) latest) [] m (λ k. block k (apply (all_recorded 2 count m.bytes) m.bytes))
+  loaded_opened some = record {
+    honest = loaded.honest;
+    some = some;
+    reads = loaded_holds;
+    leaves = λ image is. subst (Opened blocks (records_of count (behind 2 count m.bytes) latest) [] (λ k. block k (apply (all_recorded 2 count m.bytes) m.bytes))) (sym (loaded.settled.only image is)) loaded_holds;
+  }
+
+  checkpoint_left : 0 < count → Within blocks latest → gates_closed true (apply latest m.bytes) ≡ recovered blocks m.bytes
+  checkpoint_left some within =
+      let sound = all_sound blocks 2 count m.bytes loaded_full loaded.form in
+      let first : is_open 0 m.bytes ≡ true = open_before m.bytes 0 (omega (arith, some, loaded.counted)) in
+      let same : apply latest m.bytes ≡ apply (all_recorded 2 count m.bytes) m.bytes =
+      sym (apply_alike blocks (all_recorded 2 count m.bytes) latest m.bytes sound.within within loaded.long loaded.latest_is) in
+      ap (gates_closed true) same
+      ∙ (ap (λ b. gates_closed b (apply (all_recorded 2 count m.bytes) m.bytes)) (sym first)
+      ∙ sym (recovered-some blocks m.bytes (apply (all_recorded 2 count m.bytes) m.bytes) loaded.opened replayed-loaded))
+
+  pub checkpoint_closes : {T E : Type 0} {n : Meaning} (result : Result T E) → 0 < count → Within blocks latest → ((c next : ℕ) (placed : List ℕ) (kept : ℕ → List ℕ) → IsOpened blocks (records_of c next latest) placed m kept → Leaves m n (StandsBut blocks placed kept)) → OnOk result ((c next : ℕ) (placed : List ℕ) (kept : ℕ → List ℕ) → IsOpened blocks (records_of c next latest) placed m kept → FitsAt blocks no_records [] n kept) → (IsTrue m.is_honest → Spreads m n (SameAround blocks)) → OnOk result (IsTrue m.is_honest → IsSettled n (gates_closed true (apply latest m.bytes))) → Closes blocks count m n result
+  checkpoint_closes {n = n} result some within moments keeps around settled =
+      let kept : ℕ → List ℕ = λ k. block k (apply (all_recorded 2 count m.bytes) m.bytes) in
+      let opened = loaded_opened some in
+      let next = behind 2 count m.bytes in
+      record {
+        moments = recovering (leaves_weaken _ (moments count next [] kept opened) (λ image stands. stands_full blocks kept image stands)) (around loaded.honest);
+        images = on_ok result (λ fits. recovering_images (fits count next [] kept opened) (around loaded.honest)) keeps;
+        fits = on_ok result (λ fits. fits count next [] kept opened) keeps;
+        left = on_ok result (λ left. subst (IsSettled n) (checkpoint_left some within) (left loaded.honest)) settled;
+        past = around_past (around loaded.honest);
+      }
+
+  -- gate 0 is closed, and only others are open
+  loaded_shut : count ≡ 0 → Always m (Shut blocks (λ k. block k (apply (all_recorded 2 count m.bytes) m.bytes)))
+  loaded_shut none = always_settled (Shut blocks (λ k. block k (apply (all_recorded 2 count m.bytes) m.bytes))) m.bytes loaded.settled (record {
+    enough = loaded.enough;
+    closed = shut_first m.bytes (omega (arith, loaded_full)) (loaded.counted ∙ none);
+    keeps = record { long = loaded.long; same = λ n out. ap (λ c. block n (apply (all_recorded 2 c m.bytes) m.bytes)) (sym none) };
+  })
+
+  others_left : count ≡ 0 → put m.bytes 4097 (replicate 63 0) ≡ recovered blocks m.bytes
+  unfolding gates_closed
+  others_left none =
+      let closed : is_open 0 m.bytes ≡ false = shut_first m.bytes (omega (arith, loaded_full)) (loaded.counted ∙ none) in
+      ap (λ c. put (apply (all_recorded 2 c m.bytes) m.bytes) 4097 (replicate 63 0)) (sym none)
+      ∙ (ap (λ b. gates_closed b (apply (all_recorded 2 count m.bytes) m.bytes)) (sym closed)
+      ∙ sym (recovered-some blocks m.bytes (apply (all_recorded 2 count m.bytes) m.bytes) loaded.opened replayed-loaded))
+
+  pub others_close : {T E : Type 0} {n : Meaning} (result : Result T E) → count ≡ 0 → IsDiskRun m n → (IsTrue m.is_honest → Spreads m n (Torn 4097 63)) → OnOk result (IsTrue m.is_honest → IsSettled n (put m.bytes 4097 (replicate 63 0))) → Closes blocks count m n result
+  others_close {n = n} result none run spreads settled =
+      let shut = loaded_shut none in
+      let torn = spreads loaded.honest in
+      let around = gates_around blocks loaded.enough 4097 63 (omega arith) torn in
+      record {
+        moments = recovering (others_stand shut torn) around;
+        images = on_ok result (λ left. recovering_images (others_fit (run.honest ∙ loaded.honest) shut (left loaded.honest)) around) settled;
+        fits = on_ok result (λ left. others_fit (run.honest ∙ loaded.honest) shut (left loaded.honest)) settled;
+        left = on_ok result (λ left. subst (IsSettled n) (others_left none) (left loaded.honest)) settled;
+        past = around_past around;
+      }
+
+  -- ---- and so a recovery ends
+  close_leaves : {T E : Type 0} {old n : Meaning} {result : Result T E} → Reading old m → Closes blocks count m n result → Leaves old n (LeftOrRecovering blocks old)
+  close_leaves {old = old} reading closes =
+      leaves_then (leaves_weaken _ reading.leaves (λ image is. inl is))
+      (leaves_weaken _ closes.moments (λ image is. inr (subst (λ bytes. InRecovery blocks bytes image) reading.reads is)))
+
+  close_past : {T E : Type 0} {old n : Meaning} {result : Result T E} → Reading old m → Closes blocks count m n result → KeepsPast blocks old n
+  close_past {old = old} {n = n} reading closes k le =
+      let was = closes.past.reads in
+      let from : was.0 ≡ old.bytes = elim was.1 as (λ _. was.0 ≡ old.bytes) [
+        | inl image ↦ reading.only was.0 image
+        | inr same ↦ same ∙ reading.reads
+      ] in
+      was.2 k le ∙ ap (block k) from
+
+  pub close_failed : {T E F : Type 0} {old n : Meaning} {closed : Result T E} (result : Result (Option ℕ) F) → IsErr result → Reading old m → Closes blocks count m n closed → Recovers {E = F} blocks old n result
+  close_failed (Ok x) failed reading closes = absurd (false≢true failed)
+  close_failed (Err e) failed reading closes = record {
+    moments = close_leaves reading closes;
+    images = tt;
+    ended = tt;
+    left = tt;
+    past = tt;
+    settled_past = λ settled. close_past reading closes;
+  }
+
+  pub close_done : {T E F : Type 0} {old n : Meaning} {x : T} → Reading old m → Closes {E = E} blocks count m n (Ok x) → Recovers {E = F} blocks old n (Ok None)
+  close_done {n = n} reading closes = record {
+    moments = close_leaves reading closes;
+    images = λ image is. inr (subst (λ bytes. InRecovery blocks bytes image) reading.reads (closes.images image is));
+    ended = subst (λ bytes. IsSomeAnd (replayed blocks bytes) (λ r. FitsAt blocks no_records [] n (λ k. block k r))) reading.reads
+        (some_and (λ r. FitsAt blocks no_records [] n (λ k. block k r)) (replayed blocks m.bytes) replayed-loaded closes.fits);
+    left = subst (λ bytes. IsSettled n (recovered blocks bytes)) reading.reads closes.left;
+    past = close_past reading closes;
+    settled_past = λ settled. close_past reading closes;
+  }
+
+-- ---- what was read
+-- after all records are read
+pub loaded_from : {blocks count : ℕ} {latest : List Entry} {old m : Meaning} (bytes : List ℕ) → Reading old m → 578 < blocks → 4096 * blocks ≤ length old.bytes → has_open old.bytes ≡ true → open_count old.bytes ≡ count → bytes ≡ old.bytes → None ≡ first_bad blocks 2 count bytes → ((n : ℕ) (was : List ℕ) → look (all_recorded 2 count bytes) n was ≡ look latest n was) → IsLoaded blocks count latest m
+loaded_from {blocks} {count} {latest} {old} {m} bytes reading enough long opened counted is form latest_is =
+    let same : bytes ≡ m.bytes = is ∙ sym reading.reads in
+    record {
+      honest = reading.honest;
+      opened = ap has_open reading.reads ∙ opened;
+      settled = record { reads = refl; only = λ image i. reading.only image i ∙ sym reading.reads };
+      enough = enough;
+      long = omega (arith, long, ap length reading.reads);
+      counted = ap open_count reading.reads ∙ counted;
+      form = ap (first_bad blocks 2 count) (sym same) ∙ sym form;
+      latest_is = λ n was. ap (λ xs. look (all_recorded 2 count xs) n was) (sym same) ∙ latest_is n was;
+    }
+
+-- What is known once the gates are read.
+pub record Gated (old s : Meaning) (found : List ℕ) (any : Bool) : Type 0 where
+  pub synced : Reading old s
+  pub opened : has_open old.bytes ≡ any
+  pub found_are : found ≡ gates old.bytes
+
+pub gates_read : {old s : Meaning} {found : List ℕ} {read any : Bool} → Reading old s → (IsTrue s.is_honest → found ≡ gates s.bytes) → read ≡ list_any (λ gate. gate == 1) found → read ≡ any → Gated old s found any
+gates_read {old} {s} synced found_is read_is any_is =
+    let found_are = found_is synced.honest ∙ ap gates synced.reads in
+    record {
+      synced = synced;
+      opened = ap (list_any (λ gate. gate == 1)) (sym found_are) ∙ (sym read_is ∙ any_is);
+      found_are = found_are;
+    }
+
+pub gates_counted : {old s : Meaning} {found : List ℕ} {any : Bool} {count : ℕ} → Gated old s found any → count ≡ prefix_len (λ gate. gate == 1) found → open_count old.bytes ≡ count
+unfolding open_count
+gates_counted gated counted = ap (prefix_len (λ gate. gate == 1)) (sym gated.found_are) ∙ sym counted
+
+pub bad_found : (blocks count : ℕ) {b : ℕ} {found : Option ℕ} (bytes old : List ℕ) → open_count old ≡ count → bytes ≡ old → found ≡ Some b → found ≡ first_bad blocks 2 count bytes → bad_record blocks old ≡ Some b
+unfolding bad_record
+bad_found blocks count bytes old counted is found_is found =
+    ap (λ n. first_bad blocks 2 n old) counted ∙ (ap (first_bad blocks 2 count) (sym is) ∙ (sym found ∙ found_is))

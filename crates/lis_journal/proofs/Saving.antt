@@ -1,181 +1,152 @@
 -- The phases over a disk: what stands at each moment, and what each phase leads to.
-use Rattle.std.proofs.Common.{◌≡◌, inl, inr, ℕ, ◌+◌, ◌<◌, ◌≤◌, ◌==◌, Bool, true, false, ◌||◌, List, [], ◌∷◌, length, IsTrue, refl, sym, ◌∙◌, ap, subst, arith, OnOk, Result, Ok, Err}
-use Rattle.std.proofs.lemmas.Bool.{cond-false, ne_eqb, eqb-false, false≢true}
+use Rattle.std.proofs.Common.{◌≡◌, inl, inr, ℕ, ◌+◌, ◌*◌, ◌<◌, ◌≤◌, List, [], ◌∷◌, length, replicate, true, IsTrue, ◌∙◌, ap, subst, arith, OnOk, Result, Ok, Err}
 use Rattle.lis_ports.specs.Meaning.{Meaning}
 use Rattle.lis_ports.specs.Bytes.{put, Torn}
 use Rattle.lis_ports.specs.Runs.{Leaves, Always, IsSettled}
 use Rattle.lis_ports.proofs.Always.{always_settled}
-use Rattle.lis_ports.proofs.Moments.{leaves_then, leaves_weaken}
+use Rattle.lis_ports.proofs.Moments.{leaves_weaken}
 use Rattle.lis_ports.proofs.Parts.{part-torn}
-use Rattle.lis_journal.specs.Record.{block, behind_gate, Entry, homes, homes_of, is_header, apply}
-use Rattle.lis_journal.specs.Images.{look, StandsFor, StandsForAllOrNone, IsAtRest, Fits}
-use Rattle.lis_journal.specs.Staging.{Staging, IsStaging, has_entry}
-use Rattle.lis_journal.specs.Spreads.{Spreads, Touched}
-use Rattle.lis_journal.specs.Phases.{Unsure, Open, looked, renumbered}
-use Rattle.lis_journal.proofs.Entries.{Within, AtHome, homes_clear}
-use Rattle.lis_journal.proofs.Areas.{spelled_written}
-use Rattle.lis_journal.proofs.Spreading.{leaves_spread, always_spread}
+use Rattle.lis_journal.specs.Record.{gates_closed, Entry, homes, homes_of, is_header, apply}
+use Rattle.lis_journal.specs.Journal.{records_of, no_records}
+use Rattle.lis_journal.specs.Images.{StandsFor, StandsBut, StandsForAllOrNone, IsAtRest, FitsAt}
+use Rattle.lis_journal.specs.Staging.{Staging, IsStaging}
+use Rattle.lis_journal.specs.Spreads.{Spreads, IsClear, Touched, SamePast, SameAround}
+use Rattle.lis_journal.specs.Phases.{Unsure, Homed, Shut, IsOpened, Absorbs, looked, renumbered}
+use Rattle.lis_journal.proofs.Entries.{Within, AtHome, homes_clear, touched_apply}
+use Rattle.lis_journal.proofs.Areas.{torn_record, within_record, spelled_written}
+use Rattle.lis_journal.proofs.Spreading.{leaves_spread, spreads_weaken, spreads_then}
 use Rattle.lis_journal.proofs.Writing.{within_from, home_from}
-use Rattle.lis_journal.proofs.Phases.{rest_stands, open_stands, unsure_stands, closing_stands, torn_record, torn_gate, opened, closed, touched_open, written}
+use Rattle.lis_journal.proofs.Phases.{full, torn_behind, rest_stands, opened_stands, touched_opened, homes_written, stands_for_but, closing_stands, gate_shut, torn_others, shut_stands, others_shut, torn_gate, unsure_stands, gate_opened, record_unsure}
 
 pub on_ok : {T E P Q : Type 0} (r : Result T E) → (P → Q) → OnOk r P → OnOk r Q
 on_ok (Ok x) step p = step p
 on_ok (Err e) step p = p
+
+pub on_both : {T E P Q R : Type 0} (r : Result T E) → (P → Q → R) → OnOk r P → OnOk r Q → OnOk r R
+on_both (Ok x) step p q = step p q
+on_both (Err e) step p q = p
 
 -- what is known of the staged blocks
 pub record Plan (blocks : ℕ) (es : List Entry) : Type 0 where
   pub enough : 578 < blocks
   pub within : Within blocks es
   pub home : AtHome es
-  pub renumbered_within : Within 578 (renumbered 3 es)
-  pub few : length es ≤ 575
-
-renumbered-within : (blocks m : ℕ) (es : List Entry) → m + length es ≤ 578 → Within blocks es → Within 578 (renumbered m es)
-renumbered-within blocks m [] le within = tt
-renumbered-within blocks m (e ∷ es) le within =
-    let here : m < 578 = omega (arith, le) in
-    let more : m + 1 + length es ≤ 578 = omega (arith, le) in
-    (here, within.1, renumbered-within blocks (m + 1) es more within.2)
 
 pub plan_of : (s : Staging) → 578 < s.blocks → IsStaging s → Plan s.blocks s.entries
-plan_of s enough staging =
-    let within = within_from s.blocks 577 s.entries staging.rise staging.whole in
-    let le : 3 + length s.entries ≤ 578 = omega (arith, staging.few) in
-    record {
-      enough = enough;
-      within = within;
-      home = home_from s.blocks 577 s.entries (omega arith) staging.rise;
-      renumbered_within = renumbered-within s.blocks 3 s.entries le within;
-      few = staging.few;
-    }
+plan_of s enough staging = record {
+  enough = enough;
+  within = within_from s.blocks 577 s.entries staging.rise staging.whole;
+  home = home_from s.blocks 577 s.entries (omega arith) staging.rise;
+}
 
-look-past : (blocks n : ℕ) (es : List Entry) (old : List ℕ) → Within blocks es → blocks ≤ n → look es n old ≡ old
-look-past blocks n [] old within le = refl
-look-past blocks n (e ∷ es) old within le =
-    let ne : n ≡ e.home → ⊥ = λ same. absurd (omega (arith, same, within.0, le)) in
-    ap (look es n) (cond-false (n == e.home) e.bytes old (ne_eqb n e.home ne)) ∙ look-past blocks n es old within.2 le
+-- ---- a record more
+pub record_moments : {blocks count next : ℕ} {latest : List Entry} {placed : List ℕ} {kept : ℕ → List ℕ} {a b : Meaning} (es : List Entry) → next + length es + 1 ≤ 578 → FitsAt blocks (records_of count next latest) placed a kept → Spreads a b (Torn (4096 * next) (4096 * (length es + 1))) → Leaves a b (StandsForAllOrNone blocks placed kept es)
+record_moments {blocks} {count} {next} {latest} {placed} {kept} es room fits spreads =
+    leaves_weaken _ spreads.moments (λ image is.
+    inl (rest_stands blocks (records_of count next latest) placed kept image
+    (torn_behind blocks (records_of count next latest) placed kept (4096 * (length es + 1)) is.0 image (omega (arith, room)) (fits.leaves is.0 is.1) is.2)))
 
--- The blocks past the image are those that are kept.
-abbrev pub PastIs : ℕ → (ℕ → List ℕ) → List ℕ → Type 0
-PastIs blocks kept image = (n : ℕ) → blocks ≤ n → block n image ≡ kept n
+pub record_written : {blocks count next : ℕ} {latest : List Entry} {placed : List ℕ} {kept : ℕ → List ℕ} {a b : Meaning} (es : List Entry) (head : List ℕ) → Plan blocks es → count < 64 → next + length es + 1 ≤ 578 → length head ≡ 4096 → IsTrue (is_header blocks head) → homes_of head ≡ homes es → FitsAt blocks (records_of count next latest) placed a kept → IsSettled b (apply (renumbered (next + 1) es) (put a.bytes (4096 * next) head)) → Always b (Unsure blocks (records_of count next latest) kept es)
+record_written {blocks} {count} {next} {latest} {placed} {kept} {a} {b} es head plan few room len form homes_are fits settled =
+    let records = records_of count next latest in
+    let long = full fits.reads.holds in
+    let within = within_record blocks (next + 1) es (omega (arith, room)) plan.within in
+    let bytes = apply (renumbered (next + 1) es) (put a.bytes (4096 * next) head) in
+    always_settled (Unsure blocks records kept es) bytes settled
+    (record_unsure blocks records kept es bytes few
+    (torn_behind blocks records [] kept (4096 * (length es + 1)) a.bytes bytes (omega (arith, room)) fits.reads (torn_record next es a.bytes head room within len long))
+    (spelled_written blocks next es a.bytes head room within len long form homes_are))
 
-rest_past : (blocks : ℕ) (kept : ℕ → List ℕ) (es : List Entry) (image : List ℕ) → Plan blocks es → IsAtRest blocks kept image → PastIs blocks kept image
-rest_past blocks kept es image plan rest = λ n le. rest.keeps.same n (inr (omega (arith, plan.enough, le)))
+pub opening_moments : {blocks count next : ℕ} {latest : List Entry} {kept : ℕ → List ℕ} {a b : Meaning} (es : List Entry) (placed : List ℕ) → Always a (Unsure blocks (records_of count next latest) kept es) → Spreads a b (Torn (4096 + count) 1) → Leaves a b (StandsForAllOrNone blocks placed kept es)
+opening_moments {blocks} {count} {next} {latest} {kept} es placed all spreads =
+    leaves_spread (Torn (4096 + count) 1) (StandsForAllOrNone blocks placed kept es) all spreads
+    (λ from image u t. unsure_stands blocks (records_of count next latest) placed kept es image (torn_gate blocks (records_of count next latest) kept es from image u t))
 
-unsure_past : (blocks : ℕ) (kept : ℕ → List ℕ) (es : List Entry) (image : List ℕ) → Plan blocks es → Unsure blocks kept es image → PastIs blocks kept image
-unsure_past blocks kept es image plan unsure = λ n le. unsure.keeps.same n (inr (omega (arith, plan.enough, le)))
+pub appended : {blocks count next : ℕ} {latest : List Entry} {kept : ℕ → List ℕ} {a b : Meaning} (es later : List Entry) → IsTrue b.is_honest → Absorbs latest es later → Always a (Unsure blocks (records_of count next latest) kept es) → IsSettled b (put a.bytes (4096 + count) (1 ∷ [])) → FitsAt blocks (records_of (count + 1) (next + length es + 1) later) [] b (looked es kept)
+appended {blocks} {count} {next} {latest} {kept} {a} {b} es later honest absorbs all settled =
+    let rest = always_settled (IsAtRest blocks (records_of (count + 1) (next + length es + 1) later) [] (looked es kept)) (put a.bytes (4096 + count) (1 ∷ [])) settled (gate_opened blocks (records_of count next latest) kept es later a.bytes absorbs all.reads) in
+    record { honest = honest; reads = rest.reads; leaves = rest.leaves }
 
-looked_past : (blocks : ℕ) (kept : ℕ → List ℕ) (es : List Entry) (image : List ℕ) → Plan blocks es → PastIs blocks (looked es kept) image → PastIs blocks kept image
-looked_past blocks kept es image plan past = λ n le. past n le ∙ look-past blocks n es (kept n) plan.within le
+-- ---- a checkpoint
+module _ {blocks count next : ℕ} {es : List Entry} (plan : Plan blocks es) {placed : List ℕ} {kept : ℕ → List ℕ} {a : Meaning} (opened : IsOpened blocks (records_of count next es) placed a kept) where
+  pub homes_moments : {b : Meaning} → Spreads a b (Touched es) → Leaves a b (StandsBut blocks placed kept)
+  homes_moments spreads = leaves_weaken _ spreads.moments (λ image is.
+      opened_stands blocks (records_of count next es) placed kept image
+      (touched_opened blocks (records_of count next es) placed kept is.0 image plan.home (opened.leaves is.0 is.1) is.2))
 
-open_past : (blocks : ℕ) (kept : ℕ → List ℕ) (es : List Entry) (image : List ℕ) → Plan blocks es → Open blocks kept es image → PastIs blocks kept image
-open_past blocks kept es image plan open_ = λ n le.
-    sym (look-past blocks n es (block n image) plan.within le)
-    ∙ (open_.looks n (inr (omega (arith, plan.enough, le))) ∙ look-past blocks n es (kept n) plan.within le)
+  pub homes_homed : {b : Meaning} → IsSettled b (apply es a.bytes) → Always b (Homed blocks (records_of count next es) kept)
+  homes_homed settled =
+      let long = opened.reads.holds.long in
+      let now = touched_opened blocks (records_of count next es) [] kept a.bytes (apply es a.bytes) plan.home opened.reads (touched_apply blocks es a.bytes plan.within long) in
+      always_settled (Homed blocks (records_of count next es) kept) (apply es a.bytes) settled (homes_written blocks (records_of count next es) kept a.bytes plan.within opened.reads now)
 
--- The journal's bytes behind the gate are these.
-abbrev pub RestIs : List ℕ → List ℕ → Type 0
-RestIs rest image = behind_gate image ≡ rest
+  pub closing_moments : {b c : Meaning} → Always b (Homed blocks (records_of count next es) kept) → Spreads b c (Torn 4096 1) → Leaves b c (StandsBut blocks placed kept)
+  closing_moments all spreads = leaves_spread (Torn 4096 1) (StandsBut blocks placed kept) all spreads
+      (λ from image h t. stands_for_but blocks placed kept image (closing_stands blocks (records_of count next es) kept from image opened.some h t))
 
-homes_keep_rest : (es : List Entry) (rest from image : List ℕ) → AtHome es → RestIs rest from → Touched es from image → RestIs rest image
-homes_keep_rest es rest from image home is touched = touched.clear 4097 2363391 (homes_clear es 4097 2363391 (omega arith) home) ∙ is
+  pub first_shut : {b c : Meaning} → Always b (Homed blocks (records_of count next es) kept) → IsSettled c (put b.bytes 4096 (0 ∷ [])) → Always c (Shut blocks kept)
+  first_shut {b} all settled = always_settled (Shut blocks kept) (put b.bytes 4096 (0 ∷ [])) settled (gate_shut blocks (records_of count next es) kept b.bytes all.reads)
 
-gate_keeps_rest : (rest from image : List ℕ) → RestIs rest from → Torn 4096 1 from image → RestIs rest image
-gate_keeps_rest rest from image is torn = part-torn 4096 1 from image torn 4097 2363391 (inr (omega arith)) ∙ is
+pub others_stand : {blocks : ℕ} {kept : ℕ → List ℕ} {a b : Meaning} → Always a (Shut blocks kept) → Spreads a b (Torn 4097 63) → Leaves a b (StandsFor blocks kept)
+others_stand {blocks} {kept} all spreads = leaves_spread (Torn 4097 63) (StandsFor blocks kept) all spreads
+    (λ from image s t. shut_stands blocks kept image (torn_others blocks kept from image s t))
 
--- the homes are written, and the gate is closed, with the rest of the journal as before
-pub homes_rest : {a b : Meaning} {blocks : ℕ} {es : List Entry} → Plan blocks es → (rest : List ℕ) → Always a (RestIs rest) → Spreads a b (Touched es) → Leaves a b (RestIs rest) × Always b (RestIs rest)
-homes_rest {es = es} plan rest all spreads =
-    let keep : (from image : List ℕ) → RestIs rest from → Touched es from image → RestIs rest image = λ from image. homes_keep_rest es rest from image plan.home in
-    (leaves_spread (Touched es) (RestIs rest) all spreads keep, always_spread (Touched es) (RestIs rest) all spreads keep)
+pub others_fit : {blocks : ℕ} {kept : ℕ → List ℕ} {a b : Meaning} → IsTrue b.is_honest → Always a (Shut blocks kept) → IsSettled b (put a.bytes 4097 (replicate 63 0)) → FitsAt blocks no_records [] b kept
+others_fit {blocks} {kept} {a} {b} honest all settled =
+    let rest = always_settled (IsAtRest blocks no_records [] kept) (put a.bytes 4097 (replicate 63 0)) settled (others_shut blocks kept a.bytes all.reads) in
+    record { honest = honest; reads = rest.reads; leaves = rest.leaves }
 
-pub finish_rest : {a b c : Meaning} {blocks : ℕ} {es : List Entry} → Plan blocks es → (rest : List ℕ) → Always a (RestIs rest) → Spreads a b (Touched es) → Spreads b c (Torn 4096 1) → Leaves a c (RestIs rest) × Always c (RestIs rest)
-finish_rest plan rest all homes gate =
-    let written = homes_rest plan rest all homes in (
-      leaves_then written.0 (leaves_spread (Torn 4096 1) (RestIs rest) written.1 gate (gate_keeps_rest rest)),
-      always_spread (Torn 4096 1) (RestIs rest) written.1 gate (gate_keeps_rest rest),
-    )
+pub others_moments : {blocks : ℕ} {kept : ℕ → List ℕ} {a b : Meaning} (placed : List ℕ) → Always a (Shut blocks kept) → Spreads a b (Torn 4097 63) → Leaves a b (StandsBut blocks placed kept)
+others_moments {blocks} {kept} placed all spreads =
+    leaves_weaken (StandsBut blocks placed kept) (others_stand all spreads) (λ image s. stands_for_but blocks placed kept image s)
 
-module _ {blocks : ℕ} {es : List Entry} (plan : Plan blocks es) (kept : ℕ → List ℕ) where
-  -- the homes are written
-  pub homes_moments : {a b : Meaning} → Always a (Open blocks kept es) → Spreads a b (Touched es) → Leaves a b (StandsFor blocks (looked es kept))
-  homes_moments all spreads = leaves_spread (Touched es) (StandsFor blocks (looked es kept)) all spreads
-      (λ from image o t. open_stands blocks kept es image plan.within (touched_open blocks kept es from image plan.home o t))
+-- gate 0 and then the others
+pub all_closed_settled : {c : Meaning} (bytes homes gate : List ℕ) → homes ≡ bytes → gate ≡ put homes 4096 (0 ∷ []) → IsSettled c (put gate 4097 (replicate 63 0)) → IsSettled c (gates_closed true bytes)
+unfolding gates_closed
+all_closed_settled {c} bytes homes gate homes_are gate_is settled =
+    subst (λ image. IsSettled c (put image 4097 (replicate 63 0))) (gate_is ∙ ap (λ image. put image 4096 (0 ∷ [])) homes_are) settled
 
-  pub homes_open : {a b : Meaning} → Always a (Open blocks kept es) → Spreads a b (Touched es) → Always b (Open blocks kept es)
-  homes_open all spreads = always_spread (Touched es) (Open blocks kept es) all spreads (λ from image o t. touched_open blocks kept es from image plan.home o t)
+-- ---- what stays
+past_trans : (blocks : ℕ) (x y z : List ℕ) → SamePast blocks x y → SamePast blocks y z → SamePast blocks x z
+past_trans blocks x y z xy yz n le = yz n le ∙ xy n le
 
-  pub homes_written : {a b : Meaning} → Always a (Open blocks kept es) → Spreads a b (Touched es) → IsSettled b (apply es a.bytes) → Always b (Unsure blocks (looked es kept) es)
-  homes_written {a} {b} all spreads settled =
-      let there : Open blocks kept es (apply es a.bytes) = subst (Open blocks kept es) settled.reads (homes_open all spreads).reads in
-      always_settled (Unsure blocks (looked es kept) es) (apply es a.bytes) settled (written blocks kept es a.bytes (apply es a.bytes) plan.within all.reads there refl)
+around_trans : (blocks : ℕ) (x y z : List ℕ) → SameAround blocks x y → SameAround blocks y z → SameAround blocks x z
+around_trans blocks x y z xy yz = record { past = past_trans blocks x y z xy.past yz.past; rest = yz.rest ∙ xy.rest }
 
-  -- the gate is closed
-  pub closing_moments : {a b : Meaning} → Always a (Unsure blocks (looked es kept) es) → Spreads a b (Torn 4096 1) → Leaves a b (StandsFor blocks (looked es kept))
-  closing_moments all spreads = leaves_spread (Torn 4096 1) (StandsFor blocks (looked es kept)) all spreads
-      (λ from image u t. closing_stands blocks kept es image plan.within (torn_gate blocks (looked es kept) es from image u t))
+past_torn : (blocks at n : ℕ) → 578 < blocks → at + n ≤ 2367488 → (from image : List ℕ) → Torn at n from image → SamePast blocks from image
+past_torn blocks at n enough high from image torn = λ k le. part-torn at n from image torn (4096 * k) 4096 (inr (omega (arith, enough, high, le)))
 
-  pub closing_past : {a b : Meaning} → Always a (Unsure blocks (looked es kept) es) → Spreads a b (Torn 4096 1) → PastIs blocks kept b.bytes
-  closing_past {a} {b} all spreads =
-      looked_past blocks kept es b.bytes plan (unsure_past blocks (looked es kept) es b.bytes plan (always_spread (Torn 4096 1) (Unsure blocks (looked es kept) es) all spreads (λ from image u t. torn_gate blocks (looked es kept) es from image u t)).reads)
+around_torn : (blocks at n : ℕ) → 578 < blocks → at + n ≤ 4160 → (from image : List ℕ) → Torn at n from image → SameAround blocks from image
+around_torn blocks at n enough high from image torn = record {
+  past = past_torn blocks at n enough (omega (arith, high)) from image torn;
+  rest = part-torn at n from image torn 4160 2363328 (inr high);
+}
 
-  pub done_fits : {a b : Meaning} → IsTrue b.is_honest → Always a (Unsure blocks (looked es kept) es) → IsSettled b (put a.bytes 4096 (0 ∷ [])) → Fits blocks b (looked es kept)
-  done_fits {a} {b} honest all settled = record {
-    honest = honest;
-    all = always_settled (IsAtRest blocks (looked es kept)) (put a.bytes 4096 (0 ∷ [])) settled (closed blocks (looked es kept) es a.bytes (omega (arith, plan.enough)) all.reads);
-  }
+clear_past : (blocks : ℕ) (es : List Entry) (n : ℕ) → Within blocks es → blocks ≤ n → IsClear es (4096 * n) 4096
+clear_past blocks [] n within le = tt
+clear_past blocks (e ∷ es) n within le = (inr (omega (arith, within.0, le)), clear_past blocks es n within.2 le)
 
-  pub homes_past : {a b : Meaning} → Always a (Open blocks kept es) → Spreads a b (Touched es) → PastIs blocks kept b.bytes
-  homes_past {a} {b} all spreads = open_past blocks kept es b.bytes plan (homes_open all spreads).reads
+around_touched : (blocks : ℕ) (es : List Entry) → Plan blocks es → (from image : List ℕ) → Touched es from image → SameAround blocks from image
+around_touched blocks es plan from image touched = record {
+  past = λ n le. touched.clear (4096 * n) 4096 (clear_past blocks es n plan.within le);
+  rest = touched.clear 4160 2363328 (homes_clear es 4160 2363328 (omega arith) plan.home);
+}
 
-  -- the record is written
-  pub record_moments : {a b : Meaning} → Always a (IsAtRest blocks kept) → Spreads a b (Torn 8192 2359296) → Leaves a b (StandsForAllOrNone blocks kept es)
-  record_moments all spreads = leaves_spread (Torn 8192 2359296) (StandsForAllOrNone blocks kept es) all spreads
-      (λ from image r t. inl (rest_stands blocks kept image (torn_record blocks kept from image r t)))
+pub homes_around : {a b : Meaning} {blocks : ℕ} {es : List Entry} → Plan blocks es → Spreads a b (Touched es) → Spreads a b (SameAround blocks)
+homes_around {blocks = blocks} {es = es} plan spreads = spreads_weaken _ spreads (around_touched blocks es plan)
 
-  pub record_rest : {a b : Meaning} → Always a (IsAtRest blocks kept) → Spreads a b (Torn 8192 2359296) → Always b (IsAtRest blocks kept)
-  record_rest all spreads = always_spread (Torn 8192 2359296) (IsAtRest blocks kept) all spreads (λ from image r t. torn_record blocks kept from image r t)
+pub gate_around : {a b c : Meaning} (blocks : ℕ) → 578 < blocks → (at n : ℕ) → at + n ≤ 4160 → Spreads a b (SameAround blocks) → Spreads b c (Torn at n) → Spreads a c (SameAround blocks)
+gate_around blocks enough at n high before spreads =
+    spreads_then _ (around_trans blocks) before (spreads_weaken _ spreads (around_torn blocks at n enough high))
 
-  pub record_past : {a b : Meaning} → Always a (IsAtRest blocks kept) → Spreads a b (Torn 8192 2359296) → PastIs blocks kept b.bytes
-  record_past {a} {b} all spreads = rest_past blocks kept es b.bytes plan (record_rest all spreads).reads
+pub gates_around : {a b : Meaning} (blocks : ℕ) → 578 < blocks → (at n : ℕ) → at + n ≤ 4160 → Spreads a b (Torn at n) → Spreads a b (SameAround blocks)
+gates_around blocks enough at n high spreads = spreads_weaken _ spreads (around_torn blocks at n enough high)
 
-  pub record_written : {a b : Meaning} (head : List ℕ) → length head ≡ 4096 → IsTrue (is_header blocks head) → homes_of head ≡ homes es → Always a (IsAtRest blocks kept) → Spreads a b (Torn 8192 2359296) → IsSettled b (apply (renumbered 3 es) (put a.bytes 8192 head)) → Always b (Unsure blocks kept es)
-  record_written {a} {b} head len form homes_are all spreads settled =
-      let bytes = apply (renumbered 3 es) (put a.bytes 8192 head) in
-      let rest : IsAtRest blocks kept bytes = subst (IsAtRest blocks kept) settled.reads (record_rest all spreads).reads in
-      let long : 2367488 ≤ length a.bytes = omega (arith, all.reads.keeps.long, plan.enough) in
-      always_settled (Unsure blocks kept es) bytes settled (record {
-        keeps = rest.keeps;
-        spelled = spelled_written blocks es a.bytes head bytes plan.few plan.renumbered_within len long form homes_are refl;
-      })
+pub around_past : {a b : Meaning} {blocks : ℕ} → Spreads a b (SameAround blocks) → Spreads a b (SamePast blocks)
+around_past spreads = spreads_weaken _ spreads (λ from image same. same.past)
 
-  -- the gate is opened
-  pub opening_moments : {a b : Meaning} → Always a (Unsure blocks kept es) → Spreads a b (Torn 4096 1) → Leaves a b (StandsForAllOrNone blocks kept es)
-  opening_moments all spreads = leaves_spread (Torn 4096 1) (StandsForAllOrNone blocks kept es) all spreads
-      (λ from image u t. unsure_stands blocks kept es image plan.within (torn_gate blocks kept es from image u t))
+pub torn_past : {a b : Meaning} (blocks at n : ℕ) → 578 < blocks → at + n ≤ 2367488 → Spreads a b (Torn at n) → Spreads a b (SamePast blocks)
+torn_past blocks at n enough high spreads = spreads_weaken _ spreads (past_torn blocks at n enough high)
 
-  pub opening_past : {a b : Meaning} → Always a (Unsure blocks kept es) → Spreads a b (Torn 4096 1) → PastIs blocks kept b.bytes
-  opening_past {a} {b} all spreads =
-      unsure_past blocks kept es b.bytes plan (always_spread (Torn 4096 1) (Unsure blocks kept es) all spreads (λ from image u t. torn_gate blocks kept es from image u t)).reads
-
-  pub gate_open : {a b : Meaning} → Always a (Unsure blocks kept es) → IsSettled b (put a.bytes 4096 (1 ∷ [])) → Always b (Open blocks kept es)
-  gate_open {a} {b} all settled =
-      always_settled (Open blocks kept es) (put a.bytes 4096 (1 ∷ [])) settled (opened blocks kept es a.bytes (omega (arith, plan.enough)) all.reads)
-
-  pub finish_moments : {a b : Meaning} → Leaves a b (StandsFor blocks (looked es kept)) → Leaves a b (StandsForAllOrNone blocks kept es)
-  finish_moments leaves = leaves_weaken (StandsForAllOrNone blocks kept es) leaves (λ image all. inr all)
-
-pub past_kept : (blocks : ℕ) (kept : ℕ → List ℕ) (old new : Meaning) → 578 < blocks → Fits blocks old kept → PastIs blocks kept new.bytes → (n : ℕ) → blocks ≤ n → block n new.bytes ≡ block n old.bytes
-past_kept blocks kept old new enough fits past n le = past n le ∙ sym (fits.all.reads.keeps.same n (inr (omega (arith, enough, le))))
-
--- a block that is not staged is what was there
-pub look-absent : (es : List Entry) (n : ℕ) (old : List ℕ) → has_entry es n ≡ false → look es n old ≡ old
-look-absent [] n old absent = refl
-look-absent (e ∷ es) n old absent =
-    let parts = neither (e.home == n) (has_entry es n) absent in
-    let ne : n ≡ e.home → ⊥ = λ same. eqb-false e.home n parts.0 (sym same) in
-    ap (look es n) (cond-false (n == e.home) e.bytes old (ne_eqb n e.home ne)) ∙ look-absent es n old parts.1
-  where
-    neither : (a b : Bool) → (a || b) ≡ false → (a ≡ false) × (b ≡ false)
-    neither true b e = absurd (false≢true (sym e))
-    neither false b e = (refl, e)
+pub then_past : {a b c : Meaning} {blocks : ℕ} → Spreads a b (SamePast blocks) → Spreads b c (SamePast blocks) → Spreads a c (SamePast blocks)
+then_past {blocks = blocks} one two = spreads_then _ (past_trans blocks) one two

@@ -10,7 +10,7 @@ use Rattle.lis_ports.specs.Calls.{Elapses, IsTorn, IsWritten}
 use Rattle.lis_ports.proofs.Moments.{run_none}
 use Rattle.lis_journal.specs.Record.{Entry, homes, rises, apply}
 use Rattle.lis_journal.specs.Spreads.{Spreads, Touched}
-use Rattle.lis_journal.specs.Phases.{renumbered, placed}
+use Rattle.lis_journal.specs.Phases.{renumbered, at_target}
 use Rattle.lis_journal.specs.declared.commit.Target.{Target}
 use Rattle.lis_journal.specs.declared.commit.Target.TheVariants.{Record, Homes}
 use Rattle.lis_journal.proofs.Entries.{Within, AtHome, touched_refl, touched_trans, touched_torn}
@@ -33,13 +33,13 @@ length-renumbered : (m : ℕ) (es : List Entry) → length (renumbered m es) ≡
 length-renumbered m [] = refl
 length-renumbered m (e ∷ es) = ap suc (length-renumbered (m + 1) es)
 
-pub length-placed : (t : Target) (es : List Entry) → length (placed t es) ≡ length es
-length-placed Record es = length-renumbered 3 es
-length-placed Homes es = refl
+pub length-target : (t : Target) (es : List Entry) → length (at_target t es) ≡ length es
+length-target (Record first) es = length-renumbered first es
+length-target Homes es = refl
 
-pub placed-bytes : (t : Target) (es : List Entry) (k : ℕ) (d : Entry) → k < length es → (get_or (placed t es) k d).bytes ≡ (get_or es k d).bytes
-placed-bytes Record es k d lt = renumbered-bytes 3 es k d lt
-placed-bytes Homes es k d lt = refl
+pub target-bytes : (t : Target) (es : List Entry) (k : ℕ) (d : Entry) → k < length es → (get_or (at_target t es) k d).bytes ≡ (get_or es k d).bytes
+target-bytes (Record first) es k d lt = renumbered-bytes first es k d lt
+target-bytes Homes es k d lt = refl
 
 apply-append : (es fs : List Entry) (image : List ℕ) → apply (es ++ fs) image ≡ apply fs (apply es image)
 apply-append [] fs image = refl
@@ -103,3 +103,11 @@ home_within blocks last (e ∷ es) zero d rise lt = (rise_parts blocks last e.ho
 home_within blocks last (e ∷ es) (suc k) d rise lt =
     let less : k < length es = omega (arith, lt) in
     home_within blocks e.home es k d (rise_parts blocks last e.home (homes es) rise).2 less
+
+pub home_above : (blocks last : ℕ) (es : List Entry) (k : ℕ) (d : Entry) → IsTrue (rises blocks last (homes es)) → k < length es → last < (get_or es k d).home
+home_above blocks last [] k d rise lt = absurd (omega arith)
+home_above blocks last (e ∷ es) zero d rise lt = (rise_parts blocks last e.home (homes es) rise).0
+home_above blocks last (e ∷ es) (suc k) d rise lt =
+    let less : k < length es = omega (arith, lt) in
+    let parts = rise_parts blocks last e.home (homes es) rise in
+    omega (arith, parts.0, home_above blocks e.home es k d parts.2 less)

@@ -1,41 +1,79 @@
--- What an image stands for, outside the gate and the record.
-use Rattle.std.specs.Prelude.{◌≡◌, ◌⊎◌, ℕ, ◌*◌, ◌≤◌, ◌==◌, false, if◌then◌else◌, List, [], ◌∷◌, length, IsTrue, IsSomeAnd}
+-- What an image stands for, outside the gates and the records.
+use Rattle.std.specs.Prelude.{◌≡◌, ◌⊎◌, ℕ, ◌*◌, ◌<◌, ◌≤◌, ◌==◌, nat_lt, Bool, false, if◌then◌else◌, List, [], ◌∷◌, ◌++◌, length, None, IsTrue, IsSomeAnd}
+use Rattle.std.specs.List.{list_any}
 use Rattle.lis_ports.specs.Meaning.{Meaning}
-use Rattle.lis_ports.specs.Runs.{Always}
-use Rattle.lis_journal.specs.Record.{block, is_open, Entry, replayed}
+use Rattle.lis_journal.specs.Record.{block, is_open, Entry, behind, first_bad, all_recorded, replayed}
+use Rattle.lis_journal.specs.Journal.{OpenRecords, Held}
 
--- A block outside the gate and the record. Those past the image are among them.
+-- A block outside the gates and the records. Those past the image are among them.
 abbrev pub IsOutside : ℕ → Type 0
 IsOutside n = (n ≡ 0) ⊎ (578 ≤ n)
 
--- The image is long enough, and each block outside the gate and the record is that of `kept`.
+-- The image is long enough, and each block outside the gates and the records is that of `kept`.
 pub record Keeps (blocks : ℕ) (kept : ℕ → List ℕ) (image : List ℕ) : Type 0 where
   pub long : 4096 * blocks ≤ length image
   pub same : (n : ℕ) → IsOutside n → block n image ≡ kept n
 
+abbrev pub is_among : List ℕ → ℕ → Bool
+is_among placed n = list_any (λ m. m == n) placed
+
+-- the same, but for the placed blocks, which may hold any bytes
+pub record KeepsBut (blocks : ℕ) (placed : List ℕ) (kept : ℕ → List ℕ) (image : List ℕ) : Type 0 where
+  pub long : 4096 * blocks ≤ length image
+  pub same : (n : ℕ) → IsOutside n → is_among placed n ≡ false → block n image ≡ kept n
+
 -- It is long enough itself, and has a replayed image, which keeps these blocks.
 unfoldable pub StandsFor : ℕ → (ℕ → List ℕ) → List ℕ → Type 0
 StandsFor blocks kept image = (4096 * blocks ≤ length image) × IsSomeAnd (replayed blocks image) (Keeps blocks kept)
+
+unfoldable pub StandsBut : ℕ → List ℕ → (ℕ → List ℕ) → List ℕ → Type 0
+StandsBut blocks placed kept image =
+    (4096 * blocks ≤ length image) × IsSomeAnd (replayed blocks image) (KeepsBut blocks placed kept)
 
 -- what a block holds when these entries are in their homes, if `old` was there
 abbrev pub look : List Entry → ℕ → List ℕ → List ℕ
 look [] n old = old
 look (e ∷ entries) n old = look entries n (if n == e.home then e.bytes else old)
 
--- It stands for the blocks as before, or for those with all entries in their homes.
-abbrev pub StandsForAllOrNone : ℕ → (ℕ → List ℕ) → List Entry → List ℕ → Type 0
-StandsForAllOrNone blocks kept entries image =
-    StandsFor blocks kept image ⊎ StandsFor blocks (λ n. look entries n (kept n)) image
+-- It stands for the blocks as before, but for the placed ones, or for all of them with all entries in their homes.
+abbrev pub StandsForAllOrNone : ℕ → List ℕ → (ℕ → List ℕ) → List Entry → List ℕ → Type 0
+StandsForAllOrNone blocks placed kept entries image =
+    StandsBut blocks placed kept image ⊎ StandsFor blocks (λ n. look entries n (kept n)) image
 
--- The gate is closed, and the image keeps these blocks.
-pub record IsAtRest (blocks : ℕ) (kept : ℕ → List ℕ) (image : List ℕ) : Type 0 where
-  pub closed : is_open image ≡ false
-  pub keeps : Keeps blocks kept image
+-- The image has these records from block 2 on, in form and one after another. With the latest contents in their homes it has the
+-- blocks of `kept`, but for the placed ones.
+pub record Holds (blocks : ℕ) (records : OpenRecords) (placed : List ℕ) (kept : ℕ → List ℕ) (image : List ℕ) : Type 0 where
+  pub enough : 578 < blocks
+  pub long : 4096 * blocks ≤ length image
+  pub form : first_bad blocks 2 records.count image ≡ None
+  pub ends : behind 2 records.count image ≡ records.next
+  pub latest : (n : ℕ) (old : List ℕ) → look (all_recorded 2 records.count image) n old ≡ look records.latest n old
+  pub same : (n : ℕ) → IsOutside n → is_among placed n ≡ false → look records.latest n (block n image) ≡ kept n
 
--- A journal of so many blocks fits a disk that keeps these: the disk is honest, and each image of it is at rest with them.
-pub record Fits (blocks : ℕ) (m : Meaning) (kept : ℕ → List ℕ) : Type 0 where
+-- It holds these records, their gates are open, and all other gates are closed.
+pub record IsAtRest (blocks : ℕ) (records : OpenRecords) (placed : List ℕ) (kept : ℕ → List ℕ) (image : List ℕ) : Type 0 where
+  pub few : records.count ≤ 64
+  pub holds : Holds blocks records placed kept image
+  pub gates : (k : ℕ) → k < 64 → is_open k image ≡ nat_lt k records.count
+
+-- A disk keeps these blocks under these records: it is honest, and it is at rest as it reads, and in each image but for the placed
+-- blocks.
+pub record FitsAt (blocks : ℕ) (records : OpenRecords) (placed : List ℕ) (m : Meaning) (kept : ℕ → List ℕ) : Type 0 where
   pub honest : IsTrue m.is_honest
-  pub all : Always m (IsAtRest blocks kept)
+  pub reads : IsAtRest blocks records [] kept m.bytes
+  pub leaves : (image : List ℕ) → m.images image → IsAtRest blocks records placed kept image
+
+-- a journal fits a disk that keeps these blocks
+abbrev pub Fits : Held → Meaning → (ℕ → List ℕ) → Type 0
+Fits journal m kept = FitsAt journal.blocks journal.records journal.placed m kept
+
+-- the placed blocks with this one
+abbrev pub with_placed : List ℕ → ℕ → List ℕ
+with_placed placed n = if is_among placed n then placed else placed ++ n ∷ []
+
+-- the blocks that are kept, with these bytes in one of them
+abbrev pub with_kept : ℕ → List ℕ → (ℕ → List ℕ) → ℕ → List ℕ
+with_kept n bytes kept k = if k == n then bytes else kept k
 
 -- The blocks from this number on read as before.
 abbrev pub KeepsPast : ℕ → Meaning → Meaning → Type 0

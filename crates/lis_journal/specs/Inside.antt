@@ -1,8 +1,10 @@
 -- How frames make the entries that a contract sees. No public clause cites this module.
-use Rattle.std.specs.Prelude.{◌≡◌, ◌≢◌, ℕ, zero, suc, ◌+◌, ◌≤◌, ◌<◌, List, [], ◌∷◌, length, map, unwrap_or}
+use Rattle.std.specs.Prelude.{◌≡◌, ◌≢◌, ℕ, zero, suc, ◌+◌, ◌*◌, ◌≤◌, ◌<◌, nat_lt, List, [], ◌∷◌, length, map, unwrap_or, IsTrue}
+use Rattle.std.specs.List.{list_all}
 use Rattle.lis_region.specs.Region as region
 use Rattle.lis_journal.specs.declared.stage.Staged.{Staged}
 use Rattle.lis_journal.specs.Record.{Entry}
+use Rattle.lis_journal.specs.Journal.{OpenRecords}
 use Rattle.lis_journal.specs.Staging.{Staging, IsStaging}
 
 abbrev pub bytes_at : region.Region ℕ → ℕ → List ℕ
@@ -49,3 +51,25 @@ PlaceFor n zero [] = Unit {0}
 PlaceFor n zero (s ∷ ss) = n < s.home
 PlaceFor n (suc k) [] = ⊥
 PlaceFor n (suc k) (s ∷ ss) = (s.home < n) × PlaceFor n k ss
+
+-- the open records of an image of so many blocks
+pub record Log : Type 0 where
+  pub blocks : ℕ
+  pub records : OpenRecords
+
+-- Each record of c blocks takes c + 1 of the blocks from 2 to 577, and no more than 576.
+pub record IsLog (log : Log) : Type 0 where
+  pub enough : 578 < log.blocks
+  pub few : log.records.count ≤ 64
+  pub fits : log.records.next ≤ 578
+  pub room : length log.records.latest + log.records.count + 2 ≤ log.records.next
+  pub used : log.records.next ≤ 2 + 576 * log.records.count
+
+-- the parts of a journal fit together
+pub record IsJournal (blocks : ℕ) (log : Log) (header placed : List ℕ) (room : ℕ) : Type 0 where
+  pub enough : 578 < blocks
+  pub same : log.blocks ≡ blocks
+  pub header_len : length header ≡ 4096
+  pub few : length placed ≤ 257
+  pub has_room : 257 ≤ room
+  pub within : IsTrue (list_all (λ n. nat_lt n blocks) placed)

@@ -1,22 +1,39 @@
--- The journal on a disk: blocks, the gate, the record, and the image that stands when the record is done.
-use Rattle.std.specs.Prelude.{ℕ, ◌+◌, ◌*◌, ◌==◌, zero, suc, nat_lt, nat_le, Bool, true, ◌&&◌, if◌then◌else◌, List, [], ◌∷◌, drop, map, slice_index, Option, Some, None}
+-- The journal on a disk: blocks, gates, records, and the image that stands when the open records are done.
+use Rattle.std.specs.Prelude.{ℕ, ◌+◌, ◌*◌, ◌==◌, zero, suc, nat_lt, nat_le, Bool, true, ◌&&◌, if◌then◌else◌, List, [], ◌∷◌, ◌++◌, drop, map, replicate, slice_index, Option, Some, None, is_some}
 use Rattle.std.specs.Int.{w32, from_le_bytes}
-use Rattle.std.specs.List.{list_all}
+use Rattle.std.specs.List.{list_all, list_any, prefix_len}
 use Rattle.lis_ports.specs.Bytes.{part, put}
 
--- the first home block, and how many blocks a record holds at most
+-- the first home block, how many blocks a record holds at most, and how many records are open at most
 abbrev pub homes_start : ℕ
 homes_start = 578
 
 abbrev pub max_staged : ℕ
 max_staged = 575
 
+abbrev pub max_open : ℕ
+max_open = 64
+
 abbrev pub block : ℕ → List ℕ → List ℕ
 block n image = part (4096 * n) 4096 image
 
--- The gate is byte 0 of block 1: 1 is open, every other value is closed.
-abbrev pub is_open : List ℕ → Bool
-is_open image = slice_index (part 4096 1 image) 0 == 1
+-- The gates are the first 64 bytes of block 1. A gate is open where its byte is 1, and closed where it has any other value.
+abbrev pub gates : List ℕ → List ℕ
+gates image = part 4096 64 image
+
+abbrev pub is_open : ℕ → List ℕ → Bool
+is_open k image = slice_index (gates image) k == 1
+
+abbrev pub has_open : List ℕ → Bool
+has_open image = list_any (λ gate. gate == 1) (gates image)
+
+-- How many records are open: the gates before the first closed one.
+unfoldable pub open_count : List ℕ → ℕ
+open_count image = prefix_len (λ gate. gate == 1) (gates image)
+
+-- all of the journal's bytes but the gates: the rest of block 1, and the records
+abbrev pub behind_gates : List ℕ → List ℕ
+behind_gates image = part 4160 2363328 image
 
 -- a block and what it is to hold
 pub record Entry : Type 0 where
@@ -25,18 +42,6 @@ pub record Entry : Type 0 where
 
 abbrev pub homes : List Entry → List ℕ
 homes entries = map (λ e. e.home) entries
-
--- the blocks of the record: block 2, and the 575 behind it
-abbrev pub area : List ℕ → List ℕ
-area image = part 8192 2359296 image
-
--- all of the journal's bytes but the gate: the rest of block 1, and the record
-abbrev pub behind_gate : List ℕ → List ℕ
-behind_gate image = part 4097 2363391 image
-
--- block 2: how many blocks, and their homes
-abbrev pub header : List ℕ → List ℕ
-header area = part 0 4096 area
 
 -- the k-th number of a header, least byte first
 abbrev pub word : ℕ → List ℕ → ℕ
@@ -63,31 +68,64 @@ abbrev pub is_header : ℕ → List ℕ → Bool
 is_header blocks header =
     nat_lt 0 (count_of header) && nat_le (count_of header) 575 && rises blocks 577 (homes_of header) && list_all (λ b. b == 0) (drop (4 * (count_of header + 1)) header)
 
--- the record is in form
-unfoldable pub is_record : ℕ → List ℕ → Bool
-is_record blocks area = is_header blocks (header area)
+-- the block behind the record that begins at block b: its header is that block, and its contents are the blocks after it
+unfoldable pub record_end : ℕ → List ℕ → ℕ
+record_end b image = b + count_of (block b image) + 1
 
--- homes with the blocks of the area from the k-th on
+-- A record is in form: its header is, and it ends before the home blocks.
+unfoldable pub is_record : ℕ → ℕ → List ℕ → Bool
+is_record blocks b image = is_header blocks (block b image) && nat_le (record_end b image) 578
+
+-- homes with the blocks of the image from the k-th on
 abbrev pub entries_from : ℕ → List ℕ → List ℕ → List Entry
-entries_from k [] area = []
-entries_from k (home ∷ homes) area =
-    record { home = home; bytes = block k area } ∷ entries_from (k + 1) homes area
+entries_from k [] image = []
+entries_from k (home ∷ homes) image =
+    record { home = home; bytes = block k image } ∷ entries_from (k + 1) homes image
 
--- what the record is to put into the homes
-unfoldable pub recorded : List ℕ → List Entry
-recorded area = entries_from 1 (homes_of (header area)) area
+-- what the record that begins at block b is to put into the homes
+unfoldable pub recorded : ℕ → List ℕ → List Entry
+recorded b image = entries_from (b + 1) (homes_of (block b image)) image
 
--- an image with each entry in its home
+-- Of n records, one after another from block b on: the block behind them, the block of the first that is not in form, and what all
+-- of them hold, in their order.
+abbrev pub behind : ℕ → ℕ → List ℕ → ℕ
+behind b zero image = b
+behind b (suc n) image = behind (record_end b image) n image
+
+abbrev pub first_bad : ℕ → ℕ → ℕ → List ℕ → Option ℕ
+first_bad blocks b zero image = None
+first_bad blocks b (suc n) image =
+    if is_record blocks b image then first_bad blocks (record_end b image) n image else Some b
+
+abbrev pub all_recorded : ℕ → ℕ → List ℕ → List Entry
+all_recorded b zero image = []
+all_recorded b (suc n) image = recorded b image ++ all_recorded (record_end b image) n image
+
+-- an image with each entry in its home, the later ones over the earlier
 abbrev pub apply : List Entry → List ℕ → List ℕ
 apply [] image = image
 apply (e ∷ entries) image = apply entries (put image (4096 * e.home) e.bytes)
 
--- The replayed image: with a closed gate the image itself; with an open gate and a record in form, the image with the record's blocks in their homes; else none.
+-- the block of the first open record that is not in form
+unfoldable pub bad_record : ℕ → List ℕ → Option ℕ
+bad_record blocks image = first_bad blocks 2 (open_count image) image
+
+-- The replayed image: the image with the contents of the open records in their homes; none where an open record is not in form.
 unfoldable pub replayed : ℕ → List ℕ → Option (List ℕ)
 replayed blocks image =
-    if is_open image then (if is_record blocks (area image) then Some (apply (recorded (area image)) image) else None) else Some image
+    if is_some (bad_record blocks image) then None
+    else Some (apply (all_recorded 2 (open_count image) image) image)
 
--- What a recovery makes of an image: with an open gate and a record in form the replayed image with a 0 in the gate, and else the image itself.
+-- An image with its gates closed: gate 0 where it was open, and all others.
+unfoldable pub gates_closed : Bool → List ℕ → List ℕ
+gates_closed first image = put (if first then put image 4096 (0 ∷ []) else image) 4097 (replicate 63 0)
+
+-- What a recovery makes of an image: where a gate is open and there is a replayed image, that with its gates closed, and else the
+-- image itself.
+abbrev pub recovered_as : List ℕ → Option (List ℕ) → List ℕ
+recovered_as image None = image
+recovered_as image (Some replay) = gates_closed (is_open 0 image) replay
+
 unfoldable pub recovered : ℕ → List ℕ → List ℕ
 recovered blocks image =
-    if is_open image && is_record blocks (area image) then put (apply (recorded (area image)) image) 4096 (0 ∷ []) else image
+    if has_open image then recovered_as image (replayed blocks image) else image

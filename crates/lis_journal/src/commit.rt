@@ -1,64 +1,66 @@
-//! The phases of a commit: the record, the gate, the homes, and the gate again.
+//! The phases of a commit and of a checkpoint: the record and its gate; the homes, gate 0 and the other gates.
 
-ghost use Rattle.std.specs.Prelude.{[], ◌∷◌, ◌≡◌, ◌+◌, ◌*◌, ◌<◌, ◌≤◌, ℕ, List, length, IsTrue, OnOk, slice_index_or};
+ghost use Rattle.std.specs.Prelude.{[], ◌∷◌, ◌≡◌, ◌+◌, ◌*◌, ◌<◌, ◌≤◌, ℕ, List, length, replicate, true, IsTrue, OnOk, slice_index_or};
 ghost use Rattle.lis_ports.specs.Bytes.{put, Torn};
-ghost use Rattle.lis_ports.specs.Runs.{IsDiskRun, Leaves, Always, IsSettled};
+ghost use Rattle.lis_ports.specs.Runs.{IsDiskRun, Leaves, IsSettled};
 ghost use Rattle.lis_ports.specs.Calls.{HasCause};
-ghost use Rattle.lis_journal.specs.Record.{Entry, block, behind_gate, apply, homes, homes_of, is_header};
-ghost use Rattle.lis_journal.specs.Images.{StandsFor, StandsForAllOrNone, Fits};
-ghost use Rattle.lis_journal.specs.Spreads.{Spreads, Touched};
+ghost use Rattle.lis_journal.specs.Record.{Entry, gates_closed, apply, homes, homes_of, is_header};
+ghost use Rattle.lis_journal.specs.Journal.{records_of, no_records};
+ghost use Rattle.lis_journal.specs.Images.{StandsBut, StandsForAllOrNone, FitsAt};
+ghost use Rattle.lis_journal.specs.Spreads.{Spreads, Touched, SamePast, SameAround};
 ghost use Rattle.lis_journal.specs.Staging.{IsStaging};
-ghost use Rattle.lis_journal.specs.Phases.{Open, looked, placed, renumbered};
+ghost use Rattle.lis_journal.specs.Phases.{IsOpened, Absorbs, looked, renumbered, at_target, HasRoom};
 
 use crate::stage::{BLOCK_LEN, Stage};
 use lis_ports::{Disk, Failed};
 
-/// Where the gate is.
-pub const GATE_AT: u64 = 4_096;
+/// Where the gates are, a byte each.
+pub const GATES_AT: u64 = 4_096;
 
-/// The block of the header.
-pub const HEADER_BLOCK: u32 = 2;
+/// How many records are open at most.
+pub const MAX_OPEN: u32 = 64;
 
-/// Where the header of the record is.
-pub const HEADER_AT: u64 = 8_192;
+const CLOSED: u8 = 0;
 
-/// The block behind the header, the first that holds a content.
-pub const RECORD_START: u64 = 3;
+const OPEN: u8 = 1;
 
-/// Where staged blocks are written.
+/// Where staged blocks are written: in a row of blocks from this one on, or at home.
 #[derive(Clone, Copy)]
 pub enum Target {
-    Record,
+    Record(u32),
     Homes,
 }
 
 // Where the k-th staged block is written.
-fn place(stage: &Stage, target: Target, k: usize) -> u64
+fn address(stage: &Stage, target: Target, k: usize) -> u64
     requires k { k < length stage.now.entries }
     requires blocks { 578 < stage.now.blocks }
     requires staging { IsStaging stage.now }
-    ensures place { (d : Entry) → result ≡ 4096 * (slice_index_or (placed target stage.now.entries) k d).home }
+    requires room { HasRoom target (length stage.now.entries) }
+    ensures address { (d : Entry) → result ≡ 4096 * (slice_index_or (at_target target stage.now.entries) k d).home }
     ensures within { result + 4096 ≤ 4096 * stage.now.blocks }
 {
     match target {
-        Target::Record => (RECORD_START + k as u64) * BLOCK_LEN as u64,
+        Target::Record(first) => (u64::from(first) + k as u64) * BLOCK_LEN as u64,
         Target::Homes => u64::from(stage.home(k)) * BLOCK_LEN as u64,
     }
 }
 
-// Writes all staged blocks, in the record or at home.
+// Writes all staged blocks, each in a call of its own.
 fn write_blocks<D: Disk>(disk: &mut D, stage: &Stage, target: Target) -> Result<(), Failed>
     requires blocks { 578 < stage.now.blocks }
     requires long { 4096 * stage.now.blocks ≤ (D.meaning disk.old).len }
+    requires room { HasRoom target (length stage.now.entries) }
     ensures run { IsDiskRun (D.meaning disk.old) (D.meaning disk.new) }
     ensures cause { HasCause (D.meaning disk.old).disk_faults (D.meaning disk.new).disk_faults result }
+    ensures staging { IsStaging stage.now }
     ensures spreads { IsTrue (D.meaning disk.old).is_honest
-        → Spreads (D.meaning disk.old) (D.meaning disk.new) (Touched (placed target stage.now.entries)) }
+        → Spreads (D.meaning disk.old) (D.meaning disk.new) (Touched (at_target target stage.now.entries)) }
     ensures written { OnOk result (IsTrue (D.meaning disk.old).is_honest
-        → (D.meaning disk.new).bytes ≡ apply (placed target stage.now.entries) (D.meaning disk.old).bytes) }
+        → (D.meaning disk.new).bytes ≡ apply (at_target target stage.now.entries) (D.meaning disk.old).bytes) }
 {
     for k in 0..stage.len() {
-        disk.write_at(place(stage, target, k), stage.bytes(k))?;
+        disk.write_at(address(stage, target, k), stage.bytes(k))?;
     }
     Ok(())
 }
@@ -67,91 +69,123 @@ fn write_blocks<D: Disk>(disk: &mut D, stage: &Stage, target: Target) -> Result<
 fn write_synced<D: Disk>(disk: &mut D, stage: &Stage, target: Target) -> Result<(), Failed>
     requires blocks { 578 < stage.now.blocks }
     requires long { 4096 * stage.now.blocks ≤ (D.meaning disk.old).len }
+    requires room { HasRoom target (length stage.now.entries) }
     ensures run { IsDiskRun (D.meaning disk.old) (D.meaning disk.new) }
     ensures cause { HasCause (D.meaning disk.old).disk_faults (D.meaning disk.new).disk_faults result }
+    ensures staging { IsStaging stage.now }
     ensures spreads { IsTrue (D.meaning disk.old).is_honest
-        → Spreads (D.meaning disk.old) (D.meaning disk.new) (Touched (placed target stage.now.entries)) }
+        → Spreads (D.meaning disk.old) (D.meaning disk.new) (Touched (at_target target stage.now.entries)) }
     ensures settled { OnOk result (IsTrue (D.meaning disk.old).is_honest
-        → IsSettled (D.meaning disk.new) (apply (placed target stage.now.entries) (D.meaning disk.old).bytes)) }
+        → IsSettled (D.meaning disk.new) (apply (at_target target stage.now.entries) (D.meaning disk.old).bytes)) }
 {
     write_blocks(disk, stage, target)?;
     disk.sync()
 }
 
-// Writes the gate, in a write of its own, and syncs.
-fn write_gate<D: Disk>(disk: &mut D, value: u8) -> Result<(), Failed>
-    requires { 4097 ≤ (D.meaning disk.old).len }
+// Writes a gate, in a write of its own, and syncs.
+fn write_gate<D: Disk>(disk: &mut D, gate: u32, value: u8) -> Result<(), Failed>
+    requires gate { gate < 64 }
+    requires long { 8192 ≤ (D.meaning disk.old).len }
     ensures run { IsDiskRun (D.meaning disk.old) (D.meaning disk.new) }
     ensures cause { HasCause (D.meaning disk.old).disk_faults (D.meaning disk.new).disk_faults result }
-    ensures spreads { IsTrue (D.meaning disk.old).is_honest → Spreads (D.meaning disk.old) (D.meaning disk.new) (Torn 4096 1) }
+    ensures spreads { IsTrue (D.meaning disk.old).is_honest
+        → Spreads (D.meaning disk.old) (D.meaning disk.new) (Torn (4096 + gate) 1) }
     ensures settled { OnOk result (IsTrue (D.meaning disk.old).is_honest
-        → IsSettled (D.meaning disk.new) (put (D.meaning disk.old).bytes 4096 (value ∷ []))) }
+        → IsSettled (D.meaning disk.new) (put (D.meaning disk.old).bytes (4096 + gate) (value ∷ []))) }
 {
-    disk.write_at(GATE_AT, &[value])?;
+    disk.write_at(GATES_AT + u64::from(gate), &[value])?;
     disk.sync()
 }
 
-// Writes the record, and syncs.
-fn write_record<D: Disk>(disk: &mut D, header: &[u8], stage: &Stage) -> Result<(), Failed>
+/// Closes the gates 1 to 63 in one write, and syncs. Gate 0 has to be closed on the disk.
+pub fn close_others<D: Disk>(disk: &mut D) -> Result<(), Failed>
+    requires { 8192 ≤ (D.meaning disk.old).len }
+    ensures run { IsDiskRun (D.meaning disk.old) (D.meaning disk.new) }
+    ensures cause { HasCause (D.meaning disk.old).disk_faults (D.meaning disk.new).disk_faults result }
+    ensures spreads { IsTrue (D.meaning disk.old).is_honest
+        → Spreads (D.meaning disk.old) (D.meaning disk.new) (Torn 4097 63) }
+    ensures settled { OnOk result (IsTrue (D.meaning disk.old).is_honest
+        → IsSettled (D.meaning disk.new) (put (D.meaning disk.old).bytes 4097 (replicate 63 0))) }
+{
+    disk.write_at(GATES_AT + 1, &[CLOSED; 63])?;
+    disk.sync()
+}
+
+// Writes a record from this block on, and syncs.
+fn write_record<D: Disk>(
+    disk: &mut D,
+    header: &[u8],
+    stage: &Stage,
+    first: u32,
+) -> Result<(), Failed>
     requires blocks { 578 < stage.now.blocks }
     requires long { 4096 * stage.now.blocks ≤ (D.meaning disk.old).len }
-    requires staging { IsStaging stage.now }
     requires header { length header.now ≡ 4096 }
+    requires room { first + length stage.now.entries + 1 ≤ 578 }
     ensures run { IsDiskRun (D.meaning disk.old) (D.meaning disk.new) }
     ensures cause { HasCause (D.meaning disk.old).disk_faults (D.meaning disk.new).disk_faults result }
-    ensures spreads { IsTrue (D.meaning disk.old).is_honest → Spreads (D.meaning disk.old) (D.meaning disk.new) (Torn 8192 2359296) }
-    ensures settled { OnOk result (IsTrue (D.meaning disk.old).is_honest
-        → IsSettled (D.meaning disk.new) (apply (renumbered 3 stage.now.entries) (put (D.meaning disk.old).bytes 8192 header.now))) }
+    ensures spreads { IsTrue (D.meaning disk.old).is_honest
+        → Spreads (D.meaning disk.old) (D.meaning disk.new) (Torn (4096 * first) (4096 * (length stage.now.entries + 1))) }
+    ensures settled { OnOk result (IsTrue (D.meaning disk.old).is_honest → IsSettled (D.meaning disk.new)
+        (apply (renumbered (first + 1) stage.now.entries) (put (D.meaning disk.old).bytes (4096 * first) header.now))) }
 {
-    disk.write_at(HEADER_AT, header)?;
-    write_synced(disk, stage, Target::Record)
+    disk.write_at(u64::from(first) * BLOCK_LEN as u64, header)?;
+    write_synced(disk, stage, Target::Record(first + 1))
 }
 
-/// Writes the homes while the gate is open, and closes the gate. It is how a commit and a recovery end.
-pub fn finish<D: Disk>(disk: &mut D, stage: &Stage) -> Result<(), Failed>
-    requires blocks { 578 < stage.now.blocks }
-    requires long { 4096 * stage.now.blocks ≤ (D.meaning disk.old).len }
-    requires staging { IsStaging stage.now }
-    ensures run { IsDiskRun (D.meaning disk.old) (D.meaning disk.new) }
-    ensures cause { HasCause (D.meaning disk.old).disk_faults (D.meaning disk.new).disk_faults result }
-    ensures any_moment { (kept : ℕ → List ℕ) → IsTrue (D.meaning disk.old).is_honest
-        → Always (D.meaning disk.old) (Open stage.now.blocks kept stage.now.entries)
-        → Leaves (D.meaning disk.old) (D.meaning disk.new) (StandsFor stage.now.blocks (looked stage.now.entries kept)) }
-    ensures kept { OnOk result ((kept : ℕ → List ℕ) → IsTrue (D.meaning disk.old).is_honest
-        → Always (D.meaning disk.old) (Open stage.now.blocks kept stage.now.entries)
-        → Fits stage.now.blocks (D.meaning disk.new) (looked stage.now.entries kept)) }
-    ensures past { (kept : ℕ → List ℕ) → IsTrue (D.meaning disk.old).is_honest
-        → Always (D.meaning disk.old) (Open stage.now.blocks kept stage.now.entries)
-        → (n : ℕ) → stage.now.blocks ≤ n → block n (D.meaning disk.new).bytes ≡ kept n }
-    ensures settled { OnOk result (IsTrue (D.meaning disk.old).is_honest
-        → IsSettled (D.meaning disk.new) (put (apply stage.now.entries (D.meaning disk.old).bytes) 4096 (0 ∷ []))) }
-    ensures rest { (rest : List ℕ) → IsTrue (D.meaning disk.old).is_honest
-        → Always (D.meaning disk.old) (λ image. behind_gate image ≡ rest)
-        → Leaves (D.meaning disk.old) (D.meaning disk.new) (λ image. behind_gate image ≡ rest)
-        × Always (D.meaning disk.new) (λ image. behind_gate image ≡ rest) }
-{
-    write_synced(disk, stage, Target::Homes)?;
-    write_gate(disk, 0)
-}
-
-/// Makes the staged blocks kept.
-pub fn save<D: Disk>(disk: &mut D, header: &[u8], stage: &Stage) -> Result<(), Failed>
+/// Makes the staged blocks kept by one record more: it writes the record behind the open ones, and then opens its gate.
+pub fn append<D: Disk>(
+    disk: &mut D,
+    header: &[u8],
+    stage: &Stage,
+    count: u32,
+    next: u32,
+) -> Result<(), Failed>
     requires blocks { 578 < stage.now.blocks }
     requires long { 4096 * stage.now.blocks ≤ (D.meaning disk.old).len }
     requires staging { IsStaging stage.now }
     requires header { length header.now ≡ 4096 }
     requires form { IsTrue (is_header stage.now.blocks header.now) }
     requires homes { homes_of header.now ≡ homes stage.now.entries }
+    requires few { count < 64 }
+    requires room { next + length stage.now.entries + 1 ≤ 578 }
     ensures run { IsDiskRun (D.meaning disk.old) (D.meaning disk.new) }
     ensures cause { HasCause (D.meaning disk.old).disk_faults (D.meaning disk.new).disk_faults result }
-    ensures any_moment { (kept : ℕ → List ℕ) → Fits stage.now.blocks (D.meaning disk.old) kept
-        → Leaves (D.meaning disk.old) (D.meaning disk.new) (StandsForAllOrNone stage.now.blocks kept stage.now.entries) }
-    ensures kept { OnOk result ((kept : ℕ → List ℕ) → Fits stage.now.blocks (D.meaning disk.old) kept
-        → Fits stage.now.blocks (D.meaning disk.new) (looked stage.now.entries kept)) }
-    ensures past { (kept : ℕ → List ℕ) → Fits stage.now.blocks (D.meaning disk.old) kept
-        → (n : ℕ) → stage.now.blocks ≤ n → block n (D.meaning disk.new).bytes ≡ kept n }
+    ensures any_moment { (latest : List Entry) (placed : List ℕ) (kept : ℕ → List ℕ)
+        → FitsAt stage.now.blocks (records_of count next latest) placed (D.meaning disk.old) kept
+        → Leaves (D.meaning disk.old) (D.meaning disk.new)
+        (StandsForAllOrNone stage.now.blocks placed kept stage.now.entries) }
+    ensures kept { OnOk result ((latest later : List Entry) (placed : List ℕ) (kept : ℕ → List ℕ)
+        → Absorbs latest stage.now.entries later
+        → FitsAt stage.now.blocks (records_of count next latest) placed (D.meaning disk.old) kept
+        → FitsAt stage.now.blocks (records_of (count + 1) (next + length stage.now.entries + 1) later) [] (D.meaning disk.new)
+        (looked stage.now.entries kept)) }
+    ensures past { IsTrue (D.meaning disk.old).is_honest
+        → Spreads (D.meaning disk.old) (D.meaning disk.new) (SamePast stage.now.blocks) }
 {
-    write_record(disk, header, stage)?;
-    write_gate(disk, 1)?;
-    finish(disk, stage)
+    write_record(disk, header, stage, next)?;
+    write_gate(disk, count, OPEN)
+}
+
+/// Writes the latest contents of all open records home, and then closes the gates: gate 0 first, and then all others.
+pub fn checkpoint<D: Disk>(disk: &mut D, latest: &Stage) -> Result<(), Failed>
+    requires blocks { 578 < latest.now.blocks }
+    requires long { 4096 * latest.now.blocks ≤ (D.meaning disk.old).len }
+    ensures run { IsDiskRun (D.meaning disk.old) (D.meaning disk.new) }
+    ensures cause { HasCause (D.meaning disk.old).disk_faults (D.meaning disk.new).disk_faults result }
+    ensures staging { IsStaging latest.now }
+    ensures any_moment { (count next : ℕ) (placed : List ℕ) (kept : ℕ → List ℕ)
+        → IsOpened latest.now.blocks (records_of count next latest.now.entries) placed (D.meaning disk.old) kept
+        → Leaves (D.meaning disk.old) (D.meaning disk.new) (StandsBut latest.now.blocks placed kept) }
+    ensures kept { OnOk result ((count next : ℕ) (placed : List ℕ) (kept : ℕ → List ℕ)
+        → IsOpened latest.now.blocks (records_of count next latest.now.entries) placed (D.meaning disk.old) kept
+        → FitsAt latest.now.blocks no_records [] (D.meaning disk.new) kept) }
+    ensures around { IsTrue (D.meaning disk.old).is_honest
+        → Spreads (D.meaning disk.old) (D.meaning disk.new) (SameAround latest.now.blocks) }
+    ensures settled { OnOk result (IsTrue (D.meaning disk.old).is_honest → IsSettled (D.meaning disk.new)
+        (gates_closed true (apply latest.now.entries (D.meaning disk.old).bytes))) }
+{
+    write_synced(disk, latest, Target::Homes)?;
+    write_gate(disk, 0, CLOSED)?;
+    close_others(disk)
 }

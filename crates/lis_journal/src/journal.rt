@@ -1,15 +1,15 @@
 //! The journal: blocks are staged, and become kept all at once.
 
-ghost use Rattle.std.specs.Prelude.{[], ◌≡◌, ◌⊎◌, ◌+◌, ◌*◌, ◌<◌, ◌≤◌, ◌∷◌, ℕ, List, Option, None, length, true, false, IsTrue, IfOk, OnOk, OnErr, Ok, Err, if◌then◌else◌, ◌==◌, nat_eq};
+ghost use Rattle.std.specs.Prelude.{[], ◌≡◌, ◌⊎◌, ◌+◌, ◌*◌, ◌<◌, ◌≤◌, ◌∷◌, ℕ, List, length, true, false, IsTrue, IfOk, IfSome, IfNone, OnOk, OnErr, Ok, Err, if◌then◌else◌, ◌==◌};
 ghost use Rattle.lis_ports.specs.Runs.{IsDiskRun, Leaves, IsSettled};
 ghost use Rattle.lis_ports.specs.Calls.{HasCause, IsUnchanged};
-ghost use Rattle.lis_journal.specs.Record.{block, replayed, recovered};
-ghost use Rattle.lis_journal.specs.Images.{StandsForAllOrNone, Fits, KeepsPast, look};
+ghost use Rattle.lis_journal.specs.Record.{recovered};
+ghost use Rattle.lis_journal.specs.Images.{StandsBut, StandsForAllOrNone, Fits, KeepsPast, look, is_among, with_placed, with_kept};
 ghost use Rattle.lis_journal.specs.Staging.{with_entry, has_entry};
 
-use crate::commit::{HEADER_BLOCK, save};
 use crate::header::write_header;
 use crate::mount::recover;
+use crate::records::Records;
 use crate::stage::{BLOCK_LEN, Stage};
 use lis_ports::{Disk, Failed};
 use std::alloc::{AllocError, Global};
@@ -27,25 +27,33 @@ pub enum JournalFault {
     NoMemory,
 }
 
-/// Blocks that are staged for an image of so many blocks, until they are kept. No call takes memory after it is made.
+/// How many blocks can be placed between two commits.
+pub const MAX_PLACED: u32 = 257;
+
+/// Blocks that are staged for an image of so many blocks, until they are kept, over the open records on the disk. No call
+/// takes memory after it is made.
 #[derive(Drop)]
 pub struct Journal {
     stage: Stage,
-    // The header of the record, as it was last written or read.
+    records: Records,
+    // The numbers of the blocks that were placed since the last commit.
+    placed: Vec<u32>,
+    // The header of a record, as it was last written or read.
     header: Vec<u8>,
     is_broken: bool,
 }
 
 impl Model for Journal {
-    ghost use Rattle.std.specs.Prelude.{◌≡◌, ◌<◌, length};
+    ghost use Rattle.std.specs.Prelude.{vec_capacity};
     ghost use Rattle.lis_journal.specs.Journal.{Held};
-    ghost use Rattle.lis_journal.specs.Staging.{IsStaging};
 
     ghost Value = { Held };
 
-    ghost view = { λ j. record { blocks = j.stage.blocks; staged = j.stage.entries; is_broken = j.is_broken } };
+    ghost use Rattle.lis_journal.specs.Inside.{IsJournal};
 
-    ghost invariant = { λ j. (length j.header.items ≡ 4096) × (578 < j.stage.blocks) };
+    ghost view = { λ j. record { blocks = j.stage.blocks; staged = j.stage.entries; records = j.records.records; placed = j.placed.items; is_broken = j.is_broken } };
+
+    ghost invariant = { λ j. IsJournal j.stage.blocks j.records j.header.items j.placed.items (vec_capacity j.placed) };
 }
 
 impl From<AllocError> for JournalFault {
@@ -67,53 +75,59 @@ fn new_block(alloc: Global) -> Result<Vec<u8>, AllocError>
 }
 
 impl Journal {
-    ghost use Rattle.lis_journal.specs.Recovery.{HasMountCause, InRecovery, MountEnded, IsSettledPast};
+    ghost use Rattle.lis_journal.specs.Recovery.{HasMountCause, LeftOrRecovering, MountEnded, IsSettledPast};
     ghost use Rattle.lis_journal.specs.declared.journal.JournalFault.TheVariants.{DiskFault, NoMemory};
-    ghost use Rattle.lis_journal.specs.Journal.{Held};
+    ghost use Rattle.lis_journal.specs.Journal.{Held, no_records};
 
     /// Opens the journal of an image of so many blocks, with nothing staged. It takes its memory before its first call
-    /// of the disk. Then it syncs; where the gate is open it brings the record home and closes the gate.
+    /// of the disk. Then it syncs; where a gate is open it brings the open records home and closes all gates.
     pub fn mount<D: Disk>(alloc: Global, disk: &mut D, blocks: u32) -> Result<Journal, JournalFault>
         requires blocks { 578 < blocks }
         requires long { 4096 * blocks ≤ (D.meaning disk.old).len }
-        ensures held { IfOk result (λ journal. journal ≡ record { blocks = blocks; staged = []; is_broken = false }) }
+        ensures held { IfOk result (λ journal. journal
+            ≡ record { blocks = blocks; staged = []; records = no_records; placed = []; is_broken = false }) }
         ensures run { IsDiskRun (D.meaning disk.old) (D.meaning disk.new) }
         ensures cause { HasMountCause (D.meaning disk.old).disk_faults (D.meaning disk.new).disk_faults result }
 
         // Out of memory, it made no call of the disk.
         ensures memory { result ≡ Err NoMemory → disk.new ≡ disk.old }
 
-        // What was read at the call's start decides: the journal fits what the replayed image has, or there is none.
+        // What was read at the call's start decides: the journal fits what the replayed image has, or there is none, and
+        // the answer is the block of the first open record that is not in form.
         ensures ended { IsTrue (D.meaning disk.old).is_honest
             → MountEnded blocks (D.meaning disk.old) (D.meaning disk.new) result }
 
-        // Nothing is written but what an open gate asks for: the record's homes, and then the gate. A crash in the call, and
-        // after it (`images`), leaves what it could have left before, or, where the gate was open, what stands for the replayed
-        // image with the journal's bytes behind the gate as before.
+        // Nothing is written but what an open gate asks for: the latest contents of the open records in their homes, and
+        // then the gates. A crash in the call, and after it (`images`), leaves what it could have left before, or, where
+        // a gate was open, what stands for the replayed image with the journal's bytes behind the gates as before.
         ensures left { OnOk result (IsTrue (D.meaning disk.old).is_honest
             → IsSettled (D.meaning disk.new) (recovered blocks (D.meaning disk.old).bytes)) }
-        ensures any_moment { IsTrue (D.meaning disk.old).is_honest → Leaves (D.meaning disk.old) (D.meaning disk.new)
-            (λ image. (D.meaning disk.old).images image ⊎ InRecovery blocks (D.meaning disk.old).bytes image) }
+        ensures any_moment { IsTrue (D.meaning disk.old).is_honest
+            → Leaves (D.meaning disk.old) (D.meaning disk.new) (LeftOrRecovering blocks (D.meaning disk.old)) }
         ensures images { OnOk result (IsTrue (D.meaning disk.old).is_honest → (image : List ℕ) → (D.meaning disk.new).images image
-            → (D.meaning disk.old).images image ⊎ InRecovery blocks (D.meaning disk.old).bytes image) }
+            → LeftOrRecovering blocks (D.meaning disk.old) image) }
 
         // What lies past the image reads as before; where the disk failed, if a crash at entry left it as it read.
         ensures past { IsTrue (D.meaning disk.old).is_honest → (result ≡ Err DiskFault → IsSettledPast blocks (D.meaning disk.old))
             → KeepsPast blocks (D.meaning disk.old) (D.meaning disk.new) }
     {
-        let mut stage = Stage::new(alloc, blocks)?;
+        let stage = Stage::new(alloc, blocks)?;
+        let mut latest = Stage::new(alloc, blocks)?;
         let mut header = new_block(alloc)?;
         let mut block = new_block(alloc)?;
-        match recover(disk, &mut stage, &mut header, &mut block) {
-            Ok(true) => {
-                stage.clear();
+        let placed = Vec::with_capacity(alloc, MAX_PLACED as usize)?;
+        match recover(disk, &mut latest, &mut header, &mut block) {
+            Ok(None) => {
+                latest.clear();
                 Ok(Journal {
                     stage,
+                    records: Records::new(latest),
+                    placed,
                     header,
                     is_broken: false,
                 })
             }
-            Ok(false) => Err(JournalFault::BadRecord(HEADER_BLOCK)),
+            Ok(Some(first)) => Err(JournalFault::BadRecord(first)),
             Err(Failed) => Err(JournalFault::DiskFault),
         }
     }
@@ -132,31 +146,44 @@ impl Journal {
         self.stage.len() as u32
     }
 
-    /// Whether a commit failed. Then only what is on the disk counts, and a journal has to be mounted again.
+    /// Whether a commit or a placing failed. Then only what is on the disk counts, and a journal has to be mounted again.
     pub fn is_broken(&self) -> bool
         ensures { result ≡ self.now.is_broken }
     {
         self.is_broken
     }
 
-    /// Reads a block: what is staged for it, or else what is kept.
+    // What is staged for a block, or else its latest content in the open records.
+    fn content(&self, n: u32) -> Option<&[u8]>
+        ensures none { IfNone result ((has_entry self.now.staged n ≡ false) × (has_entry self.now.records.latest n ≡ false)) }
+        ensures some { IfSome result (λ bytes. (old : List ℕ)
+            → look self.now.staged n (look self.now.records.latest n old) ≡ bytes.now) }
+        ensures whole { IfSome result (λ bytes. length bytes.now ≡ 4096) }
+    {
+        match self.stage.get(n) {
+            Some(bytes) => Some(bytes),
+            None => self.records.get(n),
+        }
+    }
+
+    /// Reads a block: what is staged for it, or else what is kept. A block that is in an open record is read from memory.
     pub fn read<D: Disk>(&self, disk: &mut D, n: u32, buf: &mut [u8]) -> Result<(), Failed>
         requires home { 578 ≤ n }
         requires within { n < self.now.blocks }
         requires whole { length buf.old ≡ 4096 }
         requires unbroken { self.now.is_broken ≡ false }
         requires long { 4096 * self.now.blocks ≤ (D.meaning disk.old).len }
-        ensures read { OnOk result ((kept : ℕ → List ℕ) → Fits self.now.blocks (D.meaning disk.old) kept
+        ensures read { OnOk result ((kept : ℕ → List ℕ) → Fits self.now (D.meaning disk.old) kept
             → buf.new ≡ look self.now.staged n (kept n)) }
         ensures run { IsDiskRun (D.meaning disk.old) (D.meaning disk.new) }
         ensures cause { HasCause (D.meaning disk.old).disk_faults (D.meaning disk.new).disk_faults result }
         ensures same { IsTrue (D.meaning disk.old).is_honest → IsUnchanged (D.meaning disk.old) (D.meaning disk.new) }
         ensures any_moment { IsTrue (D.meaning disk.old).is_honest
             → Leaves (D.meaning disk.old) (D.meaning disk.new) (D.meaning disk.old).images }
-        ensures fits { (kept : ℕ → List ℕ) → Fits self.now.blocks (D.meaning disk.old) kept
-            → Fits self.now.blocks (D.meaning disk.new) kept }
+        ensures fits { (kept : ℕ → List ℕ) → Fits self.now (D.meaning disk.old) kept
+            → Fits self.now (D.meaning disk.new) kept }
     {
-        match self.stage.get(n) {
+        match self.content(n) {
             Some(bytes) => {
                 buf.copy_from_slice(bytes);
                 Ok(())
@@ -171,6 +198,7 @@ impl Journal {
         requires within { n < self.old.blocks }
         requires whole { length bytes.now ≡ 4096 }
         requires unbroken { self.old.is_broken ≡ false }
+        requires unplaced { is_among self.old.placed n ≡ false }
         requires room { IsTrue (has_entry self.old.staged n) ⊎ (length self.old.staged < 575) }
         ensures staged { self.new ≡ record self.old { staged = with_entry self.old.staged n bytes.now } }
         ensures looks { (m : ℕ) (old : List ℕ) → look self.new.staged m old
@@ -192,25 +220,81 @@ impl Journal {
         requires long { 4096 * self.old.blocks ≤ (D.meaning disk.old).len }
         ensures idle { self.old.staged ≡ [] → (result ≡ Ok _) × (disk.new ≡ disk.old) × (self.new ≡ self.old) }
 
-        // A crash at any moment of the call leaves an image that stands for the blocks as before, or with all that is staged.
-        ensures any_moment { (kept : ℕ → List ℕ) → Fits self.old.blocks (D.meaning disk.old) kept
-            → Leaves (D.meaning disk.old) (D.meaning disk.new) (StandsForAllOrNone self.old.blocks kept self.old.staged) }
-        ensures kept { OnOk result ((kept : ℕ → List ℕ) → Fits self.old.blocks (D.meaning disk.old) kept
-            → Fits self.old.blocks (D.meaning disk.new) (λ n. look self.old.staged n (kept n))) }
-        ensures past { (kept : ℕ → List ℕ) → Fits self.old.blocks (D.meaning disk.old) kept
+        // A crash at any moment of the call leaves an image that stands for the blocks as before, but for the placed ones,
+        // or for all of them with all that is staged.
+        ensures any_moment { (kept : ℕ → List ℕ) → Fits self.old (D.meaning disk.old) kept
+            → Leaves (D.meaning disk.old) (D.meaning disk.new)
+            (StandsForAllOrNone self.old.blocks self.old.placed kept self.old.staged) }
+        ensures kept { OnOk result ((kept : ℕ → List ℕ) → Fits self.old (D.meaning disk.old) kept
+            → Fits self.new (D.meaning disk.new) (λ n. look self.old.staged n (kept n))) }
+        ensures past { (kept : ℕ → List ℕ) → Fits self.old (D.meaning disk.old) kept
             → KeepsPast self.old.blocks (D.meaning disk.old) (D.meaning disk.new) }
         ensures run { IsDiskRun (D.meaning disk.old) (D.meaning disk.new) }
         ensures cause { HasCause (D.meaning disk.old).disk_faults (D.meaning disk.new).disk_faults result }
-        ensures done { OnOk result (self.new ≡ record self.old { staged = [] }) }
-        ensures broken { OnErr result (self.new ≡ record self.old { is_broken = true }) }
+        ensures done { OnOk result (self.new
+            ≡ record self.old { staged = []; records = self.new.records; placed = self.new.placed }) }
+        ensures none_placed { OnOk result (0 < length self.old.staged → self.new.placed ≡ []) }
+        ensures broken { OnErr result (self.new ≡ record self.old { records = self.new.records; is_broken = true }) }
     {
         if self.stage.len() == 0 {
             return Ok(());
         }
         write_header(&mut self.header, &self.stage);
-        match save(disk, &self.header, &self.stage) {
+        match self.records.save(disk, &self.header, &self.stage) {
             Ok(()) => {
                 self.stage.clear();
+                self.placed.clear();
+                Ok(())
+            }
+            Err(Failed) => {
+                self.is_broken = true;
+                Err(Failed)
+            }
+        }
+    }
+
+    // Notes that a block is placed.
+    fn note_placed(&mut self, n: u32)
+        requires within { n < self.old.blocks }
+        requires room { IsTrue (is_among self.old.placed n) ⊎ (length self.old.placed < 257) }
+        ensures { self.new ≡ record self.old { placed = with_placed self.old.placed n } }
+    {
+        if self.placed.contains(&n) {
+            return;
+        }
+        let Ok(()) = self.placed.push(n) else {
+            unreachable!()
+        };
+    }
+
+    /// Writes a home block without a record. Until the next commit it is placed: a crash may leave any bytes in it. Where
+    /// it is in an open record, a checkpoint is made first.
+    pub fn place<D: Disk>(&mut self, disk: &mut D, n: u32, bytes: &[u8]) -> Result<(), Failed>
+        requires home { 578 ≤ n }
+        requires within { n < self.old.blocks }
+        requires whole { length bytes.now ≡ 4096 }
+        requires unbroken { self.old.is_broken ≡ false }
+        requires unstaged { has_entry self.old.staged n ≡ false }
+        requires room { IsTrue (is_among self.old.placed n) ⊎ (length self.old.placed < 257) }
+        requires long { 4096 * self.old.blocks ≤ (D.meaning disk.old).len }
+
+        // A crash at any moment of the call leaves an image that stands for the blocks as before, but for this and the
+        // placed ones.
+        ensures any_moment { (kept : ℕ → List ℕ) → Fits self.old (D.meaning disk.old) kept
+            → Leaves (D.meaning disk.old) (D.meaning disk.new) (StandsBut self.old.blocks (n ∷ self.old.placed) kept) }
+        ensures kept { OnOk result ((kept : ℕ → List ℕ) → Fits self.old (D.meaning disk.old) kept
+            → Fits self.new (D.meaning disk.new) (with_kept n bytes.now kept)) }
+        ensures past { (kept : ℕ → List ℕ) → Fits self.old (D.meaning disk.old) kept
+            → KeepsPast self.old.blocks (D.meaning disk.old) (D.meaning disk.new) }
+        ensures run { IsDiskRun (D.meaning disk.old) (D.meaning disk.new) }
+        ensures cause { HasCause (D.meaning disk.old).disk_faults (D.meaning disk.new).disk_faults result }
+        ensures done { OnOk result (self.new
+            ≡ record self.old { records = self.new.records; placed = with_placed self.old.placed n }) }
+        ensures broken { OnErr result (self.new ≡ record self.old { records = self.new.records; is_broken = true }) }
+    {
+        match self.records.write_home(disk, n, bytes) {
+            Ok(()) => {
+                self.note_placed(n);
                 Ok(())
             }
             Err(Failed) => {

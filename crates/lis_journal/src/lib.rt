@@ -5,7 +5,8 @@ mod commit;
 mod header;
 mod journal;
 mod mount;
+mod records;
 mod stage;
 
-pub use journal::{Journal, JournalFault};
+pub use journal::{Journal, JournalFault, MAX_PLACED};
 pub use stage::{BLOCK_LEN, HOMES_START, MAX_STAGED};

@@ -1,6 +1,6 @@
 //! Staged blocks, each in a frame, in the order of their homes.
 
-ghost use Rattle.std.specs.Prelude.{if◌then◌else◌, false, [], ◌∷◌, ◌≡◌, ◌⊎◌, ◌+◌, ◌*◌, ◌^◌, ◌<◌, ◌≤◌, ◌==◌, ◌↔◌, ℕ, List, Option, Some, length, take, IsTrue, IfOk, IfSome, IfNone, MatchResult, MatchOption, true, slice_index, slice_index_or, vec_len, vec_capacity, nat_eq};
+ghost use Rattle.std.specs.Prelude.{if◌then◌else◌, false, [], ◌∷◌, ◌≡◌, ◌⊎◌, ◌+◌, ◌*◌, ◌^◌, ◌<◌, ◌≤◌, ◌==◌, ◌↔◌, ℕ, List, Option, Some, length, take, IsTrue, IfOk, IfSome, IfNone, OnSome, MatchResult, MatchOption, true, slice_index, slice_index_or, vec_len, vec_capacity, nat_eq};
 ghost use Rattle.lis_region.specs.Region as region;
 ghost use Rattle.lis_journal.specs.Record.{rises};
 ghost use Rattle.lis_journal.specs.Inside.{home_list, FoundAt, PlaceFor};
@@ -129,6 +129,7 @@ impl Stage {
     /// What a block is to hold, if it is staged.
     pub fn get(&self, n: u32) -> Option<&[u8]>
         ensures none { IfNone result (has_entry self.now.entries n ≡ false) }
+        ensures has { OnSome result (has_entry self.now.entries n ≡ true) }
         ensures some { IfSome result (λ bytes. (old : List ℕ) → look self.now.entries n old ≡ bytes.now) }
         ensures whole { IfSome result (λ bytes. length bytes.now ≡ 4096) }
     {
@@ -136,6 +137,13 @@ impl Stage {
             Ok(place) => Some(self.bytes(place)),
             Err(_) => None,
         }
+    }
+
+    /// Whether a block is staged.
+    pub fn has(&self, n: u32) -> bool
+        ensures { result ≡ has_entry self.now.entries n }
+    {
+        self.get(n).is_some()
     }
 
     /// Stages a block, in the place of what is staged for it.

@@ -64,6 +64,16 @@ built_in_colon word h = by (or_cases _ _ h)
     by (inl itself) = all_among (list_any is_colon) built_in_heads word refl (among_from_has_word built_in_heads word itself)
     by (inr both) = (stem_of_valued word (and_parts (is_valued word) (has_word built_in_heads (head_bytes word)) both).0).colon
 
+-- the head of a built-in word is built in
+pub head_built_in : (word : List ℕ) → is_valued word ≡ true → is_built_in word ≡ true → is_built_in (head_bytes word) ≡ true
+head_built_in word valued h = or_left _ _ (by (or_cases _ _ h))
+  where
+    by : (has_word built_in_heads word ≡ true) ⊎ ((is_valued word && has_word built_in_heads (head_bytes word)) ≡ true) → has_word built_in_heads (head_bytes word) ≡ true
+    by (inl itself) =
+        let none = all_among (λ w. not (is_valued w)) built_in_heads word refl (among_from_has_word built_in_heads word itself) in
+        absurd (both_ways (is_valued word) (not-true _ none) valued)
+    by (inr both) = (and_parts (is_valued word) (has_word built_in_heads (head_bytes word)) both).1
+
 pub built_in_not_plain : (word : List ℕ) → is_built_in word ≡ true → is_plain_word word ≡ false
 built_in_not_plain word h = false_from_ne_true (is_plain_word word) (λ plain. both_ways (list_any is_colon word) (plain_no_colon word plain) (built_in_colon word h))
 

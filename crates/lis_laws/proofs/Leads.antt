@@ -1,6 +1,6 @@
 -- Where chains lead, when the right sides of axioms are plain: on from a plain word by axioms alone, to no valued word, and to a test from stronger tests alone. So
 -- axioms lead in a circle or not, whatever words are declared.
-use Rattle.std.proofs.Common.{◌≡◌, ◌⊎◌, ℕ, zero, suc, Bool, true, false, List, sym, subst, ◌∙◌, inl, inr}
+use Rattle.std.proofs.Common.{◌≡◌, ◌⊎◌, ℕ, zero, suc, Bool, true, false, List, refl, sym, subst, ◌∙◌, inl, inr}
 use Rattle.std.proofs.lemmas.Bool.{both_ways}
 use Rattle.lis_graph.specs.Graph.{Linked, Chain}
 use Rattle.lis_graph.proofs.Members.{Among, among_from_contains, contains_from_among}
@@ -19,6 +19,25 @@ plain_ends declared p r plain (Weaker w) = both_ways (is_plain_word p) (test_not
 pub link_cases : (declared : List (List ℕ)) (axioms : Pairs) (p r : List ℕ) → Linked (links declared) axioms p r → OwnLink declared p r ⊎ Among axioms (p, r)
 link_cases declared axioms p r (inl own) = inl (own_link declared p r (among_from_contains (links declared p) r own))
 link_cases declared axioms p r (inr edge) = inr (among_from_contains axioms (p, r) edge)
+
+-- the last link of a chain
+pub chain_last : (declared : List (List ℕ)) (axioms : Pairs) (n : ℕ) (p q : List ℕ) → Chain (links declared) axioms (suc n) p q
+    → (r : List ℕ) × Chain (links declared) axioms n p r × Linked (links declared) axioms r q
+chain_last declared axioms zero p q c = (p, refl, subst (λ (k : List ℕ). Linked (links declared) axioms p k) c.2 c.1)
+chain_last declared axioms (suc n) p q c =
+    let rest = chain_last declared axioms n c.0 q c.2 in
+    (rest.0, (c.0, c.1, rest.1), rest.2)
+
+-- where all declared words are such that none is valued, and right sides are declared, declared words lead to declared words alone
+pub declared_leads : (declared : List (List ℕ)) (axioms : Pairs) → ((w : List ℕ) → Among declared w → is_valued w ≡ false) → ((e : List ℕ × List ℕ) → Among axioms e → Among declared e.1)
+    → (n : ℕ) (p q : List ℕ) → Among declared p → Chain (links declared) axioms n p q → Among declared q
+declared_leads declared axioms none rights zero p q m c = subst (λ (k : List ℕ). Among declared k) c m
+declared_leads declared axioms none rights (suc n) p q m c = declared_leads declared axioms none rights n c.0 q (by (link_cases declared axioms p c.0 c.1)) c.2
+  where
+    by : OwnLink declared p c.0 ⊎ Among axioms (p, c.0) → Among declared c.0
+    by (inl (Head valued is)) = absurd (both_ways (is_valued p) (none p m) valued)
+    by (inl (Weaker w)) = w.to
+    by (inr edge) = rights (p, c.0) edge
 
 module _ (right : List ℕ → Bool) (plain : (w : List ℕ) → right w ≡ true → is_plain_word w ≡ true)
     (axioms : Pairs) (rights : (e : List ℕ × List ℕ) → Among axioms e → right e.1 ≡ true) where

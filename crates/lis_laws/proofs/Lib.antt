@@ -2,6 +2,7 @@ pub mod Members
 pub mod Tops
 pub mod Counts
 pub mod Chains
+pub mod Items
 pub mod Axioms
 pub mod Closures
 pub mod Apart
@@ -11,3 +12,12 @@ pub mod Sources
 pub mod Tables
 pub mod Locals
 pub mod Routes
+pub mod Known
+pub mod Reached
+pub mod Growth
+pub mod Forms
+pub mod Named
+pub mod Touched
+pub mod Few
+pub mod Steps
+mod Examples

@@ -7,10 +7,10 @@ use Rattle.lis_words.specs.Words.{same_word, is_file_name, is_count, count_of}
 use Rattle.lis_model.specs.declared.refusal.Refusal.{Refusal}
 use Rattle.lis_model.specs.declared.refusal.Refusal.TheVariants.{LongLine}
 use Rattle.lis_model.specs.declared.command.Command.{Command}
-use Rattle.lis_model.specs.declared.command.Command.TheVariants.{Mkdir, Create, Add, Cat, Rm, Cd, Pwd, Ls}
+use Rattle.lis_model.specs.declared.command.Command.TheVariants.{Mkdir, Rmdir, Axiom, Unaxiom, Create, Add, Write, Cat, Mv, Rename, Rm, Cd, Pwd, Ls, Props, Way, Stat}
 use Rattle.lis_model.specs.Step.{Item, Payload, no_payload}
 use Rattle.lis_model.specs.Step.Item.{Do, Bad}
-use Rattle.lis_model.specs.Script.{bad_line, tags_form, add_named, add_form, form_of, item_of, item_of_words, is_long, line_words, size_of_words, payload_size}
+use Rattle.lis_model.specs.Script.{bad_line, tags_form, add_named, add_form, write_form, form_of, item_of, item_of_words, is_long, line_words, size_of_words, payload_size}
 use Rattle.lis_line.specs.Forms.{command_with, line_asks}
 use Rattle.lis_line.specs.Parts.{part_asks}
 
@@ -35,7 +35,7 @@ size_kept text = elim (cases_lt 1025 (length text)) as (λ _. payload_size (take
   | inr le ↦ ap payload_size (take_all 1025 text le)
 ]
 
--- `add` alone makes a command of a line that a payload follows, and it has that payload
+-- the command of a line that a payload follows has that payload
 named_with : (name : List ℕ) (payload other : Payload) (words : Result (List (List ℕ)) Refusal) (command : Command)
     → add_named name payload words ≡ Do command other → other ≡ payload
 named_with name payload other (Ok words) command is = cc
@@ -49,6 +49,15 @@ add_with name size words payload other command = by (is_file_name name && is_cou
     by true is = named_with name payload other (tags_form words) command is
     by false is = absurd (cc)
 
+write_with : (name size : List ℕ) (words : List (List ℕ)) (payload other : Payload) (command : Command)
+    → write_form (name ∷ size ∷ words) payload ≡ Do command other → other ≡ payload
+write_with name size [] payload other command is = by (is_file_name name && is_count size) is
+  where
+    by : (t : Bool) → cond t (Do (Write name) payload) bad_line ≡ Do command other → other ≡ payload
+    by true is = cc
+    by false is = absurd (cc)
+write_with name size (word ∷ words) payload other command is = absurd (cc)
+
 form_with : (first second size : List ℕ) (words : List (List ℕ)) (payload other : Payload) (command : Command)
     → (same_word first (codes "add") || same_word first (codes "write")) ≡ true → form_of first (second ∷ size ∷ words) payload ≡ Do command other → other ≡ payload
 form_with first second size words payload other command either is = by (same_word first (codes "add")) refl either
@@ -59,8 +68,7 @@ form_with first second size words payload other command either is = by (same_wor
         add_with second size words payload other command (ap (λ w. form_of w (second ∷ size ∷ words) payload) (sym same) ∙ is)
     by false h e =
         let same : first ≡ codes "write" = (bytes_eq-Decides first (codes "write")).0 e in
-        let bad : bad_line ≡ Do command other = ap (λ w. form_of w (second ∷ size ∷ words) payload) (sym same) ∙ is in
-        absurd (cc)
+        write_with second size words payload other command (ap (λ w. form_of w (second ∷ size ∷ words) payload) (sym same) ∙ is)
 
 words_with : (words : List (List ℕ)) (size : ℕ) (payload other : Payload) (command : Command)
     → size_of_words words ≡ Some size → item_of_words words payload ≡ Some (Do command other) → other ≡ payload
@@ -92,13 +100,22 @@ line_with line size payload other command = by (is_long line)
 payload_said : (payload : Payload) (command : Command) → ((other : Payload) → command_with payload command ≡ Do command other → other ≡ payload)
     → command_with payload command ≡ Do command payload
 payload_said payload (Mkdir word) only = ap (λ p. Do (Mkdir word) p) (only no_payload refl)
+payload_said payload (Rmdir word) only = ap (λ p. Do (Rmdir word) p) (only no_payload refl)
+payload_said payload (Axiom left right) only = ap (λ p. Do (Axiom left right) p) (only no_payload refl)
+payload_said payload (Unaxiom left right) only = ap (λ p. Do (Unaxiom left right) p) (only no_payload refl)
 payload_said payload (Create name words) only = ap (λ p. Do (Create name words) p) (only no_payload refl)
 payload_said payload (Add name words) only = refl
+payload_said payload (Write name) only = refl
 payload_said payload (Cat name) only = ap (λ p. Do (Cat name) p) (only no_payload refl)
+payload_said payload (Mv name text) only = ap (λ p. Do (Mv name text) p) (only no_payload refl)
+payload_said payload (Rename name other) only = ap (λ p. Do (Rename name other) p) (only no_payload refl)
 payload_said payload (Rm name) only = ap (λ p. Do (Rm name) p) (only no_payload refl)
 payload_said payload (Cd text) only = ap (λ p. Do (Cd text) p) (only no_payload refl)
 payload_said payload Pwd only = ap (λ p. Do Pwd p) (only no_payload refl)
 payload_said payload Ls only = ap (λ p. Do Ls p) (only no_payload refl)
+payload_said payload (Props name) only = ap (λ p. Do (Props name) p) (only no_payload refl)
+payload_said payload (Way name) only = ap (λ p. Do (Way name) p) (only no_payload refl)
+payload_said payload Stat only = ap (λ p. Do Stat p) (only no_payload refl)
 
 -- where a payload follows a line, it is the payload of the command
 pub asks_with : (line : List ℕ) (size : ℕ) (payload : Payload) (asked : Option (Result Command Refusal))
@@ -112,10 +129,19 @@ pub asks_alone : (asked : Option (Result Command Refusal)) → line_asks no_payl
 asks_alone None = refl
 asks_alone (Some (Err refusal)) = refl
 asks_alone (Some (Ok (Mkdir word))) = refl
+asks_alone (Some (Ok (Rmdir word))) = refl
+asks_alone (Some (Ok (Axiom left right))) = refl
+asks_alone (Some (Ok (Unaxiom left right))) = refl
 asks_alone (Some (Ok (Create name words))) = refl
 asks_alone (Some (Ok (Add name words))) = refl
+asks_alone (Some (Ok (Write name))) = refl
 asks_alone (Some (Ok (Cat name))) = refl
+asks_alone (Some (Ok (Mv name text))) = refl
+asks_alone (Some (Ok (Rename name other))) = refl
 asks_alone (Some (Ok (Rm name))) = refl
 asks_alone (Some (Ok (Cd text))) = refl
 asks_alone (Some (Ok Pwd)) = refl
 asks_alone (Some (Ok Ls)) = refl
+asks_alone (Some (Ok (Props name))) = refl
+asks_alone (Some (Ok (Way name))) = refl
+asks_alone (Some (Ok Stat)) = refl

@@ -1,7 +1,9 @@
 //! Items out of an input, whatever pieces it comes in.
 #![tactic(auto)]
 
+mod asked;
 mod forms;
+mod line;
 pub mod part;
 pub mod payload;
 pub mod reader;

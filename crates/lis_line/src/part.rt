@@ -6,7 +6,7 @@ ghost use Rattle.lis_model.specs.Step.{Payload as Told, no_payload};
 ghost use Rattle.lis_model.specs.Script.{item_of, payload_size, first_of, first_with, first_ended};
 ghost use Rattle.lis_line.specs.Parts.{TakesPart, part_asks, first_dropped, first_behind, item_at_end};
 
-use crate::forms::{asked, payload_size};
+use crate::asked::{asked, payload_size};
 use crate::payload::{Filled, Payload, fill};
 use crate::stock::{LineEnd, Stock, is_feed, read_line};
 use arrayvec::ArrayVec;

@@ -3,6 +3,7 @@
 ghost use Rattle.std.specs.Prelude.{◌≡◌, ℕ, ◌+◌, ◌<◌, ◌≤◌, ◌^◌, [], length, slice_set, IfOk};
 ghost use Rattle.lis_ports.specs.Calls.{HasCause};
 ghost use Rattle.lis_model.specs.Step.{no_payload};
+ghost use Rattle.lis_model.specs.Script.{payload_limit};
 ghost use Rattle.lis_line.specs.Inside.{frame_bytes, IsKept};
 ghost use Rattle.lis_line.specs.Parts.{with_byte, Fills};
 
@@ -12,10 +13,10 @@ use lis_region::{Frame, Region};
 use std::alloc::{AllocError, Global};
 use std::marker::Model;
 
-/// How many bytes of a payload are kept: as many as a file may have.
+/// The most bytes of a payload that are kept.
 const ROOM: u32 = 65_536;
 
-/// The payload behind a line: how many bytes it has, and the bytes themselves, where a file may have so many.
+/// The payload behind a line: how many bytes it has, and the bytes themselves, where so many are kept.
 #[derive(Drop)]
 pub struct Payload {
     region: Region<u8>,
@@ -36,7 +37,7 @@ impl Model for Payload {
 
 fn set(region: &mut Region<u8>, frame: &Frame, place: usize, byte: u8)
     requires kept { IsKept region.old frame.now }
-    requires room { place < 65536 }
+    requires room { place < payload_limit }
     ensures kept { IsKept region.new frame.now }
     ensures bytes { frame_bytes region.new frame.now ≡ slice_set (frame_bytes region.old frame.now) place byte }
 {
@@ -66,12 +67,12 @@ impl Payload {
         self.size
     }
 
-    /// The bytes themselves; none where there are more than a file may have.
+    /// The bytes themselves; none where there are more than are kept.
     pub fn bytes(&self) -> &[u8]
         ensures bytes { result.now ≡ self.now.bytes }
-        ensures few { length result.now ≤ 65536 }
-        ensures all { self.now.size ≤ 65536 → length result.now ≡ self.now.size }
-        ensures none { 65536 < self.now.size → result.now ≡ [] }
+        ensures few { length result.now ≤ payload_limit }
+        ensures all { self.now.size ≤ payload_limit → length result.now ≡ self.now.size }
+        ensures none { payload_limit < self.now.size → result.now ≡ [] }
     {
         if self.size > ROOM as u64 {
             return &[];

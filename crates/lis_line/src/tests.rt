@@ -7,9 +7,9 @@ use lis_ports::{MemSource, Source};
 use std::alloc::{AllocError, Global};
 use std::test::Fail;
 
-/// An input, its limit, and its items: `add` with its payload's size and bytes, another command, the number of a refusal, `end`
-/// or `limit`.
-static INPUTS: [(&str, u64, &str); 24] = [
+/// An input, its limit, and its items: `add` or `write` with its payload's size and bytes, another command, the number of a refusal,
+/// `end` or `limit`.
+static INPUTS: [(&str, u64, &str); 26] = [
     ("add a 3;a;b;rm a;", 99, "add 3 a;b,other,end,"),
     ("add a 3 x y;^^^;cat a", 99, "add 3 ^^^,other,end,"),
     ("add a 0;;ls;", 99, "add 0 ,other,end,"),
@@ -22,7 +22,21 @@ static INPUTS: [(&str, u64, &str); 24] = [
     ("add a 1;a^;ls;", 99, "4,other,end,"),
     ("add a 1;ab", 99, "4,end,"),
     ("add . 1;a;add a 1 b/c;a;", 99, "1,1,end,"),
-    ("write a 1;a;write a 1;ab;ls;", 99, "1,4,other,end,"),
+    (
+        "write a 1;a;write a 1;ab;write a 1 b;c;",
+        99,
+        "write 1 a,4,1,end,",
+    ),
+    (
+        "rmdir b;axiom b c:;unaxiom b: c;axiom b;mv a ..;mv a",
+        99,
+        "other,other,other,1,other,1,end,",
+    ),
+    (
+        "rename a b;rename a;props a;props;way a;stat;stat a",
+        99,
+        "other,1,other,1,other,other,1,end,",
+    ),
     ("add a x;ls;add a;ls;", 99, "1,other,1,other,end,"),
     (
         "add a 1 b b b b b b b b b b b b b b b b b;c;ls",
@@ -52,19 +66,22 @@ fn bytes_of(alloc: Global, row: &str) -> Result<Vec<u8>, AllocError> {
     Ok(bytes)
 }
 
+fn note_payload(row: &mut String, name: &str, payload: &Payload) -> Result<(), AllocError> {
+    write!(row, "{name} {} ", payload.size())?;
+    for byte in payload.bytes() {
+        row.push(match *byte {
+            b'\n' => ';',
+            b'\r' => '^',
+            byte => char::from(byte),
+        })?;
+    }
+    row.push(',')
+}
+
 fn note(row: &mut String, item: &Item, payload: &Payload) -> Result<(), AllocError> {
     match item {
-        Item::Command(Command::Add(_, _)) => {
-            write!(row, "add {} ", payload.size())?;
-            for byte in payload.bytes() {
-                row.push(match *byte {
-                    b'\n' => ';',
-                    b'\r' => '^',
-                    byte => char::from(byte),
-                })?;
-            }
-            row.push(',')
-        }
+        Item::Command(Command::Add(_, _)) => note_payload(row, "add", payload),
+        Item::Command(Command::Write(_)) => note_payload(row, "write", payload),
         Item::Command(_) => row.push_str("other,"),
         Item::Bad(refusal) => write!(row, "{},", number(refusal)),
         Item::End => row.push_str("end,"),

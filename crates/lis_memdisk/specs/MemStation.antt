@@ -4,7 +4,7 @@ use Rattle.std.specs.List.{list_any}
 use Rattle.lis_ports.specs.Meaning.{Meaning}
 use Rattle.lis_memdisk.specs.declared.mem_station.MemStation.{MemStation}
 use Rattle.lis_memdisk.specs.Changes.{State, fresh, state_at}
-use Rattle.lis_memdisk.specs.Seen.{Seen, meaning, next_of, is_full, cost_of, show_cost_of, first_seen}
+use Rattle.lis_memdisk.specs.Seen.{Seen, Passed, meaning, next_of, is_full, cost_of, show_cost_of, first_seen}
 use Rattle.lis_memdisk.specs.History.{seen_of}
 
 -- what it holds, whatever it was told
@@ -47,3 +47,12 @@ pub record IsNew (m : MemStation) (bytes : List ℕ) (room : ℕ) : Type 0 where
   pub show_fails : m.show_fails.items ≡ []
   pub fuse : m.fuse ≡ 2 ^ 64 - 1
   pub step : m.step ≡ 65536
+
+-- What it was told stays: which calls fail, and how much one shows.
+abbrev pub KeepsOrders : MemStation → MemStation → Type 0
+KeepsOrders old new =
+    (new.fails.items ≡ old.fails.items) × (new.show_fails.items ≡ old.show_fails.items) × (new.fuse ≡ old.fuse) × (new.step ≡ old.step)
+
+-- A call failed: what is held stays but for the counts of calls, and this count of faults is one more, or stands at its last value.
+abbrev pub CountsOne : MemStation → MemStation → ℕ → ℕ → Type 0
+CountsOne old new before now = Passed (held old) (held new) × (now ≡ next_of before)

@@ -1,11 +1,15 @@
 //! A station over a file and a writer.
 
+ghost use Rattle.std.specs.Prelude.{◌≡◌, ◌+◌, ◌≤◌, ◌<◌, length, take, IfOk, OnErr, MatchResult};
+ghost use Rattle.std.specs.Io.KnownBytes.{append_known, WriteAppends};
 ghost use Rattle.std.proofs.lemmas.Bool.{false≢true};
+ghost use Rattle.lis_ports.specs.Calls.{HasCause, IsDiskCall, Elapses, IsShowCall};
+ghost use Rattle.lis_memdisk.specs.Seen.{next_of};
 ghost use Rattle.lis_memdisk.specs.Untold.{untold};
 
 use lis_ports::{Disk, Failed, Station};
 use std::fs::File;
-use std::io::Write;
+use std::io::{Error, ErrorKind, Write};
 use std::os::unix::fs::FileExt;
 
 /// A file as the disk, and a writer for what is shown. It tells no content and tries nothing twice: a call that
@@ -18,6 +22,8 @@ pub struct FileStation<W: Write> {
     pub out: W,
     pub disk_faults: u64,
     pub show_faults: u64,
+    /// Why the disk failed last. Without a file it stays as it is.
+    pub cause: Option<Error>,
 }
 
 impl<W: Write> Disk for FileStation<W> {
@@ -39,49 +45,79 @@ impl<W: Write> Disk for FileStation<W> {
         self.len
     }
 
-    fn read_at(&mut self, at: u64, buf: &mut [u8]) -> Result<(), Failed> {
-        if let Some(file) = &self.file {
-            if let Ok(count) = file.read_at(buf, at) {
-                if count == buf.len() {
-                    return Ok(());
-                }
-            }
-        }
+    fn read_at(&mut self, at: u64, buf: &mut [u8]) -> Result<(), Failed>
+        requires { at + length buf.old ≤ self.old.len }
+        ensures call { IsDiskCall (untold self.old.len self.old.disk_faults self.old.show_faults) (untold self.new.len self.new.disk_faults self.new.show_faults) result }
+        ensures one { OnErr result (self.new.disk_faults ≡ next_of self.old.disk_faults) }
+        ensures out { self.new.out ≡ self.old.out }
+    {
+        let cause = match &self.file {
+            None => self.cause,
+            Some(file) => match file.read_at(buf, at) {
+                Ok(count) if count == buf.len() => return Ok(()),
+                Ok(_) => Some(Error::from(ErrorKind::UnexpectedEof)),
+                Err(error) => Some(error),
+            },
+        };
+        self.cause = cause;
         self.disk_faults = self.disk_faults.saturating_add(1);
         Err(Failed)
     }
 
-    fn write_at(&mut self, at: u64, bytes: &[u8]) -> Result<(), Failed> {
-        if let Some(file) = &self.file {
-            if let Ok(count) = file.write_at(bytes, at) {
-                if count == bytes.len() {
-                    return Ok(());
-                }
-            }
-        }
+    fn write_at(&mut self, at: u64, bytes: &[u8]) -> Result<(), Failed>
+        requires { at + length bytes.now ≤ self.old.len }
+        ensures call { IsDiskCall (untold self.old.len self.old.disk_faults self.old.show_faults) (untold self.new.len self.new.disk_faults self.new.show_faults) result }
+        ensures one { OnErr result (self.new.disk_faults ≡ next_of self.old.disk_faults) }
+        ensures out { self.new.out ≡ self.old.out }
+    {
+        let cause = match &self.file {
+            None => self.cause,
+            Some(file) => match file.write_at(bytes, at) {
+                Ok(count) if count == bytes.len() => return Ok(()),
+                Ok(_) => Some(Error::from(ErrorKind::WriteZero)),
+                Err(error) => Some(error),
+            },
+        };
+        self.cause = cause;
         self.disk_faults = self.disk_faults.saturating_add(1);
         Err(Failed)
     }
 
-    fn sync(&mut self) -> Result<(), Failed> {
-        if let Some(file) = &self.file {
-            if let Ok(()) = file.sync_data() {
-                return Ok(());
-            }
-        }
+    fn sync(&mut self) -> Result<(), Failed>
+        ensures call { IsDiskCall (untold self.old.len self.old.disk_faults self.old.show_faults) (untold self.new.len self.new.disk_faults self.new.show_faults) result }
+        ensures one { OnErr result (self.new.disk_faults ≡ next_of self.old.disk_faults) }
+        ensures out { self.new.out ≡ self.old.out }
+    {
+        let cause = match &self.file {
+            None => self.cause,
+            Some(file) => match file.sync_data() {
+                Ok(()) => return Ok(()),
+                Err(error) => Some(error),
+            },
+        };
+        self.cause = cause;
         self.disk_faults = self.disk_faults.saturating_add(1);
         Err(Failed)
     }
 }
 
 impl<W: Write> Station for FileStation<W> {
-    fn show(&mut self, piece: &[u8]) -> Result<usize, Failed> {
-        if let Ok(count) = self.out.write(piece) {
-            if count > 0 {
-                return Ok(count);
+    fn show(&mut self, piece: &[u8]) -> Result<usize, Failed>
+        requires { 0 < length piece.now }
+        ensures count { IfOk result (λ n. (0 < n) × (n ≤ length piece.now)) }
+        ensures call { IsShowCall (untold self.old.len self.old.disk_faults self.old.show_faults) (untold self.new.len self.new.disk_faults self.new.show_faults) }
+        ensures cause { HasCause self.old.show_faults self.new.show_faults result }
+        ensures one { OnErr result (self.new.show_faults ≡ next_of self.old.show_faults) }
+
+        // A writer that tells its bytes has just those that were shown.
+        ensures written { WriteAppends (W.contents self.old.out) (W.contents self.new.out) result piece.now }
+    {
+        match self.out.write(piece) {
+            Ok(count) if count > 0 => Ok(count),
+            _ => {
+                self.show_faults = self.show_faults.saturating_add(1);
+                Err(Failed)
             }
         }
-        self.show_faults = self.show_faults.saturating_add(1);
-        Err(Failed)
     }
 }

@@ -114,7 +114,7 @@ impl MemStation {
 }
 
 impl Disk for MemStation {
-    ghost use Rattle.lis_memdisk.specs.MemStation.{held, meaning_of, is_told, lacks_room};
+    ghost use Rattle.lis_memdisk.specs.MemStation.{held, meaning_of, is_told, lacks_room, CountsOne, KeepsOrders};
     ghost use Rattle.lis_memdisk.specs.Laws.{now_counts, now_only, earlier, image_reads, image_length};
     ghost use Rattle.std.specs.Prelude.{refl};
 
@@ -144,6 +144,9 @@ impl Disk for MemStation {
             → buf.new ≡ part at (length buf.old) (meaning_of self.old).bytes) }
         ensures counted { IsNext (held self.old) (held self.new) }
         ensures fails { IsErr result ↔ IsTrue (is_told self.old) }
+        ensures kept { OnErr result (buf.new ≡ buf.old) }
+        ensures failed { OnErr result (CountsOne self.old self.new self.old.disk_faults self.new.disk_faults) }
+        ensures orders { KeepsOrders self.old self.new }
     {
         if self.is_told() {
             self.history.pass();
@@ -163,6 +166,8 @@ impl Disk for MemStation {
             → IsWritten at bytes.now (meaning_of self.old) (meaning_of self.new)) }
         ensures counted { IsNext (held self.old) (held self.new) }
         ensures fails { IsErr result ↔ IsTrue (is_told self.old || lacks_room self.old (length bytes.now)) }
+        ensures failed { OnErr result (CountsOne self.old self.new self.old.disk_faults self.new.disk_faults) }
+        ensures orders { KeepsOrders self.old self.new }
     {
         if self.is_told() {
             self.history.pass();
@@ -184,6 +189,8 @@ impl Disk for MemStation {
         ensures unsynced { OnErr result (IsTrue (meaning_of self.old).is_honest → IsUnsynced (meaning_of self.old) (meaning_of self.new)) }
         ensures counted { IsNext (held self.old) (held self.new) }
         ensures fails { IsErr result ↔ IsTrue (is_told self.old || lacks_room self.old 0) }
+        ensures failed { OnErr result (CountsOne self.old self.new self.old.disk_faults self.new.disk_faults) }
+        ensures orders { KeepsOrders self.old self.new }
     {
         if self.is_told() {
             self.history.pass();
@@ -201,7 +208,7 @@ impl Disk for MemStation {
 }
 
 impl Station for MemStation {
-    ghost use Rattle.lis_memdisk.specs.MemStation.{held, meaning_of, is_told_to_show, lacks_room_to_show};
+    ghost use Rattle.lis_memdisk.specs.MemStation.{held, meaning_of, is_told_to_show, lacks_room_to_show, CountsOne, KeepsOrders};
 
     fn show(&mut self, piece: &[u8]) -> Result<usize, Failed>
         requires { 0 < length piece.now }
@@ -215,6 +222,8 @@ impl Station for MemStation {
         ensures counted { IsNextShow (held self.old) (held self.new) }
         ensures fails { IsErr result ↔ IsTrue (is_told_to_show self.old || lacks_room_to_show self.old (min self.old.step (length piece.now))) }
         ensures gives { IfOk result (λ n. n ≡ min self.old.step (length piece.now)) }
+        ensures failed { OnErr result (CountsOne self.old self.new self.old.show_faults self.new.show_faults) }
+        ensures orders { KeepsOrders self.old self.new }
     {
         if self.is_told_to_show() {
             self.history.pass_show();

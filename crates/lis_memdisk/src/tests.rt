@@ -82,6 +82,7 @@ fn a_file_reads_back_what_was_written(rt: HostRuntime) -> Result<(), Fail> {
         out: Vec::new(alloc),
         disk_faults: 0,
         show_faults: 0,
+        cause: None,
     };
     assert_eq!(rt; station.write_at(2, b"XY"), Ok(()));
     assert_eq!(rt; station.sync(), Ok(()));
@@ -91,10 +92,34 @@ fn a_file_reads_back_what_was_written(rt: HostRuntime) -> Result<(), Fail> {
     assert_eq!(rt; station.read_at(5, &mut buf), Err(Failed));
     assert_eq!(rt; station.disk_faults, 1);
     assert_eq!(rt; station.show(b"ok"), Ok(2));
+    assert_eq!(rt; station.out.as_slice(), b"ok".as_slice());
     assert_eq!(rt; fs::read(&rt, "disk")?.as_slice(), b"abXYefgh".as_slice());
     station.file = None;
     assert_eq!(rt; station.sync(), Err(Failed));
     assert_eq!(rt; station.disk_faults, 2);
     fs::remove_file(&rt, "disk")?;
+    Ok(())
+}
+
+#[test]
+fn a_file_that_cannot_be_synced_fails(rt: HostRuntime) -> Result<(), Fail> {
+    let alloc = rt.alloc();
+    let file = OpenOptions::new().write(true).open(&rt, "/dev/null")?;
+    let mut station = FileStation {
+        file: Some(file),
+        len: 9,
+        out: Vec::new(alloc),
+        disk_faults: 0,
+        show_faults: 0,
+        cause: None,
+    };
+    assert_eq!(rt; station.write_at(0, b"ab"), Ok(()));
+    assert_eq!(rt; station.sync(), Err(Failed));
+    assert_eq!(rt; station.disk_faults, 1);
+    assert!(rt; matches!(&station.cause, Some(cause) if cause.raw_os_error() == Some(22)));
+    let mut buf = [0; 2];
+    assert_eq!(rt; station.read_at(0, &mut buf), Err(Failed));
+    assert_eq!(rt; station.disk_faults, 2);
+    assert_eq!(rt; station.show_faults, 0);
     Ok(())
 }

@@ -77,8 +77,8 @@ payload_ends : session (codes "add a 2\nxyz\nls\nadd b 3\nabc\ncat b\n")
 unfolding all_items whole_items step digits
 payload_ends = refl
 
-payload_forms : session (codes "add a 0000000000003\nls\nadd a 000000000003\nxyz\nadd . 1\nx\nwrite a 1\ny\nwrite a 1\nyy\ncat y\npwd\nadd a 65537\n")
-    ≡ line (codes "no 01 bad line") ++ line (codes "ok") ++ line (codes "ok") ++ line (codes "no 01 bad line") ++ line (codes "no 01 bad line")
+payload_forms : session (codes "add a 0000000000003\nls\nadd a 000000000003\nxyz\nadd . 1\nx\nwrite a 1\nyy\ncat y\npwd\nadd a 65537\n")
+    ≡ line (codes "no 01 bad line") ++ line (codes "ok") ++ line (codes "ok") ++ line (codes "no 01 bad line")
     ++ line (codes "no 04 payload end") ++ line (codes "no 10 no such file here") ++ line (codes "w /") ++ line (codes "ok") ++ line (codes "no 03 cut payload")
 unfolding all_items whole_items step printed
 payload_forms = refl

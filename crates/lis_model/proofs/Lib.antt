@@ -1,4 +1,6 @@
 pub mod Runs
 pub mod Lines
+pub mod NoTests
 mod Examples
+mod Commands
 pub mod NotedLemmas

@@ -126,8 +126,8 @@ alone_form item [] = item
 alone_form item (word ∷ words) = bad_line
 
 -- the lines of all commands
-abbrev pub all_forms : List ℕ → List (List ℕ) → Payload → Item
-all_forms first words payload =
+abbrev pub form_of : List ℕ → List (List ℕ) → Payload → Item
+form_of first words payload =
     if same_word first (codes "mkdir") then word_form (λ word. Do (Mkdir word) no_payload) words
     else if same_word first (codes "rmdir") then word_form (λ word. Do (Rmdir word) no_payload) words
     else if same_word first (codes "axiom") then pair_form (λ left right. Do (Axiom left right) no_payload) words
@@ -146,23 +146,6 @@ all_forms first words payload =
     else if same_word first (codes "way") then file_form (λ name. Do (Way name) no_payload) words
     else if same_word first (codes "stat") then alone_form (Do Stat no_payload) words
     else bad_line
-
--- the lines that are read so far
-abbrev pub first_forms : List ℕ → List (List ℕ) → Payload → Item
-first_forms first words payload =
-    if same_word first (codes "mkdir") then word_form (λ word. Do (Mkdir word) no_payload) words
-    else if same_word first (codes "create") then create_form words
-    else if same_word first (codes "add") then add_form words payload
-    else if same_word first (codes "cat") then file_form (λ name. Do (Cat name) no_payload) words
-    else if same_word first (codes "rm") then file_form (λ name. Do (Rm name) no_payload) words
-    else if same_word first (codes "cd") then cd_form words
-    else if same_word first (codes "pwd") then alone_form (Do Pwd no_payload) words
-    else if same_word first (codes "ls") then alone_form (Do Ls no_payload) words
-    else bad_line
-
--- Not all commands are read yet; then it is `all_forms first words payload`.
-abbrev pub form_of : List ℕ → List (List ℕ) → Payload → Item
-form_of first words payload = first_forms first words payload
 
 -- a line without words asks for nothing
 abbrev pub item_of_words : List (List ℕ) → Payload → Option Item

@@ -7,7 +7,7 @@ use Rattle.lis_dict.proofs.Laws.{word_from_number, number_from_word, number_belo
 use Rattle.lis_words.specs.Words.{is_plain_word, is_valued, head_bytes}
 use Rattle.lis_fields.specs.declared.slots.PropSlot.{PropSlot}
 use Rattle.lis_fields.specs.declared.slots.PropSlot.TheVariants.{Declared}
-use Rattle.lis_laws.proofs.Fresh.{plain_not_valued}
+use Rattle.lis_laws.proofs.Apart.{plain_not_valued}
 use Rattle.lis_model.specs.declared.limits.Limits.{Limits}
 use Rattle.lis_store.specs.Kept.{property_by, property_at, bit_of}
 use Rattle.lis_open.specs.declared.words.Words.{Words}

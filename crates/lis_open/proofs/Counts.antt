@@ -1,5 +1,5 @@
 -- How many words and blocks there are, and lists that rise.
-use Rattle.std.proofs.Common.{◌≡◌, refl, sym, ap, ap₂, subst, inl, inr, ℕ, zero, suc, ◌<◌, ◌≤◌, eqb, true, false, ◌&&◌, List, [], ◌∷◌, length, map, take, Option, Some, None, arith, sum, length-append}
+use Rattle.std.proofs.Common.{◌≡◌, refl, sym, ap, ap₂, subst, inl, inr, ℕ, ◌+◌, zero, suc, ◌<◌, ◌≤◌, eqb, true, false, ◌&&◌, List, [], ◌∷◌, length, map, take, Option, Some, None, arith, sum, length-append}
 use Rattle.std.specs.declared.cmp.Ordering.{Ordering}
 use Rattle.std.specs.Ordering.{is_lt}
 use Rattle.std.specs.Option.{option_to_list}
@@ -8,6 +8,9 @@ use Rattle.std.proofs.lemmas.Bool.{ne_eqb, eqb-true}
 use Rattle.std.proofs.lemmas.List.Sums.{sum_by-cons}
 use Rattle.std.proofs.lemmas.Map.Steps.{length-le_from_distinct_below}
 use Rattle.lis_graph.specs.Graph.{is_rising}
+use Rattle.lis_words.specs.Words.{word_cmp}
+use Rattle.lis_model.specs.Sets.{with_word, with_words}
+use Rattle.lis_laws.proofs.Counts.{insert_key_le}
 use Rattle.lis_graph.proofs.Members.{Among, among_from_any}
 use Rattle.lis_content.specs.Content.{are_distinct}
 use Rattle.lis_open.proofs.Numbers.{apart_first}
@@ -30,6 +33,10 @@ few_below ns end distinct below =
     (λ q is. let found = among_from_any (eqb q) ns is in below q (subst (λ n. Among ns n) (sym (eqb-true q found.0 found.2)) found.1))
 
 -- ---- one word at most for each number
+pub with_words_le : (words more : List (List ℕ)) → length (with_words words more) ≤ length words + length more
+with_words_le words [] = omega arith
+with_words_le words (word ∷ more) = omega (arith, with_words_le (with_word words word) more, insert_key_le word_cmp words word)
+
 pub few_words : (word_by : ℕ → Option (List ℕ)) (ns : List ℕ) → length (flat_map (λ n. option_to_list (word_by n)) ns) ≤ length ns
 few_words word_by [] = omega arith
 few_words word_by (n ∷ ns) =

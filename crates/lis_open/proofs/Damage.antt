@@ -1,5 +1,5 @@
 -- An image of which a part fails its check stands for no state.
-use Rattle.std.proofs.Common.{◌≡◌, ◌⊎◌, ◌∙◌, refl, sym, ap, subst, inl, inr, ℕ, ◌<◌, ◌≤◌, nat_lt, Bool, true, false, ◌&&◌, ◌||◌, is_some, List, [], ◌∷◌, ◌++◌, length, map, get_or, replicate, slice_get, Option, Some, None, IsTrue, arith}
+use Rattle.std.proofs.Common.{◌≡◌, ◌⊎◌, ◌∙◌, refl, sym, ap, subst, inl, inr, ℕ, ◌<◌, ◌≤◌, nat_lt, Bool, true, false, not, ◌&&◌, ◌||◌, is_some, List, [], ◌∷◌, ◌++◌, length, map, get_or, replicate, slice_get, Option, Some, None, IsTrue, arith}
 use Rattle.std.specs.Option.{option_to_list}
 use Rattle.std.specs.List.{list_all, flat_map}
 use Rattle.std.proofs.lemmas.Bool.{and_parts, ltb-true, cases_lt}
@@ -13,7 +13,6 @@ use Rattle.lis_blockmap.proofs.Laws.{has_bit-bitmap_bytes}
 use Rattle.lis_content.specs.Content.{marked, has_number, are_distinct}
 use Rattle.lis_fields.specs.Records.{FileRecord}
 use Rattle.lis_fields.specs.Layouts.{prop_bytes, is_prop, axiom_bytes, is_axiom, file_bytes, is_file}
-use Rattle.lis_fields.specs.declared.slots.SuperRec.{SuperRec}
 use Rattle.lis_fields.specs.declared.slots.PropSlot.{PropSlot}
 use Rattle.lis_fields.specs.declared.slots.PropSlot.TheVariants.{Free as FreeProp, Known, Declared}
 use Rattle.lis_fields.specs.declared.slots.AxiomSlot.{AxiomSlot}
@@ -21,17 +20,19 @@ use Rattle.lis_fields.specs.declared.slots.AxiomSlot.TheVariants.{Free as FreeAx
 use Rattle.lis_fields.specs.declared.slots.FileSlot.{FileSlot}
 use Rattle.lis_fields.specs.declared.slots.FileSlot.TheVariants.{Free as FreeFile, Used}
 use Rattle.lis_fields.proofs.OneSpelling.{super_once, prop_once, file_once}
-use Rattle.lis_words.specs.Words.{is_plain_word, is_valued, head_bytes, has_word}
+use Rattle.lis_words.specs.Words.{is_plain_word, is_valued, is_test, is_kept_word, head_bytes, has_word}
 use Rattle.lis_laws.proofs.Members.{among_from_has_word, among_with_words, among_set_of, set_of_among}
-use Rattle.lis_laws.proofs.Chains.{among_heads}
-use Rattle.lis_laws.proofs.Counts.{all_among}
-use Rattle.lis_laws.proofs.Tables.{words_of_file}
+use Rattle.lis_laws.proofs.Counts.{all_among, all_from}
+use Rattle.lis_model.specs.Tests.{has_no_tests}
+use Rattle.lis_model.proofs.NoTests.{word_not_test}
+use Rattle.lis_store.proofs.OneState.{super_told}
+use Rattle.lis_store.proofs.Described.{described_from}
 use Rattle.lis_model.specs.declared.limits.Limits.{Limits}
 use Rattle.lis_model.specs.declared.spot.Spot.{Spot}
 use Rattle.lis_model.specs.declared.spot.Spot.TheVariants.{Super, BadRecord, Property, Axiom, File as FileSpot, Word, Bitmap, Row}
 use Rattle.lis_model.specs.Image.{bitmap_start, image_blocks}
 use Rattle.lis_model.specs.Sets.{set_of}
-use Rattle.lis_model.specs.State.{State, File, file_cmp, heads, description, known, is_assignable}
+use Rattle.lis_model.specs.State.{State, File, file_cmp, description, known, is_declarable, is_assignable}
 use Rattle.lis_store.specs.Stands.{property_slots, axiom_slots, file_slots, Contents, word_in, declared_in, words_in, all_declared, word_at, is_free_axiom, records_in, all_records, all_blocks, file_of, spelled_state, Spells, Stands}
 use Rattle.lis_open.specs.Opens.{HasSuper}
 use Rattle.lis_open.specs.Checks.{IsProperty, IsFile, HasWord, IsDeclaredIn, IsAssignableIn, IsUsed, PropertyFails, AxiomFails, FileFault, FileFails, WordFails, BitFails, Fails, FailsReplayed, RecordFails, FailsIn}
@@ -236,6 +237,12 @@ module _ (limits : Limits) (contents : Contents) (at : ℕ → List ℕ) (spells
       by (Used rec) is = no_file_fault n rec is (fails.fault (Used rec) is)
 
   -- ---- words in use
+  no_tests : has_no_tests s.declared ≡ true
+  no_tests = all_from (λ w. not (is_test w)) s.declared (λ w m. ap not (word_not_test w (kept_word w m)))
+    where
+      kept_word : (w : List ℕ) → Among s.declared w → is_kept_word w ≡ true
+      kept_word w m = let found = declared_there w m in (and_parts (is_kept_word w) (is_declarable w) (found.1).range).0
+
   module _ (n : ℕ) (fails : WordFails limits at n) where
     not_declared : Among s.declared fails.word → ⊥
     not_declared m =
@@ -252,7 +259,7 @@ module _ (limits : Limits) (contents : Contents) (at : ℕ → List ℕ) (spells
         let place = record_place rec m in
         fails.unused place.0 rec place.1 (has_from_among rec.tags n (subst (λ k. Among rec.tags k) same in_tags))
 
-    not_entailed : (rec : FileRecord) (v : List ℕ) → Among records rec → Among (file_of limits contents.properties at rec).assigned v → Among (v ∷ heads v) fails.word → ⊥
+    not_entailed : (rec : FileRecord) (v : List ℕ) → Among records rec → Among (file_of limits contents.properties at rec).assigned v → (v ≡ fails.word) ⊎ ((is_valued v ≡ true) × (head_bytes v ≡ fails.word)) → ⊥
     not_entailed rec v m own up = by (among_flat_map (λ k. option_to_list (word_at contents.properties k)) rec.tags v (among_set_of (flat_map (λ k. option_to_list (word_at contents.properties k)) rec.tags) v own)) up
       where
         head_declared : is_assignable s.declared v ≡ true → is_valued v ≡ true → Among s.declared (head_bytes v)
@@ -262,10 +269,9 @@ module _ (limits : Limits) (contents : Contents) (at : ℕ → List ℕ) (spells
             from (inl plain) = absurd (both_ways (is_plain_word v) (and_parts (is_plain_word v) (has_word s.declared v) plain).0 (valued_not_plain v valued))
             from (inr head) = among_from_has_word s.declared (head_bytes v) (and_parts (is_valued v) (has_word s.declared (head_bytes v)) head).1
 
-        by : (tag : ℕ) × Among rec.tags tag × Among (option_to_list (word_at contents.properties tag)) v → Among (v ∷ heads v) fails.word → ⊥
+        by : (tag : ℕ) × Among rec.tags tag × Among (option_to_list (word_at contents.properties tag)) v → (v ≡ fails.word) ⊎ ((is_valued v ≡ true) × (head_bytes v ≡ fails.word)) → ⊥
         by tag (inl same) = not_given rec tag.0 m tag.1 (some_member (word_at contents.properties tag.0) v tag.2 ∙ ap Some same)
-        by tag (inr head) =
-            let is = among_heads v fails.word head in
+        by tag (inr is) =
             let may = given_assignable rec tag.0 v m tag.1 (some_member (word_at contents.properties tag.0) v tag.2) in
             not_declared (subst (λ w. Among s.declared w) is.1 (head_declared may is.0))
 
@@ -282,16 +288,11 @@ module _ (limits : Limits) (contents : Contents) (at : ℕ → List ℕ) (spells
         of_files file (inl none) = absurd none
         of_files file (inr found) = found
 
-        own_only : (file : File) (v : List ℕ) → Among file.assigned v ⊎ Among {K = List ℕ} [] v → Among file.assigned v
-        own_only file v (inl own) = own
-        own_only file v (inr none) = absurd none
-
         described : (file : File) × Among s.files file × Among (description s file) fails.word → ⊥
         described found =
             let rec = among_map (file_of limits contents.properties at) records found.0 (of_files found.0 (among_with_more file_cmp [] files found.0 found.1)) in
-            let up = words_of_file [] found.0 fails.word found.2 in
-            let own = own_only found.0 up.0 (among_append (found.0).assigned [] up.0 up.1) in
-            not_entailed rec.0 up.0 rec.1 (subst (λ (file : File). Among file.assigned up.0) (sym rec.2) own) (among_set_of (up.0 ∷ heads up.0) fails.word up.2)
+            let source = described_from s.declared [] no_tests refl found.0 fails.word found.2 in
+            not_entailed rec.0 source.0 rec.1 (subst (λ (file : File). Among file.assigned source.0) (sym rec.2) source.1) source.2
 
         source : Among s.declared fails.word ⊎ Among (flat_map (description s) s.files) fails.word → ⊥
         source (inl declared) = not_declared declared
@@ -346,20 +347,17 @@ pub spelled_passes : (limits : Limits) (contents : Contents) (at : ℕ → List 
 spelled_passes limits contents at s spot spells = none_fails limits contents at (subst (λ (t : State). Spells limits contents at t) spells.state spells) spot
 
 -- ---- images
-abbrev super_of : Limits → SuperRec
-super_of limits = record { version = 1; limits = limits }
-
 pub one_limits : (image : List ℕ) (a b : Limits) → HasSuper a image → HasSuper b image → a ≡ b
-one_limits image a b is_a is_b = ap (λ (rec : SuperRec). rec.limits) (super_once (super_of a) (super_of b) is_a.range is_b.range (sym is_a.spelled ∙ is_b.spelled))
+one_limits image a b is_a is_b = super_once a b (super_told a is_a.range is_a.version) (super_told b is_b.range is_b.version) (sym is_a.spelled ∙ is_b.spelled)
 
 pub has_super : (image : List ℕ) (s : State) → Stands image s → HasSuper s.limits image
 unfolding Stands
-has_super image s stands = record { range = stands.spells.formed.limits; spelled = stands.super }
+has_super image s stands = record { range = stands.spells.formed.limits; version = stands.version; spelled = stands.super }
 
 replayed_passes : (image : List ℕ) (s : State) (spot : Spot) → Stands image s → FailsReplayed image spot → ⊥
 unfolding Stands
 replayed_passes image s spot stands fails =
-    let limits = one_limits image fails.limits s.limits fails.super (record { range = stands.spells.formed.limits; spelled = stands.super }) in
+    let limits = one_limits image fails.limits s.limits fails.super (record { range = stands.spells.formed.limits; version = stands.version; spelled = stands.super }) in
     let replay = one_some fails.replay stands.replay (sym fails.replays ∙ (ap (λ (l : Limits). replayed (image_blocks l) image) limits ∙ stands.replays)) in
     let there = subst (λ (l : Limits). Fails l (λ n. block n fails.replay) spot) limits fails.fails in
     spelled_passes s.limits stands.contents (λ n. block n stands.replay) s spot stands.spells (subst (λ (r : List ℕ). Fails s.limits (λ n. block n r) spot) replay there)
@@ -367,7 +365,7 @@ replayed_passes image s spot stands fails =
 record_passes : (image : List ℕ) (s : State) (b : ℕ) → Stands image s → RecordFails image b → ⊥
 unfolding Stands
 record_passes image s b stands fails =
-    let limits = one_limits image fails.limits s.limits fails.super (record { range = stands.spells.formed.limits; spelled = stands.super }) in
+    let limits = one_limits image fails.limits s.limits fails.super (record { range = stands.spells.formed.limits; version = stands.version; spelled = stands.super }) in
     let none = sym fails.replays ∙ (ap (λ (l : Limits). replayed (image_blocks l) image) limits ∙ stands.replays) in
     cc
 

@@ -12,7 +12,6 @@ use Rattle.lis_journal.specs.Recovery.{StandsForReplayed, InRecovery, MountEnded
 use Rattle.lis_journal.specs.declared.journal.JournalFault.{JournalFault}
 use Rattle.lis_journal.specs.declared.journal.JournalFault.TheVariants.{DiskFault as JournalDisk, BadRecord as JournalRecord, NoMemory as JournalMemory}
 use Rattle.lis_journal.proofs.Phases.{rest_stands, replayed-open}
-use Rattle.lis_fields.specs.declared.slots.SuperRec.{SuperRec}
 use Rattle.lis_fields.specs.Layouts.{super_bytes, is_super}
 use Rattle.lis_model.specs.declared.limits.Limits.{Limits}
 use Rattle.lis_model.specs.declared.spot.Spot.{Spot}
@@ -22,6 +21,7 @@ use Rattle.lis_model.specs.Image.{image_blocks}
 use Rattle.lis_model.specs.State.{State}
 use Rattle.lis_store.specs.Stands.{Spells, Stands}
 use Rattle.lis_store.specs.Kept.{Kept, contents_of, Tells}
+use Rattle.lis_store.proofs.OneState.{super_told}
 use Rattle.lis_store.proofs.Standing.{super-replayed, kept_stands}
 use Rattle.lis_store.proofs.Telling.{tells_spells}
 use Rattle.lis_open.specs.declared.mounting.OpenFault.{OpenFault}
@@ -79,18 +79,18 @@ pub failed_opened : (old new : Meaning) → Opened old new (Err DiskFault)
 failed_opened old new = unspotted old new DiskFault tt tt (λ spot fault. cc)
 
 -- ---- the super block, as it was read
-super_from : (image : List ℕ) (rec : SuperRec) → IsTrue (is_super rec) → part 0 4096 image ≡ super_bytes rec → HasSuper rec.limits image
-super_from image rec range spelled =
-    let tests = and_parts (rec.version == 1) (are_in_range rec.limits) range in
-    record { range = tests.1; spelled = spelled ∙ ap (λ v. super_bytes (record { version = v; limits = rec.limits })) (eqb-true rec.version 1 tests.0) }
+super_from : (image : List ℕ) (limits : Limits) → IsTrue (is_super limits) → part 0 4096 image ≡ super_bytes limits → HasSuper limits image
+super_from image limits range spelled =
+    let tests = and_parts (limits.version == 1) (are_in_range limits) range in
+    record { range = tests.1; version = eqb-true limits.version 1 tests.0; spelled = spelled }
 
-pub super_read : (image read : List ℕ) (rec : SuperRec) → read ≡ part 0 4096 image → IsTrue (is_super rec) × (read ≡ super_bytes rec) → HasSuper rec.limits image
-super_read image read rec is spelled = super_from image rec spelled.0 (sym is ∙ spelled.1)
+pub super_read : (image read : List ℕ) (limits : Limits) → read ≡ part 0 4096 image → IsTrue (is_super limits) × (read ≡ super_bytes limits) → HasSuper limits image
+super_read image read limits is spelled = super_from image limits spelled.0 (sym is ∙ spelled.1)
 
-pub none_read : (image read : List ℕ) (found : Option SuperRec) → found ≡ None → read ≡ part 0 4096 image → ((rec : SuperRec) → IsTrue (is_super rec) → read ≡ super_bytes rec → found ≡ Some rec)
+pub none_read : (image read : List ℕ) (found : Option Limits) → found ≡ None → read ≡ part 0 4096 image → ((told : Limits) → IsTrue (is_super told) → read ≡ super_bytes told → found ≡ Some told)
     → (limits : Limits) → HasSuper limits image → ⊥
 none_read image read found none is same limits super =
-    let some = same (record { version = 1; limits = limits }) super.range (is ∙ super.spelled) in
+    let some = same limits (super_told limits super.range super.version) (is ∙ super.spelled) in
     cc
 
 -- ---- no super block
@@ -192,7 +192,7 @@ module _ (old : Meaning) (limits : Limits) (super : HasSuper limits old.bytes) (
 
       by : (o : Option (List ℕ)) → o ≡ Some stands.replay → IsSomeAnd o (λ r. KeptBy (image_blocks s.limits) (λ n. block n r) image) → Stands image s
       by o is kept =
-          kept_stands s stands.contents (λ n. block n stands.replay) image
+          kept_stands s stands.contents (λ n. block n stands.replay) image stands.version
           (super-replayed (image_blocks s.limits) old.bytes stands.replay stands.replays (omega (arith, stands.long)) ∙ stands.super) stands.spells (at_replay o is kept)
 
   -- ---- the journal
@@ -243,7 +243,7 @@ module _ (old : Meaning) (limits : Limits) (super : HasSuper limits old.bytes) (
     abbrev kept : ℕ → List ℕ
     kept n = block n r
 
-    super_kept : block 0 r ≡ super_bytes (record { version = 1; limits = limits })
+    super_kept : block 0 r ≡ super_bytes limits
     super_kept = super-replayed (image_blocks limits) old.bytes r replays (omega (arith, whole, long)) ∙ super.spelled
 
     fails_replayed : (spot : Spot) → Fails limits kept spot → FailsReplayed old.bytes spot
@@ -298,7 +298,8 @@ module _ (old : Meaning) (limits : Limits) (super : HasSuper limits old.bytes) (
       told_stand store s tells same =
           let limits_are : limits ≡ s.limits = sym same ∙ tells.limits in
           record {
-            super = super.spelled ∙ ap (λ (l : Limits). super_bytes (record { version = 1; limits = l })) limits_are;
+            super = super.spelled ∙ ap (λ (l : Limits). super_bytes l) limits_are;
+            version = ap (λ (l : Limits). l.version) (sym limits_are) ∙ super.version;
             long = omega (arith, whole, long, ap image_blocks limits_are);
             replay = r;
             replays = ap (λ (l : Limits). replayed (image_blocks l) old.bytes) (sym limits_are) ∙ replays;
@@ -309,7 +310,7 @@ module _ (old : Meaning) (limits : Limits) (super : HasSuper limits old.bytes) (
       -- its limits are those of the super block
       told_limits : (store : Kept) (s : State) → Tells store kept s → store.limits ≡ limits
       told_limits store s tells =
-          one_limits r store.limits limits (record { range = tells.sound.range; spelled = tells.spelled.super }) (record { range = super.range; spelled = super_kept })
+          one_limits r store.limits limits (record { range = tells.sound.range; version = tells.sound.version; spelled = tells.spelled.super }) (record { range = super.range; version = super.version; spelled = super_kept })
 
       parts_opened : (result : Result Kept OpenFault) → ((store : Kept) → result ≡ Ok store → store.journal.blocks ≡ image_blocks limits) → StoreEnded limits kept result → Opened old new result
       parts_opened (Ok store) image ended =
@@ -339,7 +340,7 @@ module _ (old : Meaning) (limits : Limits) (super : HasSuper limits old.bytes) (
   -- where it was mounted, and what it fits then was read
   pub store_opened : length old.bytes ≡ old.len → (mid new : Meaning) (result : Result Kept OpenFault) → IsSomeAnd (replayed (image_blocks limits) old.bytes) (λ r. Fits (image_blocks limits) mid (λ n. block n r))
       → IsSettled mid (recovered (image_blocks limits) old.bytes) → OnlyReads mid new → ((store : Kept) → result ≡ Ok store → store.journal.blocks ≡ image_blocks limits)
-      → ((kept : ℕ → List ℕ) → Fits (image_blocks limits) mid kept → kept 0 ≡ super_bytes (record { version = 1; limits = limits }) → StoreEnded limits kept result) → Opened old new result
+      → ((kept : ℕ → List ℕ) → Fits (image_blocks limits) mid kept → kept 0 ≡ super_bytes limits → StoreEnded limits kept result) → Opened old new result
   store_opened whole mid new result mounted settled reads image ended =
       let found = some_replay (replayed (image_blocks limits) old.bytes) (λ r. Fits (image_blocks limits) mid (λ n. block n r)) mounted in
       let kept : ℕ → List ℕ = λ n. block n found.0 in

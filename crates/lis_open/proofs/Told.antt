@@ -18,17 +18,19 @@ use Rattle.lis_dict.proofs.Laws.{among_from_number, number_from_among, word_from
 use Rattle.lis_catalog.specs.Catalog.{Filed}
 use Rattle.lis_fields.specs.Layouts.{super_bytes, is_prop, is_record}
 use Rattle.lis_fields.proofs.Parts.{record_tests, few_tags, few_blocks}
-use Rattle.lis_words.specs.Words.{word_cmp, has_word, is_plain_word, is_valued, is_file_name, head_bytes}
+use Rattle.lis_words.specs.Words.{word_cmp, has_word, is_plain_word, is_valued, is_test, is_kept_word, is_file_name, head_bytes}
 use Rattle.lis_laws.proofs.Members.{word_order, among_from_has_word, has_word_from_among, among_with_words, with_words_old, among_set_of, set_of_among, sorted_set_of, same_words}
-use Rattle.lis_laws.proofs.Chains.{among_heads, up_self, acyclic_decides}
+use Rattle.lis_laws.proofs.Chains.{acyclic_decides}
 use Rattle.lis_laws.proofs.Counts.{all_among, all_from, rising_from_sorted, rising_filter}
 use Rattle.lis_laws.proofs.Known.{sorted_known}
-use Rattle.lis_laws.proofs.Tables.{words_of_file, file_has, described_known}
-use Rattle.lis_laws.proofs.Steps.{with_words_le, description_le}
+use Rattle.lis_laws.proofs.Sources.{described_known}
+use Rattle.lis_model.specs.Tests.{has_no_tests}
+use Rattle.lis_model.proofs.NoTests.{word_not_test}
+use Rattle.lis_store.proofs.Described.{described_from, described_has, described_few}
 use Rattle.lis_model.specs.declared.limits.Limits.{Limits}
 use Rattle.lis_model.specs.Ranges.{are_in_range}
 use Rattle.lis_model.specs.Image.{bitmap_start, data_start, image_blocks}
-use Rattle.lis_model.specs.State.{State, File, heads, own_words, description, known, is_declarable, is_assignable, file_cmp, blocks_needed, used_blocks, FilesAreFormed, WellFormed}
+use Rattle.lis_model.specs.State.{State, File, description, known, is_declarable, is_assignable, file_cmp, file_limit, blocks_needed, blocks_taken, used_blocks, FilesAreFormed, WellFormed}
 use Rattle.lis_store.specs.Kept.{Kept, property_by, bit_of, words_told, file_told, used_by, is_sound_record, IsSound, AxiomsAreFree, Tells}
 use Rattle.lis_store.specs.Inside.{kept_of}
 use Rattle.lis_open.specs.declared.words.Words.{Words}
@@ -36,7 +38,7 @@ use Rattle.lis_open.specs.declared.files.Files.{Files}
 use Rattle.lis_open.specs.Reading.{bits, is_declared_word, is_assignable_word, is_assignable_by, is_assignable_number, is_given, is_stray, AreFirstWords, WordsAreSpelled, AreFirstFiles, FilesAreSpelled, AreRead, AreSpelled}
 use Rattle.lis_open.proofs.Numbers.{true_or_false, both_ways, same_test, or_parts, among_from_has}
 use Rattle.lis_open.proofs.Assignable.{valued_not_plain}
-use Rattle.lis_open.proofs.Counts.{few_below, few_words, take_few, sum_within, rising_map}
+use Rattle.lis_open.proofs.Counts.{few_below, few_words, with_words_le, take_few, sum_within, rising_map}
 
 -- the parts as one value
 abbrev pub kept_by : Limits → Held → Words → Files → Kept
@@ -44,9 +46,10 @@ kept_by limits journal words files = kept_of limits journal words.dict words.dec
 
 -- ---- what holds without a look at blocks
 module _ (limits : Limits) (journal : Held) (words : Words) (files : Files) (first : AreFirstWords limits words limits.props) (all : AreFirstFiles limits words files limits.files) where
-  pub sound : IsTrue (are_in_range limits) → journal.blocks ≡ image_blocks limits → journal.staged ≡ [] → IsSound (kept_by limits journal words files)
-  sound in_range image clean = record {
+  pub sound : IsTrue (are_in_range limits) → limits.version ≡ 1 → journal.blocks ≡ image_blocks limits → journal.staged ≡ [] → IsSound (kept_by limits journal words files)
+  sound in_range version image clean = record {
     range = in_range;
+    version = version;
     image = image;
     quiet = λ unbroken. clean;
     numbers = first.props;
@@ -103,7 +106,7 @@ told_state limits words files at = record {
   files = map (file_told limits words.dict at) files.catalog.entries;
 }
 
-module _ (limits : Limits) (words : Words) (files : Files) (at : ℕ → List ℕ) (first : AreFirstWords limits words limits.props) (all : AreFirstFiles limits words files limits.files) (used : (n : ℕ) → n < limits.props → is_stray words files.catalog n ≡ false) where
+module _ (limits : Limits) (words : Words) (files : Files) (at : ℕ → List ℕ) (first : AreFirstWords limits words limits.props) (all : AreFirstFiles limits words files limits.files) (used : (n : ℕ) → n < limits.props → is_stray words files.catalog n ≡ false) (version : limits.version ≡ 1) where
   abbrev s : State
   s = told_state limits words files at
 
@@ -118,6 +121,10 @@ module _ (limits : Limits) (words : Words) (files : Files) (at : ℕ → List �
 
   declared_rising : is_rising word_cmp s.declared ≡ true
   declared_rising = rising_filter word_cmp (is_declared_word words) (dict.words words.dict) first.are.dict.rising
+
+  no_tests : has_no_tests s.declared ≡ true
+  no_tests = all_from (λ w. not (is_test w)) s.declared (λ w m.
+      ap not (word_not_test w (all_among is_kept_word (dict.words words.dict) w first.are.dict.forms (among_filter (is_declared_word words) (dict.words words.dict) w m).0)))
 
   -- ---- the words that a file was given
   entry_assignable : (f : Filed) (n : ℕ) → Among files.catalog.entries f → Among f.rec.tags n → is_assignable_number words n ≡ true
@@ -142,23 +149,17 @@ module _ (limits : Limits) (words : Words) (files : Files) (at : ℕ → List �
       by (inr head) = (and_parts (is_valued w) (is_declared_word words (head_bytes w)) head).1
 
   -- ---- the words of slots are the known words
-  described : (f : Filed) (w v : List ℕ) → Among files.catalog.entries f → Among (words_told words.dict f.rec.tags) v → Among (v ∷ heads v) w → Among (dict.words words.dict) w
+  described : (f : Filed) (w v : List ℕ) → Among files.catalog.entries f → Among (words_told words.dict f.rec.tags) v → (v ≡ w) ⊎ ((is_valued v ≡ true) × (head_bytes v ≡ w)) → Among (dict.words words.dict) w
   described f w v in_f own (inl same) = subst (λ u. Among (dict.words words.dict) u) same (given_known f v own)
-  described f w v in_f own (inr head) =
-      let is = among_heads v w head in
+  described f w v in_f own (inr is) =
       subst (λ u. Among (dict.words words.dict) u) is.1
       (declared_known words first.are.dict (head_bytes v) (head_declared v (given_assignable f v in_f own) is.0))
-
-  no_more : (v : List ℕ) (assigned : List (List ℕ)) → Among assigned v ⊎ Among {K = List ℕ} [] v → Among assigned v
-  no_more v assigned (inl m) = m
-  no_more v assigned (inr m) = absurd m
 
   from_file : (w : List ℕ) → (file : File) × Among s.files file × Among (description s file) w → Among (dict.words words.dict) w
   from_file w found =
       let f = among_map (file_told limits words.dict at) files.catalog.entries found.0 found.1 in
-      let source = words_of_file [] found.0 w found.2 in
-      let own = no_more source.0 (found.0).assigned (among_append (found.0).assigned [] source.0 source.1) in
-      described f.0 w source.0 f.1 (subst (λ (file : File). Among file.assigned source.0) (sym f.2) own) (among_set_of (source.0 ∷ heads source.0) w source.2)
+      let source = described_from s.declared [] no_tests refl found.0 w found.2 in
+      described f.0 w source.0 f.1 (subst (λ (file : File). Among file.assigned source.0) (sym f.2) source.1) source.2
 
   from_known : (w : List ℕ) → Among (known s) w → Among (dict.words words.dict) w
   from_known w m = by (among_with_words s.declared (flat_map (description s) s.files) w m)
@@ -177,8 +178,8 @@ module _ (limits : Limits) (words : Words) (files : Files) (at : ℕ → List �
       given n is found =
           let f = found.0 in
           let file = file_told limits words.dict at f in
-          let own : Among (own_words file) w = among_left file.assigned [] w (told_in words.dict f.rec.tags n w (among_from_has f.rec.tags n found.2) (word_from_number words.dict first.are.dict w n is)) in
-          described_known s file w (map_among (file_told limits words.dict at) files.catalog.entries f found.1) (file_has [] file w w own (up_self [] w))
+          described_known s file w (map_among (file_told limits words.dict at) files.catalog.entries f found.1)
+          (described_has s.declared [] no_tests refl file w (told_in words.dict f.rec.tags n w (among_from_has f.rec.tags n found.2) (word_from_number words.dict first.are.dict w n is)))
 
       no_stray : (n : ℕ) → number_of words.dict w ≡ Some n → is_stray words files.catalog n ≡ false → is_taken (bits words) n ≡ false → is_given files.catalog n ≡ false → ⊥
       no_stray n is stray bit none =
@@ -229,9 +230,9 @@ module _ (limits : Limits) (words : Words) (files : Files) (at : ℕ → List �
         all_from (is_assignable s.declared) (words_told words.dict f.rec.tags) (λ w in_w. assignable_test w ∙ given_assignable f w m in_w));
     few_assigned = each_file (λ (file : File). nat_le (length file.assigned) 16) (λ f m. le-leb (length (words_told words.dict f.rec.tags)) 16 (few_given f m));
     few_words = each_file (λ (file : File). nat_le (length (description s file)) 128) (λ f m.
-        le-leb (length (description s (file_told limits words.dict at f))) 128 (description_le (file_told limits words.dict at f) (few_given f m)));
-    short = each_file (λ (file : File). nat_le (length file.bytes) 65536) (λ f m.
-        le-leb (length (content (data_start limits) f.rec.blocks f.rec.size at)) 65536 (omega (arith, short_bytes f, (record_tests f.rec (entry_record f m)).small)));
+        le-leb (length (description s (file_told limits words.dict at f))) 128 (described_few s.declared [] no_tests refl (file_told limits words.dict at f) (few_given f m)));
+    short = each_file (λ (file : File). nat_le (length file.bytes) (file_limit limits.version)) (λ f m.
+        le-leb (length (content (data_start limits) f.rec.blocks f.rec.size at)) (file_limit limits.version) (omega (arith, short_bytes f, (record_tests f.rec (entry_record f m)).small, ap file_limit version)));
   }
 
   declared_form : (w : List ℕ) → is_declared_word words w ≡ true → is_declarable w ≡ true
@@ -240,7 +241,7 @@ module _ (limits : Limits) (words : Words) (files : Files) (at : ℕ → List �
       by : (o : Option ℕ) → number_of words.dict w ≡ o → bit_of (bits words) o ≡ true → is_declarable w ≡ true
       by None is bit = cc
       by (Some n) is bit =
-          ap₂ (λ o b. is_prop (property_by o b)) (sym (word_from_number words.dict first.are.dict w n is)) (sym bit) ∙ first.are.forms n
+          (and_parts (is_kept_word w) (is_declarable w) (ap₂ (λ o b. is_prop (property_by o b)) (sym (word_from_number words.dict first.are.dict w n is)) (sym bit) ∙ first.are.forms n)).1
 
   few_used : used_blocks s ≤ limits.blocks
   few_used =
@@ -253,7 +254,8 @@ module _ (limits : Limits) (words : Words) (files : Files) (at : ℕ → List �
       let within = sum_within (λ (f : Filed). blocks_needed (length (file_told limits words.dict at f).bytes)) (λ (f : Filed). f.rec.blocks) files.catalog.entries each in
       let few = few_below (used_by files.catalog) limits.blocks all.apart below in
       let same = ap sum (map-map (λ (file : File). blocks_needed (length file.bytes)) (file_told limits words.dict at) files.catalog.entries) in
-      omega (arith, within, few, same)
+      let taken = ap (λ v. sum (map (λ (file : File). blocks_taken v (length file.bytes)) s.files)) version in
+      omega (arith, within, few, same, taken)
     where
       block_below : (f : Filed) (n : ℕ) → Among files.catalog.entries f → Among f.rec.blocks n → n < limits.blocks
       block_below f n in_f m =
@@ -268,7 +270,7 @@ module _ (limits : Limits) (words : Words) (files : Files) (at : ℕ → List �
     axiom_set = refl;
     file_set = sym (rising_map word_cmp file_cmp (λ (f : Filed). f.rec.name) (file_told limits words.dict at) files.catalog.entries (λ a b. refl)) ∙ all.catalog.rising;
     declared = all_from is_declarable s.declared (λ w m. declared_form w (among_filter (is_declared_word words) (dict.words words.dict) w m).1);
-    axioms = record { rights = refl; lefts = refl; acyclic = (acyclic_decides []).0 refl };
+    axioms = record { rights = refl; lefts = refl; acyclic = (acyclic_decides s.declared []).0 refl };
     files = files_formed;
     few_files = omega (arith, length-map files.catalog.entries (file_told limits words.dict at), all.catalog.few, all.slots);
     few_known = omega (arith, ap (λ ws. length ws) words_are, length-map words.dict.entries (λ (e : List ℕ × ℕ). e.0), first.are.dict.few, first.props);
@@ -278,11 +280,11 @@ module _ (limits : Limits) (words : Words) (files : Files) (at : ℕ → List �
 
   -- ---- and what was read tells it
   tells : (journal : Held) → IsTrue (are_in_range limits) → journal.blocks ≡ image_blocks limits → journal.staged ≡ [] → journal.is_broken ≡ false
-      → at 0 ≡ super_bytes (record { version = 1; limits = limits }) → WordsAreSpelled limits at words limits.props → AxiomsAreFree limits at → FilesAreSpelled limits at files limits.files
+      → at 0 ≡ super_bytes limits → WordsAreSpelled limits at words limits.props → AxiomsAreFree limits at → FilesAreSpelled limits at files limits.files
       → at (bitmap_start limits) ≡ bitmap_bytes files.map → Tells (kept_by limits journal words files) at s
   tells journal in_range image clean unbroken super spelled axioms records bitmap = record {
     limits = refl;
-    sound = sound limits journal words files first all in_range image clean;
+    sound = sound limits journal words files first all in_range version image clean;
     unbroken = unbroken;
     spelled = record { super = super; properties = spelled; axioms = axioms; records = records; bitmap = bitmap };
     formed = formed in_range;
@@ -292,11 +294,11 @@ module _ (limits : Limits) (words : Words) (files : Files) (at : ℕ → List �
     files = refl;
   }
 
-pub store_told : (limits : Limits) (words : Words) (files : Files) (at : ℕ → List ℕ) (journal : Held) (store : Kept) → AreRead limits words files → AreSpelled limits at words files → IsTrue (are_in_range limits)
-    → journal.blocks ≡ image_blocks limits → journal.staged ≡ [] → journal.is_broken ≡ false → at 0 ≡ super_bytes (record { version = 1; limits = limits })
+pub store_told : (limits : Limits) (words : Words) (files : Files) (at : ℕ → List ℕ) (journal : Held) (store : Kept) → AreRead limits words files → AreSpelled limits at words files → IsTrue (are_in_range limits) → limits.version ≡ 1
+    → journal.blocks ≡ image_blocks limits → journal.staged ≡ [] → journal.is_broken ≡ false → at 0 ≡ super_bytes limits
     → store ≡ kept_by limits journal words files → (s : State) × Tells store at s
-store_told limits words files at journal store read spelled in_range image clean unbroken super is =
+store_told limits words files at journal store read spelled in_range version image clean unbroken super is =
     let s = told_state limits words files at in
     let told =
-    tells limits words files at read.words_are read.files_are read.used journal in_range image clean unbroken super spelled.properties spelled.axioms spelled.records spelled.bitmap in
+    tells limits words files at read.words_are read.files_are read.used version journal in_range image clean unbroken super spelled.properties spelled.axioms spelled.records spelled.bitmap in
     (s, subst (λ (k : Kept). Tells k at s) (sym is) told)

@@ -21,15 +21,15 @@ use Rattle.lis_store.proofs.Empty.{zeros-part, stands_empty, no_state}
 use Rattle.lis_open.specs.Makes.{first_byte, IsNameless, IsSpared, AreZeros, rest_of_super, IsWiped, IsWiping, IsMaking}
 use Rattle.lis_open.proofs.Names.{first_is, first-put, named_or_not}
 
-pub rest_is : (limits : Limits) (bytes rest : List ℕ) → bytes ≡ super_bytes (record { version = 1; limits = limits }) → rest ≡ drop 1 bytes → rest ≡ rest_of_super limits
+pub rest_is : (limits : Limits) (bytes rest : List ℕ) → bytes ≡ super_bytes limits → rest ≡ drop 1 bytes → rest ≡ rest_of_super limits
 unfolding rest_of_super super_bytes
 rest_is limits bytes rest is_super is_rest = is_rest ∙ ap (λ xs. drop 1 xs) is_super
 
 pub length-rest : (limits : Limits) → length (rest_of_super limits) ≡ 4095
 unfolding rest_of_super super_bytes
 length-rest limits =
-    let whole : length (super_bytes (record { version = 1; limits = limits })) ≡ 4096 = length_super (record { version = 1; limits = limits }) in
-    length-drop 1 (super_bytes (record { version = 1; limits = limits })) ∙ ap (λ n. n - 1) whole
+    let whole : length (super_bytes limits) ≡ 4096 = length_super limits in
+    length-drop 1 (super_bytes limits) ∙ ap (λ n. n - 1) whole
 
 one_zero : part 0 1 (zeros 4096) ≡ 0 ∷ []
 unfolding zeros
@@ -68,17 +68,17 @@ wiped_torn limits from image is torn = record {
   zero = part-torn 0 1 from image torn 4096 4096 (inr (omega arith)) ∙ is.zero;
 }
 
-whole_super : (limits : Limits) → (76 ∷ []) ++ rest_of_super limits ≡ super_bytes (record { version = 1; limits = limits })
+whole_super : (limits : Limits) → (76 ∷ []) ++ rest_of_super limits ≡ super_bytes limits
 unfolding rest_of_super super_bytes
 whole_super limits = refl
 
-pub wiped_super : (limits : Limits) (image : List ℕ) → IsWiped limits image → first_byte image ≡ 76 → block 0 image ≡ super_bytes (record { version = 1; limits = limits })
+pub wiped_super : (limits : Limits) (image : List ℕ) → IsWiped limits image → first_byte image ≡ 76 → block 0 image ≡ super_bytes limits
 wiped_super limits image is first =
     let some : 1 ≤ length image = omega (arith, is.blank.long) in
     take-add 1 4095 (drop 0 image) ∙ (ap₂ (λ xs ys. xs ++ ys) (first_is image 76 some first) is.rest ∙ whole_super limits)
 
-pub wiped_stands : (limits : Limits) (image : List ℕ) → IsTrue (are_in_range limits) → IsWiped limits image → first_byte image ≡ 76 → Stands image (empty_state limits)
-wiped_stands limits image in_range is first = stands_empty limits image is.blank in_range (wiped_super limits image is first)
+pub wiped_stands : (limits : Limits) (image : List ℕ) → IsTrue (are_in_range limits) → limits.version ≡ 1 → IsWiped limits image → first_byte image ≡ 76 → Stands image (empty_state limits)
+wiped_stands limits image in_range version is first = stands_empty limits image is.blank in_range version (wiped_super limits image is first)
 
 -- ---- the moments of each part
 pub spared_moments : {old new : Meaning} (limits : Limits) (bytes : List ℕ) → Leaves old new (IsSpared bytes) → Leaves old new (IsMaking limits bytes)
@@ -96,12 +96,12 @@ pub wiping_moments : {old new : Meaning} (limits : Limits) (bytes : List ℕ) �
 wiping_moments limits bytes all spreads =
     leaves_spread (IsWiping limits) (IsMaking limits bytes) all spreads (λ from image none wiping. inr (inr (λ s. no_state image s (nameless_wiping limits from image none wiping))))
 
-pub naming_moments : {old new : Meaning} (limits : Limits) (bytes : List ℕ) → IsTrue (are_in_range limits) → Always old (IsWiped limits) → Spreads old new (Torn 0 1) → Leaves old new (IsMaking limits bytes)
-naming_moments limits bytes in_range all spreads =
+pub naming_moments : {old new : Meaning} (limits : Limits) (bytes : List ℕ) → IsTrue (are_in_range limits) → limits.version ≡ 1 → Always old (IsWiped limits) → Spreads old new (Torn 0 1) → Leaves old new (IsMaking limits bytes)
+naming_moments limits bytes in_range version all spreads =
     leaves_spread (Torn 0 1) (IsMaking limits bytes) all spreads (λ from image is torn. by image (wiped_torn limits from image is torn) (named_or_not image))
   where
     by : (image : List ℕ) → IsWiped limits image → (first_byte image ≡ 76) ⊎ IsNameless image → IsMaking limits bytes image
-    by image is (inl named) = inr (inl (wiped_stands limits image in_range is named))
+    by image is (inl named) = inr (inl (wiped_stands limits image in_range version is named))
     by image is (inr none) = inr (inr (λ s. no_state image s none))
 
 -- with the first byte it is whole
@@ -110,8 +110,8 @@ wiped_named limits bytes is =
     let some : 1 ≤ length bytes = omega (arith, is.blank.long) in
     (wiped_torn limits bytes (put bytes 0 (76 ∷ [])) is (torn-put bytes 0 (76 ∷ []) some), first-put bytes 76 some)
 
-pub named_stands : {old new : Meaning} (limits : Limits) → IsTrue (are_in_range limits) → Always old (IsWiped limits) → IsSettled new (put old.bytes 0 (76 ∷ [])) → Always new (λ image. Stands image (empty_state limits))
-named_stands {old} limits in_range all settled =
+pub named_stands : {old new : Meaning} (limits : Limits) → IsTrue (are_in_range limits) → limits.version ≡ 1 → Always old (IsWiped limits) → IsSettled new (put old.bytes 0 (76 ∷ [])) → Always new (λ image. Stands image (empty_state limits))
+named_stands {old} limits in_range version all settled =
     let named = wiped_named limits old.bytes all.reads in
     always_settled (λ image. Stands image (empty_state limits)) (put old.bytes 0 (76 ∷ [])) settled
-    (wiped_stands limits (put old.bytes 0 (76 ∷ [])) in_range named.0 named.1)
+    (wiped_stands limits (put old.bytes 0 (76 ∷ [])) in_range version named.0 named.1)

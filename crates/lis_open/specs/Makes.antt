@@ -27,7 +27,7 @@ AreZeros first end image = (n : ℕ) → first ≤ n → n < end → block n ima
 
 -- the super block, but for its first byte
 unfoldable pub rest_of_super : Limits → List ℕ
-rest_of_super limits = drop 1 (super_bytes (record { version = 1; limits = limits }))
+rest_of_super limits = drop 1 (super_bytes limits)
 
 -- all of an empty image but the first byte, with zeros in all of the gate block
 pub record IsWiped (limits : Limits) (image : List ℕ) : Type 0 where
@@ -49,7 +49,7 @@ pub record IsWiping (limits : Limits) (from image : List ℕ) : Type 0 where
 
 -- What making leaves: the super block, zeros in the gate block and in the home blocks before the data blocks, and each other block as it was.
 pub record IsMade (limits : Limits) (bytes image : List ℕ) : Type 0 where
-  pub super : block 0 image ≡ super_bytes (record { version = 1; limits = limits })
+  pub super : block 0 image ≡ super_bytes limits
   pub gate : block 1 image ≡ zeros 4096
   pub homes : AreZeros 578 (data_start limits) image
   pub spare : KeepsSpare limits bytes image

@@ -30,7 +30,9 @@ HasOpenCause before now (Err NoMemory) = now ≡ before
 -- the image begins with a super block of these limits
 pub record HasSuper (limits : Limits) (image : List ℕ) : Type 0 where
   pub range : IsTrue (are_in_range limits)
-  pub spelled : part 0 4096 image ≡ super_bytes (record { version = 1; limits = limits })
+  -- until there are images of version 2
+  pub version : limits.version ≡ 1
+  pub spelled : part 0 4096 image ≡ super_bytes limits
 
 -- how many bytes are needed: a super block, or the image that it tells
 abbrev pub IsNeeded : List ℕ → ℕ → Type 0

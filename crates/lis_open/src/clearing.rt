@@ -9,7 +9,7 @@ ghost use Rattle.lis_model.specs.Ranges.{are_in_range};
 ghost use Rattle.lis_model.specs.Image.{image_blocks};
 ghost use Rattle.lis_open.specs.Makes.{first_byte, IsNameless, IsSpared, AreZeros, IsWiped, IsWiping, rest_of_super};
 
-use lis_fields::{SUPER_LEN, SuperRec, write_super};
+use lis_fields::{SUPER_LEN, write_super};
 use lis_journal::{BLOCK_LEN, HOMES_START};
 use lis_model::limits::{Limits, image_blocks};
 use lis_ports::{Disk, Failed};
@@ -90,6 +90,7 @@ fn clear_blocks<D: Disk>(disk: &mut D, first: u32, end: u32) -> Result<(), Faile
 // Writes the super block, but for its first byte.
 fn write_rest<D: Disk>(disk: &mut D, limits: &Limits) -> Result<(), Failed>
     requires range { IsTrue (are_in_range limits.now) }
+    requires version { limits.now.version ≡ 1 }
     requires long { 4096 ≤ (D.meaning disk.old).len }
     ensures run { IsDiskRun (D.meaning disk.old) (D.meaning disk.new) }
     ensures cause { HasCause (D.meaning disk.old).disk_faults (D.meaning disk.new).disk_faults result }
@@ -98,11 +99,7 @@ fn write_rest<D: Disk>(disk: &mut D, limits: &Limits) -> Result<(), Failed>
         → (D.meaning disk.new).bytes ≡ put (D.meaning disk.old).bytes 1 (rest_of_super limits.now)) }
 {
     let mut bytes = [0; SUPER_LEN];
-    let rec = SuperRec {
-        version: 1,
-        limits: *limits,
-    };
-    write_super(&rec, &mut bytes);
+    write_super(limits, &mut bytes);
     let (_, rest) = bytes.split_at(1);
     disk.write_at(1, rest)
 }
@@ -111,6 +108,7 @@ fn write_rest<D: Disk>(disk: &mut D, limits: &Limits) -> Result<(), Failed>
 /// data blocks.
 pub fn wipe<D: Disk>(disk: &mut D, limits: &Limits) -> Result<(), Failed>
     requires range { IsTrue (are_in_range limits.now) }
+    requires version { limits.now.version ≡ 1 }
     requires long { 4096 * image_blocks limits.now ≤ (D.meaning disk.old).len }
     ensures run { IsDiskRun (D.meaning disk.old) (D.meaning disk.new) }
     ensures cause { HasCause (D.meaning disk.old).disk_faults (D.meaning disk.new).disk_faults result }

@@ -42,6 +42,7 @@ impl From<Failed> for MakeFault {
 // Makes an image on a disk that is long enough.
 fn write_image<D: Disk>(disk: &mut D, limits: &Limits) -> Result<(), Failed>
     requires range { IsTrue (are_in_range limits.now) }
+    requires version { limits.now.version ≡ 1 }
     requires long { 4096 * image_blocks limits.now ≤ (D.meaning disk.old).len }
     ensures run { IsDiskRun (D.meaning disk.old) (D.meaning disk.new) }
     ensures cause { HasCause (D.meaning disk.old).disk_faults (D.meaning disk.new).disk_faults result }
@@ -62,7 +63,8 @@ fn write_image<D: Disk>(disk: &mut D, limits: &Limits) -> Result<(), Failed>
 
 /// Makes an image of the empty state. It takes no memory.
 pub fn make<D: Disk>(disk: &mut D, limits: &Limits) -> Result<(), MakeFault>
-    requires { IsTrue (are_in_range limits.now) }
+    requires range { IsTrue (are_in_range limits.now) }
+    requires version { limits.now.version ≡ 1 }
     ensures run { IsDiskRun (D.meaning disk.old) (D.meaning disk.new) }
 
     // A disk is too short where it has fewer bytes than the image. It is left as it was.

@@ -85,6 +85,7 @@ fn read_limits<D: Disk>(disk: &mut D) -> Result<Limits, OpenFault>
         → (result ≡ Err (TooShort (D.meaning disk.old).len 4096)) × (disk.new ≡ disk.old) }
     ensures numbers { (len need : ℕ) → result ≡ Err (TooShort len need) → (len ≡ (D.meaning disk.old).len) × (len < need) }
     ensures range { IfOk result (λ limits. IsTrue (are_in_range limits)) }
+    ensures version { IfOk result (λ limits. limits.version ≡ 1) }
     ensures long { IfOk result (λ limits. 4096 * image_blocks limits ≤ (D.meaning disk.new).len) }
     ensures ended { IsTrue (D.meaning disk.old).is_honest → LimitsRead (D.meaning disk.old) (D.meaning disk.new) result }
 {
@@ -94,19 +95,20 @@ fn read_limits<D: Disk>(disk: &mut D) -> Result<Limits, OpenFault>
     }
     let mut block = [0; BLOCK_LEN];
     disk.read_at(0, &mut block)?;
-    let Some(rec) = read_super(&block) else {
+    let Some(limits) = read_super(&block) else {
         return Err(OpenFault::Damaged(Spot::Super));
     };
-    let need = u64::from(image_blocks(&rec.limits)) * BLOCK_LEN as u64;
+    let need = u64::from(image_blocks(&limits)) * BLOCK_LEN as u64;
     if len < need {
         return Err(OpenFault::TooShort(len, need));
     }
-    Ok(rec.limits)
+    Ok(limits)
 }
 
 // Opens the image behind a super block of these limits.
 fn mount_image<D: Disk>(alloc: Global, disk: &mut D, limits: Limits) -> Result<Store, OpenFault>
     requires range { IsTrue (are_in_range limits) }
+    requires version { limits.version ≡ 1 }
     requires long { 4096 * image_blocks limits ≤ (D.meaning disk.old).len }
     requires begins { IsTrue (D.meaning disk.old).is_honest → HasSuper limits (D.meaning disk.old).bytes }
     ensures run { IsDiskRun (D.meaning disk.old) (D.meaning disk.new) }

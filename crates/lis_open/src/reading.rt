@@ -53,6 +53,7 @@ pub fn read_store<D: Disk>(
     journal: Journal,
 ) -> Result<Store, OpenFault>
     requires range { IsTrue (are_in_range limits) }
+    requires version { limits.version ≡ 1 }
     requires image { journal.blocks ≡ image_blocks limits }
     requires clean { journal.staged ≡ [] }
     requires unbroken { journal.is_broken ≡ false }
@@ -61,7 +62,7 @@ pub fn read_store<D: Disk>(
     ensures cause { HasPartCause (D.meaning disk.old).disk_faults (D.meaning disk.new).disk_faults result }
     ensures journal { IfOk result (λ store. store.journal ≡ journal) }
     ensures ended { (kept : ℕ → List ℕ) → Fits journal.blocks (D.meaning disk.old) kept
-        → kept 0 ≡ super_bytes (record { version = 1; limits = limits }) → StoreEnded limits kept result }
+        → kept 0 ≡ super_bytes limits → StoreEnded limits kept result }
 {
     let mut words = no_words(alloc, &limits)?;
     let mut files = no_files(alloc, &limits)?;

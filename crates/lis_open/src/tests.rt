@@ -13,6 +13,7 @@ const LIMITS: Limits = Limits {
     files: 64,
     props: 64,
     blocks: 8,
+    version: 1,
 };
 
 // A disk of so many bytes, each of them `L`.

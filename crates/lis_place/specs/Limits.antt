@@ -9,9 +9,6 @@ use Rattle.lis_place.specs.declared.limits.Tally.{Tally}
 abbrev pub with_operand : Tally → ℕ → Option Tally
 with_operand tally bytes = Some (record { trees = tally.trees + 1; bytes = tally.bytes + bytes })
 
-abbrev pub with_word : Tally → List ℕ → Option Tally
-with_word tally word = if is_word word then with_operand tally (length word) else None
-
 abbrev pub with_test : Tally → ℕ → ℕ → Option Tally
 with_test tally sign n = if nat_lt n (10 ^ 12) then with_operand tally (sign + length (decimal n)) else None
 
@@ -23,7 +20,7 @@ with_joint tally = if nat_le 2 tally.trees then Some (record { trees = tally.tre
 
 -- None where an operand is missing, or a number is too large
 abbrev pub tally_with : Tally → Node → Option Tally
-tally_with tally (Word word) = with_word tally word
+tally_with tally (Word word) = if is_word word then with_operand tally (length word) else None
 tally_with tally (AtLeast n) = with_test tally 6 n
 tally_with tally (Below n) = with_test tally 5 n
 tally_with tally Not = with_mark tally

@@ -1,21 +1,19 @@
 -- Where a row of refusals ends.
-use Rattle.std.proofs.Common.{◌≡◌, ℕ, ◌<◌, ◌≤◌, nat_lt, nat_le, suc, inl, inr, Bool, true, false, cond, Some, None, List, [], ◌∷◌, ◌++◌, length, refl, ap, sym, ◌∙◌}
-use Rattle.std.specs.List.{list_all, flat_map}
-use Rattle.std.specs.BTreeSet.{insert_key}
+use Rattle.std.proofs.Common.{◌≡◌, ℕ, ◌<◌, ◌≤◌, nat_lt, nat_le, suc, inl, inr, Bool, true, false, cond, Option, Some, None, List, [], ◌∷◌, ◌++◌, length, refl, ap, sym, subst, ◌∙◌, arith}
 use Rattle.std.proofs.lemmas.Option.{none-some, same_Some}
 use Rattle.std.proofs.lemmas.Bool.Decides.{leb_tells}
 use Rattle.lis_words.specs.Words.{has_word, is_valued, is_built_in}
 use Rattle.lis_grammar.specs.Formula.{Formula}
 use Rattle.lis_model.specs.declared.limits.Limits.{Limits}
 use Rattle.lis_model.specs.declared.refusal.Refusal.{Refusal}
-use Rattle.lis_model.specs.declared.refusal.Refusal.TheVariants.{NoPropertyRoom}
-use Rattle.lis_model.specs.Sets.{with_word, with_words}
-use Rattle.lis_model.specs.State.{File, file_cmp, file_words, is_assignable}
+use Rattle.lis_model.specs.declared.refusal.Refusal.TheVariants.{NoPropertyRoom, LargeDescription}
+use Rattle.lis_model.specs.Sets.{with_word}
+use Rattle.lis_model.specs.State.{State, File}
 use Rattle.lis_model.specs.Places.{is_root}
 use Rattle.lis_model.specs.Replies.{ok_line, refusal_line}
-use Rattle.lis_model.specs.Step.{Situation, Outcome, judged, refused, mkdir}
+use Rattle.lis_model.specs.Step.{Situation, Outcome, judged, refused, changed, exceeds_known, exceeds_words, mkdir}
 use Rattle.lis_plain.specs.Carries.{first_refusal}
-use Rattle.lis_plain.proofs.Entries.{at_place}
+use Rattle.lis_plain.proofs.Entries.{state_of, at_place}
 
 -- an outcome that is a refusal changes nothing
 pub as_refused : (now : Situation) (outcome : Outcome) (refusal : Refusal) → outcome ≡ refused now refusal → (now ≡ outcome.next) × (outcome.reply ≡ refusal_line refusal)
@@ -31,40 +29,6 @@ not_over a b h = elim (leb_tells (suc a) b) as (λ _. nat_lt a b ≡ false) [ in
 
 pub not_reached : (a b : ℕ) → (a ≤ b → ⊥) → nat_le a b ≡ false
 not_reached a b h = elim (leb_tells a b) as (λ _. nat_le a b ≡ false) [ inl t ↦ absurd (h t.1) | inr t ↦ t.0 ]
-
--- what was counted on slices of the lists
-
-pub word_counted : (props : ℕ) (declared seen : List (List ℕ)) (files kept : List File) (word : List ℕ) (b : Bool) → seen ≡ declared → kept ≡ files
-    → b ≡ nat_lt props (length (with_words (with_word seen word) (flat_map (file_words []) kept)))
-    → nat_lt props (length (with_words (with_word declared word) (flat_map (file_words []) files))) ≡ b
-word_counted props declared seen files kept word b same too is =
-    sym (is ∙ ap (λ ds. nat_lt props (length (with_words (with_word ds word) (flat_map (file_words []) kept)))) same
-    ∙ ap (λ fs. nat_lt props (length (with_words (with_word declared word) (flat_map (file_words []) fs)))) too)
-
-pub file_counted : (props : ℕ) (declared seen : List (List ℕ)) (files kept : List File) (file made : File) (b : Bool) → seen ≡ declared → kept ≡ files → made ≡ file
-    → b ≡ nat_lt props (length (with_words seen (flat_map (file_words []) (insert_key file_cmp kept made))))
-    → nat_lt props (length (with_words declared (flat_map (file_words []) (insert_key file_cmp files file)))) ≡ b
-file_counted props declared seen files kept file made b same too one is =
-    sym (is ∙ ap (λ ds. nat_lt props (length (with_words ds (flat_map (file_words []) (insert_key file_cmp kept made))))) same
-    ∙ ap (λ fs. nat_lt props (length (with_words declared (flat_map (file_words []) (insert_key file_cmp fs made))))) too
-    ∙ ap (λ f. nat_lt props (length (with_words declared (flat_map (file_words []) (insert_key file_cmp files f))))) one)
-
-module _ (limits : Limits) (declared : List (List ℕ)) (files : List File) (place : List Formula) where
-  abbrev here : Situation
-  here = at_place limits declared files place
-
-  module _ (word : List ℕ) where
-    abbrev known_with_word : ℕ
-    known_with_word = length (with_words (with_word declared word) (flat_map (file_words []) files))
-
-    pub mkdir_full : is_built_in word ≡ false → is_valued word ≡ false → has_word declared word ≡ false → is_root place ≡ true
-        → nat_lt limits.props known_with_word ≡ true → mkdir here word ≡ refused here NoPropertyRoom
-    mkdir_full plain no_value new root full = rw (plain, no_value, new, root, full) refl
-
-    pub mkdir_done : is_built_in word ≡ false → is_valued word ≡ false → has_word declared word ≡ false → is_root place ≡ true
-        → nat_lt limits.props known_with_word ≡ false
-        → mkdir here word ≡ record { next = at_place limits (with_word declared word) files place; reply = ok_line }
-    mkdir_done plain no_value new root room = rw (plain, no_value, new, root, room) refl
 
 -- ---- rows as they are answered
 pub row_some : (checks : List (Bool × Refusal)) (now : Situation) (done : Outcome) (refusal : Refusal) → first_refusal checks ≡ Some refusal
@@ -85,3 +49,46 @@ row_front (check ∷ checks) more refusal is = by check.0 is (row_front checks m
         → cond b (Some check.1) (first_refusal (checks ++ more)) ≡ Some refusal
     by true is next = is
     by false is next = next is
+
+pub row_none : (checks : List (Bool × Refusal)) (now : Situation) (done : Outcome) → first_refusal checks ≡ None → judged now checks done ≡ done
+row_none [] now done is = refl
+row_none (check ∷ checks) now done is = by check.0 is (row_none checks now done)
+  where
+    by : (b : Bool) → cond b (Some check.1) (first_refusal checks) ≡ None → (first_refusal checks ≡ None → judged now checks done ≡ done)
+        → cond b (refused now check.1) (judged now checks done) ≡ done
+    by true is more = absurd (cc)
+    by false is more = more is
+
+-- ---- the row of `mkdir`, at the root
+module _ (limits : Limits) (declared : List (List ℕ)) (files : List File) (word : List ℕ)
+    (plain : is_built_in word ≡ false) (no_value : is_valued word ≡ false) (new : has_word declared word ≡ false) where
+  abbrev made : State
+  made = state_of limits (with_word declared word) files
+
+  abbrev room : List (Bool × Refusal)
+  room = (exceeds_known made, NoPropertyRoom) ∷ (exceeds_words made, LargeDescription) ∷ []
+
+  at_root : mkdir (at_place limits declared files []) word ≡ judged (at_place limits declared files []) room (changed (at_place limits declared files []) made)
+  at_root =
+      let few : nat_lt limits.props 0 ≡ false = not_over limits.props 0 (λ more. omega (arith, more)) in
+      rw (plain, no_value, new, few) refl
+
+  -- what the state would be refused for, as it was asked of a list of declared words
+  pub room_row : (place : List Formula) (now : Situation) (seen : List (List ℕ)) (answer : Option Refusal) → at_place limits declared files place ≡ now → seen ≡ with_word declared word
+      → first_refusal ((exceeds_known (record (now.state) { declared = seen }), NoPropertyRoom) ∷ (exceeds_words (record (now.state) { declared = seen }), LargeDescription) ∷ []) ≡ answer
+      → first_refusal room ≡ answer
+  room_row place now seen answer at is h =
+      subst (λ (n : Situation). first_refusal (row n (with_word declared word)) ≡ answer) (sym at) (subst (λ ds. first_refusal (row now ds) ≡ answer) is h)
+    where
+      row : Situation → List (List ℕ) → List (Bool × Refusal)
+      row n ds = (exceeds_known (record (n.state) { declared = ds }), NoPropertyRoom) ∷ (exceeds_words (record (n.state) { declared = ds }), LargeDescription) ∷ []
+
+  pub mkdir_full : (place : List Formula) → is_root place ≡ true → (refusal : Refusal) → first_refusal room ≡ Some refusal
+      → mkdir (at_place limits declared files place) word ≡ refused (at_place limits declared files place) refusal
+  mkdir_full [] root refusal is = at_root ∙ row_some room (at_place limits declared files []) _ refusal is
+  mkdir_full (step ∷ steps) root refusal is = absurd (cc)
+
+  pub mkdir_done : (place : List Formula) → is_root place ≡ true → first_refusal room ≡ None
+      → mkdir (at_place limits declared files place) word ≡ record { next = at_place limits (with_word declared word) files place; reply = ok_line }
+  mkdir_done [] root is = at_root ∙ row_none room (at_place limits declared files []) _ is
+  mkdir_done (step ∷ steps) root is = absurd (cc)

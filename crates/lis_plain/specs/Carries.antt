@@ -4,12 +4,13 @@ use Rattle.std.specs.List.{list_any, list_all}
 use Rattle.std.specs.Io.KnownBytes.{append_known}
 use Rattle.lis_ports.specs.Calls.{Rose}
 use Rattle.lis_ports.specs.Shown.{AppendsFront}
-use Rattle.lis_words.specs.Words.{is_head, is_built_in}
-use Rattle.lis_model.specs.State.{File, is_assignable}
+use Rattle.lis_words.specs.Words.{is_built_in}
+use Rattle.lis_model.specs.State.{State, File, is_assignable}
 use Rattle.lis_model.specs.Places.{place_words}
-use Rattle.lis_model.specs.Step.{Situation, Outcome, has_name, exceeds_known, with_file}
+use Rattle.lis_model.specs.Changes.{has_name}
+use Rattle.lis_model.specs.Step.{Situation, Outcome, is_head_or_test, room_checks}
 use Rattle.lis_model.specs.declared.refusal.Refusal.{Refusal}
-use Rattle.lis_model.specs.declared.refusal.Refusal.TheVariants.{UnknownProperty, NotAPlace, NameTaken, NotAssignable, TooManyAssigned, NoFileRoom, NoPropertyRoom, BuiltIn}
+use Rattle.lis_model.specs.declared.refusal.Refusal.TheVariants.{UnknownProperty, NotAPlace, NameTaken, NotAssignable, TooManyAssigned, NoFileRoom, BuiltIn}
 use Rattle.lis_model.specs.Replies.{ok_line, refusal_line}
 use Rattle.lis_plain.specs.declared.end.PlainEnd.{PlainEnd}
 use Rattle.lis_plain.specs.declared.end.PlainEnd.TheVariants.{OutputFault, NoMemory}
@@ -54,14 +55,13 @@ named_checks now name words =
     (has_name now.state.files name, NameTaken)
     ∷ (not (is_some (place_words now.place)), NotAPlace)
     ∷ (list_any is_built_in words, BuiltIn)
-    ∷ (list_any is_head words, NotAssignable)
+    ∷ (list_any is_head_or_test words, NotAssignable)
     ∷ []
 
--- and the rest: what it would be given, and whether there is room
-abbrev pub file_checks : Situation → File → List (Bool × Refusal)
-file_checks now file =
+-- and the rest: what it would be given, and whether there is room in the state that it would make
+abbrev pub file_checks : Situation → File → State → List (Bool × Refusal)
+file_checks now file made =
     (not (list_all (is_assignable now.state.declared) file.assigned), UnknownProperty)
     ∷ (nat_lt 16 (length file.assigned), TooManyAssigned)
     ∷ (nat_le now.state.limits.files (length now.state.files), NoFileRoom)
-    ∷ (exceeds_known (with_file now.state file), NoPropertyRoom)
-    ∷ []
+    ∷ room_checks made

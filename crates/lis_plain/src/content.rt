@@ -1,9 +1,9 @@
 //! The bytes of files, and the blocks that they take.
 
 ghost use Rattle.std.specs.Prelude.{◌≡◌, ◌-◌, ◌++◌, map, sum, length, OnOk, IfOk};
-ghost use Rattle.lis_model.specs.State.{File, blocks_needed};
+ghost use Rattle.lis_model.specs.State.{File, file_limit, blocks_needed, blocks_taken};
 ghost use Rattle.lis_model.specs.Replies.{content_lines, ok_line, number_line};
-ghost use Rattle.lis_model.specs.Step.{bytes_of};
+ghost use Rattle.lis_model.specs.Changes.{file_of};
 
 use crate::file::File;
 use itoa::Buffer;
@@ -13,27 +13,45 @@ use std::alloc::{AllocError, Global};
 /// How many bytes a data block has.
 const BLOCK_LEN: u64 = 4_096;
 
+/// How many bytes a file of the version may have.
+pub fn file_limit(version: u32) -> u64
+    ensures { result ≡ file_limit version }
+{
+    if version == 2 { 1_048_576 } else { 65_536 }
+}
+
 /// How many blocks so many bytes take.
-pub fn blocks_needed(bytes: u64) -> u64
+fn blocks_needed(bytes: u64) -> u64
     ensures { result ≡ blocks_needed bytes }
 {
     bytes.div_ceil(BLOCK_LEN)
 }
 
+/// How many blocks a file of so many bytes takes.
+pub fn blocks_taken(version: u32, bytes: u64) -> u64
+    ensures { result ≡ blocks_taken version bytes }
+{
+    let needed = blocks_needed(bytes);
+    if version == 2 && needed > 16 {
+        return needed + 1;
+    }
+    needed
+}
+
 /// How many of the blocks no file takes; 0 where the files take more.
-pub fn free_blocks(blocks: u32, files: &[File]) -> u64
-    ensures { result ≡ blocks - sum (map (λ (file : File). blocks_needed (length file.bytes)) files.now) }
+pub fn free_blocks(version: u32, blocks: u32, files: &[File]) -> u64
+    ensures { result ≡ blocks - sum (map (λ (file : File). blocks_taken version (length file.bytes)) files.now) }
 {
     let mut free = u64::from(blocks);
     for file in files {
-        free = free.saturating_sub(blocks_needed(file.bytes.len() as u64));
+        free = free.saturating_sub(blocks_taken(version, file.bytes.len() as u64));
     }
     free
 }
 
 /// The bytes of the file of that name; none where there is no such file.
 pub fn bytes_of<'a>(files: &'a [File], name: &Name) -> &'a [u8]
-    ensures { result.now ≡ bytes_of files.now name.now }
+    ensures { result.now ≡ (file_of files.now name.now).bytes }
 {
     for file in files {
         if file.name == *name {

@@ -1,7 +1,7 @@
 //! A file by its name, its bytes and the words that it was given.
 
 ghost use Rattle.std.specs.Prelude.{◌≡◌, IfOk};
-ghost use Rattle.lis_model.specs.Step.{new_file};
+ghost use Rattle.lis_model.specs.Changes.{new_file};
 
 use lis_words::{Name, Word};
 use std::alloc::{AllocError, Global};

@@ -1,17 +1,21 @@
 //! A state as plain lists, and the commands on it.
 
-ghost use Rattle.std.specs.Prelude.{◌≡◌, ℕ, ◌≤◌, List, [], Some, None, length, IfOk, OnOk, OnErr, IfSome, IsSome, MatchOption, MatchResult};
+ghost use Rattle.std.specs.Prelude.{◌≡◌, ℕ, ◌≤◌, nat_lt, List, [], ◌∷◌, Some, None, length, IfOk, OnOk, OnErr, IfSome, IsSome, IsTrue, MatchOption, MatchResult};
 ghost use Rattle.lis_ports.specs.Calls.{IsShowCall};
-ghost use Rattle.lis_model.specs.declared.refusal.Refusal.TheVariants.{NoFileHere};
-ghost use Rattle.lis_model.specs.Step.{start_of, step, done, refused, mkdir, new_file, assigned_at, with_file, create_checks, create, free_blocks, add, is_here, cat, rm, cd, pwd, ls};
+ghost use Rattle.lis_model.specs.declared.refusal.Refusal.TheVariants.{NoFileHere, NoPropertyRoom, LargeDescription};
+ghost use Rattle.lis_model.specs.State.{known, blocks_taken};
+ghost use Rattle.lis_model.specs.Tests.{has_no_tests};
+ghost use Rattle.lis_model.specs.Table.{table};
+ghost use Rattle.lis_model.specs.Changes.{new_file, file_added};
+ghost use Rattle.lis_model.specs.Step.{start_of, step, done, refused, exceeds_known, exceeds_words, is_large, room_checks, mkdir, assigned_at, create_checks, create, free_blocks, add, is_here, cat, rm, cd, pwd, ls};
 ghost use Rattle.lis_line.specs.Reading.{asked_by};
 ghost use Rattle.lis_plain.specs.Carries.{Carries, HasPlainCause, Answers, Judges, first_refusal, named_checks, file_checks, answer_line};
 ghost use Rattle.lis_ports.specs.Since.{IsShowRun};
 
-use crate::content::{blocks_needed, bytes_of, content_reply, free_blocks};
+use crate::content::{blocks_taken, bytes_of, content_reply, file_limit, free_blocks};
 use crate::end::PlainEnd;
 use crate::file::{File, new_file};
-use crate::room::{has_built_in, has_head_word, is_file_too_many, is_word_too_many, known};
+use crate::room::{entries_with, exceeds_known, exceeds_words, has_built_in, has_head_or_test};
 use crate::sets::{has_name, insert_file, remove_file};
 use crate::table::{all_entries, make_table};
 use lis_formula::{FormulaFault, print, resolve};
@@ -22,20 +26,19 @@ use lis_model::refusal::Refusal;
 use lis_place::{Place, Text};
 use lis_ports::{Failed, Station};
 use lis_reply::{show_all, show_ok, show_refusal};
+use lis_table::entry::Entry;
 use lis_table::listing::{has_entry, listing, push_line};
 use lis_table::moving::{is_root, knows_text};
+use lis_table::table::known_words;
 use lis_table::tags::{assigned_with, place_words};
 use lis_table::truth::extension;
-use lis_table::words::{are_assignable, has_word, insert_word};
+use lis_table::words::{are_assignable, copies, has_word, insert_word};
 use lis_words::{Name, Word, is_builtin, is_valued};
 use std::alloc::{AllocError, Global};
 use std::marker::Model;
 
 /// The most words that a file is given.
 const MAX_TAGS: usize = 16;
-
-/// The most bytes of a file.
-const MAX_FILE: u64 = 65_536;
 
 /// A state and a place, as plain lists.
 #[derive(Drop)]
@@ -48,7 +51,8 @@ pub struct Plain {
 }
 
 impl Model for Plain {
-    ghost use Rattle.std.specs.Prelude.{[]};
+    ghost use Rattle.std.specs.Prelude.{[], IsTrue};
+    ghost use Rattle.lis_model.specs.Tests.{has_no_tests};
     ghost use Rattle.lis_model.specs.Step.{Situation};
     ghost use Rattle.lis_model.specs.Codes.{situation_code};
 
@@ -60,6 +64,8 @@ impl Model for Plain {
       state = record { limits = p.limits; declared = p.declared.items; axioms = []; files = p.files.items };
       place = p.place;
     } };
+
+    ghost invariant = { λ p. IsTrue (has_no_tests p.declared.items) };
 }
 
 impl Plain {
@@ -81,6 +87,49 @@ impl Plain {
 type Answer = Result<(), Refusal>;
 
 impl Plain {
+    // All files with their descriptions.
+    fn entries(&self) -> Result<Vec<Entry>, AllocError>
+        ensures { IfOk result (λ entries. entries.items ≡ (table self.now.state).files) }
+    {
+        all_entries(self.alloc, &self.files)
+    }
+
+    fn known(&self) -> Result<Vec<Word>, AllocError>
+        ensures { IfOk result (λ words. words.items ≡ known self.now.state) }
+    {
+        let files = all_entries(self.alloc, &self.files)?;
+        known_words(self.alloc, &self.declared, &files)
+    }
+
+    // Whether there is room for these declared words in the place of those that there are.
+    fn admits_words(&self, declared: &[Word]) -> Result<Answer, AllocError>
+        ensures { IsTrue (has_no_tests declared.now) → (let made = record (self.now.state) { declared = declared.now } in
+            Judges ((exceeds_known made, NoPropertyRoom) ∷ (exceeds_words made, LargeDescription) ∷ []) result) }
+    {
+        let files = all_entries(self.alloc, &self.files)?;
+        if exceeds_known(self.alloc, self.limits, declared, &files)? {
+            return Ok(Err(Refusal::NoPropertyRoom));
+        }
+        if exceeds_words(&files) {
+            return Ok(Err(Refusal::LargeDescription));
+        }
+        Ok(Ok(()))
+    }
+
+    // Whether there is room for the words of one file more.
+    fn admits_file(&self, file: &File) -> Result<Answer, AllocError>
+        ensures { Judges (room_checks (file_added self.now.state file.now)) result }
+    {
+        let files = entries_with(self.alloc, &self.files, file)?;
+        if exceeds_words(&files) {
+            return Ok(Err(Refusal::LargeDescription));
+        }
+        if exceeds_known(self.alloc, self.limits, &self.declared, &files)? {
+            return Ok(Err(Refusal::NoPropertyRoom));
+        }
+        Ok(Ok(()))
+    }
+
     fn mkdir(&mut self, word: &Word) -> Result<Answer, AllocError>
         ensures { Answers (mkdir self.old word.now) self.old self.new result }
     {
@@ -96,11 +145,15 @@ impl Plain {
         if !is_root(&self.place) {
             return Ok(Err(Refusal::NotAPlace));
         }
-        if is_word_too_many(self.alloc, self.limits, &self.declared, &self.files, word)? {
-            return Ok(Err(Refusal::NoPropertyRoom));
+        let mut declared = copies(self.alloc, &self.declared)?;
+        insert_word(&mut declared, word)?;
+        match self.admits_words(&declared)? {
+            Err(refusal) => Ok(Err(refusal)),
+            Ok(()) => {
+                self.declared = declared;
+                Ok(Ok(()))
+            }
         }
-        insert_word(&mut self.declared, word)?;
-        Ok(Ok(()))
     }
 
     // What the words of a new file are to be, or why its name and the named words are refused.
@@ -118,7 +171,7 @@ impl Plain {
         if has_built_in(tags.as_slice()) {
             return Ok(Err(Refusal::BuiltIn));
         }
-        if has_head_word(tags.as_slice()) {
+        if has_head_or_test(tags.as_slice()) {
             return Ok(Err(Refusal::NotAssignable));
         }
         let assigned = assigned_with(self.alloc, &words, tags.as_slice())?;
@@ -127,7 +180,7 @@ impl Plain {
 
     // Whether a new file may have its words, and there is room for it.
     fn admits(&self, file: &File) -> Result<Answer, AllocError>
-        ensures { Judges (file_checks self.now file.now) result }
+        ensures { Judges (file_checks self.now file.now (file_added self.now.state file.now)) result }
     {
         if !are_assignable(&self.declared, &file.assigned) {
             return Ok(Err(Refusal::UnknownProperty));
@@ -138,10 +191,7 @@ impl Plain {
         if self.files.len() >= self.limits.files as usize {
             return Ok(Err(Refusal::NoFileRoom));
         }
-        if is_file_too_many(self.alloc, self.limits, &self.declared, &self.files, file)? {
-            return Ok(Err(Refusal::NoPropertyRoom));
-        }
-        Ok(Ok(()))
+        self.admits_file(file)
     }
 
     // A new file of these bytes, or why the row of `create` refuses it.
@@ -152,8 +202,9 @@ impl Plain {
         bytes: &[u8],
     ) -> Result<Result<File, Refusal>, AllocError>
         ensures { IfOk result (λ judged. MatchResult judged
-            (λ file. (file ≡ new_file name.now (assigned_at self.now.place tags.now) bytes.now) × (first_refusal (create_checks self.now tags.now file) ≡ None))
-            (λ refusal. first_refusal (create_checks self.now tags.now (new_file name.now (assigned_at self.now.place tags.now) bytes.now)) ≡ Some refusal)) }
+            (λ file. (file ≡ new_file name.now (assigned_at self.now.place tags.now) bytes.now) × (first_refusal (create_checks self.now tags.now file (file_added self.now.state file)) ≡ None))
+            (λ refusal. let file = new_file name.now (assigned_at self.now.place tags.now) bytes.now in
+            first_refusal (create_checks self.now tags.now file (file_added self.now.state file)) ≡ Some refusal)) }
     {
         let assigned = match self.named(name, tags)? {
             Ok(assigned) => assigned,
@@ -167,7 +218,7 @@ impl Plain {
     }
 
     fn keep(&mut self, file: File) -> Result<(), AllocError>
-        ensures ok { OnOk result (self.new ≡ record { state = with_file self.old.state file; place = self.old.place }) }
+        ensures ok { OnOk result (self.new ≡ record { state = file_added self.old.state file; place = self.old.place }) }
         ensures err { OnErr result (self.new ≡ self.old) }
     {
         insert_file(&mut self.files, file)
@@ -187,20 +238,32 @@ impl Plain {
     fn free_blocks(&self) -> u64
         ensures { result ≡ free_blocks self.now.state }
     {
-        free_blocks(self.limits.blocks, &self.files)
+        free_blocks(self.limits.version, self.limits.blocks, &self.files)
+    }
+
+    fn is_large(&self, size: u64) -> bool
+        ensures { result ≡ is_large self.now.state size }
+    {
+        size > file_limit(self.limits.version)
+    }
+
+    fn lacks_space(&self, size: u64) -> bool
+        ensures { result ≡ nat_lt (free_blocks self.now.state) (blocks_taken self.now.state.limits.version size) }
+    {
+        self.free_blocks() < blocks_taken(self.limits.version, size)
     }
 
     fn add(&mut self, name: &Name, tags: &Tags, payload: &Payload) -> Result<Answer, AllocError>
         ensures { Answers (add self.old name.now tags.now payload.now) self.old self.new result }
     {
-        if payload.size() > MAX_FILE {
+        if self.is_large(payload.size()) {
             return Ok(Err(Refusal::LargeFile));
         }
         let file = match self.made(name, tags, payload.bytes())? {
             Ok(file) => file,
             Err(refusal) => return Ok(Err(refusal)),
         };
-        if self.free_blocks() < blocks_needed(payload.size()) {
+        if self.lacks_space(payload.size()) {
             return Ok(Err(Refusal::NoSpace));
         }
         self.keep(file)?;
@@ -210,7 +273,7 @@ impl Plain {
     fn is_here(&self, name: &Name) -> Result<bool, AllocError>
         ensures { IfOk result (λ here. here ≡ is_here self.now name.now) }
     {
-        let all = all_entries(self.alloc, &self.files)?;
+        let all = self.entries()?;
         let here = extension(self.alloc, &all, &self.place)?;
         Ok(has_entry(&here, name))
     }
@@ -245,7 +308,7 @@ impl Plain {
             Err(FormulaFault::Syntax(_)) => return Ok(Err(Refusal::BadFormula)),
             Err(FormulaFault::TooLarge) => return Ok(Err(Refusal::LargeFormula)),
         };
-        let known = known(self.alloc, &self.declared, &self.files)?;
+        let known = self.known()?;
         if !knows_text(&known, text.bytes()) {
             return Ok(Err(Refusal::UnknownProperty));
         }
@@ -337,6 +400,16 @@ impl Plain {
                 show_all(station, &reply)?;
                 Ok(())
             }
+            // They have not come.
+            Command::Rmdir(_)
+            | Command::Axiom(_, _)
+            | Command::Unaxiom(_, _)
+            | Command::Write(_)
+            | Command::Mv(_, _)
+            | Command::Rename(_, _)
+            | Command::Props(_)
+            | Command::Way(_)
+            | Command::Stat => self.refuse(&Refusal::BadLine, station),
         }
     }
 

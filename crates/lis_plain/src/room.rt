@@ -1,12 +1,14 @@
 //! Known words, and whether there is room for more of them.
 
-ghost use Rattle.std.specs.Prelude.{◌≡◌, nat_lt, [], ◌&&◌, length, IfOk, OnOk, OnErr};
+ghost use Rattle.std.specs.Prelude.{◌≡◌, nat_lt, [], length, map, IfOk, OnOk};
 ghost use Rattle.std.specs.BTreeSet.{insert_key};
 ghost use Rattle.std.specs.List.{prefix_len, list_any, flat_map};
 ghost use Rattle.std.specs.Ordering.{is_gt};
-ghost use Rattle.lis_words.specs.Words.{is_head, is_built_in};
-ghost use Rattle.lis_model.specs.Sets.{with_word, with_words};
-ghost use Rattle.lis_model.specs.State.{file_words, file_cmp};
+ghost use Rattle.lis_words.specs.Words.{is_built_in};
+ghost use Rattle.lis_model.specs.Sets.{with_words};
+ghost use Rattle.lis_model.specs.State.{file_cmp};
+ghost use Rattle.lis_model.specs.Table.{entry_of};
+ghost use Rattle.lis_model.specs.Step.{is_head_or_test};
 ghost use Rattle.lis_table.specs.Places.{first_is};
 ghost use Rattle.lis_plain.specs.Entries.{entry_cmp};
 
@@ -15,33 +17,30 @@ use crate::table::{all_entries, entry_of};
 use lis_model::limits::Limits;
 use lis_table::entry::Entry;
 use lis_table::table::known_words;
-use lis_table::words::{copies, insert_word};
-use lis_words::{Word, is_builtin, is_head};
+use lis_words::{Word, is_builtin, is_head, test_of};
 use std::alloc::{AllocError, Global};
 
-/// The declared words and all descriptions.
-pub fn known(alloc: Global, declared: &[Word], files: &[File]) -> Result<Vec<Word>, AllocError>
-    ensures { IfOk result (λ known. known.items ≡ with_words declared.now (flat_map (file_words []) files.now)) }
-{
-    let files = all_entries(alloc, files)?;
-    known_words(alloc, declared, &files)
-}
+/// The most words of a description.
+const MAX_WORDS: usize = 128;
 
-/// Whether there would be more known words than there is room for, were the word declared.
-pub fn is_word_too_many(
+/// Whether these declared words and descriptions are more known words than there is room for.
+pub fn exceeds_known(
     alloc: Global,
     limits: Limits,
     declared: &[Word],
-    files: &[File],
-    word: &Word,
+    files: &[Entry],
 ) -> Result<bool, AllocError>
-    ensures { IfOk result (λ too_many.
-        too_many ≡ nat_lt limits.props (length (with_words (with_word declared.now word.now) (flat_map (file_words []) files.now)))) }
+    ensures { IfOk result (λ exceeds. exceeds ≡ nat_lt limits.props (length (with_words declared.now (flat_map (λ (e : Entry). e.words) files.now)))) }
 {
-    let mut declared = copies(alloc, declared)?;
-    insert_word(&mut declared, word)?;
-    let known = known(alloc, &declared, files)?;
+    let known = known_words(alloc, declared, files)?;
     Ok(known.len() > limits.props as usize)
+}
+
+/// Whether a file has more words than it may.
+pub fn exceeds_words(files: &[Entry]) -> bool
+    ensures { result ≡ list_any (λ (e : Entry). nat_lt 128 (length e.words)) files.now }
+{
+    files.iter().any(|file| file.words.len() > MAX_WORDS)
 }
 
 fn entry_place(entries: &[Entry], entry: &Entry) -> usize
@@ -74,22 +73,14 @@ fn insert_entry(entries: &mut Vec<Entry>, entry: Entry) -> Result<(), AllocError
     Ok(())
 }
 
-/// Whether there would be more known words than there is room for, were there the file.
-pub fn is_file_too_many(
-    alloc: Global,
-    limits: Limits,
-    declared: &[Word],
-    files: &[File],
-    file: &File,
-) -> Result<bool, AllocError>
-    ensures { IfOk result (λ too_many.
-        too_many ≡ nat_lt limits.props (length (with_words declared.now (flat_map (file_words []) (insert_key file_cmp files.now file.now))))) }
+/// All files and one more with their descriptions, without axioms and declared tests.
+pub fn entries_with(alloc: Global, files: &[File], file: &File) -> Result<Vec<Entry>, AllocError>
+    ensures { IfOk result (λ entries. entries.items ≡ map (entry_of [] []) (insert_key file_cmp files.now file.now)) }
 {
-    let mut files = all_entries(alloc, files)?;
+    let mut entries = all_entries(alloc, files)?;
     let entry = entry_of(alloc, file)?;
-    insert_entry(&mut files, entry)?;
-    let known = known_words(alloc, declared, &files)?;
-    Ok(known.len() > limits.props as usize)
+    insert_entry(&mut entries, entry)?;
+    Ok(entries)
 }
 
 /// Whether one of the words is built in.
@@ -99,9 +90,19 @@ pub fn has_built_in(words: &[Word]) -> bool
     words.iter().any(|word| is_builtin(word))
 }
 
-/// Whether one of the words is a head.
-pub fn has_head_word(words: &[Word]) -> bool
-    ensures { result ≡ list_any is_head words.now }
+/// Whether the word can't be given to a file, as a head or a test.
+fn is_head_or_test(word: &Word) -> bool
+    ensures { result ≡ is_head_or_test word.now }
 {
-    words.iter().any(|word| is_head(word.bytes()))
+    if is_head(word.bytes()) {
+        return true;
+    }
+    test_of(word).is_some()
+}
+
+/// Whether one of the words is a head or a test.
+pub fn has_head_or_test(words: &[Word]) -> bool
+    ensures { result ≡ list_any is_head_or_test words.now }
+{
+    words.iter().any(|word| is_head_or_test(word))
 }

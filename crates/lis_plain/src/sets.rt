@@ -7,7 +7,7 @@ ghost use Rattle.std.specs.Ordering.{is_gt};
 ghost use Rattle.lis_table.specs.Places.{first_is};
 ghost use Rattle.lis_words.specs.Words.{same_word};
 ghost use Rattle.lis_model.specs.State.{File as Kept, file_cmp};
-ghost use Rattle.lis_model.specs.Step.{has_name};
+ghost use Rattle.lis_model.specs.Changes.{has_name};
 
 use crate::file::File;
 use lis_words::Name;

@@ -1,6 +1,7 @@
 //! The table of a state, with each file's description.
 
-ghost use Rattle.std.specs.Prelude.{◌≡◌, [], map, IfOk};
+ghost use Rattle.std.specs.Prelude.{◌≡◌, [], map, IfOk, IsTrue};
+ghost use Rattle.lis_model.specs.Tests.{has_no_tests};
 ghost use Rattle.lis_model.specs.Table.{entry_of, table};
 
 use crate::file::File;
@@ -10,9 +11,9 @@ use lis_table::table::{Table, table_of};
 use lis_words::Word;
 use std::alloc::{AllocError, Global};
 
-/// A file with its description.
+/// A file with its description, without axioms and declared tests.
 pub fn entry_of(alloc: Global, file: &File) -> Result<Entry, AllocError>
-    ensures { IfOk result (λ entry. entry ≡ entry_of [] file.now) }
+    ensures { IfOk result (λ entry. entry ≡ entry_of [] [] file.now) }
 {
     Ok(Entry {
         name: file.name.copied(),
@@ -21,9 +22,9 @@ pub fn entry_of(alloc: Global, file: &File) -> Result<Entry, AllocError>
     })
 }
 
-/// All files with their descriptions.
+/// All files with their descriptions, without axioms and declared tests.
 pub fn all_entries(alloc: Global, files: &[File]) -> Result<Vec<Entry>, AllocError>
-    ensures { IfOk result (λ entries. entries.items ≡ map (entry_of []) files.now) }
+    ensures { IfOk result (λ entries. entries.items ≡ map (entry_of [] []) files.now) }
 {
     let mut entries = Vec::new(alloc);
     for file in files {
@@ -39,7 +40,7 @@ pub fn make_table(
     declared: &[Word],
     files: &[File],
 ) -> Result<Table, AllocError>
-    ensures { IfOk result (λ made. made ≡ table (record { limits = limits; declared = declared.now; axioms = []; files = files.now })) }
+    ensures { IfOk result (λ made. IsTrue (has_no_tests declared.now) → made ≡ table (record { limits = limits; declared = declared.now; axioms = []; files = files.now })) }
 {
     let files = all_entries(alloc, files)?;
     table_of(alloc, limits, declared, files)

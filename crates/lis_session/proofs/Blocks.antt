@@ -15,7 +15,8 @@ use Rattle.lis_fields.specs.Records.{FileRecord}
 use Rattle.lis_grammar.specs.Formula.{Formula}
 use Rattle.lis_model.specs.Replies.{line, ok_line, number_line, content_lines}
 use Rattle.lis_model.specs.State.{State}
-use Rattle.lis_model.specs.Step.{Situation, Outcome, shown, is_here, bytes_of, cat}
+use Rattle.lis_model.specs.Changes.{file_of}
+use Rattle.lis_model.specs.Step.{Situation, Outcome, shown, is_here, cat}
 use Rattle.lis_store.specs.Stands.{Stands}
 use Rattle.lis_store.specs.Kept.{Kept, IsSound, StoreFits}
 use Rattle.lis_store.specs.Seen.{entries_told, is_among}
@@ -33,10 +34,10 @@ use Rattle.lis_session.proofs.Pieces.{ShowsPiece, said_piece, piece_broke}
 
 -- a file has as many bytes as its record says
 pub size_is : {k : Kept} {m : Meaning} {s : State} (name : List ℕ) (slot size : ℕ) → StoreFits k m s → slot_of k.catalog name ≡ Some slot
-    → IsSomeAnd (rec_at k.catalog slot) (λ (rec : FileRecord). size ≡ rec.size) → length (bytes_of s.files name) ≡ size
+    → IsSomeAnd (rec_at k.catalog slot) (λ (rec : FileRecord). size ≡ rec.size) → length (file_of s.files name).bytes ≡ size
 size_is {k} {m} {s} name slot size fits is_slot told = by (rec_at k.catalog slot) refl told
   where
-    by : (o : Option FileRecord) → rec_at k.catalog slot ≡ o → IsSomeAnd o (λ (rec : FileRecord). size ≡ rec.size) → length (bytes_of s.files name) ≡ size
+    by : (o : Option FileRecord) → rec_at k.catalog slot ≡ o → IsSomeAnd o (λ (rec : FileRecord). size ≡ rec.size) → length (file_of s.files name).bytes ≡ size
     by None is none = absurd none
     by (Some rec) is same = size_told k m s fits name slot rec is_slot is ∙ sym same
 
@@ -67,7 +68,7 @@ module _ {k : Kept} {old mid : Meaning} {state : State} (piece : List ℕ) (fitt
 abbrev pub BlocksShown : Kept → ℕ → Meaning → Meaning → ℕ → Type 0
 BlocksShown k slot old now n =
     (name : List ℕ) → slot_of k.catalog name ≡ Some slot → (state : State) → FitsAt (StoreFits k old) old state
-    → SaidSoFar (root_of state) (only_shows (bytes_of state.files name) (root_of state)) old now (StoreFits k now) (take (4096 * n) (bytes_of state.files name))
+    → SaidSoFar (root_of state) (only_shows (file_of state.files name).bytes (root_of state)) old now (StoreFits k now) (take (4096 * n) (file_of state.files name).bytes)
 
 take_none : (xs : List ℕ) → take 0 xs ≡ []
 take_none [] = refl
@@ -78,7 +79,7 @@ front_begins j xs = record { rest = drop j xs; is = sym (take-append-drop j xs) 
 
 pub blocks_none : (k : Kept) (slot : ℕ) (m : Meaning) → BlocksShown k slot m m 0
 blocks_none k slot m name is_slot state fitting =
-    let bytes = bytes_of state.files name in
+    let bytes = (file_of state.files name).bytes in
     let outcome : Outcome = only_shows bytes (root_of state) in
     subst (λ said. SaidSoFar (root_of state) outcome m m (StoreFits k m) said) (sym (take_none bytes)) (said_none (root_of state) outcome fitting)
 
@@ -92,28 +93,28 @@ block_begins n bytes = subst (λ xs. Begins xs bytes) (sym (block_more n bytes))
 abbrev pub ShowsBlock : Kept → ℕ → ℕ → Meaning → Meaning → Result (Unit {0}) End → Type 0
 ShowsBlock k slot n now next result =
     (name : List ℕ) → slot_of k.catalog name ≡ Some slot → (state : State) → FitsAt (StoreFits k now) now state
-    → ShowsPiece state (part (4096 * n) 4096 (bytes_of state.files name)) now next result (StoreFits k next) []
+    → ShowsPiece state (part (4096 * n) 4096 (file_of state.files name).bytes) now next result (StoreFits k next) []
 
 pub blocks_more : (k : Kept) (slot n : ℕ) (old now next : Meaning) (u : Unit {0}) → BlocksShown k slot old now n → ShowsBlock k slot n now next (Ok u) → BlocksShown k slot old next (n + 1)
 blocks_more k slot n old now next u shown block name is_slot state fitting =
-    let bytes = bytes_of state.files name in
+    let bytes = (file_of state.files name).bytes in
     let so_far = shown name is_slot state fitting in
     subst (λ said. SaidSoFar (root_of state) (only_shows bytes (root_of state)) old next (StoreFits k next) said) (block_more n bytes)
     (said_piece (part (4096 * n) 4096 bytes) refl so_far (block_begins n bytes) u (block name is_slot state so_far.fitting))
 
 pub blocks_broke : (k : Kept) (slot n : ℕ) (old now next : Meaning) (end : End) → (end ≡ NoMemory → ⊥) → BlocksShown k slot old now n → ShowsBlock k slot n now next (Err end)
     → (name : List ℕ) → slot_of k.catalog name ≡ Some slot → (state : State) → FitsAt (StoreFits k old) old state
-    → ShowsPiece state (bytes_of state.files name) old next (Err end) (StoreFits k next) []
+    → ShowsPiece state (file_of state.files name).bytes old next (Err end) (StoreFits k next) []
 blocks_broke k slot n old now next end some shown block name is_slot state fitting =
-    let bytes = bytes_of state.files name in
+    let bytes = (file_of state.files name).bytes in
     let so_far = shown name is_slot state fitting in
     piece_broke (part (4096 * n) 4096 bytes) refl so_far (block_begins n bytes) [] end some (block name is_slot state so_far.fitting)
 
 pub blocks_all : (k : Kept) (slot n size : ℕ) (old now : Meaning) (u : Unit {0}) → IsSomeAnd (rec_at k.catalog slot) (λ (rec : FileRecord). size ≡ rec.size) → size ≤ 4096 * n → BlocksShown k slot old now n
     → (name : List ℕ) → slot_of k.catalog name ≡ Some slot → (state : State) → FitsAt (StoreFits k old) old state
-    → ShowsPiece state (bytes_of state.files name) old now (Ok u) (StoreFits k now) []
+    → ShowsPiece state (file_of state.files name).bytes old now (Ok u) (StoreFits k now) []
 blocks_all k slot n size old now u told enough shown name is_slot state fitting =
-    let bytes = bytes_of state.files name in
+    let bytes = (file_of state.files name).bytes in
     said_all [] u (shown name is_slot state fitting) (take_all (4096 * n) bytes (omega (arith, size_is name slot size fitting.own is_slot told, enough))) refl
 
 -- ---- a file with its size
@@ -170,5 +171,5 @@ pub found_here : {k : Kept} {m : Meaning} (now : Situation) (name : List ℕ) (f
 found_here {k} {m} now name found fits told = here_told k m now.state fits now.place name ∙ sym told
 
 pub as_cat : {old new : Meaning} {result : Result (Unit {0}) End} {fits : State → Type 0} {place : List Formula} (now : Situation) (name : List ℕ) → is_here now name ≡ true
-    → OneItem now (shown now (content_lines (bytes_of now.state.files name))) old new result fits place → OneItem now (cat now name) old new result fits place
+    → OneItem now (shown now (content_lines (file_of now.state.files name).bytes)) old new result fits place → OneItem now (cat now name) old new result fits place
 as_cat {old} {new} {result} {fits} {place} now name here item = subst (λ (o : Outcome). OneItem now o old new result fits place) (sym (cat_here now name here)) item

@@ -14,7 +14,8 @@ use Rattle.lis_model.specs.State.{State, known}
 use Rattle.lis_model.specs.Table.{table}
 use Rattle.lis_model.specs.Listing.{increments, locals}
 use Rattle.lis_model.specs.Replies.{line, body_line, ok_line, two_digits, number_of, refusal_words, listing_lines, content_lines}
-use Rattle.lis_model.specs.Step.{Situation, Item, Outcome, Payload, refused, changed, shown, judged, moved, mkdir_checks, with_declared, mkdir, new_file, assigned_at, create_checks, add_checks, add, with_file, is_here, bytes_of, cat, without_file, rm, cd_to, cd, done, step, replies, situation_after}
+use Rattle.lis_model.specs.Changes.{declared_under, new_file, file_added, file_of, file_removed}
+use Rattle.lis_model.specs.Step.{Situation, Item, Outcome, Payload, refused, changed, shown, judged, moved, mkdir_checks, mkdir, assigned_at, create_checks, add_checks, add, is_here, cat, rm, cd_to, cd, done, step, replies, situation_after}
 use Rattle.lis_model.specs.Step.Item.{Do, Bad}
 use Rattle.lis_session.specs.Parts.{led_to}
 use Rattle.lis_model.proofs.Runs.{replies-append, situation_after-append}
@@ -57,18 +58,18 @@ cd_regular now text (NewPlace place) = by (list_all (has_word (known now.state))
 
 done_regular : (now : Situation) (command : Command) (payload : Payload) → Regular now (done now command payload)
 done_regular now (Mkdir word) payload =
-    judged_regular now (mkdir_checks now word) (changed now (with_declared now.state word)) (changed_regular now (with_declared now.state word) refl)
+    judged_regular now (mkdir_checks now word) (changed now (declared_under now.state word [])) (changed_regular now (declared_under now.state word []) refl)
 done_regular now (Create name words) payload =
     let file = new_file name (assigned_at now.place words) [] in
-    judged_regular now (create_checks now words file) (changed now (with_file now.state file)) (changed_regular now (with_file now.state file) refl)
+    judged_regular now (create_checks now words file) (changed now (file_added now.state file)) (changed_regular now (file_added now.state file) refl)
 done_regular now (Add name words) payload =
     let file = new_file name (assigned_at now.place words) payload.bytes in
-    judged_regular now (add_checks now words file payload.size) (changed now (with_file now.state file)) (changed_regular now (with_file now.state file) refl)
+    judged_regular now (add_checks now words file payload.size) (changed now (file_added now.state file)) (changed_regular now (file_added now.state file) refl)
 done_regular now (Cat name) payload =
-    let body = content_lines (bytes_of now.state.files name) in
+    let body = content_lines (file_of now.state.files name).bytes in
     judged_regular now ((not (is_here now name), NoFileHere) ∷ []) (shown now body) (shown_regular now body)
 done_regular now (Rm name) payload =
-    judged_regular now ((not (is_here now name), NoFileHere) ∷ []) (changed now (without_file now.state name)) (changed_regular now (without_file now.state name) refl)
+    judged_regular now ((not (is_here now name), NoFileHere) ∷ []) (changed now (file_removed now.state name)) (changed_regular now (file_removed now.state name) refl)
 done_regular now (Cd text) payload = cd_regular now text (resolved now.place text)
 done_regular now Pwd payload = shown_regular now (body_line 119 (printed now.place))
 done_regular now Ls payload = shown_regular now (listing_lines (increments (table now.state) now.place) (locals (table now.state) now.place))
@@ -107,22 +108,22 @@ judged_stays now (check ∷ checks) outcome same = by check.0 (judged_stays now 
 
 -- a command that changes the state keeps the place
 pub mkdir_stays : (now : Situation) (word : List ℕ) → (mkdir now word).next.place ≡ now.place
-mkdir_stays now word = judged_stays now (mkdir_checks now word) (changed now (with_declared now.state word)) refl
+mkdir_stays now word = judged_stays now (mkdir_checks now word) (changed now (declared_under now.state word [])) refl
 
 pub add_stays : (now : Situation) (name : List ℕ) (words : List (List ℕ)) (payload : Payload) → (add now name words payload).next.place ≡ now.place
 add_stays now name words payload =
     let file = new_file name (assigned_at now.place words) payload.bytes in
-    judged_stays now (add_checks now words file payload.size) (changed now (with_file now.state file)) refl
+    judged_stays now (add_checks now words file payload.size) (changed now (file_added now.state file)) refl
 
 pub rm_stays : (now : Situation) (name : List ℕ) → (rm now name).next.place ≡ now.place
-rm_stays now name = judged_stays now ((not (is_here now name), NoFileHere) ∷ []) (changed now (without_file now.state name)) refl
+rm_stays now name = judged_stays now ((not (is_here now name), NoFileHere) ∷ []) (changed now (file_removed now.state name)) refl
 
 -- ---- commands in other words
-pub cat_here : (now : Situation) (name : List ℕ) → is_here now name ≡ true → cat now name ≡ shown now (content_lines (bytes_of now.state.files name))
-cat_here now name here = ap (λ t. cond (not t) (refused now NoFileHere) (shown now (content_lines (bytes_of now.state.files name)))) here
+pub cat_here : (now : Situation) (name : List ℕ) → is_here now name ≡ true → cat now name ≡ shown now (content_lines (file_of now.state.files name).bytes)
+cat_here now name here = ap (λ t. cond (not t) (refused now NoFileHere) (shown now (content_lines (file_of now.state.files name).bytes))) here
 
 pub cat_nowhere : (now : Situation) (name : List ℕ) → is_here now name ≡ false → cat now name ≡ refused now NoFileHere
-cat_nowhere now name nowhere = ap (λ t. cond (not t) (refused now NoFileHere) (shown now (content_lines (bytes_of now.state.files name)))) nowhere
+cat_nowhere now name nowhere = ap (λ t. cond (not t) (refused now NoFileHere) (shown now (content_lines (file_of now.state.files name).bytes))) nowhere
 
 -- where a text leads, as the code judges it
 abbrev pub arrived : Situation → Result (List Formula) Refusal → Outcome

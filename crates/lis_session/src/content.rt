@@ -4,7 +4,8 @@ ghost use Rattle.std.specs.Prelude.{◌≡◌, ◌≢◌, ℕ, ◌*◌, ◌≤�
 ghost use Rattle.lis_ports.specs.Bytes.{part};
 ghost use Rattle.lis_catalog.specs.Catalog.{slot_of, rec_at};
 ghost use Rattle.lis_fields.specs.Records.{FileRecord};
-ghost use Rattle.lis_model.specs.Step.{bytes_of, cat};
+ghost use Rattle.lis_model.specs.Changes.{file_of};
+ghost use Rattle.lis_model.specs.Step.{cat};
 ghost use Rattle.lis_store.specs.Kept.{StoreFits};
 ghost use Rattle.lis_session.specs.declared.end.End.TheVariants.{NoMemory};
 ghost use Rattle.lis_session.specs.Parts.{only_shows, Does, Ends};
@@ -36,7 +37,7 @@ fn show_block<T: Station>(
     requires unbroken { store.now.journal.is_broken ≡ false }
     requires long { 4096 * store.now.journal.blocks ≤ (T.meaning station.old).len }
     ensures shows { (name : List ℕ) → slot_of store.now.catalog name ≡ Some slot
-        → Does (λ now. only_shows (part (4096 * n) 4096 (bytes_of now.state.files name)) now) (StoreFits store.now (T.meaning station.old)) []
+        → Does (λ now. only_shows (part (4096 * n) 4096 (file_of now.state.files name).bytes) now) (StoreFits store.now (T.meaning station.old)) []
         (T.meaning station.old) (T.meaning station.new) result (StoreFits store.now (T.meaning station.new)) [] }
     ensures ends { Ends (T.meaning station.old) (T.meaning station.new) result }
     ensures memory { result ≢ Err NoMemory }
@@ -55,7 +56,7 @@ fn show_content<T: Station>(store: &Store, slot: u16, size: u32, station: &mut T
     requires unbroken { store.now.journal.is_broken ≡ false }
     requires long { 4096 * store.now.journal.blocks ≤ (T.meaning station.old).len }
     ensures shows { (name : List ℕ) → slot_of store.now.catalog name ≡ Some slot
-        → Does (λ now. only_shows (bytes_of now.state.files name) now) (StoreFits store.now (T.meaning station.old)) []
+        → Does (λ now. only_shows (file_of now.state.files name).bytes now) (StoreFits store.now (T.meaning station.old)) []
         (T.meaning station.old) (T.meaning station.new) result (StoreFits store.now (T.meaning station.new)) [] }
     ensures ends { Ends (T.meaning station.old) (T.meaning station.new) result }
     ensures memory { result ≢ Err NoMemory }

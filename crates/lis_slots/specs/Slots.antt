@@ -34,7 +34,7 @@ pub record SlotPut (s : Slots) (k : ℕ) (bytes : List ℕ) (old new : Held) (m 
   pub content : List ℕ
   pub whole : length content ≡ 4096
   pub staged : new ≡ record old { staged = with_entry old.staged (home s k) content }
-  pub slots : (kept : ℕ → List ℕ) → Fits old.blocks m kept → (j : ℕ)
+  pub slots : (kept : ℕ → List ℕ) → Fits old m kept → (j : ℕ)
       → slot s (looked new.staged kept) j ≡ (if j == k then bytes else slot s (looked old.staged kept) j)
   -- every other block stays, staged or not
   pub others : (n : ℕ) (was : List ℕ) → (n == home s k) ≡ false → look new.staged n was ≡ look old.staged n was

@@ -4,7 +4,7 @@ ghost use Rattle.std.specs.Prelude.{◌≡◌, ◌⊎◌, ◌+◌, ◌-◌, ◌*
 ghost use Rattle.lis_ports.specs.Bytes.{put};
 ghost use Rattle.lis_ports.specs.Runs.{IsDiskRun, Leaves};
 ghost use Rattle.lis_ports.specs.Calls.{HasCause, IsUnchanged};
-ghost use Rattle.lis_journal.specs.Images.{Fits};
+ghost use Rattle.lis_journal.specs.Images.{Fits, is_among};
 ghost use Rattle.lis_journal.specs.Phases.{looked};
 ghost use Rattle.lis_journal.specs.Staging.{has_entry};
 
@@ -106,15 +106,15 @@ impl Slots {
         requires within { home self.now k < journal.now.blocks }
         requires unbroken { journal.now.is_broken ≡ false }
         requires long { 4096 * journal.now.blocks ≤ (D.meaning disk.old).len }
-        ensures read { OnOk result ((kept : ℕ → List ℕ) → Fits journal.now.blocks (D.meaning disk.old) kept
+        ensures read { OnOk result ((kept : ℕ → List ℕ) → Fits journal.now (D.meaning disk.old) kept
             → buf.new ≡ slot self.now (looked journal.now.staged kept) k) }
         ensures run { IsDiskRun (D.meaning disk.old) (D.meaning disk.new) }
         ensures cause { HasCause (D.meaning disk.old).disk_faults (D.meaning disk.new).disk_faults result }
         ensures same { IsTrue (D.meaning disk.old).is_honest → IsUnchanged (D.meaning disk.old) (D.meaning disk.new) }
         ensures any_moment { IsTrue (D.meaning disk.old).is_honest
             → Leaves (D.meaning disk.old) (D.meaning disk.new) (D.meaning disk.old).images }
-        ensures fits { (kept : ℕ → List ℕ) → Fits journal.now.blocks (D.meaning disk.old) kept
-            → Fits journal.now.blocks (D.meaning disk.new) kept }
+        ensures fits { (kept : ℕ → List ℕ) → Fits journal.now (D.meaning disk.old) kept
+            → Fits journal.now (D.meaning disk.new) kept }
     {
         let mut block = [0; BLOCK_LEN];
         journal.read(disk, self.home(journal, k), &mut block)?;
@@ -137,6 +137,7 @@ impl Slots {
         requires within { home self.now k < journal.old.blocks }
         requires unbroken { journal.old.is_broken ≡ false }
         requires long { 4096 * journal.old.blocks ≤ (D.meaning disk.old).len }
+        requires unplaced { is_among journal.old.placed (home self.now k) ≡ false }
         requires room { IsTrue (has_entry journal.old.staged (home self.now k)) ⊎ (length journal.old.staged < 575) }
         ensures ended { PutEnded self.now k bytes.now journal.old journal.new (D.meaning disk.old) result }
         ensures run { IsDiskRun (D.meaning disk.old) (D.meaning disk.new) }
@@ -144,8 +145,8 @@ impl Slots {
         ensures same { IsTrue (D.meaning disk.old).is_honest → IsUnchanged (D.meaning disk.old) (D.meaning disk.new) }
         ensures any_moment { IsTrue (D.meaning disk.old).is_honest
             → Leaves (D.meaning disk.old) (D.meaning disk.new) (D.meaning disk.old).images }
-        ensures fits { (kept : ℕ → List ℕ) → Fits journal.old.blocks (D.meaning disk.old) kept
-            → Fits journal.old.blocks (D.meaning disk.new) kept }
+        ensures fits { (kept : ℕ → List ℕ) → Fits journal.old (D.meaning disk.old) kept
+            → Fits journal.old (D.meaning disk.new) kept }
     {
         let mut block = [0; BLOCK_LEN];
         let home = self.home(journal, k);

@@ -16,15 +16,18 @@ use Rattle.lis_model.specs.declared.limits.Limits.{Limits}
 use Rattle.lis_model.specs.declared.refusal.Refusal.{Refusal}
 use Rattle.lis_model.specs.Places.{place_words, place_tags, is_tag}
 use Rattle.lis_model.specs.Sets.{with_words}
-use Rattle.lis_model.specs.State.{State, File, WellFormed, known, is_assignable, blocks_needed}
-use Rattle.lis_model.specs.Step.{Situation, Outcome, Payload, refused, changed, judged, has_name, exceeds_known, new_file, with_file, assigned_at, free_blocks, add_checks, add}
+use Rattle.lis_model.specs.State.{State, File, WellFormed, known, is_assignable, file_limit, blocks_needed, blocks_taken}
+use Rattle.lis_model.specs.Tests.{has_no_tests}
+use Rattle.lis_model.specs.Changes.{has_name, new_file, file_added}
+use Rattle.lis_model.specs.Step.{Situation, Outcome, Payload, refused, changed, judged, exceeds_known, is_large, is_head_or_test, assigned_at, free_blocks, add_checks, add}
 use Rattle.lis_laws.proofs.Members.{among_with_words}
 use Rattle.lis_laws.proofs.Counts.{all_among, all_from}
 use Rattle.lis_laws.proofs.Forms.{adds_file}
 use Rattle.lis_store.specs.Kept.{Kept, bit_of, is_declared, StoreFits}
 use Rattle.lis_store.specs.Changes.{first_refusal}
 use Rattle.lis_store.specs.Admitting.{is_assignable_by, new_count, told_checks}
-use Rattle.lis_store.proofs.Facts.{known_numbered, known_counted, name_filed, files_counted, free_told}
+use Rattle.lis_store.proofs.Described.{file_fits}
+use Rattle.lis_store.proofs.Facts.{known_numbered, no_tests_told, known_counted, name_filed, files_counted, free_told}
 use Rattle.lis_store.proofs.NewWords.{count_same, assigned_rising, few_described, known_with_file, counted_with_file}
 
 -- ---- rows
@@ -91,7 +94,7 @@ pub record Admitted (k : Kept) (place : List Formula) (name : List ℕ) (words :
   pub free_name : slot_of k.catalog name ≡ None
   pub placed : is_some (place_words place) ≡ true
   pub own_words : list_any is_built_in words ≡ false
-  pub no_heads : list_any is_head words ≡ false
+  pub no_heads : list_any is_head_or_test words ≡ false
   pub assignable : list_all (is_assignable_by k) (assigned_at place words) ≡ true
   pub few_words : length (assigned_at place words) ≤ 16
   pub file_room : length k.catalog.entries < k.catalog.files
@@ -144,6 +147,12 @@ module _ (k : Kept) (m : Meaning) (s : State) (fits : StoreFits k m s) (place : 
   abbrev assigned : List (List ℕ)
   assigned = assigned_at place words
 
+  no_tests : has_no_tests s.declared ≡ true
+  no_tests = no_tests_told k fits.kept s fits.tells
+
+  version_is : s.limits.version ≡ 1
+  version_is = ap (λ (l : Limits). l.version) (sym fits.tells.limits) ∙ fits.tells.sound.version
+
   assignable_told : list_all (is_assignable_by k) assigned ≡ list_all (is_assignable s.declared) assigned
   assignable_told =
       all_same (is_assignable_by k) (is_assignable s.declared) assigned
@@ -158,16 +167,16 @@ module _ (k : Kept) (m : Meaning) (s : State) (fits : StoreFits k m s) (place : 
 
     -- so many words are known with the file
     pub known_then : list_all (is_assignable_by k) assigned ≡ true → is_some (slot_of k.catalog name) ≡ false
-        → length (known (with_file s file)) ≡ length k.dict.entries + new_count k.dict assigned
+        → length (known (file_added s file)) ≡ length k.dict.entries + new_count k.dict assigned
     known_then assignable none =
-        let counted = counted_with_file s fits.tells.formed fits.tells.no_axioms file (sym assignable_told ∙ assignable) (assigned_rising place words) (new_name none) in
+        let counted = counted_with_file s fits.tells.formed fits.tells.no_axioms no_tests file (sym assignable_told ∙ assignable) (assigned_rising place words) (new_name none) in
         let same =
         count_same (λ w. is_none (number_of k.dict w)) (λ w. not (has_word (known s) w)) assigned
         (λ w among. is_none-not (number_of k.dict w) ∙ ap not (sym (known_numbered k fits.kept s fits.tells w))) in
         omega (arith, counted, same, known_counted k fits.kept s fits.tells)
 
     props_told : list_all (is_assignable_by k) assigned ≡ true → is_some (slot_of k.catalog name) ≡ false
-        → nat_lt k.limits.props (length k.dict.entries + new_count k.dict assigned) ≡ exceeds_known (with_file s file)
+        → nat_lt k.limits.props (length k.dict.entries + new_count k.dict assigned) ≡ exceeds_known (file_added s file)
     props_told assignable none =
         ap₂ (λ props count. nat_lt props count) (ap (λ (l : Limits). l.props) fits.tells.limits) (sym (known_then assignable none))
 
@@ -176,16 +185,19 @@ module _ (k : Kept) (m : Meaning) (s : State) (fits : StoreFits k m s) (place : 
       ap₂ (λ room count. nat_le room count) (fits.tells.sound.slots ∙ ap (λ (l : Limits). l.files) fits.tells.limits)
       (sym (files_counted k fits.kept s fits.tells))
 
-  blocks_told : (size : ℕ) → nat_lt (free_count k.taken) (blocks_needed size) ≡ nat_lt (free_blocks s) (blocks_needed size)
-  blocks_told size = ap (λ free. nat_lt free (blocks_needed size)) (sym (free_told k m s fits))
+  blocks_told : (size : ℕ) → nat_lt (free_count k.taken) (blocks_needed size) ≡ nat_lt (free_blocks s) (blocks_taken s.limits.version size)
+  blocks_told size = ap₂ (λ free needed. nat_lt free needed) (sym (free_told k m s fits)) (ap (λ v. blocks_taken v size) (sym version_is))
+
+  large_told : (size : ℕ) → nat_lt 65536 size ≡ is_large s size
+  large_told size = ap (λ v. nat_lt (file_limit v) size) (sym version_is)
 
   -- ---- the row
   pub same_row : (payload : Payload) → first_refusal (told_checks k place name words payload.size)
-      ≡ first_refusal (add_checks now words (new_file name assigned payload.bytes) payload.size)
+      ≡ first_refusal (add_checks now words (new_file name assigned payload.bytes) (file_added s (new_file name assigned payload.bytes)) payload.size)
   same_row payload =
-      same_first (told_checks k place name words payload.size) (add_checks now words (new_file name assigned payload.bytes) payload.size) (
+      same_first (told_checks k place name words payload.size) (add_checks now words (new_file name assigned payload.bytes) (file_added s (new_file name assigned payload.bytes)) payload.size) (
         refl,
-        refl,
+        large_told payload.size,
         λ small. (
           refl,
           sym (name_filed k fits.kept s fits.tells name),
@@ -209,11 +221,15 @@ module _ (k : Kept) (m : Meaning) (s : State) (fits : StoreFits k m s) (place : 
                       files_told,
                       λ file_room. (
                         refl,
-                        props_told payload.bytes (not-false _ assignable) new,
-                        λ word_room. (
+                        sym (file_fits s (new_file name assigned payload.bytes) fits.tells.formed fits.tells.no_axioms no_tests (ltb-false 16 (length assigned) few)),
+                        λ described. (
                           refl,
-                          blocks_told payload.size,
-                          λ block_room. tt,
+                          props_told payload.bytes (not-false _ assignable) new,
+                          λ word_room. (
+                            refl,
+                            blocks_told payload.size,
+                            λ block_room. tt,
+                          ),
                         ),
                       ),
                     ),
@@ -229,13 +245,13 @@ module _ (k : Kept) (m : Meaning) (s : State) (fits : StoreFits k m s) (place : 
       → add now name words payload ≡ refused now refusal
   refused_outcome payload refusal is =
       let file = new_file name assigned payload.bytes in
-      row_some (add_checks now words file payload.size) now (changed now (with_file s file)) refusal (sym (same_row payload) ∙ is)
+      row_some (add_checks now words file (file_added s file) payload.size) now (changed now (file_added s file)) refusal (sym (same_row payload) ∙ is)
 
   pub added_outcome : (payload : Payload) → first_refusal (told_checks k place name words payload.size) ≡ None
-      → add now name words payload ≡ changed now (with_file s (new_file name assigned payload.bytes))
+      → add now name words payload ≡ changed now (file_added s (new_file name assigned payload.bytes))
   added_outcome payload none =
       let file = new_file name assigned payload.bytes in
-      row_none (add_checks now words file payload.size) now (changed now (with_file s file)) (sym (same_row payload) ∙ none)
+      row_none (add_checks now words file (file_added s file) payload.size) now (changed now (file_added s file)) (sym (same_row payload) ∙ none)
 
   -- ---- where the row refuses nothing
   module _ (size : ℕ) (row : Admitted k place name words size) where
@@ -262,26 +278,26 @@ module _ (k : Kept) (m : Meaning) (s : State) (fits : StoreFits k m s) (place : 
         by word among (Some n) e = or_left (is_some (number_of k.dict word)) (is_undeclared word) (ap (λ (o : Option ℕ). is_some o) e)
 
     -- the known words with the file, and that there is room for them
-    pub admitted_words : (bytes : List ℕ) → known (with_file s (new_file name assigned bytes)) ≡ with_words (all_words k.dict) assigned
+    pub admitted_words : (bytes : List ℕ) → known (file_added s (new_file name assigned bytes)) ≡ with_words (all_words k.dict) assigned
     admitted_words bytes =
-        known_with_file s fits.tells.formed fits.tells.no_axioms (new_file name assigned bytes) admitted_assignable admitted_name
+        known_with_file s fits.tells.formed fits.tells.no_axioms no_tests (new_file name assigned bytes) admitted_assignable admitted_name
         ∙ ap (λ ws. with_words ws assigned) (sym fits.tells.words)
 
-    few_known : (bytes : List ℕ) → length (known (with_file s (new_file name assigned bytes))) ≤ k.limits.props
+    few_known : (bytes : List ℕ) → length (known (file_added s (new_file name assigned bytes))) ≤ k.limits.props
     few_known bytes = omega (arith, known_then bytes row.assignable (ap (λ (o : Option ℕ). is_some o) row.free_name), row.word_room)
 
     pub admitted_known : length (with_words (all_words k.dict) assigned) ≤ k.limits.props
     admitted_known = omega (arith, few_known [], ap (λ ws. length ws) (admitted_words []))
 
     -- the state with the file is in form
-    pub admitted_formed : (bytes : List ℕ) → is_file_name name ≡ true → length bytes ≡ size → WellFormed (with_file s (new_file name assigned bytes))
+    pub admitted_formed : (bytes : List ℕ) → is_file_name name ≡ true → length bytes ≡ size → WellFormed (file_added s (new_file name assigned bytes))
     admitted_formed bytes form long = adds_file s fits.tells.formed (new_file name assigned bytes) (record {
       name = form;
       assigned_set = assigned_rising place words;
       assigned = admitted_assignable;
       few_assigned = row.few_words;
-      few_words = few_described s fits.tells.formed fits.tells.no_axioms (new_file name assigned bytes) admitted_assignable row.few_words;
-      short = omega (arith, long, row.small);
+      few_words = few_described s fits.tells.formed fits.tells.no_axioms no_tests (new_file name assigned bytes) admitted_assignable row.few_words;
+      short = omega (arith, long, row.small, ap file_limit version_is);
       few_files = omega (
         arith,
         row.file_room,
@@ -290,5 +306,5 @@ module _ (k : Kept) (m : Meaning) (s : State) (fits : StoreFits k m s) (place : 
         ap (λ (l : Limits). l.files) fits.tells.limits,
       );
       few_known = omega (arith, few_known bytes, ap (λ (l : Limits). l.props) fits.tells.limits);
-      few_blocks = omega (arith, row.block_room, free_told k m s fits, fits.tells.formed.few_blocks, ap blocks_needed long);
+      few_blocks = omega (arith, row.block_room, free_told k m s fits, fits.tells.formed.few_blocks, ap blocks_needed long, ap (λ v. blocks_taken v (length bytes)) version_is);
     })

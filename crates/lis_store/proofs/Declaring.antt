@@ -6,7 +6,7 @@ use Rattle.std.specs.Ordering.{match_ordering}
 use Rattle.std.specs.Option.{option_to_list}
 use Rattle.std.specs.BTreeSet.{insert_key}
 use Rattle.std.specs.List.{flat_map, list_all}
-use Rattle.std.proofs.lemmas.Bool.{and_parts, and_from, cases_eq, eq-eqb, ne_eqb, lt-ltb, le-ltb}
+use Rattle.std.proofs.lemmas.Bool.{and_parts, and_from, not_from_false, cases_eq, eq-eqb, ne_eqb, lt-ltb, le-ltb}
 use Rattle.std.proofs.lemmas.List.{length-map}
 use Rattle.lis_graph.proofs.Members.{Among, among_insert_key, insert_key_old, insert_key_new}
 use Rattle.lis_journal.specs.Journal.{Held}
@@ -15,23 +15,29 @@ use Rattle.lis_dict.specs.Dict.{Dict, IsDict, words, number_of, word_of, entry_c
 use Rattle.lis_dict.proofs.Laws.{word_from_number, number_of-with_entry, word_of-with_entry, length-with_entry}
 use Rattle.lis_catalog.specs.Catalog.{Filed}
 use Rattle.lis_fields.specs.Records.{FileRecord}
-use Rattle.lis_fields.specs.Layouts.{is_prop, is_record}
+use Rattle.lis_fields.specs.Layouts.{is_prop, is_slot_word, is_record}
 use Rattle.lis_fields.specs.declared.slots.PropSlot.TheVariants.{Known, Declared}
-use Rattle.lis_words.specs.Words.{word_cmp, same_word, has_word, is_head, is_valued, is_built_in}
+use Rattle.lis_words.specs.Words.{word_cmp, same_word, has_word, is_kept_word, is_head, is_valued, is_built_in}
 use Rattle.lis_model.specs.declared.limits.Limits.{Limits}
 use Rattle.lis_model.specs.Image.{axioms_start, bitmap_start, data_start}
 use Rattle.lis_model.specs.Sets.{with_word, set_of}
 use Rattle.lis_model.specs.State.{State, File, known, is_declarable}
-use Rattle.lis_model.specs.Step.{with_declared, exceeds_known}
+use Rattle.lis_model.specs.Changes.{declared_under}
+use Rattle.lis_model.specs.Step.{exceeds_known}
 use Rattle.lis_laws.proofs.Members.{word_exact, same_word_decides, among_from_has_word, has_word_from_among}
 use Rattle.lis_laws.proofs.Growth.{known_declares}
+use Rattle.lis_laws.specs.Changes.{WordFits}
 use Rattle.lis_laws.proofs.Forms.{declares}
+use Rattle.lis_model.specs.Tests.{has_no_tests}
+use Rattle.lis_model.proofs.NoTests.{word_not_test, no_tests_with}
+use Rattle.lis_store.proofs.Described.{all_few}
+use Rattle.lis_store.proofs.Facts.{no_tests_told}
 use Rattle.lis_store.specs.Kept.{Kept, property_by, property_at, bit_of, is_declared, file_told, is_sound_record, IsSound, PropertiesAre, Tells}
 use Rattle.lis_store.proofs.Staged.{same_axioms, same_records, same_content}
 
 -- A word that is new to what is kept is declared under a free number, by the dictionary and the row of declared words as they are then.
 pub record IsDeclared (k : Kept) (word : List ℕ) (n : ℕ) (dict : Dict) (bits : List Bool) : Type 0 where
-  pub form : IsTrue (is_declarable word)
+  pub form : IsTrue (is_slot_word word)
   pub new : number_of k.dict word ≡ None
   pub below : n < k.limits.props
   pub free : word_of k.dict n ≡ None
@@ -41,12 +47,13 @@ pub record IsDeclared (k : Kept) (word : List ℕ) (n : ℕ) (dict : Dict) (bits
   pub are : (m : ℕ) → is_taken bits m ≡ cond (m == n) true (is_taken k.declared m)
 
 -- ---- a word that may be declared
-pub declarable : (p h v b : Bool) → ((p || h) || v) ≡ true → v ≡ false → b ≡ false → (p || (h && not b)) ≡ true
-declarable true h v b word not_valued own = refl
-declarable false true v false word not_valued own = refl
-declarable false true v true word not_valued own = absurd cc
-declarable false false true b word not_valued own = absurd cc
-declarable false false false b word not_valued own = absurd cc
+pub declarable : (p h v b t : Bool) → ((p || h) || v) ≡ true → v ≡ false → b ≡ false → (p || t || (h && not b)) ≡ true
+declarable true h v b t word not_valued own = refl
+declarable false h v b true word not_valued own = refl
+declarable false true v false false word not_valued own = refl
+declarable false true v true false word not_valued own = absurd cc
+declarable false false true b false word not_valued own = absurd cc
+declarable false false false b false word not_valued own = absurd cc
 
 -- it has no number
 undeclared_form : (v h b : Bool) → v ≡ false → b ≡ false → (v || (h && b)) ≡ true → ⊥
@@ -98,22 +105,25 @@ has_word-with_word ws word w = by (same_word word w) refl (has_word ws w) refl (
         at (inl same) = sym ((same_word_decides word w).1 same) ∙ differ
         at (inr m) = sym (has_word_from_among ws w m) ∙ old
 
+pub declarable_slot : (word : List ℕ) → is_slot_word word ≡ true → is_declarable word ≡ true
+declarable_slot word form = (and_parts (is_kept_word word) (is_declarable word) form).1
+
 -- ---- where each number has a word, one word more exceeds the limit
-known_with : (k : Kept) (at : ℕ → List ℕ) (s : State) (word : List ℕ) (n : ℕ) → Tells k at s → known (with_declared s word) ≡ words (with_entry k.dict word n)
-known_with k at s word n tells =
-    known_declares s tells.formed.declared_set word ∙ (ap (λ ws. with_word ws word) (sym tells.words) ∙ sym (words-with_entry k.dict word n))
+known_with : (k : Kept) (at : ℕ → List ℕ) (s : State) (word : List ℕ) (n : ℕ) → is_slot_word word ≡ true → Tells k at s → known (declared_under s word []) ≡ words (with_entry k.dict word n)
+known_with k at s word n form tells =
+    known_declares s tells.formed word [] (record { form = declarable_slot word form; over = refl }) ∙ (ap (λ ws. with_word ws word) (sym tells.words) ∙ sym (words-with_entry k.dict word n))
 
 limit_is : (k : Kept) (at : ℕ → List ℕ) (s : State) → Tells k at s → s.limits.props ≡ k.dict.props
 limit_is k at s tells = sym (ap (λ (limits : Limits). limits.props) tells.limits) ∙ sym tells.sound.numbers
 
-pub one_too_many : (k : Kept) (at : ℕ → List ℕ) (s : State) (word : List ℕ) → Tells k at s → number_of k.dict word ≡ None → length k.dict.entries ≡ k.dict.props → exceeds_known (with_declared s word) ≡ true
-one_too_many k at s word tells new full =
-    let more = ap (λ ws. length ws) (known_with k at s word 0 tells) in
-    lt-ltb s.limits.props (length (known (with_declared s word)))
+pub one_too_many : (k : Kept) (at : ℕ → List ℕ) (s : State) (word : List ℕ) → is_slot_word word ≡ true → Tells k at s → number_of k.dict word ≡ None → length k.dict.entries ≡ k.dict.props → exceeds_known (declared_under s word []) ≡ true
+one_too_many k at s word form tells new full =
+    let more = ap (λ ws. length ws) (known_with k at s word 0 form tells) in
+    lt-ltb s.limits.props (length (known (declared_under s word [])))
     (omega (arith, more, full, limit_is k at s tells, length-with_entry k.dict word 0 new, length-map (with_entry k.dict word 0).entries (λ (e : List ℕ × ℕ). e.0)))
 
 -- ---- a new word gets a free number
-module _ (k : Kept) (word : List ℕ) (n : ℕ) (bits : List Bool) (sound : IsSound k) (form : is_declarable word ≡ true) (new : number_of k.dict word ≡ None) (below : n < k.limits.props) (free : word_of k.dict n ≡ None) (grown : IsDict (with_entry k.dict word n)) (wide : length bits ≡ k.limits.props)
+module _ (k : Kept) (word : List ℕ) (n : ℕ) (bits : List Bool) (sound : IsSound k) (form : is_slot_word word ≡ true) (new : number_of k.dict word ≡ None) (below : n < k.limits.props) (free : word_of k.dict n ≡ None) (grown : IsDict (with_entry k.dict word n)) (wide : length bits ≡ k.limits.props)
     (are : (m : ℕ) → is_taken bits m ≡ cond (m == n) true (is_taken k.declared m)) where
   abbrev declared_kept : Held → Kept
   declared_kept journal = record k { journal = journal; dict = with_entry k.dict word n; declared = bits }
@@ -178,6 +188,7 @@ module _ (k : Kept) (word : List ℕ) (n : ℕ) (bits : List Bool) (sound : IsSo
   sound_with : (journal : Held) → journal.blocks ≡ k.journal.blocks → (journal.is_broken ≡ false → journal.staged ≡ []) → IsSound (declared_kept journal)
   sound_with journal image quiet = record {
     range = sound.range;
+    version = sound.version;
     image = image ∙ sound.image;
     quiet = quiet;
     numbers = sound.numbers;
@@ -221,17 +232,30 @@ module _ (k : Kept) (word : List ℕ) (n : ℕ) (bits : List Bool) (sound : IsSo
         by true = are n ∙ ap (λ b. cond b true (is_taken k.declared n)) (eq-eqb n n refl)
         by false = bit_with w (number_of k.dict w) refl
 
-    room_known : length (known (with_declared s word)) ≤ s.limits.props
+    room_known : length (known (declared_under s word [])) ≤ s.limits.props
     room_known =
-        let more = ap (λ ws. length ws) (known_with k at s word n tells) in
+        let more = ap (λ ws. length ws) (known_with k at s word n form tells) in
         omega (arith, more, grown.few, limit_is k at s tells, length-map (with_entry k.dict word n).entries (λ (e : List ℕ × ℕ). e.0))
 
-    within_limit : exceeds_known (with_declared s word) ≡ false
-    within_limit = le-ltb s.limits.props (length (known (with_declared s word))) room_known
+    no_tests : has_no_tests (with_word s.declared word) ≡ true
+    no_tests = no_tests_with s.declared word (no_tests_told k at s tells) (word_not_test word (and_parts (is_kept_word word) (is_declarable word) form).0)
+
+    fits : WordFits s word []
+    fits = record {
+      form = declarable_slot word form;
+      new = not_from_false (has_word s.declared word) (sym (tells.declared word) ∙ ap (bit_of k.declared) new);
+      over = refl;
+      few_axioms = tells.formed.few_axioms;
+      few_known = room_known;
+      few_words = all_few (with_word s.declared word) s.axioms no_tests tells.no_axioms s.files tells.formed.files.few_assigned;
+    }
+
+    within_limit : exceeds_known (declared_under s word []) ≡ false
+    within_limit = le-ltb s.limits.props (length (known (declared_under s word []))) room_known
 
     tells_with : (journal : Held) → journal.blocks ≡ k.journal.blocks → (journal.is_broken ≡ false) → journal.staged ≡ []
         → PropertiesAre k.limits (with_entry k.dict word n) bits there → there 0 ≡ at 0 → ((m : ℕ) → axioms_start k.limits ≤ m → there m ≡ at m)
-        → Tells (declared_kept journal) there (with_declared s word)
+        → Tells (declared_kept journal) there (declared_under s word [])
     tells_with journal image unbroken quiet spelled front behind = record {
       limits = tells.limits;
       sound = sound_with journal image (λ whole. quiet);
@@ -243,9 +267,9 @@ module _ (k : Kept) (word : List ℕ) (n : ℕ) (bits : List Bool) (sound : IsSo
         records = same_records k.limits k.catalog at there sound.range (λ m from to. behind m (omega (arith, from))) tells.spelled.records;
         bitmap = behind (bitmap_start k.limits) (omega arith) ∙ tells.spelled.bitmap;
       };
-      formed = declares s tells.formed word form room_known;
+      formed = declares s tells.formed word [] fits;
       no_axioms = tells.no_axioms;
-      words = sym (known_with k at s word n tells);
+      words = sym (known_with k at s word n form tells);
       declared = declared_with journal;
       files = same_files (λ m from. behind m (omega (arith, from))) k.catalog.entries sound.records ∙ tells.files;
     }
@@ -266,13 +290,13 @@ module _ (k : Kept) (word : List ℕ) (n : ℕ) (dict : Dict) (bits : List Bool)
       subst (λ (d : Dict). IsSound (record k { journal = journal; dict = d; declared = bits })) (sym is.grown)
       (sound_with k word n bits sound is.form is.new is.below is.free grown_kept is.wide is.are journal image quiet)
 
-  pub limit_declared : (at : ℕ → List ℕ) (s : State) → Tells k at s → exceeds_known (with_declared s word) ≡ false
+  pub limit_declared : (at : ℕ → List ℕ) (s : State) → Tells k at s → exceeds_known (declared_under s word []) ≡ false
   limit_declared at s tells = within_limit k word n bits sound is.form is.new is.below is.free grown_kept is.wide is.are at at s tells
 
   pub tells_declared : (at there : ℕ → List ℕ) (s : State) → Tells k at s → (journal : Held) → journal.blocks ≡ k.journal.blocks → journal.is_broken ≡ false → journal.staged ≡ []
       → PropertiesAre k.limits dict bits there → there 0 ≡ at 0 → ((m : ℕ) → axioms_start k.limits ≤ m → there m ≡ at m)
-      → Tells (record k { journal = journal; dict = dict; declared = bits }) there (with_declared s word)
+      → Tells (record k { journal = journal; dict = dict; declared = bits }) there (declared_under s word [])
   tells_declared at there s tells journal image unbroken quiet spelled front behind =
-      subst (λ (d : Dict). Tells (record k { journal = journal; dict = d; declared = bits }) there (with_declared s word)) (sym is.grown)
+      subst (λ (d : Dict). Tells (record k { journal = journal; dict = d; declared = bits }) there (declared_under s word [])) (sym is.grown)
       (tells_with k word n bits sound is.form is.new is.below is.free grown_kept is.wide is.are at there s tells journal image unbroken quiet
       (subst (λ (d : Dict). PropertiesAre k.limits d bits there) is.grown spelled) front behind)

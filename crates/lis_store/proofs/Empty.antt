@@ -27,9 +27,10 @@ empty_dict limits = record { rising = refl; forms = refl; below = refl; apart = 
 empty_catalog : (limits : Limits) → IsCatalog (empty_kept limits).catalog
 empty_catalog limits = record { rising = refl; forms = refl; below = refl; apart = refl; few = omega arith }
 
-pub empty_sound : (limits : Limits) → IsTrue (are_in_range limits) → IsSound (empty_kept limits)
-empty_sound limits in_range = record {
+pub empty_sound : (limits : Limits) → IsTrue (are_in_range limits) → limits.version ≡ 1 → IsSound (empty_kept limits)
+empty_sound limits in_range version = record {
   range = in_range;
+  version = version;
   image = refl;
   quiet = λ unbroken. refl;
   numbers = refl;
@@ -80,7 +81,7 @@ module _ (limits : Limits) (image : List ℕ) (blank : IsBlank limits image) whe
   unfolding file_bytes
   free_files k lt = free_slot (file_slots limits) (λ n. block n image) k (blank.homes (home (file_slots limits) k) (omega arith) (omega arith)) (omega arith)
 
-  module _ (in_range : IsTrue (are_in_range limits)) (super : part 0 4096 image ≡ super_bytes (record { version = 1; limits = limits })) where
+  module _ (in_range : IsTrue (are_in_range limits)) (version : limits.version ≡ 1) (super : part 0 4096 image ≡ super_bytes limits) where
     spelled_empty : IsSpelled (empty_kept limits) (λ n. block n image)
     spelled_empty = record {
       super = super;
@@ -93,7 +94,7 @@ module _ (limits : Limits) (image : List ℕ) (blank : IsBlank limits image) whe
     pub tells_empty : Tells (empty_kept limits) (λ n. block n image) (empty_state limits)
     tells_empty = record {
       limits = refl;
-      sound = empty_sound limits in_range;
+      sound = empty_sound limits in_range version;
       unbroken = refl;
       spelled = spelled_empty;
       formed = empty_formed limits in_range;
@@ -107,6 +108,7 @@ module _ (limits : Limits) (image : List ℕ) (blank : IsBlank limits image) whe
     unfolding Stands
     stands_empty = record {
       super = super;
+      version = version;
       long = blank.long;
       replay = image;
       replays = replayed-closed (image_blocks limits) image (ap (λ xs. slice_index xs 0 == 1) blank.gate);

@@ -15,9 +15,9 @@ use Rattle.lis_store.specs.Blank.{IsBlank}
 use Rattle.lis_store.specs.Kept.{StoreFits, empty_kept}
 use Rattle.lis_store.proofs.Empty.{tells_empty}
 
-pub empty_fits : (m : Meaning) (limits : Limits) (image : List ℕ) → IsTrue (are_in_range limits) → IsTrue m.is_honest → IsSettled m image
-    → part 0 4096 image ≡ super_bytes (record { version = 1; limits = limits }) → IsBlank limits image → StoreFits (empty_kept limits) m (empty_state limits)
-empty_fits m limits image in_range honest settled super blank =
+pub empty_fits : (m : Meaning) (limits : Limits) (image : List ℕ) → IsTrue (are_in_range limits) → limits.version ≡ 1 → IsTrue m.is_honest → IsSettled m image
+    → part 0 4096 image ≡ super_bytes limits → IsBlank limits image → StoreFits (empty_kept limits) m (empty_state limits)
+empty_fits m limits image in_range version honest settled super blank =
     let rest : IsAtRest (image_blocks limits) (λ n. block n image) image = record {
       closed = ap (λ xs. slice_index xs 0 == 1) blank.gate;
       keeps = record { long = blank.long; same = λ n out. refl };
@@ -25,5 +25,5 @@ empty_fits m limits image in_range honest settled super blank =
     record {
       kept = λ n. block n image;
       journal = record { honest = honest; all = always_settled (IsAtRest (image_blocks limits) (λ n. block n image)) image settled rest };
-      tells = tells_empty limits image blank in_range super;
+      tells = tells_empty limits image blank in_range version super;
     }

@@ -1,13 +1,13 @@
 -- What a store says of the state that it tells, in other words.
-use Rattle.std.proofs.Common.{◌≡◌, refl, sym, ap, ap₂, ◌∙◌, subst, inr, ℕ, ◌+◌, ◌*◌, ◌<◌, ◌≤◌, ◌==◌, ◌&&◌, nat_lt, nat_le, Bool, true, false, cond, is_some, List, [], ◌∷◌, length, map, drop, Some, arith, length-drop}
+use Rattle.std.proofs.Common.{◌≡◌, refl, sym, ap, ap₂, ◌∙◌, subst, inr, ℕ, ◌+◌, ◌*◌, ◌<◌, ◌≤◌, ◌==◌, ◌&&◌, nat_lt, nat_le, Bool, true, false, not, cond, is_some, List, [], ◌∷◌, ◌++◌, length, map, drop, Some, arith, length-drop}
 use Rattle.std.specs.Prelude.{sum, option_map}
 use Rattle.std.specs.List.{find, flat_map, list_all}
 use Rattle.std.proofs.lemmas.Bool.{and_parts, eq-eqb, eqb-true, leb-true, ltb-true}
-use Rattle.std.proofs.lemmas.List.{append-nil, length-map, length-take-le}
+use Rattle.std.proofs.lemmas.List.{length-map, length-take-le}
 use Rattle.std.proofs.lemmas.Option.{same_Some}
 use Rattle.lis_ports.specs.Meaning.{Meaning}
 use Rattle.lis_graph.proofs.Members.{Among, any_from_among, among_map, map_among, among_flat_map, flat_map_among}
-use Rattle.lis_words.specs.Words.{same_word, has_word, is_file_name}
+use Rattle.lis_words.specs.Words.{same_word, has_word, is_file_name, is_test, is_kept_word}
 use Rattle.lis_grammar.specs.Formula.{Formula}
 use Rattle.lis_fields.specs.Records.{FileRecord}
 use Rattle.lis_fields.specs.Layouts.{are_short, are_tags, are_blocks, is_record, are_distinct as distinct}
@@ -19,9 +19,12 @@ use Rattle.lis_catalog.specs.Catalog.{Catalog, Filed, IsCatalog, slot_of, rec_at
 use Rattle.lis_catalog.proofs.Laws.{rec_at-slot_of, slot_of-rec_at}
 use Rattle.lis_model.specs.declared.limits.Limits.{Limits}
 use Rattle.lis_model.specs.Image.{data_start}
-use Rattle.lis_model.specs.Sets.{set_of}
-use Rattle.lis_model.specs.State.{State, File, known, up, blocks_needed, used_blocks}
-use Rattle.lis_model.specs.Step.{has_name, free_blocks, is_here, bytes_of}
+use Rattle.lis_model.specs.Tests.{has_no_tests}
+use Rattle.lis_model.specs.State.{State, File, known, left_words, description, up, blocks_needed, blocks_taken, used_blocks}
+use Rattle.lis_model.proofs.NoTests.{word_not_test, words_of_assigned, entries_alone, with_up, ups_alone}
+use Rattle.lis_laws.proofs.Members.{with_words_old}
+use Rattle.lis_model.specs.Changes.{has_name, file_of}
+use Rattle.lis_model.specs.Step.{free_blocks, is_here}
 use Rattle.lis_model.specs.Table.{Entry, Table, entry_of, table}
 use Rattle.lis_laws.proofs.Counts.{all_among, all_from}
 use Rattle.lis_store.specs.Kept.{Kept, IsSound, words_told, file_told, used_by, is_sound_record, Tells, StoreFits}
@@ -105,21 +108,21 @@ module _ (k : Kept) (sound : IsSound k) where
   pub blocks_apart : (f : Filed) → Among k.catalog.entries f → are_distinct f.rec.blocks ≡ true
   blocks_apart f m = distinct_piece (λ (g : Filed). g.rec.blocks) k.catalog.entries f sound.apart m
 
-  pub blocks_taken : (f : Filed) → Among k.catalog.entries f → are_taken k.taken f.rec.blocks ≡ true
-  blocks_taken f m =
+  pub blocks_marked : (f : Filed) → Among k.catalog.entries f → are_taken k.taken f.rec.blocks ≡ true
+  blocks_marked f m =
       all_from (is_taken k.taken) f.rec.blocks (λ n among.
       let lt : n < k.limits.blocks = ltb-true n k.limits.blocks (all_among (λ b. nat_lt b k.limits.blocks) f.rec.blocks n (blocks_below f m) among) in
       sound.taken n lt ∙ any_from_among (λ b. b == n) (used_by k.catalog) n (flat_map_among (λ (g : Filed). g.rec.blocks) k.catalog.entries f n m among) (eq-eqb n n refl))
 
 -- ---- what is told
-bytes_found : (told : Filed → File) → ((f : Filed) → (told f).name ≡ f.rec.name) → (name : List ℕ) (fs : List Filed) (f : Filed) → find (λ (g : Filed). same_word g.rec.name name) fs ≡ Some f → bytes_of (map told fs) name ≡ (told f).bytes
+bytes_found : (told : Filed → File) → ((f : Filed) → (told f).name ≡ f.rec.name) → (name : List ℕ) (fs : List Filed) (f : Filed) → find (λ (g : Filed). same_word g.rec.name name) fs ≡ Some f → (file_of (map told fs) name).bytes ≡ (told f).bytes
 bytes_found told named name [] f is = absurd cc
 bytes_found told named name (g ∷ fs) f is =
-    ap (λ n. cond (same_word n name) (told g).bytes (bytes_of (map told fs) name)) (named g)
+    ap (λ n. (cond (same_word n name) (told g) (file_of (map told fs) name)).bytes) (named g)
     ∙ by (same_word g.rec.name name) is (bytes_found told named name fs f)
   where
-    by : (b : Bool) → cond b (Some g) (find (λ (g : Filed). same_word g.rec.name name) fs) ≡ Some f → (find (λ (g : Filed). same_word g.rec.name name) fs ≡ Some f → bytes_of (map told fs) name ≡ (told f).bytes)
-        → cond b (told g).bytes (bytes_of (map told fs) name) ≡ (told f).bytes
+    by : (b : Bool) → cond b (Some g) (find (λ (g : Filed). same_word g.rec.name name) fs) ≡ Some f → (find (λ (g : Filed). same_word g.rec.name name) fs ≡ Some f → (file_of (map told fs) name).bytes ≡ (told f).bytes)
+        → (cond b (told g) (file_of (map told fs) name)).bytes ≡ (told f).bytes
     by true is more = ap (λ (h : Filed). (told h).bytes) (same_Some g f is)
     by false is more = more is
 
@@ -140,6 +143,15 @@ module _ (k : Kept) (at : ℕ → List ℕ) (s : State) (tells : Tells k at s) w
   pub known_of_number : (word : List ℕ) (n : ℕ) → number_of k.dict word ≡ Some n → Among (known s) word
   known_of_number word n is =
       subst (λ ws. Among ws word) tells.words (map_among (λ (e : List ℕ × ℕ). e.0) k.dict.entries (word, n) (among_from_number k.dict word n is))
+
+  -- the words that are kept are no tests
+  pub no_tests_told : has_no_tests s.declared ≡ true
+  no_tests_told = all_from (λ w. not (is_test w)) s.declared (λ w m. ap not (word_not_test w (formed w m)))
+    where
+      formed : (w : List ℕ) → Among s.declared w → is_kept_word w ≡ true
+      formed w m =
+          let known_w = with_words_old s.declared (left_words s ++ flat_map (description s) s.files) w m in
+          all_among is_kept_word (words k.dict) w tells.sound.dict.forms (subst (λ ws. Among ws w) (sym tells.words) known_w)
 
   pub known_counted : length (known s) ≡ length k.dict.entries
   known_counted = ap (λ ws. length ws) (sym tells.words) ∙ length-map k.dict.entries (λ e. e.0)
@@ -179,13 +191,13 @@ module _ (k : Kept) (at : ℕ → List ℕ) (s : State) (tells : Tells k at s) w
 
   -- the bytes of the file in a slot
   pub bytes_told : (name : List ℕ) (slot : ℕ) (rec : FileRecord) → slot_of k.catalog name ≡ Some slot → rec_at k.catalog slot ≡ Some rec
-      → bytes_of s.files name ≡ content (data_start k.limits) rec.blocks rec.size at
+      → (file_of s.files name).bytes ≡ content (data_start k.limits) rec.blocks rec.size at
   bytes_told name slot rec is_slot is_rec =
       let found = found_has (λ (f : Filed). f.slot) slot (find (λ (f : Filed). same_word f.rec.name name) k.catalog.entries) is_slot in
       let m = find_among (λ (f : Filed). same_word f.rec.name name) k.catalog.entries found.0 found.1 in
       let there : rec_at k.catalog slot ≡ Some (found.0).rec = subst (λ n. rec_at k.catalog n ≡ Some (found.0).rec) found.2 (rec_of_filed k tells.sound found.0 m.0) in
       let same : (found.0).rec ≡ rec = same_Some (found.0).rec rec (sym there ∙ is_rec) in
-      ap (λ fs. bytes_of fs name) (sym tells.files)
+      ap (λ fs. (file_of fs name).bytes) (sym tells.files)
       ∙ (bytes_found (file_told k.limits k.dict at) (λ f. refl) name k.catalog.entries found.0 found.1
       ∙ ap (λ (r : FileRecord). content (data_start k.limits) r.blocks r.size at) same)
 
@@ -207,7 +219,7 @@ module _ (k : Kept) (m : Meaning) (s : State) (fits : StoreFits k m s) where
       let whole = length-whole (λ b. fits.kept (data_start k.limits + b)) f.rec.blocks (λ b among. block_is_whole b (ltb-true b k.limits.blocks (all_among (λ n. nat_lt n k.limits.blocks) f.rec.blocks b below among))) in
       length-take-le f.rec.size (flat_map (λ b. fits.kept (data_start k.limits + b)) f.rec.blocks) (omega (arith, whole, counted))
 
-  pub size_told : (name : List ℕ) (slot : ℕ) (rec : FileRecord) → slot_of k.catalog name ≡ Some slot → rec_at k.catalog slot ≡ Some rec → length (bytes_of s.files name) ≡ rec.size
+  pub size_told : (name : List ℕ) (slot : ℕ) (rec : FileRecord) → slot_of k.catalog name ≡ Some slot → rec_at k.catalog slot ≡ Some rec → length (file_of s.files name).bytes ≡ rec.size
   size_told name slot rec is_slot is_rec =
       ap (λ xs. length xs) (bytes_told k fits.kept s fits.tells name slot rec is_slot is_rec)
       ∙ size_of_filed (record { slot = slot; rec = rec }) (filed_at k fits.tells.sound slot rec is_rec)
@@ -224,32 +236,36 @@ module _ (k : Kept) (m : Meaning) (s : State) (fits : StoreFits k m s) where
       let told = file_told k.limits k.dict fits.kept in
       let counted = counted_pieces (λ (f : Filed). blocks_needed (length (told f).bytes)) (λ (f : Filed). f.rec.blocks) k.catalog.entries
       (λ f m. ap blocks_needed (size_of_filed f m) ∙ sym (blocks_counted k sound f m)) in
+      let version : s.limits.version ≡ 1 = ap (λ (l : Limits). l.version) (sym fits.tells.limits) ∙ sound.version in
       let used : used_blocks s ≡ length (used_by k.catalog) =
-      ap (λ fs. sum (map (λ (file : File). blocks_needed (length file.bytes)) fs)) (sym fits.tells.files)
-      ∙ (ap sum (map_map (λ (file : File). blocks_needed (length file.bytes)) told k.catalog.entries) ∙ counted) in
+      ap (λ v. sum (map (λ (file : File). blocks_taken v (length file.bytes)) s.files)) version
+      ∙ (ap (λ fs. sum (map (λ (file : File). blocks_needed (length file.bytes)) fs)) (sym fits.tells.files)
+      ∙ (ap sum (map_map (λ (file : File). blocks_needed (length file.bytes)) told k.catalog.entries) ∙ counted)) in
       let below = all_from (λ n. nat_lt n (length k.taken)) (used_by k.catalog) (λ n among. used_below sound n among) in
       let free = free_counted (used_by k.catalog) k.taken sound.apart below (λ n lt. sound.taken n (omega (arith, lt, sound.blocks))) in
       omega (arith, used, free, sound.blocks, ap (λ (l : Limits). l.blocks) fits.tells.limits)
 
-  entry_is : (f : Filed) → Among k.catalog.entries f → entry_by k.dict f.rec ≡ entry_of [] (file_told k.limits k.dict fits.kept f)
+  entry_is : (f : Filed) → Among k.catalog.entries f → entry_by k.dict f.rec ≡ entry_of [] [] (file_told k.limits k.dict fits.kept f)
   entry_is f m =
-      let of_parts : ℕ → List (List ℕ) → Entry = λ size assigned. record { name = f.rec.name; size = size; words = set_of (flat_map (up []) assigned) } in
-      ap₂ of_parts (sym (size_of_filed f m)) (sym (append-nil (words_told k.dict f.rec.tags)))
+      let of_parts : ℕ → List (List ℕ) → Entry = λ size words. record { name = f.rec.name; size = size; words = words } in
+      ap₂ of_parts (sym (size_of_filed f m)) (sym (words_of_assigned (file_told k.limits k.dict fits.kept f)))
 
-  entries_are : entries_told k.dict k.catalog ≡ map (entry_of []) s.files
+  entries_are : entries_told k.dict k.catalog ≡ map (entry_of [] []) s.files
   entries_are =
-      map_same (λ (f : Filed). entry_by k.dict f.rec) (λ (f : Filed). entry_of [] (file_told k.limits k.dict fits.kept f)) k.catalog.entries entry_is
-      ∙ (sym (map_map (entry_of []) (file_told k.limits k.dict fits.kept) k.catalog.entries) ∙ ap (map (entry_of [])) fits.tells.files)
+      map_same (λ (f : Filed). entry_by k.dict f.rec) (λ (f : Filed). entry_of [] [] (file_told k.limits k.dict fits.kept f)) k.catalog.entries entry_is
+      ∙ (sym (map_map (entry_of [] []) (file_told k.limits k.dict fits.kept) k.catalog.entries) ∙ ap (map (entry_of [] [])) fits.tells.files)
 
   -- truth and listings see the store as they see the state
   pub table_told : table_of k ≡ table s
   table_told =
-      let none = fits.tells.no_axioms in
-      let of_parts : Limits → List (List ℕ) → List Entry → List (List ℕ × List ℕ) → Table = λ limits words files axioms.
-      record { limits = limits; known = words; files = files; entailed = map (λ p. (p, up axioms p)) words } in
-      ap (λ limits. of_parts limits (words k.dict) (entries_told k.dict k.catalog) []) fits.tells.limits
-      ∙ (ap (λ ws. of_parts s.limits ws (entries_told k.dict k.catalog) []) fits.tells.words
-      ∙ (ap (λ es. of_parts s.limits (known s) es []) entries_are ∙ ap (λ axioms. of_parts s.limits (known s) (map (entry_of axioms) s.files) axioms) (sym none)))
+      let no_tests = no_tests_told k fits.kept s fits.tells in
+      let of_parts : Limits → List (List ℕ) → List Entry → List (List ℕ × List (List ℕ)) → Table = λ limits words files ups.
+      record { limits = limits; known = words; files = files; entailed = ups } in
+      ap (λ limits. of_parts limits (words k.dict) (entries_told k.dict k.catalog) (map (with_up []) (words k.dict))) fits.tells.limits
+      ∙ (ap (λ ws. of_parts s.limits ws (entries_told k.dict k.catalog) (map (with_up []) ws)) fits.tells.words
+      ∙ (ap (λ es. of_parts s.limits (known s) es (map (with_up []) (known s))) (entries_are ∙ sym (entries_alone s.declared s.files no_tests))
+      ∙ (ap (of_parts s.limits (known s) (map (entry_of s.declared []) s.files)) (sym (ups_alone s.declared (known s) no_tests))
+      ∙ ap (λ axioms. of_parts s.limits (known s) (map (entry_of s.declared axioms) s.files) (map (λ p. (p, up s.declared axioms p)) (known s))) (sym fits.tells.no_axioms))))
 
   pub here_told : (place : List Formula) (name : List ℕ) → is_here (record { state = s; place = place }) name ≡ is_among (entries_told k.dict k.catalog) place name
   here_told place name = ap (λ (t : Table). is_among t.files place name) (sym table_told)

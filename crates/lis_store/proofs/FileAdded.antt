@@ -23,7 +23,7 @@ use Rattle.lis_model.specs.declared.limits.Limits.{Limits}
 use Rattle.lis_model.specs.Image.{axioms_start, files_start, rows_start, bitmap_start, data_start}
 use Rattle.lis_model.specs.Sets.{with_words, set_of}
 use Rattle.lis_model.specs.State.{State, File, file_cmp, known, WellFormed}
-use Rattle.lis_model.specs.Step.{new_file, with_file}
+use Rattle.lis_model.specs.Changes.{new_file, file_added}
 use Rattle.lis_store.specs.Stands.{file_slots}
 use Rattle.lis_store.specs.Kept.{Kept, file_by, record_at, file_told, used_by, IsSound, PropertiesAre, AxiomsAreFree, RecordsAre, IsSpelled, Tells}
 use Rattle.lis_store.specs.Staging.{StagesOnly}
@@ -127,7 +127,7 @@ module _ {k : Kept} {name : List ℕ} {assigned : List (List ℕ)} {bytes : List
         ∙ behind_words (data_start k.limits + n) (omega arith))
 
     -- ---- what the blocks spell
-    super_stays : kept 0 ≡ super_bytes (record { version = 1; limits = k.limits }) → now 0 ≡ super_bytes (record { version = 1; limits = k.limits })
+    super_stays : kept 0 ≡ super_bytes k.limits → now 0 ≡ super_bytes k.limits
     super_stays was = stays 0 (omega arith) (λ e. omega (arith, e)) (λ e. omega (arith, e)) ∙ (new.learnt.others 0 (kept 0) (inl (omega arith)) ∙ (start_looks 0 ∙ was))
 
     properties_then : PropertiesAre k.limits k.dict k.declared kept → PropertiesAre k.limits d b now
@@ -191,8 +191,8 @@ module _ {k : Kept} {name : List ℕ} {assigned : List (List ℕ)} {bytes : List
         ∙ ap₂ (insert_key file_cmp) (map_all (file_told k.limits d now) (file_told k.limits k.dict kept) k.catalog.entries old_file ∙ files) (new_told rising))
 
     -- ---- the state
-    pub tells_with_file : (s : State) → Tells k kept s → is_rising word_cmp assigned ≡ true → WellFormed (with_file s (new_file name assigned bytes)) → known (with_file s (new_file name assigned bytes)) ≡ with_words (words k.dict) assigned
-        → (j : Held) → j.blocks ≡ k.journal.blocks → j.is_broken ≡ false → j.staged ≡ [] → Tells (kept_with j) now (with_file s (new_file name assigned bytes))
+    pub tells_with_file : (s : State) → Tells k kept s → is_rising word_cmp assigned ≡ true → WellFormed (file_added s (new_file name assigned bytes)) → known (file_added s (new_file name assigned bytes)) ≡ with_words (words k.dict) assigned
+        → (j : Held) → j.blocks ≡ k.journal.blocks → j.is_broken ≡ false → j.staged ≡ [] → Tells (kept_with j) now (file_added s (new_file name assigned bytes))
     tells_with_file s tells rising formed known_then j image unbroken none = record {
       limits = tells.limits;
       sound = sound_with_file new j image (λ whole. none);

@@ -21,11 +21,12 @@ use Rattle.lis_words.specs.Words.{word_cmp, same_word, has_word, is_plain_word, 
 use Rattle.lis_grammar.specs.Formula.{Formula}
 use Rattle.lis_model.specs.declared.limits.Limits.{Limits}
 use Rattle.lis_model.specs.declared.refusal.Refusal.{Refusal}
-use Rattle.lis_model.specs.declared.refusal.Refusal.TheVariants.{NoSpace}
+use Rattle.lis_model.specs.declared.refusal.Refusal.TheVariants.{LargeFile, NoSpace}
 use Rattle.lis_model.specs.Image.{files_start, bitmap_start, data_start}
 use Rattle.lis_model.specs.Sets.{with_words}
-use Rattle.lis_model.specs.State.{State}
-use Rattle.lis_model.specs.Step.{Situation, Outcome, Payload, no_payload, refused, changed, judged, new_file, with_file, assigned_at, create_checks, create, free_blocks, add}
+use Rattle.lis_model.specs.State.{State, file_limit, blocks_taken}
+use Rattle.lis_model.specs.Changes.{new_file, file_added}
+use Rattle.lis_model.specs.Step.{Situation, Outcome, Payload, no_payload, refused, changed, judged, assigned_at, is_large, create_checks, create, free_blocks, add}
 use Rattle.lis_laws.proofs.Members.{word_order}
 use Rattle.lis_laws.proofs.Counts.{all_among, all_from}
 use Rattle.lis_store.specs.declared.change.Change.{Change}
@@ -129,7 +130,7 @@ module _ {k : Kept} (sound : IsSound k) (place : List Formula) (name : List ℕ)
         outcome = add now name words (record { size = size; bytes = bytes })
 
         abbrev next : State
-        next = with_file s (new_file name assigned bytes)
+        next = file_added s (new_file name assigned bytes)
 
         outcome_is : outcome ≡ changed now next
         outcome_is = added_outcome k m s fits place name words (record { size = size; bytes = bytes }) none
@@ -176,7 +177,19 @@ passes_last : (now : Situation) (checks : List (Bool × Refusal)) (last : Bool �
 passes_last now [] last done none = ap (λ b. cond b (refused now last.1) done) none
 passes_last now (check ∷ checks) last done none = ap (λ o. cond check.0 (refused now check.1) o) (passes_last now checks last done none)
 
+none_taken : (version : ℕ) → blocks_taken version 0 ≡ 0
+none_taken version = by (version == 2)
+  where
+    by : (two : Bool) → ◌≡◌ {A = ℕ} (cond {A = ℕ} (two && false) 1 0) 0
+    by true = refl
+    by false = refl
+
 pub create_is_add : (now : Situation) (name : List ℕ) (words : List (List ℕ)) → create now name words ≡ add now name words no_payload
 create_is_add now name words =
     let file = new_file name (assigned_at now.place words) [] in
-    sym (passes_last now (create_checks now words file) (nat_lt (free_blocks now.state) 0, NoSpace) (changed now (with_file now.state file)) (le-ltb (free_blocks now.state) 0 (omega arith)))
+    let made = file_added now.state file in
+    let space : nat_lt (free_blocks now.state) (blocks_taken now.state.limits.version 0) ≡ false =
+    ap (nat_lt (free_blocks now.state)) (none_taken now.state.limits.version) ∙ le-ltb (free_blocks now.state) 0 (omega arith) in
+    let small : is_large now.state 0 ≡ false = le-ltb (file_limit now.state.limits.version) 0 (omega arith) in
+    sym (ap (λ b. cond b (refused now LargeFile) (judged now (create_checks now words file made ++ (nat_lt (free_blocks now.state) (blocks_taken now.state.limits.version 0), NoSpace) ∷ []) (changed now made))) small
+    ∙ passes_last now (create_checks now words file made) (nat_lt (free_blocks now.state) (blocks_taken now.state.limits.version 0), NoSpace) (changed now made) space)

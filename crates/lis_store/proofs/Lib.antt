@@ -24,5 +24,6 @@ mod Reading
 pub mod Judging
 pub mod Declaring
 pub mod Mkdir
+pub mod Described
 mod NewWords
 pub mod Admitted

@@ -24,7 +24,7 @@ use Rattle.lis_fields.specs.Layouts.{are_short, are_tags, are_blocks, is_record,
 use Rattle.lis_fields.proofs.Parts.{record_from}
 use Rattle.lis_words.specs.Words.{word_cmp, is_file_name}
 use Rattle.lis_model.specs.declared.limits.Limits.{Limits}
-use Rattle.lis_model.specs.Ranges.{is_files_limit, is_props_limit, is_blocks_limit, are_in_range}
+use Rattle.lis_model.specs.Ranges.{is_files_limit, is_props_limit, is_blocks_limit, is_version, are_in_range}
 use Rattle.lis_model.specs.Image.{data_start}
 use Rattle.lis_model.specs.State.{blocks_needed}
 use Rattle.lis_laws.proofs.Members.{word_exact, word_order}
@@ -37,14 +37,14 @@ use Rattle.lis_store.proofs.Learning.{some_of, map_insert_key}
 -- ---- limits in range
 pub few_props : (limits : Limits) → are_in_range limits ≡ true → limits.props ≤ 8192
 few_props limits range =
-    let most = and_parts (is_files_limit limits.files && is_props_limit limits.props) (is_blocks_limit limits.blocks) range in
+    let most = and_parts (is_files_limit limits.files && is_props_limit limits.props) (is_blocks_limit limits.blocks) (and_parts (is_files_limit limits.files && is_props_limit limits.props && is_blocks_limit limits.blocks) (is_version limits.version) range).0 in
     let props = and_parts (is_files_limit limits.files) (is_props_limit limits.props) most.0 in
     let both = and_parts (nat_le 64 limits.props && nat_le limits.props 8192) (limits.props % 64 == 0) props.1 in
     leb-true limits.props 8192 (and_parts (nat_le 64 limits.props) (nat_le limits.props 8192) both.0).1
 
 pub few_blocks : (limits : Limits) → are_in_range limits ≡ true → limits.blocks ≤ 32768
 few_blocks limits range =
-    let most = and_parts (is_files_limit limits.files && is_props_limit limits.props) (is_blocks_limit limits.blocks) range in
+    let most = and_parts (is_files_limit limits.files && is_props_limit limits.props) (is_blocks_limit limits.blocks) (and_parts (is_files_limit limits.files && is_props_limit limits.props && is_blocks_limit limits.blocks) (is_version limits.version) range).0 in
     leb-true limits.blocks 32768 (and_parts (nat_le 1 limits.blocks) (nat_le limits.blocks 32768) most.1).1
 
 -- ---- numbers of which none stands twice
@@ -298,6 +298,7 @@ module _ {k : Kept} {name : List ℕ} {assigned : List (List ℕ)} {bytes : List
   pub sound_with_file : (j : Held) → j.blocks ≡ k.journal.blocks → (j.is_broken ≡ false → j.staged ≡ []) → IsSound (record { limits = k.limits; journal = j; dict = d; declared = b; catalog = c; taken = t })
   sound_with_file j image quiet = record {
     range = new.sound.range;
+    version = new.sound.version;
     image = image ∙ new.sound.image;
     quiet = quiet;
     numbers = new.learnt.props ∙ new.sound.numbers;

@@ -15,18 +15,18 @@ use Rattle.lis_graph.proofs.Members.{Among, among_append, among_left, among_inse
 use Rattle.lis_graph.proofs.Sets.{sorted_insert_key}
 use Rattle.lis_words.specs.Words.{word_cmp, has_word, is_plain_word, is_valued, head_bytes}
 use Rattle.lis_grammar.specs.Formula.{Formula}
-use Rattle.lis_model.specs.Derived.{derived_words}
 use Rattle.lis_model.specs.Places.{all_conjuncts, place_tags, is_tag}
 use Rattle.lis_model.specs.Sets.{with_word, with_words, set_of}
-use Rattle.lis_model.specs.State.{State, File, WellFormed, heads, up, edges, own_words, file_words, description, known, left_words, is_assignable}
-use Rattle.lis_model.specs.Step.{assigned_at, has_name, with_file}
+use Rattle.lis_model.specs.Tests.{has_no_tests}
+use Rattle.lis_model.specs.State.{State, File, WellFormed, description, known, left_words, is_assignable}
+use Rattle.lis_model.specs.Changes.{has_name, file_added}
+use Rattle.lis_model.specs.Step.{assigned_at}
 use Rattle.lis_laws.proofs.Members.{word_order, word_exact, among_from_has_word, has_word_from_among, among_with_words, with_words_old, with_words_new, among_set_of, sorted_with_words, sorted_set_of, same_words}
-use Rattle.lis_laws.proofs.Chains.{Pairs, among_heads, up_self}
-use Rattle.lis_laws.proofs.Tables.{words_of_file, file_has}
 use Rattle.lis_laws.proofs.Counts.{all_among, rising_from_sorted, rising_filter, rising_insert_key, insert_key_le}
 use Rattle.lis_laws.proofs.Known.{sorted_known}
-use Rattle.lis_laws.proofs.Fresh.{plain_not_valued}
+use Rattle.lis_laws.proofs.Apart.{plain_not_valued}
 use Rattle.lis_laws.proofs.Growth.{known_adds_file}
+use Rattle.lis_store.proofs.Described.{described_few, described_from, described_has}
 
 -- ---- how long a set becomes
 module _ {K : Type 0} (cmp : K → K → Ordering) where
@@ -118,37 +118,10 @@ words_rising words (m ∷ more) rising = words_rising (with_word words m) more (
 pub assigned_rising : (place : List Formula) (words : List (List ℕ)) → is_rising word_cmp (assigned_at place words) ≡ true
 assigned_rising place words = words_rising (unwrap_or (place_tags place) []) words (tags_rising place)
 
--- ---- without axioms a word entails itself and its head
-with_words_le : (words more : List (List ℕ)) → length (with_words words more) ≤ length words + length more
-with_words_le words [] = omega arith
-with_words_le words (m ∷ more) = omega (arith, with_words_le (with_word words m) more, insert_key_le word_cmp words m)
-
-heads_le : (word : List ℕ) → length (heads word) ≤ 1
-heads_le word = by (is_valued word)
-  where
-    by : (b : Bool) → length (cond b (head_bytes word ∷ []) []) ≤ 1
-    by true = omega arith
-    by false = omega arith
-
-all_up_le : (words : List (List ℕ)) → length (flat_map (up []) words) ≤ 2 * length words
-all_up_le [] = omega arith
-all_up_le (w ∷ words) =
-    omega (arith, all_up_le words, with_words_le [] (w ∷ heads w), heads_le w, length-append (up [] w) (flat_map (up []) words))
-
-described_few : (file : File) → length file.assigned ≤ 16 → length (file_words [] file) ≤ 128
-described_few file few =
-    omega (
-      arith,
-      few,
-      with_words_le [] (flat_map (up []) (own_words file)),
-      all_up_le (own_words file),
-      length-append file.assigned (derived_words file.name file.bytes),
-    )
-
 -- ---- a new file, where each word that it is given may be
-module _ (s : State) (formed : WellFormed s) (no_axioms : s.axioms ≡ []) (file : File) (assignable : list_all (is_assignable s.declared) file.assigned ≡ true) where
+module _ (s : State) (formed : WellFormed s) (no_axioms : s.axioms ≡ []) (no_tests : has_no_tests s.declared ≡ true) (file : File) (assignable : list_all (is_assignable s.declared) file.assigned ≡ true) where
   pub few_described : length file.assigned ≤ 16 → length (description s file) ≤ 128
-  few_described few = subst (λ (axioms : Pairs). length (file_words axioms file) ≤ 128) (sym no_axioms) (described_few file few)
+  few_described few = described_few s.declared s.axioms no_tests no_axioms file few
 
   head_known : (word : List ℕ) → Among file.assigned word → is_valued word ≡ true → Among (known s) (head_bytes word)
   head_known word m valued =
@@ -161,33 +134,19 @@ module _ (s : State) (formed : WellFormed s) (no_axioms : s.axioms ≡ []) (file
 
   -- the file brings no word but those that it is given
   described : (w : List ℕ) → Among (description s file) w → Among (known s) w ⊎ Among file.assigned w
-  described w m = from source.0 (own (among_append file.assigned (derived_words file.name file.bytes) source.0 source.1)) (above (among_set_of (source.0 ∷ heads source.0) w entailed))
+  described w m = let source = described_from s.declared s.axioms no_tests no_axioms file w m in from source.0 source.1 source.2
     where
-      source : (v : List ℕ) × Among (own_words file) v × Among (up (edges s) v) w
-      source = words_of_file (edges s) file w m
-
-      entailed : Among (up [] source.0) w
-      entailed = subst (λ (axioms : Pairs). Among (up axioms source.0) w) no_axioms source.2
-
-      own : Among file.assigned source.0 ⊎ Among (derived_words file.name file.bytes) source.0 → Among file.assigned source.0
-      own (inl given) = given
-      own (inr derived) = absurd derived
-
-      above : (source.0 ≡ w) ⊎ Among (heads source.0) w → (source.0 ≡ w) ⊎ ((is_valued source.0 ≡ true) × (head_bytes source.0 ≡ w))
-      above (inl same) = inl same
-      above (inr head) = inr (among_heads source.0 w head)
-
       from : (v : List ℕ) → Among file.assigned v → (v ≡ w) ⊎ ((is_valued v ≡ true) × (head_bytes v ≡ w)) → Among (known s) w ⊎ Among file.assigned w
       from v given (inl same) = inr (subst (λ (u : List ℕ). Among file.assigned u) same given)
       from v given (inr head) = inl (subst (λ (u : List ℕ). Among (known s) u) head.1 (head_known v given head.0))
 
   given_described : (w : List ℕ) → Among file.assigned w → Among (description s file) w
-  given_described w m = file_has (edges s) file w w (among_left file.assigned (derived_words file.name file.bytes) w m) (up_self (edges s) w)
+  given_described w m = described_has s.declared s.axioms no_tests no_axioms file w m
 
   sorted : IsStrictlySortedBy word_cmp (known s)
   sorted = sorted_known s formed.declared_set
 
-  pub known_with_file : has_name s.files file.name ≡ false → known (with_file s file) ≡ with_words (known s) file.assigned
+  pub known_with_file : has_name s.files file.name ≡ false → known (file_added s file) ≡ with_words (known s) file.assigned
   known_with_file new =
       known_adds_file s formed.declared_set file new
       ∙ same_words (with_words (known s) (description s file)) (with_words (known s) file.assigned)
@@ -207,5 +166,5 @@ module _ (s : State) (formed : WellFormed s) (no_axioms : s.axioms ≡ []) (file
       from w (inr given) = with_words_new (known s) (description s file) w (given_described w given)
 
   pub counted_with_file : is_rising word_cmp file.assigned ≡ true → has_name s.files file.name ≡ false
-      → length (known (with_file s file)) ≡ length (known s) + count_by (λ w. not (has_word (known s) w)) file.assigned
+      → length (known (file_added s file)) ≡ length (known s) + count_by (λ w. not (has_word (known s) w)) file.assigned
   counted_with_file rising new = ap (λ ws. length ws) (known_with_file new) ∙ words_counted (known s) file.assigned sorted rising

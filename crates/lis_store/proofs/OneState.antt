@@ -1,9 +1,9 @@
 -- What an image spells is one state.
-use Rattle.std.proofs.Common.{◌≡◌, refl, sym, ap, ap₂, ◌∙◌, subst, ℕ, suc, Bool, List, [], ◌∷◌, length, slice_get, Option, Some, IsTrue, arith}
+use Rattle.std.proofs.Common.{◌≡◌, refl, sym, ap, ap₂, ◌∙◌, subst, ℕ, suc, ◌==◌, Bool, List, [], ◌∷◌, length, slice_get, Option, Some, IsTrue, arith}
+use Rattle.std.proofs.lemmas.Bool.{and_from, eq-eqb}
 use Rattle.lis_journal.specs.Record.{block, replayed}
 use Rattle.lis_slots.specs.Slots.{Slots}
-use Rattle.lis_fields.specs.Layouts.{prop_bytes, is_prop, file_bytes, is_file, super_bytes}
-use Rattle.lis_fields.specs.declared.slots.SuperRec.{SuperRec}
+use Rattle.lis_fields.specs.Layouts.{prop_bytes, is_prop, file_bytes, is_file, is_super}
 use Rattle.lis_fields.specs.declared.slots.PropSlot.{PropSlot}
 use Rattle.lis_fields.specs.declared.slots.FileSlot.{FileSlot}
 use Rattle.lis_fields.proofs.OneSpelling.{super_once, prop_once, file_once}
@@ -42,16 +42,15 @@ one_spelled limits a b at s t spells_s spells_t =
 one_replay : (a b : List ℕ) → ◌≡◌ {A = Option (List ℕ)} (Some a) (Some b) → a ≡ b
 one_replay a b e = cc
 
-abbrev super_of : Limits → SuperRec
-super_of limits = record { version = 1; limits = limits }
-
-one_limits : (a b : Limits) → IsTrue (are_in_range a) → IsTrue (are_in_range b) → super_bytes (super_of a) ≡ super_bytes (super_of b) → a ≡ b
-one_limits a b in_a in_b e = ap (λ (rec : SuperRec). rec.limits) (super_once (super_of a) (super_of b) in_a in_b e)
+-- the limits that a super block tells
+pub super_told : (limits : Limits) → IsTrue (are_in_range limits) → limits.version ≡ 1 → IsTrue (is_super limits)
+super_told limits range version = and_from (limits.version == 1) (are_in_range limits) (eq-eqb limits.version 1 version) range
 
 pub one_state : (image : List ℕ) (s t : State) → Stands image s → Stands image t → s ≡ t
 unfolding Stands
 one_state image s t stands_s stands_t =
-    let limits = one_limits s.limits t.limits stands_s.spells.formed.limits stands_t.spells.formed.limits (sym stands_s.super ∙ stands_t.super) in
+    let limits = super_once s.limits t.limits (super_told s.limits stands_s.spells.formed.limits stands_s.version) (super_told t.limits stands_t.spells.formed.limits stands_t.version)
+    (sym stands_s.super ∙ stands_t.super) in
     let replay = one_replay stands_s.replay stands_t.replay (sym stands_s.replays ∙ (ap (λ (l : Limits). replayed (image_blocks l) image) limits ∙ stands_t.replays)) in
     let moved = subst (λ (r : List ℕ). Spells t.limits stands_t.contents (λ n. block n r) t) (sym replay) stands_t.spells in
     let there = subst (λ (l : Limits). Spells l stands_t.contents (λ n. block n stands_s.replay) t) (sym limits) moved in

@@ -11,7 +11,7 @@ use Rattle.lis_fields.specs.Records.{FileRecord}
 use Rattle.lis_catalog.specs.Catalog.{slot_of, rec_at}
 use Rattle.lis_model.specs.Image.{data_start}
 use Rattle.lis_model.specs.State.{State}
-use Rattle.lis_model.specs.Step.{bytes_of}
+use Rattle.lis_model.specs.Changes.{file_of}
 use Rattle.lis_laws.proofs.Counts.{all_among}
 use Rattle.lis_store.specs.Kept.{Kept, IsSound, StoreFits}
 use Rattle.lis_store.proofs.Facts.{filed_at, blocks_counted, blocks_below, bytes_told, block_is_whole}
@@ -97,7 +97,7 @@ module _ (k now : Kept) (slot n : ℕ) (rec : FileRecord) (ns : List ℕ) (has :
       omega (arith, lt, is_base, number_is number is, has.sound.image)
 
   block_told : (m : Meaning) (s : State) (fits : StoreFits k m s) (name : List ℕ) → slot_of k.catalog name ≡ Some slot
-      → take (length (part (4096 * n) 4096 (bytes_of s.files name))) (fits.kept (data_start k.limits + get_or rec.blocks n 0)) ≡ part (4096 * n) 4096 (bytes_of s.files name)
+      → take (length (part (4096 * n) 4096 (file_of s.files name).bytes)) (fits.kept (data_start k.limits + get_or rec.blocks n 0)) ≡ part (4096 * n) 4096 (file_of s.files name).bytes
   block_told m s fits name is_slot =
       let at : ℕ → List ℕ = λ b. fits.kept (data_start k.limits + b) in
       let within = has.within in
@@ -108,10 +108,10 @@ module _ (k now : Kept) (slot n : ℕ) (rec : FileRecord) (ns : List ℕ) (has :
   pub block_read : (m : Meaning) (base number : ℕ) (buf : List ℕ) → base ≡ data_start k.limits → number ≡ get_or ns n 0
       → ((kept : ℕ → List ℕ) → Fits k.journal.blocks m kept → buf ≡ look k.journal.staged (base + number) (kept (base + number)))
       → (s : State) (name : List ℕ) → StoreFits now m s → slot_of now.catalog name ≡ Some slot
-      → take (length (part (4096 * n) 4096 (bytes_of s.files name))) buf ≡ part (4096 * n) 4096 (bytes_of s.files name)
+      → take (length (part (4096 * n) 4096 (file_of s.files name).bytes)) buf ≡ part (4096 * n) 4096 (file_of s.files name).bytes
   block_read m base number buf is_base is read s name fits_now is_slot =
       let fits = subst (λ (j : Kept). StoreFits j m s) (sym has.same) fits_now in
       let held = ap (λ es. look es (base + number) (fits.kept (base + number))) (has.sound.quiet fits.tells.unbroken) in
       let is_block = read fits.kept fits.journal ∙ (held ∙ ap₂ (λ a b. fits.kept (a + b)) is_base (number_is number is)) in
-      ap (take (length (part (4096 * n) 4096 (bytes_of s.files name)))) is_block
+      ap (take (length (part (4096 * n) 4096 (file_of s.files name).bytes))) is_block
       ∙ block_told m s fits name (ap (λ (j : Kept). slot_of j.catalog name) has.same ∙ is_slot)

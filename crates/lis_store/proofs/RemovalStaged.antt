@@ -22,7 +22,7 @@ use Rattle.lis_store.specs.Stands.{file_slots}
 use Rattle.lis_store.specs.Kept.{Kept, IsSound, file_by, record_at, PropertiesAre, AxiomsAreFree, RecordsAre, IsSpelled}
 use Rattle.lis_store.specs.Staging.{StagesOnly}
 use Rattle.lis_store.specs.Removing.{Forgets, Removes}
-use Rattle.lis_store.proofs.Facts.{filed_at, rec_is_sound, tags_named, blocks_apart, blocks_taken}
+use Rattle.lis_store.proofs.Facts.{filed_at, rec_is_sound, tags_named, blocks_apart, blocks_marked}
 use Rattle.lis_store.proofs.Staged.{stages_only, whole_files, same_axioms, same_records, properties_stay, axioms_stay, records_stay, records_staged}
 
 -- ---- a file that is there
@@ -40,7 +40,7 @@ module _ (k : Kept) (sound : IsSound k) where
     apart_there = blocks_apart k sound this (filed_at k sound number rec there)
 
     pub taken_there : are_taken k.taken rec.blocks ≡ true
-    taken_there = blocks_taken k sound this (filed_at k sound number rec there)
+    taken_there = blocks_marked k sound this (filed_at k sound number rec there)
 
     pub tags_below : list_all (λ n. nat_lt n k.limits.props) rec.tags ≡ true
     tags_below = all_weaker (λ n. is_some (word_of k.dict n)) (λ n. nat_lt n k.limits.props) rec.tags (λ n m has. by n (word_of k.dict n) refl has) (tags_named k sound this (filed_at k sound number rec there))

@@ -17,21 +17,21 @@ use Rattle.lis_fields.specs.Layouts.{is_record}
 use Rattle.lis_words.specs.Words.{word_cmp, same_word, has_word, head_bytes, is_plain_word, is_valued}
 use Rattle.lis_model.specs.Image.{data_start, image_blocks}
 use Rattle.lis_model.specs.Sets.{set_of}
-use Rattle.lis_model.specs.Derived.{derived_words}
-use Rattle.lis_model.specs.State.{State, File, WellFormed, up, heads, edges, own_words, description, known, left_words, is_assignable}
-use Rattle.lis_model.specs.Step.{without_file}
+use Rattle.lis_model.specs.Tests.{has_no_tests}
+use Rattle.lis_model.specs.State.{State, File, WellFormed, heads, description, known, left_words, is_assignable}
+use Rattle.lis_model.specs.Changes.{file_removed}
 use Rattle.lis_laws.proofs.Members.{word_order, same_word_decides, among_from_has_word, has_word_from_among, among_with_words, with_words_old, among_set_of, set_of_among, same_words}
-use Rattle.lis_laws.proofs.Chains.{among_heads, up_self}
-use Rattle.lis_laws.proofs.Tables.{words_of_file, file_has, described_known}
+use Rattle.lis_laws.proofs.Sources.{described_known}
 use Rattle.lis_laws.proofs.Counts.{all_among, all_from, all_weaker}
 use Rattle.lis_laws.proofs.Known.{sorted_known}
-use Rattle.lis_laws.proofs.Fresh.{plain_not_valued}
+use Rattle.lis_laws.proofs.Apart.{plain_not_valued}
 use Rattle.lis_laws.proofs.Forms.{removes_file}
 use Rattle.lis_store.specs.Kept.{Kept, IsSound, is_sound_record, words_told, file_told, bit_of, IsSpelled, Tells}
 use Rattle.lis_store.specs.Removing.{is_tagged, is_unused, WordsForgotten}
 use Rattle.lis_store.proofs.Finding.{map_same}
 use Rattle.lis_store.proofs.SlotOrder.{flat_map_same}
-use Rattle.lis_store.proofs.Facts.{filed_slot, filed_named}
+use Rattle.lis_store.proofs.Facts.{filed_slot, filed_named, no_tests_told}
+use Rattle.lis_store.proofs.Described.{described_from, described_has}
 use Rattle.lis_store.proofs.FewerFiles.{among_from_number, number_from_among, distinct_filter, given_taken, catalog_without, file_in_slot, left_among, among_left_files, used_without, same_tests}
 use Rattle.lis_store.proofs.Forgetting.{forms_stay, word_was, word_stays, declared_stays, tagged_stays, bits_stay}
 
@@ -74,11 +74,11 @@ number_told d tags w n m is =
     set_of_among (flat_map (λ i. option_to_list (word_of d i)) tags) w
     (flat_map_among (λ i. option_to_list (word_of d i)) tags n w m (subst (λ o. Among (option_to_list o) w) (sym is) (inl refl)))
 
--- ---- the known words of a state without axioms
-module _ (s : State) (formed : WellFormed s) (no_axioms : s.axioms ≡ []) where
+-- ---- the known words of a state without axioms and declared tests
+module _ (s : State) (formed : WellFormed s) (no_axioms : s.axioms ≡ []) (no_tests : has_no_tests s.declared ≡ true) where
   -- a word of a description is one that the file was given, or the head of one, which is declared
   described_by : (file : File) (w : List ℕ) → Among s.files file → Among (description s file) w → Among file.assigned w ⊎ Among s.declared w
-  described_by file w in_files m = by (words_of_file (edges s) file w m)
+  described_by file w in_files m = let source = described_from s.declared s.axioms no_tests no_axioms file w m in by source.0 source.1 source.2
     where
       head : (v : List ℕ) → Among file.assigned v → is_valued v ≡ true → Among s.declared (head_bytes v)
       head v given valued =
@@ -89,19 +89,9 @@ module _ (s : State) (formed : WellFormed s) (no_axioms : s.axioms ≡ []) where
           which (inl plain) = absurd (both_ways (is_valued v) (plain_not_valued v (and_parts (is_plain_word v) (has_word s.declared v) plain).0) valued)
           which (inr has) = among_from_has_word s.declared (head_bytes v) (and_parts (is_valued v) (has_word s.declared (head_bytes v)) has).1
 
-      above : (v : List ℕ) → Among file.assigned v → Among {K = List ℕ} [] w ⊎ Among (v ∷ heads v) w → Among file.assigned w ⊎ Among s.declared w
-      above v given (inl none) = absurd none
-      above v given (inr (inl same)) = inl (subst (λ (x : List ℕ). Among file.assigned x) same given)
-      above v given (inr (inr deeper)) =
-          let is = among_heads v w deeper in
-          inr (subst (λ (x : List ℕ). Among s.declared x) is.1 (head v given is.0))
-
-      own : (v : List ℕ) → Among file.assigned v ⊎ Among (derived_words file.name file.bytes) v → Among (up (edges s) v) w → Among file.assigned w ⊎ Among s.declared w
-      own v (inl given) entails = above v given (among_with_words [] (v ∷ heads v) w (subst (λ (axioms : List (List ℕ × List ℕ)). Among (up axioms v) w) no_axioms entails))
-      own v (inr derived) entails = absurd derived
-
-      by : (v : List ℕ) × Among (own_words file) v × Among (up (edges s) v) w → Among file.assigned w ⊎ Among s.declared w
-      by found = own found.0 (among_append file.assigned (derived_words file.name file.bytes) found.0 found.1) found.2
+      by : (v : List ℕ) → Among file.assigned v → (v ≡ w) ⊎ ((is_valued v ≡ true) × (head_bytes v ≡ w)) → Among file.assigned w ⊎ Among s.declared w
+      by v given (inl same) = inl (subst (λ (x : List ℕ). Among file.assigned x) same given)
+      by v given (inr is) = inr (subst (λ (x : List ℕ). Among s.declared x) is.1 (head v given is.0))
 
   known_by : (w : List ℕ) → Among (known s) w → Among s.declared w ⊎ ((file : File) × Among s.files file × Among file.assigned w)
   known_by w m = by (among_with_words s.declared (left_words s ++ flat_map (description s) s.files) w m)
@@ -128,8 +118,7 @@ module _ (s : State) (formed : WellFormed s) (no_axioms : s.axioms ≡ []) where
   declared_known w m = with_words_old s.declared (left_words s ++ flat_map (description s) s.files) w m
 
   assigned_known : (file : File) (w : List ℕ) → Among s.files file → Among file.assigned w → Among (known s) w
-  assigned_known file w in_files m =
-      described_known s file w in_files (file_has (edges s) file w w (among_left file.assigned (derived_words file.name file.bytes) w m) (up_self (edges s) w))
+  assigned_known file w in_files m = described_known s file w in_files (described_has s.declared s.axioms no_tests no_axioms file w m)
 
 -- ---- what is kept
 module _ (k : Kept) (slot : ℕ) (rec : FileRecord) (d : Dict) (sound : IsSound k) (there : rec_at k.catalog slot ≡ Some rec) (words_left : WordsForgotten k.declared (without_slot k.catalog slot) rec.tags k.dict d) where
@@ -154,6 +143,7 @@ module _ (k : Kept) (slot : ℕ) (rec : FileRecord) (d : Dict) (sound : IsSound 
   pub left_sound : (journal : Held) → journal.blocks ≡ image_blocks k.limits → (journal.is_broken ≡ false → journal.staged ≡ []) → IsSound (record left { journal = journal })
   left_sound journal image quiet = record {
     range = sound.range;
+    version = sound.version;
     image = image;
     quiet = quiet;
     numbers = words_left.props ∙ sound.numbers;
@@ -176,10 +166,13 @@ module _ (k : Kept) (slot : ℕ) (rec : FileRecord) (d : Dict) (at : ℕ → Lis
   c = without_slot k.catalog slot
 
   abbrev t : State
-  t = without_file s name
+  t = file_removed s name
 
   formed : WellFormed t
   formed = removes_file s tells.formed name
+
+  no_tests : has_no_tests s.declared ≡ true
+  no_tests = no_tests_told k at s tells
 
   -- the file in the slot is that of the name
   same_file : (f : Filed) → Among k.catalog.entries f → not (same_word f.rec.name name) ≡ not (f.slot == slot)
@@ -217,14 +210,14 @@ module _ (k : Kept) (slot : ℕ) (rec : FileRecord) (d : Dict) (at : ℕ → Lis
       among_from_has_word s.declared w (sym (tells.declared w) ∙ (ap (bit_of k.declared) (number_from_word k.dict tells.sound.dict w n is) ∙ bit))
 
   tagged_known : (w : List ℕ) (n : ℕ) → word_of k.dict n ≡ Some w → (f : Filed) → Among c.entries f → Among f.rec.tags n → Among (known t) w
-  tagged_known w n is f m tag = assigned_known t formed tells.no_axioms (file_told k.limits k.dict at f) w (among_told f m) (number_told k.dict f.rec.tags w n tag is)
+  tagged_known w n is f m tag = assigned_known t formed tells.no_axioms no_tests (file_told k.limits k.dict at f) w (among_told f m) (number_told k.dict f.rec.tags w n tag is)
 
   -- a word of the file that is taken away, where it is not forgotten
   still_known : (w : List ℕ) (n : ℕ) → word_of k.dict n ≡ Some w → Among rec.tags n → is_unused k.declared c rec.tags n ≡ false → Among (known t) w
   still_known w n is tag used = by (is_taken k.declared n) (is_tagged c n) refl refl
     where
       by : (a b : Bool) → is_taken k.declared n ≡ a → is_tagged c n ≡ b → Among (known t) w
-      by true b bit tagged = declared_known t formed tells.no_axioms w (number_declared w n is bit)
+      by true b bit tagged = declared_known t formed tells.no_axioms no_tests w (number_declared w n is bit)
       by false true bit tagged =
           let f = among_from_any (λ (g : Filed). has_number g.rec.tags n) c.entries tagged in
           tagged_known w n is f.0 f.1 (among_from_number f.0.rec.tags n f.2)
@@ -243,7 +236,7 @@ module _ (k : Kept) (slot : ℕ) (rec : FileRecord) (d : Dict) (at : ℕ → Lis
   known_after w m =
       let n = word_numbered d words_left.dict w m in
       let was = word_was k.declared c rec.tags k.dict d words_left n.0 w n.1 in
-      by n.0 was.0 was.1 (known_by s tells.formed tells.no_axioms w (subst (λ (ws : List (List ℕ)). Among ws w) tells.words (numbered_word k.dict w n.0 was.0)))
+      by n.0 was.0 was.1 (known_by s tells.formed tells.no_axioms no_tests w (subst (λ (ws : List (List ℕ)). Among ws w) tells.words (numbered_word k.dict w n.0 was.0)))
     where
       same_number : (n i : ℕ) → word_of k.dict n ≡ Some w → word_of k.dict i ≡ Some w → i ≡ n
       same_number n i is also =
@@ -257,11 +250,11 @@ module _ (k : Kept) (slot : ℕ) (rec : FileRecord) (d : Dict) (at : ℕ → Lis
           from_file w n is used f.0 f.1 (subst (λ (i : ℕ). Among f.0.rec.tags i) (same_number n tag.0 is tag.2) tag.1)
 
       by : (n : ℕ) → word_of k.dict n ≡ Some w → is_unused k.declared c rec.tags n ≡ false → Among s.declared w ⊎ ((file : File) × Among s.files file × Among file.assigned w) → Among (known t) w
-      by n is used (inl declared) = declared_known t formed tells.no_axioms w declared
+      by n is used (inl declared) = declared_known t formed tells.no_axioms no_tests w declared
       by n is used (inr file) = of_file n is used file.0 file.1 file.2
 
   known_before : (w : List ℕ) → Among (known t) w → Among (words d) w
-  known_before w m = by (known_by t formed tells.no_axioms w m)
+  known_before w m = by (known_by t formed tells.no_axioms no_tests w m)
     where
       of_file : (file : File) → Among t.files file → Among file.assigned w → Among (words d) w
       of_file file in_files given =

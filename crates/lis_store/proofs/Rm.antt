@@ -11,7 +11,8 @@ use Rattle.lis_fields.specs.Records.{FileRecord}
 use Rattle.lis_grammar.specs.Formula.{Formula}
 use Rattle.lis_model.specs.declared.refusal.Refusal.TheVariants.{NoFileHere}
 use Rattle.lis_model.specs.State.{State}
-use Rattle.lis_model.specs.Step.{Situation, refused, changed, is_here, without_file, rm}
+use Rattle.lis_model.specs.Changes.{file_removed}
+use Rattle.lis_model.specs.Step.{Situation, refused, changed, is_here, rm}
 use Rattle.lis_store.specs.declared.change.Change.{Change}
 use Rattle.lis_store.specs.declared.change.Change.TheVariants.{Refused, Disk}
 use Rattle.lis_store.specs.Kept.{Kept, IsSound, IsSpelled, Tells, StoreFits}
@@ -52,8 +53,8 @@ module _ (slot : ℕ) (old mid : Kept) (sound : IsSound old) (some : IsSomeAnd (
       (left_sound old slot this.rec mid.dict sound this.there this.removes.words journal (image ∙ (this.removes.image ∙ sound.image)) quiet)
 
   told_after : (at : ℕ → List ℕ) (s : State) (name : List ℕ) → Tells old at s → slot_of old.catalog name ≡ Some slot → (journal : Held) → journal.blocks ≡ mid.journal.blocks → journal.is_broken ≡ false → journal.staged ≡ []
-      → Tells (record mid { journal = journal }) (looked mid.journal.staged at) (without_file s name)
-  told_after at s name tells named journal image unbroken quiet = subst (λ (k : Kept). Tells k (looked mid.journal.staged at) (without_file s name)) (sym (with_journal journal)) told
+      → Tells (record mid { journal = journal }) (looked mid.journal.staged at) (file_removed s name)
+  told_after at s name tells named journal image unbroken quiet = subst (λ (k : Kept). Tells k (looked mid.journal.staged at) (file_removed s name)) (sym (with_journal journal)) told
     where
       spelled_by : {k : Kept} (there : ℕ → List ℕ) (j : Held) → IsSpelled k there → IsSpelled (record k { journal = j }) there
       spelled_by there j is = record { super = is.super; properties = is.properties; axioms = is.axioms; records = is.records; bitmap = is.bitmap }
@@ -61,10 +62,10 @@ module _ (slot : ℕ) (old mid : Kept) (sound : IsSound old) (some : IsSomeAnd (
       spelled : IsSpelled (after old.journal) (looked mid.journal.staged at)
       spelled = subst (λ (k : Kept). IsSpelled k (looked mid.journal.staged at)) (with_journal old.journal) (spelled_by {k = mid} (looked mid.journal.staged at) old.journal (this.removes.spelled at tells.spelled))
 
-      before : Tells (after old.journal) (looked mid.journal.staged at) (without_file s name)
+      before : Tells (after old.journal) (looked mid.journal.staged at) (file_removed s name)
       before = left_tells old slot this.rec mid.dict at s name tells named this.there this.removes.words (looked mid.journal.staged at) (λ n behind. this.removes.data_blocks n (at n) behind) spelled
 
-      told : Tells (after journal) (looked mid.journal.staged at) (without_file s name)
+      told : Tells (after journal) (looked mid.journal.staged at) (file_removed s name)
       told = record {
         limits = before.limits;
         sound = subst (λ (k : Kept). IsSound k) (with_journal journal) (sound_after journal image (λ _. quiet));
@@ -88,14 +89,14 @@ module _ (k : Kept) (m : Meaning) (s : State) (place : List Formula) (name : Lis
   pub not_here : {T : Type 0} (result : Result T Change) → false ≡ is_among (entries_told k.dict k.catalog) place name → result ≡ Err (Refused NoFileHere) → Changes now (rm now name) k m m result
   not_here result none ends =
       change_refused k m now (rm now name) NoFileHere result fits
-      (ap (λ b. cond (not b) (refused now NoFileHere) (changed now (without_file s name))) (here_is false none)) ends
+      (ap (λ b. cond (not b) (refused now NoFileHere) (changed now (file_removed s name))) (here_is false none)) ends
 
   -- ---- a file that is taken away
   module _ (after : Meaning) (mid : Kept) (slot : ℕ) (here : true ≡ is_among (entries_told k.dict k.catalog) place name) (named : slot_of k.catalog name ≡ Some slot) (some : IsSomeAnd (rec_at k.catalog slot) (λ rec. Removes slot rec k mid))
       (any_moment : (kept : ℕ → List ℕ) → Fits mid.journal.blocks m kept → Leaves m after (StandsForAllOrNone mid.journal.blocks kept mid.journal.staged))
       (past : (kept : ℕ → List ℕ) → Fits mid.journal.blocks m kept → KeepsPast mid.journal.blocks m after) where
-    outcome : rm now name ≡ changed now (without_file s name)
-    outcome = ap (λ b. cond (not b) (refused now NoFileHere) (changed now (without_file s name))) (here_is true here)
+    outcome : rm now name ≡ changed now (file_removed s name)
+    outcome = ap (λ b. cond (not b) (refused now NoFileHere) (changed now (file_removed s name))) (here_is true here)
 
     abbrev quiet : Held
     quiet = record mid.journal { staged = [] }
@@ -103,15 +104,15 @@ module _ (k : Kept) (m : Meaning) (s : State) (place : List Formula) (name : Lis
     removes : Taken slot k mid
     removes = taken slot k mid some
 
-    tells : Tells (record mid { journal = quiet }) (looked mid.journal.staged fits.kept) (without_file s name)
+    tells : Tells (record mid { journal = quiet }) (looked mid.journal.staged fits.kept) (file_removed s name)
     tells = told_after slot k mid fits.tells.sound some fits.kept s name fits.tells named quiet refl (removes.removes.broken ∙ fits.tells.unbroken) refl
 
     pub removed : {T : Type 0} (new : Kept) (done : T) → new ≡ record mid { journal = quiet }
         → ((kept : ℕ → List ℕ) → Fits mid.journal.blocks m kept → Fits mid.journal.blocks after (λ n. look mid.journal.staged n (kept n))) → Changes now (rm now name) new m after (Ok done)
     removed {T = T} new done is kept =
         subst (λ (told : Kept). Changes {T = T} now (rm now name) told m after (Ok done)) (sym is)
-        (change_kept k (record mid { journal = quiet }) m after now (rm now name) (without_file s name) mid.journal fits removes.removes.image tells refl outcome any_moment past done kept)
+        (change_kept k (record mid { journal = quiet }) m after now (rm now name) (file_removed s name) mid.journal fits removes.removes.image tells refl outcome any_moment past done kept)
 
     pub broke : {T : Type 0} (new : Kept) (result : Result T Change) → new.journal.is_broken ≡ true → result ≡ Err Disk → Changes now (rm now name) new m after result
     broke new result broken ends =
-        change_broke k (record mid { journal = quiet }) m after now (rm now name) (without_file s name) mid.journal fits removes.removes.image tells refl outcome any_moment past new result broken ends
+        change_broke k (record mid { journal = quiet }) m after now (rm now name) (file_removed s name) mid.journal fits removes.removes.image tells refl outcome any_moment past new result broken ends

@@ -15,7 +15,7 @@ use Rattle.lis_dict.specs.Dict.{Dict}
 use Rattle.lis_catalog.specs.Catalog.{Catalog}
 use Rattle.lis_fields.specs.Layouts.{prop_bytes, file_bytes}
 use Rattle.lis_model.specs.declared.limits.Limits.{Limits}
-use Rattle.lis_model.specs.Ranges.{is_files_limit, is_props_limit, is_blocks_limit, are_in_range}
+use Rattle.lis_model.specs.Ranges.{is_files_limit, is_props_limit, is_blocks_limit, is_version, are_in_range}
 use Rattle.lis_model.specs.Image.{axioms_start, files_start, rows_start}
 use Rattle.lis_store.specs.Stands.{property_slots, axiom_slots, file_slots}
 use Rattle.lis_store.specs.Kept.{property_at, record_at, PropertiesAre, AxiomsAreFree, RecordsAre}
@@ -27,12 +27,12 @@ files_whole n is = grind (arith, nat_tests)
 
 pub whole_files : (limits : Limits) → IsTrue (are_in_range limits) → limits.files % 16 ≡ 0
 whole_files limits range =
-    let most = and_parts (is_files_limit limits.files && is_props_limit limits.props) (is_blocks_limit limits.blocks) range in
+    let most = and_parts (is_files_limit limits.files && is_props_limit limits.props) (is_blocks_limit limits.blocks) (and_parts (is_files_limit limits.files && is_props_limit limits.props && is_blocks_limit limits.blocks) (is_version limits.version) range).0 in
     files_whole limits.files (and_parts (is_files_limit limits.files) (is_props_limit limits.props) most.0).0
 
 pub whole_properties : (limits : Limits) → IsTrue (are_in_range limits) → limits.props % 64 ≡ 0
 whole_properties limits range =
-    let most = and_parts (is_files_limit limits.files && is_props_limit limits.props) (is_blocks_limit limits.blocks) range in
+    let most = and_parts (is_files_limit limits.files && is_props_limit limits.props) (is_blocks_limit limits.blocks) (and_parts (is_files_limit limits.files && is_props_limit limits.props && is_blocks_limit limits.blocks) (is_version limits.version) range).0 in
     let props = and_parts (is_files_limit limits.files) (is_props_limit limits.props) most.0 in
     eqb-true (limits.props % 64) 0 (and_parts (nat_le 64 limits.props && nat_le limits.props 8192) (limits.props % 64 == 0) props.1).1
 

@@ -138,14 +138,15 @@ super-replayed blocks image r is long = by (is_open image) (is_record blocks (ar
     by true false opened bad = absurd (let none = sym (replayed-bad blocks image opened bad) ∙ is in cc)
 
 -- ---- images stand
-pub kept_stands : (s : State) (contents : Contents) (at : ℕ → List ℕ) (image : List ℕ) → at 0 ≡ super_bytes (record { version = 1; limits = s.limits }) → Spells s.limits contents at s → KeptBy (image_blocks s.limits) at image → Stands image s
+pub kept_stands : (s : State) (contents : Contents) (at : ℕ → List ℕ) (image : List ℕ) → s.limits.version ≡ 1 → at 0 ≡ super_bytes s.limits → Spells s.limits contents at s → KeptBy (image_blocks s.limits) at image → Stands image s
 unfolding KeptBy Stands
-kept_stands s contents at image super spells keeps = by (replayed (image_blocks s.limits) image) refl keeps.1
+kept_stands s contents at image version super spells keeps = by (replayed (image_blocks s.limits) image) refl keeps.1
   where
     by : (o : Option (List ℕ)) → replayed (image_blocks s.limits) image ≡ o → IsSomeAnd o (Keeps (image_blocks s.limits) at) → Stands image s
     by None is none = absurd none
     by (Some r) is keep = record {
       super = sym (super-replayed (image_blocks s.limits) image r is (omega (arith, keeps.0))) ∙ (keep.same 0 (inl refl) ∙ super);
+      version = version;
       long = keeps.0;
       replay = r;
       replays = is;
@@ -157,8 +158,8 @@ pub told_stands : (k : Kept) (at : ℕ → List ℕ) (s : State) (image : List �
 told_stands k at s image tells keeps =
     let spells = subst (λ (limits : Limits). Spells limits (contents_of k) at s) tells.limits (tells_spells k at s tells) in
     let blocks : k.journal.blocks ≡ image_blocks s.limits = tells.sound.image ∙ ap image_blocks tells.limits in
-    let super : at 0 ≡ super_bytes (record { version = 1; limits = s.limits }) = tells.spelled.super ∙ ap (λ (limits : Limits). super_bytes (record { version = 1; limits = limits })) tells.limits in
-    kept_stands s (contents_of k) at image super spells (subst (λ b. KeptBy b at image) blocks keeps)
+    let super : at 0 ≡ super_bytes s.limits = tells.spelled.super ∙ ap (λ (limits : Limits). super_bytes limits) tells.limits in
+    kept_stands s (contents_of k) at image (ap (λ (limits : Limits). limits.version) (sym tells.limits) ∙ tells.sound.version) super spells (subst (λ b. KeptBy b at image) blocks keeps)
 
 pub fitting_stands : (m : Meaning) (k : Kept) (s : State) → StoreFits k m s → Always m (λ image. Stands image s)
 fitting_stands m k s fits =

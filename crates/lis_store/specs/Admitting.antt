@@ -1,16 +1,16 @@
 -- What refuses a new file, told by what a store keeps.
-use Rattle.std.specs.Prelude.{◌≡◌, ℕ, ◌+◌, nat_lt, nat_le, Bool, not, ◌&&◌, ◌||◌, is_some, is_none, Some, List, [], ◌∷◌, ◌++◌, length, count_by}
+use Rattle.std.specs.Prelude.{◌≡◌, ℕ, ◌+◌, nat_lt, nat_le, Bool, false, not, ◌&&◌, ◌||◌, is_some, is_none, Some, List, [], ◌∷◌, ◌++◌, length, count_by}
 use Rattle.std.specs.List.{list_any, list_all}
 use Rattle.lis_blockmap.specs.Bitmap.{free_count}
 use Rattle.lis_dict.specs.Dict.{Dict, number_of}
 use Rattle.lis_catalog.specs.Catalog.{slot_of}
 use Rattle.lis_grammar.specs.Formula.{Formula}
-use Rattle.lis_words.specs.Words.{is_plain_word, is_head, is_valued, is_built_in, head_bytes}
+use Rattle.lis_words.specs.Words.{is_plain_word, is_valued, is_built_in, head_bytes}
 use Rattle.lis_model.specs.declared.refusal.Refusal.{Refusal}
-use Rattle.lis_model.specs.declared.refusal.Refusal.TheVariants.{UnknownProperty, NotAPlace, NameTaken, NotAssignable, TooManyAssigned, LargeFile, NoFileRoom, NoPropertyRoom, NoSpace, BuiltIn}
+use Rattle.lis_model.specs.declared.refusal.Refusal.TheVariants.{UnknownProperty, NotAPlace, NameTaken, NotAssignable, TooManyAssigned, LargeDescription, LargeFile, NoFileRoom, NoPropertyRoom, NoSpace, BuiltIn}
 use Rattle.lis_model.specs.State.{blocks_needed}
 use Rattle.lis_model.specs.Places.{place_words}
-use Rattle.lis_model.specs.Step.{assigned_at}
+use Rattle.lis_model.specs.Step.{is_head_or_test, assigned_at}
 use Rattle.lis_store.specs.Kept.{Kept, is_declared}
 use Rattle.lis_store.specs.Changes.{first_refusal}
 use Rattle.lis_store.specs.declared.change.Change.{Change}
@@ -30,8 +30,12 @@ named_checks k place name words =
     (is_some (slot_of k.catalog name), NameTaken)
     ∷ (not (is_some (place_words place)), NotAPlace)
     ∷ (list_any is_built_in words, BuiltIn)
-    ∷ (list_any is_head words, NotAssignable)
+    ∷ (list_any is_head_or_test words, NotAssignable)
     ∷ []
+
+-- Until axioms come, a description has the 16 words at most that the file was given, and their heads; then this is asked of all files.
+abbrev pub exceeds_words_by : Kept → List (List ℕ) → Bool
+exceeds_words_by k assigned = false
 
 -- The rest: what the file would be given, and whether there is room. The heads of assignable words are declared, so they have numbers,
 -- and a file brings no word but those that it is given.
@@ -40,6 +44,7 @@ room_checks k assigned size =
     (not (list_all (is_assignable_by k) assigned), UnknownProperty)
     ∷ (nat_lt 16 (length assigned), TooManyAssigned)
     ∷ (nat_le k.catalog.files (length k.catalog.entries), NoFileRoom)
+    ∷ (exceeds_words_by k assigned, LargeDescription)
     ∷ (nat_lt k.limits.props (length k.dict.entries + new_count k.dict assigned), NoPropertyRoom)
     ∷ (nat_lt (free_count k.taken) (blocks_needed size), NoSpace)
     ∷ []

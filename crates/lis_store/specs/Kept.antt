@@ -97,6 +97,8 @@ is_sound_record dict blocks rec =
 -- is staged between calls, but in a broken journal.
 pub record IsSound (k : Kept) : Type 0 where
   pub range : IsTrue (are_in_range k.limits)
+  -- until there are images of version 2
+  pub version : k.limits.version ≡ 1
   pub image : k.journal.blocks ≡ image_blocks k.limits
   pub quiet : k.journal.is_broken ≡ false → k.journal.staged ≡ []
   pub numbers : k.dict.props ≡ k.limits.props
@@ -123,7 +125,7 @@ RecordsAre limits catalog at = (n : ℕ) → n < limits.files → slot (file_slo
 
 -- The blocks that are no data blocks are spelled by what is kept.
 pub record IsSpelled (k : Kept) (at : ℕ → List ℕ) : Type 0 where
-  pub super : at 0 ≡ super_bytes (record { version = 1; limits = k.limits })
+  pub super : at 0 ≡ super_bytes k.limits
   pub properties : PropertiesAre k.limits k.dict k.declared at
   pub axioms : AxiomsAreFree k.limits at
   pub records : RecordsAre k.limits k.catalog at

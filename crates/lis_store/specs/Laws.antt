@@ -12,7 +12,8 @@ use Rattle.lis_fields.specs.Layouts.{super_bytes}
 use Rattle.lis_model.specs.declared.limits.Limits.{Limits}
 use Rattle.lis_model.specs.Ranges.{are_in_range}
 use Rattle.lis_model.specs.State.{State, empty_state}
-use Rattle.lis_model.specs.Step.{Situation, no_payload, create, add, bytes_of}
+use Rattle.lis_model.specs.Changes.{file_of}
+use Rattle.lis_model.specs.Step.{Situation, no_payload, create, add}
 use Rattle.lis_model.specs.Table.{table}
 use Rattle.lis_store.specs.Blank.{IsBlank}
 use Rattle.lis_store.specs.Stands.{Stands}
@@ -35,17 +36,17 @@ FittingStoresTell m = (k : Kept) (s : State) → StoreFits k m s → table_of k 
 abbrev pub FittingStoresHold : Meaning → Type 0
 FittingStoresHold m =
     (k : Kept) (s : State) → StoreFits k m s → (name : List ℕ) (slot : ℕ) → slot_of k.catalog name ≡ Some slot
-    → IsSomeAnd (rec_at k.catalog slot) (λ (rec : FileRecord). length (bytes_of s.files name) ≡ rec.size)
+    → IsSomeAnd (rec_at k.catalog slot) (λ (rec : FileRecord). length (file_of s.files name).bytes ≡ rec.size)
 
 -- the parts of an empty store are in form
 abbrev pub EmptyStoresAreSound : Type 0
-EmptyStoresAreSound = (limits : Limits) → IsTrue (are_in_range limits) → IsSound (empty_kept limits)
+EmptyStoresAreSound = (limits : Limits) → IsTrue (are_in_range limits) → limits.version ≡ 1 → IsSound (empty_kept limits)
 
 -- A store without words and files fits an honest disk of one image, where this is a blank one behind its super block.
 abbrev pub EmptyStoresFit : Meaning → Type 0
 EmptyStoresFit m =
-    (limits : Limits) (image : List ℕ) → IsTrue (are_in_range limits) → IsTrue m.is_honest → IsSettled m image
-    → part 0 4096 image ≡ super_bytes (record { version = 1; limits = limits }) → IsBlank limits image → StoreFits (empty_kept limits) m (empty_state limits)
+    (limits : Limits) (image : List ℕ) → IsTrue (are_in_range limits) → limits.version ≡ 1 → IsTrue m.is_honest → IsSettled m image
+    → part 0 4096 image ≡ super_bytes limits → IsBlank limits image → StoreFits (empty_kept limits) m (empty_state limits)
 
 -- What is staged over blocks that tell s makes blocks that tell t: then each image that stands for the one or the other blocks stands for
 -- s or for t.

@@ -18,7 +18,7 @@ abbrev pub entry_by : Dict → FileRecord → Entry
 entry_by dict rec = record {
   name = rec.name;
   size = rec.size;
-  words = set_of (flat_map (up []) (words_told dict rec.tags));
+  words = set_of (flat_map (up [] []) (words_told dict rec.tags));
 }
 
 abbrev pub entries_told : Dict → Catalog → List Entry
@@ -29,7 +29,7 @@ table_by limits dict catalog = record {
   limits = limits;
   known = words dict;
   files = entries_told dict catalog;
-  entailed = map (λ p. (p, up [] p)) (words dict);
+  entailed = map (λ p. (p, up [] [] p)) (words dict);
 }
 
 -- the table of what is kept

@@ -120,7 +120,9 @@ pub record Spells (limits : Limits) (contents : Contents) (at : ℕ → List ℕ
 -- The image has a super block with the state's limits, is as long as these say, and has a replayed image that spells the state. Extension
 -- rows are not looked at yet, nor what lies past the image.
 pub record StandsFor (image : List ℕ) (s : State) : Type 0 where
-  pub super : part 0 4096 image ≡ super_bytes (record { version = 1; limits = s.limits })
+  pub super : part 0 4096 image ≡ super_bytes s.limits
+  -- until there are images of version 2
+  pub version : s.limits.version ≡ 1
   pub long : 4096 * image_blocks s.limits ≤ length image
   pub replay : List ℕ
   pub replays : replayed (image_blocks s.limits) image ≡ Some replay

@@ -2,12 +2,13 @@
 
 ghost use Rattle.std.specs.Prelude.{◌≡◌, ◌≤◌, length};
 ghost use Rattle.std.specs.List.{list_any};
-ghost use Rattle.lis_words.specs.Words.{is_head, is_built_in};
+ghost use Rattle.lis_words.specs.Words.{is_built_in};
 ghost use Rattle.lis_model.specs.State.{blocks_needed};
+ghost use Rattle.lis_model.specs.Step.{is_head_or_test};
 ghost use Rattle.lis_store.specs.Admitting.{new_count};
 
 use lis_dict::Dict;
-use lis_words::{Word, is_builtin, is_head};
+use lis_words::{Word, is_builtin, is_head, test_of};
 
 /// The most bytes of a file.
 pub const MAX_FILE: u64 = 65_536;
@@ -32,11 +33,21 @@ pub fn has_built_in(words: &[Word]) -> bool
     words.iter().any(|word| is_builtin(word))
 }
 
-/// Whether one of the words is a head.
-pub fn has_head_word(words: &[Word]) -> bool
-    ensures { result ≡ list_any is_head words.now }
+/// Whether the word can't be given to a file, as a head or a test.
+fn is_head_or_test(word: &Word) -> bool
+    ensures { result ≡ is_head_or_test word.now }
 {
-    words.iter().any(|word| is_head(word.bytes()))
+    if is_head(word.bytes()) {
+        return true;
+    }
+    test_of(word).is_some()
+}
+
+/// Whether one of the words is a head or a test.
+pub fn has_head_or_test(words: &[Word]) -> bool
+    ensures { result ≡ list_any is_head_or_test words.now }
+{
+    words.iter().any(|word| is_head_or_test(word))
 }
 
 /// How many of the words have no number.

@@ -8,11 +8,13 @@ ghost use Rattle.lis_ports.specs.Calls.{HasCause, IsUnchanged};
 ghost use Rattle.lis_catalog.specs.Catalog.{slot_of, rec_at};
 ghost use Rattle.lis_dict.specs.Dict.{words};
 ghost use Rattle.lis_fields.specs.Records.{FileRecord};
+ghost use Rattle.lis_fields.specs.Layouts.{is_slot_word};
 ghost use Rattle.lis_words.specs.Words.{is_valued, head_bytes};
 ghost use Rattle.lis_model.specs.declared.refusal.Refusal.{Refusal};
 ghost use Rattle.lis_model.specs.Places.{is_root};
-ghost use Rattle.lis_model.specs.State.{State, is_declarable};
-ghost use Rattle.lis_model.specs.Step.{mkdir, add, rm, bytes_of, assigned_at};
+ghost use Rattle.lis_model.specs.State.{State};
+ghost use Rattle.lis_model.specs.Changes.{file_of};
+ghost use Rattle.lis_model.specs.Step.{mkdir, add, rm, assigned_at};
 ghost use Rattle.lis_store.specs.declared.change.Change.TheVariants.{Refused, NoMemory};
 ghost use Rattle.lis_store.specs.Inside.{kept_of};
 ghost use Rattle.lis_store.specs.Kept.{IsSound, is_declared, StoreFits};
@@ -21,7 +23,9 @@ ghost use Rattle.lis_store.specs.Changes.{first_refusal, word_checks, Changes, H
 ghost use Rattle.lis_store.specs.Admitting.{is_assignable_by, named_checks, room_checks, told_checks, Refuses};
 
 use crate::adding::learn;
-use crate::admitting::{MAX_FILE, MAX_TAGS, blocks_needed, has_built_in, has_head_word, new_count};
+use crate::admitting::{
+    MAX_FILE, MAX_TAGS, blocks_needed, has_built_in, has_head_or_test, new_count,
+};
 use crate::change::Change;
 use crate::parts::{bitmap_start, data_start};
 use crate::removing::remove_file;
@@ -183,7 +187,7 @@ impl Store {
         requires unbroken { self.now.journal.is_broken ≡ false }
         requires long { 4096 * self.now.journal.blocks ≤ (D.meaning disk.old).len }
         ensures read { OnOk result ((s : State) (name : List ℕ) → StoreFits self.now (D.meaning disk.old) s → slot_of self.now.catalog name ≡ Some slot
-            → take (length (part (4096 * n) 4096 (bytes_of s.files name))) buf.new ≡ part (4096 * n) 4096 (bytes_of s.files name)) }
+            → take (length (part (4096 * n) 4096 (file_of s.files name).bytes)) buf.new ≡ part (4096 * n) 4096 (file_of s.files name).bytes) }
         ensures len { length buf.new ≡ 4096 }
         ensures run { IsDiskRun (D.meaning disk.old) (D.meaning disk.new) }
         ensures cause { HasCause (D.meaning disk.old).disk_faults (D.meaning disk.new).disk_faults result }
@@ -205,7 +209,7 @@ impl Store {
         ensures row { MatchResult result
             (λ _. first_refusal (word_checks self.now place.now word.now) ≡ None)
             (λ refusal. first_refusal (word_checks self.now place.now word.now) ≡ Some refusal) }
-        ensures form { OnOk result (IsTrue (is_declarable word.now)) }
+        ensures form { OnOk result (IsTrue (is_slot_word word.now)) }
     {
         if is_builtin(word) {
             return Err(Refusal::BuiltIn);
@@ -403,7 +407,7 @@ impl Store {
         if has_built_in(tags.as_slice()) {
             return Err(Change::Refused(Refusal::BuiltIn));
         }
-        if has_head_word(tags.as_slice()) {
+        if has_head_or_test(tags.as_slice()) {
             return Err(Change::Refused(Refusal::NotAssignable));
         }
         let assigned = assigned_with(alloc, &words, tags.as_slice())?;

@@ -55,9 +55,9 @@ impl Model for Entailed {
     ghost view = { λ e. (e.word, e.above.items) };
 }
 
-/// What a word entails, without axioms: itself, and its head where it is valued.
+/// What a word entails, without axioms and declared tests: itself, and its head where it is valued.
 pub fn ups(alloc: Global, word: &Word) -> Result<Vec<Word>, AllocError>
-    ensures { IfOk result (λ words. words.items ≡ up [] word.now) }
+    ensures { IfOk result (λ words. words.items ≡ up [] [] word.now) }
 {
     let mut words = Vec::new(alloc);
     insert_word(&mut words, word)?;
@@ -67,9 +67,9 @@ pub fn ups(alloc: Global, word: &Word) -> Result<Vec<Word>, AllocError>
     Ok(words)
 }
 
-/// The description of a file that was given these words, without axioms.
+/// The description of a file that was given these words, without axioms and declared tests.
 pub fn described(alloc: Global, assigned: &[Word]) -> Result<Vec<Word>, AllocError>
-    ensures { IfOk result (λ words. words.items ≡ with_words [] (flat_map (up []) assigned.now)) }
+    ensures { IfOk result (λ words. words.items ≡ with_words [] (flat_map (up [] []) assigned.now)) }
 {
     let mut words = Vec::new(alloc);
     for word in assigned {

@@ -47,9 +47,9 @@ pub fn known_words(
     Ok(known)
 }
 
-/// Each of the words, and what it entails without axioms.
+/// Each of the words, and what it entails without axioms and declared tests.
 pub fn all_ups(alloc: Global, known: &[Word]) -> Result<Vec<Entailed>, AllocError>
-    ensures { IfOk result (λ entailed. entailed.items ≡ map (λ p. (p, up [] p)) known.now) }
+    ensures { IfOk result (λ entailed. entailed.items ≡ map (λ p. (p, up [] [] p)) known.now) }
 {
     let mut entailed = Vec::new(alloc);
     for word in known {
@@ -62,7 +62,7 @@ pub fn all_ups(alloc: Global, known: &[Word]) -> Result<Vec<Entailed>, AllocErro
     Ok(entailed)
 }
 
-/// The table of these known words and files, without axioms.
+/// The table of these known words and files, without axioms and declared tests.
 pub fn table_with(
     alloc: Global,
     limits: Limits,
@@ -80,7 +80,7 @@ pub fn table_with(
     })
 }
 
-/// The table of these files, without axioms, whose known words are the declared ones and the descriptions.
+/// The table of these files, without axioms and declared tests, whose known words are the declared ones and the descriptions.
 pub fn table_of(
     alloc: Global,
     limits: Limits,

@@ -1,12 +1,10 @@
 //! Words: properties as they are written.
 
 ghost use Rattle.std.specs.Prelude.{◌≡◌, ℕ, ◌≤◌, ◌<◌, ◌↔◌, [], ◌∷◌, ◌++◌, ◌&&◌, List, length, codes, IsTrue, IsSome, IfSome};
-ghost use Rattle.lis_words.specs.Words.{is_word, is_property, test_of, is_head, is_valued, is_built_in, has_word, head_bytes, built_in_heads};
+ghost use Rattle.lis_words.specs.Words.{is_word, is_kept_word, test_of, is_head, is_valued, is_built_in, has_word, head_bytes, built_in_heads};
 ghost use Rattle.lis_words.specs.Kind.{kind_of};
 
-use crate::forms::{
-    is_head, is_plain_word, is_property, is_valued, is_word, split_at_colon, test_in,
-};
+use crate::forms::{is_head, is_plain_word, is_valued, is_word, split_at_colon, test_in};
 use arrayvec::ArrayVec;
 use std::marker::Model;
 
@@ -23,7 +21,7 @@ pub enum PropKind {
     Test,
 }
 
-/// A word: a plain word, a head, a valued word or a test, of 1 to 60 bytes. Words are ordered by their bytes.
+/// A word: a plain word, a head or a valued word, of 1 to 60 bytes. Words are ordered by their bytes.
 #[derive(Drop, Debug, Clone, PartialEq, Eq, PartialOrd, Ord)]
 pub struct Word {
     held: ArrayVec<u8, 60>,
@@ -31,13 +29,13 @@ pub struct Word {
 
 impl Model for Word {
     ghost use Rattle.std.specs.Prelude.{ℕ, List, IsTrue};
-    ghost use Rattle.lis_words.specs.Words.{is_property};
+    ghost use Rattle.lis_words.specs.Words.{is_kept_word};
 
     ghost Value = { List ℕ };
 
     ghost view = { λ w. w.held.items };
 
-    ghost invariant = { λ w. IsTrue (is_property w.held.items) };
+    ghost invariant = { λ w. IsTrue (is_kept_word w.held.items) };
 
     ghost inverse = { λ bytes. record { held = record { items = bytes } } };
 }
@@ -53,45 +51,24 @@ impl Default for Word {
     }
 }
 
-fn word_of(bytes: &[u8]) -> Word
-    requires property { IsTrue (is_property bytes.now) }
-    requires short { length bytes.now ≤ 60 }
-    ensures { result ≡ bytes.now }
-{
-    let mut held = ArrayVec::new();
-    held.try_extend_from_slice(bytes).unwrap();
-    Word { held }
-}
-
-#[tactic(auto, using(crate::proofs::Tests::property_short))]
-/// Reads a word. None comes exactly where the bytes are neither a plain word, a head, a valued word nor a test.
+/// Reads a word. None comes exactly where the bytes are no word.
 pub fn read_word(bytes: &[u8]) -> Option<Word>
-    ensures word { IsSome result ↔ IsTrue (is_property bytes.now) }
-    ensures same { IfSome result (λ word. word ≡ bytes.now) }
-{
-    if !is_property(bytes) {
-        return None;
-    }
-    Some(word_of(bytes))
-}
-
-#[tactic(auto, using(crate::proofs::Tests::word_is_property, crate::proofs::Tests::property_short))]
-/// Reads a word that a formula may have, which is no test. None comes exactly where the bytes are no such word.
-pub fn read_operand(bytes: &[u8]) -> Option<Word>
-    ensures word { IsSome result ↔ IsTrue (is_word bytes.now) }
+    ensures word { IsSome result ↔ IsTrue (is_kept_word bytes.now) }
     ensures same { IfSome result (λ word. word ≡ bytes.now) }
 {
     if !is_word(bytes) {
         return None;
     }
-    Some(word_of(bytes))
+    let mut held = ArrayVec::new();
+    held.try_extend_from_slice(bytes).ok()?;
+    Some(Word { held })
 }
 
 impl Word {
     /// The word's bytes.
     pub fn bytes(&self) -> &[u8]
         ensures bytes { result.now ≡ self.now }
-        ensures property { IsTrue (is_property self.now) }
+        ensures word { IsTrue (is_kept_word self.now) }
         ensures short { length result.now ≤ 60 }
     {
         self.held.as_slice()
@@ -212,7 +189,6 @@ pub fn is_builtin(word: &Word) -> bool
     has_builtin_head(word)
 }
 
-#[tactic(auto, using(crate::proofs::Tests::valued_is_property))]
 /// The word of a head and a value. None comes exactly where the first is no head, or the two are no valued word.
 pub fn with_value(head: &Word, value: &[u8]) -> Option<Word>
     ensures valued { IsSome result ↔ (IsTrue (is_head head.now) × IsTrue (is_valued (head.now ++ value.now))) }

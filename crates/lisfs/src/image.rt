@@ -1,8 +1,8 @@
 //! The file that holds an image.
 
-use std::fs::{File, OpenOptions};
+use std::fs::{self, File, OpenOptions, TryLockError};
 use std::io;
-use std::io::ErrorKind;
+use std::io::{Error, ErrorKind};
 use std::os::fd::AsRawFd;
 use std::path::Path;
 
@@ -13,13 +13,29 @@ pub struct ImageFile {
     pub len: u64,
 }
 
+const INPUT: i32 = 0;
+
 // The numbers of standard input, output and error are those up to this one.
 const LAST_STANDARD: i32 = 2;
 
+// A file that can't be read, with the number of standard input, where that is closed: a closed input is a fault, and not an empty
+// one. It can be written, so it must have no other number.
+fn hold_input(rt: &HostRuntime) -> io::Result<Option<File>> {
+    let file = OpenOptions::new().write(true).open(rt, "/dev/null")?;
+    if file.as_raw_fd() == INPUT {
+        Ok(Some(file))
+    } else {
+        Ok(None)
+    }
+}
+
 /// Takes the numbers of standard input, output and error where these are closed, as long as the files are held. Else the file of an
-/// image would get one, and replies would be written into it. Nothing can be shown through these.
+/// image would get one, and replies would be written into it. Nothing can be read or shown through these.
 pub fn hold_standard(rt: &HostRuntime) -> io::Result<Vec<File>> {
     let mut held = Vec::new(rt.alloc());
+    if let Some(input) = hold_input(rt)? {
+        held.push(input)?;
+    }
     for _ in 0..=LAST_STANDARD {
         let file = File::open(rt, "/dev/null")?;
         if file.as_raw_fd() > LAST_STANDARD {
@@ -31,20 +47,33 @@ pub fn hold_standard(rt: &HostRuntime) -> io::Result<Vec<File>> {
 }
 
 // The folder in which a file of this path is.
-fn folder_of(path: &str) -> Path<'_> {
-    match Path::new(path).parent() {
+fn folder_of(path: Path<'_>) -> Path<'_> {
+    match path.parent() {
         Some(folder) if !folder.as_str().is_empty() => folder,
         _ => Path::new("."),
     }
 }
 
-// Makes the file at least so long. A power loss then doesn't take it away: its length and its name are kept.
+// Makes the file at least so long. A power loss then doesn't take it away: its length and its name are kept. The folder is that of
+// the file and not that of a symbolic link to it, and it is opened before the file gets its length.
 fn lengthen(rt: &HostRuntime, path: &str, file: &File, len: u64) -> io::Result<()> {
+    let real = fs::canonicalize(rt, path)?;
+    let folder = File::open(rt, folder_of(real.as_path()))?;
     if file.metadata()?.len() < len {
         file.set_len(len)?;
     }
     file.sync_all()?;
-    File::open(rt, folder_of(path))?.sync_all()
+    folder.sync_all()
+}
+
+fn lock(file: &File) -> io::Result<()> {
+    match file.try_lock() {
+        Ok(()) => Ok(()),
+        Err(TryLockError::WouldBlock) => {
+            Err(Error::new(ErrorKind::WouldBlock, "in use by another lisfs"))
+        }
+        Err(TryLockError::Error(error)) => Err(error),
+    }
 }
 
 /// Opens the file, and takes its lock. Where a length is given, the file is made where there is none, and lengthened to it. It fails
@@ -56,11 +85,9 @@ pub fn open(rt: &HostRuntime, path: &str, needed: Option<u64>) -> io::Result<Ima
         .create(needed.is_some())
         .open(rt, path)?;
     if file.as_raw_fd() <= LAST_STANDARD {
-        return Err(ErrorKind::Other.into());
+        return Err(Error::other("a standard stream is closed"));
     }
-    if file.try_lock().is_err() {
-        return Err(ErrorKind::WouldBlock.into());
-    }
+    lock(&file)?;
     if let Some(len) = needed {
         lengthen(rt, path, &file, len)?;
     }

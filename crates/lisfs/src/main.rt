@@ -2,14 +2,15 @@
 #![tactic(auto)]
 
 mod image;
+mod report;
 
 use image::ImageFile;
 use lis_memdisk::FileStation;
 use lis_ports::StdSource;
-use lis_shell::status::{Status, exit_code, status_text};
+use lis_shell::status::{Status, exit_code};
 use lis_shell::top::lisfs;
 use lis_shell::words::{Task, make_len, task_of};
-use std::io::Write;
+use std::io::Error;
 use std::process::ExitCode;
 use std::{env, io};
 
@@ -27,31 +28,37 @@ fn words(rt: &HostRuntime) -> Result<Vec<String>, Status> {
     Ok(words)
 }
 
-/// The image that the words name, if they name one and it can be opened.
-fn image_of(rt: &HostRuntime, words: &[String]) -> Option<ImageFile> {
-    match task_of(words)? {
-        Task::Try(_) => None,
-        Task::Make(_) | Task::Run => {
-            let path = words.get(1)?;
-            image::open(rt, path, make_len(words)).ok()
+// The path of the image, where the words have one.
+fn path_of(words: &[String]) -> &str {
+    match words.get(1) {
+        Some(path) => path.as_str(),
+        None => "",
+    }
+}
+
+/// The image that the words name, if they name one.
+fn image_of(rt: &HostRuntime, words: &[String]) -> io::Result<Option<ImageFile>> {
+    match task_of(words) {
+        None | Some(Task::Try(_)) => Ok(None),
+        Some(Task::Make(_) | Task::Run) => {
+            let image = image::open(rt, path_of(words), make_len(words))?;
+            Ok(Some(image))
         }
     }
 }
 
-fn run(rt: &HostRuntime) -> Status {
-    let words = match words(rt) {
-        Ok(words) => words,
-        Err(status) => return status,
-    };
+/// How the run ended, and why the disk failed where it did.
+fn run(rt: &HostRuntime, words: &[String]) -> (Status, Option<Error>) {
     let mut input = StdSource {
         reader: rt.reader(),
         faults: 0,
     };
     let _standard = image::hold_standard(rt);
     // Without a file every call of the disk fails.
-    let (file, len) = match image_of(rt, &words) {
-        None => (None, u64::MAX),
-        Some(image) => (Some(image.file), image.len),
+    let (file, len, cause) = match image_of(rt, words) {
+        Ok(None) => (None, u64::MAX, None),
+        Ok(Some(image)) => (Some(image.file), image.len, None),
+        Err(error) => (None, u64::MAX, Some(error)),
     };
     let mut station = FileStation {
         file,
@@ -59,23 +66,22 @@ fn run(rt: &HostRuntime) -> Status {
         out: io::writer(rt),
         disk_faults: 0,
         show_faults: 0,
+        cause,
     };
-    lisfs(rt.alloc(), &words, &mut input, &mut station)
-}
-
-fn print_text(rt: &HostRuntime, status: &Status) -> io::Result<()> {
-    let text = status_text(status);
-    if text.is_empty() {
-        return Ok(());
-    }
-    let mut error = rt.stderr();
-    error.write_all(text.bytes())?;
-    error.write_all(b"\n")
+    let status = lisfs(rt.alloc(), words, &mut input, &mut station);
+    (status, station.cause)
 }
 
 fn main(rt: HostRuntime) -> ExitCode {
-    let status = run(&rt);
+    let words = words(&rt);
+    let (status, path, cause) = match &words {
+        Ok(words) => {
+            let (status, cause) = run(&rt, words);
+            (status, path_of(words), cause)
+        }
+        Err(status) => (*status, "", None),
+    };
     // A text that can't be printed changes nothing of the exit code.
-    let _ = print_text(&rt, &status);
+    let _ = report::print(&rt, &status, path, cause);
     ExitCode::from(exit_code(&status))
 }

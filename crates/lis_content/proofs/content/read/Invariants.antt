@@ -3,4 +3,4 @@ use Rattle.lis_content.proofs.content.read.Given as goal
 
 abbrev pub invariant-loop-k : goal.invariant-loop-k
 invariant-loop-k g l =
-    SoFar (g.D.Disk.meaning l.initial.disk) (g.D.Disk.meaning l.disk) l.journal.blocks l.journal.staged l.base l.blocks l.k l.size l.buf
+    SoFar (g.D.Disk.meaning l.initial.disk) (g.D.Disk.meaning l.disk) l.journal l.base l.blocks l.k l.size l.buf

@@ -1,6 +1,6 @@
 use Rattle.std.proofs.Common.{◌≡◌, ℕ, ◌+◌, ◌++◌, min, cond, eqb, List, length, sym, ◌∙◌, ap, arith}
 use Rattle.std.proofs.lemmas.Bool.{eqb-true, eqb-false}
-use Rattle.lis_journal.specs.Images.{look}
+use Rattle.lis_journal.specs.Images.{look, is_among}
 use Rattle.lis_journal.specs.Staging.{with_entry}
 use Rattle.lis_content.specs.Content.{padded}
 use Rattle.lis_content.proofs.Numbers.{length-marked}
@@ -33,3 +33,7 @@ loop-rest-preserved c =
 pub returns : goal.returns
 returns c =
     filling_done c.args.base c.args.bytes.now c.loop-rest.rest.now c.args.map.now c.loop-rest.map c.args.journal.now c.loop-rest.journal c.loop-rest.taken.items (eqb-true (length c.loop-rest.rest.now) 0 (sym c.is_empty.ensures ∙ c.loop-rest-test.false)) c.loop-rest.invariant
+
+pub stage_front-requires-clause-unplaced : goal.stage_front-requires-clause-unplaced
+stage_front-requires-clause-unplaced c =
+    ap (λ placed. is_among placed c.home.result) (c.loop-rest.invariant.placed ∙ c.requires.unplaced)

@@ -18,9 +18,9 @@ pub returns-then-not-is_super-clause-same : goal.returns-then-not-is_super-claus
 returns-then-not-is_super-clause-same c =
     λ rec is e.
     let parts = super_parts c.args.bytes.now rec e in
-    let fits : FitsSuper c.read_limits-rec.result = record { version = omega arith; files = omega arith; props = omega arith; blocks = omega arith } in
-    let spelled = sym c.read_limits-rec.ensures ∙ (c.split_at-2.ensures.front ∙ (ap (λ xs. take 16 xs) c.split_at.ensures.back ∙ parts.spelled)) in
-    let same = same_super c.read_limits-rec.result rec fits (super_fits rec is) spelled in
+    let fits : FitsSuper c.read_limits-limits.result = record { version = omega arith; files = omega arith; props = omega arith; blocks = omega arith } in
+    let spelled = sym c.read_limits-limits.ensures ∙ (c.split_at-2.ensures.front ∙ (ap (λ xs. take 16 xs) c.split_at.ensures.back ∙ parts.spelled)) in
+    let same = same_super c.read_limits-limits.result rec fits (super_fits rec is) spelled in
     absurd (false≢true (sym c.if-not-is_super.true ∙ (c.is_super.ensures ∙ (ap is_super same ∙ is))))
 
 pub returns-clause-spelled : goal.returns-clause-spelled
@@ -28,9 +28,9 @@ returns-clause-spelled c =
     let is = sym c.is_super.ensures ∙ c.if-not-is_super.false in
     let magic : c.split_at.result.0.now ≡ codes "LISFS-IM" = search rules in (
       is,
-      super_joined c.args.bytes.now c.read_limits-rec.result (record {
+      super_joined c.args.bytes.now c.read_limits-limits.result (record {
         magic = sym c.split_at.ensures.front ∙ magic;
-        spelled = ap (λ xs. take 16 xs) (sym c.split_at.ensures.back) ∙ (sym c.split_at-2.ensures.front ∙ c.read_limits-rec.ensures);
+        spelled = ap (λ xs. take 16 xs) (sym c.split_at.ensures.back) ∙ (sym c.split_at-2.ensures.front ∙ c.read_limits-limits.ensures);
         end = ap (λ xs. drop 16 xs) (sym c.split_at.ensures.back) ∙ (sym c.split_at-2.ensures.back ∙ zeros_of 4072 c.split_at-2.result.1.now (omega arith) (sym c.are_zeros.ensures ∙ c.if-not-are_zeros.false));
       }),
     )
@@ -39,6 +39,6 @@ pub returns-clause-same : goal.returns-clause-same
 returns-clause-same c =
     λ rec is e.
     let parts = super_parts c.args.bytes.now rec e in
-    let fits = super_fits c.read_limits-rec.result (sym c.is_super.ensures ∙ c.if-not-is_super.false) in
-    let spelled = sym c.read_limits-rec.ensures ∙ (c.split_at-2.ensures.front ∙ (ap (λ xs. take 16 xs) c.split_at.ensures.back ∙ parts.spelled)) in
-    ap (λ r. Some r) (same_super c.read_limits-rec.result rec fits (super_fits rec is) spelled)
+    let fits = super_fits c.read_limits-limits.result (sym c.is_super.ensures ∙ c.if-not-is_super.false) in
+    let spelled = sym c.read_limits-limits.ensures ∙ (c.split_at-2.ensures.front ∙ (ap (λ xs. take 16 xs) c.split_at.ensures.back ∙ parts.spelled)) in
+    ap (λ r. Some r) (same_super c.read_limits-limits.result rec fits (super_fits rec is) spelled)

@@ -1,95 +1,62 @@
--- The answers of a recovery: what was read of the gate and of the record, and what follows.
-use Rattle.std.proofs.Common.{inl, inr}
-use Rattle.lis_journal.specs.Record.{block}
-use Rattle.lis_journal.proofs.Recovering.{gate_read, record_read, ready_from, closed_recovered, bad_leaves, bad_recovered, closed_left, bad_left, ready_open, ready_rest, finish_leaves, finish_recovered, finish_left, finish_images, finish_past}
+-- The answers of a recovery: what was read of the gates and of the records, and what follows.
+use Rattle.std.proofs.Common.{Ok, None, sym, ◌∙◌, subst, arith}
+use Rattle.lis_ports.specs.declared.disk.Failed.{Failed}
+use Rattle.lis_journal.specs.Phases.{IsLoaded}
+use Rattle.lis_journal.specs.Recovery.{Recovers}
+use Rattle.lis_journal.proofs.Recovering.{after_sync, reading_on, gates_read, gates_counted, quiet_recovers, bad_found, bad_recovers, failed_recovers, loaded_from, close_failed, close_done}
 use Rattle.lis_journal.proofs.mount.recover.Goals as goal
 
-pub returns-then-not-branch-clause-recovered : goal.returns-then-not-branch-clause-recovered
-returns-then-not-branch-clause-recovered g c = λ honest.
-    let gated = gate_read c.sync.ensures.call c.in_ok-sync.ensures.synced c.is_gate_open.ensures.run c.is_gate_open.ensures.quiet c.in_ok-is_gate_open.ensures.gate c.if-not-branch.true honest in
-    closed_recovered c.args.stage.now.blocks _ _ gated (g.met.D.Disk.reads_len c.args.disk.now honest) c.requires.long
+pub returns-then-not-is_any_open-clause-recovers :
+    goal.returns-then-not-is_any_open-clause-recovers
+returns-then-not-is_any_open-clause-recovers g c = λ honest.
+    let synced = after_sync honest c.sync.ensures.call.run c.sync.ensures.call.time (c.in_ok-sync.ensures.synced honest) in
+    let gated = gates_read synced c.in_ok-gates.ensures.gates c.is_any_open.ensures c.if-not-is_any_open.true in
+    let len = g.met.D.Disk.reads_len c.args.disk.now honest in
+    quiet_recovers c.args.latest.now.blocks c.requires.blocks (omega (arith, c.requires.long, len))
+    (reading_on synced c.read_gates.ensures.run (c.read_gates.ensures.quiet synced.honest)) gated.opened
 
-pub returns-then-not-branch-2-clause-any_moment : goal.returns-then-not-branch-2-clause-any_moment
-returns-then-not-branch-2-clause-any_moment g c = λ honest.
-    let gated = gate_read c.sync.ensures.call c.in_ok-sync.ensures.synced c.is_gate_open.ensures.run c.is_gate_open.ensures.quiet c.in_ok-is_gate_open.ensures.gate c.if-not-branch.false honest in
-    bad_leaves (record_read gated c.read_record.ensures.run c.read_record.ensures.quiet c.in_ok-read_record.ensures.form c.if-not-branch-2.true)
+pub returns-in_err-bad-clause-recovers : goal.returns-in_err-bad-clause-recovers
+returns-in_err-bad-clause-recovers g c = λ honest.
+    let synced = after_sync honest c.sync.ensures.call.run c.sync.ensures.call.time (c.in_ok-sync.ensures.synced honest) in
+    let gates = reading_on synced c.read_gates.ensures.run (c.read_gates.ensures.quiet synced.honest) in
+    failed_recovers c.args.latest.now.blocks c.from_residual-in_err-bad.result c.from_residual-in_err-bad.ensures.0
+    (reading_on gates c.load_records.ensures.run (c.load_records.ensures.quiet gates.honest))
 
-pub returns-then-not-branch-2-clause-recovered : goal.returns-then-not-branch-2-clause-recovered
-returns-then-not-branch-2-clause-recovered g c = λ honest.
-    let gated = gate_read c.sync.ensures.call c.in_ok-sync.ensures.synced c.is_gate_open.ensures.run c.is_gate_open.ensures.quiet c.in_ok-is_gate_open.ensures.gate c.if-not-branch.false honest in
-    bad_recovered (record_read gated c.read_record.ensures.run c.read_record.ensures.quiet c.in_ok-read_record.ensures.form c.if-not-branch-2.true)
+pub returns-in-Some-clause-recovers : goal.returns-in-Some-clause-recovers
+returns-in-Some-clause-recovers g c = λ honest.
+    let synced = after_sync honest c.sync.ensures.call.run c.sync.ensures.call.time (c.in_ok-sync.ensures.synced honest) in
+    let gated = gates_read synced c.in_ok-gates.ensures.gates c.is_any_open.ensures c.if-not-is_any_open.false in
+    let gates = reading_on synced c.read_gates.ensures.run (c.read_gates.ensures.quiet synced.honest) in
+    bad_recovers c.args.latest.now.blocks c.in-Some.bad
+    (reading_on gates c.load_records.ensures.run (c.load_records.ensures.quiet gates.honest)) gated.opened
+    (bad_found c.args.latest.now.blocks c.count_open-count.result _ _ (gates_counted gated c.count_open-count.ensures.count) gates.reads c.in-Some.is (c.in_ok-bad.ensures.form gates.honest))
 
-pub returns-then-not-branch-2-clause-left : goal.returns-then-not-branch-2-clause-left
-returns-then-not-branch-2-clause-left g c = λ honest.
-    let gated = gate_read c.sync.ensures.call c.in_ok-sync.ensures.synced c.is_gate_open.ensures.run c.is_gate_open.ensures.quiet c.in_ok-is_gate_open.ensures.gate c.if-not-branch.false honest in
-    bad_left (record_read gated c.read_record.ensures.run c.read_record.ensures.quiet c.in_ok-read_record.ensures.form c.if-not-branch-2.true)
+pub returns-in_err-close_gates-clause-recovers : goal.returns-in_err-close_gates-clause-recovers
+returns-in_err-close_gates-clause-recovers g c = λ honest.
+    let old = g.D.Disk.meaning c.args.disk.now in
+    let loaded_disk = g.D.Disk.meaning c.load_records.new.disk in
+    let synced = after_sync honest c.sync.ensures.call.run c.sync.ensures.call.time (c.in_ok-sync.ensures.synced honest) in
+    let gated = gates_read synced c.in_ok-gates.ensures.gates c.is_any_open.ensures c.if-not-is_any_open.false in
+    let gates = reading_on synced c.read_gates.ensures.run (c.read_gates.ensures.quiet synced.honest) in
+    let reading = reading_on gates c.load_records.ensures.run (c.load_records.ensures.quiet gates.honest) in
+    let len = g.met.D.Disk.reads_len c.args.disk.now honest in
+    let loaded = loaded_from _ reading c.requires.blocks (omega (arith, c.requires.long, len)) gated.opened (gates_counted gated c.count_open-count.ensures.count) gates.reads
+    (sym c.in_default.is ∙ c.in_ok-bad.ensures.form gates.honest) (c.in_ok-bad.ensures.loaded gates.honest c.in_default.is) in
+    let here = subst (λ b. IsLoaded b c.count_open-count.result c.load_records.new.latest.entries loaded_disk) (sym c.load_records.ensures.blocks) loaded in
+    subst (λ b. Recovers b old (g.D.Disk.meaning c.close_gates.new.disk) c.from_residual-in_err-close_gates.result) c.load_records.ensures.blocks
+    (close_failed here c.from_residual-in_err-close_gates.result c.from_residual-in_err-close_gates.ensures.0 reading (c.close_gates.ensures.closes here))
 
-pub returns-in_err-finish-clause-any_moment : goal.returns-in_err-finish-clause-any_moment
-returns-in_err-finish-clause-any_moment g c = λ honest.
-    let gated = gate_read c.sync.ensures.call c.in_ok-sync.ensures.synced c.is_gate_open.ensures.run c.is_gate_open.ensures.quiet c.in_ok-is_gate_open.ensures.gate c.if-not-branch.false honest in
-    let now = record_read gated c.read_record.ensures.run c.read_record.ensures.quiet c.in_ok-read_record.ensures.form c.if-not-branch-2.false in
-    let ready = ready_from gated now c.in_ok-read_record.ensures.loaded c.if-not-branch-2.false c.read_record.ensures.blocks (g.met.D.Disk.reads_len c.args.disk.now honest) c.requires.long c.requires.blocks c.len.ensures.staging in
-    finish_leaves ready (c.finish.ensures.any_moment (λ n. block n (g.D.Disk.meaning c.args.disk.now).bytes) ready.honest (ready_open ready)) (c.finish.ensures.rest _ ready.honest (ready_rest ready)).0
-
-pub returns-in_err-finish-clause-settled_past : goal.returns-in_err-finish-clause-settled_past
-returns-in_err-finish-clause-settled_past g c = λ honest settled.
-    let gated = gate_read c.sync.ensures.call c.in_ok-sync.ensures.synced c.is_gate_open.ensures.run c.is_gate_open.ensures.quiet c.in_ok-is_gate_open.ensures.gate c.if-not-branch.false honest in
-    let now = record_read gated c.read_record.ensures.run c.read_record.ensures.quiet c.in_ok-read_record.ensures.form c.if-not-branch-2.false in
-    let ready = ready_from gated now c.in_ok-read_record.ensures.loaded c.if-not-branch-2.false c.read_record.ensures.blocks (g.met.D.Disk.reads_len c.args.disk.now honest) c.requires.long c.requires.blocks c.len.ensures.staging in
-    finish_past ready (g.D.Disk.meaning c.finish.new.disk) (c.finish.ensures.past (λ n. block n (g.D.Disk.meaning c.args.disk.now).bytes) ready.honest (ready_open ready))
-
-pub returns-clause-any_moment : goal.returns-clause-any_moment
-returns-clause-any_moment g c = λ honest.
-    let gated = gate_read c.sync.ensures.call c.in_ok-sync.ensures.synced c.is_gate_open.ensures.run c.is_gate_open.ensures.quiet c.in_ok-is_gate_open.ensures.gate c.if-not-branch.false honest in
-    let now = record_read gated c.read_record.ensures.run c.read_record.ensures.quiet c.in_ok-read_record.ensures.form c.if-not-branch-2.false in
-    let ready = ready_from gated now c.in_ok-read_record.ensures.loaded c.if-not-branch-2.false c.read_record.ensures.blocks (g.met.D.Disk.reads_len c.args.disk.now honest) c.requires.long c.requires.blocks c.len.ensures.staging in
-    finish_leaves ready (c.finish.ensures.any_moment (λ n. block n (g.D.Disk.meaning c.args.disk.now).bytes) ready.honest (ready_open ready)) (c.finish.ensures.rest _ ready.honest (ready_rest ready)).0
-
-pub returns-clause-recovered : goal.returns-clause-recovered
-returns-clause-recovered g c = λ honest.
-    let gated = gate_read c.sync.ensures.call c.in_ok-sync.ensures.synced c.is_gate_open.ensures.run c.is_gate_open.ensures.quiet c.in_ok-is_gate_open.ensures.gate c.if-not-branch.false honest in
-    let now = record_read gated c.read_record.ensures.run c.read_record.ensures.quiet c.in_ok-read_record.ensures.form c.if-not-branch-2.false in
-    let ready = ready_from gated now c.in_ok-read_record.ensures.loaded c.if-not-branch-2.false c.read_record.ensures.blocks (g.met.D.Disk.reads_len c.args.disk.now honest) c.requires.long c.requires.blocks c.len.ensures.staging in
-    finish_recovered ready (c.in_ok-finish.ensures.kept (λ n. block n (g.D.Disk.meaning c.args.disk.now).bytes) ready.honest (ready_open ready))
-
-pub returns-clause-left : goal.returns-clause-left
-returns-clause-left g c = λ honest.
-    let gated = gate_read c.sync.ensures.call c.in_ok-sync.ensures.synced c.is_gate_open.ensures.run c.is_gate_open.ensures.quiet c.in_ok-is_gate_open.ensures.gate c.if-not-branch.false honest in
-    let now = record_read gated c.read_record.ensures.run c.read_record.ensures.quiet c.in_ok-read_record.ensures.form c.if-not-branch-2.false in
-    let ready = ready_from gated now c.in_ok-read_record.ensures.loaded c.if-not-branch-2.false c.read_record.ensures.blocks (g.met.D.Disk.reads_len c.args.disk.now honest) c.requires.long c.requires.blocks c.len.ensures.staging in
-    finish_left ready (c.in_ok-finish.ensures.settled ready.honest)
-
-pub returns-clause-images : goal.returns-clause-images
-returns-clause-images g c = λ honest image is.
-    let gated = gate_read c.sync.ensures.call c.in_ok-sync.ensures.synced c.is_gate_open.ensures.run c.is_gate_open.ensures.quiet c.in_ok-is_gate_open.ensures.gate c.if-not-branch.false honest in
-    let now = record_read gated c.read_record.ensures.run c.read_record.ensures.quiet c.in_ok-read_record.ensures.form c.if-not-branch-2.false in
-    let ready = ready_from gated now c.in_ok-read_record.ensures.loaded c.if-not-branch-2.false c.read_record.ensures.blocks (g.met.D.Disk.reads_len c.args.disk.now honest) c.requires.long c.requires.blocks c.len.ensures.staging in
-    inr (finish_images ready (c.in_ok-finish.ensures.kept (λ n. block n (g.D.Disk.meaning c.args.disk.now).bytes) ready.honest (ready_open ready)) (c.finish.ensures.rest _ ready.honest (ready_rest ready)).1 image is)
-
-pub returns-then-not-branch-clause-images : goal.returns-then-not-branch-clause-images
-returns-then-not-branch-clause-images g c = λ honest image is.
-    let gated = gate_read c.sync.ensures.call c.in_ok-sync.ensures.synced c.is_gate_open.ensures.run c.is_gate_open.ensures.quiet c.in_ok-is_gate_open.ensures.gate c.if-not-branch.true honest in
-    inl (gated.reading.within image is)
-
-pub returns-then-not-branch-2-clause-images : goal.returns-then-not-branch-2-clause-images
-returns-then-not-branch-2-clause-images g c = λ honest image is.
-    let gated = gate_read c.sync.ensures.call c.in_ok-sync.ensures.synced c.is_gate_open.ensures.run c.is_gate_open.ensures.quiet c.in_ok-is_gate_open.ensures.gate c.if-not-branch.false honest in
-    inl ((record_read gated c.read_record.ensures.run c.read_record.ensures.quiet c.in_ok-read_record.ensures.form c.if-not-branch-2.true).reading.within image is)
-
-pub returns-clause-past : goal.returns-clause-past
-returns-clause-past g c = λ honest.
-    let gated = gate_read c.sync.ensures.call c.in_ok-sync.ensures.synced c.is_gate_open.ensures.run c.is_gate_open.ensures.quiet c.in_ok-is_gate_open.ensures.gate c.if-not-branch.false honest in
-    let now = record_read gated c.read_record.ensures.run c.read_record.ensures.quiet c.in_ok-read_record.ensures.form c.if-not-branch-2.false in
-    let ready = ready_from gated now c.in_ok-read_record.ensures.loaded c.if-not-branch-2.false c.read_record.ensures.blocks (g.met.D.Disk.reads_len c.args.disk.now honest) c.requires.long c.requires.blocks c.len.ensures.staging in
-    finish_past ready (g.D.Disk.meaning c.finish.new.disk) (c.finish.ensures.past (λ n. block n (g.D.Disk.meaning c.args.disk.now).bytes) ready.honest (ready_open ready))
-
-pub returns-clause-settled_past : goal.returns-clause-settled_past
-returns-clause-settled_past g c = λ honest settled.
-    let gated = gate_read c.sync.ensures.call c.in_ok-sync.ensures.synced c.is_gate_open.ensures.run c.is_gate_open.ensures.quiet c.in_ok-is_gate_open.ensures.gate c.if-not-branch.false honest in
-    let now = record_read gated c.read_record.ensures.run c.read_record.ensures.quiet c.in_ok-read_record.ensures.form c.if-not-branch-2.false in
-    let ready = ready_from gated now c.in_ok-read_record.ensures.loaded c.if-not-branch-2.false c.read_record.ensures.blocks (g.met.D.Disk.reads_len c.args.disk.now honest) c.requires.long c.requires.blocks c.len.ensures.staging in
-    finish_past ready (g.D.Disk.meaning c.finish.new.disk) (c.finish.ensures.past (λ n. block n (g.D.Disk.meaning c.args.disk.now).bytes) ready.honest (ready_open ready))
-
-pub returns-then-not-branch-clause-left : goal.returns-then-not-branch-clause-left
-returns-then-not-branch-clause-left g c = λ honest.
-    closed_left c.args.stage.now.blocks (gate_read c.sync.ensures.call c.in_ok-sync.ensures.synced c.is_gate_open.ensures.run c.is_gate_open.ensures.quiet c.in_ok-is_gate_open.ensures.gate c.if-not-branch.true honest)
+pub returns-clause-recovers : goal.returns-clause-recovers
+returns-clause-recovers g c = λ honest.
+    let old = g.D.Disk.meaning c.args.disk.now in
+    let loaded_disk = g.D.Disk.meaning c.load_records.new.disk in
+    let synced = after_sync honest c.sync.ensures.call.run c.sync.ensures.call.time (c.in_ok-sync.ensures.synced honest) in
+    let gated = gates_read synced c.in_ok-gates.ensures.gates c.is_any_open.ensures c.if-not-is_any_open.false in
+    let gates = reading_on synced c.read_gates.ensures.run (c.read_gates.ensures.quiet synced.honest) in
+    let reading = reading_on gates c.load_records.ensures.run (c.load_records.ensures.quiet gates.honest) in
+    let len = g.met.D.Disk.reads_len c.args.disk.now honest in
+    let loaded = loaded_from _ reading c.requires.blocks (omega (arith, c.requires.long, len)) gated.opened (gates_counted gated c.count_open-count.ensures.count) gates.reads
+    (sym c.in_default.is ∙ c.in_ok-bad.ensures.form gates.honest) (c.in_ok-bad.ensures.loaded gates.honest c.in_default.is) in
+    let here = subst (λ b. IsLoaded b c.count_open-count.result c.load_records.new.latest.entries loaded_disk) (sym c.load_records.ensures.blocks) loaded in
+    subst (λ b. Recovers {E = Failed} b old (g.D.Disk.meaning c.close_gates.new.disk) (Ok None)) c.load_records.ensures.blocks
+    (close_done here reading (c.in_ok-close_gates.ensures.closes here))

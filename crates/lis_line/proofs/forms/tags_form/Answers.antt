@@ -10,13 +10,13 @@ returns-in-None c =
 pub loop-word-preserved-then-len-lt-MAX_TAGS : goal.loop-word-preserved-then-len-lt-MAX_TAGS
 loop-word-preserved-then-len-lt-MAX_TAGS c =
     tags_pushed _ c.loop-word.rest.now c.in-Some.behind.now c.in-Some.word.now c.loop-word.tags _ c.loop-word.is_over c.loop-word.invariant
-    c.in-Some.ensures.words (c.in-Some-read_word.ensures.word.0 refl) (omega (arith, c.len.ensures.value, c.if-len-lt-MAX_TAGS.true))
-    (c.push.ensures ∙ ap (λ w. c.loop-word.tags ++ w ∷ []) c.in-Some-read_word.ensures.same)
+    c.in-Some.ensures.words (c.in-Some-read_property.ensures.word.0 refl) (omega (arith, c.len.ensures.value, c.if-len-lt-MAX_TAGS.true))
+    (c.push.ensures ∙ ap (λ w. c.loop-word.tags ++ w ∷ []) c.in-Some-read_property.ensures.same)
 
 pub loop-word-preserved : goal.loop-word-preserved
 loop-word-preserved c =
     tags_full _ c.loop-word.rest.now c.in-Some.behind.now c.in-Some.word.now c.loop-word.tags c.loop-word.is_over c.loop-word.invariant
-    c.in-Some.ensures.words (c.in-Some-read_word.ensures.word.0 refl) (omega (arith, c.len.ensures.value, c.if-len-lt-MAX_TAGS.false))
+    c.in-Some.ensures.words (c.in-Some-read_property.ensures.word.0 refl) (omega (arith, c.len.ensures.value, c.if-len-lt-MAX_TAGS.false))
 
 pub returns-else-is_over : goal.returns-else-is_over
 returns-else-is_over c =

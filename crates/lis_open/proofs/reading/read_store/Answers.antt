@@ -10,4 +10,4 @@ returns-in_err-read_parts-clause-ended g c = λ kept fits super.
 pub returns-clause-ended : goal.returns-clause-ended
 returns-clause-ended g c = λ kept fits super.
     store_told c.args.limits c.read_parts.new.words c.read_parts.new.files kept c.args.journal c.join.result c.in_ok-read_parts.ensures.read (c.in_ok-read_parts.ensures.ended kept fits)
-    c.requires.range c.requires.image c.requires.clean c.requires.unbroken super c.join.ensures
+    c.requires.range c.requires.version c.requires.image c.requires.clean c.requires.unbroken super c.join.ensures

@@ -1,6 +1,6 @@
 use Rattle.std.proofs.Common.{◌≡◌, drop}
-use Rattle.lis_model.specs.Step.{bytes_of}
+use Rattle.lis_model.specs.Changes.{file_of}
 use Rattle.lis_plain.proofs.content.bytes_of.Given as goal
 
 abbrev pub invariant-loop-file : goal.invariant-loop-file
-invariant-loop-file l = bytes_of (drop l.file-index l.files) l.name ≡ bytes_of l.files l.name
+invariant-loop-file l = (file_of (drop l.file-index l.files) l.name).bytes ≡ (file_of l.files l.name).bytes

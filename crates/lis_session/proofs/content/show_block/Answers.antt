@@ -1,18 +1,18 @@
 use Rattle.std.proofs.Common.{◌*◌}
 use Rattle.lis_ports.specs.Bytes.{part}
-use Rattle.lis_model.specs.Step.{bytes_of}
+use Rattle.lis_model.specs.Changes.{file_of}
 use Rattle.lis_session.proofs.Blocks.{size_is, block_is, block_item, block_broke}
 use Rattle.lis_session.proofs.content.show_block.Goals as goal
 
 pub returns-in-Err-clause-shows : goal.returns-in-Err-clause-shows
 returns-in-Err-clause-shows g c = λ name is_slot state fitting.
     let e = c.content.ensures in
-    block_broke (part (4096 * c.args.n) 4096 (bytes_of state.files name)) fitting (e.any_moment fitting.honest) (e.same fitting.honest) (e.fits state fitting.own)
+    block_broke (part (4096 * c.args.n) 4096 (file_of state.files name).bytes) fitting (e.any_moment fitting.honest) (e.same fitting.honest) (e.fits state fitting.own)
 
 pub returns-clause-shows : goal.returns-clause-shows
 returns-clause-shows g c = λ name is_slot state fitting.
     let e = c.content.ensures in
-    let bytes = bytes_of state.files name in
+    let bytes = (file_of state.files name).bytes in
     let len = size_is name c.args.slot c.args.size fitting.own is_slot c.requires.size in
     let is = block_is bytes c.content.new.buf c.args.n c.args.size c.min.result len c.min.ensures (c.in_default.ensures.read state name fitting.own is_slot) in
     block_item (part (4096 * c.args.n) 4096 bytes) fitting (e.any_moment fitting.honest) (e.same fitting.honest) (e.fits state fitting.own) c.answer_bytes.result

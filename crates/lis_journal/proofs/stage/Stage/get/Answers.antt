@@ -4,7 +4,7 @@ use Rattle.lis_journal.specs.Record.{Entry, rises}
 use Rattle.lis_journal.specs.Images.{look}
 use Rattle.lis_journal.specs.Staging.{Staging, has_entry}
 use Rattle.lis_journal.specs.Inside.{home_list, FoundAt, PlaceFor}
-use Rattle.lis_journal.proofs.Frames.{list_rises, look-found, has-homes}
+use Rattle.lis_journal.proofs.Frames.{list_rises, look-found, has-homes, has-found}
 use Rattle.lis_journal.proofs.Places.{absent}
 use Rattle.lis_journal.proofs.stage.Stage.get.Goals as goal
 
@@ -35,3 +35,10 @@ returns-in-Err-clause-none c =
     ap (λ (s : Staging). has_entry s.entries n) (sym c.self.view_is)
     ∙ (has-homes inside.region inside.staged.items n
     ∙ absent inside.blocks 577 n c.in-Err.field-0 inside.staged.items (list_rises inside.region inside.staged.items inside.blocks c.self.invariant.staging.rise) place)
+
+pub returns-in-Ok-clause-has : goal.returns-in-Ok-clause-has
+returns-in-Ok-clause-has c =
+    let inside = c.self.inside in
+    let n = c.args.n in
+    let found : FoundAt n c.in-Ok.place inside.staged.items = subst (λ (xs : List Staged). FoundAt n c.in-Ok.place xs) c.deref.ensures.value c.in-Ok.ensures.place in
+    ap (λ (s : Staging). has_entry s.entries n) (sym c.self.view_is) ∙ has-found inside.region inside.staged.items n c.in-Ok.place found

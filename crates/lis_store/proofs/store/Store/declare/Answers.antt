@@ -23,7 +23,7 @@ returns-in_err-number-clause-changes g c = λ s fits.
     let none = subst (λ (was : Kept). first_refusal (word_checks was c.args.place.now c.args.word.now) ≡ None) (sym c.self.view_is) c.in_ok-may_declare.ensures.row in
     let fits_then = subst (λ (was : Kept). StoreFits was (g.D.Disk.meaning c.args.disk.now) s) (sym c.self.view_is) fits in
     let p = err_from_is_err_and c.from_residual-in_err-number.result c.from_residual-in_err-number.ensures.1 in
-    refused_late k (g.D.Disk.meaning c.args.disk.now) c.args.place.now c.args.word.now s fits_then (record k { dict = c.add.new.self }) c.from_residual-in_err-number.result none c.in_err-number.ensures.0 c.in_err-number.ensures.1
+    refused_late k (g.D.Disk.meaning c.args.disk.now) c.args.place.now c.args.word.now s fits_then c.in_ok-may_declare.ensures.form (record k { dict = c.add.new.self }) c.from_residual-in_err-number.result none c.in_err-number.ensures.0 c.in_err-number.ensures.1
     (ap (λ (d : Dict). record k { dict = d }) c.in_err-number.ensures.2) (p.1 ∙ ap Err p.2)
 
 pub put-requires-clause-bit : goal.put-requires-clause-bit

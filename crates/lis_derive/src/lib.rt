@@ -1,0 +1,12 @@
+//! The words that a file has by its name and its bytes.
+#![tactic(auto)]
+
+mod content;
+mod derive;
+mod size;
+mod suffix;
+
+pub use derive::derive_words;
+
+#[cfg(test)]
+mod tests;

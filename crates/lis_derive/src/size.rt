@@ -1,0 +1,39 @@
+//! The word of a file's size.
+
+ghost use Rattle.std.specs.Prelude.{◌≡◌, ℕ, ◌≤◌, List, [], ◌∷◌, length, IsTrue};
+ghost use Rattle.lis_words.specs.Words.{is_word};
+ghost use Rattle.lis_model.specs.Noted.{noted_all};
+ghost use Rattle.lis_model.specs.Derived.{size_word};
+
+use lis_model::derived::Derived;
+use lis_words::{Word, read_operand};
+
+fn word_of(bytes: &[u8]) -> Word
+    requires { IsTrue (is_word bytes.now) }
+    ensures { result ≡ bytes.now }
+{
+    read_operand(bytes).unwrap()
+}
+
+fn size_word(size: usize) -> Word
+    ensures { result ≡ size_word size }
+{
+    if size == 0 {
+        return word_of(b"size:empty");
+    }
+    if size < 1_024 {
+        return word_of(b"size:small");
+    }
+    if size < 16_384 {
+        return word_of(b"size:medium");
+    }
+    word_of(b"size:large")
+}
+
+/// Notes the word of the size.
+pub fn note_size(size: usize, out: &mut Derived)
+    ensures { out.new ≡ noted_all out.old (size_word size ∷ []) }
+{
+    let word = size_word(size);
+    out.note(&word);
+}

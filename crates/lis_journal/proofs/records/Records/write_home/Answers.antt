@@ -1,0 +1,36 @@
+use Rattle.std.proofs.Common.{◌∷◌, ◌≡◌, ◌*◌, length, ◌∙◌, subst, arith}
+use Rattle.lis_ports.specs.Runs.{Leaves}
+use Rattle.lis_ports.proofs.Moments.{leaves_then}
+use Rattle.lis_journal.specs.Images.{StandsBut}
+use Rattle.lis_journal.proofs.Spreading.{spreads_torn}
+use Rattle.lis_journal.proofs.Saving.{on_ok, then_past}
+use Rattle.lis_journal.proofs.Holding.{more_stands, place_moments, placed_fits, home_past}
+use Rattle.lis_journal.proofs.records.Records.write_home.Goals as goal
+
+pub returns-in_err-free_home-clause-any_moment : goal.returns-in_err-free_home-clause-any_moment
+returns-in_err-free_home-clause-any_moment g c = λ placed kept fits.
+    more_stands c.args.self.now.blocks placed kept c.args.n (c.free_home.ensures.any_moment placed kept fits)
+
+pub returns-clause-any_moment : goal.returns-clause-any_moment
+returns-clause-any_moment g c = λ placed kept fits.
+    let n = c.args.n in
+    let at : c.from.result * 4096 ≡ 4096 * n = omega (arith, c.from.ensures) in
+    let free = c.in_ok-free_home.ensures.kept placed kept fits in
+    leaves_then (more_stands c.args.self.now.blocks placed kept n (c.free_home.ensures.any_moment placed kept fits))
+    (subst (λ b. Leaves (g.D.Disk.meaning c.free_home.new.disk) (g.D.Disk.meaning c.write_at.new.self) (StandsBut b (n ∷ placed) kept)) c.free_home.ensures.blocks
+    (place_moments n (c.from.result * 4096) (length c.args.bytes.now) c.requires.home at c.requires.whole free c.write_at.ensures.call.run c.write_at.ensures.call.time (c.write_at.ensures.torn free.honest)))
+
+pub returns-clause-kept : goal.returns-clause-kept
+returns-clause-kept g c = on_ok c.write_at.result (λ written. λ placed kept fits.
+    let n = c.args.n in
+    let at : c.from.result * 4096 ≡ 4096 * n = omega (arith, c.from.ensures) in
+    let free = c.in_ok-free_home.ensures.kept placed kept fits in
+    placed_fits n (c.from.result * 4096) (length c.args.bytes.now) c.requires.home at c.requires.whole free c.args.bytes.now (omega (arith, c.requires.within, c.free_home.ensures.blocks)) c.requires.whole c.in_ok-free_home.ensures.free c.write_at.ensures.call.run (c.write_at.ensures.torn free.honest) (written free.honest))
+    c.write_at.ensures.written
+
+pub returns-clause-past : goal.returns-clause-past
+returns-clause-past g c = λ honest.
+    let n = c.args.n in
+    let at : c.from.result * 4096 ≡ 4096 * n = omega (arith, c.from.ensures) in
+    then_past (c.free_home.ensures.past honest)
+    (spreads_torn _ (c.from.result * 4096) (length c.args.bytes.now) c.write_at.ensures.call.run c.write_at.ensures.call.time (c.write_at.ensures.torn (c.free_home.ensures.run.honest ∙ honest)) (home_past c.args.self.now.blocks n (c.from.result * 4096) (length c.args.bytes.now) c.requires.within at c.requires.whole))

@@ -1,0 +1,35 @@
+use Rattle.std.proofs.Common.{◌<◌, [], length, ap, inr, arith}
+use Rattle.lis_journal.specs.Record.{Entry}
+use Rattle.lis_journal.specs.Staging.{Staging}
+use Rattle.lis_journal.proofs.Entries.{length-with_entry}
+use Rattle.lis_journal.proofs.Absorbing.{absorbed_more, absorbed_all}
+use Rattle.lis_journal.proofs.Writing.{home_above, home_within}
+use Rattle.lis_journal.proofs.records.absorb.Goals as goal
+
+nothing : Entry
+nothing = record { home = 0; bytes = [] }
+
+pub put-requires-clause-home : goal.put-requires-clause-home
+put-requires-clause-home c =
+    let s = c.args.stage.now in
+    omega (arith, c.home.ensures nothing, home_above s.blocks 577 s.entries c.loop-k.k nothing c.len-k-end.ensures.staging.rise (omega (arith, c.loop-k-test.true, c.len-k-end.ensures.len)))
+
+pub put-requires-clause-within : goal.put-requires-clause-within
+put-requires-clause-within c =
+    let s = c.args.stage.now in
+    omega (arith, c.home.ensures nothing, c.loop-k.invariant.blocks, c.requires.same, home_within s.blocks 577 s.entries c.loop-k.k nothing c.len-k-end.ensures.staging.rise (omega (arith, c.loop-k-test.true, c.len-k-end.ensures.len)))
+
+pub put-requires-clause-room : goal.put-requires-clause-room
+put-requires-clause-room c = inr (omega (arith, c.loop-k.invariant.few, c.loop-k-test.true, c.len-k-end.ensures.len, c.requires.room))
+
+pub loop-k-preserved : goal.loop-k-preserved
+loop-k-preserved c =
+    let lt : c.loop-k.k < length c.args.stage.now.entries = omega (arith, c.loop-k-test.true, c.len-k-end.ensures.len) in
+    absorbed_more _ c.loop-k.latest c.put.new.self c.args.stage.now.entries c.loop-k.k c.home.result _ nothing lt (c.home.ensures nothing) (c.bytes.ensures.bytes nothing) c.loop-k.invariant
+    (ap (λ (s : Staging). s.blocks) c.put.ensures.put)
+    (omega (arith, ap (λ (s : Staging). length s.entries) c.put.ensures.put, length-with_entry c.loop-k.latest.entries c.home.result c.bytes.result.now))
+    c.put.ensures.looks
+
+pub returns-clause-absorbs : goal.returns-clause-absorbs
+returns-clause-absorbs c =
+    absorbed_all _ _ c.args.stage.now.entries c.loop-k.k (omega (arith, c.loop-k-test.false, c.len-k-end.ensures.len)) c.loop-k.invariant

@@ -1,0 +1,240 @@
+//! The open records of a journal, with their latest contents in memory.
+
+ghost use Rattle.std.specs.Prelude.{[], ◌∷◌, ◌≡◌, ◌⊎◌, ◌+◌, ◌*◌, ◌<◌, ◌≤◌, ℕ, List, length, true, false, IsTrue, OnOk, OnErr, IfSome, IfNone};
+ghost use Rattle.lis_ports.specs.Runs.{IsDiskRun, Leaves};
+ghost use Rattle.lis_ports.specs.Calls.{HasCause};
+ghost use Rattle.lis_journal.specs.Record.{homes, homes_of, is_header};
+ghost use Rattle.lis_journal.specs.Images.{StandsBut, StandsForAllOrNone, FitsAt, with_kept, look};
+ghost use Rattle.lis_journal.specs.Spreads.{Spreads, SamePast};
+ghost use Rattle.lis_journal.specs.Staging.{IsStaging, has_entry};
+ghost use Rattle.lis_journal.specs.Phases.{Absorbs, looked};
+
+use crate::commit::{MAX_OPEN, append, checkpoint};
+use crate::stage::{BLOCK_LEN, HOMES_START, Stage};
+use lis_ports::{Disk, Failed};
+use std::marker::Model;
+
+/// The block in which the first record begins.
+pub const FIRST_RECORD: u32 = 2;
+
+/// The open records: how many there are, the block behind them, and the latest content of each block in them.
+#[derive(Drop)]
+pub struct Records {
+    latest: Stage,
+    count: u32,
+    next: u32,
+}
+
+impl Model for Records {
+    ghost use Rattle.lis_journal.specs.Journal.{records_of};
+    ghost use Rattle.lis_journal.specs.Inside.{Log, IsLog};
+
+    ghost Value = { Log };
+
+    ghost view = { λ r. record { blocks = r.latest.blocks; records = records_of r.count r.next r.latest.entries } };
+
+    ghost invariant = { λ r. IsLog (record { blocks = r.latest.blocks; records = records_of r.count r.next r.latest.entries }) };
+}
+
+// Puts all staged blocks over the latest contents.
+fn absorb(latest: &mut Stage, stage: &Stage)
+    requires same { latest.old.blocks ≡ stage.now.blocks }
+    requires room { length latest.old.entries + length stage.now.entries ≤ 575 }
+    ensures absorbs { Absorbs latest.old.entries stage.now.entries latest.new.entries }
+    ensures blocks { latest.new.blocks ≡ latest.old.blocks }
+    ensures few { length latest.new.entries ≤ length latest.old.entries + length stage.now.entries }
+{
+    for k in 0..stage.len() {
+        latest.put(stage.home(k), stage.bytes(k));
+    }
+}
+
+impl Records {
+    ghost use Rattle.lis_journal.specs.Journal.{no_records};
+    ghost use Rattle.lis_journal.specs.Inside.{IsLog};
+
+    /// No open record. What is staged in `latest` has to be nothing.
+    pub fn new(latest: Stage) -> Self
+        requires blocks { 578 < latest.blocks }
+        requires empty { latest.entries ≡ [] }
+        ensures { result ≡ record { blocks = latest.blocks; records = no_records } }
+    {
+        Records {
+            latest,
+            count: 0,
+            next: FIRST_RECORD,
+        }
+    }
+
+    /// The latest content of a block, if it is in an open record.
+    pub fn get(&self, n: u32) -> Option<&[u8]>
+        ensures none { IfNone result (has_entry self.now.records.latest n ≡ false) }
+        ensures some { IfSome result (λ bytes. (old : List ℕ) → look self.now.records.latest n old ≡ bytes.now) }
+        ensures whole { IfSome result (λ bytes. length bytes.now ≡ 4096) }
+    {
+        self.latest.get(n)
+    }
+
+    // Whether there is room for a record more of so many blocks. There always is where no record is open.
+    fn has_room(&self, blocks: usize) -> bool
+        requires { blocks ≤ 575 }
+        ensures room { IsTrue result → (self.now.records.count < 64) × (self.now.records.next + blocks + 1 ≤ 578) }
+        ensures full { result ≡ false → 0 < self.now.records.count }
+    {
+        if self.count == MAX_OPEN {
+            return false;
+        }
+        self.next + blocks as u32 + 1 <= HOMES_START
+    }
+
+    // Makes a checkpoint, after which no record is open.
+    fn clear<D: Disk>(&mut self, disk: &mut D) -> Result<(), Failed>
+        requires long { 4096 * self.old.blocks ≤ (D.meaning disk.old).len }
+        requires some { 0 < self.old.records.count }
+        ensures run { IsDiskRun (D.meaning disk.old) (D.meaning disk.new) }
+        ensures cause { HasCause (D.meaning disk.old).disk_faults (D.meaning disk.new).disk_faults result }
+        ensures any_moment { (placed : List ℕ) (kept : ℕ → List ℕ)
+            → FitsAt self.old.blocks self.old.records placed (D.meaning disk.old) kept
+            → Leaves (D.meaning disk.old) (D.meaning disk.new) (StandsBut self.old.blocks placed kept) }
+        ensures kept { OnOk result ((placed : List ℕ) (kept : ℕ → List ℕ)
+            → FitsAt self.old.blocks self.old.records placed (D.meaning disk.old) kept
+            → FitsAt self.old.blocks no_records [] (D.meaning disk.new) kept) }
+        ensures past { IsTrue (D.meaning disk.old).is_honest
+            → Spreads (D.meaning disk.old) (D.meaning disk.new) (SamePast self.old.blocks) }
+        ensures done { OnOk result (self.new ≡ record self.old { records = no_records }) }
+        ensures stays { OnErr result (self.new ≡ self.old) }
+    {
+        checkpoint(disk, &self.latest)?;
+        self.latest.clear();
+        self.count = 0;
+        self.next = FIRST_RECORD;
+        Ok(())
+    }
+
+    // Makes a checkpoint where there is no room for a record more of so many blocks.
+    fn make_room<D: Disk>(&mut self, disk: &mut D, blocks: usize) -> Result<(), Failed>
+        requires long { 4096 * self.old.blocks ≤ (D.meaning disk.old).len }
+        requires few { blocks ≤ 575 }
+        ensures run { IsDiskRun (D.meaning disk.old) (D.meaning disk.new) }
+        ensures cause { HasCause (D.meaning disk.old).disk_faults (D.meaning disk.new).disk_faults result }
+        ensures any_moment { (placed : List ℕ) (kept : ℕ → List ℕ)
+            → FitsAt self.old.blocks self.old.records placed (D.meaning disk.old) kept
+            → Leaves (D.meaning disk.old) (D.meaning disk.new) (StandsBut self.old.blocks placed kept) }
+        ensures kept { OnOk result ((placed : List ℕ) (kept : ℕ → List ℕ)
+            → FitsAt self.old.blocks self.old.records placed (D.meaning disk.old) kept
+            → FitsAt self.new.blocks self.new.records placed (D.meaning disk.new) kept) }
+        ensures past { IsTrue (D.meaning disk.old).is_honest
+            → Spreads (D.meaning disk.old) (D.meaning disk.new) (SamePast self.old.blocks) }
+        ensures room { OnOk result ((self.new.records.count < 64) × (self.new.records.next + blocks + 1 ≤ 578)) }
+        ensures blocks { self.new.blocks ≡ self.old.blocks }
+    {
+        if self.has_room(blocks) {
+            return Ok(());
+        }
+        self.clear(disk)
+    }
+
+    // Makes the staged blocks kept by one record more, for which there is room.
+    fn append<D: Disk>(&mut self, disk: &mut D, header: &[u8], stage: &Stage) -> Result<(), Failed>
+        requires long { 4096 * self.old.blocks ≤ (D.meaning disk.old).len }
+        requires same { stage.now.blocks ≡ self.old.blocks }
+        requires staging { IsStaging stage.now }
+        requires header { length header.now ≡ 4096 }
+        requires form { IsTrue (is_header stage.now.blocks header.now) }
+        requires homes { homes_of header.now ≡ homes stage.now.entries }
+        requires few { self.old.records.count < 64 }
+        requires room { self.old.records.next + length stage.now.entries + 1 ≤ 578 }
+        ensures run { IsDiskRun (D.meaning disk.old) (D.meaning disk.new) }
+        ensures cause { HasCause (D.meaning disk.old).disk_faults (D.meaning disk.new).disk_faults result }
+        ensures any_moment { (placed : List ℕ) (kept : ℕ → List ℕ)
+            → FitsAt self.old.blocks self.old.records placed (D.meaning disk.old) kept
+            → Leaves (D.meaning disk.old) (D.meaning disk.new)
+            (StandsForAllOrNone self.old.blocks placed kept stage.now.entries) }
+        ensures kept { OnOk result ((placed : List ℕ) (kept : ℕ → List ℕ)
+            → FitsAt self.old.blocks self.old.records placed (D.meaning disk.old) kept
+            → FitsAt self.new.blocks self.new.records [] (D.meaning disk.new) (looked stage.now.entries kept)) }
+        ensures past { IsTrue (D.meaning disk.old).is_honest
+            → Spreads (D.meaning disk.old) (D.meaning disk.new) (SamePast self.old.blocks) }
+        ensures blocks { self.new.blocks ≡ self.old.blocks }
+    {
+        append(disk, header, stage, self.count, self.next)?;
+        absorb(&mut self.latest, stage);
+        self.count += 1;
+        self.next += stage.len() as u32 + 1;
+        Ok(())
+    }
+
+    /// Makes the staged blocks kept, by a record more. Where there is no room for it, it makes a checkpoint first.
+    pub fn save<D: Disk>(
+        &mut self,
+        disk: &mut D,
+        header: &[u8],
+        stage: &Stage,
+    ) -> Result<(), Failed>
+        requires long { 4096 * self.old.blocks ≤ (D.meaning disk.old).len }
+        requires same { stage.now.blocks ≡ self.old.blocks }
+        requires staging { IsStaging stage.now }
+        requires header { length header.now ≡ 4096 }
+        requires form { IsTrue (is_header stage.now.blocks header.now) }
+        requires homes { homes_of header.now ≡ homes stage.now.entries }
+        ensures run { IsDiskRun (D.meaning disk.old) (D.meaning disk.new) }
+        ensures cause { HasCause (D.meaning disk.old).disk_faults (D.meaning disk.new).disk_faults result }
+        ensures any_moment { (placed : List ℕ) (kept : ℕ → List ℕ)
+            → FitsAt self.old.blocks self.old.records placed (D.meaning disk.old) kept
+            → Leaves (D.meaning disk.old) (D.meaning disk.new)
+            (StandsForAllOrNone self.old.blocks placed kept stage.now.entries) }
+        ensures kept { OnOk result ((placed : List ℕ) (kept : ℕ → List ℕ)
+            → FitsAt self.old.blocks self.old.records placed (D.meaning disk.old) kept
+            → FitsAt self.new.blocks self.new.records [] (D.meaning disk.new) (looked stage.now.entries kept)) }
+        ensures past { IsTrue (D.meaning disk.old).is_honest
+            → Spreads (D.meaning disk.old) (D.meaning disk.new) (SamePast self.old.blocks) }
+        ensures blocks { self.new.blocks ≡ self.old.blocks }
+    {
+        self.make_room(disk, stage.len())?;
+        self.append(disk, header, stage)
+    }
+
+    // Makes a checkpoint where a block is in an open record.
+    fn free_home<D: Disk>(&mut self, disk: &mut D, n: u32) -> Result<(), Failed>
+        requires { 4096 * self.old.blocks ≤ (D.meaning disk.old).len }
+        ensures run { IsDiskRun (D.meaning disk.old) (D.meaning disk.new) }
+        ensures cause { HasCause (D.meaning disk.old).disk_faults (D.meaning disk.new).disk_faults result }
+        ensures any_moment { (placed : List ℕ) (kept : ℕ → List ℕ)
+            → FitsAt self.old.blocks self.old.records placed (D.meaning disk.old) kept
+            → Leaves (D.meaning disk.old) (D.meaning disk.new) (StandsBut self.old.blocks placed kept) }
+        ensures kept { OnOk result ((placed : List ℕ) (kept : ℕ → List ℕ)
+            → FitsAt self.old.blocks self.old.records placed (D.meaning disk.old) kept
+            → FitsAt self.new.blocks self.new.records placed (D.meaning disk.new) kept) }
+        ensures past { IsTrue (D.meaning disk.old).is_honest
+            → Spreads (D.meaning disk.old) (D.meaning disk.new) (SamePast self.old.blocks) }
+        ensures free { OnOk result (has_entry self.new.records.latest n ≡ false) }
+        ensures blocks { self.new.blocks ≡ self.old.blocks }
+    {
+        if !self.latest.has(n) {
+            return Ok(());
+        }
+        self.clear(disk)
+    }
+
+    /// Writes a home block without a record. Where it is in an open record, it makes a checkpoint first.
+    pub fn write_home<D: Disk>(&mut self, disk: &mut D, n: u32, bytes: &[u8]) -> Result<(), Failed>
+        requires long { 4096 * self.old.blocks ≤ (D.meaning disk.old).len }
+        requires home { 578 ≤ n }
+        requires within { n < self.old.blocks }
+        requires whole { length bytes.now ≡ 4096 }
+        ensures run { IsDiskRun (D.meaning disk.old) (D.meaning disk.new) }
+        ensures cause { HasCause (D.meaning disk.old).disk_faults (D.meaning disk.new).disk_faults result }
+        ensures any_moment { (placed : List ℕ) (kept : ℕ → List ℕ)
+            → FitsAt self.old.blocks self.old.records placed (D.meaning disk.old) kept
+            → Leaves (D.meaning disk.old) (D.meaning disk.new) (StandsBut self.old.blocks (n ∷ placed) kept) }
+        ensures kept { OnOk result ((placed : List ℕ) (kept : ℕ → List ℕ)
+            → FitsAt self.old.blocks self.old.records placed (D.meaning disk.old) kept
+            → FitsAt self.new.blocks self.new.records (n ∷ placed) (D.meaning disk.new) (with_kept n bytes.now kept)) }
+        ensures past { IsTrue (D.meaning disk.old).is_honest
+            → Spreads (D.meaning disk.old) (D.meaning disk.new) (SamePast self.old.blocks) }
+        ensures blocks { self.new.blocks ≡ self.old.blocks }
+    {
+        self.free_home(disk, n)?;
+        disk.write_at(u64::from(n) * BLOCK_LEN as u64, bytes)
+    }
+}

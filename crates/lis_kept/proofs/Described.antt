@@ -1,0 +1,170 @@
+-- A file slot that gets other numbers.
+use Rattle.std.proofs.Common.{◌≡◌, ◌≢◌, ◌⊎◌, ℕ, ◌+◌, ◌*◌, ◌/◌, ◌<◌, ◌≤◌, ◌&&◌, ◌||◌, not, nat_lt, nat_eq, Bool, true, false, List, [], ◌∷◌, ◌++◌, length, get_or, set, map, take, is_some, IsSome, refl, sym, ap, ◌∙◌, subst, inl, inr, arith, length-set, get_or-set_same, get_or-set_other}
+use Rattle.std.specs.List.{All, list_all, range_with_len}
+use Rattle.std.proofs.lemmas.List.Elements.{Contains-get_or}
+use Rattle.std.proofs.lemmas.Bool.{cases_eq, lt-ltb, eqb-true, false_from_ne_true, and_parts, or_cases}
+use Rattle.std.proofs.lemmas.List.{length-map}
+use Rattle.std.proofs.lemmas.List.FromFn.{length-range_with_len}
+use Rattle.lis_graph.proofs.Members.{Among, among_filter, filter_among, among_map, map_among, among_from_any, among_from_contains}
+use Rattle.lis_graph.proofs.Ranges.{among_range, range_among}
+use Rattle.lis_content.specs.Content.{marked}
+use Rattle.lis_content.proofs.Numbers.{length-marked}
+use Rattle.lis_dict.specs.Dict.{word_of}
+use Rattle.lis_ext.specs.Ext.{Ext, has, set_of, with_marks}
+use Rattle.lis_ext.specs.Numbers.{has_number, differs, numbers_where}
+use Rattle.lis_taxonomy.specs.Taxonomy.{Taxonomy}
+use Rattle.lis_laws.proofs.Counts.{all_among, all_from, filter_le}
+use Rattle.lis_kept.specs.Kept.{Kept}
+use Rattle.lis_kept.specs.Rows.{row_bytes}
+use Rattle.lis_kept.specs.Areas.{Area, slots_of, block_of, spelled}
+use Rattle.lis_kept.specs.Areas.Area.{Properties, Axioms, Files, Rows, Bitmap}
+use Rattle.lis_kept.specs.Sound.{AreSound}
+use Rattle.lis_kept.specs.Links.{AreHeld}
+use Rattle.lis_kept.specs.Changes.{Marks, Describes}
+use Rattle.lis_kept.proofs.InArea.{rows_counted, among_slots}
+use Rattle.lis_kept.proofs.RowBytes.{row_bytes_same}
+use Rattle.lis_kept.proofs.Formed.{held_files, named_below}
+use Rattle.lis_kept.proofs.Marking.{AreBelow, blocks_marked}
+
+-- ---- numbers
+pub among_where : (props : ℕ) (test : ℕ → Bool) (n : ℕ) → Among (numbers_where props test) n → (n < props) × (test n ≡ true)
+unfolding numbers_where
+among_where props test n m =
+    let found = among_filter test (range_with_len 0 props) n m in
+    (omega (arith, (among_range 0 props n found.0).1), found.1)
+
+pub where_among : (props : ℕ) (test : ℕ → Bool) (n : ℕ) → n < props → test n ≡ true → Among (numbers_where props test) n
+unfolding numbers_where
+where_among props test n lt is = filter_among test (range_with_len 0 props) n (range_among 0 props n (omega arith) (omega arith)) is
+
+same_numbers : (old new : List ℕ) (n : ℕ) → differs old new n ≡ false → has_number new n ≡ has_number old n
+same_numbers old new n same = by (has_number old n) (has_number new n) same
+  where
+    by : (a b : Bool) → ((b && not a) || (a && not b)) ≡ false → b ≡ a
+    by true true none = refl
+    by true false none = absurd cc
+    by false true none = absurd cc
+    by false false none = refl
+
+-- with nothing marked before, what differs is marked
+pub marks_differ : (e : Ext) (old new : List ℕ) → e.marks ≡ [] → with_marks e (differs old new) ≡ numbers_where e.props (differs old new)
+marks_differ e old new none = ap (λ ms. numbers_where e.props (λ n. has_number ms n || differs old new n)) none
+
+where_le : (props : ℕ) (test : ℕ → Bool) → length (numbers_where props test) ≤ props
+unfolding numbers_where
+where_le props test = omega (arith, filter_le test (range_with_len 0 props), length-range_with_len 0 props)
+
+pub few_where : (props : ℕ) (test : ℕ → Bool) (ns : List ℕ) → ns ≡ numbers_where props test → length ns ≤ props
+few_where props test ns is = omega (arith, ap length is, where_le props test)
+
+pub where_below : (props limit : ℕ) (test : ℕ → Bool) (ns : List ℕ) → ns ≡ numbers_where props test → props ≡ limit → list_all (λ n. nat_lt n limit) ns ≡ true
+where_below props limit test ns is same =
+    all_from (λ n. nat_lt n limit) ns (λ n m. lt-ltb n limit (omega (arith, same, (among_where props test n (subst (λ l. Among l n) is m)).0)))
+
+module _ (p : Kept) (t : Taxonomy) (held : AreHeld p t) (slot : ℕ) (old new : List ℕ) (e : Ext) (marks : List Bool)
+    (below : slot < p.limits.files) (is_old : set_of p.ext slot ≡ old) (named : list_all (λ n. is_some (word_of p.dict n)) new ≡ true)
+    (props : e.props ≡ p.ext.props) (sets : e.sets ≡ set p.ext.sets slot new) (settled : e.marks ≡ [])
+    (edits : e.edits ≤ p.ext.edits + length (numbers_where p.ext.props (differs old new)))
+    (are_marks : marks ≡ marked p.marks (map (block_of p.limits Rows) (numbers_where p.ext.props (differs old new)))) where
+
+  abbrev described : Kept
+  described = record p { ext = e; marks = marks }
+
+  abbrev touched : List ℕ
+  touched = numbers_where p.ext.props (differs old new)
+
+  -- the numbers of each file
+  set_in : set_of e slot ≡ new
+  set_in = ap (λ ss. get_or ss slot []) sets ∙ get_or-set_same p.ext.sets slot new [] (omega (arith, below, held.sound.files))
+
+  set_at : (s : ℕ) → (s ≡ slot → ⊥) → set_of e s ≡ set_of p.ext s
+  set_at s differ = ap (λ ss. get_or ss s []) sets ∙ get_or-set_other p.ext.sets slot s new [] differ
+
+  new_named : (n : ℕ) → has_number new n ≡ true → IsSome (word_of p.dict n)
+  new_named n has_it =
+      let found = among_from_any (λ m. nat_eq m n) new has_it in
+      subst (λ m. IsSome (word_of p.dict m)) (eqb-true found.0 n found.2) (all_among (λ m. is_some (word_of p.dict m)) new found.0 named found.1)
+
+  -- marked are blocks of rows
+  homes_below : AreBelow (length p.marks) (map (block_of p.limits Rows) touched)
+  homes_below h m =
+      let found = among_map (block_of p.limits Rows) touched h m in
+      let lt = (among_where p.ext.props (differs old new) found.0 found.1).0 in
+      let inside = among_slots p.limits held.sound.range Rows found.0 (omega (arith, lt, held.sound.rows, rows_counted p.limits held.sound.range)) in
+      omega (arith, inside.1, found.2, held.sound.marks)
+
+  -- a row in another block is as before
+  same_row : (n : ℕ) → (Among (map (block_of p.limits Rows) touched) (block_of p.limits Rows n) → ⊥) → (s : ℕ) → has e n s ≡ has p.ext n s
+  same_row n apart s = by (cases_eq s slot)
+    where
+      in_range : differs old new n ≡ true → n < p.ext.props
+      in_range differ = elim (or_cases (has_number new n && not (has_number old n)) (has_number old n && not (has_number new n)) differ) [
+        | inl one ↦ omega (arith, held.sound.rows, named_below p held.sound n (new_named n (and_parts (has_number new n) (not (has_number old n)) one).0))
+        | inr one ↦ omega (arith, held.sound.rows, named_below p held.sound n (held.sound.named n slot (ap (λ ns. has_number ns n) is_old ∙ (and_parts (has_number old n) (not (has_number new n)) one).0)))
+      ]
+
+      alike : differs old new n ≡ false
+      alike = false_from_ne_true (differs old new n) (λ differ. apart (map_among (block_of p.limits Rows) touched n (where_among p.ext.props (differs old new) n (in_range differ) differ)))
+
+      by : (s ≡ slot) ⊎ (s ≡ slot → ⊥) → has e n s ≡ has p.ext n s
+      by (inl same) =
+          ap (λ k. has e n k) same ∙ (ap (λ ns. has_number ns n) set_in
+          ∙ (same_numbers old new n alike ∙ (ap (λ ns. has_number ns n) (sym is_old) ∙ ap (λ k. has p.ext n k) (sym same))))
+      by (inr differ) = ap (λ ns. has_number ns n) (set_at s differ)
+
+  spelled_before : (area : Area) (n : ℕ) → n < (slots_of p.limits area).count → (Among (map (block_of p.limits Rows) touched) (block_of p.limits area n) → ⊥) → spelled described area n ≡ spelled p area n
+  spelled_before Properties n lt apart = refl
+  spelled_before Axioms n lt apart = refl
+  spelled_before Files n lt apart = refl
+  spelled_before Rows n lt apart = row_bytes_same p.ext e n (ap length sets ∙ length-set p.ext.sets slot new) (same_row n apart)
+  spelled_before Bitmap n lt apart = refl
+
+  marks_owed : Marks (length touched) p described
+  marks_owed =
+      let M : ℕ → Type 0 = λ n. Marks n p described in
+      subst M (length-map touched (block_of p.limits Rows)) (blocks_marked p described (map (block_of p.limits Rows) touched) refl are_marks homes_below spelled_before)
+
+  held_described : AreHeld described t
+  held_described = held_files p t p.catalog p.taken e marks held (record {
+    slots = refl;
+    catalog_is = held.sound.catalog;
+    records = held.sound.records;
+    blocks = refl;
+    rows = props;
+    files = ap length sets ∙ length-set p.ext.sets slot new;
+    named = λ n s. by n s (cases_eq s slot);
+    settled = settled;
+    as_many = ap length are_marks ∙ length-marked p.marks (map (block_of p.limits Rows) touched);
+  })
+    where
+      by : (n s : ℕ) → (s ≡ slot) ⊎ (s ≡ slot → ⊥) → has e n s ≡ true → IsSome (word_of p.dict n)
+      by n s (inl same) has_it = new_named n (ap (λ ns. has_number ns n) (sym (ap (set_of e) same ∙ set_in)) ∙ has_it)
+      by n s (inr differ) has_it = held.sound.named n s (ap (λ ns. has_number ns n) (sym (set_at s differ)) ∙ has_it)
+
+  pub described_made : AreHeld described t × Describes slot new p described
+  described_made = (held_described, record {
+    parts = refl;
+    props = props;
+    sets = sets;
+    settled = settled;
+    edits = λ was is. subst (λ ns. e.edits ≤ p.ext.edits + length (numbers_where p.ext.props (differs ns new))) (sym is_old ∙ sym is) edits;
+    marks = λ was is. subst (λ ns. Marks (length (numbers_where p.ext.props (differs ns new))) p described) (sym is_old ∙ sym is) marks_owed;
+  })
+
+-- numbers of words are below the limit
+pub numbers_below : (k p : Kept) (ns : List ℕ) → p ≡ k → AreSound p → list_all (λ n. is_some (word_of k.dict n)) ns ≡ true → All (λ n. n < p.ext.props) ns
+numbers_below k p ns is sound named i d lt =
+    let P : Kept → Type 0 = λ q. list_all (λ n. is_some (word_of q.dict n)) ns ≡ true in
+    let there = among_from_contains ns (get_or ns i d) (Contains-get_or ns i d lt) in
+    omega (arith, sound.rows, named_below p sound (get_or ns i d) (all_among (λ n. is_some (word_of p.dict n)) ns (get_or ns i d) (subst P (sym is) named) there))
+
+-- the same, over what memory kept
+pub describes : (k p : Kept) (t : Taxonomy) (slot : ℕ) (old new : List ℕ) (e : Ext) (marks : List Bool) → p ≡ k → AreHeld p t
+    → slot < k.limits.files → set_of k.ext slot ≡ old → list_all (λ n. is_some (word_of k.dict n)) new ≡ true
+    → e.props ≡ p.ext.props → e.sets ≡ set p.ext.sets slot new → e.marks ≡ [] → e.edits ≤ p.ext.edits + length (numbers_where p.ext.props (differs old new))
+    → marks ≡ marked p.marks (map (block_of p.limits Rows) (numbers_where p.ext.props (differs old new)))
+    → AreHeld (record p { ext = e; marks = marks }) t × Describes slot new k (record p { ext = e; marks = marks })
+describes k p t slot old new e marks is held below is_old named props sets settled edits are_marks =
+    let P : Kept → Type 0 = λ q. slot < q.limits.files → set_of q.ext slot ≡ old → list_all (λ n. is_some (word_of q.dict n)) new ≡ true
+        → AreHeld (record p { ext = e; marks = marks }) t × Describes slot new q (record p { ext = e; marks = marks }) in
+    subst P is (λ b o n. described_made p t held slot old new e marks b o n props sets settled edits are_marks) below is_old named

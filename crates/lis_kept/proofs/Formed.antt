@@ -1,0 +1,120 @@
+-- What sound parts spell is in the ranges of its layouts.
+use Rattle.std.proofs.Common.{◌≡◌, ℕ, ◌+◌, ◌-◌, ◌^◌, ◌<◌, ◌≤◌, ◌&&◌, nat_lt, Bool, true, false, List, [], length, get_or, Option, Some, None, is_some, unwrap_or, slice_get, IsSome, refl, sym, ap, ◌∙◌, subst, arith}
+use Rattle.std.specs.List.{list_all}
+use Rattle.std.proofs.lemmas.Bool.{and_parts, and_from, lt-ltb}
+use Rattle.std.proofs.lemmas.Option.{unwrap_or-slice_get, get_or_from_slice_get}
+use Rattle.lis_dict.specs.Dict.{Dict, IsDict, word_of}
+use Rattle.lis_dict.proofs.Laws.{number_from_word, number_below}
+use Rattle.lis_catalog.specs.Catalog.{Catalog, IsCatalog, rec_at}
+use Rattle.lis_ext.specs.Ext.{Ext, has}
+use Rattle.lis_taxonomy.specs.Taxonomy.{Taxonomy}
+use Rattle.lis_fields.specs.Records.{FileRecord}
+use Rattle.lis_fields.specs.declared.slots.AxiomSlot.{AxiomSlot}
+use Rattle.lis_fields.specs.declared.slots.AxiomSlot.TheVariants.{Free as FreeAxiom, Pair}
+use Rattle.lis_fields.specs.Layouts.{is_axiom, is_file, is_record}
+use Rattle.lis_kept.specs.Kept.{Kept, axiom_at, file_by, record_at}
+use Rattle.lis_kept.specs.Sound.{AreSound, is_sound_record}
+use Rattle.lis_kept.specs.Links.{TellsLinks, AreHeld}
+use Rattle.lis_kept.proofs.InArea.{few_properties}
+
+pub some_word : (o : Option (List ℕ)) → IsSome o → (w : List ℕ) × (o ≡ Some w)
+some_word None h = absurd cc
+some_word (Some w) h = (w, refl)
+
+module _ (k : Kept) (sound : AreSound k) where
+  -- what has a word is below the limit
+  pub named_below : (n : ℕ) → IsSome (word_of k.dict n) → n < k.limits.props
+  named_below n some =
+      let found = some_word (word_of k.dict n) some in
+      let below = number_below k.dict sound.dict found.0 n (number_from_word k.dict sound.dict found.0 n found.1) in
+      omega (arith, below, sound.numbers)
+
+  pub axioms_formed : (n : ℕ) → is_axiom (axiom_at k.axioms n) ≡ true
+  axioms_formed n = by (slice_get k.axioms n) refl
+    where
+      small : (m : ℕ) → IsSome (word_of k.dict m) → nat_lt m (2 ^ 32 - 1) ≡ true
+      small m some = lt-ltb m (2 ^ 32 - 1) (let few = few_properties k.limits sound.range in let lt = named_below m some in omega (arith, few, lt))
+
+      slot : (a : AxiomSlot) → slice_get k.axioms n ≡ Some a → is_axiom a ≡ true
+      slot FreeAxiom is = refl
+      slot (Pair left right) is =
+          let one = sound.axioms n left right is in
+          and_from (nat_lt left (2 ^ 32 - 1)) (nat_lt right (2 ^ 32 - 1)) (small left one.left) (small right one.right)
+
+      by : (o : Option AxiomSlot) → slice_get k.axioms n ≡ o → is_axiom (axiom_at k.axioms n) ≡ true
+      by None is = ap is_axiom (sym (unwrap_or-slice_get k.axioms n FreeAxiom) ∙ ap (λ o. unwrap_or o FreeAxiom) is)
+      by (Some a) is = ap is_axiom (get_or_from_slice_get k.axioms n a FreeAxiom is) ∙ slot a is
+
+  pub records_formed : (n : ℕ) → is_file (record_at k.catalog n) ≡ true
+  records_formed n = by (rec_at k.catalog n) refl
+    where
+      by : (o : Option FileRecord) → rec_at k.catalog n ≡ o → is_file (file_by o) ≡ true
+      by None is = refl
+      by (Some rec) is =
+          let most = and_parts (is_record rec && list_all (λ m. is_some (word_of k.dict m)) rec.tags) (list_all (λ m. nat_lt m k.limits.blocks) rec.blocks) (sound.records n rec is) in
+          (and_parts (is_record rec) (list_all (λ m. is_some (word_of k.dict m)) rec.tags) most.0).0
+
+  -- no description has a number past the last one
+  pub none_past : (n slot : ℕ) → k.limits.props ≤ n → has k.ext n slot ≡ false
+  none_past n slot past = by (has k.ext n slot) refl
+    where
+      by : (b : Bool) → has k.ext n slot ≡ b → b ≡ false
+      by true is = absurd (let lt = named_below n (sound.named n slot is) in omega (arith, lt, past))
+      by false is = refl
+
+-- ---- parts of which words, axioms and the like stay
+pub links_stay : (p : Kept) (catalog : Catalog) (taken : List Bool) (ext : Ext) (marks : List Bool) (t : Taxonomy) → TellsLinks p t
+    → TellsLinks (record p { catalog = catalog; taken = taken; ext = ext; marks = marks }) t
+links_stay p catalog taken ext marks t links = record { props = links.props; edges = links.edges }
+
+-- files, blocks, numbers and marks that may stand beside words and axioms
+pub record FilesHold (p : Kept) (catalog : Catalog) (taken : List Bool) (ext : Ext) (marks : List Bool) : Type 0 where
+  pub slots : catalog.files ≡ p.catalog.files
+  pub catalog_is : IsCatalog catalog
+  pub records : (slot : ℕ) (rec : FileRecord) → rec_at catalog slot ≡ Some rec → is_sound_record p.dict p.limits.blocks rec ≡ true
+  pub blocks : length taken ≡ length p.taken
+  pub rows : ext.props ≡ p.ext.props
+  pub files : length ext.sets ≡ length p.ext.sets
+  pub named : (n slot : ℕ) → has ext n slot ≡ true → IsSome (word_of p.dict n)
+  pub settled : ext.marks ≡ []
+  pub as_many : length marks ≡ length p.marks
+
+pub held_files : (p : Kept) (t : Taxonomy) (catalog : Catalog) (taken : List Bool) (ext : Ext) (marks : List Bool) → AreHeld p t → FilesHold p catalog taken ext marks
+    → AreHeld (record p { catalog = catalog; taken = taken; ext = ext; marks = marks }) t
+held_files p t catalog taken ext marks held hold = record {
+  sound = record {
+    range = held.sound.range;
+    numbers = held.sound.numbers;
+    dict = held.sound.dict;
+    heads = held.sound.heads;
+    bits = held.sound.bits;
+    flagged = held.sound.flagged;
+    properties = held.sound.properties;
+    axiom_count = held.sound.axiom_count;
+    axioms = λ slot left right is. let one = held.sound.axioms slot left right is in record { below = one.below; left = one.left; right = one.right };
+    slots = hold.slots ∙ held.sound.slots;
+    catalog = hold.catalog_is;
+    records = hold.records;
+    blocks = hold.blocks ∙ held.sound.blocks;
+    rows = hold.rows ∙ held.sound.rows;
+    files = hold.files ∙ held.sound.files;
+    named = hold.named;
+    settled = hold.settled;
+    marks = omega (arith, hold.as_many, held.sound.marks);
+  };
+  links = links_stay p catalog taken ext marks t held.links;
+}
+
+-- other marks, as many
+pub held_marks : (k : Kept) (t : Taxonomy) (marks : List Bool) → AreHeld k t → length marks ≡ length k.marks → AreHeld (record k { marks = marks }) t
+held_marks k t marks held same = held_files k t k.catalog k.taken k.ext marks held (record {
+  slots = refl;
+  catalog_is = held.sound.catalog;
+  records = held.sound.records;
+  blocks = refl;
+  rows = refl;
+  files = refl;
+  named = held.sound.named;
+  settled = held.sound.settled;
+  as_many = same;
+})

@@ -1,0 +1,9 @@
+use Rattle.std.proofs.Common.{false, length, ap, ◌∙◌}
+use Rattle.std.proofs.lemmas.List.{length-replicate}
+use Rattle.lis_kept.specs.contracts.parts.Parts.{the_view}
+use Rattle.lis_kept.proofs.Formed.{held_marks}
+use Rattle.lis_kept.proofs.parts.Parts.settle.Goals as goal
+
+pub invariant_of-self : goal.invariant_of-self
+invariant_of-self c =
+    held_marks (the_view c.self.inside) c.self.inside.taxonomy c.fill.new.self c.self.invariant (ap length c.fill.ensures ∙ length-replicate (length c.self.inside.marks) false)

@@ -1,0 +1,9 @@
+use Rattle.std.proofs.Common.{◌≡◌, ℕ, ◌+◌, ◌*◌, ◌<◌}
+use Rattle.lis_ports.specs.Bytes.{part}
+use Rattle.lis_fields.specs.Layouts.{axiom_bytes}
+use Rattle.lis_kept.specs.Kept.{axiom_at}
+use Rattle.lis_kept.proofs.spelling.write_axioms.Given as goal
+
+-- the slots so far are written
+abbrev pub invariant-loop-k : goal.invariant-loop-k
+invariant-loop-k l = (j : ℕ) → j < l.k → part (8 * j) 8 l.block ≡ axiom_bytes (axiom_at l.axioms (l.first + j))

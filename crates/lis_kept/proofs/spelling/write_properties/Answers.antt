@@ -1,0 +1,11 @@
+use Rattle.std.proofs.Common.{◌∙◌, ap, ◌+◌, arith}
+use Rattle.lis_fields.specs.Layouts.{prop_bytes}
+use Rattle.lis_kept.specs.Kept.{property_at}
+use Rattle.lis_kept.proofs.Blocks.{one_slot_more}
+use Rattle.lis_kept.proofs.spelling.write_properties.Goals as goal
+
+pub loop-k-preserved : goal.loop-k-preserved
+loop-k-preserved c =
+    one_slot_more 64 c.loop-k.k _ _ (λ j. prop_bytes (property_at c.args.dict.now c.args.declared.now (c.args.first + j))) c.loop-k.block c.write_prop.new.bytes
+    (omega (arith, c.from-at.ensures)) (omega arith) (omega (arith, c.loop-k.auto.block, c.loop-k-test.true, c.requires.whole))
+    c.write_prop.auto.bytes (c.write_prop.ensures ∙ ap prop_bytes c.property_slot-slot.ensures) c.loop-k.invariant

@@ -1,0 +1,80 @@
+-- The parts of an image that memory spells, and the blocks that are yet to be written.
+use Rattle.std.specs.Prelude.{◌≡◌, ℕ, ◌+◌, ◌*◌, ◌/◌, ◌<◌, false, Bool, List, count_by}
+use Rattle.lis_slots.specs.Slots.{Slots, slot, home}
+use Rattle.lis_blockmap.specs.Bitmap.{is_taken, bitmap_bytes}
+use Rattle.lis_kept.specs.Rows.{row_bytes}
+use Rattle.lis_fields.specs.Layouts.{prop_bytes, axiom_bytes, file_bytes}
+use Rattle.lis_model.specs.declared.limits.Limits.{Limits}
+use Rattle.lis_model.specs.Image.{properties_start, axioms_start, files_start, rows_start, bitmap_start}
+use Rattle.lis_kept.specs.Kept.{Kept, property_at, axiom_at, record_at}
+
+pub data Area : Type 0 where
+  Properties : Area
+  Axioms : Area
+  Files : Area
+  Rows : Area
+  Bitmap : Area
+
+abbrev pub property_slots : Limits → Slots
+property_slots limits = record { first = properties_start; count = limits.props; width = 64 }
+
+-- slots of whole blocks: those past the last number stay free
+abbrev pub axiom_slots : Limits → Slots
+axiom_slots limits = record { first = axioms_start limits; count = 512 * ((limits.props + 511) / 512); width = 8 }
+
+abbrev pub file_slots : Limits → Slots
+file_slots limits = record { first = files_start limits; count = limits.files; width = 256 }
+
+abbrev pub row_blocks : Limits → ℕ
+row_blocks limits = (limits.props * limits.files + 32767) / 32768
+
+-- rows of whole blocks: those past the last number have no bit
+abbrev pub row_slots : Limits → Slots
+row_slots limits = record { first = rows_start limits; count = (4096 / (limits.files / 8)) * row_blocks limits; width = limits.files / 8 }
+
+abbrev pub bitmap_slots : Limits → Slots
+bitmap_slots limits = record { first = bitmap_start limits; count = 1; width = 4096 }
+
+abbrev pub slots_of : Limits → Area → Slots
+slots_of limits Properties = property_slots limits
+slots_of limits Axioms = axiom_slots limits
+slots_of limits Files = file_slots limits
+slots_of limits Rows = row_slots limits
+slots_of limits Bitmap = bitmap_slots limits
+
+-- the block of a slot
+abbrev pub block_of : Limits → Area → ℕ → ℕ
+block_of limits area n = home (slots_of limits area) n
+
+-- the bytes that memory gives a slot
+abbrev pub spelled : Kept → Area → ℕ → List ℕ
+spelled k Properties n = prop_bytes (property_at k.dict k.declared n)
+spelled k Axioms n = axiom_bytes (axiom_at k.axioms n)
+spelled k Files n = file_bytes (record_at k.catalog n)
+spelled k Rows n = row_bytes k.ext n
+spelled k Bitmap n = bitmap_bytes k.taken
+
+-- the bytes of a slot, by what each block holds; the bitmap is a whole block
+abbrev pub held_in : Limits → Area → (ℕ → List ℕ) → ℕ → List ℕ
+held_in limits Properties at n = slot (property_slots limits) at n
+held_in limits Axioms at n = slot (axiom_slots limits) at n
+held_in limits Files at n = slot (file_slots limits) at n
+held_in limits Rows at n = slot (row_slots limits) at n
+held_in limits Bitmap at n = at (bitmap_start limits)
+
+-- every slot is spelled by what memory keeps
+abbrev pub IsWritten : Kept → (ℕ → List ℕ) → Type 0
+IsWritten k at = (area : Area) (n : ℕ) → n < (slots_of k.limits area).count → held_in k.limits area at n ≡ spelled k area n
+
+abbrev pub is_marked : Kept → ℕ → Bool
+is_marked k block = is_taken k.marks block
+
+-- every slot is, but in blocks that are yet to be written
+abbrev pub IsSaved : Kept → (ℕ → List ℕ) → Type 0
+IsSaved k at =
+    (area : Area) (n : ℕ) → n < (slots_of k.limits area).count → is_marked k (block_of k.limits area n) ≡ false
+    → held_in k.limits area at n ≡ spelled k area n
+
+-- how many blocks are yet to be written
+abbrev pub marked_count : Kept → ℕ
+marked_count k = count_by (λ (b : Bool). b) k.marks

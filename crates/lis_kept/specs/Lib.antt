@@ -1,0 +1,9 @@
+pub mod Kept
+pub mod Rows
+pub mod Areas
+pub mod Telling
+pub mod Sound
+pub mod Links
+pub mod Changes
+pub mod Staging
+pub mod Inside

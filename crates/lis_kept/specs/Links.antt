@@ -1,0 +1,39 @@
+-- The links between the words that have numbers.
+use Rattle.std.specs.Prelude.{◌≡◌, ℕ, Bool, false, ◌&&◌, ◌||◌, ◌==◌, Option, Some, None, List}
+use Rattle.std.specs.List.{list_any}
+use Rattle.lis_dict.specs.Dict.{word_of}
+use Rattle.lis_taxonomy.specs.Taxonomy.{Taxonomy, has_edge}
+use Rattle.lis_fields.specs.declared.slots.AxiomSlot.{AxiomSlot}
+use Rattle.lis_fields.specs.declared.slots.AxiomSlot.TheVariants.{Free as FreeAxiom, Pair}
+use Rattle.lis_words.specs.Words.{has_word}
+use Rattle.lis_model.specs.State.{links}
+use Rattle.lis_kept.specs.Kept.{Kept}
+use Rattle.lis_kept.specs.Telling.{declared_of}
+use Rattle.lis_kept.specs.Sound.{AreSound}
+
+abbrev pub is_pair : ℕ → ℕ → AxiomSlot → Bool
+is_pair p q FreeAxiom = false
+is_pair p q (Pair left right) = (left == p) && (right == q)
+
+-- the numbers are the sides of an axiom
+abbrev pub has_pair : List AxiomSlot → ℕ → ℕ → Bool
+has_pair axioms p q = list_any (is_pair p q) axioms
+
+abbrev pub is_own_link : List (List ℕ) → Option (List ℕ) → Option (List ℕ) → Bool
+is_own_link declared None q = false
+is_own_link declared (Some p) None = false
+is_own_link declared (Some p) (Some q) = has_word (links declared p) q
+
+-- a link leads from the word of the one number to the word of the other: to its head, to a weaker test, or by an axiom
+abbrev pub is_linked : Kept → ℕ → ℕ → Bool
+is_linked k p q = is_own_link (declared_of k) (word_of k.dict p) (word_of k.dict q) || has_pair k.axioms p q
+
+-- The edges are the links between the words that have numbers.
+pub record TellsLinks (k : Kept) (t : Taxonomy) : Type 0 where
+  pub props : t.props ≡ k.limits.props
+  pub edges : (p q : ℕ) → has_edge t p q ≡ is_linked k p q
+
+-- what memory keeps, with the taxonomy that it derives from it
+pub record AreHeld (k : Kept) (t : Taxonomy) : Type 0 where
+  pub sound : AreSound k
+  pub links : TellsLinks k t

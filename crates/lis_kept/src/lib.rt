@@ -1,0 +1,16 @@
+//! What memory keeps of an image, with a mark at each block that is yet to be written.
+//!
+//! Each change of memory marks the blocks that it touches, and one loop stages all marked blocks, each spelled whole.
+#![tactic(auto)]
+
+mod changes;
+mod parts;
+mod places;
+mod rows;
+mod spelling;
+mod words;
+
+pub use parts::Parts;
+pub use places::{
+    PROPERTIES_START, axioms_start, bitmap_start, data_start, files_start, rows_start,
+};

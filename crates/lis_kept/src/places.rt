@@ -1,0 +1,51 @@
+//! Where the parts of an image begin, in blocks.
+
+ghost use Rattle.std.specs.Prelude.{◌≡◌, ◌≤◌, IsTrue};
+ghost use Rattle.lis_model.specs.Ranges.{are_in_range};
+ghost use Rattle.lis_model.specs.Image.{axioms_start, files_start, rows_start, bitmap_start, data_start};
+
+use lis_model::limits::{Limits, image_blocks};
+
+/// The first block of property slots.
+pub const PROPERTIES_START: u32 = 578;
+
+/// The first block of axiom slots.
+pub fn axioms_start(limits: &Limits) -> u32
+    requires { IsTrue (are_in_range limits.now) }
+    ensures { result ≡ axioms_start limits.now }
+{
+    PROPERTIES_START + limits.props / 64
+}
+
+/// The first block of file slots.
+pub fn files_start(limits: &Limits) -> u32
+    requires { IsTrue (are_in_range limits.now) }
+    ensures { result ≡ files_start limits.now }
+{
+    axioms_start(limits) + limits.props.div_ceil(512)
+}
+
+/// The first block of extension rows.
+pub fn rows_start(limits: &Limits) -> u32
+    requires { IsTrue (are_in_range limits.now) }
+    ensures { result ≡ rows_start limits.now }
+{
+    files_start(limits) + limits.files / 16
+}
+
+/// The first data block.
+pub fn data_start(limits: &Limits) -> u32
+    requires { IsTrue (are_in_range limits.now) }
+    ensures start { result ≡ data_start limits.now }
+    ensures few { result ≤ 34771 }
+{
+    image_blocks(limits) - limits.blocks
+}
+
+/// The block of the bitmap.
+pub fn bitmap_start(limits: &Limits) -> u32
+    requires { IsTrue (are_in_range limits.now) }
+    ensures { result ≡ bitmap_start limits.now }
+{
+    data_start(limits) - 1
+}

@@ -1,0 +1,38 @@
+//! The bytes of rows of bits.
+
+ghost use Rattle.std.specs.Prelude.{◌≡◌, ℕ, ◌+◌, ◌*◌, ◌<◌, ◌≤◌, false, length};
+ghost use Rattle.lis_ext.specs.Ext.{has};
+ghost use Rattle.lis_ports.specs.Bytes.{part};
+ghost use Rattle.lis_kept.specs.Rows.{row_bytes};
+
+use lis_ext::Ext;
+
+// Writes the row of a number, which is empty past the last one.
+fn write_row(ext: &Ext, props: u32, number: u32, row: &mut [u8])
+    requires props { props ≡ ext.now.props }
+    requires past { (n slot : ℕ) → props ≤ n → has ext.now n slot ≡ false }
+    requires whole { 8 * length row.old ≡ length ext.now.sets }
+    ensures { row.new ≡ row_bytes ext.now number }
+{
+    if number < props {
+        ext.row_bytes(number, row);
+        return;
+    }
+    row.fill(0);
+}
+
+/// Writes so many rows, from that of a number on.
+pub fn write_rows(ext: &Ext, props: u32, first: u32, width: usize, count: u32, block: &mut [u8])
+    requires props { props ≡ ext.now.props }
+    requires past { (n slot : ℕ) → props ≤ n → has ext.now n slot ≡ false }
+    requires width { 8 * width ≡ length ext.now.sets }
+    requires whole { width * count ≡ 4096 }
+    requires few { first + count ≤ 2000000 }
+    requires block { length block.old ≡ 4096 }
+    ensures { (k : ℕ) → k < count → part (width * k) width block.new ≡ row_bytes ext.now (first + k) }
+{
+    for k in 0..count {
+        let at = width * k as usize;
+        write_row(ext, props, first + k, &mut block[at..at + width]);
+    }
+}

@@ -1,0 +1,121 @@
+//! Blocks of slots, spelled by what memory keeps.
+
+ghost use Rattle.std.specs.Prelude.{◌≡◌, ℕ, ◌+◌, ◌*◌, ◌<◌, ◌≤◌, List, length, IsTrue};
+ghost use Rattle.lis_ports.specs.Bytes.{part};
+ghost use Rattle.lis_fields.specs.Layouts.{prop_bytes, is_prop, axiom_bytes, is_axiom, file_bytes, is_file};
+ghost use Rattle.lis_kept.specs.Kept.{property_at, axiom_at, record_at};
+
+use arrayvec::ArrayVec;
+use lis_bits::Flags;
+use lis_catalog::Catalog;
+use lis_dict::Dict;
+use lis_fields::{
+    AXIOM_LEN, AxiomSlot, FILE_LEN, FileRec, FileSlot, PROP_LEN, PropSlot, write_axiom, write_file,
+    write_prop,
+};
+
+/// How many property slots a block has.
+pub const PROPERTIES_PER_BLOCK: u16 = 64;
+
+/// How many axiom slots a block has.
+pub const AXIOMS_PER_BLOCK: usize = 512;
+
+/// How many file slots a block has.
+pub const FILES_PER_BLOCK: u16 = 16;
+
+// The property slot of a number.
+fn property_slot(dict: &Dict, declared: &Flags, number: u16) -> PropSlot
+    requires { number < length declared.now }
+    ensures { result ≡ property_at dict.now declared.now number }
+{
+    let Some(word) = dict.word_of(number) else {
+        return PropSlot::Free;
+    };
+    if declared.get(u32::from(number)) {
+        return PropSlot::Declared(word);
+    }
+    PropSlot::Known(word)
+}
+
+/// Writes the property slots from a number on, as many as a block has.
+pub fn write_properties(dict: &Dict, declared: &Flags, first: u16, block: &mut [u8])
+    requires forms { (n : ℕ) → IsTrue (is_prop (property_at dict.now declared.now n)) }
+    requires within { first + 64 ≤ length declared.now }
+    requires few { length declared.now ≤ 8192 }
+    requires whole { length block.old ≡ 4096 }
+    ensures { (k : ℕ) → k < 64 → part (64 * k) 64 block.new ≡ prop_bytes (property_at dict.now declared.now (first + k)) }
+{
+    for k in 0..PROPERTIES_PER_BLOCK {
+        let at = PROP_LEN * usize::from(k);
+        let slot = property_slot(dict, declared, first + k);
+        write_prop(&slot, &mut block[at..at + PROP_LEN]);
+    }
+}
+
+// The axiom slot of a number.
+fn axiom_slot(axioms: &[AxiomSlot], number: usize) -> AxiomSlot
+    ensures { result ≡ axiom_at axioms.now number }
+{
+    match axioms.get(number) {
+        None => AxiomSlot::Free,
+        Some(slot) => *slot,
+    }
+}
+
+/// Writes the axiom slots from a number on, as many as a block has.
+pub fn write_axioms(axioms: &[AxiomSlot], first: usize, block: &mut [u8])
+    requires forms { (n : ℕ) → IsTrue (is_axiom (axiom_at axioms.now n)) }
+    requires few { first ≤ 8192 }
+    requires whole { length block.old ≡ 4096 }
+    ensures { (k : ℕ) → k < 512 → part (8 * k) 8 block.new ≡ axiom_bytes (axiom_at axioms.now (first + k)) }
+{
+    for k in 0..AXIOMS_PER_BLOCK {
+        let at = AXIOM_LEN * k;
+        let slot = axiom_slot(axioms, first + k);
+        write_axiom(&slot, &mut block[at..at + AXIOM_LEN]);
+    }
+}
+
+fn copied_numbers(numbers: &ArrayVec<u16, 16>) -> ArrayVec<u16, 16>
+    ensures { result.items ≡ numbers.now.items }
+{
+    let mut copied = ArrayVec::new();
+    copied.try_extend_from_slice(numbers.as_slice()).unwrap();
+    copied
+}
+
+// The same record, without memory taken.
+fn copied_record(rec: &FileRec) -> FileRec
+    ensures { result ≡ rec.now }
+{
+    FileRec {
+        name: rec.name.copied(),
+        size: rec.size,
+        tags: copied_numbers(&rec.tags),
+        blocks: copied_numbers(&rec.blocks),
+    }
+}
+
+// The file slot of a number.
+fn file_slot(catalog: &Catalog, number: u16) -> FileSlot
+    ensures { result ≡ record_at catalog.now number }
+{
+    match catalog.rec(number) {
+        None => FileSlot::Free,
+        Some(rec) => FileSlot::Used(copied_record(rec)),
+    }
+}
+
+/// Writes the file slots from a number on, as many as a block has.
+pub fn write_files(catalog: &Catalog, first: u16, block: &mut [u8])
+    requires records { (n : ℕ) → IsTrue (is_file (record_at catalog.now n)) }
+    requires few { first ≤ 4096 }
+    requires whole { length block.old ≡ 4096 }
+    ensures { (k : ℕ) → k < 16 → part (256 * k) 256 block.new ≡ file_bytes (record_at catalog.now (first + k)) }
+{
+    for k in 0..FILES_PER_BLOCK {
+        let at = FILE_LEN * usize::from(k);
+        let slot = file_slot(catalog, first + k);
+        write_file(&slot, &mut block[at..at + FILE_LEN]);
+    }
+}

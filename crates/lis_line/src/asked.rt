@@ -1,0 +1,108 @@
+//! What a line asks for, and how many bytes are to follow it.
+
+ghost use Rattle.std.specs.Prelude.{◌≡◌, ℕ, ◌≤◌, List, length, ◌||◌, codes};
+ghost use Rattle.lis_words.specs.Words.{same_word};
+ghost use Rattle.lis_model.specs.Step.{Payload};
+ghost use Rattle.lis_model.specs.Script.{words_of, form_of, item_of, payload_size};
+ghost use Rattle.lis_line.specs.Forms.{asked_of, line_asks};
+
+use crate::forms::{
+    add_form, axiom_form, cat_form, cd_form, create_form, ls_form, mkdir_form, mv_form, props_form,
+    pwd_form, rename_form, rm_form, rmdir_form, stat_form, unaxiom_form, way_form, write_form,
+};
+use crate::line::{is_long, next_word, without_return};
+use lis_model::command::Command;
+use lis_model::refusal::Refusal;
+use lis_words::read_count;
+
+/// What a line asks for by its first word and what stands behind it.
+fn command_of(first: &[u8], rest: &[u8]) -> Result<Command, Refusal>
+    requires { length rest.now ≤ 1024 }
+    ensures { (payload : Payload) → asked_of payload result ≡ form_of first.now (words_of rest.now) payload }
+{
+    if first == b"mkdir".as_slice() {
+        return mkdir_form(rest);
+    }
+    if first == b"rmdir".as_slice() {
+        return rmdir_form(rest);
+    }
+    if first == b"axiom".as_slice() {
+        return axiom_form(rest);
+    }
+    if first == b"unaxiom".as_slice() {
+        return unaxiom_form(rest);
+    }
+    if first == b"create".as_slice() {
+        return create_form(rest);
+    }
+    if first == b"add".as_slice() {
+        return add_form(rest);
+    }
+    if first == b"write".as_slice() {
+        return write_form(rest);
+    }
+    if first == b"cat".as_slice() {
+        return cat_form(rest);
+    }
+    if first == b"mv".as_slice() {
+        return mv_form(rest);
+    }
+    if first == b"rename".as_slice() {
+        return rename_form(rest);
+    }
+    if first == b"rm".as_slice() {
+        return rm_form(rest);
+    }
+    if first == b"cd".as_slice() {
+        return cd_form(rest);
+    }
+    if first == b"pwd".as_slice() {
+        return pwd_form(rest);
+    }
+    if first == b"ls".as_slice() {
+        return ls_form(rest);
+    }
+    if first == b"props".as_slice() {
+        return props_form(rest);
+    }
+    if first == b"way".as_slice() {
+        return way_form(rest);
+    }
+    if first == b"stat".as_slice() {
+        return stat_form(rest);
+    }
+    Err(Refusal::BadLine)
+}
+
+/// What a line asks for, given what stands before its line feed; None for a line without words.
+pub fn asked(line: &[u8]) -> Option<Result<Command, Refusal>>
+    ensures { (payload : Payload) → line_asks payload result ≡ item_of line.now payload }
+{
+    if is_long(line) {
+        return Some(Err(Refusal::LongLine));
+    }
+    let (first, rest) = next_word(without_return(line))?;
+    Some(command_of(first, rest))
+}
+
+fn takes_payload(first: &[u8]) -> bool
+    ensures { result ≡ (same_word first.now (codes "add") || same_word first.now (codes "write")) }
+{
+    if first == b"add".as_slice() {
+        return true;
+    }
+    first == b"write".as_slice()
+}
+
+/// How many bytes are to follow a line and its line feed; None where no payload follows.
+pub fn payload_size(line: &[u8]) -> Option<u64>
+    ensures { result ≡ payload_size line.now }
+{
+    let (first, rest) = next_word(without_return(line))?;
+    if is_long(line) || !takes_payload(first) {
+        return None;
+    }
+    let (_, rest) = next_word(rest)?;
+    let (size, _) = next_word(rest)?;
+    read_count(size)
+}
