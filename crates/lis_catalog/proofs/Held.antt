@@ -136,6 +136,9 @@ module _ (files room : ℕ) (es : List Filed) (used : List Bool) (h : IsHeld fil
     found : (i < length es) × (((get_or es i no_file).slot == s) ≡ true) × ((k : ℕ) → k < i → ((get_or es k no_file).slot == s) ≡ false)
     found = position-Some (λ (f : Filed). f.slot == s) es i no_file (sym at)
 
+    pub place_inside : i < length es
+    place_inside = found.0
+
     pub in_files : s < files
     in_files = omega (arith, slot_below i no_file found.0, eqb-true (get_or es i no_file).slot s found.1)
 

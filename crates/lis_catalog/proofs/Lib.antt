@@ -2,4 +2,5 @@ mod Order
 mod Places
 mod Slots
 mod Held
+mod Indexed
 pub mod Laws

@@ -9,7 +9,7 @@ use Rattle.std.proofs.lemmas.Option.{slice_get_past}
 use Rattle.std.proofs.lemmas.Map.Views.{any-filter_same}
 use Rattle.lis_fields.specs.Layouts.{are_distinct}
 use Rattle.lis_catalog.specs.Catalog.{Filed}
-use Rattle.lis_catalog.specs.Inside.{has_slot}
+use Rattle.lis_catalog.specs.Inside.{slot_list, has_slot}
 
 pub map_none : {A B : Type 0} (v : A → B) (o : Option A) → option_map v o ≡ None → o ≡ None
 map_none v None e = refl
@@ -103,9 +103,6 @@ module _ {X : Type 0} (p : X → Bool) where
   any_map v (y ∷ ys) = ap (λ b. p (v y) || b) (any_map v ys)
 
 -- ---- slots
-abbrev pub slot_list : List Filed → List ℕ
-slot_list es = map (λ (f : Filed). f.slot) es
-
 -- the parts of what says that no slot stands twice
 pub apart_parts : (x : Filed) (xs : List Filed) → are_distinct (slot_list (x ∷ xs)) ≡ true → (has_slot xs x.slot ≡ false) × (are_distinct (slot_list xs) ≡ true)
 apart_parts x xs apart =

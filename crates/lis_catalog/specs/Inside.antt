@@ -1,5 +1,5 @@
 -- How a catalog is held. No public clause cites this module.
-use Rattle.std.specs.Prelude.{◌≡◌, ℕ, zero, suc, ◌<◌, ◌≤◌, ◌==◌, Bool, false, List, [], ◌∷◌, length, slice_index_or}
+use Rattle.std.specs.Prelude.{◌≡◌, ℕ, zero, suc, ◌<◌, ◌≤◌, ◌==◌, Bool, false, List, [], ◌∷◌, length, map, slice_index, slice_index_or}
 use Rattle.std.specs.declared.cmp.Ordering.TheVariants.{Less, Equal, Greater}
 use Rattle.std.specs.List.{list_any, count_by}
 use Rattle.lis_words.specs.Words.{word_cmp}
@@ -33,3 +33,16 @@ PlaceFor name zero [] = Unit {0}
 PlaceFor name zero (f ∷ fs) = word_cmp name f.rec.name ≡ Less
 PlaceFor name (suc n) [] = ⊥
 PlaceFor name (suc n) (f ∷ fs) = (word_cmp name f.rec.name ≡ Greater) × PlaceFor name n fs
+
+abbrev pub slot_list : List Filed → List ℕ
+slot_list entries = map (λ (f : Filed). f.slot) entries
+
+-- at the slots of the first files stand their places
+abbrev pub TellsPlaces : List Filed → List ℕ → ℕ → Type 0
+TellsPlaces entries places end = (k : ℕ) → k < end → k < length entries → slice_index places (slice_index (slot_list entries) k) ≡ k
+
+-- what the parts keep, with the places of the files by their slots
+pub record IsIndexed (files : ℕ) (entries : List Filed) (room : ℕ) (used : List Bool) (places : List ℕ) : Type 0 where
+  pub held : IsHeld files entries room used
+  pub long : length places ≡ files
+  pub placed : TellsPlaces entries places (length entries)

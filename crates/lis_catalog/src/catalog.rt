@@ -1,12 +1,13 @@
-ghost use Rattle.std.specs.Prelude.{◌≡◌, ℕ, ◌<◌, ◌≤◌, ◌==◌, [], not, false, length, List, None, Some, replicate, slice_get, IsTrue, IsSome, IfOk, MatchResult, MatchOption};
+ghost use Rattle.std.specs.Prelude.{◌≡◌, ℕ, ◌<◌, ◌≤◌, ◌==◌, [], not, false, length, List, None, Some, replicate, slice_get, slice_index, IsTrue, IsSome, IfOk, MatchResult, MatchOption};
 ghost use Rattle.std.specs.List.{position};
 ghost use Rattle.std.specs.Option.{option_map};
 ghost use Rattle.lis_graph.specs.Graph.{is_rising};
 ghost use Rattle.lis_words.specs.Words.{word_cmp, is_file_name};
 ghost use Rattle.lis_model.specs.Ranges.{is_files_limit};
+ghost use Rattle.lis_fields.specs.Layouts.{are_distinct};
 ghost use Rattle.lis_catalog.specs.Catalog.{Filed, names, slot_of, rec_at, with_filed, without_slot, IsCatalog};
 ghost use Rattle.lis_catalog.specs.Calls.{Adds, Replaces};
-ghost use Rattle.lis_catalog.specs.Inside.{FoundAt, PlaceFor};
+ghost use Rattle.lis_catalog.specs.Inside.{FoundAt, PlaceFor, slot_list, TellsPlaces};
 
 use lis_fields::FileRec;
 use lis_words::Name;
@@ -54,6 +55,8 @@ pub struct Catalog {
     entries: Vec<Entry>,
     // For each slot, whether a file is in it.
     used: Vec<bool>,
+    // For each slot that a file is in, the file's place among the entries.
+    places: Vec<u16>,
 }
 
 impl Model for Catalog {
@@ -62,11 +65,11 @@ impl Model for Catalog {
 
     ghost Value = { Filing };
 
-    ghost use Rattle.lis_catalog.specs.Inside.{IsHeld};
+    ghost use Rattle.lis_catalog.specs.Inside.{IsIndexed};
 
     ghost view = { λ c. record { files = c.files; entries = c.entries.items } };
 
-    ghost invariant = { λ c. IsHeld c.files c.entries.items (vec_capacity c.entries) c.used.items };
+    ghost invariant = { λ c. IsIndexed c.files c.entries.items (vec_capacity c.entries) c.used.items c.places.items };
 }
 
 // The place of a name where it is there, or else the place that it would have.
@@ -80,11 +83,18 @@ fn find(entries: &[Entry], name: &Name) -> Result<usize, usize>
     entries.binary_search_by(|entry| entry.name().cmp(bytes))
 }
 
-// The place of the file in a slot.
-fn place_of(entries: &[Entry], slot: u16) -> Option<usize>
-    ensures { result ≡ position (λ (f : Filed). f.slot == slot) entries.now }
+// Notes the places of the files from a place on.
+fn note_places(entries: &[Entry], places: &mut [u16], start: usize)
+    requires few { length entries.now ≤ 4096 }
+    requires below { (k : ℕ) → k < length entries.now → slice_index (slot_list entries.now) k < length places.old }
+    requires apart { IsTrue (are_distinct (slot_list entries.now)) }
+    requires before { TellsPlaces entries.now places.old start }
+    ensures { TellsPlaces entries.now places.new (length entries.now) }
 {
-    entries.iter().position(|entry| entry.slot == slot)
+    for k in start..entries.len() {
+        let entry = &entries[k];
+        places[usize::from(entry.slot)] = k as u16;
+    }
 }
 
 // The first slot that no file is in.
@@ -110,6 +120,7 @@ impl Catalog {
             files,
             entries: Vec::with_capacity(alloc, files as usize)?,
             used: all_free(alloc, files)?,
+            places: vec![in alloc; 0; files as usize]?,
         })
     }
 
@@ -147,11 +158,34 @@ impl Catalog {
         Some((entry.rec.name.copied(), entry.slot))
     }
 
+    /// The k-th file in the order of names: its slot, and its record with the name.
+    pub fn entry(&self, k: u32) -> Option<(u16, &FileRec)>
+        ensures { MatchOption result (slice_get self.now.entries k ≡ None)
+            (λ file. slice_get self.now.entries k ≡ Some (record { slot = file.0; rec = file.1.now })) }
+    {
+        let entry = self.entries.get(k as usize)?;
+        Some((entry.slot, &entry.rec))
+    }
+
+    // The place of the file in a slot.
+    fn place_of(&self, slot: u16) -> Option<usize>
+        ensures { result ≡ position (λ (f : Filed). f.slot == slot) self.now.entries }
+    {
+        let slot = usize::from(slot);
+        if slot >= self.used.len() {
+            return None;
+        }
+        if !self.used[slot] {
+            return None;
+        }
+        Some(usize::from(self.places[slot]))
+    }
+
     /// The record of the file in the slot.
     pub fn rec(&self, slot: u16) -> Option<&FileRec>
         ensures { MatchOption result (rec_at self.now slot ≡ None) (λ rec. rec_at self.now slot ≡ Some rec.now) }
     {
-        let place = place_of(&self.entries, slot)?;
+        let place = self.place_of(slot)?;
         Some(&self.entries[place].rec)
     }
 
@@ -190,9 +224,11 @@ impl Catalog {
         ensures was { result ≡ rec_at self.old slot }
         ensures gone { self.new ≡ without_slot self.old slot }
     {
-        let place = place_of(&self.entries, slot)?;
+        let place = self.place_of(slot)?;
         self.used[usize::from(slot)] = false;
-        Some(self.entries.remove(place).rec)
+        let entry = self.entries.remove(place);
+        note_places(&self.entries, &mut self.places, place);
+        Some(entry.rec)
     }
 
     /// Adds a file in this slot.
@@ -209,5 +245,6 @@ impl Catalog {
         let Ok(()) = self.entries.insert(place, Entry { slot, rec }) else {
             unreachable!()
         };
+        note_places(&self.entries, &mut self.places, place);
     }
 }

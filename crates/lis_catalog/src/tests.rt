@@ -29,7 +29,10 @@ fn holds_files_by_name_and_slot(rt: HostRuntime) -> Result<(), Fail> {
     assert_eq!(rt; catalog.rec(1).expect(&rt, "a file").size, 1);
     let taken = catalog.add(file(&rt, b"c", 4));
     assert!(rt; matches!(taken, Err(CatalogFault::NameTaken)));
+    let (slot, rec) = catalog.entry(1).expect(&rt, "the second file");
+    assert!(rt; slot == 0 && rec.name.bytes() == b"b".as_slice());
     assert_eq!(rt; catalog.remove(1).expect(&rt, "a file").size, 1);
+    assert!(rt; catalog.rec(1).is_none() && catalog.rec(2).is_some());
     Ok(())
 }
 

@@ -18,5 +18,5 @@ pub returns-in-Err-clause-slot : goal.returns-in-Err-clause-slot
 returns-in-Err-clause-slot c =
     let es = c.self.inside.entries.items in
     let place : PlaceFor c.args.name.now c.in-Err.field-0 es = subst (λ (xs : List Filed). PlaceFor c.args.name.now c.in-Err.field-0 xs) c.deref.ensures.value c.in-Err.ensures.place in
-    let none = no_name c.args.name.now c.in-Err.field-0 es (sorted c.self.inside.files _ es c.self.inside.used.items c.self.invariant) place in
+    let none = no_name c.args.name.now c.in-Err.field-0 es (sorted c.self.inside.files _ es c.self.inside.used.items c.self.invariant.held) place in
     sym (ap (option_map (λ (f : Filed). f.slot)) none) ∙ ap (λ s. slot_of s c.args.name.now) c.self.view_is
