@@ -38,7 +38,7 @@ use Rattle.lis_kept.proofs.Filing.{map_all, filed_rec}
 use Rattle.lis_kept.proofs.OwnLinks.{own_link_is, slot_at, none_before}
 
 -- ---- lists
-flat_all : {X Y : Type 0} (f g : X → List Y) (xs : List X) → ((x : X) → Among xs x → f x ≡ g x) → flat_map f xs ≡ flat_map g xs
+pub flat_all : {X Y : Type 0} (f g : X → List Y) (xs : List X) → ((x : X) → Among xs x → f x ≡ g x) → flat_map f xs ≡ flat_map g xs
 flat_all f g [] same = refl
 flat_all f g (x ∷ xs) same = ap₂ (λ ys zs. ys ++ zs) (same x (inl refl)) (flat_all f g xs (λ z m. same z (inr m)))
 
