@@ -114,12 +114,15 @@ module _ (p : Kept) (t : Taxonomy) (held : AreHeld p t) (slot : ℕ) (rec : File
       ∙ ap (map told) (filter_same (λ (f : Filed). not (same_word f.rec.name rec.name)) (λ (f : Filed). not (f.slot == slot)) p.catalog.entries told_apart)))
 
   pub dropped_made : AreHeld dropped t × Drops slot rec p dropped
-  dropped_made = (held_dropped, record {
-    there = there;
-    parts = refl;
-    marks = blocks_marked p dropped (file_homes p slot) refl refl (file_homes_below p t slot held slot_below) spelled_before;
-    state = state_dropped;
-  })
+  dropped_made = (
+    held_dropped,
+    record {
+      there = there;
+      parts = refl;
+      marks = blocks_marked p dropped (file_homes p slot) refl refl (file_homes_below p t slot held slot_below) spelled_before;
+      state = state_dropped;
+    },
+  )
 
 -- the same, over what memory kept
 pub drops : (k p : Kept) (t : Taxonomy) (slot : ℕ) (rec : FileRecord) (catalog : Catalog) (taken marks : List Bool) → p ≡ k → AreHeld p t → rec_at p.catalog slot ≡ Some rec
@@ -128,8 +131,8 @@ pub drops : (k p : Kept) (t : Taxonomy) (slot : ℕ) (rec : FileRecord) (catalog
 drops k p t slot rec catalog taken marks is held there filed blocks are_marks =
     let P : Kept → Type 0 = λ q. AreHeld q t × Drops slot rec k q in
     let same : dropped p t held slot rec there ≡ record p { catalog = catalog; taken = taken; marks = marks } =
-        ap (λ (c : Catalog). record p { catalog = c; taken = given p.taken rec.blocks; marks = dropped_marks p t held slot rec there }) (sym filed)
-        ∙ (ap (λ (ts : List Bool). record p { catalog = catalog; taken = ts; marks = dropped_marks p t held slot rec there }) (sym blocks)
-        ∙ ap (λ (ms : List Bool). record p { catalog = catalog; taken = taken; marks = ms }) (sym are_marks)) in
+    ap (λ (c : Catalog). record p { catalog = c; taken = given p.taken rec.blocks; marks = dropped_marks p t held slot rec there }) (sym filed)
+    ∙ (ap (λ (ts : List Bool). record p { catalog = catalog; taken = ts; marks = dropped_marks p t held slot rec there }) (sym blocks)
+    ∙ ap (λ (ms : List Bool). record p { catalog = catalog; taken = taken; marks = ms }) (sym are_marks)) in
     let Q : Kept → Type 0 = λ q. AreHeld (dropped p t held slot rec there) t × Drops slot rec q (dropped p t held slot rec there) in
     subst P same (subst Q is (dropped_made p t held slot rec there))

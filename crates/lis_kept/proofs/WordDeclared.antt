@@ -50,21 +50,24 @@ module _ (p : Kept) (t : Taxonomy) (held : AreHeld p t) {word : List ℕ} {numbe
       by (inr differ) = used_stays p t held w n differ (used n (ap is_some (sym (word_other p t held w n differ)) ∙ some))
 
   pub declared_made : AreHeld q t × Declares word p q
-  declared_made = (record {
-    sound = sound_then p t held w;
-    links = record {
-      props = held.links.props;
-      edges = λ x y. held.links.edges x y ∙ sym (no_new_link p t held w (declarable_not_valued word form) x y);
-    };
-  }, record {
-    number = number;
-    below = w.below;
-    free = w.free;
-    parts = refl;
-    marks = marks_then p t held w;
-    state = λ at. state_then p t held w at ∙ ap (λ (ds : List (List ℕ)). record (state_of p at) { declared = ds }) declared_more;
-    used = used_then;
-  })
+  declared_made = (
+    record {
+      sound = sound_then p t held w;
+      links = record {
+        props = held.links.props;
+        edges = λ x y. held.links.edges x y ∙ sym (no_new_link p t held w (declarable_not_valued word form) x y);
+      };
+    },
+    record {
+      number = number;
+      below = w.below;
+      free = w.free;
+      parts = refl;
+      marks = marks_then p t held w;
+      state = λ at. state_then p t held w at ∙ ap (λ (ds : List (List ℕ)). record (state_of p at) { declared = ds }) declared_more;
+      used = used_then;
+    },
+  )
 
 -- the same, over what memory kept
 pub declares : (k p : Kept) (t : Taxonomy) (word : List ℕ) (number : ℕ) (dict : Dict) (bits marks : List Bool) → p ≡ k → AreHeld p t
@@ -89,7 +92,7 @@ declares k p t word number dict bits marks is held form kept new room below free
     let P : Kept → Type 0 = λ q. AreHeld q t × Declares word k q in
     let Q : Kept → Type 0 = λ q. AreHeld (learnt p t held w) t × Declares word q (learnt p t held w) in
     let same : learnt p t held w ≡ record p { dict = dict; declared = bits; marks = marks } =
-        ap (λ (d : Dict). record p { dict = d; declared = set p.declared number true; marks = set p.marks (block_of p.limits Properties number) true }) (sym dict_is)
-        ∙ (ap (λ (bs : List Bool). record p { dict = dict; declared = bs; marks = set p.marks (block_of p.limits Properties number) true }) (sym bits_are)
-        ∙ ap (λ (ms : List Bool). record p { dict = dict; declared = bits; marks = ms }) (sym marks_are)) in
+    ap (λ (d : Dict). record p { dict = d; declared = set p.declared number true; marks = set p.marks (block_of p.limits Properties number) true }) (sym dict_is)
+    ∙ (ap (λ (bs : List Bool). record p { dict = dict; declared = bs; marks = set p.marks (block_of p.limits Properties number) true }) (sym bits_are)
+    ∙ ap (λ (ms : List Bool). record p { dict = dict; declared = bits; marks = ms }) (sym marks_are)) in
     subst P same (subst Q is (declared_made p t held form w))

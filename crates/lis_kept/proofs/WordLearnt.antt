@@ -74,19 +74,22 @@ module _ (p : Kept) (t : Taxonomy) (held : AreHeld p t) {word : List ℕ} {numbe
       by (inr differ) = inl (sym (word_other p t held w n differ) ∙ is)
 
   pub learnt_made : AreHeld q linked × Learns word number p q
-  learnt_made = (record {
-    sound = sound_then p t held w;
-    links = record { props = same_props (head_number p.dict word) ∙ held.links.props; edges = links_then };
-  }, record {
-    below = w.below;
-    parts = inr (w.new, w.free, refl);
-    marks = marks_then p t held w;
-    words = map_insert_key (λ (e : List ℕ × ℕ). e.0) entry_cmp word_cmp (λ x y. refl) p.dict.entries (word, number);
-    named = word_here p t held w;
-    keeps = word_stays p t held w;
-    only = only_then;
-    state = λ at. state_then p t held w at ∙ ap (λ (ds : List (List ℕ)). record (state_of p at) { declared = ds }) declared_same;
-  })
+  learnt_made = (
+    record {
+      sound = sound_then p t held w;
+      links = record { props = same_props (head_number p.dict word) ∙ held.links.props; edges = links_then };
+    },
+    record {
+      below = w.below;
+      parts = inr (w.new, w.free, refl);
+      marks = marks_then p t held w;
+      words = map_insert_key (λ (e : List ℕ × ℕ). e.0) entry_cmp word_cmp (λ x y. refl) p.dict.entries (word, number);
+      named = word_here p t held w;
+      keeps = word_stays p t held w;
+      only = only_then;
+      state = λ at. state_then p t held w at ∙ ap (λ (ds : List (List ℕ)). record (state_of p at) { declared = ds }) declared_same;
+    },
+  )
 
 -- a new word, over what memory kept
 pub learns_new : (k p : Kept) (t u : Taxonomy) (word : List ℕ) (number : ℕ) (dict : Dict) (marks : List Bool) → p ≡ k → AreHeld p t
@@ -111,8 +114,8 @@ learns_new k p t u word number dict marks is held undeclared headed new room bel
     let R : Taxonomy → Type 0 = λ v. AreHeld (learnt p t held w) v × Learns word number k (learnt p t held w) in
     let Q : Kept → Type 0 = λ q. AreHeld (learnt p t held w) (with_edge_to t number (head_number p.dict word)) × Learns word number q (learnt p t held w) in
     let same : learnt p t held w ≡ record p { dict = dict; marks = marks } =
-        ap (λ (d : Dict). record p { dict = d; marks = set p.marks (block_of p.limits Properties number) true }) (sym dict_is)
-        ∙ ap (λ (ms : List Bool). record p { dict = dict; marks = ms }) (sym marks_are) in
+    ap (λ (d : Dict). record p { dict = d; marks = set p.marks (block_of p.limits Properties number) true }) (sym dict_is)
+    ∙ ap (λ (ms : List Bool). record p { dict = dict; marks = ms }) (sym marks_are) in
     subst P same (subst R (sym linked_is) (subst Q is (learnt_made p t held w)))
 
 -- a word that has a number
@@ -164,4 +167,3 @@ none_to p t held number free x = held.links.edges x number ∙ unnamed_to p held
 
 pub none_from : (p : Kept) (t : Taxonomy) → AreHeld p t → (number : ℕ) → word_of p.dict number ≡ None → (x : ℕ) → has_edge t number x ≡ false
 none_from p t held number free x = held.links.edges number x ∙ unnamed_from p held.sound number free x
-

@@ -112,7 +112,7 @@ module _ (p : Kept) (t : Taxonomy) (held : AreHeld p t) {word : List ℕ} {numbe
       by true e =
           let same = (same_word_decides word (head_bytes v)).0 e in
           let yes : is_head_by (word_of p.dict n) (word_of p.dict number) ≡ true =
-              ap₂ is_head_by was there ∙ and_from (is_valued v) (same_word (head_bytes v) word) valued ((same_word_decides (head_bytes v) word).1 (sym same)) in
+          ap₂ is_head_by was there ∙ and_from (is_valued v) (same_word (head_bytes v) word) valued ((same_word_decides (head_bytes v) word).1 (sym same)) in
           absurd (both_ways (is_head_by (word_of p.dict n) (word_of p.dict number)) (go.heads n) yes)
 
   property_then : (n : ℕ) → (n ≡ number) ⊎ (n ≡ number → ⊥) → is_prop (property_at less p.declared n) ≡ true
@@ -315,17 +315,20 @@ module _ (p : Kept) (t : Taxonomy) (held : AreHeld p t) {word : List ℕ} {numbe
           word_other n (λ e. differ (sym e)) ∙ sym (ap (λ a. if (a || false) && not (is_used p n) then None else word_of p.dict n) (ne_eqb number n differ))
 
   pub forgotten_made : AreHeld forgotten unlinked × Forgets (number ∷ []) p forgotten
-  forgotten_made = (record {
-    sound = sound_then;
-    links = record { props = same_props (head_number p.dict word) ∙ held.links.props; edges = links_then };
-  }, record {
-    parts = refl;
-    props = refl;
-    marks = marks_then;
-    words = words_then;
-    state = state_then;
-    used = used_then;
-  })
+  forgotten_made = (
+    record {
+      sound = sound_then;
+      links = record { props = same_props (head_number p.dict word) ∙ held.links.props; edges = links_then };
+    },
+    record {
+      parts = refl;
+      props = refl;
+      marks = marks_then;
+      words = words_then;
+      state = state_then;
+      used = used_then;
+    },
+  )
 
 -- the same, over what memory kept
 pub forgets : (k p : Kept) (t u : Taxonomy) (word : List ℕ) (number : ℕ) (dict : Dict) (marks : List Bool) → p ≡ k → AreHeld p t → word_of p.dict number ≡ Some word → MayGo number p
@@ -336,8 +339,8 @@ forgets k p t u word number dict marks is held there go dict_is unlinked_is mark
     let R : Taxonomy → Type 0 = λ v. AreHeld (forgotten p t held there go) v × Forgets (number ∷ []) k (forgotten p t held there go) in
     let Q : Kept → Type 0 = λ q. AreHeld (forgotten p t held there go) (without_edge_to t number (head_number p.dict word)) × Forgets (number ∷ []) q (forgotten p t held there go) in
     let same : forgotten p t held there go ≡ record p { dict = dict; marks = marks } =
-        ap (λ (d : Dict). record p { dict = d; marks = set p.marks (block_of p.limits Properties number) true }) (sym dict_is)
-        ∙ ap (λ (ms : List Bool). record p { dict = dict; marks = ms }) (sym marks_are) in
+    ap (λ (d : Dict). record p { dict = d; marks = set p.marks (block_of p.limits Properties number) true }) (sym dict_is)
+    ∙ ap (λ (ms : List Bool). record p { dict = dict; marks = ms }) (sym marks_are) in
     subst P same (subst R (sym unlinked_is) (subst Q is (forgotten_made p t held there go)))
 
 -- a number without a word

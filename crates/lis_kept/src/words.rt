@@ -30,7 +30,10 @@ fn mark_property(marks: &mut Flags, limits: &Limits, number: u16)
     requires long { data_start limits.now ≤ length marks.old }
     ensures { marks.new ≡ slice_set marks.old (block_of limits.now Properties number) true }
 {
-    marks.put(PROPERTIES_START + u32::from(number / PROPERTIES_PER_BLOCK), true);
+    marks.put(
+        PROPERTIES_START + u32::from(number / PROPERTIES_PER_BLOCK),
+        true,
+    );
 }
 
 // The number of the head of a valued word.
