@@ -1,5 +1,5 @@
 -- A file slot that gets other numbers.
-use Rattle.std.proofs.Common.{◌≡◌, ◌≢◌, ◌⊎◌, ℕ, ◌+◌, ◌*◌, ◌/◌, ◌<◌, ◌≤◌, ◌&&◌, ◌||◌, not, nat_lt, nat_eq, Bool, true, false, List, [], ◌∷◌, ◌++◌, length, get_or, set, map, take, is_some, IsSome, refl, sym, ap, ◌∙◌, subst, inl, inr, arith, length-set, get_or-set_same, get_or-set_other}
+use Rattle.std.proofs.Common.{◌≡◌, ◌⊎◌, ℕ, ◌+◌, ◌<◌, ◌≤◌, ◌&&◌, ◌||◌, not, nat_lt, nat_eq, Bool, true, false, List, [], length, get_or, set, map, is_some, IsSome, refl, sym, ap, ◌∙◌, subst, inl, inr, arith, length-set, get_or-set_same, get_or-set_other}
 use Rattle.std.specs.List.{All, list_all, range_with_len}
 use Rattle.std.proofs.lemmas.List.Elements.{Contains-get_or}
 use Rattle.std.proofs.lemmas.Bool.{cases_eq, lt-ltb, eqb-true, false_from_ne_true, and_parts, or_cases}
@@ -15,7 +15,6 @@ use Rattle.lis_ext.specs.Numbers.{has_number, differs, numbers_where}
 use Rattle.lis_taxonomy.specs.Taxonomy.{Taxonomy}
 use Rattle.lis_laws.proofs.Counts.{all_among, all_from, filter_le}
 use Rattle.lis_kept.specs.Kept.{Kept}
-use Rattle.lis_kept.specs.Rows.{row_bytes}
 use Rattle.lis_kept.specs.Areas.{Area, slots_of, block_of, spelled}
 use Rattle.lis_kept.specs.Areas.Area.{Properties, Axioms, Files, Rows, Bitmap}
 use Rattle.lis_kept.specs.Sound.{AreSound}

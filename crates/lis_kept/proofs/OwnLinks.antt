@@ -1,6 +1,6 @@
 -- The links that words of a dictionary have by themselves: none of them is a test, so a link leads to a head.
-use Rattle.std.proofs.Common.{◌≡◌, ◌⊎◌, ℕ, Bool, true, false, cond, not, ◌&&◌, ◌||◌, ◌==◌, Option, Some, None, is_some, IsSome, slice_get, List, [], ◌∷◌, ◌++◌, IsTrue, refl, sym, ap, ap₂, ◌∙◌, subst}
-use Rattle.std.specs.List.{list_all, Contains}
+use Rattle.std.proofs.Common.{◌≡◌, ℕ, Bool, true, false, cond, not, ◌&&◌, ◌||◌, ◌==◌, Option, Some, None, is_some, IsSome, slice_get, List, [], ◌∷◌, ◌++◌, refl, ap, ap₂, ◌∙◌, subst}
+use Rattle.std.specs.List.{Contains}
 use Rattle.std.proofs.lemmas.Bool.{not_from_false, and_parts, both_ways, eqb-true, false_from_ne_true}
 use Rattle.std.proofs.lemmas.Option.{slice_get-get_or, slice_get_within, get_or_from_slice_get}
 use Rattle.std.proofs.lemmas.List.Elements.{Contains-get_or}
@@ -10,7 +10,7 @@ use Rattle.lis_fields.specs.declared.slots.AxiomSlot.{AxiomSlot}
 use Rattle.lis_fields.specs.declared.slots.AxiomSlot.TheVariants.{Free as FreeAxiom, Pair}
 use Rattle.lis_words.specs.Words.{same_word, has_word, head_bytes, is_valued, is_kept_word, is_test}
 use Rattle.lis_model.specs.State.{heads}
-use Rattle.lis_model.specs.Tests.{weaker_tests, has_no_tests}
+use Rattle.lis_model.specs.Tests.{has_no_tests}
 use Rattle.lis_model.proofs.NoTests.{word_not_test, no_weaker}
 use Rattle.lis_laws.proofs.Counts.{all_among, all_from}
 use Rattle.lis_kept.specs.Kept.{Kept}

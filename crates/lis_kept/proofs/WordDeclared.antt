@@ -1,16 +1,14 @@
 -- A new word that is declared.
-use Rattle.std.proofs.Common.{◌≡◌, ◌⊎◌, refl, sym, ap, ◌∙◌, subst, inl, inr, ℕ, ◌<◌, if◌then◌else◌, ◌||◌, Bool, true, false, List, length, set, Option, Some, None, is_some, arith, length-set, get_or-set_same, get_or-set_other}
+use Rattle.std.proofs.Common.{◌≡◌, ◌⊎◌, refl, sym, ap, ◌∙◌, subst, inl, inr, ℕ, ◌<◌, if◌then◌else◌, ◌||◌, Bool, true, false, List, length, set, None, is_some, arith, length-set, get_or-set_same, get_or-set_other}
 use Rattle.std.proofs.lemmas.Bool.{and_from, cases_eq, or_left}
 use Rattle.lis_graph.proofs.Members.{Among, among_insert_key, insert_key_old, insert_key_new}
 use Rattle.lis_graph.proofs.Sets.{sorted_insert_key}
 use Rattle.lis_blockmap.specs.Bitmap.{is_taken}
 use Rattle.lis_dict.specs.Dict.{Dict, number_of, word_of, with_entry}
-use Rattle.lis_fields.specs.Layouts.{is_prop}
 use Rattle.lis_taxonomy.specs.Taxonomy.{Taxonomy}
-use Rattle.lis_words.specs.Words.{word_cmp, same_word, is_kept_word, is_valued}
+use Rattle.lis_words.specs.Words.{word_cmp, same_word, is_kept_word}
 use Rattle.lis_model.specs.Sets.{with_word}
-use Rattle.lis_model.specs.State.{State, is_declarable}
-use Rattle.lis_model.specs.Changes.{declared_under}
+use Rattle.lis_model.specs.State.{is_declarable}
 use Rattle.lis_laws.proofs.Members.{word_exact, word_order, same_word_decides, same_words}
 use Rattle.lis_laws.proofs.Apart.{declarable_not_valued}
 use Rattle.lis_kept.specs.Kept.{Kept}
@@ -19,7 +17,7 @@ use Rattle.lis_kept.specs.Areas.Area.{Properties}
 use Rattle.lis_kept.specs.Telling.{declared_of, is_declared, state_of, is_had, is_named_left, is_used, AreUsed}
 use Rattle.lis_kept.specs.Links.{AreHeld}
 use Rattle.lis_kept.specs.Changes.{Declares}
-use Rattle.lis_kept.proofs.WordMore.{NewWord, learnt, sound_then, marks_then, declared_then, state_then, used_stays, no_new_link, word_here, word_other, declared_there, there_declared, sorted_declared, dict_kept}
+use Rattle.lis_kept.proofs.WordMore.{NewWord, learnt, sound_then, marks_then, declared_then, state_then, used_stays, no_new_link, word_other, declared_there, there_declared, sorted_declared, dict_kept}
 
 module _ (p : Kept) (t : Taxonomy) (held : AreHeld p t) {word : List ℕ} {number : ℕ} (form : is_declarable word ≡ true) (w : NewWord p word number (set p.declared number true) true) where
   abbrev q : Kept

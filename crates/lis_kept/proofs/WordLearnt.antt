@@ -1,19 +1,17 @@
 -- A word that is known, and not declared.
-use Rattle.std.proofs.Common.{rules, ◌≡◌, ◌⊎◌, refl, sym, ap, ap₂, ◌∙◌, subst, inl, inr, ℕ, ◌+◌, ◌<◌, ◌≤◌, if◌then◌else◌, ◌&&◌, ◌||◌, ◌==◌, Bool, true, false, List, length, set, map, Option, Some, None, is_some, IsSome, IfSome, arith}
-use Rattle.std.specs.BTreeSet.{insert_key}
+use Rattle.std.proofs.Common.{rules, ◌≡◌, ◌⊎◌, refl, sym, ap, ◌∙◌, subst, inl, inr, ℕ, ◌<◌, if◌then◌else◌, ◌&&◌, ◌||◌, ◌==◌, Bool, true, false, List, length, set, Option, Some, None, is_some, IsSome, IfSome, arith}
 use Rattle.std.proofs.lemmas.Bool.{cases_eq, both_ways, false_from_ne_true}
 use Rattle.std.proofs.lemmas.Option.{same_Some}
 use Rattle.lis_graph.proofs.Members.{Among, among_insert_key, insert_key_old, map_among}
 use Rattle.lis_graph.proofs.Sets.{sorted_insert_key, sorted_from_rising}
 use Rattle.lis_blockmap.specs.Bitmap.{is_taken}
-use Rattle.lis_dict.specs.Dict.{Dict, IsDict, words, number_of, word_of, entry_cmp, with_entry}
+use Rattle.lis_dict.specs.Dict.{Dict, words, number_of, word_of, entry_cmp, with_entry}
 use Rattle.lis_dict.proofs.Laws.{among_from_number, word_from_number, number_below}
 use Rattle.lis_fields.specs.Layouts.{is_undeclared}
 use Rattle.lis_fields.proofs.Parts.{undeclared_word}
 use Rattle.lis_taxonomy.specs.Taxonomy.{Taxonomy, has_edge}
 use Rattle.lis_words.specs.Words.{word_cmp, same_word, is_valued, head_bytes}
 use Rattle.lis_model.specs.Sets.{with_word}
-use Rattle.lis_model.specs.State.{State}
 use Rattle.lis_laws.proofs.Members.{word_order, same_word_decides, same_words}
 use Rattle.lis_kept.specs.Kept.{Kept}
 use Rattle.lis_kept.specs.Areas.{block_of}
@@ -22,7 +20,7 @@ use Rattle.lis_kept.specs.Edges.{head_number, with_edge_to}
 use Rattle.lis_kept.specs.Telling.{bit_of, declared_of, is_declared, state_of}
 use Rattle.lis_kept.specs.Sound.{AreSound}
 use Rattle.lis_kept.specs.Links.{AreHeld, is_linked}
-use Rattle.lis_kept.specs.Changes.{Marks, Learns}
+use Rattle.lis_kept.specs.Changes.{Learns}
 use Rattle.lis_kept.proofs.OwnLinks.{unnamed_to, unnamed_from}
 use Rattle.lis_kept.proofs.Filing.{map_insert_key}
 use Rattle.lis_kept.proofs.HeadEdges.{has_edge-with_edge}

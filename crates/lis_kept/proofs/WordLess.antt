@@ -1,8 +1,8 @@
 -- A word that loses its number.
-use Rattle.std.proofs.Common.{rules, ◌≡◌, ◌⊎◌, refl, sym, ap, ap₂, ◌∙◌, subst, inl, inr, ℕ, ◌+◌, ◌<◌, ◌≤◌, ◌==◌, if◌then◌else◌, ◌&&◌, ◌||◌, not, nat_lt, Bool, true, false, List, [], ◌∷◌, ◌++◌, length, map, set, get_or, Option, Some, None, is_some, IsSome, IfSome, slice_get, arith, length-set}
+use Rattle.std.proofs.Common.{rules, ◌≡◌, ◌⊎◌, refl, sym, ap, ap₂, ◌∙◌, subst, inl, inr, ℕ, ◌<◌, ◌≤◌, ◌==◌, if◌then◌else◌, ◌&&◌, ◌||◌, not, nat_lt, Bool, true, false, List, [], ◌∷◌, length, map, set, get_or, Option, Some, None, is_some, IsSome, IfSome, slice_get, arith, length-set}
 use Rattle.std.specs.Option.{option_to_list}
 use Rattle.std.specs.BTreeSet.{insert_key}
-use Rattle.std.specs.List.{flat_map, list_all, list_any, fold}
+use Rattle.std.specs.List.{list_all, list_any, fold}
 use Rattle.std.proofs.lemmas.Bool.{and_parts, and_from, both_ways, cases_eq, cases_lt, eq-eqb, eqb-true, ne_eqb, false_from_ne_true}
 use Rattle.std.proofs.lemmas.List.{get_or_past}
 use Rattle.std.proofs.lemmas.List.Elements.{Contains-get_or}
@@ -13,7 +13,7 @@ use Rattle.lis_content.proofs.Numbers.{neither}
 use Rattle.lis_dict.specs.Dict.{Dict, IsDict, number_of, word_of, without_word}
 use Rattle.lis_dict.proofs.Laws.{number_from_word, word_from_number, number_of-without_word, word_of-without_word, length-without_word, kept_without_word}
 use Rattle.lis_catalog.specs.Catalog.{Filed, rec_at}
-use Rattle.lis_ext.specs.Ext.{Ext, has, set_of as numbers_at}
+use Rattle.lis_ext.specs.Ext.{Ext, has}
 use Rattle.lis_fields.specs.Records.{FileRecord}
 use Rattle.lis_fields.specs.Layouts.{prop_bytes, is_prop, is_record}
 use Rattle.lis_fields.specs.declared.slots.AxiomSlot.{AxiomSlot}
@@ -21,20 +21,20 @@ use Rattle.lis_fields.specs.declared.slots.AxiomSlot.TheVariants.{Free as FreeAx
 use Rattle.lis_taxonomy.specs.Taxonomy.{Taxonomy, has_edge}
 use Rattle.lis_words.specs.Words.{same_word, is_valued, head_bytes}
 use Rattle.lis_model.specs.Sets.{set_of}
-use Rattle.lis_model.specs.State.{State, File, pair_cmp}
+use Rattle.lis_model.specs.State.{File, pair_cmp}
 use Rattle.lis_laws.proofs.Members.{same_word_decides, same_words}
-use Rattle.lis_laws.proofs.Counts.{all_among, all_weaker}
+use Rattle.lis_laws.proofs.Counts.{all_weaker}
 use Rattle.lis_kept.specs.Kept.{Kept, property_by, property_at}
 use Rattle.lis_kept.specs.Areas.{Area, slots_of, block_of, spelled}
 use Rattle.lis_kept.specs.Areas.Area.{Properties, Axioms, Files, Rows, Bitmap}
-use Rattle.lis_kept.specs.Telling.{bit_of, is_declared, declared_of, words_told, pair_by, pair_told, axioms_of, file_told, state_of, is_left_of, is_head_by, is_left_head_of, is_named_left, is_had, is_used}
+use Rattle.lis_kept.specs.Telling.{bit_of, is_declared, declared_of, pair_by, pair_told, axioms_of, file_told, state_of, is_left_of, is_head_by, is_left_head_of, is_named_left, is_had, is_used}
 use Rattle.lis_kept.specs.Sound.{AreSound, is_sound_record}
 use Rattle.lis_kept.specs.Links.{AreHeld, is_pair, has_pair, is_linked}
 use Rattle.lis_kept.specs.Edges.{head_number, without_edge_to}
 use Rattle.lis_kept.specs.Forgetting.{MayGo}
 use Rattle.lis_kept.specs.Changes.{Marks, Forgets}
 use Rattle.lis_kept.proofs.InArea.{among_slots}
-use Rattle.lis_kept.proofs.Formed.{some_word, named_below}
+use Rattle.lis_kept.proofs.Formed.{named_below}
 use Rattle.lis_kept.proofs.Marking.{block_marked}
 use Rattle.lis_kept.proofs.Filing.{map_all, filed_rec, number_from_among}
 use Rattle.lis_kept.proofs.HeadEdges.{no_more_edges, other_edges, none_left}
