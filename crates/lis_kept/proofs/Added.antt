@@ -177,22 +177,25 @@ module _ (p : Kept) (t : Taxonomy) (held : AreHeld p t) {old new : Held} {name t
         (map_all (file_told p.limits p.dict (looked new.staged kept)) (file_told p.limits p.dict (looked old.staged kept)) p.catalog.entries same_told) new_told)
 
   pub added_made : AreHeld added t × Adds name tags bytes slot p added old new
-  added_made = (held_added, record {
-    below = omega (arith, file.below, held.sound.slots);
-    free = file.free;
-    rec = new_record;
-    parts = refl;
-    named = refl;
-    tagged = refl;
-    sized = refl;
-    image = file.put.image;
-    broken = file.put.broken;
-    few_staged = omega (arith, file.put.few, file.put.count, file.short);
-    few = marks_owed.few;
-    saved = saved_then;
-    front = front_stays;
-    state = state_then;
-  })
+  added_made = (
+    held_added,
+    record {
+      below = omega (arith, file.below, held.sound.slots);
+      free = file.free;
+      rec = new_record;
+      parts = refl;
+      named = refl;
+      tagged = refl;
+      sized = refl;
+      image = file.put.image;
+      broken = file.put.broken;
+      few_staged = omega (arith, file.put.few, file.put.count, file.short);
+      few = marks_owed.few;
+      saved = saved_then;
+      front = front_stays;
+      state = state_then;
+    },
+  )
 
 -- the same, over what memory kept
 pub adds : (k p : Kept) (t : Taxonomy) {old new : Held} {name tags bytes blocks : List ℕ} {slot : ℕ} {taken : List Bool} (catalog : Catalog) (marks : List Bool) → p ≡ k → AreHeld p t
@@ -203,7 +206,7 @@ pub adds : (k p : Kept) (t : Taxonomy) {old new : Held} {name tags bytes blocks 
 adds k p t {old = old} {new = new} {name = name} {tags = tags} {bytes = bytes} {slot = slot} {taken = taken} catalog marks is held file filed are_marks =
     let P : Kept → Type 0 = λ q. AreHeld q t × Adds name tags bytes slot k q old new in
     let same : added p t held file ≡ record p { catalog = catalog; taken = taken; marks = marks } =
-        ap (λ (c : Catalog). record p { catalog = c; taken = taken; marks = added_marks p t held file }) (sym filed)
-        ∙ ap (λ (ms : List Bool). record p { catalog = catalog; taken = taken; marks = ms }) (sym are_marks) in
+    ap (λ (c : Catalog). record p { catalog = c; taken = taken; marks = added_marks p t held file }) (sym filed)
+    ∙ ap (λ (ms : List Bool). record p { catalog = catalog; taken = taken; marks = ms }) (sym are_marks) in
     let Q : Kept → Type 0 = λ q. AreHeld (added p t held file) t × Adds name tags bytes slot q (added p t held file) old new in
     subst P same (subst Q is (added_made p t held file))

@@ -1,5 +1,5 @@
 -- A file slot that gets other numbers.
-use Rattle.std.proofs.Common.{◌≡◌, ◌≢◌, ◌⊎◌, ℕ, ◌+◌, ◌*◌, ◌/◌, ◌<◌, ◌≤◌, ◌&&◌, ◌||◌, not, nat_lt, nat_eq, Bool, true, false, List, [], ◌∷◌, ◌++◌, length, get_or, set, map, take, is_some, IsSome, refl, sym, ap, ◌∙◌, subst, inl, inr, arith, length-set, get_or-set_same, get_or-set_other}
+use Rattle.std.proofs.Common.{◌≡◌, ◌⊎◌, ℕ, ◌+◌, ◌<◌, ◌≤◌, ◌&&◌, ◌||◌, not, nat_lt, nat_eq, Bool, true, false, List, [], length, get_or, set, map, is_some, IsSome, refl, sym, ap, ◌∙◌, subst, inl, inr, arith, length-set, get_or-set_same, get_or-set_other}
 use Rattle.std.specs.List.{All, list_all, range_with_len}
 use Rattle.std.proofs.lemmas.List.Elements.{Contains-get_or}
 use Rattle.std.proofs.lemmas.Bool.{cases_eq, lt-ltb, eqb-true, false_from_ne_true, and_parts, or_cases}
@@ -15,7 +15,6 @@ use Rattle.lis_ext.specs.Numbers.{has_number, differs, numbers_where}
 use Rattle.lis_taxonomy.specs.Taxonomy.{Taxonomy}
 use Rattle.lis_laws.proofs.Counts.{all_among, all_from, filter_le}
 use Rattle.lis_kept.specs.Kept.{Kept}
-use Rattle.lis_kept.specs.Rows.{row_bytes}
 use Rattle.lis_kept.specs.Areas.{Area, slots_of, block_of, spelled}
 use Rattle.lis_kept.specs.Areas.Area.{Properties, Axioms, Files, Rows, Bitmap}
 use Rattle.lis_kept.specs.Sound.{AreSound}
@@ -66,7 +65,6 @@ module _ (p : Kept) (t : Taxonomy) (held : AreHeld p t) (slot : ℕ) (old new : 
     (props : e.props ≡ p.ext.props) (sets : e.sets ≡ set p.ext.sets slot new) (settled : e.marks ≡ [])
     (edits : e.edits ≤ p.ext.edits + length (numbers_where p.ext.props (differs old new)))
     (are_marks : marks ≡ marked p.marks (map (block_of p.limits Rows) (numbers_where p.ext.props (differs old new)))) where
-
   abbrev described : Kept
   described = record p { ext = e; marks = marks }
 
@@ -142,14 +140,17 @@ module _ (p : Kept) (t : Taxonomy) (held : AreHeld p t) (slot : ℕ) (old new : 
       by n s (inr differ) has_it = held.sound.named n s (ap (λ ns. has_number ns n) (sym (set_at s differ)) ∙ has_it)
 
   pub described_made : AreHeld described t × Describes slot new p described
-  described_made = (held_described, record {
-    parts = refl;
-    props = props;
-    sets = sets;
-    settled = settled;
-    edits = λ was is. subst (λ ns. e.edits ≤ p.ext.edits + length (numbers_where p.ext.props (differs ns new))) (sym is_old ∙ sym is) edits;
-    marks = λ was is. subst (λ ns. Marks (length (numbers_where p.ext.props (differs ns new))) p described) (sym is_old ∙ sym is) marks_owed;
-  })
+  described_made = (
+    held_described,
+    record {
+      parts = refl;
+      props = props;
+      sets = sets;
+      settled = settled;
+      edits = λ was is. subst (λ ns. e.edits ≤ p.ext.edits + length (numbers_where p.ext.props (differs ns new))) (sym is_old ∙ sym is) edits;
+      marks = λ was is. subst (λ ns. Marks (length (numbers_where p.ext.props (differs ns new))) p described) (sym is_old ∙ sym is) marks_owed;
+    },
+  )
 
 -- numbers of words are below the limit
 pub numbers_below : (k p : Kept) (ns : List ℕ) → p ≡ k → AreSound p → list_all (λ n. is_some (word_of k.dict n)) ns ≡ true → All (λ n. n < p.ext.props) ns
@@ -166,5 +167,5 @@ pub describes : (k p : Kept) (t : Taxonomy) (slot : ℕ) (old new : List ℕ) (e
     → AreHeld (record p { ext = e; marks = marks }) t × Describes slot new k (record p { ext = e; marks = marks })
 describes k p t slot old new e marks is held below is_old named props sets settled edits are_marks =
     let P : Kept → Type 0 = λ q. slot < q.limits.files → set_of q.ext slot ≡ old → list_all (λ n. is_some (word_of q.dict n)) new ≡ true
-        → AreHeld (record p { ext = e; marks = marks }) t × Describes slot new q (record p { ext = e; marks = marks }) in
+    → AreHeld (record p { ext = e; marks = marks }) t × Describes slot new q (record p { ext = e; marks = marks }) in
     subst P is (λ b o n. described_made p t held slot old new e marks b o n props sets settled edits are_marks) below is_old named

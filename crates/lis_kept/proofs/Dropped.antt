@@ -1,13 +1,12 @@
 -- A file that goes.
-use Rattle.std.proofs.Common.{◌≡◌, ◌⊎◌, refl, sym, ap, ap₂, ◌∙◌, subst, inl, inr, ℕ, ◌+◌, ◌/◌, ◌<◌, ◌≤◌, ◌==◌, if◌then◌else◌, ◌&&◌, nat_lt, nat_le, not, Bool, true, false, List, [], ◌∷◌, length, map, filter, set, Option, Some, None, option_map, is_some, arith, length-set}
+use Rattle.std.proofs.Common.{◌≡◌, refl, sym, ap, ◌∙◌, subst, inl, inr, ℕ, ◌<◌, ◌==◌, if◌then◌else◌, ◌&&◌, nat_lt, nat_le, not, Bool, true, false, List, [], ◌∷◌, length, map, set, Some, None, is_some, arith, length-set}
 use Rattle.std.specs.List.{list_all}
-use Rattle.std.proofs.lemmas.Bool.{cases_eq, eq-eqb, eqb-true, ne_eqb, and_parts}
+use Rattle.std.proofs.lemmas.Bool.{eq-eqb, eqb-true, ne_eqb, and_parts}
 use Rattle.std.proofs.lemmas.Option.{same_Some}
 use Rattle.lis_graph.proofs.Members.{Among}
-use Rattle.lis_blockmap.specs.Bitmap.{is_taken}
 use Rattle.lis_content.specs.Content.{given, are_distinct}
 use Rattle.lis_content.proofs.Numbers.{length-given}
-use Rattle.lis_catalog.specs.Catalog.{Catalog, Filed, IsCatalog, rec_at, slot_of, without_slot}
+use Rattle.lis_catalog.specs.Catalog.{Catalog, Filed, rec_at, slot_of, without_slot}
 use Rattle.lis_catalog.proofs.Laws.{rec_at-without_slot, slot_is_below, slot_of-rec_at}
 use Rattle.lis_fields.specs.Records.{FileRecord}
 use Rattle.lis_fields.specs.Layouts.{file_bytes, is_record, are_tags, are_short, are_blocks, are_distinct as slots_distinct}
@@ -24,7 +23,7 @@ use Rattle.lis_kept.specs.Areas.Area.{Properties, Axioms, Files, Rows, Bitmap}
 use Rattle.lis_kept.specs.Telling.{state_of, file_told}
 use Rattle.lis_kept.specs.Sound.{is_sound_record, AreSound}
 use Rattle.lis_kept.specs.Links.{AreHeld}
-use Rattle.lis_kept.specs.Changes.{Marks, Drops}
+use Rattle.lis_kept.specs.Changes.{Drops}
 use Rattle.lis_kept.proofs.InArea.{among_slots}
 use Rattle.lis_kept.proofs.Formed.{held_files}
 use Rattle.lis_kept.proofs.Marking.{AreBelow, blocks_marked}
@@ -114,12 +113,15 @@ module _ (p : Kept) (t : Taxonomy) (held : AreHeld p t) (slot : ℕ) (rec : File
       ∙ ap (map told) (filter_same (λ (f : Filed). not (same_word f.rec.name rec.name)) (λ (f : Filed). not (f.slot == slot)) p.catalog.entries told_apart)))
 
   pub dropped_made : AreHeld dropped t × Drops slot rec p dropped
-  dropped_made = (held_dropped, record {
-    there = there;
-    parts = refl;
-    marks = blocks_marked p dropped (file_homes p slot) refl refl (file_homes_below p t slot held slot_below) spelled_before;
-    state = state_dropped;
-  })
+  dropped_made = (
+    held_dropped,
+    record {
+      there = there;
+      parts = refl;
+      marks = blocks_marked p dropped (file_homes p slot) refl refl (file_homes_below p t slot held slot_below) spelled_before;
+      state = state_dropped;
+    },
+  )
 
 -- the same, over what memory kept
 pub drops : (k p : Kept) (t : Taxonomy) (slot : ℕ) (rec : FileRecord) (catalog : Catalog) (taken marks : List Bool) → p ≡ k → AreHeld p t → rec_at p.catalog slot ≡ Some rec
@@ -128,8 +130,8 @@ pub drops : (k p : Kept) (t : Taxonomy) (slot : ℕ) (rec : FileRecord) (catalog
 drops k p t slot rec catalog taken marks is held there filed blocks are_marks =
     let P : Kept → Type 0 = λ q. AreHeld q t × Drops slot rec k q in
     let same : dropped p t held slot rec there ≡ record p { catalog = catalog; taken = taken; marks = marks } =
-        ap (λ (c : Catalog). record p { catalog = c; taken = given p.taken rec.blocks; marks = dropped_marks p t held slot rec there }) (sym filed)
-        ∙ (ap (λ (ts : List Bool). record p { catalog = catalog; taken = ts; marks = dropped_marks p t held slot rec there }) (sym blocks)
-        ∙ ap (λ (ms : List Bool). record p { catalog = catalog; taken = taken; marks = ms }) (sym are_marks)) in
+    ap (λ (c : Catalog). record p { catalog = c; taken = given p.taken rec.blocks; marks = dropped_marks p t held slot rec there }) (sym filed)
+    ∙ (ap (λ (ts : List Bool). record p { catalog = catalog; taken = ts; marks = dropped_marks p t held slot rec there }) (sym blocks)
+    ∙ ap (λ (ms : List Bool). record p { catalog = catalog; taken = taken; marks = ms }) (sym are_marks)) in
     let Q : Kept → Type 0 = λ q. AreHeld (dropped p t held slot rec there) t × Drops slot rec q (dropped p t held slot rec there) in
     subst P same (subst Q is (dropped_made p t held slot rec there))

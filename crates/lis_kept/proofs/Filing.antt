@@ -9,7 +9,7 @@ use Rattle.std.proofs.lemmas.Bool.{and_parts, and_from, both_ways, eq-eqb, eqb-t
 use Rattle.std.proofs.lemmas.List.{map-append}
 use Rattle.std.proofs.lemmas.List.Folds.{list_any-append}
 use Rattle.lis_graph.specs.Graph.{is_rising}
-use Rattle.lis_graph.proofs.Members.{Among, among_filter, among_from_any, among_insert_key, among_map, any_from_among, filter_among, map_among}
+use Rattle.lis_graph.proofs.Members.{Among, among_filter, among_from_any, among_insert_key, among_map, any_from_among, map_among}
 use Rattle.lis_content.specs.Content.{has_number, are_distinct}
 use Rattle.lis_content.proofs.Numbers.{neither, not_true, from_false}
 use Rattle.lis_fields.specs.Records.{FileRecord}

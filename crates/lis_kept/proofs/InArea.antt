@@ -1,9 +1,8 @@
 -- In which blocks an area lies, and its slots in a block.
-use Rattle.std.proofs.Common.{◌≡◌, ◌⊎◌, ℕ, ◌+◌, ◌*◌, ◌-◌, ◌/◌, ◌%◌, ◌<◌, ◌≤◌, ◌==◌, ◌&&◌, ◌||◌, nat_le, Bool, true, List, IsTrue, refl, sym, ap, ◌∙◌, subst, inl, inr, arith, lit<}
+use Rattle.std.proofs.Common.{◌≡◌, ℕ, ◌+◌, ◌*◌, ◌-◌, ◌/◌, ◌%◌, ◌<◌, ◌≤◌, ◌==◌, ◌&&◌, ◌||◌, Bool, true, List, IsTrue, refl, sym, ap, ◌∙◌, subst, inl, inr, arith, lit<}
 use Rattle.std.proofs.Math.Nat.{div-lt_iff_lt-mul, div-add-mod}
 use Rattle.std.proofs.lemmas.Bool.{and_parts, or_cases, eqb-true}
 use Rattle.std.proofs.lemmas.Bool.Decides.{nat_tests}
-use Rattle.lis_slots.specs.Slots.{home, per_block}
 use Rattle.lis_model.specs.declared.limits.Limits.{Limits}
 use Rattle.lis_model.specs.Ranges.{is_files_limit, is_props_limit, is_blocks_limit, is_version, are_in_range}
 use Rattle.lis_model.specs.Image.{axioms_start, files_start, rows_start, bitmap_start, data_start}

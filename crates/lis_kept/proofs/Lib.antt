@@ -14,3 +14,4 @@ pub mod WordMore
 pub mod WordDeclared
 pub mod HeadEdges
 pub mod WordLearnt
+pub mod WordLess

@@ -1,15 +1,16 @@
 -- The links that words of a dictionary have by themselves: none of them is a test, so a link leads to a head.
-use Rattle.std.proofs.Common.{◌≡◌, ◌⊎◌, ℕ, Bool, true, false, cond, not, ◌&&◌, ◌||◌, ◌==◌, Option, Some, None, is_some, IsSome, slice_get, List, [], ◌∷◌, ◌++◌, IsTrue, refl, sym, ap, ap₂, ◌∙◌, subst}
-use Rattle.std.specs.List.{list_all}
+use Rattle.std.proofs.Common.{◌≡◌, ℕ, Bool, true, false, cond, not, ◌&&◌, ◌||◌, ◌==◌, Option, Some, None, is_some, IsSome, slice_get, List, [], ◌∷◌, ◌++◌, refl, ap, ap₂, ◌∙◌, subst}
+use Rattle.std.specs.List.{Contains}
 use Rattle.std.proofs.lemmas.Bool.{not_from_false, and_parts, both_ways, eqb-true, false_from_ne_true}
-use Rattle.std.proofs.lemmas.Option.{slice_get-get_or}
-use Rattle.lis_graph.proofs.Members.{Among, among_filter, among_from_any, contains_from_among}
+use Rattle.std.proofs.lemmas.Option.{slice_get-get_or, slice_get_within, get_or_from_slice_get}
+use Rattle.std.proofs.lemmas.List.Elements.{Contains-get_or}
+use Rattle.lis_graph.proofs.Members.{Among, among_filter, among_from_any, among_from_contains, contains_from_among}
 use Rattle.lis_dict.specs.Dict.{IsDict, words, word_of}
 use Rattle.lis_fields.specs.declared.slots.AxiomSlot.{AxiomSlot}
 use Rattle.lis_fields.specs.declared.slots.AxiomSlot.TheVariants.{Free as FreeAxiom, Pair}
 use Rattle.lis_words.specs.Words.{same_word, has_word, head_bytes, is_valued, is_kept_word, is_test}
 use Rattle.lis_model.specs.State.{heads}
-use Rattle.lis_model.specs.Tests.{weaker_tests, has_no_tests}
+use Rattle.lis_model.specs.Tests.{has_no_tests}
 use Rattle.lis_model.proofs.NoTests.{word_not_test, no_weaker}
 use Rattle.lis_laws.proofs.Counts.{all_among, all_from}
 use Rattle.lis_kept.specs.Kept.{Kept}
@@ -52,6 +53,10 @@ pub slot_at : (axioms : List AxiomSlot) (a : AxiomSlot) → Among axioms a → (
 slot_at axioms a m =
     let found = contains_from_among axioms a m in
     (found.0, slice_get-get_or axioms found.0 a found.1 ∙ ap Some found.2)
+
+pub among_slot : (axioms : List AxiomSlot) (i : ℕ) (a : AxiomSlot) → slice_get axioms i ≡ Some a → Among axioms a
+among_slot axioms i a is =
+    among_from_contains axioms a (subst (λ (b : AxiomSlot). Contains axioms b) (get_or_from_slice_get axioms i a FreeAxiom is) (Contains-get_or axioms i FreeAxiom (slice_get_within axioms i a is)))
 
 -- ---- a number that has no word has no link
 module _ (k : Kept) (sound : AreSound k) (number : ℕ) (free : word_of k.dict number ≡ None) where

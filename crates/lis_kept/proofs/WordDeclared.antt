@@ -1,16 +1,14 @@
 -- A new word that is declared.
-use Rattle.std.proofs.Common.{◌≡◌, ◌⊎◌, refl, sym, ap, ◌∙◌, subst, inl, inr, ℕ, ◌<◌, if◌then◌else◌, ◌||◌, Bool, true, false, List, length, set, Option, Some, None, is_some, arith, length-set, get_or-set_same, get_or-set_other}
+use Rattle.std.proofs.Common.{◌≡◌, ◌⊎◌, refl, sym, ap, ◌∙◌, subst, inl, inr, ℕ, ◌<◌, if◌then◌else◌, ◌||◌, Bool, true, false, List, length, set, None, is_some, arith, length-set, get_or-set_same, get_or-set_other}
 use Rattle.std.proofs.lemmas.Bool.{and_from, cases_eq, or_left}
 use Rattle.lis_graph.proofs.Members.{Among, among_insert_key, insert_key_old, insert_key_new}
 use Rattle.lis_graph.proofs.Sets.{sorted_insert_key}
 use Rattle.lis_blockmap.specs.Bitmap.{is_taken}
 use Rattle.lis_dict.specs.Dict.{Dict, number_of, word_of, with_entry}
-use Rattle.lis_fields.specs.Layouts.{is_prop}
 use Rattle.lis_taxonomy.specs.Taxonomy.{Taxonomy}
-use Rattle.lis_words.specs.Words.{word_cmp, same_word, is_kept_word, is_valued}
+use Rattle.lis_words.specs.Words.{word_cmp, same_word, is_kept_word}
 use Rattle.lis_model.specs.Sets.{with_word}
-use Rattle.lis_model.specs.State.{State, is_declarable}
-use Rattle.lis_model.specs.Changes.{declared_under}
+use Rattle.lis_model.specs.State.{is_declarable}
 use Rattle.lis_laws.proofs.Members.{word_exact, word_order, same_word_decides, same_words}
 use Rattle.lis_laws.proofs.Apart.{declarable_not_valued}
 use Rattle.lis_kept.specs.Kept.{Kept}
@@ -19,7 +17,7 @@ use Rattle.lis_kept.specs.Areas.Area.{Properties}
 use Rattle.lis_kept.specs.Telling.{declared_of, is_declared, state_of, is_had, is_named_left, is_used, AreUsed}
 use Rattle.lis_kept.specs.Links.{AreHeld}
 use Rattle.lis_kept.specs.Changes.{Declares}
-use Rattle.lis_kept.proofs.WordMore.{NewWord, learnt, sound_then, marks_then, declared_then, state_then, used_stays, no_new_link, word_here, word_other, declared_there, there_declared, sorted_declared, dict_kept}
+use Rattle.lis_kept.proofs.WordMore.{NewWord, learnt, sound_then, marks_then, declared_then, state_then, used_stays, no_new_link, word_other, declared_there, there_declared, sorted_declared, dict_kept}
 
 module _ (p : Kept) (t : Taxonomy) (held : AreHeld p t) {word : List ℕ} {number : ℕ} (form : is_declarable word ≡ true) (w : NewWord p word number (set p.declared number true) true) where
   abbrev q : Kept
@@ -50,21 +48,24 @@ module _ (p : Kept) (t : Taxonomy) (held : AreHeld p t) {word : List ℕ} {numbe
       by (inr differ) = used_stays p t held w n differ (used n (ap is_some (sym (word_other p t held w n differ)) ∙ some))
 
   pub declared_made : AreHeld q t × Declares word p q
-  declared_made = (record {
-    sound = sound_then p t held w;
-    links = record {
-      props = held.links.props;
-      edges = λ x y. held.links.edges x y ∙ sym (no_new_link p t held w (declarable_not_valued word form) x y);
-    };
-  }, record {
-    number = number;
-    below = w.below;
-    free = w.free;
-    parts = refl;
-    marks = marks_then p t held w;
-    state = λ at. state_then p t held w at ∙ ap (λ (ds : List (List ℕ)). record (state_of p at) { declared = ds }) declared_more;
-    used = used_then;
-  })
+  declared_made = (
+    record {
+      sound = sound_then p t held w;
+      links = record {
+        props = held.links.props;
+        edges = λ x y. held.links.edges x y ∙ sym (no_new_link p t held w (declarable_not_valued word form) x y);
+      };
+    },
+    record {
+      number = number;
+      below = w.below;
+      free = w.free;
+      parts = refl;
+      marks = marks_then p t held w;
+      state = λ at. state_then p t held w at ∙ ap (λ (ds : List (List ℕ)). record (state_of p at) { declared = ds }) declared_more;
+      used = used_then;
+    },
+  )
 
 -- the same, over what memory kept
 pub declares : (k p : Kept) (t : Taxonomy) (word : List ℕ) (number : ℕ) (dict : Dict) (bits marks : List Bool) → p ≡ k → AreHeld p t
@@ -89,7 +90,7 @@ declares k p t word number dict bits marks is held form kept new room below free
     let P : Kept → Type 0 = λ q. AreHeld q t × Declares word k q in
     let Q : Kept → Type 0 = λ q. AreHeld (learnt p t held w) t × Declares word q (learnt p t held w) in
     let same : learnt p t held w ≡ record p { dict = dict; declared = bits; marks = marks } =
-        ap (λ (d : Dict). record p { dict = d; declared = set p.declared number true; marks = set p.marks (block_of p.limits Properties number) true }) (sym dict_is)
-        ∙ (ap (λ (bs : List Bool). record p { dict = dict; declared = bs; marks = set p.marks (block_of p.limits Properties number) true }) (sym bits_are)
-        ∙ ap (λ (ms : List Bool). record p { dict = dict; declared = bits; marks = ms }) (sym marks_are)) in
+    ap (λ (d : Dict). record p { dict = d; declared = set p.declared number true; marks = set p.marks (block_of p.limits Properties number) true }) (sym dict_is)
+    ∙ (ap (λ (bs : List Bool). record p { dict = dict; declared = bs; marks = set p.marks (block_of p.limits Properties number) true }) (sym bits_are)
+    ∙ ap (λ (ms : List Bool). record p { dict = dict; declared = bits; marks = ms }) (sym marks_are)) in
     subst P same (subst Q is (declared_made p t held form w))

@@ -1,19 +1,17 @@
 -- A word that is known, and not declared.
-use Rattle.std.proofs.Common.{rules, ◌≡◌, ◌⊎◌, refl, sym, ap, ap₂, ◌∙◌, subst, inl, inr, ℕ, ◌+◌, ◌<◌, ◌≤◌, if◌then◌else◌, ◌&&◌, ◌||◌, ◌==◌, Bool, true, false, List, length, set, map, Option, Some, None, is_some, IsSome, IfSome, arith}
-use Rattle.std.specs.BTreeSet.{insert_key}
+use Rattle.std.proofs.Common.{rules, ◌≡◌, ◌⊎◌, refl, sym, ap, ◌∙◌, subst, inl, inr, ℕ, ◌<◌, if◌then◌else◌, ◌&&◌, ◌||◌, ◌==◌, Bool, true, false, List, length, set, Option, Some, None, is_some, IsSome, IfSome, arith}
 use Rattle.std.proofs.lemmas.Bool.{cases_eq, both_ways, false_from_ne_true}
 use Rattle.std.proofs.lemmas.Option.{same_Some}
 use Rattle.lis_graph.proofs.Members.{Among, among_insert_key, insert_key_old, map_among}
 use Rattle.lis_graph.proofs.Sets.{sorted_insert_key, sorted_from_rising}
 use Rattle.lis_blockmap.specs.Bitmap.{is_taken}
-use Rattle.lis_dict.specs.Dict.{Dict, IsDict, words, number_of, word_of, entry_cmp, with_entry}
+use Rattle.lis_dict.specs.Dict.{Dict, words, number_of, word_of, entry_cmp, with_entry}
 use Rattle.lis_dict.proofs.Laws.{among_from_number, word_from_number, number_below}
 use Rattle.lis_fields.specs.Layouts.{is_undeclared}
 use Rattle.lis_fields.proofs.Parts.{undeclared_word}
 use Rattle.lis_taxonomy.specs.Taxonomy.{Taxonomy, has_edge}
 use Rattle.lis_words.specs.Words.{word_cmp, same_word, is_valued, head_bytes}
 use Rattle.lis_model.specs.Sets.{with_word}
-use Rattle.lis_model.specs.State.{State}
 use Rattle.lis_laws.proofs.Members.{word_order, same_word_decides, same_words}
 use Rattle.lis_kept.specs.Kept.{Kept}
 use Rattle.lis_kept.specs.Areas.{block_of}
@@ -22,7 +20,7 @@ use Rattle.lis_kept.specs.Edges.{head_number, with_edge_to}
 use Rattle.lis_kept.specs.Telling.{bit_of, declared_of, is_declared, state_of}
 use Rattle.lis_kept.specs.Sound.{AreSound}
 use Rattle.lis_kept.specs.Links.{AreHeld, is_linked}
-use Rattle.lis_kept.specs.Changes.{Marks, Learns}
+use Rattle.lis_kept.specs.Changes.{Learns}
 use Rattle.lis_kept.proofs.OwnLinks.{unnamed_to, unnamed_from}
 use Rattle.lis_kept.proofs.Filing.{map_insert_key}
 use Rattle.lis_kept.proofs.HeadEdges.{has_edge-with_edge}
@@ -74,19 +72,22 @@ module _ (p : Kept) (t : Taxonomy) (held : AreHeld p t) {word : List ℕ} {numbe
       by (inr differ) = inl (sym (word_other p t held w n differ) ∙ is)
 
   pub learnt_made : AreHeld q linked × Learns word number p q
-  learnt_made = (record {
-    sound = sound_then p t held w;
-    links = record { props = same_props (head_number p.dict word) ∙ held.links.props; edges = links_then };
-  }, record {
-    below = w.below;
-    parts = inr (w.new, w.free, refl);
-    marks = marks_then p t held w;
-    words = map_insert_key (λ (e : List ℕ × ℕ). e.0) entry_cmp word_cmp (λ x y. refl) p.dict.entries (word, number);
-    named = word_here p t held w;
-    keeps = word_stays p t held w;
-    only = only_then;
-    state = λ at. state_then p t held w at ∙ ap (λ (ds : List (List ℕ)). record (state_of p at) { declared = ds }) declared_same;
-  })
+  learnt_made = (
+    record {
+      sound = sound_then p t held w;
+      links = record { props = same_props (head_number p.dict word) ∙ held.links.props; edges = links_then };
+    },
+    record {
+      below = w.below;
+      parts = inr (w.new, w.free, refl);
+      marks = marks_then p t held w;
+      words = map_insert_key (λ (e : List ℕ × ℕ). e.0) entry_cmp word_cmp (λ x y. refl) p.dict.entries (word, number);
+      named = word_here p t held w;
+      keeps = word_stays p t held w;
+      only = only_then;
+      state = λ at. state_then p t held w at ∙ ap (λ (ds : List (List ℕ)). record (state_of p at) { declared = ds }) declared_same;
+    },
+  )
 
 -- a new word, over what memory kept
 pub learns_new : (k p : Kept) (t u : Taxonomy) (word : List ℕ) (number : ℕ) (dict : Dict) (marks : List Bool) → p ≡ k → AreHeld p t
@@ -111,8 +112,8 @@ learns_new k p t u word number dict marks is held undeclared headed new room bel
     let R : Taxonomy → Type 0 = λ v. AreHeld (learnt p t held w) v × Learns word number k (learnt p t held w) in
     let Q : Kept → Type 0 = λ q. AreHeld (learnt p t held w) (with_edge_to t number (head_number p.dict word)) × Learns word number q (learnt p t held w) in
     let same : learnt p t held w ≡ record p { dict = dict; marks = marks } =
-        ap (λ (d : Dict). record p { dict = d; marks = set p.marks (block_of p.limits Properties number) true }) (sym dict_is)
-        ∙ ap (λ (ms : List Bool). record p { dict = dict; marks = ms }) (sym marks_are) in
+    ap (λ (d : Dict). record p { dict = d; marks = set p.marks (block_of p.limits Properties number) true }) (sym dict_is)
+    ∙ ap (λ (ms : List Bool). record p { dict = dict; marks = ms }) (sym marks_are) in
     subst P same (subst R (sym linked_is) (subst Q is (learnt_made p t held w)))
 
 -- a word that has a number
@@ -164,4 +165,3 @@ none_to p t held number free x = held.links.edges x number ∙ unnamed_to p held
 
 pub none_from : (p : Kept) (t : Taxonomy) → AreHeld p t → (number : ℕ) → word_of p.dict number ≡ None → (x : ℕ) → has_edge t number x ≡ false
 none_from p t held number free x = held.links.edges number x ∙ unnamed_from p held.sound number free x
-

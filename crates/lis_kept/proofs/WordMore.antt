@@ -1,14 +1,14 @@
 -- A word that gets a number.
-use Rattle.std.proofs.Common.{◌≡◌, ◌⊎◌, refl, sym, ap, ap₂, ◌∙◌, subst, inl, inr, ℕ, ◌+◌, ◌/◌, ◌<◌, ◌≤◌, ◌==◌, if◌then◌else◌, ◌&&◌, ◌||◌, nat_lt, Bool, true, false, cond, List, [], ◌∷◌, ◌++◌, length, map, set, get_or, Option, Some, None, is_some, IsSome, slice_get, arith, length-set}
+use Rattle.std.proofs.Common.{◌≡◌, ◌⊎◌, refl, sym, ap, ap₂, ◌∙◌, subst, inl, inr, ℕ, ◌<◌, ◌==◌, if◌then◌else◌, ◌&&◌, ◌||◌, nat_lt, Bool, true, false, List, [], ◌∷◌, ◌++◌, length, set, Option, Some, None, is_some, IsSome, arith, length-set}
 use Rattle.std.specs.Option.{option_to_list}
 use Rattle.std.specs.BTreeSet.{insert_key}
 use Rattle.std.specs.List.{flat_map, list_all, list_any, fold}
 use Rattle.std.specs.List.Sorted.{IsStrictlySortedBy}
-use Rattle.std.proofs.lemmas.Bool.{and_parts, and_from, both_ways, cases_eq, eq-eqb, eqb-true, ne_eqb, false_from_ne_true, or_cases, or_left, or_right}
+use Rattle.std.proofs.lemmas.Bool.{and_parts, and_from, both_ways, cases_eq, eq-eqb, ne_eqb, false_from_ne_true, or_cases, or_left, or_right}
 use Rattle.std.proofs.lemmas.Option.{same_Some}
 use Rattle.std.proofs.lemmas.List.Kept.{IsStrictlySortedBy-filter}
-use Rattle.lis_graph.proofs.Members.{Among, among_filter, filter_among, among_from_any, any_from_among, among_insert_key, insert_key_old, insert_key_new, map_among}
-use Rattle.lis_graph.proofs.Sets.{sorted_from_rising, sorted_insert_key}
+use Rattle.lis_graph.proofs.Members.{Among, among_filter, filter_among, among_from_any, any_from_among, map_among}
+use Rattle.lis_graph.proofs.Sets.{sorted_from_rising}
 use Rattle.lis_blockmap.specs.Bitmap.{is_taken}
 use Rattle.lis_dict.specs.Dict.{Dict, IsDict, words, number_of, word_of, with_entry}
 use Rattle.lis_dict.proofs.Laws.{among_from_number, word_from_number, number_from_word, number_of-with_entry, word_of-with_entry, length-with_entry, kept_with_entry}
@@ -19,17 +19,17 @@ use Rattle.lis_fields.specs.declared.slots.AxiomSlot.{AxiomSlot}
 use Rattle.lis_fields.specs.declared.slots.AxiomSlot.TheVariants.{Free as FreeAxiom, Pair}
 use Rattle.lis_taxonomy.specs.Taxonomy.{Taxonomy}
 use Rattle.lis_words.specs.Words.{word_cmp, same_word, is_kept_word, is_valued, head_bytes}
-use Rattle.lis_model.specs.Sets.{with_word, set_of}
-use Rattle.lis_model.specs.State.{State, File, pair_cmp}
-use Rattle.lis_laws.proofs.Members.{word_exact, word_order, same_word_decides, same_words}
+use Rattle.lis_model.specs.Sets.{set_of}
+use Rattle.lis_model.specs.State.{File, pair_cmp}
+use Rattle.lis_laws.proofs.Members.{word_order, same_word_decides}
 use Rattle.lis_laws.proofs.Chains.{head_not_valued}
 use Rattle.lis_laws.proofs.Counts.{all_among, all_weaker}
 use Rattle.lis_kept.specs.Kept.{Kept, property_by, property_at}
 use Rattle.lis_kept.specs.Areas.{Area, slots_of, block_of, spelled}
 use Rattle.lis_kept.specs.Areas.Area.{Properties, Axioms, Files, Rows, Bitmap}
-use Rattle.lis_kept.specs.Telling.{bit_of, is_declared, declared_of, words_told, pair_by, pair_told, pairs_told, axioms_of, file_told, state_of, is_left_of, is_head_by, is_left_head_of, is_named_left, is_had, is_used, AreUsed}
+use Rattle.lis_kept.specs.Telling.{bit_of, is_declared, declared_of, words_told, pair_by, pair_told, axioms_of, file_told, state_of, is_left_of, is_head_by, is_left_head_of, is_named_left, is_had, is_used}
 use Rattle.lis_kept.specs.Sound.{AreSound, is_sound_record}
-use Rattle.lis_kept.specs.Links.{AreHeld, has_pair, is_pair, is_own_link, is_linked}
+use Rattle.lis_kept.specs.Links.{AreHeld, has_pair, is_linked}
 use Rattle.lis_kept.specs.Changes.{Marks}
 use Rattle.lis_kept.proofs.InArea.{among_slots}
 use Rattle.lis_kept.proofs.Formed.{some_word}
@@ -38,7 +38,7 @@ use Rattle.lis_kept.proofs.Filing.{map_all, filed_rec}
 use Rattle.lis_kept.proofs.OwnLinks.{own_link_is, slot_at, none_before}
 
 -- ---- lists
-flat_all : {X Y : Type 0} (f g : X → List Y) (xs : List X) → ((x : X) → Among xs x → f x ≡ g x) → flat_map f xs ≡ flat_map g xs
+pub flat_all : {X Y : Type 0} (f g : X → List Y) (xs : List X) → ((x : X) → Among xs x → f x ≡ g x) → flat_map f xs ≡ flat_map g xs
 flat_all f g [] same = refl
 flat_all f g (x ∷ xs) same = ap₂ (λ ys zs. ys ++ zs) (same x (inl refl)) (flat_all f g xs (λ z m. same z (inr m)))
 

@@ -1,7 +1,7 @@
 -- The edge from a valued word to its head.
 use Rattle.std.specs.Prelude.{ℕ, if◌then◌else◌, Option, Some, None, List}
 use Rattle.lis_dict.specs.Dict.{Dict, number_of}
-use Rattle.lis_taxonomy.specs.Taxonomy.{Taxonomy, with_edge}
+use Rattle.lis_taxonomy.specs.Taxonomy.{Taxonomy, with_edge, without_edge}
 use Rattle.lis_words.specs.Words.{is_valued, head_bytes}
 
 -- the number of the head of a valued word
@@ -12,3 +12,8 @@ head_number dict word = if is_valued word then number_of dict (head_bytes word) 
 abbrev pub with_edge_to : Taxonomy → ℕ → Option ℕ → Taxonomy
 with_edge_to t number None = t
 with_edge_to t number (Some head) = with_edge t number head
+
+-- and without it
+abbrev pub without_edge_to : Taxonomy → ℕ → Option ℕ → Taxonomy
+without_edge_to t number None = t
+without_edge_to t number (Some head) = without_edge t number head

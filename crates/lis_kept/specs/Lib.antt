@@ -8,3 +8,4 @@ pub mod Changes
 pub mod Staging
 pub mod Inside
 pub mod Edges
+pub mod Forgetting

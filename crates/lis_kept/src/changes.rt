@@ -55,7 +55,10 @@ fn mark_file(marks: &mut Flags, limits: &Limits, slot: u16)
     requires long { data_start limits.now ≤ length marks.old }
     ensures { marks.new ≡ slice_set (slice_set marks.old (block_of limits.now Files slot) true) (bitmap_start limits.now) true }
 {
-    marks.put(files_start(limits) + u32::from(slot / FILES_PER_BLOCK), true);
+    marks.put(
+        files_start(limits) + u32::from(slot / FILES_PER_BLOCK),
+        true,
+    );
     marks.put(bitmap_start(limits), true);
 }
 

@@ -3,13 +3,15 @@
 ghost use Rattle.std.specs.Prelude.{◌≡◌, ℕ, ◌+◌, ◌<◌, ◌≤◌, false, length, replicate, IsTrue};
 ghost use Rattle.lis_model.specs.Image.{bitmap_start, data_start, image_blocks};
 
-use lis_bits::Flags;
-use crate::places::{PROPERTIES_START, axioms_start, bitmap_start, data_start, files_start, rows_start};
+use crate::places::{
+    PROPERTIES_START, axioms_start, bitmap_start, data_start, files_start, rows_start,
+};
 use crate::rows::write_rows;
 use crate::spelling::{
     AXIOMS_PER_BLOCK, FILES_PER_BLOCK, PROPERTIES_PER_BLOCK, write_axioms, write_files,
     write_properties,
 };
+use lis_bits::Flags;
 use lis_blockmap::BlockMap;
 use lis_catalog::Catalog;
 use lis_dict::Dict;

@@ -1,7 +1,7 @@
 //! Changes of the words that memory keeps.
 
-ghost use Rattle.std.specs.Prelude.{◌≡◌, ◌≢◌, ℕ, ◌<◌, ◌≤◌, true, false, None, length, slice_set, IsTrue, IsSome, IfSome};
-ghost use Rattle.lis_dict.specs.Dict.{number_of};
+ghost use Rattle.std.specs.Prelude.{◌≡◌, ◌≢◌, ℕ, ◌<◌, ◌≤◌, true, false, None, [], ◌∷◌, length, slice_set, IsTrue, IsSome, IfSome};
+ghost use Rattle.lis_dict.specs.Dict.{number_of, word_of};
 ghost use Rattle.lis_fields.specs.Layouts.{is_undeclared};
 ghost use Rattle.lis_model.specs.Image.{data_start};
 ghost use Rattle.lis_model.specs.Ranges.{are_in_range};
@@ -9,9 +9,10 @@ ghost use Rattle.lis_model.specs.State.{is_declarable};
 ghost use Rattle.lis_taxonomy.specs.Taxonomy.{has_edge};
 ghost use Rattle.lis_words.specs.Words.{is_valued, head_bytes};
 ghost use Rattle.lis_kept.specs.Areas.{block_of};
-ghost use Rattle.lis_kept.specs.Edges.{head_number, with_edge_to};
+ghost use Rattle.lis_kept.specs.Edges.{head_number, with_edge_to, without_edge_to};
+ghost use Rattle.lis_kept.specs.Forgetting.{MayGo};
 ghost use Rattle.lis_kept.specs.Areas.Area.{Properties};
-ghost use Rattle.lis_kept.specs.Changes.{Declares, Learns};
+ghost use Rattle.lis_kept.specs.Changes.{Declares, Learns, Forgets};
 
 use crate::parts::Parts;
 use crate::places::PROPERTIES_START;
@@ -29,7 +30,10 @@ fn mark_property(marks: &mut Flags, limits: &Limits, number: u16)
     requires long { data_start limits.now ≤ length marks.old }
     ensures { marks.new ≡ slice_set marks.old (block_of limits.now Properties number) true }
 {
-    marks.put(PROPERTIES_START + u32::from(number / PROPERTIES_PER_BLOCK), true);
+    marks.put(
+        PROPERTIES_START + u32::from(number / PROPERTIES_PER_BLOCK),
+        true,
+    );
 }
 
 // The number of the head of a valued word.
@@ -55,6 +59,21 @@ fn link_head(taxonomy: &mut Taxonomy, number: u16, head: Option<u16>)
         return;
     };
     let Ok(()) = taxonomy.add(u32::from(number), u32::from(head)) else {
+        unreachable!()
+    };
+}
+
+// Takes the edge from the number of a word to that of its head away, if it has one.
+fn unlink_head(taxonomy: &mut Taxonomy, number: u16, head: Option<u16>)
+    requires number { number < taxonomy.old.props }
+    requires head { IfSome head (λ h. h < taxonomy.old.props) }
+    requires there { IfSome head (λ h. IsTrue (has_edge taxonomy.old number h)) }
+    ensures { taxonomy.new ≡ without_edge_to taxonomy.old number head }
+{
+    let Some(head) = head else {
+        return;
+    };
+    let Ok(()) = taxonomy.remove(u32::from(number), u32::from(head)) else {
         unreachable!()
     };
 }
@@ -94,5 +113,19 @@ impl Parts {
         link_head(&mut self.taxonomy, number, head);
         mark_property(&mut self.marks, &self.limits, number);
         number
+    }
+
+    /// Forgets the word of a number that is not in use, if it has one.
+    pub fn forget(&mut self, number: u16)
+        requires { IsSome (word_of self.old.dict number) → MayGo number self.old }
+        ensures { Forgets (number ∷ []) self.old self.new }
+    {
+        let Some(word) = self.dict.word_of(number) else {
+            return;
+        };
+        let head = head_number(&self.dict, &word);
+        self.dict.remove(&word);
+        unlink_head(&mut self.taxonomy, number, head);
+        mark_property(&mut self.marks, &self.limits, number);
     }
 }

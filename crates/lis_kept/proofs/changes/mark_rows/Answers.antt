@@ -1,4 +1,4 @@
-use Rattle.std.proofs.Common.{◌≡◌, ◌+◌, ◌/◌, sym, ap, ◌∙◌, length, set, map, take, true, arith}
+use Rattle.std.proofs.Common.{◌+◌, ◌/◌, sym, ap, ◌∙◌, length, set, map, take, true, arith}
 use Rattle.lis_content.specs.Content.{marked}
 use Rattle.lis_content.proofs.Numbers.{length-marked}
 use Rattle.lis_kept.specs.Areas.{block_of}

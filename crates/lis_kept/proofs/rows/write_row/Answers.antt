@@ -1,4 +1,4 @@
-use Rattle.std.proofs.Common.{rules, ◌≡◌, length, replicate, ap, ◌∙◌, arith}
+use Rattle.std.proofs.Common.{rules, ◌≡◌, length, replicate, ◌∙◌}
 use Rattle.lis_kept.proofs.RowBytes.{row_bytes_none}
 use Rattle.lis_kept.proofs.rows.write_row.Goals as goal
 

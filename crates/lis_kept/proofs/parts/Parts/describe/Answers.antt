@@ -1,4 +1,4 @@
-use Rattle.std.proofs.Common.{◌≡◌, ◌∙◌, map, set, ap, arith}
+use Rattle.std.proofs.Common.{◌∙◌, map, set, ap, arith}
 use Rattle.lis_ext.specs.Ext.{Ext}
 use Rattle.lis_ext.specs.Numbers.{differs}
 use Rattle.lis_content.specs.Content.{marked}

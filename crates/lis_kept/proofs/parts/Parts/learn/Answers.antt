@@ -1,10 +1,9 @@
-use Rattle.std.proofs.Common.{◌≡◌, ◌∙◌, ◌<◌, ℕ, true, Some, None, List, length, IsSome, IfSome, set, sym, ap, subst, arith}
+use Rattle.std.proofs.Common.{◌≡◌, ◌∙◌, ◌<◌, ℕ, true, None, List, length, IsSome, sym, ap, subst}
 use Rattle.lis_dict.specs.Dict.{number_of}
 use Rattle.lis_fields.specs.Layouts.{is_undeclared}
 use Rattle.lis_words.specs.Words.{is_valued, head_bytes}
 use Rattle.lis_kept.specs.Kept.{Kept}
 use Rattle.lis_kept.specs.Edges.{with_edge_to}
-use Rattle.lis_kept.specs.Changes.{Learns}
 use Rattle.lis_kept.proofs.WordMore.{added_word}
 use Rattle.lis_kept.proofs.WordLearnt.{head_below, head_apart, none_to, none_from, learns_new, learns_there}
 use Rattle.lis_kept.specs.contracts.parts.Parts.{the_view}

@@ -1,4 +1,4 @@
-use Rattle.std.proofs.Common.{◌≡◌, ◌<◌, ℕ, true, List, sym, ◌∙◌, subst, arith}
+use Rattle.std.proofs.Common.{◌≡◌, ◌<◌, ℕ, true, List, sym, subst, arith}
 use Rattle.lis_model.specs.Image.{bitmap_start}
 use Rattle.lis_fields.specs.Layouts.{is_axiom}
 use Rattle.lis_fields.specs.declared.slots.AxiomSlot.{AxiomSlot}

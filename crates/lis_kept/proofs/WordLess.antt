@@ -1,0 +1,360 @@
+-- A word that loses its number.
+use Rattle.std.proofs.Common.{rules, ◌≡◌, ◌⊎◌, refl, sym, ap, ap₂, ◌∙◌, subst, inl, inr, ℕ, ◌<◌, ◌≤◌, ◌==◌, if◌then◌else◌, ◌&&◌, ◌||◌, not, nat_lt, Bool, true, false, List, [], ◌∷◌, length, map, set, get_or, Option, Some, None, is_some, IsSome, IfSome, slice_get, arith, length-set}
+use Rattle.std.specs.Option.{option_to_list}
+use Rattle.std.specs.BTreeSet.{insert_key}
+use Rattle.std.specs.List.{list_all, list_any, fold}
+use Rattle.std.proofs.lemmas.Bool.{and_parts, and_from, both_ways, cases_eq, cases_lt, eq-eqb, eqb-true, ne_eqb, false_from_ne_true}
+use Rattle.std.proofs.lemmas.List.{get_or_past}
+use Rattle.std.proofs.lemmas.List.Elements.{Contains-get_or}
+use Rattle.lis_graph.proofs.Members.{Among, among_from_any, among_from_contains, any_from_among}
+use Rattle.lis_blockmap.specs.Bitmap.{is_taken}
+use Rattle.lis_content.specs.Content.{has_number}
+use Rattle.lis_content.proofs.Numbers.{neither}
+use Rattle.lis_dict.specs.Dict.{Dict, IsDict, number_of, word_of, without_word}
+use Rattle.lis_dict.proofs.Laws.{number_from_word, word_from_number, number_of-without_word, word_of-without_word, length-without_word, kept_without_word}
+use Rattle.lis_catalog.specs.Catalog.{Filed, rec_at}
+use Rattle.lis_ext.specs.Ext.{Ext, has}
+use Rattle.lis_fields.specs.Records.{FileRecord}
+use Rattle.lis_fields.specs.Layouts.{prop_bytes, is_prop, is_record}
+use Rattle.lis_fields.specs.declared.slots.AxiomSlot.{AxiomSlot}
+use Rattle.lis_fields.specs.declared.slots.AxiomSlot.TheVariants.{Free as FreeAxiom, Pair}
+use Rattle.lis_taxonomy.specs.Taxonomy.{Taxonomy, has_edge}
+use Rattle.lis_words.specs.Words.{same_word, is_valued, head_bytes}
+use Rattle.lis_model.specs.Sets.{set_of}
+use Rattle.lis_model.specs.State.{File, pair_cmp}
+use Rattle.lis_laws.proofs.Members.{same_word_decides, same_words}
+use Rattle.lis_laws.proofs.Counts.{all_weaker}
+use Rattle.lis_kept.specs.Kept.{Kept, property_by, property_at}
+use Rattle.lis_kept.specs.Areas.{Area, slots_of, block_of, spelled}
+use Rattle.lis_kept.specs.Areas.Area.{Properties, Axioms, Files, Rows, Bitmap}
+use Rattle.lis_kept.specs.Telling.{bit_of, is_declared, declared_of, pair_by, pair_told, axioms_of, file_told, state_of, is_left_of, is_head_by, is_left_head_of, is_named_left, is_had, is_used}
+use Rattle.lis_kept.specs.Sound.{AreSound, is_sound_record}
+use Rattle.lis_kept.specs.Links.{AreHeld, is_pair, has_pair, is_linked}
+use Rattle.lis_kept.specs.Edges.{head_number, without_edge_to}
+use Rattle.lis_kept.specs.Forgetting.{MayGo}
+use Rattle.lis_kept.specs.Changes.{Marks, Forgets}
+use Rattle.lis_kept.proofs.InArea.{among_slots}
+use Rattle.lis_kept.proofs.Formed.{named_below}
+use Rattle.lis_kept.proofs.Marking.{block_marked}
+use Rattle.lis_kept.proofs.Filing.{map_all, filed_rec, number_from_among}
+use Rattle.lis_kept.proofs.HeadEdges.{no_more_edges, other_edges, none_left}
+use Rattle.lis_kept.proofs.OwnLinks.{own_link_is, slot_at, among_slot, unnamed_to, unnamed_from}
+use Rattle.lis_kept.proofs.WordMore.{flat_all, sorted_declared, declared_there, there_declared}
+
+any_same : {X : Type 0} (f g : X → Bool) (xs : List X) → ((x : X) → Among xs x → f x ≡ g x) → list_any f xs ≡ list_any g xs
+any_same f g [] same = refl
+any_same f g (x ∷ xs) same = ap₂ (λ a b. a || b) (same x (inl refl)) (any_same f g xs (λ z m. same z (inr m)))
+
+-- a number that some file has is had
+had_from : (e : Ext) (n slot : ℕ) → has e n slot ≡ true → is_had e n ≡ true
+had_from e n slot has_it = by (cases_lt slot (length e.sets))
+  where
+    by : (slot < length e.sets) ⊎ (length e.sets ≤ slot) → is_had e n ≡ true
+    by (inl lt) = any_from_among (λ ns. has_number ns n) e.sets (get_or e.sets slot []) (among_from_contains e.sets (get_or e.sets slot []) (Contains-get_or e.sets slot [] lt)) has_it
+    by (inr past) = let none : has e n slot ≡ false = ap (λ ns. has_number ns n) (get_or_past e.sets slot [] past) in absurd (both_ways (has e n slot) none has_it)
+
+module _ (p : Kept) (t : Taxonomy) (held : AreHeld p t) {word : List ℕ} {number : ℕ} (there : word_of p.dict number ≡ Some word) (go : MayGo number p) where
+  abbrev less : Dict
+  less = without_word p.dict word
+
+  abbrev pub forgotten : Kept
+  forgotten = record p { dict = less; marks = set p.marks (block_of p.limits Properties number) true }
+
+  -- ---- why it is not in use
+  unused_parts : ((is_taken p.declared number || is_had p.ext number) ≡ false) × (is_named_left p number ≡ false)
+  unused_parts = neither (is_taken p.declared number || is_had p.ext number) (is_named_left p number) go.unused
+
+  not_flagged : is_taken p.declared number ≡ false
+  not_flagged = (neither (is_taken p.declared number) (is_had p.ext number) unused_parts.0).0
+
+  not_had : is_had p.ext number ≡ false
+  not_had = (neither (is_taken p.declared number) (is_had p.ext number) unused_parts.0).1
+
+  not_left : (slot left right : ℕ) → slice_get p.axioms slot ≡ Some (Pair left right) → Among p.axioms (Pair left right) → left ≡ number → ⊥
+  not_left slot left right is m same =
+      let none = (neither (list_any (is_left_of number) p.axioms) (list_any (is_left_head_of p.dict number) p.axioms) unused_parts.1).0 in
+      both_ways (list_any (is_left_of number) p.axioms) none (any_from_among (is_left_of number) p.axioms (Pair left right) m (eq-eqb left number same))
+
+  -- ---- words and numbers
+  at : number_of p.dict word ≡ Some number
+  at = number_from_word p.dict held.sound.dict word number there
+
+  word_then : (n : ℕ) → word_of less n ≡ (if number == n then None else word_of p.dict n)
+  word_then n = word_of-without_word p.dict word held.sound.dict number at n
+
+  word_gone : word_of less number ≡ None
+  word_gone = word_then number ∙ ap (λ b. if b then None else word_of p.dict number) (eq-eqb number number refl)
+
+  pub word_other : (n : ℕ) → (n ≡ number → ⊥) → word_of less n ≡ word_of p.dict n
+  word_other n differ = word_then n ∙ ap (λ b. if b then None else word_of p.dict n) (ne_eqb number n (λ e. differ (sym e)))
+
+  not_gone : (n : ℕ) (v : List ℕ) → word_of less n ≡ Some v → n ≡ number → ⊥
+  not_gone n v is same = let both : ◌≡◌ {A = Option (List ℕ)} None (Some v) = sym word_gone ∙ (ap (word_of less) (sym same) ∙ is) in cc
+
+  some_stays : (n : ℕ) → (n ≡ number → ⊥) → IsSome (word_of p.dict n) → IsSome (word_of less n)
+  some_stays n differ some = ap is_some (word_other n differ) ∙ some
+
+  number_then : (v : List ℕ) → number_of less v ≡ (if same_word word v then None else number_of p.dict v)
+  number_then v = number_of-without_word p.dict word v
+
+  dict_kept : IsDict less
+  dict_kept = kept_without_word p.dict word held.sound.dict (omega (arith, length-without_word p.dict word held.sound.dict number at, held.sound.dict.few))
+
+  -- ---- soundness
+  head_stays : (n : ℕ) (v : List ℕ) → word_of less n ≡ Some v → is_valued v ≡ true → IsSome (number_of less (head_bytes v))
+  head_stays n v is valued = ap is_some (number_then (head_bytes v)) ∙ by (same_word word (head_bytes v)) refl
+    where
+      was : word_of p.dict n ≡ Some v
+      was = sym (word_other n (not_gone n v is)) ∙ is
+
+      by : (b : Bool) → same_word word (head_bytes v) ≡ b → is_some (if b then None else number_of p.dict (head_bytes v)) ≡ true
+      by false e = held.sound.heads n v was valued
+      by true e =
+          let same = (same_word_decides word (head_bytes v)).0 e in
+          let yes : is_head_by (word_of p.dict n) (word_of p.dict number) ≡ true =
+          ap₂ is_head_by was there ∙ and_from (is_valued v) (same_word (head_bytes v) word) valued ((same_word_decides (head_bytes v) word).1 (sym same)) in
+          absurd (both_ways (is_head_by (word_of p.dict n) (word_of p.dict number)) (go.heads n) yes)
+
+  property_then : (n : ℕ) → (n ≡ number) ⊎ (n ≡ number → ⊥) → is_prop (property_at less p.declared n) ≡ true
+  property_then n (inl same) = ap (λ o. is_prop (property_by o (is_taken p.declared n))) (ap (word_of less) same ∙ word_gone)
+  property_then n (inr differ) = ap (λ o. is_prop (property_by o (is_taken p.declared n))) (word_other n differ) ∙ held.sound.properties n
+
+  not_tag : (slot : ℕ) (rec : FileRecord) → rec_at p.catalog slot ≡ Some rec → (n : ℕ) → Among rec.tags n → n ≡ number → ⊥
+  not_tag slot rec is n m same = both_ways (has_number rec.tags number) (go.tags slot rec is) (number_from_among rec.tags number (subst (λ k. Among rec.tags k) same m))
+
+  record_then : (slot : ℕ) (rec : FileRecord) → rec_at p.catalog slot ≡ Some rec → is_sound_record less p.limits.blocks rec ≡ true
+  record_then slot rec is =
+      let most = and_parts (is_record rec && list_all (λ n. is_some (word_of p.dict n)) rec.tags) (list_all (λ n. nat_lt n p.limits.blocks) rec.blocks) (held.sound.records slot rec is) in
+      let both = and_parts (is_record rec) (list_all (λ n. is_some (word_of p.dict n)) rec.tags) most.0 in
+      and_from (is_record rec && list_all (λ n. is_some (word_of less n)) rec.tags) (list_all (λ n. nat_lt n p.limits.blocks) rec.blocks)
+      (and_from (is_record rec) (list_all (λ n. is_some (word_of less n)) rec.tags) both.0
+      (all_weaker (λ n. is_some (word_of p.dict n)) (λ n. is_some (word_of less n)) rec.tags (λ n m some. some_stays n (not_tag slot rec is n m) some) both.1)) most.1
+
+  pub sound_then : AreSound forgotten
+  sound_then = record {
+    range = held.sound.range;
+    numbers = held.sound.numbers;
+    dict = dict_kept;
+    heads = head_stays;
+    bits = held.sound.bits;
+    flagged = λ n bit. some_stays n (λ same. both_ways (is_taken p.declared number) not_flagged (subst (λ m. is_taken p.declared m ≡ true) same bit)) (held.sound.flagged n bit);
+    properties = λ n. property_then n (cases_eq n number);
+    axiom_count = held.sound.axiom_count;
+    axioms = λ slot left right is.
+        let one = held.sound.axioms slot left right is in
+        record {
+          below = one.below;
+          left = some_stays left (not_left slot left right is (among_slot p.axioms slot (Pair left right) is)) one.left;
+          right = some_stays right (go.rights slot left right is) one.right;
+        };
+    slots = held.sound.slots;
+    catalog = held.sound.catalog;
+    records = record_then;
+    blocks = held.sound.blocks;
+    rows = held.sound.rows;
+    files = held.sound.files;
+    named = λ n slot has_it.
+        some_stays n (λ same. both_ways (is_had p.ext number) not_had (subst (λ m. is_had p.ext m ≡ true) same (had_from p.ext n slot has_it))) (held.sound.named n slot has_it);
+    settled = held.sound.settled;
+    marks = omega (arith, length-set p.marks (block_of p.limits Properties number) true, held.sound.marks);
+  }
+
+  number_below : number < p.limits.props
+  number_below = named_below p held.sound number (ap is_some there)
+
+  -- ---- the marked block
+  spelled_before : (area : Area) (n : ℕ) → n < (slots_of p.limits area).count → (block_of p.limits area n ≡ block_of p.limits Properties number → ⊥) → spelled forgotten area n ≡ spelled p area n
+  spelled_before Properties n lt apart =
+      let differ : n ≡ number → ⊥ = λ e. apart (ap (block_of p.limits Properties) e) in
+      ap (λ o. prop_bytes (property_by o (is_taken p.declared n))) (word_other n differ)
+  spelled_before Axioms n lt apart = refl
+  spelled_before Files n lt apart = refl
+  spelled_before Rows n lt apart = refl
+  spelled_before Bitmap n lt apart = refl
+
+  pub marks_then : Marks 1 p forgotten
+  marks_then =
+      block_marked p forgotten (block_of p.limits Properties number) refl refl
+      (omega (arith, (among_slots p.limits held.sound.range Properties number number_below).1, held.sound.marks)) spelled_before
+
+  -- ---- what is told
+  pair_same : (a : AxiomSlot) → Among p.axioms a → pair_told less a ≡ pair_told p.dict a
+  pair_same FreeAxiom m = refl
+  pair_same (Pair left right) m =
+      let found = slot_at p.axioms (Pair left right) m in
+      ap₂ pair_by (word_other left (not_left found.0 left right found.1 m)) (word_other right (go.rights found.0 left right found.1))
+
+  axioms_then : axioms_of forgotten ≡ axioms_of p
+  axioms_then = ap (fold (insert_key pair_cmp) []) (flat_all (pair_told less) (pair_told p.dict) p.axioms pair_same)
+
+  file_same : (blocks : ℕ → List ℕ) (f : Filed) → Among p.catalog.entries f → file_told p.limits less blocks f ≡ file_told p.limits p.dict blocks f
+  file_same blocks f m =
+      let is = filed_rec p.catalog held.sound.catalog f m in
+      ap (λ (ws : List (List ℕ)). record (file_told p.limits p.dict blocks f) { assigned = ws })
+      (ap set_of (flat_all (λ n. option_to_list (word_of less n)) (λ n. option_to_list (word_of p.dict n)) f.rec.tags
+      (λ n k. ap option_to_list (word_other n (not_tag f.slot f.rec is n k)))))
+
+  declared_then : (v : List ℕ) → is_declared forgotten v ≡ is_declared p v
+  declared_then v = ap (bit_of p.declared) (number_then v) ∙ by (same_word word v) refl
+    where
+      by : (b : Bool) → same_word word v ≡ b → bit_of p.declared (if b then None else number_of p.dict v) ≡ is_declared p v
+      by false e = refl
+      by true e = sym (ap (bit_of p.declared) (ap (number_of p.dict) (sym ((same_word_decides word v).0 e)) ∙ at) ∙ not_flagged)
+
+  declared_same : declared_of forgotten ≡ declared_of p
+  declared_same =
+      same_words (declared_of forgotten) (declared_of p) (sorted_declared forgotten dict_kept) (sorted_declared p held.sound.dict)
+      (λ v m. declared_there p v (sym (declared_then v) ∙ there_declared forgotten v m))
+      (λ v m. declared_there forgotten v (declared_then v ∙ there_declared p v m))
+
+  pub state_then : (blocks : ℕ → List ℕ) → state_of forgotten blocks ≡ state_of p blocks
+  state_then blocks =
+      ap (λ (ds : List (List ℕ)). record (state_of forgotten blocks) { declared = ds }) declared_same
+      ∙ (ap (λ (axioms : List (List ℕ × List ℕ)). record (state_of p blocks) { axioms = axioms; files = map (file_told p.limits less blocks) p.catalog.entries }) axioms_then
+      ∙ ap (λ (fs : List File). record (state_of p blocks) { files = fs })
+      (map_all (file_told p.limits less blocks) (file_told p.limits p.dict blocks) p.catalog.entries (file_same blocks)))
+
+  -- ---- links
+  no_pair_from : (y : ℕ) → has_pair p.axioms number y ≡ false
+  no_pair_from y = false_from_ne_true (has_pair p.axioms number y) (λ has. let found = among_from_any (is_pair number y) p.axioms has in by found.0 found.1 found.2)
+    where
+      by : (a : AxiomSlot) → Among p.axioms a → is_pair number y a ≡ true → ⊥
+      by FreeAxiom m is = cc
+      by (Pair left right) m is =
+          let found = slot_at p.axioms (Pair left right) m in
+          not_left found.0 left right found.1 m (eqb-true left number (and_parts (left == number) (right == y) is).0)
+
+  no_pair_to : (x : ℕ) → has_pair p.axioms x number ≡ false
+  no_pair_to x = false_from_ne_true (has_pair p.axioms x number) (λ has. let found = among_from_any (is_pair x number) p.axioms has in by found.0 found.1 found.2)
+    where
+      by : (a : AxiomSlot) → Among p.axioms a → is_pair x number a ≡ true → ⊥
+      by FreeAxiom m is = cc
+      by (Pair left right) m is =
+          let found = slot_at p.axioms (Pair left right) m in
+          go.rights found.0 left right found.1 (eqb-true right number (and_parts (left == x) (right == number) is).1)
+
+  edge_is : (y : ℕ) → has_edge t number y ≡ is_head_by (Some word) (word_of p.dict y)
+  edge_is y =
+      held.links.edges number y
+      ∙ (ap₂ (λ a b. a || b) (own_link_is p held.sound.dict number y ∙ ap (λ o. is_head_by o (word_of p.dict y)) there) (no_pair_from y)
+      ∙ whole (is_head_by (Some word) (word_of p.dict y)))
+    where
+      whole : (b : Bool) → (b || false) ≡ b
+      whole true = refl
+      whole false = refl
+
+  -- the only edge is the one to the head
+  head_edge : (y : ℕ) → has_edge t number y ≡ true → head_number p.dict word ≡ Some y
+  head_edge y is = by (word_of p.dict y) refl (sym (edge_is y) ∙ is)
+    where
+      by : (o : Option (List ℕ)) → word_of p.dict y ≡ o → is_head_by (Some word) o ≡ true → head_number p.dict word ≡ Some y
+      by None e none = absurd cc
+      by (Some v) e both =
+          let parts = and_parts (is_valued word) (same_word (head_bytes word) v) both in
+          let head : head_bytes word ≡ v = (same_word_decides (head_bytes word) v).0 parts.1 in
+          ap (λ b. if b then number_of p.dict (head_bytes word) else None) parts.0 ∙ (ap (number_of p.dict) head ∙ number_from_word p.dict held.sound.dict v y e)
+
+  pub edge_to_head : (o : Option ℕ) → o ≡ head_number p.dict word → IfSome o (λ h. has_edge t number h ≡ true)
+  edge_to_head None is = search rules
+  edge_to_head (Some h) is = by (is_valued word) refl is
+    where
+      by : (b : Bool) → is_valued word ≡ b → ◌≡◌ {A = Option ℕ} (Some h) (if b then number_of p.dict (head_bytes word) else None) → has_edge t number h ≡ true
+      by false e none = absurd cc
+      by true e some =
+          edge_is h
+          ∙ (ap (is_head_by (Some word)) (word_from_number p.dict held.sound.dict (head_bytes word) h (sym some))
+          ∙ and_from (is_valued word) (same_word (head_bytes word) (head_bytes word)) e ((same_word_decides (head_bytes word) (head_bytes word)).1 refl))
+
+  abbrev unlinked : Taxonomy
+  unlinked = without_edge_to t number (head_number p.dict word)
+
+  links_then : (x y : ℕ) → has_edge unlinked x y ≡ is_linked forgotten x y
+  links_then x y = by (cases_eq x number) (cases_eq y number)
+    where
+      by : (x ≡ number) ⊎ (x ≡ number → ⊥) → (y ≡ number) ⊎ (y ≡ number → ⊥) → has_edge unlinked x y ≡ is_linked forgotten x y
+      by (inl same) other =
+          subst (λ n. has_edge unlinked n y ≡ is_linked forgotten n y) (sym same)
+          (none_left t number (head_number p.dict word) y (head_edge y) ∙ sym (unnamed_from forgotten sound_then number word_gone y))
+      by (inr differ) (inl same) =
+          let none : has_edge t x number ≡ false = held.links.edges x number ∙ ap₂ (λ a b. a || b) (own_link_is p held.sound.dict x number ∙ go.heads x) (no_pair_to x) in
+          subst (λ n. has_edge unlinked x n ≡ is_linked forgotten x n) (sym same)
+          (no_more_edges t number (head_number p.dict word) x number none ∙ sym (unnamed_to forgotten sound_then number word_gone x))
+      by (inr differ) (inr apart) =
+          other_edges t number (head_number p.dict word) x y differ
+          ∙ (held.links.edges x y
+          ∙ ap (λ b. b || has_pair p.axioms x y)
+          (own_link_is p held.sound.dict x y ∙ (sym (ap₂ is_head_by (word_other x differ) (word_other y apart)) ∙ sym (own_link_is forgotten dict_kept x y))))
+
+  same_props : (o : Option ℕ) → (without_edge_to t number o).props ≡ t.props
+  same_props None = refl
+  same_props (Some h) = refl
+
+  -- ---- what is used
+  used_then : (n : ℕ) → is_some (word_of forgotten.dict n) ≡ true → is_used forgotten n ≡ is_used p n
+  used_then n some =
+      ap (λ b. is_taken p.declared n || is_had p.ext n || (list_any (is_left_of n) p.axioms || b))
+      (any_same (is_left_head_of less n) (is_left_head_of p.dict n) p.axioms alike)
+    where
+      still : n ≡ number → ⊥
+      still same = both_ways (is_some (word_of less n)) (ap is_some (ap (word_of less) same ∙ word_gone)) some
+
+      alike : (a : AxiomSlot) → Among p.axioms a → is_left_head_of less n a ≡ is_left_head_of p.dict n a
+      alike FreeAxiom m = refl
+      alike (Pair left right) m =
+          let found = slot_at p.axioms (Pair left right) m in
+          ap₂ is_head_by (word_other left (not_left found.0 left right found.1 m)) (word_other n still)
+
+  words_then : (n : ℕ) → word_of less n ≡ (if has_number (number ∷ []) n && not (is_used p n) then None else word_of p.dict n)
+  words_then n = by (cases_eq number n)
+    where
+      by : (number ≡ n) ⊎ (number ≡ n → ⊥) → word_of less n ≡ (if has_number (number ∷ []) n && not (is_used p n) then None else word_of p.dict n)
+      by (inl same) =
+          ap (word_of less) (sym same) ∙ (word_gone
+          ∙ sym (ap₂ (λ a b. if (a || false) && not b then None else word_of p.dict n) (eq-eqb number n same) (ap (is_used p) (sym same) ∙ go.unused)))
+      by (inr differ) =
+          word_other n (λ e. differ (sym e)) ∙ sym (ap (λ a. if (a || false) && not (is_used p n) then None else word_of p.dict n) (ne_eqb number n differ))
+
+  pub forgotten_made : AreHeld forgotten unlinked × Forgets (number ∷ []) p forgotten
+  forgotten_made = (
+    record {
+      sound = sound_then;
+      links = record { props = same_props (head_number p.dict word) ∙ held.links.props; edges = links_then };
+    },
+    record {
+      parts = refl;
+      props = refl;
+      marks = marks_then;
+      words = words_then;
+      state = state_then;
+      used = used_then;
+    },
+  )
+
+-- the same, over what memory kept
+pub forgets : (k p : Kept) (t u : Taxonomy) (word : List ℕ) (number : ℕ) (dict : Dict) (marks : List Bool) → p ≡ k → AreHeld p t → word_of p.dict number ≡ Some word → MayGo number p
+    → dict ≡ without_word p.dict word → u ≡ without_edge_to t number (head_number p.dict word) → marks ≡ set p.marks (block_of p.limits Properties number) true
+    → AreHeld (record p { dict = dict; marks = marks }) u × Forgets (number ∷ []) k (record p { dict = dict; marks = marks })
+forgets k p t u word number dict marks is held there go dict_is unlinked_is marks_are =
+    let P : Kept → Type 0 = λ q. AreHeld q u × Forgets (number ∷ []) k q in
+    let R : Taxonomy → Type 0 = λ v. AreHeld (forgotten p t held there go) v × Forgets (number ∷ []) k (forgotten p t held there go) in
+    let Q : Kept → Type 0 = λ q. AreHeld (forgotten p t held there go) (without_edge_to t number (head_number p.dict word)) × Forgets (number ∷ []) q (forgotten p t held there go) in
+    let same : forgotten p t held there go ≡ record p { dict = dict; marks = marks } =
+    ap (λ (d : Dict). record p { dict = d; marks = set p.marks (block_of p.limits Properties number) true }) (sym dict_is)
+    ∙ ap (λ (ms : List Bool). record p { dict = dict; marks = ms }) (sym marks_are) in
+    subst P same (subst R (sym unlinked_is) (subst Q is (forgotten_made p t held there go)))
+
+-- a number without a word
+pub forgets_none : (k : Kept) (number : ℕ) → word_of k.dict number ≡ None → Forgets (number ∷ []) k k
+forgets_none k number none = record {
+  parts = refl;
+  props = refl;
+  marks = record { saved = λ at saved. saved; few = omega arith };
+  words = λ n. by n (cases_eq number n) (is_used k n);
+  state = λ at. refl;
+  used = λ n some. refl;
+}
+  where
+    by : (n : ℕ) → (number ≡ n) ⊎ (number ≡ n → ⊥) → (b : Bool) → word_of k.dict n ≡ (if has_number (number ∷ []) n && not b then None else word_of k.dict n)
+    by n (inl same) true = sym (ap (λ a. if (a || false) && false then None else word_of k.dict n) (eq-eqb number n same))
+    by n (inl same) false = ap (word_of k.dict) (sym same) ∙ (none ∙ sym (ap (λ a. if (a || false) && true then None else word_of k.dict n) (eq-eqb number n same)))
+    by n (inr differ) b = sym (ap (λ a. if (a || false) && not b then None else word_of k.dict n) (ne_eqb number n differ))
