@@ -84,7 +84,10 @@ fn the_later_record_wins(rt: HostRuntime) -> Result<(), Fail> {
     keep_twice(alloc, &mut disk, &mut journal)?;
     assert_eq!(rt; fill_of(alloc, &mut disk, &journal, FIRST)?, 7);
     let end = disk.calls();
-    assert_eq!(rt; fills_after_stops(alloc, &image_after(alloc, &disk, end, 165)?)?, [7, 3]);
+    assert_eq!(rt;
+        fills_after_stops(alloc, &image_after(alloc, &disk, end, 165)?)?,
+        [7, 3]
+    );
     Ok(())
 }
 

@@ -130,7 +130,7 @@ declares s formed word words fits = record {
         (λ e m. both_weaker _ _ _ (keeps_all s.declared word e.1) (rights_are s formed e m)) (λ q m. both_weaker _ _ _ (keeps_all s.declared word q) (over q m)));
     lefts = all_from _ (under word s.axioms words) (under_all (λ (pair : List ℕ × List ℕ). is_nameable declared pair.0) word s.axioms words
         (λ e m. nameable_by s.declared declared e.0 (keeps_all s.declared word e.0) (λ v. keeps_all s.declared word (head_bytes e.0))
-            (all_among (λ (pair : List ℕ × List ℕ). is_nameable s.declared pair.0) s.axioms e formed.axioms.lefts m))
+        (all_among (λ (pair : List ℕ × List ℕ). is_nameable s.declared pair.0) s.axioms e formed.axioms.lefts m))
         (λ q m. nameable_declared declared word fits.form (has_word_from_among declared word (insert_key_new word_cmp word_exact s.declared word))));
     acyclic = acyclic_by (is_right s) (right_plain s) (under word s.axioms words) rights s.declared declared (under_acyclic s word new s.axioms words (rights_are s formed) over formed.axioms.acyclic);
   };
@@ -229,7 +229,7 @@ unused s formed word h = by (or_parts _ _ (not-true _ h))
       left = no_left none;
       left_head = λ pair m valued. not_among had word (head_bytes pair.0) lacks
           (among_left (flat_map (λ (e : List ℕ × List ℕ). heads e.0) s.axioms) (flat_map (description s) s.files) (head_bytes pair.0)
-              (flat_map_among (λ (e : List ℕ × List ℕ). heads e.0) s.axioms pair (head_bytes pair.0) m (heads_of_valued pair.0 valued)));
+          (flat_map_among (λ (e : List ℕ × List ℕ). heads e.0) s.axioms pair (head_bytes pair.0) m (heads_of_valued pair.0 valued)));
       right = no_right none;
     }
 

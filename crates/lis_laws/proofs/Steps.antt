@@ -321,7 +321,7 @@ write_keeps now name payload before sized =
 -- ---- mv
 pub mv_replaces : (now : Situation) (place : List Formula) (words : List (List ℕ)) (old : File) → IsInForm now → (NoneStands (here_checks now old.name) → Among now.state.files old)
     → NoneStands (here_checks now old.name ++ mv_checks now place words (new_file old.name (retagged old.assigned (tags_at now.place) (tags_at place)) old.bytes)
-        (file_replaced now.state old.name (new_file old.name (retagged old.assigned (tags_at now.place) (tags_at place)) old.bytes)))
+    (file_replaced now.state old.name (new_file old.name (retagged old.assigned (tags_at now.place) (tags_at place)) old.bytes)))
     → Replaces now.state old (new_file old.name (retagged old.assigned (tags_at now.place) (tags_at place)) old.bytes)
 mv_replaces now place words old before here none =
     let m = here (none.0, tt) in
