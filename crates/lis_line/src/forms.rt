@@ -11,7 +11,7 @@ use crate::line::{next_word, no_words, only_word, two_words};
 use lis_model::command::{Command, Tags};
 use lis_model::refusal::Refusal;
 use lis_place::Text;
-use lis_words::{Name, Word, is_count, read_name, read_operand};
+use lis_words::{Name, Word, is_count, read_name, read_word};
 
 /// The most words that one line gives a file.
 const MAX_TAGS: usize = 16;
@@ -21,7 +21,7 @@ fn read_property(bytes: &[u8]) -> Option<Word>
     ensures word { IsSome result ↔ IsTrue (is_line_word bytes.now) }
     ensures same { IfSome result (λ word. word ≡ bytes.now) }
 {
-    read_operand(bytes)
+    read_word(bytes)
 }
 
 /// The only word of a text, where it may be a property.
