@@ -16,7 +16,7 @@ use Rattle.lis_content.specs.Content.{are_distinct}
 use Rattle.lis_words.specs.Words.{word_cmp}
 use Rattle.lis_laws.proofs.Members.{word_exact, word_order}
 use Rattle.lis_laws.proofs.Counts.{insert_key_le}
-use Rattle.lis_laws.proofs.Steps.{with_words_le}
+use Rattle.lis_open.proofs.Counts.{with_words_le}
 use Rattle.lis_model.specs.Sets.{with_word, with_words, set_of}
 use Rattle.lis_model.specs.State.{File, file_cmp}
 use Rattle.lis_store.specs.Stands.{AreSlots}

@@ -35,7 +35,7 @@ length-rest limits =
 -- gates of zeros are closed
 zeros_closed : (image : List ℕ) → part 4096 64 image ≡ zeros 64 → has_open image ≡ false
 unfolding zeros
-zeros_closed image zero = ap (list_any (λ gate. gate == 1)) zero ∙ none 64
+zeros_closed image are = ap (list_any (λ gate. gate == 1)) are ∙ none 64
   where
     none : (n : ℕ) → list_any (λ gate. gate == 1) (replicate n 0) ≡ false
     none zero = refl

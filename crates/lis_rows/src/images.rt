@@ -211,7 +211,7 @@ fn a_failing_sync_shows_nothing(rt: HostRuntime) -> Result<(), Fail> {
     let mut counting = MemStation::new(alloc, &image, 0)?;
     call(alloc, &["run", "i"], "", &mut counting)?;
     let opened = counting.calls();
-    for behind in 1..16 {
+    for behind in 1..8 {
         let mut station = MemStation::new(alloc, &image, 0)?;
         station.fails.push(opened.saturating_add(behind))?;
         let status = call(alloc, &["run", "i"], "mkdir a;", &mut station)?;

@@ -253,6 +253,7 @@ fn a_cut_session_leaves_what_it_had_carried_out(rt: HostRuntime) -> Result<(), F
         files: 64,
         props: 64,
         blocks: 8,
+        version: 1,
     };
     for (limit, step, fail_at, (row, shown, status), (then, then_shown)) in &CUT_SESSIONS {
         let mut plain = Plain::new(rt.alloc(), &limits)?;

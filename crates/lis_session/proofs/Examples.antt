@@ -9,7 +9,7 @@ use Rattle.lis_store.specs.Stands.{Stands}
 use Rattle.lis_session.specs.Session.{state_after, SessionMoment}
 
 abbrev start : Situation
-start = start_of (record { files = 64; props = 64; blocks = 8 })
+start = start_of (record { files = 64; props = 64; blocks = 8; version = 1 })
 
 -- `mkdir a`, and then `pwd`
 abbrev session : List Item

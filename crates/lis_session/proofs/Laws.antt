@@ -7,15 +7,15 @@ use Rattle.lis_grammar.specs.Printing.{printed}
 use Rattle.lis_grammar.specs.Places.{Resolution, resolved, text_words}
 use Rattle.lis_grammar.specs.Places.Resolution.{NewPlace, BeyondLimits, Unreadable}
 use Rattle.lis_model.specs.declared.refusal.Refusal.{Refusal}
-use Rattle.lis_model.specs.declared.refusal.Refusal.TheVariants.{BadFormula, UnknownProperty, LargeFormula, NoFileHere}
+use Rattle.lis_model.specs.declared.refusal.Refusal.TheVariants.{BadLine, BadFormula, UnknownProperty, LargeFormula, NoFileHere}
 use Rattle.lis_model.specs.declared.command.Command.{Command}
-use Rattle.lis_model.specs.declared.command.Command.TheVariants.{Mkdir, Create, Add, Cat, Rm, Cd, Pwd, Ls}
+use Rattle.lis_model.specs.declared.command.Command.TheVariants.{Mkdir, Rmdir, Axiom, Unaxiom, Create, Add, Write, Cat, Mv, Rename, Rm, Cd, Pwd, Ls, Props, Way, Stat}
 use Rattle.lis_model.specs.State.{State, known}
 use Rattle.lis_model.specs.Table.{table}
 use Rattle.lis_model.specs.Listing.{increments, locals}
 use Rattle.lis_model.specs.Replies.{line, body_line, ok_line, two_digits, number_of, refusal_words, listing_lines, content_lines}
 use Rattle.lis_model.specs.Changes.{declared_under, new_file, file_added, file_of, file_removed}
-use Rattle.lis_model.specs.Step.{Situation, Item, Outcome, Payload, refused, changed, shown, judged, moved, mkdir_checks, mkdir, assigned_at, create_checks, add_checks, add, is_here, cat, rm, cd_to, cd, done, step, replies, situation_after}
+use Rattle.lis_model.specs.Step.{Situation, Item, Outcome, Payload, refused, changed, shown, judged, moved, words_at, mkdir_checks, mkdir, assigned_at, create_checks, add_checks, add, is_here, cat, rm, cd_to, cd, done, step, replies, situation_after}
 use Rattle.lis_model.specs.Step.Item.{Do, Bad}
 use Rattle.lis_session.specs.Parts.{led_to}
 use Rattle.lis_model.proofs.Runs.{replies-append, situation_after-append}
@@ -58,21 +58,31 @@ cd_regular now text (NewPlace place) = by (list_all (has_word (known now.state))
 
 done_regular : (now : Situation) (command : Command) (payload : Payload) → Regular now (done now command payload)
 done_regular now (Mkdir word) payload =
-    judged_regular now (mkdir_checks now word) (changed now (declared_under now.state word [])) (changed_regular now (declared_under now.state word []) refl)
+    let made = declared_under now.state word (words_at now.place) in
+    judged_regular now (mkdir_checks now word made) (changed now made) (changed_regular now made refl)
+done_regular now (Rmdir word) payload = refused_regular now BadLine
+done_regular now (Axiom left right) payload = refused_regular now BadLine
+done_regular now (Unaxiom left right) payload = refused_regular now BadLine
 done_regular now (Create name words) payload =
     let file = new_file name (assigned_at now.place words) [] in
-    judged_regular now (create_checks now words file) (changed now (file_added now.state file)) (changed_regular now (file_added now.state file) refl)
+    judged_regular now (create_checks now words file (file_added now.state file)) (changed now (file_added now.state file)) (changed_regular now (file_added now.state file) refl)
 done_regular now (Add name words) payload =
     let file = new_file name (assigned_at now.place words) payload.bytes in
-    judged_regular now (add_checks now words file payload.size) (changed now (file_added now.state file)) (changed_regular now (file_added now.state file) refl)
+    judged_regular now (add_checks now words file (file_added now.state file) payload.size) (changed now (file_added now.state file)) (changed_regular now (file_added now.state file) refl)
+done_regular now (Write name) payload = refused_regular now BadLine
 done_regular now (Cat name) payload =
     let body = content_lines (file_of now.state.files name).bytes in
     judged_regular now ((not (is_here now name), NoFileHere) ∷ []) (shown now body) (shown_regular now body)
+done_regular now (Mv name text) payload = refused_regular now BadLine
+done_regular now (Rename name other) payload = refused_regular now BadLine
 done_regular now (Rm name) payload =
     judged_regular now ((not (is_here now name), NoFileHere) ∷ []) (changed now (file_removed now.state name)) (changed_regular now (file_removed now.state name) refl)
 done_regular now (Cd text) payload = cd_regular now text (resolved now.place text)
 done_regular now Pwd payload = shown_regular now (body_line 119 (printed now.place))
 done_regular now Ls payload = shown_regular now (listing_lines (increments (table now.state) now.place) (locals (table now.state) now.place))
+done_regular now (Props name) payload = refused_regular now BadLine
+done_regular now (Way name) payload = refused_regular now BadLine
+done_regular now Stat payload = refused_regular now BadLine
 
 step_regular : (now : Situation) (item : Item) → Regular now (step now item)
 unfolding step
@@ -108,12 +118,14 @@ judged_stays now (check ∷ checks) outcome same = by check.0 (judged_stays now 
 
 -- a command that changes the state keeps the place
 pub mkdir_stays : (now : Situation) (word : List ℕ) → (mkdir now word).next.place ≡ now.place
-mkdir_stays now word = judged_stays now (mkdir_checks now word) (changed now (declared_under now.state word [])) refl
+mkdir_stays now word =
+    let made = declared_under now.state word (words_at now.place) in
+    judged_stays now (mkdir_checks now word made) (changed now made) refl
 
 pub add_stays : (now : Situation) (name : List ℕ) (words : List (List ℕ)) (payload : Payload) → (add now name words payload).next.place ≡ now.place
 add_stays now name words payload =
     let file = new_file name (assigned_at now.place words) payload.bytes in
-    judged_stays now (add_checks now words file payload.size) (changed now (file_added now.state file)) refl
+    judged_stays now (add_checks now words file (file_added now.state file) payload.size) (changed now (file_added now.state file)) refl
 
 pub rm_stays : (now : Situation) (name : List ℕ) → (rm now name).next.place ≡ now.place
 rm_stays now name = judged_stays now ((not (is_here now name), NoFileHere) ∷ []) (changed now (file_removed now.state name)) refl

@@ -82,6 +82,17 @@ fn led_to(
     Ok(Err(Refusal::UnknownProperty))
 }
 
+// Refuses a command. No store is looked at, so any one fits as before.
+fn refuse<T: Station>(place: &Place, refusal: &Refusal, station: &mut T) -> Result<(), End>
+    ensures carries { (k : Kept) → Does (λ now. refused now refusal.now) (StoreFits k (T.meaning station.old)) place.now
+        (T.meaning station.old) (T.meaning station.new) result (StoreFits k (T.meaning station.new)) place.now }
+    ensures ends { Ends (T.meaning station.old) (T.meaning station.new) result }
+{
+    // The place tells where the command was said.
+    let _place = place;
+    answer_refusal(station, refusal)
+}
+
 // Shows the place. No store is looked at, so any one fits as before.
 fn pwd<T: Station>(alloc: Global, place: &Place, station: &mut T) -> Result<(), End>
     ensures carries { (k : Kept) → Does pwd (StoreFits k (T.meaning station.old)) place.now
@@ -150,6 +161,16 @@ impl Session {
             Command::Cd(text) => self.cd(alloc, store, text, station),
             Command::Pwd => pwd(alloc, &self.place, station),
             Command::Ls => ls(alloc, store, &self.place, station),
+            // They have not come.
+            Command::Rmdir(_)
+            | Command::Axiom(_, _)
+            | Command::Unaxiom(_, _)
+            | Command::Write(_)
+            | Command::Mv(_, _)
+            | Command::Rename(_, _)
+            | Command::Props(_)
+            | Command::Way(_)
+            | Command::Stat => refuse(&self.place, &Refusal::BadLine, station),
         }
     }
 

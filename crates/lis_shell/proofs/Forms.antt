@@ -1,11 +1,11 @@
 -- The forms of words of the command line.
 use Rattle.std.proofs.Common.{◌≡◌, ℕ, ◌&&◌, cond, Bool, true, false, List, [], ◌∷◌, length, map, slice_index_or, Option, Some, None, IsTrue, codes, refl, ap, sym, ◌∙◌, arith, subst}
 use Rattle.std.specs.Option.{option_map}
-use Rattle.std.proofs.lemmas.Bool.{and_parts}
+use Rattle.std.proofs.lemmas.Bool.{and_parts, and_from}
 use Rattle.std.proofs.lemmas.List.{length-map}
 use Rattle.lis_words.specs.Words.{same_word, is_count, count_of}
 use Rattle.lis_model.specs.declared.limits.Limits.{Limits}
-use Rattle.lis_model.specs.Ranges.{is_files_limit, is_props_limit, is_blocks_limit, are_in_range}
+use Rattle.lis_model.specs.Ranges.{is_files_limit, is_props_limit, is_blocks_limit, is_version, are_in_range}
 use Rattle.lis_shell.specs.declared.words.Task.{Task}
 use Rattle.lis_shell.specs.declared.words.Task.TheVariants.{Try, Make, Run}
 use Rattle.lis_shell.specs.Words.{limits_of, task_of}
@@ -58,20 +58,26 @@ held false all limits e = absurd (cc)
 
 limits_in_range : (files props blocks : List ℕ) (limits : Limits) → limits_of files props blocks ≡ Some limits → IsTrue (are_in_range limits)
 limits_in_range files props blocks limits e =
-    let all : Limits = record { files = count_of files; props = count_of props; blocks = count_of blocks } in
+    let all : Limits = record { files = count_of files; props = count_of props; blocks = count_of blocks; version = 1 } in
     let of_files : Bool = is_count files && is_files_limit (count_of files) in
     let of_props : Bool = is_count props && is_props_limit (count_of props) in
     let of_blocks : Bool = is_count blocks && is_blocks_limit (count_of blocks) in
     let is = held (of_files && of_props && of_blocks) all limits e in
     let front = and_parts (of_files && of_props) of_blocks is.0 in
     let first = and_parts of_files of_props front.0 in
-    let range = both (and_parts (is_count files) (is_files_limit (count_of files)) first.0).1
+    let range : IsTrue (are_in_range all) = and_from _ (is_version 1) (both (and_parts (is_count files) (is_files_limit (count_of files)) first.0).1
     (and_parts (is_count props) (is_props_limit (count_of props)) first.1).1
-    (and_parts (is_count blocks) (is_blocks_limit (count_of blocks)) front.1).1 in
+    (and_parts (is_count blocks) (is_blocks_limit (count_of blocks)) front.1).1) refl in
     subst (λ l. IsTrue (are_in_range l)) is.1 range
   where
     both : {a b c : Bool} → a ≡ true → b ≡ true → c ≡ true → IsTrue (a && b && c)
     both e f g = cc
+
+limits_version : (files props blocks : List ℕ) (limits : Limits) → limits_of files props blocks ≡ Some limits → limits.version ≡ 1
+limits_version files props blocks limits e =
+    ap (λ (l : Limits). l.version)
+    (sym (held (is_count files && is_files_limit (count_of files) && (is_count props && is_props_limit (count_of props)) && (is_count blocks && is_blocks_limit (count_of blocks)))
+    (record { files = count_of files; props = count_of props; blocks = count_of blocks; version = 1 }) limits e).1)
 
 made_by : (t : Bool) (found : Option Limits) (limits : Limits) → cond t (option_map Make found) None ≡ Some (Make limits) → found ≡ Some limits
 made_by true (Some x) limits e = cc
@@ -87,14 +93,27 @@ not_run : (t : Bool) (limits : Limits) → cond t (Some Run) None ≡ Some (Make
 not_run true limits e = cc
 not_run false limits e = cc
 
+-- limits that three words tell
+record AreSaid (limits : Limits) : Type 0 where
+  files : List ℕ
+  props : List ℕ
+  blocks : List ℕ
+  are : limits_of files props blocks ≡ Some limits
+
+made_limits : (words : List (List ℕ)) (limits : Limits) → task_of words ≡ Some (Make limits) → AreSaid limits
+made_limits [] limits e = absurd (cc)
+made_limits (a ∷ []) limits e = absurd (cc)
+made_limits (a ∷ b ∷ []) limits e = absurd (not_run (same_word a (codes "run")) limits e)
+made_limits (a ∷ b ∷ c ∷ []) limits e = absurd (cc)
+made_limits (a ∷ b ∷ c ∷ d ∷ []) limits e = absurd (not_made (same_word a (codes "try")) (limits_of b c d) limits e)
+made_limits (a ∷ b ∷ c ∷ d ∷ f ∷ []) limits e = record { files = c; props = d; blocks = f; are = made_by (same_word a (codes "make")) (limits_of c d f) limits e }
+made_limits (a ∷ b ∷ c ∷ d ∷ f ∷ g ∷ words) limits e = absurd (cc)
+
 pub made_in_range : (words : List (List ℕ)) (limits : Limits) → task_of words ≡ Some (Make limits) → IsTrue (are_in_range limits)
-made_in_range [] limits e = absurd (cc)
-made_in_range (a ∷ []) limits e = absurd (cc)
-made_in_range (a ∷ b ∷ []) limits e = absurd (not_run (same_word a (codes "run")) limits e)
-made_in_range (a ∷ b ∷ c ∷ []) limits e = absurd (cc)
-made_in_range (a ∷ b ∷ c ∷ d ∷ []) limits e = absurd (not_made (same_word a (codes "try")) (limits_of b c d) limits e)
-made_in_range (a ∷ b ∷ c ∷ d ∷ f ∷ []) limits e = limits_in_range c d f limits (made_by (same_word a (codes "make")) (limits_of c d f) limits e)
-made_in_range (a ∷ b ∷ c ∷ d ∷ f ∷ g ∷ words) limits e = absurd (cc)
+made_in_range words limits e = let said = made_limits words limits e in limits_in_range said.files said.props said.blocks limits said.are
+
+pub made_version : (words : List (List ℕ)) (limits : Limits) → task_of words ≡ Some (Make limits) → limits.version ≡ 1
+made_version words limits e = let said = made_limits words limits e in limits_version said.files said.props said.blocks limits said.are
 
 -- the limits of an image that is asked for are those that were said
 pub one_make : (a b : Limits) → ◌≡◌ {A = Option Task} (Some (Make a)) (Some (Make b)) → a ≡ b

@@ -8,11 +8,11 @@ use Rattle.lis_shell.specs.declared.words.Task.{Task}
 use Rattle.lis_shell.specs.declared.words.Task.TheVariants.{Try, Make, Run}
 use Rattle.std.specs.Option.{option_map}
 
--- three counts that are limits in range
+-- three counts that are limits in range, of version 1
 abbrev pub limits_of : List ℕ → List ℕ → List ℕ → Option Limits
 limits_of files props blocks =
     if is_count files && is_files_limit (count_of files) && (is_count props && is_props_limit (count_of props)) && (is_count blocks && is_blocks_limit (count_of blocks))
-    then Some (record { files = count_of files; props = count_of props; blocks = count_of blocks })
+    then Some (record { files = count_of files; props = count_of props; blocks = count_of blocks; version = 1 })
     else None
 
 -- `try` and three limits, `make` with an image and three limits, or `run` and an image. An image is any text.

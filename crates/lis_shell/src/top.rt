@@ -64,7 +64,8 @@ fn try_from_empty<S: Source, T: Station>(
 }
 
 fn make_image<T: Station>(limits: &Limits, station: &mut T) -> Status
-    requires { IsTrue (are_in_range limits.now) }
+    requires range { IsTrue (are_in_range limits.now) }
+    requires version { limits.now.version ≡ 1 }
     ensures made { MadeImage limits.now (T.meaning station.old) (T.meaning station.new) result }
     ensures run { IsDiskRun (T.meaning station.old) (T.meaning station.new) }
     ensures short { (len need : ℕ) → result ≡ Status.TooShort len need → station.new ≡ station.old }

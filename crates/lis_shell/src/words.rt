@@ -47,6 +47,7 @@ fn limits_of(files: &[u8], props: &[u8], blocks: &[u8]) -> Option<Limits>
         files: files as u32,
         props: props as u32,
         blocks: blocks as u32,
+        version: 1,
     })
 }
 

@@ -6,13 +6,17 @@ use Rattle.lis_model.specs.Script.{script}
 use Rattle.lis_session.proofs.Fitting.{same_none, same_run, same_shown}
 use Rattle.lis_session.proofs.Whole.{headline, headline_settled}
 use Rattle.lis_shell.specs.Causes.{counts}
-use Rattle.lis_shell.proofs.Forms.{made_in_range, one_make}
+use Rattle.lis_shell.proofs.Forms.{made_in_range, made_version, one_make}
 use Rattle.lis_shell.proofs.Opened.{run_complete}
 use Rattle.lis_shell.proofs.top.lisfs.Goals as goal
 
-pub make_image-requires : goal.make_image-requires
-make_image-requires g c =
+pub make_image-requires-clause-range : goal.make_image-requires-clause-range
+make_image-requires-clause-range g c =
     made_in_range (map string_bytes c.args.words.now) c.in-Some-Make.limits (sym c.task_of.ensures ∙ c.in-Some-Make.is ∙ ap Some c.in-Some-Make.field-0-is)
+
+pub make_image-requires-clause-version : goal.make_image-requires-clause-version
+make_image-requires-clause-version g c =
+    made_version (map string_bytes c.args.words.now) c.in-Some-Make.limits (sym c.task_of.ensures ∙ c.in-Some-Make.is ∙ ap Some c.in-Some-Make.field-0-is)
 
 pub returns-in-Some-Make-clause-cause : goal.returns-in-Some-Make-clause-cause
 returns-in-Some-Make-clause-cause g c = c.make_image.ensures.cause (g.S.Source.faults c.args.input.now)
