@@ -46,13 +46,17 @@ fits_stand journal {m} {kept} none fits = record {
 pub fits_reads : (journal : Held) {m : Meaning} {kept : ℕ → List ℕ} → Fits journal m kept → (n : ℕ) → IsOutside n → look journal.records.latest n (block n m.bytes) ≡ kept n
 fits_reads journal fits n out = fits.reads.holds.same n out refl
 
--- over a call that changes nothing it fits as before
-pub fits_unchanged : (journal : Held) {a b : Meaning} {kept : ℕ → List ℕ} → IsDiskRun a b → IsUnchanged a b → Fits journal a kept → Fits journal b kept
-fits_unchanged journal {kept = kept} run same fits = record {
-  honest = run.honest ∙ fits.honest;
+-- where the disk is still honest and nothing changed, it fits as before
+pub fits_still : (journal : Held) {a b : Meaning} {kept : ℕ → List ℕ} → IsTrue b.is_honest → IsUnchanged a b → Fits journal a kept → Fits journal b kept
+fits_still journal {kept = kept} honest same fits = record {
+  honest = honest;
   reads = subst (IsAtRest journal.blocks journal.records [] kept) (sym same.bytes) fits.reads;
   leaves = λ image is. fits.leaves image (same.images.only image is);
 }
+
+-- and so over a call of the disk that changes nothing
+pub fits_unchanged : (journal : Held) {a b : Meaning} {kept : ℕ → List ℕ} → IsDiskRun a b → IsUnchanged a b → Fits journal a kept → Fits journal b kept
+fits_unchanged journal run same fits = fits_still journal (run.honest ∙ fits.honest) same fits
 
 -- the blocks that are kept may be told otherwise
 pub fits_as : (journal : Held) {m : Meaning} {kept : ℕ → List ℕ} (now : ℕ → List ℕ) → ((n : ℕ) → IsOutside n → kept n ≡ now n) → Fits journal m kept → Fits journal m now

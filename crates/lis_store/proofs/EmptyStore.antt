@@ -1,5 +1,5 @@
 -- A store without words and files fits a blank image.
-use Rattle.std.proofs.Common.{◌≡◌, refl, ap, ℕ, ◌==◌, List, slice_index, IsTrue}
+use Rattle.std.proofs.Common.{◌≡◌, refl, ℕ, List, IsTrue, arith}
 use Rattle.lis_ports.specs.Meaning.{Meaning}
 use Rattle.lis_ports.specs.Bytes.{part}
 use Rattle.lis_ports.specs.Runs.{IsSettled}
@@ -8,7 +8,6 @@ use Rattle.lis_journal.proofs.Fitting.{settled_fits}
 use Rattle.lis_fields.specs.Layouts.{super_bytes}
 use Rattle.lis_model.specs.declared.limits.Limits.{Limits}
 use Rattle.lis_model.specs.Ranges.{are_in_range}
-use Rattle.lis_model.specs.Image.{image_blocks}
 use Rattle.lis_model.specs.State.{empty_state}
 use Rattle.lis_store.specs.Blank.{IsBlank}
 use Rattle.lis_store.specs.Kept.{StoreFits, empty_kept}

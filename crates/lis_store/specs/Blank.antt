@@ -1,5 +1,5 @@
 -- An image without words, axioms and files.
-use Rattle.std.specs.Prelude.{◌≡◌, ℕ, ◌*◌, ◌≤◌, ◌<◌, List, [], ◌∷◌, length}
+use Rattle.std.specs.Prelude.{◌≡◌, ℕ, ◌*◌, ◌≤◌, ◌<◌, false, List, length}
 use Rattle.lis_journal.specs.Record.{block, has_open}
 use Rattle.lis_fields.specs.Layouts.{zeros}
 use Rattle.lis_model.specs.declared.limits.Limits.{Limits}
