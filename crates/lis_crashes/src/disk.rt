@@ -48,12 +48,7 @@ pub fn keep(
 }
 
 /// The byte that fills a block.
-pub fn fill_of(
-    alloc: Global,
-    disk: &mut MemStation,
-    journal: &Journal,
-    n: u32,
-) -> Result<u8, Fail>
+pub fn fill_of(alloc: Global, disk: &mut MemStation, journal: &Journal, n: u32) -> Result<u8, Fail>
     requires home { 578 ≤ n }
     requires within { n < 594 }
     requires blocks { journal.now.blocks ≡ 594 }
@@ -84,12 +79,7 @@ pub fn fills_after(alloc: Global, image: &[u8]) -> Result<[u8; 2], Fail>
 }
 
 /// The image that a crash just after a call leaves.
-pub fn image_after(
-    alloc: Global,
-    disk: &MemStation,
-    call: u64,
-    pick: u8,
-) -> Result<Vec<u8>, Fail>
+pub fn image_after(alloc: Global, disk: &MemStation, call: u64, pick: u8) -> Result<Vec<u8>, Fail>
     requires { IsTrue (meaning_of disk.now).is_recorded }
     ensures { IfOk result (λ image. length image.items ≡ 2433024) }
 {

@@ -42,7 +42,10 @@ fn a_stop_in_a_commit_leaves_all_or_none(rt: HostRuntime) -> Result<(), Fail> {
             assert!(rt; fills == [0, 0] || fills == [7, 7]);
         }
     }
-    assert_eq!(rt; fills_after(alloc, &image_after(alloc, &disk, end, 165)?)?, [7, 7]);
+    assert_eq!(rt;
+        fills_after(alloc, &image_after(alloc, &disk, end, 165)?)?,
+        [7, 7]
+    );
     Ok(())
 }
 

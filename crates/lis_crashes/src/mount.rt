@@ -50,7 +50,10 @@ fn a_record_that_is_not_in_form_is_told(rt: HostRuntime) -> Result<(), Fail> {
         (12, [1, 0], 2),
     ] {
         assert!(rt; at < 4_000);
-        assert_eq!(rt; bad_record(alloc, &open_record(alloc, at, with)?, BLOCKS)?, block);
+        assert_eq!(rt;
+            bad_record(alloc, &open_record(alloc, at, with)?, BLOCKS)?,
+            block
+        );
     }
     Ok(())
 }
