@@ -42,21 +42,39 @@ fits_stand journal {m} {kept} none fits = record {
   leaves = λ image is. stands_full journal.blocks kept image (subst (λ placed. StandsBut journal.blocks placed kept image) none (fits_but journal fits image is));
 }
 
--- what is kept of a block: its latest content, or else what it reads as
+-- where nothing is staged and no record is open, a block that is kept is the block as it reads
 pub fits_reads : (journal : Held) {m : Meaning} {kept : ℕ → List ℕ} → Fits journal m kept → (n : ℕ) → IsOutside n → look journal.records.latest n (block n m.bytes) ≡ kept n
 fits_reads journal fits n out = fits.reads.holds.same n out refl
 
--- where the disk is still honest and nothing changed, it fits as before
-pub fits_still : (journal : Held) {a b : Meaning} {kept : ℕ → List ℕ} → IsTrue b.is_honest → IsUnchanged a b → Fits journal a kept → Fits journal b kept
-fits_still journal {kept = kept} honest same fits = record {
-  honest = honest;
+-- over a call that changes nothing it fits as before
+pub fits_unchanged : (journal : Held) {a b : Meaning} {kept : ℕ → List ℕ} → IsDiskRun a b → IsUnchanged a b → Fits journal a kept → Fits journal b kept
+fits_unchanged journal {kept = kept} run same fits = record {
+  honest = run.honest ∙ fits.honest;
   reads = subst (IsAtRest journal.blocks journal.records [] kept) (sym same.bytes) fits.reads;
   leaves = λ image is. fits.leaves image (same.images.only image is);
 }
 
--- and so over a call of the disk that changes nothing
-pub fits_unchanged : (journal : Held) {a b : Meaning} {kept : ℕ → List ℕ} → IsDiskRun a b → IsUnchanged a b → Fits journal a kept → Fits journal b kept
-fits_unchanged journal run same fits = fits_still journal (run.honest ∙ fits.honest) same fits
+-- the blocks that are kept may be told otherwise
+pub fits_as : (journal : Held) {m : Meaning} {kept : ℕ → List ℕ} (now : ℕ → List ℕ) → ((n : ℕ) → IsOutside n → kept n ≡ now n) → Fits journal m kept → Fits journal m now
+fits_as journal {m} {kept} now is fits = record {
+  honest = fits.honest;
+  reads = told [] m.bytes fits.reads;
+  leaves = λ image i. told journal.placed image (fits.leaves image i);
+}
+  where
+    told : (placed image : List ℕ) → IsAtRest journal.blocks journal.records placed kept image → IsAtRest journal.blocks journal.records placed now image
+    told placed image rest = record {
+      few = rest.few;
+      holds = record {
+        enough = rest.holds.enough;
+        long = rest.holds.long;
+        form = rest.holds.form;
+        ends = rest.holds.ends;
+        latest = rest.holds.latest;
+        same = λ n out not_in. rest.holds.same n out not_in ∙ is n out;
+      };
+      gates = rest.gates;
+    }
 
 -- A settled image with all gates closed is kept as it is.
 pub settled_fits : {m : Meaning} (journal : Held) (bytes : List ℕ) → journal.records ≡ no_records → IsTrue m.is_honest → IsSettled m bytes → 578 < journal.blocks → 4096 * journal.blocks ≤ length bytes → has_open bytes ≡ false → Fits journal m (λ n. block n bytes)

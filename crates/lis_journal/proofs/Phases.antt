@@ -92,6 +92,17 @@ holds_from {blocks} {records} {placed} {kept} {from} others now image holds len 
       same = looks;
     }
 
+-- the blocks that are kept may be told otherwise
+pub holds_as : {blocks : ℕ} {records : OpenRecords} {placed : List ℕ} {kept : ℕ → List ℕ} {image : List ℕ} (now : ℕ → List ℕ) → ((n : ℕ) → kept n ≡ now n) → Holds blocks records placed kept image → Holds blocks records placed now image
+holds_as now is holds = record {
+  enough = holds.enough;
+  long = holds.long;
+  form = holds.form;
+  ends = holds.ends;
+  latest = holds.latest;
+  same = λ n out not_in. holds.same n out not_in ∙ is n;
+}
+
 apart-journal : (at n : ℕ) → 4096 ≤ at → at + n ≤ 2367488 → (k : ℕ) → IsOutside k → Apart at n (4096 * k) 4096
 apart-journal at n low high k (inl none) = inl (omega (arith, none, low))
 apart-journal at n low high k (inr le) = inr (omega (arith, le, high))

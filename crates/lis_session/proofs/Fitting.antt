@@ -3,7 +3,8 @@ use Rattle.std.proofs.Common.{refl, ◌∙◌}
 use Rattle.lis_ports.specs.Meaning.{Meaning}
 use Rattle.lis_ports.specs.Calls.{IsUnchanged, IsShowCall}
 use Rattle.lis_ports.specs.Runs.{IsDiskRun}
-use Rattle.lis_journal.proofs.Fitting.{fits_still, fits_unchanged}
+use Rattle.lis_ports.proofs.Moments.{honest_after}
+use Rattle.lis_ports.proofs.Always.{always_unchanged}
 use Rattle.lis_model.specs.State.{State}
 use Rattle.lis_store.specs.Kept.{Kept, StoreFits}
 use Rattle.lis_store.proofs.Standing.{fitting_stands}
@@ -18,17 +19,23 @@ store_fits_at {k} {m} {state} fits = record {
 
 -- a show
 pub store_shown : {k : Kept} {old new : Meaning} {state : State} → StoreFits k old state → IsShowCall old new → StoreFits k new state
-store_shown {k} fits call = record {
+store_shown fits call = record {
   kept = fits.kept;
-  journal = fits_still k.journal (call.honest ∙ fits.journal.honest) (call.same fits.journal.honest) fits.journal;
+  journal = record {
+    honest = call.honest ∙ fits.journal.honest;
+    all = always_unchanged fits.journal.all (call.same fits.journal.honest);
+  };
   tells = fits.tells;
 }
 
 -- a read
 pub store_read : {k : Kept} {old new : Meaning} {state : State} → StoreFits k old state → IsDiskRun old new → IsUnchanged old new → StoreFits k new state
-store_read {k} fits run same = record {
+store_read fits run same = record {
   kept = fits.kept;
-  journal = fits_unchanged k.journal run same fits.journal;
+  journal = record {
+    honest = honest_after run fits.journal.honest;
+    all = always_unchanged fits.journal.all same;
+  };
   tells = fits.tells;
 }
 

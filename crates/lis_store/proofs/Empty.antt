@@ -1,5 +1,5 @@
 -- A blank image tells of no words and no files: it stands for the empty state.
-use Rattle.std.proofs.Common.{◌≡◌, refl, sym, ap, ap₂, ◌∙◌, ℕ, zero, suc, ◌+◌, ◌-◌, ◌*◌, ◌≤◌, ◌≢◌, false, List, ◌∷◌, map, take, drop, replicate, slice_index, IsTrue, arith}
+use Rattle.std.proofs.Common.{◌≡◌, refl, sym, ap, ap₂, ◌∙◌, ℕ, zero, suc, ◌+◌, ◌-◌, ◌*◌, ◌≤◌, ◌==◌, ◌≢◌, false, List, ◌∷◌, map, take, drop, replicate, slice_index, IsTrue, arith}
 use Rattle.std.specs.List.{range_with_len}
 use Rattle.std.proofs.lemmas.List.{length-replicate, drop-replicate, take-replicate, get_or-replicate, take-take}
 use Rattle.lis_ports.specs.Bytes.{part}

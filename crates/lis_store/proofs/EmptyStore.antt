@@ -8,6 +8,7 @@ use Rattle.lis_journal.proofs.Fitting.{settled_fits}
 use Rattle.lis_fields.specs.Layouts.{super_bytes}
 use Rattle.lis_model.specs.declared.limits.Limits.{Limits}
 use Rattle.lis_model.specs.Ranges.{are_in_range}
+use Rattle.lis_model.specs.Image.{image_blocks}
 use Rattle.lis_model.specs.State.{empty_state}
 use Rattle.lis_store.specs.Blank.{IsBlank}
 use Rattle.lis_store.specs.Kept.{StoreFits, empty_kept}

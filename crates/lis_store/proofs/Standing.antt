@@ -1,9 +1,11 @@
 -- What home blocks spell, the images with these blocks stand for.
-use Rattle.std.proofs.Common.{◌≡◌, ◌⊎◌, refl, sym, ap, ◌∙◌, subst, inl, inr, ℕ, ◌+◌, ◌*◌, ◌<◌, ◌≤◌, Bool, List, [], ◌∷◌, ◌++◌, length, map, take, Option, Some, None, IsSomeAnd, arith}
+use Rattle.std.proofs.Common.{◌≡◌, ◌⊎◌, refl, sym, ap, ◌∙◌, subst, inl, inr, ℕ, ◌+◌, ◌*◌, ◌<◌, ◌≤◌, ◌&&◌, nat_lt, nat_le, ◌==◌, Bool, true, false, List, [], ◌∷◌, ◌++◌, length, map, take, drop, Option, Some, None, IsTrue, IsSomeAnd, arith, suc, zero, append_assoc, length-append}
 use Rattle.std.specs.BTreeSet.{insert_key}
-use Rattle.std.specs.List.{fold, flat_map}
+use Rattle.std.specs.List.{fold, flat_map, list_all}
+use Rattle.std.proofs.lemmas.Bool.{and_parts, ltb-true}
+use Rattle.std.proofs.lemmas.List.{take-append-le, take-take, length-take-le}
 use Rattle.lis_ports.specs.Meaning.{Meaning}
-use Rattle.lis_ports.specs.Bytes.{part}
+use Rattle.lis_ports.specs.Bytes.{part, put}
 use Rattle.lis_ports.specs.Runs.{Always}
 use Rattle.lis_ports.proofs.Always.{always_weaken}
 use Rattle.lis_journal.specs.Record.{block, Entry, replayed}
