@@ -1,10 +1,10 @@
 -- A store that fits a station, and what calls that write nothing leave of it.
-use Rattle.std.proofs.Common.{refl, ◌∙◌}
+use Rattle.std.proofs.Common.{refl, sym, ◌∙◌, subst, []}
 use Rattle.lis_ports.specs.Meaning.{Meaning}
 use Rattle.lis_ports.specs.Calls.{IsUnchanged, IsShowCall}
 use Rattle.lis_ports.specs.Runs.{IsDiskRun}
-use Rattle.lis_ports.proofs.Moments.{honest_after}
-use Rattle.lis_ports.proofs.Always.{always_unchanged}
+use Rattle.lis_journal.specs.Images.{IsAtRest}
+use Rattle.lis_journal.proofs.Fitting.{fits_unchanged}
 use Rattle.lis_model.specs.State.{State}
 use Rattle.lis_store.specs.Kept.{Kept, StoreFits}
 use Rattle.lis_store.proofs.Standing.{fitting_stands}
@@ -19,23 +19,23 @@ store_fits_at {k} {m} {state} fits = record {
 
 -- a show
 pub store_shown : {k : Kept} {old new : Meaning} {state : State} → StoreFits k old state → IsShowCall old new → StoreFits k new state
-store_shown fits call = record {
-  kept = fits.kept;
-  journal = record {
-    honest = call.honest ∙ fits.journal.honest;
-    all = always_unchanged fits.journal.all (call.same fits.journal.honest);
-  };
-  tells = fits.tells;
-}
+store_shown {k} fits call =
+    let same = call.same fits.journal.honest in
+    record {
+      kept = fits.kept;
+      journal = record {
+        honest = call.honest ∙ fits.journal.honest;
+        reads = subst (IsAtRest k.journal.blocks k.journal.records [] fits.kept) (sym same.bytes) fits.journal.reads;
+        leaves = λ image is. fits.journal.leaves image (same.images.only image is);
+      };
+      tells = fits.tells;
+    }
 
 -- a read
 pub store_read : {k : Kept} {old new : Meaning} {state : State} → StoreFits k old state → IsDiskRun old new → IsUnchanged old new → StoreFits k new state
-store_read fits run same = record {
+store_read {k} fits run same = record {
   kept = fits.kept;
-  journal = record {
-    honest = honest_after run fits.journal.honest;
-    all = always_unchanged fits.journal.all same;
-  };
+  journal = fits_unchanged k.journal run same fits.journal;
   tells = fits.tells;
 }
 
