@@ -144,15 +144,23 @@ fn is_allowed(
     Ok(left.as_str() == states[1] || (!is_shown && left.as_str() == states[0]))
 }
 
-// Carries out a command on an image, and answers the bytes of the image behind it. Each crash in it is looked at.
+// How many calls of the disk opening these bytes makes.
+fn opening_calls(alloc: Global, image: &[u8]) -> Result<u64, AllocError> {
+    let mut station = MemStation::new(alloc, image, 0)?;
+    call(alloc, &["run", "i"], "", &mut station)?;
+    Ok(station.calls())
+}
+
+// Carries out a command on an image, and answers the bytes of the image behind it. Each crash in it is looked at; behind its
+// last call nothing of it is lost.
 fn crashed(
     alloc: Global,
     image: &[u8],
-    opening: u64,
     command: &str,
     pick: u8,
     states: [&str; 2],
 ) -> Result<Vec<u8>, Fail> {
+    let opening = opening_calls(alloc, image)?;
     let mut station = MemStation::new(alloc, image, ROOM)?;
     let status = call(alloc, &["run", "i"], command, &mut station)?;
     if status != Status::Done || opening >= station.calls() {
@@ -163,6 +171,10 @@ fn crashed(
             return Err("a crash left another state".into());
         }
     }
+    let left = listing(alloc, &station.crash(alloc, station.calls(), pick)?)?;
+    if left.as_str() != states[1] {
+        return Err("a crash behind the reply left another state".into());
+    }
     let mut bytes = zeros(alloc, IMAGE_LEN)?;
     if (bytes.len() as u64) <= station.len() {
         station.read_at(0, &mut bytes)?;
@@ -170,14 +182,11 @@ fn crashed(
     Ok(bytes)
 }
 
-// Eight commands, and a crash after each call of the disk.
+// Eight commands, and a crash after each call of the disk that they make.
 fn crash_each(alloc: Global, pick: u8) -> Result<(), Fail> {
     let mut image = fresh(alloc)?;
-    let mut counting = MemStation::new(alloc, &image, 0)?;
-    call(alloc, &["run", "i"], "", &mut counting)?;
-    let opening = counting.calls();
     for (command, states) in &CRASHED_COMMANDS {
-        image = crashed(alloc, &image, opening, command, pick, *states)?;
+        image = crashed(alloc, &image, command, pick, *states)?;
     }
     Ok(())
 }
