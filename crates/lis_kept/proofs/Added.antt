@@ -1,21 +1,19 @@
 -- A file that comes into a free slot, its bytes in free data blocks.
-use Rattle.std.proofs.Common.{◌≡◌, ◌⊎◌, refl, sym, ap, ap₂, ◌∙◌, subst, inl, inr, ℕ, ◌+◌, ◌-◌, ◌/◌, ◌^◌, ◌<◌, ◌≤◌, ◌==◌, if◌then◌else◌, ◌&&◌, ◌||◌, nat_lt, nat_le, not, Bool, true, false, List, [], ◌∷◌, ◌++◌, length, map, set, take, Option, Some, None, is_some, arith, length-set}
+use Rattle.std.proofs.Common.{◌≡◌, refl, sym, ap, ap₂, ◌∙◌, subst, inl, inr, ℕ, ◌+◌, ◌^◌, ◌<◌, ◌≤◌, ◌==◌, if◌then◌else◌, ◌&&◌, ◌||◌, nat_lt, not, Bool, true, false, List, [], ◌∷◌, ◌++◌, length, set, take, Some, None, is_some, arith, length-set}
 use Rattle.std.specs.BTreeSet.{insert_key}
 use Rattle.std.specs.List.{flat_map, list_all}
-use Rattle.std.specs.Ordering.{nat_cmp}
-use Rattle.std.proofs.lemmas.Bool.{and_parts, and_from, both_ways, eq-eqb, ne_eqb, ltb-true, lt-ltb, le-leb, leb-true, false_from_ne_true}
+use Rattle.std.proofs.lemmas.Bool.{and_parts, and_from, both_ways, eq-eqb, ne_eqb, ltb-true, lt-ltb, false_from_ne_true}
 use Rattle.std.proofs.lemmas.Option.{same_Some}
-use Rattle.lis_graph.specs.Graph.{is_rising}
-use Rattle.lis_graph.proofs.Members.{Among, contains_from_among}
+use Rattle.lis_graph.proofs.Members.{Among}
 use Rattle.lis_journal.specs.Journal.{Held}
 use Rattle.lis_journal.specs.Images.{look}
 use Rattle.lis_journal.specs.Phases.{looked}
 use Rattle.lis_blockmap.specs.Bitmap.{is_taken}
-use Rattle.lis_content.specs.Content.{content, has_number, has_home, are_free, are_taken}
+use Rattle.lis_content.specs.Content.{content, has_number, has_home}
 use Rattle.lis_content.specs.Putting.{IsPut}
 use Rattle.lis_content.proofs.Numbers.{neither, not_true, are_below, below_from_free}
 use Rattle.lis_dict.specs.Dict.{word_of}
-use Rattle.lis_catalog.specs.Catalog.{Catalog, Filed, IsCatalog, filed_cmp, rec_at, slot_of, with_filed}
+use Rattle.lis_catalog.specs.Catalog.{Catalog, Filed, filed_cmp, rec_at, slot_of, with_filed}
 use Rattle.lis_catalog.proofs.Laws.{rec_at-with_filed}
 use Rattle.lis_fields.specs.Records.{FileRecord}
 use Rattle.lis_fields.specs.Layouts.{file_bytes, are_short, are_tags, are_blocks, is_record, are_distinct as slots_distinct}
@@ -27,7 +25,7 @@ use Rattle.lis_model.specs.State.{File, file_cmp, blocks_needed}
 use Rattle.lis_model.specs.Changes.{new_file, file_added}
 use Rattle.lis_laws.proofs.Counts.{all_among, all_from}
 use Rattle.lis_kept.specs.Kept.{Kept, file_by}
-use Rattle.lis_kept.specs.Areas.{Area, slots_of, block_of, spelled, held_in, is_marked, IsSaved}
+use Rattle.lis_kept.specs.Areas.{Area, slots_of, block_of, spelled, IsSaved}
 use Rattle.lis_kept.specs.Areas.Area.{Properties, Axioms, Files, Rows, Bitmap}
 use Rattle.lis_kept.specs.Telling.{state_of, file_told, words_told}
 use Rattle.lis_kept.specs.Sound.{is_sound_record, BlocksAreTaken}
@@ -188,6 +186,8 @@ module _ (p : Kept) (t : Taxonomy) (held : AreHeld p t) {old new : Held} {name t
       tagged = refl;
       sized = refl;
       image = file.put.image;
+      records = file.put.records;
+      placed = file.put.placed;
       broken = file.put.broken;
       few_staged = omega (arith, file.put.few, file.put.count, file.short);
       few = marks_owed.few;

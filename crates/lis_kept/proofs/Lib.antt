@@ -14,4 +14,9 @@ pub mod WordMore
 pub mod WordDeclared
 pub mod HeadEdges
 pub mod WordLearnt
+pub mod Known
 pub mod WordLess
+pub mod Forgotten
+pub mod Used
+pub mod Emptied
+pub mod ToldInUse

@@ -1,5 +1,5 @@
 -- Blocks that are staged one by one, each as memory spells it.
-use Rattle.std.proofs.Common.{◌≡◌, ◌⊎◌, ℕ, ◌+◌, ◌<◌, ◌≤◌, ◌==◌, Bool, true, false, cond, nat_lt, List, [], ◌∷◌, length, take, count_by, IsTrue, refl, sym, ap, ◌∙◌, subst, inl, inr, arith}
+use Rattle.std.proofs.Common.{◌≡◌, ◌⊎◌, ℕ, ◌+◌, ◌<◌, ◌≤◌, ◌==◌, Bool, true, false, cond, nat_lt, List, [], ◌∷◌, length, take, count_by, IsTrue, refl, sym, ap, ◌∙◌, inl, inr, arith}
 use Rattle.std.proofs.lemmas.Bool.{cases_eq, cases_lt, eq-eqb, ne_eqb}
 use Rattle.std.proofs.lemmas.List.Sums.{count_by_more_no, count_by_more_yes, sum_by-take-le}
 use Rattle.lis_journal.specs.Journal.{Held}
@@ -29,6 +29,8 @@ pub stages_block : (k : Kept) (n : ℕ) (old new : Held) (block : List ℕ) → 
     → ((m : ℕ) (was : List ℕ) → look new.staged m was ≡ cond (m == n) block (look old.staged m was)) → IsBlock k n block → StagesBlock k n old new
 stages_block k n old new block is looks spells = record {
   image = ap (λ (h : Held). h.blocks) is;
+  records = ap (λ (h : Held). h.records) is;
+  placed = ap (λ (h : Held). h.placed) is;
   broken = ap (λ (h : Held). h.is_broken) is;
   few = omega (arith, ap (λ (h : Held). length h.staged) is, length-with_entry old.staged n block);
   bytes = block;
@@ -41,6 +43,8 @@ stages_block k n old new block is looks spells = record {
 pub staged_none : (k : Kept) (old : Held) → IsTrue (are_in_range k.limits) → StagedBelow k 578 old old
 staged_none k old range = record {
   image = refl;
+  records = refl;
+  placed = refl;
   broken = refl;
   few = omega arith;
   written = λ kept saved area m lt. by kept saved area m lt;
@@ -57,6 +61,8 @@ module _ (k : Kept) (n : ℕ) (old now : Held) (within : n < length k.marks) (fr
   pub staged_past : is_marked k n ≡ false → StagedBelow k (n + 1) old now
   staged_past unmarked = record {
     image = so_far.image;
+    records = so_far.records;
+    placed = so_far.placed;
     broken = so_far.broken;
     few = omega (arith, so_far.few, count_by_more_no (λ (b : Bool). b) k.marks n false within unmarked);
     written = λ kept saved area m lt either. so_far.written kept saved area m lt (by area m either (cases_lt (block_of k.limits area m) n));
@@ -77,6 +83,8 @@ module _ (k : Kept) (n : ℕ) (old now : Held) (within : n < length k.marks) (fr
   pub staged_more : (new : Held) → is_marked k n ≡ true → StagesBlock k n now new → StagedBelow k (n + 1) old new
   staged_more new marked one = record {
     image = one.image ∙ so_far.image;
+    records = one.records ∙ so_far.records;
+    placed = one.placed ∙ so_far.placed;
     broken = one.broken ∙ so_far.broken;
     few = omega (arith, so_far.few, one.few, count_by_more_yes (λ (b : Bool). b) k.marks n false within marked);
     written = λ kept saved area m lt either. by kept saved area m lt either (cases_eq (block_of k.limits area m) n);
@@ -111,6 +119,8 @@ count_front bits n = sum_by-take-le _ bits n
 pub staged_all : (k : Kept) (end : ℕ) (old new : Held) → IsTrue (are_in_range k.limits) → end ≡ data_start k.limits → StagedBelow k end old new → Stages k old new
 staged_all k end old new range is all = record {
   image = all.image;
+  records = all.records;
+  placed = all.placed;
   broken = all.broken;
   few = omega (arith, all.few, count_front k.marks end);
   written = λ kept saved area m lt. all.written kept saved area m lt (inl (omega (arith, is, (among_slots k.limits range area m lt).1)));

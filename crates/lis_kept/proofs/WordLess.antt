@@ -46,7 +46,7 @@ any_same f g [] same = refl
 any_same f g (x ∷ xs) same = ap₂ (λ a b. a || b) (same x (inl refl)) (any_same f g xs (λ z m. same z (inr m)))
 
 -- a number that some file has is had
-had_from : (e : Ext) (n slot : ℕ) → has e n slot ≡ true → is_had e n ≡ true
+pub had_from : (e : Ext) (n slot : ℕ) → has e n slot ≡ true → is_had e n ≡ true
 had_from e n slot has_it = by (cases_lt slot (length e.sets))
   where
     by : (slot < length e.sets) ⊎ (length e.sets ≤ slot) → is_had e n ≡ true

@@ -91,6 +91,8 @@ pub record Adds (name tags bytes : List ℕ) (slot : ℕ) (p q : Kept) (old new 
   pub tagged : rec.tags ≡ tags
   pub sized : rec.size ≡ length bytes
   pub image : new.blocks ≡ old.blocks
+  pub records : new.records ≡ old.records
+  pub placed : new.placed ≡ old.placed
   pub broken : new.is_broken ≡ old.is_broken
   pub few_staged : length new.staged ≤ length old.staged + 16
   pub few : marked_count q ≤ marked_count p + 2

@@ -26,6 +26,8 @@ IsBlock k n block = (area : Area) (m : ℕ) → m < (slots_of k.limits area).cou
 -- one block is staged as memory spells it
 pub record StagesBlock (k : Kept) (n : ℕ) (old new : Held) : Type 0 where
   pub image : new.blocks ≡ old.blocks
+  pub records : new.records ≡ old.records
+  pub placed : new.placed ≡ old.placed
   pub broken : new.is_broken ≡ old.is_broken
   pub few : length new.staged ≤ length old.staged + 1
   pub bytes : List ℕ
@@ -36,6 +38,8 @@ pub record StagesBlock (k : Kept) (n : ℕ) (old new : Held) : Type 0 where
 -- the marked blocks below a number are staged
 pub record StagedBelow (k : Kept) (end : ℕ) (old new : Held) : Type 0 where
   pub image : new.blocks ≡ old.blocks
+  pub records : new.records ≡ old.records
+  pub placed : new.placed ≡ old.placed
   pub broken : new.is_broken ≡ old.is_broken
   pub few : length new.staged ≤ length old.staged + count_by (λ (b : Bool). b) (take end k.marks)
   pub written : (kept : ℕ → List ℕ) → IsSaved k (looked old.staged kept) → (area : Area) (m : ℕ) → m < (slots_of k.limits area).count

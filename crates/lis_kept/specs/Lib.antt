@@ -9,3 +9,4 @@ pub mod Staging
 pub mod Inside
 pub mod Edges
 pub mod Forgetting
+pub mod Passes

@@ -4,7 +4,7 @@ use Rattle.std.specs.List.{list_all}
 use Rattle.lis_blockmap.specs.Bitmap.{is_taken}
 use Rattle.lis_content.specs.Content.{are_taken}
 use Rattle.lis_dict.specs.Dict.{Dict, IsDict, number_of, word_of}
-use Rattle.lis_catalog.specs.Catalog.{Catalog, IsCatalog, rec_at}
+use Rattle.lis_catalog.specs.Catalog.{IsCatalog, rec_at}
 use Rattle.lis_ext.specs.Ext.{has}
 use Rattle.lis_fields.specs.Records.{FileRecord}
 use Rattle.lis_fields.specs.declared.slots.AxiomSlot.TheVariants.{Pair}

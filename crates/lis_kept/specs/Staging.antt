@@ -10,6 +10,8 @@ use Rattle.lis_kept.specs.Areas.{IsSaved, IsWritten, marked_count}
 -- Every marked block is staged as memory spells it; blocks before the slots and data blocks look as before.
 pub record Stages (k : Kept) (old new : Held) : Type 0 where
   pub image : new.blocks ≡ old.blocks
+  pub records : new.records ≡ old.records
+  pub placed : new.placed ≡ old.placed
   pub broken : new.is_broken ≡ old.is_broken
   pub few : length new.staged ≤ length old.staged + marked_count k
   pub written : (kept : ℕ → List ℕ) → IsSaved k (looked old.staged kept) → IsWritten k (looked new.staged kept)

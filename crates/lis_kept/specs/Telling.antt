@@ -6,13 +6,13 @@ use Rattle.std.specs.List.{flat_map, list_any, fold, Contains}
 use Rattle.lis_blockmap.specs.Bitmap.{is_taken}
 use Rattle.lis_content.specs.Content.{content, has_number}
 use Rattle.lis_dict.specs.Dict.{Dict, words, number_of, word_of}
-use Rattle.lis_catalog.specs.Catalog.{Catalog, Filed}
+use Rattle.lis_catalog.specs.Catalog.{Filed}
 use Rattle.lis_ext.specs.Ext.{Ext, set_of as numbers_at}
 use Rattle.lis_fields.specs.Records.{FileRecord}
 use Rattle.lis_fields.specs.declared.slots.AxiomSlot.{AxiomSlot}
 use Rattle.lis_fields.specs.declared.slots.AxiomSlot.TheVariants.{Free as FreeAxiom, Pair}
 use Rattle.lis_fields.specs.Layouts.{super_bytes}
-use Rattle.lis_words.specs.Words.{same_word, is_valued, head_bytes, has_word}
+use Rattle.lis_words.specs.Words.{same_word, is_valued, head_bytes}
 use Rattle.lis_model.specs.declared.limits.Limits.{Limits}
 use Rattle.lis_model.specs.Image.{data_start}
 use Rattle.lis_model.specs.Sets.{set_of}

@@ -1,6 +1,6 @@
 //! Changes of what memory keeps. Each marks the blocks that it touches.
 
-ghost use Rattle.std.specs.Prelude.{◌≡◌, ℕ, ◌+◌, ◌*◌, ◌<◌, ◌≤◌, nat_lt, true, false, None, is_some, map, length, slice_set, IsTrue, IsSome};
+ghost use Rattle.std.specs.Prelude.{◌≡◌, ℕ, ◌+◌, ◌*◌, ◌<◌, ◌≤◌, nat_lt, true, false, None, [], is_some, map, length, slice_set, IsTrue, IsSome};
 ghost use Rattle.std.specs.List.{list_all};
 ghost use Rattle.std.specs.List.Sorted.{IsStrictlyIncreasing};
 ghost use Rattle.lis_content.specs.Content.{marked};
@@ -109,6 +109,7 @@ impl Parts {
         requires taken { BlocksAreTaken self.old }
         requires image { journal.old.blocks ≡ image_blocks self.old.limits }
         requires unbroken { journal.old.is_broken ≡ false }
+        requires unplaced { journal.old.placed ≡ [] }
         requires staged { length journal.old.staged + 16 ≤ 575 }
         requires long { 4096 * journal.old.blocks ≤ (D.meaning disk.old).len }
         ensures added { Adds name.now tags.items bytes.now result self.old self.new journal.old journal.new }

@@ -4,12 +4,15 @@
 #![tactic(auto)]
 
 mod changes;
+mod joining;
 mod parts;
 mod places;
+mod reading;
 mod rows;
 mod spelling;
 mod words;
 
+pub use joining::Fields;
 pub use parts::Parts;
 pub use places::{
     PROPERTIES_START, axioms_start, bitmap_start, data_start, files_start, rows_start,

@@ -1,6 +1,6 @@
 //! What memory keeps, as one value.
 
-ghost use Rattle.std.specs.Prelude.{◌≡◌, ℕ, ◌+◌, ◌<◌, ◌≤◌, false, length, replicate, IsTrue};
+ghost use Rattle.std.specs.Prelude.{◌≡◌, ℕ, ◌+◌, ◌<◌, ◌≤◌, false, [], length, replicate, IsTrue};
 ghost use Rattle.lis_model.specs.Image.{bitmap_start, data_start, image_blocks};
 
 use crate::places::{
@@ -71,8 +71,10 @@ impl Parts {
     pub fn stage(&self, journal: &mut Journal)
         requires image { journal.old.blocks ≡ image_blocks self.now.limits }
         requires unbroken { journal.old.is_broken ≡ false }
+        requires unplaced { journal.old.placed ≡ [] }
         requires room { length journal.old.staged + marked_count self.now ≤ 575 }
-        ensures { Stages self.now journal.old journal.new }
+        ensures staged { Stages self.now journal.old journal.new }
+        ensures sound { AreSound self.now }
     {
         let end = data_start(self.limits());
         for n in PROPERTIES_START..end {
@@ -101,6 +103,7 @@ impl Parts {
     fn stage_block(&self, journal: &mut Journal, n: u32)
         requires image { journal.old.blocks ≡ image_blocks self.now.limits }
         requires unbroken { journal.old.is_broken ≡ false }
+        requires unplaced { journal.old.placed ≡ [] }
         requires room { length journal.old.staged < 575 }
         requires from { 578 ≤ n }
         requires to { n < data_start self.now.limits }

@@ -1,6 +1,7 @@
 //! Changes of the words that memory keeps.
 
-ghost use Rattle.std.specs.Prelude.{◌≡◌, ◌≢◌, ℕ, ◌<◌, ◌≤◌, true, false, None, [], ◌∷◌, length, slice_set, IsTrue, IsSome, IfSome};
+ghost use Rattle.std.specs.Prelude.{◌≡◌, ◌≢◌, ℕ, ◌<◌, ◌≤◌, true, false, ◌||◌, None, [], ◌∷◌, length, slice_set, IsTrue, IsSome, IfSome};
+ghost use Rattle.std.specs.List.{list_any};
 ghost use Rattle.lis_dict.specs.Dict.{number_of, word_of};
 ghost use Rattle.lis_fields.specs.Layouts.{is_undeclared};
 ghost use Rattle.lis_model.specs.Image.{data_start};
@@ -10,18 +11,22 @@ ghost use Rattle.lis_taxonomy.specs.Taxonomy.{has_edge};
 ghost use Rattle.lis_words.specs.Words.{is_valued, head_bytes};
 ghost use Rattle.lis_kept.specs.Areas.{block_of};
 ghost use Rattle.lis_kept.specs.Edges.{head_number, with_edge_to, without_edge_to};
-ghost use Rattle.lis_kept.specs.Forgetting.{MayGo};
+ghost use Rattle.lis_kept.specs.Forgetting.{MayGo, MayForget};
+ghost use Rattle.lis_kept.specs.Passes.{is_due, ForgetsDue};
 ghost use Rattle.lis_kept.specs.Areas.Area.{Properties};
 ghost use Rattle.lis_kept.specs.Changes.{Declares, Learns, Forgets};
+ghost use Rattle.lis_kept.specs.Telling.{is_left_of, is_head_by, is_left_head_of, is_had, is_used};
 
 use crate::parts::Parts;
 use crate::places::PROPERTIES_START;
 use crate::spelling::PROPERTIES_PER_BLOCK;
 use lis_bits::Flags;
 use lis_dict::Dict;
+use lis_ext::Ext;
+use lis_fields::AxiomSlot;
 use lis_model::limits::Limits;
 use lis_taxonomy::Taxonomy;
-use lis_words::{Word, head_of};
+use lis_words::{Word, head_of, is_valued};
 
 // Marks the block of a property slot.
 fn mark_property(marks: &mut Flags, limits: &Limits, number: u16)
@@ -78,6 +83,51 @@ fn unlink_head(taxonomy: &mut Taxonomy, number: u16, head: Option<u16>)
     };
 }
 
+// Whether some file's description has a number.
+fn is_had(ext: &Ext, number: u16) -> bool
+    requires { number < ext.now.props }
+    ensures { result ≡ is_had ext.now number }
+{
+    ext.rows().next(u32::from(number), 0).is_some()
+}
+
+// Whether the word of a number is valued, and another number is that of its head.
+fn has_head(dict: &Dict, number: u16, head: u16) -> bool
+    ensures { result ≡ is_head_by (word_of dict.now number) (word_of dict.now head) }
+{
+    let Some(word) = dict.word_of(number) else {
+        return false;
+    };
+    // Only its length tells that a dictionary has a number for one word.
+    let _len = dict.len();
+    match head_number(dict, &word) {
+        None => false,
+        Some(found) => found == head,
+    }
+}
+
+// Whether a number is that of an axiom's left side, or of its head.
+fn is_on_left(dict: &Dict, slot: AxiomSlot, number: u16) -> bool
+    requires { (n : ℕ) → IsSome (word_of dict.now n) → n < 65536 }
+    ensures { result ≡ (is_left_of number slot || is_left_head_of dict.now number slot) }
+{
+    let AxiomSlot::Pair(left, _) = slot else {
+        return false;
+    };
+    let Ok(left) = u16::try_from(left) else {
+        return false;
+    };
+    left == number || has_head(dict, left, number)
+}
+
+// Whether a number is the left side of an axiom, or the head of one.
+fn is_named_left(dict: &Dict, axioms: &[AxiomSlot], number: u16) -> bool
+    requires { (n : ℕ) → IsSome (word_of dict.now n) → n < 65536 }
+    ensures { result ≡ list_any (λ slot. is_left_of number slot || is_left_head_of dict.now number slot) axioms.now }
+{
+    axioms.iter().any(|slot| is_on_left(dict, *slot, number))
+}
+
 impl Parts {
     /// Gives a new word a free number, and declares it.
     pub fn declare(&mut self, word: &Word)
@@ -127,5 +177,50 @@ impl Parts {
         self.dict.remove(&word);
         unlink_head(&mut self.taxonomy, number, head);
         mark_property(&mut self.marks, &self.limits, number);
+    }
+
+    /// Forgets the words of those numbers that are not in use.
+    pub fn forget_unused(&mut self, numbers: &[u16])
+        requires { MayForget numbers.now self.old }
+        ensures { Forgets numbers.now self.old self.new }
+    {
+        // The head of a known word keeps its number, so valued words go before heads.
+        self.forget_due(numbers, true);
+        self.forget_due(numbers, false);
+    }
+
+    // Forgets the words of those numbers that are not in use: valued words, or the others.
+    fn forget_due(&mut self, numbers: &[u16], valued: bool)
+        requires { (n : ℕ) → is_due self.old valued n ≡ true → MayGo n self.old }
+        ensures { ForgetsDue valued numbers.now self.old self.new }
+    {
+        for number in numbers {
+            if self.is_due(*number, valued) {
+                self.forget(*number);
+            }
+        }
+    }
+
+    // Whether a number is not in use, and its word is valued, or is not.
+    fn is_due(&self, number: u16, valued: bool) -> bool
+        ensures { result ≡ is_due self.now valued number }
+    {
+        let Some(word) = self.dict.word_of(number) else {
+            return false;
+        };
+        if is_valued(word.bytes()) != valued {
+            return false;
+        }
+        !self.is_used(number)
+    }
+
+    // Whether a number is in use.
+    fn is_used(&self, number: u16) -> bool
+        requires { IsSome (word_of self.now.dict number) }
+        ensures { result ≡ is_used self.now number }
+    {
+        self.declared.get(u32::from(number))
+            || is_had(&self.ext, number)
+            || is_named_left(&self.dict, self.axioms.as_slice(), number)
     }
 }

@@ -1,4 +1,4 @@
-use Rattle.std.proofs.Common.{◌≡◌, ◌+◌, ◌<◌, length, sym, ap, ◌∙◌, subst, arith}
+use Rattle.std.proofs.Common.{◌+◌, ◌<◌, length, sym, ap, ◌∙◌, subst, arith}
 use Rattle.lis_journal.specs.Journal.{Held}
 use Rattle.lis_model.specs.Image.{data_start}
 use Rattle.lis_kept.specs.Inside.{StagedBelow}
@@ -22,8 +22,8 @@ loop-n-preserved c =
       | else-is_marked w ↦ subst P (sym w.journal-is) (staged_past k n old now lt c.loop-n.auto.n c.loop-n.invariant (sym c.is_marked.ensures ∙ w.if-is_marked.false))
     ]
 
-pub returns : goal.returns
-returns c =
+pub returns-clause-staged : goal.returns-clause-staged
+returns-clause-staged c =
     let is = c.data_start-end.ensures.start ∙ ap data_start c.limits.ensures.value in
     staged_all c.args.self.now c.loop-n.n c.args.journal.now c.loop-n.journal c.limits.ensures.sound.range
     (omega (arith, is, c.loop-n.auto.n-end, c.loop-n-test.false)) c.loop-n.invariant

@@ -1,0 +1,104 @@
+//! What memory keeps, as calls read it.
+
+ghost use Rattle.std.specs.Prelude.{◌≡◌, Some, None, MatchOption, length, slice_get};
+ghost use Rattle.std.specs.Option.{option_map};
+ghost use Rattle.lis_blockmap.specs.Bitmap.{free_count};
+ghost use Rattle.lis_catalog.specs.Catalog.{Filed, slot_of, rec_at};
+ghost use Rattle.lis_dict.specs.Dict.{number_of, word_of};
+ghost use Rattle.lis_kept.specs.Links.{TellsLinks};
+ghost use Rattle.lis_kept.specs.Telling.{is_declared};
+
+use crate::parts::Parts;
+use lis_ext::Ext;
+use lis_fields::FileRec;
+use lis_taxonomy::Taxonomy;
+use lis_words::{Name, Word};
+
+impl Parts {
+    /// How many words have numbers.
+    pub fn word_count(&self) -> u32
+        ensures { result ≡ length self.now.dict.entries }
+    {
+        self.dict.len()
+    }
+
+    /// The number of a word.
+    pub fn number_of(&self, word: &Word) -> Option<u16>
+        ensures { result ≡ number_of self.now.dict word.now }
+    {
+        self.dict.id_of(word)
+    }
+
+    /// The word that has a number.
+    pub fn word_of(&self, number: u16) -> Option<Word>
+        ensures { result ≡ word_of self.now.dict number }
+    {
+        self.dict.word_of(number)
+    }
+
+    /// The k-th word in byte order, and its number.
+    pub fn word_at(&self, k: u32) -> Option<(Word, u16)>
+        ensures { result ≡ slice_get self.now.dict.entries k }
+    {
+        self.dict.word_at(k)
+    }
+
+    /// Whether a word is declared.
+    pub fn is_declared(&self, word: &Word) -> bool
+        ensures { result ≡ is_declared self.now word.now }
+    {
+        match self.dict.id_of(word) {
+            None => false,
+            Some(number) => self.declared.get(u32::from(number)),
+        }
+    }
+
+    /// How many files there are.
+    pub fn file_count(&self) -> u32
+        ensures { result ≡ length self.now.catalog.entries }
+    {
+        self.catalog.len()
+    }
+
+    /// The slot of the file that has a name.
+    pub fn slot_of(&self, name: &Name) -> Option<u16>
+        ensures { result ≡ slot_of self.now.catalog name.now }
+    {
+        self.catalog.slot_of(name)
+    }
+
+    /// The k-th file in the order of names: its name, and its slot.
+    pub fn file_at(&self, k: u32) -> Option<(Name, u16)>
+        ensures { result ≡ option_map (λ (f : Filed). (f.rec.name, f.slot)) (slice_get self.now.catalog.entries k) }
+    {
+        self.catalog.file_at(k)
+    }
+
+    /// The record of the file in a slot.
+    pub fn rec(&self, slot: u16) -> Option<&FileRec>
+        ensures { MatchOption result (rec_at self.now.catalog slot ≡ None) (λ rec. rec_at self.now.catalog slot ≡ Some rec.now) }
+    {
+        self.catalog.rec(slot)
+    }
+
+    /// How many data blocks are free.
+    pub fn free_blocks(&self) -> u32
+        ensures { result ≡ free_count self.now.taken }
+    {
+        self.map.free()
+    }
+
+    /// For each file slot the numbers of its file's description.
+    pub fn ext(&self) -> &Ext
+        ensures { result.now ≡ self.now.ext }
+    {
+        &self.ext
+    }
+
+    /// The links between the words that have numbers.
+    pub fn taxonomy(&self) -> &Taxonomy
+        ensures { TellsLinks self.now result.now }
+    {
+        &self.taxonomy
+    }
+}
