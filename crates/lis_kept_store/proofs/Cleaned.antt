@@ -1,5 +1,5 @@
 -- What memory keeps without its marks.
-use Rattle.std.proofs.Common.{◌≡◌, ℕ, ◌≤◌, ◌*◌, Bool, true, false, cond, length, replicate, sym, ap, ◌∙◌, arith, count_by}
+use Rattle.std.proofs.Common.{◌≡◌, Bool, false, cond, length, replicate, sym, ap, ◌∙◌, arith, count_by}
 use Rattle.std.proofs.lemmas.List.{length-replicate}
 use Rattle.std.proofs.lemmas.List.Folds.{sum_by-replicate}
 use Rattle.lis_kept.specs.Kept.{Kept}

@@ -1,8 +1,7 @@
 -- What a declared word comes to.
-use Rattle.std.proofs.Common.{◌≡◌, ◌⊎◌, refl, sym, ap, ap₂, ◌∙◌, subst, inl, inr, ℕ, ◌+◌, ◌<◌, ◌≤◌, ◌==◌, nat_lt, nat_le, not, ◌&&◌, ◌||◌, Bool, true, false, cond, if◌then◌else◌, List, [], ◌∷◌, length, replicate, set, slice_get, Option, Some, None, is_some, IsSome, IsTrue, Result, Err, arith, get_or-set_same, get_or-set_other}
-use Rattle.std.specs.List.{list_all, list_any, Contains}
-use Rattle.std.proofs.lemmas.Bool.{and_parts, and_from, or_cases, or_left, or_right, both_ways, cases_eq, eq-eqb, eqb-true, ne_eqb, false_from_ne_true, not_from_false, ltb-true, ltb-false, leb-true}
-use Rattle.std.proofs.lemmas.Option.{same_Some}
+use Rattle.std.proofs.Common.{◌≡◌, ◌⊎◌, refl, sym, ap, ap₂, ◌∙◌, subst, inl, inr, ℕ, ◌+◌, ◌<◌, ◌≤◌, ◌==◌, nat_lt, nat_le, not, ◌&&◌, ◌||◌, Bool, true, false, if◌then◌else◌, List, [], ◌∷◌, length, set, slice_get, Option, Some, None, is_some, IsSome, IsTrue, Result, Err, arith, get_or-set_same, get_or-set_other}
+use Rattle.std.specs.List.{list_all, Contains}
+use Rattle.std.proofs.lemmas.Bool.{and_parts, or_cases, or_left, or_right, both_ways, cases_eq, ne_eqb, false_from_ne_true, not_from_false, ltb-true, ltb-false, leb-true}
 use Rattle.lis_graph.proofs.Members.{Among, among_from_contains, contains_from_among, among_from_any}
 use Rattle.lis_ports.specs.Meaning.{Meaning}
 use Rattle.lis_journal.specs.Journal.{Held}
@@ -10,7 +9,7 @@ use Rattle.lis_journal.specs.Record.{Entry}
 use Rattle.lis_journal.specs.Phases.{looked}
 use Rattle.lis_blockmap.specs.Bitmap.{is_taken}
 use Rattle.lis_content.specs.Content.{has_number}
-use Rattle.lis_dict.specs.Dict.{Dict, IsDict, number_of, word_of, with_entry}
+use Rattle.lis_dict.specs.Dict.{number_of, word_of}
 use Rattle.lis_dict.proofs.Laws.{word_from_number, word_of-with_entry}
 use Rattle.lis_catalog.specs.Catalog.{Filed, rec_at}
 use Rattle.lis_ext.specs.Ext.{Ext, has, set_of as numbers_at}
@@ -30,7 +29,7 @@ use Rattle.lis_model.specs.Sets.{with_word}
 use Rattle.lis_model.specs.State.{State, File, description, known, is_declarable, WellFormed}
 use Rattle.lis_model.specs.Changes.{declared_under}
 use Rattle.lis_model.specs.Tests.{has_no_tests}
-use Rattle.lis_model.specs.Step.{Situation, Outcome, refused, changed, judged, exceeds_axioms, exceeds_known, exceeds_words, words_at, mkdir}
+use Rattle.lis_model.specs.Step.{Situation, changed, judged, exceeds_axioms, exceeds_known, exceeds_words, mkdir}
 use Rattle.lis_model.proofs.NoTests.{word_not_test}
 use Rattle.lis_laws.proofs.Apart.{declarable_from, declarable_not_valued, declarable_not_built_in}
 use Rattle.lis_laws.proofs.Counts.{all_among, all_from, all_insert_key}
@@ -38,14 +37,13 @@ use Rattle.lis_laws.proofs.Forms as forms
 use Rattle.lis_laws.proofs.Growth.{known_declares}
 use Rattle.lis_laws.proofs.Members.{word_exact, same_word_decides, among_from_has_word, has_word_from_among}
 use Rattle.lis_kept.specs.Kept.{Kept, property_by, property_at}
-use Rattle.lis_kept.specs.Areas.{IsSaved, marked_count}
+use Rattle.lis_kept.specs.Areas.{IsSaved}
 use Rattle.lis_kept.specs.Links.{is_linked, has_pair}
 use Rattle.lis_kept.specs.Sound.{AreSound, FreeSlotsAreEmpty, BlocksAreTaken}
 use Rattle.lis_kept.specs.Forgetting.{KeepsInUse}
 use Rattle.lis_kept.specs.Changes.{Declares}
-use Rattle.lis_kept.specs.Telling.{bit_of, is_declared, declared_of, words_told, file_told, is_head_by, state_of, Tells}
+use Rattle.lis_kept.specs.Telling.{bit_of, is_declared, declared_of, words_told, file_told, is_head_by, Tells}
 use Rattle.lis_kept.proofs.Filing.{same_tests, number_from_among, filed_rec}
-use Rattle.lis_kept.proofs.Formed.{some_word}
 use Rattle.lis_kept.proofs.OwnLinks.{declared_no_tests, own_link_is}
 use Rattle.lis_kept.proofs.WordMore.{declared_there, there_declared}
 use Rattle.lis_kept_store.specs.Stored.{Stored, PairsAreApart, AreClosed, DescriptionsAreShort, BlocksAreApart, IsSound, StoreFits}

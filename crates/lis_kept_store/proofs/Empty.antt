@@ -1,17 +1,17 @@
 -- A blank image tells of no words and no files: it stands for the empty state.
-use Rattle.std.proofs.Common.{◌≡◌, refl, sym, ap, ap₂, ◌∙◌, subst, ℕ, zero, suc, ◌+◌, ◌-◌, ◌*◌, ◌/◌, ◌%◌, ◌<◌, ◌≤◌, ◌==◌, ◌≢◌, Bool, true, false, List, [], ◌∷◌, length, get_or, map, take, drop, replicate, slice_get, slice_index, Some, None, IsTrue, arith}
+use Rattle.std.proofs.Common.{◌≡◌, refl, sym, ap, ap₂, ◌∙◌, ℕ, zero, suc, ◌+◌, ◌-◌, ◌*◌, ◌/◌, ◌%◌, ◌<◌, ◌≤◌, ◌==◌, ◌≢◌, false, List, [], ◌∷◌, length, get_or, map, take, drop, replicate, slice_get, slice_index, Some, IsTrue, arith}
 use Rattle.std.specs.BTreeSet.{insert_key}
 use Rattle.std.specs.List.{fold, range_with_len, Contains}
 use Rattle.std.proofs.lemmas.Bool.{and_parts, both_ways}
-use Rattle.std.proofs.lemmas.List.{length-replicate, drop-replicate, take-replicate, get_or-replicate, get_or_past, take-take}
+use Rattle.std.proofs.lemmas.List.{length-replicate, drop-replicate, take-replicate, get_or-replicate, take-take}
 use Rattle.std.proofs.lemmas.Option.{slice_get_within, get_or_from_slice_get}
-use Rattle.lis_graph.proofs.Members.{Among, among_from_contains}
+use Rattle.lis_graph.proofs.Members.{among_from_contains}
 use Rattle.lis_ports.specs.Bytes.{part}
 use Rattle.lis_journal.specs.Record.{block}
 use Rattle.lis_slots.specs.Slots.{Slots, home, place, slot}
 use Rattle.lis_blockmap.specs.Bitmap.{is_taken, bits_number, bitmap_bytes}
 use Rattle.lis_dict.specs.Dict.{Dict, IsDict}
-use Rattle.lis_catalog.specs.Catalog.{Filed, IsCatalog}
+use Rattle.lis_catalog.specs.Catalog.{IsCatalog}
 use Rattle.lis_ext.specs.Ext.{has, set_of}
 use Rattle.lis_ext.specs.Numbers.{has_number as has_in}
 use Rattle.lis_fields.specs.Layouts.{zeros, super_bytes, is_super, prop_bytes, axiom_bytes, file_bytes}
@@ -22,17 +22,16 @@ use Rattle.lis_model.specs.Ranges.{are_in_range}
 use Rattle.lis_model.specs.Image.{bitmap_start, data_start}
 use Rattle.lis_model.specs.State.{State, empty_state, pair_cmp}
 use Rattle.lis_laws.proofs.Steps.{empty_formed}
-use Rattle.lis_kept.specs.Kept.{Kept, axiom_at}
+use Rattle.lis_kept.specs.Kept.{Kept}
 use Rattle.lis_kept.specs.Areas.{Area, IsWritten, slots_of, axiom_slots, row_slots}
 use Rattle.lis_kept.specs.Areas.Area.{Properties, Axioms, Files, Rows, Bitmap}
-use Rattle.lis_kept.specs.Rows.{row_bytes}
-use Rattle.lis_kept.specs.Sound.{AreSound, FreeSlotsAreEmpty}
+use Rattle.lis_kept.specs.Sound.{AreSound}
 use Rattle.lis_kept.specs.Telling.{pairs_told, Tells}
 use Rattle.lis_kept.proofs.InArea.{among_slots, whole_files, files_range, each_files_limit}
 use Rattle.lis_kept.proofs.RowBytes.{row_bytes_none}
 use Rattle.lis_kept_store.specs.Blank.{IsBlank}
 use Rattle.lis_kept_store.specs.Stands.{Stands}
-use Rattle.lis_kept_store.specs.Stored.{PairsAreApart, AreClosed, IsSound, empty_parts, empty_stored}
+use Rattle.lis_kept_store.specs.Stored.{IsSound, empty_parts, empty_stored}
 
 in_range : (limits : Limits) → IsTrue (is_super limits) → IsTrue (are_in_range limits)
 in_range limits range = (and_parts (limits.version == 1) (are_in_range limits) range).1

@@ -1,5 +1,5 @@
 -- A store without words and files fits a blank image.
-use Rattle.std.proofs.Common.{◌≡◌, refl, ap, ℕ, ◌<◌, ◌≤◌, ◌==◌, List, IsTrue, arith}
+use Rattle.std.proofs.Common.{◌≡◌, refl, ap, ℕ, ◌≤◌, ◌==◌, List, IsTrue, arith}
 use Rattle.std.specs.List.{list_any}
 use Rattle.std.proofs.lemmas.Bool.{and_parts}
 use Rattle.lis_ports.specs.Meaning.{Meaning}
@@ -10,7 +10,7 @@ use Rattle.lis_journal.proofs.Fitting.{settled_fits}
 use Rattle.lis_fields.specs.Layouts.{super_bytes, is_super}
 use Rattle.lis_model.specs.declared.limits.Limits.{Limits}
 use Rattle.lis_model.specs.Ranges.{are_in_range}
-use Rattle.lis_model.specs.Image.{data_start, image_blocks}
+use Rattle.lis_model.specs.Image.{data_start}
 use Rattle.lis_model.specs.State.{empty_state}
 use Rattle.lis_kept_store.specs.Blank.{IsBlank}
 use Rattle.lis_kept_store.specs.Stored.{StoreFits, empty_stored}

@@ -1,6 +1,5 @@
 -- Chains of links between words that have numbers are chains of edges between their numbers.
-use Rattle.std.proofs.Common.{◌≡◌, ◌⊎◌, ℕ, zero, suc, ◌==◌, ◌&&◌, ◌||◌, eqb, Bool, true, false, List, [], ◌∷◌, map, Option, Some, None, slice_get, Decides, refl, sym, ap, ap₂, ◌∙◌, subst, inl, inr, eq-eqb}
-use Rattle.std.specs.List.{list_any, Contains}
+use Rattle.std.proofs.Common.{◌≡◌, ◌⊎◌, ℕ, zero, suc, ◌==◌, true, List, Option, Some, None, Decides, refl, sym, ap, ap₂, ◌∙◌, subst, inl, inr, eq-eqb}
 use Rattle.std.specs.Ordering.{nat_cmp, eq_by_cmp}
 use Rattle.std.specs.Cmp.{IsTotalOrder, nat_cmp_total, Equal-is, tied_itself}
 use Rattle.std.specs.FinSet as set
@@ -8,18 +7,18 @@ use Rattle.std.proofs.lemmas.Bool.{and_parts, and_from, or_cases, or_left, or_ri
 use Rattle.std.proofs.lemmas.Option.{same_Some}
 use Rattle.std.proofs.lemmas.Map.Lookups.{CmpEqualImpliesEq, exact_unsigned}
 use Rattle.lis_graph.specs.Graph.{Linked, Chain}
-use Rattle.lis_graph.proofs.Members.{Among, among_from_contains, contains_from_among, among_from_any, any_from_among, among_map, map_among}
+use Rattle.lis_graph.proofs.Members.{Among, among_from_contains, contains_from_among, among_from_any, any_from_among}
 use Rattle.lis_graph.proofs.Pairs.{pairs_total, pairs_exact}
-use Rattle.lis_dict.specs.Dict.{words, word_of, number_of}
+use Rattle.lis_dict.specs.Dict.{word_of, number_of}
 use Rattle.lis_dict.proofs.Laws.{word_from_number}
 use Rattle.lis_taxonomy.specs.Taxonomy.{Taxonomy, pair_cmp, no_links, has_edge, Entails as Leads}
 use Rattle.lis_ext.specs.Ext.{has}
 use Rattle.lis_fields.specs.declared.slots.AxiomSlot.{AxiomSlot}
 use Rattle.lis_fields.specs.declared.slots.AxiomSlot.TheVariants.{Free as FreeAxiom, Pair}
-use Rattle.lis_words.specs.Words.{same_word, has_word, is_valued, head_bytes}
-use Rattle.lis_model.specs.State.{links, up, Entails}
-use Rattle.lis_laws.proofs.Members.{same_word_decides, among_from_has_word, has_word_from_among}
-use Rattle.lis_laws.proofs.Chains.{IsWeakerIn, OwnLink, own_link, up_from_entails, entails_from_up}
+use Rattle.lis_words.specs.Words.{head_bytes}
+use Rattle.lis_model.specs.State.{links, up}
+use Rattle.lis_laws.proofs.Members.{among_from_has_word, has_word_from_among}
+use Rattle.lis_laws.proofs.Chains.{OwnLink, own_link, up_from_entails, entails_from_up}
 use Rattle.lis_laws.proofs.Chains.OwnLink.{Head, Weaker}
 use Rattle.lis_kept.specs.Kept.{Kept}
 use Rattle.lis_kept.specs.Sound.{AreSound}

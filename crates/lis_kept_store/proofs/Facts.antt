@@ -1,6 +1,6 @@
 -- What a store says of the state that it tells, in other words.
-use Rattle.std.proofs.Common.{◌≡◌, refl, sym, ap, ap₂, ◌∙◌, subst, inl, inr, ℕ, ◌+◌, ◌*◌, ◌<◌, ◌≤◌, ◌==◌, ◌||◌, nat_lt, Bool, true, false, cond, is_some, Option, Some, None, option_map, List, [], ◌∷◌, ◌++◌, length, map, take, IsSomeAnd, arith, length-append}
-use Rattle.std.specs.List.{find, flat_map, list_any, list_all, Contains}
+use Rattle.std.proofs.Common.{◌≡◌, refl, sym, ap, ap₂, ◌∙◌, subst, inl, inr, ℕ, ◌+◌, ◌*◌, ◌<◌, ◌≤◌, ◌||◌, nat_lt, Bool, true, false, cond, is_some, Option, Some, None, option_map, List, [], ◌∷◌, length, map, IsSomeAnd, arith, length-append}
+use Rattle.std.specs.List.{find, flat_map, list_any, Contains}
 use Rattle.std.proofs.lemmas.Bool.{eqb-true, leb-true, ltb-true}
 use Rattle.std.proofs.lemmas.List.{length-map, length-take-le}
 use Rattle.std.proofs.lemmas.Option.{same_Some}
@@ -9,8 +9,7 @@ use Rattle.lis_journal.proofs.Fitting.{kept_whole}
 use Rattle.lis_graph.proofs.Members.{Among, contains_from_among, among_map, map_among}
 use Rattle.lis_words.specs.Words.{same_word, has_word}
 use Rattle.lis_fields.specs.Records.{FileRecord}
-use Rattle.lis_content.specs.Content.{content}
-use Rattle.lis_dict.specs.Dict.{words, number_of, word_of}
+use Rattle.lis_dict.specs.Dict.{words, number_of}
 use Rattle.lis_dict.proofs.Laws.{number_from_word, word_from_number}
 use Rattle.lis_catalog.specs.Catalog.{Filed, slot_of, rec_at}
 use Rattle.lis_catalog.proofs.Laws.{rec_at-slot_of}

@@ -1,5 +1,5 @@
 -- Rows of refusals that are judged, and commands that are refused.
-use Rattle.std.proofs.Common.{◌≡◌, ◌⊎◌, refl, sym, ap, subst, ℕ, Bool, true, false, cond, List, [], ◌∷◌, Option, Some, None, Result, Err}
+use Rattle.std.proofs.Common.{◌≡◌, ◌⊎◌, refl, sym, ap, subst, Bool, true, false, cond, List, [], ◌∷◌, Option, Some, None, Result, Err}
 use Rattle.std.proofs.lemmas.Option.{same_Some}
 use Rattle.lis_ports.specs.Meaning.{Meaning}
 use Rattle.lis_ports.proofs.Moments.{leaves_none}

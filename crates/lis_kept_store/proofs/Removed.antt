@@ -1,7 +1,7 @@
 -- What a file that is taken out comes to.
-use Rattle.std.proofs.Common.{◌≡◌, ◌⊎◌, refl, sym, ap, ap₂, ◌∙◌, subst, inl, inr, ℕ, zero, suc, ◌+◌, ◌<◌, ◌≤◌, ◌==◌, not, ◌&&◌, ◌||◌, Bool, true, false, cond, if◌then◌else◌, List, [], ◌∷◌, length, map, filter, sum, get_or, set, Option, Some, None, is_some, Result, Err, arith, get_or-set_same, get_or-set_other}
+use Rattle.std.proofs.Common.{◌≡◌, ◌⊎◌, refl, sym, ap, ap₂, ◌∙◌, subst, inl, inr, ℕ, zero, suc, ◌+◌, ◌<◌, ◌≤◌, ◌==◌, not, ◌&&◌, ◌||◌, Bool, true, false, cond, if◌then◌else◌, List, [], ◌∷◌, length, map, sum, get_or, set, Option, Some, None, is_some, Result, Err, arith, get_or-set_same, get_or-set_other}
 use Rattle.std.specs.List.{list_any, range_with_len, Contains}
-use Rattle.std.proofs.lemmas.Bool.{and_parts, and_from, or_cases, or_left, or_right, both_ways, cases_eq, eq-eqb, ne_eqb, eqb-true, false_from_ne_true, not_from_false}
+use Rattle.std.proofs.lemmas.Bool.{and_parts, and_from, or_cases, or_left, or_right, both_ways, cases_eq, eq-eqb, ne_eqb, false_from_ne_true, not_from_false}
 use Rattle.std.proofs.lemmas.List.{get_or_default}
 use Rattle.std.proofs.lemmas.List.Sums.{sum_by-cons}
 use Rattle.std.proofs.lemmas.Option.{same_Some}
@@ -23,7 +23,7 @@ use Rattle.lis_words.specs.Words.{same_word}
 use Rattle.lis_grammar.specs.Formula.{Formula}
 use Rattle.lis_fields.specs.Records.{FileRecord}
 use Rattle.lis_model.specs.declared.refusal.Refusal.TheVariants.{NoFileHere}
-use Rattle.lis_model.specs.State.{State, File, description}
+use Rattle.lis_model.specs.State.{State, description}
 use Rattle.lis_model.specs.Table.{Table, Entry}
 use Rattle.lis_model.specs.Listing.{extension}
 use Rattle.lis_model.specs.Step.{Situation, refused, changed, is_here, rm}

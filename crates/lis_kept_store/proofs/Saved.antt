@@ -1,7 +1,5 @@
 -- How parts are saved.
 use Rattle.std.proofs.Common.{◌≡◌, ◌⊎◌, ℕ, ◌+◌, ◌<◌, ◌≤◌, Bool, true, false, List, [], ◌∷◌, length, Result, Ok, Err, refl, sym, ap, ◌∙◌, subst, inl, inr, arith}
-use Rattle.std.specs.List.{Contains}
-use Rattle.lis_graph.proofs.Members.{Among, contains_from_among, among_from_contains}
 use Rattle.lis_ports.specs.Meaning.{Meaning}
 use Rattle.lis_ports.specs.Runs.{Leaves}
 use Rattle.lis_ports.proofs.Moments.{leaves_weaken}
@@ -9,16 +7,15 @@ use Rattle.lis_journal.specs.Journal.{Held, OpenRecords}
 use Rattle.lis_journal.specs.Images.{StandsForAllOrNone, Fits, FitsAt, KeepsPast, look}
 use Rattle.lis_journal.specs.Phases.{looked}
 use Rattle.lis_catalog.specs.Catalog.{Filed}
-use Rattle.lis_model.specs.declared.refusal.Refusal.{Refusal}
 use Rattle.lis_model.specs.Image.{data_start, image_blocks, properties_start}
 use Rattle.lis_model.specs.State.{State, File, description}
 use Rattle.lis_model.specs.Step.{Situation, Outcome, changed}
 use Rattle.lis_kept.specs.Kept.{Kept}
-use Rattle.lis_kept.specs.Areas.{Area, slots_of, spelled, held_in, IsWritten}
+use Rattle.lis_kept.specs.Areas.{Area, spelled, IsWritten}
 use Rattle.lis_kept.specs.Areas.Area.{Properties, Axioms, Files, Rows, Bitmap}
 use Rattle.lis_kept.specs.Sound.{AreSound}
 use Rattle.lis_kept.specs.Staging.{Stages}
-use Rattle.lis_kept.specs.Telling.{Tells, IsFileBlock, state_of, file_told, bytes_told, words_told}
+use Rattle.lis_kept.specs.Telling.{Tells, state_of, file_told}
 use Rattle.lis_kept.proofs.Added.{same_content}
 use Rattle.lis_kept.proofs.Filing.{map_all}
 use Rattle.lis_kept_store.specs.declared.change.Change.{Change}

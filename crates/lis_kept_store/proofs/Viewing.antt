@@ -1,6 +1,6 @@
 -- What memory keeps is a view, and its rows and its taxonomy tell of it.
-use Rattle.std.proofs.Common.{◌≡◌, ℕ, ◌<◌, ◌≤◌, ◌==◌, ◌&&◌, nat_lt, Bool, true, false, List, [], ◌∷◌, length, map, is_some, Option, Some, None, refl, sym, ap, ap₂, ◌∙◌, subst, eq-eqb, arith}
-use Rattle.std.specs.List.{find, list_any, Contains}
+use Rattle.std.proofs.Common.{◌≡◌, ℕ, ◌==◌, ◌&&◌, nat_lt, Bool, true, false, List, map, is_some, Option, Some, None, refl, sym, ap, ap₂, ◌∙◌, subst, eq-eqb, arith}
+use Rattle.std.specs.List.{list_any, Contains}
 use Rattle.std.proofs.lemmas.Bool.{and_parts, and_from, both_ways, eqb-true, ltb-true}
 use Rattle.std.proofs.lemmas.List.{length-map}
 use Rattle.std.proofs.lemmas.Option.{same_Some}

@@ -15,7 +15,6 @@ use Rattle.lis_model.specs.State.{State, empty_state}
 use Rattle.lis_model.specs.Changes.{file_of}
 use Rattle.lis_model.specs.Step.{Situation, no_payload, create, add}
 use Rattle.lis_model.specs.Table.{table}
-use Rattle.lis_kept.specs.Kept.{Kept}
 use Rattle.lis_kept.specs.Areas.{IsWritten}
 use Rattle.lis_kept.specs.Sound.{AreSound, FreeSlotsAreEmpty}
 use Rattle.lis_kept.specs.Telling.{Tells}

@@ -1,5 +1,5 @@
 -- What truth and listings see of a store: its words with their numbers, its files in their slots, told by the extension rows, and what words entail.
-use Rattle.std.specs.Prelude.{ℕ, List, map}
+use Rattle.std.specs.Prelude.{map}
 use Rattle.lis_dict.specs.Dict.{words}
 use Rattle.lis_catalog.specs.Catalog.{Filed}
 use Rattle.lis_ext.specs.Ext.{set_of}

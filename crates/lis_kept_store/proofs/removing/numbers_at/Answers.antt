@@ -1,4 +1,4 @@
-use Rattle.std.proofs.Common.{◌≡◌, ◌∙◌, ◌+◌, ◌<◌, ℕ, true, [], ◌∷◌, ◌++◌, length, refl, sym, ap, arith}
+use Rattle.std.proofs.Common.{◌≡◌, ◌∙◌, ◌<◌, [], ◌∷◌, ◌++◌, length, refl, sym, ap, arith}
 use Rattle.lis_bits.specs.Rows.{get}
 use Rattle.lis_kept_store.proofs.Had.{had_below, had_one, had_none, had_room, had_all}
 use Rattle.lis_kept_store.proofs.removing.numbers_at.Goals as goal

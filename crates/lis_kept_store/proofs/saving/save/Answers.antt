@@ -1,4 +1,4 @@
-use Rattle.std.proofs.Common.{◌≡◌, ◌∙◌, refl, ap, Err}
+use Rattle.std.proofs.Common.{◌∙◌, refl, ap, Err}
 use Rattle.lis_journal.specs.Journal.{Held}
 use Rattle.lis_kept_store.proofs.Standing.{change_stands}
 use Rattle.lis_kept_store.proofs.Saved.{sound_saved, sound_broken, none_placed, saved_kept, saved_lost}

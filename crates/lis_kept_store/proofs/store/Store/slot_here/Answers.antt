@@ -1,4 +1,4 @@
-use Rattle.std.proofs.Common.{◌≡◌, ◌∙◌, sym, ap, subst, arith}
+use Rattle.std.proofs.Common.{◌∙◌, sym, ap, subst, arith}
 use Rattle.lis_bits.specs.Rows.{get}
 use Rattle.lis_catalog.specs.Catalog.{slot_of}
 use Rattle.lis_model.specs.declared.limits.Limits.{Limits}
