@@ -1,0 +1,29 @@
+-- Blocks that are given back.
+use Rattle.std.proofs.Common.{◌≡◌, ◌⊎◌, refl, sym, ap, ◌∙◌, subst, inl, inr, ℕ, ◌<◌, ◌≤◌, ◌==◌, not, ◌&&◌, ◌||◌, Bool, true, false, List, [], ◌∷◌, length, get_or, set, get_or-set_same, get_or-set_other}
+use Rattle.std.proofs.lemmas.Bool.{and_right, cases_eq, cases_lt, eq-eqb, ne_eqb}
+use Rattle.std.proofs.lemmas.List.{get_or_past, set_past}
+use Rattle.lis_blockmap.specs.Bitmap.{is_taken}
+use Rattle.lis_content.specs.Content.{given, has_number}
+
+unset : (taken : List Bool) (n : ℕ) → get_or (set taken n false) n false ≡ false
+unset taken n = by (cases_lt n (length taken))
+  where
+    by : (n < length taken) ⊎ (length taken ≤ n) → get_or (set taken n false) n false ≡ false
+    by (inl lt) = get_or-set_same taken n false false lt
+    by (inr past) = ap (λ ts. get_or ts n false) (set_past taken n false past) ∙ get_or_past taken n false past
+
+pub given_taken : (taken : List Bool) (ns : List ℕ) (n : ℕ) → is_taken (given taken ns) n ≡ (is_taken taken n && not (has_number ns n))
+given_taken taken [] n = whole (is_taken taken n)
+  where
+    whole : (b : Bool) → b ≡ (b && true)
+    whole true = refl
+    whole false = refl
+given_taken taken (b ∷ ns) n = given_taken (set taken b false) ns n ∙ by (cases_eq b n)
+  where
+    by : (b ≡ n) ⊎ (b ≡ n → ⊥) → (is_taken (set taken b false) n && not (has_number ns n)) ≡ (is_taken taken n && not ((b == n) || has_number ns n))
+    by (inl same) =
+        ap (λ t. t && not (has_number ns n)) (subst (λ k. is_taken (set taken b false) k ≡ false) same (unset taken b))
+        ∙ sym (and_right (is_taken taken n) (not ((b == n) || has_number ns n)) (ap (λ t. not (t || has_number ns n)) (eq-eqb b n same)))
+    by (inr differ) =
+        ap (λ t. t && not (has_number ns n)) (get_or-set_other taken b n false false (λ e. differ (sym e)))
+        ∙ ap (λ t. is_taken taken n && not (t || has_number ns n)) (sym (ne_eqb b n differ))

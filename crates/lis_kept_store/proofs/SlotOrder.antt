@@ -1,0 +1,145 @@
+-- What slots hold, in the order of their numbers, has the parts of what a map's entries hold, in the order of its keys.
+use Rattle.std.proofs.Common.{◌≡◌, ◌⊎◌, refl, sym, ap, ap₂, ◌∙◌, subst, inl, inr, ℕ, zero, suc, ◌+◌, ◌<◌, ◌≤◌, ◌==◌, eqb, Bool, true, false, not, cond, List, [], ◌∷◌, ◌++◌, map, Option, Some, None, IsTrue, arith, append_assoc, slice_get}
+use Rattle.std.specs.List.{find, flat_map, range_with_len, AllByRecursion, IsDistinct}
+use Rattle.std.specs.List.Sorted.{IsPermutation}
+use Rattle.std.proofs.lemmas.Bool.{and_parts, and_from, or_parts, or_from, not-true, not_from_false, eq-eqb, eqb-false, ne_eqb, cases_eq}
+use Rattle.std.proofs.lemmas.List.Concat.{flat_map-append}
+use Rattle.std.proofs.lemmas.List.FromFn.{length-map-range_with_len, get_or-map-range_with_len}
+use Rattle.std.proofs.lemmas.List.Sorted.{IsPermutation-refl, IsPermutation-trans, IsPermutation-append_comm, IsPermutation-append_left, IsPermutation-append_right, Contains-permutation}
+use Rattle.std.proofs.lemmas.Map.Keys.{IsDistinct-IsPermutation}
+use Rattle.std.proofs.lemmas.Option.{slice_get_within, get_or_from_slice_get}
+use Rattle.lis_graph.proofs.Members.{Among, among_from_contains, contains_from_among}
+use Rattle.lis_graph.proofs.Ranges.{among_range}
+use Rattle.lis_content.specs.Content.{has_number, are_distinct}
+
+-- the k-th slot, where each is given by its number
+pub given_at : {X : Type 0} (f : ℕ → X) (n k : ℕ) (x : X) → slice_get (map f (range_with_len 0 n)) k ≡ Some x → (k < n) × (f k ≡ x)
+given_at f n k x is =
+    let within : k < n = omega (arith, slice_get_within (map f (range_with_len 0 n)) k x is, length-map-range_with_len f 0 n) in
+    (within, sym (get_or-map-range_with_len f 0 n k k x within (omega arith)) ∙ get_or_from_slice_get (map f (range_with_len 0 n)) k x x is)
+
+-- ---- lists with the same parts
+pub flat_map_same : {A B : Type 0} (f g : A → List B) (xs : List A) → ((x : A) → Among xs x → f x ≡ g x) → flat_map f xs ≡ flat_map g xs
+flat_map_same f g [] same = refl
+flat_map_same f g (x ∷ xs) same = ap₂ (λ ys zs. ys ++ zs) (same x (inl refl)) (flat_map_same f g xs (λ y m. same y (inr m)))
+
+pub flat_map-flat_map : {A B C : Type 0} (g : B → List C) (f : A → List B) (xs : List A) → flat_map g (flat_map f xs) ≡ flat_map (λ x. flat_map g (f x)) xs
+flat_map-flat_map g f [] = refl
+flat_map-flat_map g f (x ∷ xs) = flat_map-append g (f x) (flat_map f xs) ∙ ap (λ ys. flat_map g (f x) ++ ys) (flat_map-flat_map g f xs)
+
+pub IsPermutation-same : {X : Type 0} (xs ys : List X) → xs ≡ ys → IsPermutation xs ys
+IsPermutation-same xs ys same = subst (IsPermutation xs) same (IsPermutation-refl xs)
+
+pub permuted_among : {X : Type 0} (xs ys : List X) (x : X) → IsPermutation xs ys → Among xs x → Among ys x
+permuted_among xs ys x same m = among_from_contains ys x (Contains-permutation xs ys x same (contains_from_among xs x m))
+
+-- what is found is one of the list
+pub found_among : {X : Type 0} (test : X → Bool) (xs : List X) (x : X) → find test xs ≡ Some x → Among xs x
+found_among test [] x is = absurd cc
+found_among test (y ∷ ys) x is = by (test y) is (found_among test ys x)
+  where
+    by : (b : Bool) → cond b (Some y) (find test ys) ≡ Some x → (find test ys ≡ Some x → Among ys x) → Among (y ∷ ys) x
+    by true is more = inl cc
+    by false is more = inr (more is)
+
+-- the part of one element goes behind another part
+IsPermutation-behind : {X : Type 0} (xs ys zs all : List X) → IsPermutation (xs ++ zs) all → IsPermutation (xs ++ (ys ++ zs)) (ys ++ all)
+IsPermutation-behind xs ys zs all same =
+    let first = IsPermutation-same (xs ++ (ys ++ zs)) ((xs ++ ys) ++ zs) (sym (append_assoc xs ys zs)) in
+    let turned = IsPermutation-append_left zs (xs ++ ys) (ys ++ xs) (IsPermutation-append_comm xs ys) in
+    let last = IsPermutation-same ((ys ++ xs) ++ zs) (ys ++ (xs ++ zs)) (append_assoc ys xs zs) in
+    let front = IsPermutation-trans (xs ++ (ys ++ zs)) ((xs ++ ys) ++ zs) ((ys ++ xs) ++ zs) first turned in
+    let moved = IsPermutation-trans (xs ++ (ys ++ zs)) ((ys ++ xs) ++ zs) (ys ++ (xs ++ zs)) front last in
+    IsPermutation-trans (xs ++ (ys ++ zs)) (ys ++ (xs ++ zs)) (ys ++ all) moved (IsPermutation-append_right ys (xs ++ zs) all same)
+
+-- ---- numbers that stand once
+turned_test : (a b : ℕ) → (a == b) ≡ false → (b == a) ≡ false
+turned_test a b ne = ne_eqb b a (λ e. eqb-false a b ne (sym e))
+
+eqb_flips : (a b : ℕ) → eqb a b ≡ eqb b a
+eqb_flips a b = by (cases_eq a b)
+  where
+    by : (a ≡ b) ⊎ (a ≡ b → ⊥) → eqb a b ≡ eqb b a
+    by (inl same) = eq-eqb a b same ∙ sym (eq-eqb b a (sym same))
+    by (inr differ) = ne_eqb a b differ ∙ sym (ne_eqb b a (λ e. differ (sym e)))
+
+all_unlike : (n : ℕ) (ns : List ℕ) → has_number ns n ≡ false → AllByRecursion (λ m. eqb n m ≡ false) ns
+all_unlike n [] none = tt
+all_unlike n (m ∷ ms) none = let parts = or_parts (m == n) (has_number ms n) none in (turned_test m n parts.0, all_unlike n ms parts.1)
+
+none_alike : (n : ℕ) (ns : List ℕ) → AllByRecursion (λ m. eqb n m ≡ false) ns → has_number ns n ≡ false
+none_alike n [] all = refl
+none_alike n (m ∷ ms) all = or_from (m == n) (has_number ms n) (turned_test n m all.0) (none_alike n ms all.1)
+
+from_distinct : (ns : List ℕ) → are_distinct ns ≡ true → IsDistinct eqb ns
+unfolding IsDistinct
+from_distinct [] apart = tt
+from_distinct (n ∷ ns) apart =
+    let parts = and_parts (not (has_number ns n)) (are_distinct ns) apart in
+    (all_unlike n ns (not-true (has_number ns n) parts.0), from_distinct ns parts.1)
+
+to_distinct : (ns : List ℕ) → IsDistinct eqb ns → are_distinct ns ≡ true
+unfolding IsDistinct
+to_distinct [] apart = refl
+to_distinct (n ∷ ns) apart = and_from (not (has_number ns n)) (are_distinct ns) (not_from_false (has_number ns n) (none_alike n ns apart.0)) (to_distinct ns apart.1)
+
+pub distinct_permuted : (ns ms : List ℕ) → IsPermutation ns ms → are_distinct ns ≡ true → are_distinct ms ≡ true
+distinct_permuted ns ms same apart = to_distinct ms (IsDistinct-IsPermutation eqb eqb_flips ns ms same (from_distinct ns apart))
+
+-- ---- one slot more that holds something
+slot_more : {X : Type 0} (g h : ℕ → List X) (k : ℕ) → g k ≡ [] → ((n : ℕ) → (k ≡ n → ⊥) → h n ≡ g n) → (a m : ℕ) → a ≤ k → k < a + m
+    → IsPermutation (h k ++ flat_map g (range_with_len a m)) (flat_map h (range_with_len a m))
+slot_more g h k none same a zero low high = absurd (omega arith)
+slot_more g h k none same a (suc m) low high = by (cases_eq k a) (slot_more g h k none same (a + 1) m)
+  where
+    behind : (n : ℕ) → k ≡ a → Among (range_with_len (a + 1) m) n → k ≡ n → ⊥
+    behind n here there is = absurd (omega (arith, here, is, (among_range (a + 1) m n there).0))
+
+    by : (k ≡ a) ⊎ (k ≡ a → ⊥) → (a + 1 ≤ k → k < a + 1 + m → IsPermutation (h k ++ flat_map g (range_with_len (a + 1) m)) (flat_map h (range_with_len (a + 1) m)))
+        → IsPermutation (h k ++ (g a ++ flat_map g (range_with_len (a + 1) m))) (h a ++ flat_map h (range_with_len (a + 1) m))
+    by (inl here) more =
+        let rest = range_with_len (a + 1) m in
+        let others : flat_map g rest ≡ flat_map h rest = flat_map_same g h rest (λ n there. sym (same n (behind n here there))) in
+        IsPermutation-same (h k ++ (g a ++ flat_map g rest)) (h a ++ flat_map h rest)
+        (ap (λ n. h n ++ (g a ++ flat_map g rest)) here
+        ∙ (ap (λ xs. h a ++ (xs ++ flat_map g rest)) (ap g (sym here) ∙ none)
+        ∙ ap (λ xs. h a ++ xs) others))
+    by (inr differ) more =
+        let rest = range_with_len (a + 1) m in
+        let later = more (omega arith) (omega arith) in
+        subst (λ xs. IsPermutation (h k ++ (g a ++ flat_map g rest)) (xs ++ flat_map h rest)) (sym (same a differ))
+        (IsPermutation-behind (h k) (g a) (flat_map g rest) (flat_map h rest) later)
+
+-- ---- what entries hold, each in a slot of its own
+abbrev pub held : {E X : Type 0} → (E → List X) → Option E → List X
+held parts None = []
+held parts (Some e) = parts e
+
+module _ {E X : Type 0} (key : E → ℕ) (parts : E → List X) where
+  abbrev pub held_at : List E → ℕ → List X
+  held_at es n = held parts (find (λ e. key e == n) es)
+
+  none_held : (n : ℕ) (es : List E) → has_number (map key es) n ≡ false → held_at es n ≡ []
+  none_held n [] none = refl
+  none_held n (e ∷ es) none =
+      let tests = or_parts (key e == n) (has_number (map key es) n) none in
+      ap (λ b. held parts (cond b (Some e) (find (λ x. key x == n) es))) tests.0 ∙ none_held n es tests.1
+
+  nothing_held : (ns : List ℕ) → flat_map (held_at []) ns ≡ []
+  nothing_held [] = refl
+  nothing_held (n ∷ ns) = nothing_held ns
+
+  pub slot_order : (m : ℕ) (es : List E) → IsTrue (are_distinct (map key es)) → ((e : E) → Among es e → key e < m)
+      → IsPermutation (flat_map parts es) (flat_map (held_at es) (range_with_len 0 m))
+  slot_order m [] apart below = IsPermutation-same [] (flat_map (held_at []) (range_with_len 0 m)) (sym (nothing_held (range_with_len 0 m)))
+  slot_order m (e ∷ es) apart below =
+      let tests = and_parts (not (has_number (map key es) (key e))) (are_distinct (map key es)) apart in
+      let none : held_at es (key e) ≡ [] = none_held (key e) es (not-true (has_number (map key es) (key e)) tests.0) in
+      let here : held_at (e ∷ es) (key e) ≡ parts e = ap (λ b. held parts (cond b (Some e) (find (λ x. key x == key e) es))) (eq-eqb (key e) (key e) refl) in
+      let more = slot_more (held_at es) (held_at (e ∷ es)) (key e) none
+      (λ n differ. ap (λ b. held parts (cond b (Some e) (find (λ x. key x == n) es))) (ne_eqb (key e) n differ))
+      0 m (omega arith) (omega (arith, below e (inl refl))) in
+      let rest = IsPermutation-append_right (parts e) (flat_map parts es) (flat_map (held_at es) (range_with_len 0 m)) (slot_order m es tests.1 (λ x there. below x (inr there))) in
+      IsPermutation-trans (parts e ++ flat_map parts es) (parts e ++ flat_map (held_at es) (range_with_len 0 m)) (flat_map (held_at (e ∷ es)) (range_with_len 0 m))
+      rest
+      (subst (λ xs. IsPermutation (xs ++ flat_map (held_at es) (range_with_len 0 m)) (flat_map (held_at (e ∷ es)) (range_with_len 0 m))) here more)

@@ -1,0 +1,92 @@
+-- A store: what memory keeps of an image, with its journal, and when it fits a disk.
+use Rattle.std.specs.Prelude.{◌≡◌, ℕ, ◌≤◌, Bool, true, false, Some, List, [], length, replicate, slice_get, IsTrue}
+use Rattle.lis_ports.specs.Meaning.{Meaning}
+use Rattle.lis_journal.specs.Journal.{Held, no_records}
+use Rattle.lis_journal.specs.Images.{Fits}
+use Rattle.lis_ext.specs.Ext.{has, set_of as numbers_at, empty_ext}
+use Rattle.lis_catalog.specs.Catalog.{rec_at}
+use Rattle.lis_content.specs.Content.{has_number}
+use Rattle.lis_fields.specs.Records.{FileRecord}
+use Rattle.lis_fields.specs.Layouts.{is_super}
+use Rattle.lis_fields.specs.declared.slots.AxiomSlot.TheVariants.{Free as FreeAxiom, Pair}
+use Rattle.lis_model.specs.declared.limits.Limits.{Limits}
+use Rattle.lis_model.specs.Image.{image_blocks}
+use Rattle.lis_model.specs.State.{State}
+use Rattle.lis_kept.specs.Kept.{Kept}
+use Rattle.lis_kept.specs.Areas.{IsWritten, axiom_slots}
+use Rattle.lis_kept.specs.Links.{is_linked}
+use Rattle.lis_kept.specs.Sound.{AreSound, FreeSlotsAreEmpty, BlocksAreTaken}
+use Rattle.lis_kept.specs.Telling.{Tells}
+use Rattle.lis_kept.specs.Forgetting.{KeepsInUse}
+
+pub record Stored : Type 0 where
+  pub parts : Kept
+  pub journal : Held
+  -- a call of the disk failed: only what is on the disk counts
+  pub is_broken : Bool
+
+-- a file that has a number has all numbers to which it is linked
+abbrev pub AreClosed : Kept → Type 0
+AreClosed k = (slot p q : ℕ) → has k.ext p slot ≡ true → is_linked k p q ≡ true → has k.ext q slot ≡ true
+
+-- No two axiom slots have the same two numbers.
+abbrev pub PairsAreApart : Kept → Type 0
+PairsAreApart k =
+    (slot other left right : ℕ) → slice_get k.axioms slot ≡ Some (Pair left right) → slice_get k.axioms other ≡ Some (Pair left right) → slot ≡ other
+
+-- No file's description has more numbers than a state allows it words.
+abbrev pub DescriptionsAreShort : Kept → Type 0
+DescriptionsAreShort k = (slot : ℕ) → length (numbers_at k.ext slot) ≤ 128
+
+-- No two files use one data block.
+abbrev pub BlocksAreApart : Kept → Type 0
+BlocksAreApart k =
+    (slot other : ℕ) (rec more : FileRecord) (n : ℕ) → rec_at k.catalog slot ≡ Some rec → rec_at k.catalog other ≡ Some more
+    → has_number rec.blocks n ≡ true → has_number more.blocks n ≡ true → slot ≡ other
+
+-- What holds of every store. Where it is not broken nothing is staged, placed or marked between calls.
+pub record IsSound (k : Stored) : Type 0 where
+  pub parts : AreSound k.parts
+  pub range : IsTrue (is_super k.parts.limits)
+  pub free : FreeSlotsAreEmpty k.parts
+  pub pairs : PairsAreApart k.parts
+  pub closed : AreClosed k.parts
+  pub short : DescriptionsAreShort k.parts
+  pub taken : BlocksAreTaken k.parts
+  pub apart : BlocksAreApart k.parts
+  pub in_use : KeepsInUse k.parts
+  pub image : k.journal.blocks ≡ image_blocks k.parts.limits
+  pub journal : k.is_broken ≡ false → k.journal.is_broken ≡ false
+  pub staged : k.is_broken ≡ false → k.journal.staged ≡ []
+  pub placed : k.is_broken ≡ false → k.journal.placed ≡ []
+  pub clean : k.is_broken ≡ false → k.parts.marks ≡ replicate (length k.parts.marks) false
+
+-- A store fits a disk at a state: its journal fits the disk, and by the blocks that the disk keeps, what memory keeps is written there and
+-- tells the state. So every image of the disk stands for the state.
+pub record StoreFits (k : Stored) (m : Meaning) (s : State) : Type 0 where
+  pub kept : ℕ → List ℕ
+  pub journal : Fits k.journal m kept
+  pub unbroken : k.is_broken ≡ false
+  pub tells : Tells k.parts kept s
+  pub written : IsWritten k.parts kept
+
+-- what is kept where there are no words, axioms and files
+abbrev pub empty_parts : Limits → ℕ → Kept
+empty_parts limits blocks = record {
+  limits = limits;
+  dict = record { props = limits.props; entries = [] };
+  declared = replicate limits.props false;
+  axioms = replicate (axiom_slots limits).count FreeAxiom;
+  catalog = record { files = limits.files; entries = [] };
+  taken = replicate limits.blocks false;
+  ext = empty_ext limits.props limits.files;
+  marks = replicate blocks false;
+}
+
+-- a store without words and files, with a journal that has no open record
+abbrev pub empty_stored : Limits → ℕ → Stored
+empty_stored limits blocks = record {
+  parts = empty_parts limits blocks;
+  journal = record { blocks = image_blocks limits; staged = []; records = no_records; placed = []; is_broken = false };
+  is_broken = false;
+}

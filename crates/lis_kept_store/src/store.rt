@@ -1,0 +1,246 @@
+//! A store: what memory keeps of an image, its journal, and the calls that change both.
+
+ghost use Rattle.std.specs.Prelude.{◌≡◌, ℕ, ◌*◌, ◌<◌, ◌≤◌, List, false, is_some, length, take, Some, Err, IsTrue, OnOk, IfSome, IsSomeAnd};
+ghost use Rattle.lis_ports.specs.Bytes.{part};
+ghost use Rattle.lis_ports.specs.Runs.{IsDiskRun, Leaves};
+ghost use Rattle.lis_ports.specs.Calls.{HasCause, IsUnchanged};
+ghost use Rattle.lis_catalog.specs.Catalog.{slot_of, rec_at};
+ghost use Rattle.lis_fields.specs.Records.{FileRecord};
+ghost use Rattle.lis_model.specs.declared.refusal.Refusal.{Refusal};
+ghost use Rattle.lis_model.specs.Changes.{file_of};
+ghost use Rattle.lis_model.specs.State.{State};
+ghost use Rattle.lis_model.specs.Step.{mkdir, rm};
+ghost use Rattle.lis_eval.specs.Room.{HasRoom};
+ghost use Rattle.lis_kept.specs.Telling.{is_declared};
+ghost use Rattle.lis_kept_store.specs.declared.change.Change.TheVariants.{Refused};
+ghost use Rattle.lis_kept_store.specs.Stored.{IsSound, StoreFits};
+ghost use Rattle.lis_kept_store.specs.Judging.{is_among};
+ghost use Rattle.lis_kept_store.specs.Changes.{Changes, HasChangeCause, ChangeLeft, EditsFew};
+
+use crate::change::Change;
+use crate::judging::may_declare;
+use crate::removing::take_out;
+use crate::saving::save;
+use lis_eval::{Scratch, View, evaluate, found};
+use lis_ext::Ext;
+use lis_journal::Journal;
+use lis_kept::{Parts, data_start};
+use lis_model::limits::Limits;
+use lis_model::refusal::Refusal;
+use lis_place::Place;
+use lis_ports::{Disk, Failed};
+use lis_taxonomy::Taxonomy;
+use lis_words::{Name, Word};
+use std::marker::Model;
+
+/// What opening has read of an image.
+#[derive(Drop)]
+pub struct Built {
+    pub parts: Parts,
+    pub journal: Journal,
+}
+
+/// What memory keeps of an image, and its journal. It holds no bytes of files, and no call takes memory.
+#[derive(Drop)]
+pub struct Store {
+    parts: Parts,
+    journal: Journal,
+    // A call of the disk failed.
+    is_broken: bool,
+}
+
+impl Model for Store {
+    ghost use Rattle.lis_kept_store.specs.Stored.{Stored, IsSound};
+
+    ghost Value = { Stored };
+
+    ghost view = { λ s. record { parts = s.parts; journal = s.journal; is_broken = s.is_broken } };
+
+    ghost invariant = { λ s. IsSound (record { parts = s.parts; journal = s.journal; is_broken = s.is_broken }) };
+}
+
+impl Store {
+    /// The store of these parts.
+    pub fn join(built: Built) -> Store
+        requires { IsSound (record { parts = built.parts; journal = built.journal; is_broken = false }) }
+        ensures { result ≡ record { parts = built.parts; journal = built.journal; is_broken = false } }
+    {
+        Store {
+            parts: built.parts,
+            journal: built.journal,
+            is_broken: false,
+        }
+    }
+
+    /// The limits of the image.
+    pub fn limits(&self) -> Limits
+        ensures value { result ≡ self.now.parts.limits }
+        ensures sound { IsSound self.now }
+    {
+        *self.parts.limits()
+    }
+
+    /// Whether a call of the disk failed. Then only what is on the disk counts.
+    pub fn is_broken(&self) -> bool
+        ensures { result ≡ self.now.is_broken }
+    {
+        self.is_broken
+    }
+
+    /// Whether the word is declared.
+    pub fn is_declared(&self, word: &Word) -> bool
+        ensures { result ≡ is_declared self.now.parts word.now }
+    {
+        self.parts.is_declared(word)
+    }
+
+    /// The n-th block of a file's bytes. At its end the last block holds any bytes.
+    pub fn content<D: Disk>(
+        &self,
+        disk: &mut D,
+        slot: u16,
+        n: u32,
+        buf: &mut [u8],
+    ) -> Result<(), Failed>
+        requires within { IsSomeAnd (rec_at self.now.parts.catalog slot) (λ (rec : FileRecord). 4096 * n < rec.size) }
+        requires whole { length buf.old ≡ 4096 }
+        requires unbroken { self.now.is_broken ≡ false }
+        requires long { 4096 * self.now.journal.blocks ≤ (D.meaning disk.old).len }
+        ensures read { OnOk result ((s : State) (name : List ℕ) → StoreFits self.now (D.meaning disk.old) s → slot_of self.now.parts.catalog name ≡ Some slot
+            → take (length (part (4096 * n) 4096 (file_of s.files name).bytes)) buf.new ≡ part (4096 * n) 4096 (file_of s.files name).bytes) }
+        ensures len { length buf.new ≡ 4096 }
+        ensures run { IsDiskRun (D.meaning disk.old) (D.meaning disk.new) }
+        ensures cause { HasCause (D.meaning disk.old).disk_faults (D.meaning disk.new).disk_faults result }
+        ensures same { IsTrue (D.meaning disk.old).is_honest → IsUnchanged (D.meaning disk.old) (D.meaning disk.new) }
+        ensures any_moment { IsTrue (D.meaning disk.old).is_honest
+            → Leaves (D.meaning disk.old) (D.meaning disk.new) (D.meaning disk.old).images }
+        ensures fits { (s : State) → StoreFits self.now (D.meaning disk.old) s → StoreFits self.now (D.meaning disk.new) s }
+    {
+        let base = data_start(self.parts.limits());
+        let Some(rec) = self.parts.rec(slot) else {
+            unreachable!()
+        };
+        let block = rec.blocks[n as usize];
+        self.journal.read(disk, base + u32::from(block), buf)
+    }
+
+    // The slot of the file of that name, where the file is in the extension of the place.
+    fn slot_here(&self, scratch: &mut Scratch, place: &Place, name: &Name) -> Option<u16>
+        requires { HasRoom scratch.old self.now.parts.limits }
+        ensures room { HasRoom scratch.new self.now.parts.limits }
+        ensures here { is_some result ≡ is_among self.now.parts place.now name.now }
+        ensures slot { IfSome result (λ slot. slot_of self.now.parts.catalog name.now ≡ Some slot) }
+    {
+        let Some(slot) = self.parts.slot_of(name) else {
+            return None;
+        };
+        evaluate(self, scratch, place);
+        if found(scratch, slot) {
+            return Some(slot);
+        }
+        None
+    }
+
+    /// Declares a word: `mkdir` at the place.
+    pub fn declare<D: Disk>(
+        &mut self,
+        disk: &mut D,
+        place: &Place,
+        word: &Word,
+    ) -> Result<(), Change>
+        requires unbroken { self.old.is_broken ≡ false }
+        requires long { 4096 * self.old.journal.blocks ≤ (D.meaning disk.old).len }
+        ensures changes { (s : State) → StoreFits self.old (D.meaning disk.old) s
+            → Changes (record { state = s; place = place.now }) (mkdir (record { state = s; place = place.now }) word.now)
+            self.new (D.meaning disk.old) (D.meaning disk.new) result }
+        ensures untouched { (refusal : Refusal) → result ≡ Err (Refused refusal) → disk.new ≡ disk.old }
+        ensures limits { self.new.parts.limits ≡ self.old.parts.limits }
+        ensures image { self.new.journal.blocks ≡ self.old.journal.blocks }
+        ensures left { ChangeLeft self.old self.new result }
+        ensures edits { EditsFew self.old self.new }
+        ensures run { IsDiskRun (D.meaning disk.old) (D.meaning disk.new) }
+        ensures cause { HasChangeCause (D.meaning disk.old).disk_faults (D.meaning disk.new).disk_faults result }
+    {
+        may_declare(&self.parts, place, word)?;
+        self.parts.declare(word);
+        save(
+            &mut self.parts,
+            &mut self.journal,
+            &mut self.is_broken,
+            disk,
+        )
+    }
+
+    /// Takes a file away: `rm` at the place.
+    pub fn remove<D: Disk>(
+        &mut self,
+        disk: &mut D,
+        scratch: &mut Scratch,
+        place: &Place,
+        name: &Name,
+    ) -> Result<(), Change>
+        requires scratch { HasRoom scratch.old self.old.parts.limits }
+        requires unbroken { self.old.is_broken ≡ false }
+        requires long { 4096 * self.old.journal.blocks ≤ (D.meaning disk.old).len }
+        ensures scratch { HasRoom scratch.new self.old.parts.limits }
+        ensures changes { (s : State) → StoreFits self.old (D.meaning disk.old) s
+            → Changes (record { state = s; place = place.now }) (rm (record { state = s; place = place.now }) name.now)
+            self.new (D.meaning disk.old) (D.meaning disk.new) result }
+        ensures untouched { (refusal : Refusal) → result ≡ Err (Refused refusal) → disk.new ≡ disk.old }
+        ensures limits { self.new.parts.limits ≡ self.old.parts.limits }
+        ensures image { self.new.journal.blocks ≡ self.old.journal.blocks }
+        ensures left { ChangeLeft self.old self.new result }
+        ensures edits { EditsFew self.old self.new }
+        ensures run { IsDiskRun (D.meaning disk.old) (D.meaning disk.new) }
+        ensures cause { HasChangeCause (D.meaning disk.old).disk_faults (D.meaning disk.new).disk_faults result }
+    {
+        let Some(slot) = self.slot_here(scratch, place, name) else {
+            return Err(Change::Refused(Refusal::NoFileHere));
+        };
+        take_out(&mut self.parts, slot);
+        save(
+            &mut self.parts,
+            &mut self.journal,
+            &mut self.is_broken,
+            disk,
+        )
+    }
+}
+
+impl View for Store {
+    ghost use Rattle.lis_kept_store.specs.Stored.{Stored};
+    ghost use Rattle.lis_kept_store.specs.Seen.{seen_of};
+
+    ghost seen = { λ s. seen_of s.parts };
+
+    fn id_of(&self, word: &Word) -> Option<u16> {
+        self.parts.number_of(word)
+    }
+
+    fn word_at(&self, k: u32) -> Option<(Word, u16)> {
+        self.parts.word_at(k)
+    }
+
+    fn slot_of(&self, name: &Name) -> Option<u16> {
+        self.parts.slot_of(name)
+    }
+
+    fn file_at(&self, k: u32) -> Option<(Name, u16)> {
+        self.parts.file_at(k)
+    }
+
+    fn size_of(&self, slot: u16) -> u64 {
+        match self.parts.rec(slot) {
+            None => 0,
+            Some(rec) => u64::from(rec.size),
+        }
+    }
+
+    fn ext(&self) -> &Ext {
+        self.parts.ext()
+    }
+
+    fn taxonomy(&self) -> &Taxonomy {
+        self.parts.taxonomy()
+    }
+}
