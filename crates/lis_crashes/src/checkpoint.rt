@@ -129,7 +129,7 @@ fn a_stop_in_a_checkpoint_changes_nothing(rt: HostRuntime) -> Result<(), Fail> {
     // The block is in open records, so that a checkpoint comes first: two homes, the gates, and a sync after each.
     place_nines(alloc, &mut disk, &mut journal)?;
     let end = disk.calls();
-    assert_eq!(rt; end, start + 8);
-    all_read(alloc, &disk, start, end - 1)?;
+    assert_eq!(rt; end.saturating_sub(start), 8);
+    all_read(alloc, &disk, start, end.saturating_sub(1))?;
     Ok(())
 }
