@@ -1,49 +1,117 @@
 -- A blank image tells of no words and no files: it stands for the empty state.
-use Rattle.std.proofs.Common.{◌≡◌, refl, sym, ap, ap₂, ◌∙◌, ℕ, zero, suc, ◌+◌, ◌-◌, ◌*◌, ◌≤◌, ◌==◌, ◌≢◌, false, List, ◌∷◌, map, take, drop, replicate, slice_index, IsTrue, arith}
-use Rattle.std.specs.List.{range_with_len}
+use Rattle.std.proofs.Common.{◌≡◌, refl, sym, ap, ap₂, ◌∙◌, ℕ, zero, suc, ◌+◌, ◌-◌, ◌*◌, ◌/◌, ◌%◌, ◌<◌, ◌≤◌, ◌==◌, ◌≢◌, false, List, [], ◌∷◌, length, get_or, map, take, drop, replicate, slice_get, slice_index, Some, IsTrue, arith}
+use Rattle.std.specs.BTreeSet.{insert_key}
+use Rattle.std.specs.List.{fold, range_with_len, Contains}
+use Rattle.std.proofs.lemmas.Bool.{and_parts, both_ways}
 use Rattle.std.proofs.lemmas.List.{length-replicate, drop-replicate, take-replicate, get_or-replicate, take-take}
+use Rattle.std.proofs.lemmas.Option.{slice_get_within, get_or_from_slice_get}
+use Rattle.lis_graph.proofs.Members.{among_from_contains}
 use Rattle.lis_ports.specs.Bytes.{part}
 use Rattle.lis_journal.specs.Record.{block}
-use Rattle.lis_journal.proofs.Fitting.{replayed-closed}
 use Rattle.lis_slots.specs.Slots.{Slots, home, place, slot}
-use Rattle.lis_blockmap.specs.Bitmap.{bits_number, bitmap_bytes}
-use Rattle.lis_dict.specs.Dict.{IsDict}
+use Rattle.lis_blockmap.specs.Bitmap.{is_taken, bits_number, bitmap_bytes}
+use Rattle.lis_dict.specs.Dict.{Dict, IsDict}
 use Rattle.lis_catalog.specs.Catalog.{IsCatalog}
-use Rattle.lis_fields.specs.Layouts.{zeros, super_bytes, prop_bytes, axiom_bytes, file_bytes}
+use Rattle.lis_ext.specs.Ext.{has, set_of}
+use Rattle.lis_ext.specs.Numbers.{has_number as has_in}
+use Rattle.lis_fields.specs.Layouts.{zeros, super_bytes, is_super, prop_bytes, axiom_bytes, file_bytes}
+use Rattle.lis_fields.specs.declared.slots.AxiomSlot.{AxiomSlot}
+use Rattle.lis_fields.specs.declared.slots.AxiomSlot.TheVariants.{Free as FreeAxiom, Pair}
 use Rattle.lis_model.specs.declared.limits.Limits.{Limits}
 use Rattle.lis_model.specs.Ranges.{are_in_range}
-use Rattle.lis_model.specs.Image.{bitmap_start, image_blocks}
-use Rattle.lis_model.specs.State.{State, empty_state}
+use Rattle.lis_model.specs.Image.{bitmap_start, data_start}
+use Rattle.lis_model.specs.State.{State, empty_state, pair_cmp}
 use Rattle.lis_laws.proofs.Steps.{empty_formed}
+use Rattle.lis_kept.specs.Kept.{Kept}
+use Rattle.lis_kept.specs.Areas.{Area, IsWritten, slots_of, axiom_slots, row_slots}
+use Rattle.lis_kept.specs.Areas.Area.{Properties, Axioms, Files, Rows, Bitmap}
+use Rattle.lis_kept.specs.Sound.{AreSound}
+use Rattle.lis_kept.specs.Telling.{pairs_told, Tells}
+use Rattle.lis_kept.proofs.InArea.{among_slots, whole_files, files_range, each_files_limit}
+use Rattle.lis_kept.proofs.RowBytes.{row_bytes_none}
 use Rattle.lis_store.specs.Blank.{IsBlank}
-use Rattle.lis_store.specs.Stands.{property_slots, axiom_slots, file_slots, Stands}
-use Rattle.lis_store.specs.Kept.{contents_of, PropertiesAre, AxiomsAreFree, RecordsAre, IsSpelled, IsSound, Tells, empty_kept}
-use Rattle.lis_store.proofs.Telling.{tells_spells}
+use Rattle.lis_store.specs.Stands.{Stands}
+use Rattle.lis_store.specs.Stored.{IsSound, empty_parts, empty_stored}
+
+in_range : (limits : Limits) → IsTrue (is_super limits) → IsTrue (are_in_range limits)
+in_range limits range = (and_parts (limits.version == 1) (are_in_range limits) range).1
 
 -- ---- no words and no files
-empty_dict : (limits : Limits) → IsDict (empty_kept limits).dict
-empty_dict limits = record { rising = refl; forms = refl; below = refl; apart = refl; few = omega arith }
+module _ (limits : Limits) (blocks : ℕ) where
+  abbrev parts : Kept
+  parts = empty_parts limits blocks
 
-empty_catalog : (limits : Limits) → IsCatalog (empty_kept limits).catalog
-empty_catalog limits = record { rising = refl; forms = refl; below = refl; apart = refl; few = omega arith }
+  empty_dict : IsDict parts.dict
+  empty_dict = record { rising = refl; forms = refl; below = refl; apart = refl; few = omega arith }
 
-pub empty_sound : (limits : Limits) → IsTrue (are_in_range limits) → limits.version ≡ 1 → IsSound (empty_kept limits)
-empty_sound limits in_range version = record {
-  range = in_range;
-  version = version;
-  image = refl;
-  quiet = λ unbroken. (refl, refl);
-  numbers = refl;
-  dict = empty_dict limits;
-  bits = length-replicate limits.props false;
-  properties = λ n. refl;
-  slots = refl;
-  catalog = empty_catalog limits;
-  records = refl;
-  apart = refl;
-  blocks = length-replicate limits.blocks false;
-  taken = λ n lt. get_or-replicate limits.blocks n false false lt;
-}
+  empty_catalog : IsCatalog parts.catalog
+  empty_catalog = record { rising = refl; forms = refl; below = refl; apart = refl; few = omega arith }
+
+  no_axiom : (at left right : ℕ) → slice_get parts.axioms at ≡ Some (Pair left right) → ⊥
+  no_axiom at left right is =
+      let lt : at < (axiom_slots limits).count = omega (arith, slice_get_within parts.axioms at (Pair left right) is, length-replicate (axiom_slots limits).count FreeAxiom) in
+      let same : ◌≡◌ {A = AxiomSlot} (Pair left right) FreeAxiom =
+      sym (get_or_from_slice_get parts.axioms at (Pair left right) FreeAxiom is) ∙ get_or-replicate (axiom_slots limits).count at FreeAxiom FreeAxiom lt in
+      cc
+
+  empty_set : (at : ℕ) → set_of parts.ext at ≡ []
+  empty_set at = all_empty limits.files at
+    where
+      all_empty : (files i : ℕ) → get_or {A = List ℕ} (replicate files []) i [] ≡ []
+      all_empty zero i = refl
+      all_empty (suc files) zero = refl
+      all_empty (suc files) (suc i) = all_empty files i
+
+  no_set : (n at : ℕ) → has parts.ext n at ≡ false
+  no_set n at = ap (λ ns. has_in ns n) (empty_set at)
+
+  not_taken : (bits n : ℕ) → is_taken (replicate bits false) n ≡ false
+  not_taken zero n = refl
+  not_taken (suc bits) zero = refl
+  not_taken (suc bits) (suc n) = not_taken bits n
+
+  empty_are_sound : IsTrue (are_in_range limits) → data_start limits ≤ blocks → AreSound parts
+  empty_are_sound range room = record {
+    range = range;
+    numbers = refl;
+    dict = empty_dict;
+    heads = λ n word is. absurd cc;
+    bits = length-replicate limits.props false;
+    flagged = λ n is. absurd (both_ways (is_taken (replicate limits.props false) n) (not_taken limits.props n) is);
+    properties = λ n. refl;
+    axiom_count = length-replicate (axiom_slots limits).count FreeAxiom;
+    axioms = λ at left right is. absurd (no_axiom at left right is);
+    slots = refl;
+    catalog = empty_catalog;
+    records = λ at rec is. absurd cc;
+    blocks = length-replicate limits.blocks false;
+    rows = refl;
+    files = length-replicate limits.files [];
+    named = λ n at is. absurd (both_ways (has parts.ext n at) (no_set n at) is);
+    settled = refl;
+    marks = omega (arith, room, length-replicate blocks false);
+  }
+
+  pub empty_are_told : IsTrue (is_super limits) → data_start limits ≤ blocks → IsSound (empty_stored limits blocks)
+  empty_are_told range room = record {
+    parts = empty_are_sound (in_range limits range) room;
+    range = range;
+    free = λ at none n. no_set n at;
+    pairs = λ at other left right is _. absurd (no_axiom at left right is);
+    closed = λ at p q is _. absurd (both_ways (has parts.ext p at) (no_set p at) is);
+    short = λ at. omega (arith, ap length (empty_set at));
+    taken = λ at rec is. absurd cc;
+    apart = λ at other rec more n is _ _ _. absurd cc;
+    in_use = record { used = λ n is. absurd cc; tags = λ at rec is n _. absurd cc; rights = λ at left right is. absurd (no_axiom at left right is) };
+    image = refl;
+    journal = λ unbroken. refl;
+    staged = λ unbroken. refl;
+    placed = λ unbroken. refl;
+    clean = λ unbroken. ap (λ n. replicate n false) (sym (length-replicate blocks false));
+  }
+
+pub empty_sound : (limits : Limits) (blocks : ℕ) → IsTrue (is_super limits) → data_start limits ≤ blocks → IsSound (empty_stored limits blocks)
+empty_sound limits blocks range room = empty_are_told limits blocks range room
 
 -- ---- blocks of zeros
 pub zeros-part : (at n total : ℕ) → at + n ≤ total → part at n (zeros total) ≡ zeros n
@@ -68,53 +136,49 @@ bitmap-none n =
     all_none (λ k. bits_number (take 8 (drop (8 * k) (replicate n false))))
     (λ k. ap (λ bits. bits_number (take 8 bits)) (drop-replicate (8 * k) n false) ∙ no_bits 8 (n - 8 * k)) 0 4096
 
-module _ (limits : Limits) (image : List ℕ) (blank : IsBlank limits image) where
-  free_properties : PropertiesAre limits (empty_kept limits).dict (empty_kept limits).declared (λ n. block n image)
-  unfolding prop_bytes
-  free_properties k lt = free_slot (property_slots limits) (λ n. block n image) k (blank.homes (home (property_slots limits) k) (omega arith) (omega arith)) (omega arith)
+-- a row ends inside its block
+row_within : (limits : Limits) (k : ℕ) → IsTrue (are_in_range limits) → place (row_slots limits) k + (row_slots limits).width ≤ 4096
+row_within limits k range =
+    each_files_limit (λ n. n / 8 * (k % (4096 / (n / 8))) + n / 8 ≤ 4096) limits.files (files_range limits range)
+    (omega arith) (omega arith) (omega arith) (omega arith) (omega arith) (omega arith) (omega arith)
 
-  free_axioms : AxiomsAreFree limits (λ n. block n image)
-  unfolding axiom_bytes
-  free_axioms k lt = free_slot (axiom_slots limits) (λ n. block n image) k (blank.homes (home (axiom_slots limits) k) (omega arith) (omega arith)) (omega arith)
+no_pairs : (n : ℕ) (dict : Dict) → pairs_told dict (replicate n FreeAxiom) ≡ []
+no_pairs zero dict = refl
+no_pairs (suc n) dict = no_pairs n dict
 
-  free_files : RecordsAre limits (empty_kept limits).catalog (λ n. block n image)
-  unfolding file_bytes
-  free_files k lt = free_slot (file_slots limits) (λ n. block n image) k (blank.homes (home (file_slots limits) k) (omega arith) (omega arith)) (omega arith)
+none_contained : {X : Type 0} (x : X) → Contains [] x → ⊥
+none_contained x m = among_from_contains [] x m
 
-  module _ (in_range : IsTrue (are_in_range limits)) (version : limits.version ≡ 1) (super : part 0 4096 image ≡ super_bytes limits) where
-    spelled_empty : IsSpelled (empty_kept limits) (λ n. block n image)
-    spelled_empty = record {
-      super = super;
-      properties = free_properties;
-      axioms = free_axioms;
-      records = free_files;
-      bitmap = blank.homes (bitmap_start limits) (omega arith) (omega arith) ∙ sym (bitmap-none limits.blocks);
-    }
+module _ (limits : Limits) (blocks : ℕ) (image : List ℕ) (range : IsTrue (are_in_range limits)) (blank : IsBlank limits image) where
+  abbrev at : ℕ → List ℕ
+  at n = block n image
 
-    pub tells_empty : Tells (empty_kept limits) (λ n. block n image) (empty_state limits)
-    tells_empty = record {
-      limits = refl;
-      sound = empty_sound limits in_range version;
-      unbroken = refl;
-      spelled = spelled_empty;
-      formed = empty_formed limits in_range;
-      no_axioms = refl;
-      words = refl;
-      declared = λ word. refl;
-      files = refl;
-    }
+  zero_at : (area : Area) (n : ℕ) → n < (slots_of limits area).count → at (home (slots_of limits area) n) ≡ zeros 4096
+  zero_at area n lt = let inside = among_slots limits range area n lt in blank.homes (home (slots_of limits area) n) inside.0 inside.1
 
-    pub stands_empty : Stands image (empty_state limits)
-    unfolding Stands
-    stands_empty = record {
-      super = super;
-      version = version;
-      long = blank.long;
-      replay = image;
-      replays = replayed-closed (image_blocks limits) image (omega arith) blank.long blank.gates;
-      contents = contents_of (empty_kept limits);
-      spells = tells_spells (empty_kept limits) (λ n. block n image) (empty_state limits) tells_empty;
-    }
+  pub written_empty : IsWritten (empty_parts limits blocks) at
+  unfolding prop_bytes axiom_bytes file_bytes zeros
+  written_empty Properties n lt = free_slot (slots_of limits Properties) at n (zero_at Properties n lt) (omega arith)
+  written_empty Axioms n lt =
+      free_slot (slots_of limits Axioms) at n (zero_at Axioms n lt) (omega arith)
+      ∙ ap axiom_bytes (sym (get_or-replicate (axiom_slots limits).count n FreeAxiom FreeAxiom lt))
+  written_empty Files n lt = free_slot (slots_of limits Files) at n (zero_at Files n lt) (omega arith)
+  written_empty Rows n lt =
+      free_slot (slots_of limits Rows) at n (zero_at Rows n lt) (row_within limits n range)
+      ∙ row_bytes_none (empty_parts limits blocks).ext n (limits.files / 8) (omega (arith, length-replicate {A = List ℕ} limits.files [], whole_files limits range)) (λ file. no_set limits blocks n file)
+  written_empty Bitmap n lt = blank.homes (bitmap_start limits) (omega arith) (omega arith) ∙ sym (bitmap-none limits.blocks)
+
+  pub tells_empty : part 0 4096 image ≡ super_bytes limits → Tells (empty_parts limits blocks) at (empty_state limits)
+  tells_empty super = record {
+    super = super;
+    state = ap (λ es. record (empty_state limits) { axioms = fold (insert_key pair_cmp) [] es }) (no_pairs (axiom_slots limits).count (empty_parts limits blocks).dict);
+    formed = empty_formed limits range;
+    used = λ n is. absurd cc;
+    described = λ f m. absurd (none_contained f m);
+    taken = λ n lt is. absurd (both_ways (is_taken (replicate limits.blocks false) n) (not_taken limits blocks limits.blocks n) is);
+    given = λ f m. absurd (none_contained f m);
+    one_use = λ f g m. absurd (none_contained f m);
+  }
 
 -- an image that does not begin with an L stands for no state
 pub no_state : (image : List ℕ) (s : State) → slice_index (part 0 1 image) 0 ≢ 76 → Stands image s → ⊥

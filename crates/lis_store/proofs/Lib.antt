@@ -1,29 +1,22 @@
-pub mod OneState
+pub mod Numbers
 pub mod SlotOrder
-pub mod Telling
+pub mod Points
+pub mod Marks
+pub mod Spelled
+pub mod OneState
 pub mod Standing
 pub mod Empty
 pub mod EmptyStore
-pub mod FewerFiles
-pub mod Forgetting
-pub mod Removed
-pub mod Tags
-pub mod RemovalStaged
-pub mod Rm
-pub mod Staged
-pub mod Blocks
-pub mod Committing
-pub mod Learning
-pub mod NewFile
-pub mod FileAdded
-pub mod FileKept
-mod Finding
 pub mod Facts
+pub mod Entailment
+pub mod Viewing
+pub mod Saved
+pub mod Judged
+pub mod Cleaned
+pub mod Told
+pub mod Declared
 pub mod Here
-mod Reading
-pub mod Judging
-pub mod Declaring
-pub mod Mkdir
-pub mod Described
-mod NewWords
-pub mod Admitted
+pub mod Reading
+pub mod Given
+pub mod Removed
+pub mod Had

@@ -1,296 +1,396 @@
--- What is kept, and the state that it tells, when a file is taken away.
-use Rattle.std.proofs.Common.{◌≡◌, ◌⊎◌, refl, sym, ap, ap₂, ◌∙◌, subst, inl, inr, ℕ, ◌+◌, ◌≤◌, nat_lt, ◌==◌, ◌&&◌, not, Bool, true, false, cond, is_some, List, [], ◌∷◌, ◌++◌, map, filter, take, Option, Some, None, arith}
-use Rattle.std.specs.Option.{option_to_list}
-use Rattle.std.specs.List.{flat_map, list_all}
-use Rattle.std.proofs.lemmas.Bool.{and_parts, and_from, both_ways, cases_eq, eq-eqb, eqb-true, or_cases, not_from_false}
-use Rattle.lis_graph.proofs.Members.{Among, among_append, among_flat_map, among_from_any, among_left, among_map, flat_map_among, map_among}
-use Rattle.lis_graph.proofs.Sets.{sorted_from_rising}
-use Rattle.lis_journal.specs.Journal.{Held, IsIdle}
+-- What a file that is taken out comes to.
+use Rattle.std.proofs.Common.{◌≡◌, ◌⊎◌, refl, sym, ap, ap₂, ◌∙◌, subst, inl, inr, ℕ, zero, suc, ◌+◌, ◌<◌, ◌≤◌, ◌==◌, not, ◌&&◌, ◌||◌, Bool, true, false, cond, if◌then◌else◌, List, [], ◌∷◌, length, map, sum, get_or, set, Option, Some, None, is_some, Result, Err, arith, get_or-set_same, get_or-set_other}
+use Rattle.std.specs.List.{list_any, range_with_len, Contains}
+use Rattle.std.proofs.lemmas.Bool.{and_parts, and_from, or_cases, or_left, or_right, both_ways, cases_eq, eq-eqb, ne_eqb, false_from_ne_true, not_from_false}
+use Rattle.std.proofs.lemmas.List.{get_or_default}
+use Rattle.std.proofs.lemmas.List.Sums.{sum_by-cons}
+use Rattle.std.proofs.lemmas.Option.{same_Some}
+use Rattle.lis_graph.proofs.Members.{Among, among_from_contains, contains_from_among, among_from_any, among_filter, filter_among}
+use Rattle.lis_ports.specs.Meaning.{Meaning}
+use Rattle.lis_journal.specs.Journal.{Held}
+use Rattle.lis_journal.specs.Record.{Entry as Staged}
+use Rattle.lis_journal.specs.Phases.{looked}
 use Rattle.lis_blockmap.specs.Bitmap.{is_taken}
 use Rattle.lis_content.specs.Content.{given, has_number}
-use Rattle.lis_content.proofs.Numbers.{length-given}
-use Rattle.lis_dict.specs.Dict.{Dict, IsDict, words, number_of, word_of}
-use Rattle.lis_dict.proofs.Laws.{among_from_word, number_from_word, word_from_among, word_from_number}
-use Rattle.lis_catalog.specs.Catalog.{Catalog, Filed, slot_of, rec_at, without_slot}
+use Rattle.lis_content.proofs.Numbers.{stay_given}
+use Rattle.lis_dict.specs.Dict.{word_of}
+use Rattle.lis_catalog.specs.Catalog.{Filed, slot_of, rec_at, without_slot}
+use Rattle.lis_catalog.proofs.Laws.{rec_at-without_slot}
+use Rattle.lis_ext.specs.Ext.{Ext, has, set_of as numbers_at}
+use Rattle.lis_ext.specs.Numbers.{has_number as number_in, differs, numbers_where}
+use Rattle.lis_graph.proofs.Ranges.{range_among}
+use Rattle.lis_words.specs.Words.{same_word}
+use Rattle.lis_grammar.specs.Formula.{Formula}
 use Rattle.lis_fields.specs.Records.{FileRecord}
-use Rattle.lis_fields.specs.Layouts.{is_record}
-use Rattle.lis_words.specs.Words.{word_cmp, same_word, has_word, head_bytes, is_plain_word, is_valued}
-use Rattle.lis_model.specs.Image.{data_start, image_blocks}
-use Rattle.lis_model.specs.Sets.{set_of}
-use Rattle.lis_model.specs.Tests.{has_no_tests}
-use Rattle.lis_model.specs.State.{State, File, WellFormed, heads, description, known, left_words, is_assignable}
+use Rattle.lis_model.specs.declared.refusal.Refusal.TheVariants.{NoFileHere}
+use Rattle.lis_model.specs.State.{State, description}
+use Rattle.lis_model.specs.Table.{Table, Entry}
+use Rattle.lis_model.specs.Listing.{extension}
+use Rattle.lis_model.specs.Step.{Situation, refused, changed, is_here, rm}
 use Rattle.lis_model.specs.Changes.{file_removed}
-use Rattle.lis_laws.proofs.Members.{word_order, same_word_decides, among_from_has_word, has_word_from_among, among_with_words, with_words_old, among_set_of, set_of_among, same_words}
-use Rattle.lis_laws.proofs.Sources.{described_known}
-use Rattle.lis_laws.proofs.Counts.{all_among, all_from, all_weaker}
-use Rattle.lis_laws.proofs.Known.{sorted_known}
-use Rattle.lis_laws.proofs.Apart.{plain_not_valued}
-use Rattle.lis_laws.proofs.Forms.{removes_file}
-use Rattle.lis_store.specs.Kept.{Kept, IsSound, is_sound_record, words_told, file_told, bit_of, IsSpelled, Tells}
-use Rattle.lis_store.specs.Removing.{is_tagged, is_unused, WordsForgotten}
-use Rattle.lis_store.proofs.Finding.{map_same}
-use Rattle.lis_store.proofs.SlotOrder.{flat_map_same}
-use Rattle.lis_store.proofs.Facts.{filed_slot, filed_named, no_tests_told}
-use Rattle.lis_store.proofs.Described.{described_from, described_has}
-use Rattle.lis_store.proofs.FewerFiles.{among_from_number, number_from_among, distinct_filter, given_taken, catalog_without, file_in_slot, left_among, among_left_files, used_without, same_tests}
-use Rattle.lis_store.proofs.Forgetting.{forms_stay, word_was, word_stays, declared_stays, tagged_stays, bits_stay}
+use Rattle.lis_laws.proofs.Counts.{all_from}
+use Rattle.lis_laws.proofs.Forms as forms
+use Rattle.lis_kept.specs.Kept.{Kept}
+use Rattle.lis_kept.specs.Areas.{IsSaved, marked_count}
+use Rattle.lis_kept.specs.Links.{is_linked, has_pair}
+use Rattle.lis_kept.specs.Sound.{AreSound, FreeSlotsAreEmpty, BlocksAreTaken}
+use Rattle.lis_kept.specs.Forgetting.{KeepsInUse}
+use Rattle.lis_kept.specs.Telling.{words_told, file_told, state_of, is_head_by, is_had, is_named_left, is_used, AreUsed, IsFileBlock, Tells}
+use Rattle.lis_kept.proofs.Filing.{number_from_among, filed_rec, filed_at_slot}
+use Rattle.lis_kept.proofs.Dropped.{file_slot_below}
+use Rattle.lis_kept.proofs.OwnLinks.{own_link_is}
+use Rattle.lis_store.specs.declared.change.Change.{Change}
+use Rattle.lis_store.specs.declared.change.Change.TheVariants.{Refused}
+use Rattle.lis_store.specs.Stored.{Stored, AreClosed, DescriptionsAreShort, BlocksAreApart, IsSound, StoreFits}
+use Rattle.lis_store.specs.Changes.{Changes, differing_bits}
+use Rattle.lis_store.specs.Judging.{is_among}
+use Rattle.lis_store.specs.Saving.{settled, IsReady, Saves}
+use Rattle.lis_store.specs.Removing.{TakesOut}
+use Rattle.lis_store.proofs.Numbers.{numbers_same, numbers_of, each_below}
+use Rattle.lis_store.proofs.Facts.{filed_named, table_told}
+use Rattle.lis_store.proofs.Judged.{change_refused}
+use Rattle.lis_store.proofs.Cleaned.{clean_is, sound_clean, in_use_clean, none_marked}
+use Rattle.lis_store.proofs.Told.{words_same}
+use Rattle.lis_store.proofs.Given.{given_taken}
 
--- ---- lists
-module _ {X Y : Type 0} where
-  filter-map : (keep : Y → Bool) (f : X → Y) (xs : List X) → filter keep (map f xs) ≡ map f (filter (λ x. keep (f x)) xs)
-  filter-map keep f [] = refl
-  filter-map keep f (x ∷ xs) = by (keep (f x)) (filter-map keep f xs)
+-- a set that has a number is one of the sets
+had_there : (sets : List (List ℕ)) (at n : ℕ) → has_number (get_or sets at []) n ≡ true → list_any (λ ns. has_number ns n) sets ≡ true
+had_there [] at n h = absurd cc
+had_there (x ∷ xs) zero n h = or_left (has_number x n) (list_any (λ ns. has_number ns n) xs) h
+had_there (x ∷ xs) (suc at) n h = or_right (has_number x n) (list_any (λ ns. has_number ns n) xs) (had_there xs at n h)
+
+-- lists that are told the same are told so one by one
+same_map : {X Y : Type 0} (f g : X → Y) (xs : List X) → map f xs ≡ map g xs → (x : X) → Among xs x → f x ≡ g x
+same_map f g [] e x m = absurd m
+same_map f g (y ∷ ys) e x (inl same) = let first : f y ≡ g y = cc in subst (λ z. f z ≡ g z) same first
+same_map f g (y ∷ ys) e x (inr m) = let rest : map f ys ≡ map g ys = cc in same_map f g ys rest x m
+
+-- a sum is no less than one of its terms
+sum_has : (f : ℕ → ℕ) (xs : List ℕ) (x : ℕ) → Among xs x → f x ≤ sum (map f xs)
+sum_has f [] x m = absurd m
+sum_has f (y ∷ ys) x (inl same) = omega (arith, ap f same, sum_by-cons (λ (n : ℕ). n) (f y) (map f ys))
+sum_has f (y ∷ ys) x (inr m) = omega (arith, sum_has f ys x m, sum_by-cons (λ (n : ℕ). n) (f y) (map f ys))
+
+module _ (slot : ℕ) (p q : Kept) (out : TakesOut slot p q) (sound : AreSound p) where
+  abbrev rec : FileRecord
+  rec = out.rec
+
+  abbrev numbers : List ℕ
+  numbers = numbers_at p.ext slot
+
+  there : rec_at p.catalog slot ≡ Some rec
+  there = out.drops.there
+
+  -- what is kept before words are forgotten, and at the end
+  abbrev mid : Kept
+  mid = record p { catalog = without_slot p.catalog slot; taken = given p.taken rec.blocks; ext = out.emptied.ext; marks = out.emptied.marks }
+
+  abbrev end : Kept
+  end = record mid { dict = q.dict; marks = q.marks }
+
+  mid_is : out.emptied ≡ mid
+  mid_is = out.empties.parts ∙ ap (λ (k : Kept). record k { ext = out.emptied.ext; marks = out.emptied.marks }) out.drops.parts
+
+  end_is : q ≡ end
+  end_is = out.forgets.parts ∙ ap (λ (k : Kept). record k { dict = q.dict; marks = q.marks }) mid_is
+
+  -- ---- descriptions
+  sets_are : mid.ext.sets ≡ set p.ext.sets slot []
+  sets_are = out.empties.sets ∙ ap (λ (k : Kept). set k.ext.sets slot []) out.drops.parts
+
+  set_here : numbers_at mid.ext slot ≡ []
+  set_here = ap (λ ss. get_or ss slot []) sets_are ∙ get_or-set_same p.ext.sets slot [] [] (omega (arith, file_slot_below p sound slot rec there, sound.files))
+
+  set_other : (at : ℕ) → (at ≡ slot → ⊥) → numbers_at mid.ext at ≡ numbers_at p.ext at
+  set_other at differ = ap (λ ss. get_or ss at []) sets_are ∙ get_or-set_other p.ext.sets slot at [] [] differ
+
+  had_before : (n at : ℕ) → has mid.ext n at ≡ true → (at ≡ slot → ⊥) × (has p.ext n at ≡ true)
+  had_before n at h = by (cases_eq at slot)
     where
-      by : (b : Bool) → filter keep (map f xs) ≡ map f (filter (λ z. keep (f z)) xs) → cond b (f x ∷ filter keep (map f xs)) (filter keep (map f xs)) ≡ map f (cond b (x ∷ filter (λ z. keep (f z)) xs) (filter (λ z. keep (f z)) xs))
-      by true rest = ap (λ ys. f x ∷ ys) rest
-      by false rest = rest
+      by : (at ≡ slot) ⊎ (at ≡ slot → ⊥) → (at ≡ slot → ⊥) × (has p.ext n at ≡ true)
+      by (inl same) = absurd (both_ways (has mid.ext n at) (ap (λ ns. has_number ns n) (ap (numbers_at mid.ext) same ∙ set_here)) h)
+      by (inr differ) = (differ, ap (λ ns. has_number ns n) (sym (set_other at differ)) ∙ h)
 
-filter_same : {X : Type 0} (p q : X → Bool) (xs : List X) → ((x : X) → Among xs x → p x ≡ q x) → filter p xs ≡ filter q xs
-filter_same p q [] same = refl
-filter_same p q (x ∷ xs) same =
-    ap₂ (λ b ys. cond b (x ∷ ys) ys) (same x (inl refl)) (filter_same p q xs (λ z m. same z (inr m)))
+  had_stays : (n at : ℕ) → (at ≡ slot → ⊥) → has p.ext n at ≡ true → has mid.ext n at ≡ true
+  had_stays n at differ h = ap (λ ns. has_number ns n) (set_other at differ) ∙ h
 
--- ---- words by their numbers
-word_numbered : (d : Dict) → IsDict d → (w : List ℕ) → Among (words d) w → (n : ℕ) × (word_of d n ≡ Some w)
-word_numbered d dict w m =
-    let e = among_map (λ (x : List ℕ × ℕ). x.0) d.entries w m in
-    ((e.0).1, word_from_among d dict (e.0).0 (e.0).1 e.1 ∙ ap (λ v. Some v) e.2)
+  -- ---- words
+  words_then : (n : ℕ) → word_of q.dict n ≡ (if has_number numbers n && not (is_used mid n) then None else word_of p.dict n)
+  words_then n = subst (λ (k : Kept). word_of q.dict n ≡ (if has_number numbers n && not (is_used k n) then None else word_of k.dict n)) mid_is (out.forgets.words n)
 
-numbered_word : (d : Dict) (w : List ℕ) (n : ℕ) → word_of d n ≡ Some w → Among (words d) w
-numbered_word d w n is = map_among (λ (x : List ℕ × ℕ). x.0) d.entries (w, n) (among_from_word d w n is)
-
-told_number : (d : Dict) (tags : List ℕ) (w : List ℕ) → Among (words_told d tags) w → (n : ℕ) × Among tags n × (word_of d n ≡ Some w)
-told_number d tags w m =
-    let found = among_flat_map (λ n. option_to_list (word_of d n)) tags w (among_set_of (flat_map (λ n. option_to_list (word_of d n)) tags) w m) in
-    (found.0, found.1, by (word_of d found.0) found.2)
-  where
-    by : (o : Option (List ℕ)) → Among (option_to_list o) w → o ≡ Some w
-    by None none = absurd none
-    by (Some v) (inl same) = ap (λ x. Some x) same
-    by (Some v) (inr none) = absurd none
-
-number_told : (d : Dict) (tags : List ℕ) (w : List ℕ) (n : ℕ) → Among tags n → word_of d n ≡ Some w → Among (words_told d tags) w
-number_told d tags w n m is =
-    set_of_among (flat_map (λ i. option_to_list (word_of d i)) tags) w
-    (flat_map_among (λ i. option_to_list (word_of d i)) tags n w m (subst (λ o. Among (option_to_list o) w) (sym is) (inl refl)))
-
--- ---- the known words of a state without axioms and declared tests
-module _ (s : State) (formed : WellFormed s) (no_axioms : s.axioms ≡ []) (no_tests : has_no_tests s.declared ≡ true) where
-  -- a word of a description is one that the file was given, or the head of one, which is declared
-  described_by : (file : File) (w : List ℕ) → Among s.files file → Among (description s file) w → Among file.assigned w ⊎ Among s.declared w
-  described_by file w in_files m = let source = described_from s.declared s.axioms no_tests no_axioms file w m in by source.0 source.1 source.2
+  word_before : (n : ℕ) (w : List ℕ) → word_of q.dict n ≡ Some w → word_of p.dict n ≡ Some w
+  word_before n w is = by (has_number numbers n && not (is_used mid n)) (sym (words_then n) ∙ is)
     where
-      head : (v : List ℕ) → Among file.assigned v → is_valued v ≡ true → Among s.declared (head_bytes v)
-      head v given valued =
-          let each = all_among (λ (f : File). list_all (is_assignable s.declared) f.assigned) s.files file formed.files.assigned in_files in
-          which (or_cases (is_plain_word v && has_word s.declared v) (is_valued v && has_word s.declared (head_bytes v)) (all_among (is_assignable s.declared) file.assigned v each given))
-        where
-          which : ((is_plain_word v && has_word s.declared v) ≡ true) ⊎ ((is_valued v && has_word s.declared (head_bytes v)) ≡ true) → Among s.declared (head_bytes v)
-          which (inl plain) = absurd (both_ways (is_valued v) (plain_not_valued v (and_parts (is_plain_word v) (has_word s.declared v) plain).0) valued)
-          which (inr has) = among_from_has_word s.declared (head_bytes v) (and_parts (is_valued v) (has_word s.declared (head_bytes v)) has).1
+      by : (b : Bool) → (if b then None else word_of p.dict n) ≡ Some w → word_of p.dict n ≡ Some w
+      by true e = absurd cc
+      by false e = e
 
-      by : (v : List ℕ) → Among file.assigned v → (v ≡ w) ⊎ ((is_valued v ≡ true) × (head_bytes v ≡ w)) → Among file.assigned w ⊎ Among s.declared w
-      by v given (inl same) = inl (subst (λ (x : List ℕ). Among file.assigned x) same given)
-      by v given (inr is) = inr (subst (λ (x : List ℕ). Among s.declared x) is.1 (head v given is.0))
-
-  known_by : (w : List ℕ) → Among (known s) w → Among s.declared w ⊎ ((file : File) × Among s.files file × Among file.assigned w)
-  known_by w m = by (among_with_words s.declared (left_words s ++ flat_map (description s) s.files) w m)
+  used_stays : (n : ℕ) → is_used mid n ≡ true → word_of q.dict n ≡ word_of p.dict n
+  used_stays n used = words_then n ∙ (ap (λ b. if has_number numbers n && not b then None else word_of p.dict n) used ∙ by (has_number numbers n))
     where
-      described : (file : File) → Among s.files file → Among file.assigned w ⊎ Among s.declared w → Among s.declared w ⊎ ((f : File) × Among s.files f × Among f.assigned w)
-      described file in_files (inl given) = inr (file, in_files, given)
-      described file in_files (inr declared) = inl declared
+      by : (b : Bool) → (if b && false then None else word_of p.dict n) ≡ word_of p.dict n
+      by true = refl
+      by false = refl
 
-      file_of : (file : File) × Among s.files file × Among (description s file) w → Among s.declared w ⊎ ((f : File) × Among s.files f × Among f.assigned w)
-      file_of found = described found.0 found.1 (described_by found.0 w found.1 found.2)
+  used_had : (n at : ℕ) → has mid.ext n at ≡ true → is_used mid n ≡ true
+  used_had n at h =
+      or_left (is_taken p.declared n || is_had mid.ext n) (is_named_left mid n)
+      (or_right (is_taken p.declared n) (is_had mid.ext n) (had_there mid.ext.sets at n h))
 
-      no_left : Among (left_words s) w → ⊥
-      no_left left = subst (λ (axioms : List (List ℕ × List ℕ)). Among (map (λ (pair : List ℕ × List ℕ). pair.0) axioms ++ flat_map (λ (pair : List ℕ × List ℕ). heads pair.0) axioms) w) no_axioms left
-
-      more : Among (left_words s) w ⊎ Among (flat_map (description s) s.files) w → Among s.declared w ⊎ ((f : File) × Among s.files f × Among f.assigned w)
-      more (inl left) = absurd (no_left left)
-      more (inr some) = file_of (among_flat_map (description s) s.files w some)
-
-      by : Among s.declared w ⊎ Among (left_words s ++ flat_map (description s) s.files) w → Among s.declared w ⊎ ((f : File) × Among s.files f × Among f.assigned w)
-      by (inl declared) = inl declared
-      by (inr some) = more (among_append (left_words s) (flat_map (description s) s.files) w some)
-
-  declared_known : (w : List ℕ) → Among s.declared w → Among (known s) w
-  declared_known w m = with_words_old s.declared (left_words s ++ flat_map (description s) s.files) w m
-
-  assigned_known : (file : File) (w : List ℕ) → Among s.files file → Among file.assigned w → Among (known s) w
-  assigned_known file w in_files m = described_known s file w in_files (described_has s.declared s.axioms no_tests no_axioms file w m)
-
--- ---- what is kept
-module _ (k : Kept) (slot : ℕ) (rec : FileRecord) (d : Dict) (sound : IsSound k) (there : rec_at k.catalog slot ≡ Some rec) (words_left : WordsForgotten k.declared (without_slot k.catalog slot) rec.tags k.dict d) where
-  abbrev pub left : Kept
-  left = record k { dict = d; catalog = without_slot k.catalog slot; taken = given k.taken rec.blocks }
-
-  -- a file that is left keeps its words
-  tag_stays : (f : Filed) → Among (without_slot k.catalog slot).entries f → (n : ℕ) → Among f.rec.tags n → word_of d n ≡ word_of k.dict n
-  tag_stays f m n tag =
-      word_stays k.declared (without_slot k.catalog slot) rec.tags k.dict d words_left n
-      (tagged_stays k.declared (without_slot k.catalog slot) rec.tags k.dict d words_left f n m tag)
-
-  record_stays : (f : Filed) → Among (without_slot k.catalog slot).entries f → is_sound_record d k.limits.blocks f.rec ≡ true
-  record_stays f m =
-      let was = all_among (λ (g : Filed). is_sound_record k.dict k.limits.blocks g.rec) k.catalog.entries f sound.records (left_among k.catalog slot rec sound.catalog there f m).0 in
-      let parts = and_parts (is_record f.rec && list_all (λ n. is_some (word_of k.dict n)) f.rec.tags) (list_all (λ n. nat_lt n k.limits.blocks) f.rec.blocks) was in
-      let first = and_parts (is_record f.rec) (list_all (λ n. is_some (word_of k.dict n)) f.rec.tags) parts.0 in
-      and_from (is_record f.rec && list_all (λ n. is_some (word_of d n)) f.rec.tags) (list_all (λ n. nat_lt n k.limits.blocks) f.rec.blocks)
-      (and_from (is_record f.rec) (list_all (λ n. is_some (word_of d n)) f.rec.tags) first.0
-      (all_weaker (λ n. is_some (word_of k.dict n)) (λ n. is_some (word_of d n)) f.rec.tags (λ n tag has. ap (λ (o : Option (List ℕ)). is_some o) (tag_stays f m n tag) ∙ has) first.1)) parts.1
-
-  pub left_sound : (journal : Held) → journal.blocks ≡ image_blocks k.limits → (journal.is_broken ≡ false → IsIdle journal) → IsSound (record left { journal = journal })
-  left_sound journal image quiet = record {
-    range = sound.range;
-    version = sound.version;
-    image = image;
-    quiet = quiet;
-    numbers = words_left.props ∙ sound.numbers;
-    dict = words_left.dict;
-    bits = sound.bits;
-    properties = forms_stay k.declared (without_slot k.catalog slot) rec.tags k.dict d words_left sound.properties;
-    slots = sound.slots;
-    catalog = catalog_without k.catalog slot sound.catalog;
-    records = all_from (λ (f : Filed). is_sound_record d k.limits.blocks f.rec) (without_slot k.catalog slot).entries record_stays;
-    apart = distinct_filter (λ (f : Filed). not (f.slot == slot)) k.catalog.entries sound.apart;
-    blocks = length-given k.taken rec.blocks ∙ sound.blocks;
-    taken = λ n lt.
-        given_taken k.taken rec.blocks n
-        ∙ (ap (λ t. t && not (has_number rec.blocks n)) (sound.taken n lt) ∙ used_without k.catalog slot rec sound.catalog there sound.apart n);
-  }
-
--- ---- the state without the file
-module _ (k : Kept) (slot : ℕ) (rec : FileRecord) (d : Dict) (at : ℕ → List ℕ) (s : State) (name : List ℕ) (tells : Tells k at s) (named : slot_of k.catalog name ≡ Some slot) (there : rec_at k.catalog slot ≡ Some rec) (words_left : WordsForgotten k.declared (without_slot k.catalog slot) rec.tags k.dict d) where
-  abbrev c : Catalog
-  c = without_slot k.catalog slot
-
-  abbrev t : State
-  t = file_removed s name
-
-  formed : WellFormed t
-  formed = removes_file s tells.formed name
-
-  no_tests : has_no_tests s.declared ≡ true
-  no_tests = no_tests_told k at s tells
-
-  -- the file in the slot is that of the name
-  same_file : (f : Filed) → Among k.catalog.entries f → not (same_word f.rec.name name) ≡ not (f.slot == slot)
-  same_file f m = ap not (same_tests (same_word f.rec.name name) (f.slot == slot) to from)
+  used_back : (n : ℕ) → is_used p n ≡ true → has_number numbers n ≡ false → is_used mid n ≡ true
+  used_back n used none = by (or_cases (is_taken p.declared n || is_had p.ext n) (is_named_left p n) used)
     where
-      to : same_word f.rec.name name ≡ true → (f.slot == slot) ≡ true
-      to same =
-          let some : ◌≡◌ {A = Option ℕ} (Some f.slot) (Some slot) = sym (filed_slot k.catalog tells.sound.catalog f m) ∙ (ap (slot_of k.catalog) ((same_word_decides f.rec.name name).0 same) ∙ named) in
-          eq-eqb f.slot slot cc
+      had : list_any (λ ns. has_number ns n) p.ext.sets ≡ true → is_used mid n ≡ true
+      had h =
+          let found = among_from_any (λ ns. has_number ns n) p.ext.sets h in
+          let place = contains_from_among p.ext.sets found.0 found.1 in
+          let set_in : numbers_at p.ext place.0 ≡ found.0 = get_or_default p.ext.sets place.0 [] found.0 place.1 ∙ place.2 in
+          let has_it : has p.ext n place.0 ≡ true = ap (λ ns. has_number ns n) set_in ∙ found.2 in
+          used_had n place.0 (had_stays n place.0 (λ same. both_ways (has p.ext n place.0) (ap (λ at. has p.ext n at) same ∙ none) has_it) has_it)
 
-      from : (f.slot == slot) ≡ true → same_word f.rec.name name ≡ true
-      from same =
-          let is : f.rec ≡ rec = file_in_slot k.catalog slot rec tells.sound.catalog there f m (eqb-true f.slot slot same) in
-          (same_word_decides f.rec.name name).1 (ap (λ (r : FileRecord). r.name) is ∙ (filed_named k.catalog tells.sound.catalog name slot rec named there).1)
+      first : (is_taken p.declared n ≡ true) ⊎ (is_had p.ext n ≡ true) → is_used mid n ≡ true
+      first (inl bit) = or_left (is_taken p.declared n || is_had mid.ext n) (is_named_left mid n) (or_left (is_taken p.declared n) (is_had mid.ext n) bit)
+      first (inr h) = had h
 
-  left_files : map (file_told k.limits k.dict at) c.entries ≡ t.files
-  left_files =
-      ap (map (file_told k.limits k.dict at)) (sym (filter_same (λ (f : Filed). not (same_word f.rec.name name)) (λ (f : Filed). not (f.slot == slot)) k.catalog.entries same_file))
-      ∙ (sym (filter-map (λ (file : File). not (same_word file.name name)) (file_told k.limits k.dict at) k.catalog.entries)
-      ∙ ap (filter (λ (file : File). not (same_word file.name name))) tells.files)
+      by : ((is_taken p.declared n || is_had p.ext n) ≡ true) ⊎ (is_named_left p n ≡ true) → is_used mid n ≡ true
+      by (inl either) = first (or_cases (is_taken p.declared n) (is_had p.ext n) either)
+      by (inr left) = or_right (is_taken p.declared n || is_had mid.ext n) (is_named_left mid n) left
 
-  among_told : (f : Filed) → Among c.entries f → Among t.files (file_told k.limits k.dict at f)
-  among_told f m = subst (λ (files : List File). Among files (file_told k.limits k.dict at f)) left_files (map_among (file_told k.limits k.dict at) c.entries f m)
-
-  declared_number : (w : List ℕ) → Among s.declared w → (n : ℕ) × (word_of k.dict n ≡ Some w) × (is_taken k.declared n ≡ true)
-  declared_number w m = by (number_of k.dict w) refl (tells.declared w ∙ has_word_from_among s.declared w m)
+  used_then : AreUsed p → AreUsed q
+  used_then used n some = out.forgets.used n some ∙ (ap (λ (k : Kept). is_used k n) mid_is ∙ on (has_number numbers n) refl)
     where
-      by : (o : Option ℕ) → number_of k.dict w ≡ o → bit_of k.declared o ≡ true → (n : ℕ) × (word_of k.dict n ≡ Some w) × (is_taken k.declared n ≡ true)
-      by None none bit = absurd cc
-      by (Some n) is bit = (n, word_from_number k.dict tells.sound.dict w n is, bit)
+      still : (b : Bool) → is_used mid n ≡ b → has_number numbers n ≡ true → is_used mid n ≡ true
+      still true e h = e
+      still false e h =
+          let none : is_some (word_of q.dict n) ≡ false = ap is_some (words_then n ∙ ap₂ (λ a b. if a && not b then None else word_of p.dict n) h e) in
+          absurd (both_ways (is_some (word_of q.dict n)) none some)
 
-  -- ---- the words that are left are the known ones
-  number_declared : (w : List ℕ) (n : ℕ) → word_of k.dict n ≡ Some w → is_taken k.declared n ≡ true → Among s.declared w
-  number_declared w n is bit =
-      among_from_has_word s.declared w (sym (tells.declared w) ∙ (ap (bit_of k.declared) (number_from_word k.dict tells.sound.dict w n is) ∙ bit))
+      on : (b : Bool) → has_number numbers n ≡ b → is_used mid n ≡ true
+      on true h = still (is_used mid n) refl h
+      on false h = used_back n (used n (sym (ap is_some (words_then n ∙ ap (λ b. if b && not (is_used mid n) then None else word_of p.dict n) h)) ∙ some)) h
 
-  tagged_known : (w : List ℕ) (n : ℕ) → word_of k.dict n ≡ Some w → (f : Filed) → Among c.entries f → Among f.rec.tags n → Among (known t) w
-  tagged_known w n is f m tag = assigned_known t formed tells.no_axioms no_tests (file_told k.limits k.dict at f) w (among_told f m) (number_told k.dict f.rec.tags w n tag is)
+  -- ---- files
+  file_then : (at : ℕ → List ℕ) (f : Filed) → Among end.catalog.entries f → file_told p.limits q.dict at f ≡ file_told p.limits p.dict at f
+  file_then at f m =
+      let states : state_of end at ≡ state_of mid at = ap (λ (k : Kept). state_of k at) (sym end_is) ∙ (out.forgets.state at ∙ ap (λ (k : Kept). state_of k at) mid_is) in
+      same_map (file_told p.limits q.dict at) (file_told p.limits p.dict at) end.catalog.entries (ap (λ (s : State). s.files) states) f m
 
-  -- a word of the file that is taken away, where it is not forgotten
-  still_known : (w : List ℕ) (n : ℕ) → word_of k.dict n ≡ Some w → Among rec.tags n → is_unused k.declared c rec.tags n ≡ false → Among (known t) w
-  still_known w n is tag used = by (is_taken k.declared n) (is_tagged c n) refl refl
+  left : (f : Filed) → Contains end.catalog.entries f → Among p.catalog.entries f × (f.slot ≡ slot → ⊥)
+  left f m =
+      let kept = among_filter (λ (g : Filed). not (g.slot == slot)) p.catalog.entries f (among_from_contains end.catalog.entries f m) in
+      (kept.0, λ same. both_ways (not (f.slot == slot)) (ap not (eq-eqb f.slot slot same)) kept.1)
+
+  stays_filed : (f : Filed) → Among p.catalog.entries f → (f.slot ≡ slot → ⊥) → Contains end.catalog.entries f
+  stays_filed f m differ =
+      contains_from_among end.catalog.entries f
+      (filter_among (λ (g : Filed). not (g.slot == slot)) p.catalog.entries f m (not_from_false (f.slot == slot) (ne_eqb f.slot slot differ)))
+
+  rec_before : (at : ℕ) (r : FileRecord) → rec_at end.catalog at ≡ Some r → (at ≡ slot → ⊥) × (rec_at p.catalog at ≡ Some r)
+  rec_before at r is = by (cases_eq at slot) (sym (rec_at-without_slot p.catalog slot at) ∙ is)
     where
-      by : (a b : Bool) → is_taken k.declared n ≡ a → is_tagged c n ≡ b → Among (known t) w
-      by true b bit tagged = declared_known t formed tells.no_axioms no_tests w (number_declared w n is bit)
-      by false true bit tagged =
-          let f = among_from_any (λ (g : Filed). has_number g.rec.tags n) c.entries tagged in
-          tagged_known w n is f.0 f.1 (among_from_number f.0.rec.tags n f.2)
-      by false false bit tagged =
-          let has = number_from_among rec.tags n tag in
-          absurd (both_ways (is_unused k.declared c rec.tags n) used (and_from (has_number rec.tags n && not (is_taken k.declared n)) (not (is_tagged c n)) (and_from (has_number rec.tags n) (not (is_taken k.declared n)) has (not_from_false _ bit)) (not_from_false _ tagged)))
+      by : (at ≡ slot) ⊎ (at ≡ slot → ⊥) → (if at == slot then None else rec_at p.catalog at) ≡ Some r → (at ≡ slot → ⊥) × (rec_at p.catalog at ≡ Some r)
+      by (inl same) e = let none : ◌≡◌ {A = Option FileRecord} None (Some r) = sym (ap (λ b. if b then None else rec_at p.catalog at) (eq-eqb at slot same)) ∙ e in absurd cc
+      by (inr differ) e = (differ, sym (ap (λ b. if b then None else rec_at p.catalog at) (ne_eqb at slot differ)) ∙ e)
 
-  from_file : (w : List ℕ) (n : ℕ) → word_of k.dict n ≡ Some w → is_unused k.declared c rec.tags n ≡ false → (f : Filed) → Among k.catalog.entries f → Among f.rec.tags n → Among (known t) w
-  from_file w n is used f m tag = by (cases_eq f.slot slot)
+  -- ---- the store is in form again
+  link_back : AreSound end → (a b : ℕ) → is_linked end a b ≡ true → is_linked p a b ≡ true
+  link_back after a b linked = by (or_cases _ (has_pair p.axioms a b) (subst (λ t. (t || has_pair p.axioms a b) ≡ true) (own_link_is end after.dict a b) linked))
     where
-      by : (f.slot ≡ slot) ⊎ (f.slot ≡ slot → ⊥) → Among (known t) w
-      by (inl same) = still_known w n is (subst (λ (r : FileRecord). Among r.tags n) (file_in_slot k.catalog slot rec tells.sound.catalog there f m same) tag) used
-      by (inr differ) = tagged_known w n is f (among_left_files k.catalog slot rec tells.sound.catalog there f m differ) tag
+      heads_back : (x y : Option (List ℕ)) → word_of q.dict a ≡ x → word_of q.dict b ≡ y → is_head_by x y ≡ true → is_head_by (word_of p.dict a) (word_of p.dict b) ≡ true
+      heads_back None y is_x is_y h = absurd cc
+      heads_back (Some w) None is_x is_y h = absurd cc
+      heads_back (Some w) (Some v) is_x is_y h = ap₂ is_head_by (word_before a w is_x) (word_before b v is_y) ∙ h
 
-  known_after : (w : List ℕ) → Among (words d) w → Among (known t) w
-  known_after w m =
-      let n = word_numbered d words_left.dict w m in
-      let was = word_was k.declared c rec.tags k.dict d words_left n.0 w n.1 in
-      by n.0 was.0 was.1 (known_by s tells.formed tells.no_axioms no_tests w (subst (λ (ws : List (List ℕ)). Among ws w) tells.words (numbered_word k.dict w n.0 was.0)))
-    where
-      same_number : (n i : ℕ) → word_of k.dict n ≡ Some w → word_of k.dict i ≡ Some w → i ≡ n
-      same_number n i is also =
-          let some : ◌≡◌ {A = Option ℕ} (Some i) (Some n) = sym (number_from_word k.dict tells.sound.dict w i also) ∙ number_from_word k.dict tells.sound.dict w n is in
-          cc
+      by : (is_head_by (word_of q.dict a) (word_of q.dict b) ≡ true) ⊎ (has_pair p.axioms a b ≡ true) → is_linked p a b ≡ true
+      by (inl head) =
+          subst (λ t. (t || has_pair p.axioms a b) ≡ true) (sym (own_link_is p sound.dict a b))
+          (or_left (is_head_by (word_of p.dict a) (word_of p.dict b)) (has_pair p.axioms a b) (heads_back (word_of q.dict a) (word_of q.dict b) refl refl head))
+      by (inr pair) = or_right _ (has_pair p.axioms a b) pair
 
-      of_file : (n : ℕ) → word_of k.dict n ≡ Some w → is_unused k.declared c rec.tags n ≡ false → (file : File) → Among s.files file → Among file.assigned w → Among (known t) w
-      of_file n is used file in_files given =
-          let f = among_map (file_told k.limits k.dict at) k.catalog.entries file (subst (λ (files : List File). Among files file) (sym tells.files) in_files) in
-          let tag = told_number k.dict f.0.rec.tags w (subst (λ (g : File). Among g.assigned w) (sym f.2) given) in
-          from_file w n is used f.0 f.1 (subst (λ (i : ℕ). Among f.0.rec.tags i) (same_number n tag.0 is tag.2) tag.1)
+  module _ (j : Held) (b : Bool) (whole : b ≡ false) (was : IsSound (record { parts = p; journal = j; is_broken = b })) (after : AreSound q) where
+    sound_end : AreSound end
+    sound_end = subst (λ (k : Kept). AreSound k) end_is after
 
-      by : (n : ℕ) → word_of k.dict n ≡ Some w → is_unused k.declared c rec.tags n ≡ false → Among s.declared w ⊎ ((file : File) × Among s.files file × Among file.assigned w) → Among (known t) w
-      by n is used (inl declared) = declared_known t formed tells.no_axioms no_tests w declared
-      by n is used (inr file) = of_file n is used file.0 file.1 file.2
+    free_then : FreeSlotsAreEmpty end
+    free_then at none n = by (cases_eq at slot)
+      where
+        by : (at ≡ slot) ⊎ (at ≡ slot → ⊥) → has mid.ext n at ≡ false
+        by (inl same) = ap (λ ns. has_number ns n) (ap (numbers_at mid.ext) same ∙ set_here)
+        by (inr differ) =
+            ap (λ ns. has_number ns n) (set_other at differ)
+            ∙ was.free at (sym (rec_at-without_slot p.catalog slot at ∙ ap (λ c. if c then None else rec_at p.catalog at) (ne_eqb at slot differ)) ∙ none) n
 
-  known_before : (w : List ℕ) → Among (known t) w → Among (words d) w
-  known_before w m = by (known_by t formed tells.no_axioms no_tests w m)
-    where
-      of_file : (file : File) → Among t.files file → Among file.assigned w → Among (words d) w
-      of_file file in_files given =
-          let f = among_map (file_told k.limits k.dict at) c.entries file (subst (λ (files : List File). Among files file) (sym left_files) in_files) in
-          let tag = told_number k.dict f.0.rec.tags w (subst (λ (g : File). Among g.assigned w) (sym f.2) given) in
-          numbered_word d w tag.0 (tag_stays k slot rec d tells.sound there words_left f.0 f.1 tag.0 tag.1 ∙ tag.2)
+    closed_then : AreClosed end
+    closed_then at a c h linked = let before = had_before a at h in had_stays c at before.0 (was.closed at a c before.1 (link_back sound_end a c linked))
 
-      by : Among s.declared w ⊎ ((file : File) × Among t.files file × Among file.assigned w) → Among (words d) w
-      by (inl declared) =
-          let n = declared_number w declared in
-          numbered_word d w n.0 (word_stays k.declared c rec.tags k.dict d words_left n.0 (declared_stays k.declared c rec.tags k.dict d words_left n.0 n.2) ∙ n.1)
-      by (inr file) = of_file file.0 file.1 file.2
+    short_then : DescriptionsAreShort end
+    short_then at = by (cases_eq at slot)
+      where
+        by : (at ≡ slot) ⊎ (at ≡ slot → ⊥) → length (numbers_at mid.ext at) ≤ 128
+        by (inl same) = omega (arith, ap length (ap (numbers_at mid.ext) same ∙ set_here))
+        by (inr differ) = omega (arith, ap length (set_other at differ), was.short at)
 
-  words_are : words d ≡ known t
-  words_are =
-      same_words (words d) (known t) (sorted_from_rising word_cmp word_order (words d) words_left.dict.rising) (sorted_known t formed.declared_set)
-      known_after known_before
+    taken_then : BlocksAreTaken end
+    taken_then at r is =
+        let before = rec_before at r is in
+        stay_given p.taken rec.blocks r.blocks (was.taken at r before.1)
+        (all_from (λ n. not (has_number r.blocks n)) rec.blocks (λ n m. not_from_false (has_number r.blocks n) (false_from_ne_true (has_number r.blocks n) (λ has_it.
+        before.0 (was.apart at slot r rec n before.1 there has_it (number_from_among rec.blocks n m))))))
 
-  -- ---- and so are the files
-  module _ (there_at : ℕ → List ℕ) (same_data : (n : ℕ) → data_start k.limits ≤ n → there_at n ≡ at n) where
-    told_as_before : (f : Filed) → Among c.entries f → file_told k.limits d there_at f ≡ file_told k.limits k.dict at f
-    told_as_before f m =
-        let with_parts : List ℕ → List (List ℕ) → File = λ bytes assigned. record { name = f.rec.name; bytes = bytes; assigned = assigned } in
-        ap₂ with_parts
-        (ap (take f.rec.size) (flat_map_same (λ b. there_at (data_start k.limits + b)) (λ b. at (data_start k.limits + b)) f.rec.blocks (λ b _. same_data (data_start k.limits + b) (omega arith))))
-        (ap (λ ws. set_of ws) (flat_map_same (λ n. option_to_list (word_of d n)) (λ n. option_to_list (word_of k.dict n)) f.rec.tags (λ n tag. ap (λ (o : Option (List ℕ)). option_to_list o) (tag_stays k slot rec d tells.sound there words_left f m n tag))))
+    apart_then : BlocksAreApart end
+    apart_then at other r more n is_r is_more has_r has_more = was.apart at other r more n (rec_before at r is_r).1 (rec_before other more is_more).1 has_r has_more
 
-    pub left_tells : IsSpelled (left k slot rec d tells.sound there words_left) there_at → Tells (left k slot rec d tells.sound there words_left) there_at t
-    left_tells spelled = record {
-      limits = tells.limits;
-      sound = left_sound k slot rec d tells.sound there words_left k.journal tells.sound.image tells.sound.quiet;
-      unbroken = tells.unbroken;
-      spelled = spelled;
-      formed = formed;
-      no_axioms = tells.no_axioms;
-      words = words_are;
-      declared = λ w. bits_stay k.declared c rec.tags k.dict d words_left tells.sound.dict w ∙ tells.declared w;
-      files = map_same (file_told k.limits d there_at) (file_told k.limits k.dict at) c.entries told_as_before ∙ left_files;
+    in_use_then : KeepsInUse end
+    in_use_then = record {
+      used = subst (λ (k : Kept). AreUsed k) end_is (used_then was.in_use.used);
+      tags = λ at r is n tag. let before = rec_before at r is in had_stays n at before.0 (was.in_use.tags at r before.1 n tag);
+      rights = was.in_use.rights;
     }
+
+    pub sound_removed : IsSound (settled q j)
+    sound_removed = subst (λ (k : Kept). IsSound (settled k j)) (sym end_is) (record {
+      parts = sound_clean end sound_end;
+      range = was.range;
+      free = free_then;
+      pairs = was.pairs;
+      closed = closed_then;
+      short = short_then;
+      taken = taken_then;
+      apart = apart_then;
+      in_use = in_use_clean end in_use_then;
+      image = was.image;
+      journal = λ _. was.journal whole;
+      staged = λ _. refl;
+      placed = λ _. was.placed whole;
+      clean = λ _. clean_is end;
+    })
+
+  -- ---- the state that it tells
+  module _ (at : ℕ → List ℕ) (s : State) (tells : Tells p at s) (name : List ℕ) (named : slot_of p.catalog name ≡ Some slot) where
+    abbrev t : State
+    t = file_removed s name
+
+    state_then : state_of q at ≡ t
+    state_then =
+        out.forgets.state at
+        ∙ (ap (λ (k : Kept). state_of k at) out.empties.parts
+        ∙ (out.drops.state at
+        ∙ (ap (λ (nm : List ℕ). file_removed (state_of p at) nm) (filed_named p sound name slot rec named there).1
+        ∙ ap (λ (x : State). file_removed x name) tells.state)))
+
+    abbrev dropped_file : Filed
+    dropped_file = record { slot = slot; rec = rec }
+
+    there_dropped : Contains p.catalog.entries dropped_file
+    there_dropped = contains_from_among p.catalog.entries dropped_file (filed_at_slot p.catalog sound.catalog slot rec there)
+
+    taken_told : (n : ℕ) → n < p.limits.blocks → is_taken end.taken n ≡ true → IsFileBlock end at n
+    taken_told n lt is =
+        let both = and_parts (is_taken p.taken n) (not (has_number rec.blocks n)) (sym (given_taken p.taken rec.blocks n) ∙ is) in
+        let b = tells.taken n lt both.0 in
+        let m = among_from_contains p.catalog.entries b.file b.kept in
+        let differ : b.file.slot ≡ slot → ⊥ = λ same.
+        let recs : b.file.rec ≡ rec = same_Some b.file.rec rec (sym (filed_rec p.catalog sound.catalog b.file m) ∙ (ap (rec_at p.catalog) same ∙ there)) in
+        both_ways (not (has_number rec.blocks n)) (ap not (ap (λ (r : FileRecord). has_number r.blocks n) (sym recs) ∙ b.has)) both.1 in
+        record { file = b.file; kept = stays_filed b.file m differ; has = b.has }
+
+    tells_end : Tells end at t
+    tells_end = record {
+      super = tells.super;
+      state = ap (λ (k : Kept). state_of k at) (sym end_is) ∙ state_then;
+      formed = forms.removes_file s tells.formed name;
+      used = subst (λ (k : Kept). AreUsed k) end_is (used_then tells.used);
+      described = λ f m.
+          let of_p = left f m in
+          let ns = numbers_at p.ext f.slot in
+          ap (words_told q.dict) (set_other f.slot of_p.1)
+          ∙ (words_same p.dict q.dict ns (λ n of. used_stays n (used_had n f.slot (had_stays n f.slot of_p.1 (number_from_among ns n of))))
+          ∙ (tells.described f (contains_from_among p.catalog.entries f of_p.0)
+          ∙ ap (description s) (sym (file_then at f (among_from_contains end.catalog.entries f m)))));
+      taken = taken_told;
+      given = λ f m n has_it.
+          let of_p = left f m in
+          let there_f = contains_from_among p.catalog.entries f of_p.0 in
+          let g = tells.given f there_f n has_it in
+          let free = false_from_ne_true (has_number rec.blocks n) (λ also.
+          of_p.1 (ap (λ (x : Filed). x.slot) (tells.one_use f dropped_file there_f there_dropped n has_it also))) in
+          (g.0, given_taken p.taken rec.blocks n ∙ and_from (is_taken p.taken n) (not (has_number rec.blocks n)) g.1 (not_from_false (has_number rec.blocks n) free));
+      one_use = λ f g mf mg n has_f has_g.
+          tells.one_use f g (contains_from_among p.catalog.entries f (left f mf).0) (contains_from_among p.catalog.entries g (left g mg).0) n has_f has_g;
+    }
+
+    pub ready_removed : IsSaved p at → IsReady q at t
+    ready_removed saved = record {
+      tells = subst (λ (k : Kept). Tells k at t) (sym end_is) tells_end;
+      saved = out.forgets.marks.saved at ((out.empties.marks numbers (ap (λ (k : Kept). numbers_at k.ext slot) (sym out.drops.parts))).saved at (out.drops.marks.saved at saved));
+    }
+
+  -- ---- how much is marked, and how often rows are edited
+  abbrev gone : List ℕ
+  gone = numbers_where p.ext.props (differs numbers [])
+
+  gone_is : gone ≡ numbers
+  gone_is =
+      numbers_same p.ext.props (differs numbers []) (λ n. number_in numbers n) (λ n lt. only (number_in numbers n))
+      ∙ numbers_of p.ext.props numbers out.rising (λ n m. each_below p.ext.props numbers out.below n m)
+    where
+      only : (b : Bool) → ((false && not b) || (b && not false)) ≡ b
+      only true = refl
+      only false = refl
+
+  ext_dropped : numbers ≡ numbers_at out.dropped.ext slot
+  ext_dropped = ap (λ (k : Kept). numbers_at k.ext slot) (sym out.drops.parts)
+
+  props_dropped : out.dropped.ext.props ≡ p.ext.props
+  props_dropped = ap (λ (k : Kept). k.ext.props) out.drops.parts
+
+  pub few_marked : length numbers ≤ 128 → marked_count p ≡ 0 → marked_count q ≤ 300
+  few_marked short none =
+      let one = out.drops.marks.few in
+      let two = subst (λ (n : ℕ). marked_count out.emptied ≤ marked_count out.dropped + length (numbers_where n (differs numbers []))) props_dropped (out.empties.marks numbers ext_dropped).few in
+      let three = out.forgets.marks.few in
+      omega (arith, one, two, three, ap length gone_is, short, none)
+
+  pub few_edits : q.ext.edits ≤ p.ext.edits + differing_bits p.ext q.ext
+  few_edits =
+      let made = subst (λ (k : Kept). out.emptied.ext.edits ≤ k.ext.edits + length (numbers_where k.ext.props (differs numbers []))) out.drops.parts (out.empties.edits numbers ext_dropped) in
+      let slot_in : slot < length p.ext.sets = omega (arith, file_slot_below p sound slot rec there, sound.files) in
+      let f : ℕ → ℕ = λ at. length (numbers_where p.ext.props (differs (numbers_at p.ext at) (numbers_at q.ext at))) in
+      let one = sum_has f (range_with_len 0 (length p.ext.sets)) slot (range_among 0 (length p.ext.sets) slot (omega arith) (omega (arith, slot_in))) in
+      let ext_is : q.ext ≡ out.emptied.ext = ap (λ (k : Kept). k.ext) end_is in
+      let here : numbers_at q.ext slot ≡ [] = ap (λ (e : Ext). numbers_at e slot) ext_is ∙ set_here in
+      let bits : f slot ≡ length gone = ap (λ ns. length (numbers_where p.ext.props (differs numbers ns))) here in
+      omega (arith, made, one, bits, ap (λ (e : Ext). e.edits) ext_is)
+
+-- ---- a call that takes a file away
+here_told : (k : Stored) (m : Meaning) (s : State) → IsSound k → StoreFits k m s → (place : List Formula) (name : List ℕ) → is_here (record { state = s; place = place }) name ≡ is_among k.parts place name
+here_told k m s sound fits place name =
+    ap (λ (t : Table). list_any (λ (file : Entry). same_word file.name name) (extension t place)) (sym (table_told k m s sound fits))
+
+-- one that is refused
+pub removed_refused : {T : Type 0} (old : Stored) (m : Meaning) (place : List Formula) (name : List ℕ) (result : Result T Change) → IsSound old → is_among old.parts place name ≡ false
+    → result ≡ Err (Refused NoFileHere) → (s : State) → StoreFits old m s → Changes (record { state = s; place = place }) (rm (record { state = s; place = place }) name) old m m result
+removed_refused old m place name result sound none ends s fits =
+    let now : Situation = record { state = s; place = place } in
+    change_refused old m now (rm now name) NoFileHere result fits
+    (ap (λ b. cond (not b) (refused now NoFileHere) (changed now (file_removed s name))) (here_told old m s sound fits place name ∙ none)) ends
+
+module _ (old : Stored) (q : Kept) (slot : ℕ) (place : List Formula) (name : List ℕ) (out : TakesOut slot old.parts q) (sound : IsSound old) (unbroken : old.is_broken ≡ false)
+    (here : is_among old.parts place name ≡ true) (named : slot_of old.parts.catalog name ≡ Some slot) where
+  pub removed_sound : AreSound q → IsSound (settled q old.journal)
+  removed_sound = sound_removed slot old.parts q out sound.parts old.journal old.is_broken unbroken sound
+
+  pub removed_marks : length old.journal.staged + marked_count q ≤ 575
+  removed_marks =
+      let few = few_marked slot old.parts q out sound.parts (sound.short slot) (none_marked old.parts (sound.clean unbroken)) in
+      omega (arith, few, ap length (sound.staged unbroken))
+
+  pub removed_changes : {T : Type 0} (new : Stored) (before after : Meaning) (result : Result T Change) → Saves q old.journal new before after result
+      → (s : State) → StoreFits old before s → Changes (record { state = s; place = place }) (rm (record { state = s; place = place }) name) new before after result
+  removed_changes new before after result saves s fits =
+      let now : Situation = record { state = s; place = place } in
+      let made : State = file_removed s name in
+      let ready : IsReady q fits.kept made = ready_removed slot old.parts q out sound.parts fits.kept s fits.tells name named (λ area n lt unmarked. fits.written area n lt) in
+      saves old now (rm now name) made fits sound refl refl refl (ap (λ (k : Kept). k.limits) (end_is slot old.parts q out sound.parts))
+      (λ _. subst (λ (es : List Staged). IsReady q (looked es fits.kept) made) (sym (sound.staged unbroken)) ready)
+      (ap (λ b. cond (not b) (refused now NoFileHere) (changed now made)) (here_told old before s sound fits place name ∙ here))

@@ -1,41 +1,38 @@
 -- How a call that changes a store ends.
-use Rattle.std.specs.Prelude.{◌≡◌, ◌⊎◌, ℕ, Bool, true, false, not, if◌then◌else◌, Option, Some, None, Result, Ok, Err, List, [], ◌∷◌}
+use Rattle.std.specs.Prelude.{◌≡◌, ◌⊎◌, ℕ, ◌+◌, ◌≤◌, Bool, true, false, if◌then◌else◌, Option, Some, None, Result, Ok, Err, List, [], ◌∷◌, length, map, sum, MatchResult}
+use Rattle.std.specs.List.{range_with_len}
 use Rattle.lis_ports.specs.Meaning.{Meaning}
 use Rattle.lis_ports.specs.Runs.{Leaves}
 use Rattle.lis_ports.specs.Calls.{Rose}
 use Rattle.lis_journal.specs.Images.{KeepsPast}
-use Rattle.lis_grammar.specs.Formula.{Formula}
-use Rattle.lis_words.specs.Words.{is_valued, is_built_in}
+use Rattle.lis_ext.specs.Ext.{Ext, set_of}
+use Rattle.lis_ext.specs.Numbers.{differs, numbers_where}
 use Rattle.lis_model.specs.declared.refusal.Refusal.{Refusal}
-use Rattle.lis_model.specs.declared.refusal.Refusal.TheVariants.{BuiltIn, NotAssignable, AlreadyDeclared, NotAPlace}
 use Rattle.lis_model.specs.Image.{image_blocks}
-use Rattle.lis_model.specs.Places.{is_root}
 use Rattle.lis_model.specs.Replies.{ok_line}
 use Rattle.lis_model.specs.Step.{Situation, Outcome, refused}
 use Rattle.lis_store.specs.Stands.{Stands}
-use Rattle.lis_store.specs.Kept.{Kept, is_declared, StoreFits}
+use Rattle.lis_store.specs.Stored.{Stored, StoreFits}
 use Rattle.lis_store.specs.declared.change.Change.{Change}
-use Rattle.lis_store.specs.declared.change.Change.TheVariants.{Refused, Disk, NoMemory}
+use Rattle.lis_store.specs.declared.change.Change.TheVariants.{Refused, Disk}
 
 -- the first refusal of a row whose condition holds
 abbrev pub first_refusal : List (Bool × Refusal) → Option Refusal
 first_refusal [] = None
 first_refusal (check ∷ checks) = if check.0 then Some check.1 else first_refusal checks
 
--- what refuses a new word before room is looked for
-abbrev pub word_checks : Kept → List Formula → List ℕ → List (Bool × Refusal)
-word_checks k place word =
-    (is_built_in word, BuiltIn) ∷ (is_valued word, NotAssignable) ∷ (is_declared k word, AlreadyDeclared) ∷ (not (is_root place), NotAPlace) ∷ []
+-- a judgement that answers the first refusal of a row, or that none holds
+abbrev pub Judges : {T : Type 0} → List (Bool × Refusal) → Result T Refusal → Type 0
+Judges checks result = MatchResult result (λ _. first_refusal checks ≡ None) (λ refusal. first_refusal checks ≡ Some refusal)
 
--- At an answer that is no fault of the disk the store fits it: at the new state, or with a refusal or for want of memory at the old one.
-abbrev pub ChangeEnded : {T : Type 0} → Situation → Outcome → Kept → Meaning → Result T Change → Type 0
+-- At an answer that is no fault of the disk the store fits it: at the new state, or with a refusal at the old one.
+abbrev pub ChangeEnded : {T : Type 0} → Situation → Outcome → Stored → Meaning → Result T Change → Type 0
 ChangeEnded now outcome new m (Ok done) = (outcome.reply ≡ ok_line) × StoreFits new m outcome.next.state
 ChangeEnded now outcome new m (Err (Refused refusal)) = (outcome ≡ refused now refusal) × StoreFits new m now.state
-ChangeEnded now outcome new m (Err Disk) = new.journal.is_broken ≡ true
-ChangeEnded now outcome new m (Err NoMemory) = StoreFits new m now.state
+ChangeEnded now outcome new m (Err Disk) = new.is_broken ≡ true
 
 -- At each moment in the call the image stands for the old state or for the new one, and blocks past the image stay.
-pub record Changes {T : Type 0} (now : Situation) (outcome : Outcome) (new : Kept) (before after : Meaning) (result : Result T Change) : Type 0 where
+pub record Changes {T : Type 0} (now : Situation) (outcome : Outcome) (new : Stored) (before after : Meaning) (result : Result T Change) : Type 0 where
   pub moments : Leaves before after (λ image. Stands image now.state ⊎ Stands image outcome.next.state)
   pub past : KeepsPast (image_blocks now.state.limits) before after
   pub ended : ChangeEnded now outcome new after result
@@ -45,11 +42,18 @@ abbrev pub HasChangeCause : {T : Type 0} → ℕ → ℕ → Result T Change →
 HasChangeCause before now (Ok done) = now ≡ before
 HasChangeCause before now (Err (Refused refusal)) = now ≡ before
 HasChangeCause before now (Err Disk) = Rose before now
-HasChangeCause before now (Err NoMemory) = now ≡ before
 
--- what an answer says of a store on any disk: a refusal and want of memory change nothing, and a fault of the disk breaks it
-abbrev pub ChangeLeft : {T : Type 0} → Kept → Kept → Result T Change → Type 0
-ChangeLeft old new (Ok done) = new.journal.is_broken ≡ false
+-- What an answer says of a store on any disk: a refusal changes nothing, and a fault of the disk breaks it.
+abbrev pub ChangeLeft : {T : Type 0} → Stored → Stored → Result T Change → Type 0
+ChangeLeft old new (Ok done) = new.is_broken ≡ false
 ChangeLeft old new (Err (Refused refusal)) = new ≡ old
-ChangeLeft old new (Err Disk) = new.journal.is_broken ≡ true
-ChangeLeft old new (Err NoMemory) = new ≡ old
+ChangeLeft old new (Err Disk) = new.is_broken ≡ true
+
+-- how many bits of the rows differ
+abbrev pub differing_bits : Ext → Ext → ℕ
+differing_bits old new =
+    sum (map (λ slot. length (numbers_where old.props (differs (set_of old slot) (set_of new slot)))) (range_with_len 0 (length old.sets)))
+
+-- Whatever the answer, the rows are edited at most as often as bits of them differ.
+abbrev pub EditsFew : Stored → Stored → Type 0
+EditsFew old new = new.parts.ext.edits ≤ old.parts.ext.edits + differing_bits old.parts.ext new.parts.ext

@@ -1,11 +1,9 @@
 pub mod Stands
-pub mod Kept
+pub mod Blank
+pub mod Stored
+pub mod Changes
 pub mod Seen
 pub mod Laws
-pub mod Blank
-pub mod Changes
-pub mod Inside
+pub mod Saving
+pub mod Judging
 pub mod Removing
-pub mod Staging
-pub mod Adding
-pub mod Admitting

@@ -1,41 +1,29 @@
--- What truth and listings see of a store.
-use Rattle.std.specs.Prelude.{ℕ, Bool, [], List, map, filter}
-use Rattle.std.specs.List.{flat_map, list_any}
-use Rattle.lis_dict.specs.Dict.{Dict, words}
-use Rattle.lis_catalog.specs.Catalog.{Catalog, Filed}
-use Rattle.lis_fields.specs.Records.{FileRecord}
-use Rattle.lis_words.specs.Words.{same_word}
-use Rattle.lis_grammar.specs.Formula.{Formula}
-use Rattle.lis_model.specs.declared.limits.Limits.{Limits}
-use Rattle.lis_model.specs.Sets.{set_of}
+-- What truth and listings see of a store: its words with their numbers, its files in their slots, told by the extension rows, and what words entail.
+use Rattle.std.specs.Prelude.{map}
+use Rattle.lis_dict.specs.Dict.{words}
+use Rattle.lis_catalog.specs.Catalog.{Filed}
+use Rattle.lis_ext.specs.Ext.{set_of}
 use Rattle.lis_model.specs.State.{up}
-use Rattle.lis_model.specs.Table.{Entry, Table}
-use Rattle.lis_model.specs.Listing.{holds_all}
-use Rattle.lis_store.specs.Kept.{Kept, words_told}
+use Rattle.lis_model.specs.Table.{Table}
+use Rattle.lis_eval.specs.View as view
+use Rattle.lis_kept.specs.Kept.{Kept}
+use Rattle.lis_kept.specs.Telling.{words_told, declared_of, axioms_of}
 
--- a file with its description: its words and all that they entail, where there are no axioms
-abbrev pub entry_by : Dict → FileRecord → Entry
-entry_by dict rec = record {
-  name = rec.name;
-  size = rec.size;
-  words = set_of (flat_map (up [] []) (words_told dict rec.tags));
+-- a file with its description, in its slot
+abbrev pub placed : Kept → Filed → view.Placed
+placed k f = record {
+  slot = f.slot;
+  entry = record { name = f.rec.name; size = f.rec.size; words = words_told k.dict (set_of k.ext f.slot) };
 }
 
-abbrev pub entries_told : Dict → Catalog → List Entry
-entries_told dict catalog = map (λ (f : Filed). entry_by dict f.rec) catalog.entries
-
-abbrev pub table_by : Limits → Dict → Catalog → Table
-table_by limits dict catalog = record {
-  limits = limits;
-  known = words dict;
-  files = entries_told dict catalog;
-  entailed = map (λ p. (p, up [] [] p)) (words dict);
+abbrev pub seen_of : Kept → view.Seen
+seen_of k = record {
+  limits = k.limits;
+  words = k.dict.entries;
+  files = map (placed k) k.catalog.entries;
+  entailed = map (λ p. (p, up (declared_of k) (axioms_of k) p)) (words k.dict);
 }
 
 -- the table of what is kept
 abbrev pub table_of : Kept → Table
-table_of k = table_by k.limits k.dict k.catalog
-
--- one of the files has this name, and the place holds of it
-abbrev pub is_among : List Entry → List Formula → List ℕ → Bool
-is_among files place name = list_any (λ (file : Entry). same_word file.name name) (filter (holds_all place) files)
+table_of k = view.table_of (seen_of k)

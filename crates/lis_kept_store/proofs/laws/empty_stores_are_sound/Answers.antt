@@ -1,5 +1,0 @@
-use Rattle.lis_kept_store.proofs.Empty.{empty_sound}
-use Rattle.lis_kept_store.proofs.laws.empty_stores_are_sound.Goals as goal
-
-pub returns : goal.returns
-returns c = empty_sound

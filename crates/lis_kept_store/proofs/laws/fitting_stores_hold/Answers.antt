@@ -1,5 +1,0 @@
-use Rattle.lis_kept_store.proofs.Facts.{sizes_told}
-use Rattle.lis_kept_store.proofs.laws.fitting_stores_hold.Goals as goal
-
-pub returns : goal.returns
-returns g c k s sound fits = sizes_told k (g.D.Disk.meaning c.args.disk.now) s sound fits

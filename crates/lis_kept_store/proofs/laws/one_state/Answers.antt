@@ -1,5 +1,0 @@
-use Rattle.lis_kept_store.proofs.OneState.{one_state}
-use Rattle.lis_kept_store.proofs.laws.one_state.Goals as goal
-
-pub returns : goal.returns
-returns c = one_state

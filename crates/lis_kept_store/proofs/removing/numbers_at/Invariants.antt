@@ -1,7 +1,0 @@
-use Rattle.std.proofs.Common.{◌≡◌}
-use Rattle.lis_kept_store.proofs.Had.{had_below}
-use Rattle.lis_kept_store.proofs.removing.numbers_at.Given as goal
-
--- the numbers so far that the set has
-abbrev pub invariant-loop-number : goal.invariant-loop-number
-invariant-loop-number l = l.numbers.items ≡ had_below l.ext l.slot l.number

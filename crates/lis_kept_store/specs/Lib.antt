@@ -1,9 +1,0 @@
-pub mod Stands
-pub mod Blank
-pub mod Stored
-pub mod Changes
-pub mod Seen
-pub mod Laws
-pub mod Saving
-pub mod Judging
-pub mod Removing

@@ -1,0 +1,42 @@
+-- What memory keeps without its marks.
+use Rattle.std.proofs.Common.{◌≡◌, Bool, false, cond, length, replicate, sym, ap, ◌∙◌, arith, count_by}
+use Rattle.std.proofs.lemmas.List.{length-replicate}
+use Rattle.std.proofs.lemmas.List.Folds.{sum_by-replicate}
+use Rattle.lis_kept.specs.Kept.{Kept}
+use Rattle.lis_kept.specs.Areas.{marked_count}
+use Rattle.lis_kept.specs.Sound.{AreSound}
+use Rattle.lis_kept.specs.Forgetting.{KeepsInUse}
+use Rattle.lis_store.specs.Saving.{clean}
+
+pub clean_is : (k : Kept) → (clean k).marks ≡ replicate (length (clean k).marks) false
+clean_is k = ap (λ n. replicate n false) (sym (length-replicate (length k.marks) false))
+
+pub sound_clean : (k : Kept) → AreSound k → AreSound (clean k)
+sound_clean k sound = record {
+  range = sound.range;
+  numbers = sound.numbers;
+  dict = sound.dict;
+  heads = sound.heads;
+  bits = sound.bits;
+  flagged = sound.flagged;
+  properties = sound.properties;
+  axiom_count = sound.axiom_count;
+  axioms = λ slot left right is. let one = sound.axioms slot left right is in record { below = one.below; left = one.left; right = one.right };
+  slots = sound.slots;
+  catalog = sound.catalog;
+  records = sound.records;
+  blocks = sound.blocks;
+  rows = sound.rows;
+  files = sound.files;
+  named = sound.named;
+  settled = sound.settled;
+  marks = omega (arith, sound.marks, length-replicate (length k.marks) false);
+}
+
+pub in_use_clean : (k : Kept) → KeepsInUse k → KeepsInUse (clean k)
+in_use_clean k keeps = record { used = keeps.used; tags = keeps.tags; rights = keeps.rights }
+
+-- where nothing is marked, no block is to be written
+pub none_marked : (k : Kept) → k.marks ≡ replicate (length k.marks) false → marked_count k ≡ 0
+none_marked k is =
+    ap (count_by (λ (b : Bool). b)) is ∙ (sum_by-replicate (λ (b : Bool). cond b 1 0) (length k.marks) false ∙ omega arith)

@@ -1,0 +1,44 @@
+-- Rows of refusals that are judged, and commands that are refused.
+use Rattle.std.proofs.Common.{◌≡◌, ◌⊎◌, refl, sym, ap, subst, Bool, true, false, cond, List, [], ◌∷◌, Option, Some, None, Result, Err}
+use Rattle.std.proofs.lemmas.Option.{same_Some}
+use Rattle.lis_ports.specs.Meaning.{Meaning}
+use Rattle.lis_ports.proofs.Moments.{leaves_none}
+use Rattle.lis_model.specs.declared.refusal.Refusal.{Refusal}
+use Rattle.lis_model.specs.Step.{Situation, Outcome, refused, judged}
+use Rattle.lis_store.specs.declared.change.Change.{Change}
+use Rattle.lis_store.specs.declared.change.Change.TheVariants.{Refused}
+use Rattle.lis_store.specs.Stands.{Stands}
+use Rattle.lis_store.specs.Stored.{Stored, StoreFits}
+use Rattle.lis_store.specs.Changes.{Changes, first_refusal}
+
+pub judged_refused : (now : Situation) (checks : List (Bool × Refusal)) (done : Outcome) (refusal : Refusal) → first_refusal checks ≡ Some refusal → judged now checks done ≡ refused now refusal
+judged_refused now [] done refusal first = absurd cc
+judged_refused now (check ∷ checks) done refusal first = by (judged_refused now checks done refusal) check.0 first
+  where
+    by : (first_refusal checks ≡ Some refusal → judged now checks done ≡ refused now refusal) → (b : Bool) → cond b (Some check.1) (first_refusal checks) ≡ Some refusal
+        → cond b (refused now check.1) (judged now checks done) ≡ refused now refusal
+    by rest true e = ap (refused now) (same_Some check.1 refusal e)
+    by rest false e = rest e
+
+pub judged_done : (now : Situation) (checks : List (Bool × Refusal)) (done : Outcome) → first_refusal checks ≡ None → judged now checks done ≡ done
+judged_done now [] done none = refl
+judged_done now (check ∷ checks) done none = by (judged_done now checks done) check.0 none
+  where
+    by : (first_refusal checks ≡ None → judged now checks done ≡ done) → (b : Bool) → cond b (Some check.1) (first_refusal checks) ≡ None → cond b (refused now check.1) (judged now checks done) ≡ done
+    by rest true e = absurd cc
+    by rest false e = rest e
+
+-- the first check of a row that refuses nothing
+pub passed : (b : Bool) (refusal : Refusal) (rest : Option Refusal) → cond b (Some refusal) rest ≡ None → (b ≡ false) × (rest ≡ None)
+passed true refusal rest none = absurd cc
+passed false refusal rest none = (refl, none)
+
+-- nothing was changed
+pub change_refused : {T : Type 0} (k : Stored) (m : Meaning) (now : Situation) (outcome : Outcome) (refusal : Refusal) (result : Result T Change) → StoreFits k m now.state
+    → outcome ≡ refused now refusal → result ≡ Err (Refused refusal) → Changes now outcome k m m result
+change_refused k m now outcome refusal result fits is ends =
+    subst (λ r. Changes now outcome k m m r) (sym ends) (record {
+      moments = leaves_none m (λ image. Stands image now.state ⊎ Stands image outcome.next.state);
+      past = λ n le. refl;
+      ended = (is, fits);
+    })

@@ -1,5 +1,0 @@
-use Rattle.lis_store.proofs.Standing.{change_stands}
-use Rattle.lis_store.proofs.changes_stand.Goals as goal
-
-pub returns : goal.returns
-returns c = change_stands

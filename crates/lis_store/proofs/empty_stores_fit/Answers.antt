@@ -1,5 +1,0 @@
-use Rattle.lis_store.proofs.EmptyStore.{empty_fits}
-use Rattle.lis_store.proofs.empty_stores_fit.Goals as goal
-
-pub returns : goal.returns
-returns g c = empty_fits (g.D.Disk.meaning c.args.disk.now)

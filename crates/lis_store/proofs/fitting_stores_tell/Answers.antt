@@ -1,5 +1,0 @@
-use Rattle.lis_store.proofs.Facts.{table_told}
-use Rattle.lis_store.proofs.fitting_stores_tell.Goals as goal
-
-pub returns : goal.returns
-returns g c k s fits = table_told k (g.D.Disk.meaning c.args.disk.now) s fits

@@ -1,0 +1,5 @@
+use Rattle.lis_store.proofs.Facts.{sizes_told}
+use Rattle.lis_store.proofs.laws.fitting_stores_hold.Goals as goal
+
+pub returns : goal.returns
+returns g c k s sound fits = sizes_told k (g.D.Disk.meaning c.args.disk.now) s sound fits

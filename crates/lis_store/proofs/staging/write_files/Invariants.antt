@@ -1,9 +1,0 @@
-use Rattle.std.proofs.Common.{◌≡◌, ℕ, ◌+◌, ◌*◌, ◌<◌}
-use Rattle.lis_ports.specs.Bytes.{part}
-use Rattle.lis_fields.specs.Layouts.{file_bytes}
-use Rattle.lis_store.specs.Kept.{record_at}
-use Rattle.lis_store.proofs.staging.write_files.Given as goal
-
--- the slots so far are written
-abbrev pub invariant-loop-k : goal.invariant-loop-k
-invariant-loop-k l = (j : ℕ) → j < l.k → part (256 * j) 256 l.block ≡ file_bytes (record_at l.catalog (l.first + j))

@@ -1,9 +1,0 @@
-use Rattle.std.proofs.Common.{sym, arith}
-use Rattle.lis_dict.proofs.Laws.{number_below}
-use Rattle.lis_store.proofs.store.Store.is_declared.Goals as goal
-
-pub get-requires-clause-bit : goal.get-requires-clause-bit
-get-requires-clause-bit c =
-    let sound = c.self.invariant.sound in
-    let below = number_below c.self.inside.dict sound.dict c.args.word.now c.in-Some.number (sym c.in-Some.ensures) in
-    omega (arith, below, c.from.ensures, sound.numbers, c.self.invariant.wide)

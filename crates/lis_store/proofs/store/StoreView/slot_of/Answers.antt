@@ -1,0 +1,10 @@
+use Rattle.std.proofs.Common.{◌∙◌, sym, ap}
+use Rattle.lis_catalog.specs.Catalog.{slot_of}
+use Rattle.lis_store.specs.Stored.{Stored}
+use Rattle.lis_store.proofs.Here.{slot_seen}
+use Rattle.lis_store.proofs.store.StoreView.slot_of.Goals as goal
+
+pub returns : goal.returns
+returns c =
+    let k = c.args.self.now.parts in
+    c.slot_of.ensures ∙ (ap (λ (j : Stored). slot_of j.parts.catalog c.args.name.now) c.self.view_is ∙ sym (slot_seen k c.args.name.now k.catalog.entries))

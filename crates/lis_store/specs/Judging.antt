@@ -1,0 +1,27 @@
+-- What commands are refused for, asked of what memory keeps.
+use Rattle.std.specs.Prelude.{ℕ, ◌+◌, nat_lt, Bool, not, List, [], ◌∷◌, length}
+use Rattle.std.specs.List.{list_any}
+use Rattle.lis_grammar.specs.Formula.{Formula}
+use Rattle.lis_words.specs.Words.{same_word, is_built_in, is_valued}
+use Rattle.lis_model.specs.declared.refusal.Refusal.{Refusal}
+use Rattle.lis_model.specs.declared.refusal.Refusal.TheVariants.{BuiltIn, NotAssignable, AlreadyDeclared, NotAPlace, NoPropertyRoom}
+use Rattle.lis_model.specs.Places.{is_root}
+use Rattle.lis_model.specs.Table.{Entry}
+use Rattle.lis_model.specs.Listing.{extension}
+use Rattle.lis_kept.specs.Kept.{Kept}
+use Rattle.lis_kept.specs.Telling.{is_declared}
+use Rattle.lis_store.specs.Seen.{table_of}
+
+-- a file of that name is in the extension of the place
+abbrev pub is_among : Kept → List Formula → List ℕ → Bool
+is_among k place name = list_any (λ (file : Entry). same_word file.name name) (extension (table_of k) place)
+
+-- the row of `mkdir`
+abbrev pub word_checks : Kept → List Formula → List ℕ → List (Bool × Refusal)
+word_checks k place word =
+    (is_built_in word, BuiltIn)
+    ∷ (is_valued word, NotAssignable)
+    ∷ (is_declared k word, AlreadyDeclared)
+    ∷ (not (is_root place), NotAPlace)
+    ∷ (nat_lt k.limits.props (length k.dict.entries + 1), NoPropertyRoom)
+    ∷ []

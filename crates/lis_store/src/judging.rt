@@ -1,0 +1,45 @@
+//! What commands are refused for.
+
+ghost use Rattle.std.specs.Prelude.{◌≡◌, IsTrue, OnOk};
+ghost use Rattle.lis_model.specs.Places.{is_root};
+ghost use Rattle.lis_model.specs.State.{is_declarable};
+ghost use Rattle.lis_words.specs.Words.{is_kept_word};
+ghost use Rattle.lis_store.specs.Changes.{Judges};
+ghost use Rattle.lis_store.specs.Judging.{word_checks};
+
+use lis_kept::Parts;
+use lis_model::refusal::Refusal;
+use lis_place::Place;
+use lis_words::{Word, is_builtin, is_valued};
+
+// Whether the place has no step.
+fn is_root(place: &Place) -> bool
+    ensures { result ≡ is_root place.now }
+{
+    place.is_empty()
+}
+
+/// Whether a word may be declared at the place.
+pub(crate) fn may_declare(parts: &Parts, place: &Place, word: &Word) -> Result<(), Refusal>
+    ensures row { Judges (word_checks parts.now place.now word.now) result }
+    ensures form { OnOk result (IsTrue (is_declarable word.now)) }
+    ensures word { IsTrue (is_kept_word word.now) }
+{
+    let bytes = word.bytes();
+    if is_builtin(word) {
+        return Err(Refusal::BuiltIn);
+    }
+    if is_valued(bytes) {
+        return Err(Refusal::NotAssignable);
+    }
+    if parts.is_declared(word) {
+        return Err(Refusal::AlreadyDeclared);
+    }
+    if !is_root(place) {
+        return Err(Refusal::NotAPlace);
+    }
+    if parts.word_count() >= parts.limits().props {
+        return Err(Refusal::NoPropertyRoom);
+    }
+    Ok(())
+}

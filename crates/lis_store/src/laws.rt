@@ -1,0 +1,45 @@
+//! Laws on images that stand for a state, each the contract of an empty function.
+
+ghost use Rattle.lis_store.specs.Laws.{OneState, FittingStoresStand, FittingStoresTell, FittingStoresHold, EmptyStoresAreSound, EmptyStoresFit, ChangesStand, CreateIsAdd};
+
+use lis_ports::Disk;
+
+/// An image stands for one state at most.
+pub fn one_state()
+    ensures { OneState }
+{}
+
+/// Where a store fits a disk at a state, each image of the disk stands for the state.
+pub fn fitting_stores_stand<D: Disk>(disk: &D)
+    ensures { FittingStoresStand (D.meaning disk.now) }
+{}
+
+/// Where a store fits a disk at a state, its table is that of the state.
+pub fn fitting_stores_tell<D: Disk>(disk: &D)
+    ensures { FittingStoresTell (D.meaning disk.now) }
+{}
+
+/// Where a store fits a disk at a state, the sizes of its records are those of the files.
+pub fn fitting_stores_hold<D: Disk>(disk: &D)
+    ensures { FittingStoresHold (D.meaning disk.now) }
+{}
+
+/// The parts of an empty store are in form.
+pub fn empty_stores_are_sound()
+    ensures { EmptyStoresAreSound }
+{}
+
+/// A store without words and files fits a disk of a blank image.
+pub fn empty_stores_fit<D: Disk>(disk: &D)
+    ensures { EmptyStoresFit (D.meaning disk.now) }
+{}
+
+/// A change of what is kept leads from images of one state to images of the next.
+pub fn changes_stand()
+    ensures { ChangesStand }
+{}
+
+/// To create a file is to add one without bytes.
+pub fn create_is_add()
+    ensures { CreateIsAdd }
+{}
