@@ -6,4 +6,5 @@ pub mod Seen
 pub mod Laws
 pub mod Saving
 pub mod Judging
+pub mod Admitting
 pub mod Removing

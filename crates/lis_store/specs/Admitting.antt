@@ -1,0 +1,67 @@
+-- What refuses a new file, told by what a store keeps.
+use Rattle.std.specs.Prelude.{◌≡◌, ℕ, ◌≤◌, ◌<◌, nat_lt, nat_le, Bool, not, is_some, None, List, [], ◌∷◌, ◌++◌, length, IsTrue}
+use Rattle.std.specs.List.{list_any, list_all}
+use Rattle.lis_graph.specs.Graph.{is_rising}
+use Rattle.lis_blockmap.specs.Bitmap.{free_count}
+use Rattle.lis_dict.specs.Dict.{words}
+use Rattle.lis_catalog.specs.Catalog.{slot_of}
+use Rattle.lis_grammar.specs.Formula.{Formula}
+use Rattle.lis_words.specs.Words.{is_built_in, is_file_name, word_cmp}
+use Rattle.lis_model.specs.declared.refusal.Refusal.{Refusal}
+use Rattle.lis_model.specs.declared.refusal.Refusal.TheVariants.{UnknownProperty, NotAPlace, NameTaken, NotAssignable, TooManyAssigned, LargeDescription, LargeFile, NoFileRoom, NoPropertyRoom, NoSpace, BuiltIn}
+use Rattle.lis_model.specs.Sets.{with_words}
+use Rattle.lis_model.specs.State.{File, file_words, is_assignable, file_limit, blocks_taken, blocks_needed}
+use Rattle.lis_model.specs.Changes.{new_file}
+use Rattle.lis_model.specs.Places.{place_words}
+use Rattle.lis_model.specs.Step.{is_head_or_test, assigned_at}
+use Rattle.lis_kept.specs.Kept.{Kept}
+use Rattle.lis_kept.specs.Telling.{declared_of, axioms_of}
+
+-- the description that a file would have
+abbrev pub described_by : Kept → File → List (List ℕ)
+described_by k file = file_words (declared_of k) (axioms_of k) file
+
+-- the words that would be known with it
+abbrev pub known_with : Kept → File → List (List ℕ)
+known_with k file = with_words (words k.dict) (described_by k file)
+
+-- what the name, the place and the named words are refused for
+abbrev pub named_checks : Kept → List Formula → List (List ℕ) → File → List (Bool × Refusal)
+named_checks k place words file =
+    (is_some (slot_of k.catalog file.name), NameTaken)
+    ∷ (not (is_some (place_words place)), NotAPlace)
+    ∷ (list_any is_built_in words, BuiltIn)
+    ∷ (list_any is_head_or_test words, NotAssignable)
+    ∷ (not (list_all (is_assignable (declared_of k)) file.assigned), UnknownProperty)
+    ∷ (nat_lt 16 (length file.assigned), TooManyAssigned)
+    ∷ []
+
+-- whether there is room for the file, and for its words
+abbrev pub room_checks : Kept → File → ℕ → List (Bool × Refusal)
+room_checks k file size =
+    (nat_le k.limits.files (length k.catalog.entries), NoFileRoom)
+    ∷ (nat_lt 128 (length (described_by k file)), LargeDescription)
+    ∷ (nat_lt k.limits.props (length (known_with k file)), NoPropertyRoom)
+    ∷ (nat_lt (free_count k.taken) (blocks_taken k.limits.version size), NoSpace)
+    ∷ []
+
+abbrev pub file_checks : Kept → List Formula → List (List ℕ) → File → ℕ → List (Bool × Refusal)
+file_checks k place words file size =
+    (nat_lt (file_limit k.limits.version) size, LargeFile) ∷ named_checks k place words file ++ room_checks k file size
+
+-- the row of `add`
+abbrev pub add_checks_of : Kept → List Formula → List ℕ → List (List ℕ) → List ℕ → ℕ → List (Bool × Refusal)
+add_checks_of k place name words bytes size = file_checks k place words (new_file name (assigned_at place words) bytes) size
+
+-- A file that a row of no refusal lets in.
+pub record IsAdmitted (k : Kept) (file : File) : Type 0 where
+  pub name : IsTrue (is_file_name file.name)
+  pub new : slot_of k.catalog file.name ≡ None
+  pub set : IsTrue (is_rising word_cmp file.assigned)
+  pub assignable : IsTrue (list_all (is_assignable (declared_of k)) file.assigned)
+  pub few : length file.assigned ≤ 16
+  pub slots : length k.catalog.entries < k.limits.files
+  pub short : length (described_by k file) ≤ 128
+  pub room : length (known_with k file) ≤ k.limits.props
+  pub small : length file.bytes ≤ 65536
+  pub blocks : blocks_needed (length file.bytes) ≤ free_count k.taken
