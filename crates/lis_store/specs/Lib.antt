@@ -8,3 +8,4 @@ pub mod Saving
 pub mod Judging
 pub mod Admitting
 pub mod Removing
+pub mod Adding

@@ -3,7 +3,9 @@
 //! say what images it stands for.
 #![tactic(auto)]
 
+mod adding;
 mod change;
+mod derived;
 mod judging;
 pub mod laws;
 mod removing;
