@@ -1,5 +1,5 @@
 -- A file that comes into memory.
-use Rattle.std.specs.Prelude.{◌≡◌, ◌⊎◌, ℕ, ◌*◌, ◌≤◌, Bool, true, false, ◌&&◌, Option, Some, None, List, [], ◌∷◌, ◌++◌, length, IsTrue, IsSome}
+use Rattle.std.specs.Prelude.{◌≡◌, ℕ, ◌≤◌, Bool, true, false, ◌||◌, if◌then◌else◌, Option, is_some, Some, None, List, [], ◌∷◌, ◌++◌, length, IsSome}
 use Rattle.std.specs.List.{flat_map}
 use Rattle.lis_journal.specs.Journal.{Held}
 use Rattle.lis_dict.specs.Dict.{Dict, words, number_of, word_of}
@@ -28,30 +28,27 @@ abbrev pub AreNumbered : Dict → List (List ℕ) → Type 0
 AreNumbered dict words = (word : List ℕ) → has_word words word ≡ true → IsSome (number_of dict word)
 
 -- ---- words that are learnt
--- each word behind its head
+-- a word behind its head
+abbrev pub behind_head : List ℕ → List (List ℕ)
+behind_head word = heads word ++ word ∷ []
+
 abbrev pub with_heads : List (List ℕ) → List (List ℕ)
-with_heads words = flat_map (λ word. heads word ++ word ∷ []) words
+with_heads words = flat_map behind_head words
 
--- the word is valued, and its head is built in
-abbrev pub is_built_value : List ℕ → Bool
-is_built_value word = is_valued word && is_built_in (head_bytes word)
+-- a valued word whose head has a number or is built in, or another word that has a number
+abbrev pub may_learn : Kept → List ℕ → Bool
+may_learn k word =
+    if is_valued word then is_some (number_of k.dict (head_bytes word)) || is_built_in (head_bytes word) else is_some (number_of k.dict word)
 
--- it has a number, or it is valued and its head has one, or its head is built in
-abbrev pub MayLearn : Kept → List ℕ → Type 0
-MayLearn k word =
-    IsSome (number_of k.dict word)
-    ⊎ (IsTrue (is_valued word) × IsSome (number_of k.dict (head_bytes word)))
-    ⊎ IsTrue (is_built_value word)
-
--- with these words and their heads there are no more than there is room for
+-- with these words there are no more than there is room for
 abbrev pub HasWordRoom : Kept → List (List ℕ) → Type 0
-HasWordRoom k more = length (with_words (words k.dict) (with_heads more)) ≤ k.limits.props
+HasWordRoom k more = length (with_words (words k.dict) more) ≤ k.limits.props
 
--- These words and their heads have numbers now, and each word that had one keeps it.
+-- These words have numbers now, and each word that had one keeps it.
 pub record LearnsAll (more : List (List ℕ)) (p q : Kept) : Type 0 where
   pub parts : q ≡ record p { dict = q.dict; marks = q.marks }
-  pub marks : Marks (2 * length more) p q
-  pub words : words q.dict ≡ with_words (words p.dict) (with_heads more)
+  pub marks : Marks (length more) p q
+  pub words : words q.dict ≡ with_words (words p.dict) more
   pub keeps : (n : ℕ) (word : List ℕ) → word_of p.dict n ≡ Some word → word_of q.dict n ≡ Some word
   pub state : (at : ℕ → List ℕ) → state_of q at ≡ state_of p at
 
@@ -63,7 +60,7 @@ learnt_words file = file.assigned ++ derived_words file.name file.bytes
 -- Its words are learnt, then it is filed with the numbers of those that it was given, and described with those of its description.
 pub record PutsIn (file : File) (p q : Kept) (old new : Held) : Type 0 where
   pub learnt : Kept
-  pub learns : LearnsAll (learnt_words file) p learnt
+  pub learns : LearnsAll (with_heads (learnt_words file)) p learnt
   pub slot : ℕ
   pub filed : Kept
   pub adds : Adds file.name (numbers_named learnt.dict file.assigned) file.bytes slot learnt filed old new

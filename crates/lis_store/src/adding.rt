@@ -1,18 +1,18 @@
 //! Files that come into memory.
 
-ghost use Rattle.std.specs.Prelude.{◌≡◌, ℕ, ◌*◌, ◌<◌, ◌≤◌, false, true, not, ◌&&◌, [], ◌∷◌, ◌++◌, length};
+ghost use Rattle.std.specs.Prelude.{◌≡◌, ℕ, ◌*◌, ◌<◌, ◌≤◌, false, not, ◌&&◌, [], ◌++◌, length, IsTrue};
+ghost use Rattle.std.specs.List.{list_all};
 ghost use Rattle.lis_bits.specs.Rows.{HasShape, get};
 ghost use Rattle.lis_dict.specs.Dict.{word_of};
 ghost use Rattle.lis_ext.specs.Numbers.{numbers_where};
-ghost use Rattle.lis_words.specs.Words.{has_word};
 ghost use Rattle.lis_model.specs.Image.{image_blocks};
-ghost use Rattle.lis_model.specs.State.{all_up};
+ghost use Rattle.lis_model.specs.State.{heads, all_up};
 ghost use Rattle.lis_model.specs.Changes.{new_file};
 ghost use Rattle.lis_eval.specs.Room.{HasRoom};
 ghost use Rattle.lis_kept.specs.Sound.{AreSound, FreeSlotsAreEmpty, BlocksAreTaken};
 ghost use Rattle.lis_kept.specs.Telling.{declared_of, axioms_of};
 ghost use Rattle.lis_store.specs.Admitting.{IsAdmitted};
-ghost use Rattle.lis_store.specs.Adding.{is_one_of, numbers_named, AreNumbered, MayLearn, HasWordRoom, LearnsAll, PutsIn};
+ghost use Rattle.lis_store.specs.Adding.{is_one_of, numbers_named, AreNumbered, behind_head, with_heads, may_learn, HasWordRoom, LearnsAll, PutsIn};
 
 use crate::derived::derived;
 use arrayvec::ArrayVec;
@@ -23,23 +23,32 @@ use lis_kept::Parts;
 use lis_ports::Disk;
 use lis_words::{Name, Word, head_of};
 
-// Gives a word a number if it has none, and its head before.
-fn learn_word(parts: &mut Parts, word: &Word)
-    requires form { MayLearn parts.old word.now }
-    requires room { HasWordRoom parts.old (word.now ∷ []) }
-    ensures { LearnsAll (word.now ∷ []) parts.old parts.new }
+// Gives the head of a valued word a number if it has none.
+fn learn_head(parts: &mut Parts, word: &Word)
+    requires form { IsTrue (may_learn parts.old word.now) }
+    requires room { HasWordRoom parts.old (behind_head word.now) }
+    ensures { LearnsAll (heads word.now) parts.old parts.new }
 {
     if let Some(head) = head_of(word) {
         parts.learn(&head);
     }
+}
+
+// Gives a word a number if it has none, and its head before.
+fn learn_word(parts: &mut Parts, word: &Word)
+    requires form { IsTrue (may_learn parts.old word.now) }
+    requires room { HasWordRoom parts.old (behind_head word.now) }
+    ensures { LearnsAll (behind_head word.now) parts.old parts.new }
+{
+    learn_head(parts, word);
     parts.learn(word);
 }
 
 // Gives numbers to those words that have none.
 fn learn_words(parts: &mut Parts, words: &[Word])
-    requires form { (word : List ℕ) → has_word words.now word ≡ true → MayLearn parts.old word }
-    requires room { HasWordRoom parts.old words.now }
-    ensures { LearnsAll words.now parts.old parts.new }
+    requires form { IsTrue (list_all (may_learn parts.old) words.now) }
+    requires room { HasWordRoom parts.old (with_heads words.now) }
+    ensures { LearnsAll (with_heads words.now) parts.old parts.new }
 {
     for word in words {
         learn_word(parts, word);
