@@ -21,3 +21,4 @@ pub mod Given
 pub mod Removed
 pub mod Had
 pub mod Learning
+pub mod Naming
