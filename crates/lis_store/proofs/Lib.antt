@@ -22,3 +22,4 @@ pub mod Removed
 pub mod Had
 pub mod Learning
 pub mod Naming
+pub mod Entailed
