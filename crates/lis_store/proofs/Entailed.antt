@@ -1,5 +1,5 @@
 -- The numbers of all that words entail, left out of a row.
-use Rattle.std.proofs.Common.{◌≡◌, refl, sym, ap, ap₂, ◌∙◌, ℕ, ◌<◌, not, ◌&&◌, ◌||◌, Bool, true, false, List, [], ◌∷◌, ◌++◌, Option, Some, None, append-nil, arith}
+use Rattle.std.proofs.Common.{◌≡◌, refl, sym, ap, ap₂, ◌∙◌, ℕ, ◌<◌, ◌≤◌, not, ◌&&◌, ◌||◌, Bool, true, false, List, [], ◌∷◌, ◌++◌, length, Option, Some, None, append-nil, arith}
 use Rattle.std.specs.List.{flat_map}
 use Rattle.std.proofs.lemmas.Grind.{flat_map-append}
 use Rattle.lis_bits.specs.Rows.{Rows, HasShape, get, with_row}
@@ -16,9 +16,10 @@ use Rattle.lis_kept.specs.Links.{TellsLinks}
 use Rattle.lis_kept.specs.Sound.{AreSound}
 use Rattle.lis_kept.specs.Telling.{declared_of, axioms_of}
 use Rattle.lis_kept.proofs.Filing.{same_tests}
-use Rattle.lis_store.specs.Adding.{is_one_of}
+use Rattle.lis_ext.specs.Numbers.{numbers_where}
+use Rattle.lis_store.specs.Adding.{is_one_of, numbers_named}
 use Rattle.lis_store.proofs.Entailment.{chain_named, leads_from_up}
-use Rattle.lis_store.proofs.Naming.{one_of, of_one, one_of_none, one_of_both, same_shape, value_at}
+use Rattle.lis_store.proofs.Naming.{one_of, of_one, one_of_none, one_of_both, named_few, same_shape, value_at, shown_numbers}
 
 one_of_set : (words : List (List ℕ)) (o : Option (List ℕ)) → is_one_of (set_of words) o ≡ is_one_of words o
 one_of_set words o =
@@ -97,14 +98,28 @@ left_over true y = refl
 left_over false true = refl
 left_over false false = refl
 
-pub entailed_bits : (k : Kept) (some more : List (List ℕ)) (a b : Rows) (n : ℕ) (bit : Bool) → get a 0 n ≡ true
-    → get b 0 n ≡ (get a 0 n && not (is_one_of (all_up (declared_of k) (axioms_of k) some) (word_of k.dict n)))
-    → bit ≡ (get b 0 n && not (is_one_of (all_up (declared_of k) (axioms_of k) more) (word_of k.dict n)))
-    → not bit ≡ is_one_of (all_up (declared_of k) (axioms_of k) (some ++ more)) (word_of k.dict n)
-entailed_bits k some more a b n bit full first second =
-    let D = declared_of k in
-    let A = axioms_of k in
-    let o = word_of k.dict n in
-    let x = is_one_of (all_up D A some) o in
-    let y = is_one_of (all_up D A more) o in
-    ap not (second ∙ ap (λ c. c && not y) (first ∙ ap (λ c. c && not x) full)) ∙ (left_over x y ∙ sym (ups_both D A o some more))
+-- the rows in turn: full, without what the first words entail, without what the others do, and turned over
+module _ (k : Kept) (sound : AreSound k) (some more : List (List ℕ)) (start full left rest done : Rows)
+    (shape : HasShape start 1 k.limits.props) (is_full : full ≡ with_row start 0 (λ _. true))
+    (first : (n : ℕ) → n < k.limits.props → get left 0 n ≡ (get full 0 n && not (is_one_of (all_up (declared_of k) (axioms_of k) some) (word_of k.dict n))))
+    (rest_shape : HasShape rest 1 k.limits.props)
+    (second : (n : ℕ) → n < k.limits.props → get rest 0 n ≡ (get left 0 n && not (is_one_of (all_up (declared_of k) (axioms_of k) more) (word_of k.dict n))))
+    (turned : done ≡ with_row rest 0 (λ bit. not (get rest 0 bit))) where
+  abbrev entailed_by : List (List ℕ) → ℕ → Bool
+  entailed_by words n = is_one_of (all_up (declared_of k) (axioms_of k) words) (word_of k.dict n)
+
+  bits_then : (n : ℕ) → n < k.limits.props → get done 0 n ≡ entailed_by (some ++ more) n
+  bits_then n lt =
+      let whole = value_at start full k.limits.props n (λ _. true) shape is_full lt in
+      value_at rest done k.limits.props n (λ bit. not (get rest 0 bit)) rest_shape turned lt
+      ∙ (ap not (second n lt ∙ ap (λ b. b && not (entailed_by more n)) (first n lt ∙ ap (λ b. b && not (entailed_by some n)) whole))
+      ∙ (left_over (entailed_by some n) (entailed_by more n) ∙ sym (ups_both (declared_of k) (axioms_of k) (word_of k.dict n) some more)))
+
+  pub entailed_shape : HasShape done 1 k.limits.props
+  entailed_shape = same_shape rest done 1 k.limits.props 0 (λ bit. not (get rest 0 bit)) rest_shape turned
+
+  pub entailed_numbers : numbers_where k.limits.props (get done 0) ≡ numbers_named k.dict (all_up (declared_of k) (axioms_of k) (some ++ more))
+  entailed_numbers = shown_numbers k.dict k.limits.props (all_up (declared_of k) (axioms_of k) (some ++ more)) done sound.numbers bits_then
+
+  pub entailed_few : length (all_up (declared_of k) (axioms_of k) (some ++ more)) ≤ 128 → length (numbers_where k.limits.props (get done 0)) ≤ 128
+  entailed_few few = omega (arith, few, ap length entailed_numbers, named_few k.dict sound.dict (all_up (declared_of k) (axioms_of k) (some ++ more)))
