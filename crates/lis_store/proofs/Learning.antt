@@ -35,7 +35,7 @@ not_unknown : (d : Dict) (word : List ℕ) → number_of d word ≡ None → Amo
 not_unknown d word none m = both_ways (is_some (number_of d word)) (ap is_some none) (number_there d word m)
 
 -- ---- how many there are
-words_grow : (some more : List (List ℕ)) → length some ≤ length (with_words some more)
+pub words_grow : (some more : List (List ℕ)) → length some ≤ length (with_words some more)
 words_grow some [] = omega arith
 words_grow some (word ∷ more) = omega (arith, le_insert_key word_cmp some word, words_grow (with_word some word) more)
 

@@ -23,3 +23,5 @@ pub mod Had
 pub mod Learning
 pub mod Naming
 pub mod Entailed
+pub mod DerivedWords
+pub mod PutIn
