@@ -25,3 +25,4 @@ pub mod Naming
 pub mod Entailed
 pub mod DerivedWords
 pub mod PutIn
+pub mod Added

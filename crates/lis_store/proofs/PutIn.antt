@@ -79,6 +79,14 @@ head_entailed declared axioms own word m =
         subst (λ w. Among (up declared axioms own_word) w) parts.1 (up_own declared axioms own_word (head_bytes own_word) (links_head declared own_word parts.0))
     by own_word (inr here) = elim here [ inl same ↦ subst (λ w. Among (up declared axioms own_word) w) same (up_self declared axioms own_word) | inr none ↦ absurd none ]
 
+-- each word stands behind its head
+pub behind_itself : (own : List (List ℕ)) (word : List ℕ) → Among own word → Among (with_heads own) word
+behind_itself own word m = flat_map_among behind_head own word word m (by (is_valued word))
+  where
+    by : (b : Bool) → Among (cond b (head_bytes word ∷ []) [] ++ word ∷ []) word
+    by true = inr (inl refl)
+    by false = inl refl
+
 -- ---- the file
 module _ (p : Kept) (sound : AreSound p) (name : List ℕ) (assigned : List (List ℕ)) (bytes : List ℕ) (admitted : IsAdmitted p (new_file name assigned bytes)) where
   abbrev file : File
@@ -129,16 +137,7 @@ module _ (p : Kept) (sound : AreSound p) (name : List ℕ) (assigned : List (Lis
 
   module _ (r : Kept) (learns : LearnsAll (with_heads (learnt_words file)) p r) where
     pub own_numbered : AreNumbered r.dict (learnt_words file)
-    own_numbered word h =
-        let m = among_from_has_word (learnt_words file) word h in
-        number_learnt p r (with_heads (learnt_words file)) learns word (flat_map_among behind_head (learnt_words file) word word m (behind word))
-      where
-        behind : (w : List ℕ) → Among (behind_head w) w
-        behind w = by (is_valued w)
-          where
-            by : (b : Bool) → Among (cond b (head_bytes w ∷ []) [] ++ w ∷ []) w
-            by true = inr (inl refl)
-            by false = inl refl
+    own_numbered word h = number_learnt p r (with_heads (learnt_words file)) learns word (behind_itself (learnt_words file) word (among_from_has_word (learnt_words file) word h))
 
     pub declared_same : declared_of r ≡ declared_of p
     declared_same = ap (λ (s : State). s.declared) (learns.state (λ n. []))
