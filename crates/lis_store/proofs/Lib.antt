@@ -26,3 +26,4 @@ pub mod Entailed
 pub mod DerivedWords
 pub mod PutIn
 pub mod Added
+pub mod FreeBlocks
