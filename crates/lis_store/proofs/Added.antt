@@ -10,7 +10,7 @@ use Rattle.lis_blockmap.specs.Bitmap.{is_taken}
 use Rattle.lis_content.specs.Content.{marked, has_number, are_taken, are_free}
 use Rattle.lis_content.proofs.Numbers.{below_from_free, stay_marked, marked_are_taken}
 use Rattle.lis_dict.specs.Dict.{Dict, IsDict, words, number_of, word_of}
-use Rattle.lis_dict.proofs.Laws.{word_from_number}
+use Rattle.lis_dict.proofs.Laws.{word_from_number, number_from_word}
 use Rattle.lis_catalog.specs.Catalog.{slot_of, rec_at, with_filed}
 use Rattle.lis_catalog.proofs.Laws.{rec_at-with_filed}
 use Rattle.lis_ext.specs.Ext.{Ext, has, set_of as numbers_at}
@@ -26,7 +26,7 @@ use Rattle.lis_model.specs.State.{File, up, all_up}
 use Rattle.lis_model.specs.Changes.{new_file}
 use Rattle.lis_laws.proofs.Chains.{up_self, up_trans, up_from_entails}
 use Rattle.lis_laws.proofs.Counts.{all_among, all_from}
-use Rattle.lis_laws.proofs.Members.{same_word_decides, among_with_words, among_set_of, set_of_among}
+use Rattle.lis_laws.proofs.Members.{same_word_decides, among_from_has_word, has_word_from_among, among_with_words, among_set_of, set_of_among}
 use Rattle.lis_kept.specs.Kept.{Kept}
 use Rattle.lis_kept.specs.Links.{is_linked, has_pair}
 use Rattle.lis_kept.specs.Sound.{AreSound, FreeSlotsAreEmpty, BlocksAreTaken}
@@ -39,11 +39,11 @@ use Rattle.lis_kept.proofs.OwnLinks.{own_link_is}
 use Rattle.lis_store.specs.Stored.{Stored, PairsAreApart, AreClosed, DescriptionsAreShort, BlocksAreApart, IsSound}
 use Rattle.lis_store.specs.Saving.{settled}
 use Rattle.lis_store.specs.Admitting.{described_by, IsAdmitted}
-use Rattle.lis_store.specs.Adding.{is_one_of, numbers_named, with_heads, learnt_words, PutsIn}
+use Rattle.lis_store.specs.Adding.{is_one_of, AreNumbered, numbers_named, with_heads, learnt_words, PutsIn}
 use Rattle.lis_store.proofs.Cleaned.{clean_is, sound_clean, in_use_clean}
-use Rattle.lis_store.proofs.Entailment.{link_named}
+use Rattle.lis_store.proofs.Entailment.{link_named, up_has_number}
 use Rattle.lis_store.proofs.Naming.{one_of, of_one, named_has, named_few}
-use Rattle.lis_store.proofs.PutIn.{described_is, entailed_is, head_entailed, behind_itself}
+use Rattle.lis_store.proofs.PutIn.{described_is, entailed_is, own_numbered, head_entailed, behind_itself}
 use Rattle.lis_store.proofs.Removed.{had_there}
 
 module _ (p q : Kept) (old new : Held) (name : List ℕ) (assigned : List (List ℕ)) (bytes : List ℕ) (sound : AreSound p) (admitted : IsAdmitted p (new_file name assigned bytes))
@@ -241,6 +241,16 @@ module _ (p q : Kept) (old new : Held) (name : List ℕ) (assigned : List (List 
             (or_left (is_head_by (word_of p.dict a) (word_of p.dict b)) (has_pair p.axioms a b)
             (heads_back (word_of p.dict a) (word_of dict b) refl refl (subst (λ o. is_head_by o (word_of dict b) ≡ true) (word_stays a some) head)))
         by (inr pair) = or_right _ (has_pair p.axioms a b) pair
+
+    pub described_numbered : AreNumbered dict described
+    described_numbered word h =
+        let D = declared_of end in
+        let A = axioms_of end in
+        let source = among_flat_map (up D A) (learnt_words file) word
+        (among_set_of (flat_map (up D A) (learnt_words file)) word (subst (λ ws. Among ws word) (sym entailed_end) (among_from_has_word described word h))) in
+        let number = some_number (number_of dict source.0) (own_numbered p sound name assigned bytes admitted puts.learnt puts.learns source.0 (has_word_from_among (learnt_words file) source.0 source.1)) in
+        let found = up_has_number end sound_end number.0 source.0 word (word_from_number dict sound_end.dict source.0 number.0 number.1) source.2 in
+        ap is_some (number_from_word dict sound_end.dict word found.0 found.1)
 
     -- the description has all to which its words are linked
     link_described : (a b : ℕ) → is_one_of described (word_of dict a) ≡ true → is_linked end a b ≡ true → is_one_of described (word_of dict b) ≡ true

@@ -27,3 +27,4 @@ pub mod DerivedWords
 pub mod PutIn
 pub mod Added
 pub mod FreeBlocks
+pub mod AddedTells

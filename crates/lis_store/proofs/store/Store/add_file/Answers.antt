@@ -1,5 +1,6 @@
 use Rattle.lis_store.proofs.Added.{end_is, sound_added}
 use Rattle.lis_store.proofs.FreeBlocks.{used_told}
+use Rattle.lis_store.proofs.AddedTells as a
 use Rattle.lis_store.proofs.store.Store.add_file.Goals as goal
 
 pub returns-clause-changes : goal.returns-clause-changes
