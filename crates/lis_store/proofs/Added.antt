@@ -46,6 +46,9 @@ use Rattle.lis_store.proofs.Naming.{one_of, of_one, named_has, named_few}
 use Rattle.lis_store.proofs.PutIn.{described_is, entailed_is, own_numbered, head_entailed, behind_itself}
 use Rattle.lis_store.proofs.Removed.{had_there}
 
+has_number_of : (d : Dict) → IsDict d → (word : List ℕ) → (n : ℕ) × (word_of d n ≡ Some word) → IsSome (number_of d word)
+has_number_of d is word found = ap is_some (number_from_word d is word found.0 found.1)
+
 module _ (p q : Kept) (old new : Held) (name : List ℕ) (assigned : List (List ℕ)) (bytes : List ℕ) (sound : AreSound p) (admitted : IsAdmitted p (new_file name assigned bytes))
     (puts : PutsIn (new_file name assigned bytes) p q old new) where
   abbrev file : File
@@ -249,8 +252,7 @@ module _ (p q : Kept) (old new : Held) (name : List ℕ) (assigned : List (List 
         let source = among_flat_map (up D A) (learnt_words file) word
         (among_set_of (flat_map (up D A) (learnt_words file)) word (subst (λ ws. Among ws word) (sym entailed_end) (among_from_has_word described word h))) in
         let number = some_number (number_of dict source.0) (own_numbered p sound name assigned bytes admitted puts.learnt puts.learns source.0 (has_word_from_among (learnt_words file) source.0 source.1)) in
-        let found = up_has_number end sound_end number.0 source.0 word (word_from_number dict sound_end.dict source.0 number.0 number.1) source.2 in
-        ap is_some (number_from_word dict sound_end.dict word found.0 found.1)
+        has_number_of dict sound_end.dict word (up_has_number end sound_end number.0 source.0 word (word_from_number dict sound_end.dict source.0 number.0 number.1) source.2)
 
     -- the description has all to which its words are linked
     link_described : (a b : ℕ) → is_one_of described (word_of dict a) ≡ true → is_linked end a b ≡ true → is_one_of described (word_of dict b) ≡ true

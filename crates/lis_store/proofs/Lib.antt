@@ -28,3 +28,4 @@ pub mod PutIn
 pub mod Added
 pub mod FreeBlocks
 pub mod AddedTells
+pub mod AddedMarks

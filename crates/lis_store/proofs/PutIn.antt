@@ -172,7 +172,7 @@ module _ (r : Kept) (sound : AreSound r) (words : List (List ℕ)) where
       ap is_some (one_of words (word_of r.dict n) (named_one r.dict sound.dict words n m)).1)
 
 -- a slot without numbers has the empty set
-none_has : (ns : List ℕ) → ((n : ℕ) → has_number ns n ≡ false) → ns ≡ []
+pub none_has : (ns : List ℕ) → ((n : ℕ) → has_number ns n ≡ false) → ns ≡ []
 none_has [] none = refl
 none_has (n ∷ ns) none = absurd (both_ways (has_number (n ∷ ns) n) (none n) (number_from_among (n ∷ ns) n (inl refl)))
 
