@@ -3,7 +3,10 @@
 //! say what images it stands for.
 #![tactic(auto)]
 
+mod admitting;
+mod assigning;
 mod change;
+mod describing;
 mod judging;
 pub mod laws;
 mod removing;
