@@ -1,5 +1,6 @@
 -- The words that a new file is given: those of its place, and those that are named.
-use Rattle.std.specs.Prelude.{◌≡◌, ℕ, nat_le, Bool, true, false, List, length, filter}
+use Rattle.std.specs.Prelude.{◌≡◌, ℕ, nat_le, Bool, true, false, Option, Some, None, List, length, filter}
+use Rattle.lis_words.specs.Words.{same_word}
 use Rattle.lis_place.specs.declared.node.Node.{Node}
 use Rattle.lis_place.specs.declared.node.Node.TheVariants.{Word, AtLeast, Below, Not, And, Or}
 use Rattle.lis_place.specs.Nodes.{node_words}
@@ -18,6 +19,11 @@ is_conjunct Or = false
 -- the word of a node, if a file can be given it
 abbrev pub node_tags : Node → List (List ℕ)
 node_tags node = filter is_tag (node_words node)
+
+-- it is this word
+abbrev pub is_held : Option (List ℕ) → List ℕ → Bool
+is_held None word = false
+is_held (Some held) word = same_word held word
 
 -- More words are put into a set of 16 at most. `fits` tells whether there is room for them all.
 pub record Takes (more old new : List (List ℕ)) (fits : Bool) : Type 0 where
