@@ -271,19 +271,19 @@ pub one_tag : (node : Node) (word : List ℕ) → node ≡ Word word → is_tag 
 one_tag node word is tag = ap node_tags is ∙ ap (λ b. cond b (word ∷ []) []) tag
 
 -- ---- a loop that puts words into a set
-module _ {X : Type 0} (f : X → List (List ℕ)) (xs : List X) (i : ℕ) (x : X) (lt : i < length xs) (is : x ≡ get_or xs i x) (old mid new : List (List ℕ)) where
-  taken_next : flat_map f (take (i + 1) xs) ≡ flat_map f (take i xs) ++ f x
-  taken_next =
-      ap (flat_map f) (take_more xs i x lt ∙ ap (λ (y : X). take i xs ++ y ∷ []) (sym is))
-      ∙ (flat_map-append f (take i xs) (x ∷ []) ∙ ap (λ ws. flat_map f (take i xs) ++ ws) (no_more (f x)))
+pub flat_next : {X : Type 0} (f : X → List (List ℕ)) (xs : List X) (i : ℕ) (x : X) → i < length xs → x ≡ get_or xs i x → flat_map f (take (i + 1) xs) ≡ flat_map f (take i xs) ++ f x
+flat_next {X} f xs i x lt is =
+    ap (flat_map f) (take_more xs i x lt ∙ ap (λ (y : X). take i xs ++ y ∷ []) (sym is))
+    ∙ (flat_map-append f (take i xs) (x ∷ []) ∙ ap (λ ws. flat_map f (take i xs) ++ ws) (no_more (f x)))
 
+module _ {X : Type 0} (f : X → List (List ℕ)) (xs : List X) (i : ℕ) (x : X) (lt : i < length xs) (is : x ≡ get_or xs i x) (old mid new : List (List ℕ)) where
   pub takes_step : Takes (flat_map f (take i xs)) old mid true → Takes (f x) mid new true → Takes (flat_map f (take (i + 1) xs)) old new true
   takes_step before next =
-      subst (λ ws. Takes ws old new true) (sym taken_next) (takes_more (flat_map f (take i xs)) (f x) old mid new true before next)
+      subst (λ ws. Takes ws old new true) (sym (flat_next f xs i x lt is)) (takes_more (flat_map f (take i xs)) (f x) old mid new true before next)
 
   pub takes_stop : Takes (flat_map f (take i xs)) old mid true → Takes (f x) mid new false → Takes (flat_map f xs) old new false
   takes_stop before next =
-      let stopped = subst (λ ws. Takes ws old new false) (sym taken_next) (takes_more (flat_map f (take i xs)) (f x) old mid new false before next) in
+      let stopped = subst (λ ws. Takes ws old new false) (sym (flat_next f xs i x lt is)) (takes_more (flat_map f (take i xs)) (f x) old mid new false before next) in
       let all = sym (flat_map-append f (take (i + 1) xs) (drop (i + 1) xs)) ∙ ap (flat_map f) (take-append-drop (i + 1) xs) in
       subst (λ ws. Takes ws old new false) all (takes_not (flat_map f (take (i + 1) xs)) (flat_map f (drop (i + 1) xs)) old new stopped)
 

@@ -128,7 +128,7 @@ module _ (k : Kept) (sound : AreSound k) where
         let edge = edge_among t n link.number (tells.edges n link.number ∙ link.linked) in
         (rest.0, rest.1, (link.number, inr (contains_from_among (set.items t.edges) (n, link.number) edge), rest.2))
 
-    chain_named : (len n m : ℕ) (p : List ℕ) → word_of k.dict n ≡ Some p → Chain no_links (set.items t.edges) len n m
+    pub chain_named : (len n m : ℕ) (p : List ℕ) → word_of k.dict n ≡ Some p → Chain no_links (set.items t.edges) len n m
         → (q : List ℕ) × (word_of k.dict m ≡ Some q) × Chain (links (declared_of k)) (axioms_of k) len p q
     chain_named zero n m p is same = (p, ap (word_of k.dict) (sym same) ∙ is, refl)
     chain_named (suc len) n m p is c =

@@ -21,3 +21,4 @@ pub mod Given
 pub mod Removed
 pub mod Had
 pub mod Assigned
+pub mod Gathered

@@ -6,6 +6,7 @@ ghost use Rattle.lis_words.specs.Words.{has_word};
 ghost use Rattle.lis_model.specs.Changes.{new_file};
 ghost use Rattle.lis_model.specs.Derived.{derived_words};
 ghost use Rattle.lis_model.specs.State.{heads};
+ghost use Rattle.lis_kept.specs.Sound.{AreSound};
 ghost use Rattle.lis_store.specs.Admitting.{described_by, known_with};
 ghost use Rattle.lis_store.specs.Describing.{with_heads, Gathers};
 
@@ -41,6 +42,7 @@ fn has(words: &[Word], word: &Word) -> bool
 
 // Gathers a word: takes the numbers of all that it entails from the row, or notes it where it has no number.
 fn gather(parts: &Parts, lacked: &mut Rows, fresh: &mut Fresh, word: &Word)
+    requires sound { AreSound parts.now }
     requires shape { HasShape lacked.old 1 parts.now.limits.props }
     requires room { length fresh.old.items < 128 }
     ensures { Gathers parts.now (word.now ∷ []) lacked.old lacked.new fresh.old.items fresh.new.items }
@@ -57,6 +59,7 @@ fn gather(parts: &Parts, lacked: &mut Rows, fresh: &mut Fresh, word: &Word)
 
 // Gathers a word and its head, if it has one.
 fn gather_with_head(parts: &Parts, lacked: &mut Rows, fresh: &mut Fresh, word: &Word)
+    requires sound { AreSound parts.now }
     requires shape { HasShape lacked.old 1 parts.now.limits.props }
     requires room { length fresh.old.items + 1 < 128 }
     ensures { Gathers parts.now (word.now ∷ heads word.now) lacked.old lacked.new fresh.old.items fresh.new.items }
@@ -69,6 +72,7 @@ fn gather_with_head(parts: &Parts, lacked: &mut Rows, fresh: &mut Fresh, word: &
 
 // Gathers the words and their heads.
 fn gather_all(parts: &Parts, lacked: &mut Rows, fresh: &mut Fresh, words: &[Word])
+    requires sound { AreSound parts.now }
     requires shape { HasShape lacked.old 1 parts.now.limits.props }
     requires room { length fresh.old.items + 2 * length words.now ≤ 128 }
     ensures { Gathers parts.now (with_heads words.now) lacked.old lacked.new fresh.old.items fresh.new.items }
@@ -87,6 +91,7 @@ pub(crate) fn measure(
     words: &[Word],
     payload: &[u8],
 ) -> Extent
+    requires sound { AreSound parts.now }
     requires shape { HasShape row.old 1 parts.now.limits.props }
     requires few { length words.now ≤ 16 }
     ensures shape { HasShape row.new 1 parts.now.limits.props }
