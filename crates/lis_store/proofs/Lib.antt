@@ -22,3 +22,4 @@ pub mod Removed
 pub mod Had
 pub mod Assigned
 pub mod Gathered
+pub mod Measured
