@@ -23,3 +23,4 @@ pub mod Had
 pub mod Assigned
 pub mod Gathered
 pub mod Measured
+pub mod Admitted
