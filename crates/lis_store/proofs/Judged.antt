@@ -1,5 +1,5 @@
 -- Rows of refusals that are judged, and commands that are refused.
-use Rattle.std.proofs.Common.{◌≡◌, ◌⊎◌, refl, sym, ap, subst, Bool, true, false, cond, List, [], ◌∷◌, Option, Some, None, Result, Err}
+use Rattle.std.proofs.Common.{◌≡◌, ◌⊎◌, refl, sym, ap, subst, Bool, true, false, cond, List, [], ◌∷◌, ◌++◌, Option, Some, None, Result, Err}
 use Rattle.std.proofs.lemmas.Option.{same_Some}
 use Rattle.lis_ports.specs.Meaning.{Meaning}
 use Rattle.lis_ports.proofs.Moments.{leaves_none}
@@ -9,7 +9,7 @@ use Rattle.lis_store.specs.declared.change.Change.{Change}
 use Rattle.lis_store.specs.declared.change.Change.TheVariants.{Refused}
 use Rattle.lis_store.specs.Stands.{Stands}
 use Rattle.lis_store.specs.Stored.{Stored, StoreFits}
-use Rattle.lis_store.specs.Changes.{Changes, first_refusal}
+use Rattle.lis_store.specs.Changes.{Changes, first_refusal, Judges}
 
 pub judged_refused : (now : Situation) (checks : List (Bool × Refusal)) (done : Outcome) (refusal : Refusal) → first_refusal checks ≡ Some refusal → judged now checks done ≡ refused now refusal
 judged_refused now [] done refusal first = absurd cc
@@ -32,6 +32,28 @@ judged_done now (check ∷ checks) done none = by (judged_done now checks done) 
 pub passed : (b : Bool) (refusal : Refusal) (rest : Option Refusal) → cond b (Some refusal) rest ≡ None → (b ≡ false) × (rest ≡ None)
 passed true refusal rest none = absurd cc
 passed false refusal rest none = (refl, none)
+
+-- ---- rows one after another
+pub refused_first : (checks others : List (Bool × Refusal)) (refusal : Refusal) → first_refusal checks ≡ Some refusal → first_refusal (checks ++ others) ≡ Some refusal
+refused_first [] others refusal first = absurd cc
+refused_first (check ∷ checks) others refusal first = by (refused_first checks others refusal) check.0 first
+  where
+    by : (first_refusal checks ≡ Some refusal → first_refusal (checks ++ others) ≡ Some refusal) → (b : Bool) → cond b (Some check.1) (first_refusal checks) ≡ Some refusal
+        → cond b (Some check.1) (first_refusal (checks ++ others)) ≡ Some refusal
+    by rest true e = e
+    by rest false e = rest e
+
+pub refused_then : (checks others : List (Bool × Refusal)) → first_refusal checks ≡ None → first_refusal (checks ++ others) ≡ first_refusal others
+refused_then [] others none = refl
+refused_then (check ∷ checks) others none = by (refused_then checks others) check.0 none
+  where
+    by : (first_refusal checks ≡ None → first_refusal (checks ++ others) ≡ first_refusal others) → (b : Bool) → cond b (Some check.1) (first_refusal checks) ≡ None
+        → cond b (Some check.1) (first_refusal (checks ++ others)) ≡ first_refusal others
+    by rest true e = absurd cc
+    by rest false e = rest e
+
+pub judges_refused : {T : Type 0} (checks : List (Bool × Refusal)) (result : Result T Refusal) (refusal : Refusal) → result ≡ Err refusal → first_refusal checks ≡ Some refusal → Judges checks result
+judges_refused checks result refusal ends first = subst (λ r. Judges checks r) (sym ends) first
 
 -- nothing was changed
 pub change_refused : {T : Type 0} (k : Stored) (m : Meaning) (now : Situation) (outcome : Outcome) (refusal : Refusal) (result : Result T Change) → StoreFits k m now.state

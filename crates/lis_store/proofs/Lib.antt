@@ -29,3 +29,7 @@ pub mod Added
 pub mod FreeBlocks
 pub mod AddedTells
 pub mod AddedMarks
+pub mod Assigned
+pub mod Gathered
+pub mod Measured
+pub mod Admitted

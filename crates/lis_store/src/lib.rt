@@ -4,8 +4,11 @@
 #![tactic(auto)]
 
 mod adding;
+mod admitting;
+mod assigning;
 mod change;
 mod derived;
+mod describing;
 mod judging;
 pub mod laws;
 mod removing;
