@@ -1,7 +1,9 @@
 -- How much is marked when a file is put in, and how often rows are edited.
 use Rattle.std.proofs.Common.{◌≡◌, refl, sym, ap, ap₂, ◌∙◌, subst, ℕ, ◌+◌, ◌*◌, ◌<◌, ◌≤◌, ◌&&◌, ◌||◌, not, Bool, true, false, cond, List, [], ◌∷◌, ◌++◌, length, length-append, arith}
 use Rattle.std.specs.List.{range_with_len}
-use Rattle.lis_graph.proofs.Members.{Among}
+use Rattle.std.specs.Ordering.{nat_cmp}
+use Rattle.std.specs.Cmp.{nat_cmp_total}
+use Rattle.lis_graph.proofs.Sets.{members_le}
 use Rattle.lis_graph.proofs.Ranges.{range_among}
 use Rattle.lis_journal.specs.Journal.{Held}
 use Rattle.lis_dict.specs.Dict.{word_of}
@@ -15,12 +17,12 @@ use Rattle.lis_kept.specs.Kept.{Kept}
 use Rattle.lis_kept.specs.Areas.{marked_count}
 use Rattle.lis_kept.specs.Sound.{AreSound, FreeSlotsAreEmpty}
 use Rattle.lis_kept.proofs.Described.{among_where}
+use Rattle.lis_kept.proofs.Filing.{among_from_number}
 use Rattle.lis_store.specs.Changes.{differing_bits}
 use Rattle.lis_store.specs.Admitting.{described_by, IsAdmitted}
 use Rattle.lis_store.specs.Adding.{is_one_of, numbers_named, behind_head, with_heads, learnt_words, PutsIn}
-use Rattle.lis_store.proofs.Added.{end_is, filed_is, free_slot, below_files, set_here, sound_end}
+use Rattle.lis_store.proofs.Added.{end_is, filed_is, free_slot, below_files, set_here}
 use Rattle.lis_store.proofs.DerivedWords.{derived_few}
-use Rattle.lis_store.proofs.Naming.{few_named, named_has}
 use Rattle.lis_store.proofs.Numbers.{sorted_where}
 use Rattle.lis_store.proofs.PutIn.{none_has, slot_was_empty}
 use Rattle.lis_store.proofs.Removed.{sum_has}
@@ -57,23 +59,21 @@ module _ (p q : Kept) (old new : Held) (name : List ℕ) (assigned : List (List 
   ext_before : puts.filed.ext ≡ p.ext
   ext_before = ap (λ (k : Kept). k.ext) (filed_is p q old new name assigned bytes sound admitted puts)
 
-  gained_few : AreSound q → gained ≤ 128
-  gained_few after =
-      let in_form = sound_end p q old new name assigned bytes sound admitted puts after in
-      let few = few_named puts.learnt.dict in_form.dict (numbers_where p.ext.props (differs [] numbers)) (described_by p (new_file name assigned bytes))
-      (sorted_where p.ext.props (differs [] numbers)) (λ n m.
-      sym (named_has puts.learnt.dict in_form.dict (described_by p (new_file name assigned bytes)) n)
-      ∙ (sym (only_new (has_number numbers n)) ∙ (among_where p.ext.props (differs [] numbers) n m).1)) in
-      omega (arith, few, admitted.short)
+  gained_few : gained ≤ 128
+  gained_few =
+      let le = members_le nat_cmp nat_cmp_total (numbers_where p.ext.props (differs [] numbers)) numbers (sorted_where p.ext.props (differs [] numbers))
+      (sorted_where puts.learnt.dict.props (λ n. is_one_of (described_by p (new_file name assigned bytes)) (word_of puts.learnt.dict n))) (λ n m.
+      among_from_number numbers n (sym (only_new (has_number numbers n)) ∙ (among_where p.ext.props (differs [] numbers) n m).1)) in
+      omega (arith, le, puts.few)
 
-  pub few_marked : AreSound q → marked_count p ≡ 0 → marked_count q ≤ 300
-  few_marked after none =
+  pub few_marked : marked_count p ≡ 0 → marked_count q ≤ 300
+  few_marked none =
       let one = puts.learns.marks.few in
       let heads_of = heads_few (learnt_words (new_file name assigned bytes)) in
       let own = length-append assigned (derived_words name bytes) in
       let two = puts.adds.few in
       let three = subst (λ (e : Ext). marked_count q ≤ marked_count puts.filed + length (numbers_where e.props (differs [] numbers))) ext_before (puts.describes.marks [] (sym was_empty)).few in
-      omega (arith, none, one, heads_of, own, admitted.few, derived_few name bytes, two, three, gained_few after)
+      omega (arith, none, one, heads_of, own, admitted.few, derived_few name bytes, two, three, gained_few)
 
   pub few_staged : length old.staged ≡ 0 → length new.staged ≤ 16
   few_staged none = omega (arith, puts.adds.few_staged, none)

@@ -33,3 +33,4 @@ pub mod Assigned
 pub mod Gathered
 pub mod Measured
 pub mod Admitted
+pub mod AddFile

@@ -53,7 +53,7 @@ one_number : (d : Dict) → IsDict d → (m n : ℕ) (word : List ℕ) → word_
 one_number d dict m n word is_m is_n = same_Some m n (sym (number_from_word d dict word m is_m) ∙ number_from_word d dict word n is_n)
 
 -- numbers of words are no more than the words
-pub few_named : (d : Dict) → IsDict d → (ns : List ℕ) (words : List (List ℕ)) → IsStrictlySortedBy nat_cmp ns → ((n : ℕ) → Among ns n → is_one_of words (word_of d n) ≡ true) → length ns ≤ length words
+few_named : (d : Dict) → IsDict d → (ns : List ℕ) (words : List (List ℕ)) → IsStrictlySortedBy nat_cmp ns → ((n : ℕ) → Among ns n → is_one_of words (word_of d n) ≡ true) → length ns ≤ length words
 few_named d dict [] words sorted each = omega arith
 few_named d dict (n ∷ ns) words sorted each =
     let first = one_of words (word_of d n) (each n (inl refl)) in

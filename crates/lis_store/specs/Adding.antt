@@ -61,6 +61,7 @@ learnt_words file = file.assigned ++ derived_words file.name file.bytes
 pub record PutsIn (file : File) (p q : Kept) (old new : Held) : Type 0 where
   pub learnt : Kept
   pub learns : LearnsAll (with_heads (learnt_words file)) p learnt
+  pub few : length (numbers_named learnt.dict (described_by p file)) ≤ 128
   pub slot : ℕ
   pub filed : Kept
   pub adds : Adds file.name (numbers_named learnt.dict file.assigned) file.bytes slot learnt filed old new

@@ -1,4 +1,4 @@
-use Rattle.std.proofs.Common.{◌≡◌, ◌∙◌, ◌++◌, ◌≤◌, ℕ, List, [], true, None, is_some, length, sym, ap, subst}
+use Rattle.std.proofs.Common.{◌≡◌, ◌∙◌, ◌++◌, ◌≤◌, ℕ, List, [], true, None, is_some, length, sym, ap, subst, arith}
 use Rattle.std.specs.List.{list_all}
 use Rattle.lis_ext.specs.Ext.{set_of as numbers_at}
 use Rattle.std.specs.List.Sorted.{IsStrictlyIncreasing}
@@ -12,6 +12,7 @@ use Rattle.lis_kept.specs.Changes.{Adds, Describes}
 use Rattle.lis_kept.specs.Telling.{declared_of, axioms_of}
 use Rattle.lis_store.specs.Admitting.{described_by}
 use Rattle.lis_store.specs.Adding.{numbers_named, AreNumbered, with_heads, may_learn, HasWordRoom, LearnsAll, learnt_words}
+use Rattle.lis_store.proofs.Naming.{named_few}
 use Rattle.lis_store.proofs.PutIn.{assigned_may, derived_may, assigned_room, derived_room, both_learnt, own_numbered, entailed_is, entailed_short, named_tags, named_rising, named_worded, slot_was_empty}
 use Rattle.lis_store.proofs.adding.put_in.Goals as goal
 
@@ -103,6 +104,7 @@ returns-clause-put g c =
     record {
       learnt = r;
       learns = learns;
+      few = omega (arith, named_few r.dict c.numbers_of-tags.ensures.sound.dict (described_by p (new_file c.args.name.now c.args.assigned.now c.args.payload.now)), c.requires.admitted.short);
       slot = c.add_file-slot.result;
       filed = c.add_file-slot.new.self;
       adds = subst A c.numbers_of-tags.ensures.numbers c.add_file-slot.ensures.added;
