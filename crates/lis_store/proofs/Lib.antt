@@ -23,4 +23,5 @@ pub mod Had
 pub mod Assigned
 pub mod Gathered
 pub mod Measured
+pub mod FreeBlocks
 pub mod Admitted

@@ -1,19 +1,18 @@
 //! The size of a new file's description, and how many of its words are new.
 
-ghost use Rattle.std.specs.Prelude.{◌≡◌, ℕ, ◌+◌, ◌*◌, ◌<◌, ◌≤◌, List, [], ◌∷◌, length};
+ghost use Rattle.std.specs.Prelude.{◌≡◌, ◌+◌, ◌*◌, ◌<◌, ◌≤◌, [], ◌∷◌, length};
 ghost use Rattle.lis_bits.specs.Rows.{HasShape};
 ghost use Rattle.lis_words.specs.Words.{has_word};
 ghost use Rattle.lis_model.specs.Changes.{new_file};
-ghost use Rattle.lis_model.specs.Derived.{derived_words};
 ghost use Rattle.lis_model.specs.State.{heads};
 ghost use Rattle.lis_kept.specs.Sound.{AreSound};
 ghost use Rattle.lis_store.specs.Admitting.{described_by, known_with};
 ghost use Rattle.lis_store.specs.Describing.{with_heads, Gathers};
 
+use crate::derived::derived;
 use arrayvec::ArrayVec;
 use lis_bits::{Rows, and_not_row};
 use lis_kept::Parts;
-use lis_model::derived::Derived;
 use lis_words::{Name, Word, head_of};
 
 /// The words that are new: as many as 64 words, which a file is given or which are derived from it, have with their heads.
@@ -24,13 +23,6 @@ type Fresh = ArrayVec<Word, 128>;
 pub(crate) struct Extent {
     pub(crate) words: u32,
     pub(crate) fresh: u32,
-}
-
-// The words that are derived from a new file. Nothing is derived yet.
-fn derived(_name: &Name, _payload: &[u8]) -> Derived
-    ensures { result ≡ derived_words _name.now _payload.now }
-{
-    Derived::new()
 }
 
 // Whether the word is one of the words.

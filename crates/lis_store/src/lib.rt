@@ -6,6 +6,7 @@
 mod admitting;
 mod assigning;
 mod change;
+mod derived;
 mod describing;
 mod judging;
 pub mod laws;
