@@ -1,5 +1,5 @@
 -- The row of a new file, told by what a store keeps, is the row of the state; and what holds where it refuses nothing.
-use Rattle.std.proofs.Common.{◌≡◌, ◌⊎◌, refl, sym, ap, ap₂, ◌∙◌, inl, inr, ℕ, ◌<◌, ◌≤◌, ◌==◌, nat_lt, nat_le, Bool, true, false, not, cond, is_some, Option, Some, None, List, ◌++◌, length, arith, eqb-true}
+use Rattle.std.proofs.Common.{◌≡◌, ◌⊎◌, refl, sym, ap, ap₂, ◌∙◌, inl, inr, ℕ, ◌<◌, ◌≤◌, ◌==◌, nat_lt, nat_le, Bool, true, false, not, cond, is_some, Option, Some, None, List, ◌++◌, length, Result, Err, arith, eqb-true}
 use Rattle.std.specs.Prelude.{IsTrue}
 use Rattle.std.specs.List.{list_any, list_all}
 use Rattle.std.proofs.lemmas.Bool.{and_parts, le-ltb, ltb-true, ltb-false, leb-true, leb-false, not-false}
@@ -27,11 +27,13 @@ use Rattle.lis_kept.specs.Telling.{declared_of, axioms_of}
 use Rattle.lis_kept.proofs.Filing.{same_tests}
 use Rattle.lis_store.specs.Stored.{Stored, IsSound, StoreFits}
 use Rattle.lis_store.specs.Admitting.{described_by, known_with, named_checks, room_checks, file_checks, add_checks_of, IsAdmitted}
-use Rattle.lis_store.specs.Changes.{first_refusal}
+use Rattle.lis_store.specs.declared.change.Change.{Change}
+use Rattle.lis_store.specs.declared.change.Change.TheVariants.{Refused}
+use Rattle.lis_store.specs.Changes.{Changes, first_refusal}
 use Rattle.lis_store.proofs.Assigned.{sorted_assigned}
 use Rattle.lis_store.proofs.Facts.{limits_told, known_told, name_filed, files_counted}
 use Rattle.lis_store.proofs.FreeBlocks.{used_told}
-use Rattle.lis_store.proofs.Judged.{refused_first, refused_then, same_first, all_pass, judged_refused, judged_done}
+use Rattle.lis_store.proofs.Judged.{refused_first, refused_then, same_first, all_pass, judged_refused, judged_done, change_refused}
 
 -- ---- the row, part by part
 module _ (k : Kept) (place : List Formula) (name : List ℕ) (words : List (List ℕ)) (bytes : List ℕ) (size : ℕ) (small : size ≤ file_limit k.limits.version) where
@@ -232,3 +234,11 @@ module _ (k : Stored) (m : Meaning) (s : State) (sound : IsSound k) (fits : Stor
   add_done name payload none =
       let file = new_file name (assigned_at place words) payload.bytes in
       judged_done now (add_checks now words file (file_added s file) payload.size) (changed now (file_added s file)) (sym (same_row name payload.bytes payload.size) ∙ none)
+
+-- a call that is refused changes nothing
+pub added_refused : {T : Type 0} (old : Stored) (m : Meaning) (place : List Formula) (name : List ℕ) (words : List (List ℕ)) (payload : Payload) (refusal : Refusal) (result : Result T Change)
+    → IsSound old → first_refusal (add_checks_of old.parts place name words payload.bytes payload.size) ≡ Some refusal → result ≡ Err (Refused refusal)
+    → (s : State) → StoreFits old m s → Changes (record { state = s; place = place }) (add (record { state = s; place = place }) name words payload) old m m result
+added_refused old m place name words payload refusal result sound first ends s fits =
+    let now : Situation = record { state = s; place = place } in
+    change_refused old m now (add now name words payload) refusal result fits (add_refused old m s sound fits place words name payload refusal first) ends
