@@ -2,7 +2,7 @@
 use Rattle.std.proofs.Common.{◌≡◌, ◌⊎◌, refl, sym, ap, ap₂, ◌∙◌, subst, inl, inr, ℕ, suc, ◌+◌, ◌<◌, ◌≤◌, ◌==◌, nat_le, Bool, true, false, cond, ◌&&◌, ◌||◌, is_some, IsSome, Option, Some, None, List, [], ◌∷◌, ◌++◌, length, take, drop, get_or, filter, slice_get, arith}
 use Rattle.std.specs.Prelude.{unwrap_or, option_map}
 use Rattle.std.specs.List.{flat_map, list_all, prefix_len, insert, fold}
-use Rattle.std.specs.BTreeSet.{insert_key}
+use Rattle.std.specs.List.Sorted.{IsStrictlySortedBy}
 use Rattle.std.specs.declared.cmp.Ordering.{Ordering}
 use Rattle.std.specs.declared.cmp.Ordering.TheVariants.{Less, Equal, Greater}
 use Rattle.std.specs.Ordering.{is_gt, match_ordering}
@@ -15,6 +15,7 @@ use Rattle.std.proofs.lemmas.List.Kept.{IsStrictlySortedBy-filter}
 use Rattle.std.proofs.lemmas.List.Sums.{prefix_len-le-length}
 use Rattle.std.proofs.lemmas.Grind.{flat_map-append}
 use Rattle.lis_graph.proofs.Members.{Among, among_filter, filter_among, among_flat_map, flat_map_among}
+use Rattle.lis_graph.proofs.Sets.{sorted_nil}
 use Rattle.lis_words.specs.Words.{word_cmp, same_word, has_word, is_plain_word, is_valued, head_bytes}
 use Rattle.lis_grammar.specs.Formula.{Formula}
 use Rattle.lis_grammar.specs.Formula.Formula.{Has, SizeAtLeast, SizeBelow, Negation, Both, Either}
@@ -25,7 +26,7 @@ use Rattle.lis_model.specs.Sets.{with_word, with_words, set_of}
 use Rattle.lis_model.specs.Places.{both_lists, conjuncts, all_conjuncts, place_words, place_tags, is_tag}
 use Rattle.lis_model.specs.State.{is_assignable}
 use Rattle.lis_model.specs.Step.{tags_at, assigned_at}
-use Rattle.lis_laws.proofs.Members.{word_exact, word_order, same_word_decides, among_from_has_word, has_word_from_among, among_with_words, with_words_old, with_words_new, among_set_of, set_of_among, sorted_set_of, same_words}
+use Rattle.lis_laws.proofs.Members.{word_exact, word_order, same_word_decides, among_from_has_word, has_word_from_among, among_with_words, with_words_old, with_words_new, among_set_of, set_of_among, sorted_with_words, sorted_set_of, same_words}
 use Rattle.lis_laws.proofs.Counts.{all_among, all_from, le_insert_key}
 use Rattle.lis_laws.proofs.Apart.{plain_not_valued}
 use Rattle.lis_kept.specs.Kept.{Kept}
@@ -123,6 +124,14 @@ tags_of_nodes place some =
 
 pub assigned_is : (place : List Formula) (words : List (List ℕ)) → IsSome (place_words place) → assigned_at place words ≡ with_words (set_of (flat_map node_tags (nodes_of place))) words
 assigned_is place words some = ap (λ ws. with_words ws words) (tags_of_nodes place some)
+
+-- they are a set
+pub sorted_assigned : (place : List Formula) (words : List (List ℕ)) → IsStrictlySortedBy word_cmp (assigned_at place words)
+sorted_assigned place words = sorted_with_words (tags_at place) words (by (all_conjuncts place))
+  where
+    by : (o : Option (List (List ℕ))) → IsStrictlySortedBy word_cmp (unwrap_or (option_map (filter is_tag) (option_map set_of o)) [])
+    by None = sorted_nil word_cmp word_order
+    by (Some found) = IsStrictlySortedBy-filter word_cmp is_tag (set_of found) (sorted_set_of found)
 
 -- ---- a test of all of them
 module _ (test : List ℕ → Bool) (place : List Formula) (words : List (List ℕ)) (some : IsSome (place_words place)) where

@@ -43,7 +43,7 @@ use Rattle.lis_kept.proofs.Formed.{some_word}
 use Rattle.lis_kept.proofs.OwnLinks.{declared_no_tests}
 use Rattle.lis_store.specs.Admitting.{described_by, known_with}
 use Rattle.lis_store.specs.Describing.{with_heads, leads, IsEntailed, AreGathered, Gathers}
-use Rattle.lis_store.proofs.Entailment.{link_numbered}
+use Rattle.lis_store.proofs.Entailment.{up_has_number}
 use Rattle.lis_store.proofs.Gathered.{numbered_below}
 use Rattle.lis_store.proofs.Points.{AllApart, no_tie, length-with_more}
 
@@ -83,13 +83,6 @@ module _ (k : Kept) (sound : AreSound k) where
   -- ---- what words lead to
   abbrev Up : List ℕ → List (List ℕ)
   Up = up (declared_of k) (axioms_of k)
-
-  chain_has_number : (len n : ℕ) (p q : List ℕ) → word_of k.dict n ≡ Some p → Chain (links (declared_of k)) (axioms_of k) len p q → (m : ℕ) × (word_of k.dict m ≡ Some q)
-  chain_has_number zero n p q is same = (n, is ∙ ap Some same)
-  chain_has_number (suc len) n p q is c = let link = link_numbered k sound n p c.0 is c.1 in chain_has_number len link.number c.0 q link.named c.2
-
-  up_has_number : (n : ℕ) (p q : List ℕ) → word_of k.dict n ≡ Some p → Among (Up p) q → (m : ℕ) × (word_of k.dict m ≡ Some q)
-  up_has_number n p q is m = let chain = entails_from_up (declared_of k) (axioms_of k) p q m in chain_has_number chain.0 n p q is chain.1
 
   -- a word without a number leads to itself, and through its head
   first_link : (p q : List ℕ) → number_of k.dict p ≡ None → Among (Up p) q → (p ≡ q) ⊎ ((is_valued p ≡ true) × Among (Up (head_bytes p)) q)
@@ -189,7 +182,7 @@ module _ (k : Kept) (sound : AreSound k) where
     by_number : (p q : List ℕ) (n : ℕ) → Among all p → number_of k.dict p ≡ Some n → Among (Up p) q → Among (with_words told fresh) q
     by_number p q n m is there =
         let named = word_from_number k.dict sound.dict p n is in
-        let found = up_has_number n p q named there in
+        let found = up_has_number k sound n p q named there in
         let off = are.all p q n found.0 (has_word_from_among all p m) named found.1 (has_word_from_among (Up p) q there) in
         with_words_old told fresh q
         (word_among k sound numbers found.0 q found.1
@@ -299,8 +292,11 @@ module _ (k : Kept) (sound : AreSound k) where
 
     pub file_known : length k.dict.entries + length fresh ≡ length (known_with k file)
     file_known =
-        omega (arith, known_counted file.assigned (derived_words file.name file.bytes) lacked fresh are,
-        ap (λ ws. length (with_words (known_words k.dict) (all_up (declared_of k) (axioms_of k) ws))) (own_given k sound file))
+        omega (
+          arith,
+          known_counted file.assigned (derived_words file.name file.bytes) lacked fresh are,
+          ap (λ ws. length (with_words (known_words k.dict) (all_up (declared_of k) (axioms_of k) ws))) (own_given k sound file),
+        )
 
     pub few_had : true_count had 0 ≤ k.limits.props
     few_had = omega (arith, had_counted, few_where k.limits.props (λ n. not (get lacked 0 n)) (numbers_where k.limits.props (λ n. not (get lacked 0 n))) refl)

@@ -17,9 +17,6 @@ use lis_model::command::Tags;
 use lis_place::{Node, Place};
 use lis_words::{Word, head_of, is_builtin, is_head, is_plain_word};
 
-/// The most words that a file is given.
-pub(crate) const MAX_ASSIGNED: usize = 16;
-
 // Whether a node is a word, or a conjunction.
 fn is_conjunct(node: &Node) -> bool
     ensures { result ≡ is_conjunct node.now }

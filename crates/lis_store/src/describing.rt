@@ -1,6 +1,6 @@
 //! The size of a new file's description, and how many of its words are new.
 
-ghost use Rattle.std.specs.Prelude.{◌≡◌, ℕ, ◌+◌, ◌*◌, ◌<◌, ◌≤◌, List, [], ◌∷◌, length};
+ghost use Rattle.std.specs.Prelude.{◌≡◌, ◌+◌, ◌*◌, ◌<◌, ◌≤◌, [], ◌∷◌, length};
 ghost use Rattle.lis_bits.specs.Rows.{HasShape};
 ghost use Rattle.lis_words.specs.Words.{has_word};
 ghost use Rattle.lis_model.specs.Changes.{new_file};
@@ -91,6 +91,7 @@ pub(crate) fn measure(
     ensures known { length parts.now.dict.entries + result.fresh ≡ length (known_with parts.now (new_file name.now words.now payload.now)) }
     ensures fresh { result.fresh ≤ 128 }
 {
+    // Rows of other rows are taken from a row, so it has at first what the file lacks.
     let mut fresh = ArrayVec::new();
     row.fill(0, true);
     gather_all(parts, row, &mut fresh, words);

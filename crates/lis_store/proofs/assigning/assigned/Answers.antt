@@ -1,4 +1,4 @@
-use Rattle.std.proofs.Common.{◌≡◌, ℕ, ◌∙◌, true, false, sym, subst, List, length}
+use Rattle.std.proofs.Common.{◌∙◌, sym, subst, length}
 use Rattle.std.specs.List.{flat_map}
 use Rattle.std.proofs.lemmas.Bool.{leb-false}
 use Rattle.lis_place.specs.Nodes.{nodes_of}

@@ -1,5 +1,5 @@
 use Rattle.std.proofs.Common.{◌∙◌, refl, sym, ap}
-use Rattle.lis_words.specs.Words.{is_plain_word, is_valued}
+use Rattle.lis_words.specs.Words.{is_plain_word}
 use Rattle.lis_kept.specs.Telling.{is_declared}
 use Rattle.lis_store.proofs.Assigned.{plain_assignable, valued_assignable}
 use Rattle.lis_store.proofs.assigning.is_assignable.Goals as goal

@@ -1,4 +1,4 @@
-use Rattle.std.proofs.Common.{◌≡◌, ℕ, ◌∙◌, true, sym, subst, List}
+use Rattle.std.proofs.Common.{ℕ, ◌∙◌, true, sym, subst, List}
 use Rattle.lis_store.specs.Assigning.{Takes}
 use Rattle.lis_store.proofs.Assigned.{takes_none, no_tag, other_tag, one_tag}
 use Rattle.lis_store.proofs.assigning.put_node.Goals as goal

@@ -1,4 +1,4 @@
-use Rattle.std.proofs.Common.{◌≡◌, ℕ, ◌∙◌, true, false, sym, ap, subst, List, arith, length}
+use Rattle.std.proofs.Common.{false, ap, subst, arith}
 use Rattle.std.specs.List.{flat_map}
 use Rattle.lis_store.specs.Assigning.{node_tags, Takes}
 use Rattle.lis_store.proofs.Assigned.{takes_stop}

@@ -1,4 +1,4 @@
-use Rattle.std.proofs.Common.{◌≡◌, ℕ, ◌∙◌, [], ◌∷◌, true, false, sym, ap, subst, List, arith, length, take}
+use Rattle.std.proofs.Common.{ℕ, ◌∙◌, [], ◌∷◌, true, false, ap, subst, List, arith}
 use Rattle.std.specs.List.{flat_map}
 use Rattle.std.proofs.lemmas.List.{take_all}
 use Rattle.lis_store.specs.Assigning.{Takes}

@@ -1,4 +1,4 @@
-use Rattle.std.proofs.Common.{◌≡◌, ℕ, ◌∙◌, ◌∷◌, [], ◌++◌, Some, sym, ap, subst, List, length, arith}
+use Rattle.std.proofs.Common.{ℕ, ◌∙◌, ◌∷◌, [], ◌++◌, Some, sym, ap, subst, List, arith}
 use Rattle.lis_dict.proofs.Laws.{word_from_number}
 use Rattle.lis_words.specs.Words.{has_word}
 use Rattle.lis_store.specs.Describing.{Gathers}

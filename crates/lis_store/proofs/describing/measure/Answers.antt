@@ -1,5 +1,4 @@
-use Rattle.std.proofs.Common.{◌≡◌, ℕ, ◌∙◌, ◌++◌, [], sym, ap, subst, List, length, arith}
-use Rattle.lis_bits.specs.Rows.{true_count}
+use Rattle.std.proofs.Common.{ℕ, ◌∙◌, ◌++◌, [], sym, ap, subst, List, length, arith}
 use Rattle.lis_model.specs.Derived.{derived_words}
 use Rattle.lis_model.specs.Changes.{new_file}
 use Rattle.lis_kept.proofs.InArea.{few_properties}
