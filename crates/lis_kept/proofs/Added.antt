@@ -185,6 +185,8 @@ module _ (p : Kept) (t : Taxonomy) (held : AreHeld p t) {old new : Held} {name t
       named = refl;
       tagged = refl;
       sized = refl;
+      were_free = file.put.were_free;
+      taken = file.put.marks;
       image = file.put.image;
       records = file.put.records;
       placed = file.put.placed;

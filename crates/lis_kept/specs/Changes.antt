@@ -1,9 +1,9 @@
 -- The changes of memory. Each marks the blocks that it touches, and tells what becomes of the state.
-use Rattle.std.specs.Prelude.{◌≡◌, ◌⊎◌, ℕ, ◌+◌, ◌<◌, ◌≤◌, true, ◌&&◌, not, if◌then◌else◌, is_some, Some, None, List, [], length, slice_set}
+use Rattle.std.specs.Prelude.{◌≡◌, ◌⊎◌, ℕ, ◌+◌, ◌<◌, ◌≤◌, true, ◌&&◌, not, if◌then◌else◌, is_some, Some, None, List, [], length, slice_set, IsTrue}
 use Rattle.lis_journal.specs.Journal.{Held}
 use Rattle.lis_journal.specs.Images.{look}
 use Rattle.lis_journal.specs.Phases.{looked}
-use Rattle.lis_content.specs.Content.{given, has_number}
+use Rattle.lis_content.specs.Content.{given, marked, are_free, has_number}
 use Rattle.lis_dict.specs.Dict.{words, number_of, word_of, with_entry}
 use Rattle.lis_catalog.specs.Catalog.{rec_at, without_slot, with_filed}
 use Rattle.lis_ext.specs.Ext.{set_of}
@@ -90,6 +90,9 @@ pub record Adds (name tags bytes : List ℕ) (slot : ℕ) (p q : Kept) (old new 
   pub named : rec.name ≡ name
   pub tagged : rec.tags ≡ tags
   pub sized : rec.size ≡ length bytes
+  -- its data blocks were free, and are taken now
+  pub were_free : IsTrue (are_free p.taken rec.blocks)
+  pub taken : q.taken ≡ marked p.taken rec.blocks
   pub image : new.blocks ≡ old.blocks
   pub records : new.records ≡ old.records
   pub placed : new.placed ≡ old.placed

@@ -119,7 +119,7 @@ module _ (k : Kept) (sound : AreSound k) where
 
   -- ---- chains
   module _ (t : Taxonomy) (tells : TellsLinks k t) where
-    chain_numbered : (len n : ℕ) (p q : List ℕ) → word_of k.dict n ≡ Some p → Chain (links (declared_of k)) (axioms_of k) len p q
+    pub chain_numbered : (len n : ℕ) (p q : List ℕ) → word_of k.dict n ≡ Some p → Chain (links (declared_of k)) (axioms_of k) len p q
         → (m : ℕ) × (word_of k.dict m ≡ Some q) × Chain no_links (set.items t.edges) len n m
     chain_numbered zero n p q is same = (n, is ∙ ap Some same, refl)
     chain_numbered (suc len) n p q is c =
@@ -128,7 +128,7 @@ module _ (k : Kept) (sound : AreSound k) where
         let edge = edge_among t n link.number (tells.edges n link.number ∙ link.linked) in
         (rest.0, rest.1, (link.number, inr (contains_from_among (set.items t.edges) (n, link.number) edge), rest.2))
 
-    chain_named : (len n m : ℕ) (p : List ℕ) → word_of k.dict n ≡ Some p → Chain no_links (set.items t.edges) len n m
+    pub chain_named : (len n m : ℕ) (p : List ℕ) → word_of k.dict n ≡ Some p → Chain no_links (set.items t.edges) len n m
         → (q : List ℕ) × (word_of k.dict m ≡ Some q) × Chain (links (declared_of k)) (axioms_of k) len p q
     chain_named zero n m p is same = (p, ap (word_of k.dict) (sym same) ∙ is, refl)
     chain_named (suc len) n m p is c =
@@ -148,6 +148,14 @@ module _ (k : Kept) (sound : AreSound k) where
         let named = chain_named leads.0 n m p is_p leads.1 in
         let same : named.0 ≡ q = same_Some named.0 q (sym named.1 ∙ is_q) in
         subst (λ w. Among (up (declared_of k) (axioms_of k) p) w) same (up_from_entails (declared_of k) (axioms_of k) p named.0 (leads.0, named.2))
+
+  -- what a word with a number entails has one
+  chain_has_number : (len n : ℕ) (p q : List ℕ) → word_of k.dict n ≡ Some p → Chain (links (declared_of k)) (axioms_of k) len p q → (m : ℕ) × (word_of k.dict m ≡ Some q)
+  chain_has_number zero n p q is same = (n, is ∙ ap Some same)
+  chain_has_number (suc len) n p q is c = let link = link_numbered n p c.0 is c.1 in chain_has_number len link.number c.0 q link.named c.2
+
+  pub up_has_number : (n : ℕ) (p q : List ℕ) → word_of k.dict n ≡ Some p → Among (up (declared_of k) (axioms_of k) p) q → (m : ℕ) × (word_of k.dict m ≡ Some q)
+  up_has_number n p q is entailed = let chain = entails_from_up (declared_of k) (axioms_of k) p q entailed in chain_has_number chain.0 n p q is chain.1
 
   -- a file that has a number has those of all words that its word entails
   closed_chain : AreClosed k → (slot len n : ℕ) (p q : List ℕ) → word_of k.dict n ≡ Some p → has k.ext n slot ≡ true → Chain (links (declared_of k)) (axioms_of k) len p q

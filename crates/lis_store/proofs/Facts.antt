@@ -9,7 +9,7 @@ use Rattle.lis_journal.proofs.Fitting.{kept_whole}
 use Rattle.lis_graph.proofs.Members.{Among, contains_from_among, among_map, map_among}
 use Rattle.lis_words.specs.Words.{same_word, has_word}
 use Rattle.lis_fields.specs.Records.{FileRecord}
-use Rattle.lis_dict.specs.Dict.{words, number_of}
+use Rattle.lis_dict.specs.Dict.{Dict, words, number_of}
 use Rattle.lis_dict.proofs.Laws.{number_from_word, word_from_number}
 use Rattle.lis_catalog.specs.Catalog.{Filed, slot_of, rec_at}
 use Rattle.lis_catalog.proofs.Laws.{rec_at-slot_of}
@@ -48,6 +48,13 @@ any_is_found test (x ∷ xs) = by (test x) (any_is_found test xs)
 is_some-map : {X Y : Type 0} (v : X → Y) (o : Option X) → is_some (option_map v o) ≡ is_some o
 is_some-map v None = refl
 is_some-map v (Some x) = refl
+
+-- a word has a number exactly where it is one of the words
+pub numbered : (d : Dict) (word : List ℕ) → has_word (words d) word ≡ is_some (number_of d word)
+numbered d word =
+    any_map (λ w. same_word w word) (λ (e : List ℕ × ℕ). e.0) d.entries
+    ∙ (any_is_found (λ (e : List ℕ × ℕ). same_word e.0 word) d.entries
+    ∙ sym (is_some-map (λ (e : List ℕ × ℕ). e.1) (find (λ e. same_word e.0 word) d.entries)))
 
 length-whole : (at : ℕ → List ℕ) (ns : List ℕ) → ((n : ℕ) → Among ns n → length (at n) ≡ 4096) → length (flat_map at ns) ≡ 4096 * length ns
 length-whole at [] whole = refl
@@ -102,11 +109,7 @@ module _ (k : Kept) (at : ℕ → List ℕ) (s : State) (sound : AreSound k) (fr
 
   -- a word has a number exactly where it is known
   pub known_numbered : (word : List ℕ) → has_word (known s) word ≡ is_some (number_of k.dict word)
-  known_numbered word =
-      ap (λ ws. has_word ws word) (sym known_told)
-      ∙ (any_map (λ w. same_word w word) (λ (e : List ℕ × ℕ). e.0) k.dict.entries
-      ∙ (any_is_found (λ (e : List ℕ × ℕ). same_word e.0 word) k.dict.entries
-      ∙ sym (is_some-map (λ (e : List ℕ × ℕ). e.1) (find (λ e. same_word e.0 word) k.dict.entries))))
+  known_numbered word = ap (λ ws. has_word ws word) (sym known_told) ∙ numbered k.dict word
 
   pub number_of_known : (word : List ℕ) → Among (known s) word → (n : ℕ) × (number_of k.dict word ≡ Some n)
   number_of_known word m =

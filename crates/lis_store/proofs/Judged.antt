@@ -1,5 +1,5 @@
 -- Rows of refusals that are judged, and commands that are refused.
-use Rattle.std.proofs.Common.{◌≡◌, ◌⊎◌, refl, sym, ap, subst, Bool, true, false, cond, List, [], ◌∷◌, Option, Some, None, Result, Err}
+use Rattle.std.proofs.Common.{◌≡◌, ◌⊎◌, refl, sym, ap, ap₂, ◌∙◌, subst, Bool, true, false, cond, List, [], ◌∷◌, ◌++◌, Option, Some, None, Result, Err}
 use Rattle.std.proofs.lemmas.Option.{same_Some}
 use Rattle.lis_ports.specs.Meaning.{Meaning}
 use Rattle.lis_ports.proofs.Moments.{leaves_none}
@@ -9,7 +9,7 @@ use Rattle.lis_store.specs.declared.change.Change.{Change}
 use Rattle.lis_store.specs.declared.change.Change.TheVariants.{Refused}
 use Rattle.lis_store.specs.Stands.{Stands}
 use Rattle.lis_store.specs.Stored.{Stored, StoreFits}
-use Rattle.lis_store.specs.Changes.{Changes, first_refusal}
+use Rattle.lis_store.specs.Changes.{Changes, first_refusal, Judges}
 
 pub judged_refused : (now : Situation) (checks : List (Bool × Refusal)) (done : Outcome) (refusal : Refusal) → first_refusal checks ≡ Some refusal → judged now checks done ≡ refused now refusal
 judged_refused now [] done refusal first = absurd cc
@@ -32,6 +32,57 @@ judged_done now (check ∷ checks) done none = by (judged_done now checks done) 
 pub passed : (b : Bool) (refusal : Refusal) (rest : Option Refusal) → cond b (Some refusal) rest ≡ None → (b ≡ false) × (rest ≡ None)
 passed true refusal rest none = absurd cc
 passed false refusal rest none = (refl, none)
+
+-- all checks of a row that refuses nothing
+abbrev pub AllPass : List (Bool × Refusal) → Type 0
+AllPass [] = Unit {0}
+AllPass (check ∷ checks) = (check.0 ≡ false) × AllPass checks
+
+pub all_pass : (checks : List (Bool × Refusal)) → first_refusal checks ≡ None → AllPass checks
+all_pass [] none = tt
+all_pass (check ∷ checks) none = let first = passed check.0 check.1 (first_refusal checks) none in (first.0, all_pass checks first.1)
+
+-- ---- rows one after another
+pub refused_first : (checks others : List (Bool × Refusal)) (refusal : Refusal) → first_refusal checks ≡ Some refusal → first_refusal (checks ++ others) ≡ Some refusal
+refused_first [] others refusal first = absurd cc
+refused_first (check ∷ checks) others refusal first = by (refused_first checks others refusal) check.0 first
+  where
+    by : (first_refusal checks ≡ Some refusal → first_refusal (checks ++ others) ≡ Some refusal) → (b : Bool) → cond b (Some check.1) (first_refusal checks) ≡ Some refusal
+        → cond b (Some check.1) (first_refusal (checks ++ others)) ≡ Some refusal
+    by rest true e = e
+    by rest false e = rest e
+
+pub refused_then : (checks others : List (Bool × Refusal)) → first_refusal checks ≡ None → first_refusal (checks ++ others) ≡ first_refusal others
+refused_then [] others none = refl
+refused_then (check ∷ checks) others none = by (refused_then checks others) check.0 none
+  where
+    by : (first_refusal checks ≡ None → first_refusal (checks ++ others) ≡ first_refusal others) → (b : Bool) → cond b (Some check.1) (first_refusal checks) ≡ None
+        → cond b (Some check.1) (first_refusal (checks ++ others)) ≡ first_refusal others
+    by rest true e = absurd cc
+    by rest false e = rest e
+
+pub judges_refused : {T : Type 0} (checks : List (Bool × Refusal)) (result : Result T Refusal) (refusal : Refusal) → result ≡ Err refusal → first_refusal checks ≡ Some refusal → Judges checks result
+judges_refused checks result refusal ends first = subst (λ r. Judges checks r) (sym ends) first
+
+-- ---- rows with the same refusals, of which each check is the same where none before it stands
+abbrev pub Alike : List (Bool × Refusal) → List (Bool × Refusal) → Type 0
+Alike [] [] = Unit {0}
+Alike [] (other ∷ others) = ⊥
+Alike (check ∷ checks) [] = ⊥
+Alike (check ∷ checks) (other ∷ others) = (check.1 ≡ other.1) × (check.0 ≡ other.0) × (check.0 ≡ false → Alike checks others)
+
+pub same_first : (checks others : List (Bool × Refusal)) → Alike checks others → first_refusal checks ≡ first_refusal others
+same_first [] [] alike = refl
+same_first [] (other ∷ others) alike = absurd alike
+same_first (check ∷ checks) [] alike = absurd alike
+same_first (check ∷ checks) (other ∷ others) alike =
+    by check.0 refl (λ passes. same_first checks others (alike.2 passes))
+    ∙ ap₂ (λ b r. cond b (Some r) (first_refusal others)) alike.1 alike.0
+  where
+    by : (b : Bool) → check.0 ≡ b → (check.0 ≡ false → first_refusal checks ≡ first_refusal others)
+        → cond b (Some check.1) (first_refusal checks) ≡ cond b (Some check.1) (first_refusal others)
+    by true e more = refl
+    by false e more = more e
 
 -- nothing was changed
 pub change_refused : {T : Type 0} (k : Stored) (m : Meaning) (now : Situation) (outcome : Outcome) (refusal : Refusal) (result : Result T Change) → StoreFits k m now.state

@@ -10,7 +10,7 @@ use Rattle.lis_content.proofs.Numbers.{length-marked}
 use Rattle.lis_kept.proofs.Filing.{among_from_number, number_from_among}
 
 -- ---- what is taken
-taken_after : (taken : List Bool) (ns : List ℕ) (n : ℕ) → n < length taken → is_taken (marked taken ns) n ≡ (has_number ns n || is_taken taken n)
+pub taken_after : (taken : List Bool) (ns : List ℕ) (n : ℕ) → n < length taken → is_taken (marked taken ns) n ≡ (has_number ns n || is_taken taken n)
 taken_after taken [] n lt = refl
 taken_after taken (b ∷ ns) n lt = taken_after (set taken b true) ns n (omega (arith, lt, length-set taken b true)) ∙ by (cases_eq b n) (has_number ns n)
   where

@@ -19,7 +19,7 @@ has_decides numbers p = (
   λ m. any_from_among (λ q. nat_eq q p) numbers p m (eq-eqb p p refl),
 )
 
-sorted_where : (props : ℕ) (test : ℕ → Bool) → IsStrictlySortedBy nat_cmp (numbers_where props test)
+pub sorted_where : (props : ℕ) (test : ℕ → Bool) → IsStrictlySortedBy nat_cmp (numbers_where props test)
 unfolding numbers_where
 sorted_where props test = IsStrictlySortedBy-filter nat_cmp test (range_with_len 0 props) (sorted_range 0 props)
 

@@ -39,7 +39,7 @@ module _ {K : Type 0} (cmp : K → K → Ordering) (order : IsTotalOrder cmp) wh
       either x (inr later) = inr (inr later)
 
   -- what ties in a set is one point
-  no_tie : (x y : K) (xs : List K) → AllByRecursion (λ z. cmp x z ≡ Less) xs → Among xs y → cmp x y ≡ Equal → ⊥
+  pub no_tie : (x y : K) (xs : List K) → AllByRecursion (λ z. cmp x z ≡ Less) xs → Among xs y → cmp x y ≡ Equal → ⊥
   no_tie x y [] below m tied = absurd m
   no_tie x y (z ∷ xs) below (inl same) tied = let less = ap (cmp x) (sym same) ∙ below.0 in cc
   no_tie x y (z ∷ xs) below (inr m) tied = no_tie x y xs below.1 m tied

@@ -54,7 +54,7 @@ use Rattle.lis_store.proofs.Told.{words_same}
 use Rattle.lis_store.proofs.Given.{given_taken}
 
 -- a set that has a number is one of the sets
-had_there : (sets : List (List ℕ)) (at n : ℕ) → has_number (get_or sets at []) n ≡ true → list_any (λ ns. has_number ns n) sets ≡ true
+pub had_there : (sets : List (List ℕ)) (at n : ℕ) → has_number (get_or sets at []) n ≡ true → list_any (λ ns. has_number ns n) sets ≡ true
 had_there [] at n h = absurd cc
 had_there (x ∷ xs) zero n h = or_left (has_number x n) (list_any (λ ns. has_number ns n) xs) h
 had_there (x ∷ xs) (suc at) n h = or_right (has_number x n) (list_any (λ ns. has_number ns n) xs) (had_there xs at n h)
@@ -66,7 +66,7 @@ same_map f g (y ∷ ys) e x (inl same) = let first : f y ≡ g y = cc in subst (
 same_map f g (y ∷ ys) e x (inr m) = let rest : map f ys ≡ map g ys = cc in same_map f g ys rest x m
 
 -- a sum is no less than one of its terms
-sum_has : (f : ℕ → ℕ) (xs : List ℕ) (x : ℕ) → Among xs x → f x ≤ sum (map f xs)
+pub sum_has : (f : ℕ → ℕ) (xs : List ℕ) (x : ℕ) → Among xs x → f x ≤ sum (map f xs)
 sum_has f [] x m = absurd m
 sum_has f (y ∷ ys) x (inl same) = omega (arith, ap f same, sum_by-cons (λ (n : ℕ). n) (f y) (map f ys))
 sum_has f (y ∷ ys) x (inr m) = omega (arith, sum_has f ys x m, sum_by-cons (λ (n : ℕ). n) (f y) (map f ys))

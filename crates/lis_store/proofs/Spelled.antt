@@ -270,7 +270,7 @@ module _ (k : Kept) (sound : AreSound k) where
       (map_among (file_of_record k.limits (properties_told k) at) (all_records (files_told k)) (f.0).rec (entry_recorded f.0 f.1))
 
   -- ---- data blocks
-  abbrev used : List ℕ
+  abbrev pub used : List ℕ
   used = flat_map (λ (f : Filed). f.rec.blocks) k.catalog.entries
 
   blocks_once : (at : ℕ → List ℕ) (o : Option Filed) → all_blocks k.limits at (records_in (file_by (option_map (λ (f : Filed). f.rec) o))) ≡ held (λ (f : Filed). f.rec.blocks) o
@@ -385,7 +385,7 @@ module _ (k : Kept) (at : ℕ → List ℕ) (sound : AreSound k) (free : FreeSlo
       ap (λ es. length es) (pairs_are k sound) ∙ omega (arith, some)
 
   -- ---- data blocks
-  told_below : (n : ℕ) → Among (used k sound) n → n < k.limits.blocks
+  pub told_below : (n : ℕ) → Among (used k sound) n → n < k.limits.blocks
   told_below n m =
       let found = among_flat_map (λ (f : Filed). f.rec.blocks) k.catalog.entries n m in
       (tells.given found.0 (contains_from_among k.catalog.entries found.0 found.1) n (has_from_among (found.0).rec.blocks n found.2)).0
@@ -399,7 +399,7 @@ module _ (k : Kept) (at : ℕ → List ℕ) (sound : AreSound k) (free : FreeSlo
   all_in_image : IsTrue (list_all (λ n. nat_lt n k.limits.blocks) (all_blocks k.limits at (all_records (files_told k))))
   all_in_image = all_from (λ n. nat_lt n k.limits.blocks) (all_blocks k.limits at (all_records (files_told k))) (λ n m. lt-ltb n k.limits.blocks (told_below n (slot_used n m)))
 
-  used_once : are_distinct (used k sound) ≡ true
+  pub used_once : are_distinct (used k sound) ≡ true
   used_once =
       distinct_pieces (λ (f : Filed). f.slot) (λ (f : Filed). f.rec.blocks) k.catalog.entries (sym (same_distinct (map (λ (f : Filed). f.slot) k.catalog.entries)) ∙ sound.catalog.apart)
       (λ f m. sym (same_distinct f.rec.blocks) ∙ (sound_parts k sound f m).apart)

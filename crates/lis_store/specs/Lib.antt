@@ -7,4 +7,7 @@ pub mod Laws
 pub mod Saving
 pub mod Judging
 pub mod Admitting
+pub mod Assigning
+pub mod Describing
 pub mod Removing
+pub mod Adding

@@ -3,7 +3,12 @@
 //! say what images it stands for.
 #![tactic(auto)]
 
+mod adding;
+mod admitting;
+mod assigning;
 mod change;
+mod derived;
+mod describing;
 mod judging;
 pub mod laws;
 mod removing;

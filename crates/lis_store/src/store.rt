@@ -17,6 +17,8 @@ ghost use Rattle.lis_store.specs.Stored.{IsSound, StoreFits};
 ghost use Rattle.lis_store.specs.Judging.{is_among};
 ghost use Rattle.lis_store.specs.Changes.{Changes, HasChangeCause, ChangeLeft, EditsFew};
 
+use crate::adding::put_in;
+use crate::admitting::may_add;
 use crate::change::Change;
 use crate::judging::may_declare;
 use crate::removing::take_out;
@@ -201,8 +203,24 @@ impl Store {
         ensures run { IsDiskRun (D.meaning disk.old) (D.meaning disk.new) }
         ensures cause { HasChangeCause (D.meaning disk.old).disk_faults (D.meaning disk.new).disk_faults result }
     {
-        // To be written.
-        Err(Change::Refused(Refusal::NoFileRoom))
+        // Only its bytes tell that a name has a name's form.
+        let _name = name.bytes();
+        let assigned = may_add(&self.parts, scratch, place, name, tags, payload, size)?;
+        put_in(
+            &mut self.parts,
+            &mut self.journal,
+            disk,
+            scratch,
+            name,
+            assigned.as_slice(),
+            payload,
+        );
+        save(
+            &mut self.parts,
+            &mut self.journal,
+            &mut self.is_broken,
+            disk,
+        )
     }
 
     /// Takes a file away: `rm` at the place.

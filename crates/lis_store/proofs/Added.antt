@@ -1,0 +1,346 @@
+-- What a file that is put in comes to.
+use Rattle.std.proofs.Common.{◌≡◌, ◌⊎◌, refl, sym, ap, ap₂, ◌∙◌, subst, inl, inr, ℕ, zero, suc, ◌+◌, ◌<◌, ◌≤◌, nat_lt, ◌==◌, not, ◌&&◌, ◌||◌, if◌then◌else◌, Bool, true, false, List, [], ◌∷◌, ◌++◌, length, get_or, set, Option, Some, None, is_some, IsSome, IsTrue, arith, get_or-set_same, get_or-set_other}
+use Rattle.std.specs.List.{list_any, list_all, flat_map}
+use Rattle.std.proofs.lemmas.Bool.{and_parts, or_cases, or_left, or_right, both_ways, cases_eq, eq-eqb, ne_eqb, not-true, ltb-true}
+use Rattle.std.proofs.lemmas.List.{get_or_default}
+use Rattle.std.proofs.lemmas.Option.{same_Some}
+use Rattle.lis_graph.proofs.Members.{Among, contains_from_among, among_from_any, any_from_among, among_left, among_flat_map, flat_map_among}
+use Rattle.lis_journal.specs.Journal.{Held}
+use Rattle.lis_blockmap.specs.Bitmap.{is_taken}
+use Rattle.lis_content.specs.Content.{marked, has_number, are_taken, are_free}
+use Rattle.lis_content.proofs.Numbers.{below_from_free, stay_marked, marked_are_taken}
+use Rattle.lis_dict.specs.Dict.{Dict, IsDict, words, number_of, word_of}
+use Rattle.lis_dict.proofs.Laws.{word_from_number, number_from_word}
+use Rattle.lis_catalog.specs.Catalog.{slot_of, rec_at, with_filed}
+use Rattle.lis_catalog.proofs.Laws.{rec_at-with_filed}
+use Rattle.lis_ext.specs.Ext.{Ext, has, set_of as numbers_at}
+use Rattle.lis_fields.specs.Records.{FileRecord}
+use Rattle.lis_fields.specs.declared.slots.AxiomSlot.{AxiomSlot}
+use Rattle.lis_fields.specs.declared.slots.AxiomSlot.TheVariants.{Free as FreeAxiom, Pair}
+use Rattle.lis_fields.specs.Layouts.{is_super}
+use Rattle.lis_words.specs.Words.{same_word, is_valued, head_bytes}
+use Rattle.lis_model.specs.Image.{image_blocks}
+use Rattle.lis_model.specs.Sets.{with_words}
+use Rattle.lis_model.specs.Derived.{derived_words}
+use Rattle.lis_model.specs.State.{File, up, all_up}
+use Rattle.lis_model.specs.Changes.{new_file}
+use Rattle.lis_laws.proofs.Chains.{up_self, up_trans, up_from_entails}
+use Rattle.lis_laws.proofs.Counts.{all_among, all_from}
+use Rattle.lis_laws.proofs.Members.{same_word_decides, among_from_has_word, has_word_from_among, among_with_words, among_set_of, set_of_among}
+use Rattle.lis_kept.specs.Kept.{Kept}
+use Rattle.lis_kept.specs.Links.{is_linked, has_pair}
+use Rattle.lis_kept.specs.Sound.{AreSound, FreeSlotsAreEmpty, BlocksAreTaken}
+use Rattle.lis_kept.specs.Forgetting.{KeepsInUse}
+use Rattle.lis_kept.specs.Telling.{declared_of, axioms_of, is_left_of, is_left_head_of, is_head_by, is_had, is_named_left, is_used, AreUsed}
+use Rattle.lis_kept.proofs.Filing.{among_from_number}
+use Rattle.lis_kept.proofs.Formed.{some_word}
+use Rattle.lis_kept.proofs.Known.{some_number, one_number, word_known, known_word}
+use Rattle.lis_kept.proofs.OwnLinks.{own_link_is}
+use Rattle.lis_store.specs.Stored.{Stored, PairsAreApart, AreClosed, DescriptionsAreShort, BlocksAreApart, IsSound}
+use Rattle.lis_store.specs.Saving.{settled}
+use Rattle.lis_store.specs.Admitting.{described_by, IsAdmitted}
+use Rattle.lis_store.specs.Adding.{is_one_of, AreNumbered, numbers_named, with_heads, learnt_words, PutsIn}
+use Rattle.lis_store.proofs.Cleaned.{clean_is, sound_clean, in_use_clean}
+use Rattle.lis_store.proofs.Entailment.{link_named, up_has_number}
+use Rattle.lis_store.proofs.Naming.{one_of, of_one, named_has, named_few}
+use Rattle.lis_store.proofs.PutIn.{described_is, entailed_is, own_numbered, head_entailed, behind_itself}
+use Rattle.lis_store.proofs.Removed.{had_there}
+
+has_number_of : (d : Dict) → IsDict d → (word : List ℕ) → (n : ℕ) × (word_of d n ≡ Some word) → IsSome (number_of d word)
+has_number_of d is word found = ap is_some (number_from_word d is word found.0 found.1)
+
+module _ (p q : Kept) (old new : Held) (name : List ℕ) (assigned : List (List ℕ)) (bytes : List ℕ) (sound : AreSound p) (admitted : IsAdmitted p (new_file name assigned bytes))
+    (puts : PutsIn (new_file name assigned bytes) p q old new) where
+  abbrev file : File
+  file = new_file name assigned bytes
+
+  abbrev slot : ℕ
+  slot = puts.slot
+
+  abbrev rec : FileRecord
+  rec = puts.adds.rec
+
+  abbrev dict : Dict
+  dict = puts.learnt.dict
+
+  abbrev described : List (List ℕ)
+  described = described_by p file
+
+  abbrev numbers : List ℕ
+  numbers = numbers_named dict described
+
+  -- what is kept at the end
+  abbrev pub end : Kept
+  end = record p { dict = dict; catalog = with_filed p.catalog slot rec; taken = marked p.taken rec.blocks; ext = q.ext; marks = q.marks }
+
+  pub filed_is : puts.filed ≡ record p { dict = dict; catalog = with_filed p.catalog slot rec; taken = marked p.taken rec.blocks; marks = puts.filed.marks }
+  filed_is =
+      puts.adds.parts
+      ∙ (ap (λ (ts : List Bool). record puts.learnt { catalog = with_filed puts.learnt.catalog slot rec; taken = ts; marks = puts.filed.marks }) puts.adds.taken
+      ∙ ap (λ (k : Kept). record k { dict = dict; catalog = with_filed k.catalog slot rec; taken = marked k.taken rec.blocks; marks = puts.filed.marks }) puts.learns.parts)
+
+  pub end_is : q ≡ end
+  end_is = puts.describes.parts ∙ ap (λ (k : Kept). record k { ext = q.ext; marks = q.marks }) filed_is
+
+  -- ---- the slot
+  pub free_slot : rec_at p.catalog slot ≡ None
+  free_slot = ap (λ (k : Kept). rec_at k.catalog slot) (sym puts.learns.parts) ∙ puts.adds.free
+
+  pub below_files : slot < p.limits.files
+  below_files = omega (arith, puts.adds.below, ap (λ (k : Kept). k.limits.files) puts.learns.parts)
+
+  pub absent : slot_of p.catalog rec.name ≡ None
+  absent = ap (slot_of p.catalog) puts.adds.named ∙ admitted.new
+
+  pub rec_here : rec_at end.catalog slot ≡ Some rec
+  rec_here = rec_at-with_filed p.catalog slot rec slot absent free_slot ∙ ap (λ b. if b then Some rec else rec_at p.catalog slot) (eq-eqb slot slot refl)
+
+  pub rec_other : (at : ℕ) → (at ≡ slot → ⊥) → rec_at end.catalog at ≡ rec_at p.catalog at
+  rec_other at differ =
+      rec_at-with_filed p.catalog slot rec at absent free_slot ∙ ap (λ b. if b then Some rec else rec_at p.catalog at) (ne_eqb slot at (λ e. differ (sym e)))
+
+  -- ---- descriptions
+  sets_are : end.ext.sets ≡ set p.ext.sets slot numbers
+  sets_are = puts.describes.sets ∙ ap (λ (k : Kept). set k.ext.sets slot numbers) filed_is
+
+  pub set_here : numbers_at end.ext slot ≡ numbers
+  set_here = ap (λ ss. get_or ss slot []) sets_are ∙ get_or-set_same p.ext.sets slot numbers [] (omega (arith, below_files, sound.files))
+
+  pub set_other : (at : ℕ) → (at ≡ slot → ⊥) → numbers_at end.ext at ≡ numbers_at p.ext at
+  set_other at differ = ap (λ ss. get_or ss at []) sets_are ∙ get_or-set_other p.ext.sets slot at numbers [] differ
+
+  has_other : (n at : ℕ) → (at ≡ slot → ⊥) → has end.ext n at ≡ has p.ext n at
+  has_other n at differ = ap (λ ns. has_number ns n) (set_other at differ)
+
+  -- ---- words
+  pub word_stays : (n : ℕ) → IsSome (word_of p.dict n) → word_of dict n ≡ word_of p.dict n
+  word_stays n some = let found = some_word (word_of p.dict n) some in puts.learns.keeps n found.0 found.1 ∙ sym found.1
+
+  -- each word that is learnt is one of the description
+  learnt_described : (word : List ℕ) → Among (with_heads (learnt_words file)) word → Among described word
+  learnt_described word m =
+      subst (λ ws. Among ws word) (sym (described_is p sound name assigned bytes admitted)) (head_entailed (declared_of p) (axioms_of p) (learnt_words file) word m)
+
+  module _ (after : AreSound q) where
+    pub sound_end : AreSound end
+    sound_end = subst (λ (k : Kept). AreSound k) end_is after
+
+    has_here : (n : ℕ) → has end.ext n slot ≡ is_one_of described (word_of dict n)
+    has_here n = ap (λ ns. has_number ns n) set_here ∙ named_has dict sound_end.dict described n
+
+    -- a word is one that was known, or one of the description
+    word_from : (n : ℕ) (word : List ℕ) → word_of dict n ≡ Some word → (word_of p.dict n ≡ Some word) ⊎ Among described word
+    word_from n word is =
+        by (among_with_words (words p.dict) (with_heads (learnt_words file)) word (subst (λ ws. Among ws word) puts.learns.words (word_known end sound_end n word is)))
+      where
+        by : Among (words p.dict) word ⊎ Among (with_heads (learnt_words file)) word → (word_of p.dict n ≡ Some word) ⊎ Among described word
+        by (inl m) =
+            let known = known_word p sound word m in
+            inl (subst (λ k. word_of p.dict k ≡ Some word) (one_number end sound_end known.0 n word (puts.learns.keeps known.0 word known.1) is) known.1)
+        by (inr m) = inr (learnt_described word m)
+
+    -- ---- what is in use
+    used_had : (n at : ℕ) → has end.ext n at ≡ true → is_used end n ≡ true
+    used_had n at h =
+        or_left (is_taken p.declared n || is_had end.ext n) (is_named_left end n) (or_right (is_taken p.declared n) (is_had end.ext n) (had_there end.ext.sets at n h))
+
+    head_stays : (a b : ℕ) → is_head_by (word_of p.dict a) (word_of p.dict b) ≡ true → is_head_by (word_of dict a) (word_of dict b) ≡ true
+    head_stays a b h = by (word_of p.dict a) (word_of p.dict b) refl refl h
+      where
+        by : (x y : Option (List ℕ)) → word_of p.dict a ≡ x → word_of p.dict b ≡ y → is_head_by x y ≡ true → is_head_by (word_of dict a) (word_of dict b) ≡ true
+        by None y is_x is_y head = absurd cc
+        by (Some w) None is_x is_y head = absurd cc
+        by (Some w) (Some v) is_x is_y head = ap₂ is_head_by (puts.learns.keeps a w is_x) (puts.learns.keeps b v is_y) ∙ head
+
+    left_stays : (n : ℕ) → is_named_left p n ≡ true → is_named_left end n ≡ true
+    left_stays n left = by (or_cases (list_any (is_left_of n) p.axioms) (list_any (is_left_head_of p.dict n) p.axioms) left)
+      where
+        head : (a : AxiomSlot) → is_left_head_of p.dict n a ≡ true → is_left_head_of dict n a ≡ true
+        head FreeAxiom h = h
+        head (Pair a b) h = head_stays a n h
+
+        by : (list_any (is_left_of n) p.axioms ≡ true) ⊎ (list_any (is_left_head_of p.dict n) p.axioms ≡ true) → is_named_left end n ≡ true
+        by (inl some) = or_left (list_any (is_left_of n) p.axioms) (list_any (is_left_head_of dict n) p.axioms) some
+        by (inr some) =
+            let found = among_from_any (is_left_head_of p.dict n) p.axioms some in
+            or_right (list_any (is_left_of n) p.axioms) (list_any (is_left_head_of dict n) p.axioms)
+            (any_from_among (is_left_head_of dict n) p.axioms found.0 found.1 (head found.0 found.2))
+
+    used_stays : FreeSlotsAreEmpty p → (n : ℕ) → is_used p n ≡ true → is_used end n ≡ true
+    used_stays free n used = by (or_cases (is_taken p.declared n || is_had p.ext n) (is_named_left p n) used)
+      where
+        had : is_had p.ext n ≡ true → is_used end n ≡ true
+        had h =
+            let found = among_from_any (λ ns. has_number ns n) p.ext.sets h in
+            let place = contains_from_among p.ext.sets found.0 found.1 in
+            let set_in : numbers_at p.ext place.0 ≡ found.0 = get_or_default p.ext.sets place.0 [] found.0 place.1 ∙ place.2 in
+            let has_it : has p.ext n place.0 ≡ true = ap (λ ns. has_number ns n) set_in ∙ found.2 in
+            let differ : place.0 ≡ slot → ⊥ = λ same. both_ways (has p.ext n place.0) (ap (has p.ext n) same ∙ free slot free_slot n) has_it in
+            used_had n place.0 (has_other n place.0 differ ∙ has_it)
+
+        first : (is_taken p.declared n ≡ true) ⊎ (is_had p.ext n ≡ true) → is_used end n ≡ true
+        first (inl bit) = or_left (is_taken p.declared n || is_had end.ext n) (is_named_left end n) (or_left (is_taken p.declared n) (is_had end.ext n) bit)
+        first (inr h) = had h
+
+        by : ((is_taken p.declared n || is_had p.ext n) ≡ true) ⊎ (is_named_left p n ≡ true) → is_used end n ≡ true
+        by (inl either) = first (or_cases (is_taken p.declared n) (is_had p.ext n) either)
+        by (inr left) = or_right (is_taken p.declared n || is_had end.ext n) (is_named_left end n) (left_stays n left)
+
+    pub used_then : FreeSlotsAreEmpty p → AreUsed p → AreUsed end
+    used_then free used n some = let word = some_word (word_of dict n) some in by word.0 word.1 (word_from n word.0 word.1)
+      where
+        by : (word : List ℕ) → word_of dict n ≡ Some word → (word_of p.dict n ≡ Some word) ⊎ Among described word → is_used end n ≡ true
+        by word is (inl was) = used_stays free n (used n (ap is_some was))
+        by word is (inr m) = used_had n slot (has_here n ∙ of_one described (word_of dict n) word is m)
+
+    -- the words that the file was given are words of its description
+    pub tags_described : (n : ℕ) → has_number rec.tags n ≡ true → has end.ext n slot ≡ true
+    tags_described n tag =
+        let found = one_of assigned (word_of dict n) (sym (named_has dict sound_end.dict assigned n) ∙ (ap (λ ns. has_number ns n) (sym puts.adds.tagged) ∙ tag)) in
+        has_here n
+        ∙ of_one described (word_of dict n) found.0 found.1 (learnt_described found.0 (behind_itself (learnt_words file) found.0 (among_left assigned (derived_words name bytes) found.0 found.2)))
+
+    in_use_then : FreeSlotsAreEmpty p → KeepsInUse p → KeepsInUse end
+    in_use_then free keeps = record { used = used_then free keeps.used; tags = λ at r is n tag. by at r n tag is (cases_eq at slot); rights = keeps.rights }
+      where
+        by : (at : ℕ) (r : FileRecord) (n : ℕ) → has_number r.tags n ≡ true → rec_at end.catalog at ≡ Some r → (at ≡ slot) ⊎ (at ≡ slot → ⊥) → has end.ext n at ≡ true
+        by at r n tag is (inl same) =
+            let this : rec ≡ r = same_Some rec r (sym rec_here ∙ (ap (rec_at end.catalog) (sym same) ∙ is)) in
+            ap (has end.ext n) same ∙ tags_described n (subst (λ (x : FileRecord). has_number x.tags n ≡ true) (sym this) tag)
+        by at r n tag is (inr differ) = has_other n at differ ∙ keeps.tags at r (sym (rec_other at differ) ∙ is) n tag
+
+    free_then : FreeSlotsAreEmpty p → FreeSlotsAreEmpty end
+    free_then free at none n = by (cases_eq at slot)
+      where
+        by : (at ≡ slot) ⊎ (at ≡ slot → ⊥) → has end.ext n at ≡ false
+        by (inl same) = absurd (both_ways (is_some (rec_at end.catalog at)) (ap is_some none) (ap is_some (ap (rec_at end.catalog) same ∙ rec_here)))
+        by (inr differ) = has_other n at differ ∙ free at (sym (rec_other at differ) ∙ none) n
+
+    -- ---- links
+    pub entailed_end : all_up (declared_of end) (axioms_of end) (learnt_words file) ≡ described
+    entailed_end =
+        ap (λ (k : Kept). all_up (declared_of k) (axioms_of k) (learnt_words file)) (sym puts.learns.parts) ∙ entailed_is p sound name assigned bytes admitted puts.learnt puts.learns
+
+    link_back : (a b : ℕ) → IsSome (word_of p.dict a) → is_linked end a b ≡ true → is_linked p a b ≡ true
+    link_back a b some linked = by (or_cases _ (has_pair p.axioms a b) (subst (λ t. (t || has_pair p.axioms a b) ≡ true) (own_link_is end sound_end.dict a b) linked))
+      where
+        head_back : (w v : List ℕ) → word_of p.dict a ≡ Some w → word_of dict b ≡ Some v → is_head_by (Some w) (Some v) ≡ true → is_head_by (word_of p.dict a) (word_of p.dict b) ≡ true
+        head_back w v is_w is_v head =
+            let both = and_parts (is_valued w) (same_word (head_bytes w) v) head in
+            let same = (same_word_decides (head_bytes w) v).0 both.1 in
+            let number = some_number (number_of p.dict (head_bytes w)) (sound.heads a w is_w both.0) in
+            let was : word_of p.dict number.0 ≡ Some v = word_from_number p.dict sound.dict (head_bytes w) number.0 number.1 ∙ ap Some same in
+            let here = one_number end sound_end number.0 b v (puts.learns.keeps number.0 v was) is_v in
+            ap₂ is_head_by is_w (subst (λ k. word_of p.dict k ≡ Some v) here was) ∙ head
+
+        heads_back : (x y : Option (List ℕ)) → word_of p.dict a ≡ x → word_of dict b ≡ y → is_head_by x y ≡ true → is_head_by (word_of p.dict a) (word_of p.dict b) ≡ true
+        heads_back None y is_x is_y h = absurd cc
+        heads_back (Some w) None is_x is_y h = absurd cc
+        heads_back (Some w) (Some v) is_x is_y h = head_back w v is_x is_y h
+
+        by : (is_head_by (word_of dict a) (word_of dict b) ≡ true) ⊎ (has_pair p.axioms a b ≡ true) → is_linked p a b ≡ true
+        by (inl head) =
+            subst (λ t. (t || has_pair p.axioms a b) ≡ true) (sym (own_link_is p sound.dict a b))
+            (or_left (is_head_by (word_of p.dict a) (word_of p.dict b)) (has_pair p.axioms a b)
+            (heads_back (word_of p.dict a) (word_of dict b) refl refl (subst (λ o. is_head_by o (word_of dict b) ≡ true) (word_stays a some) head)))
+        by (inr pair) = or_right _ (has_pair p.axioms a b) pair
+
+    pub described_numbered : AreNumbered dict described
+    described_numbered word h =
+        let D = declared_of end in
+        let A = axioms_of end in
+        let source = among_flat_map (up D A) (learnt_words file) word
+        (among_set_of (flat_map (up D A) (learnt_words file)) word (subst (λ ws. Among ws word) (sym entailed_end) (among_from_has_word described word h))) in
+        let number = some_number (number_of dict source.0) (own_numbered p sound name assigned bytes admitted puts.learnt puts.learns source.0 (has_word_from_among (learnt_words file) source.0 source.1)) in
+        has_number_of dict sound_end.dict word (up_has_number end sound_end number.0 source.0 word (word_from_number dict sound_end.dict source.0 number.0 number.1) source.2)
+
+    -- the description has all to which its words are linked
+    link_described : (a b : ℕ) → is_one_of described (word_of dict a) ≡ true → is_linked end a b ≡ true → is_one_of described (word_of dict b) ≡ true
+    link_described a b h linked =
+        let D = declared_of end in
+        let A = axioms_of end in
+        let word = one_of described (word_of dict a) h in
+        let to = link_named end sound_end a b word.0 word.1 linked in
+        let source = among_flat_map (up D A) (learnt_words file) word.0
+        (among_set_of (flat_map (up D A) (learnt_words file)) word.0 (subst (λ ws. Among ws word.0) (sym entailed_end) word.2)) in
+        let step = up_from_entails D A word.0 to.0 (suc zero, (to.0, to.2, refl)) in
+        let there = flat_map_among (up D A) (learnt_words file) source.0 to.0 source.1 (up_trans D A source.0 word.0 to.0 source.2 step) in
+        of_one described (word_of dict b) to.0 to.1 (subst (λ ws. Among ws to.0) entailed_end (set_of_among (flat_map (up D A) (learnt_words file)) to.0 there))
+
+    closed_then : AreClosed p → AreClosed end
+    closed_then closed at a b h linked = by (cases_eq at slot)
+      where
+        by : (at ≡ slot) ⊎ (at ≡ slot → ⊥) → has end.ext b at ≡ true
+        by (inl same) =
+            let here : is_one_of described (word_of dict a) ≡ true = sym (has_here a) ∙ (ap (has end.ext a) (sym same) ∙ h) in
+            ap (has end.ext b) same ∙ (has_here b ∙ link_described a b here linked)
+        by (inr differ) =
+            let was : has p.ext a at ≡ true = sym (has_other a at differ) ∙ h in
+            has_other b at differ ∙ closed at a b was (link_back a b (sound.named a at was) linked)
+
+    short_then : DescriptionsAreShort p → DescriptionsAreShort end
+    short_then short at = by (cases_eq at slot)
+      where
+        by : (at ≡ slot) ⊎ (at ≡ slot → ⊥) → length (numbers_at end.ext at) ≤ 128
+        by (inl same) =
+            omega (arith, ap length (ap (numbers_at end.ext) same ∙ set_here), named_few dict sound_end.dict described, admitted.short)
+        by (inr differ) = omega (arith, ap length (set_other at differ), short at)
+
+  -- ---- data blocks
+  were_free : are_free p.taken rec.blocks ≡ true
+  were_free = ap (λ (k : Kept). are_free k.taken rec.blocks) (sym puts.learns.parts) ∙ puts.adds.were_free
+
+  pub new_not_taken : (n : ℕ) → has_number rec.blocks n ≡ true → (n < length p.taken) × (is_taken p.taken n ≡ false)
+  new_not_taken n has_it =
+      let free = and_parts (nat_lt n (length p.taken)) (not (is_taken p.taken n))
+      (all_among (λ i. nat_lt i (length p.taken) && not (is_taken p.taken i)) rec.blocks n were_free (among_from_number rec.blocks n has_it)) in
+      (ltb-true n (length p.taken) free.0, not-true (is_taken p.taken n) free.1)
+
+  pub new_taken : are_taken end.taken rec.blocks ≡ true
+  new_taken = marked_are_taken (length p.taken) p.taken rec.blocks refl (below_from_free p.taken rec.blocks were_free)
+
+  taken_then : BlocksAreTaken p → BlocksAreTaken end
+  taken_then taken at r is = by (cases_eq at slot)
+    where
+      by : (at ≡ slot) ⊎ (at ≡ slot → ⊥) → are_taken end.taken r.blocks ≡ true
+      by (inl same) =
+          let this : rec ≡ r = same_Some rec r (sym rec_here ∙ (ap (rec_at end.catalog) (sym same) ∙ is)) in
+          subst (λ (x : FileRecord). are_taken end.taken x.blocks ≡ true) this new_taken
+      by (inr differ) = stay_marked p.taken rec.blocks r.blocks (taken at r (sym (rec_other at differ) ∙ is))
+
+  -- no file had one of the new blocks
+  none_of_new : BlocksAreTaken p → (at : ℕ) (r : FileRecord) (n : ℕ) → rec_at p.catalog at ≡ Some r → has_number r.blocks n ≡ true → has_number rec.blocks n ≡ true → ⊥
+  none_of_new taken at r n is has_it here =
+      both_ways (is_taken p.taken n) (new_not_taken n here).1 (all_among (is_taken p.taken) r.blocks n (taken at r is) (among_from_number r.blocks n has_it))
+
+  apart_then : BlocksAreTaken p → BlocksAreApart p → BlocksAreApart end
+  apart_then taken apart at other r more n is_r is_more has_r has_more = by (cases_eq at slot) (cases_eq other slot)
+    where
+      this : (i : ℕ) (x : FileRecord) → i ≡ slot → rec_at end.catalog i ≡ Some x → has_number x.blocks n ≡ true → has_number rec.blocks n ≡ true
+      this i x same is has_it =
+          subst (λ (y : FileRecord). has_number y.blocks n ≡ true) (sym (same_Some rec x (sym rec_here ∙ (ap (rec_at end.catalog) (sym same) ∙ is)))) has_it
+
+      by : (at ≡ slot) ⊎ (at ≡ slot → ⊥) → (other ≡ slot) ⊎ (other ≡ slot → ⊥) → at ≡ other
+      by (inl a) (inl b) = a ∙ sym b
+      by (inl a) (inr b) = absurd (none_of_new taken other more n (sym (rec_other other b) ∙ is_more) has_more (this at r a is_r has_r))
+      by (inr a) (inl b) = absurd (none_of_new taken at r n (sym (rec_other at a) ∙ is_r) has_r (this other more b is_more has_more))
+      by (inr a) (inr b) = apart at other r more n (sym (rec_other at a) ∙ is_r) (sym (rec_other other b) ∙ is_more) has_r has_more
+
+  -- ---- the store is in form again
+  pub sound_added : (b : Bool) → b ≡ false → IsSound (record { parts = p; journal = old; is_broken = b }) → AreSound q → IsSound (settled q new)
+  sound_added b whole was after = subst (λ (k : Kept). IsSound (settled k new)) (sym end_is) (record {
+    parts = sound_clean end (sound_end after);
+    range = was.range;
+    free = free_then after was.free;
+    pairs = was.pairs;
+    closed = closed_then after was.closed;
+    short = short_then after was.short;
+    taken = taken_then was.taken;
+    apart = apart_then was.taken was.apart;
+    in_use = in_use_clean end (in_use_then after was.free was.in_use);
+    image = puts.adds.image ∙ was.image;
+    journal = λ _. puts.adds.broken ∙ was.journal whole;
+    staged = λ _. refl;
+    placed = λ _. puts.adds.placed ∙ was.placed whole;
+    clean = λ _. clean_is end;
+  })

@@ -1,0 +1,90 @@
+-- How much is marked when a file is put in, and how often rows are edited.
+use Rattle.std.proofs.Common.{◌≡◌, refl, sym, ap, ap₂, ◌∙◌, subst, ℕ, ◌+◌, ◌*◌, ◌<◌, ◌≤◌, ◌&&◌, ◌||◌, not, Bool, true, false, cond, List, [], ◌∷◌, ◌++◌, length, length-append, arith}
+use Rattle.std.specs.List.{range_with_len}
+use Rattle.std.specs.Ordering.{nat_cmp}
+use Rattle.std.specs.Cmp.{nat_cmp_total}
+use Rattle.lis_graph.proofs.Sets.{members_le}
+use Rattle.lis_graph.proofs.Ranges.{range_among}
+use Rattle.lis_journal.specs.Journal.{Held}
+use Rattle.lis_dict.specs.Dict.{word_of}
+use Rattle.lis_ext.specs.Ext.{Ext, set_of as numbers_at}
+use Rattle.lis_ext.specs.Numbers.{has_number, differs, numbers_where}
+use Rattle.lis_words.specs.Words.{is_valued, head_bytes}
+use Rattle.lis_model.specs.State.{heads}
+use Rattle.lis_model.specs.Derived.{derived_words}
+use Rattle.lis_model.specs.Changes.{new_file}
+use Rattle.lis_kept.specs.Kept.{Kept}
+use Rattle.lis_kept.specs.Areas.{marked_count}
+use Rattle.lis_kept.specs.Sound.{AreSound, FreeSlotsAreEmpty}
+use Rattle.lis_kept.proofs.Described.{among_where}
+use Rattle.lis_kept.proofs.Filing.{among_from_number}
+use Rattle.lis_store.specs.Changes.{differing_bits}
+use Rattle.lis_store.specs.Admitting.{described_by, IsAdmitted}
+use Rattle.lis_store.specs.Adding.{is_one_of, numbers_named, behind_head, with_heads, learnt_words, PutsIn}
+use Rattle.lis_store.proofs.Added.{end_is, filed_is, free_slot, below_files, set_here}
+use Rattle.lis_store.proofs.DerivedWords.{derived_few}
+use Rattle.lis_store.proofs.Numbers.{sorted_where}
+use Rattle.lis_store.proofs.PutIn.{none_has, slot_was_empty}
+use Rattle.lis_store.proofs.Removed.{sum_has}
+
+-- a word has one head at most
+heads_few : (words : List (List ℕ)) → length (with_heads words) ≤ 2 * length words
+heads_few [] = omega arith
+heads_few (word ∷ words) = omega (arith, heads_few words, length-append (behind_head word) (with_heads words), one (is_valued word))
+  where
+    one : (b : Bool) → length (cond b (head_bytes word ∷ []) [] ++ word ∷ []) ≤ 2
+    one true = omega arith
+    one false = omega arith
+
+-- what differs from no numbers
+only_new : (b : Bool) → ((b && not false) || (false && not b)) ≡ b
+only_new true = refl
+only_new false = refl
+
+module _ (p q : Kept) (old new : Held) (name : List ℕ) (assigned : List (List ℕ)) (bytes : List ℕ) (sound : AreSound p) (admitted : IsAdmitted p (new_file name assigned bytes))
+    (puts : PutsIn (new_file name assigned bytes) p q old new) (free : FreeSlotsAreEmpty p) where
+  abbrev slot : ℕ
+  slot = puts.slot
+
+  abbrev numbers : List ℕ
+  numbers = numbers_named puts.learnt.dict (described_by p (new_file name assigned bytes))
+
+  abbrev gained : ℕ
+  gained = length (numbers_where p.ext.props (differs [] numbers))
+
+  was_empty : numbers_at puts.filed.ext slot ≡ []
+  was_empty =
+      slot_was_empty p puts.learnt puts.filed (with_heads (learnt_words (new_file name assigned bytes))) name (numbers_named puts.learnt.dict assigned) bytes slot old new free puts.learns puts.adds
+
+  ext_before : puts.filed.ext ≡ p.ext
+  ext_before = ap (λ (k : Kept). k.ext) (filed_is p q old new name assigned bytes sound admitted puts)
+
+  gained_few : gained ≤ 128
+  gained_few =
+      let le = members_le nat_cmp nat_cmp_total (numbers_where p.ext.props (differs [] numbers)) numbers (sorted_where p.ext.props (differs [] numbers))
+      (sorted_where puts.learnt.dict.props (λ n. is_one_of (described_by p (new_file name assigned bytes)) (word_of puts.learnt.dict n))) (λ n m.
+      among_from_number numbers n (sym (only_new (has_number numbers n)) ∙ (among_where p.ext.props (differs [] numbers) n m).1)) in
+      omega (arith, le, puts.few)
+
+  pub few_marked : marked_count p ≡ 0 → marked_count q ≤ 300
+  few_marked none =
+      let one = puts.learns.marks.few in
+      let heads_of = heads_few (learnt_words (new_file name assigned bytes)) in
+      let own = length-append assigned (derived_words name bytes) in
+      let two = puts.adds.few in
+      let three = subst (λ (e : Ext). marked_count q ≤ marked_count puts.filed + length (numbers_where e.props (differs [] numbers))) ext_before (puts.describes.marks [] (sym was_empty)).few in
+      omega (arith, none, one, heads_of, own, admitted.few, derived_few name bytes, two, three, gained_few)
+
+  pub few_staged : length old.staged ≡ 0 → length new.staged ≤ 16
+  few_staged none = omega (arith, puts.adds.few_staged, none)
+
+  pub few_edits : q.ext.edits ≤ p.ext.edits + differing_bits p.ext q.ext
+  few_edits =
+      let made = subst (λ (e : Ext). q.ext.edits ≤ e.edits + length (numbers_where e.props (differs [] numbers))) ext_before (puts.describes.edits [] (sym was_empty)) in
+      let slot_in : slot < length p.ext.sets = omega (arith, below_files p q old new name assigned bytes sound admitted puts, sound.files) in
+      let f : ℕ → ℕ = λ at. length (numbers_where p.ext.props (differs (numbers_at p.ext at) (numbers_at q.ext at))) in
+      let one = sum_has f (range_with_len 0 (length p.ext.sets)) slot (range_among 0 (length p.ext.sets) slot (omega arith) (omega (arith, slot_in))) in
+      let before : numbers_at p.ext slot ≡ [] = none_has (numbers_at p.ext slot) (free slot (free_slot p q old new name assigned bytes sound admitted puts)) in
+      let now : numbers_at q.ext slot ≡ numbers = set_here p q old new name assigned bytes sound admitted puts in
+      let bits : f slot ≡ gained = ap₂ (λ a b. length (numbers_where p.ext.props (differs a b))) before now in
+      omega (arith, made, one, bits)

@@ -1,0 +1,339 @@
+-- The words that a new file is given: which they are, and how they are put into a set.
+use Rattle.std.proofs.Common.{◌≡◌, ◌⊎◌, refl, sym, ap, ap₂, ◌∙◌, subst, inl, inr, ℕ, suc, ◌+◌, ◌<◌, ◌≤◌, ◌==◌, nat_le, Bool, true, false, cond, ◌&&◌, ◌||◌, is_some, IsSome, Option, Some, None, List, [], ◌∷◌, ◌++◌, length, take, drop, get_or, filter, slice_get, arith}
+use Rattle.std.specs.Prelude.{unwrap_or, option_map}
+use Rattle.std.specs.List.{flat_map, list_all, prefix_len, insert, fold}
+use Rattle.std.specs.List.Sorted.{IsStrictlySortedBy}
+use Rattle.std.specs.declared.cmp.Ordering.{Ordering}
+use Rattle.std.specs.declared.cmp.Ordering.TheVariants.{Less, Equal, Greater}
+use Rattle.std.specs.Ordering.{is_gt, match_ordering}
+use Rattle.std.specs.Cmp.{tied_itself}
+use Rattle.std.proofs.lemmas.Bool.{and_parts, and_from, both_ways, eqb-false, leb-true, leb-false, le-leb, false_from_ne_true}
+use Rattle.std.proofs.lemmas.List.{take_more, take-append-drop}
+use Rattle.std.proofs.lemmas.List.Edits.{length-insert}
+use Rattle.std.proofs.lemmas.List.Folds.{list_all-append}
+use Rattle.std.proofs.lemmas.List.Kept.{IsStrictlySortedBy-filter}
+use Rattle.std.proofs.lemmas.List.Sums.{prefix_len-le-length}
+use Rattle.std.proofs.lemmas.Grind.{flat_map-append}
+use Rattle.lis_graph.proofs.Members.{Among, among_filter, filter_among, among_flat_map, flat_map_among}
+use Rattle.lis_graph.proofs.Sets.{sorted_nil}
+use Rattle.lis_words.specs.Words.{word_cmp, same_word, has_word, is_plain_word, is_valued, head_bytes}
+use Rattle.lis_grammar.specs.Formula.{Formula}
+use Rattle.lis_grammar.specs.Formula.Formula.{Has, SizeAtLeast, SizeBelow, Negation, Both, Either}
+use Rattle.lis_place.specs.declared.node.Node.{Node}
+use Rattle.lis_place.specs.declared.node.Node.TheVariants.{Word, AtLeast, Below, Not, And, Or}
+use Rattle.lis_place.specs.Nodes.{tree_node_list, nodes_of, node_words}
+use Rattle.lis_model.specs.Sets.{with_word, with_words, set_of}
+use Rattle.lis_model.specs.Places.{both_lists, conjuncts, all_conjuncts, place_words, place_tags, is_tag}
+use Rattle.lis_model.specs.State.{is_assignable}
+use Rattle.lis_model.specs.Step.{tags_at, assigned_at}
+use Rattle.lis_laws.proofs.Members.{word_exact, word_order, same_word_decides, among_from_has_word, has_word_from_among, among_with_words, with_words_old, with_words_new, among_set_of, set_of_among, sorted_with_words, sorted_set_of, same_words}
+use Rattle.lis_laws.proofs.Counts.{all_among, all_from, le_insert_key}
+use Rattle.lis_laws.proofs.Apart.{plain_not_valued}
+use Rattle.lis_kept.specs.Kept.{Kept}
+use Rattle.lis_kept.specs.Telling.{is_declared, declared_of}
+use Rattle.lis_kept.proofs.Filing.{same_tests}
+use Rattle.lis_kept.proofs.WordMore.{declared_there, there_declared}
+use Rattle.lis_store.specs.Assigning.{is_conjunct, node_tags, is_held, Takes}
+
+-- ---- the words of a place
+abbrev words_if : Bool → List (List ℕ) → Option (List (List ℕ))
+words_if b words = cond b (Some words) None
+
+both_if : (a b : Bool) (x y : List (List ℕ)) → both_lists (words_if a x) (words_if b y) ≡ words_if (a && b) (x ++ y)
+both_if true true x y = refl
+both_if true false x y = refl
+both_if false b x y = refl
+
+abbrev are_conjuncts : List Node → Bool
+are_conjuncts nodes = list_all is_conjunct nodes
+
+abbrev words_in : List Node → List (List ℕ)
+words_in nodes = flat_map node_words nodes
+
+parts_joined : (x y : List Node) → both_lists (words_if (are_conjuncts x) (words_in x)) (words_if (are_conjuncts y) (words_in y)) ≡ words_if (are_conjuncts (x ++ y)) (words_in (x ++ y))
+parts_joined x y =
+    both_if (are_conjuncts x) (are_conjuncts y) (words_in x) (words_in y)
+    ∙ ap₂ words_if (sym (list_all-append is_conjunct x y)) (sym (flat_map-append node_words x y))
+
+and_last : (b : Bool) → (b && true) ≡ b
+and_last true = refl
+and_last false = refl
+
+none_last : (b : Bool) → (b && false) ≡ false
+none_last true = refl
+none_last false = refl
+
+no_more : (words : List (List ℕ)) → words ++ [] ≡ words
+no_more [] = refl
+no_more (w ∷ words) = ap (λ ws. w ∷ ws) (no_more words)
+
+with_and : (x : List Node) → words_if (are_conjuncts x) (words_in x) ≡ words_if (are_conjuncts (x ++ And ∷ [])) (words_in (x ++ And ∷ []))
+with_and x =
+    ap₂ words_if (sym (list_all-append is_conjunct x (And ∷ []) ∙ and_last (are_conjuncts x)))
+    (sym (flat_map-append node_words x (And ∷ []) ∙ no_more (words_in x)))
+
+with_other : (x : List Node) (node : Node) → is_conjunct node ≡ false → None ≡ words_if (are_conjuncts (x ++ node ∷ [])) (words_in (x ++ node ∷ []))
+with_other x node is =
+    ap (λ b. words_if b (words_in (x ++ node ∷ [])))
+    (sym (list_all-append is_conjunct x (node ∷ []) ∙ (ap (λ b. are_conjuncts x && (b && true)) is ∙ none_last (are_conjuncts x))))
+
+tree_words : (f : Formula) → conjuncts f ≡ words_if (are_conjuncts (tree_node_list f)) (words_in (tree_node_list f))
+tree_words (Has word) = refl
+tree_words (SizeAtLeast n) = refl
+tree_words (SizeBelow n) = refl
+tree_words (Negation f) = with_other (tree_node_list f) Not refl
+tree_words (Both f g) =
+    ap₂ both_lists (tree_words f) (tree_words g) ∙ (parts_joined (tree_node_list f) (tree_node_list g) ∙ with_and (tree_node_list f ++ tree_node_list g))
+tree_words (Either f g) = with_other (tree_node_list f ++ tree_node_list g) Or refl
+
+steps_words : (steps : List Formula) → all_conjuncts steps ≡ words_if (are_conjuncts (nodes_of steps)) (words_in (nodes_of steps))
+steps_words [] = refl
+steps_words (step ∷ steps) = ap₂ both_lists (tree_words step) (steps_words steps) ∙ parts_joined (tree_node_list step) (nodes_of steps)
+
+pub place_has_words : (place : List Formula) → list_all is_conjunct (nodes_of place) ≡ is_some (place_words place)
+place_has_words place = by (are_conjuncts (nodes_of place)) refl ∙ ap (λ (o : Option (List (List ℕ))). is_some (option_map set_of o)) (sym (steps_words place))
+  where
+    by : (b : Bool) → are_conjuncts (nodes_of place) ≡ b → b ≡ is_some (option_map set_of (words_if b (words_in (nodes_of place))))
+    by true e = refl
+    by false e = refl
+
+-- ---- the words that its files can be given
+node_tag : (nodes : List Node) (w : List ℕ) → Among (filter is_tag (set_of (words_in nodes))) w → Among (flat_map node_tags nodes) w
+node_tag nodes w m =
+    let of_set = among_filter is_tag (set_of (words_in nodes)) w m in
+    let of_node = among_flat_map node_words nodes w (among_set_of (words_in nodes) w of_set.0) in
+    flat_map_among node_tags nodes of_node.0 w of_node.1 (filter_among is_tag (node_words of_node.0) w of_node.2 of_set.1)
+
+tag_node : (nodes : List Node) (w : List ℕ) → Among (flat_map node_tags nodes) w → Among (filter is_tag (set_of (words_in nodes))) w
+tag_node nodes w m =
+    let of_node = among_flat_map node_tags nodes w m in
+    let tag = among_filter is_tag (node_words of_node.0) w of_node.2 in
+    filter_among is_tag (set_of (words_in nodes)) w (set_of_among (words_in nodes) w (flat_map_among node_words nodes of_node.0 w of_node.1 tag.0)) tag.1
+
+tags_are : (nodes : List Node) → filter is_tag (set_of (words_in nodes)) ≡ set_of (flat_map node_tags nodes)
+tags_are nodes =
+    same_words (filter is_tag (set_of (words_in nodes))) (set_of (flat_map node_tags nodes))
+    (IsStrictlySortedBy-filter word_cmp is_tag (set_of (words_in nodes)) (sorted_set_of (words_in nodes))) (sorted_set_of (flat_map node_tags nodes))
+    (λ w m. set_of_among (flat_map node_tags nodes) w (node_tag nodes w m)) (λ w m. tag_node nodes w (among_set_of (flat_map node_tags nodes) w m))
+
+pub tags_of_nodes : (place : List Formula) → IsSome (place_words place) → tags_at place ≡ set_of (flat_map node_tags (nodes_of place))
+tags_of_nodes place some =
+    ap (λ (o : Option (List (List ℕ))). unwrap_or (option_map (filter is_tag) (option_map set_of o)) [])
+    (steps_words place ∙ ap (λ b. words_if b (words_in (nodes_of place))) (place_has_words place ∙ some))
+    ∙ tags_are (nodes_of place)
+
+pub assigned_is : (place : List Formula) (words : List (List ℕ)) → IsSome (place_words place) → assigned_at place words ≡ with_words (set_of (flat_map node_tags (nodes_of place))) words
+assigned_is place words some = ap (λ ws. with_words ws words) (tags_of_nodes place some)
+
+-- they are a set
+pub sorted_assigned : (place : List Formula) (words : List (List ℕ)) → IsStrictlySortedBy word_cmp (assigned_at place words)
+sorted_assigned place words = sorted_with_words (tags_at place) words (by (all_conjuncts place))
+  where
+    by : (o : Option (List (List ℕ))) → IsStrictlySortedBy word_cmp (unwrap_or (option_map (filter is_tag) (option_map set_of o)) [])
+    by None = sorted_nil word_cmp word_order
+    by (Some found) = IsStrictlySortedBy-filter word_cmp is_tag (set_of found) (sorted_set_of found)
+
+-- ---- a test of all of them
+module _ (test : List ℕ → Bool) (place : List Formula) (words : List (List ℕ)) (some : IsSome (place_words place)) where
+  abbrev tags : List (List ℕ)
+  tags = flat_map node_tags (nodes_of place)
+
+  abbrev all : List (List ℕ)
+  all = with_words (set_of tags) words
+
+  abbrev pub nodes_pass : Bool
+  nodes_pass = list_all (λ node. list_all test (node_tags node)) (nodes_of place)
+
+  to_parts : list_all test all ≡ true → (nodes_pass && list_all test words) ≡ true
+  to_parts h =
+      and_from nodes_pass (list_all test words)
+      (all_from (λ node. list_all test (node_tags node)) (nodes_of place) (λ node m. all_from test (node_tags node) (λ w of.
+      all_among test all w h (with_words_old (set_of tags) words w (set_of_among tags w (flat_map_among node_tags (nodes_of place) node w m of))))))
+      (all_from test words (λ w m. all_among test all w h (with_words_new (set_of tags) words w m)))
+
+  from_parts : (nodes_pass && list_all test words) ≡ true → list_all test all ≡ true
+  from_parts h = all_from test all (λ w m. by w (among_with_words (set_of tags) words w m))
+    where
+      by : (w : List ℕ) → Among (set_of tags) w ⊎ Among words w → test w ≡ true
+      by w (inl tag) =
+          let found = among_flat_map node_tags (nodes_of place) w (among_set_of tags w tag) in
+          all_among test (node_tags found.0) w (all_among (λ node. list_all test (node_tags node)) (nodes_of place) found.0 (and_parts nodes_pass (list_all test words) h).0 found.1) found.2
+      by w (inr named) = all_among test words w (and_parts nodes_pass (list_all test words) h).1 named
+
+  pub all_assigned : list_all test (assigned_at place words) ≡ (nodes_pass && list_all test words)
+  all_assigned = ap (list_all test) (assigned_is place words some) ∙ same_tests (list_all test all) (nodes_pass && list_all test words) to_parts from_parts
+
+-- ---- a word at its place in a set
+one_more : (n : ℕ) → 1 + n ≡ suc n
+one_more n = omega arith
+
+module _ (word : List ℕ) where
+  abbrev pub place_in : List (List ℕ) → ℕ
+  place_in words = prefix_len (λ held. is_gt (word_cmp word held)) words
+
+  pub put_there : (words : List (List ℕ)) → is_held (slice_get words (place_in words)) word ≡ true → with_word words word ≡ words
+  put_there [] h = absurd cc
+  put_there (w ∷ words) h = by (word_cmp word w) refl h (put_there words)
+    where
+      by : (o : Ordering) → word_cmp word w ≡ o → is_held (slice_get (w ∷ words) (cond (is_gt o) (1 + place_in words) 0)) word ≡ true
+          → (is_held (slice_get words (place_in words)) word ≡ true → with_word words word ≡ words)
+          → match_ordering o (word ∷ w ∷ words) (w ∷ words) (w ∷ with_word words word) ≡ w ∷ words
+      by Less e h more =
+          let same = (same_word_decides w word).0 h in
+          let level : word_cmp word w ≡ Equal = ap (word_cmp word) same ∙ tied_itself word_order word in
+          absurd cc
+      by Equal e h more = refl
+      by Greater e h more = let h' = rw (one_more (place_in words)) at h in ap (λ ws. w ∷ ws) (more h')
+
+  pub put_new : (words : List (List ℕ)) → is_held (slice_get words (place_in words)) word ≡ false → insert words (place_in words) word ≡ with_word words word
+  put_new [] h = refl
+  put_new (w ∷ words) h = by (word_cmp word w) refl h (put_new words)
+    where
+      by : (o : Ordering) → word_cmp word w ≡ o → is_held (slice_get (w ∷ words) (cond (is_gt o) (1 + place_in words) 0)) word ≡ false
+          → (is_held (slice_get words (place_in words)) word ≡ false → insert words (place_in words) word ≡ with_word words word)
+          → insert (w ∷ words) (cond (is_gt o) (1 + place_in words) 0) word ≡ match_ordering o (word ∷ w ∷ words) (w ∷ words) (w ∷ with_word words word)
+      by Less e h more = refl
+      by Equal e h more = absurd (both_ways (same_word w word) h ((same_word_decides w word).1 (sym (word_exact word w e))))
+      by Greater e h more = let h' = rw (one_more (place_in words)) at h in rw (one_more (place_in words)) (ap (λ ws. w ∷ ws) (more h'))
+
+-- ---- a set takes words one after another
+pub takes_none : (words : List (List ℕ)) → length words ≤ 16 → Takes [] words words true
+takes_none words few = record { room = sym (le-leb (length words) 16 few); words = λ fits. refl }
+
+with_words-append : (words more others : List (List ℕ)) → with_words words (more ++ others) ≡ with_words (with_words words more) others
+with_words-append words [] others = refl
+with_words-append words (w ∷ more) others = with_words-append (with_word words w) more others
+
+grown : (words more : List (List ℕ)) → length words ≤ length (with_words words more)
+grown words [] = omega arith
+grown words (w ∷ more) = omega (arith, le_insert_key word_cmp words w, grown (with_word words w) more)
+
+pub takes_few : (more old new : List (List ℕ)) → Takes more old new true → length new ≤ 16
+takes_few more old new takes = omega (arith, leb-true (length (with_words old more)) 16 (sym takes.room), ap length (takes.words refl))
+
+pub takes_more : (more others old mid new : List (List ℕ)) (fits : Bool) → Takes more old mid true → Takes others mid new fits → Takes (more ++ others) old new fits
+takes_more more others old mid new fits first next =
+    let all : with_words old (more ++ others) ≡ with_words mid others = with_words-append old more others ∙ ap (λ ws. with_words ws others) (sym (first.words refl)) in
+    record {
+      room = next.room ∙ ap (λ (ws : List (List ℕ)). nat_le (length ws) 16) (sym all);
+      words = λ h. next.words h ∙ sym all;
+    }
+
+-- where there is no room for some, there is none for all
+pub takes_not : (more others old mid : List (List ℕ)) → Takes more old mid false → Takes (more ++ others) old mid false
+takes_not more others old mid takes = record {
+  room = sym (false_from_ne_true (nat_le (length (with_words old (more ++ others))) 16) (λ fits.
+      both_ways (nat_le (length (with_words old more)) 16) (sym takes.room)
+      (le-leb (length (with_words old more)) 16
+      (omega (arith, leb-true (length (with_words old (more ++ others))) 16 fits, grown (with_words old more) others, ap length (with_words-append old more others))))));
+  words = λ h. absurd cc;
+}
+
+pub not_full : (n : ℕ) → n ≤ 16 → n == 16 ≡ false → n < 16
+not_full n few is = omega (arith, few, eqb-false n 16 is)
+
+module _ (word : List ℕ) (words counted looked : List (List ℕ)) (place : ℕ) (at : place ≡ place_in word counted) (counts : counted ≡ words) (looks : looked ≡ words) where
+  here : (b : Bool) → is_held (slice_get looked place) word ≡ b → is_held (slice_get words (place_in word words)) word ≡ b
+  here b is = ap₂ (λ ws n. is_held (slice_get ws n) word) (sym looks) (sym (at ∙ ap (place_in word) counts)) ∙ is
+
+  pub place_inside : place ≤ length words
+  place_inside = omega (arith, at ∙ ap (place_in word) counts, prefix_len-le-length (λ held. is_gt (word_cmp word held)) words)
+
+  new_is : is_held (slice_get looked place) word ≡ false → insert words place word ≡ with_word words word
+  new_is is = ap (λ n. insert words n word) (at ∙ ap (place_in word) counts) ∙ put_new word words (here false is)
+
+  pub takes_there : length words ≤ 16 → is_held (slice_get looked place) word ≡ true → Takes (word ∷ []) words words true
+  takes_there few is = let same = put_there word words (here true is) in record {
+    room = sym (le-leb (length (with_word words word)) 16 (omega (arith, few, ap length same)));
+    words = λ fits. sym same;
+  }
+
+  one_longer : is_held (slice_get looked place) word ≡ false → length (with_word words word) ≡ length words + 1
+  one_longer is = omega (arith, ap length (new_is is), length-insert words place word place_inside)
+
+  pub takes_full : length words ≡ 16 → is_held (slice_get looked place) word ≡ false → Takes (word ∷ []) words words false
+  takes_full full is = record {
+    room = sym (false_from_ne_true (nat_le (length (with_word words word)) 16) (λ fits.
+        omega (arith, leb-true (length (with_word words word)) 16 fits, one_longer is, full)));
+    words = λ fits. absurd cc;
+  }
+
+  pub takes_new : length words < 16 → is_held (slice_get looked place) word ≡ false → (new : List (List ℕ)) → new ≡ insert words place word → Takes (word ∷ []) words new true
+  takes_new room is new put = record {
+    room = sym (le-leb (length (with_word words word)) 16 (omega (arith, room, one_longer is)));
+    words = λ fits. put ∙ new_is is;
+  }
+
+-- ---- the word of a node
+pub no_tag : (node : Node) → ((word : List ℕ) → node ≡ Word word → ⊥) → node_tags node ≡ []
+no_tag (Word word) none = absurd (none word refl)
+no_tag (AtLeast n) none = refl
+no_tag (Below n) none = refl
+no_tag Not none = refl
+no_tag And none = refl
+no_tag Or none = refl
+
+pub other_tag : (node : Node) (word : List ℕ) → node ≡ Word word → is_tag word ≡ false → node_tags node ≡ []
+other_tag node word is other = ap node_tags is ∙ ap (λ b. cond b (word ∷ []) []) other
+
+pub one_tag : (node : Node) (word : List ℕ) → node ≡ Word word → is_tag word ≡ true → node_tags node ≡ word ∷ []
+one_tag node word is tag = ap node_tags is ∙ ap (λ b. cond b (word ∷ []) []) tag
+
+-- ---- a loop that puts words into a set
+pub flat_next : {X : Type 0} (f : X → List (List ℕ)) (xs : List X) (i : ℕ) (x : X) → i < length xs → x ≡ get_or xs i x → flat_map f (take (i + 1) xs) ≡ flat_map f (take i xs) ++ f x
+flat_next {X} f xs i x lt is =
+    ap (flat_map f) (take_more xs i x lt ∙ ap (λ (y : X). take i xs ++ y ∷ []) (sym is))
+    ∙ (flat_map-append f (take i xs) (x ∷ []) ∙ ap (λ ws. flat_map f (take i xs) ++ ws) (no_more (f x)))
+
+module _ {X : Type 0} (f : X → List (List ℕ)) (xs : List X) (i : ℕ) (x : X) (lt : i < length xs) (is : x ≡ get_or xs i x) (old mid new : List (List ℕ)) where
+  pub takes_step : Takes (flat_map f (take i xs)) old mid true → Takes (f x) mid new true → Takes (flat_map f (take (i + 1) xs)) old new true
+  takes_step before next =
+      subst (λ ws. Takes ws old new true) (sym (flat_next f xs i x lt is)) (takes_more (flat_map f (take i xs)) (f x) old mid new true before next)
+
+  pub takes_stop : Takes (flat_map f (take i xs)) old mid true → Takes (f x) mid new false → Takes (flat_map f xs) old new false
+  takes_stop before next =
+      let stopped = subst (λ ws. Takes ws old new false) (sym (flat_next f xs i x lt is)) (takes_more (flat_map f (take i xs)) (f x) old mid new false before next) in
+      let all = sym (flat_map-append f (take (i + 1) xs) (drop (i + 1) xs)) ∙ ap (flat_map f) (take-append-drop (i + 1) xs) in
+      subst (λ ws. Takes ws old new false) all (takes_not (flat_map f (take (i + 1) xs)) (flat_map f (drop (i + 1) xs)) old new stopped)
+
+pub each_alone : (words : List (List ℕ)) → flat_map (λ (w : List ℕ). w ∷ []) words ≡ words
+each_alone [] = refl
+each_alone (w ∷ words) = ap (λ ws. w ∷ ws) (each_alone words)
+
+-- ---- all words that a new file is given
+module _ (place : List Formula) (words start mid : List (List ℕ)) (some : IsSome (place_words place)) (none : start ≡ []) where
+  pub too_many : Takes (flat_map node_tags (nodes_of place)) start mid false → 16 < length (assigned_at place words)
+  too_many takes =
+      let tags = flat_map node_tags (nodes_of place) in
+      omega (
+        arith,
+        leb-false (length (with_words start tags)) 16 (sym takes.room),
+        ap (λ ws. length (with_words ws tags)) none,
+        grown (set_of tags) words,
+        ap length (assigned_is place words some),
+      )
+
+  pub takes_all : (given new : List (List ℕ)) (fits : Bool) → given ≡ words → Takes (flat_map node_tags (nodes_of place)) start mid true → Takes given mid new fits
+      → (fits ≡ nat_le (length (assigned_at place words)) 16) × (fits ≡ true → new ≡ assigned_at place words)
+  takes_all given new fits is first next =
+      let tags = flat_map node_tags (nodes_of place) in
+      let both = ap₂ with_words (first.words refl ∙ ap (λ ws. with_words ws tags) none) is ∙ sym (assigned_is place words some) in
+      (next.room ∙ ap (λ (ws : List (List ℕ)). nat_le (length ws) 16) both, λ h. next.words h ∙ both)
+
+-- ---- assignable words
+has_declared : (k : Kept) (word : List ℕ) → has_word (declared_of k) word ≡ is_declared k word
+has_declared k word =
+    same_tests (has_word (declared_of k) word) (is_declared k word) (λ h. there_declared k word (among_from_has_word (declared_of k) word h))
+    (λ h. has_word_from_among (declared_of k) word (declared_there k word h))
+
+pub plain_assignable : (k : Kept) (word : List ℕ) → is_plain_word word ≡ true → is_declared k word ≡ is_assignable (declared_of k) word
+plain_assignable k word plain =
+    sym (ap₂ (λ p v. (p && has_word (declared_of k) word) || (v && has_word (declared_of k) (head_bytes word))) plain (plain_not_valued word plain) ∙ (or_last (has_word (declared_of k) word) ∙ has_declared k word))
+  where
+    or_last : (b : Bool) → (b || false) ≡ b
+    or_last true = refl
+    or_last false = refl
+
+pub valued_assignable : (k : Kept) (word : List ℕ) → is_plain_word word ≡ false → is_valued word ≡ true → is_declared k (head_bytes word) ≡ is_assignable (declared_of k) word
+valued_assignable k word plain valued =
+    sym (ap₂ (λ p v. (p && has_word (declared_of k) word) || (v && has_word (declared_of k) (head_bytes word))) plain valued ∙ has_declared k (head_bytes word))

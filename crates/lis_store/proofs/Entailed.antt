@@ -1,0 +1,125 @@
+-- The numbers of all that words entail, left out of a row.
+use Rattle.std.proofs.Common.{◌≡◌, refl, sym, ap, ap₂, ◌∙◌, ℕ, ◌<◌, ◌≤◌, not, ◌&&◌, ◌||◌, Bool, true, false, List, [], ◌∷◌, ◌++◌, length, Option, Some, None, append-nil, arith}
+use Rattle.std.specs.List.{flat_map}
+use Rattle.std.proofs.lemmas.Grind.{flat_map-append}
+use Rattle.lis_bits.specs.Rows.{Rows, HasShape, get, with_row}
+use Rattle.lis_dict.specs.Dict.{number_of, word_of}
+use Rattle.lis_dict.proofs.Laws.{word_from_number, number_below}
+use Rattle.lis_taxonomy.specs.Taxonomy.{Taxonomy, entails}
+use Rattle.lis_taxonomy.proofs.Laws.{entails_decides}
+use Rattle.lis_model.specs.Sets.{set_of}
+use Rattle.lis_model.specs.State.{up, all_up}
+use Rattle.lis_laws.proofs.Chains.{up_from_entails}
+use Rattle.lis_laws.proofs.Members.{among_set_of, set_of_among}
+use Rattle.lis_kept.specs.Kept.{Kept}
+use Rattle.lis_kept.specs.Links.{TellsLinks}
+use Rattle.lis_kept.specs.Sound.{AreSound}
+use Rattle.lis_kept.specs.Telling.{declared_of, axioms_of}
+use Rattle.lis_kept.proofs.Filing.{same_tests}
+use Rattle.lis_ext.specs.Numbers.{numbers_where}
+use Rattle.lis_store.specs.Adding.{is_one_of, numbers_named}
+use Rattle.lis_store.proofs.Entailment.{chain_named, leads_from_up}
+use Rattle.lis_store.proofs.Naming.{one_of, of_one, one_of_none, one_of_both, named_few, same_shape, value_at, shown_numbers}
+
+one_of_set : (words : List (List ℕ)) (o : Option (List ℕ)) → is_one_of (set_of words) o ≡ is_one_of words o
+one_of_set words o =
+    same_tests (is_one_of (set_of words) o) (is_one_of words o)
+    (λ h. let found = one_of (set_of words) o h in of_one words o found.0 found.1 (among_set_of words found.0 found.2))
+    (λ h. let found = one_of words o h in of_one (set_of words) o found.0 found.1 (set_of_among words found.0 found.2))
+
+-- ---- what several words entail
+module _ (declared : List (List ℕ)) (axioms : List (List ℕ × List ℕ)) (o : Option (List ℕ)) where
+  pub ups_both : (some more : List (List ℕ)) → is_one_of (all_up declared axioms (some ++ more)) o ≡ (is_one_of (all_up declared axioms some) o || is_one_of (all_up declared axioms more) o)
+  ups_both some more =
+      let f = up declared axioms in
+      one_of_set (flat_map f (some ++ more)) o
+      ∙ (ap (λ ws. is_one_of ws o) (flat_map-append f some more)
+      ∙ (one_of_both (flat_map f some) (flat_map f more) o
+      ∙ ap₂ (λ a b. a || b) (sym (one_of_set (flat_map f some) o)) (sym (one_of_set (flat_map f more) o))))
+
+  ups_one : (word : List ℕ) → is_one_of (all_up declared axioms (word ∷ [])) o ≡ is_one_of (up declared axioms word) o
+  ups_one word = one_of_set (up declared axioms word ++ []) o ∙ ap (λ ws. is_one_of ws o) (append-nil (up declared axioms word))
+
+-- ---- left out
+out_none : (a : Bool) → a ≡ (a && not false)
+out_none true = refl
+out_none false = refl
+
+out_more : (a x y : Bool) → ((a && not x) && not y) ≡ (a && not (x || y))
+out_more true true y = refl
+out_more true false y = refl
+out_more false x y = refl
+
+-- the row lost the numbers of all that these words entail
+pub record LeavesOut (k : Kept) (words : List (List ℕ)) (old row : Rows) : Type 0 where
+  pub shape : HasShape row 1 k.limits.props
+  pub bits : (n : ℕ) → n < k.limits.props → get row 0 n ≡ (get old 0 n && not (is_one_of (all_up (declared_of k) (axioms_of k) words) (word_of k.dict n)))
+
+pub leaves_none : (k : Kept) (row : Rows) → HasShape row 1 k.limits.props → LeavesOut k [] row row
+leaves_none k row shape = record {
+  shape = shape;
+  bits = λ n lt. out_none (get row 0 n) ∙ ap (λ b. get row 0 n && not b) (sym (one_of_none (word_of k.dict n)));
+}
+
+module _ (k : Kept) (sound : AreSound k) (t : Taxonomy) (tells : TellsLinks k t) where
+  -- the edges tell what a word entails
+  entails_told : (n : ℕ) (p : List ℕ) → word_of k.dict n ≡ Some p → (m : ℕ) → entails t n m ≡ is_one_of (up (declared_of k) (axioms_of k) p) (word_of k.dict m)
+  entails_told n p is m =
+      same_tests (entails t n m) (is_one_of (up (declared_of k) (axioms_of k) p) (word_of k.dict m))
+      (λ h.
+      let leads = (entails_decides t n m).0 h in
+      let named = chain_named k sound t tells leads.0 n m p is leads.1 in
+      of_one (up (declared_of k) (axioms_of k) p) (word_of k.dict m) named.0 named.1 (up_from_entails (declared_of k) (axioms_of k) p named.0 (leads.0, named.2)))
+      (λ h.
+      let found = one_of (up (declared_of k) (axioms_of k) p) (word_of k.dict m) h in
+      (entails_decides t n m).1 (leads_from_up k sound t tells n m p found.0 is found.1 found.2))
+
+  module _ (entailed : Rows) (values : (p q : ℕ) → p < t.props → q < t.props → get entailed p q ≡ entails t p q) where
+    pub leaves_one : (words : List (List ℕ)) (word : List ℕ) (old row new : Rows) (number : ℕ) → LeavesOut k words old row → number_of k.dict word ≡ Some number
+        → new ≡ with_row row 0 (λ bit. get row 0 bit && not (get entailed number bit)) → LeavesOut k (words ++ word ∷ []) old new
+    leaves_one words word old row new number leaves there is = record {
+      shape = same_shape row new 1 k.limits.props 0 (λ bit. get row 0 bit && not (get entailed number bit)) leaves.shape is;
+      bits = λ n lt.
+          let below = number_below k.dict sound.dict word number there in
+          let value = values number n (omega (arith, below, sound.numbers, tells.props)) (omega (arith, lt, tells.props)) in
+          let told = entails_told number word (word_from_number k.dict sound.dict word number there) n in
+          let D = declared_of k in
+          let A = axioms_of k in
+          let o = word_of k.dict n in
+          value_at row new k.limits.props n (λ bit. get row 0 bit && not (get entailed number bit)) leaves.shape is lt
+          ∙ (ap₂ (λ a b. a && not b) (leaves.bits n lt) (value ∙ (told ∙ sym (ups_one D A o word)))
+          ∙ (out_more (get old 0 n) (is_one_of (all_up D A words) o) (is_one_of (all_up D A (word ∷ [])) o)
+          ∙ ap (λ b. get old 0 n && not b) (sym (ups_both D A o words (word ∷ [])))));
+    }
+
+-- ---- what is left over is entailed by none
+left_over : (x y : Bool) → not ((true && not x) && not y) ≡ (x || y)
+left_over true y = refl
+left_over false true = refl
+left_over false false = refl
+
+-- the rows in turn: full, without what the first words entail, without what the others do, and turned over
+module _ (k : Kept) (sound : AreSound k) (some more : List (List ℕ)) (start full left rest done : Rows)
+    (shape : HasShape start 1 k.limits.props) (is_full : full ≡ with_row start 0 (λ _. true))
+    (first : (n : ℕ) → n < k.limits.props → get left 0 n ≡ (get full 0 n && not (is_one_of (all_up (declared_of k) (axioms_of k) some) (word_of k.dict n))))
+    (rest_shape : HasShape rest 1 k.limits.props)
+    (second : (n : ℕ) → n < k.limits.props → get rest 0 n ≡ (get left 0 n && not (is_one_of (all_up (declared_of k) (axioms_of k) more) (word_of k.dict n))))
+    (turned : done ≡ with_row rest 0 (λ bit. not (get rest 0 bit))) where
+  abbrev entailed_by : List (List ℕ) → ℕ → Bool
+  entailed_by words n = is_one_of (all_up (declared_of k) (axioms_of k) words) (word_of k.dict n)
+
+  bits_then : (n : ℕ) → n < k.limits.props → get done 0 n ≡ entailed_by (some ++ more) n
+  bits_then n lt =
+      let whole = value_at start full k.limits.props n (λ _. true) shape is_full lt in
+      value_at rest done k.limits.props n (λ bit. not (get rest 0 bit)) rest_shape turned lt
+      ∙ (ap not (second n lt ∙ ap (λ b. b && not (entailed_by more n)) (first n lt ∙ ap (λ b. b && not (entailed_by some n)) whole))
+      ∙ (left_over (entailed_by some n) (entailed_by more n) ∙ sym (ups_both (declared_of k) (axioms_of k) (word_of k.dict n) some more)))
+
+  pub entailed_shape : HasShape done 1 k.limits.props
+  entailed_shape = same_shape rest done 1 k.limits.props 0 (λ bit. not (get rest 0 bit)) rest_shape turned
+
+  pub entailed_numbers : numbers_where k.limits.props (get done 0) ≡ numbers_named k.dict (all_up (declared_of k) (axioms_of k) (some ++ more))
+  entailed_numbers = shown_numbers k.dict k.limits.props (all_up (declared_of k) (axioms_of k) (some ++ more)) done sound.numbers bits_then
+
+  pub entailed_few : length (all_up (declared_of k) (axioms_of k) (some ++ more)) ≤ 128 → length (numbers_where k.limits.props (get done 0)) ≤ 128
+  entailed_few few = omega (arith, few, ap length entailed_numbers, named_few k.dict sound.dict (all_up (declared_of k) (axioms_of k) (some ++ more)))

@@ -1,0 +1,111 @@
+-- The blocks that no file takes are those that are free.
+use Rattle.std.proofs.Common.{◌≡◌, refl, sym, ap, ◌∙◌, subst, inl, inr, ℕ, ◌+◌, ◌<◌, ◌==◌, nat_lt, not, ◌&&◌, Bool, true, false, cond, List, [], ◌∷◌, ◌++◌, length, map, sum, set, replicate, count_by, arith, length-append, length-set, get_or-set_other}
+use Rattle.std.specs.List.{flat_map, list_all}
+use Rattle.std.proofs.lemmas.Bool.{and_parts, and_from, both_ways, eqb-true, eq-eqb, lt-ltb, ltb-true, not-true, not_from_false}
+use Rattle.std.proofs.lemmas.List.{length-replicate, get_or-replicate}
+use Rattle.std.proofs.lemmas.List.Folds.{sum_by-replicate}
+use Rattle.std.proofs.lemmas.List.Sums.{sum_by-cons, sum_by-set}
+use Rattle.lis_graph.proofs.Members.{Among, among_from_contains, contains_from_among, among_flat_map, flat_map_among}
+use Rattle.lis_ports.specs.Meaning.{Meaning}
+use Rattle.lis_blockmap.specs.Bitmap.{is_taken, free_count}
+use Rattle.lis_content.specs.Content.{marked, has_number, are_distinct, are_free}
+use Rattle.lis_catalog.specs.Catalog.{Filed}
+use Rattle.lis_model.specs.declared.limits.Limits.{Limits}
+use Rattle.lis_model.specs.Ranges.{are_in_range}
+use Rattle.lis_model.specs.State.{State, File, blocks_needed, blocks_taken, used_blocks}
+use Rattle.lis_laws.proofs.Counts.{all_among, all_from}
+use Rattle.lis_kept.specs.Telling.{file_told, state_of, Tells}
+use Rattle.lis_kept.proofs.Filing.{same_tests, among_from_number, number_from_among}
+use Rattle.lis_store.specs.Stored.{Stored, IsSound, StoreFits}
+use Rattle.lis_store.proofs.Facts.{limits_told, files_told, blocks_counted, size_of_filed}
+use Rattle.lis_store.proofs.Marks.{marks_are}
+use Rattle.lis_store.proofs.Spelled.{used, used_once, told_below}
+
+-- ---- blocks that are taken are free no more
+one_fewer : (taken : List Bool) (n : ℕ) → n < length taken → is_taken taken n ≡ false → free_count (set taken n true) + 1 ≡ free_count taken
+one_fewer taken n lt free =
+    let changed = sum_by-set (λ (b : Bool). cond (not b) 1 0) taken n true false lt in
+    omega (arith, changed, ap {B = ℕ} (λ (b : Bool). cond (not b) 1 0) free)
+
+pub free_after_marks : (taken : List Bool) (ns : List ℕ) → are_distinct ns ≡ true → are_free taken ns ≡ true → free_count (marked taken ns) + length ns ≡ free_count taken
+free_after_marks taken [] apart free = omega arith
+free_after_marks taken (b ∷ ns) apart free =
+    let first = and_parts (nat_lt b (length taken) && not (is_taken taken b)) (list_all (λ n. nat_lt n (length taken) && not (is_taken taken n)) ns) free in
+    let here = and_parts (nat_lt b (length taken)) (not (is_taken taken b)) first.0 in
+    let once = and_parts (not (has_number ns b)) (are_distinct ns) apart in
+    let one = one_fewer taken b (ltb-true b (length taken) here.0) (not-true (is_taken taken b) here.1) in
+    let still : are_free (set taken b true) ns ≡ true = all_from (λ n. nat_lt n (length (set taken b true)) && not (is_taken (set taken b true) n)) ns (λ n m.
+    let was = and_parts (nat_lt n (length taken)) (not (is_taken taken n)) (all_among (λ i. nat_lt i (length taken) && not (is_taken taken i)) ns n first.1 m) in
+    let differ : n ≡ b → ⊥ = λ same. both_ways (has_number ns b) (not-true (has_number ns b) once.0) (number_from_among ns b (subst (λ k. Among ns k) same m)) in
+    and_from (nat_lt n (length (set taken b true))) (not (is_taken (set taken b true) n))
+    (lt-ltb n (length (set taken b true)) (omega (arith, ltb-true n (length taken) was.0, length-set taken b true)))
+    (ap not (get_or-set_other taken b n true false differ) ∙ was.1)) in
+    omega (arith, one, free_after_marks (set taken b true) ns once.1 still)
+
+none_taken : (n : ℕ) → free_count (replicate n false) ≡ n
+none_taken n = sum_by-replicate (λ (b : Bool). cond (not b) 1 0) n false ∙ omega arith
+
+module _ (k : Stored) (m : Meaning) (s : State) (sound : IsSound k) (fits : StoreFits k m s) where
+  abbrev told : Filed → File
+  told = file_told k.parts.limits k.parts.dict fits.kept
+
+  abbrev taken_blocks : List ℕ
+  taken_blocks = used k.parts sound.parts
+
+  tells_itself : Tells k.parts fits.kept (state_of k.parts fits.kept)
+  tells_itself = subst (λ (x : State). Tells k.parts fits.kept x) (sym fits.tells.state) fits.tells
+
+  once : are_distinct taken_blocks ≡ true
+  once = used_once k.parts fits.kept sound.parts sound.free sound.pairs fits.written tells_itself
+
+  below : (n : ℕ) → Among taken_blocks n → n < k.parts.limits.blocks
+  below = told_below k.parts fits.kept sound.parts sound.free sound.pairs fits.written tells_itself
+
+  -- ---- how many blocks files take
+  pub version_told : s.limits.version ≡ 1
+  version_told =
+      ap (λ (l : Limits). l.version) (sym (limits_told k.parts fits.kept s sound.parts sound.free fits.tells))
+      ∙ eqb-true k.parts.limits.version 1 (and_parts (k.parts.limits.version == 1) (are_in_range k.parts.limits) sound.range).0
+
+  one_takes : (f : Filed) → Among k.parts.catalog.entries f → blocks_taken s.limits.version (length (told f).bytes) ≡ length f.rec.blocks
+  one_takes f there =
+      ap (λ v. blocks_taken v (length (told f).bytes)) version_told
+      ∙ (ap blocks_needed (size_of_filed k m s sound fits f there) ∙ sym (blocks_counted k.parts sound.parts f there))
+
+  all_take : (fs : List Filed) → ((f : Filed) → Among fs f → Among k.parts.catalog.entries f)
+      → sum (map (λ (file : File). blocks_taken s.limits.version (length file.bytes)) (map told fs)) ≡ length (flat_map (λ (f : Filed). f.rec.blocks) fs)
+  all_take [] there = refl
+  all_take (f ∷ fs) there =
+      let taken : File → ℕ = λ file. blocks_taken s.limits.version (length file.bytes) in
+      omega (arith, sum_by-cons (λ (n : ℕ). n) (taken (told f)) (map taken (map told fs)), one_takes f (there f (inl refl)), all_take fs (λ g of. there g (inr of)),
+      length-append f.rec.blocks (flat_map (λ (g : Filed). g.rec.blocks) fs))
+
+  used_counted : used_blocks s ≡ length taken_blocks
+  used_counted =
+      ap (λ (fs : List File). sum (map (λ (file : File). blocks_taken s.limits.version (length file.bytes)) fs)) (sym (files_told k.parts fits.kept s sound.parts sound.free fits.tells))
+      ∙ all_take k.parts.catalog.entries (λ f there. there)
+
+  -- ---- and those are the taken ones
+  marks_told : k.parts.taken ≡ marked (replicate k.parts.limits.blocks false) taken_blocks
+  marks_told = marks_are k.parts.taken taken_blocks k.parts.limits.blocks sound.parts.blocks (λ n lt.
+      same_tests (is_taken k.parts.taken n) (has_number taken_blocks n)
+      (λ taken.
+      let of = fits.tells.taken n lt taken in
+      number_from_among taken_blocks n
+      (flat_map_among (λ (f : Filed). f.rec.blocks) k.parts.catalog.entries of.file n (among_from_contains k.parts.catalog.entries of.file of.kept) (among_from_number (of.file).rec.blocks n of.has)))
+      (λ has_it.
+      let found = among_flat_map (λ (f : Filed). f.rec.blocks) k.parts.catalog.entries n (among_from_number taken_blocks n has_it) in
+      (fits.tells.given found.0 (contains_from_among k.parts.catalog.entries found.0 found.1) n (number_from_among (found.0).rec.blocks n found.2)).1))
+
+  free_before : are_free (replicate k.parts.limits.blocks false) taken_blocks ≡ true
+  free_before = all_from (λ n. nat_lt n (length (replicate k.parts.limits.blocks false)) && not (is_taken (replicate k.parts.limits.blocks false) n)) taken_blocks (λ n there.
+      let lt = below n there in
+      and_from (nat_lt n (length (replicate k.parts.limits.blocks false))) (not (is_taken (replicate k.parts.limits.blocks false) n))
+      (lt-ltb n (length (replicate k.parts.limits.blocks false)) (omega (arith, lt, length-replicate k.parts.limits.blocks false)))
+      (not_from_false (is_taken (replicate k.parts.limits.blocks false) n) (get_or-replicate k.parts.limits.blocks n false false lt)))
+
+  -- the files take the blocks that are not free
+  pub used_told : used_blocks s + free_count k.parts.taken ≡ s.limits.blocks
+  used_told =
+      let marks = free_after_marks (replicate k.parts.limits.blocks false) taken_blocks once free_before in
+      omega (arith, used_counted, ap free_count marks_told, marks, none_taken k.parts.limits.blocks, ap (λ (l : Limits). l.blocks) (limits_told k.parts fits.kept s sound.parts sound.free fits.tells))

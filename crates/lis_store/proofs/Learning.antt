@@ -1,0 +1,208 @@
+-- Words that are learnt, one behind the other.
+use Rattle.std.proofs.Common.{◌≡◌, ◌⊎◌, refl, sym, ap, ◌∙◌, subst, inl, inr, ℕ, ◌+◌, ◌<◌, ◌≤◌, ◌&&◌, ◌||◌, Bool, true, false, cond, List, [], ◌∷◌, ◌++◌, length, take, drop, get_or, Option, Some, None, is_some, IsSome, append_assoc, append-nil, length-append, take-append-drop, arith}
+use Rattle.std.specs.List.{fold, list_all, flat_map}
+use Rattle.std.proofs.lemmas.Bool.{and_parts, and_from, or_cases, or_left, or_right, both_ways}
+use Rattle.std.proofs.lemmas.List.{length-map, take_more}
+use Rattle.std.proofs.lemmas.List.Sums.{fold-append}
+use Rattle.std.proofs.lemmas.Grind.{flat_map-append}
+use Rattle.std.proofs.lemmas.List.Elements.{Contains-get_or}
+use Rattle.lis_graph.proofs.Members.{Among, among_from_contains, among_insert_key, insert_key_old, with_more_old, with_more_new}
+use Rattle.lis_dict.specs.Dict.{Dict, words, number_of, word_of}
+use Rattle.lis_words.specs.Words.{word_cmp, has_word, is_valued, is_plain_word, is_head, is_word, is_built_in, head_bytes}
+use Rattle.lis_words.proofs.Head.{head_is_word}
+use Rattle.lis_fields.specs.Layouts.{is_undeclared}
+use Rattle.lis_model.specs.Sets.{with_word, with_words}
+use Rattle.lis_model.specs.State.{heads}
+use Rattle.lis_laws.proofs.Apart.{built_in_not_plain}
+use Rattle.lis_laws.proofs.Chains.{head_not_valued}
+use Rattle.lis_laws.proofs.Counts.{all_among, le_insert_key}
+use Rattle.lis_laws.proofs.Members.{word_exact, among_from_has_word, has_word_from_among}
+use Rattle.lis_kept.specs.Kept.{Kept}
+use Rattle.lis_kept.specs.Areas.{marked_count}
+use Rattle.lis_kept.specs.Changes.{Marks, Learns}
+use Rattle.lis_store.specs.Adding.{behind_head, with_heads, may_learn, HasWordRoom, LearnsAll}
+use Rattle.lis_store.proofs.Facts.{numbered}
+use Rattle.lis_store.proofs.Told.{length-with_word}
+
+-- ---- words that have numbers
+pub number_there : (d : Dict) (word : List ℕ) → Among (words d) word → IsSome (number_of d word)
+number_there d word m = sym (numbered d word) ∙ has_word_from_among (words d) word m
+
+pub there_number : (d : Dict) (word : List ℕ) → IsSome (number_of d word) → Among (words d) word
+there_number d word some = among_from_has_word (words d) word (numbered d word ∙ some)
+
+not_unknown : (d : Dict) (word : List ℕ) → number_of d word ≡ None → Among (words d) word → ⊥
+not_unknown d word none m = both_ways (is_some (number_of d word)) (ap is_some none) (number_there d word m)
+
+-- ---- how many there are
+pub words_grow : (some more : List (List ℕ)) → length some ≤ length (with_words some more)
+words_grow some [] = omega arith
+words_grow some (word ∷ more) = omega (arith, le_insert_key word_cmp some word, words_grow (with_word some word) more)
+
+-- an unknown word needs room
+pub room_for : (d : Dict) (word : List ℕ) (more : List (List ℕ)) (most : ℕ) → number_of d word ≡ None → length (with_words (words d) (word ∷ more)) ≤ most → length d.entries < most
+room_for d word more most none room =
+    let one = length-with_word (words d) word (λ other m tie. not_unknown d word none (subst (λ w. Among (words d) w) (sym (word_exact word other tie)) m)) in
+    omega (arith, room, words_grow (with_word (words d) word) more, one, length-map d.entries (λ (e : List ℕ × ℕ). e.0))
+
+-- ---- learning in turn
+pub learns_none : (p : Kept) → LearnsAll [] p p
+learns_none p = record {
+  parts = refl;
+  marks = record { saved = λ at saved. saved; few = omega arith };
+  words = refl;
+  keeps = λ n word is. is;
+  state = λ at. refl;
+}
+
+pub learns_one : (p q : Kept) (word : List ℕ) (number : ℕ) → Learns word number p q → LearnsAll (word ∷ []) p q
+learns_one p q word number learns = record {
+  parts = elim learns.parts [
+    | inl there ↦ subst (λ (k : Kept). k ≡ record p { dict = k.dict; marks = k.marks }) (sym there.1) refl
+    | inr new ↦ subst (λ (k : Kept). k ≡ record p { dict = k.dict; marks = k.marks }) (sym new.2) refl
+  ];
+  marks = learns.marks;
+  words = learns.words;
+  keeps = learns.keeps;
+  state = learns.state;
+}
+
+pub learns_more : (p q r : Kept) (some more : List (List ℕ)) → LearnsAll some p q → LearnsAll more q r → LearnsAll (some ++ more) p r
+learns_more p q r some more first second = record {
+  parts = second.parts ∙ ap (λ (k : Kept). record k { dict = r.dict; marks = r.marks }) first.parts;
+  marks = record {
+    saved = λ at saved. second.marks.saved at (first.marks.saved at saved);
+    few = omega (arith, first.marks.few, second.marks.few, length-append some more);
+  };
+  words = second.words ∙ (ap (λ ws. with_words ws more) first.words ∙ sym (fold-append with_word (words p.dict) some more));
+  keeps = λ n word is. second.keeps n word (first.keeps n word is);
+  state = λ at. second.state at ∙ first.state at;
+}
+
+module _ (p q : Kept) (more : List (List ℕ)) (learns : LearnsAll more p q) where
+  pub limits_stay : q.limits.props ≡ p.limits.props
+  limits_stay = ap (λ (k : Kept). k.limits.props) learns.parts
+
+  -- a word that had a number has one
+  pub number_stays : (word : List ℕ) → IsSome (number_of p.dict word) → IsSome (number_of q.dict word)
+  number_stays word some =
+      number_there q.dict word (subst (λ ws. Among ws word) (sym learns.words) (with_more_old word_cmp (words p.dict) more word (there_number p.dict word some)))
+
+  pub number_learnt : (word : List ℕ) → Among more word → IsSome (number_of q.dict word)
+  number_learnt word m =
+      number_there q.dict word (subst (λ ws. Among ws word) (sym learns.words) (with_more_new word_cmp word_exact (words p.dict) more word m))
+
+  pub may_still : (word : List ℕ) → may_learn p word ≡ true → may_learn q word ≡ true
+  may_still word may = by (is_valued word) may
+    where
+      head : (is_some (number_of p.dict (head_bytes word)) ≡ true) ⊎ (is_built_in (head_bytes word) ≡ true) → (is_some (number_of q.dict (head_bytes word)) || is_built_in (head_bytes word)) ≡ true
+      head (inl some) = or_left (is_some (number_of q.dict (head_bytes word))) (is_built_in (head_bytes word)) (number_stays (head_bytes word) some)
+      head (inr own) = or_right (is_some (number_of q.dict (head_bytes word))) (is_built_in (head_bytes word)) own
+
+      by : (b : Bool) → cond b (is_some (number_of p.dict (head_bytes word)) || is_built_in (head_bytes word)) (is_some (number_of p.dict word)) ≡ true
+          → cond b (is_some (number_of q.dict (head_bytes word)) || is_built_in (head_bytes word)) (is_some (number_of q.dict word)) ≡ true
+      by true h = head (or_cases (is_some (number_of p.dict (head_bytes word))) (is_built_in (head_bytes word)) h)
+      by false h = number_stays word h
+
+  -- what is left of the room
+  pub room_left : (others : List (List ℕ)) → HasWordRoom p (more ++ others) → HasWordRoom q others
+  room_left others room =
+      let same = ap (λ ws. length (with_words ws others)) learns.words in
+      let joined = ap (λ (ws : List (List ℕ)). length ws) (fold-append with_word (words p.dict) more others) in
+      omega (arith, same, joined, room, limits_stay)
+
+-- ---- a word and its head
+built_in_is_undeclared : (word : List ℕ) → is_valued word ≡ true → is_built_in (head_bytes word) ≡ true → is_undeclared (head_bytes word) ≡ true
+built_in_is_undeclared word valued own =
+    or_right (is_valued (head_bytes word)) (is_head (head_bytes word) && is_built_in (head_bytes word))
+    (and_from (is_head (head_bytes word)) (is_built_in (head_bytes word)) (by (or_cases (is_plain_word (head_bytes word) || is_head (head_bytes word)) (is_valued (head_bytes word)) (head_is_word word valued))) own)
+  where
+    first : (is_plain_word (head_bytes word) ≡ true) ⊎ (is_head (head_bytes word) ≡ true) → is_head (head_bytes word) ≡ true
+    first (inl plain) = absurd (both_ways (is_plain_word (head_bytes word)) (built_in_not_plain (head_bytes word) own) plain)
+    first (inr head) = head
+
+    by : ((is_plain_word (head_bytes word) || is_head (head_bytes word)) ≡ true) ⊎ (is_valued (head_bytes word) ≡ true) → is_head (head_bytes word) ≡ true
+    by (inl either) = first (or_cases (is_plain_word (head_bytes word)) (is_head (head_bytes word)) either)
+    by (inr again) = absurd (both_ways (is_valued (head_bytes word)) (head_not_valued word) again)
+
+module _ (p : Kept) (word : List ℕ) (may : may_learn p word ≡ true) (room : HasWordRoom p (behind_head word)) where
+  may_valued : is_valued word ≡ true → (is_some (number_of p.dict (head_bytes word)) || is_built_in (head_bytes word)) ≡ true
+  may_valued valued = subst (λ b. cond b (is_some (number_of p.dict (head_bytes word)) || is_built_in (head_bytes word)) (is_some (number_of p.dict word)) ≡ true) valued may
+
+  may_plain : is_valued word ≡ false → IsSome (number_of p.dict word)
+  may_plain plain = subst (λ b. cond b (is_some (number_of p.dict (head_bytes word)) || is_built_in (head_bytes word)) (is_some (number_of p.dict word)) ≡ true) plain may
+
+  heads_are : is_valued word ≡ true → heads word ≡ head_bytes word ∷ []
+  heads_are valued = ap (λ b. cond b (head_bytes word ∷ []) []) valued
+
+  no_heads : is_valued word ≡ false → heads word ≡ []
+  no_heads plain = ap (λ b. cond b (head_bytes word ∷ []) []) plain
+
+  pub head_form : (head : List ℕ) → head ≡ head_bytes word → is_valued word ≡ true → number_of p.dict head ≡ None → is_undeclared head ≡ true
+  head_form head is valued none = by (or_cases (is_some (number_of p.dict (head_bytes word))) (is_built_in (head_bytes word)) (may_valued valued))
+    where
+      by : (is_some (number_of p.dict (head_bytes word)) ≡ true) ⊎ (is_built_in (head_bytes word) ≡ true) → is_undeclared head ≡ true
+      by (inl some) = absurd (both_ways (is_some (number_of p.dict (head_bytes word))) (ap is_some (ap (number_of p.dict) (sym is) ∙ none)) some)
+      by (inr own) = ap is_undeclared is ∙ built_in_is_undeclared word valued own
+
+  pub head_bare : (head : List ℕ) → head ≡ head_bytes word → is_valued head ≡ true → ⊥
+  head_bare head is valued = both_ways (is_valued head) (ap is_valued is ∙ head_not_valued word) valued
+
+  pub head_room : (head : List ℕ) → head ≡ head_bytes word → is_valued word ≡ true → number_of p.dict head ≡ None → length p.dict.entries < p.limits.props
+  head_room head is valued none =
+      room_for p.dict (head_bytes word) (word ∷ []) p.limits.props (ap (number_of p.dict) (sym is) ∙ none)
+      (subst (λ hs. length (with_words (words p.dict) (hs ++ word ∷ [])) ≤ p.limits.props) (heads_are valued) room)
+
+  -- the head is learnt, where there is one
+  pub heads_learnt : (q : Kept) (head : List ℕ) (number : ℕ) → head ≡ head_bytes word → is_valued word ≡ true → Learns head number p q → LearnsAll (heads word) p q
+  heads_learnt q head number is valued learns =
+      subst (λ hs. LearnsAll hs p q) (ap (λ h. h ∷ []) is ∙ sym (heads_are valued)) (learns_one p q head number learns)
+
+  pub no_head_learnt : (q : Kept) → q ≡ p → is_valued word ≡ false → LearnsAll (heads word) p q
+  no_head_learnt q same plain =
+      subst (λ (k : Kept). LearnsAll (heads word) p k) (sym same) (subst (λ hs. LearnsAll hs p p) (sym (no_heads plain)) (learns_none p))
+
+  module _ (q : Kept) (learns : LearnsAll (heads word) p q) where
+    known_then : is_valued word ≡ false → IsSome (number_of q.dict word)
+    known_then plain = number_stays p q (heads word) learns word (may_plain plain)
+
+    pub word_form : number_of q.dict word ≡ None → is_undeclared word ≡ true
+    word_form none = by (is_valued word) refl
+      where
+        by : (b : Bool) → is_valued word ≡ b → is_undeclared word ≡ true
+        by true valued = or_left (is_valued word) (is_head word && is_built_in word) valued
+        by false plain = absurd (both_ways (is_some (number_of q.dict word)) (ap is_some none) (known_then plain))
+
+    pub word_headed : is_valued word ≡ true → IsSome (number_of q.dict (head_bytes word))
+    word_headed valued = number_learnt p q (heads word) learns (head_bytes word) (subst (λ hs. Among hs (head_bytes word)) (sym (heads_are valued)) (inl refl))
+
+    pub word_room : number_of q.dict word ≡ None → length q.dict.entries < q.limits.props
+    word_room none = room_for q.dict word [] q.limits.props none (room_left p q (heads word) learns (word ∷ []) room)
+
+    pub word_learnt : (r : Kept) (number : ℕ) → Learns word number q r → LearnsAll (behind_head word) p r
+    word_learnt r number more = learns_more p q r (heads word) (word ∷ []) learns (learns_one q r word number more)
+
+-- ---- words one by one
+module _ (p q : Kept) (all : List (List ℕ)) (i : ℕ) (lt : i < length all) (word : List ℕ) (is : word ≡ get_or all i word) (learns : LearnsAll (with_heads (take i all)) p q) where
+  next_is : with_heads (take (i + 1) all) ≡ with_heads (take i all) ++ behind_head word
+  next_is =
+      ap with_heads (take_more all i word lt ∙ ap (λ w. take i all ++ w ∷ []) (sym is))
+      ∙ (flat_map-append behind_head (take i all) (word ∷ []) ∙ ap (λ ws. with_heads (take i all) ++ ws) (append-nil (behind_head word)))
+
+  pub next_room : HasWordRoom p (with_heads all) → HasWordRoom q (behind_head word)
+  next_room room =
+      let split : with_heads all ≡ with_heads (take (i + 1) all) ++ with_heads (drop (i + 1) all) =
+      ap with_heads (sym (take-append-drop (i + 1) all)) ∙ flat_map-append behind_head (take (i + 1) all) (drop (i + 1) all) in
+      let whole = ap (λ ws. length (with_words (words p.dict) ws)) split in
+      let parts = ap (λ (ws : List (List ℕ)). length ws) (fold-append with_word (words p.dict) (with_heads (take (i + 1) all)) (with_heads (drop (i + 1) all))) in
+      let grow = words_grow (with_words (words p.dict) (with_heads (take (i + 1) all))) (with_heads (drop (i + 1) all)) in
+      let some : HasWordRoom p (with_heads (take (i + 1) all)) = omega (arith, whole, parts, grow, room) in
+      room_left p q (with_heads (take i all)) learns (behind_head word) (subst (λ ws. HasWordRoom p ws) next_is some)
+
+  pub next_may : list_all (may_learn p) all ≡ true → may_learn q word ≡ true
+  next_may may =
+      may_still p q (with_heads (take i all)) learns word
+      (subst (λ w. may_learn p w ≡ true) (sym is) (all_among (may_learn p) all (get_or all i word) may (among_from_contains all (get_or all i word) (Contains-get_or all i word lt))))
+
+  pub next_learnt : (r : Kept) → LearnsAll (behind_head word) q r → LearnsAll (with_heads (take (i + 1) all)) p r
+  next_learnt r more = subst (λ ws. LearnsAll ws p r) (sym next_is) (learns_more p q r (with_heads (take i all)) (behind_head word) learns more)

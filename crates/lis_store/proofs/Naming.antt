@@ -1,0 +1,185 @@
+-- The numbers of words.
+use Rattle.std.proofs.Common.{◌≡◌, ◌⊎◌, refl, sym, ap, ap₂, ◌∙◌, subst, inl, inr, ℕ, ◌+◌, ◌<◌, ◌≤◌, ◌==◌, not, ◌&&◌, ◌||◌, if◌then◌else◌, Bool, true, false, List, [], ◌∷◌, ◌++◌, length, filter, Option, Some, None, is_some, IsSome, option_to_list, arith}
+use Rattle.std.specs.declared.cmp.Ordering.TheVariants.{Less}
+use Rattle.std.specs.Ordering.{nat_cmp}
+use Rattle.std.specs.Cmp.{nat_cmp_total, tied_itself}
+use Rattle.std.specs.List.{AllByRecursion, flat_map}
+use Rattle.std.specs.List.Sorted.{IsStrictlySortedBy}
+use Rattle.std.proofs.lemmas.Bool.{both_ways, cases_eq, eq-eqb, ne_eqb, false_from_ne_true, not_from_true, not_from_false}
+use Rattle.std.proofs.lemmas.List.Folds.{list_any-append}
+use Rattle.std.proofs.lemmas.Option.{same_Some}
+use Rattle.lis_graph.proofs.Members.{Among, among_flat_map, flat_map_among, filter_among}
+use Rattle.lis_graph.proofs.Sets.{below_tail, sorted_tail}
+use Rattle.lis_bits.specs.Rows.{Rows, HasShape, get, with_row}
+use Rattle.lis_bits.proofs.Laws.{get-with_row_same, length-with_row}
+use Rattle.lis_content.specs.Content.{has_number}
+use Rattle.lis_dict.specs.Dict.{Dict, IsDict, number_of, word_of}
+use Rattle.lis_dict.proofs.Laws.{word_from_number, number_from_word, number_below}
+use Rattle.lis_ext.specs.Numbers.{numbers_where}
+use Rattle.lis_words.specs.Words.{word_cmp, same_word, has_word}
+use Rattle.lis_model.specs.Sets.{set_of}
+use Rattle.lis_laws.proofs.Counts.{filter_drops}
+use Rattle.lis_laws.proofs.Members.{same_word_decides, among_from_has_word, has_word_from_among, among_set_of, set_of_among, sorted_set_of, same_words}
+use Rattle.lis_kept.specs.Telling.{words_told}
+use Rattle.lis_kept.proofs.Described.{among_where, where_among}
+use Rattle.lis_kept.proofs.Filing.{same_tests, among_from_number, number_from_among}
+use Rattle.lis_kept.proofs.Known.{only_word, some_number}
+use Rattle.lis_store.specs.Adding.{is_one_of, numbers_named, AreNumbered}
+use Rattle.lis_store.proofs.Numbers.{numbers_same, sorted_where}
+
+-- ---- one of these words
+pub one_of : (words : List (List ℕ)) (o : Option (List ℕ)) → is_one_of words o ≡ true → (word : List ℕ) × (o ≡ Some word) × Among words word
+one_of words None h = absurd cc
+one_of words (Some word) h = (word, refl, among_from_has_word words word h)
+
+pub of_one : (words : List (List ℕ)) (o : Option (List ℕ)) (word : List ℕ) → o ≡ Some word → Among words word → is_one_of words o ≡ true
+of_one words o word is m = ap (is_one_of words) is ∙ has_word_from_among words word m
+
+pub one_of_none : (o : Option (List ℕ)) → is_one_of [] o ≡ false
+one_of_none None = refl
+one_of_none (Some word) = refl
+
+pub one_of_both : (some more : List (List ℕ)) (o : Option (List ℕ)) → is_one_of (some ++ more) o ≡ (is_one_of some o || is_one_of more o)
+one_of_both some more None = refl
+one_of_both some more (Some word) = list_any-append (λ w. same_word w word) some more
+
+-- ---- how many there are
+all_of : {X : Type 0} (P : X → Type 0) (xs : List X) (x : X) → AllByRecursion P xs → Among xs x → P x
+all_of P [] x all m = absurd m
+all_of P (y ∷ ys) x all (inl same) = subst P same all.0
+all_of P (y ∷ ys) x all (inr m) = all_of P ys x all.1 m
+
+one_number : (d : Dict) → IsDict d → (m n : ℕ) (word : List ℕ) → word_of d m ≡ Some word → word_of d n ≡ Some word → m ≡ n
+one_number d dict m n word is_m is_n = same_Some m n (sym (number_from_word d dict word m is_m) ∙ number_from_word d dict word n is_n)
+
+-- numbers of words are no more than the words
+few_named : (d : Dict) → IsDict d → (ns : List ℕ) (words : List (List ℕ)) → IsStrictlySortedBy nat_cmp ns → ((n : ℕ) → Among ns n → is_one_of words (word_of d n) ≡ true) → length ns ≤ length words
+few_named d dict [] words sorted each = omega arith
+few_named d dict (n ∷ ns) words sorted each =
+    let first = one_of words (word_of d n) (each n (inl refl)) in
+    let word = first.0 in
+    let others : List (List ℕ) = filter (λ w. not (same_word w word)) words in
+    let fewer = filter_drops (λ w. not (same_word w word)) words word first.2 (not_from_true (same_word word word) ((same_word_decides word word).1 refl)) in
+    let rest = few_named d dict ns others (sorted_tail nat_cmp nat_cmp_total n ns sorted) (λ m of.
+    let found = one_of words (word_of d m) (each m (inr of)) in
+    of_one others (word_of d m) found.0 found.1
+    (filter_among (λ w. not (same_word w word)) words found.0 found.2 (not_from_false (same_word found.0 word) (false_from_ne_true (same_word found.0 word) (λ same.
+    let here : word_of d m ≡ Some word = found.1 ∙ ap Some ((same_word_decides found.0 word).0 same) in
+    apart m of (one_number d dict n m word first.1 here)))))) in
+    omega (arith, fewer, rest)
+  where
+    apart : (m : ℕ) → Among ns m → n ≡ m → ⊥
+    apart m of same =
+        let less = all_of (λ k. nat_cmp n k ≡ Less) ns m (below_tail nat_cmp nat_cmp_total n ns sorted) of in
+        let level = tied_itself nat_cmp_total m in
+        let this : nat_cmp m m ≡ Less = subst (λ k. nat_cmp k m ≡ Less) same less in
+        cc
+
+-- ---- the numbers of words
+module _ (d : Dict) (dict : IsDict d) (words : List (List ℕ)) where
+  among_named : (n : ℕ) (word : List ℕ) → word_of d n ≡ Some word → Among words word → Among (numbers_named d words) n
+  among_named n word is m =
+      where_among d.props (λ k. is_one_of words (word_of d k)) n (number_below d dict word n (number_from_word d dict word n is)) (of_one words (word_of d n) word is m)
+
+  pub named_one : (n : ℕ) → Among (numbers_named d words) n → is_one_of words (word_of d n) ≡ true
+  named_one n m = (among_where d.props (λ k. is_one_of words (word_of d k)) n m).1
+
+  pub named_has : (n : ℕ) → has_number (numbers_named d words) n ≡ is_one_of words (word_of d n)
+  named_has n =
+      same_tests (has_number (numbers_named d words) n) (is_one_of words (word_of d n))
+      (λ h. named_one n (among_from_number (numbers_named d words) n h))
+      (λ h. let found = one_of words (word_of d n) h in number_from_among (numbers_named d words) n (among_named n found.0 found.1 found.2))
+
+  pub named_few : length (numbers_named d words) ≤ length words
+  named_few = few_named d dict (numbers_named d words) words (sorted_where d.props (λ n. is_one_of words (word_of d n))) named_one
+
+  -- they tell the words
+  pub named_told : IsStrictlySortedBy word_cmp words → AreNumbered d words → words_told d (numbers_named d words) ≡ words
+  named_told sorted numbered =
+      same_words (words_told d (numbers_named d words)) words (sorted_set_of (flat_map (λ n. option_to_list (word_of d n)) (numbers_named d words))) sorted
+      (λ word m.
+      let found = among_flat_map (λ n. option_to_list (word_of d n)) (numbers_named d words) word (among_set_of (flat_map (λ n. option_to_list (word_of d n)) (numbers_named d words)) word m) in
+      let named = one_of words (word_of d found.0) (named_one found.0 found.1) in
+      subst (λ w. Among words w) (same_Some named.0 word (sym named.1 ∙ only_word (word_of d found.0) word found.2)) named.2)
+      (λ word m.
+      let number = some_number (number_of d word) (numbered word (has_word_from_among words word m)) in
+      let is = word_from_number d dict word number.0 number.1 in
+      set_of_among (flat_map (λ n. option_to_list (word_of d n)) (numbers_named d words)) word
+      (flat_map_among (λ n. option_to_list (word_of d n)) (numbers_named d words) number.0 word (among_named number.0 word is m) (subst (λ o. Among (option_to_list o) word) (sym is) (inl refl))))
+
+-- ---- rows
+pub same_shape : (row new : Rows) (rows bits at : ℕ) (value : ℕ → Bool) → HasShape row rows bits → new ≡ with_row row at value → HasShape new rows bits
+same_shape row new rows bits at value shape is = record {
+  tall = ap (λ (r : Rows). length r.rows) is ∙ (length-with_row row at value ∙ shape.tall);
+  wide = ap (λ (r : Rows). r.bits) is ∙ shape.wide;
+}
+
+-- a row that was set anew
+pub value_at : (row new : Rows) (bits bit : ℕ) (value : ℕ → Bool) → HasShape row 1 bits → new ≡ with_row row 0 value → bit < bits → get new 0 bit ≡ value bit
+value_at row new bits bit value shape is lt = ap (λ (r : Rows). get r 0 bit) is ∙ get-with_row_same row 0 bit value (omega (arith, shape.tall)) (omega (arith, lt, shape.wide))
+
+or_comes : (a b : Bool) → (if b then true else a) ≡ (a || b)
+or_comes true true = refl
+or_comes true false = refl
+or_comes false true = refl
+or_comes false false = refl
+
+or_none : (a : Bool) → a ≡ (a || false)
+or_none true = refl
+or_none false = refl
+
+module _ (d : Dict) (dict : IsDict d) (words : List (List ℕ)) (word : List ℕ) (n : ℕ) (before : Bool) (was : before ≡ is_one_of words (word_of d n)) where
+  -- with a word that has a number
+  pub one_more : (number : ℕ) → number_of d word ≡ Some number → (if n == number then true else before) ≡ is_one_of (words ++ word ∷ []) (word_of d n)
+  one_more number is =
+      or_comes before (n == number)
+      ∙ (ap₂ (λ a b. a || b) was (by (cases_eq n number)) ∙ sym (one_of_both words (word ∷ []) (word_of d n)))
+    where
+      there : word_of d number ≡ Some word
+      there = word_from_number d dict word number is
+
+      by : (n ≡ number) ⊎ (n ≡ number → ⊥) → (n == number) ≡ is_one_of (word ∷ []) (word_of d n)
+      by (inl same) = eq-eqb n number same ∙ sym (of_one (word ∷ []) (word_of d n) word (ap (word_of d) same ∙ there) (inl refl))
+      by (inr differ) = ne_eqb n number differ ∙ sym (false_from_ne_true (is_one_of (word ∷ []) (word_of d n)) (λ h. this (one_of (word ∷ []) (word_of d n) h)))
+        where
+          this : (other : List ℕ) × (word_of d n ≡ Some other) × Among (word ∷ []) other → ⊥
+          this found = elim found.2 [ inl same ↦ differ (one_number d dict n number word (found.1 ∙ ap Some (sym same)) there) | inr none ↦ absurd none ]
+
+  -- and with one that has none
+  pub none_more : number_of d word ≡ None → before ≡ is_one_of (words ++ word ∷ []) (word_of d n)
+  none_more none =
+      or_none before
+      ∙ (ap₂ (λ a b. a || b) was (sym (false_from_ne_true (is_one_of (word ∷ []) (word_of d n)) (λ h. this (one_of (word ∷ []) (word_of d n) h)))) ∙ sym (one_of_both words (word ∷ []) (word_of d n)))
+    where
+      this : (other : List ℕ) × (word_of d n ≡ Some other) × Among (word ∷ []) other → ⊥
+      this found = elim found.2 [
+        | inl same ↦ both_ways (is_some (number_of d word)) (ap is_some none) (ap is_some (number_from_word d dict word n (found.1 ∙ ap Some (sym same))))
+        | inr other ↦ absurd other
+      ]
+
+-- a row has the bits of the numbers of these words
+pub record ShowsNumbers (d : Dict) (props : ℕ) (words : List (List ℕ)) (row : Rows) : Type 0 where
+  pub shape : HasShape row 1 props
+  pub bits : (n : ℕ) → n < props → get row 0 n ≡ is_one_of words (word_of d n)
+
+pub shows_none : (d : Dict) (props : ℕ) (row new : Rows) → HasShape row 1 props → new ≡ with_row row 0 (λ _. false) → ShowsNumbers d props [] new
+shows_none d props row new shape is = record {
+  shape = same_shape row new 1 props 0 (λ _. false) shape is;
+  bits = λ n lt. value_at row new props n (λ _. false) shape is lt ∙ sym (one_of_none (word_of d n));
+}
+
+module _ (d : Dict) (dict : IsDict d) (props : ℕ) (words : List (List ℕ)) (word : List ℕ) (row : Rows) (shows : ShowsNumbers d props words row) where
+  pub shows_one : (new : Rows) (number : ℕ) → number_of d word ≡ Some number → new ≡ with_row row 0 (λ n. if n == number then true else get row 0 n) → ShowsNumbers d props (words ++ word ∷ []) new
+  shows_one new number there is = record {
+    shape = same_shape row new 1 props 0 (λ n. if n == number then true else get row 0 n) shows.shape is;
+    bits = λ n lt.
+        value_at row new props n (λ k. if k == number then true else get row 0 k) shows.shape is lt
+        ∙ one_more d dict words word n (get row 0 n) (shows.bits n lt) number there;
+  }
+
+  pub shows_same : number_of d word ≡ None → ShowsNumbers d props (words ++ word ∷ []) row
+  shows_same none = record { shape = shows.shape; bits = λ n lt. none_more d dict words word n (get row 0 n) (shows.bits n lt) none }
+
+pub shown_numbers : (d : Dict) (props : ℕ) (words : List (List ℕ)) (row : Rows) → d.props ≡ props → ((n : ℕ) → n < props → get row 0 n ≡ is_one_of words (word_of d n)) → numbers_where props (get row 0) ≡ numbers_named d words
+shown_numbers d props words row same bits =
+    numbers_same props (get row 0) (λ n. is_one_of words (word_of d n)) bits ∙ ap (λ m. numbers_where m (λ n. is_one_of words (word_of d n))) (sym same)

@@ -1,0 +1,15 @@
+use Rattle.std.proofs.Common.{◌∙◌, refl, sym, ap}
+use Rattle.lis_words.specs.Words.{is_plain_word}
+use Rattle.lis_kept.specs.Telling.{is_declared}
+use Rattle.lis_store.proofs.Assigned.{plain_assignable, valued_assignable}
+use Rattle.lis_store.proofs.assigning.is_assignable.Goals as goal
+
+pub returns-then-is_plain_word : goal.returns-then-is_plain_word
+returns-then-is_plain_word c =
+    c.is_declared.ensures ∙ plain_assignable c.args.parts.now c.args.word.now (ap is_plain_word (sym c.bytes.ensures.bytes) ∙ (sym c.is_plain_word.ensures ∙ c.if-is_plain_word.true))
+
+pub returns-in-Some : goal.returns-in-Some
+returns-in-Some c =
+    c.is_declared-in-Some.ensures
+    ∙ (ap (is_declared c.args.parts.now) c.in-Some.ensures.head
+    ∙ valued_assignable c.args.parts.now c.args.word.now (ap is_plain_word (sym c.bytes.ensures.bytes) ∙ (sym c.is_plain_word.ensures ∙ c.if-is_plain_word.false)) (c.in-Some.ensures.valued.0 refl))

@@ -1,0 +1,40 @@
+use Rattle.std.proofs.Common.{ℕ, ◌∙◌, ◌++◌, [], sym, ap, subst, List, length, arith}
+use Rattle.lis_model.specs.Derived.{derived_words}
+use Rattle.lis_model.specs.Changes.{new_file}
+use Rattle.lis_kept.proofs.InArea.{few_properties}
+use Rattle.lis_store.specs.Describing.{with_heads, AreGathered}
+use Rattle.lis_store.proofs.Gathered.{with_heads_few}
+use Rattle.lis_store.proofs.Measured.{none_gathered, file_measured, file_known, few_had}
+use Rattle.lis_store.proofs.describing.measure.Goals as goal
+
+pub gather_all-requires-2-clause-room : goal.gather_all-requires-2-clause-room
+gather_all-requires-2-clause-room c =
+    omega (arith, ap length c.new-fresh.ensures, c.gather_all.ensures.few, with_heads_few c.args.words.now, c.requires.few, c.as_slice.ensures.few)
+
+all_gathered : (c : goal.After-count) → AreGathered c.args.parts.now (with_heads c.args.words.now ++ with_heads (derived_words c.args.name.now c.args.payload.now)) c.gather_all-2.new.lacked c.gather_all-2.new.fresh.items
+all_gathered c =
+    let k = c.args.parts.now in
+    let none = subst (λ (ws : List (List ℕ)). AreGathered k [] c.fill.new.self ws) (sym c.new-fresh.ensures) (none_gathered k c.requires.sound c.args.row.now c.fill.new.self c.requires.shape c.fill.ensures) in
+    let both = c.gather_all-2.ensures.gathered (with_heads c.args.words.now) (c.gather_all.ensures.gathered [] none) in
+    subst (λ ws. AreGathered k (with_heads c.args.words.now ++ with_heads ws) c.gather_all-2.new.lacked c.gather_all-2.new.fresh.items) (c.as_slice.ensures.words ∙ c.derived.ensures) both
+
+pub overflow_add-result : goal.overflow_add-result
+overflow_add-result c =
+    let k = c.args.parts.now in
+    let few = few_had k c.requires.sound (new_file c.args.name.now c.args.words.now c.args.payload.now) c.gather_all-2.new.lacked c.gather_all-2.new.fresh.items (all_gathered c)
+    c.gather_all-2.ensures.shape c.negate.new.self c.negate.ensures in
+    omega (arith, few, c.count.ensures, few_properties k.limits c.requires.sound.range, c.len-fresh.ensures.fits)
+
+pub returns-clause-words : goal.returns-clause-words
+returns-clause-words c =
+    let k = c.args.parts.now in
+    let is = file_measured k c.requires.sound (new_file c.args.name.now c.args.words.now c.args.payload.now) c.gather_all-2.new.lacked c.gather_all-2.new.fresh.items (all_gathered c)
+    c.gather_all-2.ensures.shape c.negate.new.self c.negate.ensures in
+    omega (arith, is, c.count.ensures, c.len-fresh.ensures.value)
+
+pub returns-clause-known : goal.returns-clause-known
+returns-clause-known c =
+    let k = c.args.parts.now in
+    let is = file_known k c.requires.sound (new_file c.args.name.now c.args.words.now c.args.payload.now) c.gather_all-2.new.lacked c.gather_all-2.new.fresh.items (all_gathered c)
+    c.gather_all-2.ensures.shape c.negate.new.self c.negate.ensures in
+    omega (arith, is, c.len-fresh.ensures.value)

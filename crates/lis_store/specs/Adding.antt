@@ -1,0 +1,68 @@
+-- A file that comes into memory.
+use Rattle.std.specs.Prelude.{◌≡◌, ℕ, ◌≤◌, Bool, true, false, ◌||◌, if◌then◌else◌, Option, is_some, Some, None, List, [], ◌∷◌, ◌++◌, length, IsSome}
+use Rattle.std.specs.List.{flat_map}
+use Rattle.lis_journal.specs.Journal.{Held}
+use Rattle.lis_dict.specs.Dict.{Dict, words, number_of, word_of}
+use Rattle.lis_ext.specs.Numbers.{numbers_where}
+use Rattle.lis_words.specs.Words.{has_word, is_valued, head_bytes, is_built_in}
+use Rattle.lis_model.specs.Sets.{with_words}
+use Rattle.lis_model.specs.Derived.{derived_words}
+use Rattle.lis_model.specs.State.{File, heads}
+use Rattle.lis_kept.specs.Kept.{Kept}
+use Rattle.lis_kept.specs.Telling.{state_of}
+use Rattle.lis_kept.specs.Changes.{Marks, Adds, Describes}
+use Rattle.lis_store.specs.Admitting.{described_by}
+
+-- ---- numbers of words
+-- there is a word, and it is one of these
+abbrev pub is_one_of : List (List ℕ) → Option (List ℕ) → Bool
+is_one_of words None = false
+is_one_of words (Some word) = has_word words word
+
+-- the numbers of these words, in rising order
+abbrev pub numbers_named : Dict → List (List ℕ) → List ℕ
+numbers_named dict words = numbers_where dict.props (λ n. is_one_of words (word_of dict n))
+
+-- each of the words has a number
+abbrev pub AreNumbered : Dict → List (List ℕ) → Type 0
+AreNumbered dict words = (word : List ℕ) → has_word words word ≡ true → IsSome (number_of dict word)
+
+-- ---- words that are learnt
+-- a word behind its head
+abbrev pub behind_head : List ℕ → List (List ℕ)
+behind_head word = heads word ++ word ∷ []
+
+abbrev pub with_heads : List (List ℕ) → List (List ℕ)
+with_heads words = flat_map behind_head words
+
+-- a valued word whose head has a number or is built in, or another word that has a number
+abbrev pub may_learn : Kept → List ℕ → Bool
+may_learn k word =
+    if is_valued word then is_some (number_of k.dict (head_bytes word)) || is_built_in (head_bytes word) else is_some (number_of k.dict word)
+
+-- with these words there are no more than there is room for
+abbrev pub HasWordRoom : Kept → List (List ℕ) → Type 0
+HasWordRoom k more = length (with_words (words k.dict) more) ≤ k.limits.props
+
+-- These words have numbers now, and each word that had one keeps it.
+pub record LearnsAll (more : List (List ℕ)) (p q : Kept) : Type 0 where
+  pub parts : q ≡ record p { dict = q.dict; marks = q.marks }
+  pub marks : Marks (length more) p q
+  pub words : words q.dict ≡ with_words (words p.dict) more
+  pub keeps : (n : ℕ) (word : List ℕ) → word_of p.dict n ≡ Some word → word_of q.dict n ≡ Some word
+  pub state : (at : ℕ → List ℕ) → state_of q at ≡ state_of p at
+
+-- ---- a file that is put in
+-- The words of a file that are learnt with it: those that it was given, and the derived ones. Tests that it meets are declared.
+abbrev pub learnt_words : File → List (List ℕ)
+learnt_words file = file.assigned ++ derived_words file.name file.bytes
+
+-- Its words are learnt, then it is filed with the numbers of those that it was given, and described with those of its description.
+pub record PutsIn (file : File) (p q : Kept) (old new : Held) : Type 0 where
+  pub learnt : Kept
+  pub learns : LearnsAll (with_heads (learnt_words file)) p learnt
+  pub few : length (numbers_named learnt.dict (described_by p file)) ≤ 128
+  pub slot : ℕ
+  pub filed : Kept
+  pub adds : Adds file.name (numbers_named learnt.dict file.assigned) file.bytes slot learnt filed old new
+  pub describes : Describes slot (numbers_named learnt.dict (described_by p file)) filed q

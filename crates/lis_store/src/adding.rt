@@ -1,0 +1,163 @@
+//! Files that come into memory.
+
+ghost use Rattle.std.specs.Prelude.{◌≡◌, ℕ, ◌*◌, ◌<◌, ◌≤◌, false, not, ◌&&◌, [], ◌++◌, length, IsTrue};
+ghost use Rattle.std.specs.List.{list_all};
+ghost use Rattle.lis_bits.specs.Rows.{HasShape, get};
+ghost use Rattle.lis_dict.specs.Dict.{word_of};
+ghost use Rattle.lis_ext.specs.Numbers.{numbers_where};
+ghost use Rattle.lis_model.specs.Image.{image_blocks};
+ghost use Rattle.lis_model.specs.State.{heads, all_up};
+ghost use Rattle.lis_model.specs.Changes.{new_file};
+ghost use Rattle.lis_eval.specs.Room.{HasRoom};
+ghost use Rattle.lis_kept.specs.Sound.{AreSound, FreeSlotsAreEmpty, BlocksAreTaken};
+ghost use Rattle.lis_kept.specs.Telling.{declared_of, axioms_of};
+ghost use Rattle.lis_store.specs.Admitting.{IsAdmitted};
+ghost use Rattle.lis_store.specs.Adding.{is_one_of, numbers_named, AreNumbered, behind_head, with_heads, may_learn, HasWordRoom, LearnsAll, PutsIn};
+
+use crate::derived::derived;
+use arrayvec::ArrayVec;
+use lis_bits::{Rows, and_not_row};
+use lis_eval::Scratch;
+use lis_journal::Journal;
+use lis_kept::Parts;
+use lis_ports::Disk;
+use lis_words::{Name, Word, head_of};
+
+// Gives the head of a valued word a number if it has none.
+fn learn_head(parts: &mut Parts, word: &Word)
+    requires form { IsTrue (may_learn parts.old word.now) }
+    requires room { HasWordRoom parts.old (behind_head word.now) }
+    ensures { LearnsAll (heads word.now) parts.old parts.new }
+{
+    if let Some(head) = head_of(word) {
+        parts.learn(&head);
+    }
+}
+
+// Gives a word a number if it has none, and its head before.
+fn learn_word(parts: &mut Parts, word: &Word)
+    requires form { IsTrue (may_learn parts.old word.now) }
+    requires room { HasWordRoom parts.old (behind_head word.now) }
+    ensures { LearnsAll (behind_head word.now) parts.old parts.new }
+{
+    learn_head(parts, word);
+    parts.learn(word);
+}
+
+// Gives numbers to those words that have none.
+fn learn_words(parts: &mut Parts, words: &[Word])
+    requires form { IsTrue (list_all (may_learn parts.old) words.now) }
+    requires room { HasWordRoom parts.old (with_heads words.now) }
+    ensures { LearnsAll (with_heads words.now) parts.old parts.new }
+{
+    for word in words {
+        learn_word(parts, word);
+    }
+}
+
+// The numbers whose bits are set, in rising order.
+fn numbers_in<const MOST: usize>(row: &Rows, props: u32) -> ArrayVec<u16, MOST>
+    requires shape { HasShape row.now 1 props }
+    requires small { props ≤ 8192 }
+    requires few { length (numbers_where props (get row.now 0)) ≤ MOST }
+    ensures { result.items ≡ numbers_where props (get row.now 0) }
+{
+    let mut numbers = ArrayVec::new();
+    for number in 0..props {
+        if row.get(0, number) {
+            numbers.push(number as u16);
+        }
+    }
+    numbers
+}
+
+// The numbers of the words.
+fn numbers_of(parts: &Parts, words: &[Word], row: &mut Rows) -> ArrayVec<u16, 16>
+    requires shape { HasShape row.old 1 parts.now.limits.props }
+    requires few { length words.now ≤ 16 }
+    ensures numbers { result.items ≡ numbers_named parts.now.dict words.now }
+    ensures shape { HasShape row.new 1 parts.now.limits.props }
+    ensures sound { AreSound parts.now }
+{
+    let props = parts.limits().props;
+    row.fill(0, false);
+    for word in words {
+        if let Some(number) = parts.number_of(word) {
+            row.put(0, u32::from(number), true);
+        }
+    }
+    numbers_in(row, props)
+}
+
+// Takes from a row the numbers of all words that these entail.
+fn leave_out(parts: &Parts, words: &[Word], row: &mut Rows)
+    requires sound { AreSound parts.now }
+    requires shape { HasShape row.old 1 parts.now.limits.props }
+    requires numbered { AreNumbered parts.now.dict words.now }
+    ensures shape { HasShape row.new 1 parts.now.limits.props }
+    ensures bits { (n : ℕ) → n < parts.now.limits.props → get row.new 0 n
+        ≡ (get row.old 0 n && not (is_one_of (all_up (declared_of parts.now) (axioms_of parts.now) words.now) (word_of parts.now.dict n))) }
+{
+    let entailed = parts.taxonomy().rows();
+    for word in words {
+        let Some(number) = parts.number_of(word) else {
+            unreachable!()
+        };
+        and_not_row(entailed, u32::from(number), row, 0);
+    }
+}
+
+// The numbers of all words that these entail.
+fn numbers_entailed(
+    parts: &Parts,
+    assigned: &[Word],
+    derived: &[Word],
+    row: &mut Rows,
+) -> ArrayVec<u16, 128>
+    requires shape { HasShape row.old 1 parts.now.limits.props }
+    requires numbered { AreNumbered parts.now.dict (assigned.now ++ derived.now) }
+    requires few { length (all_up (declared_of parts.now) (axioms_of parts.now) (assigned.now ++ derived.now)) ≤ 128 }
+    ensures numbers { result.items
+        ≡ numbers_named parts.now.dict (all_up (declared_of parts.now) (axioms_of parts.now) (assigned.now ++ derived.now)) }
+    ensures shape { HasShape row.new 1 parts.now.limits.props }
+{
+    let props = parts.limits().props;
+    row.fill(0, true);
+    leave_out(parts, assigned, row);
+    leave_out(parts, derived, row);
+    row.negate(0);
+    numbers_in(row, props)
+}
+
+/// Files bytes under a new name: its words come first, then the file in a slot, and last the numbers of its description.
+pub(crate) fn put_in<D: Disk>(
+    parts: &mut Parts,
+    journal: &mut Journal,
+    disk: &mut D,
+    scratch: &mut Scratch,
+    name: &Name,
+    assigned: &[Word],
+    payload: &[u8],
+)
+    requires sound { AreSound parts.old }
+    requires admitted { IsAdmitted parts.old (new_file name.now assigned.now payload.now) }
+    requires free { FreeSlotsAreEmpty parts.old }
+    requires taken { BlocksAreTaken parts.old }
+    requires image { journal.old.blocks ≡ image_blocks parts.old.limits }
+    requires unbroken { journal.old.is_broken ≡ false }
+    requires unplaced { journal.old.placed ≡ [] }
+    requires unstaged { journal.old.staged ≡ [] }
+    requires long { 4096 * journal.old.blocks ≤ (D.meaning disk.old).len }
+    requires scratch { HasRoom scratch.old parts.old.limits }
+    ensures scratch { HasRoom scratch.new parts.old.limits }
+    ensures put { PutsIn (new_file name.now assigned.now payload.now) parts.old parts.new journal.old journal.new }
+    ensures disk { disk.new ≡ disk.old }
+{
+    let derived = derived(name, payload);
+    learn_words(parts, assigned);
+    learn_words(parts, derived.as_slice());
+    let tags = numbers_of(parts, assigned, &mut scratch.candidates);
+    let numbers = numbers_entailed(parts, assigned, derived.as_slice(), &mut scratch.candidates);
+    let slot = parts.add_file(journal, disk, name, tags, payload);
+    parts.describe(slot, &[], numbers.as_slice());
+}

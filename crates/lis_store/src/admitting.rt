@@ -1,0 +1,159 @@
+//! What a new file is refused for.
+
+ghost use Rattle.std.specs.Prelude.{◌≡◌, ◌≤◌, length, IfOk};
+ghost use Rattle.std.specs.List.{list_any};
+ghost use Rattle.lis_words.specs.Words.{is_built_in};
+ghost use Rattle.lis_model.specs.Changes.{new_file};
+ghost use Rattle.lis_model.specs.State.{file_limit, blocks_taken};
+ghost use Rattle.lis_model.specs.Step.{is_head_or_test, assigned_at};
+ghost use Rattle.lis_eval.specs.Room.{HasRoom};
+ghost use Rattle.lis_store.specs.Admitting.{named_checks, room_checks, add_checks_of};
+ghost use Rattle.lis_store.specs.Changes.{Judges};
+
+use crate::assigning::{are_assignable, assigned, has_words};
+use crate::describing::measure;
+use arrayvec::ArrayVec;
+use lis_eval::Scratch;
+use lis_kept::Parts;
+use lis_model::command::Tags;
+use lis_model::refusal::Refusal;
+use lis_place::Place;
+use lis_words::{Name, Word, is_builtin, is_head, test_of};
+
+/// How many bytes a data block has.
+const BLOCK_LEN: u64 = 4_096;
+
+/// The most words of a description.
+const MAX_DESCRIPTION: u32 = 128;
+
+// How many bytes a file may have.
+fn file_limit(version: u32) -> u64
+    ensures { result ≡ file_limit version }
+{
+    if version == 2 { 1_048_576 } else { 65_536 }
+}
+
+// How many blocks so many bytes take.
+fn blocks_taken(version: u32, size: u64) -> u64
+    ensures { result ≡ blocks_taken version size }
+{
+    let blocks = size.div_ceil(BLOCK_LEN);
+    if version == 2 && blocks > 16 {
+        blocks + 1
+    } else {
+        blocks
+    }
+}
+
+// Whether one of the words is built in.
+fn has_built_in(words: &[Word]) -> bool
+    ensures { result ≡ list_any is_built_in words.now }
+{
+    words.iter().any(|word| is_builtin(word))
+}
+
+// Whether the word can't be given to a file, as a head or a test.
+fn is_head_or_test(word: &Word) -> bool
+    ensures { result ≡ is_head_or_test word.now }
+{
+    if is_head(word.bytes()) {
+        return true;
+    }
+    test_of(word).is_some()
+}
+
+// Whether one of the words is a head or a test.
+fn has_head_or_test(words: &[Word]) -> bool
+    ensures { result ≡ list_any is_head_or_test words.now }
+{
+    words.iter().any(|word| is_head_or_test(word))
+}
+
+// The words that a new file would be given, or what its name, its place and the named words are refused for.
+fn may_name(
+    parts: &Parts,
+    place: &Place,
+    name: &Name,
+    tags: &Tags,
+    payload: &[u8],
+) -> Result<ArrayVec<Word, 16>, Refusal>
+    ensures row { Judges (named_checks parts.now place.now tags.now
+        (new_file name.now (assigned_at place.now tags.now) payload.now)) result }
+    ensures words { IfOk result (λ words. words.items ≡ assigned_at place.now tags.now) }
+    ensures few { IfOk result (λ words. length words.items ≤ 16) }
+{
+    if parts.slot_of(name).is_some() {
+        return Err(Refusal::NameTaken);
+    }
+    if !has_words(place) {
+        return Err(Refusal::NotAPlace);
+    }
+    if has_built_in(tags.as_slice()) {
+        return Err(Refusal::BuiltIn);
+    }
+    if has_head_or_test(tags.as_slice()) {
+        return Err(Refusal::NotAssignable);
+    }
+    if !are_assignable(parts, place, tags) {
+        return Err(Refusal::UnknownProperty);
+    }
+    match assigned(place, tags) {
+        None => Err(Refusal::TooManyAssigned),
+        Some(words) => Ok(words),
+    }
+}
+
+// Whether there is room for a new file of these words.
+fn has_room(
+    parts: &Parts,
+    scratch: &mut Scratch,
+    name: &Name,
+    words: &[Word],
+    payload: &[u8],
+    size: u64,
+) -> Result<(), Refusal>
+    requires few { length words.now ≤ 16 }
+    requires room { HasRoom scratch.old parts.now.limits }
+    ensures room { HasRoom scratch.new parts.now.limits }
+    ensures row { Judges (room_checks parts.now (new_file name.now words.now payload.now) size) result }
+{
+    let limits = parts.limits();
+    if parts.file_count() >= limits.files {
+        return Err(Refusal::NoFileRoom);
+    }
+    let measure = measure(parts, &mut scratch.candidates, name, words, payload);
+    if measure.words > MAX_DESCRIPTION {
+        return Err(Refusal::LargeDescription);
+    }
+    if parts.word_count() + measure.fresh > limits.props {
+        return Err(Refusal::NoPropertyRoom);
+    }
+    if blocks_taken(limits.version, size) > u64::from(parts.free_blocks()) {
+        return Err(Refusal::NoSpace);
+    }
+    Ok(())
+}
+
+/// The words that a new file is given, or what it is refused for. Where there are more bytes than a file may have, only their
+/// number counts.
+pub(crate) fn may_add(
+    parts: &Parts,
+    scratch: &mut Scratch,
+    place: &Place,
+    name: &Name,
+    tags: &Tags,
+    payload: &[u8],
+    size: u64,
+) -> Result<ArrayVec<Word, 16>, Refusal>
+    requires room { HasRoom scratch.old parts.now.limits }
+    ensures room { HasRoom scratch.new parts.now.limits }
+    ensures row { Judges (add_checks_of parts.now place.now name.now tags.now payload.now size) result }
+    ensures words { IfOk result (λ words. words.items ≡ assigned_at place.now tags.now) }
+{
+    if size > file_limit(parts.limits().version) {
+        return Err(Refusal::LargeFile);
+    }
+    let words = may_name(parts, place, name, tags, payload)?;
+    has_room(parts, scratch, name, words.as_slice(), payload, size)?;
+    Ok(words)
+}

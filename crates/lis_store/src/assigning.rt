@@ -1,0 +1,199 @@
+//! The words that a new file is given: those of its place, and those that are named.
+
+ghost use Rattle.std.specs.Prelude.{◌≡◌, ◌<◌, ◌≤◌, [], ◌∷◌, length, slice_get, is_some, IsSome, MatchOption, IfSome};
+ghost use Rattle.std.specs.List.{flat_map, list_all, prefix_len};
+ghost use Rattle.std.specs.Ordering.{is_gt};
+ghost use Rattle.lis_words.specs.Words.{word_cmp};
+ghost use Rattle.lis_place.specs.Nodes.{nodes_of};
+ghost use Rattle.lis_model.specs.Places.{is_tag, place_words};
+ghost use Rattle.lis_model.specs.State.{is_assignable};
+ghost use Rattle.lis_model.specs.Step.{assigned_at};
+ghost use Rattle.lis_kept.specs.Telling.{declared_of};
+ghost use Rattle.lis_store.specs.Assigning.{is_conjunct, node_tags, is_held, Takes};
+
+use arrayvec::ArrayVec;
+use lis_kept::Parts;
+use lis_model::command::Tags;
+use lis_place::{Node, Place};
+use lis_words::{Word, head_of, is_builtin, is_head, is_plain_word};
+
+// Whether a node is a word, or a conjunction.
+fn is_conjunct(node: &Node) -> bool
+    ensures { result ≡ is_conjunct node.now }
+{
+    match node {
+        Node::Word(_) => true,
+        Node::AtLeast(_) => false,
+        Node::Below(_) => false,
+        Node::Not => false,
+        Node::And => true,
+        Node::Or => false,
+    }
+}
+
+// Whether all nodes are words and conjunctions.
+fn are_conjuncts(nodes: &[Node]) -> bool
+    ensures { result ≡ list_all is_conjunct nodes.now }
+{
+    nodes.iter().all(|node| is_conjunct(node))
+}
+
+/// Whether the place's formula has only conjunctions and words.
+pub(crate) fn has_words(place: &Place) -> bool
+    ensures { result ≡ is_some (place_words place.now) }
+{
+    are_conjuncts(place.nodes())
+}
+
+// Whether a file that is in a place of this word can be given it.
+fn is_tag(word: &Word) -> bool
+    ensures { result ≡ is_tag word.now }
+{
+    if is_head(word.bytes()) {
+        return false;
+    }
+    !is_builtin(word)
+}
+
+// Whether the word is plain and declared, or valued with a declared head.
+fn is_assignable(parts: &Parts, word: &Word) -> bool
+    ensures { result ≡ is_assignable (declared_of parts.now) word.now }
+{
+    if is_plain_word(word.bytes()) {
+        return parts.is_declared(word);
+    }
+    match head_of(word) {
+        None => false,
+        Some(head) => parts.is_declared(&head),
+    }
+}
+
+// Whether a file can be given each of the words.
+fn all_assignable(parts: &Parts, words: &[Word]) -> bool
+    ensures { result ≡ list_all (is_assignable (declared_of parts.now)) words.now }
+{
+    words.iter().all(|word| is_assignable(parts, word))
+}
+
+// Whether a file can be given the word of a node, where it is a tag.
+fn is_assignable_node(parts: &Parts, node: &Node) -> bool
+    ensures { result ≡ list_all (is_assignable (declared_of parts.now)) (node_tags node.now) }
+{
+    let Node::Word(word) = node else {
+        return true;
+    };
+    if !is_tag(word) {
+        return true;
+    }
+    is_assignable(parts, word)
+}
+
+// Whether a file can be given the words of all nodes that are tags.
+fn all_assignable_nodes(parts: &Parts, nodes: &[Node]) -> bool
+    ensures { result ≡ list_all (λ node. list_all (is_assignable (declared_of parts.now)) (node_tags node)) nodes.now }
+{
+    nodes.iter().all(|node| is_assignable_node(parts, node))
+}
+
+/// Whether a file can be given all words that a new one is given at the place.
+pub(crate) fn are_assignable(parts: &Parts, place: &Place, tags: &Tags) -> bool
+    requires { IsSome (place_words place.now) }
+    ensures { result ≡ list_all (is_assignable (declared_of parts.now)) (assigned_at place.now tags.now) }
+{
+    if !all_assignable_nodes(parts, place.nodes()) {
+        return false;
+    }
+    all_assignable(parts, tags.as_slice())
+}
+
+// How many of the words, up to the first other one, are lower.
+fn place_of(words: &[Word], word: &Word) -> usize
+    ensures { result ≡ prefix_len (λ held. is_gt (word_cmp word.now held)) words.now }
+{
+    words
+        .iter()
+        .take_while(|held| word.cmp(*held).is_gt())
+        .count()
+}
+
+// Whether the word stands at the place.
+fn stands_at(words: &[Word], place: usize, word: &Word) -> bool
+    ensures { result ≡ is_held (slice_get words.now place) word.now }
+{
+    match words.get(place) {
+        None => false,
+        Some(held) => held == word,
+    }
+}
+
+// Puts a word into a set of words. The answer tells whether there is room for it.
+fn put_word(words: &mut ArrayVec<Word, 16>, word: &Word) -> bool
+    requires { length words.old.items ≤ 16 }
+    ensures { Takes (word.now ∷ []) words.old.items words.new.items result }
+{
+    let place = place_of(words.as_slice(), word);
+    if stands_at(words.as_slice(), place, word) {
+        return true;
+    }
+    if words.is_full() {
+        return false;
+    }
+    words.insert(place, word.copied());
+    true
+}
+
+// Puts the word of a node into a set of words, if a file can be given it.
+fn put_node(words: &mut ArrayVec<Word, 16>, node: &Node) -> bool
+    requires { length words.old.items ≤ 16 }
+    ensures { Takes (node_tags node.now) words.old.items words.new.items result }
+{
+    let Node::Word(word) = node else {
+        return true;
+    };
+    if !is_tag(word) {
+        return true;
+    }
+    put_word(words, word)
+}
+
+// Puts the words of a place into a set of words.
+fn put_place(words: &mut ArrayVec<Word, 16>, place: &Place) -> bool
+    requires { length words.old.items ≤ 16 }
+    ensures { Takes (flat_map node_tags (nodes_of place.now)) words.old.items words.new.items result }
+{
+    for node in place.nodes() {
+        if !put_node(words, node) {
+            return false;
+        }
+    }
+    true
+}
+
+// Puts more words into a set of words.
+fn put_words(words: &mut ArrayVec<Word, 16>, more: &[Word]) -> bool
+    requires { length words.old.items ≤ 16 }
+    ensures { Takes more.now words.old.items words.new.items result }
+{
+    for word in more {
+        if !put_word(words, word) {
+            return false;
+        }
+    }
+    true
+}
+
+/// The words that a new file is given, a set. None comes exactly where they are more than 16.
+pub(crate) fn assigned(place: &Place, tags: &Tags) -> Option<ArrayVec<Word, 16>>
+    requires { IsSome (place_words place.now) }
+    ensures words { MatchOption result (16 < length (assigned_at place.now tags.now)) (λ words. words.items ≡ assigned_at place.now tags.now) }
+    ensures few { IfSome result (λ words. length words.items ≤ 16) }
+{
+    let mut words = ArrayVec::new();
+    if !put_place(&mut words, place) {
+        return None;
+    }
+    if !put_words(&mut words, tags.as_slice()) {
+        return None;
+    }
+    Some(words)
+}
