@@ -34,9 +34,11 @@ pub struct Session {
 
 impl Model for Session {
     ghost use Rattle.lis_eval.specs.Room.{HasRoom};
-    ghost use Rattle.lis_session.specs.Session.{Situated};
+    ghost use Rattle.lis_session.specs.Session.{Situated, situated_code};
 
     ghost Value = { Situated };
+
+    ghost coded = { situated_code };
 
     ghost view = { λ s. record { place = s.place; limits = s.scratch.limits } };
 

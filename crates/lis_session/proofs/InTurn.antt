@@ -1,0 +1,107 @@
+-- Pieces of a reply that are shown in turn, and lines of a listing.
+use Rattle.std.proofs.Common.{◌≡◌, ℕ, List, [], ◌∷◌, ◌++◌, map, Bool, true, false, cond, if◌then◌else◌, ◌&&◌, ◌||◌, Some, is_some, option_map, Result, Ok, Err, refl, ap, sym, subst, ◌∙◌, append_assoc, append-nil, arith}
+use Rattle.std.specs.List.{find, flat_map, list_all, list_any}
+use Rattle.lis_ports.specs.Meaning.{Meaning}
+use Rattle.lis_ports.proofs.Moments.{adds_none}
+use Rattle.lis_reply.proofs.Showing.{append_known-nil, call_none, show_front, show_then}
+use Rattle.lis_words.specs.Words.{same_word, has_word}
+use Rattle.lis_grammar.specs.Formula.{Formula}
+use Rattle.lis_grammar.specs.Places.{Resolution, text_words}
+use Rattle.lis_grammar.specs.Places.Resolution.{NewPlace}
+use Rattle.lis_model.specs.declared.refusal.Refusal.TheVariants.{UnknownProperty}
+use Rattle.lis_model.specs.Replies.{body_line, listing_lines}
+use Rattle.lis_model.specs.Table.{Entry}
+use Rattle.lis_incr.specs.Lines.{lines_of}
+use Rattle.lis_incr.specs.declared.listing.Line.{Line}
+use Rattle.lis_incr.specs.declared.listing.Line.TheVariants.{File}
+use Rattle.lis_session.specs.declared.end.End.{End}
+use Rattle.lis_session.specs.Parts.{shown_line, Answers, led_to}
+
+-- two pieces
+pub answers_then : {a b c : Meaning} (first more : List ℕ) (u : Unit {0}) (result : Result (Unit {0}) End) → Answers a b first (Ok u) → Answers b c more result
+    → Answers a c (first ++ more) result
+answers_then first more u result front next = record {
+  run = show_then first more (first ++ more) (Ok u) result front.run u refl next.run refl;
+  fault = next.fault;
+}
+
+-- the first of them was not shown whole
+pub answers_front : {a b : Meaning} (first more : List ℕ) (end : End) → Answers a b first (Err end) → Answers a b (first ++ more) (Err end)
+answers_front first more end front = record {
+  run = show_front first more (first ++ more) (Err end) (Err end) front.run end refl refl refl;
+  fault = front.fault;
+}
+
+-- no piece
+pub answers_none : (m : Meaning) → Answers m m [] (Ok tt)
+answers_none m = record {
+  run = record {
+    call = call_none m;
+    cause = record { later = omega arith; stays = refl; rose = tt };
+    shown = sym (append_known-nil m.shown);
+    moments = λ honest. adds_none m _;
+  };
+  fault = tt;
+}
+
+-- ---- lines
+-- what a loop over the lines keeps: so much was shown, and these lines are left
+pub record LinesSoFar (all left : List Line) (old now : Meaning) : Type 0 where
+  pub said : List ℕ
+  pub answers : Answers old now said (Ok tt)
+  pub is : flat_map shown_line all ≡ said ++ flat_map shown_line left
+
+pub lines_none : (all : List Line) (m : Meaning) → LinesSoFar all all m m
+lines_none all m = record { said = []; answers = answers_none m; is = refl }
+
+pub lines_more : {all left rest : List Line} {old now next : Meaning} (line : Line) (u : Unit {0}) → LinesSoFar all left old now → left ≡ line ∷ rest → Answers now next (shown_line line) (Ok u)
+    → LinesSoFar all rest old next
+lines_more {rest = rest} line u so_far next answers = record {
+  said = so_far.said ++ shown_line line;
+  answers = answers_then so_far.said (shown_line line) tt (Ok tt) so_far.answers answers;
+  is = so_far.is ∙ ap (λ lines. so_far.said ++ flat_map shown_line lines) next ∙ sym (append_assoc so_far.said (shown_line line) (flat_map shown_line rest));
+}
+
+pub lines_broke : {all left rest : List Line} {old now next : Meaning} (line : Line) (end : End) → LinesSoFar all left old now → left ≡ line ∷ rest → Answers now next (shown_line line) (Err end)
+    → Answers old next (flat_map shown_line all) (Err end)
+lines_broke {rest = rest} {old = old} {next = after} line end so_far next answers =
+    let front = answers_front (shown_line line) (flat_map shown_line rest) end answers in
+    subst (λ bytes. Answers old after bytes (Err end)) (sym (so_far.is ∙ ap (λ lines. so_far.said ++ flat_map shown_line lines) next))
+    (answers_then so_far.said (flat_map shown_line (line ∷ rest)) tt (Err end) so_far.answers front)
+
+pub lines_all : {all left : List Line} {old now : Meaning} → LinesSoFar all left old now → left ≡ [] → Answers old now (flat_map shown_line all) (Ok tt)
+lines_all {old = old} {now = now} so_far none =
+    subst (λ bytes. Answers old now bytes (Ok tt)) (sym (so_far.is ∙ ap (λ lines. so_far.said ++ flat_map shown_line lines) none ∙ append-nil so_far.said)) so_far.answers
+
+names_shown : (files : List Entry) → flat_map shown_line (map (λ name. File name) (map (λ (e : Entry). e.name) files)) ≡ flat_map (λ (e : Entry). body_line 102 e.name) files
+names_shown [] = refl
+names_shown (e ∷ files) = ap (λ bytes. body_line 102 e.name ++ bytes) (names_shown files)
+
+-- the lines are those of the reply
+pub lines_shown : (words : List (List ℕ)) (files : List Entry) → flat_map shown_line (lines_of words (map (λ (e : Entry). e.name) files)) ≡ listing_lines words files
+lines_shown [] files = names_shown files
+lines_shown (word ∷ words) files =
+    ap (λ bytes. body_line 100 word ++ bytes) (lines_shown words files)
+    ∙ sym (append_assoc (body_line 100 word) (flat_map (body_line 100) words) (flat_map (λ (e : Entry). body_line 102 e.name) files))
+
+-- ---- known words
+-- a word is known exactly where it has a number
+pub numbered : (entries : List (List ℕ × ℕ)) (word : List ℕ)
+    → is_some (option_map (λ w. w.1) (find (λ w. same_word w.0 word) entries)) ≡ has_word (map (λ w. w.0) entries) word
+numbered [] word = refl
+numbered (e ∷ entries) word = by (same_word e.0 word) (numbered entries word)
+  where
+    by : (b : Bool) → is_some (option_map (λ w. w.1) (find (λ w. same_word w.0 word) entries)) ≡ has_word (map (λ w. w.0) entries) word
+        → is_some (option_map (λ (w : List ℕ × ℕ). w.1) (cond b (Some e) (find (λ w. same_word w.0 word) entries))) ≡ (b || has_word (map (λ w. w.0) entries) word)
+    by true rest = refl
+    by false rest = rest
+
+pub alone : (b : Bool) → b ≡ (b && true)
+alone true = refl
+alone false = refl
+
+-- where a text leads, by whether its words are known
+pub led_by_words : (known : List (List ℕ)) (text : List ℕ) (to : Resolution) (next : List Formula) (all : Bool) → to ≡ NewPlace next → all ≡ list_all (has_word known) (text_words text)
+    → (if all then Ok next else Err UnknownProperty) ≡ led_to known text to
+led_by_words known text to next all is told =
+    ap (λ b. if b then Ok next else Err UnknownProperty) told ∙ ap (led_to known text) (sym is)
