@@ -1,6 +1,6 @@
 -- Pieces of a reply that are shown in turn, and lines of a listing.
 use Rattle.std.proofs.Common.{◌≡◌, ℕ, List, [], ◌∷◌, ◌++◌, map, Bool, true, false, cond, if◌then◌else◌, ◌&&◌, ◌||◌, Some, is_some, option_map, Result, Ok, Err, refl, ap, sym, subst, ◌∙◌, append_assoc, append-nil, arith}
-use Rattle.std.specs.List.{find, flat_map, list_all, list_any}
+use Rattle.std.specs.List.{find, flat_map, list_all}
 use Rattle.lis_ports.specs.Meaning.{Meaning}
 use Rattle.lis_ports.proofs.Moments.{adds_none}
 use Rattle.lis_reply.proofs.Showing.{append_known-nil, call_none, show_front, show_then}
@@ -10,8 +10,9 @@ use Rattle.lis_grammar.specs.Places.{Resolution, text_words}
 use Rattle.lis_grammar.specs.Places.Resolution.{NewPlace}
 use Rattle.lis_model.specs.declared.refusal.Refusal.TheVariants.{UnknownProperty}
 use Rattle.lis_model.specs.Replies.{body_line, listing_lines}
-use Rattle.lis_model.specs.Table.{Entry}
-use Rattle.lis_incr.specs.Lines.{lines_of}
+use Rattle.lis_model.specs.Table.{Table, Entry}
+use Rattle.lis_model.specs.Listing.{increments, locals}
+use Rattle.lis_incr.specs.Lines.{lines_of, listing}
 use Rattle.lis_incr.specs.declared.listing.Line.{Line}
 use Rattle.lis_incr.specs.declared.listing.Line.TheVariants.{File}
 use Rattle.lis_session.specs.declared.end.End.{End}
@@ -78,11 +79,14 @@ names_shown [] = refl
 names_shown (e ∷ files) = ap (λ bytes. body_line 102 e.name ++ bytes) (names_shown files)
 
 -- the lines are those of the reply
-pub lines_shown : (words : List (List ℕ)) (files : List Entry) → flat_map shown_line (lines_of words (map (λ (e : Entry). e.name) files)) ≡ listing_lines words files
+lines_shown : (words : List (List ℕ)) (files : List Entry) → flat_map shown_line (lines_of words (map (λ (e : Entry). e.name) files)) ≡ listing_lines words files
 lines_shown [] files = names_shown files
 lines_shown (word ∷ words) files =
     ap (λ bytes. body_line 100 word ++ bytes) (lines_shown words files)
     ∙ sym (append_assoc (body_line 100 word) (flat_map (body_line 100) words) (flat_map (λ (e : Entry). body_line 102 e.name) files))
+
+pub listing_shown : (t : Table) (place : List Formula) (lines : List Line) → lines ≡ listing t place → flat_map shown_line lines ≡ listing_lines (increments t place) (locals t place)
+listing_shown t place lines is = ap (flat_map shown_line) is ∙ lines_shown (increments t place) (locals t place)
 
 -- ---- known words
 -- a word is known exactly where it has a number

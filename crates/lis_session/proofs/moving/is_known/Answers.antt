@@ -1,4 +1,4 @@
-use Rattle.std.proofs.Common.{ap, sym, is_some, true, ◌&&◌, ◌∙◌}
+use Rattle.std.proofs.Common.{ap, sym, is_some, ◌∙◌}
 use Rattle.lis_dict.specs.Dict.{words}
 use Rattle.lis_words.specs.Words.{has_word}
 use Rattle.lis_place.specs.Nodes.{node_words}

@@ -1,6 +1,5 @@
-use Rattle.std.proofs.Common.{ap}
 use Rattle.std.proofs.lemmas.Result.{err_from_is_err_and}
-use Rattle.lis_model.specs.Replies.{body_line, ok_line}
+use Rattle.lis_model.specs.Replies.{ok_line}
 use Rattle.lis_session.proofs.InTurn.{answers_then, answers_front}
 use Rattle.lis_session.proofs.replies.answer_place.Goals as goal
 
