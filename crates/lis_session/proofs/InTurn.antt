@@ -1,14 +1,10 @@
 -- Pieces of a reply that are shown in turn, and lines of a listing.
-use Rattle.std.proofs.Common.{◌≡◌, ℕ, List, [], ◌∷◌, ◌++◌, map, Bool, true, false, cond, if◌then◌else◌, ◌&&◌, ◌||◌, Some, is_some, option_map, Result, Ok, Err, refl, ap, sym, subst, ◌∙◌, append_assoc, append-nil, arith}
-use Rattle.std.specs.List.{find, flat_map, list_all}
+use Rattle.std.proofs.Common.{◌≡◌, ℕ, List, [], ◌∷◌, ◌++◌, map, Result, Ok, Err, refl, ap, sym, subst, ◌∙◌, append_assoc, append-nil, arith}
+use Rattle.std.specs.List.{flat_map}
 use Rattle.lis_ports.specs.Meaning.{Meaning}
 use Rattle.lis_ports.proofs.Moments.{adds_none}
 use Rattle.lis_reply.proofs.Showing.{append_known-nil, call_none, show_front, show_then}
-use Rattle.lis_words.specs.Words.{same_word, has_word}
 use Rattle.lis_grammar.specs.Formula.{Formula}
-use Rattle.lis_grammar.specs.Places.{Resolution, text_words}
-use Rattle.lis_grammar.specs.Places.Resolution.{NewPlace}
-use Rattle.lis_model.specs.declared.refusal.Refusal.TheVariants.{UnknownProperty}
 use Rattle.lis_model.specs.Replies.{body_line, listing_lines}
 use Rattle.lis_model.specs.Table.{Table, Entry}
 use Rattle.lis_model.specs.Listing.{increments, locals}
@@ -16,7 +12,7 @@ use Rattle.lis_incr.specs.Lines.{lines_of, listing}
 use Rattle.lis_incr.specs.declared.listing.Line.{Line}
 use Rattle.lis_incr.specs.declared.listing.Line.TheVariants.{File}
 use Rattle.lis_session.specs.declared.end.End.{End}
-use Rattle.lis_session.specs.Parts.{shown_line, Answers, led_to}
+use Rattle.lis_session.specs.Parts.{shown_line, Answers}
 
 -- two pieces
 pub answers_then : {a b c : Meaning} (first more : List ℕ) (u : Unit {0}) (result : Result (Unit {0}) End) → Answers a b first (Ok u) → Answers b c more result
@@ -87,25 +83,3 @@ lines_shown (word ∷ words) files =
 
 pub listing_shown : (t : Table) (place : List Formula) (lines : List Line) → lines ≡ listing t place → flat_map shown_line lines ≡ listing_lines (increments t place) (locals t place)
 listing_shown t place lines is = ap (flat_map shown_line) is ∙ lines_shown (increments t place) (locals t place)
-
--- ---- known words
--- a word is known exactly where it has a number
-pub numbered : (entries : List (List ℕ × ℕ)) (word : List ℕ)
-    → is_some (option_map (λ w. w.1) (find (λ w. same_word w.0 word) entries)) ≡ has_word (map (λ w. w.0) entries) word
-numbered [] word = refl
-numbered (e ∷ entries) word = by (same_word e.0 word) (numbered entries word)
-  where
-    by : (b : Bool) → is_some (option_map (λ w. w.1) (find (λ w. same_word w.0 word) entries)) ≡ has_word (map (λ w. w.0) entries) word
-        → is_some (option_map (λ (w : List ℕ × ℕ). w.1) (cond b (Some e) (find (λ w. same_word w.0 word) entries))) ≡ (b || has_word (map (λ w. w.0) entries) word)
-    by true rest = refl
-    by false rest = rest
-
-pub alone : (b : Bool) → b ≡ (b && true)
-alone true = refl
-alone false = refl
-
--- where a text leads, by whether its words are known
-pub led_by_words : (known : List (List ℕ)) (text : List ℕ) (to : Resolution) (next : List Formula) (all : Bool) → to ≡ NewPlace next → all ≡ list_all (has_word known) (text_words text)
-    → (if all then Ok next else Err UnknownProperty) ≡ led_to known text to
-led_by_words known text to next all is told =
-    ap (λ b. if b then Ok next else Err UnknownProperty) told ∙ ap (led_to known text) (sym is)

@@ -1,14 +1,16 @@
--- The words of a formula text that leads to a place.
-use Rattle.std.proofs.Common.{◌≡◌, ℕ, ◌<◌, nat_lt, inl, inr, Bool, true, false, ◌&&◌, Some, List, [], ◌∷◌, length, codes, Err, refl, ap, sym, ◌∙◌}
-use Rattle.std.specs.List.{list_all, flat_map}
+-- The words of a formula text that leads to a place, and whether they are known.
+use Rattle.std.proofs.Common.{◌≡◌, ℕ, ◌<◌, nat_lt, inl, inr, Bool, true, false, cond, if◌then◌else◌, ◌&&◌, ◌||◌, Some, is_some, option_map, List, [], ◌∷◌, length, map, codes, Ok, Err, refl, ap, sym, ◌∙◌}
+use Rattle.std.specs.List.{find, list_all, flat_map}
 use Rattle.std.proofs.lemmas.Bool.{le-leb}
 use Rattle.std.proofs.lemmas.List.Folds.{list_all-append}
 use Rattle.std.proofs.lemmas.Slice.Eq.{bytes_eq-Decides}
 use Rattle.lis_words.specs.Words.{same_word, has_word}
 use Rattle.lis_grammar.specs.Formula.{Formula}
 use Rattle.lis_grammar.specs.Machine.{text_steps}
-use Rattle.lis_grammar.specs.Places.{resolved, text_words, path_words, is_place}
+use Rattle.lis_grammar.specs.Places.{Resolution, resolved, text_words, path_words, is_place}
 use Rattle.lis_grammar.specs.Places.Resolution.{NewPlace, BeyondLimits}
+use Rattle.lis_model.specs.declared.refusal.Refusal.TheVariants.{UnknownProperty}
+use Rattle.lis_session.specs.Parts.{led_to}
 use Rattle.lis_place.specs.declared.node.Node.{Node}
 use Rattle.lis_place.specs.Nodes.{nodes_of, node_words}
 use Rattle.lis_place.proofs.Trees.{words_of_nodes}
@@ -63,3 +65,20 @@ no_words known place new text TooLarge (inl long) leads =
     by_resolution known place new text (same_word text (codes "..")) refl (λ other. long_beyond place text other long) leads
 no_words known place new text TooLarge (inr h) leads =
     by_resolution known place new text (same_word text (codes "..")) refl (λ other. large_beyond place text h.0 other h.1 h.2) leads
+
+-- a word is known exactly where it has a number
+pub numbered : (entries : List (List ℕ × ℕ)) (word : List ℕ)
+    → is_some (option_map (λ w. w.1) (find (λ w. same_word w.0 word) entries)) ≡ has_word (map (λ w. w.0) entries) word
+numbered [] word = refl
+numbered (e ∷ entries) word = by (same_word e.0 word) (numbered entries word)
+  where
+    by : (b : Bool) → is_some (option_map (λ w. w.1) (find (λ w. same_word w.0 word) entries)) ≡ has_word (map (λ w. w.0) entries) word
+        → is_some (option_map (λ (w : List ℕ × ℕ). w.1) (cond b (Some e) (find (λ w. same_word w.0 word) entries))) ≡ (b || has_word (map (λ w. w.0) entries) word)
+    by true rest = refl
+    by false rest = rest
+
+-- where a text leads, by whether its words are known
+pub led_by_words : (known : List (List ℕ)) (text : List ℕ) (to : Resolution) (next : List Formula) (all : Bool) → to ≡ NewPlace next → all ≡ list_all (has_word known) (text_words text)
+    → (if all then Ok next else Err UnknownProperty) ≡ led_to known text to
+led_by_words known text to next all is told =
+    ap (λ b. if b then Ok next else Err UnknownProperty) told ∙ ap (led_to known text) (sym is)

@@ -1,7 +1,7 @@
 use Rattle.std.proofs.Common.{ap, sym, ◌∙◌, true, false}
 use Rattle.lis_dict.specs.Dict.{words}
 use Rattle.lis_grammar.specs.Places.{resolved}
-use Rattle.lis_session.proofs.InTurn.{led_by_words}
+use Rattle.lis_session.proofs.TextWords.{led_by_words}
 use Rattle.lis_session.proofs.moving.led_to.Goals as goal
 
 pub returns-then-knows_text-clause-led : goal.returns-then-knows_text-clause-led
