@@ -11,11 +11,7 @@ mod Assignable
 mod Numbers
 mod Entries
 mod FilesRead
-mod Checked
 mod Counts
-mod Told
-mod Order
-mod Parts
 mod Once
-mod Damage
-mod Opening
+mod Edges
+mod Joined
