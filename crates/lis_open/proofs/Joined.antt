@@ -203,7 +203,7 @@ module _ (limits : Limits) (words : Words) (axioms : Axioms) (files : Files) (ma
       let lower = number_below words.dict dict w n (number_from_word words.dict dict w n is) in
       omega (arith, lower, read.words_are.props, edges.props)
 
-  each_used : AreUsed k
+  pub each_used : AreUsed k
   each_used n some = used_from (is_some (word_of words.dict n)) (is_used k n) (read.used n) some
 
   -- a number of a description has a word

@@ -15,3 +15,4 @@ mod Counts
 mod Once
 mod Edges
 mod Joined
+mod Told

@@ -1,0 +1,239 @@
+-- What was read and checked tells a state.
+use Rattle.std.proofs.Common.{◌≡◌, ◌⊎◌, ◌∙◌, refl, sym, ap, ap₂, subst, inl, inr, ℕ, zero, suc, ◌+◌, ◌-◌, ◌<◌, ◌≤◌, ◌==◌, nat_lt, nat_le, ◌&&◌, Bool, true, List, [], ◌∷◌, ◌++◌, length, map, sum, Option, Some, None, is_some, slice_get, IsTrue, arith, length-append}
+use Rattle.std.specs.Option.{option_to_list}
+use Rattle.std.specs.List.{list_all, flat_map, Contains}
+use Rattle.std.proofs.lemmas.Bool.{and_parts, and_from, eqb-true, ltb-true, le-leb}
+use Rattle.std.proofs.lemmas.List.{length-map}
+use Rattle.std.proofs.lemmas.List.Folds.{list_all-map}
+use Rattle.std.proofs.lemmas.Option.{same_Some}
+use mathlib.Core.List.{map-map}
+use Rattle.lis_graph.specs.Graph.{is_rising}
+use Rattle.lis_graph.proofs.Members.{Among, among_from_contains, contains_from_among, among_filter, among_flat_map}
+use Rattle.lis_graph.proofs.Sets.{sorted_nil, sorted_with_more}
+use Rattle.lis_blockmap.specs.Bitmap.{is_taken}
+use Rattle.lis_content.specs.Content.{content, has_number, are_distinct}
+use Rattle.lis_dict.specs.Dict.{Dict, words as words_of, number_of, word_of}
+use Rattle.lis_dict.proofs.Laws.{number_from_word}
+use Rattle.lis_catalog.specs.Catalog.{Filed, rec_at}
+use Rattle.lis_ext.specs.Ext.{set_of as numbers_at}
+use Rattle.lis_fields.specs.Layouts.{super_bytes, is_super, is_prop, is_record}
+use Rattle.lis_fields.specs.declared.slots.AxiomSlot.{AxiomSlot}
+use Rattle.lis_fields.specs.declared.slots.AxiomSlot.TheVariants.{Free as FreeAxiom, Pair}
+use Rattle.lis_fields.proofs.Parts.{IsFileRecord, record_tests, few_tags, few_blocks}
+use Rattle.lis_words.specs.Words.{word_cmp, has_word, is_plain_word, is_kept_word, is_file_name}
+use Rattle.lis_laws.proofs.Members.{word_order, pair_order, sorted_set_of, has_word_from_among}
+use Rattle.lis_laws.proofs.Counts.{all_among, all_from, rising_from_sorted}
+use Rattle.lis_model.specs.declared.limits.Limits.{Limits}
+use Rattle.lis_model.specs.Ranges.{are_in_range}
+use Rattle.lis_model.specs.Image.{data_start}
+use Rattle.lis_model.specs.State.{State, File, description, known, is_declarable, is_assignable, is_nameable, pair_cmp, file_cmp, file_limit, blocks_needed, blocks_taken, used_blocks, AxiomsAreFormed, FilesAreFormed, WellFormed}
+use Rattle.lis_kept.specs.Kept.{Kept, property_by}
+use Rattle.lis_kept.specs.Areas.{Area, IsWritten}
+use Rattle.lis_kept.specs.Areas.Area.{Properties, Axioms as AxiomArea, Files as FileArea, Rows, Bitmap}
+use Rattle.lis_kept.specs.Sound.{AreSound, FreeSlotsAreEmpty, is_sound_record}
+use Rattle.lis_kept.specs.Telling.{declared_of, words_told, pair_by, pair_told, pairs_told, file_told, state_of, AreUsed, IsFileBlock, Tells}
+use Rattle.lis_kept.proofs.Filing.{among_from_number, number_from_among as has_from_among, same_distinct, filed_rec, filed_at_slot}
+use Rattle.lis_kept.proofs.Known.{declared_set, declared_has_number, among_axiom, words_known, among_word}
+use Rattle.lis_store.proofs.Spelled.{sound_parts}
+use Rattle.lis_store.proofs.Marks.{distinct_pieces}
+use Rattle.lis_store.specs.Stored.{Stored}
+use Rattle.lis_open.specs.declared.words.Words.{Words}
+use Rattle.lis_open.specs.declared.axioms.Axioms.{Axioms}
+use Rattle.lis_open.specs.declared.files.Files.{Files}
+use Rattle.lis_open.specs.ReadWords.{declared_words}
+use Rattle.lis_open.specs.ReadAll.{AreNoMarks, kept_in, AreRead, AreSpelled, StoreTells}
+use Rattle.lis_open.proofs.Counts.{few_below, few_words, more_le, with_words_le, take_few, sum_within, rising_map}
+use Rattle.lis_open.proofs.Joined.{sides, given_word, declared_flagged, each_used, parts_sound, parts_free}
+
+-- ---- where pairs stand below an end only, they are no more than the places below it
+few_pairs : (dict : Dict) (end : ℕ) (xs : List AxiomSlot) (first : ℕ) → ((n left right : ℕ) → slice_get xs n ≡ Some (Pair left right) → first + n < end) → length (pairs_told dict xs) ≤ end - first
+few_pairs dict end [] first below = omega arith
+few_pairs dict end (FreeAxiom ∷ xs) first below =
+    let rest = few_pairs dict end xs (first + 1) (λ n left right is. let lt = below (suc n) left right is in omega (arith, lt)) in
+    omega (arith, rest)
+few_pairs dict end (Pair p q ∷ xs) first below =
+    let rest = few_pairs dict end xs (first + 1) (λ n left right is. let lt = below (suc n) left right is in omega (arith, lt)) in
+    let here = below zero p q refl in
+    omega (arith, rest, here, one (word_of dict p) (word_of dict q), length-append (pair_by (word_of dict p) (word_of dict q)) (pairs_told dict xs))
+  where
+    one : (a b : Option (List ℕ)) → length (pair_by a b) ≤ 1
+    one None b = omega arith
+    one (Some l) None = omega arith
+    one (Some l) (Some r) = omega arith
+
+module _ (limits : Limits) (words : Words) (axioms : Axioms) (files : Files) (marks : List Bool) (at : ℕ → List ℕ) (read : AreRead limits words axioms files marks) (spelled : AreSpelled limits at words axioms files) (super : IsTrue (is_super limits)) (clean : AreNoMarks limits marks) where
+  abbrev k : Kept
+  k = kept_in limits words axioms files marks
+
+  abbrev s : State
+  s = state_of k at
+
+  range : IsTrue (are_in_range limits)
+  range = (and_parts (limits.version == 1) (are_in_range limits) super).1
+
+  version : limits.version ≡ 1
+  version = eqb-true limits.version 1 (and_parts (limits.version == 1) (are_in_range limits) super).0
+
+  sound : AreSound k
+  sound = parts_sound limits words axioms files marks read range clean
+
+  free : FreeSlotsAreEmpty k
+  free = parts_free limits words axioms files marks read range clean
+
+  used : AreUsed k
+  used = each_used limits words axioms files marks read
+
+  is_described : (f : Filed) → Contains files.catalog.entries f → words_told words.dict (numbers_at files.ext f.slot) ≡ description s (file_told limits words.dict at f)
+  is_described f m = spelled.records.described f m
+
+  known_are : words_of words.dict ≡ known s
+  known_are = words_known k sound free at used is_described
+
+  -- ---- words
+  declared_form : (w : List ℕ) → Among (declared_words words) w → is_declarable w ≡ true
+  declared_form w m =
+      let number = declared_has_number k sound w m in
+      let bit = declared_flagged limits words read.words_are.are.dict number.0 w number.1 (has_word_from_among (declared_words words) w m) in
+      (and_parts (is_kept_word w) (is_declarable w) (ap₂ (λ o b. is_prop (property_by o b)) (sym number.1) (sym bit) ∙ read.words_are.are.forms number.0)).1
+
+  -- ---- axioms
+  axioms_formed : AxiomsAreFormed s
+  axioms_formed = record {
+    rights = all_from (λ (pair : List ℕ × List ℕ). is_plain_word pair.1 && has_word s.declared pair.1) s.axioms (λ e m.
+        let found = among_axiom k sound e m in
+        let to = (sides limits words axioms read.words_are.are.dict _ read.axioms_are found.0 found.1 found.2 found.3).to in
+        subst (λ w. (is_plain_word w && has_word (declared_words words) w) ≡ true) (same_Some to.word e.1 (sym to.is ∙ found.5))
+        (and_from (is_plain_word to.word) (has_word (declared_words words) to.word) to.plain to.declared));
+    lefts = all_from (λ (pair : List ℕ × List ℕ). is_nameable s.declared pair.0) s.axioms (λ e m.
+        let found = among_axiom k sound e m in
+        let from = (sides limits words axioms read.words_are.are.dict _ read.axioms_are found.0 found.1 found.2 found.3).from in
+        subst (λ w. is_nameable (declared_words words) w ≡ true) (same_Some from.word e.0 (sym from.is ∙ found.4)) from.nameable);
+    acyclic = read.axioms_are.acyclic;
+  }
+
+  few_axioms : length s.axioms ≤ limits.props
+  few_axioms =
+      let most = few_pairs words.dict limits.props axioms.slots.items 0 (λ n left right is. let lt = (read.axioms_are.good n left right is).below in omega (arith, lt)) in
+      omega (arith, most, more_le pair_cmp [] (pairs_told words.dict axioms.slots.items))
+
+  -- ---- files
+  one_filed : (f g : Filed) → Among files.catalog.entries f → Among files.catalog.entries g → f.slot ≡ g.slot → f ≡ g
+  one_filed f g in_f in_g same =
+      let recs = same_Some f.rec g.rec (sym (filed_rec files.catalog sound.catalog f in_f) ∙ (ap (rec_at files.catalog) same ∙ filed_rec files.catalog sound.catalog g in_g)) in
+      ap₂ (λ slot rec. record { slot = slot; rec = rec }) same recs
+
+  one_owner : (f g : Filed) → Among files.catalog.entries f → Among files.catalog.entries g → (n : ℕ) → Among f.rec.blocks n → Among g.rec.blocks n → f ≡ g
+  one_owner f g in_f in_g n has_f has_g =
+      one_filed f g in_f in_g
+      (read.files_are.apart f.slot g.slot f.rec g.rec n (filed_rec files.catalog sound.catalog f in_f) (filed_rec files.catalog sound.catalog g in_g)
+      (has_from_among f.rec.blocks n has_f) (has_from_among g.rec.blocks n has_g))
+
+  -- a test of all files, by their entries
+  each_file : (test : File → Bool) → ((f : Filed) → Among files.catalog.entries f → test (file_told limits words.dict at f) ≡ true) → list_all test s.files ≡ true
+  each_file test each =
+      list_all-map test (file_told limits words.dict at) files.catalog.entries ∙ all_from (λ (f : Filed). test (file_told limits words.dict at f)) files.catalog.entries each
+
+  few_told : (ns : List ℕ) → length (words_told words.dict ns) ≤ length ns
+  few_told ns = omega (arith, few_words (word_of words.dict) ns, with_words_le [] (flat_map (λ n. option_to_list (word_of words.dict n)) ns))
+
+  entry_record : (f : Filed) → Among files.catalog.entries f → IsFileRecord f.rec
+  entry_record f m =
+      let named = list_all (λ n. is_some (word_of words.dict n)) f.rec.tags in
+      let most = and_parts (is_record f.rec && named) (list_all (λ n. nat_lt n limits.blocks) f.rec.blocks) (sound.records f.slot f.rec (filed_rec files.catalog sound.catalog f m)) in
+      record_tests f.rec (and_parts (is_record f.rec) named most.0).0
+
+  short_bytes : (f : Filed) → length (content (data_start limits) f.rec.blocks f.rec.size at) ≤ f.rec.size
+  short_bytes f = take_few f.rec.size (flat_map (λ b. at (data_start limits + b)) f.rec.blocks)
+
+  files_formed : FilesAreFormed s
+  files_formed = record {
+    names = each_file (λ (file : File). is_file_name file.name) (λ f m. (entry_record f m).name);
+    assigned_sets = each_file (λ (file : File). is_rising word_cmp file.assigned) (λ f m.
+        rising_from_sorted word_cmp word_order (words_told words.dict f.rec.tags) (sorted_set_of (flat_map (λ n. option_to_list (word_of words.dict n)) f.rec.tags)));
+    assigned = each_file (λ (file : File). list_all (is_assignable s.declared) file.assigned) (λ f m.
+        all_from (is_assignable s.declared) (words_told words.dict f.rec.tags) (λ w in_w.
+        let found = among_word k sound f.rec.tags w in_w in
+        let given = given_word limits words axioms files _ read.files_are f.slot found.0 f.rec (filed_rec files.catalog sound.catalog f m) (among_from_number f.rec.tags found.0 found.2) in
+        subst (λ v. is_assignable (declared_words words) v ≡ true) (same_Some given.0 w (sym given.1 ∙ found.1)) given.2));
+    few_assigned = each_file (λ (file : File). nat_le (length file.assigned) 16) (λ f m.
+        le-leb (length (words_told words.dict f.rec.tags)) 16 (let few = few_tags f.rec.tags (entry_record f m).tags in omega (arith, few, few_told f.rec.tags)));
+    few_words = each_file (λ (file : File). nat_le (length (description s file)) 128) (λ f m.
+        le-leb (length (description s (file_told limits words.dict at f))) 128
+        (let is = ap (λ ws. length ws) (is_described f (contains_from_among files.catalog.entries f m)) in
+        omega (arith, is, few_told (numbers_at files.ext f.slot), read.files_are.short f.slot)));
+    short = each_file (λ (file : File). nat_le (length file.bytes) (file_limit limits.version)) (λ f m.
+        le-leb (length (content (data_start limits) f.rec.blocks f.rec.size at)) (file_limit limits.version)
+        (let small = (entry_record f m).small in omega (arith, short_bytes f, small, ap file_limit version)));
+  }
+
+  -- ---- data blocks
+  block_below : (f : Filed) (n : ℕ) → Among files.catalog.entries f → Among f.rec.blocks n → n < limits.blocks
+  block_below f n in_f m = ltb-true n limits.blocks (all_among (λ b. nat_lt b limits.blocks) f.rec.blocks n (sound_parts k sound f in_f).below m)
+
+  abbrev all_used : List ℕ
+  all_used = flat_map (λ (f : Filed). f.rec.blocks) files.catalog.entries
+
+  used_once : are_distinct all_used ≡ true
+  used_once =
+      distinct_pieces (λ (f : Filed). f.slot) (λ (f : Filed). f.rec.blocks) files.catalog.entries
+      (sym (same_distinct (map (λ (f : Filed). f.slot) files.catalog.entries)) ∙ sound.catalog.apart)
+      (λ f m. sym (same_distinct f.rec.blocks) ∙ (sound_parts k sound f m).apart)
+      (λ f g n here there in_f in_g. one_owner f g here there n in_f in_g)
+
+  few_used : used_blocks s ≤ limits.blocks
+  few_used =
+      let within = sum_within (λ (f : Filed). blocks_needed (length (file_told limits words.dict at f).bytes)) (λ (f : Filed). f.rec.blocks) files.catalog.entries (λ f m.
+      let count = few_blocks f.rec.size f.rec.blocks (entry_record f m).blocks in
+      omega (arith, count, short_bytes f)) in
+      let few = few_below all_used limits.blocks used_once (λ n m. let found = among_flat_map (λ (f : Filed). f.rec.blocks) files.catalog.entries n m in block_below found.0 n found.1 found.2) in
+      let same = ap sum (map-map (λ (file : File). blocks_needed (length file.bytes)) (file_told limits words.dict at) files.catalog.entries) in
+      let taken = ap (λ v. sum (map (λ (file : File). blocks_taken v (length file.bytes)) s.files)) version in
+      omega (arith, within, few, same, taken)
+
+  -- ---- the state
+  formed : WellFormed s
+  formed = record {
+    limits = range;
+    declared_set = declared_set k sound;
+    axiom_set = rising_from_sorted pair_cmp pair_order s.axioms (sorted_with_more pair_cmp pair_order [] (pairs_told words.dict axioms.slots.items) (sorted_nil pair_cmp pair_order));
+    file_set = sym (rising_map word_cmp file_cmp (λ (f : Filed). f.rec.name) (file_told limits words.dict at) files.catalog.entries (λ a b. refl)) ∙ sound.catalog.rising;
+    declared = all_from is_declarable s.declared declared_form;
+    axioms = axioms_formed;
+    files = files_formed;
+    few_files = omega (arith, length-map files.catalog.entries (file_told limits words.dict at), sound.catalog.few, sound.slots);
+    few_known = omega (arith, ap (λ ws. length ws) known_are, length-map words.dict.entries (λ (e : List ℕ × ℕ). e.0), sound.dict.few, sound.numbers);
+    few_axioms = few_axioms;
+    few_blocks = few_used;
+  }
+
+  is_written : IsWritten k at
+  is_written Properties n lt = spelled.properties n lt
+  is_written AxiomArea n lt = spelled.pairs n lt
+  is_written FileArea n lt = spelled.records.spelled n lt
+  is_written Rows n lt = spelled.rows n lt
+  is_written Bitmap n lt = spelled.bitmap
+
+  tells : at 0 ≡ super_bytes limits → Tells k at s
+  tells begins = record {
+    super = begins;
+    state = refl;
+    formed = formed;
+    used = used;
+    described = is_described;
+    taken = λ n lt taken.
+        let found = read.files_are.in_use n taken in
+        let f : Filed = record { slot = found.0; rec = found.1 } in
+        record { file = f; kept = contains_from_among files.catalog.entries f (filed_at_slot files.catalog sound.catalog found.0 found.1 found.2); has = found.3 };
+    given = λ f m n has_it.
+        let in_f = among_from_contains files.catalog.entries f m in
+        (block_below f n in_f (among_from_number f.rec.blocks n has_it), read.files_are.taken f.slot f.rec n (filed_rec files.catalog sound.catalog f in_f) has_it);
+    one_use = λ f g in_f in_g n has_f has_g.
+        one_owner f g (among_from_contains files.catalog.entries f in_f) (among_from_contains files.catalog.entries g in_g) n (among_from_number f.rec.blocks n has_f) (among_from_number g.rec.blocks n has_g);
+  }
+
+  pub store_told : (store : Stored) → store.parts ≡ k → at 0 ≡ super_bytes limits → StoreTells at store
+  store_told store is begins = record {
+    state = s;
+    tells = subst (λ (p : Kept). Tells p at s) (sym is) (tells begins);
+    written = subst (λ (p : Kept). IsWritten p at) (sym is) is_written;
+  }
