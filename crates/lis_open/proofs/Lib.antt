@@ -16,3 +16,5 @@ mod Once
 mod Edges
 mod Joined
 mod Told
+mod OneList
+mod Damage

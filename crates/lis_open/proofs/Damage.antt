@@ -1,0 +1,434 @@
+-- Where blocks spell a state, no part fails its check.
+use Rattle.std.proofs.Common.{◌≡◌, ◌⊎◌, ◌∙◌, refl, sym, ap, ap₂, subst, inl, inr, ℕ, ◌+◌, ◌-◌, ◌*◌, ◌/◌, ◌<◌, ◌≤◌, nat_lt, nat_le, Bool, true, false, ◌&&◌, ◌||◌, is_some, List, [], ◌∷◌, ◌++◌, length, map, take, drop, get_or, replicate, slice_get, Option, Some, None, IsTrue, arith}
+use Rattle.std.specs.Option.{option_to_list}
+use Rattle.std.specs.BTreeSet.{insert_key}
+use Rattle.std.specs.List.{list_all, flat_map, fold}
+use Rattle.std.proofs.lemmas.Bool.{and_parts, both_ways, ltb-true, leb-true, cases_lt}
+use Rattle.std.proofs.lemmas.List.{length-map, length-take-le, length-drop, length-replicate, get_or-replicate, get_or_past, get_or-drop}
+use Rattle.std.proofs.lemmas.Option.{slice_get-get_or, slice_get_within, get_or_from_slice_get}
+use Rattle.lis_graph.proofs.Members.{Among, among_from_contains, contains_from_among, map_among, among_flat_map, flat_map_among, among_with_more, with_more_new}
+use Rattle.lis_slots.specs.Slots.{Slots, slot}
+use Rattle.lis_bits.specs.Bytes.{bits_bytes}
+use Rattle.lis_bits.proofs.Numbers.{bytes_same}
+use Rattle.lis_blockmap.specs.Bitmap.{is_taken, has_bit}
+use Rattle.lis_blockmap.proofs.Laws.{has_bit-bitmap_bytes}
+use Rattle.lis_content.specs.Content.{marked, has_number, are_distinct}
+use Rattle.lis_ext.specs.Ext.{Ext, has, set_of as numbers_at, empty_ext}
+use Rattle.lis_fields.specs.Records.{FileRecord}
+use Rattle.lis_fields.specs.Layouts.{zeros, prop_bytes, is_prop, axiom_bytes, is_axiom, file_bytes, is_file}
+use Rattle.lis_fields.specs.declared.slots.PropSlot.{PropSlot}
+use Rattle.lis_fields.specs.declared.slots.PropSlot.TheVariants.{Free as FreeProp}
+use Rattle.lis_fields.specs.declared.slots.AxiomSlot.{AxiomSlot}
+use Rattle.lis_fields.specs.declared.slots.AxiomSlot.TheVariants.{Free as FreeAxiom, Pair}
+use Rattle.lis_fields.specs.declared.slots.FileSlot.{FileSlot}
+use Rattle.lis_fields.specs.declared.slots.FileSlot.TheVariants.{Free as FreeFile, Used}
+use Rattle.lis_fields.proofs.OneSpelling.{prop_once, axiom_once, file_once}
+use Rattle.lis_words.specs.Words.{word_cmp, is_plain_word, has_word, head_bytes}
+use Rattle.lis_laws.proofs.Members.{word_order, word_exact, pair_order, pair_exact, among_from_has_word, has_word_from_among, among_set_of, set_of_among}
+use Rattle.lis_laws.proofs.Counts.{all_among}
+use Rattle.lis_laws.proofs.Chains.{heads_of_valued, entails_within}
+use Rattle.lis_laws.proofs.Sources.{Source, known_from, described_known, rights_are, assigned_are}
+use Rattle.lis_laws.proofs.Sources.Source.{LeftHead}
+use Rattle.lis_model.specs.declared.limits.Limits.{Limits}
+use Rattle.lis_model.specs.declared.spot.Spot.{Spot}
+use Rattle.lis_model.specs.declared.spot.Spot.TheVariants.{Super, BadRecord, Property, Axiom, File as FileSpot, Word, Bitmap, Row}
+use Rattle.lis_model.specs.Ranges.{are_in_range}
+use Rattle.lis_model.specs.Image.{bitmap_start}
+use Rattle.lis_model.specs.Sets.{set_of}
+use Rattle.lis_model.specs.State.{State, File, Entails, pair_cmp, file_cmp, description, known, is_nameable, is_assignable}
+use Rattle.lis_kept.specs.Areas.{property_slots, axiom_slots, file_slots, row_slots}
+use Rattle.lis_kept.specs.Rows.{row_bytes}
+use Rattle.lis_kept.proofs.Filing.{among_from_number, number_from_among as has_from_among}
+use Rattle.lis_kept.proofs.Formed.{some_word}
+use Rattle.lis_kept.proofs.InArea.{files_range, whole_files, each_files_limit}
+use Rattle.lis_kept.proofs.Known.{only_word, placed_at, among_place}
+use Rattle.lis_kept.proofs.RowBytes.{row_bytes_none}
+use Rattle.lis_store.specs.Stands.{Contents, AreSlots, word_in, words_in, all_declared, word_at, pair_in, pairs_in, is_named_axiom, is_free_axiom, records_in, all_records, all_blocks, file_by, spelled_state, is_had_by, row_bit, Spells}
+use Rattle.lis_store.proofs.Points.{AllApart}
+use Rattle.lis_open.specs.Checks.{IsProperty, IsFile, HasWord, AreContents, IsUsed, declared_by, axioms_by, PropertyFails, AxiomFault, HasAxiomFault, AxiomFails, FileFault, HasFileFault, FileFails, WordFails, BitFails, RowFault, RowFails, Fails}
+use Rattle.lis_open.specs.Checks.AxiomFault.{PastLast, LeftUnnumbered, RightUnnumbered, RightNotPlain, RightUndeclared, LeftUnnameable, HeadUnnumbered, PairThere, Circle}
+use Rattle.lis_open.specs.Checks.FileFault.{NameTaken, TagUnnumbered, TagUnassignable, BlockMissing, BlockTaken, WordUnnumbered, TooManyWords}
+use Rattle.lis_open.specs.Checks.RowFault.{RowWrong, RestNotZero}
+use Rattle.lis_open.proofs.Numbers.{is_taken-marked}
+use Rattle.lis_open.proofs.OneList.{one_list}
+use Rattle.lis_open.proofs.Once.{taken_place, slot_at, value_at, part_once, distinct_apart, apart_by_count, file_there, names-more}
+
+-- ---- one value in each slot
+pub one_contents : (limits : Limits) (at : ℕ → List ℕ) (a b : Contents) → AreContents limits at a → AreContents limits at b → a ≡ b
+one_contents limits at a b are_a are_b =
+    let make : List PropSlot → List AxiomSlot → List FileSlot → Contents = λ ps xs fs. record { properties = ps; axioms = xs; files = fs } in
+    ap (λ ps. make ps a.axioms a.files) (one_list prop_bytes is_prop (property_slots limits) at a.properties b.properties prop_once are_a.properties are_b.properties)
+    ∙ (ap (λ xs. make b.properties xs a.files) (one_list axiom_bytes is_axiom (axiom_slots limits) at a.axioms b.axioms axiom_once are_a.axioms are_b.axioms)
+    ∙ ap (λ fs. make b.properties b.axioms fs) (one_list file_bytes is_file (file_slots limits) at a.files b.files file_once are_a.files are_b.files))
+
+-- the first slots are the first values
+first_slots : {X : Type 0} (spelled : X → List ℕ) (is_in_range : X → Bool) (slots : Slots) (at : ℕ → List ℕ) (values : List X) (n : ℕ) → n ≤ slots.count
+    → AreSlots spelled is_in_range slots at values → AreSlots spelled is_in_range (record slots { count = n }) at (take n values)
+first_slots spelled is_in_range slots at values n le are = record {
+  count = length-take-le n values (omega (arith, are.count));
+  each = λ k value is. are.each k value (taken_place n values k value is).1;
+}
+
+-- a row of which no bit is set is all zeros
+abbrev no_rows : ℕ → Ext
+no_rows n = empty_ext 0 (8 * n)
+
+no_set : (n i : ℕ) → has (no_rows n) 0 i ≡ false
+no_set n i = ap (λ ns. has_number ns 0) (by (cases_lt i (8 * n)))
+  where
+    by : (i < 8 * n) ⊎ (8 * n ≤ i) → numbers_at (no_rows n) i ≡ []
+    by (inl lt) = get_or-replicate (8 * n) i [] [] lt
+    by (inr past) = get_or_past (replicate (8 * n) []) i [] (omega (arith, past, length-replicate {A = List ℕ} (8 * n) []))
+
+zero_row : (n : ℕ) (bit : ℕ → Bool) → ((i : ℕ) → bit i ≡ false) → bits_bytes n bit ≡ zeros n
+unfolding zeros
+zero_row n bit none =
+    let long : length (no_rows n).sets ≡ 8 * n = length-replicate (8 * n) [] in
+    let count : n ≡ length (no_rows n).sets / 8 = omega (arith, long) in
+    bytes_same n bit (has (no_rows n) 0) (λ i lt. none i ∙ sym (no_set n i))
+    ∙ (ap (λ m. bits_bytes m (has (no_rows n) 0)) count ∙ sym (row_bytes_none (no_rows n) 0 n (sym long) (no_set n)))
+
+-- there are rows for all numbers
+pub rows_enough : (limits : Limits) → IsTrue (are_in_range limits) → limits.props ≤ (row_slots limits).count
+rows_enough limits range =
+    each_files_limit (λ n. limits.props ≤ (4096 / (n / 8)) * ((limits.props * n + 32767) / 32768)) limits.files (files_range limits range)
+    (omega arith) (omega arith) (omega arith) (omega arith) (omega arith) (omega arith) (omega arith)
+
+-- the name of a file slot, and its data blocks
+abbrev name_parts : FileSlot → List (List ℕ)
+name_parts FreeFile = []
+name_parts (Used rec) = rec.name ∷ []
+
+abbrev block_parts : FileSlot → List ℕ
+block_parts FreeFile = []
+block_parts (Used rec) = rec.blocks
+
+names_same : (files : List FileSlot) → map (λ (rec : FileRecord). rec.name) (all_records files) ≡ flat_map name_parts files
+names_same [] = refl
+names_same (FreeFile ∷ files) = names_same files
+names_same (Used rec ∷ files) = ap (λ ns. rec.name ∷ ns) (names_same files)
+
+blocks_same : (limits : Limits) (at : ℕ → List ℕ) (files : List FileSlot) → all_blocks limits at (all_records files) ≡ flat_map block_parts files
+blocks_same limits at [] = refl
+blocks_same limits at (FreeFile ∷ files) = blocks_same limits at files
+blocks_same limits at (Used rec ∷ files) = ap (λ ns. rec.blocks ++ ns) (blocks_same limits at files)
+
+used_record : (f : FileSlot) (rec : FileRecord) → Among (records_in f) rec → f ≡ Used rec
+used_record FreeFile rec m = absurd m
+used_record (Used r) rec (inl same) = ap Used same
+used_record (Used r) rec (inr m) = absurd m
+
+member_some : (o : Option (List ℕ)) (w : List ℕ) → o ≡ Some w → Among (option_to_list o) w
+member_some o w is = subst (λ p. Among (option_to_list p) w) (sym is) (inl refl)
+
+module _ (limits : Limits) (contents : Contents) (at : ℕ → List ℕ) (spells : Spells limits contents at (spelled_state limits contents at)) where
+  abbrev s : State
+  s = spelled_state limits contents at
+
+  abbrev properties : List PropSlot
+  properties = contents.properties
+
+  abbrev axioms : List AxiomSlot
+  axioms = contents.axioms
+
+  are_contents : AreContents limits at contents
+  are_contents = record { properties = spells.properties; axioms = spells.axioms; files = spells.files }
+
+  -- ---- words
+  words_apart : AllApart (words_in properties)
+  words_apart = apart_by_count word_cmp word_order word_exact (words_in properties) (ap (λ ws. length ws) spells.words ∙ sym spells.each_word_once)
+
+  no_property : (n : ℕ) → PropertyFails limits at n → ⊥
+  no_property n fails =
+      let p = get_or properties n FreeProp in
+      let there : slice_get properties n ≡ Some p = slice_get-get_or properties n FreeProp (omega (arith, fails.below, spells.properties.count)) in
+      let found = fails.fault p (slot_at prop_bytes is_prop (property_slots limits) at properties spells.properties n p there) in
+      part_once (λ q. option_to_list (word_in q)) properties words_apart found.earlier n found.there.property p found.word found.before
+      (value_at prop_bytes is_prop (property_slots limits) at properties spells.properties prop_once found.earlier found.there.property found.there.is) there
+      (member_some (word_in found.there.property) found.word found.there.has) (member_some (word_in p) found.word found.has)
+
+  -- a known word has a slot
+  known_there : (w : List ℕ) → Among (known s) w → has_word (words_in properties) w ≡ true
+  known_there w m = has_word_from_among (words_in properties) w (among_set_of (words_in properties) w (subst (λ ws. Among ws w) (sym spells.words) m))
+
+  -- ---- axioms
+  pairs_apart : AllApart (pairs_in properties axioms)
+  pairs_apart = apart_by_count pair_cmp pair_order pair_exact (pairs_in properties axioms) (sym spells.each_pair_once)
+
+  pair_of : (left right : ℕ) (p q : List ℕ) → word_at properties left ≡ Some p → word_at properties right ≡ Some q → Among (pair_in properties (Pair left right)) (p, q)
+  pair_of left right p q is_p is_q = rw (is_p, is_q) (inl refl)
+
+  module _ (n left right : ℕ) (is : slice_get axioms n ≡ Some (Pair left right)) where
+    in_axioms : Among axioms (Pair left right)
+    in_axioms = among_place axioms n (Pair left right) is
+
+    both_named : (is_some (word_at properties left) ≡ true) × (is_some (word_at properties right) ≡ true)
+    both_named =
+        and_parts (is_some (word_at properties left)) (is_some (word_at properties right))
+        (all_among (is_named_axiom properties) axioms (Pair left right) spells.named_axioms in_axioms)
+
+    pair_there : (p q : List ℕ) → word_at properties left ≡ Some p → word_at properties right ≡ Some q → Among s.axioms (p, q)
+    pair_there p q is_p is_q =
+        with_more_new pair_cmp pair_exact [] (pairs_in properties axioms) (p, q)
+        (flat_map_among (pair_in properties) axioms (Pair left right) (p, q) in_axioms (pair_of left right p q is_p is_q))
+
+    right_is : (q : List ℕ) → word_at properties right ≡ Some q → (is_plain_word q ≡ true) × (has_word s.declared q ≡ true)
+    right_is q is_q =
+        let p = some_word (word_at properties left) both_named.0 in
+        and_parts (is_plain_word q) (has_word s.declared q) (rights_are s spells.formed (p.0, q) (pair_there p.0 q p.1 is_q))
+
+    some_right : (q : List ℕ) × (word_at properties right ≡ Some q)
+    some_right = some_word (word_at properties right) both_named.1
+
+    earlier_axioms : (e : List ℕ × List ℕ) → Among (axioms_by properties (take n axioms)) e → Among s.axioms e
+    earlier_axioms e m = by (among_with_more pair_cmp [] (pairs_in properties (take n axioms)) e m)
+      where
+        by : Among {K = List ℕ × List ℕ} [] e ⊎ Among (pairs_in properties (take n axioms)) e → Among s.axioms e
+        by (inl none) = absurd none
+        by (inr some) =
+            let found = among_flat_map (pair_in properties) (take n axioms) e some in
+            let place = placed_at (take n axioms) found.0 found.1 in
+            with_more_new pair_cmp pair_exact [] (pairs_in properties axioms) e
+            (flat_map_among (pair_in properties) axioms found.0 e (among_place axioms place.0 found.0 (taken_place n axioms place.0 found.0 place.1).1) found.2)
+
+    not_past : limits.props ≤ n → ⊥
+    not_past past =
+        let j = n - limits.props in
+        let within = slice_get_within axioms n (Pair left right) is in
+        let here : get_or axioms (limits.props + j) FreeAxiom ≡ Pair left right =
+        ap (λ m. get_or axioms m FreeAxiom) (let same : limits.props + j ≡ n = omega (arith, past) in same) ∙ get_or_from_slice_get axioms n (Pair left right) FreeAxiom is in
+        let there : slice_get (drop limits.props axioms) j ≡ Some (Pair left right) =
+        slice_get-get_or (drop limits.props axioms) j FreeAxiom (omega (arith, within, past, length-drop limits.props axioms)) ∙ ap Some (get_or-drop limits.props axioms j FreeAxiom ∙ here) in
+        let free = all_among is_free_axiom (drop limits.props axioms) (Pair left right) spells.free_axioms (among_place (drop limits.props axioms) j (Pair left right) there) in
+        both_ways false refl free
+
+    no_axiom_fault : AxiomFault limits properties (take n axioms) n left right → ⊥
+    no_axiom_fault (PastLast past) = not_past past
+    no_axiom_fault (LeftUnnumbered none) = both_ways (is_some (word_at properties left)) (ap is_some none) both_named.0
+    no_axiom_fault (RightUnnumbered none) = both_ways (is_some (word_at properties right)) (ap is_some none) both_named.1
+    no_axiom_fault (RightNotPlain q is_q not) = both_ways (is_plain_word q) not (right_is q is_q).0
+    no_axiom_fault (RightUndeclared q is_q not) = both_ways (has_word s.declared q) not (right_is q is_q).1
+    no_axiom_fault (LeftUnnameable p is_p not) =
+        let q = some_right in
+        both_ways (is_nameable s.declared p) not
+        (all_among (λ (pair : List ℕ × List ℕ). is_nameable s.declared pair.0) s.axioms (p, q.0) spells.formed.axioms.lefts (pair_there p q.0 is_p q.1))
+    no_axiom_fault (HeadUnnumbered p is_p valued none) =
+        let q = some_right in
+        both_ways (has_word (words_in properties) (head_bytes p)) none
+        (known_there (head_bytes p) (known_from s (head_bytes p) (LeftHead (p, q.0) (pair_there p q.0 is_p q.1) (heads_of_valued p valued))))
+    no_axiom_fault (PairThere contains) =
+        let place = placed_at (take n axioms) (Pair left right) (among_from_contains (take n axioms) (Pair left right) contains) in
+        let earlier = taken_place n axioms place.0 (Pair left right) place.1 in
+        let p = some_word (word_at properties left) both_named.0 in
+        let q = some_right in
+        let has_it = pair_of left right p.0 q.0 p.1 q.1 in
+        part_once (pair_in properties) axioms pairs_apart place.0 n (Pair left right) (Pair left right) (p.0, q.0) earlier.0 earlier.1 is has_it has_it
+    no_axiom_fault (Circle p q is_p is_q back) =
+        let more = entails_within s.declared (axioms_by properties (take n axioms)) s.axioms earlier_axioms q p back in
+        spells.formed.axioms.acyclic more.0 p (q, inr (contains_from_among s.axioms (p, q) (pair_there p q is_p is_q)), more.1)
+
+  no_axiom : (n : ℕ) → AxiomFails limits at n → ⊥
+  no_axiom n fails = by (get_or axioms n FreeAxiom) there (fault (get_or axioms n FreeAxiom) there)
+    where
+      there : slice_get axioms n ≡ Some (get_or axioms n FreeAxiom)
+      there = slice_get-get_or axioms n FreeAxiom (omega (arith, fails.below, spells.axioms.count))
+
+      words_same : fails.properties ≡ properties
+      words_same = one_list prop_bytes is_prop (property_slots limits) at fails.properties properties prop_once fails.words spells.properties
+
+      before_same : fails.earlier ≡ take n axioms
+      before_same =
+          one_list axiom_bytes is_axiom (record (axiom_slots limits) { count = n }) at fails.earlier (take n axioms) axiom_once fails.before
+          (first_slots axiom_bytes is_axiom (axiom_slots limits) at axioms n (let lt = fails.below in omega (arith, lt)) spells.axioms)
+
+      fault : (a : AxiomSlot) → slice_get axioms n ≡ Some a → HasAxiomFault limits properties (take n axioms) n a
+      fault a is =
+          let told = fails.fault a (slot_at axiom_bytes is_axiom (axiom_slots limits) at axioms spells.axioms n a is) in
+          subst (λ (earlier : List AxiomSlot). HasAxiomFault limits properties earlier n a) before_same
+          (subst (λ (ps : List PropSlot). HasAxiomFault limits ps fails.earlier n a) words_same told)
+
+      by : (a : AxiomSlot) → slice_get axioms n ≡ Some a → HasAxiomFault limits properties (take n axioms) n a → ⊥
+      by FreeAxiom is fault = fault
+      by (Pair left right) is fault = no_axiom_fault n left right is fault
+
+  -- ---- files
+  abbrev records : List FileRecord
+  records = all_records contents.files
+
+  abbrev files : List File
+  files = map (file_by limits properties at) records
+
+  full : length s.files ≡ length files
+  full = sym spells.each_name_once ∙ sym (length-map records (file_by limits properties at))
+
+  file_in_state : (rec : FileRecord) → Among records rec → Among s.files (file_by limits properties at rec)
+  file_in_state rec m = file_there files (file_by limits properties at rec) full (map_among (file_by limits properties at) records rec m)
+
+  file_value : (n : ℕ) (f : FileSlot) → IsFile limits at n f → slice_get contents.files n ≡ Some f
+  file_value = value_at file_bytes is_file (file_slots limits) at contents.files spells.files file_once
+
+  record_among : (n : ℕ) (rec : FileRecord) → IsFile limits at n (Used rec) → Among records rec
+  record_among n rec is = flat_map_among records_in contents.files (Used rec) rec (among_place contents.files n (Used rec) (file_value n (Used rec) is)) (inl refl)
+
+  record_place : (rec : FileRecord) → Among records rec → (n : ℕ) × IsFile limits at n (Used rec)
+  record_place rec m =
+      let f = among_flat_map records_in contents.files rec m in
+      let place = placed_at contents.files f.0 f.1 in
+      (place.0, subst (λ (g : FileSlot). IsFile limits at place.0 g) (used_record f.0 rec f.2) (slot_at file_bytes is_file (file_slots limits) at contents.files spells.files place.0 f.0 place.1))
+
+  names_apart : AllApart (flat_map name_parts contents.files)
+  names_apart =
+      apart_by_count word_cmp word_order word_exact (flat_map name_parts contents.files)
+      (ap (λ ns. length (set_of ns)) (sym (names_same contents.files))
+      ∙ (ap (λ ns. length (set_of ns)) (names_of records)
+      ∙ (ap (λ ns. length ns) (sym (names-more [] files))
+      ∙ (length-map s.files (λ (f : File). f.name)
+      ∙ (full ∙ (length-map records (file_by limits properties at) ∙ (sym (length-map records (λ (rec : FileRecord). rec.name)) ∙ ap (λ ns. length ns) (names_same contents.files))))))))
+    where
+      names_of : (recs : List FileRecord) → map (λ (rec : FileRecord). rec.name) recs ≡ map (λ (f : File). f.name) (map (file_by limits properties at) recs)
+      names_of [] = refl
+      names_of (rec ∷ recs) = ap (λ ns. rec.name ∷ ns) (names_of recs)
+
+  blocks_apart : AllApart (flat_map block_parts contents.files)
+  blocks_apart = distinct_apart (flat_map block_parts contents.files) (ap are_distinct (sym (blocks_same limits at contents.files)) ∙ spells.each_block_once)
+
+  module _ (n : ℕ) (rec : FileRecord) (is : IsFile limits at n (Used rec)) where
+    in_records : Among records rec
+    in_records = record_among n rec is
+
+    tag_named : (tag : ℕ) → Among rec.tags tag → is_some (word_at properties tag) ≡ true
+    tag_named tag m =
+        all_among (λ j. is_some (word_at properties j)) rec.tags tag
+        (all_among (λ (r : FileRecord). list_all (λ j. is_some (word_at properties j)) r.tags) records rec spells.named in_records) m
+
+    tag_assignable : (tag : ℕ) (w : List ℕ) → Among rec.tags tag → word_at properties tag ≡ Some w → is_assignable s.declared w ≡ true
+    tag_assignable tag w m is_w =
+        assigned_are s spells.formed (file_by limits properties at rec) (file_in_state rec in_records) w
+        (set_of_among (flat_map (λ j. option_to_list (word_at properties j)) rec.tags) w
+        (flat_map_among (λ j. option_to_list (word_at properties j)) rec.tags tag w m (member_some (word_at properties tag) w is_w)))
+
+    no_file_fault : FileFault limits at properties axioms n rec → ⊥
+    no_file_fault (NameTaken earlier other before is_other same) =
+        part_once name_parts contents.files names_apart earlier n (Used other) (Used rec) rec.name before (file_value earlier (Used other) is_other) (file_value n (Used rec) is) (inl same) (inl refl)
+    no_file_fault (TagUnnumbered tag has_it none) = both_ways (is_some (word_at properties tag)) (ap is_some none) (tag_named tag (among_from_number rec.tags tag has_it))
+    no_file_fault (TagUnassignable tag w has_it is_w not) = both_ways (is_assignable s.declared w) not (tag_assignable tag w (among_from_number rec.tags tag has_it) is_w)
+    no_file_fault (BlockMissing data_block has_it past) =
+        let there = flat_map_among (λ (r : FileRecord). r.blocks) records rec data_block in_records (among_from_number rec.blocks data_block has_it) in
+        let below = ltb-true data_block limits.blocks (all_among (λ j. nat_lt j limits.blocks) (all_blocks limits at records) data_block spells.blocks there) in
+        omega (arith, below, past)
+    no_file_fault (BlockTaken earlier other data_block before is_other has_other has_it) =
+        part_once block_parts contents.files blocks_apart earlier n (Used other) (Used rec) data_block before
+        (file_value earlier (Used other) is_other) (file_value n (Used rec) is) (among_from_number other.blocks data_block has_other) (among_from_number rec.blocks data_block has_it)
+    no_file_fault (WordUnnumbered w has_it none) =
+        let file = file_by limits properties at rec in
+        both_ways (has_word (words_in properties) w) none
+        (known_there w (described_known s file w (file_in_state rec in_records) (among_from_has_word (description s file) w has_it)))
+    no_file_fault (TooManyWords more) =
+        let file = file_by limits properties at rec in
+        let few = leb-true (length (description s file)) 128 (all_among (λ (f : File). nat_le (length (description s f)) 128) s.files file spells.formed.files.few_words (file_in_state rec in_records)) in
+        omega (arith, few, more)
+
+  no_file : (n : ℕ) → FileFails limits at n → ⊥
+  no_file n fails = by (get_or contents.files n FreeFile) here (fault (get_or contents.files n FreeFile) here)
+    where
+      here : IsFile limits at n (get_or contents.files n FreeFile)
+      here =
+          slot_at file_bytes is_file (file_slots limits) at contents.files spells.files n (get_or contents.files n FreeFile)
+          (slice_get-get_or contents.files n FreeFile (omega (arith, fails.below, spells.files.count)))
+
+      words_same : fails.properties ≡ properties
+      words_same = one_list prop_bytes is_prop (property_slots limits) at fails.properties properties prop_once fails.words spells.properties
+
+      axioms_same : fails.axioms ≡ axioms
+      axioms_same = one_list axiom_bytes is_axiom (axiom_slots limits) at fails.axioms axioms axiom_once fails.pairs spells.axioms
+
+      fault : (f : FileSlot) → IsFile limits at n f → HasFileFault limits at properties axioms n f
+      fault f is =
+          subst (λ (xs : List AxiomSlot). HasFileFault limits at properties xs n f) axioms_same
+          (subst (λ (ps : List PropSlot). HasFileFault limits at ps fails.axioms n f) words_same (fails.fault f is))
+
+      by : (f : FileSlot) → IsFile limits at n f → HasFileFault limits at properties axioms n f → ⊥
+      by FreeFile is fault = fault
+      by (Used rec) is fault = no_file_fault n rec is fault
+
+  -- ---- words in use
+  word_in_use : (n : ℕ) (w : List ℕ) → word_at properties n ≡ Some w → Among (known s) w
+  word_in_use n w is = by (cases_lt n (length properties))
+    where
+      by : (n < length properties) ⊎ (length properties ≤ n) → Among (known s) w
+      by (inl lt) =
+          let p = get_or properties n FreeProp in
+          subst (λ ws. Among ws w) spells.words
+          (set_of_among (words_in properties) w
+          (flat_map_among (λ q. option_to_list (word_in q)) properties p w (among_place properties n p (slice_get-get_or properties n FreeProp lt)) (member_some (word_in p) w is)))
+      by (inr past) = absurd (let none : ◌≡◌ {A = Option (List ℕ)} None (Some w) = ap word_in (sym (get_or_past properties n FreeProp past)) ∙ is in cc)
+
+  no_word : (n : ℕ) → WordFails limits at n → ⊥
+  no_word n fails =
+      let same = one_contents limits at fails.contents contents fails.are are_contents in
+      let has_it = subst (λ (c : Contents). word_at c.properties n ≡ Some fails.word) same fails.has in
+      let unknown = subst (λ (c : Contents). has_word (known (spelled_state limits c at)) fails.word ≡ false) same fails.unknown in
+      both_ways (has_word (known s) fails.word) unknown (has_word_from_among (known s) fails.word (word_in_use n fails.word has_it))
+
+  -- ---- the bitmap
+  used_number : (n : ℕ) → IsUsed limits at n → has_number (all_blocks limits at records) n ≡ true
+  used_number n used =
+      has_from_among (all_blocks limits at records) n
+      (flat_map_among (λ (r : FileRecord). r.blocks) records used.rec n (record_among used.slot used.rec used.is) (among_from_number used.rec.blocks n used.has))
+
+  number_used : (n : ℕ) → has_number (all_blocks limits at records) n ≡ true → IsUsed limits at n
+  number_used n has_it =
+      let found = among_flat_map (λ (r : FileRecord). r.blocks) records n (among_from_number (all_blocks limits at records) n has_it) in
+      let place = record_place found.0 found.1 in
+      record { slot = place.0; rec = found.0; is = place.1; has = has_from_among (found.0).blocks n found.2 }
+
+  bit_is : (n : ℕ) → n < 32768 → has_bit (at (bitmap_start limits)) n ≡ has_number (all_blocks limits at records) n
+  bit_is n lt =
+      ap (λ bytes. has_bit bytes n) spells.bitmap
+      ∙ (has_bit-bitmap_bytes (marked (replicate limits.blocks false) (all_blocks limits at records)) n lt
+      ∙ (is_taken-marked (replicate limits.blocks false) (all_blocks limits at records) n (ap (λ m. list_all (λ j. nat_lt j m) (all_blocks limits at records)) (length-replicate limits.blocks false) ∙ spells.blocks)
+      ∙ (ap (λ t. has_number (all_blocks limits at records) n || t) (none_yet (cases_lt n limits.blocks)) ∙ same_or (has_number (all_blocks limits at records) n))))
+    where
+      same_or : (b : Bool) → (b || false) ≡ b
+      same_or true = refl
+      same_or false = refl
+
+      none_yet : (n < limits.blocks) ⊎ (limits.blocks ≤ n) → is_taken (replicate limits.blocks false) n ≡ false
+      none_yet (inl below) = get_or-replicate limits.blocks n false false below
+      none_yet (inr past) = get_or_past (replicate limits.blocks false) n false (omega (arith, length-replicate limits.blocks false))
+
+  no_bit : (n : ℕ) → BitFails limits at n → ⊥
+  no_bit n fails = by fails.fault
+    where
+      by : (IsTrue (has_bit (at (bitmap_start limits)) n) × (IsUsed limits at n → ⊥)) ⊎ ((has_bit (at (bitmap_start limits)) n ≡ false) × IsUsed limits at n) → ⊥
+      by (inl more) = more.1 (number_used n (sym (bit_is n fails.below) ∙ more.0))
+      by (inr less) = both_ways (has_number (all_blocks limits at records) n) (sym (bit_is n fails.below) ∙ less.0) (used_number n less.1)
+
+  -- ---- rows
+  no_row_fault : (n : ℕ) → RowFault limits at contents n → ⊥
+  no_row_fault n (RowWrong below wrong) = wrong (spells.rows n (let enough = rows_enough limits spells.formed.limits in omega (arith, enough, below)))
+  no_row_fault n (RestNotZero last p from below not_zero) =
+      not_zero (spells.rows p below ∙ zero_row (limits.files / 8) (row_bit s limits contents at p) (λ i. none i))
+    where
+      no_word_there : word_at properties p ≡ None
+      no_word_there = ap word_in (get_or_past properties p FreeProp (let all = spells.properties.count in omega (arith, all, from)))
+
+      none : (i : ℕ) → row_bit s limits contents at p i ≡ false
+      none i = ap (λ o. is_had_by s (file_by limits properties at) o (get_or contents.files i FreeFile)) no_word_there
+
+  no_row : (n : ℕ) → RowFails limits at n → ⊥
+  no_row n fails = no_row_fault n (subst (λ (c : Contents). RowFault limits at c n) (one_contents limits at fails.contents contents fails.are are_contents) fails.fault)
+
+  none_fails : (spot : Spot) → Fails limits at spot → ⊥
+  none_fails Super fails = fails
+  none_fails (BadRecord b) fails = fails
+  none_fails (Property n) fails = no_property n fails
+  none_fails (Axiom n) fails = no_axiom n fails
+  none_fails (FileSpot n) fails = no_file n fails
+  none_fails (Word n) fails = no_word n fails
+  none_fails (Bitmap n) fails = no_bit n fails
+  none_fails (Row n) fails = no_row n fails
+
+-- where blocks spell a state, no part behind the journal fails its check
+pub spelled_passes : (limits : Limits) (contents : Contents) (at : ℕ → List ℕ) (s : State) (spot : Spot) → Spells limits contents at s → Fails limits at spot → ⊥
+spelled_passes limits contents at s spot spells = none_fails limits contents at (subst (λ (t : State). Spells limits contents at t) spells.state spells) spot
