@@ -10,6 +10,7 @@ mod WordsRead
 mod Assignable
 mod Numbers
 mod Entries
+mod Gathering
 mod FilesRead
 mod Counts
 mod Once
