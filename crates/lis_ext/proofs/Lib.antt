@@ -1,4 +1,4 @@
-mod Numbers
+pub mod Numbers
 mod Changes
 mod Widened
 mod Seen
