@@ -1,14 +1,14 @@
 -- A run on an image: how it was opened, and how the session behind it ended.
-use Rattle.std.proofs.Common.{◌≡◌, ◌⊎◌, ℕ, ◌≤◌, ◌<◌, List, length, Option, Ok, subst, inr, arith}
+use Rattle.std.proofs.Common.{◌≡◌, ◌⊎◌, ℕ, ◌≤◌, ◌<◌, List, length, Option, Ok, subst, arith}
 use Rattle.lis_ports.specs.Meaning.{Meaning}
 use Rattle.lis_ports.specs.Runs.{Leaves}
 use Rattle.lis_model.specs.State.{State}
 use Rattle.lis_model.specs.Script.{script}
 use Rattle.lis_store.specs.Stands.{Stands}
-use Rattle.lis_store.specs.Kept.{Kept, StoreFits}
+use Rattle.lis_store.specs.Stored.{Stored, StoreFits}
 use Rattle.lis_store.proofs.OneState.{one_state}
 use Rattle.lis_open.specs.Opens.{IsNeeded, IsLongEnough, OpenEnded}
-use Rattle.lis_open.proofs.Needs.{needs_no_more, has_super}
+use Rattle.lis_open.proofs.Needs.{needs_no_more}
 use Rattle.lis_session.specs.Session.{root_of}
 use Rattle.lis_session.specs.Runs.{Serves, RunsImage}
 use Rattle.lis_session.proofs.Whole.{run_session, complete, no_limit}
@@ -22,7 +22,7 @@ pub not_short : (m : Meaning) (state : State) (len need : ℕ) → length m.byte
 not_short m state len need reads stands is less needed = omega (arith, reads, is, less, needs_no_more m.bytes state need stands needed)
 
 -- a store that was opened fits at the state for which the image stood
-pub opened_fits : (store : Kept) (old new : Meaning) (state : State) → Stands old.bytes state → OpenEnded old new (Ok store) → StoreFits store new state
+pub opened_fits : (store : Stored) (old new : Meaning) (state : State) → Stands old.bytes state → OpenEnded old new (Ok store) → StoreFits store new state
 opened_fits store old new state stands ended = subst (StoreFits store new) (one_state old.bytes ended.1.0 state ended.1.1 stands) ended.1.2
 
 -- a session that ended in a run
@@ -32,7 +32,7 @@ session_ran state limit bytes left before new Done served = served
 session_ran state limit bytes left before new InputLimit served = served
 session_ran state limit bytes left before new InputFault served = served
 session_ran state limit bytes left before new OutputFault served = served
-session_ran state limit bytes left before new NoMemory served = inr served
+session_ran state limit bytes left before new NoMemory served = absurd served
 session_ran state limit bytes left before new DiskFault served = served
 session_ran state limit bytes left before new Usage served = served
 session_ran state limit bytes left before new (NotAnImage spot) served = served
@@ -53,7 +53,7 @@ judged_session m Done state only long stands = (long, (state, stands))
 judged_session m InputLimit state only long stands = (long, (state, stands))
 judged_session m InputFault state only long stands = (long, (state, stands))
 judged_session m OutputFault state only long stands = (long, (state, stands))
-judged_session m NoMemory state only long stands = (long, (state.limits, has_super m.bytes state stands))
+judged_session m NoMemory state only long stands = absurd only
 judged_session m DiskFault state only long stands = tt
 judged_session m Usage state only long stands = absurd only
 judged_session m (NotAnImage spot) state only long stands = absurd only

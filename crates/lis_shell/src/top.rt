@@ -1,6 +1,6 @@
 //! The top call.
 
-ghost use Rattle.std.specs.Prelude.{◌≡◌, ◌≢◌, ◌↔◌, ℕ, ◌≤◌, ◌<◌, ◌^◌, List, length, map, None, Some, IsTrue};
+ghost use Rattle.std.specs.Prelude.{◌≡◌, ◌≢◌, ◌↔◌, ℕ, ◌≤◌, ◌<◌, ◌^◌, List, [], length, map, None, Some, IsTrue, IfOk};
 ghost use Rattle.std.specs.String.{string_bytes};
 ghost use Rattle.lis_ports.specs.Calls.{IsShowCall};
 ghost use Rattle.lis_ports.specs.Runs.{IsDiskRun, Leaves, IsSettled};
@@ -15,6 +15,7 @@ ghost use Rattle.lis_model.specs.Script.{script};
 ghost use Rattle.lis_model.specs.State.{State};
 ghost use Rattle.lis_model.specs.Step.{Situation, start_of};
 ghost use Rattle.lis_store.specs.Stands.{Stands};
+ghost use Rattle.lis_store.specs.Stored.{IsSound};
 ghost use Rattle.lis_open.specs.Makes.{InMaking, IsSettledAt, IsSpare};
 ghost use Rattle.lis_session.specs.Item.{IsSameStation};
 ghost use Rattle.lis_session.specs.Runs.{RunsImage};
@@ -36,7 +37,8 @@ use lis_open::{MakeFault, OpenFault, make, mount};
 use lis_plain::plain::Plain;
 use lis_ports::{Source, Station};
 use lis_session::session::Session;
-use std::alloc::Global;
+use lis_store::Store;
+use std::alloc::{AllocError, Global};
 
 /// The most bytes of an input.
 const INPUT_LIMIT: u64 = 1 << 40;
@@ -83,6 +85,16 @@ fn make_image<T: Station>(limits: &Limits, station: &mut T) -> Status
     }
 }
 
+// A session over the store, and room for a payload: all the memory that the commands need.
+fn session_over(alloc: Global, store: &Store) -> Result<(Session, Payload), AllocError>
+    ensures sound { IsSound store.now }
+    ensures session { IfOk result (λ made. made.0 ≡ record { place = []; limits = store.now.parts.limits }) }
+{
+    let session = Session::new(alloc, &store.limits())?;
+    let payload = Payload::new(alloc)?;
+    Ok((session, payload))
+}
+
 // Opens the image, and carries out the items of the input on it.
 fn run_image<S: Source, T: Station>(alloc: Global, input: &mut S, station: &mut T) -> Status
     ensures used { result ≢ Status.Usage }
@@ -111,12 +123,10 @@ fn run_image<S: Source, T: Station>(alloc: Global, input: &mut S, station: &mut 
         Err(OpenFault::DiskFault) => return Status::DiskFault,
         Err(OpenFault::NoMemory) => return Status::NoMemory,
     };
-    let Ok(mut payload) = Payload::new(alloc) else {
+    let Ok((mut session, mut payload)) = session_over(alloc, &store) else {
         return Status::NoMemory;
     };
-    let mut session = Session::new();
     serve(
-        alloc,
         &mut store,
         &mut session,
         &mut payload,
@@ -132,6 +142,8 @@ fn run_image<S: Source, T: Station>(alloc: Global, input: &mut S, station: &mut 
 /// no call of the disk. `make IMAGE FILES PROPS BLOCKS` makes an image of the empty state; it reads no input and shows nothing.
 /// `run IMAGE` opens the image, carries out the commands of the input on it and shows the replies. IMAGE is not looked at here: the
 /// station is the image. Any other words are `Usage`, which is judged before anything is read or taken.
+///
+/// Want of memory in `run` comes at the opening alone, with nothing shown; in `try` it may come between two commands.
 pub fn lisfs<S: Source, T: Station>(
     alloc: Global,
     words: &[String],

@@ -1,4 +1,4 @@
-use Rattle.std.proofs.Common.{List, Err, refl, ap, inl, subst, ◌∙◌}
+use Rattle.std.proofs.Common.{List, Err, refl, ap, subst, ◌∙◌}
 use Rattle.lis_grammar.specs.Formula.{Formula}
 use Rattle.lis_model.specs.Script.{script}
 use Rattle.lis_session.specs.Runs.{Serves}
@@ -37,7 +37,7 @@ returns-in_default-clause-runs g c = λ state bytes entry.
     let opening = c.in-Ok.ensures.same_state state entry.honest entry.stands in
     let fits = opened_fits c.in-Ok.store old mid state entry.stands (c.in-Ok.ensures.ended entry.honest) in
     run_none state (script bytes 1099511627776) (Ran state 1099511627776 bytes (g.S.Source.left c.args.input.now) old.shown mid NoMemory) opening
-    (inl (opening.run.shown, entry.told, (store_fits_at fits).stands.reads))
+    (opening.run.shown, entry.told, (store_fits_at c.session_over.ensures.sound fits).stands.reads)
 
 pub returns-in_default-clause-past : goal.returns-in_default-clause-past
 returns-in_default-clause-past g c = λ state bytes entry settled.
@@ -46,7 +46,7 @@ returns-in_default-clause-past g c = λ state bytes entry settled.
 pub returns-in_default-clause-judged : goal.returns-in_default-clause-judged
 returns-in_default-clause-judged g c = λ honest.
     let ended = c.in-Ok.ensures.ended honest in
-    judged_session (g.T.Disk.meaning c.args.station.now) NoMemory ended.1.0 tt ended.0 ended.1.1
+    (ended.0, (ended.1.0.limits, has_super (g.T.Disk.meaning c.args.station.now).bytes ended.1.0 ended.1.1))
 
 pub returns-clause-runs : goal.returns-clause-runs
 returns-clause-runs g c = λ state bytes entry.
