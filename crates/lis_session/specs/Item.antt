@@ -11,9 +11,9 @@ use Rattle.lis_model.specs.Image.{image_blocks}
 use Rattle.lis_model.specs.State.{State}
 use Rattle.lis_model.specs.Step.{Situation, Item, Outcome, step}
 use Rattle.lis_store.specs.Stands.{Stands}
-use Rattle.lis_store.specs.Kept.{Kept}
+use Rattle.lis_store.specs.Stored.{Stored}
 use Rattle.lis_session.specs.declared.end.End.{End}
-use Rattle.lis_session.specs.declared.end.End.TheVariants.{DiskFault, OutputFault, NoMemory}
+use Rattle.lis_session.specs.declared.end.End.TheVariants.{DiskFault, OutputFault}
 
 -- Nothing was shown and the image stands for the state before, or a front of the reply was and it stands for the state after.
 abbrev pub InItem : State → Outcome → List ℕ → List ℕ → Type 0
@@ -31,19 +31,18 @@ pub record Replied (outcome : Outcome) (old new : Meaning) (fits : State → Typ
   pub shown : new.shown ≡ append_known old.shown reply
   pub fitting : FitsAt fits new outcome.next.state
 
--- At Ok the reply was shown whole, and after a fault of showing a front of it. For want of memory nothing happened. After a fault of the
--- disk the moments tell what stands.
-abbrev pub ItemEnded : Situation → Outcome → Meaning → Meaning → (State → Type 0) → List Formula → Result (Unit {0}) End → Type 0
-ItemEnded before outcome old new fits place (Ok done) = Replied outcome old new fits outcome.reply × (place ≡ outcome.next.place)
-ItemEnded before outcome old new fits place (Err DiskFault) = Unit {0}
-ItemEnded before outcome old new fits place (Err OutputFault) = (shown : List ℕ) × Begins shown outcome.reply × Replied outcome old new fits shown
-ItemEnded before outcome old new fits place (Err NoMemory) = (new.shown ≡ old.shown) × FitsAt fits new before.state × (place ≡ before.place)
+-- At Ok the reply was shown whole, and after a fault of showing a front of it; the step was made. After a fault of the disk the moments
+-- tell what stands.
+abbrev pub ItemEnded : Outcome → Meaning → Meaning → (State → Type 0) → List Formula → Result (Unit {0}) End → Type 0
+ItemEnded outcome old new fits place (Ok done) = Replied outcome old new fits outcome.reply × (place ≡ outcome.next.place)
+ItemEnded outcome old new fits place (Err DiskFault) = Unit {0}
+ItemEnded outcome old new fits place (Err OutputFault) = (shown : List ℕ) × Begins shown outcome.reply × Replied outcome old new fits shown × (place ≡ outcome.next.place)
 
 -- One item with this outcome: what each moment in the call leaves, that the blocks past the image stay, and how it ended.
 pub record OneItem (before : Situation) (outcome : Outcome) (old new : Meaning) (result : Result (Unit {0}) End) (fits : State → Type 0) (place : List Formula) : Type 0 where
   pub moments : Adds old new (Since old.shown (InItem before.state outcome))
   pub past : KeepsPast (image_blocks before.state.limits) old new
-  pub ended : ItemEnded before outcome old new fits place result
+  pub ended : ItemEnded outcome old new fits place result
 
 -- An item is carried out at a place, whichever state fits; the values in memory fit it as `fits_before` and `fits` say.
 abbrev pub CarriesOut : (State → Type 0) → List Formula → Meaning → Meaning → Result (Unit {0}) End → (State → Type 0) → List Formula → Item → Type 0
@@ -56,12 +55,12 @@ abbrev pub HasEndCause : Meaning → Meaning → Result (Unit {0}) End → Type 
 HasEndCause old new (Ok done) = (new.disk_faults ≡ old.disk_faults) × (new.show_faults ≡ old.show_faults)
 HasEndCause old new (Err DiskFault) = Rose old.disk_faults new.disk_faults × (new.show_faults ≡ old.show_faults)
 HasEndCause old new (Err OutputFault) = (new.disk_faults ≡ old.disk_faults) × Rose old.show_faults new.show_faults
-HasEndCause old new (Err NoMemory) = (new.disk_faults ≡ old.disk_faults) × (new.show_faults ≡ old.show_faults)
 
--- a store is broken by a fault of the disk alone, and its image stays as long
-pub record StoreLeft (old new : Kept) (result : Result (Unit {0}) End) : Type 0 where
+-- a store is broken by a fault of the disk alone, and its limits and the length of its image stay
+pub record StoreLeft (old new : Stored) (result : Result (Unit {0}) End) : Type 0 where
+  pub limits : new.parts.limits ≡ old.parts.limits
   pub image : new.journal.blocks ≡ old.journal.blocks
-  pub unbroken : result ≢ Err DiskFault → new.journal.is_broken ≡ false
+  pub unbroken : result ≢ Err DiskFault → new.is_broken ≡ false
 
 -- what no call changes of a station: whether it is honest, how long its disk is, and whether it tells its moments
 pub record IsSameStation (old new : Meaning) : Type 0 where

@@ -9,13 +9,15 @@ use Rattle.lis_grammar.specs.Places.{Resolution, text_words}
 use Rattle.lis_grammar.specs.Places.Resolution.{NewPlace, BeyondLimits, Unreadable}
 use Rattle.lis_model.specs.declared.refusal.Refusal.{Refusal}
 use Rattle.lis_model.specs.declared.refusal.Refusal.TheVariants.{BadFormula, UnknownProperty, LargeFormula}
-use Rattle.lis_model.specs.Replies.{ok_line, refusal_line}
+use Rattle.lis_model.specs.Replies.{body_line, ok_line, refusal_line}
 use Rattle.lis_model.specs.State.{State}
 use Rattle.lis_model.specs.Step.{Situation, Outcome}
+use Rattle.lis_incr.specs.declared.listing.Line.{Line}
+use Rattle.lis_incr.specs.declared.listing.Line.TheVariants.{Prop, File}
 use Rattle.lis_store.specs.declared.change.Change.{Change}
-use Rattle.lis_store.specs.declared.change.Change.TheVariants.{Refused, Disk as DiskChange, NoMemory as NoRoom}
+use Rattle.lis_store.specs.declared.change.Change.TheVariants.{Refused, Disk as DiskChange}
 use Rattle.lis_session.specs.declared.end.End.{End}
-use Rattle.lis_session.specs.declared.end.End.TheVariants.{DiskFault, OutputFault, NoMemory}
+use Rattle.lis_session.specs.declared.end.End.TheVariants.{DiskFault, OutputFault}
 use Rattle.lis_session.specs.Item.{FitsAt, OneItem, HasEndCause, IsSameStation}
 
 -- nothing changes, and these bytes are shown
@@ -38,12 +40,16 @@ pub record Answers (old new : Meaning) (bytes : List ℕ) (result : Result (Unit
   pub run : IsShowRun old new bytes result
   pub fault : IfErr result (λ end. end ≡ OutputFault)
 
--- What a change of the store is answered. After a fault of the disk and for want of memory nothing is shown.
+-- What a change of the store is answered. After a fault of the disk nothing is shown.
 abbrev pub Concludes : {D : Type 0} → (D → Meaning) → D → D → Result (Unit {0}) Change → Result (Unit {0}) End → Type 0
 Concludes meaning old new (Ok done) result = Answers (meaning old) (meaning new) ok_line result
 Concludes meaning old new (Err (Refused refusal)) result = Answers (meaning old) (meaning new) (refusal_line refusal) result
 Concludes meaning old new (Err DiskChange) result = (new ≡ old) × (result ≡ Err DiskFault)
-Concludes meaning old new (Err NoRoom) result = (new ≡ old) × (result ≡ Err NoMemory)
+
+-- a line of a listing, as it is shown
+abbrev pub shown_line : Line → List ℕ
+shown_line (Prop word) = body_line 100 word
+shown_line (File name) = body_line 102 name
 
 -- the place to which a text leads, by the known words, or why it is refused
 abbrev pub led_to : List (List ℕ) → List ℕ → Resolution → Result (List Formula) Refusal

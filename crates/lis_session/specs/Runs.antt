@@ -1,5 +1,5 @@
 -- How a session over an image ends. `before` is what had been shown at its start.
-use Rattle.std.specs.Prelude.{◌≡◌, ℕ, ◌≤◌, ◌<◌, List, ◌++◌, length, Option, Some}
+use Rattle.std.specs.Prelude.{◌≡◌, ℕ, ◌≤◌, ◌<◌, List, length, Option, Some}
 use Rattle.std.specs.Io.KnownBytes.{append_known, Consumes, IsAtEnd}
 use Rattle.lis_ports.specs.Meaning.{Meaning}
 use Rattle.lis_ports.specs.Runs.{Adds, Always}
@@ -34,13 +34,6 @@ pub record CarriedWhole (start : Situation) (limit : ℕ) (bytes : List ℕ) (le
   pub consumed : Consumes (Some bytes) left taken
   pub within : length taken ≤ limit
   pub carried : Carried start (whole_items taken) before new
-
--- for want of memory: some first items
-pub record CarriedFirst (start : Situation) (items : List Item) (before : Option (List ℕ)) (new : Meaning) : Type 0 where
-  pub first : List Item
-  pub others : List Item
-  pub all : items ≡ first ++ others
-  pub carried : Carried start first before new
 
 -- at a fault of showing: what was shown, with the bytes as they read and with each image, is a moment of the session
 pub record StopsAt (start : Situation) (items : List Item) (before : Option (List ℕ)) (new : Meaning) : Type 0 where

@@ -2,9 +2,16 @@
 use Rattle.std.specs.Prelude.{◌≡◌, ◌⊎◌, ℕ, ◌+◌, ◌-◌, ◌≤◌, ◌<◌, List, [], length, take}
 use Rattle.lis_ports.specs.Meaning.{Meaning, Now}
 use Rattle.lis_ports.specs.Since.{Begins, Since}
+use Rattle.lis_grammar.specs.Formula.{Formula}
+use Rattle.lis_model.specs.declared.limits.Limits.{Limits}
 use Rattle.lis_model.specs.State.{State}
 use Rattle.lis_model.specs.Step.{Situation, Item, replies, situation_after}
 use Rattle.lis_store.specs.Stands.{Stands}
+
+-- a session: the place at which its commands are said, and the limits for which it has room to work
+pub record Situated : Type 0 where
+  pub place : List Formula
+  pub limits : Limits
 
 -- a state, with the root as the place
 abbrev pub root_of : State → Situation

@@ -1,20 +1,21 @@
 //! Commands that change the store.
 
 ghost use Rattle.std.specs.Prelude.{◌≡◌, ◌*◌, ◌≤◌, false};
+ghost use Rattle.lis_eval.specs.Room.{HasRoom};
 ghost use Rattle.lis_model.specs.Step.{mkdir, create, add, rm};
-ghost use Rattle.lis_store.specs.Kept.{StoreFits};
+ghost use Rattle.lis_store.specs.Stored.{StoreFits};
 ghost use Rattle.lis_session.specs.Item.{StoreLeft};
 ghost use Rattle.lis_session.specs.Parts.{Does, Ends};
 
 use crate::end::End;
 use crate::replies::conclude;
+use lis_eval::Scratch;
 use lis_line::reader::Payload;
 use lis_model::command::Tags;
 use lis_place::Place;
 use lis_ports::Station;
 use lis_store::Store;
 use lis_words::{Name, Word};
-use std::alloc::Global;
 
 /// Declares the word.
 pub fn mkdir<T: Station>(
@@ -23,7 +24,7 @@ pub fn mkdir<T: Station>(
     word: &Word,
     station: &mut T,
 ) -> Result<(), End>
-    requires unbroken { store.old.journal.is_broken ≡ false }
+    requires unbroken { store.old.is_broken ≡ false }
     requires long { 4096 * store.old.journal.blocks ≤ (T.meaning station.old).len }
     ensures carries { Does (λ now. mkdir now word.now) (StoreFits store.old (T.meaning station.old)) place.now
         (T.meaning station.old) (T.meaning station.new) result (StoreFits store.new (T.meaning station.new)) place.now }
@@ -31,41 +32,45 @@ pub fn mkdir<T: Station>(
     ensures left { StoreLeft store.old store.new result }
 {
     let changed = store.declare(station, place, word);
-    conclude(station, changed)
+    conclude(store, station, changed)
 }
 
 /// Makes an empty file.
 pub fn create<T: Station>(
-    alloc: Global,
     store: &mut Store,
+    scratch: &mut Scratch,
     place: &Place,
     name: &Name,
     tags: &Tags,
     station: &mut T,
 ) -> Result<(), End>
-    requires unbroken { store.old.journal.is_broken ≡ false }
+    requires scratch { HasRoom scratch.old store.old.parts.limits }
+    requires unbroken { store.old.is_broken ≡ false }
     requires long { 4096 * store.old.journal.blocks ≤ (T.meaning station.old).len }
+    ensures scratch { HasRoom scratch.new store.old.parts.limits }
     ensures carries { Does (λ now. create now name.now tags.now) (StoreFits store.old (T.meaning station.old)) place.now
         (T.meaning station.old) (T.meaning station.new) result (StoreFits store.new (T.meaning station.new)) place.now }
     ensures ends { Ends (T.meaning station.old) (T.meaning station.new) result }
     ensures left { StoreLeft store.old store.new result }
 {
-    let changed = store.add_file(alloc, station, place, name, tags, &[], 0);
-    conclude(station, changed)
+    let changed = store.add_file(station, scratch, place, name, tags, &[], 0);
+    conclude(store, station, changed)
 }
 
 /// Makes a file of the payload's bytes.
 pub fn add<T: Station>(
-    alloc: Global,
     store: &mut Store,
+    scratch: &mut Scratch,
     place: &Place,
     name: &Name,
     tags: &Tags,
     payload: &Payload,
     station: &mut T,
 ) -> Result<(), End>
-    requires unbroken { store.old.journal.is_broken ≡ false }
+    requires scratch { HasRoom scratch.old store.old.parts.limits }
+    requires unbroken { store.old.is_broken ≡ false }
     requires long { 4096 * store.old.journal.blocks ≤ (T.meaning station.old).len }
+    ensures scratch { HasRoom scratch.new store.old.parts.limits }
     ensures carries { Does (λ now. add now name.now tags.now payload.now) (StoreFits store.old (T.meaning station.old)) place.now
         (T.meaning station.old) (T.meaning station.new) result (StoreFits store.new (T.meaning station.new)) place.now }
     ensures ends { Ends (T.meaning station.old) (T.meaning station.new) result }
@@ -73,25 +78,27 @@ pub fn add<T: Station>(
 {
     let bytes = payload.bytes();
     let size = payload.size();
-    let changed = store.add_file(alloc, station, place, name, tags, bytes, size);
-    conclude(station, changed)
+    let changed = store.add_file(station, scratch, place, name, tags, bytes, size);
+    conclude(store, station, changed)
 }
 
 /// Removes the file of that name.
 pub fn rm<T: Station>(
-    alloc: Global,
     store: &mut Store,
+    scratch: &mut Scratch,
     place: &Place,
     name: &Name,
     station: &mut T,
 ) -> Result<(), End>
-    requires unbroken { store.old.journal.is_broken ≡ false }
+    requires scratch { HasRoom scratch.old store.old.parts.limits }
+    requires unbroken { store.old.is_broken ≡ false }
     requires long { 4096 * store.old.journal.blocks ≤ (T.meaning station.old).len }
+    ensures scratch { HasRoom scratch.new store.old.parts.limits }
     ensures carries { Does (λ now. rm now name.now) (StoreFits store.old (T.meaning station.old)) place.now
         (T.meaning station.old) (T.meaning station.new) result (StoreFits store.new (T.meaning station.new)) place.now }
     ensures ends { Ends (T.meaning station.old) (T.meaning station.new) result }
     ensures left { StoreLeft store.old store.new result }
 {
-    let changed = store.remove(alloc, station, place, name);
-    conclude(station, changed)
+    let changed = store.remove(station, scratch, place, name);
+    conclude(store, station, changed)
 }

@@ -1,23 +1,23 @@
 //! Showing the bytes of files.
 
-ghost use Rattle.std.specs.Prelude.{◌≡◌, ◌≢◌, ℕ, ◌*◌, ◌≤◌, ◌<◌, List, [], length, false, Some, Err, IsSomeAnd};
+ghost use Rattle.std.specs.Prelude.{◌≡◌, ℕ, ◌*◌, ◌≤◌, ◌<◌, List, [], length, false, Some, IsSomeAnd};
 ghost use Rattle.lis_ports.specs.Bytes.{part};
+ghost use Rattle.lis_eval.specs.Room.{HasRoom};
 ghost use Rattle.lis_catalog.specs.Catalog.{slot_of, rec_at};
 ghost use Rattle.lis_fields.specs.Records.{FileRecord};
 ghost use Rattle.lis_model.specs.Changes.{file_of};
 ghost use Rattle.lis_model.specs.Step.{cat};
-ghost use Rattle.lis_store.specs.Kept.{StoreFits};
-ghost use Rattle.lis_session.specs.declared.end.End.TheVariants.{NoMemory};
+ghost use Rattle.lis_store.specs.Stored.{StoreFits};
 ghost use Rattle.lis_session.specs.Parts.{only_shows, Does, Ends};
 
 use crate::end::End;
 use crate::replies::{answer_bytes, answer_refusal, answer_size};
+use lis_eval::Scratch;
 use lis_model::refusal::Refusal;
 use lis_place::Place;
 use lis_ports::{Failed, Station};
 use lis_store::Store;
 use lis_words::Name;
-use std::alloc::Global;
 
 /// How many bytes a data block has.
 const BLOCK_LEN: usize = 4_096;
@@ -31,16 +31,15 @@ fn show_block<T: Station>(
     block: &mut [u8],
     station: &mut T,
 ) -> Result<(), End>
-    requires size { IsSomeAnd (rec_at store.now.catalog slot) (λ (rec : FileRecord). size ≡ rec.size) }
+    requires size { IsSomeAnd (rec_at store.now.parts.catalog slot) (λ (rec : FileRecord). size ≡ rec.size) }
     requires within { 4096 * n < size }
     requires whole { length block.old ≡ 4096 }
-    requires unbroken { store.now.journal.is_broken ≡ false }
+    requires unbroken { store.now.is_broken ≡ false }
     requires long { 4096 * store.now.journal.blocks ≤ (T.meaning station.old).len }
-    ensures shows { (name : List ℕ) → slot_of store.now.catalog name ≡ Some slot
+    ensures shows { (name : List ℕ) → slot_of store.now.parts.catalog name ≡ Some slot
         → Does (λ now. only_shows (part (4096 * n) 4096 (file_of now.state.files name).bytes) now) (StoreFits store.now (T.meaning station.old)) []
         (T.meaning station.old) (T.meaning station.new) result (StoreFits store.now (T.meaning station.new)) [] }
     ensures ends { Ends (T.meaning station.old) (T.meaning station.new) result }
-    ensures memory { result ≢ Err NoMemory }
     ensures whole { length block.new ≡ 4096 }
 {
     if let Err(Failed) = store.content(station, slot, n, block) {
@@ -52,14 +51,13 @@ fn show_block<T: Station>(
 
 // Shows the bytes of the file in the slot, block by block.
 fn show_content<T: Station>(store: &Store, slot: u16, size: u32, station: &mut T) -> Result<(), End>
-    requires size { IsSomeAnd (rec_at store.now.catalog slot) (λ (rec : FileRecord). size ≡ rec.size) }
-    requires unbroken { store.now.journal.is_broken ≡ false }
+    requires size { IsSomeAnd (rec_at store.now.parts.catalog slot) (λ (rec : FileRecord). size ≡ rec.size) }
+    requires unbroken { store.now.is_broken ≡ false }
     requires long { 4096 * store.now.journal.blocks ≤ (T.meaning station.old).len }
-    ensures shows { (name : List ℕ) → slot_of store.now.catalog name ≡ Some slot
+    ensures shows { (name : List ℕ) → slot_of store.now.parts.catalog name ≡ Some slot
         → Does (λ now. only_shows (file_of now.state.files name).bytes now) (StoreFits store.now (T.meaning station.old)) []
         (T.meaning station.old) (T.meaning station.new) result (StoreFits store.now (T.meaning station.new)) [] }
     ensures ends { Ends (T.meaning station.old) (T.meaning station.new) result }
-    ensures memory { result ≢ Err NoMemory }
 {
     let mut block = [0; BLOCK_LEN];
     for n in 0..size.div_ceil(BLOCK_LEN as u32) {
@@ -70,24 +68,26 @@ fn show_content<T: Station>(store: &Store, slot: u16, size: u32, station: &mut T
 
 /// Shows the file of that name: its size, its bytes, and a line feed behind them.
 pub fn cat<T: Station>(
-    alloc: Global,
     store: &Store,
+    scratch: &mut Scratch,
     place: &Place,
     name: &Name,
     station: &mut T,
 ) -> Result<(), End>
-    requires unbroken { store.now.journal.is_broken ≡ false }
+    requires scratch { HasRoom scratch.old store.now.parts.limits }
+    requires unbroken { store.now.is_broken ≡ false }
     requires long { 4096 * store.now.journal.blocks ≤ (T.meaning station.old).len }
+    ensures scratch { HasRoom scratch.new store.now.parts.limits }
     ensures carries { Does (λ now. cat now name.now) (StoreFits store.now (T.meaning station.old)) place.now
         (T.meaning station.old) (T.meaning station.new) result (StoreFits store.now (T.meaning station.new)) place.now }
     ensures ends { Ends (T.meaning station.old) (T.meaning station.new) result }
 {
-    // The limits tell that the store is sound, so that a slot that it finds has a record.
+    // The limits tell that the store is sound, so that it shows the state's table.
     let _limits = store.limits();
-    let Some(slot) = store.slot_here(alloc, place, name)? else {
+    let Some(slot) = store.slot_here(scratch, place, name) else {
         return answer_refusal(station, &Refusal::NoFileHere);
     };
-    let size = store.size_of(slot);
+    let size = store.file_size(slot);
     answer_size(station, size)?;
     show_content(store, slot, size, station)?;
     answer_bytes(station, b"\nok\n")

@@ -1,7 +1,6 @@
 //! Why an item could not be carried out, or its reply not be shown.
 
 use lis_ports::Failed;
-use std::alloc::{AllocError, AllocFailed};
 
 /// Why carrying out an item stopped.
 #[derive(Clone, Copy, Debug, PartialEq, Eq)]
@@ -10,8 +9,6 @@ pub enum End {
     DiskFault,
     /// The station counted a fault of showing. The step was made; a front of the reply was shown.
     OutputFault,
-    /// There is no memory. State and place are as before, and nothing of the reply was shown.
-    NoMemory,
 }
 
 // A call that shows.
@@ -23,27 +20,5 @@ impl From<Failed> for End {
 
     fn from(_failed: Failed) -> End {
         End::OutputFault
-    }
-}
-
-impl From<AllocError> for End {
-    ghost use Rattle.std.specs.Prelude.{◌≡◌};
-    ghost use Rattle.lis_session.specs.declared.end.End.TheVariants.{NoMemory};
-
-    ghost from_gives = { λ _ end. end ≡ NoMemory };
-
-    fn from(_error: AllocError) -> End {
-        End::NoMemory
-    }
-}
-
-impl<T: Drop> From<AllocFailed<T>> for End {
-    ghost use Rattle.std.specs.Prelude.{◌≡◌};
-    ghost use Rattle.lis_session.specs.declared.end.End.TheVariants.{NoMemory};
-
-    ghost from_gives = { λ _ end. end ≡ NoMemory };
-
-    fn from(_failed: AllocFailed<T>) -> End {
-        End::NoMemory
     }
 }

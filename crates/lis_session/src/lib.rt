@@ -6,6 +6,8 @@ ghost use Rattle.lis_session.specs.Session.{OneForm};
 mod changes;
 mod content;
 pub mod end;
+mod listing;
+mod moving;
 mod replies;
 pub mod session;
 

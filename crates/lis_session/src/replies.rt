@@ -1,10 +1,9 @@
 //! What commands are answered.
 
-ghost use Rattle.std.specs.Prelude.{◌≡◌, ◌++◌, codes, IfOk};
+ghost use Rattle.std.specs.Prelude.{◌≡◌, ◌++◌, codes};
 ghost use Rattle.lis_grammar.specs.Printing.{printed};
-ghost use Rattle.lis_model.specs.Listing.{increments, locals};
-ghost use Rattle.lis_model.specs.Replies.{body_line, number_line, ok_line, refusal_line, listing_lines};
-ghost use Rattle.lis_store.specs.Seen.{table_of};
+ghost use Rattle.lis_model.specs.Replies.{body_line, number_line, ok_line, refusal_line};
+ghost use Rattle.lis_store.specs.Stored.{IsSound};
 ghost use Rattle.lis_session.specs.Parts.{Answers, Concludes};
 
 use crate::end::End;
@@ -12,17 +11,22 @@ use lis_formula::print;
 use lis_model::refusal::Refusal;
 use lis_place::Place;
 use lis_ports::Station;
-use lis_reply::{show_all, show_number, show_ok, show_refusal};
+use lis_reply::{show_all, show_line, show_number, show_ok, show_refusal};
 use lis_store::{Change, Store};
-use lis_table::listing::{listing, push_line};
-use lis_table::truth::extension;
-use std::alloc::{AllocError, Global};
 
 /// Shows bytes of a reply.
 pub fn answer_bytes<T: Station>(station: &mut T, bytes: &[u8]) -> Result<(), End>
     ensures { Answers (T.meaning station.old) (T.meaning station.new) bytes.now result }
 {
     show_all(station, bytes)?;
+    Ok(())
+}
+
+/// Shows a line of a reply: the letter, a blank, the bytes and a line feed.
+pub fn answer_line<T: Station>(station: &mut T, letter: u8, bytes: &[u8]) -> Result<(), End>
+    ensures { Answers (T.meaning station.old) (T.meaning station.new) (body_line letter bytes.now) result }
+{
+    show_line(station, letter, bytes)?;
     Ok(())
 }
 
@@ -50,34 +54,28 @@ pub fn answer_refusal<T: Station>(station: &mut T, refusal: &Refusal) -> Result<
     Ok(())
 }
 
-/// Shows what a change of the store comes to.
-pub fn conclude<T: Station>(station: &mut T, changed: Result<(), Change>) -> Result<(), End>
-    ensures { Concludes T.meaning station.old station.new changed result }
+/// Shows the place.
+pub fn answer_place<T: Station>(station: &mut T, place: &Place) -> Result<(), End>
+    ensures { Answers (T.meaning station.old) (T.meaning station.new) (body_line 119 (printed place.now) ++ ok_line) result }
 {
+    answer_line(station, b'w', print(place).bytes())?;
+    answer_ok(station)
+}
+
+/// Shows what a change of the store comes to.
+pub fn conclude<T: Station>(
+    store: &Store,
+    station: &mut T,
+    changed: Result<(), Change>,
+) -> Result<(), End>
+    ensures concludes { Concludes T.meaning station.old station.new changed result }
+    ensures sound { IsSound store.now }
+{
+    // The limits tell that the store is sound.
+    let _limits = store.limits();
     match changed {
         Ok(()) => answer_ok(station),
         Err(Change::Refused(refusal)) => answer_refusal(station, &refusal),
         Err(Change::Disk) => Err(End::DiskFault),
-        Err(Change::NoMemory) => Err(End::NoMemory),
     }
-}
-
-/// The reply of a listing at the place.
-pub fn listing_reply(alloc: Global, store: &Store, place: &Place) -> Result<Vec<u8>, AllocError>
-    ensures { IfOk result (λ reply. reply.items
-        ≡ listing_lines (increments (table_of store.now) place.now) (locals (table_of store.now) place.now) ++ ok_line) }
-{
-    let table = store.table(alloc)?;
-    let files = extension(alloc, &table.files, place)?;
-    listing(alloc, &table, &files)
-}
-
-/// The reply that shows the place.
-pub fn place_reply(alloc: Global, place: &Place) -> Result<Vec<u8>, AllocError>
-    ensures { IfOk result (λ reply. reply.items ≡ body_line 119 (printed place.now) ++ ok_line) }
-{
-    let mut reply = Vec::new(alloc);
-    push_line(&mut reply, b'w', print(place).bytes())?;
-    reply.extend_from_slice(b"ok\n")?;
-    Ok(reply)
 }

@@ -20,3 +20,4 @@ pub mod Reading
 pub mod Given
 pub mod Removed
 pub mod Had
+pub mod Sizes

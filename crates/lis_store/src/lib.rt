@@ -6,6 +6,7 @@
 mod change;
 mod judging;
 pub mod laws;
+mod looking;
 mod removing;
 mod saving;
 mod store;

@@ -1,0 +1,64 @@
+//! Where a text leads.
+
+ghost use Rattle.std.specs.Prelude.{◌≡◌, List};
+ghost use Rattle.std.specs.List.{list_all};
+ghost use Rattle.lis_dict.specs.Dict.{words};
+ghost use Rattle.lis_words.specs.Words.{has_word};
+ghost use Rattle.lis_grammar.specs.Formula.{Formula};
+ghost use Rattle.lis_grammar.specs.Places.{resolved, text_words};
+ghost use Rattle.lis_grammar.specs.Places.Resolution.{NewPlace};
+ghost use Rattle.lis_place.specs.Nodes.{node_words};
+ghost use Rattle.lis_store.specs.Stored.{IsSound};
+ghost use Rattle.lis_session.specs.Parts.{led_to};
+
+use lis_eval::View;
+use lis_formula::{FormulaFault, read_formula, resolve};
+use lis_model::refusal::Refusal;
+use lis_place::{Node, Place, Text};
+use lis_store::Store;
+
+// Whether the word of the node is known, where it has one.
+fn is_known(store: &Store, node: &Node) -> bool
+    ensures { result ≡ list_all (has_word (words store.now.parts.dict)) (node_words node.now) }
+{
+    match node {
+        Node::Word(word) => store.id_of(word).is_some(),
+        _ => true,
+    }
+}
+
+// Whether all words of the nodes are known.
+fn are_known(store: &Store, nodes: &[Node]) -> bool
+    ensures { result ≡ list_all (λ node. list_all (has_word (words store.now.parts.dict)) (node_words node)) nodes.now }
+{
+    nodes.iter().all(|node| is_known(store, node))
+}
+
+// Whether each word that the text names is known, where the text leads from some place to another. The text `..` names none.
+fn knows_text(store: &Store, text: &[u8]) -> bool
+    ensures { (place new : List Formula) → resolved place text.now ≡ NewPlace new
+        → result ≡ list_all (has_word (words store.now.parts.dict)) (text_words text.now) }
+{
+    match read_formula(text) {
+        Ok(path) => are_known(store, path.place.nodes()),
+        Err(_) => true,
+    }
+}
+
+/// The place to which a text leads, or why it is refused.
+pub fn led_to(store: &Store, place: &Place, text: &Text) -> Result<Place, Refusal>
+    ensures led { result ≡ led_to (words store.now.parts.dict) text.now (resolved place.now text.now) }
+    ensures sound { IsSound store.now }
+{
+    // The limits tell that the store is sound.
+    let _limits = store.limits();
+    let next = match resolve(place, text.bytes()) {
+        Ok(next) => next,
+        Err(FormulaFault::Syntax(_)) => return Err(Refusal::BadFormula),
+        Err(FormulaFault::TooLarge) => return Err(Refusal::LargeFormula),
+    };
+    if knows_text(store, text.bytes()) {
+        return Ok(next);
+    }
+    Err(Refusal::UnknownProperty)
+}
