@@ -59,7 +59,24 @@ fn stage(alloc: Global, journal: &mut Journal, n: u32, fill: Option<u8>) -> Resu
     Ok(())
 }
 
-/// Commits the first and the last home block, each filled with a byte, where one is given.
+/// Commits the first and the last home block, each filled with a byte, where one is given. Answers whether the disk failed.
+pub fn commit(
+    alloc: Global,
+    disk: &mut MemStation,
+    journal: &mut Journal,
+    fills: [Option<u8>; 2],
+) -> Result<bool, AllocError>
+    requires idle { IsIdle 594 journal.old }
+    requires long { 2433024 ≤ (meaning_of disk.old).len }
+    ensures idle { IfOk result (λ has_failed. has_failed ≡ false → IsIdle 594 journal.new) }
+    ensures same { IsSameDisk (meaning_of disk.old) (meaning_of disk.new) }
+{
+    stage(alloc, journal, FIRST, fills[0])?;
+    stage(alloc, journal, LAST, fills[1])?;
+    Ok(journal.commit(disk).is_err())
+}
+
+/// The same on a disk that does not fail.
 pub fn keep(
     alloc: Global,
     disk: &mut MemStation,
@@ -71,9 +88,9 @@ pub fn keep(
     ensures idle { OnOk result (IsIdle 594 journal.new) }
     ensures same { IsSameDisk (meaning_of disk.old) (meaning_of disk.new) }
 {
-    stage(alloc, journal, FIRST, fills[0])?;
-    stage(alloc, journal, LAST, fills[1])?;
-    journal.commit(disk)?;
+    if commit(alloc, disk, journal, fills)? {
+        return Err("the commit failed".into());
+    }
     Ok(())
 }
 
@@ -106,11 +123,7 @@ fn fill_of(alloc: Global, disk: &mut MemStation, journal: &Journal, n: u32) -> R
 }
 
 /// The bytes that fill the first and the last home block.
-pub fn fills_of(
-    alloc: Global,
-    disk: &mut MemStation,
-    journal: &Journal,
-) -> Result<[u8; 2], Fail>
+pub fn fills_of(alloc: Global, disk: &mut MemStation, journal: &Journal) -> Result<[u8; 2], Fail>
     requires idle { IsIdle 594 journal.now }
     requires long { 2433024 ≤ (meaning_of disk.old).len }
     ensures same { IsSameDisk (meaning_of disk.old) (meaning_of disk.new) }
@@ -136,12 +149,7 @@ pub fn image_after(alloc: Global, disk: &MemStation, call: u64, pick: u8) -> Res
 }
 
 /// What a mount reads after a crash just after a call, which a stop at any call of that mount does not change.
-pub fn fills_after(
-    alloc: Global,
-    disk: &MemStation,
-    call: u64,
-    pick: u8,
-) -> Result<[u8; 2], Fail>
+pub fn fills_after(alloc: Global, disk: &MemStation, call: u64, pick: u8) -> Result<[u8; 2], Fail>
     requires { IsTrue (meaning_of disk.now).is_recorded }
 {
     let image = image_after(alloc, disk, call, pick)?;

@@ -4,7 +4,7 @@ ghost use Rattle.std.specs.Prelude.{[], ◌≡◌, ◌≤◌, false, OnOk, IsTru
 ghost use Rattle.lis_memdisk.specs.MemStation.{meaning_of};
 ghost use Rattle.lis_crashes.specs.Idle.{IsIdle, IsSameDisk};
 
-use crate::disk::{ROOM, fills_after, keep, mounted, place_nines, zeros};
+use crate::disk::{ROOM, commit, fills_after, keep, mounted, place_nines, zeros};
 use lis_journal::Journal;
 use lis_memdisk::MemStation;
 use std::alloc::Global;
@@ -90,14 +90,19 @@ fn a_stop_before_a_block_is_placed_changes_nothing(rt: HostRuntime) -> Result<()
     place_nines(alloc, &mut disk, &mut journal)?;
     let end = disk.calls();
     assert_eq!(rt; end.saturating_sub(start), 8);
-    are_read(alloc, &disk, [start, end.saturating_sub(1)], [[7, 3], [7, 3]])
+    are_read(
+        alloc,
+        &disk,
+        [start, end.saturating_sub(1)],
+        [[7, 3], [7, 3]],
+    )
 }
 
 // A commit with one call that fails.
 fn broken(alloc: Global, call: u64, pick: u8) -> Result<[u8; 2], Fail> {
     let (mut disk, mut journal) = mounted(alloc, &zeros(alloc)?, ROOM)?;
     disk.fails.push(call)?;
-    if keep(alloc, &mut disk, &mut journal, [Some(7), Some(7)]).is_ok() {
+    if !commit(alloc, &mut disk, &mut journal, [Some(7), Some(7)])? {
         return Err("the commit did not fail".into());
     }
     if !journal.is_broken() {

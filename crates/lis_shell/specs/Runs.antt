@@ -14,7 +14,7 @@ use Rattle.lis_grammar.specs.Formula.{Formula}
 use Rattle.lis_model.specs.Image.{image_blocks}
 use Rattle.lis_store.specs.Stands.{Stands}
 use Rattle.lis_store.specs.Stored.{Stored, StoreFits}
-use Rattle.lis_open.specs.Opens.{HasSuper, IsNeeded, IsLongEnough, Recovers, RefusedLeft, InOpening}
+use Rattle.lis_open.specs.Opens.{HasSuper, IsNeeded, IsLongEnough, RefusedLeft, InOpening}
 use Rattle.lis_open.specs.Checks.{FailsFirst}
 use Rattle.lis_session.specs.Session.{root_of}
 use Rattle.lis_session.specs.Runs.{Carried, CarriedAll, CarriedToLimit, CarriedWhole, StopsAt}
@@ -137,7 +137,7 @@ IsIdle untouched old new InputLimit = Unit {0}
 abbrev pub BarredLeft : Meaning → Meaning → Status → Type 0
 BarredLeft old new (NotAnImage spot) = RefusedLeft old new
 BarredLeft old new (TooShort len need) = IsUnchanged old new
-BarredLeft old new NoMemory = IsUnchanged old new ⊎ Recovers old new
+BarredLeft old new NoMemory = IsUnchanged old new
 BarredLeft old new DiskFault = Unit {0}
 BarredLeft old new Usage = ⊥
 BarredLeft old new Done = ⊥
