@@ -17,7 +17,7 @@ const FIRST: u32 = 578;
 
 const LAST: u32 = 593;
 
-pub const ROOM: u64 = 1 << 20;
+const ROOM: u64 = 1 << 20;
 
 pub fn zeros(alloc: Global) -> Result<Vec<u8>, AllocError>
     ensures { IfOk result (λ zeros. length zeros.items ≡ 2433024) }
@@ -34,14 +34,13 @@ fn opened(alloc: Global, disk: &mut MemStation) -> Result<Journal, Fail>
 }
 
 /// The journal of a disk of these bytes.
-pub fn mounted(alloc: Global, image: &[u8], room: u64) -> Result<(MemStation, Journal), Fail>
-    requires room { 0 < room }
-    requires whole { length image.now ≡ 2433024 }
+pub fn mounted(alloc: Global, image: &[u8]) -> Result<(MemStation, Journal), Fail>
+    requires { length image.now ≡ 2433024 }
     ensures idle { IfOk result (λ made. IsIdle 594 made.1) }
     ensures long { IfOk result (λ made. (meaning_of made.0).len ≡ 2433024) }
     ensures recorded { IfOk result (λ made. IsTrue (meaning_of made.0).is_recorded) }
 {
-    let mut disk = MemStation::new(alloc, image, room)?;
+    let mut disk = MemStation::new(alloc, image, ROOM)?;
     let journal = opened(alloc, &mut disk)?;
     Ok((disk, journal))
 }
@@ -153,12 +152,12 @@ pub fn fills_after(alloc: Global, disk: &MemStation, call: u64, pick: u8) -> Res
     requires { IsTrue (meaning_of disk.now).is_recorded }
 {
     let image = image_after(alloc, disk, call, pick)?;
-    let (mut again, journal) = mounted(alloc, &image, ROOM)?;
+    let (mut again, journal) = mounted(alloc, &image)?;
     let end = again.calls();
     let fills = fills_of(alloc, &mut again, &journal)?;
     for stop in 0..end {
         let image = image_after(alloc, &again, stop, 165)?;
-        let (mut last, journal) = mounted(alloc, &image, 1)?;
+        let (mut last, journal) = mounted(alloc, &image)?;
         if fills_of(alloc, &mut last, &journal)? != fills {
             return Err("a second stop changed what is kept".into());
         }

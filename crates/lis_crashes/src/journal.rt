@@ -4,7 +4,7 @@ ghost use Rattle.std.specs.Prelude.{[], ◌≡◌, ◌≤◌, false, OnOk, IsTru
 ghost use Rattle.lis_memdisk.specs.MemStation.{meaning_of};
 ghost use Rattle.lis_crashes.specs.Idle.{IsIdle, IsSameDisk};
 
-use crate::disk::{ROOM, commit, fills_after, keep, mounted, place_nines, zeros};
+use crate::disk::{commit, fills_after, keep, mounted, place_nines, zeros};
 use lis_journal::Journal;
 use lis_memdisk::MemStation;
 use std::alloc::Global;
@@ -39,7 +39,7 @@ fn are_read(
 #[test]
 fn a_stop_in_a_commit_leaves_all_or_none(rt: HostRuntime) -> Result<(), Fail> {
     let alloc = rt.alloc();
-    let (mut disk, mut journal) = mounted(alloc, &zeros(alloc)?, ROOM)?;
+    let (mut disk, mut journal) = mounted(alloc, &zeros(alloc)?)?;
     let start = disk.calls();
     keep(alloc, &mut disk, &mut journal, [Some(7), Some(7)])?;
     are_read(alloc, &disk, [start, disk.calls()], [[0, 0], [7, 7]])
@@ -67,7 +67,7 @@ fn keep_all(
 #[test]
 fn a_stop_in_a_checkpoint_changes_nothing(rt: HostRuntime) -> Result<(), Fail> {
     let alloc = rt.alloc();
-    let (mut disk, mut journal) = mounted(alloc, &zeros(alloc)?, ROOM)?;
+    let (mut disk, mut journal) = mounted(alloc, &zeros(alloc)?)?;
     let opened = disk.calls();
     keep(alloc, &mut disk, &mut journal, [None, Some(3)])?;
     keep_all(alloc, &mut disk, &mut journal, 63)?;
@@ -81,7 +81,7 @@ fn a_stop_in_a_checkpoint_changes_nothing(rt: HostRuntime) -> Result<(), Fail> {
 #[test]
 fn a_stop_before_a_block_is_placed_changes_nothing(rt: HostRuntime) -> Result<(), Fail> {
     let alloc = rt.alloc();
-    let (mut disk, mut journal) = mounted(alloc, &zeros(alloc)?, ROOM)?;
+    let (mut disk, mut journal) = mounted(alloc, &zeros(alloc)?)?;
     keep(alloc, &mut disk, &mut journal, [Some(3), Some(3)])?;
     keep(alloc, &mut disk, &mut journal, [Some(7), None])?;
     let start = disk.calls();
@@ -98,7 +98,7 @@ fn a_stop_before_a_block_is_placed_changes_nothing(rt: HostRuntime) -> Result<()
 
 // A commit with one call that fails.
 fn broken(alloc: Global, call: u64, pick: u8) -> Result<[u8; 2], Fail> {
-    let (mut disk, mut journal) = mounted(alloc, &zeros(alloc)?, ROOM)?;
+    let (mut disk, mut journal) = mounted(alloc, &zeros(alloc)?)?;
     disk.fails.push(call)?;
     if !commit(alloc, &mut disk, &mut journal, [Some(7), Some(7)])? {
         return Err("the commit did not fail".into());
