@@ -1,24 +1,23 @@
--- A store that fits a station, and what calls that write nothing leave of it.
+-- A store that fits a station, and what shows leave of it.
 use Rattle.std.proofs.Common.{refl, sym, ◌∙◌, subst, []}
 use Rattle.lis_ports.specs.Meaning.{Meaning}
-use Rattle.lis_ports.specs.Calls.{IsUnchanged, IsShowCall}
+use Rattle.lis_ports.specs.Calls.{IsShowCall}
 use Rattle.lis_ports.specs.Runs.{IsDiskRun}
 use Rattle.lis_journal.specs.Images.{IsAtRest}
-use Rattle.lis_journal.proofs.Fitting.{fits_unchanged}
 use Rattle.lis_model.specs.State.{State}
-use Rattle.lis_store.specs.Kept.{Kept, StoreFits}
+use Rattle.lis_store.specs.Stored.{Stored, IsSound, StoreFits}
 use Rattle.lis_store.proofs.Standing.{fitting_stands}
 use Rattle.lis_session.specs.Item.{FitsAt, IsSameStation}
 
-pub store_fits_at : {k : Kept} {m : Meaning} {state : State} → StoreFits k m state → FitsAt (StoreFits k m) m state
-store_fits_at {k} {m} {state} fits = record {
+pub store_fits_at : {k : Stored} {m : Meaning} {state : State} → IsSound k → StoreFits k m state → FitsAt (StoreFits k m) m state
+store_fits_at {k} {m} {state} sound fits = record {
   honest = fits.journal.honest;
-  stands = fitting_stands m k state fits;
+  stands = fitting_stands m k state sound fits;
   own = fits;
 }
 
 -- a show
-pub store_shown : {k : Kept} {old new : Meaning} {state : State} → StoreFits k old state → IsShowCall old new → StoreFits k new state
+pub store_shown : {k : Stored} {old new : Meaning} {state : State} → StoreFits k old state → IsShowCall old new → StoreFits k new state
 store_shown {k} fits call =
     let same = call.same fits.journal.honest in
     record {
@@ -28,16 +27,10 @@ store_shown {k} fits call =
         reads = subst (IsAtRest k.journal.blocks k.journal.records [] fits.kept) (sym same.bytes) fits.journal.reads;
         leaves = λ image is. fits.journal.leaves image (same.images.only image is);
       };
+      unbroken = fits.unbroken;
       tells = fits.tells;
+      written = fits.written;
     }
-
--- a read
-pub store_read : {k : Kept} {old new : Meaning} {state : State} → StoreFits k old state → IsDiskRun old new → IsUnchanged old new → StoreFits k new state
-store_read {k} fits run same = record {
-  kept = fits.kept;
-  journal = fits_unchanged k.journal run same fits.journal;
-  tells = fits.tells;
-}
 
 -- ---- what no call changes of a station
 pub same_none : (m : Meaning) → IsSameStation m m

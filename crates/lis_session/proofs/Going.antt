@@ -1,5 +1,5 @@
 -- A session on the way, and how it ends.
-use Rattle.std.proofs.Common.{◌≡◌, ℕ, ◌≤◌, List, [], ◌∷◌, ◌++◌, length, Option, Some, None, Result, Ok, Err, ap, sym, subst, ◌∙◌, refl, inr, append_assoc}
+use Rattle.std.proofs.Common.{◌≡◌, ℕ, ◌≤◌, List, [], ◌∷◌, ◌++◌, length, Option, Some, None, Result, Ok, Err, ap, sym, subst, ◌∙◌, refl, inr}
 use Rattle.std.specs.Io.KnownBytes.{append_known}
 use Rattle.std.specs.Option.{IfSome}
 use Rattle.lis_ports.specs.Meaning.{Meaning}
@@ -21,10 +21,10 @@ use Rattle.lis_line.specs.Reading.{Reading, fresh, Says, asked_by}
 use Rattle.lis_line.proofs.Given.{ReadSoFar, read_none, script_front}
 use Rattle.lis_line.proofs.Answered.{ItemTaken, item_taken, all_taken, limit_taken, whole_taken}
 use Rattle.lis_session.specs.declared.end.End.{End}
-use Rattle.lis_session.specs.declared.end.End.TheVariants.{DiskFault, OutputFault, NoMemory}
+use Rattle.lis_session.specs.declared.end.End.TheVariants.{DiskFault, OutputFault}
 use Rattle.lis_session.specs.Session.{SessionMoment}
 use Rattle.lis_session.specs.Item.{FitsAt, OneItem, CarriesOut}
-use Rattle.lis_session.specs.Runs.{Carried, CarriedAll, CarriedToLimit, CarriedWhole, CarriedFirst, StopsAt, Serves}
+use Rattle.lis_session.specs.Runs.{Carried, CarriedAll, CarriedToLimit, CarriedWhole, StopsAt, Serves}
 use Rattle.lis_session.proofs.Laws.{limits_after, last_reply, last_situation}
 use Rattle.lis_session.proofs.Moments.{moment_in, moment_more, session_on, session_more}
 
@@ -249,19 +249,4 @@ ends_output {limit = limit} {place_before = place_before} {old = old} {new = new
       moment = always_weaken _ said.2.fitting.stands (λ image stands.
           subst (λ items. SessionMoment start items image bytes) (sym stop.all)
           (moment_more start (read.first ++ read.taken.item ∷ []) stop.others image bytes (moment_in start read.first read.taken.item image said.0 (inr (said.1, stands)))));
-    })
-
--- want of memory
-pub ends_memory : {limit : ℕ} {left_before left : Option (List ℕ)} {reading : Reading} {place_before : List Formula} {fits_before : State → Type 0} {old mid new : Meaning} {fits : State → Type 0} {place : List Formula} {asked : Option Item} (fits_after : State → Type 0) (place_after : List Formula) (input : List ℕ) (state : State)
-    → ItemRead limit left_before left reading place_before fits_before old mid fits place asked → left_before ≡ Some input
-    → IfSome asked (CarriesOut fits place mid new (Err NoMemory) fits_after place_after) → FitsAt fits_before old state
-    → Serves (record { state = state; place = place_before }) (script input limit) old new (CarriedFirst (record { state = state; place = place_before }) (script input limit) old.shown new)
-ends_memory {limit = limit} {place_before = place_before} {old = old} {new = new} fits_after place_after input state read told carried fitting =
-    let start : Situation = record { state = state; place = place_before } in
-    let stop = stopped (Err NoMemory) fits_after place_after input state read told carried fitting in
-    serves_stopped (CarriedFirst start (script input limit) old.shown new) stop (record {
-      first = read.first;
-      others = read.taken.item ∷ stop.others;
-      all = stop.all ∙ append_assoc read.first (read.taken.item ∷ []) stop.others;
-      carried = record { shown = stop.one.ended.0 ∙ stop.done.shown; stands = stop.one.ended.1.stands };
     })

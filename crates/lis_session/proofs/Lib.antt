@@ -8,4 +8,6 @@ pub mod Pieces
 pub mod Blocks
 pub mod Going
 pub mod Whole
+pub mod InTurn
+mod TextWords
 mod Examples

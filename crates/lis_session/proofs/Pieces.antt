@@ -1,5 +1,5 @@
 -- A piece of a reply that is shown with reads of the disk between its shows.
-use Rattle.std.proofs.Common.{◌≡◌, ℕ, List, ◌++◌, Result, Ok, Err, ap, sym, subst, ◌∙◌, refl, inl, inr}
+use Rattle.std.proofs.Common.{◌≡◌, ℕ, List, ◌++◌, Result, Ok, Err, ap, sym, subst, ◌∙◌, inl, inr}
 use Rattle.std.specs.Io.KnownBytes.{append_known}
 use Rattle.lis_ports.specs.Meaning.{Meaning}
 use Rattle.lis_ports.specs.Runs.{Adds}
@@ -11,7 +11,7 @@ use Rattle.lis_model.specs.State.{State}
 use Rattle.lis_model.specs.Step.{Situation, Outcome}
 use Rattle.lis_store.specs.Stands.{Stands}
 use Rattle.lis_session.specs.declared.end.End.{End}
-use Rattle.lis_session.specs.declared.end.End.TheVariants.{DiskFault, OutputFault, NoMemory}
+use Rattle.lis_session.specs.declared.end.End.TheVariants.{DiskFault, OutputFault}
 use Rattle.lis_session.specs.Session.{root_of}
 use Rattle.lis_session.specs.Item.{InItem, FitsAt, OneItem}
 use Rattle.lis_session.specs.Parts.{only_shows}
@@ -56,14 +56,14 @@ module _ {before : Situation} {outcome : Outcome} {old now : Meaning} {fits : St
     }
 
     -- it was not
-    pub piece_broke : (place_after : List Formula) (end : End) → (end ≡ NoMemory → ⊥) → ShowsPiece before.state piece now next (Err end) fits_next place
+    pub piece_broke : (place_after : List Formula) (end : End) → place_after ≡ outcome.next.place → ShowsPiece before.state piece now next (Err end) fits_next place
         → OneItem before outcome old next (Err end) fits_next place_after
-    piece_broke place_after DiskFault some item = record {
+    piece_broke place_after DiskFault at item = record {
       moments = piece_moments item;
       past = λ n le. item.past n le ∙ so_far.past n le;
       ended = tt;
     }
-    piece_broke place_after OutputFault some item = record {
+    piece_broke place_after OutputFault at item = record {
       moments = piece_moments item;
       past = λ n le. item.past n le ∙ so_far.past n le;
       ended = (
@@ -73,6 +73,6 @@ module _ {before : Situation} {outcome : Outcome} {old now : Meaning} {fits : St
           shown = front_shown next item.ended.0 item.ended.2.shown;
           fitting = subst (λ s. FitsAt fits_next next s) (sym same) item.ended.2.fitting;
         },
+        at,
       );
     }
-    piece_broke place_after NoMemory some item = absurd (some refl)

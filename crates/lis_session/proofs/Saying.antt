@@ -15,7 +15,7 @@ use Rattle.lis_model.specs.Image.{image_blocks}
 use Rattle.lis_model.specs.State.{State}
 use Rattle.lis_model.specs.Step.{Situation, Outcome}
 use Rattle.lis_store.specs.Stands.{Stands}
-use Rattle.lis_session.specs.declared.end.End.TheVariants.{DiskFault, OutputFault, NoMemory}
+use Rattle.lis_session.specs.declared.end.End.TheVariants.{DiskFault, OutputFault}
 use Rattle.lis_session.specs.Item.{InItem, FitsAt, OneItem}
 use Rattle.lis_session.proofs.Moments.{begins_nothing, begins_trans, front_begins, since_later}
 
@@ -127,9 +127,9 @@ said_all {before = before} {outcome = outcome} {old = old} {now = now} {fits = f
 
 -- a show failed
 pub show_broke : {E : Type 0} {before : Situation} {outcome : Outcome} {old now next : Meaning} {fits : State → Type 0} {said piece : List ℕ} {failed : E} (fits_next : State → Type 0) (place : List Formula)
-    → SaidSoFar before outcome old now fits said → IsShowRun {T = Unit {0}} now next piece (Err failed) → Begins (said ++ piece) outcome.reply → fits_next outcome.next.state
+    → SaidSoFar before outcome old now fits said → IsShowRun {T = Unit {0}} now next piece (Err failed) → Begins (said ++ piece) outcome.reply → fits_next outcome.next.state → place ≡ outcome.next.place
     → OneItem before outcome old next (Err OutputFault) fits_next place
-show_broke {E} {before = before} {outcome = outcome} {old = old} {now = now} {next = next} {said = said} {piece = piece} {failed = failed} fits_next place so_far run begins own =
+show_broke {E} {before = before} {outcome = outcome} {old = old} {now = now} {next = next} {said = said} {piece = piece} {failed = failed} fits_next place so_far run begins own at =
     let front = front_begins now.shown next.shown piece run.shown in
     record {
       moments = show_moments piece (Err failed) so_far run begins;
@@ -141,6 +141,7 @@ show_broke {E} {before = before} {outcome = outcome} {old = old} {now = now} {ne
           shown = front.2 ∙ ap (λ known. append_known known front.0) so_far.shown ∙ append_known-append old.shown said front.0;
           fitting = shown_fits fits_next outcome.next.state so_far.fitting run.call own;
         },
+        at,
       );
     }
 
@@ -161,13 +162,4 @@ change_broke before outcome fits place change past = record {
   moments = quiet_moments before outcome change;
   past = past;
   ended = tt;
-}
-
--- there was no memory, and nothing happened
-pub memory_broke : {old new : Meaning} {fits : State → Type 0} (before : Situation) (outcome : Outcome) (place : List Formula) → Leaves old new (OldOrNext before outcome)
-    → KeepsPast (image_blocks before.state.limits) old new → FitsAt fits new before.state → place ≡ before.place → OneItem before outcome old new (Err NoMemory) fits place
-memory_broke before outcome place change past fitting at = record {
-  moments = quiet_moments before outcome change;
-  past = past;
-  ended = (change.run.shown, fitting, at);
 }

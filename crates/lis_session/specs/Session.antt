@@ -1,9 +1,12 @@
 -- What a stop may leave of a session over an image.
-use Rattle.std.specs.Prelude.{◌≡◌, ◌⊎◌, ℕ, ◌+◌, ◌-◌, ◌≤◌, ◌<◌, List, [], length, take}
+use Rattle.std.specs.Prelude.{◌≡◌, ◌⊎◌, ℕ, ◌+◌, ◌-◌, ◌≤◌, ◌<◌, List, [], length, take, refl}
+use Rattle.std.specs.Coded.{Coded, code_by, coded×, coded_list}
 use Rattle.lis_ports.specs.Meaning.{Meaning, Now}
 use Rattle.lis_ports.specs.Since.{Begins, Since}
 use Rattle.lis_grammar.specs.Formula.{Formula}
+use Rattle.lis_grammar.specs.Codes.{formula_code}
 use Rattle.lis_model.specs.declared.limits.Limits.{Limits}
+use Rattle.lis_model.specs.Codes.{limits_code}
 use Rattle.lis_model.specs.State.{State}
 use Rattle.lis_model.specs.Step.{Situation, Item, replies, situation_after}
 use Rattle.lis_store.specs.Stands.{Stands}
@@ -12,6 +15,11 @@ use Rattle.lis_store.specs.Stands.{Stands}
 pub record Situated : Type 0 where
   pub place : List Formula
   pub limits : Limits
+
+abbrev pub situated_code : Coded Situated
+situated_code =
+    code_by (List Formula × Limits) (coded× (coded_list formula_code) limits_code) (λ s. (s.place, s.limits)) (λ p. record { place = p.0; limits = p.1 })
+    (λ _. refl)
 
 -- a state, with the root as the place
 abbrev pub root_of : State → Situation

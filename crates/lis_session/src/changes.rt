@@ -15,6 +15,7 @@ use lis_model::command::Tags;
 use lis_place::Place;
 use lis_ports::Station;
 use lis_store::Store;
+use lis_store::laws::create_is_add;
 use lis_words::{Name, Word};
 
 /// Declares the word.
@@ -53,6 +54,8 @@ pub fn create<T: Station>(
     ensures ends { Ends (T.meaning station.old) (T.meaning station.new) result }
     ensures left { StoreLeft store.old store.new result }
 {
+    // To create a file is to add one without bytes.
+    create_is_add();
     let changed = store.add_file(station, scratch, place, name, tags, &[], 0);
     conclude(store, station, changed)
 }

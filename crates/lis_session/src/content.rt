@@ -7,7 +7,7 @@ ghost use Rattle.lis_catalog.specs.Catalog.{slot_of, rec_at};
 ghost use Rattle.lis_fields.specs.Records.{FileRecord};
 ghost use Rattle.lis_model.specs.Changes.{file_of};
 ghost use Rattle.lis_model.specs.Step.{cat};
-ghost use Rattle.lis_store.specs.Stored.{StoreFits};
+ghost use Rattle.lis_store.specs.Stored.{IsSound, StoreFits};
 ghost use Rattle.lis_session.specs.Parts.{only_shows, Does, Ends};
 
 use crate::end::End;
@@ -31,6 +31,7 @@ fn show_block<T: Station>(
     block: &mut [u8],
     station: &mut T,
 ) -> Result<(), End>
+    requires sound { IsSound store.now }
     requires size { IsSomeAnd (rec_at store.now.parts.catalog slot) (λ (rec : FileRecord). size ≡ rec.size) }
     requires within { 4096 * n < size }
     requires whole { length block.old ≡ 4096 }
@@ -51,6 +52,7 @@ fn show_block<T: Station>(
 
 // Shows the bytes of the file in the slot, block by block.
 fn show_content<T: Station>(store: &Store, slot: u16, size: u32, station: &mut T) -> Result<(), End>
+    requires sound { IsSound store.now }
     requires size { IsSomeAnd (rec_at store.now.parts.catalog slot) (λ (rec : FileRecord). size ≡ rec.size) }
     requires unbroken { store.now.is_broken ≡ false }
     requires long { 4096 * store.now.journal.blocks ≤ (T.meaning station.old).len }

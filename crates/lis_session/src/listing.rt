@@ -30,7 +30,7 @@ fn answer_shown<T: Station>(station: &mut T, line: &Line) -> Result<(), End>
 
 // Shows the lines that are left, one by one.
 fn answer_lines<T: Station>(mut listing: Listing<'_, Store>, station: &mut T) -> Result<(), End>
-    ensures { Answers (T.meaning station.old) (T.meaning station.new) (flat_map shown_line listing) result }
+    ensures { Answers (T.meaning station.old) (T.meaning station.new) (flat_map shown_line listing.entry) result }
 {
     while let Some(line) = listing.next() {
         answer_shown(station, &line)?;

@@ -1,6 +1,7 @@
 //! A session over an image: a place, and one item after another.
 
 ghost use Rattle.std.specs.Prelude.{◌≡◌, ◌*◌, ◌≤◌, [], false, IsTrue, IfOk, IfSome, IsSome};
+ghost use Rattle.lis_eval.specs.Room.{HasRoom};
 ghost use Rattle.lis_line.specs.Reading.{asked_by};
 ghost use Rattle.lis_model.specs.Ranges.{are_in_range};
 ghost use Rattle.lis_model.specs.Step.{refused, cd, pwd, done};
@@ -34,9 +35,11 @@ pub struct Session {
 
 impl Model for Session {
     ghost use Rattle.lis_eval.specs.Room.{HasRoom};
-    ghost use Rattle.lis_session.specs.Session.{Situated};
+    ghost use Rattle.lis_session.specs.Session.{Situated, situated_code};
 
     ghost Value = { Situated };
+
+    ghost coded = { situated_code };
 
     ghost view = { λ s. record { place = s.place; limits = s.scratch.limits } };
 
@@ -84,12 +87,7 @@ fn pwd<T: Station>(place: &Place, station: &mut T) -> Result<(), End>
 }
 
 // Goes to the place to which the text leads.
-fn cd<T: Station>(
-    store: &Store,
-    place: &mut Place,
-    text: &Text,
-    station: &mut T,
-) -> Result<(), End>
+fn cd<T: Station>(store: &Store, place: &mut Place, text: &Text, station: &mut T) -> Result<(), End>
     ensures carries { Does (λ now. cd now text.now) (StoreFits store.now (T.meaning station.old)) place.old
         (T.meaning station.old) (T.meaning station.new) result (StoreFits store.now (T.meaning station.new)) place.new }
     ensures ends { Ends (T.meaning station.old) (T.meaning station.new) result }
@@ -103,47 +101,47 @@ fn cd<T: Station>(
     }
 }
 
-impl Session {
-    fn carry_out<T: Station>(
-        &mut self,
-        store: &mut Store,
-        command: &Command,
-        payload: &Payload,
-        station: &mut T,
-    ) -> Result<(), End>
-        requires limits { self.old.limits ≡ store.old.parts.limits }
-        requires unbroken { store.old.is_broken ≡ false }
-        requires long { 4096 * store.old.journal.blocks ≤ (T.meaning station.old).len }
-        ensures carries { Does (λ now. done now command.now payload.now) (StoreFits store.old (T.meaning station.old)) self.old.place
-            (T.meaning station.old) (T.meaning station.new) result (StoreFits store.new (T.meaning station.new)) self.new.place }
-        ensures ends { Ends (T.meaning station.old) (T.meaning station.new) result }
-        ensures left { StoreLeft store.old store.new result }
-        ensures limits { self.new.limits ≡ self.old.limits }
-    {
-        let place = &mut self.place;
-        let scratch = &mut self.scratch;
-        match command {
-            Command::Mkdir(word) => mkdir(store, place, word, station),
-            Command::Create(name, tags) => create(store, scratch, place, name, tags, station),
-            Command::Add(name, tags) => add(store, scratch, place, name, tags, payload, station),
-            Command::Rm(name) => rm(store, scratch, place, name, station),
-            Command::Cat(name) => cat(store, scratch, place, name, station),
-            Command::Cd(text) => cd(store, place, text, station),
-            Command::Pwd => pwd(place, station),
-            Command::Ls => ls(store, scratch, place, station),
-            // They have not come.
-            Command::Rmdir(_)
-            | Command::Axiom(_, _)
-            | Command::Unaxiom(_, _)
-            | Command::Write(_)
-            | Command::Mv(_, _)
-            | Command::Rename(_, _)
-            | Command::Props(_)
-            | Command::Way(_)
-            | Command::Stat => refuse(place, &Refusal::BadLine, station),
-        }
+// Carries out a command.
+fn carry_out<T: Station>(
+    store: &mut Store,
+    scratch: &mut Scratch,
+    place: &mut Place,
+    command: &Command,
+    payload: &Payload,
+    station: &mut T,
+) -> Result<(), End>
+    requires scratch { HasRoom scratch.old store.old.parts.limits }
+    requires unbroken { store.old.is_broken ≡ false }
+    requires long { 4096 * store.old.journal.blocks ≤ (T.meaning station.old).len }
+    ensures scratch { HasRoom scratch.new store.old.parts.limits }
+    ensures carries { Does (λ now. done now command.now payload.now) (StoreFits store.old (T.meaning station.old)) place.old
+        (T.meaning station.old) (T.meaning station.new) result (StoreFits store.new (T.meaning station.new)) place.new }
+    ensures ends { Ends (T.meaning station.old) (T.meaning station.new) result }
+    ensures left { StoreLeft store.old store.new result }
+{
+    match command {
+        Command::Mkdir(word) => mkdir(store, place, word, station),
+        Command::Create(name, tags) => create(store, scratch, place, name, tags, station),
+        Command::Add(name, tags) => add(store, scratch, place, name, tags, payload, station),
+        Command::Rm(name) => rm(store, scratch, place, name, station),
+        Command::Cat(name) => cat(store, scratch, place, name, station),
+        Command::Cd(text) => cd(store, place, text, station),
+        Command::Pwd => pwd(place, station),
+        Command::Ls => ls(store, scratch, place, station),
+        // They have not come.
+        Command::Rmdir(_)
+        | Command::Axiom(_, _)
+        | Command::Unaxiom(_, _)
+        | Command::Write(_)
+        | Command::Mv(_, _)
+        | Command::Rename(_, _)
+        | Command::Props(_)
+        | Command::Way(_)
+        | Command::Stat => refuse(place, &Refusal::BadLine, station),
     }
+}
 
+impl Session {
     /// Carries out one item over the store, and shows its reply.
     pub fn step<T: Station>(
         &mut self,
@@ -165,7 +163,14 @@ impl Session {
         ensures limits { self.new.limits ≡ self.old.limits }
     {
         match item {
-            Item::Command(command) => self.carry_out(store, command, payload, station),
+            Item::Command(command) => carry_out(
+                store,
+                &mut self.scratch,
+                &mut self.place,
+                command,
+                payload,
+                station,
+            ),
             Item::Bad(refusal) => answer_refusal(station, refusal),
             Item::End | Item::Limit => unreachable!(),
         }

@@ -3,31 +3,31 @@ use Rattle.lis_model.specs.declared.refusal.Refusal.TheVariants.{BadLine}
 use Rattle.lis_model.specs.declared.command.Command.{Command}
 use Rattle.lis_model.specs.Step.{Situation, Outcome, refused, done}
 use Rattle.lis_session.specs.Item.{OneItem}
-use Rattle.lis_store.specs.Kept.{StoreFits}
-use Rattle.lis_session.proofs.session.Session.carry_out.Goals as goal
+use Rattle.lis_store.specs.Stored.{StoreFits}
+use Rattle.lis_session.proofs.session.carry_out.Goals as goal
 
 pub returns-in-Create-clause-carries : goal.returns-in-Create-clause-carries
-returns-in-Create-clause-carries g c = rw c.in-Create.is (rw c.self-in-Create.view_is at c.create.ensures.carries)
+returns-in-Create-clause-carries g c = rw c.in-Create.is c.create.ensures.carries
 
 pub returns-in-Add-clause-carries : goal.returns-in-Add-clause-carries
-returns-in-Add-clause-carries g c = rw c.in-Add.is (rw c.self-in-Add.view_is at c.add.ensures.carries)
+returns-in-Add-clause-carries g c = rw c.in-Add.is c.add.ensures.carries
 
 pub returns-in-Rm-clause-carries : goal.returns-in-Rm-clause-carries
-returns-in-Rm-clause-carries g c = rw c.in-Rm.is (rw c.self-in-Rm.view_is at c.rm.ensures.carries)
+returns-in-Rm-clause-carries g c = rw c.in-Rm.is c.rm.ensures.carries
 
 pub returns-in-Cat-clause-carries : goal.returns-in-Cat-clause-carries
-returns-in-Cat-clause-carries g c = rw c.in-Cat.is (rw c.self-in-Cat.view_is at c.cat.ensures.carries)
+returns-in-Cat-clause-carries g c = rw c.in-Cat.is c.cat.ensures.carries
 
 pub returns-in-Ls-clause-carries : goal.returns-in-Ls-clause-carries
-returns-in-Ls-clause-carries g c = rw c.in-Ls.is (rw c.self-in-Ls.view_is at c.ls.ensures.carries)
+returns-in-Ls-clause-carries g c = rw c.in-Ls.is c.ls.ensures.carries
 
 pub returns-in-Pwd-clause-carries : goal.returns-in-Pwd-clause-carries
-returns-in-Pwd-clause-carries g c = rw c.in-Pwd.is (rw c.self-in-Pwd.view_is at (c.pwd.ensures.carries c.args.store.now))
+returns-in-Pwd-clause-carries g c = rw c.in-Pwd.is (c.pwd.ensures.carries c.args.store.now)
 
 -- a command that has not come is refused as a bad line
 pub returns-in-Rmdir-clause-carries : goal.returns-in-Rmdir-clause-carries
 returns-in-Rmdir-clause-carries g c = λ state fitting.
-    let now : Situation = record { state = state; place = c.args.self.now } in
+    let now : Situation = record { state = state; place = c.args.place.now } in
     let is : done now c.args.command.now c.args.payload.now ≡ refused now BadLine = elim c.in-Rmdir.is [
       | inl a ↦ ap (λ (d : Command). done now d c.args.payload.now) a.1
       | inr a ↦ elim a [
@@ -53,9 +53,9 @@ returns-in-Rmdir-clause-carries g c = λ state fitting.
         ]
       ]
     ] in
-    let carried = rw c.self-in-Rmdir.view_is at (c.refuse.ensures.carries c.args.store.now) in
-    subst (λ (o : Outcome). OneItem now o (g.T.Disk.meaning c.args.station.now) (g.T.Disk.meaning c.refuse.new.station) c.refuse.result (StoreFits c.args.store.now (g.T.Disk.meaning c.refuse.new.station)) c.args.self.now)
+    let carried = c.refuse.ensures.carries c.args.store.now in
+    subst (λ (o : Outcome). OneItem now o (g.T.Disk.meaning c.args.station.now) (g.T.Disk.meaning c.refuse.new.station) c.refuse.result (StoreFits c.args.store.now (g.T.Disk.meaning c.refuse.new.station)) c.args.place.now)
     (sym is) (carried state fitting)
 
 pub returns-in-Mkdir-clause-carries : goal.returns-in-Mkdir-clause-carries
-returns-in-Mkdir-clause-carries g c = rw c.in-Mkdir.is (rw c.self.view_is at c.mkdir.ensures.carries)
+returns-in-Mkdir-clause-carries g c = rw c.in-Mkdir.is c.mkdir.ensures.carries

@@ -1,0 +1,85 @@
+-- Pieces of a reply that are shown in turn, and lines of a listing.
+use Rattle.std.proofs.Common.{◌≡◌, ℕ, List, [], ◌∷◌, ◌++◌, map, Result, Ok, Err, refl, ap, sym, subst, ◌∙◌, append_assoc, append-nil, arith}
+use Rattle.std.specs.List.{flat_map}
+use Rattle.lis_ports.specs.Meaning.{Meaning}
+use Rattle.lis_ports.proofs.Moments.{adds_none}
+use Rattle.lis_reply.proofs.Showing.{append_known-nil, call_none, show_front, show_then}
+use Rattle.lis_grammar.specs.Formula.{Formula}
+use Rattle.lis_model.specs.Replies.{body_line, listing_lines}
+use Rattle.lis_model.specs.Table.{Table, Entry}
+use Rattle.lis_model.specs.Listing.{increments, locals}
+use Rattle.lis_incr.specs.Lines.{lines_of, listing}
+use Rattle.lis_incr.specs.declared.listing.Line.{Line}
+use Rattle.lis_incr.specs.declared.listing.Line.TheVariants.{File}
+use Rattle.lis_session.specs.declared.end.End.{End}
+use Rattle.lis_session.specs.Parts.{shown_line, Answers}
+
+-- two pieces
+pub answers_then : {a b c : Meaning} (first more : List ℕ) (u : Unit {0}) (result : Result (Unit {0}) End) → Answers a b first (Ok u) → Answers b c more result
+    → Answers a c (first ++ more) result
+answers_then first more u result front next = record {
+  run = show_then first more (first ++ more) (Ok u) result front.run u refl next.run refl;
+  fault = next.fault;
+}
+
+-- the first of them was not shown whole
+pub answers_front : {a b : Meaning} (first more : List ℕ) (end : End) → Answers a b first (Err end) → Answers a b (first ++ more) (Err end)
+answers_front first more end front = record {
+  run = show_front first more (first ++ more) (Err end) (Err end) front.run end refl refl refl;
+  fault = front.fault;
+}
+
+-- no piece
+pub answers_none : (m : Meaning) → Answers m m [] (Ok tt)
+answers_none m = record {
+  run = record {
+    call = call_none m;
+    cause = record { later = omega arith; stays = refl; rose = tt };
+    shown = sym (append_known-nil m.shown);
+    moments = λ honest. adds_none m _;
+  };
+  fault = tt;
+}
+
+-- ---- lines
+-- what a loop over the lines keeps: so much was shown, and these lines are left
+pub record LinesSoFar (all left : List Line) (old now : Meaning) : Type 0 where
+  pub said : List ℕ
+  pub answers : Answers old now said (Ok tt)
+  pub is : flat_map shown_line all ≡ said ++ flat_map shown_line left
+
+pub lines_none : (all : List Line) (m : Meaning) → LinesSoFar all all m m
+lines_none all m = record { said = []; answers = answers_none m; is = refl }
+
+pub lines_more : {all left rest : List Line} {old now next : Meaning} (line : Line) (u : Unit {0}) → LinesSoFar all left old now → left ≡ line ∷ rest → Answers now next (shown_line line) (Ok u)
+    → LinesSoFar all rest old next
+lines_more {rest = rest} line u so_far next answers = record {
+  said = so_far.said ++ shown_line line;
+  answers = answers_then so_far.said (shown_line line) tt (Ok tt) so_far.answers answers;
+  is = so_far.is ∙ ap (λ lines. so_far.said ++ flat_map shown_line lines) next ∙ sym (append_assoc so_far.said (shown_line line) (flat_map shown_line rest));
+}
+
+pub lines_broke : {all left rest : List Line} {old now next : Meaning} (line : Line) (end : End) → LinesSoFar all left old now → left ≡ line ∷ rest → Answers now next (shown_line line) (Err end)
+    → Answers old next (flat_map shown_line all) (Err end)
+lines_broke {rest = rest} {old = old} {next = after} line end so_far next answers =
+    let front = answers_front (shown_line line) (flat_map shown_line rest) end answers in
+    subst (λ bytes. Answers old after bytes (Err end)) (sym (so_far.is ∙ ap (λ lines. so_far.said ++ flat_map shown_line lines) next))
+    (answers_then so_far.said (flat_map shown_line (line ∷ rest)) tt (Err end) so_far.answers front)
+
+pub lines_all : {all left : List Line} {old now : Meaning} → LinesSoFar all left old now → left ≡ [] → Answers old now (flat_map shown_line all) (Ok tt)
+lines_all {old = old} {now = now} so_far none =
+    subst (λ bytes. Answers old now bytes (Ok tt)) (sym (so_far.is ∙ ap (λ lines. so_far.said ++ flat_map shown_line lines) none ∙ append-nil so_far.said)) so_far.answers
+
+names_shown : (files : List Entry) → flat_map shown_line (map (λ name. File name) (map (λ (e : Entry). e.name) files)) ≡ flat_map (λ (e : Entry). body_line 102 e.name) files
+names_shown [] = refl
+names_shown (e ∷ files) = ap (λ bytes. body_line 102 e.name ++ bytes) (names_shown files)
+
+-- the lines are those of the reply
+lines_shown : (words : List (List ℕ)) (files : List Entry) → flat_map shown_line (lines_of words (map (λ (e : Entry). e.name) files)) ≡ listing_lines words files
+lines_shown [] files = names_shown files
+lines_shown (word ∷ words) files =
+    ap (λ bytes. body_line 100 word ++ bytes) (lines_shown words files)
+    ∙ sym (append_assoc (body_line 100 word) (flat_map (body_line 100) words) (flat_map (λ (e : Entry). body_line 102 e.name) files))
+
+pub listing_shown : (t : Table) (place : List Formula) (lines : List Line) → lines ≡ listing t place → flat_map shown_line lines ≡ listing_lines (increments t place) (locals t place)
+listing_shown t place lines is = ap (flat_map shown_line) is ∙ lines_shown (increments t place) (locals t place)
