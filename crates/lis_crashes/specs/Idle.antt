@@ -1,5 +1,6 @@
--- What the tests know of a journal between two commits.
-use Rattle.std.specs.Prelude.{◌≡◌, ℕ, false, []}
+-- What the tests know of a journal between two calls, and of its disk.
+use Rattle.std.specs.Prelude.{◌≡◌, ◌≤◌, ℕ, false, [], length}
+use Rattle.lis_ports.specs.Meaning.{Meaning}
 use Rattle.lis_journal.specs.Journal.{Held}
 
 -- a journal of so many blocks, with nothing staged and nothing placed
@@ -8,3 +9,15 @@ pub record IsIdle (blocks : ℕ) (journal : Held) : Type 0 where
   pub staged : journal.staged ≡ []
   pub placed : journal.placed ≡ []
   pub unbroken : journal.is_broken ≡ false
+
+-- the same, with so many blocks staged at most
+pub record HasStaged (blocks most : ℕ) (journal : Held) : Type 0 where
+  pub blocks_are : journal.blocks ≡ blocks
+  pub staged : length journal.staged ≤ most
+  pub placed : journal.placed ≡ []
+  pub unbroken : journal.is_broken ≡ false
+
+-- the disk is as long as before, and its moments are told as before
+pub record IsSameDisk (old new : Meaning) : Type 0 where
+  pub len : new.len ≡ old.len
+  pub recorded : new.is_recorded ≡ old.is_recorded

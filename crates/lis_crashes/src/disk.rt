@@ -1,8 +1,8 @@
 //! A disk of 594 zero blocks, whose first and last home block are committed, and what a mount after a crash reads of them.
 
-ghost use Rattle.std.specs.Prelude.{[], ◌≡◌, ◌*◌, ◌<◌, ◌≤◌, length, false, IfOk, OnOk, IsTrue};
+ghost use Rattle.std.specs.Prelude.{[], ◌≡◌, ◌*◌, ◌+◌, ◌<◌, ◌≤◌, length, false, IfOk, OnOk, IsTrue};
 ghost use Rattle.lis_memdisk.specs.MemStation.{meaning_of};
-ghost use Rattle.lis_crashes.specs.Idle.{IsIdle};
+ghost use Rattle.lis_crashes.specs.Idle.{IsIdle, HasStaged, IsSameDisk};
 
 use lis_journal::{BLOCK_LEN, Journal};
 use lis_memdisk::MemStation;
@@ -13,11 +13,11 @@ pub const BLOCKS: u32 = 594;
 
 pub const DISK_LEN: usize = 2_433_024;
 
-pub const FIRST: u32 = 578;
+const FIRST: u32 = 578;
 
-pub const LAST: u32 = 593;
+const LAST: u32 = 593;
 
-pub const ROOM: u64 = 1 << 20;
+const ROOM: u64 = 1 << 20;
 
 pub fn zeros(alloc: Global) -> Result<Vec<u8>, AllocError>
     ensures { IfOk result (λ zeros. length zeros.items ≡ 2433024) }
@@ -25,37 +25,91 @@ pub fn zeros(alloc: Global) -> Result<Vec<u8>, AllocError>
     vec![in alloc; 0; DISK_LEN]
 }
 
-/// Commits a block that is filled with a byte.
+fn opened(alloc: Global, disk: &mut MemStation) -> Result<Journal, Fail>
+    requires long { 2433024 ≤ (meaning_of disk.old).len }
+    ensures idle { IfOk result (λ journal. IsIdle 594 journal) }
+    ensures same { IsSameDisk (meaning_of disk.old) (meaning_of disk.new) }
+{
+    Ok(Journal::mount(alloc, disk, BLOCKS)?)
+}
+
+/// The journal of a disk of these bytes.
+pub fn mounted(alloc: Global, image: &[u8]) -> Result<(MemStation, Journal), Fail>
+    requires { length image.now ≡ 2433024 }
+    ensures idle { IfOk result (λ made. IsIdle 594 made.1) }
+    ensures long { IfOk result (λ made. (meaning_of made.0).len ≡ 2433024) }
+    ensures recorded { IfOk result (λ made. IsTrue (meaning_of made.0).is_recorded) }
+{
+    let mut disk = MemStation::new(alloc, image, ROOM)?;
+    let journal = opened(alloc, &mut disk)?;
+    Ok((disk, journal))
+}
+
+// Stages a block that is filled with a byte.
+fn stage(alloc: Global, journal: &mut Journal, n: u32, fill: Option<u8>) -> Result<(), AllocError>
+    requires home { 578 ≤ n }
+    requires within { n < 594 }
+    requires ready { HasStaged 594 1 journal.old }
+    ensures ready { HasStaged 594 (length journal.old.staged + 1) journal.new }
+{
+    if let Some(fill) = fill {
+        journal.stage(n, &vec![in alloc; fill; BLOCK_LEN]?);
+    }
+    Ok(())
+}
+
+/// Commits the first and the last home block, each filled with a byte, where one is given. Answers whether the disk failed.
+pub fn commit(
+    alloc: Global,
+    disk: &mut MemStation,
+    journal: &mut Journal,
+    fills: [Option<u8>; 2],
+) -> Result<bool, AllocError>
+    requires idle { IsIdle 594 journal.old }
+    requires long { 2433024 ≤ (meaning_of disk.old).len }
+    ensures idle { IfOk result (λ has_failed. has_failed ≡ false → IsIdle 594 journal.new) }
+    ensures same { IsSameDisk (meaning_of disk.old) (meaning_of disk.new) }
+{
+    stage(alloc, journal, FIRST, fills[0])?;
+    stage(alloc, journal, LAST, fills[1])?;
+    Ok(journal.commit(disk).is_err())
+}
+
+/// The same on a disk that does not fail.
 pub fn keep(
     alloc: Global,
     disk: &mut MemStation,
     journal: &mut Journal,
-    n: u32,
-    fill: u8,
+    fills: [Option<u8>; 2],
 ) -> Result<(), Fail>
-    requires home { 578 ≤ n }
-    requires within { n < 594 }
     requires idle { IsIdle 594 journal.old }
     requires long { 2433024 ≤ (meaning_of disk.old).len }
     ensures idle { OnOk result (IsIdle 594 journal.new) }
-    ensures len { (meaning_of disk.new).len ≡ (meaning_of disk.old).len }
-    ensures recorded { (meaning_of disk.new).is_recorded ≡ (meaning_of disk.old).is_recorded }
+    ensures same { IsSameDisk (meaning_of disk.old) (meaning_of disk.new) }
 {
-    let block = vec![in alloc; fill; BLOCK_LEN]?;
-    journal.stage(n, &block);
-    journal.commit(disk)?;
+    if commit(alloc, disk, journal, fills)? {
+        return Err("the commit failed".into());
+    }
     Ok(())
 }
 
-/// The byte that fills a block.
-pub fn fill_of(alloc: Global, disk: &mut MemStation, journal: &Journal, n: u32) -> Result<u8, Fail>
+/// Places a block of nines over the first home block.
+pub fn place_nines(alloc: Global, disk: &mut MemStation, journal: &mut Journal) -> Result<(), Fail>
+    requires idle { IsIdle 594 journal.old }
+    requires long { 2433024 ≤ (meaning_of disk.old).len }
+    ensures same { IsSameDisk (meaning_of disk.old) (meaning_of disk.new) }
+{
+    journal.place(disk, FIRST, &vec![in alloc; 9; BLOCK_LEN]?)?;
+    Ok(())
+}
+
+// The byte that fills a block.
+fn fill_of(alloc: Global, disk: &mut MemStation, journal: &Journal, n: u32) -> Result<u8, Fail>
     requires home { 578 ≤ n }
     requires within { n < 594 }
-    requires blocks { journal.now.blocks ≡ 594 }
-    requires unbroken { journal.now.is_broken ≡ false }
+    requires idle { IsIdle 594 journal.now }
     requires long { 2433024 ≤ (meaning_of disk.old).len }
-    ensures len { (meaning_of disk.new).len ≡ (meaning_of disk.old).len }
-    ensures recorded { (meaning_of disk.new).is_recorded ≡ (meaning_of disk.old).is_recorded }
+    ensures same { IsSameDisk (meaning_of disk.old) (meaning_of disk.new) }
 {
     let mut block = vec![in alloc; 1; BLOCK_LEN]?;
     journal.read(disk, n, &mut block)?;
@@ -67,14 +121,14 @@ pub fn fill_of(alloc: Global, disk: &mut MemStation, journal: &Journal, n: u32) 
     }
 }
 
-/// The bytes that fill the first and the last home block after a mount on an image.
-pub fn fills_after(alloc: Global, image: &[u8]) -> Result<[u8; 2], Fail>
-    requires { length image.now ≡ 2433024 }
+/// The bytes that fill the first and the last home block.
+pub fn fills_of(alloc: Global, disk: &mut MemStation, journal: &Journal) -> Result<[u8; 2], Fail>
+    requires idle { IsIdle 594 journal.now }
+    requires long { 2433024 ≤ (meaning_of disk.old).len }
+    ensures same { IsSameDisk (meaning_of disk.old) (meaning_of disk.new) }
 {
-    let mut disk = MemStation::new(alloc, image, 0)?;
-    let journal = Journal::mount(alloc, &mut disk, BLOCKS)?;
-    let first = fill_of(alloc, &mut disk, &journal, FIRST)?;
-    let last = fill_of(alloc, &mut disk, &journal, LAST)?;
+    let first = fill_of(alloc, disk, journal, FIRST)?;
+    let last = fill_of(alloc, disk, journal, LAST)?;
     Ok([first, last])
 }
 
@@ -93,16 +147,18 @@ pub fn image_after(alloc: Global, disk: &MemStation, call: u64, pick: u8) -> Res
     Ok(image)
 }
 
-/// What a mount on an image reads, which a stop at any call of that mount does not change.
-pub fn fills_after_stops(alloc: Global, image: &[u8]) -> Result<[u8; 2], Fail>
-    requires { length image.now ≡ 2433024 }
+/// What a mount reads after a crash just after a call, which a stop at any call of that mount does not change.
+pub fn fills_after(alloc: Global, disk: &MemStation, call: u64, pick: u8) -> Result<[u8; 2], Fail>
+    requires { IsTrue (meaning_of disk.now).is_recorded }
 {
-    let fills = fills_after(alloc, image)?;
-    let mut disk = MemStation::new(alloc, image, ROOM)?;
-    let _journal = Journal::mount(alloc, &mut disk, BLOCKS)?;
-    for call in 0..disk.calls() {
-        let again = image_after(alloc, &disk, call, 165)?;
-        if fills_after(alloc, &again)? != fills {
+    let image = image_after(alloc, disk, call, pick)?;
+    let (mut again, journal) = mounted(alloc, &image)?;
+    let end = again.calls();
+    let fills = fills_of(alloc, &mut again, &journal)?;
+    for stop in 0..end {
+        let image = image_after(alloc, &again, stop, 165)?;
+        let (mut last, journal) = mounted(alloc, &image)?;
+        if fills_of(alloc, &mut last, &journal)? != fills {
             return Err("a second stop changed what is kept".into());
         }
     }

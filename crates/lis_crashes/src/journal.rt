@@ -1,75 +1,119 @@
-//! Two blocks are committed on a disk of zero blocks. A mount after any crash reads both as zero, or both as new.
+//! Commits on a disk of zero blocks, with a stop, a failing call or a checkpoint. A mount after any crash reads all of a commit or none.
 
-ghost use Rattle.std.specs.Prelude.{[], ◌≡◌, ◌*◌, ◌<◌, ◌≤◌, length, false, IfOk, IsTrue};
+ghost use Rattle.std.specs.Prelude.{[], ◌≡◌, ◌≤◌, false, OnOk, IsTrue};
 ghost use Rattle.lis_memdisk.specs.MemStation.{meaning_of};
-ghost use Rattle.lis_crashes.specs.Idle.{IsIdle};
+ghost use Rattle.lis_crashes.specs.Idle.{IsIdle, IsSameDisk};
 
-use crate::disk::{BLOCKS, FIRST, LAST, ROOM, fills_after, fills_after_stops, image_after, zeros};
-use lis_journal::{BLOCK_LEN, Journal};
+use crate::disk::{commit, fills_after, keep, mounted, place_nines, zeros};
+use lis_journal::Journal;
 use lis_memdisk::MemStation;
-use std::alloc::{AllocError, Global};
+use std::alloc::Global;
 use std::test::Fail;
 
-// Commits both blocks as sevens.
-fn commit_sevens(
+/// The bytes that a crash keeps of what was not synced: those before, the new ones, every second one, or others.
+const PICKS: [u8; 4] = [0, 1, 2, 165];
+
+// A mount after a crash just after each of these calls reads one of the two, and behind the last one the second.
+fn are_read(
     alloc: Global,
-    disk: &mut MemStation,
-    journal: &mut Journal,
-) -> Result<bool, AllocError>
-    requires idle { IsIdle 594 journal.old }
-    requires long { 2433024 ≤ (meaning_of disk.old).len }
-    ensures len { (meaning_of disk.new).len ≡ (meaning_of disk.old).len }
-    ensures recorded { (meaning_of disk.new).is_recorded ≡ (meaning_of disk.old).is_recorded }
+    disk: &MemStation,
+    calls: [u64; 2],
+    fills: [[u8; 2]; 2],
+) -> Result<(), Fail>
+    requires { IsTrue (meaning_of disk.now).is_recorded }
 {
-    let sevens = vec![in alloc; 7; BLOCK_LEN]?;
-    journal.stage(FIRST, &sevens);
-    journal.stage(LAST, &sevens);
-    Ok(journal.commit(disk).is_ok())
+    for call in calls[0]..calls[1] {
+        for pick in PICKS {
+            let read = fills_after(alloc, disk, call, pick)?;
+            if read != fills[0] && read != fills[1] {
+                return Err("a stop left other blocks".into());
+            }
+        }
+    }
+    if fills_after(alloc, disk, calls[1], 165)? != fills[1] {
+        return Err("a stop behind the last call lost a block".into());
+    }
+    Ok(())
 }
 
 #[test]
 fn a_stop_in_a_commit_leaves_all_or_none(rt: HostRuntime) -> Result<(), Fail> {
     let alloc = rt.alloc();
-    let mut disk = MemStation::new(alloc, &zeros(alloc)?, ROOM)?;
-    let mut journal = Journal::mount(alloc, &mut disk, BLOCKS)?;
+    let (mut disk, mut journal) = mounted(alloc, &zeros(alloc)?)?;
     let start = disk.calls();
-    assert!(rt; commit_sevens(alloc, &mut disk, &mut journal)?);
-    let end = disk.calls();
-    for call in start..end {
-        for pick in [0, 1, 2, 165] {
-            let image = image_after(alloc, &disk, call, pick)?;
-            let fills = fills_after_stops(alloc, &image)?;
-            assert!(rt; fills == [0, 0] || fills == [7, 7]);
-        }
+    keep(alloc, &mut disk, &mut journal, [Some(7), Some(7)])?;
+    are_read(alloc, &disk, [start, disk.calls()], [[0, 0], [7, 7]])
+}
+
+// Commits the first home block so many times.
+fn keep_all(
+    alloc: Global,
+    disk: &mut MemStation,
+    journal: &mut Journal,
+    count: u8,
+) -> Result<(), Fail>
+    requires idle { IsIdle 594 journal.old }
+    requires long { 2433024 ≤ (meaning_of disk.old).len }
+    ensures idle { OnOk result (IsIdle 594 journal.new) }
+    ensures same { IsSameDisk (meaning_of disk.old) (meaning_of disk.new) }
+{
+    for fill in 0..count {
+        keep(alloc, disk, journal, [Some(fill), None])?;
     }
-    assert_eq!(rt;
-        fills_after(alloc, &image_after(alloc, &disk, end, 165)?)?,
-        [7, 7]
-    );
     Ok(())
 }
 
-// Commits with one call that fails, and answers what a crash after it leaves.
-fn fills_after_fault(alloc: Global, call: u64, pick: u8) -> Result<[u8; 2], Fail> {
-    let mut disk = MemStation::new(alloc, &zeros(alloc)?, ROOM)?;
+// 64 commits make five calls each: two writes, a sync, a write, and a sync. The next one needs a checkpoint, and the later record wins.
+#[test]
+fn a_stop_in_a_checkpoint_changes_nothing(rt: HostRuntime) -> Result<(), Fail> {
+    let alloc = rt.alloc();
+    let (mut disk, mut journal) = mounted(alloc, &zeros(alloc)?)?;
+    let opened = disk.calls();
+    keep(alloc, &mut disk, &mut journal, [None, Some(3)])?;
+    keep_all(alloc, &mut disk, &mut journal, 63)?;
+    let start = disk.calls();
+    assert_eq!(rt; start.saturating_sub(opened), 64 * 5);
+    keep(alloc, &mut disk, &mut journal, [Some(70), Some(4)])?;
+    are_read(alloc, &disk, [start, disk.calls()], [[62, 3], [70, 4]])
+}
+
+// The block that is placed is in open records, so that a checkpoint comes first.
+#[test]
+fn a_stop_before_a_block_is_placed_changes_nothing(rt: HostRuntime) -> Result<(), Fail> {
+    let alloc = rt.alloc();
+    let (mut disk, mut journal) = mounted(alloc, &zeros(alloc)?)?;
+    keep(alloc, &mut disk, &mut journal, [Some(3), Some(3)])?;
+    keep(alloc, &mut disk, &mut journal, [Some(7), None])?;
+    let start = disk.calls();
+    place_nines(alloc, &mut disk, &mut journal)?;
+    let end = disk.calls();
+    assert_eq!(rt; end.saturating_sub(start), 8);
+    are_read(
+        alloc,
+        &disk,
+        [start, end.saturating_sub(1)],
+        [[7, 3], [7, 3]],
+    )
+}
+
+// A commit with one call that fails.
+fn broken(alloc: Global, call: u64, pick: u8) -> Result<[u8; 2], Fail> {
+    let (mut disk, mut journal) = mounted(alloc, &zeros(alloc)?)?;
     disk.fails.push(call)?;
-    let mut journal = Journal::mount(alloc, &mut disk, BLOCKS)?;
-    if commit_sevens(alloc, &mut disk, &mut journal)? {
+    if !commit(alloc, &mut disk, &mut journal, [Some(7), Some(7)])? {
         return Err("the commit did not fail".into());
     }
     if !journal.is_broken() {
         return Err("the journal is not broken".into());
     }
-    let end = disk.calls();
-    let image = image_after(alloc, &disk, end, pick)?;
-    fills_after(alloc, &image)
+    fills_after(alloc, &disk, disk.calls(), pick)
 }
 
 #[test]
 fn a_failing_call_breaks_the_journal(rt: HostRuntime) -> Result<(), Fail> {
     for call in 3..9 {
-        for pick in [0, 1, 2, 165] {
-            let fills = fills_after_fault(rt.alloc(), call, pick)?;
+        for pick in PICKS {
+            let fills = broken(rt.alloc(), call, pick)?;
             assert!(rt; fills == [0, 0] || fills == [7, 7]);
         }
     }

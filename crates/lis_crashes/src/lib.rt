@@ -2,8 +2,6 @@
 #![tactic(auto)]
 
 #[cfg(test)]
-mod checkpoint;
-#[cfg(test)]
 mod disk;
 #[cfg(test)]
 mod journal;

@@ -3,7 +3,7 @@
 ghost use Rattle.std.specs.Prelude.{◌≡◌, ◌*◌, ◌≤◌, ◌^◌, false};
 ghost use Rattle.lis_memdisk.specs.MemStation.{meaning_of};
 
-use crate::images::{call, fresh, shown_behind};
+use crate::images::{fresh, run, shown_behind};
 use crate::tests::tables::LIMITED;
 use crate::tests::{SOUND, row_of, source};
 use lis_line::reader::Payload;
@@ -25,14 +25,13 @@ fn serve_row(
     limit: u64,
 ) -> Result<Status, AllocError>
     requires limit { limit ≤ 2 ^ 40 }
-    requires unbroken { store.old.journal.is_broken ≡ false }
+    requires unbroken { store.old.is_broken ≡ false }
     requires long { 4096 * store.old.journal.blocks ≤ (meaning_of station.old).len }
 {
-    let mut session = Session::new();
+    let mut session = Session::new(alloc, &store.limits())?;
     let mut payload = Payload::new(alloc)?;
     let mut input = source(alloc, row, &SOUND)?;
     Ok(serve(
-        alloc,
         store,
         &mut session,
         &mut payload,
@@ -67,7 +66,7 @@ fn a_session_ends_at_its_limit(rt: HostRuntime) -> Result<(), Fail> {
         assert_eq!(rt; status, *wanted, "{row}");
         assert_eq!(rt; row_of(alloc, station.shown())?.as_str(), *replies, "{row}");
         let before = station.shown().len();
-        call(alloc, &["run", "i"], row, &mut station)?;
+        run(alloc, row, &mut station)?;
         assert_eq!(rt;
             shown_behind(alloc, &station, before)?.as_str(),
             *left,

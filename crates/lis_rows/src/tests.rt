@@ -1,6 +1,9 @@
 //! What a session shows of its input, whatever pieces it comes in, and how it ends. In rows `;` stands for a line feed, `^` for
 //! a carriage return and `~` for a tab.
 
+ghost use Rattle.std.specs.Prelude.{◌≡◌};
+ghost use Rattle.lis_memdisk.specs.MemStation.{meaning_of};
+
 use lis_line::reader::Payload;
 use lis_memdisk::MemStation;
 use lis_model::limits::Limits;
@@ -90,19 +93,33 @@ fn station(alloc: Global, outside: &Outside) -> Result<MemStation, AllocError> {
     Ok(station)
 }
 
-fn run(alloc: Global, words: &[&str], row: &str, outside: &Outside) -> Result<Seen, AllocError> {
+/// How a call of the program ends, and how many bytes of the input it took.
+pub fn call(
+    alloc: Global,
+    words: &[&str],
+    row: &str,
+    outside: &Outside,
+    station: &mut MemStation,
+) -> Result<(Status, usize), AllocError>
+    ensures recorded { (meaning_of station.new).is_recorded ≡ (meaning_of station.old).is_recorded }
+{
     let mut owned = Vec::new(alloc);
     for word in words {
         owned.push(String::from_str(alloc, word)?)?;
     }
     let mut input = source(alloc, row, outside)?;
+    let status = lisfs(alloc, &owned, &mut input, station);
+    Ok((status, input.place))
+}
+
+fn run(alloc: Global, words: &[&str], row: &str, outside: &Outside) -> Result<Seen, AllocError> {
     let mut station = station(alloc, outside)?;
-    let status = lisfs(alloc, &owned, &mut input, &mut station);
+    let (status, taken) = call(alloc, words, row, outside, &mut station)?;
     let shown = row_of(alloc, station.shown())?;
     Ok(Seen {
         status,
         shown,
-        taken: input.place,
+        taken,
     })
 }
 

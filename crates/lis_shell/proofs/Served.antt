@@ -12,7 +12,7 @@ use Rattle.lis_session.specs.Item.{FitsAt}
 use Rattle.lis_session.specs.Runs.{Serves}
 use Rattle.lis_line.proofs.Given.{ReadSoFar}
 use Rattle.lis_line.proofs.Answered.{all_taken, limit_taken}
-use Rattle.lis_store.specs.Kept.{Kept, StoreFits}
+use Rattle.lis_store.specs.Stored.{Stored, StoreFits}
 use Rattle.lis_session.proofs.Going.{SoFar, DoneSoFar, ends_done, ends_limit}
 use Rattle.lis_shell.specs.declared.status.Status.{Status}
 use Rattle.lis_shell.specs.declared.status.Status.TheVariants.{Done, InputLimit}
@@ -52,12 +52,12 @@ input_said {limit = limit} {left_before = left_before} {left = left} {left_after
     subst (λ s. InputRead limit input left_after s) same (limit_taken limit input left left_after reading next so_far.first payload result read says is).long
 
 -- what can go on after them
-reached : (start : Situation) (first items : List Item) (store : Kept) (old now : Meaning) (place : List Formula) → DoneSoFar start first old now (StoreFits store now) place → items ≡ first
+reached : (start : Situation) (first items : List Item) (store : Stored) (old now : Meaning) (place : List Formula) → DoneSoFar start first old now (StoreFits store now) place → items ≡ first
     → StoreFits store now (situation_after start items).state × (place ≡ (situation_after start items).place)
 reached start first items store old now place done is =
     subst (λ (list : List Item). StoreFits store now (situation_after start list).state × (place ≡ (situation_after start list).place)) (sym is) (done.fitting.own, done.at)
 
-pub goes_on_said : {E : Type 0} {limit : ℕ} {left_before left left_after : Option (List ℕ)} {reading next : Reading} {place_before : List Formula} {fits_before : State → Type 0} {old now : Meaning} {place : List Formula} {payload : Payload} {result : Result Said E} (said : Said) (end : Status) (input : List ℕ) (state : State) (store : Kept)
+pub goes_on_said : {E : Type 0} {limit : ℕ} {left_before left left_after : Option (List ℕ)} {reading next : Reading} {place_before : List Formula} {fits_before : State → Type 0} {old now : Meaning} {place : List Formula} {payload : Payload} {result : Result Said E} (said : Said) (end : Status) (input : List ℕ) (state : State) (store : Stored)
     → SoFar limit left_before left reading place_before fits_before old now (StoreFits store now) place → left_before ≡ Some input → Says reading next left left_after payload result → result ≡ Ok said
     → ending_of said ≡ Some end → FitsAt fits_before old state
     → GoesOn (situation_after (record { state = state; place = place_before }) (script input limit)) store place now end

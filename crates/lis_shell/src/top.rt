@@ -1,6 +1,6 @@
 //! The top call.
 
-ghost use Rattle.std.specs.Prelude.{◌≡◌, ◌≢◌, ◌↔◌, ℕ, ◌≤◌, ◌<◌, ◌^◌, List, length, map, None, Some, IsTrue};
+ghost use Rattle.std.specs.Prelude.{◌≡◌, ◌≢◌, ◌↔◌, ℕ, ◌*◌, ◌≤◌, ◌<◌, ◌^◌, List, [], length, map, None, Some, false, IsTrue, IfOk};
 ghost use Rattle.std.specs.String.{string_bytes};
 ghost use Rattle.lis_ports.specs.Calls.{IsShowCall};
 ghost use Rattle.lis_ports.specs.Runs.{IsDiskRun, Leaves, IsSettled};
@@ -15,16 +15,17 @@ ghost use Rattle.lis_model.specs.Script.{script};
 ghost use Rattle.lis_model.specs.State.{State};
 ghost use Rattle.lis_model.specs.Step.{Situation, start_of};
 ghost use Rattle.lis_store.specs.Stands.{Stands};
+ghost use Rattle.lis_store.specs.Stored.{IsSound, StoreFits};
 ghost use Rattle.lis_open.specs.Makes.{InMaking, IsSettledAt, IsSpare};
 ghost use Rattle.lis_session.specs.Item.{IsSameStation};
-ghost use Rattle.lis_session.specs.Runs.{RunsImage};
+ghost use Rattle.lis_session.specs.Runs.{Serves, RunsImage};
 ghost use Rattle.lis_session.specs.Session.{root_of, Headline, FullHeadline};
 ghost use Rattle.lis_shell.specs.Words.{task_of};
 ghost use Rattle.lis_shell.specs.declared.words.Task.TheVariants.{Try, Make, Run};
 ghost use Rattle.lis_shell.specs.Causes.{counts, HasStatusCause, IsTryStatus};
 ghost use Rattle.lis_shell.specs.Tries.{Tries};
 ghost use Rattle.lis_shell.specs.MakesImage.{MadeImage};
-ghost use Rattle.lis_shell.specs.Runs.{Entry, Ran, NoFault, IsComplete, InputRead, IsJudged, IsIdle, Barred};
+ghost use Rattle.lis_shell.specs.Runs.{IsSessionStatus, Entry, Ran, NoFault, IsComplete, InputRead, IsJudged, IsIdle, Barred};
 
 use crate::serving::serve;
 use crate::session::try_session;
@@ -36,7 +37,8 @@ use lis_open::{MakeFault, OpenFault, make, mount};
 use lis_plain::plain::Plain;
 use lis_ports::{Source, Station};
 use lis_session::session::Session;
-use std::alloc::Global;
+use lis_store::Store;
+use std::alloc::{AllocError, Global};
 
 /// The most bytes of an input.
 const INPUT_LIMIT: u64 = 1 << 40;
@@ -83,6 +85,48 @@ fn make_image<T: Station>(limits: &Limits, station: &mut T) -> Status
     }
 }
 
+// A session over the store, and room for a payload: all the memory that the commands need.
+fn session_over(alloc: Global, store: &Store) -> Result<(Session, Payload), AllocError>
+    ensures sound { IsSound store.now }
+    ensures session { IfOk result (λ made. made.0 ≡ record { place = []; limits = store.now.parts.limits }) }
+{
+    let session = Session::new(alloc, &store.limits())?;
+    let payload = Payload::new(alloc)?;
+    Ok((session, payload))
+}
+
+// Carries out the items of the input on an opened image.
+fn run_store<S: Source, T: Station>(
+    alloc: Global,
+    mut store: Store,
+    input: &mut S,
+    station: &mut T,
+) -> Status
+    requires unbroken { store.is_broken ≡ false }
+    requires long { 4096 * store.journal.blocks ≤ (T.meaning station.old).len }
+    ensures only { result ≢ Status.NoMemory → IsSessionStatus result }
+    ensures same { IsSameStation (T.meaning station.old) (T.meaning station.new) }
+    ensures cause { HasStatusCause (counts (T.meaning station.old) (S.faults input.old)) (counts (T.meaning station.new) (S.faults input.new)) result }
+    ensures few { TakesFew (2 ^ 40) (S.left input.old) (S.left input.new) }
+    ensures input { (bytes : List ℕ) → S.left input.old ≡ Some bytes → InputRead (2 ^ 40) bytes (S.left input.new) result }
+    ensures idle { result ≡ Status.NoMemory → (input.new ≡ input.old) × (station.new ≡ station.old) }
+    ensures runs { (state : State) (bytes : List ℕ) → StoreFits store (T.meaning station.old) state → S.left input.old ≡ Some bytes
+        → Serves (root_of state) (script bytes (2 ^ 40)) (T.meaning station.old) (T.meaning station.new)
+        (Ran state (2 ^ 40) bytes (S.left input.new) (T.meaning station.old).shown (T.meaning station.new) result) }
+{
+    let Ok((mut session, mut payload)) = session_over(alloc, &store) else {
+        return Status::NoMemory;
+    };
+    serve(
+        &mut store,
+        &mut session,
+        &mut payload,
+        input,
+        station,
+        INPUT_LIMIT,
+    )
+}
+
 // Opens the image, and carries out the items of the input on it.
 fn run_image<S: Source, T: Station>(alloc: Global, input: &mut S, station: &mut T) -> Status
     ensures used { result ≢ Status.Usage }
@@ -104,26 +148,13 @@ fn run_image<S: Source, T: Station>(alloc: Global, input: &mut S, station: &mut 
     ensures barred { IsTrue (T.meaning station.old).is_honest → ((state : State) → Stands (T.meaning station.old).bytes state → ⊥)
         → (input.new ≡ input.old) × Barred (T.meaning station.old) (T.meaning station.new) result }
 {
-    let mut store = match mount(alloc, station) {
-        Ok(store) => store,
-        Err(OpenFault::TooShort(len, need)) => return Status::TooShort(len, need),
-        Err(OpenFault::Damaged(spot)) => return Status::NotAnImage(spot),
-        Err(OpenFault::DiskFault) => return Status::DiskFault,
-        Err(OpenFault::NoMemory) => return Status::NoMemory,
-    };
-    let Ok(mut payload) = Payload::new(alloc) else {
-        return Status::NoMemory;
-    };
-    let mut session = Session::new();
-    serve(
-        alloc,
-        &mut store,
-        &mut session,
-        &mut payload,
-        input,
-        station,
-        INPUT_LIMIT,
-    )
+    match mount(alloc, station) {
+        Ok(store) => run_store(alloc, store, input, station),
+        Err(OpenFault::TooShort(len, need)) => Status::TooShort(len, need),
+        Err(OpenFault::Damaged(spot)) => Status::NotAnImage(spot),
+        Err(OpenFault::DiskFault) => Status::DiskFault,
+        Err(OpenFault::NoMemory) => Status::NoMemory,
+    }
 }
 
 /// Does what the words after the program's name ask for.
@@ -132,6 +163,8 @@ fn run_image<S: Source, T: Station>(alloc: Global, input: &mut S, station: &mut 
 /// no call of the disk. `make IMAGE FILES PROPS BLOCKS` makes an image of the empty state; it reads no input and shows nothing.
 /// `run IMAGE` opens the image, carries out the commands of the input on it and shows the replies. IMAGE is not looked at here: the
 /// station is the image. Any other words are `Usage`, which is judged before anything is read or taken.
+///
+/// Want of memory in `run` comes at the opening alone, with nothing shown; in `try` it may come between two commands.
 pub fn lisfs<S: Source, T: Station>(
     alloc: Global,
     words: &[String],

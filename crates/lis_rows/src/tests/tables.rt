@@ -355,56 +355,31 @@ pub static LIMITED: [(&str, Status, &str, &str); 2] = [
     ("mkdir abc;", Status::Done, "ok;", "no 11 already declared;"),
 ];
 
-/// Eight commands, one after another; what `ls;cat m;` shows before each and behind it.
-pub static CRASHED_COMMANDS: [(&str, [&str; 2]); 8] = [
-    (
-        "mkdir music;",
-        ["ok;no 10 no such file here;", "ok;no 10 no such file here;"],
-    ),
-    (
-        "mkdir year:;",
-        ["ok;no 10 no such file here;", "ok;no 10 no such file here;"],
-    ),
-    (
-        "create s1 music year:2003;",
-        [
-            "ok;no 10 no such file here;",
-            "f s1;ok;no 10 no such file here;",
-        ],
-    ),
-    (
-        "add m 5 music;hello;",
-        [
-            "f s1;ok;no 10 no such file here;",
-            "d year:;f m;ok;b 5;hello;ok;",
-        ],
-    ),
-    (
-        "create t;",
-        [
-            "d year:;f m;ok;b 5;hello;ok;",
-            "d music;d year:;f t;ok;b 5;hello;ok;",
-        ],
-    ),
-    (
-        "rm s1;",
-        [
-            "d music;d year:;f t;ok;b 5;hello;ok;",
-            "d music;f t;ok;b 5;hello;ok;",
-        ],
-    ),
-    (
-        "add s1 3 year:1999;abc;",
-        [
-            "d music;f t;ok;b 5;hello;ok;",
-            "d music;d year:;f t;ok;b 5;hello;ok;",
-        ],
-    ),
-    (
-        "rm m;",
-        [
-            "d music;d year:;f t;ok;b 5;hello;ok;",
-            "d year:;f t;ok;no 10 no such file here;",
-        ],
-    ),
+/// Eight commands, four kinds of changes among them.
+pub static SCRIPT: &str =
+    "mkdir music;mkdir year:;create s1 music year:2003;add m 5 music;hello;create t;rm s1;add s1 3 year:1999;abc;rm m;";
+
+/// What `ls;cat m;` shows before the script, and behind each command.
+pub static SCRIPT_STATES: [&str; 9] = [
+    "ok;no 10 no such file here;",
+    "ok;no 10 no such file here;",
+    "ok;no 10 no such file here;",
+    "f s1;ok;no 10 no such file here;",
+    "d year:;f m;ok;b 5;hello;ok;",
+    "d music;d year:;f t;ok;b 5;hello;ok;",
+    "d music;f t;ok;b 5;hello;ok;",
+    "d music;d year:;f t;ok;b 5;hello;ok;",
+    "d year:;f t;ok;no 10 no such file here;",
+];
+
+/// A byte of the rows of an image in which file 0 has word 0, what it is changed to, and how a run ends then.
+pub static ROWS: [(usize, u8, Status); 7] = [
+    (0, 1, Status::Done),
+    (0, 0, Status::NotAnImage(Spot::Row(0))),
+    (0, 3, Status::NotAnImage(Spot::Row(0))),
+    (8, 1, Status::NotAnImage(Spot::Row(1))),
+    (511, 128, Status::NotAnImage(Spot::Row(63))),
+    // Behind the last row.
+    (512, 1, Status::NotAnImage(Spot::Row(64))),
+    (4_095, 128, Status::NotAnImage(Spot::Row(64))),
 ];

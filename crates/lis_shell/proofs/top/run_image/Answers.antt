@@ -1,12 +1,9 @@
-use Rattle.std.proofs.Common.{List, Err, refl, ap, inl, subst, ◌∙◌}
-use Rattle.lis_grammar.specs.Formula.{Formula}
+use Rattle.std.proofs.Common.{◌≡◌, Err, refl, ap, ◌∙◌}
 use Rattle.lis_model.specs.Script.{script}
-use Rattle.lis_session.specs.Runs.{Serves}
-use Rattle.lis_session.proofs.Fitting.{store_fits_at, same_run, same_then}
-use Rattle.lis_session.proofs.Whole.{run_none}
-use Rattle.lis_shell.specs.declared.status.Status.TheVariants.{NoMemory}
-use Rattle.lis_shell.specs.Runs.{Served, Ran}
-use Rattle.lis_shell.proofs.Opened.{not_short, opened_fits, runs_session, judged_session}
+use Rattle.lis_session.proofs.Fitting.{same_run, same_then}
+use Rattle.lis_session.proofs.Whole.{run_none, run_session}
+use Rattle.lis_shell.specs.Runs.{Ran}
+use Rattle.lis_shell.proofs.Opened.{not_short, opened_fits, judged_run, idle_run}
 use Rattle.lis_open.proofs.Needs.{has_super}
 use Rattle.lis_shell.proofs.top.run_image.Goals as goal
 
@@ -30,47 +27,6 @@ returns-in-Err-NoMemory-clause-judged g c = λ honest.
     let ended = rw c.in-Err-NoMemory.field-0-is at (c.in-Err-NoMemory.ensures.ended honest) in
     (ended.0, ended.1)
 
-pub returns-in_default-clause-runs : goal.returns-in_default-clause-runs
-returns-in_default-clause-runs g c = λ state bytes entry.
-    let old = g.T.Disk.meaning c.args.station.now in
-    let mid = g.T.Disk.meaning c.mount.new.disk in
-    let opening = c.in-Ok.ensures.same_state state entry.honest entry.stands in
-    let fits = opened_fits c.in-Ok.store old mid state entry.stands (c.in-Ok.ensures.ended entry.honest) in
-    run_none state (script bytes 1099511627776) (Ran state 1099511627776 bytes (g.S.Source.left c.args.input.now) old.shown mid NoMemory) opening
-    (inl (opening.run.shown, entry.told, (store_fits_at fits).stands.reads))
-
-pub returns-in_default-clause-past : goal.returns-in_default-clause-past
-returns-in_default-clause-past g c = λ state bytes entry settled.
-    c.in-Ok.ensures.past state.limits entry.honest (has_super (g.T.Disk.meaning c.args.station.now).bytes state entry.stands) (λ e. absurd (cc))
-
-pub returns-in_default-clause-judged : goal.returns-in_default-clause-judged
-returns-in_default-clause-judged g c = λ honest.
-    let ended = c.in-Ok.ensures.ended honest in
-    judged_session (g.T.Disk.meaning c.args.station.now) NoMemory ended.1.0 tt ended.0 ended.1.1
-
-pub returns-clause-runs : goal.returns-clause-runs
-returns-clause-runs g c = λ state bytes entry.
-    let old = g.T.Disk.meaning c.args.station.now in
-    let mid = g.T.Disk.meaning c.mount.new.disk in
-    let new = g.T.Disk.meaning c.serve.new.station in
-    let left = g.S.Source.left c.serve.new.input in
-    let fits = opened_fits c.in-Ok.store old mid state entry.stands (c.in-Ok.ensures.ended entry.honest) in
-    let session = subst (λ (place : List Formula). Serves (record { state = state; place = place }) (script bytes 1099511627776) mid new (Served (record { state = state; place = place }) 1099511627776 bytes left mid.shown new c.serve.result))
-    c.new-session.ensures (c.serve.ensures.serves state bytes fits entry.told) in
-    runs_session old mid new state 1099511627776 bytes left c.serve.result (c.in-Ok.ensures.same_state state entry.honest entry.stands) session
-
-pub returns-clause-past : goal.returns-clause-past
-returns-clause-past g c = λ state bytes entry settled.
-    let fits = opened_fits c.in-Ok.store (g.T.Disk.meaning c.args.station.now) (g.T.Disk.meaning c.mount.new.disk) state entry.stands (c.in-Ok.ensures.ended entry.honest) in
-    let session = c.serve.ensures.serves state bytes fits entry.told in
-    let opening = c.in-Ok.ensures.past state.limits entry.honest (has_super (g.T.Disk.meaning c.args.station.now).bytes state entry.stands) (λ e. absurd (cc)) in
-    λ n le. session.past n le ∙ opening n le
-
-pub returns-clause-judged : goal.returns-clause-judged
-returns-clause-judged g c = λ honest.
-    let ended = c.in-Ok.ensures.ended honest in
-    judged_session (g.T.Disk.meaning c.args.station.now) c.serve.result ended.1.0 c.serve.ensures.only ended.0 ended.1.1
-
 pub returns-in-Err-TooShort-clause-barred : goal.returns-in-Err-TooShort-clause-barred
 returns-in-Err-TooShort-clause-barred g c = λ honest none. (refl, record { moments = c.in-Err-TooShort.ensures.any_moment honest; left = rw c.in-Err-TooShort.field-0-is at (c.in-Err-TooShort.ensures.left honest); past = λ limits super settled. c.in-Err-TooShort.ensures.past limits honest super (λ e. absurd (cc)) })
 
@@ -82,22 +38,6 @@ returns-in-Err-DiskFault-clause-barred g c = λ honest none. (refl, record { mom
 
 pub returns-in-Err-NoMemory-clause-barred : goal.returns-in-Err-NoMemory-clause-barred
 returns-in-Err-NoMemory-clause-barred g c = λ honest none. (refl, record { moments = c.in-Err-NoMemory.ensures.any_moment honest; left = rw c.in-Err-NoMemory.field-0-is at (c.in-Err-NoMemory.ensures.left honest); past = λ limits super settled. c.in-Err-NoMemory.ensures.past limits honest super (λ e. absurd (cc)) })
-
-pub returns-in_default-clause-barred : goal.returns-in_default-clause-barred
-returns-in_default-clause-barred g c = λ honest none.
-    let ended = c.in-Ok.ensures.ended honest in
-    absurd (none ended.1.0 ended.1.1)
-
-pub returns-clause-barred : goal.returns-clause-barred
-returns-clause-barred g c = λ honest none.
-    let ended = c.in-Ok.ensures.ended honest in
-    absurd (none ended.1.0 ended.1.1)
-
-pub returns-in_default-clause-same : goal.returns-in_default-clause-same
-returns-in_default-clause-same g c = same_run c.in-Ok.ensures.run
-
-pub returns-clause-same : goal.returns-clause-same
-returns-clause-same g c = same_then (same_run c.in-Ok.ensures.run) c.serve.ensures.same
 
 pub returns-in-Err-TooShort-clause-same : goal.returns-in-Err-TooShort-clause-same
 returns-in-Err-TooShort-clause-same g c = same_run c.in-Err-TooShort.ensures.run
@@ -122,3 +62,36 @@ returns-in-Err-Damaged-clause-past g c = λ state bytes entry settled.
 pub returns-in-Err-DiskFault-clause-past : goal.returns-in-Err-DiskFault-clause-past
 returns-in-Err-DiskFault-clause-past g c = λ state bytes entry settled.
     c.in-Err-DiskFault.ensures.past state.limits entry.honest (has_super (g.T.Disk.meaning c.args.station.now).bytes state entry.stands) (λ e. settled refl)
+
+pub returns-in-Ok-clause-runs : goal.returns-in-Ok-clause-runs
+returns-in-Ok-clause-runs g c = λ state bytes entry.
+    let old = g.T.Disk.meaning c.args.station.now in
+    let fits = opened_fits c.in-Ok.store old (g.T.Disk.meaning c.mount.new.disk) state entry.stands (c.in-Ok.ensures.ended entry.honest) in
+    run_session state (script bytes 1099511627776)
+    (λ before. Ran state 1099511627776 bytes (g.S.Source.left c.run_store.new.input) before (g.T.Disk.meaning c.run_store.new.station) c.run_store.result)
+    (c.in-Ok.ensures.same_state state entry.honest entry.stands) (c.run_store.ensures.runs state bytes fits entry.told)
+
+pub returns-in-Ok-clause-past : goal.returns-in-Ok-clause-past
+returns-in-Ok-clause-past g c = λ state bytes entry settled.
+    let fits = opened_fits c.in-Ok.store (g.T.Disk.meaning c.args.station.now) (g.T.Disk.meaning c.mount.new.disk) state entry.stands (c.in-Ok.ensures.ended entry.honest) in
+    let session = c.run_store.ensures.runs state bytes fits entry.told in
+    let opening = c.in-Ok.ensures.past state.limits entry.honest (has_super (g.T.Disk.meaning c.args.station.now).bytes state entry.stands) (λ e. absurd (cc)) in
+    λ n le. session.past n le ∙ opening n le
+
+pub returns-in-Ok-clause-judged : goal.returns-in-Ok-clause-judged
+returns-in-Ok-clause-judged g c = λ honest.
+    let ended = c.in-Ok.ensures.ended honest in
+    judged_run (g.T.Disk.meaning c.args.station.now) c.run_store.result ended.1.0 c.run_store.ensures.only ended.0 ended.1.1
+
+pub returns-in-Ok-clause-idle : goal.returns-in-Ok-clause-idle
+returns-in-Ok-clause-idle g c =
+    idle_run (c.run_store.new.input ≡ c.args.input.now) (g.T.Disk.meaning c.args.station.now) (g.T.Disk.meaning c.run_store.new.station) c.run_store.result c.run_store.ensures.only
+    (λ e. ((c.run_store.ensures.idle e).0, ap (λ t. (g.T.Disk.meaning t).shown) (c.run_store.ensures.idle e).1 ∙ c.in-Ok.ensures.run.shown))
+
+pub returns-in-Ok-clause-barred : goal.returns-in-Ok-clause-barred
+returns-in-Ok-clause-barred g c = λ honest none.
+    let ended = c.in-Ok.ensures.ended honest in
+    absurd (none ended.1.0 ended.1.1)
+
+pub returns-in-Ok-clause-same : goal.returns-in-Ok-clause-same
+returns-in-Ok-clause-same g c = same_then (same_run c.in-Ok.ensures.run) c.run_store.ensures.same
