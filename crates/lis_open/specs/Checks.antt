@@ -1,23 +1,28 @@
 -- The checks of opening: which part fails its check, by what the blocks of an image hold, and the order of the parts.
-use Rattle.std.specs.Prelude.{◌≡◌, ◌⊎◌, ℕ, ◌≤◌, ◌<◌, Bool, false, List, Some, None, IsTrue}
+use Rattle.std.specs.Prelude.{◌≡◌, ◌≢◌, ◌⊎◌, ℕ, ◌/◌, ◌≤◌, ◌<◌, Bool, false, List, [], Some, None, length, IsTrue}
+use Rattle.std.specs.BTreeSet.{insert_key}
+use Rattle.std.specs.List.{fold, Contains}
+use Rattle.lis_bits.specs.Bytes.{bits_bytes}
 use Rattle.lis_journal.specs.Record.{block, bad_record, replayed}
 use Rattle.lis_slots.specs.Slots.{Slots, slot}
 use Rattle.lis_blockmap.specs.Bitmap.{has_bit}
 use Rattle.lis_content.specs.Content.{has_number}
 use Rattle.lis_fields.specs.Records.{FileRecord}
-use Rattle.lis_fields.specs.Layouts.{prop_bytes, is_prop, axiom_bytes, is_axiom, file_bytes, is_file}
+use Rattle.lis_fields.specs.Layouts.{zeros, prop_bytes, is_prop, axiom_bytes, is_axiom, file_bytes, is_file}
 use Rattle.lis_fields.specs.declared.slots.PropSlot.{PropSlot}
-use Rattle.lis_fields.specs.declared.slots.PropSlot.TheVariants.{Known, Declared}
 use Rattle.lis_fields.specs.declared.slots.AxiomSlot.{AxiomSlot}
-use Rattle.lis_fields.specs.declared.slots.AxiomSlot.TheVariants.{Free as FreeAxiom}
+use Rattle.lis_fields.specs.declared.slots.AxiomSlot.TheVariants.{Free as FreeAxiom, Pair}
 use Rattle.lis_fields.specs.declared.slots.FileSlot.{FileSlot}
 use Rattle.lis_fields.specs.declared.slots.FileSlot.TheVariants.{Free as FreeFile, Used}
-use Rattle.lis_words.specs.Words.{is_plain_word, is_valued, head_bytes}
+use Rattle.lis_words.specs.Words.{is_plain_word, is_valued, head_bytes, has_word}
 use Rattle.lis_model.specs.declared.limits.Limits.{Limits}
 use Rattle.lis_model.specs.declared.spot.Spot.{Spot}
 use Rattle.lis_model.specs.declared.spot.Spot.TheVariants.{Super, BadRecord, Property, Axiom, File, Word, Bitmap, Row}
 use Rattle.lis_model.specs.Image.{bitmap_start, image_blocks}
-use Rattle.lis_store.specs.Stands.{property_slots, axiom_slots, file_slots, word_in}
+use Rattle.lis_model.specs.Sets.{set_of}
+use Rattle.lis_model.specs.State.{Entails, file_words, known, is_assignable, is_nameable, pair_cmp}
+use Rattle.lis_kept.specs.Areas.{property_slots, axiom_slots, file_slots, row_slots}
+use Rattle.lis_store.specs.Stands.{Contents, AreSlots, word_in, words_in, word_at, all_declared, pairs_in, file_by, spelled_state, row_bit}
 use Rattle.lis_open.specs.Opens.{HasSuper}
 
 -- ---- what slots hold
@@ -36,20 +41,28 @@ IsAxiom limits at n value = IsSlot axiom_bytes is_axiom (axiom_slots limits) at 
 abbrev pub IsFile : Limits → (ℕ → List ℕ) → ℕ → FileSlot → Type 0
 IsFile limits at n file = IsSlot file_bytes is_file (file_slots limits) at n file
 
+-- the property slots are these, all of them in the layout
+abbrev pub AreProperties : Limits → (ℕ → List ℕ) → List PropSlot → Type 0
+AreProperties limits at properties = AreSlots prop_bytes is_prop (property_slots limits) at properties
+
+-- and so are as many axiom slots, from the first one on
+abbrev pub AreFirstAxiomSlots : Limits → (ℕ → List ℕ) → ℕ → List AxiomSlot → Type 0
+AreFirstAxiomSlots limits at count axioms = AreSlots axiom_bytes is_axiom (record (axiom_slots limits) { count = count }) at axioms
+
+abbrev pub AreAxioms : Limits → (ℕ → List ℕ) → List AxiomSlot → Type 0
+AreAxioms limits at axioms = AreSlots axiom_bytes is_axiom (axiom_slots limits) at axioms
+
+-- the property, axiom and file slots are these
+pub record AreContents (limits : Limits) (at : ℕ → List ℕ) (contents : Contents) : Type 0 where
+  pub properties : AreProperties limits at contents.properties
+  pub axioms : AreAxioms limits at contents.axioms
+  pub files : AreSlots file_bytes is_file (file_slots limits) at contents.files
+
 -- the property slot has the word
 pub record HasWord (limits : Limits) (at : ℕ → List ℕ) (n : ℕ) (word : List ℕ) : Type 0 where
   pub property : PropSlot
   pub is : IsProperty limits at n property
   pub has : word_in property ≡ Some word
-
--- some property slot has it as a declared word
-abbrev pub IsDeclaredIn : Limits → (ℕ → List ℕ) → List ℕ → Type 0
-IsDeclaredIn limits at word = (n : ℕ) × IsProperty limits at n (Declared word)
-
--- files may be given it: it is plain and declared, or valued with a declared head
-abbrev pub IsAssignableIn : Limits → (ℕ → List ℕ) → List ℕ → Type 0
-IsAssignableIn limits at word =
-    (IsTrue (is_plain_word word) × IsDeclaredIn limits at word) ⊎ (IsTrue (is_valued word) × IsDeclaredIn limits at (head_bytes word))
 
 -- some file uses the data block
 pub record IsUsed (limits : Limits) (at : ℕ → List ℕ) (data_block : ℕ) : Type 0 where
@@ -58,7 +71,20 @@ pub record IsUsed (limits : Limits) (at : ℕ → List ℕ) (data_block : ℕ) :
   pub is : IsFile limits at slot (Used rec)
   pub has : IsTrue (has_number rec.blocks data_block)
 
--- ---- the checks
+-- ---- what they tell
+-- the declared words, a set
+abbrev pub declared_by : List PropSlot → List (List ℕ)
+declared_by properties = set_of (all_declared properties)
+
+-- the axioms, a set
+abbrev pub axioms_by : List PropSlot → List AxiomSlot → List (List ℕ × List ℕ)
+axioms_by properties axioms = fold (insert_key pair_cmp) [] (pairs_in properties axioms)
+
+-- the description of a record's file
+abbrev pub description_by : Limits → List PropSlot → List AxiomSlot → (ℕ → List ℕ) → FileRecord → List (List ℕ)
+description_by limits properties axioms at rec = file_words (declared_by properties) (axioms_by properties axioms) (file_by limits properties at rec)
+
+-- ---- words
 -- a property slot before this one has its word
 pub record HasWordBefore (limits : Limits) (at : ℕ → List ℕ) (n : ℕ) (property : PropSlot) : Type 0 where
   pub word : List ℕ
@@ -72,44 +98,106 @@ pub record PropertyFails (limits : Limits) (at : ℕ → List ℕ) (n : ℕ) : T
   pub below : n < limits.props
   pub fault : (property : PropSlot) → IsProperty limits at n property → HasWordBefore limits at n property
 
--- An axiom slot is not free.
+-- ---- axioms
+-- what may be wrong with the axiom of a slot, by all words and the axiom slots before it
+pub data AxiomFault (limits : Limits) (properties : List PropSlot) (earlier : List AxiomSlot) (n left right : ℕ) : Type 0 where
+  -- the slot is to be free
+  PastLast : limits.props ≤ n → AxiomFault limits properties earlier n left right
+  -- no word has the number
+  LeftUnnumbered : word_at properties left ≡ None → AxiomFault limits properties earlier n left right
+  RightUnnumbered : word_at properties right ≡ None → AxiomFault limits properties earlier n left right
+  -- the right word is not plain, or not declared
+  RightNotPlain : (q : List ℕ) → word_at properties right ≡ Some q → is_plain_word q ≡ false → AxiomFault limits properties earlier n left right
+  RightUndeclared : (q : List ℕ) → word_at properties right ≡ Some q → has_word (declared_by properties) q ≡ false → AxiomFault limits properties earlier n left right
+  -- an axiom may not name the left word
+  LeftUnnameable : (p : List ℕ) → word_at properties left ≡ Some p → is_nameable (declared_by properties) p ≡ false → AxiomFault limits properties earlier n left right
+  -- the left word is valued, and no slot has its head
+  HeadUnnumbered : (p : List ℕ) → word_at properties left ≡ Some p → IsTrue (is_valued p) → has_word (words_in properties) (head_bytes p) ≡ false
+      → AxiomFault limits properties earlier n left right
+  -- an earlier slot has the pair
+  PairThere : Contains earlier (Pair left right) → AxiomFault limits properties earlier n left right
+  -- with the earlier ones it closes a circle
+  Circle : (p q : List ℕ) → word_at properties left ≡ Some p → word_at properties right ≡ Some q
+      → Entails (declared_by properties) (axioms_by properties earlier) q p → AxiomFault limits properties earlier n left right
+
+abbrev pub HasAxiomFault : Limits → List PropSlot → List AxiomSlot → ℕ → AxiomSlot → Type 0
+HasAxiomFault limits properties earlier n FreeAxiom = ⊥
+HasAxiomFault limits properties earlier n (Pair left right) = AxiomFault limits properties earlier n left right
+
+-- An axiom slot is not in its layout, or something is wrong with its axiom.
 pub record AxiomFails (limits : Limits) (at : ℕ → List ℕ) (n : ℕ) : Type 0 where
   pub below : n < (axiom_slots limits).count
-  pub fault : IsAxiom limits at n FreeAxiom → ⊥
+  pub properties : List PropSlot
+  pub words : AreProperties limits at properties
+  pub earlier : List AxiomSlot
+  pub before : AreFirstAxiomSlots limits at n earlier
+  pub fault : (value : AxiomSlot) → IsAxiom limits at n value → HasAxiomFault limits properties earlier n value
 
--- what may be wrong with the file of a slot
-pub data FileFault (limits : Limits) (at : ℕ → List ℕ) (n : ℕ) (rec : FileRecord) : Type 0 where
+-- ---- files
+-- what may be wrong with the file of a slot, by all words and axioms
+pub data FileFault (limits : Limits) (at : ℕ → List ℕ) (properties : List PropSlot) (axioms : List AxiomSlot) (n : ℕ) (rec : FileRecord) : Type 0 where
   -- a file in an earlier slot has its name
-  NameTaken : (earlier : ℕ) (other : FileRecord) → earlier < n → IsFile limits at earlier (Used other) → other.name ≡ rec.name → FileFault limits at n rec
-  -- one of its numbers is not that of a word that files may be given
-  WordMissing : (tag : ℕ) → IsTrue (has_number rec.tags tag) → ((word : List ℕ) → HasWord limits at tag word → IsAssignableIn limits at word → ⊥) → FileFault limits at n rec
+  NameTaken : (earlier : ℕ) (other : FileRecord) → earlier < n → IsFile limits at earlier (Used other) → other.name ≡ rec.name → FileFault limits at properties axioms n rec
+  -- no word has one of its numbers
+  TagUnnumbered : (tag : ℕ) → IsTrue (has_number rec.tags tag) → word_at properties tag ≡ None → FileFault limits at properties axioms n rec
+  -- or one that files may not be given
+  TagUnassignable : (tag : ℕ) (word : List ℕ) → IsTrue (has_number rec.tags tag) → word_at properties tag ≡ Some word
+      → is_assignable (declared_by properties) word ≡ false → FileFault limits at properties axioms n rec
   -- there is no such data block
-  BlockMissing : (data_block : ℕ) → IsTrue (has_number rec.blocks data_block) → limits.blocks ≤ data_block → FileFault limits at n rec
+  BlockMissing : (data_block : ℕ) → IsTrue (has_number rec.blocks data_block) → limits.blocks ≤ data_block → FileFault limits at properties axioms n rec
   -- a file in an earlier slot uses one of its data blocks
   BlockTaken : (earlier : ℕ) (other : FileRecord) (data_block : ℕ) → earlier < n → IsFile limits at earlier (Used other) → IsTrue (has_number other.blocks data_block)
-      → IsTrue (has_number rec.blocks data_block) → FileFault limits at n rec
+      → IsTrue (has_number rec.blocks data_block) → FileFault limits at properties axioms n rec
+  -- no slot has a word of its description
+  WordUnnumbered : (word : List ℕ) → IsTrue (has_word (description_by limits properties axioms at rec) word) → has_word (words_in properties) word ≡ false
+      → FileFault limits at properties axioms n rec
+  -- its description has more words than a state allows
+  TooManyWords : 128 < length (description_by limits properties axioms at rec) → FileFault limits at properties axioms n rec
 
-abbrev pub HasFileFault : Limits → (ℕ → List ℕ) → ℕ → FileSlot → Type 0
-HasFileFault limits at n FreeFile = ⊥
-HasFileFault limits at n (Used rec) = FileFault limits at n rec
+abbrev pub HasFileFault : Limits → (ℕ → List ℕ) → List PropSlot → List AxiomSlot → ℕ → FileSlot → Type 0
+HasFileFault limits at properties axioms n FreeFile = ⊥
+HasFileFault limits at properties axioms n (Used rec) = FileFault limits at properties axioms n rec
 
 -- A file slot is not in its layout, or something is wrong with its file.
 pub record FileFails (limits : Limits) (at : ℕ → List ℕ) (n : ℕ) : Type 0 where
   pub below : n < limits.files
-  pub fault : (file : FileSlot) → IsFile limits at n file → HasFileFault limits at n file
+  pub properties : List PropSlot
+  pub words : AreProperties limits at properties
+  pub axioms : List AxiomSlot
+  pub pairs : AreAxioms limits at axioms
+  pub fault : (file : FileSlot) → IsFile limits at n file → HasFileFault limits at properties axioms n file
 
--- The word of a property slot is not declared, and no file was given it.
+-- ---- what follows from them
+-- The word of a property slot is not known: it is not declared, no file's description has it, and it is no left side of an axiom and the
+-- head of none.
 pub record WordFails (limits : Limits) (at : ℕ → List ℕ) (n : ℕ) : Type 0 where
+  pub contents : Contents
+  pub are : AreContents limits at contents
   pub word : List ℕ
-  pub is : IsProperty limits at n (Known word)
-  pub unused : (slot : ℕ) (rec : FileRecord) → IsFile limits at slot (Used rec) → IsTrue (has_number rec.tags n) → ⊥
+  pub has : word_at contents.properties n ≡ Some word
+  pub unknown : has_word (known (spelled_state limits contents at)) word ≡ false
 
 -- A bit of the bitmap is 1 and no file uses the data block, or it is 0 and some file does.
 pub record BitFails (limits : Limits) (at : ℕ → List ℕ) (n : ℕ) : Type 0 where
   pub below : n < 32768
   pub fault : (IsTrue (has_bit (at (bitmap_start limits)) n) × (IsUsed limits at n → ⊥)) ⊎ ((has_bit (at (bitmap_start limits)) n ≡ false) × IsUsed limits at n)
 
--- the check of a part behind the journal fails; extension rows are not looked at yet
+-- what may be wrong with a row
+pub data RowFault (limits : Limits) (at : ℕ → List ℕ) (contents : Contents) (n : ℕ) : Type 0 where
+  -- some bit does not tell whether a file's description has the word
+  RowWrong : n < limits.props → slot (row_slots limits) at n ≢ bits_bytes (limits.files / 8) (row_bit (spelled_state limits contents at) limits contents at n)
+      → RowFault limits at contents n
+  -- something stands behind the last row
+  RestNotZero : n ≡ limits.props → (p : ℕ) → limits.props ≤ p → p < (row_slots limits).count → slot (row_slots limits) at p ≢ zeros (limits.files / 8)
+      → RowFault limits at contents n
+
+-- A row does not tell which file's description has its word, or, as the row behind the last one, the rest of the part is not zero.
+pub record RowFails (limits : Limits) (at : ℕ → List ℕ) (n : ℕ) : Type 0 where
+  pub contents : Contents
+  pub are : AreContents limits at contents
+  pub fault : RowFault limits at contents n
+
+-- the check of a part behind the journal fails
 abbrev pub Fails : Limits → (ℕ → List ℕ) → Spot → Type 0
 Fails limits at Super = ⊥
 Fails limits at (BadRecord b) = ⊥
@@ -118,7 +206,7 @@ Fails limits at (Axiom n) = AxiomFails limits at n
 Fails limits at (File n) = FileFails limits at n
 Fails limits at (Word n) = WordFails limits at n
 Fails limits at (Bitmap n) = BitFails limits at n
-Fails limits at (Row n) = ⊥
+Fails limits at (Row n) = RowFails limits at n
 
 -- ---- images
 -- the check of a part of the replayed image fails

@@ -8,14 +8,13 @@ use Rattle.lis_journal.specs.Record.{recovered}
 use Rattle.lis_journal.specs.Recovery.{InRecovery}
 use Rattle.lis_journal.specs.declared.journal.JournalFault.{JournalFault}
 use Rattle.lis_journal.specs.declared.journal.JournalFault.TheVariants.{DiskFault as JournalDisk, BadRecord as JournalRecord, NoMemory as JournalMemory}
-use Rattle.lis_fields.specs.Layouts.{super_bytes}
+use Rattle.lis_fields.specs.Layouts.{super_bytes, is_super}
 use Rattle.lis_model.specs.declared.limits.Limits.{Limits}
 use Rattle.lis_model.specs.declared.spot.Spot.TheVariants.{BadRecord}
-use Rattle.lis_model.specs.Ranges.{are_in_range}
 use Rattle.lis_model.specs.Image.{image_blocks}
 use Rattle.lis_model.specs.State.{State}
 use Rattle.lis_store.specs.Stands.{Stands}
-use Rattle.lis_store.specs.Kept.{Kept, StoreFits}
+use Rattle.lis_store.specs.Stored.{Stored, StoreFits}
 use Rattle.lis_open.specs.declared.mounting.OpenFault.{OpenFault}
 use Rattle.lis_open.specs.declared.mounting.OpenFault.TheVariants.{TooShort, Damaged, DiskFault, NoMemory}
 
@@ -29,9 +28,7 @@ HasOpenCause before now (Err NoMemory) = now ≡ before
 
 -- the image begins with a super block of these limits
 pub record HasSuper (limits : Limits) (image : List ℕ) : Type 0 where
-  pub range : IsTrue (are_in_range limits)
-  -- until there are images of version 2
-  pub version : limits.version ≡ 1
+  pub range : IsTrue (is_super limits)
   pub spelled : part 0 4096 image ≡ super_bytes limits
 
 -- how many bytes are needed: a super block, or the image that it tells
@@ -44,7 +41,7 @@ IsLongEnough m = (need : ℕ) → IsNeeded m.bytes need → need ≤ m.len
 
 -- It is too short exactly where there are fewer bytes than are needed. An image is refused exactly where it is long enough and stands for no
 -- state, and opened exactly where it stands for one, which the store then fits.
-abbrev pub OpenEnded : Meaning → Meaning → Result Kept OpenFault → Type 0
+abbrev pub OpenEnded : Meaning → Meaning → Result Stored OpenFault → Type 0
 OpenEnded old new (Ok store) = IsLongEnough old × ((s : State) × Stands old.bytes s × StoreFits store new s)
 OpenEnded old new (Err (TooShort len need)) = (len ≡ old.len) × (len < need) × IsNeeded old.bytes need
 OpenEnded old new (Err (Damaged spot)) = IsLongEnough old × ((s : State) → Stands old.bytes s → ⊥)
@@ -59,13 +56,14 @@ Recovers old new = (limits : Limits) × HasSuper limits old.bytes × IsSettled n
 abbrev pub RefusedLeft : Meaning → Meaning → Type 0
 RefusedLeft old new = (((limits : Limits) → HasSuper limits old.bytes → ⊥) × IsUnchanged old new) ⊎ Recovers old new
 
--- What opening leaves where the disk did not fail: it writes nothing but what the journal of the image asks for.
-abbrev pub OpenLeft : Meaning → Meaning → Result Kept OpenFault → Type 0
+-- What opening leaves where the disk did not fail: it writes nothing but what the journal of the image asks for, and nothing before it has
+-- its memory.
+abbrev pub OpenLeft : Meaning → Meaning → Result Stored OpenFault → Type 0
 OpenLeft old new (Ok store) = Recovers old new
 OpenLeft old new (Err (TooShort len need)) = IsUnchanged old new
 OpenLeft old new (Err (Damaged spot)) = RefusedLeft old new
 OpenLeft old new (Err DiskFault) = Unit {0}
-OpenLeft old new (Err NoMemory) = IsUnchanged old new ⊎ Recovers old new
+OpenLeft old new (Err NoMemory) = IsUnchanged old new
 
 -- what a crash in opening leaves: what it could have left before, or an image on which records are being brought home
 abbrev pub InOpening : Meaning → List ℕ → Type 0

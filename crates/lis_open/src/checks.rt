@@ -1,163 +1,115 @@
-//! What else must hold of an image: that no axiom is there, that each word is in use, and what the bitmap tells.
+//! What else must hold of an image: that each word is in use, what the bitmap tells, and what the rows tell.
 
-ghost use Rattle.std.specs.Prelude.{◌≡◌, ◌*◌, ◌<◌, ◌≤◌, ◌||◌, ◌&&◌, not, is_some, nat_lt, ℕ, List, [], length, false, IsTrue, IfOk};
-ghost use Rattle.std.specs.List.{list_all};
+ghost use Rattle.std.specs.Prelude.{◌≡◌, ◌↔◌, ◌*◌, ◌/◌, ◌<◌, ◌≤◌, ◌||◌, ◌&&◌, not, is_some, ℕ, Bool, List, [], length, true, false, IsTrue, IfOk};
+ghost use Rattle.std.specs.List.{list_any};
 ghost use Rattle.lis_ports.specs.Calls.{HasCause};
-ghost use Rattle.lis_bits.specs.Rows.{get};
+ghost use Rattle.lis_journal.specs.Images.{Fits};
+ghost use Rattle.lis_bits.specs.Rows.{HasShape, get};
 ghost use Rattle.lis_blockmap.specs.Bitmap.{is_taken};
 ghost use Rattle.lis_dict.specs.Dict.{word_of};
-ghost use Rattle.lis_journal.specs.Images.{Fits};
-ghost use Rattle.lis_content.specs.Content.{has_number};
-ghost use Rattle.lis_catalog.specs.Catalog.{rec_at};
-ghost use Rattle.lis_fields.specs.Layouts.{axiom_bytes, is_axiom};
 ghost use Rattle.lis_model.specs.Ranges.{are_in_range};
 ghost use Rattle.lis_model.specs.Image.{bitmap_start, image_blocks};
-ghost use Rattle.lis_store.specs.Kept.{AxiomsAreFree};
-ghost use Rattle.lis_store.specs.Stands.{axiom_slots};
-ghost use Rattle.lis_open.specs.Reading.{OnlyReads, HasPartCause, IsReadAs, Ends, is_free_slot, has_tag, has_tags_below, bits, AreWords, AreFirstWords, AreFirstFiles, WordsChecked, BitmapChecked, IsUsedRow};
+ghost use Rattle.lis_kept.specs.Areas.{axiom_slots, row_slots};
+ghost use Rattle.lis_kept.specs.Rows.{row_bytes};
+ghost use Rattle.lis_kept.specs.Telling.{is_had, is_left_of, is_left_head_of};
+ghost use Rattle.lis_open.specs.Reading.{OnlyReads, HasPartCause, Recalls};
+ghost use Rattle.lis_open.specs.ReadWords.{AreWords, AreFirstWords, AreFirstAxioms};
+ghost use Rattle.lis_open.specs.ReadFiles.{AreFirstFiles};
+ghost use Rattle.lis_open.specs.ReadAll.{kept_in, WordsChecked, BitmapChecked, IsRowSpelled, RowsChecked};
 
+use crate::axioms::Axioms;
+use crate::blocks::LastBlock;
 use crate::files::Files;
 use crate::mounting::OpenFault;
 use crate::words::Words;
 use lis_bits::Rows;
 use lis_blockmap::BlockMap;
-use lis_catalog::Catalog;
-use lis_fields::{AXIOM_LEN, AxiomSlot, read_axiom};
+use lis_ext::Ext;
+use lis_fields::AxiomSlot;
 use lis_journal::{BLOCK_LEN, Journal};
+use lis_kept::{bitmap_start, rows_start};
 use lis_model::limits::Limits;
 use lis_model::spot::Spot;
 use lis_ports::{Disk, Failed};
-use lis_store::parts::{axiom_slots, bitmap_start};
-use std::alloc::{AllocError, Global};
+use lis_words::head_of;
 
-// Reads an axiom slot. None comes where it is in no layout.
-fn read_axiom_slot<D: Disk>(
-    disk: &mut D,
-    journal: &Journal,
-    limits: &Limits,
-    k: u32,
-) -> Result<Option<AxiomSlot>, Failed>
-    requires range { IsTrue (are_in_range limits.now) }
-    requires k { k < (axiom_slots limits.now).count }
-    requires image { journal.now.blocks ≡ image_blocks limits.now }
-    requires clean { journal.now.staged ≡ [] }
-    requires unbroken { journal.now.is_broken ≡ false }
-    requires long { 4096 * journal.now.blocks ≤ (D.meaning disk.old).len }
-    ensures reads { OnlyReads (D.meaning disk.old) (D.meaning disk.new) }
-    ensures cause { HasCause (D.meaning disk.old).disk_faults (D.meaning disk.new).disk_faults result }
-    ensures read { IfOk result (λ found. (kept : ℕ → List ℕ) → Fits journal.now (D.meaning disk.old) kept
-        → IsReadAs axiom_bytes is_axiom (axiom_slots limits.now) kept k found) }
-{
-    let mut bytes = [0; AXIOM_LEN];
-    axiom_slots(limits).get(journal, disk, k, &mut bytes)?;
-    Ok(read_axiom(&bytes))
-}
+/// How many bytes the row of 4,096 files has.
+const MAX_ROW: usize = 512;
 
-fn is_free(found: Option<AxiomSlot>) -> bool
-    ensures { result ≡ is_free_slot found }
+// Marks the left side of an axiom, and its head where it is valued.
+fn mark_left(words: &Words, row: &mut Rows, slot: AxiomSlot)
+    requires words { AreWords words.now }
+    requires shape { HasShape row.old 2 words.now.dict.props }
+    ensures shape { HasShape row.new 2 words.now.dict.props }
+    ensures bits { (n : ℕ) → n < words.now.dict.props → is_some (word_of words.now.dict n) ≡ true
+        → get row.new 0 n ≡ (get row.old 0 n || (is_left_of n slot || is_left_head_of words.now.dict n slot)) }
 {
-    matches!(found, Some(AxiomSlot::Free))
-}
-
-/// Checks that each axiom slot is free.
-pub fn check_axioms<D: Disk>(
-    disk: &mut D,
-    journal: &Journal,
-    limits: &Limits,
-) -> Result<(), OpenFault>
-    requires range { IsTrue (are_in_range limits.now) }
-    requires image { journal.now.blocks ≡ image_blocks limits.now }
-    requires clean { journal.now.staged ≡ [] }
-    requires unbroken { journal.now.is_broken ≡ false }
-    requires long { 4096 * journal.now.blocks ≤ (D.meaning disk.old).len }
-    ensures reads { OnlyReads (D.meaning disk.old) (D.meaning disk.new) }
-    ensures cause { HasPartCause (D.meaning disk.old).disk_faults (D.meaning disk.new).disk_faults result }
-    ensures ended { (kept : ℕ → List ℕ) → Fits journal.now (D.meaning disk.old) kept
-        → Ends limits.now kept 3 (AxiomsAreFree limits.now kept) result }
-{
-    for k in 0..axiom_slots(limits).count() {
-        let found = read_axiom_slot(disk, journal, limits, k)?;
-        if !is_free(found) {
-            return Err(OpenFault::Damaged(Spot::Axiom(k)));
-        }
-    }
-    Ok(())
-}
-
-fn mark_all(used: &mut Rows, numbers: &[u16])
-    requires tall { length used.old.rows ≡ 1 }
-    requires below { IsTrue (list_all (λ n. nat_lt n used.old.bits) numbers.now) }
-    ensures tall { length used.new.rows ≡ 1 }
-    ensures wide { used.new.bits ≡ used.old.bits }
-    ensures bits { (n : ℕ) → n < used.old.bits → get used.new 0 n ≡ (has_number numbers.now n || get used.old 0 n) }
-{
-    for number in numbers {
-        used.put(0, u32::from(*number), true);
+    let AxiomSlot::Pair(left, _) = slot else {
+        return;
+    };
+    let Ok(number) = u16::try_from(left) else {
+        return;
+    };
+    let Some(word) = words.dict.word_of(number) else {
+        return;
+    };
+    row.put(0, left, true);
+    let Some(head) = head_of(&word) else {
+        return;
+    };
+    if let Some(number) = words.dict.id_of(&head) {
+        row.put(0, u32::from(number), true);
     }
 }
 
-// Marks the words that the file in the slot was given, where there is one.
-fn mark_file(used: &mut Rows, catalog: &Catalog, slot: u16)
-    requires tall { length used.old.rows ≡ 1 }
-    requires below { IsTrue (has_tags_below used.old.bits (rec_at catalog.now slot)) }
-    ensures tall { length used.new.rows ≡ 1 }
-    ensures wide { used.new.bits ≡ used.old.bits }
-    ensures bits { (n : ℕ) → n < used.old.bits → get used.new 0 n ≡ (has_tag (rec_at catalog.now slot) n || get used.old 0 n) }
+// Makes a row of the left sides of axioms, and of the heads of those that are valued.
+fn mark_lefts(words: &Words, axioms: &Axioms, row: &mut Rows)
+    requires words { AreWords words.now }
+    requires shape { HasShape row.old 2 words.now.dict.props }
+    ensures shape { HasShape row.new 2 words.now.dict.props }
+    ensures bits { (n : ℕ) → n < words.now.dict.props → is_some (word_of words.now.dict n) ≡ true
+        → get row.new 0 n ≡ list_any (λ slot. is_left_of n slot || is_left_head_of words.now.dict n slot) axioms.now.slots.items }
 {
-    if let Some(rec) = catalog.rec(slot) {
-        mark_all(used, rec.tags.as_slice());
+    row.fill(0, false);
+    for slot in axioms.slots.as_slice() {
+        mark_left(words, row, *slot);
     }
 }
 
-// One row: by number, whether some file was given the word that has it.
-fn used_words(
-    alloc: Global,
-    limits: &Limits,
-    words: &Words,
-    files: &Files,
-) -> Result<Rows, AllocError>
-    requires range { IsTrue (are_in_range limits.now) }
-    requires words { AreFirstWords limits.now words.now limits.now.props }
-    requires files { AreFirstFiles limits.now words.now files.now limits.now.files }
-    ensures { IfOk result (IsUsedRow limits.now files.now.catalog) }
-{
-    let mut used = Rows::new(alloc, 1, limits.props)?;
-    for slot in 0..limits.files {
-        mark_file(&mut used, &files.catalog, slot as u16);
-    }
-    Ok(used)
-}
-
-// Whether the number is that of a word that is not declared, and that no file was given.
-fn is_stray(words: &Words, used: &Rows, number: u16) -> bool
-    requires are { AreWords words.now }
-    requires tall { length used.now.rows ≡ 1 }
-    requires below { number < used.now.bits }
-    requires wide { used.now.bits ≡ words.now.dict.props }
-    ensures { result ≡ (is_some (word_of words.now.dict number) && not (is_taken (bits words.now) number) && not (get used.now 0 number)) }
+// Whether a number is that of a word that is not declared, is in no description, and is marked as a left side in no way.
+fn is_stray(words: &Words, ext: &Ext, lefts: &Rows, number: u16) -> bool
+    requires words { AreWords words.now }
+    requires props { ext.now.props ≡ words.now.dict.props }
+    requires shape { HasShape lefts.now 2 words.now.dict.props }
+    requires below { number < words.now.dict.props }
+    ensures { result ≡ (is_some (word_of words.now.dict number)
+        && not (is_taken words.now.declared number || is_had ext.now number || get lefts.now 0 number)) }
 {
     if words.dict.word_of(number).is_none() {
         return false;
     }
-    let place = u32::from(number);
-    !words.declared.get(0, place) && !used.get(0, place)
+    let number = u32::from(number);
+    !words.declared.get(number) && ext.rows().next(number, 0).is_none() && !lefts.get(0, number)
 }
 
-/// Checks that each word is declared or was given to a file.
+/// Checks that each word is declared, in a description, or the left side of an axiom or the head of one.
 pub fn check_words(
-    alloc: Global,
     limits: &Limits,
     words: &Words,
+    axioms: &Axioms,
     files: &Files,
+    row: &mut Rows,
 ) -> Result<(), OpenFault>
     requires range { IsTrue (are_in_range limits.now) }
     requires words { AreFirstWords limits.now words.now limits.now.props }
-    requires files { AreFirstFiles limits.now words.now files.now limits.now.files }
-    ensures { WordsChecked limits.now words.now files.now.catalog result }
+    requires axioms { AreFirstAxioms limits.now words.now axioms.now (axiom_slots limits.now).count }
+    requires files { AreFirstFiles limits.now words.now axioms.now files.now limits.now.files }
+    requires shape { HasShape row.old 2 limits.now.props }
+    ensures { (marks : List Bool) → WordsChecked (kept_in limits.now words.now axioms.now files.now marks) result }
 {
-    let used = used_words(alloc, limits, words, files)?;
+    mark_lefts(words, axioms, row);
     for number in 0..limits.props {
-        if is_stray(words, &used, number as u16) {
+        if is_stray(words, &files.ext, row, number as u16) {
             return Err(OpenFault::Damaged(Spot::Word(number)));
         }
     }
@@ -187,4 +139,88 @@ pub fn check_bitmap<D: Disk>(
         None => Ok(()),
         Some(n) => Err(OpenFault::Damaged(Spot::Bitmap(n))),
     }
+}
+
+// How many rows the part has room for.
+fn row_count(limits: &Limits) -> u32
+    requires { IsTrue (are_in_range limits.now) }
+    ensures { result ≡ (row_slots limits.now).count }
+{
+    let per_block = BLOCK_LEN as u32 / (limits.files / 8);
+    per_block * (bitmap_start(limits) - rows_start(limits))
+}
+
+// Whether the bytes are those of a number's row, which is zeros past the last number.
+fn is_row(ext: &Ext, limits: &Limits, number: u32, bytes: &[u8]) -> bool
+    requires range { IsTrue (are_in_range limits.now) }
+    requires props { ext.now.props ≡ limits.now.props }
+    requires files { length ext.now.sets ≡ limits.now.files }
+    requires width { length bytes.now ≡ limits.now.files / 8 }
+    ensures { IsTrue result ↔ (bytes.now ≡ row_bytes ext.now number) }
+{
+    if number >= limits.props {
+        return bytes.iter().all(|byte| *byte == 0);
+    }
+    let mut row = [0; MAX_ROW];
+    let row = &mut row[..bytes.len()];
+    ext.row_bytes(number, row);
+    *row == *bytes
+}
+
+// Whether row slot p is spelled as memory has it.
+fn read_row<D: Disk>(
+    last: &mut LastBlock,
+    disk: &mut D,
+    journal: &Journal,
+    limits: &Limits,
+    ext: &Ext,
+    p: u32,
+) -> Result<bool, Failed>
+    requires range { IsTrue (are_in_range limits.now) }
+    requires p { p < (row_slots limits.now).count }
+    requires props { ext.now.props ≡ limits.now.props }
+    requires files { length ext.now.sets ≡ limits.now.files }
+    requires image { journal.now.blocks ≡ image_blocks limits.now }
+    requires clean { journal.now.staged ≡ [] }
+    requires unbroken { journal.now.is_broken ≡ false }
+    requires long { 4096 * journal.now.blocks ≤ (D.meaning disk.old).len }
+    ensures reads { OnlyReads (D.meaning disk.old) (D.meaning disk.new) }
+    ensures cause { HasCause (D.meaning disk.old).disk_faults (D.meaning disk.new).disk_faults result }
+    ensures recalls { (kept : ℕ → List ℕ) → Fits journal.now (D.meaning disk.old) kept → Recalls last.old kept → Recalls last.new kept }
+    ensures read { IfOk result (λ is_same. (kept : ℕ → List ℕ) → Fits journal.now (D.meaning disk.old) kept → Recalls last.old kept
+        → (IsTrue is_same ↔ IsRowSpelled limits.now kept ext.now p)) }
+{
+    let mut row = [0; MAX_ROW];
+    let row = &mut row[..limits.files as usize / 8];
+    last.read_slot(disk, journal, rows_start(limits), p, row)?;
+    Ok(is_row(ext, limits, p, row))
+}
+
+/// Checks that each row tells which file's description has its word, and that nothing stands behind the last one.
+pub fn check_rows<D: Disk>(
+    last: &mut LastBlock,
+    disk: &mut D,
+    journal: &Journal,
+    limits: &Limits,
+    ext: &Ext,
+) -> Result<(), OpenFault>
+    requires range { IsTrue (are_in_range limits.now) }
+    requires props { ext.now.props ≡ limits.now.props }
+    requires files { length ext.now.sets ≡ limits.now.files }
+    requires image { journal.now.blocks ≡ image_blocks limits.now }
+    requires clean { journal.now.staged ≡ [] }
+    requires unbroken { journal.now.is_broken ≡ false }
+    requires long { 4096 * journal.now.blocks ≤ (D.meaning disk.old).len }
+    ensures reads { OnlyReads (D.meaning disk.old) (D.meaning disk.new) }
+    ensures cause { HasPartCause (D.meaning disk.old).disk_faults (D.meaning disk.new).disk_faults result }
+    ensures recalls { (kept : ℕ → List ℕ) → Fits journal.now (D.meaning disk.old) kept → Recalls last.old kept → Recalls last.new kept }
+    ensures ended { (kept : ℕ → List ℕ) → Fits journal.now (D.meaning disk.old) kept → Recalls last.old kept
+        → RowsChecked limits.now kept ext.now result }
+{
+    for p in 0..row_count(limits) {
+        if !read_row(last, disk, journal, limits, ext, p)? {
+            return Err(OpenFault::Damaged(Spot::Row(p.min(limits.props))));
+        }
+    }
+    Ok(())
 }

@@ -1,39 +1,58 @@
-//! The files of an image: its file slots.
+//! The files of an image: its file slots, and the descriptions that they have.
 
 ghost use Rattle.std.specs.Prelude.{◌≡◌, ◌*◌, ◌<◌, ◌≤◌, ◌&&◌, not, nat_lt, ℕ, List, [], length, false, Some, None, IsTrue, IfOk, IfSome, OnOk};
 ghost use Rattle.std.specs.Bool.{OnTrue, OnFalse};
+ghost use Rattle.std.specs.List.{list_all};
+ghost use Rattle.std.specs.Option.{option_map};
 ghost use Rattle.lis_ports.specs.Calls.{HasCause};
 ghost use Rattle.lis_journal.specs.Images.{Fits};
+ghost use Rattle.lis_bits.specs.Rows.{HasShape, get};
 ghost use Rattle.lis_blockmap.specs.Bitmap.{is_taken};
 ghost use Rattle.lis_content.specs.Content.{marked, are_free, are_distinct};
-ghost use Rattle.lis_catalog.specs.Catalog.{IsCatalog, rec_at};
-ghost use Rattle.lis_fields.specs.Layouts.{file_bytes, is_file};
+ghost use Rattle.lis_catalog.specs.Catalog.{slot_of, rec_at};
+ghost use Rattle.lis_ext.specs.Ext.{set_of};
+ghost use Rattle.lis_ext.specs.Numbers.{numbers_where};
+ghost use Rattle.lis_fields.specs.Layouts.{file_bytes, is_file, is_record};
 ghost use Rattle.lis_model.specs.Ranges.{are_in_range};
 ghost use Rattle.lis_model.specs.Image.{image_blocks};
-ghost use Rattle.lis_store.specs.Stands.{file_slots};
-ghost use Rattle.lis_open.specs.Reading.{OnlyReads, HasPartCause, IsReadAs, Ends, AreWords, AreFirstWords, no_files, may_take_record, may_take_file, with_file, AreFirstFiles, FilesAreSpelled, WordsAreSpelled};
+ghost use Rattle.lis_kept.specs.Areas.{file_slots, axiom_slots};
+ghost use Rattle.lis_open.specs.Reading.{OnlyReads, HasPartCause, Recalls, IsReadAs, Ends};
+ghost use Rattle.lis_open.specs.ReadWords.{AreWords, AreFirstWords, AreFirstAxioms, WordsAreSpelled, AxiomsAreSpelled};
+ghost use Rattle.lis_open.specs.ReadFiles.{no_files, is_described, described, AreListed, may_file, may_take_record, may_take_file, TakesRecord, TakesFile, AreFirstFiles, FilesAreTold};
 
+use crate::axioms::Axioms;
+use crate::blocks::LastBlock;
 use crate::mounting::OpenFault;
-use crate::words::{Words, are_assignable};
+use crate::naming::are_assignable;
+use crate::words::Words;
+use arrayvec::ArrayVec;
+use lis_bits::Rows;
 use lis_blockmap::BlockMap;
 use lis_catalog::Catalog;
+use lis_ext::Ext;
 use lis_fields::{FILE_LEN, FileRec, FileSlot, read_file};
 use lis_journal::Journal;
+use lis_kept::files_start;
 use lis_model::limits::Limits;
 use lis_model::spot::Spot;
 use lis_ports::{Disk, Failed};
-use lis_store::parts::file_slots;
+use lis_taxonomy::Taxonomy;
 use std::alloc::{AllocError, Global};
 
-/// The files of an image, and the data blocks that they use.
+/// The most words of a description.
+const MAX_WORDS: usize = 128;
+
+/// The files of an image, the data blocks that they use, and their descriptions.
 #[derive(Drop)]
 pub struct Files {
     pub catalog: Catalog,
     pub map: BlockMap,
+    /// By file slot: the numbers of the words of the file's description.
+    pub ext: Ext,
 }
 
 /// No files yet.
-#[tactic(auto, unfolding(crate::specs::Reading::no_files))]
+#[tactic(auto, unfolding(crate::specs::ReadFiles::no_files))]
 pub fn no_files(alloc: Global, limits: &Limits) -> Result<Files, AllocError>
     requires { IsTrue (are_in_range limits.now) }
     ensures { IfOk result (λ files. files ≡ no_files limits.now) }
@@ -41,11 +60,13 @@ pub fn no_files(alloc: Global, limits: &Limits) -> Result<Files, AllocError>
     Ok(Files {
         catalog: Catalog::new(alloc, limits.files)?,
         map: BlockMap::new(alloc, limits.blocks)?,
+        ext: Ext::new(alloc, limits.props, limits.files)?,
     })
 }
 
 // Reads a file slot. None comes where it is in no layout.
 fn read_slot<D: Disk>(
+    last: &mut LastBlock,
     disk: &mut D,
     journal: &Journal,
     limits: &Limits,
@@ -60,11 +81,12 @@ fn read_slot<D: Disk>(
     ensures reads { OnlyReads (D.meaning disk.old) (D.meaning disk.new) }
     ensures cause { HasCause (D.meaning disk.old).disk_faults (D.meaning disk.new).disk_faults result }
     ensures form { IfOk result (λ found. IfSome found (λ file. IsTrue (is_file file))) }
-    ensures read { IfOk result (λ found. (kept : ℕ → List ℕ) → Fits journal.now (D.meaning disk.old) kept
+    ensures recalls { (kept : ℕ → List ℕ) → Fits journal.now (D.meaning disk.old) kept → Recalls last.old kept → Recalls last.new kept }
+    ensures read { IfOk result (λ found. (kept : ℕ → List ℕ) → Fits journal.now (D.meaning disk.old) kept → Recalls last.old kept
         → IsReadAs file_bytes is_file (file_slots limits.now) kept slot found) }
 {
     let mut bytes = [0; FILE_LEN];
-    file_slots(limits).get(journal, disk, slot, &mut bytes)?;
+    last.read_slot(disk, journal, files_start(limits), slot, &mut bytes)?;
     Ok(read_file(&bytes))
 }
 
@@ -92,10 +114,54 @@ fn mark_all(map: &mut BlockMap, blocks: &[u16])
     }
 }
 
+// Makes a row of all that the numbers entail. The row behind it is for what one of them entails.
+fn gather(taxonomy: &Taxonomy, tags: &[u16], row: &mut Rows)
+    requires shape { HasShape row.old 2 taxonomy.now.props }
+    requires below { IsTrue (list_all (λ n. nat_lt n taxonomy.now.props) tags.now) }
+    ensures shape { HasShape row.new 2 taxonomy.now.props }
+    ensures bits { (n : ℕ) → n < taxonomy.now.props → get row.new 0 n ≡ is_described taxonomy.now tags.now n }
+{
+    row.fill(0, false);
+    for tag in tags {
+        taxonomy.ups(u32::from(*tag), row, 1);
+        row.or(0, 1);
+    }
+}
+
+// The numbers of the row, as they rise. None comes where there are more than a description may have.
+fn list_numbers(row: &Rows) -> Option<ArrayVec<u16, MAX_WORDS>>
+    requires shape { HasShape row.now 2 row.now.bits }
+    requires few { row.now.bits ≤ 8192 }
+    ensures { AreListed (numbers_where row.now.bits (get row.now 0)) (option_map (λ listed. listed.items) result) }
+{
+    let mut numbers = ArrayVec::new();
+    let mut start = 0;
+    while let Some(number) = row.next(0, start) {
+        if numbers.is_full() {
+            return None;
+        }
+        numbers.push(number as u16);
+        start = number + 1;
+    }
+    Some(numbers)
+}
+
+// The numbers of a file's description: all that its own words entail. It has no other words than those that it was given.
+fn describe(taxonomy: &Taxonomy, rec: &FileRec, row: &mut Rows) -> Option<ArrayVec<u16, MAX_WORDS>>
+    requires few { taxonomy.now.props ≤ 8192 }
+    requires shape { HasShape row.old 2 taxonomy.now.props }
+    requires below { IsTrue (list_all (λ n. nat_lt n taxonomy.now.props) rec.now.tags) }
+    ensures shape { HasShape row.new 2 taxonomy.now.props }
+    ensures listed { AreListed (described taxonomy.now rec.now.tags) (option_map (λ listed. listed.items) result) }
+{
+    gather(taxonomy, rec.tags.as_slice(), row);
+    list_numbers(row)
+}
+
 // Whether no file before has the name, the words may be given, and no file before uses one of the blocks.
-fn may_take(words: &Words, files: &Files, rec: &FileRec) -> bool
+fn may_file(words: &Words, files: &Files, rec: &FileRec) -> bool
     requires { AreWords words.now }
-    ensures { result ≡ may_take_record words.now files.now rec.now }
+    ensures { result ≡ may_file words.now files.now rec.now }
 {
     if files.catalog.slot_of(&rec.name).is_some() {
         return false;
@@ -106,59 +172,125 @@ fn may_take(words: &Words, files: &Files, rec: &FileRec) -> bool
     are_free(&files.map, rec.blocks.as_slice())
 }
 
-// Takes the file of a slot where the slot is in its layout and the file may be taken, and answers whether it is so.
-fn take_file(words: &Words, files: &mut Files, slot: u16, found: Option<FileSlot>) -> bool
+// Files a record, and gives its slot the numbers of its description.
+fn file(files: &mut Files, slot: u16, rec: FileRec, numbers: &[u16], taxonomy: &Taxonomy)
+    requires form { IsTrue (is_record rec) }
+    requires name { slot_of files.old.catalog rec.name ≡ None }
+    requires free { IsTrue (are_free files.old.map rec.blocks) }
+    requires below { slot < files.old.catalog.files }
+    requires empty { rec_at files.old.catalog slot ≡ None }
+    requires undescribed { set_of files.old.ext slot ≡ [] }
+    requires within { slot < length files.old.ext.sets }
+    requires props { files.old.ext.props ≡ taxonomy.now.props }
+    requires listed { numbers.now ≡ described taxonomy.now rec.tags }
+    ensures { TakesRecord taxonomy.now slot rec files.old files.new }
+{
+    mark_all(&mut files.map, rec.blocks.as_slice());
+    files.catalog.place(slot, rec);
+    // Its length tells what holds of every catalog.
+    let _files = files.catalog.len();
+    files.ext.set_file(u32::from(slot), &[], numbers);
+    files.ext.settle();
+}
+
+// Takes the file of a record where it may be taken, and answers whether it is so.
+fn take_record(
+    words: &Words,
+    axioms: &Axioms,
+    files: &mut Files,
+    row: &mut Rows,
+    slot: u16,
+    rec: FileRec,
+) -> bool
     requires are { AreWords words.now }
-    requires form { IfSome found (λ file. IsTrue (is_file file)) }
-    requires kept { IsCatalog files.old.catalog }
+    requires form { IsTrue (is_record rec) }
+    requires props { axioms.now.taxonomy.props ≡ words.now.dict.props }
+    requires rows { files.old.ext.props ≡ words.now.dict.props }
+    requires shape { HasShape row.old 2 words.now.dict.props }
     requires below { slot < files.old.catalog.files }
     requires free { rec_at files.old.catalog slot ≡ None }
-    ensures answer { result ≡ may_take_file words.now files.old found }
-    ensures taken { OnTrue result (files.new ≡ with_file files.old slot found) }
-    ensures kept { OnTrue result (IsCatalog files.new.catalog) }
+    requires undescribed { set_of files.old.ext slot ≡ [] }
+    requires within { slot < length files.old.ext.sets }
+    ensures shape { HasShape row.new 2 words.now.dict.props }
+    ensures answer { result ≡ may_take_record words.now axioms.now.taxonomy files.old rec }
+    ensures taken { OnTrue result (TakesRecord axioms.now.taxonomy slot rec files.old files.new) }
     ensures refused { OnFalse result (files.new ≡ files.old) }
 {
-    match found {
+    if !may_file(words, files, &rec) {
+        return false;
+    }
+    match describe(&axioms.taxonomy, &rec, row) {
         None => false,
-        Some(FileSlot::Free) => true,
-        Some(FileSlot::Used(rec)) => {
-            if !may_take(words, files, &rec) {
-                return false;
-            }
-            mark_all(&mut files.map, rec.blocks.as_slice());
-            files.catalog.place(slot, rec);
-            // Its length tells what holds of every catalog.
-            let _files = files.catalog.len();
+        Some(numbers) => {
+            file(files, slot, rec, numbers.as_slice(), &axioms.taxonomy);
             true
         }
     }
 }
 
+// Takes the file of a slot where the slot is in its layout and the file may be taken, and answers whether it is so.
+fn take_file(
+    words: &Words,
+    axioms: &Axioms,
+    files: &mut Files,
+    row: &mut Rows,
+    slot: u16,
+    found: Option<FileSlot>,
+) -> bool
+    requires are { AreWords words.now }
+    requires form { IfSome found (λ file. IsTrue (is_file file)) }
+    requires props { axioms.now.taxonomy.props ≡ words.now.dict.props }
+    requires rows { files.old.ext.props ≡ words.now.dict.props }
+    requires shape { HasShape row.old 2 words.now.dict.props }
+    requires below { slot < files.old.catalog.files }
+    requires free { rec_at files.old.catalog slot ≡ None }
+    requires undescribed { set_of files.old.ext slot ≡ [] }
+    requires within { slot < length files.old.ext.sets }
+    ensures shape { HasShape row.new 2 words.now.dict.props }
+    ensures answer { result ≡ may_take_file words.now axioms.now.taxonomy files.old found }
+    ensures taken { OnTrue result (TakesFile axioms.now.taxonomy slot found files.old files.new) }
+    ensures refused { OnFalse result (files.new ≡ files.old) }
+{
+    match found {
+        None => false,
+        Some(FileSlot::Free) => true,
+        Some(FileSlot::Used(rec)) => take_record(words, axioms, files, row, slot, rec),
+    }
+}
+
 /// Reads the file slots, in the order of their numbers.
 pub fn read_files<D: Disk>(
+    last: &mut LastBlock,
     disk: &mut D,
     journal: &Journal,
     limits: &Limits,
     words: &Words,
+    axioms: &Axioms,
     files: &mut Files,
+    row: &mut Rows,
 ) -> Result<(), OpenFault>
     requires range { IsTrue (are_in_range limits.now) }
     requires words { AreFirstWords limits.now words.now limits.now.props }
+    requires axioms { AreFirstAxioms limits.now words.now axioms.now (axiom_slots limits.now).count }
     requires none { files.old ≡ no_files limits.now }
+    requires shape { HasShape row.old 2 limits.now.props }
     requires image { journal.now.blocks ≡ image_blocks limits.now }
     requires clean { journal.now.staged ≡ [] }
     requires unbroken { journal.now.is_broken ≡ false }
     requires long { 4096 * journal.now.blocks ≤ (D.meaning disk.old).len }
+    ensures shape { HasShape row.new 2 limits.now.props }
     ensures reads { OnlyReads (D.meaning disk.old) (D.meaning disk.new) }
     ensures cause { HasPartCause (D.meaning disk.old).disk_faults (D.meaning disk.new).disk_faults result }
-    ensures read { OnOk result (AreFirstFiles limits.now words.now files.new limits.now.files) }
-    ensures ended { (kept : ℕ → List ℕ) → Fits journal.now (D.meaning disk.old) kept
+    ensures read { OnOk result (AreFirstFiles limits.now words.now axioms.now files.new limits.now.files) }
+    ensures recalls { (kept : ℕ → List ℕ) → Fits journal.now (D.meaning disk.old) kept → Recalls last.old kept → Recalls last.new kept }
+    ensures ended { (kept : ℕ → List ℕ) → Fits journal.now (D.meaning disk.old) kept → Recalls last.old kept
         → WordsAreSpelled limits.now kept words.now limits.now.props
-        → Ends limits.now kept 4 (FilesAreSpelled limits.now kept files.new limits.now.files) result }
+        → AxiomsAreSpelled limits.now kept axioms.now (axiom_slots limits.now).count
+        → Ends limits.now kept 4 (FilesAreTold limits.now kept words.now axioms.now files.new) result }
 {
     for slot in 0..limits.files {
-        let found = read_slot(disk, journal, limits, slot)?;
-        if !take_file(words, files, slot as u16, found) {
+        let found = read_slot(last, disk, journal, limits, slot)?;
+        if !take_file(words, axioms, files, row, slot as u16, found) {
             return Err(OpenFault::Damaged(Spot::File(slot)));
         }
     }

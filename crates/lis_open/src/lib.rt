@@ -1,12 +1,16 @@
 //! Makes and opens images.
 #![tactic(auto)]
 
+mod axioms;
+mod blocks;
 mod checks;
 mod clearing;
 mod files;
 mod making;
 mod mounting;
+mod naming;
 mod reading;
+mod room;
 #[cfg(test)]
 mod tests;
 mod words;

@@ -8,14 +8,15 @@ ghost use Rattle.lis_model.specs.declared.limits.Limits.{Limits as LimitsOf};
 ghost use Rattle.lis_model.specs.Image.{image_blocks};
 ghost use Rattle.lis_model.specs.State.{State};
 ghost use Rattle.lis_store.specs.Stands.{Stands};
-ghost use Rattle.lis_model.specs.Ranges.{are_in_range};
+ghost use Rattle.lis_fields.specs.Layouts.{is_super};
 ghost use Rattle.lis_open.specs.Opens.{HasOpenCause, HasSuper, OpenEnded, OpenLeft, InOpening};
 ghost use Rattle.lis_open.specs.Checks.{FailsFirst};
-ghost use Rattle.lis_open.specs.Reading.{OnlyReads, HasPartCause, Opened, LimitsRead};
+ghost use Rattle.lis_open.specs.Reading.{OnlyReads, Opened, LimitsRead};
 ghost use Rattle.lis_open.specs.declared.mounting.OpenFault.TheVariants.{TooShort, Damaged, DiskFault as DiskFailed};
 ghost use Rattle.lis_model.specs.declared.spot.Spot.{Spot as SpotOf};
 
 use crate::reading::read_store;
+use crate::room::take_room;
 use lis_fields::read_super;
 use lis_journal::{BLOCK_LEN, Journal, JournalFault};
 use lis_model::limits::{Limits, image_blocks};
@@ -84,8 +85,7 @@ fn read_limits<D: Disk>(disk: &mut D) -> Result<Limits, OpenFault>
     ensures small { (D.meaning disk.old).len < 4096
         → (result ≡ Err (TooShort (D.meaning disk.old).len 4096)) × (disk.new ≡ disk.old) }
     ensures numbers { (len need : ℕ) → result ≡ Err (TooShort len need) → (len ≡ (D.meaning disk.old).len) × (len < need) }
-    ensures range { IfOk result (λ limits. IsTrue (are_in_range limits)) }
-    ensures version { IfOk result (λ limits. limits.version ≡ 1) }
+    ensures range { IfOk result (λ limits. IsTrue (is_super limits)) }
     ensures long { IfOk result (λ limits. 4096 * image_blocks limits ≤ (D.meaning disk.new).len) }
     ensures ended { IsTrue (D.meaning disk.old).is_honest → LimitsRead (D.meaning disk.old) (D.meaning disk.new) result }
 {
@@ -107,14 +107,14 @@ fn read_limits<D: Disk>(disk: &mut D) -> Result<Limits, OpenFault>
 
 // Opens the image behind a super block of these limits.
 fn mount_image<D: Disk>(alloc: Global, disk: &mut D, limits: Limits) -> Result<Store, OpenFault>
-    requires range { IsTrue (are_in_range limits) }
-    requires version { limits.version ≡ 1 }
+    requires range { IsTrue (is_super limits) }
     requires long { 4096 * image_blocks limits ≤ (D.meaning disk.old).len }
     requires begins { IsTrue (D.meaning disk.old).is_honest → HasSuper limits (D.meaning disk.old).bytes }
     ensures run { IsDiskRun (D.meaning disk.old) (D.meaning disk.new) }
-    ensures cause { HasPartCause (D.meaning disk.old).disk_faults (D.meaning disk.new).disk_faults result }
+    ensures cause { HasOpenCause (D.meaning disk.old).disk_faults (D.meaning disk.new).disk_faults result }
+    ensures fits_disk { (len need : ℕ) → result ≡ Err (TooShort len need) → ⊥ }
     ensures opened { IsTrue (D.meaning disk.old).is_honest → Opened (D.meaning disk.old) (D.meaning disk.new) result }
-    ensures ready { IfOk result (λ store. store.journal.is_broken ≡ false) }
+    ensures ready { IfOk result (λ store. store.is_broken ≡ false) }
     ensures long { IfOk result (λ store. 4096 * store.journal.blocks ≤ (D.meaning disk.new).len) }
     ensures any_moment { IsTrue (D.meaning disk.old).is_honest
         → Leaves (D.meaning disk.old) (D.meaning disk.new) (InOpening (D.meaning disk.old)) }
@@ -122,11 +122,13 @@ fn mount_image<D: Disk>(alloc: Global, disk: &mut D, limits: Limits) -> Result<S
         → (result ≡ Err DiskFailed → IsSettledPast (image_blocks limits) (D.meaning disk.old))
         → KeepsPast (image_blocks limits) (D.meaning disk.old) (D.meaning disk.new) }
 {
+    let room = take_room(alloc, &limits)?;
     let journal = Journal::mount(alloc, disk, image_blocks(&limits))?;
-    read_store(alloc, disk, limits, journal)
+    read_store(disk, limits, journal, room)
 }
 
-/// Opens the image on a disk. It writes nothing but what an unfinished record asks for, and before its first sync nothing.
+/// Opens the image on a disk. It writes nothing but what unfinished records ask for, and before its first sync nothing. All memory is
+/// taken before that.
 pub fn mount<D: Disk>(alloc: Global, disk: &mut D) -> Result<Store, OpenFault>
     ensures run { IsDiskRun (D.meaning disk.old) (D.meaning disk.new) }
     ensures cause { HasOpenCause (D.meaning disk.old).disk_faults (D.meaning disk.new).disk_faults result }
@@ -140,7 +142,7 @@ pub fn mount<D: Disk>(alloc: Global, disk: &mut D) -> Result<Store, OpenFault>
     ensures numbers { (len need : ℕ) → result ≡ Err (TooShort len need) → (len ≡ (D.meaning disk.old).len) × (len < need) }
     ensures small { (D.meaning disk.old).len < 4096
         → (result ≡ Err (TooShort (D.meaning disk.old).len 4096)) × (disk.new ≡ disk.old) }
-    ensures ready { IfOk result (λ store. store.journal.is_broken ≡ false) }
+    ensures ready { IfOk result (λ store. store.is_broken ≡ false) }
     ensures long { IfOk result (λ store. 4096 * store.journal.blocks ≤ (D.meaning disk.new).len) }
 
     // Nothing is written but what an open gate asks for, whatever the image; and where the image stood for a state, each moment

@@ -1,59 +1,72 @@
 //! A store out of an image, behind its journal.
 
-ghost use Rattle.std.specs.Prelude.{◌≡◌, ◌*◌, ◌≤◌, ℕ, List, [], false, IsTrue, IfOk, OnOk};
+ghost use Rattle.std.specs.Prelude.{◌≡◌, ◌*◌, ◌≤◌, ℕ, List, Bool, [], None, false, IsTrue, IfOk, OnOk};
+ghost use Rattle.lis_bits.specs.Rows.{HasShape};
 ghost use Rattle.lis_journal.specs.Images.{Fits};
-ghost use Rattle.lis_fields.specs.Layouts.{super_bytes};
-ghost use Rattle.lis_model.specs.Ranges.{are_in_range};
+ghost use Rattle.lis_fields.specs.Layouts.{super_bytes, is_super};
 ghost use Rattle.lis_model.specs.Image.{image_blocks};
-ghost use Rattle.lis_open.specs.Reading.{OnlyReads, HasPartCause, no_words, no_files, AreRead, PartsEnded, StoreEnded};
+ghost use Rattle.lis_open.specs.Reading.{OnlyReads, HasPartCause};
+ghost use Rattle.lis_open.specs.ReadWords.{no_words, AreNoAxioms};
+ghost use Rattle.lis_open.specs.ReadFiles.{no_files};
+ghost use Rattle.lis_open.specs.ReadAll.{IsEmptyRoom, AreRead, PartsEnded, StoreEnded};
 
-use crate::checks::{check_axioms, check_bitmap, check_words};
-use crate::files::{Files, no_files, read_files};
+use crate::axioms::{Axioms, read_axioms};
+use crate::blocks::LastBlock;
+use crate::checks::{check_bitmap, check_rows, check_words};
+use crate::files::{Files, read_files};
 use crate::mounting::OpenFault;
-use crate::words::{Words, no_words, read_words};
+use crate::room::Room;
+use crate::words::{Words, read_words};
+use lis_bits::Rows;
 use lis_journal::Journal;
+use lis_kept::{Fields, Parts};
 use lis_model::limits::Limits;
 use lis_ports::Disk;
 use lis_store::{Built, Store};
-use std::alloc::Global;
 
-// Reads words and files, and checks all parts in their order.
+// Reads words, axioms and files, and checks all parts in their order.
 fn read_parts<D: Disk>(
-    alloc: Global,
     disk: &mut D,
     journal: &Journal,
     limits: &Limits,
     words: &mut Words,
+    axioms: &mut Axioms,
     files: &mut Files,
+    row: &mut Rows,
 ) -> Result<(), OpenFault>
-    requires range { IsTrue (are_in_range limits.now) }
+    requires range { IsTrue (is_super limits.now) }
     requires image { journal.now.blocks ≡ image_blocks limits.now }
     requires clean { journal.now.staged ≡ [] }
     requires unbroken { journal.now.is_broken ≡ false }
     requires long { 4096 * journal.now.blocks ≤ (D.meaning disk.old).len }
     requires no_words { words.old ≡ no_words limits.now }
+    requires no_axioms { AreNoAxioms limits.now axioms.old }
     requires no_files { files.old ≡ no_files limits.now }
+    requires shape { HasShape row.old 2 limits.now.props }
     ensures reads { OnlyReads (D.meaning disk.old) (D.meaning disk.new) }
     ensures cause { HasPartCause (D.meaning disk.old).disk_faults (D.meaning disk.new).disk_faults result }
-    ensures read { OnOk result (AreRead limits.now words.new files.new) }
-    ensures ended { (kept : ℕ → List ℕ) → Fits journal.now (D.meaning disk.old) kept → PartsEnded limits.now kept words.new files.new result }
+    ensures read { OnOk result ((marks : List Bool) → AreRead limits.now words.new axioms.new files.new marks) }
+    ensures ended { (kept : ℕ → List ℕ) → Fits journal.now (D.meaning disk.old) kept
+        → PartsEnded limits.now kept words.new axioms.new files.new result }
 {
-    read_words(disk, journal, limits, words)?;
-    check_axioms(disk, journal, limits)?;
-    read_files(disk, journal, limits, words, files)?;
-    check_words(alloc, limits, words, files)?;
-    check_bitmap(disk, journal, limits, &files.map)
+    let mut last = LastBlock::new();
+    read_words(&mut last, disk, journal, limits, words)?;
+    read_axioms(&mut last, disk, journal, limits, words, axioms)?;
+    read_files(&mut last, disk, journal, limits, words, axioms, files, row)?;
+    check_words(limits, words, axioms, files, row)?;
+    check_bitmap(disk, journal, limits, &files.map)?;
+    check_rows(&mut last, disk, journal, limits, &files.ext)
 }
 
-/// Reads all that a store keeps in memory, and checks that the image stands for a state.
+/// Reads all that a store keeps in memory, and checks that the image stands for a state. It takes no memory.
 pub fn read_store<D: Disk>(
-    alloc: Global,
     disk: &mut D,
     limits: Limits,
     journal: Journal,
+    room: Room,
 ) -> Result<Store, OpenFault>
-    requires range { IsTrue (are_in_range limits) }
-    requires version { limits.version ≡ 1 }
+    requires range { IsTrue (is_super limits) }
+    requires room { IsEmptyRoom limits room }
     requires image { journal.blocks ≡ image_blocks limits }
     requires clean { journal.staged ≡ [] }
     requires unplaced { journal.placed ≡ [] }
@@ -62,18 +75,30 @@ pub fn read_store<D: Disk>(
     ensures reads { OnlyReads (D.meaning disk.old) (D.meaning disk.new) }
     ensures cause { HasPartCause (D.meaning disk.old).disk_faults (D.meaning disk.new).disk_faults result }
     ensures journal { IfOk result (λ store. store.journal ≡ journal) }
+    ensures unbroken { IfOk result (λ store. store.is_broken ≡ false) }
     ensures ended { (kept : ℕ → List ℕ) → Fits journal (D.meaning disk.old) kept
         → kept 0 ≡ super_bytes limits → StoreEnded limits kept result }
 {
-    let mut words = no_words(alloc, &limits)?;
-    let mut files = no_files(alloc, &limits)?;
-    read_parts(alloc, disk, &journal, &limits, &mut words, &mut files)?;
-    Ok(Store::join(Built {
+    let mut room = room;
+    read_parts(
+        disk,
+        &journal,
+        &limits,
+        &mut room.words,
+        &mut room.axioms,
+        &mut room.files,
+        &mut room.row,
+    )?;
+    let parts = Parts::join(Fields {
         limits,
-        journal,
-        dict: words.dict,
-        declared: words.declared,
-        catalog: files.catalog,
-        map: files.map,
-    }))
+        dict: room.words.dict,
+        declared: room.words.declared,
+        axioms: room.axioms.slots,
+        taxonomy: room.axioms.taxonomy,
+        catalog: room.files.catalog,
+        map: room.files.map,
+        ext: room.files.ext,
+        marks: room.marks,
+    });
+    Ok(Store::join(Built { parts, journal }))
 }

@@ -2,6 +2,7 @@ ghost use Rattle.std.specs.Prelude.{◌≡◌, ◌<◌, ◌≤◌, ◌+◌, leng
 ghost use Rattle.lis_memdisk.specs.MemStation.{meaning_of};
 
 use crate::{MakeFault, OpenFault, make, mount};
+use lis_eval::View;
 use lis_memdisk::MemStation;
 use lis_model::limits::Limits;
 use lis_model::spot::Spot;
@@ -77,6 +78,7 @@ fn image_of_one_file(alloc: Global) -> Result<MemStation, Fail>
     put(&mut disk, 580 * 4_096 + 256, b"\x01\x04song")?;
     put(&mut disk, 580 * 4_096 + 256 + 62, &[1, 0, 2, 0, 0, 0, 5])?;
     put(&mut disk, 580 * 4_096 + 256 + 100, &[1])?;
+    put(&mut disk, 584 * 4_096 + 5 * 8, &[2])?;
     put(&mut disk, 585 * 4_096, &[2])?;
     Ok(disk)
 }
@@ -100,7 +102,8 @@ fn an_empty_image_is_opened(rt: HostRuntime) -> Result<(), Fail> {
     make(&mut disk, &LIMITS)?;
     let store = mount(rt.alloc(), &mut disk)?;
     assert!(rt; store.limits() == LIMITS);
-    assert_eq!(rt; store.known(rt.alloc())?.len(), 0);
+    assert!(rt; store.word_at(0).is_none());
+    assert!(rt; store.file_at(0).is_none());
     Ok(())
 }
 
@@ -108,10 +111,14 @@ fn an_empty_image_is_opened(rt: HostRuntime) -> Result<(), Fail> {
 fn an_image_of_one_file_is_opened(rt: HostRuntime) -> Result<(), Fail> {
     let mut disk = image_of_one_file(rt.alloc())?;
     let store = mount(rt.alloc(), &mut disk)?;
-    let known = store.known(rt.alloc())?;
-    assert_eq!(rt; known.len(), 1);
-    assert_eq!(rt; known[0].bytes(), b"rock".as_slice());
-    assert!(rt; store.is_declared(&known[0]));
+    let Some((word, number)) = store.word_at(0) else {
+        return Err(Fail::from("no word"));
+    };
+    assert_eq!(rt; word.bytes(), b"rock".as_slice());
+    assert_eq!(rt; number, 5);
+    assert!(rt; store.is_declared(&word));
+    assert!(rt; store.word_at(1).is_none());
+    assert!(rt; store.ext().has(5, 1));
     Ok(())
 }
 
@@ -153,6 +160,79 @@ fn a_bad_bitmap_is_found(rt: HostRuntime) -> Result<(), Fail> {
     assert!(rt; spot_of(alloc, bitmap, b"\x03")? == Some(Spot::Bitmap(0)));
     assert!(rt; spot_of(alloc, bitmap, b"\0")? == Some(Spot::Bitmap(1)));
     assert!(rt; spot_of(alloc, bitmap + 4_095, b"\x80")? == Some(Spot::Bitmap(32_767)));
+    Ok(())
+}
+
+#[test]
+fn a_bad_row_is_found(rt: HostRuntime) -> Result<(), Fail> {
+    let alloc = rt.alloc();
+    let rows = 584 * 4_096;
+    assert!(rt; spot_of(alloc, rows + 40, b"\0")? == Some(Spot::Row(5)));
+    assert!(rt; spot_of(alloc, rows + 7, b"\x80")? == Some(Spot::Row(0)));
+    assert!(rt; spot_of(alloc, rows + 64 * 8, b"\x01")? == Some(Spot::Row(64)));
+    assert!(rt; spot_of(alloc, rows + 4_095, b"\x01")? == Some(Spot::Row(64)));
+    Ok(())
+}
+
+// An image with the words `music`, `rock`, `year:` and `year:1999`, the axioms from `rock` and from `year:1999` to `music`, and `song`
+// with `rock`.
+fn image_of_axioms(alloc: Global) -> Result<MemStation, Fail>
+    ensures { IfOk result (λ disk. (meaning_of disk).len ≡ 2433024) }
+{
+    let mut disk = image_of_one_file(alloc)?;
+    put(&mut disk, 578 * 4_096, b"\x02\x05music")?;
+    put(&mut disk, 578 * 4_096 + 64, b"\x02\x05year:")?;
+    put(&mut disk, 578 * 4_096 + 128, b"\x01\x09year:1999")?;
+    put(&mut disk, 579 * 4_096 + 16, b"\x06\0\0\0\x01")?;
+    put(&mut disk, 579 * 4_096 + 32, b"\x03\0\0\0\x01")?;
+    put(&mut disk, 584 * 4_096, &[2])?;
+    Ok(disk)
+}
+
+// Where opening finds the image of axioms damaged, with these bytes written into it.
+fn spot_among_axioms(alloc: Global, at: u64, bytes: &[u8]) -> Result<Option<Spot>, Fail>
+    requires { at + length bytes.now ≤ 2433024 }
+{
+    let mut disk = image_of_axioms(alloc)?;
+    put(&mut disk, at, bytes)?;
+    match mount(alloc, &mut disk) {
+        Ok(_) => Ok(None),
+        Err(OpenFault::Damaged(spot)) => Ok(Some(spot)),
+        Err(_) => Err(Fail::from("another answer")),
+    }
+}
+
+#[test]
+fn an_image_of_axioms_is_opened(rt: HostRuntime) -> Result<(), Fail> {
+    let mut disk = image_of_axioms(rt.alloc())?;
+    let store = mount(rt.alloc(), &mut disk)?;
+    assert!(rt; store.taxonomy().entails(5, 0));
+    assert!(rt; store.taxonomy().entails(2, 1));
+    assert!(rt; store.taxonomy().entails(2, 0));
+    assert!(rt; !store.taxonomy().entails(1, 0));
+    assert!(rt; store.ext().has(0, 1));
+    assert!(rt; !store.ext().has(1, 1));
+    Ok(())
+}
+
+#[test]
+fn a_bad_axiom_is_found(rt: HostRuntime) -> Result<(), Fail> {
+    let alloc = rt.alloc();
+    let slots = 579 * 4_096;
+
+    // The pair is there already; a circle; a right side that is not plain; one that has no word; a slot past the last one.
+    assert!(rt; spot_among_axioms(alloc, slots + 24, b"\x06\0\0\0\x01")? == Some(Spot::Axiom(3)));
+    assert!(rt; spot_among_axioms(alloc, slots, b"\x01\0\0\0\x06")? == Some(Spot::Axiom(2)));
+    assert!(rt; spot_among_axioms(alloc, slots, b"\x01\0\0\0\x01")? == Some(Spot::Axiom(0)));
+    assert!(rt; spot_among_axioms(alloc, slots, b"\x01\0\0\0\x02")? == Some(Spot::Axiom(0)));
+    assert!(rt; spot_among_axioms(alloc, slots, b"\x01\0\0\0\x05")? == Some(Spot::Axiom(0)));
+    assert!(rt; spot_among_axioms(alloc, slots + 512, b"\x06\0\0\0\x01")? == Some(Spot::Axiom(64)));
+
+    // A head that is not there makes the axiom of its word bad; without the axiom, the word is one that nothing knows.
+    assert!(rt;
+        spot_among_axioms(alloc, slots - 4_096 + 64, b"\0\0\0\0\0\0\0")? == Some(Spot::Axiom(4))
+    );
+    assert!(rt; spot_among_axioms(alloc, slots + 32, b"\0\0\0\0\0")? == Some(Spot::Word(2)));
     Ok(())
 }
 

@@ -1,0 +1,131 @@
+-- What is checked behind words, axioms and files, and how all parts are joined. No public clause cites this module.
+use Rattle.std.specs.Prelude.{◌≡◌, ℕ, ◌≤◌, ◌<◌, nat_lt, Bool, true, false, not, ◌&&◌, if◌then◌else◌, is_some, Result, Ok, Err, List, length, replicate, IsTrue}
+use Rattle.lis_bits.specs.Rows.{HasShape}
+use Rattle.lis_slots.specs.Slots.{slot}
+use Rattle.lis_blockmap.specs.Bitmap.{bitmap_bytes, IsFirstDifference}
+use Rattle.lis_dict.specs.Dict.{word_of}
+use Rattle.lis_ext.specs.Ext.{Ext}
+use Rattle.lis_model.specs.declared.limits.Limits.{Limits}
+use Rattle.lis_model.specs.declared.spot.Spot.{Spot}
+use Rattle.lis_model.specs.declared.spot.Spot.TheVariants.{Word, Bitmap, Row}
+use Rattle.lis_model.specs.Image.{bitmap_start, data_start}
+use Rattle.lis_model.specs.State.{State}
+use Rattle.lis_kept.specs.Kept.{Kept, kept_of}
+use Rattle.lis_kept.specs.Areas.{IsWritten, axiom_slots, row_slots}
+use Rattle.lis_kept.specs.Rows.{row_bytes}
+use Rattle.lis_kept.specs.Telling.{Tells, is_used}
+use Rattle.lis_store.specs.Stored.{Stored}
+use Rattle.lis_open.specs.declared.mounting.OpenFault.{OpenFault}
+use Rattle.lis_open.specs.declared.mounting.OpenFault.TheVariants.{TooShort, Damaged, DiskFault, NoMemory}
+use Rattle.lis_open.specs.declared.words.Words.{Words}
+use Rattle.lis_open.specs.declared.axioms.Axioms.{Axioms}
+use Rattle.lis_open.specs.declared.files.Files.{Files}
+use Rattle.lis_open.specs.declared.room.Room.{Room}
+use Rattle.lis_open.specs.Reading.{PartsFail}
+use Rattle.lis_open.specs.ReadWords.{no_words, AreNoAxioms, AreFirstWords, AreFirstAxioms, WordsAreSpelled, AxiomsAreSpelled}
+use Rattle.lis_open.specs.ReadFiles.{no_files, AreFirstFiles, FilesAreTold}
+
+-- ---- memory
+-- a mark for each block before the data blocks, and no block is marked
+pub record AreNoMarks (limits : Limits) (marks : List Bool) : Type 0 where
+  pub long : data_start limits ≤ length marks
+  pub none : marks ≡ replicate (length marks) false
+
+-- nothing was read yet
+pub record IsEmptyRoom (limits : Limits) (room : Room) : Type 0 where
+  pub words : room.words ≡ no_words limits
+  pub axioms : AreNoAxioms limits room.axioms
+  pub files : room.files ≡ no_files limits
+  pub row : HasShape room.row 2 limits.props
+  pub marks : AreNoMarks limits room.marks
+
+-- what memory keeps of what was read
+abbrev pub kept_in : Limits → Words → Axioms → Files → List Bool → Kept
+kept_in limits words axioms files marks =
+    kept_of limits words.dict words.declared axioms.slots.items files.catalog files.map files.ext marks
+
+-- ---- words in use
+-- it has a word that is not in use
+abbrev pub is_stray : Kept → ℕ → Bool
+is_stray k n = is_some (word_of k.dict n) && not (is_used k n)
+
+pub record IsFirstStray (k : Kept) (n : ℕ) : Type 0 where
+  pub below : n < k.limits.props
+  pub stray : IsTrue (is_stray k n)
+  pub none_before : (m : ℕ) → m < n → is_stray k m ≡ false
+
+abbrev pub HasStray : Kept → OpenFault → Type 0
+HasStray k (Damaged spot) = (n : ℕ) × (spot ≡ Word n) × IsFirstStray k n
+HasStray k NoMemory = ⊥
+HasStray k DiskFault = ⊥
+HasStray k (TooShort len need) = ⊥
+
+abbrev pub WordsChecked : {T : Type 0} → Kept → Result T OpenFault → Type 0
+WordsChecked k (Ok done) = (n : ℕ) → is_stray k n ≡ false
+WordsChecked k (Err fault) = HasStray k fault
+
+-- ---- the bitmap
+abbrev pub Differs : List ℕ → List Bool → OpenFault → Type 0
+Differs bytes taken (Damaged spot) = (n : ℕ) × (spot ≡ Bitmap n) × IsFirstDifference bytes taken n
+Differs bytes taken DiskFault = Unit {0}
+Differs bytes taken NoMemory = ⊥
+Differs bytes taken (TooShort len need) = ⊥
+
+abbrev pub BitmapChecked : {T : Type 0} → List ℕ → List Bool → Result T OpenFault → Type 0
+BitmapChecked bytes taken (Ok done) = bytes ≡ bitmap_bytes taken
+BitmapChecked bytes taken (Err fault) = Differs bytes taken fault
+
+-- ---- rows
+-- a row slot is spelled by what memory keeps, which is zeros past the last number
+abbrev pub IsRowSpelled : Limits → (ℕ → List ℕ) → Ext → ℕ → Type 0
+IsRowSpelled limits at ext p = slot (row_slots limits) at p ≡ row_bytes ext p
+
+pub record IsFirstRow (limits : Limits) (at : ℕ → List ℕ) (ext : Ext) (p : ℕ) : Type 0 where
+  pub below : p < (row_slots limits).count
+  pub differs : IsRowSpelled limits at ext p → ⊥
+  pub same_before : (q : ℕ) → q < p → IsRowSpelled limits at ext q
+
+-- the rows behind the last one count as one
+abbrev pub row_place : Limits → ℕ → ℕ
+row_place limits p = if nat_lt p limits.props then p else limits.props
+
+abbrev pub RowDiffers : Limits → (ℕ → List ℕ) → Ext → OpenFault → Type 0
+RowDiffers limits at ext (Damaged spot) = (p : ℕ) × (spot ≡ Row (row_place limits p)) × IsFirstRow limits at ext p
+RowDiffers limits at ext DiskFault = Unit {0}
+RowDiffers limits at ext NoMemory = ⊥
+RowDiffers limits at ext (TooShort len need) = ⊥
+
+abbrev pub RowsChecked : {T : Type 0} → Limits → (ℕ → List ℕ) → Ext → Result T OpenFault → Type 0
+RowsChecked limits at ext (Ok done) = (p : ℕ) → p < (row_slots limits).count → IsRowSpelled limits at ext p
+RowsChecked limits at ext (Err fault) = RowDiffers limits at ext fault
+
+-- ---- all parts
+-- words, axioms and files of all slots, and each word is in use
+pub record AreRead (limits : Limits) (words : Words) (axioms : Axioms) (files : Files) (marks : List Bool) : Type 0 where
+  pub words_are : AreFirstWords limits words limits.props
+  pub axioms_are : AreFirstAxioms limits words axioms (axiom_slots limits).count
+  pub files_are : AreFirstFiles limits words axioms files limits.files
+  pub used : (n : ℕ) → is_stray (kept_in limits words axioms files marks) n ≡ false
+
+-- the blocks of all parts are spelled by them
+pub record AreSpelled (limits : Limits) (at : ℕ → List ℕ) (words : Words) (axioms : Axioms) (files : Files) : Type 0 where
+  pub properties : WordsAreSpelled limits at words limits.props
+  pub pairs : AxiomsAreSpelled limits at axioms (axiom_slots limits).count
+  pub records : FilesAreTold limits at words axioms files
+  pub bitmap : at (bitmap_start limits) ≡ bitmap_bytes files.map
+  pub rows : (p : ℕ) → p < (row_slots limits).count → IsRowSpelled limits at files.ext p
+
+-- how reading all parts ended
+abbrev pub PartsEnded : {T : Type 0} → Limits → (ℕ → List ℕ) → Words → Axioms → Files → Result T OpenFault → Type 0
+PartsEnded limits at words axioms files (Ok done) = AreSpelled limits at words axioms files
+PartsEnded limits at words axioms files (Err fault) = PartsFail limits at fault
+
+-- a store that tells a state, and is written there
+pub record StoreTells (at : ℕ → List ℕ) (store : Stored) : Type 0 where
+  pub state : State
+  pub tells : Tells store.parts at state
+  pub written : IsWritten store.parts at
+
+abbrev pub StoreEnded : Limits → (ℕ → List ℕ) → Result Stored OpenFault → Type 0
+StoreEnded limits at (Ok store) = StoreTells at store
+StoreEnded limits at (Err fault) = PartsFail limits at fault

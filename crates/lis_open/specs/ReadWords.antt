@@ -1,0 +1,155 @@
+-- What is read of words and axioms. No public clause cites this module.
+use Rattle.std.specs.Prelude.{◌≡◌, ◌⊎◌, ℕ, ◌≤◌, ◌<◌, nat_lt, Bool, true, false, not, ◌&&◌, ◌||◌, is_some, Option, Some, None, List, [], filter, length, replicate, slice_get, slice_set, IsTrue, IsSome}
+use Rattle.lis_slots.specs.Slots.{slot}
+use Rattle.lis_blockmap.specs.Bitmap.{is_taken}
+use Rattle.lis_dict.specs.Dict.{Dict, IsDict, number_of, word_of, with_entry, words as words_of}
+use Rattle.lis_ext.specs.Ext.{empty_ext}
+use Rattle.lis_taxonomy.specs.Taxonomy.{Taxonomy, has_edge, with_edge, empty_taxonomy, Entails as Leads}
+use Rattle.lis_fields.specs.declared.slots.PropSlot.{PropSlot}
+use Rattle.lis_fields.specs.declared.slots.PropSlot.TheVariants.{Free as FreeProp, Known, Declared}
+use Rattle.lis_fields.specs.declared.slots.AxiomSlot.{AxiomSlot}
+use Rattle.lis_fields.specs.declared.slots.AxiomSlot.TheVariants.{Free as FreeAxiom, Pair}
+use Rattle.lis_fields.specs.Layouts.{prop_bytes, is_prop, axiom_bytes}
+use Rattle.lis_words.specs.Words.{is_plain_word, is_valued, head_bytes, has_word}
+use Rattle.lis_model.specs.declared.limits.Limits.{Limits}
+use Rattle.lis_model.specs.State.{Acyclic, is_nameable}
+use Rattle.lis_kept.specs.Kept.{Kept, kept_of, property_at, axiom_at}
+use Rattle.lis_kept.specs.Areas.{property_slots, axiom_slots}
+use Rattle.lis_kept.specs.Edges.{head_number}
+use Rattle.lis_kept.specs.Telling.{bit_of, declared_of, axioms_of, is_head_by}
+use Rattle.lis_kept.specs.Links.{TellsLinks}
+use Rattle.lis_open.specs.declared.words.Words.{Words}
+use Rattle.lis_open.specs.declared.axioms.Axioms.{Axioms}
+
+-- ---- words
+unfoldable pub no_words : Limits → Words
+no_words limits = record { dict = record { props = limits.props; entries = [] }; declared = replicate limits.props false }
+
+-- the words, with one more of that number
+abbrev pub with_word : Words → ℕ → List ℕ → Bool → Words
+with_word words number word is_declared = record {
+  dict = with_entry words.dict word number;
+  declared = slice_set words.declared number is_declared;
+}
+
+-- no word is the word of the slot
+abbrev pub is_new_word : Words → List ℕ → Bool
+is_new_word words word = not (is_some (number_of words.dict word))
+
+-- what was read of a property slot may be taken
+abbrev pub may_take_property : Words → Option PropSlot → Bool
+may_take_property words None = false
+may_take_property words (Some FreeProp) = true
+may_take_property words (Some (Known word)) = is_new_word words word
+may_take_property words (Some (Declared word)) = is_new_word words word
+
+-- and the words with it
+abbrev pub with_property : Words → ℕ → Option PropSlot → Words
+with_property words number None = words
+with_property words number (Some FreeProp) = words
+with_property words number (Some (Known word)) = with_word words number word false
+with_property words number (Some (Declared word)) = with_word words number word true
+
+-- what holds of words however they were read
+pub record AreWords (words : Words) : Type 0 where
+  pub dict : IsDict words.dict
+  pub few : words.dict.props ≤ 8192
+  pub long : length words.declared ≡ words.dict.props
+  pub forms : (n : ℕ) → IsTrue (is_prop (property_at words.dict words.declared n))
+  -- what is declared has a word
+  pub flagged : (n : ℕ) → is_taken words.declared n ≡ true → IsSome (word_of words.dict n)
+
+-- those of the slots below the end
+pub record AreFirstWords (limits : Limits) (words : Words) (end : ℕ) : Type 0 where
+  pub are : AreWords words
+  pub props : words.dict.props ≡ limits.props
+  pub rest : (n : ℕ) → end ≤ n → word_of words.dict n ≡ None
+
+-- the slots below the end are spelled by them
+abbrev pub WordsAreSpelled : Limits → (ℕ → List ℕ) → Words → ℕ → Type 0
+WordsAreSpelled limits at words end =
+    (n : ℕ) → n < end → slot (property_slots limits) at n ≡ prop_bytes (property_at words.dict words.declared n)
+
+-- the declared words, in byte order
+abbrev pub declared_words : Words → List (List ℕ)
+declared_words words = filter (λ word. bit_of words.declared (number_of words.dict word)) (words_of words.dict)
+
+-- what memory keeps of words and axioms, with no file
+abbrev pub kept_words : Limits → Words → List AxiomSlot → Kept
+kept_words limits words axioms =
+    kept_of limits words.dict words.declared axioms (record { files = limits.files; entries = [] }) (replicate limits.blocks false)
+    (empty_ext limits.props limits.files) []
+
+-- ---- links to heads
+-- the number of the head of a valued word, if there is a word
+abbrev pub head_by : Dict → Option (List ℕ) → Option ℕ
+head_by dict None = None
+head_by dict (Some word) = head_number dict word
+
+-- the edges are those from the words of the numbers below the end to their heads
+pub record LinksHeads (words : Words) (end : ℕ) (t : Taxonomy) : Type 0 where
+  pub props : t.props ≡ words.dict.props
+  pub edges : (p q : ℕ) → has_edge t p q ≡ (nat_lt p end && is_head_by (word_of words.dict p) (word_of words.dict q))
+
+-- ---- axioms
+-- Axiom slots that are free, and no links yet.
+pub record AreNoAxioms (limits : Limits) (axioms : Axioms) : Type 0 where
+  pub slots : axioms.slots.items ≡ replicate (axiom_slots limits).count FreeAxiom
+  pub taxonomy : axioms.taxonomy ≡ empty_taxonomy limits.props
+
+-- an axiom may lead to the word
+abbrev pub is_right : Words → Option (List ℕ) → Bool
+is_right words None = false
+is_right words (Some word) = is_plain_word word && has_word (declared_words words) word
+
+-- an axiom may name the word on its left, and the head of a valued one has a number
+abbrev pub is_left : Words → Option (List ℕ) → Bool
+is_left words None = false
+is_left words (Some word) = is_nameable (declared_words words) word && (not (is_valued word) || is_some (number_of words.dict (head_bytes word)))
+
+-- the sides of an axiom are words that it may have
+abbrev pub are_sides : Words → ℕ → ℕ → Bool
+are_sides words left right = is_left words (word_of words.dict left) && is_right words (word_of words.dict right)
+
+-- the axiom was taken into the slot: it is neither there, nor does it close a circle
+pub record TakesPair (limits : Limits) (words : Words) (k left right : ℕ) (old new : Axioms) : Type 0 where
+  pub below : k < limits.props
+  pub sides : IsTrue (are_sides words left right)
+  pub absent : has_edge old.taxonomy left right ≡ false
+  pub open_end : Leads old.taxonomy right left → ⊥
+  pub slots : new.slots.items ≡ slice_set old.slots.items k (Pair left right)
+  pub taxonomy : new.taxonomy ≡ with_edge old.taxonomy left right
+
+abbrev pub TakesAxiom : Limits → Words → ℕ → Option AxiomSlot → Axioms → Axioms → Type 0
+TakesAxiom limits words k None old new = ⊥
+TakesAxiom limits words k (Some FreeAxiom) old new = new ≡ old
+TakesAxiom limits words k (Some (Pair left right)) old new = TakesPair limits words k left right old new
+
+-- why the axiom was not taken
+abbrev pub RefusesPair : Limits → Words → ℕ → ℕ → ℕ → Axioms → Type 0
+RefusesPair limits words k left right old =
+    (limits.props ≤ k) ⊎ (are_sides words left right ≡ false) ⊎ IsTrue (has_edge old.taxonomy left right) ⊎ Leads old.taxonomy right left
+
+abbrev pub RefusesAxiom : Limits → Words → ℕ → Option AxiomSlot → Axioms → Type 0
+RefusesAxiom limits words k None old = Unit {0}
+RefusesAxiom limits words k (Some FreeAxiom) old = ⊥
+RefusesAxiom limits words k (Some (Pair left right)) old = RefusesPair limits words k left right old
+
+-- the axiom of a slot is one that a state may have
+pub record IsGoodPair (limits : Limits) (words : Words) (k left right : ℕ) : Type 0 where
+  pub below : k < limits.props
+  pub sides : IsTrue (are_sides words left right)
+
+-- Those of the slots below the end, no two of them the same, with all links between words.
+pub record AreFirstAxioms (limits : Limits) (words : Words) (axioms : Axioms) (end : ℕ) : Type 0 where
+  pub count : length axioms.slots.items ≡ (axiom_slots limits).count
+  pub rest : (n : ℕ) → end ≤ n → axiom_at axioms.slots.items n ≡ FreeAxiom
+  pub good : (k left right : ℕ) → slice_get axioms.slots.items k ≡ Some (Pair left right) → IsGoodPair limits words k left right
+  pub apart : (k other left right : ℕ) → slice_get axioms.slots.items k ≡ Some (Pair left right) → slice_get axioms.slots.items other ≡ Some (Pair left right) → k ≡ other
+  pub links : TellsLinks (kept_words limits words axioms.slots.items) axioms.taxonomy
+  pub acyclic : Acyclic (declared_words words) (axioms_of (kept_words limits words axioms.slots.items))
+
+-- the slots below the end are spelled by them
+abbrev pub AxiomsAreSpelled : Limits → (ℕ → List ℕ) → Axioms → ℕ → Type 0
+AxiomsAreSpelled limits at axioms end =
+    (n : ℕ) → n < end → slot (axiom_slots limits) at n ≡ axiom_bytes (axiom_at axioms.slots.items n)

@@ -1,0 +1,214 @@
+//! The axioms of an image: its axiom slots, and the links that its words have.
+
+ghost use Rattle.std.specs.Prelude.{◌≡◌, ◌≢◌, ◌*◌, ◌<◌, ◌≤◌, ℕ, List, [], length, false, Some, None, IsTrue, IfOk, IfSome, OnOk};
+ghost use Rattle.std.specs.Bool.{OnTrue, OnFalse};
+ghost use Rattle.lis_ports.specs.Calls.{HasCause};
+ghost use Rattle.lis_journal.specs.Images.{Fits};
+ghost use Rattle.lis_dict.specs.Dict.{word_of};
+ghost use Rattle.lis_taxonomy.specs.Taxonomy.{has_edge, empty_taxonomy};
+ghost use Rattle.lis_fields.specs.Layouts.{axiom_bytes, is_axiom};
+ghost use Rattle.lis_model.specs.Ranges.{are_in_range};
+ghost use Rattle.lis_model.specs.Image.{image_blocks};
+ghost use Rattle.lis_kept.specs.Areas.{axiom_slots};
+ghost use Rattle.lis_kept.specs.Edges.{with_edge_to};
+ghost use Rattle.lis_open.specs.Reading.{OnlyReads, HasPartCause, Recalls, IsReadAs, Ends};
+ghost use Rattle.lis_open.specs.ReadWords.{AreNoAxioms, AreWords, AreFirstWords, WordsAreSpelled, head_by, LinksHeads, are_sides, TakesPair, TakesAxiom, RefusesPair, RefusesAxiom, AreFirstAxioms, AxiomsAreSpelled};
+
+use crate::blocks::LastBlock;
+use crate::mounting::OpenFault;
+use crate::naming::{is_left, is_right};
+use crate::words::Words;
+use lis_fields::{AXIOM_LEN, AxiomSlot, read_axiom};
+use lis_journal::Journal;
+use lis_kept::axioms_start;
+use lis_model::limits::Limits;
+use lis_model::spot::Spot;
+use lis_ports::{Disk, Failed};
+use lis_taxonomy::Taxonomy;
+use lis_words::head_of;
+use std::alloc::{AllocError, Global};
+
+/// The axioms of an image, and all links between its words.
+#[derive(Drop)]
+pub struct Axioms {
+    /// By slot, as many as whole blocks have.
+    pub slots: Vec<AxiomSlot>,
+    pub taxonomy: Taxonomy,
+}
+
+// How many axiom slots there are, in whole blocks.
+fn slot_count(limits: &Limits) -> u32
+    requires { IsTrue (are_in_range limits.now) }
+    ensures { result ≡ (axiom_slots limits.now).count }
+{
+    512 * limits.props.div_ceil(512)
+}
+
+/// No axioms yet, and no links.
+pub fn no_axioms(alloc: Global, limits: &Limits) -> Result<Axioms, AllocError>
+    requires { IsTrue (are_in_range limits.now) }
+    ensures { IfOk result (AreNoAxioms limits.now) }
+{
+    Ok(Axioms {
+        slots: vec![in alloc; AxiomSlot::Free; slot_count(limits) as usize]?,
+        taxonomy: Taxonomy::new(alloc, limits.props)?,
+    })
+}
+
+// The number of the head of a number's word, where it is valued.
+fn head_number(words: &Words, number: u16) -> Option<u16>
+    ensures { result ≡ head_by words.now.dict (word_of words.now.dict number) }
+{
+    let word = words.dict.word_of(number)?;
+    let head = head_of(&word)?;
+    words.dict.id_of(&head)
+}
+
+// Adds the edge from a number without edges to that of its head, if it has one.
+fn link_head(taxonomy: &mut Taxonomy, number: u16, head: Option<u16>)
+    requires number { number < taxonomy.old.props }
+    requires head { IfSome head (λ h. h < taxonomy.old.props) }
+    requires apart { head ≢ Some number }
+    requires to { IfSome head (λ h. (x : ℕ) → has_edge taxonomy.old x number ≡ false) }
+    requires from { (x : ℕ) → has_edge taxonomy.old number x ≡ false }
+    ensures { taxonomy.new ≡ with_edge_to taxonomy.old number head }
+{
+    let Some(head) = head else {
+        return;
+    };
+    let Ok(()) = taxonomy.add(u32::from(number), u32::from(head)) else {
+        unreachable!()
+    };
+}
+
+// Links each valued word to its head, where this has a number.
+fn link_heads(limits: &Limits, words: &Words, taxonomy: &mut Taxonomy)
+    requires range { IsTrue (are_in_range limits.now) }
+    requires words { AreFirstWords limits.now words.now limits.now.props }
+    requires none { taxonomy.old ≡ empty_taxonomy limits.now.props }
+    ensures { LinksHeads words.now limits.now.props taxonomy.new }
+{
+    for number in 0..limits.props {
+        let number = number as u16;
+        link_head(taxonomy, number, head_number(words, number));
+    }
+}
+
+// Reads an axiom slot. None comes where it is in no layout.
+fn read_axiom_slot<D: Disk>(
+    last: &mut LastBlock,
+    disk: &mut D,
+    journal: &Journal,
+    limits: &Limits,
+    k: u32,
+) -> Result<Option<AxiomSlot>, Failed>
+    requires range { IsTrue (are_in_range limits.now) }
+    requires k { k < (axiom_slots limits.now).count }
+    requires image { journal.now.blocks ≡ image_blocks limits.now }
+    requires clean { journal.now.staged ≡ [] }
+    requires unbroken { journal.now.is_broken ≡ false }
+    requires long { 4096 * journal.now.blocks ≤ (D.meaning disk.old).len }
+    ensures reads { OnlyReads (D.meaning disk.old) (D.meaning disk.new) }
+    ensures cause { HasCause (D.meaning disk.old).disk_faults (D.meaning disk.new).disk_faults result }
+    ensures form { IfOk result (λ found. IfSome found (λ value. IsTrue (is_axiom value))) }
+    ensures recalls { (kept : ℕ → List ℕ) → Fits journal.now (D.meaning disk.old) kept → Recalls last.old kept → Recalls last.new kept }
+    ensures read { IfOk result (λ found. (kept : ℕ → List ℕ) → Fits journal.now (D.meaning disk.old) kept → Recalls last.old kept
+        → IsReadAs axiom_bytes is_axiom (axiom_slots limits.now) kept k found) }
+{
+    let mut bytes = [0; AXIOM_LEN];
+    last.read_slot(disk, journal, axioms_start(limits), k, &mut bytes)?;
+    Ok(read_axiom(&bytes))
+}
+
+// Whether the numbers are those of words that an axiom may have.
+fn are_sides(words: &Words, left: u32, right: u32) -> bool
+    requires { AreWords words.now }
+    ensures { result ≡ are_sides words.now left right }
+{
+    is_left(words, left) && is_right(words, right)
+}
+
+// Takes the axiom of a slot where it may have its words, is in no slot before and closes no circle. Answers whether it is so.
+fn take_pair(
+    limits: &Limits,
+    words: &Words,
+    axioms: &mut Axioms,
+    k: u32,
+    left: u32,
+    right: u32,
+) -> bool
+    requires words { AreFirstWords limits.now words.now limits.now.props }
+    requires axioms { AreFirstAxioms limits.now words.now axioms.old k }
+    requires below { k < (axiom_slots limits.now).count }
+    ensures taken { OnTrue result (TakesPair limits.now words.now k left right axioms.old axioms.new) }
+    ensures why { OnFalse result (RefusesPair limits.now words.now k left right axioms.old) }
+    ensures refused { OnFalse result (axioms.new ≡ axioms.old) }
+{
+    if k >= limits.props {
+        return false;
+    }
+    if !are_sides(words, left, right) {
+        return false;
+    }
+    if axioms.taxonomy.add(left, right).is_err() {
+        return false;
+    }
+    axioms.slots[k as usize] = AxiomSlot::Pair(left, right);
+    true
+}
+
+// Takes what was read of a slot, and answers whether it may be taken.
+fn take_axiom(
+    limits: &Limits,
+    words: &Words,
+    axioms: &mut Axioms,
+    k: u32,
+    found: Option<AxiomSlot>,
+) -> bool
+    requires words { AreFirstWords limits.now words.now limits.now.props }
+    requires axioms { AreFirstAxioms limits.now words.now axioms.old k }
+    requires below { k < (axiom_slots limits.now).count }
+    ensures taken { OnTrue result (TakesAxiom limits.now words.now k found axioms.old axioms.new) }
+    ensures why { OnFalse result (RefusesAxiom limits.now words.now k found axioms.old) }
+    ensures refused { OnFalse result (axioms.new ≡ axioms.old) }
+{
+    match found {
+        None => false,
+        Some(AxiomSlot::Free) => true,
+        Some(AxiomSlot::Pair(left, right)) => take_pair(limits, words, axioms, k, left, right),
+    }
+}
+
+/// Links heads, and reads the axiom slots in the order of their numbers.
+pub fn read_axioms<D: Disk>(
+    last: &mut LastBlock,
+    disk: &mut D,
+    journal: &Journal,
+    limits: &Limits,
+    words: &Words,
+    axioms: &mut Axioms,
+) -> Result<(), OpenFault>
+    requires range { IsTrue (are_in_range limits.now) }
+    requires words { AreFirstWords limits.now words.now limits.now.props }
+    requires none { AreNoAxioms limits.now axioms.old }
+    requires image { journal.now.blocks ≡ image_blocks limits.now }
+    requires clean { journal.now.staged ≡ [] }
+    requires unbroken { journal.now.is_broken ≡ false }
+    requires long { 4096 * journal.now.blocks ≤ (D.meaning disk.old).len }
+    ensures reads { OnlyReads (D.meaning disk.old) (D.meaning disk.new) }
+    ensures cause { HasPartCause (D.meaning disk.old).disk_faults (D.meaning disk.new).disk_faults result }
+    ensures read { OnOk result (AreFirstAxioms limits.now words.now axioms.new (axiom_slots limits.now).count) }
+    ensures recalls { (kept : ℕ → List ℕ) → Fits journal.now (D.meaning disk.old) kept → Recalls last.old kept → Recalls last.new kept }
+    ensures ended { (kept : ℕ → List ℕ) → Fits journal.now (D.meaning disk.old) kept → Recalls last.old kept
+        → WordsAreSpelled limits.now kept words.now limits.now.props
+        → Ends limits.now kept 3 (AxiomsAreSpelled limits.now kept axioms.new (axiom_slots limits.now).count) result }
+{
+    link_heads(limits, words, &mut axioms.taxonomy);
+    for k in 0..slot_count(limits) {
+        let found = read_axiom_slot(last, disk, journal, limits, k)?;
+        if !take_axiom(limits, words, axioms, k, found) {
+            return Err(OpenFault::Damaged(Spot::Axiom(k)));
+        }
+    }
+    Ok(())
+}

@@ -1,0 +1,86 @@
+//! Slots of an image, each block read once.
+
+ghost use Rattle.std.specs.Prelude.{◌≡◌, ◌+◌, ◌*◌, ◌/◌, ◌%◌, ◌<◌, ◌≤◌, ℕ, List, [], None, Some, false, length, OnOk};
+ghost use Rattle.lis_ports.specs.Calls.{HasCause};
+ghost use Rattle.lis_journal.specs.Images.{Fits};
+ghost use Rattle.lis_slots.specs.Slots.{slot};
+ghost use Rattle.lis_open.specs.Reading.{OnlyReads, Recalls};
+
+use lis_journal::{BLOCK_LEN, Journal};
+use lis_ports::{Disk, Failed};
+
+/// The block of a journal that was read last.
+#[derive(Drop)]
+pub struct LastBlock {
+    // None where no block was read.
+    number: Option<u32>,
+    bytes: [u8; BLOCK_LEN],
+}
+
+impl LastBlock {
+    /// No block yet.
+    pub fn new() -> LastBlock
+        ensures { result.number ≡ None }
+    {
+        LastBlock {
+            number: None,
+            bytes: [0; BLOCK_LEN],
+        }
+    }
+
+    // Reads a block, unless it was read last.
+    fn turn_to<D: Disk>(&mut self, disk: &mut D, journal: &Journal, n: u32) -> Result<(), Failed>
+        requires home { 578 ≤ n }
+        requires within { n < journal.now.blocks }
+        requires clean { journal.now.staged ≡ [] }
+        requires unbroken { journal.now.is_broken ≡ false }
+        requires long { 4096 * journal.now.blocks ≤ (D.meaning disk.old).len }
+        ensures reads { OnlyReads (D.meaning disk.old) (D.meaning disk.new) }
+        ensures cause { HasCause (D.meaning disk.old).disk_faults (D.meaning disk.new).disk_faults result }
+        ensures number { OnOk result (self.new.number ≡ Some n) }
+        ensures recalls { (kept : ℕ → List ℕ) → Fits journal.now (D.meaning disk.old) kept
+            → Recalls self.old kept → Recalls self.new kept }
+    {
+        if self.number == Some(n) {
+            return Ok(());
+        }
+        self.number = None;
+        journal.read(disk, n, &mut self.bytes)?;
+        self.number = Some(n);
+        Ok(())
+    }
+
+    /// Reads slot k of slots as wide as the buffer, which begin at a block.
+    pub fn read_slot<D: Disk>(
+        &mut self,
+        disk: &mut D,
+        journal: &Journal,
+        first: u32,
+        k: u32,
+        buf: &mut [u8],
+    ) -> Result<(), Failed>
+        requires width { 0 < length buf.old }
+        requires divides { 4096 % length buf.old ≡ 0 }
+        requires home { 578 ≤ first }
+        requires within { first + k / (4096 / length buf.old) < journal.now.blocks }
+        requires clean { journal.now.staged ≡ [] }
+        requires unbroken { journal.now.is_broken ≡ false }
+        requires long { 4096 * journal.now.blocks ≤ (D.meaning disk.old).len }
+        ensures reads { OnlyReads (D.meaning disk.old) (D.meaning disk.new) }
+        ensures cause { HasCause (D.meaning disk.old).disk_faults (D.meaning disk.new).disk_faults result }
+        ensures len { length buf.new ≡ length buf.old }
+        ensures read { OnOk result ((kept : ℕ → List ℕ) → Fits journal.now (D.meaning disk.old) kept → Recalls self.old kept
+            → (count : ℕ) → buf.new ≡ slot (record { first = first; count = count; width = length buf.old }) kept k) }
+        ensures recalls { (kept : ℕ → List ℕ) → Fits journal.now (D.meaning disk.old) kept
+            → Recalls self.old kept → Recalls self.new kept }
+    {
+        let width = buf.len();
+        // A journal's blocks have numbers of 32 bits.
+        let _blocks = journal.blocks();
+        let per_block = (BLOCK_LEN / width) as u32;
+        self.turn_to(disk, journal, first + k / per_block)?;
+        let at = width * (k % per_block) as usize;
+        buf.copy_from_slice(&self.bytes[at..at + width]);
+        Ok(())
+    }
+}

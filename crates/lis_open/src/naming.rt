@@ -1,0 +1,124 @@
+//! What the words of an image may be used for.
+
+ghost use Rattle.std.specs.Prelude.{◌≡◌, ◌||◌, not, is_some};
+ghost use Rattle.std.specs.List.{list_all};
+ghost use Rattle.lis_dict.specs.Dict.{number_of, word_of};
+ghost use Rattle.lis_words.specs.Words.{has_word, is_valued, head_bytes};
+ghost use Rattle.lis_model.specs.State.{is_assignable, is_nameable, is_known_head};
+ghost use Rattle.lis_open.specs.ReadWords.{AreWords, declared_words, is_left, is_right};
+ghost use Rattle.lis_open.specs.ReadFiles.{is_assignable_number};
+
+use crate::words::Words;
+use lis_words::{PropKind, Word, head_of, is_builtin, is_head, is_plain_word, kind};
+
+// Whether the word is declared.
+fn is_declared(words: &Words, word: &Word) -> bool
+    requires { AreWords words.now }
+    ensures { result ≡ has_word (declared_words words.now) word.now }
+{
+    match words.dict.id_of(word) {
+        None => false,
+        Some(number) => words.declared.get(u32::from(number)),
+    }
+}
+
+// Whether the word is a head that is declared or built in.
+fn is_known_head(words: &Words, word: &Word) -> bool
+    requires { AreWords words.now }
+    ensures { result ≡ is_known_head (declared_words words.now) word.now }
+{
+    if !is_head(word.bytes()) {
+        return false;
+    }
+    is_declared(words, word) || is_builtin(word)
+}
+
+// Whether an axiom may name the word.
+fn is_nameable(words: &Words, word: &Word) -> bool
+    requires { AreWords words.now }
+    ensures { result ≡ is_nameable (declared_words words.now) word.now }
+{
+    if let Some(head) = head_of(word) {
+        return is_known_head(words, &head);
+    }
+    match kind(word) {
+        PropKind::Head => is_known_head(words, word),
+        _ => is_declared(words, word),
+    }
+}
+
+// Whether files may be given the word.
+fn is_assignable(words: &Words, word: &Word) -> bool
+    requires { AreWords words.now }
+    ensures { result ≡ is_assignable (declared_words words.now) word.now }
+{
+    match head_of(word) {
+        None => is_plain_word(word.bytes()) && is_declared(words, word),
+        Some(head) => is_declared(words, &head),
+    }
+}
+
+// The word that has a number.
+fn word_at(words: &Words, number: u32) -> Option<Word>
+    requires { AreWords words.now }
+    ensures { result ≡ word_of words.now.dict number }
+{
+    match u16::try_from(number) {
+        Err(_) => None,
+        Ok(number) => words.dict.word_of(number),
+    }
+}
+
+/// Whether an axiom may have the word of a number on its right.
+pub fn is_right(words: &Words, number: u32) -> bool
+    requires { AreWords words.now }
+    ensures { result ≡ is_right words.now (word_of words.now.dict number) }
+{
+    match word_at(words, number) {
+        None => false,
+        Some(word) => is_plain_word(word.bytes()) && is_declared(words, &word),
+    }
+}
+
+// Whether the head of a valued word has a number.
+fn has_its_head(words: &Words, word: &Word) -> bool
+    requires { AreWords words.now }
+    ensures { result ≡ (not (is_valued word.now) || is_some (number_of words.now.dict (head_bytes word.now))) }
+{
+    match head_of(word) {
+        None => true,
+        Some(head) => words.dict.id_of(&head).is_some(),
+    }
+}
+
+/// Whether an axiom may have the word of a number on its left.
+pub fn is_left(words: &Words, number: u32) -> bool
+    requires { AreWords words.now }
+    ensures { result ≡ is_left words.now (word_of words.now.dict number) }
+{
+    match word_at(words, number) {
+        None => false,
+        Some(word) => is_nameable(words, &word) && has_its_head(words, &word),
+    }
+}
+
+// Whether the number is that of a word that files may be given.
+fn is_assignable_number(words: &Words, number: u16) -> bool
+    requires { AreWords words.now }
+    ensures { result ≡ is_assignable_number words.now number }
+{
+    match words.dict.word_of(number) {
+        None => false,
+        Some(word) => is_assignable(words, &word),
+    }
+}
+
+/// Whether each number is that of a word that files may be given.
+pub fn are_assignable(words: &Words, numbers: &[u16]) -> bool
+    requires { AreWords words.now }
+    ensures { result ≡ list_all (is_assignable_number words.now) numbers.now }
+{
+    numbers
+        .iter()
+        .all(|number| is_assignable_number(words, *number))
+}

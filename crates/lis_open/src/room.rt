@@ -1,0 +1,39 @@
+//! The memory that opening takes, all of it before the journal is looked at.
+
+ghost use Rattle.std.specs.Prelude.{IsTrue, IfOk};
+ghost use Rattle.lis_model.specs.Ranges.{are_in_range};
+ghost use Rattle.lis_open.specs.ReadAll.{IsEmptyRoom};
+
+use crate::axioms::{Axioms, no_axioms};
+use crate::files::{Files, no_files};
+use crate::words::{Words, no_words};
+use lis_bits::{Flags, Rows};
+use lis_kept::data_start;
+use lis_model::limits::Limits;
+use std::alloc::{AllocError, Global};
+
+/// What opening reads into.
+#[derive(Drop)]
+pub struct Room {
+    pub words: Words,
+    pub axioms: Axioms,
+    pub files: Files,
+    /// Two rows of numbers, which each reader uses as it likes.
+    pub row: Rows,
+    /// By block: it is to be written.
+    pub marks: Flags,
+}
+
+/// Takes the memory. Nothing is read yet.
+pub fn take_room(alloc: Global, limits: &Limits) -> Result<Room, AllocError>
+    requires { IsTrue (are_in_range limits.now) }
+    ensures { IfOk result (IsEmptyRoom limits.now) }
+{
+    Ok(Room {
+        words: no_words(alloc, limits)?,
+        axioms: no_axioms(alloc, limits)?,
+        files: no_files(alloc, limits)?,
+        row: Rows::new(alloc, 2, limits.props)?,
+        marks: Flags::new(alloc, 64 * data_start(limits).div_ceil(64))?,
+    })
+}
