@@ -1,6 +1,5 @@
 -- All of an empty image but its first byte, and the image with it.
-use Rattle.std.proofs.Common.{◌≡◌, ◌⊎◌, inl, inr, ℕ, zero, suc, ◌+◌, ◌-◌, ◌*◌, ◌≤◌, ◌==◌, false, List, [], ◌∷◌, ◌++◌, length, drop, replicate, slice_index, IsTrue, refl, sym, ◌∙◌, ap, ap₂, arith, length-drop}
-use Rattle.std.specs.List.{list_any}
+use Rattle.std.proofs.Common.{◌≡◌, ◌⊎◌, inl, inr, ℕ, ◌+◌, ◌-◌, ◌*◌, ◌≤◌, true, false, None, List, [], ◌∷◌, ◌++◌, length, drop, slice_index, IsTrue, refl, sym, ◌∙◌, ap, ap₂, arith, length-drop}
 use Rattle.std.proofs.Math.Seq.{take-add}
 use Rattle.lis_ports.specs.Meaning.{Meaning}
 use Rattle.lis_ports.specs.Bytes.{part, put, Torn}
@@ -8,19 +7,22 @@ use Rattle.lis_ports.specs.Runs.{Leaves, Always, IsSettled}
 use Rattle.lis_ports.proofs.Always.{always_settled}
 use Rattle.lis_ports.proofs.Moments.{leaves_weaken}
 use Rattle.lis_ports.proofs.Parts.{part-put, part-part, part-torn, torn-put, length-put}
-use Rattle.lis_journal.specs.Record.{block, has_open}
+use Rattle.lis_journal.specs.Record.{block}
 use Rattle.lis_journal.specs.Spreads.{Spreads}
 use Rattle.lis_journal.proofs.Spreading.{leaves_spread}
-use Rattle.lis_fields.specs.Layouts.{zeros, super_bytes}
+use Rattle.lis_fields.specs.Layouts.{zeros, super_bytes, is_super}
 use Rattle.lis_fields.proofs.Supers.{length_super}
 use Rattle.lis_model.specs.declared.limits.Limits.{Limits}
-use Rattle.lis_model.specs.Ranges.{are_in_range}
 use Rattle.lis_model.specs.Image.{data_start, image_blocks}
 use Rattle.lis_model.specs.State.{empty_state}
 use Rattle.lis_store.specs.Stands.{Stands}
-use Rattle.lis_store.proofs.Empty.{zeros-part, stands_empty, no_state}
+use Rattle.lis_store.specs.Stored.{empty_stored}
+use Rattle.lis_store.proofs.Empty.{zeros-part, empty_sound, no_state}
+use Rattle.lis_store.proofs.EmptyStore.{empty_fits}
+use Rattle.lis_store.proofs.Standing.{fitting_stands}
 use Rattle.lis_open.specs.Makes.{first_byte, IsNameless, IsSpared, AreZeros, rest_of_super, IsWiped, IsWiping, IsMaking}
 use Rattle.lis_open.proofs.Names.{first_is, first-put, named_or_not}
+use Rattle.lis_open.proofs.Zeros.{zeros_are}
 
 pub rest_is : (limits : Limits) (bytes rest : List ℕ) → bytes ≡ super_bytes limits → rest ≡ drop 1 bytes → rest ≡ rest_of_super limits
 unfolding rest_of_super super_bytes
@@ -31,15 +33,6 @@ unfolding rest_of_super super_bytes
 length-rest limits =
     let whole : length (super_bytes limits) ≡ 4096 = length_super limits in
     length-drop 1 (super_bytes limits) ∙ ap (λ n. n - 1) whole
-
--- gates of zeros are closed
-zeros_closed : (image : List ℕ) → part 4096 64 image ≡ zeros 64 → has_open image ≡ false
-unfolding zeros
-zeros_closed image are = ap (list_any (λ gate. gate == 1)) are ∙ none 64
-  where
-    none : (n : ℕ) → list_any (λ gate. gate == 1) (replicate n 0) ≡ false
-    none zero = refl
-    none (suc n) = none n
 
 -- what the writes of all but the first byte lead to, one after another
 pub wiped : (limits : Limits) (end : ℕ) (start rest gate homes : List ℕ) → end ≡ data_start limits → 4096 * image_blocks limits ≤ length start → rest ≡ put start 1 (rest_of_super limits)
@@ -55,9 +48,8 @@ wiped limits end start rest gate homes is_end long is_rest torn_gate zero_gate t
           ∙ (part-torn 4096 4096 rest gate torn_gate 1 4095 (inl (omega arith)) ∙ spelled);
       blank = record {
         long = omega (arith, torn_homes.len, torn_gate.len, size, long);
-        gates = zeros_closed homes
-            (part-torn 2367488 (4096 * (end - 578)) gate homes torn_homes 4096 64 (inl (omega arith))
-            ∙ (sym (part-part 0 64 4096 4096 gate (omega arith)) ∙ zero));
+        gates = part-torn 2367488 (4096 * (end - 578)) gate homes torn_homes 4096 64 (inl (omega arith))
+            ∙ (sym (part-part 0 64 4096 4096 gate (omega arith)) ∙ (zero ∙ sym (zeros_are 64)));
         homes = λ n above below. zero_homes n above (omega (arith, is_end));
       };
       zero = part-torn 2367488 (4096 * (end - 578)) gate homes torn_homes 4096 4096 (inl (omega arith)) ∙ zero_gate 1 (omega arith) (omega arith);
@@ -69,7 +61,7 @@ wiped_torn limits from image is torn = record {
   rest = part-torn 0 1 from image torn 1 4095 (inr (omega arith)) ∙ is.rest;
   blank = record {
     long = omega (arith, torn.len, is.blank.long);
-    gates = ap (list_any (λ gate. gate == 1)) (part-torn 0 1 from image torn 4096 64 (inr (omega arith))) ∙ is.blank.gates;
+    gates = part-torn 0 1 from image torn 4096 64 (inr (omega arith)) ∙ is.blank.gates;
     homes = λ n above below. part-torn 0 1 from image torn (4096 * n) 4096 (inr (omega arith)) ∙ is.blank.homes n above below;
   };
   zero = part-torn 0 1 from image torn 4096 4096 (inr (omega arith)) ∙ is.zero;
@@ -84,8 +76,26 @@ wiped_super limits image is first =
     let some : 1 ≤ length image = omega (arith, is.blank.long) in
     take-add 1 4095 (drop 0 image) ∙ (ap₂ (λ xs ys. xs ++ ys) (first_is image 76 some first) is.rest ∙ whole_super limits)
 
-pub wiped_stands : (limits : Limits) (image : List ℕ) → IsTrue (are_in_range limits) → limits.version ≡ 1 → IsWiped limits image → first_byte image ≡ 76 → Stands image (empty_state limits)
-wiped_stands limits image in_range version is first = stands_empty limits image is.blank in_range version (wiped_super limits image is first)
+-- a disk of one image
+abbrev holding : List ℕ → Meaning
+holding image = record {
+  is_honest = true;
+  len = length image;
+  bytes = image;
+  images = λ other. other ≡ image;
+  clock = 0;
+  is_recorded = false;
+  moments = λ since other shown. ⊥;
+  shown = None;
+  disk_faults = 0;
+  show_faults = 0;
+}
+
+pub wiped_stands : (limits : Limits) (image : List ℕ) → IsTrue (is_super limits) → IsWiped limits image → first_byte image ≡ 76 → Stands image (empty_state limits)
+wiped_stands limits image range is first =
+    let room : data_start limits ≤ data_start limits = omega arith in
+    let fits = empty_fits (holding image) limits (data_start limits) image range room refl (record { reads = refl; only = λ other is. is }) (wiped_super limits image is first) is.blank in
+    (fitting_stands (holding image) (empty_stored limits (data_start limits)) (empty_state limits) (empty_sound limits (data_start limits) range room) fits).reads
 
 -- ---- the moments of each part
 pub spared_moments : {old new : Meaning} (limits : Limits) (bytes : List ℕ) → Leaves old new (IsSpared bytes) → Leaves old new (IsMaking limits bytes)
@@ -103,12 +113,12 @@ pub wiping_moments : {old new : Meaning} (limits : Limits) (bytes : List ℕ) �
 wiping_moments limits bytes all spreads =
     leaves_spread (IsWiping limits) (IsMaking limits bytes) all spreads (λ from image none wiping. inr (inr (λ s. no_state image s (nameless_wiping limits from image none wiping))))
 
-pub naming_moments : {old new : Meaning} (limits : Limits) (bytes : List ℕ) → IsTrue (are_in_range limits) → limits.version ≡ 1 → Always old (IsWiped limits) → Spreads old new (Torn 0 1) → Leaves old new (IsMaking limits bytes)
-naming_moments limits bytes in_range version all spreads =
+pub naming_moments : {old new : Meaning} (limits : Limits) (bytes : List ℕ) → IsTrue (is_super limits) → Always old (IsWiped limits) → Spreads old new (Torn 0 1) → Leaves old new (IsMaking limits bytes)
+naming_moments limits bytes range all spreads =
     leaves_spread (Torn 0 1) (IsMaking limits bytes) all spreads (λ from image is torn. by image (wiped_torn limits from image is torn) (named_or_not image))
   where
     by : (image : List ℕ) → IsWiped limits image → (first_byte image ≡ 76) ⊎ IsNameless image → IsMaking limits bytes image
-    by image is (inl named) = inr (inl (wiped_stands limits image in_range version is named))
+    by image is (inl named) = inr (inl (wiped_stands limits image range is named))
     by image is (inr none) = inr (inr (λ s. no_state image s none))
 
 -- with the first byte it is whole
@@ -117,8 +127,8 @@ wiped_named limits bytes is =
     let some : 1 ≤ length bytes = omega (arith, is.blank.long) in
     (wiped_torn limits bytes (put bytes 0 (76 ∷ [])) is (torn-put bytes 0 (76 ∷ []) some), first-put bytes 76 some)
 
-pub named_stands : {old new : Meaning} (limits : Limits) → IsTrue (are_in_range limits) → limits.version ≡ 1 → Always old (IsWiped limits) → IsSettled new (put old.bytes 0 (76 ∷ [])) → Always new (λ image. Stands image (empty_state limits))
-named_stands {old} limits in_range version all settled =
+pub named_stands : {old new : Meaning} (limits : Limits) → IsTrue (is_super limits) → Always old (IsWiped limits) → IsSettled new (put old.bytes 0 (76 ∷ [])) → Always new (λ image. Stands image (empty_state limits))
+named_stands {old} limits range all settled =
     let named = wiped_named limits old.bytes all.reads in
     always_settled (λ image. Stands image (empty_state limits)) (put old.bytes 0 (76 ∷ [])) settled
-    (wiped_stands limits (put old.bytes 0 (76 ∷ [])) in_range version named.0 named.1)
+    (wiped_stands limits (put old.bytes 0 (76 ∷ [])) range named.0 named.1)

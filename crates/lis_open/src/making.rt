@@ -4,7 +4,7 @@ ghost use Rattle.std.specs.Prelude.{◌≡◌, ◌*◌, ◌≤◌, ℕ, IsTrue, 
 ghost use Rattle.lis_ports.specs.Runs.{IsDiskRun, Leaves, Always, IsSettled};
 ghost use Rattle.lis_ports.specs.Calls.{HasCause};
 ghost use Rattle.lis_journal.specs.Record.{block};
-ghost use Rattle.lis_model.specs.Ranges.{are_in_range};
+ghost use Rattle.lis_fields.specs.Layouts.{is_super};
 ghost use Rattle.lis_model.specs.Image.{image_blocks};
 ghost use Rattle.lis_model.specs.State.{empty_state};
 ghost use Rattle.lis_store.specs.Stands.{Stands};
@@ -41,8 +41,7 @@ impl From<Failed> for MakeFault {
 
 // Makes an image on a disk that is long enough.
 fn write_image<D: Disk>(disk: &mut D, limits: &Limits) -> Result<(), Failed>
-    requires range { IsTrue (are_in_range limits.now) }
-    requires version { limits.now.version ≡ 1 }
+    requires range { IsTrue (is_super limits.now) }
     requires long { 4096 * image_blocks limits.now ≤ (D.meaning disk.old).len }
     ensures run { IsDiskRun (D.meaning disk.old) (D.meaning disk.new) }
     ensures cause { HasCause (D.meaning disk.old).disk_faults (D.meaning disk.new).disk_faults result }
@@ -63,8 +62,7 @@ fn write_image<D: Disk>(disk: &mut D, limits: &Limits) -> Result<(), Failed>
 
 /// Makes an image of the empty state. It takes no memory.
 pub fn make<D: Disk>(disk: &mut D, limits: &Limits) -> Result<(), MakeFault>
-    requires range { IsTrue (are_in_range limits.now) }
-    requires version { limits.now.version ≡ 1 }
+    requires range { IsTrue (is_super limits.now) }
     ensures run { IsDiskRun (D.meaning disk.old) (D.meaning disk.new) }
 
     // A disk is too short where it has fewer bytes than the image. It is left as it was.

@@ -1,13 +1,12 @@
-ghost use Rattle.std.specs.Prelude.{◌≡◌, ◌<◌, ◌≤◌, ◌+◌, length, IfOk};
-ghost use Rattle.lis_memdisk.specs.MemStation.{meaning_of};
+//! What making an image leaves, and what opening answers to each kind of damage.
 
 use crate::{MakeFault, OpenFault, make, mount};
-use lis_eval::View;
 use lis_memdisk::MemStation;
 use lis_model::limits::Limits;
 use lis_model::spot::Spot;
 use lis_ports::Disk;
 use std::alloc::{AllocError, Global};
+use std::process::Abort;
 use std::test::Fail;
 
 const LIMITS: Limits = Limits {
@@ -17,229 +16,254 @@ const LIMITS: Limits = Limits {
     version: 1,
 };
 
-// A disk of so many bytes, each of them `L`.
-fn disk_of(alloc: Global, len: usize) -> Result<MemStation, AllocError>
-    ensures { IfOk result (λ disk. (meaning_of disk).len ≡ len) }
-{
-    let bytes = vec![in alloc; b'L'; len]?;
+// How long the image of these limits is, and where its parts begin.
+const IMAGE_LEN: usize = 2_433_024;
+
+const GATES: u64 = 4_096;
+
+const RECORDS: u64 = 2 * 4_096;
+
+const WORDS: u64 = 578 * 4_096;
+
+const AXIOMS: u64 = 579 * 4_096;
+
+const FILES: u64 = 580 * 4_096;
+
+const ROWS: u64 = 584 * 4_096;
+
+const BITMAP: u64 = 585 * 4_096;
+
+const DATA: u64 = 586 * 4_096;
+
+const SUPER_START: &[u8] = b"LISFS-IM\x01\0\0\0\x40\0\0\0\x40\0\0\0\x08\0\0\0\0";
+
+/// Bytes, and the place where they are written.
+type Change = (u64, &'static [u8]);
+
+// The words `music`, `rock`, `year:` and `year:1999`, the axioms from `rock` and from `year:1999` to `music`, and the file `song` with
+// `rock`, which has 2 bytes in data block 1.
+const SONG: &[Change] = &[
+    (WORDS, b"\x02\x05music"),
+    (WORDS + 64, b"\x02\x05year:"),
+    (WORDS + 2 * 64, b"\x01\x09year:1999"),
+    (WORDS + 5 * 64, b"\x02\x04rock"),
+    (AXIOMS + 2 * 8, b"\x06\0\0\0\x01"),
+    (AXIOMS + 4 * 8, b"\x03\0\0\0\x01"),
+    (FILES + 256, b"\x01\x04song"),
+    (FILES + 256 + 62, b"\x01\0\x02\0\0\0\x05"),
+    (FILES + 256 + 100, b"\x01"),
+    (ROWS, b"\x02"),
+    (ROWS + 5 * 8, b"\x02"),
+    (BITMAP, b"\x02"),
+];
+
+// Changes of an image without words and files, and the spot of the first check that then fails.
+const DAMAGES: &[(&[Change], Spot)] = &[
+    (&[(8, b"\x09")], Spot::Super),
+    (&[(12, b"\x3f")], Spot::Super),
+    (&[(4_095, b"\x01")], Spot::Super),
+    (&[(GATES, b"\x01")], Spot::BadRecord(2)),
+    // a whole record of one block, and none behind it
+    (
+        &[(GATES, b"\x01\x01"), (RECORDS, b"\x01\0\0\0\x42\x02")],
+        Spot::BadRecord(4),
+    ),
+    (&[(WORDS + 5 * 64, b"\x03")], Spot::Property(5)),
+    (
+        &[(WORDS, b"\x02\x01a"), (WORDS + 3 * 64, b"\x02\x01a")],
+        Spot::Property(3),
+    ),
+    (&[(WORDS + 2 * 64, b"\x01\x04ext:")], Spot::Word(2)),
+    (
+        &[(WORDS, b"\x02\x01a"), (AXIOMS + 8, b"\x01\0\0\0\x01")],
+        Spot::Axiom(1),
+    ),
+    (&[(FILES + 7 * 256, b"\x02")], Spot::File(7)),
+    (&[(BITMAP, b"\x08")], Spot::Bitmap(3)),
+    (&[(BITMAP + 4_095, b"\x80")], Spot::Bitmap(32_767)),
+    (&[(ROWS, b"\x01")], Spot::Row(0)),
+    (&[(ROWS + 512, b"\x01")], Spot::Row(64)),
+    // two damages
+    (
+        &[(BITMAP, b"\x08"), (WORDS + 5 * 64, b"\x03")],
+        Spot::Property(5),
+    ),
+    (&[(ROWS, b"\x01"), (BITMAP, b"\x08")], Spot::Bitmap(3)),
+    (
+        &[(ROWS + 512, b"\x01"), (FILES + 7 * 256, b"\x02")],
+        Spot::File(7),
+    ),
+    (&[(ROWS + 512, b"\x01"), (ROWS, b"\x01")], Spot::Row(0)),
+];
+
+// The same of the image with `song`.
+const SONG_DAMAGES: &[(&[Change], Spot)] = &[
+    (&[(WORDS + 6 * 64, b"\x02\x04rock")], Spot::Property(6)),
+    (&[(WORDS + 3 * 64, b"\x01\x06from:x")], Spot::Word(3)),
+    // the pair twice, two circles, a right side that is not plain, one without a word, and a slot past the last one
+    (&[(AXIOMS + 3 * 8, b"\x06\0\0\0\x01")], Spot::Axiom(3)),
+    (&[(AXIOMS, b"\x01\0\0\0\x06")], Spot::Axiom(2)),
+    (&[(AXIOMS, b"\x01\0\0\0\x01")], Spot::Axiom(0)),
+    (&[(AXIOMS, b"\x01\0\0\0\x02")], Spot::Axiom(0)),
+    (&[(AXIOMS, b"\x01\0\0\0\x05")], Spot::Axiom(0)),
+    (&[(AXIOMS + 512, b"\x06\0\0\0\x01")], Spot::Axiom(64)),
+    // a valued left side without its head, and a word that only its axiom kept
+    (&[(WORDS + 64, b"\0\0\0\0\0\0\0")], Spot::Axiom(4)),
+    (&[(AXIOMS + 4 * 8, b"\0\0\0\0\0")], Spot::Word(2)),
+    // a word without a slot, a block past the last one, a name twice, and a block twice
+    (&[(FILES + 256 + 68, b"\x06")], Spot::File(1)),
+    (&[(FILES + 256 + 100, b"\x08")], Spot::File(1)),
+    (&[(FILES + 512, b"\x01\x04song")], Spot::File(2)),
+    (
+        &[
+            (FILES + 512, b"\x01\x04sung"),
+            (FILES + 512 + 64, b"\x01"),
+            (FILES + 512 + 100, b"\x01"),
+        ],
+        Spot::File(2),
+    ),
+    (&[(BITMAP, b"\x03")], Spot::Bitmap(0)),
+    (&[(BITMAP, b"\0")], Spot::Bitmap(1)),
+    (&[(ROWS + 5 * 8, b"\0")], Spot::Row(5)),
+    (&[(ROWS + 7, b"\x80")], Spot::Row(0)),
+    (&[(ROWS + 4_095, b"\x01")], Spot::Row(64)),
+];
+
+#[derive(Clone, Copy, Debug, PartialEq, Eq)]
+enum Answer {
+    Opened,
+    TooShort(u64, u64),
+    Damaged(Spot),
+}
+
+// A disk of so many bytes, all alike.
+fn disk_of(alloc: Global, byte: u8, len: usize) -> Result<MemStation, AllocError> {
+    let bytes = vec![in alloc; byte; len]?;
     MemStation::new(alloc, &bytes, 0)
 }
 
-fn byte_at(disk: &mut MemStation, at: u64) -> Result<u8, Fail>
-    requires { at < (meaning_of disk.old).len }
-    ensures { (meaning_of disk.new).len ≡ (meaning_of disk.old).len }
-{
+fn empty_image(alloc: Global) -> Result<MemStation, Fail> {
+    let mut disk = disk_of(alloc, 0, IMAGE_LEN)?;
+    make(&mut disk, &LIMITS)?;
+    Ok(disk)
+}
+
+fn put(disk: &mut MemStation, at: u64, bytes: &[u8]) -> Result<(), Fail> {
+    let len = disk.len();
+    if len < at || len - at < bytes.len() as u64 {
+        return Err(Fail::from("past the end"));
+    }
+    disk.write_at(at, bytes)?;
+    Ok(())
+}
+
+fn put_all(disk: &mut MemStation, changes: &[Change]) -> Result<(), Fail> {
+    for (at, bytes) in changes {
+        put(disk, *at, bytes)?;
+    }
+    Ok(())
+}
+
+fn byte_at(disk: &mut MemStation, at: u64) -> Result<u8, Fail> {
+    if disk.len() <= at {
+        return Err(Fail::from("past the end"));
+    }
     let mut byte = [0; 1];
     disk.read_at(at, &mut byte)?;
     Ok(byte[0])
 }
 
-#[test]
-fn an_empty_image_is_made(rt: HostRuntime) -> Result<(), Fail> {
-    let mut disk = disk_of(rt.alloc(), 2_433_025)?;
-    make(&mut disk, &LIMITS)?;
-    let mut start = [9; 25];
-    disk.read_at(0, &mut start)?;
-    assert!(rt; start == *b"LISFS-IM\x01\0\0\0\x40\0\0\0\x40\0\0\0\x08\0\0\0\0");
+fn opening(alloc: Global, disk: &mut MemStation) -> Result<Answer, Fail> {
+    match mount(alloc, disk) {
+        Ok(_) => Ok(Answer::Opened),
+        Err(OpenFault::TooShort(len, need)) => Ok(Answer::TooShort(len, need)),
+        Err(OpenFault::Damaged(spot)) => Ok(Answer::Damaged(spot)),
+        Err(_) => Err(Fail::from("another answer")),
+    }
+}
 
-    // The gates, the records, the first home block, the bitmap, the data blocks, and what lies past the image.
-    assert!(rt; byte_at(&mut disk, 4_096)? == 0);
-    assert!(rt; byte_at(&mut disk, 8_192)? == b'L');
-    assert!(rt; byte_at(&mut disk, 578 * 4_096)? == 0);
-    assert!(rt; byte_at(&mut disk, 586 * 4_096 - 1)? == 0);
-    assert!(rt; byte_at(&mut disk, 586 * 4_096)? == b'L');
-    assert!(rt; byte_at(&mut disk, 594 * 4_096)? == b'L');
+// What opening answers to an empty image with some changes, and then others.
+fn opening_with(alloc: Global, first: &[Change], second: &[Change]) -> Result<Answer, Fail> {
+    let mut disk = empty_image(alloc)?;
+    put_all(&mut disk, first)?;
+    put_all(&mut disk, second)?;
+    opening(alloc, &mut disk)
+}
+
+// Each of the damages, to an empty image with some changes, is answered with its spot.
+fn assert_found(
+    rt: &impl Abort,
+    alloc: Global,
+    changes: &[Change],
+    damages: &[(&[Change], Spot)],
+) -> Result<(), Fail> {
+    for (damage, spot) in damages {
+        let answer = opening_with(alloc, changes, damage)?;
+        assert_eq!(rt; answer, Answer::Damaged(*spot));
+    }
+    Ok(())
+}
+
+#[test]
+fn making_leaves_an_empty_image(rt: HostRuntime) -> Result<(), Fail> {
+    let mut disk = disk_of(rt.alloc(), b'L', IMAGE_LEN + 1)?;
+    make(&mut disk, &LIMITS)?;
+    for (at, byte) in SUPER_START.iter().enumerate() {
+        assert_eq!(rt; byte_at(&mut disk, at as u64)?, *byte, "at {at}");
+    }
+
+    // The gate block and the home blocks before the data blocks are zeros. The records, the data blocks and what lies past the
+    // image are left alone.
+    for (at, byte) in [
+        (GATES, 0),
+        (RECORDS - 1, 0),
+        (RECORDS, b'L'),
+        (WORDS - 1, b'L'),
+        (WORDS, 0),
+        (ROWS, 0),
+        (DATA - 1, 0),
+        (DATA, b'L'),
+        (IMAGE_LEN as u64, b'L'),
+    ] {
+        assert_eq!(rt; byte_at(&mut disk, at)?, byte, "at {at}");
+    }
+    assert_eq!(rt; opening(rt.alloc(), &mut disk)?, Answer::Opened);
     Ok(())
 }
 
 #[test]
 fn a_short_disk_is_refused(rt: HostRuntime) -> Result<(), Fail> {
-    let mut disk = disk_of(rt.alloc(), 2_433_023)?;
+    let mut disk = disk_of(rt.alloc(), 0, IMAGE_LEN - 1)?;
     let answer = make(&mut disk, &LIMITS);
     assert!(rt; matches!(answer, Err(MakeFault::TooShort(2_433_023, 2_433_024))));
-    Ok(())
-}
-
-fn put(disk: &mut MemStation, at: u64, bytes: &[u8]) -> Result<(), Fail>
-    requires { at + length bytes.now ≤ (meaning_of disk.old).len }
-    ensures { (meaning_of disk.new).len ≡ (meaning_of disk.old).len }
-{
-    disk.write_at(at, bytes)?;
-    Ok(())
-}
-
-// An image with the word `rock`, declared, and `song` with it, which has 2 bytes in data block 1.
-fn image_of_one_file(alloc: Global) -> Result<MemStation, Fail>
-    ensures { IfOk result (λ disk. (meaning_of disk).len ≡ 2433024) }
-{
-    let mut disk = disk_of(alloc, 2_433_024)?;
-    make(&mut disk, &LIMITS)?;
-    put(&mut disk, 578 * 4_096 + 5 * 64, b"\x02\x04rock")?;
-    put(&mut disk, 580 * 4_096 + 256, b"\x01\x04song")?;
-    put(&mut disk, 580 * 4_096 + 256 + 62, &[1, 0, 2, 0, 0, 0, 5])?;
-    put(&mut disk, 580 * 4_096 + 256 + 100, &[1])?;
-    put(&mut disk, 584 * 4_096 + 5 * 8, &[2])?;
-    put(&mut disk, 585 * 4_096, &[2])?;
-    Ok(disk)
-}
-
-// Where opening finds the image of one file damaged, with these bytes written into it.
-fn spot_of(alloc: Global, at: u64, bytes: &[u8]) -> Result<Option<Spot>, Fail>
-    requires { at + length bytes.now ≤ 2433024 }
-{
-    let mut disk = image_of_one_file(alloc)?;
-    put(&mut disk, at, bytes)?;
-    match mount(alloc, &mut disk) {
-        Ok(_) => Ok(None),
-        Err(OpenFault::Damaged(spot)) => Ok(Some(spot)),
-        Err(_) => Err(Fail::from("another answer")),
-    }
-}
-
-#[test]
-fn an_empty_image_is_opened(rt: HostRuntime) -> Result<(), Fail> {
-    let mut disk = disk_of(rt.alloc(), 2_433_025)?;
-    make(&mut disk, &LIMITS)?;
-    let store = mount(rt.alloc(), &mut disk)?;
-    assert!(rt; store.limits() == LIMITS);
-    assert!(rt; store.word_at(0).is_none());
-    assert!(rt; store.file_at(0).is_none());
-    Ok(())
-}
-
-#[test]
-fn an_image_of_one_file_is_opened(rt: HostRuntime) -> Result<(), Fail> {
-    let mut disk = image_of_one_file(rt.alloc())?;
-    let store = mount(rt.alloc(), &mut disk)?;
-    let Some((word, number)) = store.word_at(0) else {
-        return Err(Fail::from("no word"));
-    };
-    assert_eq!(rt; word.bytes(), b"rock".as_slice());
-    assert_eq!(rt; number, 5);
-    assert!(rt; store.is_declared(&word));
-    assert!(rt; store.word_at(1).is_none());
-    assert!(rt; store.ext().has(5, 1));
-    Ok(())
-}
-
-#[test]
-fn a_bad_super_block_or_record_is_found(rt: HostRuntime) -> Result<(), Fail> {
-    let alloc = rt.alloc();
-    assert!(rt; spot_of(alloc, 4_095, b"\x01")? == Some(Spot::Super));
-    assert!(rt; spot_of(alloc, 4_096, b"\x01")? == Some(Spot::BadRecord(2)));
-    assert!(rt; spot_of(alloc, 4_096, b"\x02")?.is_none());
-    Ok(())
-}
-
-#[test]
-fn a_bad_property_or_axiom_is_found(rt: HostRuntime) -> Result<(), Fail> {
-    let alloc = rt.alloc();
-    let slots = 578 * 4_096;
-    assert!(rt; spot_of(alloc, slots, b"\x03")? == Some(Spot::Property(0)));
-    assert!(rt; spot_of(alloc, slots + 64, b"\x02\x04rock")? == Some(Spot::Property(5)));
-    assert!(rt; spot_of(alloc, slots + 128, b"\x01\x06from:x")? == Some(Spot::Word(2)));
-    assert!(rt; spot_of(alloc, 579 * 4_096 + 80, b"\x01")? == Some(Spot::Axiom(10)));
-    Ok(())
-}
-
-#[test]
-fn a_bad_file_is_found(rt: HostRuntime) -> Result<(), Fail> {
-    let alloc = rt.alloc();
-    let slots = 580 * 4_096;
-    assert!(rt; spot_of(alloc, slots + 256 + 68, b"\x06")? == Some(Spot::File(1)));
-    assert!(rt; spot_of(alloc, slots + 256 + 100, b"\x08")? == Some(Spot::File(1)));
-    assert!(rt; spot_of(alloc, slots + 512, b"\x01\x04song")? == Some(Spot::File(2)));
-    assert!(rt; spot_of(alloc, slots + 512, b"\x01\x04sung")?.is_none());
-    Ok(())
-}
-
-#[test]
-fn a_bad_bitmap_is_found(rt: HostRuntime) -> Result<(), Fail> {
-    let alloc = rt.alloc();
-    let bitmap = 585 * 4_096;
-    assert!(rt; spot_of(alloc, bitmap, b"\x03")? == Some(Spot::Bitmap(0)));
-    assert!(rt; spot_of(alloc, bitmap, b"\0")? == Some(Spot::Bitmap(1)));
-    assert!(rt; spot_of(alloc, bitmap + 4_095, b"\x80")? == Some(Spot::Bitmap(32_767)));
-    Ok(())
-}
-
-#[test]
-fn a_bad_row_is_found(rt: HostRuntime) -> Result<(), Fail> {
-    let alloc = rt.alloc();
-    let rows = 584 * 4_096;
-    assert!(rt; spot_of(alloc, rows + 40, b"\0")? == Some(Spot::Row(5)));
-    assert!(rt; spot_of(alloc, rows + 7, b"\x80")? == Some(Spot::Row(0)));
-    assert!(rt; spot_of(alloc, rows + 64 * 8, b"\x01")? == Some(Spot::Row(64)));
-    assert!(rt; spot_of(alloc, rows + 4_095, b"\x01")? == Some(Spot::Row(64)));
-    Ok(())
-}
-
-// An image with the words `music`, `rock`, `year:` and `year:1999`, the axioms from `rock` and from `year:1999` to `music`, and `song`
-// with `rock`.
-fn image_of_axioms(alloc: Global) -> Result<MemStation, Fail>
-    ensures { IfOk result (λ disk. (meaning_of disk).len ≡ 2433024) }
-{
-    let mut disk = image_of_one_file(alloc)?;
-    put(&mut disk, 578 * 4_096, b"\x02\x05music")?;
-    put(&mut disk, 578 * 4_096 + 64, b"\x02\x05year:")?;
-    put(&mut disk, 578 * 4_096 + 128, b"\x01\x09year:1999")?;
-    put(&mut disk, 579 * 4_096 + 16, b"\x06\0\0\0\x01")?;
-    put(&mut disk, 579 * 4_096 + 32, b"\x03\0\0\0\x01")?;
-    put(&mut disk, 584 * 4_096, &[2])?;
-    Ok(disk)
-}
-
-// Where opening finds the image of axioms damaged, with these bytes written into it.
-fn spot_among_axioms(alloc: Global, at: u64, bytes: &[u8]) -> Result<Option<Spot>, Fail>
-    requires { at + length bytes.now ≤ 2433024 }
-{
-    let mut disk = image_of_axioms(alloc)?;
-    put(&mut disk, at, bytes)?;
-    match mount(alloc, &mut disk) {
-        Ok(_) => Ok(None),
-        Err(OpenFault::Damaged(spot)) => Ok(Some(spot)),
-        Err(_) => Err(Fail::from("another answer")),
-    }
-}
-
-#[test]
-fn an_image_of_axioms_is_opened(rt: HostRuntime) -> Result<(), Fail> {
-    let mut disk = image_of_axioms(rt.alloc())?;
-    let store = mount(rt.alloc(), &mut disk)?;
-    assert!(rt; store.taxonomy().entails(5, 0));
-    assert!(rt; store.taxonomy().entails(2, 1));
-    assert!(rt; store.taxonomy().entails(2, 0));
-    assert!(rt; !store.taxonomy().entails(1, 0));
-    assert!(rt; store.ext().has(0, 1));
-    assert!(rt; !store.ext().has(1, 1));
-    Ok(())
-}
-
-#[test]
-fn a_bad_axiom_is_found(rt: HostRuntime) -> Result<(), Fail> {
-    let alloc = rt.alloc();
-    let slots = 579 * 4_096;
-
-    // The pair is there already; a circle; a right side that is not plain; one that has no word; a slot past the last one.
-    assert!(rt; spot_among_axioms(alloc, slots + 24, b"\x06\0\0\0\x01")? == Some(Spot::Axiom(3)));
-    assert!(rt; spot_among_axioms(alloc, slots, b"\x01\0\0\0\x06")? == Some(Spot::Axiom(2)));
-    assert!(rt; spot_among_axioms(alloc, slots, b"\x01\0\0\0\x01")? == Some(Spot::Axiom(0)));
-    assert!(rt; spot_among_axioms(alloc, slots, b"\x01\0\0\0\x02")? == Some(Spot::Axiom(0)));
-    assert!(rt; spot_among_axioms(alloc, slots, b"\x01\0\0\0\x05")? == Some(Spot::Axiom(0)));
-    assert!(rt; spot_among_axioms(alloc, slots + 512, b"\x06\0\0\0\x01")? == Some(Spot::Axiom(64)));
-
-    // A head that is not there makes the axiom of its word bad; without the axiom, the word is one that nothing knows.
-    assert!(rt;
-        spot_among_axioms(alloc, slots - 4_096 + 64, b"\0\0\0\0\0\0\0")? == Some(Spot::Axiom(4))
+    put(&mut disk, 0, SUPER_START)?;
+    assert_eq!(rt;
+        opening(rt.alloc(), &mut disk)?,
+        Answer::TooShort(2_433_023, 2_433_024)
     );
-    assert!(rt; spot_among_axioms(alloc, slots + 32, b"\0\0\0\0\0")? == Some(Spot::Word(2)));
+    let mut small = disk_of(rt.alloc(), 0, 4_095)?;
+    assert_eq!(rt;
+        opening(rt.alloc(), &mut small)?,
+        Answer::TooShort(4_095, 4_096)
+    );
+    Ok(())
+}
+
+// A gate behind a closed one counts for nothing, and so does a gate that is not 1.
+#[test]
+fn whole_images_are_opened(rt: HostRuntime) -> Result<(), Fail> {
+    for changes in [SONG, &[(GATES + 1, b"\x01")], &[(GATES, b"\x02")]] {
+        assert_eq!(rt; opening_with(rt.alloc(), changes, &[])?, Answer::Opened);
+    }
     Ok(())
 }
 
 #[test]
-fn a_disk_shorter_than_its_image_is_not_opened(rt: HostRuntime) -> Result<(), Fail> {
-    let mut disk = disk_of(rt.alloc(), 4_095)?;
-    let small = mount(rt.alloc(), &mut disk);
-    assert!(rt; matches!(small, Err(OpenFault::TooShort(4_095, 4_096))));
-    Ok(())
+fn damage_to_an_empty_image_is_found(rt: HostRuntime) -> Result<(), Fail> {
+    assert_found(&rt, rt.alloc(), &[], DAMAGES)
+}
+
+#[test]
+fn damage_to_words_and_files_is_found(rt: HostRuntime) -> Result<(), Fail> {
+    assert_found(&rt, rt.alloc(), SONG, SONG_DAMAGES)
 }

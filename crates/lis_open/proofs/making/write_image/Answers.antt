@@ -43,7 +43,7 @@ pub returns-clause-made : goal.returns-clause-made
 returns-clause-made g c = on_ok c.write_first.result (λ written. λ honest.
     let honest1 = c.take_name.ensures.run.honest ∙ honest in
     let honest2 = c.wipe.ensures.run.honest ∙ honest1 in
-    named_stands c.args.limits.now c.requires.range c.requires.version (c.in_ok-wipe.ensures.wiped honest1) (written honest2))
+    named_stands c.args.limits.now c.requires.range (c.in_ok-wipe.ensures.wiped honest1) (written honest2))
     c.write_first.ensures.settled
 
 pub returns-clause-any_moment : goal.returns-clause-any_moment
@@ -55,7 +55,7 @@ returns-clause-any_moment g c = λ honest settled.
     moments_spare limits settled
     (leaves_then (spared_moments limits bytes (c.take_name.ensures.any_moment honest settled))
     (leaves_then (wiping_moments limits bytes (c.in_ok-take_name.ensures.nameless honest) (c.wipe.ensures.spreads honest1))
-    (naming_moments limits bytes c.requires.range c.requires.version (c.in_ok-wipe.ensures.wiped honest1) (c.write_first.ensures.spreads honest2))))
+    (naming_moments limits bytes c.requires.range (c.in_ok-wipe.ensures.wiped honest1) (c.write_first.ensures.spreads honest2))))
     (made_spreads limits (c.take_name.ensures.spreads honest) (c.wipe.ensures.spreads honest1) (c.write_first.ensures.spreads honest2))
 
 pub returns-clause-left : goal.returns-clause-left
