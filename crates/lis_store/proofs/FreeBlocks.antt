@@ -77,8 +77,13 @@ module _ (k : Stored) (m : Meaning) (s : State) (sound : IsSound k) (fits : Stor
   all_take [] there = refl
   all_take (f ∷ fs) there =
       let taken : File → ℕ = λ file. blocks_taken s.limits.version (length file.bytes) in
-      omega (arith, sum_by-cons (λ (n : ℕ). n) (taken (told f)) (map taken (map told fs)), one_takes f (there f (inl refl)), all_take fs (λ g of. there g (inr of)),
-      length-append f.rec.blocks (flat_map (λ (g : Filed). g.rec.blocks) fs))
+      omega (
+        arith,
+        sum_by-cons (λ (n : ℕ). n) (taken (told f)) (map taken (map told fs)),
+        one_takes f (there f (inl refl)),
+        all_take fs (λ g of. there g (inr of)),
+        length-append f.rec.blocks (flat_map (λ (g : Filed). g.rec.blocks) fs),
+      )
 
   used_counted : used_blocks s ≡ length taken_blocks
   used_counted =

@@ -51,8 +51,7 @@ numbers_in-requires c =
     let S : List (List ℕ) → Type 0 = λ ws. ShowsNumbers k.dict k.limits.props ws c.loop-word.row in
     let shows = subst S all c.loop-word.invariant in
     let shown = shown_numbers k.dict k.limits.props c.args.words.now c.loop-word.row sound.numbers shows.bits in
-    let few = named_few k.dict sound.dict c.args.words.now in
-    (
+    let few = named_few k.dict sound.dict c.args.words.now in (
       omega arith,
       (
         subst P (sym props) shows.shape,
