@@ -32,6 +32,5 @@ pub mod AddedMarks
 pub mod Assigned
 pub mod Gathered
 pub mod Measured
-pub mod FreeBlocks
 pub mod Admitted
 pub mod AddFile
