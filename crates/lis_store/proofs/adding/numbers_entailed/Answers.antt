@@ -1,4 +1,4 @@
-use Rattle.std.proofs.Common.{◌∙◌, ℕ, ◌≤◌, length, sym, ap, subst, arith}
+use Rattle.std.proofs.Common.{◌∙◌, ℕ, length, sym, ap, subst, arith}
 use Rattle.lis_bits.specs.Rows.{HasShape, get}
 use Rattle.lis_ext.specs.Numbers.{numbers_where}
 use Rattle.lis_kept.proofs.InArea.{few_properties}

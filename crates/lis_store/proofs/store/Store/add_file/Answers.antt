@@ -1,9 +1,8 @@
-use Rattle.std.proofs.Common.{◌∙◌, ◌≡◌, ◌+◌, ◌≤◌, List, ℕ, Err, sym, ap, subst}
+use Rattle.std.proofs.Common.{◌∙◌, ◌+◌, ◌≤◌, List, ℕ, Err, sym, ap, subst}
 use Rattle.std.proofs.lemmas.Result.{err_from_is_err_and}
 use Rattle.lis_ports.specs.Meaning.{Meaning}
 use Rattle.lis_ext.specs.Ext.{Ext}
 use Rattle.lis_model.specs.Changes.{new_file}
-use Rattle.lis_model.specs.State.{State}
 use Rattle.lis_model.specs.Step.{Situation, Payload, assigned_at, add}
 use Rattle.lis_kept.specs.Kept.{Kept}
 use Rattle.lis_store.specs.Admitting.{IsAdmitted}
