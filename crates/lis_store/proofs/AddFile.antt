@@ -1,5 +1,5 @@
 -- A call that adds a file.
-use Rattle.std.proofs.Common.{◌≡◌, refl, sym, ap, subst, ℕ, ◌+◌, ◌≤◌, false, List, length, Result, arith}
+use Rattle.std.proofs.Common.{◌≡◌, sym, ap, subst, ℕ, ◌+◌, ◌≤◌, false, List, length, Result, arith}
 use Rattle.lis_ports.specs.Meaning.{Meaning}
 use Rattle.lis_journal.specs.Journal.{Held}
 use Rattle.lis_journal.specs.Record.{Entry}
@@ -15,7 +15,7 @@ use Rattle.lis_kept.specs.Telling.{Tells}
 use Rattle.lis_store.specs.declared.change.Change.{Change}
 use Rattle.lis_store.specs.Stored.{Stored, IsSound, StoreFits}
 use Rattle.lis_store.specs.Changes.{Changes}
-use Rattle.lis_store.specs.Saving.{settled, IsReady, Saves}
+use Rattle.lis_store.specs.Saving.{settled, Saves}
 use Rattle.lis_store.specs.Admitting.{IsAdmitted}
 use Rattle.lis_store.specs.Adding.{PutsIn}
 use Rattle.lis_store.proofs.Added.{end_is, sound_added}

@@ -10,7 +10,6 @@ use Rattle.lis_dict.specs.Dict.{word_of}
 use Rattle.lis_ext.specs.Ext.{Ext, set_of as numbers_at}
 use Rattle.lis_ext.specs.Numbers.{has_number, differs, numbers_where}
 use Rattle.lis_words.specs.Words.{is_valued, head_bytes}
-use Rattle.lis_model.specs.State.{heads}
 use Rattle.lis_model.specs.Derived.{derived_words}
 use Rattle.lis_model.specs.Changes.{new_file}
 use Rattle.lis_kept.specs.Kept.{Kept}
@@ -21,7 +20,7 @@ use Rattle.lis_kept.proofs.Filing.{among_from_number}
 use Rattle.lis_store.specs.Changes.{differing_bits}
 use Rattle.lis_store.specs.Admitting.{described_by, IsAdmitted}
 use Rattle.lis_store.specs.Adding.{is_one_of, numbers_named, behind_head, with_heads, learnt_words, PutsIn}
-use Rattle.lis_store.proofs.Added.{end_is, filed_is, free_slot, below_files, set_here}
+use Rattle.lis_store.proofs.Added.{filed_is, free_slot, below_files, set_here}
 use Rattle.lis_store.proofs.DerivedWords.{derived_few}
 use Rattle.lis_store.proofs.Numbers.{sorted_where}
 use Rattle.lis_store.proofs.PutIn.{none_has, slot_was_empty}

@@ -1,41 +1,38 @@
 -- What memory tells after a file is put in.
-use Rattle.std.proofs.Common.{◌≡◌, ◌⊎◌, refl, sym, ap, ap₂, ◌∙◌, subst, inl, inr, ℕ, ◌+◌, ◌<◌, ◌≤◌, ◌==◌, ◌||◌, if◌then◌else◌, Bool, true, false, List, [], ◌∷◌, length, map, Option, Some, None, is_some, IsSome, arith}
-use Rattle.std.specs.BTreeSet.{insert_key}
+use Rattle.std.proofs.Common.{◌≡◌, ◌⊎◌, sym, ap, ap₂, ◌∙◌, subst, inl, inr, ℕ, ◌+◌, ◌<◌, ◌≤◌, true, false, List, [], length, is_some, arith}
 use Rattle.std.specs.List.{flat_map, list_all, Contains}
-use Rattle.std.specs.List.Sorted.{IsStrictlySortedBy}
-use Rattle.std.proofs.lemmas.Bool.{both_ways, or_cases, cases_eq}
+use Rattle.std.proofs.lemmas.Bool.{both_ways, or_cases}
 use Rattle.std.proofs.lemmas.Option.{same_Some}
-use Rattle.lis_graph.proofs.Members.{Among, among_from_contains, contains_from_among, any_from_among, among_left, among_insert_key, insert_key_old, insert_key_new, map_among}
+use Rattle.lis_graph.proofs.Members.{Among, among_from_contains, contains_from_among, any_from_among, among_left, among_insert_key, insert_key_old, map_among}
 use Rattle.lis_graph.proofs.Sets.{sorted_from_rising}
 use Rattle.lis_journal.specs.Journal.{Held}
 use Rattle.lis_journal.specs.Phases.{looked}
 use Rattle.lis_blockmap.specs.Bitmap.{is_taken, free_count}
 use Rattle.lis_content.specs.Content.{has_number}
 use Rattle.lis_content.proofs.Numbers.{stays_marked}
-use Rattle.lis_dict.specs.Dict.{words, word_of}
-use Rattle.lis_catalog.specs.Catalog.{Filed, filed_cmp, slot_of, rec_at, with_filed}
-use Rattle.lis_ext.specs.Ext.{has, set_of as numbers_at}
+use Rattle.lis_catalog.specs.Catalog.{Filed, filed_cmp, slot_of, rec_at}
+use Rattle.lis_ext.specs.Ext.{set_of as numbers_at}
 use Rattle.lis_fields.specs.Records.{FileRecord}
-use Rattle.lis_words.specs.Words.{word_cmp, same_word, has_word}
+use Rattle.lis_words.specs.Words.{word_cmp, same_word}
 use Rattle.lis_model.specs.declared.limits.Limits.{Limits}
 use Rattle.lis_model.specs.Sets.{with_words}
-use Rattle.lis_model.specs.State.{State, File, file_cmp, up, own_words, description, known, is_assignable, file_limit, blocks_needed, blocks_taken, used_blocks, WellFormed}
+use Rattle.lis_model.specs.State.{State, File, file_cmp, up, own_words, description, known, is_assignable, file_limit, blocks_taken, used_blocks}
 use Rattle.lis_model.specs.Changes.{new_file, has_name, file_added}
 use Rattle.lis_laws.specs.Changes.{FileFits}
 use Rattle.lis_laws.proofs.Forms as forms
 use Rattle.lis_laws.proofs.Counts.{all_among}
 use Rattle.lis_laws.proofs.Growth.{known_adds_file}
-use Rattle.lis_laws.proofs.Members.{word_exact, word_order, sorted_set_of, same_word_decides, among_from_has_word, has_word_from_among}
+use Rattle.lis_laws.proofs.Members.{word_order, sorted_set_of, same_word_decides, among_from_has_word, has_word_from_among}
 use Rattle.lis_kept.specs.Kept.{Kept}
 use Rattle.lis_kept.specs.Areas.{IsSaved}
 use Rattle.lis_kept.specs.Sound.{AreSound, FreeSlotsAreEmpty}
 use Rattle.lis_kept.specs.Telling.{declared_of, axioms_of, words_told, file_told, state_of, IsFileBlock, Tells}
 use Rattle.lis_kept.proofs.Filing.{filed_rec, filed_slot, filed_at_slot, among_from_number, number_from_among}
 use Rattle.lis_store.specs.Saving.{IsReady}
-use Rattle.lis_store.specs.Admitting.{described_by, known_with, IsAdmitted}
-use Rattle.lis_store.specs.Adding.{AreNumbered, numbers_named, with_heads, learnt_words, PutsIn}
+use Rattle.lis_store.specs.Admitting.{described_by, IsAdmitted}
+use Rattle.lis_store.specs.Adding.{numbers_named, with_heads, learnt_words, PutsIn}
 use Rattle.lis_store.proofs.Added.{end, end_is, free_slot, rec_here, set_here, set_other, word_stays, sound_end, described_numbered, used_then, new_not_taken, new_taken}
-use Rattle.lis_store.proofs.Facts.{limits_told, files_told, known_told, name_filed, files_counted, filed_of_file}
+use Rattle.lis_store.proofs.Facts.{limits_told, known_told, name_filed, files_counted, filed_of_file}
 use Rattle.lis_store.proofs.Marks.{taken_after}
 use Rattle.lis_store.proofs.Naming.{named_told}
 use Rattle.lis_store.proofs.PutIn.{own_numbered, slot_was_empty}

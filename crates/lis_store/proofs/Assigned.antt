@@ -1,7 +1,7 @@
 -- The words that a new file is given: which they are, and how they are put into a set.
 use Rattle.std.proofs.Common.{◌≡◌, ◌⊎◌, refl, sym, ap, ap₂, ◌∙◌, subst, inl, inr, ℕ, suc, ◌+◌, ◌<◌, ◌≤◌, ◌==◌, nat_le, Bool, true, false, cond, ◌&&◌, ◌||◌, is_some, IsSome, Option, Some, None, List, [], ◌∷◌, ◌++◌, length, take, drop, get_or, filter, slice_get, arith}
 use Rattle.std.specs.Prelude.{unwrap_or, option_map}
-use Rattle.std.specs.List.{flat_map, list_all, prefix_len, insert, fold}
+use Rattle.std.specs.List.{flat_map, list_all, prefix_len, insert}
 use Rattle.std.specs.List.Sorted.{IsStrictlySortedBy}
 use Rattle.std.specs.declared.cmp.Ordering.{Ordering}
 use Rattle.std.specs.declared.cmp.Ordering.TheVariants.{Less, Equal, Greater}
@@ -23,16 +23,17 @@ use Rattle.lis_place.specs.declared.node.Node.{Node}
 use Rattle.lis_place.specs.declared.node.Node.TheVariants.{Word, AtLeast, Below, Not, And, Or}
 use Rattle.lis_place.specs.Nodes.{tree_node_list, nodes_of, node_words}
 use Rattle.lis_model.specs.Sets.{with_word, with_words, set_of}
-use Rattle.lis_model.specs.Places.{both_lists, conjuncts, all_conjuncts, place_words, place_tags, is_tag}
+use Rattle.lis_model.specs.Places.{both_lists, conjuncts, all_conjuncts, place_words, is_tag}
 use Rattle.lis_model.specs.State.{is_assignable}
 use Rattle.lis_model.specs.Step.{tags_at, assigned_at}
 use Rattle.lis_laws.proofs.Members.{word_exact, word_order, same_word_decides, among_from_has_word, has_word_from_among, among_with_words, with_words_old, with_words_new, among_set_of, set_of_among, sorted_with_words, sorted_set_of, same_words}
-use Rattle.lis_laws.proofs.Counts.{all_among, all_from, le_insert_key}
+use Rattle.lis_laws.proofs.Counts.{all_among, all_from}
 use Rattle.lis_laws.proofs.Apart.{plain_not_valued}
 use Rattle.lis_kept.specs.Kept.{Kept}
 use Rattle.lis_kept.specs.Telling.{is_declared, declared_of}
 use Rattle.lis_kept.proofs.Filing.{same_tests}
 use Rattle.lis_kept.proofs.WordMore.{declared_there, there_declared}
+use Rattle.lis_store.proofs.Told.{words_grow}
 use Rattle.lis_store.specs.Assigning.{is_conjunct, node_tags, is_held, Takes}
 
 -- ---- the words of a place
@@ -204,10 +205,6 @@ with_words-append : (words more others : List (List ℕ)) → with_words words (
 with_words-append words [] others = refl
 with_words-append words (w ∷ more) others = with_words-append (with_word words w) more others
 
-grown : (words more : List (List ℕ)) → length words ≤ length (with_words words more)
-grown words [] = omega arith
-grown words (w ∷ more) = omega (arith, le_insert_key word_cmp words w, grown (with_word words w) more)
-
 pub takes_few : (more old new : List (List ℕ)) → Takes more old new true → length new ≤ 16
 takes_few more old new takes = omega (arith, leb-true (length (with_words old more)) 16 (sym takes.room), ap length (takes.words refl))
 
@@ -225,7 +222,7 @@ takes_not more others old mid takes = record {
   room = sym (false_from_ne_true (nat_le (length (with_words old (more ++ others))) 16) (λ fits.
       both_ways (nat_le (length (with_words old more)) 16) (sym takes.room)
       (le-leb (length (with_words old more)) 16
-      (omega (arith, leb-true (length (with_words old (more ++ others))) 16 fits, grown (with_words old more) others, ap length (with_words-append old more others))))));
+      (omega (arith, leb-true (length (with_words old (more ++ others))) 16 fits, words_grow (with_words old more) others, ap length (with_words-append old more others))))));
   words = λ h. absurd cc;
 }
 
@@ -309,7 +306,7 @@ module _ (place : List Formula) (words start mid : List (List ℕ)) (some : IsSo
         arith,
         leb-false (length (with_words start tags)) 16 (sym takes.room),
         ap (λ ws. length (with_words ws tags)) none,
-        grown (set_of tags) words,
+        words_grow (set_of tags) words,
         ap length (assigned_is place words some),
       )
 

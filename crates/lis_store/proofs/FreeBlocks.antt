@@ -1,7 +1,7 @@
 -- The blocks that no file takes are those that are free.
-use Rattle.std.proofs.Common.{◌≡◌, refl, sym, ap, ◌∙◌, subst, inl, inr, ℕ, ◌+◌, ◌<◌, ◌==◌, nat_lt, not, ◌&&◌, Bool, true, false, cond, List, [], ◌∷◌, ◌++◌, length, map, sum, set, replicate, count_by, arith, length-append, length-set, get_or-set_other}
+use Rattle.std.proofs.Common.{◌≡◌, refl, sym, ap, ◌∙◌, subst, inl, inr, ℕ, ◌+◌, ◌<◌, ◌==◌, nat_lt, not, ◌&&◌, Bool, true, false, cond, List, [], ◌∷◌, length, map, sum, set, replicate, arith, length-append, length-set, get_or-set_other}
 use Rattle.std.specs.List.{flat_map, list_all}
-use Rattle.std.proofs.lemmas.Bool.{and_parts, and_from, both_ways, eqb-true, eq-eqb, lt-ltb, ltb-true, not-true, not_from_false}
+use Rattle.std.proofs.lemmas.Bool.{and_parts, and_from, both_ways, eqb-true, lt-ltb, ltb-true, not-true, not_from_false}
 use Rattle.std.proofs.lemmas.List.{length-replicate, get_or-replicate}
 use Rattle.std.proofs.lemmas.List.Folds.{sum_by-replicate}
 use Rattle.std.proofs.lemmas.List.Sums.{sum_by-cons, sum_by-set}
@@ -77,8 +77,13 @@ module _ (k : Stored) (m : Meaning) (s : State) (sound : IsSound k) (fits : Stor
   all_take [] there = refl
   all_take (f ∷ fs) there =
       let taken : File → ℕ = λ file. blocks_taken s.limits.version (length file.bytes) in
-      omega (arith, sum_by-cons (λ (n : ℕ). n) (taken (told f)) (map taken (map told fs)), one_takes f (there f (inl refl)), all_take fs (λ g of. there g (inr of)),
-      length-append f.rec.blocks (flat_map (λ (g : Filed). g.rec.blocks) fs))
+      omega (
+        arith,
+        sum_by-cons (λ (n : ℕ). n) (taken (told f)) (map taken (map told fs)),
+        one_takes f (there f (inl refl)),
+        all_take fs (λ g of. there g (inr of)),
+        length-append f.rec.blocks (flat_map (λ (g : Filed). g.rec.blocks) fs),
+      )
 
   used_counted : used_blocks s ≡ length taken_blocks
   used_counted =

@@ -1,7 +1,7 @@
 -- Words that are gathered one after another: the numbers of what those with numbers entail, and those without.
 use Rattle.std.proofs.Common.{◌≡◌, ◌⊎◌, refl, sym, ap, ap₂, ◌∙◌, subst, inl, inr, ℕ, ◌+◌, ◌*◌, ◌<◌, ◌≤◌, Bool, true, false, not, ◌&&◌, ◌||◌, cond, is_none, Option, Some, None, List, [], ◌∷◌, ◌++◌, length, take, get_or, arith, append_assoc, append-nil, length-append}
 use Rattle.std.proofs.lemmas.Bool.{or_cases, both_ways, false_from_ne_true}
-use Rattle.std.proofs.lemmas.Option.{same_Some, none-some}
+use Rattle.std.proofs.lemmas.Option.{none-some}
 use Rattle.std.proofs.lemmas.List.Folds.{list_any-append}
 use Rattle.lis_bits.specs.Rows.{Rows, HasShape, get, with_row}
 use Rattle.lis_bits.proofs.Laws.{bits_set}
@@ -18,7 +18,6 @@ use Rattle.lis_kept.specs.Kept.{Kept}
 use Rattle.lis_kept.specs.Sound.{AreSound}
 use Rattle.lis_kept.specs.Links.{TellsLinks}
 use Rattle.lis_kept.specs.Telling.{declared_of, axioms_of}
-use Rattle.lis_kept.proofs.Known.{one_number}
 use Rattle.lis_store.specs.Describing.{with_heads, leads, IsEntailed, AreGathered, Gathers}
 use Rattle.lis_store.proofs.Assigned.{flat_next}
 use Rattle.lis_store.proofs.Entailment.{leads_from_up, chain_named}

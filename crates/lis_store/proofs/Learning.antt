@@ -1,28 +1,27 @@
 -- Words that are learnt, one behind the other.
-use Rattle.std.proofs.Common.{◌≡◌, ◌⊎◌, refl, sym, ap, ◌∙◌, subst, inl, inr, ℕ, ◌+◌, ◌<◌, ◌≤◌, ◌&&◌, ◌||◌, Bool, true, false, cond, List, [], ◌∷◌, ◌++◌, length, take, drop, get_or, Option, Some, None, is_some, IsSome, append_assoc, append-nil, length-append, take-append-drop, arith}
-use Rattle.std.specs.List.{fold, list_all, flat_map}
-use Rattle.std.proofs.lemmas.Bool.{and_parts, and_from, or_cases, or_left, or_right, both_ways}
+use Rattle.std.proofs.Common.{◌≡◌, ◌⊎◌, refl, sym, ap, ◌∙◌, subst, inl, inr, ℕ, ◌+◌, ◌<◌, ◌≤◌, ◌&&◌, ◌||◌, Bool, true, false, cond, List, [], ◌∷◌, ◌++◌, length, take, drop, get_or, None, is_some, IsSome, append-nil, length-append, take-append-drop, arith}
+use Rattle.std.specs.List.{list_all}
+use Rattle.std.proofs.lemmas.Bool.{and_from, or_cases, or_left, or_right, both_ways}
 use Rattle.std.proofs.lemmas.List.{length-map, take_more}
 use Rattle.std.proofs.lemmas.List.Sums.{fold-append}
 use Rattle.std.proofs.lemmas.Grind.{flat_map-append}
 use Rattle.std.proofs.lemmas.List.Elements.{Contains-get_or}
-use Rattle.lis_graph.proofs.Members.{Among, among_from_contains, among_insert_key, insert_key_old, with_more_old, with_more_new}
-use Rattle.lis_dict.specs.Dict.{Dict, words, number_of, word_of}
-use Rattle.lis_words.specs.Words.{word_cmp, has_word, is_valued, is_plain_word, is_head, is_word, is_built_in, head_bytes}
+use Rattle.lis_graph.proofs.Members.{Among, among_from_contains, with_more_old, with_more_new}
+use Rattle.lis_dict.specs.Dict.{Dict, words, number_of}
+use Rattle.lis_words.specs.Words.{word_cmp, is_valued, is_plain_word, is_head, is_built_in, head_bytes}
 use Rattle.lis_words.proofs.Head.{head_is_word}
 use Rattle.lis_fields.specs.Layouts.{is_undeclared}
 use Rattle.lis_model.specs.Sets.{with_word, with_words}
 use Rattle.lis_model.specs.State.{heads}
 use Rattle.lis_laws.proofs.Apart.{built_in_not_plain}
 use Rattle.lis_laws.proofs.Chains.{head_not_valued}
-use Rattle.lis_laws.proofs.Counts.{all_among, le_insert_key}
+use Rattle.lis_laws.proofs.Counts.{all_among}
 use Rattle.lis_laws.proofs.Members.{word_exact, among_from_has_word, has_word_from_among}
 use Rattle.lis_kept.specs.Kept.{Kept}
-use Rattle.lis_kept.specs.Areas.{marked_count}
-use Rattle.lis_kept.specs.Changes.{Marks, Learns}
+use Rattle.lis_kept.specs.Changes.{Learns}
 use Rattle.lis_store.specs.Adding.{behind_head, with_heads, may_learn, HasWordRoom, LearnsAll}
 use Rattle.lis_store.proofs.Facts.{numbered}
-use Rattle.lis_store.proofs.Told.{length-with_word}
+use Rattle.lis_store.proofs.Told.{length-with_word, words_grow}
 
 -- ---- words that have numbers
 pub number_there : (d : Dict) (word : List ℕ) → Among (words d) word → IsSome (number_of d word)
@@ -35,10 +34,6 @@ not_unknown : (d : Dict) (word : List ℕ) → number_of d word ≡ None → Amo
 not_unknown d word none m = both_ways (is_some (number_of d word)) (ap is_some none) (number_there d word m)
 
 -- ---- how many there are
-pub words_grow : (some more : List (List ℕ)) → length some ≤ length (with_words some more)
-words_grow some [] = omega arith
-words_grow some (word ∷ more) = omega (arith, le_insert_key word_cmp some word, words_grow (with_word some word) more)
-
 -- an unknown word needs room
 pub room_for : (d : Dict) (word : List ℕ) (more : List (List ℕ)) (most : ℕ) → number_of d word ≡ None → length (with_words (words d) (word ∷ more)) ≤ most → length d.entries < most
 room_for d word more most none room =

@@ -1,17 +1,16 @@
 -- How many words the description of a new file has, and how many of them are not known yet.
-use Rattle.std.proofs.Common.{◌≡◌, ◌⊎◌, refl, sym, ap, ap₂, ◌∙◌, subst, inl, inr, ℕ, zero, suc, ◌+◌, ◌<◌, ◌≤◌, Bool, true, false, not, ◌&&◌, cond, is_some, is_none, Option, Some, None, option_to_list, IsSome, List, [], ◌∷◌, ◌++◌, length, map, filter, arith, append-nil, length-append}
+use Rattle.std.proofs.Common.{◌≡◌, ◌⊎◌, refl, sym, ap, ap₂, ◌∙◌, subst, inl, inr, ℕ, zero, suc, ◌+◌, ◌<◌, ◌≤◌, Bool, true, false, not, ◌&&◌, cond, is_some, is_none, Option, Some, None, option_to_list, IsSome, List, [], ◌∷◌, ◌++◌, length, map, filter, arith, append-nil}
 use Rattle.std.specs.Prelude.{count_by}
-use Rattle.std.specs.List.{flat_map, range_with_len, fold}
+use Rattle.std.specs.List.{flat_map, range_with_len}
 use Rattle.std.specs.Ordering.{nat_cmp}
 use Rattle.std.specs.Cmp.{IsTotalOrder, nat_cmp_total, tied_itself}
 use Rattle.std.specs.declared.cmp.Ordering.{Ordering}
 use Rattle.std.specs.List.Sorted.{IsStrictlySortedBy}
-use Rattle.std.proofs.lemmas.Bool.{and_parts, both_ways, not-true, not_from_false, false_from_ne_true}
+use Rattle.std.proofs.lemmas.Bool.{and_parts, both_ways, not-true, not_from_false}
 use Rattle.std.proofs.lemmas.Option.{same_Some, none-some}
 use Rattle.std.proofs.lemmas.List.{length-map}
 use Rattle.std.proofs.lemmas.List.Sums.{length-filter, sum_by-cons}
 use Rattle.std.proofs.lemmas.List.Kept.{IsStrictlySortedBy-filter}
-use Rattle.std.proofs.lemmas.List.Folds.{list_any-append}
 use Rattle.lis_graph.specs.Graph.{Linked, Chain}
 use Rattle.lis_graph.proofs.Members.{Among, among_from_contains, among_append, among_left, among_right, among_flat_map, flat_map_among}
 use Rattle.lis_graph.proofs.Sets.{below_tail, sorted_tail, sorted_from_rising}
@@ -21,13 +20,11 @@ use Rattle.lis_bits.proofs.Laws.{get-with_row_same, row-with_row}
 use Rattle.lis_ext.specs.Numbers.{numbers_where}
 use Rattle.lis_dict.specs.Dict.{words as known_words, number_of, word_of}
 use Rattle.lis_dict.proofs.Laws.{number_from_word, word_from_number}
-use Rattle.lis_words.specs.Words.{word_cmp, same_word, has_word, is_valued, head_bytes}
+use Rattle.lis_words.specs.Words.{word_cmp, has_word, is_valued, head_bytes}
 use Rattle.lis_model.specs.Noted.{are_distinct}
 use Rattle.lis_model.specs.Sets.{with_words}
 use Rattle.lis_model.specs.Derived.{derived_words}
-use Rattle.lis_model.specs.Tests.{met_tests}
 use Rattle.lis_model.specs.State.{File, heads, links, up, own_words, all_up}
-use Rattle.lis_model.specs.Changes.{new_file}
 use Rattle.lis_model.proofs.NoTests.{no_met}
 use Rattle.lis_laws.proofs.Members.{word_exact, word_order, among_from_has_word, has_word_from_among, among_with_words, with_words_old, with_words_new, sorted_with_words, sorted_set_of, same_words}
 use Rattle.lis_laws.proofs.Chains.{head_not_valued, among_heads, heads_of_valued, OwnLink, own_link, links_head, up_self, up_own, up_trans, entails_from_up, up_from_entails}
@@ -42,7 +39,7 @@ use Rattle.lis_kept.proofs.Known.{among_axiom, declared_has_number, word_among, 
 use Rattle.lis_kept.proofs.Formed.{some_word}
 use Rattle.lis_kept.proofs.OwnLinks.{declared_no_tests}
 use Rattle.lis_store.specs.Admitting.{described_by, known_with}
-use Rattle.lis_store.specs.Describing.{with_heads, leads, IsEntailed, AreGathered, Gathers}
+use Rattle.lis_store.specs.Describing.{with_heads, AreGathered}
 use Rattle.lis_store.proofs.Entailment.{up_has_number}
 use Rattle.lis_store.proofs.Gathered.{numbered_below}
 use Rattle.lis_store.proofs.Points.{AllApart, no_tie, length-with_more}

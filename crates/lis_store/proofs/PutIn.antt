@@ -1,6 +1,6 @@
 -- A file that is admitted: its words may be learnt, and its numbers are in form.
-use Rattle.std.proofs.Common.{◌≡◌, ◌⊎◌, refl, sym, ap, ap₂, ◌∙◌, subst, inl, inr, ℕ, ◌+◌, ◌^◌, ◌<◌, ◌≤◌, nat_lt, nat_le, ◌&&◌, ◌||◌, cond, Bool, true, false, List, [], ◌∷◌, ◌++◌, length, Option, Some, None, is_some, IsSome, append-nil, arith}
-use Rattle.std.specs.List.{fold, flat_map, list_all}
+use Rattle.std.proofs.Common.{◌≡◌, ◌⊎◌, refl, sym, ap, ap₂, ◌∙◌, subst, inl, inr, ℕ, ◌^◌, ◌≤◌, nat_lt, nat_le, ◌&&◌, ◌||◌, cond, Bool, true, false, List, [], ◌∷◌, ◌++◌, length, None, is_some, IsSome, arith}
+use Rattle.std.specs.List.{flat_map, list_all}
 use Rattle.std.specs.List.Sorted.{IsStrictlyIncreasing}
 use Rattle.std.specs.Ordering.{nat_cmp}
 use Rattle.std.specs.Cmp.{nat_cmp_total}
@@ -9,39 +9,38 @@ use Rattle.std.proofs.lemmas.List.Sums.{fold-append}
 use Rattle.std.proofs.lemmas.Grind.{flat_map-append}
 use Rattle.std.proofs.lemmas.Map.Keys.{IsStrictlyIncreasing-from_sorted}
 use Rattle.lis_graph.specs.Graph.{is_rising}
-use Rattle.lis_graph.proofs.Members.{Among, among_from_any, among_filter, among_append, among_flat_map, flat_map_among}
+use Rattle.lis_graph.proofs.Members.{Among, among_filter, among_append, among_flat_map, flat_map_among}
 use Rattle.lis_graph.proofs.Sets.{members_le, sorted_from_rising}
 use Rattle.lis_journal.specs.Journal.{Held}
 use Rattle.lis_catalog.specs.Catalog.{rec_at}
-use Rattle.lis_dict.specs.Dict.{IsDict, words, number_of, word_of}
-use Rattle.lis_ext.specs.Ext.{Ext, has, set_of as numbers_at}
+use Rattle.lis_dict.specs.Dict.{words, number_of, word_of}
+use Rattle.lis_ext.specs.Ext.{Ext, set_of as numbers_at}
 use Rattle.lis_content.specs.Content.{has_number}
 use Rattle.lis_fields.specs.Layouts.{are_short, are_tags}
 use Rattle.lis_words.specs.Words.{word_cmp, has_word, is_plain_word, is_valued, is_built_in, head_bytes}
-use Rattle.lis_model.specs.Sets.{set_of, with_word, with_words}
+use Rattle.lis_model.specs.Sets.{with_word, with_words}
 use Rattle.lis_model.specs.Derived.{derived_words}
-use Rattle.lis_model.specs.Tests.{met_tests}
-use Rattle.lis_model.specs.State.{State, File, heads, up, all_up, own_words, is_assignable}
+use Rattle.lis_model.specs.State.{State, File, heads, up, all_up, is_assignable}
 use Rattle.lis_model.specs.Changes.{new_file}
-use Rattle.lis_model.proofs.NoTests.{no_met}
 use Rattle.lis_laws.proofs.Apart.{plain_not_valued}
 use Rattle.lis_laws.proofs.Chains.{among_heads, up_self, up_own, links_head}
-use Rattle.lis_laws.proofs.Counts.{all_among, all_from, all_weaker, rising_from_sorted}
-use Rattle.lis_laws.proofs.Members.{word_order, among_with_words, with_words_old, with_words_new, sorted_with_words, among_from_has_word, has_word_from_among, set_of_among}
+use Rattle.lis_laws.proofs.Counts.{all_from, all_weaker, rising_from_sorted}
+use Rattle.lis_laws.proofs.Members.{word_order, among_with_words, with_words_old, with_words_new, sorted_with_words, among_from_has_word, set_of_among}
 use Rattle.lis_kept.specs.Kept.{Kept}
 use Rattle.lis_kept.specs.Changes.{Adds}
 use Rattle.lis_kept.specs.Sound.{AreSound, FreeSlotsAreEmpty}
-use Rattle.lis_kept.specs.Telling.{is_declared, declared_of, axioms_of, state_of}
+use Rattle.lis_kept.specs.Telling.{is_declared, declared_of, axioms_of}
 use Rattle.lis_kept.proofs.Filing.{number_from_among}
 use Rattle.lis_kept.proofs.Described.{among_where}
 use Rattle.lis_kept.proofs.InArea.{few_properties}
-use Rattle.lis_kept.proofs.OwnLinks.{declared_no_tests}
 use Rattle.lis_store.specs.Admitting.{described_by, known_with, IsAdmitted}
 use Rattle.lis_store.specs.Adding.{is_one_of, numbers_named, AreNumbered, behind_head, with_heads, may_learn, HasWordRoom, LearnsAll, learnt_words}
 use Rattle.lis_store.proofs.DerivedWords.{is_built_value, derived_built}
-use Rattle.lis_store.proofs.Learning.{number_there, words_grow, learns_more, number_learnt, room_left}
+use Rattle.lis_store.proofs.Learning.{number_there, learns_more, number_learnt, room_left}
+use Rattle.lis_store.proofs.Measured.{own_given}
 use Rattle.lis_store.proofs.Naming.{one_of, named_one, named_few}
 use Rattle.lis_store.proofs.Numbers.{sorted_where}
+use Rattle.lis_store.proofs.Told.{words_grow}
 
 -- ---- words that may be learnt
 declared_known : (k : Kept) (word : List ℕ) → has_word (declared_of k) word ≡ true → IsSome (number_of k.dict word)
@@ -92,13 +91,8 @@ module _ (p : Kept) (sound : AreSound p) (name : List ℕ) (assigned : List (Lis
   abbrev file : File
   file = new_file name assigned bytes
 
-  -- no declared word is a test that it could meet
-  own_are : own_words (declared_of p) file ≡ learnt_words file
-  own_are =
-      ap (λ (ws : List (List ℕ)). learnt_words file ++ ws) (no_met (declared_of p) (length bytes) (declared_no_tests p sound.dict)) ∙ append-nil (learnt_words file)
-
   pub described_is : described_by p file ≡ all_up (declared_of p) (axioms_of p) (learnt_words file)
-  described_is = ap (all_up (declared_of p) (axioms_of p)) own_are
+  described_is = ap (all_up (declared_of p) (axioms_of p)) (own_given p sound file)
 
   pub assigned_may : list_all (may_learn p) assigned ≡ true
   assigned_may = all_weaker (is_assignable (declared_of p)) (may_learn p) assigned (λ word m h. assignable_may p word h) admitted.assignable

@@ -1,5 +1,5 @@
 -- What memory tells under other words.
-use Rattle.std.proofs.Common.{◌≡◌, ℕ, ◌+◌, true, List, [], ◌∷◌, ◌++◌, length, refl, sym, ap, ap₂, ◌∙◌, inl, inr, arith}
+use Rattle.std.proofs.Common.{◌≡◌, ℕ, ◌+◌, ◌≤◌, true, List, [], ◌∷◌, ◌++◌, length, refl, sym, ap, ap₂, ◌∙◌, inl, inr, arith}
 use Rattle.std.proofs.Math.Path.{fun_ext}
 use Rattle.std.specs.declared.cmp.Ordering.{Ordering}
 use Rattle.std.specs.declared.cmp.Ordering.TheVariants.{Less, Equal, Greater}
@@ -10,11 +10,12 @@ use Rattle.lis_graph.specs.Graph as graph
 use Rattle.lis_graph.proofs.Members.{Among}
 use Rattle.lis_dict.specs.Dict.{Dict, word_of}
 use Rattle.lis_words.specs.Words.{word_cmp, same_word}
-use Rattle.lis_model.specs.Sets.{set_of, with_word}
+use Rattle.lis_model.specs.Sets.{set_of, with_word, with_words}
 use Rattle.lis_model.specs.Derived.{derived_words}
 use Rattle.lis_model.specs.State.{File, heads, links, file_words}
 use Rattle.lis_model.specs.Tests.{has_no_tests}
 use Rattle.lis_model.proofs.NoTests.{no_weaker, no_met}
+use Rattle.lis_laws.proofs.Counts.{le_insert_key}
 use Rattle.lis_kept.specs.Telling.{words_told}
 
 flat_same : {X Y : Type 0} (f g : X → List Y) (xs : List X) → ((x : X) → Among xs x → f x ≡ g x) → flat_map f xs ≡ flat_map g xs
@@ -42,3 +43,8 @@ length-with_word (w ∷ words) word new = by (word_cmp word w) refl (length-with
     by Less e rest = omega arith
     by Equal e rest = absurd (new w (inl refl) e)
     by Greater e rest = omega (arith, rest)
+
+-- with more words a list of them is no shorter
+pub words_grow : (some more : List (List ℕ)) → length some ≤ length (with_words some more)
+words_grow some [] = omega arith
+words_grow some (word ∷ more) = omega (arith, le_insert_key word_cmp some word, words_grow (with_word some word) more)

@@ -1,6 +1,6 @@
 //! A store over what memory keeps: a state on an image, what memory keeps of it, and calls that read and change both. Opening joins its
-//! parts; truth and listings see it as a view; files are read and removed, and words are declared. No call makes a file yet. The laws
-//! say what images it stands for.
+//! parts; truth and listings see it as a view; files are made, read and removed, and words are declared. The laws say what images it
+//! stands for.
 #![tactic(auto)]
 
 mod adding;

@@ -1,5 +1,4 @@
-use Rattle.std.proofs.Common.{◌<◌, length, arith}
-use Rattle.lis_store.proofs.Learning.{next_may, next_room, next_learnt, learns_none}
+use Rattle.lis_store.proofs.Learning.{next_may, next_room, next_learnt}
 use Rattle.lis_store.proofs.adding.learn_words.Goals as goal
 
 pub learn_word-requires-clause-form : goal.learn_word-requires-clause-form

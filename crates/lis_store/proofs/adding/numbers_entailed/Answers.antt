@@ -1,4 +1,4 @@
-use Rattle.std.proofs.Common.{◌∙◌, ℕ, ◌≤◌, length, sym, ap, subst, arith}
+use Rattle.std.proofs.Common.{◌∙◌, ℕ, length, sym, ap, subst, arith}
 use Rattle.lis_bits.specs.Rows.{HasShape, get}
 use Rattle.lis_ext.specs.Numbers.{numbers_where}
 use Rattle.lis_kept.proofs.InArea.{few_properties}
@@ -15,8 +15,7 @@ numbers_in-requires c =
     let shape = entailed_shape k sound c.args.assigned.now c.args.derived.now c.args.row.now c.fill.new.self c.leave_out.new.row c.leave_out-2.new.row c.negate.new.self
     c.requires.shape c.fill.ensures c.leave_out.ensures.bits c.leave_out-2.ensures.shape c.leave_out-2.ensures.bits c.negate.ensures in
     let few = entailed_few k sound c.args.assigned.now c.args.derived.now c.args.row.now c.fill.new.self c.leave_out.new.row c.leave_out-2.new.row c.negate.new.self
-    c.requires.shape c.fill.ensures c.leave_out.ensures.bits c.leave_out-2.ensures.shape c.leave_out-2.ensures.bits c.negate.ensures c.requires.few in
-    (
+    c.requires.shape c.fill.ensures c.leave_out.ensures.bits c.leave_out-2.ensures.shape c.leave_out-2.ensures.bits c.negate.ensures c.requires.few in (
       omega arith,
       (
         subst P (sym props) shape,

@@ -1,12 +1,10 @@
-use Rattle.std.proofs.Common.{◌≡◌, ◌∙◌, ℕ, ◌+◌, ◌<◌, ◌≤◌, ◌==◌, if◌then◌else◌, true, List, [], ◌∷◌, ◌++◌, length, take, sym, ap, subst, arith}
+use Rattle.std.proofs.Common.{◌≡◌, ◌∙◌, ℕ, ◌+◌, ◌==◌, if◌then◌else◌, true, List, [], ◌∷◌, ◌++◌, length, take, sym, ap, subst, arith}
 use Rattle.std.proofs.lemmas.List.{take_more, take_all}
 use Rattle.lis_bits.specs.Rows.{Rows, HasShape, get, with_row}
-use Rattle.lis_dict.specs.Dict.{number_of, word_of}
 use Rattle.lis_dict.proofs.Laws.{number_below}
 use Rattle.lis_ext.specs.Numbers.{numbers_where}
 use Rattle.lis_kept.proofs.InArea.{few_properties}
 use Rattle.lis_model.specs.declared.limits.Limits.{Limits}
-use Rattle.lis_store.specs.Adding.{is_one_of, numbers_named}
 use Rattle.lis_store.proofs.Naming.{ShowsNumbers, shows_none, shows_one, shows_same, shown_numbers, named_few}
 use Rattle.lis_store.proofs.adding.numbers_of.Goals as goal
 use Rattle.lis_store.proofs.adding.numbers_of.Goals.{in-Some, in_default}
@@ -51,8 +49,7 @@ numbers_in-requires c =
     let S : List (List ℕ) → Type 0 = λ ws. ShowsNumbers k.dict k.limits.props ws c.loop-word.row in
     let shows = subst S all c.loop-word.invariant in
     let shown = shown_numbers k.dict k.limits.props c.args.words.now c.loop-word.row sound.numbers shows.bits in
-    let few = named_few k.dict sound.dict c.args.words.now in
-    (
+    let few = named_few k.dict sound.dict c.args.words.now in (
       omega arith,
       (
         subst P (sym props) shows.shape,

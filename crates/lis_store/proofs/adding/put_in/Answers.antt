@@ -1,8 +1,6 @@
-use Rattle.std.proofs.Common.{◌≡◌, ◌∙◌, ◌++◌, ◌≤◌, ℕ, List, [], true, None, is_some, length, sym, ap, subst, arith}
+use Rattle.std.proofs.Common.{◌≡◌, ◌∙◌, ◌++◌, ◌≤◌, ℕ, List, true, is_some, length, sym, ap, subst, arith}
 use Rattle.std.specs.List.{list_all}
-use Rattle.lis_ext.specs.Ext.{set_of as numbers_at}
 use Rattle.std.specs.List.Sorted.{IsStrictlyIncreasing}
-use Rattle.lis_catalog.specs.Catalog.{rec_at}
 use Rattle.lis_dict.specs.Dict.{word_of}
 use Rattle.lis_fields.specs.Layouts.{are_tags}
 use Rattle.lis_model.specs.Changes.{new_file}
@@ -11,7 +9,7 @@ use Rattle.lis_kept.specs.Kept.{Kept}
 use Rattle.lis_kept.specs.Changes.{Adds, Describes}
 use Rattle.lis_kept.specs.Telling.{declared_of, axioms_of}
 use Rattle.lis_store.specs.Admitting.{described_by}
-use Rattle.lis_store.specs.Adding.{numbers_named, AreNumbered, with_heads, may_learn, HasWordRoom, LearnsAll, learnt_words}
+use Rattle.lis_store.specs.Adding.{numbers_named, AreNumbered, with_heads, may_learn, HasWordRoom}
 use Rattle.lis_store.proofs.Naming.{named_few}
 use Rattle.lis_store.proofs.PutIn.{assigned_may, derived_may, assigned_room, derived_room, both_learnt, own_numbered, entailed_is, entailed_short, named_tags, named_rising, named_worded, slot_was_empty}
 use Rattle.lis_store.proofs.adding.put_in.Goals as goal

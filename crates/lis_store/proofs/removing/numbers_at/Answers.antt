@@ -1,4 +1,4 @@
-use Rattle.std.proofs.Common.{◌≡◌, ◌∙◌, ℕ, Bool, ◌<◌, ◌≤◌, [], ◌∷◌, ◌++◌, length, refl, sym, ap, arith}
+use Rattle.std.proofs.Common.{◌≡◌, ◌∙◌, ℕ, Bool, ◌<◌, [], ◌∷◌, ◌++◌, length, refl, sym, ap, arith}
 use Rattle.lis_bits.specs.Rows.{get}
 use Rattle.lis_ext.specs.Ext.{has}
 use Rattle.lis_store.proofs.Had.{found_below, found_one, found_none, found_room, found_all, had_all}
