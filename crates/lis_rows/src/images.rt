@@ -32,8 +32,8 @@ pub fn run(alloc: Global, row: &str, station: &mut MemStation) -> Result<Status,
 // The bytes of a station.
 fn bytes_of(alloc: Global, station: &mut MemStation) -> Result<Vec<u8>, Fail> {
     let mut bytes = zeros(alloc, IMAGE_LEN)?;
-    if station.len() != IMAGE_LEN as u64 {
-        return Err("the image has another length".into());
+    if station.len() < bytes.len() as u64 {
+        return Err("the image is too short".into());
     }
     station.read_at(0, &mut bytes)?;
     Ok(bytes)
