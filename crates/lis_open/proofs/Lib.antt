@@ -7,7 +7,7 @@ pub mod Needs
 mod Quiet
 mod Slots
 mod WordsRead
-mod Assignable
+mod WordUses
 mod Numbers
 mod Entries
 mod FilesRead
