@@ -10,6 +10,7 @@ mod WordsRead
 mod WordUses
 mod Numbers
 mod Entries
+mod Gathering
 mod FilesRead
 mod Checked
 mod Counts
