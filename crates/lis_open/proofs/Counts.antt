@@ -7,9 +7,10 @@ use Rattle.std.specs.List.{list_all, flat_map, AllByRecursion, IsDistinct}
 use Rattle.std.proofs.lemmas.Bool.{ne_eqb, eqb-true}
 use Rattle.std.proofs.lemmas.List.Sums.{sum_by-cons}
 use Rattle.std.proofs.lemmas.Map.Steps.{length-le_from_distinct_below}
-use Rattle.lis_graph.specs.Graph.{is_rising}
+use Rattle.std.specs.BTreeSet.{insert_key}
+use Rattle.lis_graph.specs.Graph.{is_rising, with_more}
 use Rattle.lis_words.specs.Words.{word_cmp}
-use Rattle.lis_model.specs.Sets.{with_word, with_words}
+use Rattle.lis_model.specs.Sets.{with_words}
 use Rattle.lis_laws.proofs.Counts.{insert_key_le}
 use Rattle.lis_graph.proofs.Members.{Among, among_from_any}
 use Rattle.lis_content.specs.Content.{are_distinct}
@@ -32,10 +33,15 @@ few_below ns end distinct below =
     length-le_from_distinct_below ns end (each_once ns distinct)
     (λ q is. let found = among_from_any (eqb q) ns is in below q (subst (λ n. Among ns n) (sym (eqb-true q found.0 found.2)) found.1))
 
--- ---- one word at most for each number
+-- ---- a set has no more members than were put into it
+pub more_le : {K : Type 0} (cmp : K → K → Ordering) (xs more : List K) → length (with_more cmp xs more) ≤ length xs + length more
+more_le cmp xs [] = omega arith
+more_le cmp xs (m ∷ more) = let rest = more_le cmp (insert_key cmp xs m) more in omega (arith, rest, insert_key_le cmp xs m)
+
 pub with_words_le : (words more : List (List ℕ)) → length (with_words words more) ≤ length words + length more
-with_words_le words [] = omega arith
-with_words_le words (word ∷ more) = omega (arith, with_words_le (with_word words word) more, insert_key_le word_cmp words word)
+with_words_le words more = more_le word_cmp words more
+
+-- ---- one word at most for each number
 
 pub few_words : (word_by : ℕ → Option (List ℕ)) (ns : List ℕ) → length (flat_map (λ n. option_to_list (word_by n)) ns) ≤ length ns
 few_words word_by [] = omega arith

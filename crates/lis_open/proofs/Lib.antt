@@ -12,11 +12,10 @@ mod Numbers
 mod Entries
 mod Gathering
 mod FilesRead
-mod Checked
 mod Counts
-mod Told
-mod Order
-mod Parts
 mod Once
+mod Edges
+mod Joined
+mod Told
+mod OneList
 mod Damage
-mod Opening
