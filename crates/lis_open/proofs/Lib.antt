@@ -17,5 +17,6 @@ mod Once
 mod Edges
 mod Joined
 mod Told
+mod HeadLinks
 mod OneList
 mod Damage
