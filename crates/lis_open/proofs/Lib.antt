@@ -17,5 +17,7 @@ mod Once
 mod Edges
 mod Joined
 mod Told
+mod WordsTold
+mod WordChains
 mod OneList
 mod Damage
