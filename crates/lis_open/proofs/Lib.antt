@@ -19,5 +19,6 @@ mod Joined
 mod Told
 mod WordsTold
 mod WordChains
+mod Descriptions
 mod OneList
 mod Damage
