@@ -18,5 +18,8 @@ mod Edges
 mod Joined
 mod Told
 mod HeadLinks
+mod WordsTold
+mod WordChains
+mod Descriptions
 mod OneList
 mod Damage
