@@ -19,3 +19,5 @@ mod Joined
 mod Told
 mod OneList
 mod Damage
+mod Lefts
+mod ZeroRows
