@@ -23,3 +23,5 @@ mod WordChains
 mod Descriptions
 mod OneList
 mod Damage
+mod Lefts
+mod ZeroRows
