@@ -7,7 +7,7 @@ pub mod Needs
 mod Quiet
 mod Slots
 mod WordsRead
-mod Assignable
+mod WordUses
 mod Numbers
 mod Entries
 mod Gathering
@@ -17,6 +17,10 @@ mod Once
 mod Edges
 mod Joined
 mod Told
+mod HeadLinks
+mod WordsTold
+mod WordChains
+mod Descriptions
 mod OneList
 mod Damage
 mod Lefts

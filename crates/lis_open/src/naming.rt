@@ -9,7 +9,7 @@ ghost use Rattle.lis_open.specs.ReadWords.{AreWords, declared_words, is_left, is
 ghost use Rattle.lis_open.specs.ReadFiles.{is_assignable_number};
 
 use crate::words::Words;
-use lis_words::{PropKind, Word, head_of, is_builtin, is_head, is_plain_word, kind};
+use lis_words::{Word, head_of, is_builtin, is_head, is_plain_word};
 
 // Whether the word is declared.
 fn is_declared(words: &Words, word: &Word) -> bool
@@ -41,10 +41,10 @@ fn is_nameable(words: &Words, word: &Word) -> bool
     if let Some(head) = head_of(word) {
         return is_known_head(words, &head);
     }
-    match kind(word) {
-        PropKind::Head => is_known_head(words, word),
-        _ => is_declared(words, word),
+    if is_head(word.bytes()) {
+        return is_known_head(words, word);
     }
+    is_declared(words, word)
 }
 
 // Whether files may be given the word.

@@ -1,14 +1,16 @@
-use Rattle.std.proofs.Common.{◌∙◌, ap}
-use Rattle.lis_slots.specs.Slots.{Slots, slot}
+use Rattle.std.proofs.Common.{arith}
 use Rattle.lis_fields.specs.Layouts.{file_bytes, is_file}
-use Rattle.lis_store.specs.Stands.{file_slots}
-use Rattle.lis_open.proofs.Slots.{slot_read, read_as}
+use Rattle.lis_kept.specs.Areas.{file_slots}
+use Rattle.lis_kept.proofs.InArea.{whole_files}
+use Rattle.lis_open.proofs.Slots.{read_as}
 use Rattle.lis_open.proofs.files.read_slot.Goals as goal
 
+pub read_slot-requires-clause-within : goal.read_slot-requires-clause-within
+read_slot-requires-clause-within g c = omega (arith, whole_files c.args.limits.now c.requires.range, c.files_start.ensures, c.requires.slot, c.requires.image)
+
 pub returns-clause-read : goal.returns-clause-read
-returns-clause-read g c = λ kept fits.
-    let slots = file_slots c.args.limits.now in
-    let slot_number = c.args.slot in
-    let read = slot_read c.file_slots.result c.args.journal.now.staged kept slot_number c.get.new.buf c.requires.clean (c.in_ok-get.ensures.read kept fits) in
-    read_as file_bytes is_file slots kept slot_number c.read_file.result c.get.new.buf c.requires.slot
-    (read ∙ ap (λ (s : Slots). slot s kept slot_number) c.file_slots.ensures) c.read_file.ensures.spelled c.read_file.ensures.same
+returns-clause-read g c = λ kept fits recalls.
+    let limits = c.args.limits.now in
+    let starts = c.files_start.ensures in
+    let read = c.in_ok-read_slot.ensures.read kept fits recalls limits.files in
+    read_as file_bytes is_file (file_slots limits) kept c.args.slot c.read_file.result c.read_slot.new.buf c.requires.slot (rw starts at read) c.read_file.ensures.spelled c.read_file.ensures.same

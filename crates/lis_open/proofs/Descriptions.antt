@@ -1,0 +1,199 @@
+-- The numbers that the words of a file lead to are those of the words of its description.
+use Rattle.std.proofs.Common.{◌≡◌, ◌⊎◌, ◌∙◌, refl, sym, ap, subst, inl, inr, ℕ, zero, ◌+◌, ◌<◌, ◌≤◌, Bool, true, Option, Some, None, option_to_list, List, [], ◌∷◌, ◌++◌, length, arith, length-append}
+use Rattle.std.specs.List.{list_all, flat_map, AllByRecursion}
+use Rattle.std.specs.List.Sorted.{IsStrictlySortedBy}
+use Rattle.std.specs.Ordering.{nat_cmp}
+use Rattle.std.specs.declared.cmp.Ordering.TheVariants.{Less, Equal}
+use Rattle.std.specs.Cmp.{nat_cmp_total, tied_itself}
+use Rattle.std.proofs.lemmas.Option.{same_Some}
+use Rattle.lis_graph.proofs.Members.{Among, among_from_any, any_from_among, among_append, among_left, among_flat_map, flat_map_among}
+use Rattle.lis_graph.proofs.Sets.{below_tail, sorted_tail}
+use Rattle.lis_dict.specs.Dict.{Dict, IsDict, word_of}
+use Rattle.lis_dict.proofs.Laws.{number_from_word, number_below}
+use Rattle.lis_taxonomy.specs.Taxonomy.{Taxonomy, entails, Entails as Leads}
+use Rattle.lis_taxonomy.proofs.Laws.{entails_decides}
+use Rattle.lis_ext.proofs.Numbers.{among_where, where_among, sorted_where}
+use Rattle.lis_words.specs.Words.{word_cmp}
+use Rattle.lis_laws.proofs.Apart.{plain_not_valued}
+use Rattle.lis_laws.proofs.Counts.{all_among}
+use Rattle.lis_laws.proofs.Members.{word_exact, among_set_of, set_of_among, sorted_set_of, same_words}
+use Rattle.lis_laws.proofs.Sources.{Assignable, assignable_cases}
+use Rattle.lis_laws.proofs.Sources.Assignable.{Plain, Valued}
+use Rattle.lis_model.specs.declared.limits.Limits.{Limits}
+use Rattle.lis_model.specs.Derived.{derived_words}
+use Rattle.lis_model.specs.Tests.{met_tests}
+use Rattle.lis_model.specs.State.{File, is_assignable, up, own_words, file_words}
+use Rattle.lis_model.proofs.NoTests.{no_met}
+use Rattle.lis_kept.specs.Kept.{Kept}
+use Rattle.lis_kept.specs.Telling.{words_told, axioms_of}
+use Rattle.lis_kept.proofs.OwnLinks.{declared_no_tests}
+use Rattle.lis_store.proofs.Points.{AllApart, length-with_more}
+use Rattle.lis_open.specs.declared.words.Words.{Words}
+use Rattle.lis_open.specs.declared.axioms.Axioms.{Axioms}
+use Rattle.lis_open.specs.ReadWords.{AreFirstWords, AreFirstAxioms, declared_words, kept_words}
+use Rattle.lis_open.specs.ReadFiles.{is_described, described, is_assignable_number}
+use Rattle.lis_open.proofs.Counts.{few_words, with_words_le}
+use Rattle.lis_open.proofs.Joined.{sides, assignable_word, declared_numbered}
+use Rattle.lis_open.proofs.WordsTold.{one_of}
+use Rattle.lis_open.proofs.WordChains.{IsNumbered, bare_numbered, up_numbered, up_named}
+
+-- ---- words of numbers
+only_one : (o : Option (List ℕ)) (w : List ℕ) → Among (option_to_list o) w → o ≡ Some w
+only_one None w m = absurd m
+only_one (Some v) w (inl same) = ap Some same
+only_one (Some v) w (inr m) = absurd m
+
+pub told_among : (dict : Dict) (ns : List ℕ) (n : ℕ) (w : List ℕ) → word_of dict n ≡ Some w → Among ns n → Among (words_told dict ns) w
+told_among dict ns n w is m =
+    set_of_among (flat_map (λ k. option_to_list (word_of dict k)) ns) w (flat_map_among (λ k. option_to_list (word_of dict k)) ns n w m (one_of (word_of dict n) w is))
+
+pub among_told : (dict : Dict) (ns : List ℕ) (w : List ℕ) → Among (words_told dict ns) w → (n : ℕ) × Among ns n × (word_of dict n ≡ Some w)
+among_told dict ns w m =
+    let found = among_flat_map (λ k. option_to_list (word_of dict k)) ns w (among_set_of (flat_map (λ k. option_to_list (word_of dict k)) ns) w m) in
+    (found.0, found.1, only_one (word_of dict found.0) w found.2)
+
+-- they are no more than the numbers
+pub told_le : (dict : Dict) (ns : List ℕ) → length (words_told dict ns) ≤ length ns
+told_le dict ns =
+    let words = flat_map (λ k. option_to_list (word_of dict k)) ns in
+    omega (arith, with_words_le [] words, few_words (word_of dict) ns)
+
+-- numbers that rise stand once
+apart_sorted : (ns : List ℕ) → IsStrictlySortedBy nat_cmp ns → AllApart ns
+apart_sorted [] sorted = tt
+apart_sorted (n ∷ ns) sorted = (λ m. above ns (below_tail nat_cmp nat_cmp_total n ns sorted) m, apart_sorted ns (sorted_tail nat_cmp nat_cmp_total n ns sorted))
+  where
+    above : (ms : List ℕ) → AllByRecursion (λ y. nat_cmp n y ≡ Less) ms → Among ms n → ⊥
+    above [] below m = m
+    above (x ∷ ms) below (inl same) = let tied = tied_itself nat_cmp_total n in let less = ap (nat_cmp n) (sym same) ∙ below.0 in cc
+    above (x ∷ ms) below (inr m) = above ms below.1 m
+
+module _ (dict : Dict) (is_dict : IsDict dict) where
+  abbrev words_of : List ℕ → List (List ℕ)
+  words_of ns = flat_map (λ k. option_to_list (word_of dict k)) ns
+
+  record AreApart (ns : List ℕ) : Type 0 where
+    apart : AllApart (words_of ns)
+    long : length (words_of ns) ≡ length ns
+
+  words_apart : (ns : List ℕ) → AllApart ns → ((n : ℕ) → Among ns n → (w : List ℕ) × (word_of dict n ≡ Some w)) → AreApart ns
+  words_apart [] apart named = record { apart = tt; long = refl }
+  words_apart (n ∷ ns) apart named =
+      let rest = words_apart ns apart.1 (λ m there. named m (inr there)) in
+      let word = named n (inl refl) in
+      let first : words_of (n ∷ ns) ≡ word.0 ∷ words_of ns = ap (λ o. option_to_list o ++ words_of ns) word.1 in
+      record {
+        apart = subst (λ ws. AllApart ws) (sym first) (again word.0 word.1, rest.apart);
+        long = omega (arith, ap length first, rest.long);
+      }
+    where
+      again : (w : List ℕ) → word_of dict n ≡ Some w → Among (words_of ns) w → ⊥
+      again w is m =
+          let found = among_flat_map (λ k. option_to_list (word_of dict k)) ns w m in
+          let other = only_one (word_of dict found.0) w found.2 in
+          let same : found.0 ≡ n = same_Some found.0 n (sym (number_from_word dict is_dict w found.0 other) ∙ number_from_word dict is_dict w n is) in
+          apart.0 (subst (λ k. Among ns k) same found.1)
+
+  -- of numbers that rise and have words there are as many words
+  pub told_as_many : (ns : List ℕ) → IsStrictlySortedBy nat_cmp ns → ((n : ℕ) → Among ns n → (w : List ℕ) × (word_of dict n ≡ Some w)) → length (words_told dict ns) ≡ length ns
+  told_as_many ns sorted named =
+      let all = words_apart ns (apart_sorted ns sorted) named in
+      let long = length-with_more word_cmp word_exact [] (words_of ns) all.apart (λ x m none. none) in
+      omega (arith, long, all.long)
+
+-- ---- a description by numbers
+module _ (limits : Limits) (words : Words) (axioms : Axioms) (end : ℕ) (are : AreFirstWords limits words limits.props) (first : AreFirstAxioms limits words axioms end) where
+  abbrev t : Taxonomy
+  t = axioms.taxonomy
+
+  abbrev dict : IsDict words.dict
+  dict = are.are.dict
+
+  abbrev k : Kept
+  k = kept_words limits words axioms.slots.items
+
+  within : (n : ℕ) (w : List ℕ) → word_of words.dict n ≡ Some w → n < t.props
+  within n w is = let below = number_below words.dict dict w n (number_from_word words.dict dict w n is) in omega (arith, below, are.props, first.links.props)
+
+  -- a word that may be given has a number, and its head too
+  given_numbered : (n : ℕ) (w : List ℕ) → word_of words.dict n ≡ Some w → is_assignable (declared_words words) w ≡ true → IsNumbered words n w
+  given_numbered n w is may = by (assignable_cases (declared_words words) w may)
+    where
+      by : Assignable (declared_words words) w → IsNumbered words n w
+      by (Plain plain m) = bare_numbered words n w is (plain_not_valued w plain)
+      by (Valued valued m) = record { named = is; headed = λ v. declared_numbered limits words dict _ m }
+
+  module _ (tags : List ℕ) (given : list_all (is_assignable_number words) tags ≡ true) where
+    tag_word : (tag : ℕ) → Among tags tag → (w : List ℕ) × IsNumbered words tag w
+    tag_word tag m =
+        let word = assignable_word words (word_of words.dict tag) (all_among (is_assignable_number words) tags tag given m) in
+        (word.0, given_numbered tag word.0 word.1 word.2)
+
+    -- a number of the description is led to by one that was given
+    led_to : (n : ℕ) → Among (described axioms.taxonomy tags) n → (tag : ℕ) × Among tags tag × Leads axioms.taxonomy tag n
+    led_to n m =
+        let inside = among_where t.props (is_described t tags) n m in
+        let found = among_from_any (λ tag. entails t tag n) tags inside.1 in
+        (found.0, found.1, (entails_decides t found.0 n).0 found.2)
+
+    -- and so it has a word
+    pub described_named : (n : ℕ) → Among (described axioms.taxonomy tags) n → (w : List ℕ) × (word_of words.dict n ≡ Some w)
+    described_named n m =
+        let from = led_to n m in
+        let word = tag_word from.0 from.1 in
+        let named = up_named limits words dict axioms.slots.items (sides limits words axioms dict end first) t first.links from.0 n word.0 word.1.named from.2 in
+        (named.0, named.1)
+
+    module _ (file : File) (assigned : file.assigned ≡ words_told words.dict tags) where
+      abbrev met : List (List ℕ)
+      met = met_tests (declared_words words) (length file.bytes)
+
+      -- no word is derived, and no declared word is a test
+      own_given : (w : List ℕ) → Among (own_words (declared_words words) file) w → Among (words_told words.dict tags) w
+      own_given w m = by (among_append (file.assigned ++ derived_words file.name file.bytes) met w m)
+        where
+          front : Among file.assigned w ⊎ Among (derived_words file.name file.bytes) w → Among (words_told words.dict tags) w
+          front (inl here) = subst (λ ws. Among ws w) assigned here
+          front (inr derived) = absurd derived
+
+          by : Among (file.assigned ++ derived_words file.name file.bytes) w ⊎ Among met w → Among (words_told words.dict tags) w
+          by (inl here) = front (among_append file.assigned (derived_words file.name file.bytes) w here)
+          by (inr test) = absurd (subst (λ ws. Among ws w) (no_met (declared_words words) (length file.bytes) (declared_no_tests k dict)) test)
+
+      given_own : (w : List ℕ) → Among (words_told words.dict tags) w → Among (own_words (declared_words words) file) w
+      given_own w m =
+          among_left (file.assigned ++ derived_words file.name file.bytes) met w (among_left file.assigned (derived_words file.name file.bytes) w (subst (λ ws. Among ws w) (sym assigned) m))
+
+      abbrev entailed : List (List ℕ)
+      entailed = flat_map (up (declared_words words) (axioms_of k)) (own_words (declared_words words) file)
+
+      numbers_tell : (w : List ℕ) → Among (words_told words.dict (described t tags)) w → Among entailed w
+      numbers_tell w m =
+          let number = among_told words.dict (described t tags) w m in
+          let from = led_to number.0 number.1 in
+          let word = tag_word from.0 from.1 in
+          let named = up_named limits words dict axioms.slots.items (sides limits words axioms dict end first) t first.links from.0 number.0 word.0 word.1.named from.2 in
+          flat_map_among (up (declared_words words) (axioms_of k)) (own_words (declared_words words) file) word.0 w (given_own word.0 (told_among words.dict tags from.0 word.0 word.1.named from.1))
+          (subst (λ v. Among (up (declared_words words) (axioms_of k) word.0) v) (same_Some named.0 w (sym named.1 ∙ number.2)) named.2)
+
+      told_by_numbers : (w : List ℕ) → Among entailed w → Among (words_told words.dict (described t tags)) w
+      told_by_numbers w m =
+          let own = among_flat_map (up (declared_words words) (axioms_of k)) (own_words (declared_words words) file) w m in
+          let tag = among_told words.dict tags own.0 (own_given own.0 own.1) in
+          let word = tag_word tag.0 tag.1 in
+          let is = subst (λ v. IsNumbered words tag.0 v) (same_Some word.0 own.0 (sym word.1.named ∙ tag.2)) word.1 in
+          let found = up_numbered limits words dict axioms.slots.items (sides limits words axioms dict end first) t first.links tag.0 own.0 w is own.2 in
+          let test = any_from_among (λ n. entails t n found.0) tags tag.0 tag.1 ((entails_decides t tag.0 found.0).1 found.2) in
+          told_among words.dict (described t tags) found.0 w found.1.named (where_among t.props (is_described t tags) found.0 (within found.0 w found.1.named) test)
+
+      -- the words of the numbers are the file's
+      pub described_words : words_told words.dict (described axioms.taxonomy tags) ≡ file_words (declared_words words) (axioms_of (kept_words limits words axioms.slots.items)) file
+      described_words =
+          same_words (words_told words.dict (described t tags)) (file_words (declared_words words) (axioms_of k) file)
+          (sorted_set_of (flat_map (λ n. option_to_list (word_of words.dict n)) (described t tags))) (sorted_set_of entailed)
+          (λ w m. set_of_among entailed w (numbers_tell w m))
+          (λ w m. told_by_numbers w (among_set_of entailed w m))
+
+    -- and there are as many
+    pub described_long : length (words_told words.dict (described axioms.taxonomy tags)) ≡ length (described axioms.taxonomy tags)
+    described_long = told_as_many words.dict dict (described t tags) (sorted_where t.props (is_described t tags)) described_named

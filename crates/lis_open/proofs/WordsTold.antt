@@ -1,0 +1,155 @@
+-- The property slots that words spell, and what they tell.
+use Rattle.std.proofs.Common.{◌≡◌, ◌⊎◌, ◌∙◌, refl, sym, ap, ap₂, subst, inl, inr, ℕ, ◌<◌, ◌≤◌, Bool, true, false, Option, Some, None, option_to_list, List, [], ◌∷◌, map, IsTrue, arith}
+use Rattle.std.specs.BTreeSet.{insert_key}
+use Rattle.std.specs.List.{fold, flat_map, range_with_len}
+use Rattle.std.proofs.lemmas.Bool.{cases_lt}
+use Rattle.std.proofs.lemmas.List.{get_or_past}
+use Rattle.std.proofs.lemmas.List.FromFn.{length-map-range_with_len, get_or-map-range_with_len}
+use Rattle.lis_graph.proofs.Members.{Among, among_map, map_among, among_flat_map, flat_map_among}
+use Rattle.lis_graph.proofs.Ranges.{range_among}
+use Rattle.lis_blockmap.specs.Bitmap.{is_taken}
+use Rattle.lis_dict.specs.Dict.{number_of, word_of}
+use Rattle.lis_dict.proofs.Laws.{number_from_word, word_from_number, number_below}
+use Rattle.lis_catalog.specs.Catalog.{Filed}
+use Rattle.lis_fields.specs.Records.{FileRecord}
+use Rattle.lis_fields.specs.Layouts.{prop_bytes, is_prop}
+use Rattle.lis_fields.specs.declared.slots.PropSlot.{PropSlot}
+use Rattle.lis_fields.specs.declared.slots.PropSlot.TheVariants.{Free as FreeProp, Declared}
+use Rattle.lis_fields.specs.declared.slots.AxiomSlot.{AxiomSlot}
+use Rattle.lis_fields.specs.declared.slots.AxiomSlot.TheVariants.{Free as FreeAxiom, Pair}
+use Rattle.lis_fields.proofs.OneSpelling.{prop_once}
+use Rattle.lis_words.specs.Words.{has_word}
+use Rattle.lis_laws.proofs.Members.{among_from_has_word, has_word_from_among, among_set_of, set_of_among, sorted_set_of, same_words}
+use Rattle.lis_model.specs.declared.limits.Limits.{Limits}
+use Rattle.lis_model.specs.Sets.{set_of}
+use Rattle.lis_model.specs.State.{File, pair_cmp}
+use Rattle.lis_kept.specs.Kept.{Kept, property_by, property_at}
+use Rattle.lis_kept.specs.Areas.{property_slots}
+use Rattle.lis_kept.specs.Telling.{bit_of, pair_by, pair_told, pairs_told, axioms_of, bytes_told, file_told}
+use Rattle.lis_kept.proofs.WordMore.{declared_there, there_declared, sorted_declared}
+use Rattle.lis_store.specs.Stands.{word_in, declared_in, words_in, all_declared, word_at, pair_in, pairs_in, file_by}
+use Rattle.lis_store.proofs.SlotOrder.{given_at, flat_map_same}
+use Rattle.lis_open.specs.declared.words.Words.{Words}
+use Rattle.lis_open.specs.Checks.{AreProperties, declared_by, axioms_by}
+use Rattle.lis_open.specs.ReadWords.{AreWords, WordsAreSpelled, declared_words, kept_words}
+use Rattle.lis_open.proofs.OneList.{one_list}
+
+-- the property slots of all numbers
+abbrev pub told_properties : Limits → Words → List PropSlot
+told_properties limits words = map (property_at words.dict words.declared) (range_with_len 0 limits.props)
+
+word_by : (o : Option (List ℕ)) (b : Bool) → word_in (property_by o b) ≡ o
+word_by None b = refl
+word_by (Some w) true = refl
+word_by (Some w) false = refl
+
+declared_one : (o : Option (List ℕ)) (b : Bool) (w : List ℕ) → Among (option_to_list (declared_in (property_by o b))) w → (o ≡ Some w) × (b ≡ true)
+declared_one None b w m = absurd m
+declared_one (Some v) true w (inl same) = (ap Some same, refl)
+declared_one (Some v) true w (inr m) = absurd m
+declared_one (Some v) false w m = absurd m
+
+-- the only word of an option
+only_one : (o : Option (List ℕ)) (w : List ℕ) → Among (option_to_list o) w → o ≡ Some w
+only_one None w m = absurd m
+only_one (Some v) w (inl same) = ap Some same
+only_one (Some v) w (inr m) = absurd m
+
+pub one_of : (o : Option (List ℕ)) (w : List ℕ) → o ≡ Some w → Among (option_to_list o) w
+one_of o w is = subst (λ p. Among (option_to_list p) w) (sym is) (inl refl)
+
+some_bit : (bits : List Bool) (o : Option ℕ) → bit_of bits o ≡ true → (n : ℕ) × (o ≡ Some n) × (is_taken bits n ≡ true)
+some_bit bits None h = absurd cc
+some_bit bits (Some n) h = (n, refl, h)
+
+module _ (limits : Limits) (words : Words) (are : AreWords words) (same : words.dict.props ≡ limits.props) where
+  abbrev property : ℕ → PropSlot
+  property n = property_at words.dict words.declared n
+
+  abbrev told : List PropSlot
+  told = told_properties limits words
+
+  abbrev k : Kept
+  k = kept_words limits words []
+
+  pub number_within : (n : ℕ) (w : List ℕ) → word_of words.dict n ≡ Some w → n < limits.props
+  number_within n w is = let below = number_below words.dict are.dict w n (number_from_word words.dict are.dict w n is) in omega (arith, below, same)
+
+  number_among : (n : ℕ) (w : List ℕ) → word_of words.dict n ≡ Some w → Among (range_with_len 0 limits.props) n
+  number_among n w is = let below = number_within n w is in range_among 0 limits.props n (omega arith) (omega arith)
+
+  pub word_at_told : (n : ℕ) → word_at (told_properties limits words) n ≡ word_of words.dict n
+  word_at_told n = by (cases_lt n limits.props)
+    where
+      unnamed : (o : Option (List ℕ)) → limits.props ≤ n → word_of words.dict n ≡ o → o ≡ None
+      unnamed None past is = refl
+      unnamed (Some w) past is = absurd (let lt = number_within n w is in omega (arith, lt, past))
+
+      by : (n < limits.props) ⊎ (limits.props ≤ n) → word_at told n ≡ word_of words.dict n
+      by (inl lt) = ap word_in (get_or-map-range_with_len property 0 limits.props n n FreeProp lt (omega arith)) ∙ word_by (word_of words.dict n) (is_taken words.declared n)
+      by (inr past) =
+          ap word_in (get_or_past told n FreeProp (omega (arith, past, length-map-range_with_len property 0 limits.props)))
+          ∙ sym (unnamed (word_of words.dict n) past refl)
+
+  -- ---- words
+  slot_declared : (w : List ℕ) → Among (all_declared told) w → Among (declared_words words) w
+  slot_declared w m =
+      let found = among_flat_map (λ x. option_to_list (declared_in x)) told w m in
+      let n = among_map property (range_with_len 0 limits.props) found.0 found.1 in
+      let is = declared_one (word_of words.dict n.0) (is_taken words.declared n.0) w (subst (λ x. Among (option_to_list (declared_in x)) w) (sym n.2) found.2) in
+      declared_there k w (ap (bit_of words.declared) (number_from_word words.dict are.dict w n.0 is.0) ∙ is.1)
+
+  declared_slot : (w : List ℕ) → Among (declared_words words) w → Among (all_declared told) w
+  declared_slot w m =
+      let bit = some_bit words.declared (number_of words.dict w) (there_declared k w m) in
+      let named = word_from_number words.dict are.dict w bit.0 bit.1 in
+      let is : property bit.0 ≡ Declared w = ap₂ property_by named bit.2 in
+      flat_map_among (λ x. option_to_list (declared_in x)) told (property bit.0) w (map_among property (range_with_len 0 limits.props) bit.0 (number_among bit.0 w named))
+      (subst (λ x. Among (option_to_list (declared_in x)) w) (sym is) (inl refl))
+
+  pub declared_told : declared_by (told_properties limits words) ≡ declared_words words
+  declared_told =
+      sym (same_words (declared_words words) (set_of (all_declared told)) (sorted_declared k are.dict) (sorted_set_of (all_declared told))
+      (λ w m. set_of_among (all_declared told) w (declared_slot w m))
+      (λ w m. slot_declared w (among_set_of (all_declared told) w m)))
+
+  -- the words of the slots are those that have numbers
+  pub told_word : (n : ℕ) (w : List ℕ) → word_of words.dict n ≡ Some w → has_word (words_in (told_properties limits words)) w ≡ true
+  told_word n w is =
+      has_word_from_among (words_in told) w
+      (flat_map_among (λ x. option_to_list (word_in x)) told (property n) w (map_among property (range_with_len 0 limits.props) n (number_among n w is))
+      (one_of (word_in (property n)) w (word_by (word_of words.dict n) (is_taken words.declared n) ∙ is)))
+
+  pub word_told : (w : List ℕ) → has_word (words_in (told_properties limits words)) w ≡ true → (n : ℕ) × (word_of words.dict n ≡ Some w)
+  word_told w h =
+      let found = among_flat_map (λ x. option_to_list (word_in x)) told w (among_from_has_word (words_in told) w h) in
+      let n = among_map property (range_with_len 0 limits.props) found.0 found.1 in
+      (n.0, sym (word_by (word_of words.dict n.0) (is_taken words.declared n.0)) ∙ (ap word_in n.2 ∙ only_one (word_in found.0) w found.2))
+
+  -- ---- axioms
+  pair_is : (a : AxiomSlot) → pair_in told a ≡ pair_told words.dict a
+  pair_is FreeAxiom = refl
+  pair_is (Pair p q) = ap₂ pair_by (word_at_told p) (word_at_told q)
+
+  pub axioms_told : (axioms : List AxiomSlot) → axioms_by (told_properties limits words) axioms ≡ axioms_of (kept_words limits words axioms)
+  axioms_told axioms = ap (fold (insert_key pair_cmp) []) (flat_map_same (pair_in told) (pair_told words.dict) axioms (λ a m. pair_is a))
+
+  -- ---- files
+  pub file_is_told : (at : ℕ → List ℕ) (f : Filed) → file_by limits (told_properties limits words) at f.rec ≡ file_told limits words.dict at f
+  file_is_told at f =
+      let make : List (List ℕ) → File = λ ws. record { name = f.rec.name; bytes = bytes_told limits at f.rec; assigned = set_of ws } in
+      ap make (flat_map_same (λ n. option_to_list (word_at told n)) (λ n. option_to_list (word_of words.dict n)) f.rec.tags (λ n m. ap (λ o. option_to_list o) (word_at_told n)))
+
+  -- ---- slots
+  module _ (at : ℕ → List ℕ) (spelled : WordsAreSpelled limits at words limits.props) where
+    pub are_told : AreProperties limits at (told_properties limits words)
+    are_told = record {
+      count = length-map-range_with_len property 0 limits.props;
+      each = λ n value is.
+          let given = given_at property limits.props n value is in
+          (spelled n given.0 ∙ ap prop_bytes given.1, subst (λ x. IsTrue (is_prop x)) given.1 (are.forms n));
+    }
+
+    -- and no other list is told
+    pub only_told : (properties : List PropSlot) → AreProperties limits at properties → properties ≡ told_properties limits words
+    only_told properties others = one_list prop_bytes is_prop (property_slots limits) at properties told prop_once others are_told
