@@ -20,6 +20,7 @@ mod Told
 mod HeadLinks
 mod WordsTold
 mod WordChains
+mod AxiomsRead
 mod Descriptions
 mod OneList
 mod Damage
