@@ -40,6 +40,7 @@ use Rattle.lis_open.specs.Reading.{OnlyReads, Recalls, IsReadAs}
 use Rattle.lis_open.specs.ReadWords.{declared_words, kept_words, AreWords, AreFirstWords, LinksHeads, AreNoAxioms, is_left, is_right, are_sides, TakesPair, TakesAxiom, IsGoodPair, AreFirstAxioms, AxiomsAreSpelled}
 use Rattle.lis_open.proofs.Joined.{Sides, left_word, right_word, sides}
 use Rattle.lis_open.proofs.WordUses.{no_word_past}
+use Rattle.lis_open.proofs.HeadLinks.{last_false}
 use Rattle.lis_open.proofs.WordChains.{bare_numbered, one_number, among_pair, pair_among, chain_numbered}
 
 -- ---- the sides of an axiom
@@ -316,11 +317,7 @@ module _ (limits : Limits) (words : Words) (first : AreFirstWords limits words l
       by (inl lt) = ap (λ b. b && is_head_by (word_of words.dict p) (word_of words.dict q)) (lt-ltb p limits.props lt)
       by (inr past) =
           let none = no_word_past words.dict first.are.dict p (omega (arith, past, first.props)) in
-          ap (λ o. nat_lt p limits.props && is_head_by o (word_of words.dict q)) none ∙ (last (nat_lt p limits.props) ∙ sym (ap (λ o. is_head_by o (word_of words.dict q)) none))
-        where
-          last : (b : Bool) → (b && false) ≡ false
-          last true = refl
-          last false = refl
+          ap (λ o. nat_lt p limits.props && is_head_by o (word_of words.dict q)) none ∙ (last_false (nat_lt p limits.props) ∙ sym (ap (λ o. is_head_by o (word_of words.dict q)) none))
 
   pub no_axioms_yet : (axioms : Axioms) → axioms.slots.items ≡ slots → axioms.taxonomy ≡ t → AreFirstAxioms limits words axioms 0
   no_axioms_yet axioms same_slots same_links = record {
@@ -333,3 +330,11 @@ module _ (limits : Limits) (words : Words) (first : AreFirstWords limits words l
     acyclic = subst (λ ys. Acyclic (declared_words words) (axioms_of (kept_words limits words ys))) (sym same_slots)
         (acyclic_within (declared_words words) (axioms_of (kept_words limits words slots)) [] none_told ((acyclic_decides (declared_words words) []).0 refl));
   }
+
+-- ---- the loop
+pub record AxiomsTurn (journal : Held) (limits : Limits) (old now : Meaning) (before last : LastBlock) (words : Words) (axioms : Axioms) (end : ℕ) : Type 0 where
+  pub reads : OnlyReads old now
+  pub faults : now.disk_faults ≡ old.disk_faults
+  pub first : AreFirstAxioms limits words axioms end
+  pub recalls : (kept : ℕ → List ℕ) → Fits journal old kept → Recalls before kept → Recalls last kept
+  pub spelled : (kept : ℕ → List ℕ) → Fits journal old kept → Recalls before kept → AxiomsAreSpelled limits kept axioms end

@@ -21,6 +21,7 @@ mod HeadLinks
 mod WordsTold
 mod WordChains
 mod AxiomsRead
+mod AxiomChecks
 mod Descriptions
 mod OneList
 mod Damage
