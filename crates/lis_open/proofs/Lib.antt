@@ -20,5 +20,6 @@ mod Told
 mod WordsTold
 mod WordChains
 mod Descriptions
+mod FileFaults
 mod OneList
 mod Damage
