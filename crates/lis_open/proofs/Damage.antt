@@ -51,6 +51,7 @@ use Rattle.lis_open.specs.Checks.FileFault.{NameTaken, TagUnnumbered, TagUnassig
 use Rattle.lis_open.specs.Checks.RowFault.{RowWrong, RestNotZero}
 use Rattle.lis_open.proofs.Numbers.{is_taken-marked}
 use Rattle.lis_open.proofs.OneList.{one_list}
+use Rattle.lis_open.proofs.ZeroRows.{zero_row, rows_enough}
 use Rattle.lis_open.proofs.Once.{taken_place, slot_at, value_at, part_once, distinct_apart, apart_by_count, file_there, names-more}
 
 -- ---- one value in each slot
@@ -68,31 +69,6 @@ first_slots spelled is_in_range slots at values n le are = record {
   count = length-take-le n values (omega (arith, are.count));
   each = λ k value is. are.each k value (taken_place n values k value is).1;
 }
-
--- a row of which no bit is set is all zeros
-abbrev no_rows : ℕ → Ext
-no_rows n = empty_ext 0 (8 * n)
-
-no_set : (n i : ℕ) → has (no_rows n) 0 i ≡ false
-no_set n i = ap (λ ns. has_number ns 0) (by (cases_lt i (8 * n)))
-  where
-    by : (i < 8 * n) ⊎ (8 * n ≤ i) → numbers_at (no_rows n) i ≡ []
-    by (inl lt) = get_or-replicate (8 * n) i [] [] lt
-    by (inr past) = get_or_past (replicate (8 * n) []) i [] (omega (arith, past, length-replicate {A = List ℕ} (8 * n) []))
-
-zero_row : (n : ℕ) (bit : ℕ → Bool) → ((i : ℕ) → bit i ≡ false) → bits_bytes n bit ≡ zeros n
-unfolding zeros
-zero_row n bit none =
-    let long : length (no_rows n).sets ≡ 8 * n = length-replicate (8 * n) [] in
-    let count : n ≡ length (no_rows n).sets / 8 = omega (arith, long) in
-    bytes_same n bit (has (no_rows n) 0) (λ i lt. none i ∙ sym (no_set n i))
-    ∙ (ap (λ m. bits_bytes m (has (no_rows n) 0)) count ∙ sym (row_bytes_none (no_rows n) 0 n (sym long) (no_set n)))
-
--- there are rows for all numbers
-pub rows_enough : (limits : Limits) → IsTrue (are_in_range limits) → limits.props ≤ (row_slots limits).count
-rows_enough limits range =
-    each_files_limit (λ n. limits.props ≤ (4096 / (n / 8)) * ((limits.props * n + 32767) / 32768)) limits.files (files_range limits range)
-    (omega arith) (omega arith) (omega arith) (omega arith) (omega arith) (omega arith) (omega arith)
 
 -- the name of a file slot, and its data blocks
 abbrev name_parts : FileSlot → List (List ℕ)

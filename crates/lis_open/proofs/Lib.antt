@@ -17,9 +17,12 @@ mod Once
 mod Edges
 mod Joined
 mod Told
+mod HeadLinks
 mod WordsTold
 mod WordChains
 mod Descriptions
 mod FileFaults
 mod OneList
 mod Damage
+mod Lefts
+mod ZeroRows

@@ -1,29 +1,31 @@
 -- The words of property slots, read one after another.
-use Rattle.std.proofs.Common.{◌≡◌, ◌⊎◌, ◌∙◌, refl, sym, ap, ap₂, subst, inl, inr, ℕ, ◌+◌, ◌<◌, ◌≤◌, ◌==◌, Bool, true, false, not, cond, is_some, Option, Some, None, List, [], length, IsTrue, arith, eq-eqb, get_or-set_same}
+use Rattle.std.proofs.Common.{◌≡◌, ◌⊎◌, ◌∙◌, refl, sym, ap, ap₂, subst, inl, inr, ℕ, ◌+◌, ◌<◌, ◌≤◌, Bool, true, false, not, cond, is_some, Option, Some, None, List, replicate, IsTrue, IsSome, arith, eq-eqb}
 use Rattle.std.specs.Option.{IfSome}
-use Rattle.std.proofs.lemmas.Bool.{cases_eq, cases_lt, ne_eqb}
-use Rattle.std.proofs.lemmas.List.{length-replicate}
-use Rattle.std.proofs.lemmas.List.FromFn.{length-map-range_with_len}
+use Rattle.std.proofs.lemmas.Bool.{cases_eq, cases_lt, ne_eqb, both_ways}
+use Rattle.std.proofs.lemmas.List.{length-replicate, get_or-replicate, get_or_past, length-set, get_or-set_same, get_or-set_other}
 use Rattle.lis_ports.specs.Meaning.{Meaning}
-use Rattle.lis_bits.specs.Rows.{get, row_of}
-use Rattle.lis_bits.proofs.Laws.{get-with_row_same, length-with_row}
 use Rattle.lis_journal.specs.Journal.{Held}
 use Rattle.lis_journal.specs.Images.{Fits}
 use Rattle.lis_slots.specs.Slots.{slot}
 use Rattle.lis_blockmap.specs.Bitmap.{is_taken}
-use Rattle.lis_dict.specs.Dict.{Dict, IsDict, number_of, word_of}
+use Rattle.lis_dict.specs.Dict.{IsDict, number_of, word_of}
 use Rattle.lis_dict.proofs.Laws.{word_from_number, number_from_word, number_below, word_of-with_entry}
 use Rattle.lis_fields.specs.Layouts.{prop_bytes, is_prop}
 use Rattle.lis_fields.specs.declared.slots.PropSlot.{PropSlot}
 use Rattle.lis_fields.specs.declared.slots.PropSlot.TheVariants.{Free as FreeProp, Known, Declared}
+use Rattle.lis_model.specs.Ranges.{are_in_range}
 use Rattle.lis_model.specs.declared.limits.Limits.{Limits}
 use Rattle.lis_model.specs.declared.spot.Spot.{Spot}
 use Rattle.lis_model.specs.declared.spot.Spot.TheVariants.{Super, BadRecord, Property, Axiom, File, Word, Bitmap, Row}
-use Rattle.lis_store.specs.Stands.{property_slots, word_in}
-use Rattle.lis_store.specs.Kept.{property_by, property_at}
+use Rattle.lis_kept.specs.Kept.{property_by, property_at}
+use Rattle.lis_kept.specs.Areas.{property_slots}
+use Rattle.lis_kept.proofs.InArea.{few_properties}
+use Rattle.lis_store.specs.Stands.{word_in}
+use Rattle.lis_open.specs.declared.blocks.LastBlock.{LastBlock}
 use Rattle.lis_open.specs.declared.words.Words.{Words}
 use Rattle.lis_open.specs.Checks.{IsProperty, HasWord, HasWordBefore, PropertyFails, Fails, rank, place}
-use Rattle.lis_open.specs.Reading.{OnlyReads, IsReadAs, IsFirst, no_words, bits, with_word, may_take_property, with_property, AreWords, AreFirstWords, WordsAreSpelled}
+use Rattle.lis_open.specs.Reading.{OnlyReads, Recalls, IsReadAs, IsFirst, Passes}
+use Rattle.lis_open.specs.ReadWords.{no_words, with_word, may_take_property, with_property, AreWords, AreFirstWords, WordsAreSpelled}
 use Rattle.lis_open.proofs.Slots.{one_property}
 
 -- ---- what is kept of a slot, and its word
@@ -36,13 +38,6 @@ pub slot_of_word : (o : Option (List ℕ)) (b : Bool) → word_in (property_by o
 slot_of_word None b = refl
 slot_of_word (Some v) true = refl
 slot_of_word (Some v) false = refl
-
-pub no_word_past : (d : Dict) → IsDict d → (n : ℕ) → d.props ≤ n → word_of d n ≡ None
-no_word_past d kept n past = by (word_of d n) refl
-  where
-    by : (o : Option (List ℕ)) → word_of d n ≡ o → o ≡ None
-    by None is = refl
-    by (Some w) is = absurd (let below = number_below d kept w n (number_from_word d kept w n is) in omega (arith, below))
 
 pub new_from : (o : Option ℕ) → not (is_some o) ≡ true → o ≡ None
 new_from None new = refl
@@ -57,48 +52,37 @@ module _ (words : Words) (number : ℕ) (word : List ℕ) (is_declared : Bool) (
   abbrev with_it : Words
   with_it = with_word words number word is_declared
 
-  abbrev bit_with : ℕ → Bool
-  bit_with k = cond (k == number) is_declared (get words.declared 0 k)
-
   word_here : word_of with_it.dict number ≡ Some word
   word_here = word_of-with_entry words.dict word number new free number ∙ ap (λ b. cond b (Some word) (word_of words.dict number)) (eq-eqb number number refl)
 
   word_there : (m : ℕ) → (m ≡ number → ⊥) → word_of with_it.dict m ≡ word_of words.dict m
   word_there m differ = word_of-with_entry words.dict word number new free m ∙ ap (λ b. cond b (Some word) (word_of words.dict m)) (ne_eqb number m (λ e. differ (sym e)))
 
-  bit_at_number : (m : ℕ) → m < words.dict.props → is_taken (bits with_it) m ≡ bit_with m
-  bit_at_number m lt = get-with_row_same words.declared 0 m bit_with (omega (arith, are.tall)) (omega (arith, are.wide, lt))
+  slot_here : property_at with_it.dict with_it.declared number ≡ property_by (Some word) is_declared
+  slot_here = ap₂ property_by word_here (get_or-set_same words.declared number is_declared false (omega (arith, are.long, below)))
 
-  slot_here : property_at with_it.dict (bits with_it) number ≡ property_by (Some word) is_declared
-  slot_here = ap₂ property_by word_here (bit_at_number number below ∙ ap (λ b. cond b is_declared (get words.declared 0 number)) (eq-eqb number number refl))
+  bit_there : (m : ℕ) → (m ≡ number → ⊥) → is_taken with_it.declared m ≡ is_taken words.declared m
+  bit_there m differ = get_or-set_other words.declared number m is_declared false differ
 
-  slot_there : (m : ℕ) → (m ≡ number → ⊥) → property_at with_it.dict (bits with_it) m ≡ property_at words.dict (bits words) m
-  slot_there m differ = by (cases_lt m words.dict.props)
-    where
-      by : (m < words.dict.props) ⊎ (words.dict.props ≤ m) → property_at with_it.dict (bits with_it) m ≡ property_at words.dict (bits words) m
-      by (inl lt) = ap₂ property_by (word_there m differ) (bit_at_number m lt ∙ ap (λ b. cond b is_declared (get words.declared 0 m)) (ne_eqb m number differ))
-      by (inr past) =
-          let none = no_word_past words.dict are.dict m past in
-          ap (λ o. property_by o (is_taken (bits with_it) m)) (word_there m differ ∙ none) ∙ sym (ap (λ o. property_by o (is_taken (bits words) m)) none)
-
-  length-bits : length (bits with_it) ≡ words.dict.props
-  unfolding row_of
-  length-bits =
-      ap length (get_or-set_same words.declared.rows 0 (row_of words.declared.bits bit_with) [] (omega (arith, are.tall)))
-      ∙ (length-map-range_with_len bit_with 0 words.declared.bits ∙ are.wide)
+  slot_there : (m : ℕ) → (m ≡ number → ⊥) → property_at with_it.dict with_it.declared m ≡ property_at words.dict words.declared m
+  slot_there m differ = ap₂ property_by (word_there m differ) (bit_there m differ)
 
   are_more : IsDict with_it.dict → IsTrue (is_prop (property_by (Some word) is_declared)) → AreWords with_it
   are_more kept form = record {
     dict = kept;
-    tall = length-with_row words.declared 0 bit_with ∙ are.tall;
-    wide = are.wide;
-    long = length-bits;
+    few = are.few;
+    long = length-set words.declared number is_declared ∙ are.long;
     forms = λ m. by m (cases_eq m number);
+    flagged = λ m bit. has m bit (cases_eq m number);
   }
     where
-      by : (m : ℕ) → (m ≡ number) ⊎ (m ≡ number → ⊥) → IsTrue (is_prop (property_at with_it.dict (bits with_it) m))
-      by m (inl same) = ap (λ k. is_prop (property_at with_it.dict (bits with_it) k)) same ∙ (ap is_prop slot_here ∙ form)
+      by : (m : ℕ) → (m ≡ number) ⊎ (m ≡ number → ⊥) → IsTrue (is_prop (property_at with_it.dict with_it.declared m))
+      by m (inl same) = ap (λ k. is_prop (property_at with_it.dict with_it.declared k)) same ∙ (ap is_prop slot_here ∙ form)
       by m (inr differ) = ap is_prop (slot_there m differ) ∙ are.forms m
+
+      has : (m : ℕ) → is_taken with_it.declared m ≡ true → (m ≡ number) ⊎ (m ≡ number → ⊥) → IsSome (word_of with_it.dict m)
+      has m bit (inl same) = ap (λ k. is_some (word_of with_it.dict k)) same ∙ ap is_some word_here
+      has m bit (inr differ) = ap is_some (word_there m differ) ∙ are.flagged m (sym (bit_there m differ) ∙ bit)
 
   first_more : (limits : Limits) → AreFirstWords limits words number → IsDict with_it.dict → IsTrue (is_prop (property_by (Some word) is_declared)) → AreFirstWords limits with_it (number + 1)
   first_more limits first kept form = record {
@@ -110,10 +94,10 @@ module _ (words : Words) (number : ℕ) (word : List ℕ) (is_declared : Bool) (
   spelled_more : (limits : Limits) (at : ℕ → List ℕ) → WordsAreSpelled limits at words number → slot (property_slots limits) at number ≡ prop_bytes (property_by (Some word) is_declared) → WordsAreSpelled limits at with_it (number + 1)
   spelled_more limits at spelled here n lt = by (cases_eq n number)
     where
-      by : (n ≡ number) ⊎ (n ≡ number → ⊥) → slot (property_slots limits) at n ≡ prop_bytes (property_at with_it.dict (bits with_it) n)
+      by : (n ≡ number) ⊎ (n ≡ number → ⊥) → slot (property_slots limits) at n ≡ prop_bytes (property_at with_it.dict with_it.declared n)
       by (inl same) =
           ap (slot (property_slots limits) at) same
-          ∙ (here ∙ (ap prop_bytes (sym slot_here) ∙ ap (λ k. prop_bytes (property_at with_it.dict (bits with_it) k)) (sym same)))
+          ∙ (here ∙ (ap prop_bytes (sym slot_here) ∙ ap (λ k. prop_bytes (property_at with_it.dict with_it.declared k)) (sym same)))
       by (inr differ) = spelled n (omega arith) ∙ ap prop_bytes (sym (slot_there n differ))
 
 -- ---- one slot more
@@ -143,11 +127,11 @@ module _ (limits : Limits) (words : Words) (number : ℕ) (first : AreFirstWords
     spelled_on (Some FreeProp) next may is read =
         subst (λ (w : Words). WordsAreSpelled limits at w (number + 1)) (sym is) (λ n lt. by n lt (cases_eq n number))
       where
-        here : slot (property_slots limits) at number ≡ prop_bytes (property_at words.dict (bits words) number)
-        here = read.bytes ∙ ap (λ o. prop_bytes (property_by o (is_taken (bits words) number))) (sym free)
+        here : slot (property_slots limits) at number ≡ prop_bytes (property_at words.dict words.declared number)
+        here = read.bytes ∙ ap (λ o. prop_bytes (property_by o (is_taken words.declared number))) (sym free)
 
-        by : (n : ℕ) → n < number + 1 → (n ≡ number) ⊎ (n ≡ number → ⊥) → slot (property_slots limits) at n ≡ prop_bytes (property_at words.dict (bits words) n)
-        by n lt (inl same) = subst (λ k. slot (property_slots limits) at k ≡ prop_bytes (property_at words.dict (bits words) k)) (sym same) here
+        by : (n : ℕ) → n < number + 1 → (n ≡ number) ⊎ (n ≡ number → ⊥) → slot (property_slots limits) at n ≡ prop_bytes (property_at words.dict words.declared n)
+        by n lt (inl same) = subst (λ k. slot (property_slots limits) at k ≡ prop_bytes (property_at words.dict words.declared k)) (sym same) here
         by n lt (inr differ) = spelled n (omega arith)
     spelled_on (Some (Known w)) next may is read =
         subst (λ (w : Words). WordsAreSpelled limits at w (number + 1)) (sym is)
@@ -159,7 +143,7 @@ module _ (limits : Limits) (words : Words) (number : ℕ) (first : AreFirstWords
 -- ---- the checks of slots
 module _ (limits : Limits) (at : ℕ → List ℕ) (words : Words) (end : ℕ) (first : AreFirstWords limits words end) (spelled : WordsAreSpelled limits at words end) where
   -- a slot below the end, as it was read
-  pub property_is : (n : ℕ) → n < end → n < limits.props → IsProperty limits at n (property_at words.dict (bits words) n)
+  pub property_is : (n : ℕ) → n < end → n < limits.props → IsProperty limits at n (property_at words.dict words.declared n)
   property_is n lt below = record { below = below; bytes = spelled n lt; range = first.are.forms n }
 
   -- a number that has a word is below the end
@@ -174,20 +158,20 @@ module _ (limits : Limits) (at : ℕ → List ℕ) (words : Words) (end : ℕ) (
   has_word n w is =
       let below : n < words.dict.props = number_below words.dict first.are.dict w n (number_from_word words.dict first.are.dict w n is) in
       record {
-        property = property_at words.dict (bits words) n;
+        property = property_at words.dict words.declared n;
         is = property_is n (number_read n w is) (omega (arith, first.props, below));
-        has = slot_of_word (word_of words.dict n) (is_taken (bits words) n) ∙ is;
+        has = slot_of_word (word_of words.dict n) (is_taken words.declared n) ∙ is;
       }
 
   pub word_is : (n : ℕ) (w : List ℕ) → n < end → HasWord limits at n w → word_of words.dict n ≡ Some w
   word_is n w lt has =
-      word_of_slot (word_of words.dict n) (is_taken (bits words) n) w
-      (ap word_in (one_property limits at n (property_at words.dict (bits words) n) has.property (property_is n lt has.is.below) has.is) ∙ has.has)
+      word_of_slot (word_of words.dict n) (is_taken words.declared n) w
+      (ap word_in (one_property limits at n (property_at words.dict words.declared n) has.property (property_is n lt has.is.below) has.is) ∙ has.has)
 
   pub property_passes : (n : ℕ) → n < end → PropertyFails limits at n → ⊥
   property_passes n lt fails =
-      let found = fails.fault (property_at words.dict (bits words) n) (property_is n lt fails.below) in
-      let here = number_from_word words.dict first.are.dict found.word n (word_of_slot (word_of words.dict n) (is_taken (bits words) n) found.word found.has) in
+      let found = fails.fault (property_at words.dict words.declared n) (property_is n lt fails.below) in
+      let here = number_from_word words.dict first.are.dict found.word n (word_of_slot (word_of words.dict n) (is_taken words.declared n) found.word found.has) in
       let there = number_from_word words.dict first.are.dict found.word found.earlier (word_is found.earlier found.word (omega (arith, found.before)) found.there) in
       let same : n ≡ found.earlier = by n found.earlier (sym here ∙ there) in
       omega (arith, found.before, same)
@@ -203,7 +187,7 @@ module _ (limits : Limits) (at : ℕ → List ℕ) (words : Words) (end : ℕ) (
   none_before (File n) kind lt fails = omega (arith, kind)
   none_before (Word n) kind lt fails = omega (arith, kind)
   none_before (Bitmap n) kind lt fails = omega (arith, kind)
-  none_before (Row n) kind lt fails = fails
+  none_before (Row n) kind lt fails = omega (arith, kind)
 
   old_word : (w : List ℕ) (property : PropSlot) (n : ℕ) → number_of words.dict w ≡ Some n → word_in property ≡ Some w → HasWordBefore limits at end property
   old_word w property n old has =
@@ -227,23 +211,50 @@ module _ (limits : Limits) (at : ℕ → List ℕ) (words : Words) (end : ℕ) (
     none_before = none_before;
   }
 
+-- no check of this kind fails
+pub words_pass : (limits : Limits) (at : ℕ → List ℕ) (words : Words) → AreFirstWords limits words limits.props → WordsAreSpelled limits at words limits.props
+    → Passes limits at 2 (WordsAreSpelled limits at words limits.props)
+words_pass limits at words first spelled = record { none = none; is = spelled }
+  where
+    none : (spot : Spot) → rank spot ≡ 2 → Fails limits at spot → ⊥
+    none Super kind fails = fails
+    none (BadRecord b) kind fails = fails
+    none (Property n) kind fails = property_passes limits at words limits.props first spelled n fails.below fails
+    none (Axiom n) kind fails = omega (arith, kind)
+    none (File n) kind fails = omega (arith, kind)
+    none (Word n) kind fails = omega (arith, kind)
+    none (Bitmap n) kind fails = omega (arith, kind)
+    none (Row n) kind fails = omega (arith, kind)
+
 -- ---- the loop
-pub record WordsTurn (journal : Held) (limits : Limits) (old now : Meaning) (words : Words) (end : ℕ) : Type 0 where
+pub record WordsTurn (journal : Held) (limits : Limits) (old now : Meaning) (before last : LastBlock) (words : Words) (end : ℕ) : Type 0 where
   pub reads : OnlyReads old now
   pub faults : now.disk_faults ≡ old.disk_faults
   pub first : AreFirstWords limits words end
-  pub spelled : (kept : ℕ → List ℕ) → Fits journal old kept → WordsAreSpelled limits kept words end
+  pub recalls : (kept : ℕ → List ℕ) → Fits journal old kept → Recalls before kept → Recalls last kept
+  pub spelled : (kept : ℕ → List ℕ) → Fits journal old kept → Recalls before kept → WordsAreSpelled limits kept words end
 
-pub no_words_yet : (limits : Limits) → AreFirstWords limits (no_words limits) 0
+none_taken : (count n : ℕ) → is_taken (replicate count false) n ≡ false
+none_taken count n = by (cases_lt n count)
+  where
+    by : (n < count) ⊎ (count ≤ n) → is_taken (replicate count false) n ≡ false
+    by (inl lt) = get_or-replicate count n false false lt
+    by (inr past) = get_or_past (replicate count false) n false (omega (arith, length-replicate count false, past))
+
+no_words_yet : (limits : Limits) → IsTrue (are_in_range limits) → AreFirstWords limits (no_words limits) 0
 unfolding no_words
-no_words_yet limits = record {
+no_words_yet limits range = record {
   are = record {
     dict = record { rising = refl; forms = refl; below = refl; apart = refl; few = omega arith };
-    tall = refl;
-    wide = refl;
+    few = few_properties limits range;
     long = length-replicate limits.props false;
     forms = λ n. refl;
+    flagged = λ n bit. absurd (both_ways (is_taken (replicate limits.props false) n) (none_taken limits.props n) bit);
   };
   props = refl;
   rest = λ n le. refl;
 }
+
+-- where the words are those that nothing was read of
+pub first_words : (limits : Limits) (words : Words) → IsTrue (are_in_range limits) → words ≡ no_words limits → AreFirstWords limits words 0
+first_words limits words range none = subst (λ (w : Words). AreFirstWords limits w 0) (sym none) (no_words_yet limits range)

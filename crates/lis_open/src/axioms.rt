@@ -55,8 +55,8 @@ pub fn no_axioms(alloc: Global, limits: &Limits) -> Result<Axioms, AllocError>
     })
 }
 
-// The number of the head of a number's word, where it is valued.
-fn head_number(words: &Words, number: u16) -> Option<u16>
+/// The number of the head of a number's word, where it is valued.
+pub fn head_number(words: &Words, number: u16) -> Option<u16>
     ensures { result ≡ head_by words.now.dict (word_of words.now.dict number) }
 {
     let word = words.dict.word_of(number)?;

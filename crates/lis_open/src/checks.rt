@@ -1,12 +1,13 @@
 //! What else must hold of an image: that each word is in use, what the bitmap tells, and what the rows tell.
 
-ghost use Rattle.std.specs.Prelude.{◌≡◌, ◌↔◌, ◌*◌, ◌/◌, ◌<◌, ◌≤◌, ◌||◌, ◌&&◌, not, is_some, ℕ, Bool, List, [], length, true, false, IsTrue, IfOk};
-ghost use Rattle.std.specs.List.{list_any};
+ghost use Rattle.std.specs.Prelude.{◌≡◌, ◌↔◌, ◌*◌, ◌/◌, ◌<◌, ◌≤◌, ◌||◌, ◌&&◌, ◌==◌, not, is_some, ℕ, Bool, List, [], length, true, false, IsTrue, IfOk};
+ghost use Rattle.std.specs.List.{list_all, list_any};
 ghost use Rattle.lis_ports.specs.Calls.{HasCause};
 ghost use Rattle.lis_journal.specs.Images.{Fits};
 ghost use Rattle.lis_bits.specs.Rows.{HasShape, get};
 ghost use Rattle.lis_blockmap.specs.Bitmap.{is_taken};
 ghost use Rattle.lis_dict.specs.Dict.{word_of};
+ghost use Rattle.lis_ext.specs.Ext.{has};
 ghost use Rattle.lis_model.specs.Ranges.{are_in_range};
 ghost use Rattle.lis_model.specs.Image.{bitmap_start, image_blocks};
 ghost use Rattle.lis_kept.specs.Areas.{axiom_slots, row_slots};
@@ -17,7 +18,7 @@ ghost use Rattle.lis_open.specs.ReadWords.{AreWords, AreFirstWords, AreFirstAxio
 ghost use Rattle.lis_open.specs.ReadFiles.{AreFirstFiles};
 ghost use Rattle.lis_open.specs.ReadAll.{kept_in, WordsChecked, BitmapChecked, IsRowSpelled, RowsChecked};
 
-use crate::axioms::Axioms;
+use crate::axioms::{Axioms, head_number};
 use crate::blocks::LastBlock;
 use crate::files::Files;
 use crate::mounting::OpenFault;
@@ -31,7 +32,6 @@ use lis_kept::{bitmap_start, rows_start};
 use lis_model::limits::Limits;
 use lis_model::spot::Spot;
 use lis_ports::{Disk, Failed};
-use lis_words::head_of;
 
 /// How many bytes the row of 4,096 files has.
 const MAX_ROW: usize = 512;
@@ -50,16 +50,14 @@ fn mark_left(words: &Words, row: &mut Rows, slot: AxiomSlot)
     let Ok(number) = u16::try_from(left) else {
         return;
     };
-    let Some(word) = words.dict.word_of(number) else {
+    if words.dict.word_of(number).is_none() {
         return;
-    };
-    row.put(0, left, true);
-    let Some(head) = head_of(&word) else {
-        return;
-    };
-    if let Some(number) = words.dict.id_of(&head) {
-        row.put(0, u32::from(number), true);
     }
+    row.put(0, left, true);
+    let Some(head) = head_number(words, number) else {
+        return;
+    };
+    row.put(0, u32::from(head), true);
 }
 
 // Makes a row of the left sides of axioms, and of the heads of those that are valued.
@@ -89,7 +87,13 @@ fn is_stray(words: &Words, ext: &Ext, lefts: &Rows, number: u16) -> bool
         return false;
     }
     let number = u32::from(number);
-    !words.declared.get(number) && ext.rows().next(number, 0).is_none() && !lefts.get(0, number)
+    if words.declared.get(number) {
+        return false;
+    }
+    if ext.rows().next(number, 0).is_some() {
+        return false;
+    }
+    !lefts.get(0, number)
 }
 
 /// Checks that each word is declared, in a description, or the left side of an axiom or the head of one.
@@ -150,16 +154,24 @@ fn row_count(limits: &Limits) -> u32
     per_block * (bitmap_start(limits) - rows_start(limits))
 }
 
+// Whether all bytes are zero.
+fn are_zeros(bytes: &[u8]) -> bool
+    ensures { result ≡ list_all (λ b. b == 0) bytes.now }
+{
+    bytes.iter().all(|byte| *byte == 0)
+}
+
 // Whether the bytes are those of a number's row, which is zeros past the last number.
 fn is_row(ext: &Ext, limits: &Limits, number: u32, bytes: &[u8]) -> bool
     requires range { IsTrue (are_in_range limits.now) }
     requires props { ext.now.props ≡ limits.now.props }
     requires files { length ext.now.sets ≡ limits.now.files }
+    requires rest { (n slot : ℕ) → limits.now.props ≤ n → has ext.now n slot ≡ false }
     requires width { length bytes.now ≡ limits.now.files / 8 }
     ensures { IsTrue result ↔ (bytes.now ≡ row_bytes ext.now number) }
 {
     if number >= limits.props {
-        return bytes.iter().all(|byte| *byte == 0);
+        return are_zeros(bytes);
     }
     let mut row = [0; MAX_ROW];
     let row = &mut row[..bytes.len()];
@@ -180,6 +192,7 @@ fn read_row<D: Disk>(
     requires p { p < (row_slots limits.now).count }
     requires props { ext.now.props ≡ limits.now.props }
     requires files { length ext.now.sets ≡ limits.now.files }
+    requires rest { (n slot : ℕ) → limits.now.props ≤ n → has ext.now n slot ≡ false }
     requires image { journal.now.blocks ≡ image_blocks limits.now }
     requires clean { journal.now.staged ≡ [] }
     requires unbroken { journal.now.is_broken ≡ false }
@@ -207,6 +220,7 @@ pub fn check_rows<D: Disk>(
     requires range { IsTrue (are_in_range limits.now) }
     requires props { ext.now.props ≡ limits.now.props }
     requires files { length ext.now.sets ≡ limits.now.files }
+    requires rest { (n slot : ℕ) → limits.now.props ≤ n → has ext.now n slot ≡ false }
     requires image { journal.now.blocks ≡ image_blocks limits.now }
     requires clean { journal.now.staged ≡ [] }
     requires unbroken { journal.now.is_broken ≡ false }

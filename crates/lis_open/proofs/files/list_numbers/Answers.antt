@@ -26,11 +26,12 @@ loop-number-preserved c =
     let items = c.loop-number.numbers.items in
     let next = c.in-Some.ensures in
     let rest = numbers_from row.bits (c.in-Some.number + 1) test in
-    let more = next_from row.bits c.loop-number.start c.in-Some.number test next.from_start next.in_row next.least next.true_bit in
-    (rw c.push.ensures.items (append_assoc items (c.in-Some.number ∷ []) rest ∙ rw more at c.loop-number.invariant.0),
-        let open_room = eqb-false (length items) 128 (sym c.if-is_full.ensures.value) in
-        let pushed = c.push.ensures.len in
-        omega (arith, c.loop-number.invariant.1, pushed, open_room))
+    let more = next_from row.bits c.loop-number.start c.in-Some.number test next.from_start next.in_row next.least next.true_bit in (
+      rw c.push.ensures.items (append_assoc items (c.in-Some.number ∷ []) rest ∙ rw more at c.loop-number.invariant.0),
+      let open_room = eqb-false (length items) 128 (sym c.if-is_full.ensures.value) in
+          let pushed = c.push.ensures.len in
+          omega (arith, c.loop-number.invariant.1, pushed, open_room),
+    )
 
 pub returns : goal.returns
 returns c =

@@ -1,23 +1,23 @@
-use Rattle.std.proofs.Common.{refl, sym, subst, ◌∙◌, arith}
-use Rattle.lis_open.specs.declared.words.Words.{Words}
-use Rattle.lis_open.specs.Reading.{AreFirstWords}
+use Rattle.std.proofs.Common.{◌≡◌, refl, sym, subst, ◌∙◌, arith}
+use Rattle.lis_open.specs.ReadWords.{AreFirstWords, WordsAreSpelled}
 use Rattle.lis_open.proofs.Quiet.{reads_none, reads_then, fits_after}
-use Rattle.lis_open.proofs.WordsRead.{first_on, spelled_on, property_fails, no_words_yet}
+use Rattle.lis_open.proofs.WordsRead.{first_on, spelled_on, property_fails, words_pass, first_words}
 use Rattle.lis_open.proofs.words.read_words.Goals as goal
 
 pub loop-number-init : goal.loop-number-init
 loop-number-init g c = record {
   reads = reads_none (g.D.Disk.meaning c.args.disk.now);
   faults = refl;
-  first = subst (λ (words : Words). AreFirstWords c.args.limits.now words 0) (sym c.requires.none) (no_words_yet c.args.limits.now);
-  spelled = λ kept fits n lt. absurd (omega (arith, lt));
+  first = first_words c.args.limits.now c.args.words.now c.requires.range c.requires.none;
+  recalls = λ kept fits recalled. recalled;
+  spelled = λ kept fits recalled n lt. absurd (omega (arith, lt));
 }
 
 pub returns-then-not-take_property-clause-ended : goal.returns-then-not-take_property-clause-ended
-returns-then-not-take_property-clause-ended g c = λ kept fits.
+returns-then-not-take_property-clause-ended g c = λ kept fits recalled.
     let l = c.loop-number in
-    property_fails c.args.limits.now kept l.words l.number l.invariant.first (l.invariant.spelled kept fits) c.in_ok-found.found c.loop-number-test.true (sym c.if-not-take_property.ensures.answer)
-    (c.in_ok-found.ensures.read kept (fits_after c.args.journal.now kept l.invariant.reads fits))
+    property_fails c.args.limits.now kept l.words l.number l.invariant.first (l.invariant.spelled kept fits recalled) c.in_ok-found.found c.loop-number-test.true (sym c.if-not-take_property.ensures.answer)
+    (c.in_ok-found.ensures.read kept (fits_after c.args.journal.now kept l.invariant.reads fits) (l.invariant.recalls kept fits recalled))
 
 pub loop-number-preserved : goal.loop-number-preserved
 loop-number-preserved g c =
@@ -30,7 +30,17 @@ loop-number-preserved g c =
       faults = c.in_ok-found.ensures.cause.stays ∙ l.invariant.faults;
       first = first_on limits l.words l.number l.invariant.first c.loop-number-test.true c.in_ok-found.found next c.in_ok-found.ensures.form may c.if-not-take_property.ensures.kept
           c.if-not-take_property.ensures.taken;
-      spelled = λ kept fits.
-          spelled_on limits l.words l.number l.invariant.first c.loop-number-test.true kept (l.invariant.spelled kept fits) c.in_ok-found.found next may c.if-not-take_property.ensures.taken
-          (c.in_ok-found.ensures.read kept (fits_after c.args.journal.now kept l.invariant.reads fits));
+      recalls = λ kept fits recalled.
+          c.read_property.ensures.recalls kept (fits_after c.args.journal.now kept l.invariant.reads fits) (l.invariant.recalls kept fits recalled);
+      spelled = λ kept fits recalled.
+          spelled_on limits l.words l.number l.invariant.first c.loop-number-test.true kept (l.invariant.spelled kept fits recalled) c.in_ok-found.found next may c.if-not-take_property.ensures.taken
+          (c.in_ok-found.ensures.read kept (fits_after c.args.journal.now kept l.invariant.reads fits) (l.invariant.recalls kept fits recalled));
     }
+
+pub returns-clause-ended : goal.returns-clause-ended
+returns-clause-ended g c = λ kept fits recalled.
+    let l = c.loop-number in
+    let limits = c.args.limits.now in
+    let end : l.number ≡ limits.props = omega (arith, c.loop-number-test.false, l.auto.number-end) in
+    words_pass limits kept l.words (subst (λ n. AreFirstWords limits l.words n) end l.invariant.first)
+    (subst (λ n. WordsAreSpelled limits kept l.words n) end (l.invariant.spelled kept fits recalled))
