@@ -1,7 +1,7 @@
 -- What is wrong with a file slot that is not taken, and that nothing is wrong with those that are.
-use Rattle.std.proofs.Common.{◌≡◌, ◌⊎◌, ◌∙◌, refl, sym, ap, ap₂, subst, inl, inr, ℕ, ◌-◌, ◌^◌, ◌<◌, ◌≤◌, nat_lt, nat_le, Bool, true, false, not, ◌&&◌, is_some, Option, Some, None, List, [], ◌∷◌, length, slice_get, IsTrue, arith}
+use Rattle.std.proofs.Common.{◌≡◌, ◌⊎◌, ◌∙◌, refl, sym, ap, subst, inl, inr, ℕ, ◌-◌, ◌^◌, ◌<◌, ◌≤◌, nat_lt, nat_le, Bool, true, false, not, ◌&&◌, is_some, Option, Some, None, List, [], ◌∷◌, length, slice_get, arith}
 use Rattle.std.specs.List.{list_all}
-use Rattle.std.proofs.lemmas.Bool.{and_parts, and_from, cases_lt, lt-ltb, ltb-true, leb-false}
+use Rattle.std.proofs.lemmas.Bool.{and_parts, and_from, both_ways, cases_Bool, cases_lt, lt-ltb, ltb-true, leb-false}
 use Rattle.std.proofs.lemmas.Option.{same_Some, slice_get_within, get_or_from_slice_get}
 use Rattle.lis_graph.proofs.Members.{Among}
 use Rattle.lis_blockmap.specs.Bitmap.{is_taken}
@@ -24,26 +24,25 @@ use Rattle.lis_laws.proofs.Members.{among_from_has_word}
 use Rattle.lis_model.specs.declared.limits.Limits.{Limits}
 use Rattle.lis_model.specs.declared.spot.Spot.{Spot}
 use Rattle.lis_model.specs.declared.spot.Spot.TheVariants.{Super, BadRecord, Property, Axiom, File as FileSpot, Word, Bitmap, Row}
-use Rattle.lis_model.specs.State.{File, file_words, is_assignable}
+use Rattle.lis_model.specs.State.{file_words, is_assignable}
 use Rattle.lis_kept.specs.Kept.{axiom_at, file_by, record_at}
 use Rattle.lis_kept.specs.Areas.{axiom_slots, file_slots}
-use Rattle.lis_kept.specs.Sound.{is_sound_record}
 use Rattle.lis_kept.specs.Telling.{words_told, file_told, axioms_of}
-use Rattle.lis_store.specs.Stands.{words_in, word_at, file_by as file_of_record}
+use Rattle.lis_kept.proofs.Filing.{among_from_number, number_from_among}
+use Rattle.lis_store.specs.Stands.{words_in}
 use Rattle.lis_open.specs.declared.words.Words.{Words}
 use Rattle.lis_open.specs.declared.axioms.Axioms.{Axioms}
 use Rattle.lis_open.specs.declared.files.Files.{Files}
-use Rattle.lis_open.specs.Checks.{IsFile, AreProperties, AreAxioms, declared_by, axioms_by, description_by, FileFault, HasFileFault, FileFails, Fails, rank, place}
+use Rattle.lis_open.specs.Checks.{IsFile, AreAxioms, declared_by, axioms_by, description_by, FileFault, HasFileFault, FileFails, Fails, rank, place}
 use Rattle.lis_open.specs.Checks.FileFault.{NameTaken, TagUnnumbered, TagUnassignable, BlockMissing, BlockTaken, WordUnnumbered, TooManyWords}
 use Rattle.lis_open.specs.Reading.{IsReadAs, IsFirst}
 use Rattle.lis_open.specs.ReadWords.{AreFirstWords, AreFirstAxioms, WordsAreSpelled, AxiomsAreSpelled, declared_words, kept_words}
-use Rattle.lis_open.specs.ReadFiles.{described, described_by, is_assignable_by, is_assignable_number, may_file, may_take_record, may_take_file, AreFirstFiles, FilesAreSpelled, FilesAreDescribed}
+use Rattle.lis_open.specs.ReadFiles.{described, described_by, is_assignable_by, is_assignable_number, may_file, may_take_record, may_take_file, AreFirstFiles, FilesAreSpelled}
 use Rattle.lis_open.proofs.Slots.{one_file}
-use Rattle.lis_open.proofs.Numbers.{both_ways, true_or_false, among_from_has, has_from_among}
 use Rattle.lis_open.proofs.OneList.{one_list}
 use Rattle.lis_open.proofs.Joined.{sides, assignable_word}
 use Rattle.lis_open.proofs.WordsTold.{told_properties, number_within, word_at_told, declared_told, told_word, axioms_told, file_is_told, are_told, only_told}
-use Rattle.lis_open.proofs.Descriptions.{among_told, told_le, described_named, described_words, described_long}
+use Rattle.lis_open.proofs.Descriptions.{among_told, told_le, described_words, described_long}
 
 -- a test that some member does not pass
 failing : {X : Type 0} (test : X → Bool) (xs : List X) → list_all test xs ≡ false → (x : X) × Among xs x × (test x ≡ false)
@@ -97,7 +96,7 @@ module _ (limits : Limits) (words : Words) (axioms : Axioms) (files : Files) (en
   block_below n rec data_block is has =
       let named = list_all (λ k. is_some (word_of words.dict k)) rec.tags in
       let all = (and_parts (is_record rec && named) (list_all (λ k. nat_lt k limits.blocks) rec.blocks) (first.records n rec is)).1 in
-      ltb-true data_block limits.blocks (all_among (λ k. nat_lt k limits.blocks) rec.blocks data_block all (among_from_has rec.blocks data_block has))
+      ltb-true data_block limits.blocks (all_among (λ k. nat_lt k limits.blocks) rec.blocks data_block all (among_from_number rec.blocks data_block has))
 
   -- a slot that has a file is below the end
   slot_read : (n : ℕ) (rec : FileRecord) → rec_at files.catalog n ≡ Some rec → n < end
@@ -152,14 +151,14 @@ module _ (limits : Limits) (words : Words) (axioms : Axioms) (files : Files) (en
         let one = same_Some n earlier (sym a ∙ (ap (slot_of files.catalog) (sym same) ∙ b)) in
         omega (arith, one, before)
     no_fault n rec is lt (TagUnnumbered tag has none) =
-        let word = assignable_word words (word_of words.dict tag) (all_among (is_assignable_number words) rec.tags tag (first.given n rec is) (among_from_has rec.tags tag has)) in
+        let word = assignable_word words (word_of words.dict tag) (all_among (is_assignable_number words) rec.tags tag (first.given n rec is) (among_from_number rec.tags tag has)) in
         let e = sym none ∙ (word_at_told limits words are.are are.props tag ∙ word.1) in
         cc
     no_fault n rec is lt (TagUnassignable tag word has named not_given) =
-        let found = assignable_word words (word_of words.dict tag) (all_among (is_assignable_number words) rec.tags tag (first.given n rec is) (among_from_has rec.tags tag has)) in
+        let found = assignable_word words (word_of words.dict tag) (all_among (is_assignable_number words) rec.tags tag (first.given n rec is) (among_from_number rec.tags tag has)) in
         let same = same_Some found.0 word (sym found.1 ∙ (sym (word_at_told limits words are.are are.props tag) ∙ named)) in
-        both_ways (is_assignable (declared_words words) word) (subst (λ w. is_assignable (declared_words words) w ≡ true) same found.2)
-        (ap (λ ds. is_assignable ds word) (sym (declared_told limits words are.are are.props)) ∙ not_given)
+        both_ways (is_assignable (declared_words words) word) (ap (λ ds. is_assignable ds word) (sym (declared_told limits words are.are are.props)) ∙ not_given)
+        (subst (λ w. is_assignable (declared_words words) w ≡ true) same found.2)
     no_fault n rec is lt (BlockMissing data_block has past) =
         let below = block_below n rec data_block is has in
         omega (arith, below, past)
@@ -170,7 +169,7 @@ module _ (limits : Limits) (words : Words) (axioms : Axioms) (files : Files) (en
     no_fault n rec is lt (WordUnnumbered word has none) =
         let m = among_from_has_word (description_by limits properties items at rec) word has in
         let number = among_told words.dict (described axioms.taxonomy rec.tags) word (subst (λ ws. Among ws word) (sym (description_is rec (first.given n rec is))) m) in
-        both_ways (has_word (words_in properties) word) (told_word limits words are.are are.props number.0 word number.2) none
+        both_ways (has_word (words_in properties) word) none (told_word limits words are.are are.props number.0 word number.2)
     no_fault n rec is lt (TooManyWords many) =
         let few = told_le words.dict (described axioms.taxonomy rec.tags) in
         let short = first.short n in
@@ -216,7 +215,7 @@ module _ (limits : Limits) (words : Words) (axioms : Axioms) (files : Files) (en
         NameTaken slot_is.0 found.0 before (used_is slot_is.0 found.0 (omega (arith, before, below)) found.1) found.2
 
     tag_fault : (rec : FileRecord) → list_all (is_assignable_number words) rec.tags ≡ false → FileFault limits at properties items end rec
-    tag_fault rec fails = let tag = failing (is_assignable_number words) rec.tags fails in by tag.0 (has_from_among rec.tags tag.0 tag.1) tag.2 (word_of words.dict tag.0) refl
+    tag_fault rec fails = let tag = failing (is_assignable_number words) rec.tags fails in by tag.0 (number_from_among rec.tags tag.0 tag.1) tag.2 (word_of words.dict tag.0) refl
       where
         by : (tag : ℕ) → has_number rec.tags tag ≡ true → is_assignable_number words tag ≡ false → (o : Option (List ℕ)) → word_of words.dict tag ≡ o → FileFault limits at properties items end rec
         by tag has not_given None is = TagUnnumbered tag has (word_at_told limits words are.are are.props tag ∙ is)
@@ -227,7 +226,7 @@ module _ (limits : Limits) (words : Words) (axioms : Axioms) (files : Files) (en
     block_fault : (rec : FileRecord) → end < limits.files → are_free files.map rec.blocks ≡ false → FileFault limits at properties items end rec
     block_fault rec below fails =
         let found = failing (λ n. nat_lt n (length files.map) && not (is_taken files.map n)) rec.blocks fails in
-        by found.0 (has_from_among rec.blocks found.0 found.1) found.2 (cases_lt found.0 limits.blocks)
+        by found.0 (number_from_among rec.blocks found.0 found.1) found.2 (cases_lt found.0 limits.blocks)
       where
         at_last : (t b : Bool) → b ≡ true → (b && not t) ≡ false → t ≡ true
         at_last true b is e = refl
@@ -250,8 +249,8 @@ module _ (limits : Limits) (words : Words) (axioms : Axioms) (files : Files) (en
 
     record_fault : (rec : FileRecord) → end < limits.files → may_take_record words axioms.taxonomy files rec ≡ false → FileFault limits at properties items end rec
     record_fault rec below fails =
-        by (true_or_false (not (is_some (slot_of files.catalog rec.name)))) (true_or_false (list_all (is_assignable_number words) rec.tags)) (true_or_false (are_free files.map rec.blocks))
-        (true_or_false (nat_le (length (described axioms.taxonomy rec.tags)) 128))
+        by (cases_Bool (not (is_some (slot_of files.catalog rec.name)))) (cases_Bool (list_all (is_assignable_number words) rec.tags)) (cases_Bool (are_free files.map rec.blocks))
+        (cases_Bool (nat_le (length (described axioms.taxonomy rec.tags)) 128))
       where
         by : (not (is_some (slot_of files.catalog rec.name)) ≡ true) ⊎ (not (is_some (slot_of files.catalog rec.name)) ≡ false)
             → (list_all (is_assignable_number words) rec.tags ≡ true) ⊎ (list_all (is_assignable_number words) rec.tags ≡ false)
@@ -261,10 +260,10 @@ module _ (limits : Limits) (words : Words) (axioms : Axioms) (files : Files) (en
         by (inl name) (inr tags) free few = tag_fault rec tags
         by (inl name) (inl tags) (inr free) few = block_fault rec below free
         by (inl name) (inl tags) (inl free) (inr many) = words_fault rec tags many
-        by (inl name) (inl tags) (inl free) (inl few) = absurd (both_ways (may_take_record words axioms.taxonomy files rec)
+        by (inl name) (inl tags) (inl free) (inl few) = absurd (both_ways (may_take_record words axioms.taxonomy files rec) fails
             (and_from (may_file words files rec) (nat_le (length (described axioms.taxonomy rec.tags)) 128)
             (and_from (not (is_some (slot_of files.catalog rec.name)) && list_all (is_assignable_number words) rec.tags) (are_free files.map rec.blocks)
-            (and_from (not (is_some (slot_of files.catalog rec.name))) (list_all (is_assignable_number words) rec.tags) name tags) free) few) fails)
+            (and_from (not (is_some (slot_of files.catalog rec.name))) (list_all (is_assignable_number words) rec.tags) name tags) free) few))
 
     file_fault : (found : Option FileSlot) → end < limits.files → may_take_file words axioms.taxonomy files found ≡ false → IsReadAs file_bytes is_file (file_slots limits) at end found
         → (file : FileSlot) → IsFile limits at end file → HasFileFault limits at properties items end file

@@ -1,8 +1,8 @@
 -- The files of file slots, read one after another.
-use Rattle.std.proofs.Common.{◌≡◌, ◌⊎◌, ◌∙◌, refl, sym, ap, subst, inl, inr, ℕ, ◌+◌, ◌*◌, ◌<◌, ◌≤◌, ◌==◌, nat_lt, nat_le, Bool, true, false, cond, not, ◌&&◌, ◌||◌, is_some, Option, Some, None, List, [], length, replicate, get_or, IsTrue, arith, eq-eqb, length-set, get_or-set_same, get_or-set_other}
+use Rattle.std.proofs.Common.{◌≡◌, ◌⊎◌, ◌∙◌, refl, sym, ap, subst, inl, inr, ℕ, ◌+◌, ◌<◌, ◌≤◌, ◌==◌, nat_lt, nat_le, Bool, true, false, cond, not, ◌&&◌, ◌||◌, is_some, Option, Some, None, List, [], length, replicate, get_or, IsTrue, arith, eq-eqb, length-set, get_or-set_same, get_or-set_other}
 use Rattle.std.specs.Option.{IfSome}
 use Rattle.std.specs.List.{list_all}
-use Rattle.std.proofs.lemmas.Bool.{and_parts, and_from, cases_eq, cases_lt, ne_eqb, lt-ltb, ltb-true, leb-true}
+use Rattle.std.proofs.lemmas.Bool.{and_parts, and_from, both_ways, or_cases, or_left, or_right, cases_eq, cases_lt, ne_eqb, lt-ltb, leb-true}
 use Rattle.std.proofs.lemmas.List.{length-replicate, get_or-replicate, get_or_past}
 use Rattle.std.proofs.lemmas.Option.{same_Some}
 use Rattle.lis_ports.specs.Meaning.{Meaning}
@@ -37,7 +37,8 @@ use Rattle.lis_open.specs.declared.blocks.LastBlock.{LastBlock}
 use Rattle.lis_open.specs.Reading.{OnlyReads, Recalls, IsReadAs}
 use Rattle.lis_open.specs.ReadWords.{AreWords}
 use Rattle.lis_open.specs.ReadFiles.{no_files, described, described_by, is_assignable_by, is_assignable_number, may_file, may_take_record, may_take_file, TakesRecord, TakesFile, AreFirstFiles, FilesAreSpelled}
-use Rattle.lis_open.proofs.Numbers.{both_ways, among_from_has, or_parts, or_left, or_right, same_distinct, is_taken-marked}
+use Rattle.lis_kept.proofs.Filing.{among_from_number, same_distinct}
+use Rattle.lis_open.proofs.Numbers.{is_taken-marked}
 
 -- ---- one record
 pub record_blocks : (rec : FileRecord) → IsTrue (is_record rec) → are_distinct rec.blocks ≡ true
@@ -95,7 +96,7 @@ no_files_yet limits words axioms = record {
   rest = λ n le. refl;
   blocks = length-replicate limits.blocks false;
   taken = λ slot rec n is. absurd cc;
-  in_use = λ n is. absurd (both_ways (get_or (replicate limits.blocks false) n false) is (nothing_at limits.blocks n false));
+  in_use = λ n is. absurd (both_ways (get_or (replicate limits.blocks false) n false) (nothing_at limits.blocks n false) is);
   apart = λ slot other rec more n is. absurd cc;
   props = refl;
   count = length-replicate limits.files [];
@@ -161,8 +162,8 @@ module _ (limits : Limits) (words : Words) (axioms : Axioms) (files next : Files
   -- a new data block is that of no old file
   not_both : (n slot : ℕ) (r : FileRecord) → has_number rec.blocks n ≡ true → rec_at files.catalog slot ≡ Some r → has_number r.blocks n ≡ true → ⊥
   not_both n slot r here is there =
-      let free = (and_parts (nat_lt n (length files.map)) (not (is_taken files.map n)) (all_among (λ k. nat_lt k (length files.map) && not (is_taken files.map k)) rec.blocks n tests.free (among_from_has rec.blocks n here))).1 in
-      both_ways (is_taken files.map n) (first.taken slot r n is there) (not_true (is_taken files.map n) free)
+      let free = (and_parts (nat_lt n (length files.map)) (not (is_taken files.map n)) (all_among (λ k. nat_lt k (length files.map) && not (is_taken files.map k)) rec.blocks n tests.free (among_from_number rec.blocks n here))).1 in
+      both_ways (is_taken files.map n) (not_true (is_taken files.map n) free) (first.taken slot r n is there)
 
   set_new : set_of next.ext number ≡ described axioms.taxonomy rec.tags
   set_new = ap (λ (sets : List (List ℕ)). get_or sets number []) takes.sets ∙ get_or-set_same files.ext.sets number (described axioms.taxonomy rec.tags) [] (omega (arith, lt, first.count))
@@ -192,7 +193,7 @@ module _ (limits : Limits) (words : Words) (axioms : Axioms) (files next : Files
     taken = λ slot r n is has. taken_is n ∙
         either (λ k x. has_number x.blocks n ≡ true → (has_number rec.blocks n || is_taken files.map n) ≡ true) (λ here. or_left (has_number rec.blocks n) (is_taken files.map n) here)
         (λ k x there here. or_right (has_number rec.blocks n) (is_taken files.map n) (first.taken k x n there here)) slot r is has;
-    in_use = λ n is. used n (or_parts (has_number rec.blocks n) (is_taken files.map n) (sym (taken_is n) ∙ is));
+    in_use = λ n is. used n (or_cases (has_number rec.blocks n) (is_taken files.map n) (sym (taken_is n) ∙ is));
     apart = λ slot other r more n is_r is_more.
         either (λ k x. has_number x.blocks n ≡ true → has_number more.blocks n ≡ true → k ≡ other)
         (λ here. either (λ k x. has_number x.blocks n ≡ true → number ≡ k) (λ there. refl) (λ k x is there. absurd (not_both n k x here is there)) other more is_more)

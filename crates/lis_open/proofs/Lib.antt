@@ -9,7 +9,6 @@ mod Slots
 mod WordsRead
 mod WordUses
 mod Numbers
-mod Entries
 mod Gathering
 mod FilesRead
 mod Counts
