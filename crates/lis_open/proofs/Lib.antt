@@ -19,6 +19,7 @@ mod Told
 mod HeadLinks
 mod WordsTold
 mod WordChains
+mod AxiomsRead
 mod Descriptions
 mod FileFaults
 mod OneList
