@@ -1,7 +1,7 @@
 -- Rows of which no bit is set, and how many rows there are.
-use Rattle.std.proofs.Common.{◌≡◌, ◌⊎◌, ◌∙◌, sym, ap, inl, inr, ℕ, ◌+◌, ◌*◌, ◌/◌, ◌<◌, ◌≤◌, ◌==◌, Bool, true, false, List, [], length, replicate, IsTrue, ◌↔◌, arith}
+use Rattle.std.proofs.Common.{◌≡◌, ◌⊎◌, ◌∙◌, sym, ap, ap₂, inl, inr, ℕ, ◌+◌, ◌*◌, ◌/◌, ◌<◌, ◌≤◌, ◌==◌, min, Bool, true, false, cond, List, [], length, replicate, IsTrue, ◌↔◌, arith}
 use Rattle.std.specs.List.{list_all}
-use Rattle.std.proofs.lemmas.Bool.{cases_lt}
+use Rattle.std.proofs.lemmas.Bool.{cases_lt, both_ways, lt-ltb, le-ltb}
 use Rattle.std.proofs.lemmas.List.{length-replicate, get_or-replicate, get_or_past}
 use Rattle.lis_bits.specs.Bytes.{bits_bytes}
 use Rattle.lis_bits.proofs.Numbers.{bytes_same}
@@ -11,6 +11,11 @@ use Rattle.lis_fields.specs.Layouts.{zeros}
 use Rattle.lis_fields.proofs.Widths.{zeros_pass, zeros_of}
 use Rattle.lis_model.specs.declared.limits.Limits.{Limits}
 use Rattle.lis_model.specs.Ranges.{are_in_range}
+use Rattle.lis_model.specs.Image.{rows_start}
+use Rattle.lis_slots.specs.Slots.{Slots, slot}
+use Rattle.lis_model.specs.declared.spot.Spot.{Spot}
+use Rattle.lis_model.specs.declared.spot.Spot.TheVariants.{Row}
+use Rattle.lis_open.specs.ReadAll.{IsRowSpelled, IsFirstRow, row_place}
 use Rattle.lis_kept.specs.Areas.{row_slots}
 use Rattle.lis_kept.specs.Rows.{row_bytes}
 use Rattle.lis_kept.proofs.InArea.{files_range, each_files_limit}
@@ -52,3 +57,24 @@ zeros_decide e files number bytes all count width none is = (
   λ yes. zeros_of (files / 8) bytes width (sym is ∙ yes) ∙ sym (no_file_has e files number count none),
   λ same. is ∙ (ap (λ bs. list_all (λ b. b == 0) bs) (same ∙ no_file_has e files number count none) ∙ zeros_pass (files / 8)),
 )
+
+-- ---- rows as they are read
+pub row_read : (limits : Limits) (kept : ℕ → List ℕ) (ext : Ext) (p first width : ℕ) (buf : List ℕ) (same : Bool) → first ≡ rows_start limits → width ≡ limits.files / 8
+    → ((count : ℕ) → buf ≡ slot (record { first = first; count = count; width = width }) kept p) → (IsTrue same ↔ (buf ≡ row_bytes ext p)) → IsTrue same ↔ IsRowSpelled limits kept ext p
+row_read limits kept ext p first width buf same start wide read test =
+    let there : slot (row_slots limits) kept p ≡ buf =
+    ap₂ (λ a w. slot (record { first = a; count = (row_slots limits).count; width = w }) kept p) (sym start) (sym wide) ∙ sym (read (row_slots limits).count) in
+    (λ yes. there ∙ test.0 yes, λ spelled. test.1 (sym there ∙ spelled))
+
+abbrev pub SameBelow : Limits → (ℕ → List ℕ) → Ext → ℕ → Type 0
+SameBelow limits kept ext end = (q : ℕ) → q < end → IsRowSpelled limits kept ext q
+
+-- the first row that is spelled otherwise
+pub first_row : (limits : Limits) (kept : ℕ → List ℕ) (ext : Ext) (p place : ℕ) (same : Bool) → p < (row_slots limits).count → place ≡ min p limits.props → (IsTrue same ↔ IsRowSpelled limits kept ext p) → same ≡ false
+    → SameBelow limits kept ext p → (q : ℕ) × (Row place ≡ Row (row_place limits q)) × IsFirstRow limits kept ext q
+first_row limits kept ext p place same below is test differs before =
+    (p, ap Row (is ∙ by (cases_lt p limits.props)), record { below = below; differs = λ spelled. both_ways same differs (test.1 spelled); same_before = before })
+  where
+    by : (p < limits.props) ⊎ (limits.props ≤ p) → min p limits.props ≡ row_place limits p
+    by (inl lt) = let least : min p limits.props ≡ p = omega (arith, lt) in least ∙ sym (ap (λ b. cond b p limits.props) (lt-ltb p limits.props lt))
+    by (inr ge) = let least : min p limits.props ≡ limits.props = omega (arith, ge) in least ∙ sym (ap (λ b. cond b p limits.props) (le-ltb p limits.props ge))

@@ -1,0 +1,27 @@
+use Rattle.std.proofs.Common.{◌≡◌, ◌∙◌, ◌<◌, sym, subst, below_more}
+use Rattle.lis_kept.specs.Areas.{row_slots}
+use Rattle.lis_open.proofs.Quiet.{reads_then, fits_after}
+use Rattle.lis_open.proofs.ZeroRows.{first_row}
+use Rattle.lis_open.proofs.checks.check_rows.Goals as goal
+
+pub returns-then-not-branch-clause-ended : goal.returns-then-not-branch-clause-ended
+returns-then-not-branch-clause-ended g c = λ kept fits recalls.
+    let l = c.loop-p in
+    let limits = c.args.limits.now in
+    let below : l.p < (row_slots limits).count = subst (λ n. l.p < n) c.row_count-p-end.ensures c.loop-p-test.true in
+    let there = fits_after c.args.journal.now kept l.invariant.reads fits in
+    first_row limits kept c.args.ext.now l.p c.min.result c.in_ok-read_row.field-0 below c.min.ensures (c.in_ok-read_row.ensures.read kept there (l.invariant.recalls kept fits recalls)) c.if-not-branch.true
+    (l.invariant.same kept fits recalls)
+
+pub loop-p-preserved : goal.loop-p-preserved
+loop-p-preserved g c =
+    let l = c.loop-p in
+    let journal = c.args.journal.now in
+    record {
+      reads = reads_then l.invariant.reads c.read_row.ensures.reads;
+      faults = c.in_ok-read_row.ensures.cause.stays ∙ l.invariant.faults;
+      recalls = λ kept fits recalls. c.read_row.ensures.recalls kept (fits_after journal kept l.invariant.reads fits) (l.invariant.recalls kept fits recalls);
+      same = λ kept fits recalls.
+          let there = fits_after journal kept l.invariant.reads fits in
+          below_more _ _ (l.invariant.same kept fits recalls) ((c.in_ok-read_row.ensures.read kept there (l.invariant.recalls kept fits recalls)).0 c.if-not-branch.false);
+    }

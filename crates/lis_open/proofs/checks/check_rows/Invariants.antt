@@ -1,0 +1,16 @@
+use Rattle.std.proofs.Common.{◌≡◌, ℕ, ◌<◌, List}
+use Rattle.lis_journal.specs.Images.{Fits}
+use Rattle.lis_open.specs.Reading.{OnlyReads, Recalls}
+use Rattle.lis_open.specs.ReadAll.{IsRowSpelled}
+use Rattle.lis_open.proofs.checks.check_rows.Given as goal
+
+abbrev pub invariant-loop-p : goal.invariant-loop-p
+invariant-loop-p g l =
+    let start = g.D.Disk.meaning l.initial.disk in
+    let now = g.D.Disk.meaning l.disk in
+    record {
+      reads : OnlyReads start now;
+      faults : now.disk_faults ≡ start.disk_faults;
+      recalls : (kept : ℕ → List ℕ) → Fits l.journal start kept → Recalls l.initial.last kept → Recalls l.last kept;
+      same : (kept : ℕ → List ℕ) → Fits l.journal start kept → Recalls l.initial.last kept → (q : ℕ) → q < l.p → IsRowSpelled l.limits kept l.ext q;
+    }

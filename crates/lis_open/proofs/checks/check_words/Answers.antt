@@ -1,0 +1,35 @@
+use Rattle.std.proofs.Common.{◌≡◌, ◌⊎◌, ◌∙◌, refl, sym, inl, inr, ℕ, ◌<◌, ◌≤◌, Bool, false, List, [], below_more, arith}
+use Rattle.std.proofs.lemmas.Bool.{cases_lt}
+use Rattle.lis_bits.specs.Rows.{get}
+use Rattle.lis_open.specs.ReadAll.{kept_in, is_stray}
+use Rattle.lis_open.proofs.Lefts.{stray_by_row, no_stray_past}
+use Rattle.lis_open.proofs.checks.check_words.Goals as goal
+
+pub returns-then-is_stray : goal.returns-then-is_stray
+returns-then-is_stray c = λ marks.
+    let l = c.loop-number in
+    let k = kept_in c.args.limits.now c.args.words.now c.args.axioms.now c.args.files.now marks in (
+      l.number,
+      refl,
+      record {
+        below = c.loop-number-test.true;
+        stray = sym (stray_by_row k l.number (get c.mark_lefts.new.row 0 l.number) (λ some. c.mark_lefts.ensures.bits l.number (omega (arith, c.loop-number-test.true, c.requires.words.props)) some))
+            ∙ (sym c.is_stray.ensures ∙ c.if-is_stray.true);
+        none_before = l.invariant;
+      },
+    )
+
+pub loop-number-preserved : goal.loop-number-preserved
+loop-number-preserved c =
+    let l = c.loop-number in
+    let k = kept_in c.args.limits.now c.args.words.now c.args.axioms.now c.args.files.now [] in
+    below_more _ _ l.invariant
+    (sym (stray_by_row k l.number (get c.mark_lefts.new.row 0 l.number) (λ some. c.mark_lefts.ensures.bits l.number (omega (arith, c.loop-number-test.true, c.requires.words.props)) some))
+    ∙ (sym c.is_stray.ensures ∙ c.if-is_stray.false))
+
+pub returns : goal.returns
+returns c = λ marks n. by marks n (cases_lt n c.args.limits.now.props)
+  where
+    by : (marks : List Bool) (n : ℕ) → (n < c.args.limits.now.props) ⊎ (c.args.limits.now.props ≤ n) → is_stray (kept_in c.args.limits.now c.args.words.now c.args.axioms.now c.args.files.now marks) n ≡ false
+    by marks n (inl lt) = c.loop-number.invariant n (omega (arith, lt, c.loop-number-test.false))
+    by marks n (inr past) = no_stray_past (kept_in c.args.limits.now c.args.words.now c.args.axioms.now c.args.files.now marks) n (c.requires.words.rest n past)

@@ -1,0 +1,10 @@
+use Rattle.std.proofs.Common.{arith}
+use Rattle.std.proofs.lemmas.List.{length-take-le}
+use Rattle.lis_kept.proofs.InArea.{few_files}
+use Rattle.lis_open.proofs.ZeroRows.{row_read}
+use Rattle.lis_open.proofs.checks.read_row.Goals as goal
+
+pub returns-clause-read : goal.returns-clause-read
+returns-clause-read g c = λ kept fits recalls.
+    row_read c.args.limits.now kept c.args.ext.now c.args.p c.rows_start.result _ c.read_slot.new.buf c.is_row.result c.rows_start.ensures
+    (length-take-le _ _ (let few = few_files c.args.limits.now c.requires.range in omega (arith, few))) (c.in_ok-read_slot.ensures.read kept fits recalls) c.is_row.ensures
