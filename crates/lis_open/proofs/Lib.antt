@@ -25,3 +25,6 @@ mod OneList
 mod Damage
 mod Lefts
 mod ZeroRows
+mod AllRead
+mod Order
+mod Parts
