@@ -20,6 +20,8 @@ mod Told
 mod HeadLinks
 mod WordsTold
 mod WordChains
+mod AxiomsRead
+mod AxiomChecks
 mod Descriptions
 mod OneList
 mod Damage
