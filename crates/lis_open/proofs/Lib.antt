@@ -9,7 +9,6 @@ mod Slots
 mod WordsRead
 mod WordUses
 mod Numbers
-mod Entries
 mod Gathering
 mod FilesRead
 mod Counts
@@ -23,6 +22,7 @@ mod WordChains
 mod AxiomsRead
 mod AxiomChecks
 mod Descriptions
+mod FileFaults
 mod OneList
 mod Damage
 mod Lefts

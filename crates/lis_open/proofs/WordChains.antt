@@ -8,7 +8,7 @@ use Rattle.lis_graph.specs.Graph.{Linked, Chain}
 use Rattle.lis_graph.proofs.Members.{Among, among_from_contains, contains_from_among, among_from_any, any_from_among, among_flat_map, flat_map_among, among_with_more, with_more_new}
 use Rattle.lis_dict.specs.Dict.{IsDict, number_of, word_of}
 use Rattle.lis_dict.proofs.Laws.{number_from_word, word_from_number}
-use Rattle.lis_taxonomy.specs.Taxonomy.{Taxonomy, no_links, has_edge, Entails as Leads}
+use Rattle.lis_taxonomy.specs.Taxonomy.{Taxonomy, no_links, Entails as Leads}
 use Rattle.lis_fields.specs.declared.slots.AxiomSlot.{AxiomSlot}
 use Rattle.lis_fields.specs.declared.slots.AxiomSlot.TheVariants.{Free as FreeAxiom, Pair}
 use Rattle.lis_words.specs.Words.{is_valued, head_bytes}
