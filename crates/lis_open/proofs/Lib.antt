@@ -27,3 +27,6 @@ mod OneList
 mod Damage
 mod Lefts
 mod ZeroRows
+mod AllRead
+mod Order
+mod Parts
