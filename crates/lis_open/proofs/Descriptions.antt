@@ -1,9 +1,9 @@
 -- The numbers that the words of a file lead to are those of the words of its description.
-use Rattle.std.proofs.Common.{◌≡◌, ◌⊎◌, ◌∙◌, refl, sym, ap, subst, inl, inr, ℕ, zero, ◌+◌, ◌<◌, ◌≤◌, Bool, true, Option, Some, None, option_to_list, List, [], ◌∷◌, ◌++◌, length, arith, length-append}
+use Rattle.std.proofs.Common.{◌≡◌, ◌⊎◌, ◌∙◌, refl, sym, ap, subst, inl, inr, ℕ, ◌<◌, ◌≤◌, true, Some, option_to_list, List, [], ◌∷◌, ◌++◌, length, arith}
 use Rattle.std.specs.List.{list_all, flat_map, AllByRecursion}
 use Rattle.std.specs.List.Sorted.{IsStrictlySortedBy}
 use Rattle.std.specs.Ordering.{nat_cmp}
-use Rattle.std.specs.declared.cmp.Ordering.TheVariants.{Less, Equal}
+use Rattle.std.specs.declared.cmp.Ordering.TheVariants.{Less}
 use Rattle.std.specs.Cmp.{nat_cmp_total, tied_itself}
 use Rattle.std.proofs.lemmas.Option.{same_Some}
 use Rattle.lis_graph.proofs.Members.{Among, among_from_any, any_from_among, among_append, among_left, among_flat_map, flat_map_among}
@@ -26,6 +26,7 @@ use Rattle.lis_model.specs.State.{File, is_assignable, up, own_words, file_words
 use Rattle.lis_model.proofs.NoTests.{no_met}
 use Rattle.lis_kept.specs.Kept.{Kept}
 use Rattle.lis_kept.specs.Telling.{words_told, axioms_of}
+use Rattle.lis_kept.proofs.Known.{only_word}
 use Rattle.lis_kept.proofs.OwnLinks.{declared_no_tests}
 use Rattle.lis_store.proofs.Points.{AllApart, length-with_more}
 use Rattle.lis_open.specs.declared.words.Words.{Words}
@@ -38,11 +39,6 @@ use Rattle.lis_open.proofs.WordsTold.{one_of}
 use Rattle.lis_open.proofs.WordChains.{IsNumbered, bare_numbered, up_numbered, up_named}
 
 -- ---- words of numbers
-only_one : (o : Option (List ℕ)) (w : List ℕ) → Among (option_to_list o) w → o ≡ Some w
-only_one None w m = absurd m
-only_one (Some v) w (inl same) = ap Some same
-only_one (Some v) w (inr m) = absurd m
-
 pub told_among : (dict : Dict) (ns : List ℕ) (n : ℕ) (w : List ℕ) → word_of dict n ≡ Some w → Among ns n → Among (words_told dict ns) w
 told_among dict ns n w is m =
     set_of_among (flat_map (λ k. option_to_list (word_of dict k)) ns) w (flat_map_among (λ k. option_to_list (word_of dict k)) ns n w m (one_of (word_of dict n) w is))
@@ -50,7 +46,7 @@ told_among dict ns n w is m =
 pub among_told : (dict : Dict) (ns : List ℕ) (w : List ℕ) → Among (words_told dict ns) w → (n : ℕ) × Among ns n × (word_of dict n ≡ Some w)
 among_told dict ns w m =
     let found = among_flat_map (λ k. option_to_list (word_of dict k)) ns w (among_set_of (flat_map (λ k. option_to_list (word_of dict k)) ns) w m) in
-    (found.0, found.1, only_one (word_of dict found.0) w found.2)
+    (found.0, found.1, only_word (word_of dict found.0) w found.2)
 
 -- they are no more than the numbers
 pub told_le : (dict : Dict) (ns : List ℕ) → length (words_told dict ns) ≤ length ns
@@ -90,7 +86,7 @@ module _ (dict : Dict) (is_dict : IsDict dict) where
       again : (w : List ℕ) → word_of dict n ≡ Some w → Among (words_of ns) w → ⊥
       again w is m =
           let found = among_flat_map (λ k. option_to_list (word_of dict k)) ns w m in
-          let other = only_one (word_of dict found.0) w found.2 in
+          let other = only_word (word_of dict found.0) w found.2 in
           let same : found.0 ≡ n = same_Some found.0 n (sym (number_from_word dict is_dict w found.0 other) ∙ number_from_word dict is_dict w n is) in
           apart.0 (subst (λ k. Among ns k) same found.1)
 

@@ -1,22 +1,44 @@
 -- The files of file slots, read one after another.
-use Rattle.std.proofs.Common.{◌≡◌, ◌∙◌, refl, sym, ap, ℕ, ◌<◌, ◌==◌, nat_lt, Bool, true, false, not, ◌&&◌, is_some, Option, Some, None, List, length, IsTrue, arith}
+use Rattle.std.proofs.Common.{◌≡◌, ◌⊎◌, ◌∙◌, refl, sym, ap, subst, inl, inr, ℕ, ◌+◌, ◌<◌, ◌≤◌, ◌==◌, nat_lt, nat_le, Bool, true, false, cond, not, ◌&&◌, ◌||◌, is_some, Option, Some, None, List, [], length, replicate, get_or, IsTrue, arith, eq-eqb, length-set, get_or-set_same, get_or-set_other}
+use Rattle.std.specs.Option.{IfSome}
 use Rattle.std.specs.List.{list_all}
-use Rattle.std.proofs.lemmas.Bool.{and_parts, lt-ltb}
-use Rattle.lis_content.specs.Content.{are_free, are_distinct}
+use Rattle.std.proofs.lemmas.Bool.{and_parts, and_from, both_ways, or_cases, or_left, or_right, cases_eq, cases_lt, ne_eqb, lt-ltb, leb-true}
+use Rattle.std.proofs.lemmas.List.{length-replicate, get_or-replicate, get_or_past}
+use Rattle.std.proofs.lemmas.Option.{same_Some}
+use Rattle.lis_ports.specs.Meaning.{Meaning}
+use Rattle.lis_journal.specs.Journal.{Held}
+use Rattle.lis_journal.specs.Images.{Fits}
+use Rattle.lis_slots.specs.Slots.{slot}
+use Rattle.lis_bits.specs.Rows.{Rows, HasShape}
+use Rattle.lis_blockmap.specs.Bitmap.{is_taken}
+use Rattle.lis_content.specs.Content.{are_free, has_number, are_distinct}
+use Rattle.lis_content.proofs.Numbers.{length-marked, not_true, are_below, below_from_free}
 use Rattle.lis_dict.specs.Dict.{word_of}
 use Rattle.lis_dict.proofs.Laws.{number_below, number_from_word}
-use Rattle.lis_catalog.specs.Catalog.{slot_of}
+use Rattle.lis_catalog.specs.Catalog.{Catalog, slot_of, rec_at}
+use Rattle.lis_catalog.proofs.Laws.{rec_at-with_filed}
+use Rattle.lis_ext.specs.Ext.{set_of}
 use Rattle.lis_fields.specs.Records.{FileRecord}
 use Rattle.lis_fields.specs.Layouts as layouts
-use Rattle.lis_fields.specs.Layouts.{is_record, are_short}
+use Rattle.lis_fields.specs.Layouts.{file_bytes, is_file, is_record, are_short}
+use Rattle.lis_fields.specs.declared.slots.FileSlot.{FileSlot}
+use Rattle.lis_fields.specs.declared.slots.FileSlot.TheVariants.{Free as FreeFile, Used}
 use Rattle.lis_fields.proofs.Parts.{record_tests}
-use Rattle.lis_laws.proofs.Counts.{all_weaker}
+use Rattle.lis_laws.proofs.Counts.{all_among, all_weaker}
+use Rattle.lis_model.specs.declared.limits.Limits.{Limits}
 use Rattle.lis_model.specs.State.{blocks_needed}
+use Rattle.lis_kept.specs.Kept.{file_by, record_at}
+use Rattle.lis_kept.specs.Areas.{file_slots}
+use Rattle.lis_kept.specs.Sound.{is_sound_record}
 use Rattle.lis_open.specs.declared.words.Words.{Words}
+use Rattle.lis_open.specs.declared.axioms.Axioms.{Axioms}
 use Rattle.lis_open.specs.declared.files.Files.{Files}
+use Rattle.lis_open.specs.declared.blocks.LastBlock.{LastBlock}
+use Rattle.lis_open.specs.Reading.{OnlyReads, Recalls, IsReadAs}
 use Rattle.lis_open.specs.ReadWords.{AreWords}
-use Rattle.lis_open.specs.ReadFiles.{is_assignable_by, is_assignable_number, may_file}
-use Rattle.lis_open.proofs.Numbers.{same_distinct}
+use Rattle.lis_open.specs.ReadFiles.{no_files, described, described_by, is_assignable_by, is_assignable_number, may_file, may_take_record, may_take_file, TakesRecord, TakesFile, AreFirstFiles, FilesAreSpelled}
+use Rattle.lis_kept.proofs.Filing.{among_from_number, same_distinct}
+use Rattle.lis_open.proofs.Numbers.{is_taken-marked}
 
 -- ---- one record
 pub record_blocks : (rec : FileRecord) → IsTrue (is_record rec) → are_distinct rec.blocks ≡ true
@@ -55,3 +77,188 @@ number_within words n are may = by (word_of words.dict n) refl (assignable_some 
 pub tags_below : (words : Words) (files : Files) (rec : FileRecord) (props : ℕ) → AreWords words → props ≡ words.dict.props → may_file words files rec ≡ true → list_all (λ n. nat_lt n props) rec.tags ≡ true
 tags_below words files rec props are same may =
     all_weaker (is_assignable_number words) (λ n. nat_lt n props) rec.tags (λ n m is. lt-ltb n props (let below = number_within words n are is in omega (arith, below, same))) (tests_of words files rec may).given
+
+-- ---- no file yet
+nothing_at : {X : Type 0} (n k : ℕ) (x : X) → get_or (replicate n x) k x ≡ x
+nothing_at n k x = by (cases_lt k n)
+  where
+    by : (k < n) ⊎ (n ≤ k) → get_or (replicate n x) k x ≡ x
+    by (inl lt) = get_or-replicate n k x x lt
+    by (inr past) = get_or_past (replicate n x) k x (omega (arith, past, length-replicate n x))
+
+pub no_files_yet : (limits : Limits) (words : Words) (axioms : Axioms) → AreFirstFiles limits words axioms (no_files limits) 0
+unfolding no_files
+no_files_yet limits words axioms = record {
+  slots = refl;
+  catalog = record { rising = refl; forms = refl; below = refl; apart = refl; few = omega arith };
+  records = λ slot rec is. absurd cc;
+  given = λ slot rec is. absurd cc;
+  rest = λ n le. refl;
+  blocks = length-replicate limits.blocks false;
+  taken = λ slot rec n is. absurd cc;
+  in_use = λ n is. absurd (both_ways (get_or (replicate limits.blocks false) n false) (nothing_at limits.blocks n false) is);
+  apart = λ slot other rec more n is. absurd cc;
+  props = refl;
+  count = length-replicate limits.files [];
+  sets = λ slot. nothing_at limits.files slot [];
+  short = λ slot. let none : length {A = ℕ} (get_or (replicate limits.files []) slot []) ≡ 0 = ap (length {A = ℕ}) (nothing_at limits.files slot []) in omega (arith, none);
+  settled = refl;
+}
+
+-- ---- one file more
+absent : (o : Option ℕ) → not (is_some o) ≡ true → o ≡ None
+absent None new = refl
+absent (Some n) new = absurd cc
+
+module _ (limits : Limits) (words : Words) (axioms : Axioms) (files next : Files) (number : ℕ) (rec : FileRecord) (first : AreFirstFiles limits words axioms files number) (lt : number < limits.files)
+    (form : is_record rec ≡ true) (may : may_take_record words axioms.taxonomy files rec ≡ true) (takes : TakesRecord axioms.taxonomy number rec files next) where
+  parts : (may_file words files rec ≡ true) × (nat_le (length (described axioms.taxonomy rec.tags)) 128 ≡ true)
+  parts = and_parts (may_file words files rec) (nat_le (length (described axioms.taxonomy rec.tags)) 128) may
+
+  tests : MayFile words files rec
+  tests = tests_of words files rec parts.0
+
+  free_slot : rec_at files.catalog number ≡ None
+  free_slot = first.rest number (omega arith)
+
+  found_at : (n : ℕ) → rec_at next.catalog n ≡ cond (number == n) (Some rec) (rec_at files.catalog n)
+  found_at n = ap (λ (c : Catalog). rec_at c n) takes.catalog ∙ rec_at-with_filed files.catalog number rec n (absent (slot_of files.catalog rec.name) tests.new) free_slot
+
+  found_new : rec_at next.catalog number ≡ Some rec
+  found_new = found_at number ∙ ap (λ b. cond b (Some rec) (rec_at files.catalog number)) (eq-eqb number number refl)
+
+  found_old : (n : ℕ) → (n ≡ number → ⊥) → rec_at next.catalog n ≡ rec_at files.catalog n
+  found_old n differ = found_at n ∙ ap (λ b. cond b (Some rec) (rec_at files.catalog n)) (ne_eqb number n (λ e. differ (sym e)))
+
+  -- the file of a slot is the new one, or an old one
+  either : (P : ℕ → FileRecord → Type 0) → P number rec → ((n : ℕ) (r : FileRecord) → rec_at files.catalog n ≡ Some r → P n r) → (n : ℕ) (r : FileRecord) → rec_at next.catalog n ≡ Some r → P n r
+  either P new old n r is = by (cases_eq n number)
+    where
+      by : (n ≡ number) ⊎ (n ≡ number → ⊥) → P n r
+      by (inl same) =
+          let one = same_Some rec r (sym found_new ∙ (ap (rec_at next.catalog) (sym same) ∙ is)) in
+          subst (λ k. P k r) (sym same) (subst (λ (x : FileRecord). P number x) one new)
+      by (inr differ) = old n r (sym (found_old n differ) ∙ is)
+
+  -- an old file stays
+  still_there : (n : ℕ) (r : FileRecord) → rec_at files.catalog n ≡ Some r → rec_at next.catalog n ≡ Some r
+  still_there n r is = found_old n differs ∙ is
+    where
+      differs : n ≡ number → ⊥
+      differs same = let none = sym free_slot ∙ (ap (rec_at files.catalog) (sym same) ∙ is) in cc
+
+  below : are_below limits.blocks rec.blocks ≡ true
+  below = ap (λ m. are_below m rec.blocks) (sym first.blocks) ∙ below_from_free files.map rec.blocks tests.free
+
+  sound : is_sound_record words.dict limits.blocks rec ≡ true
+  sound =
+      let named = list_all (λ n. is_some (word_of words.dict n)) rec.tags in
+      and_from (is_record rec && named) (list_all (λ n. nat_lt n limits.blocks) rec.blocks)
+      (and_from (is_record rec) named form (all_weaker (is_assignable_number words) (λ n. is_some (word_of words.dict n)) rec.tags (λ n m is. assignable_some words (word_of words.dict n) is) tests.given)) below
+
+  taken_is : (n : ℕ) → is_taken next.map n ≡ (has_number rec.blocks n || is_taken files.map n)
+  taken_is n = ap (λ (m : List Bool). is_taken m n) takes.map ∙ is_taken-marked files.map rec.blocks n (below_from_free files.map rec.blocks tests.free)
+
+  -- a new data block is that of no old file
+  not_both : (n slot : ℕ) (r : FileRecord) → has_number rec.blocks n ≡ true → rec_at files.catalog slot ≡ Some r → has_number r.blocks n ≡ true → ⊥
+  not_both n slot r here is there =
+      let free = (and_parts (nat_lt n (length files.map)) (not (is_taken files.map n)) (all_among (λ k. nat_lt k (length files.map) && not (is_taken files.map k)) rec.blocks n tests.free (among_from_number rec.blocks n here))).1 in
+      both_ways (is_taken files.map n) (not_true (is_taken files.map n) free) (first.taken slot r n is there)
+
+  set_new : set_of next.ext number ≡ described axioms.taxonomy rec.tags
+  set_new = ap (λ (sets : List (List ℕ)). get_or sets number []) takes.sets ∙ get_or-set_same files.ext.sets number (described axioms.taxonomy rec.tags) [] (omega (arith, lt, first.count))
+
+  set_old : (n : ℕ) → (n ≡ number → ⊥) → set_of next.ext n ≡ set_of files.ext n
+  set_old n differ = ap (λ (sets : List (List ℕ)). get_or sets n []) takes.sets ∙ get_or-set_other files.ext.sets number n (described axioms.taxonomy rec.tags) [] differ
+
+  sets_are : (n : ℕ) → (n ≡ number) ⊎ (n ≡ number → ⊥) → set_of next.ext n ≡ described_by axioms.taxonomy (rec_at next.catalog n)
+  sets_are n (inl same) =
+      ap (set_of next.ext) same ∙ (set_new ∙ (ap (described_by axioms.taxonomy) (sym found_new) ∙ ap (λ k. described_by axioms.taxonomy (rec_at next.catalog k)) (sym same)))
+  sets_are n (inr differ) = set_old n differ ∙ (first.sets n ∙ ap (described_by axioms.taxonomy) (sym (found_old n differ)))
+
+  short_at : (n : ℕ) → (n ≡ number) ⊎ (n ≡ number → ⊥) → length (set_of next.ext n) ≤ 128
+  short_at n (inl same) =
+      let few = leb-true (length (described axioms.taxonomy rec.tags)) 128 parts.1 in
+      omega (arith, few, ap (length {A = ℕ}) (ap (set_of next.ext) same ∙ set_new))
+  short_at n (inr differ) = let few = first.short n in omega (arith, few, ap (length {A = ℕ}) (set_old n differ))
+
+  pub files_more : AreFirstFiles limits words axioms next (number + 1)
+  files_more = record {
+    slots = ap (λ (c : Catalog). c.files) takes.catalog ∙ first.slots;
+    catalog = takes.kept;
+    records = either (λ slot r. IsTrue (is_sound_record words.dict limits.blocks r)) sound first.records;
+    given = either (λ slot r. IsTrue (list_all (is_assignable_number words) r.tags)) tests.given first.given;
+    rest = λ n le. found_old n (λ e. omega arith) ∙ first.rest n (omega arith);
+    blocks = ap (length {A = Bool}) takes.map ∙ (length-marked files.map rec.blocks ∙ first.blocks);
+    taken = λ slot r n is has. taken_is n ∙
+        either (λ k x. has_number x.blocks n ≡ true → (has_number rec.blocks n || is_taken files.map n) ≡ true) (λ here. or_left (has_number rec.blocks n) (is_taken files.map n) here)
+        (λ k x there here. or_right (has_number rec.blocks n) (is_taken files.map n) (first.taken k x n there here)) slot r is has;
+    in_use = λ n is. used n (or_cases (has_number rec.blocks n) (is_taken files.map n) (sym (taken_is n) ∙ is));
+    apart = λ slot other r more n is_r is_more.
+        either (λ k x. has_number x.blocks n ≡ true → has_number more.blocks n ≡ true → k ≡ other)
+        (λ here. either (λ k x. has_number x.blocks n ≡ true → number ≡ k) (λ there. refl) (λ k x is there. absurd (not_both n k x here is there)) other more is_more)
+        (λ k x is here. either (λ j y. has_number y.blocks n ≡ true → k ≡ j) (λ there. absurd (not_both n k x there is here)) (λ j y is_y there. first.apart k j x y n is is_y here there) other more is_more)
+        slot r is_r;
+    props = takes.props ∙ first.props;
+    count = ap (length {A = List ℕ}) takes.sets ∙ (length-set files.ext.sets number (described axioms.taxonomy rec.tags) ∙ first.count);
+    sets = λ n. sets_are n (cases_eq n number);
+    short = λ n. short_at n (cases_eq n number);
+    settled = takes.settled;
+  }
+    where
+      used : (n : ℕ) → (has_number rec.blocks n ≡ true) ⊎ (is_taken files.map n ≡ true) → (slot : ℕ) × (r : FileRecord) × (rec_at next.catalog slot ≡ Some r) × (has_number r.blocks n ≡ true)
+      used n (inl here) = (number, rec, found_new, here)
+      used n (inr old) = let found = first.in_use n old in (found.0, found.1, still_there found.0 found.1 found.2, found.3)
+
+  spelled_more : (at : ℕ → List ℕ) → FilesAreSpelled limits at files number → slot (file_slots limits) at number ≡ file_bytes (Used rec) → FilesAreSpelled limits at next (number + 1)
+  spelled_more at spelled here n less = by (cases_eq n number)
+    where
+      by : (n ≡ number) ⊎ (n ≡ number → ⊥) → slot (file_slots limits) at n ≡ file_bytes (record_at next.catalog n)
+      by (inl same) = subst (λ k. slot (file_slots limits) at k ≡ file_bytes (record_at next.catalog k)) (sym same) (here ∙ ap (λ o. file_bytes (file_by o)) (sym found_new))
+      by (inr differ) = spelled n (omega arith) ∙ ap (λ o. file_bytes (file_by o)) (sym (found_old n differ))
+
+-- ---- one slot more
+module _ (limits : Limits) (words : Words) (axioms : Axioms) (files : Files) (number : ℕ) (first : AreFirstFiles limits words axioms files number) (lt : number < limits.files) where
+  pub files_on : (found : Option FileSlot) (next : Files) → IfSome found (λ file. IsTrue (is_file file)) → may_take_file words axioms.taxonomy files found ≡ true → TakesFile axioms.taxonomy number found files next
+      → AreFirstFiles limits words axioms next (number + 1)
+  files_on None next form may takes = absurd takes
+  files_on (Some FreeFile) next form may takes = subst (λ (f : Files). AreFirstFiles limits words axioms f (number + 1)) (sym takes) (record {
+    slots = first.slots;
+    catalog = first.catalog;
+    records = first.records;
+    given = first.given;
+    rest = λ n le. first.rest n (omega arith);
+    blocks = first.blocks;
+    taken = first.taken;
+    in_use = first.in_use;
+    apart = first.apart;
+    props = first.props;
+    count = first.count;
+    sets = first.sets;
+    short = first.short;
+    settled = first.settled;
+  })
+  files_on (Some (Used rec)) next form may takes = files_more limits words axioms files next number rec first lt form may takes
+
+  pub spelled_on : (at : ℕ → List ℕ) → FilesAreSpelled limits at files number → (found : Option FileSlot) (next : Files) → IfSome found (λ file. IsTrue (is_file file))
+      → may_take_file words axioms.taxonomy files found ≡ true → TakesFile axioms.taxonomy number found files next → IsReadAs file_bytes is_file (file_slots limits) at number found → FilesAreSpelled limits at next (number + 1)
+  spelled_on at spelled None next form may takes read = absurd takes
+  spelled_on at spelled (Some FreeFile) next form may takes read = subst (λ (f : Files). FilesAreSpelled limits at f (number + 1)) (sym takes) (λ n less. by n less (cases_eq n number))
+    where
+      here : slot (file_slots limits) at number ≡ file_bytes (record_at files.catalog number)
+      here = read.bytes ∙ ap (λ o. file_bytes (file_by o)) (sym (first.rest number (omega arith)))
+
+      by : (n : ℕ) → n < number + 1 → (n ≡ number) ⊎ (n ≡ number → ⊥) → slot (file_slots limits) at n ≡ file_bytes (record_at files.catalog n)
+      by n less (inl same) = subst (λ k. slot (file_slots limits) at k ≡ file_bytes (record_at files.catalog k)) (sym same) here
+      by n less (inr differ) = spelled n (omega arith)
+  spelled_on at spelled (Some (Used rec)) next form may takes read = spelled_more limits words axioms files next number rec first lt form may takes at spelled read.bytes
+
+-- ---- the loop
+-- the slots below the end were read, by runs that only read
+pub record FilesTurn (journal : Held) (limits : Limits) (words : Words) (axioms : Axioms) (old now : Meaning) (last_old last : LastBlock) (files : Files) (row : Rows) (end : ℕ) : Type 0 where
+  pub reads : OnlyReads old now
+  pub faults : now.disk_faults ≡ old.disk_faults
+  pub shape : HasShape row 2 limits.props
+  pub first : AreFirstFiles limits words axioms files end
+  pub recalls : (kept : ℕ → List ℕ) → Fits journal old kept → Recalls last_old kept → Recalls last kept
+  pub spelled : (kept : ℕ → List ℕ) → Fits journal old kept → Recalls last_old kept → FilesAreSpelled limits kept files end

@@ -2,7 +2,7 @@
 use Rattle.std.proofs.Common.{◌≡◌, ◌⊎◌, ◌∙◌, refl, sym, ap, ap₂, subst, inl, inr, ℕ, ◌+◌, ◌<◌, ◌==◌, nat_lt, if◌then◌else◌, Bool, true, false, ◌&&◌, ◌||◌, Option, Some, None, List, arith, eq-eqb}
 use Rattle.std.specs.Option.{IfSome}
 use Rattle.std.specs.FinSet as set
-use Rattle.std.proofs.lemmas.Bool.{and_parts, and_from, both_ways, cases_eq, cases_lt, ne_eqb, eqb-true, lt-ltb, ltb-true, false_from_ne_true}
+use Rattle.std.proofs.lemmas.Bool.{and_parts, and_from, both_ways, cases_eq, ne_eqb, eqb-true, lt-ltb, ltb-true, false_from_ne_true}
 use Rattle.lis_dict.specs.Dict.{Dict, IsDict, number_of, word_of}
 use Rattle.lis_dict.proofs.Laws.{word_from_number, number_from_word, number_below}
 use Rattle.lis_taxonomy.specs.Taxonomy.{Taxonomy, pair_cmp, has_edge, empty_taxonomy}
@@ -100,7 +100,7 @@ module _ (d : Dict) (kept : IsDict d) where
           let same = (same_word_decides (head_bytes u) v).0 (and_parts (is_valued u) (same_word (head_bytes u) v) h).1 in
           both_ways (is_valued v) (subst (λ w. is_valued w ≡ false) same (head_not_valued u)) valued
 
-last_false : (a : Bool) → (a && false) ≡ false
+pub last_false : (a : Bool) → (a && false) ≡ false
 last_false true = refl
 last_false false = refl
 
@@ -122,9 +122,6 @@ module _ (words : Words) (kept : IsDict words.dict) (end : ℕ) (t : Taxonomy) (
       props_stay : (o : Option ℕ) → (with_edge_to t end o).props ≡ words.dict.props
       props_stay None = linked.props
       props_stay (Some h) = linked.props
-
-      head : ℕ → ℕ → Bool
-      head p q = is_head_by (word_of words.dict p) (word_of words.dict q)
 
       by : (p q : ℕ) → (p ≡ end) ⊎ (p ≡ end → ⊥) → (((p == end) && is_number q (head_by words.dict (word_of words.dict end))) || has_edge t p q) ≡ (nat_lt p (end + 1) && is_head_by (word_of words.dict p) (word_of words.dict q))
       by p q (inl same) = rw same (

@@ -207,7 +207,7 @@ module _ (limits : Limits) (words : Words) (axioms : Axioms) (files : Files) (ma
   each_used n some = used_from (is_some (word_of words.dict n)) (is_used k n) (read.used n) some
 
   -- a number of a description has a word
-  named : (n slot : ℕ) → has files.ext n slot ≡ true → IsSome (word_of words.dict n)
+  pub named : (n slot : ℕ) → has files.ext n slot ≡ true → IsSome (word_of words.dict n)
   named n slot h =
       let from = given_from limits words axioms files limits.files read.files_are slot n h in
       by from (leads_end limits words axioms dict _ read.axioms_are from.leads.0 from.tag n from.leads.1)

@@ -9,7 +9,6 @@ mod Slots
 mod WordsRead
 mod WordUses
 mod Numbers
-mod Entries
 mod Gathering
 mod FilesRead
 mod Counts
@@ -20,8 +19,14 @@ mod Told
 mod HeadLinks
 mod WordsTold
 mod WordChains
+mod AxiomsRead
+mod AxiomChecks
 mod Descriptions
+mod FileFaults
 mod OneList
 mod Damage
 mod Lefts
 mod ZeroRows
+mod AllRead
+mod Order
+mod Parts

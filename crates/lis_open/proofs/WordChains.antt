@@ -8,7 +8,7 @@ use Rattle.lis_graph.specs.Graph.{Linked, Chain}
 use Rattle.lis_graph.proofs.Members.{Among, among_from_contains, contains_from_among, among_from_any, any_from_among, among_flat_map, flat_map_among, among_with_more, with_more_new}
 use Rattle.lis_dict.specs.Dict.{IsDict, number_of, word_of}
 use Rattle.lis_dict.proofs.Laws.{number_from_word, word_from_number}
-use Rattle.lis_taxonomy.specs.Taxonomy.{Taxonomy, no_links, has_edge, Entails as Leads}
+use Rattle.lis_taxonomy.specs.Taxonomy.{Taxonomy, no_links, Entails as Leads}
 use Rattle.lis_fields.specs.declared.slots.AxiomSlot.{AxiomSlot}
 use Rattle.lis_fields.specs.declared.slots.AxiomSlot.TheVariants.{Free as FreeAxiom, Pair}
 use Rattle.lis_words.specs.Words.{is_valued, head_bytes}
@@ -54,7 +54,7 @@ module _ (limits : Limits) (words : Words) (dict : IsDict words.dict) (axioms : 
   one_number m n w is_m is_n = same_Some m n (sym (number_from_word words.dict dict w m is_m) ∙ number_from_word words.dict dict w n is_n)
 
   -- ---- axioms
-  pair_among : (slot p q : ℕ) (l r : List ℕ) → slice_get axioms slot ≡ Some (Pair p q) → word_of words.dict p ≡ Some l → word_of words.dict q ≡ Some r → Among (axioms_of k) (l, r)
+  pub pair_among : (slot p q : ℕ) (l r : List ℕ) → slice_get axioms slot ≡ Some (Pair p q) → word_of words.dict p ≡ Some l → word_of words.dict q ≡ Some r → Among (axioms_of k) (l, r)
   pair_among slot p q l r at is_l is_r =
       with_more_new pair_cmp pair_exact [] (pairs_told words.dict axioms) (l, r)
       (flat_map_among (pair_told words.dict) axioms (Pair p q) (l, r) (among_place axioms slot (Pair p q) at) (here (word_of words.dict p) (word_of words.dict q) is_l is_r))

@@ -1,12 +1,10 @@
 -- What words may be used for, by what is read of them.
-use Rattle.std.proofs.Common.{◌≡◌, ◌∙◌, sym, ap, refl, ℕ, ◌≤◌, ◌<◌, Bool, true, false, not, ◌&&◌, ◌||◌, Option, Some, None, List, [], arith}
-use Rattle.std.proofs.lemmas.Bool.{and_parts}
+use Rattle.std.proofs.Common.{◌≡◌, ◌∙◌, sym, ap, refl, ℕ, ◌≤◌, Bool, true, false, ◌&&◌, ◌||◌, Option, Some, None, List, [], arith}
 use Rattle.lis_dict.specs.Dict.{Dict, IsDict, number_of, word_of}
 use Rattle.lis_dict.proofs.Laws.{number_below, number_from_word}
 use Rattle.lis_words.specs.Words.{has_word, is_plain_word, is_head, is_valued, is_test, is_word, is_built_in, head_bytes}
 use Rattle.lis_model.specs.declared.limits.Limits.{Limits}
 use Rattle.lis_model.specs.State.{is_assignable, is_nameable, is_known_head}
-use Rattle.lis_kept.specs.Kept.{Kept}
 use Rattle.lis_kept.specs.Telling.{bit_of, declared_of, is_declared}
 use Rattle.lis_kept.proofs.WordMore.{declared_there, there_declared}
 use Rattle.lis_kept.proofs.Filing.{same_tests}
@@ -96,14 +94,14 @@ pub nameable_by_head : (declared : List (List ℕ)) (word head : List ℕ) (b : 
 nameable_by_head declared word head b valued is told =
     told ∙ (ap (is_known_head declared) is
     ∙ valued_case (is_plain_word word) (is_test word) (has_word declared word) (is_head word) (has_word declared word || is_built_in word) (is_valued word) (is_known_head declared (head_bytes word))
-      (valued_not_plain word valued) (valued_not_test word valued) (valued_not_head word valued) valued)
+    (valued_not_plain word valued) (valued_not_test word valued) (valued_not_head word valued) valued)
 
 -- a head where it is known
 pub nameable_head : (declared : List (List ℕ)) (word : List ℕ) (b : Bool) → is_head word ≡ true → b ≡ is_known_head declared word → b ≡ is_nameable declared word
 nameable_head declared word b head told =
     told
     ∙ head_case (is_plain_word word) (is_test word) (has_word declared word) (is_head word) (has_word declared word || is_built_in word) (is_valued word) (is_known_head declared (head_bytes word))
-      (head_not_plain word head) (head_not_test word head) (bare_head_not_valued word head)
+    (head_not_plain word head) (head_not_test word head) (bare_head_not_valued word head)
 
 -- of the words of formulas, the others are plain
 plain_else : (p t h v : Bool) → (p || h || v) ≡ true → h ≡ false → v ≡ false → (p || t) ≡ true
@@ -117,7 +115,7 @@ pub nameable_declared : (declared : List (List ℕ)) (word : List ℕ) (b : Bool
 nameable_declared declared word b form head valued told =
     told
     ∙ plain_case (is_plain_word word) (is_test word) (has_word declared word) (is_head word) (has_word declared word || is_built_in word) (is_valued word) (is_known_head declared (head_bytes word))
-      (plain_else (is_plain_word word) (is_test word) (is_head word) (is_valued word) form head valued) head valued
+    (plain_else (is_plain_word word) (is_test word) (is_head word) (is_valued word) form head valued) head valued
 
 pub not_valued : (word : List ℕ) → (is_valued word ≡ true → ◌≡◌ {A = Bool} false true) → is_valued word ≡ false
 not_valued word gives = by (is_valued word) refl

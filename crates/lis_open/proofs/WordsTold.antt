@@ -1,7 +1,7 @@
 -- The property slots that words spell, and what they tell.
-use Rattle.std.proofs.Common.{◌≡◌, ◌⊎◌, ◌∙◌, refl, sym, ap, ap₂, subst, inl, inr, ℕ, ◌<◌, ◌≤◌, Bool, true, false, Option, Some, None, option_to_list, List, [], ◌∷◌, map, IsTrue, arith}
+use Rattle.std.proofs.Common.{◌≡◌, ◌⊎◌, ◌∙◌, refl, sym, ap, ap₂, subst, inl, inr, ℕ, ◌<◌, ◌≤◌, Bool, true, false, Option, Some, None, option_to_list, List, [], map, IsTrue, arith}
 use Rattle.std.specs.BTreeSet.{insert_key}
-use Rattle.std.specs.List.{fold, flat_map, range_with_len}
+use Rattle.std.specs.List.{fold, range_with_len}
 use Rattle.std.proofs.lemmas.Bool.{cases_lt}
 use Rattle.std.proofs.lemmas.List.{get_or_past}
 use Rattle.std.proofs.lemmas.List.FromFn.{length-map-range_with_len, get_or-map-range_with_len}
@@ -11,7 +11,6 @@ use Rattle.lis_blockmap.specs.Bitmap.{is_taken}
 use Rattle.lis_dict.specs.Dict.{number_of, word_of}
 use Rattle.lis_dict.proofs.Laws.{number_from_word, word_from_number, number_below}
 use Rattle.lis_catalog.specs.Catalog.{Filed}
-use Rattle.lis_fields.specs.Records.{FileRecord}
 use Rattle.lis_fields.specs.Layouts.{prop_bytes, is_prop}
 use Rattle.lis_fields.specs.declared.slots.PropSlot.{PropSlot}
 use Rattle.lis_fields.specs.declared.slots.PropSlot.TheVariants.{Free as FreeProp, Declared}
@@ -25,9 +24,10 @@ use Rattle.lis_model.specs.Sets.{set_of}
 use Rattle.lis_model.specs.State.{File, pair_cmp}
 use Rattle.lis_kept.specs.Kept.{Kept, property_by, property_at}
 use Rattle.lis_kept.specs.Areas.{property_slots}
-use Rattle.lis_kept.specs.Telling.{bit_of, pair_by, pair_told, pairs_told, axioms_of, bytes_told, file_told}
+use Rattle.lis_kept.specs.Telling.{bit_of, pair_by, pair_told, axioms_of, bytes_told, file_told}
+use Rattle.lis_kept.proofs.Known.{only_word}
 use Rattle.lis_kept.proofs.WordMore.{declared_there, there_declared, sorted_declared}
-use Rattle.lis_store.specs.Stands.{word_in, declared_in, words_in, all_declared, word_at, pair_in, pairs_in, file_by}
+use Rattle.lis_store.specs.Stands.{word_in, declared_in, words_in, all_declared, word_at, pair_in, file_by}
 use Rattle.lis_store.proofs.SlotOrder.{given_at, flat_map_same}
 use Rattle.lis_open.specs.declared.words.Words.{Words}
 use Rattle.lis_open.specs.Checks.{AreProperties, declared_by, axioms_by}
@@ -48,12 +48,6 @@ declared_one None b w m = absurd m
 declared_one (Some v) true w (inl same) = (ap Some same, refl)
 declared_one (Some v) true w (inr m) = absurd m
 declared_one (Some v) false w m = absurd m
-
--- the only word of an option
-only_one : (o : Option (List ℕ)) (w : List ℕ) → Among (option_to_list o) w → o ≡ Some w
-only_one None w m = absurd m
-only_one (Some v) w (inl same) = ap Some same
-only_one (Some v) w (inr m) = absurd m
 
 pub one_of : (o : Option (List ℕ)) (w : List ℕ) → o ≡ Some w → Among (option_to_list o) w
 one_of o w is = subst (λ p. Among (option_to_list p) w) (sym is) (inl refl)
@@ -124,7 +118,7 @@ module _ (limits : Limits) (words : Words) (are : AreWords words) (same : words.
   word_told w h =
       let found = among_flat_map (λ x. option_to_list (word_in x)) told w (among_from_has_word (words_in told) w h) in
       let n = among_map property (range_with_len 0 limits.props) found.0 found.1 in
-      (n.0, sym (word_by (word_of words.dict n.0) (is_taken words.declared n.0)) ∙ (ap word_in n.2 ∙ only_one (word_in found.0) w found.2))
+      (n.0, sym (word_by (word_of words.dict n.0) (is_taken words.declared n.0)) ∙ (ap word_in n.2 ∙ only_word (word_in found.0) w found.2))
 
   -- ---- axioms
   pair_is : (a : AxiomSlot) → pair_in told a ≡ pair_told words.dict a

@@ -1,18 +1,18 @@
 -- What is read of files. No public clause cites this module.
-use Rattle.std.specs.Prelude.{◌≡◌, ℕ, ◌≤◌, ◌<◌, nat_le, Bool, true, false, not, ◌&&◌, is_some, Option, Some, None, List, [], length, replicate, slice_set, IsTrue, MatchOption}
+use Rattle.std.specs.Prelude.{◌≡◌, ℕ, ◌≤◌, ◌<◌, nat_le, Bool, true, false, not, ◌&&◌, is_some, Option, Some, None, List, [], length, replicate, slice_set, IsTrue}
 use Rattle.std.specs.List.{list_all, list_any, Contains}
 use Rattle.lis_slots.specs.Slots.{slot}
 use Rattle.lis_blockmap.specs.Bitmap.{is_taken}
 use Rattle.lis_content.specs.Content.{marked, are_free, has_number}
 use Rattle.lis_dict.specs.Dict.{word_of}
 use Rattle.lis_catalog.specs.Catalog.{Filed, IsCatalog, slot_of, rec_at, with_filed}
-use Rattle.lis_ext.specs.Ext.{Ext, set_of, empty_ext}
+use Rattle.lis_ext.specs.Ext.{set_of, empty_ext}
 use Rattle.lis_ext.specs.Numbers.{numbers_where}
 use Rattle.lis_taxonomy.specs.Taxonomy.{Taxonomy, entails}
 use Rattle.lis_fields.specs.Records.{FileRecord}
 use Rattle.lis_fields.specs.declared.slots.FileSlot.{FileSlot}
 use Rattle.lis_fields.specs.declared.slots.FileSlot.TheVariants.{Free as FreeFile, Used}
-use Rattle.lis_fields.specs.Layouts.{file_bytes, is_record}
+use Rattle.lis_fields.specs.Layouts.{file_bytes}
 use Rattle.lis_model.specs.declared.limits.Limits.{Limits}
 use Rattle.lis_model.specs.State.{file_words, is_assignable}
 use Rattle.lis_kept.specs.Kept.{record_at}

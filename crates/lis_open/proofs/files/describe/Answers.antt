@@ -1,5 +1,4 @@
 use Rattle.std.proofs.Common.{◌∙◌, ap}
-use Rattle.std.specs.Option.{option_map}
 use Rattle.lis_fields.specs.Records.{FileRecord}
 use Rattle.lis_open.proofs.Gathering.{listed_are}
 use Rattle.lis_open.proofs.files.describe.Goals as goal

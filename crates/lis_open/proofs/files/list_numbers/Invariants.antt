@@ -1,4 +1,4 @@
-use Rattle.std.proofs.Common.{◌≡◌, ◌≤◌, ◌-◌, ◌*◌, ◌++◌, length}
+use Rattle.std.proofs.Common.{◌≡◌, ◌≤◌, ◌-◌, ◌++◌, length}
 use Rattle.lis_bits.specs.Rows.{get}
 use Rattle.lis_ext.specs.Numbers.{numbers_where}
 use Rattle.lis_ext.proofs.Numbers.{numbers_from}
