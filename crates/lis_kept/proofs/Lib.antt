@@ -20,3 +20,11 @@ pub mod Forgotten
 pub mod Used
 pub mod Emptied
 pub mod ToldInUse
+pub mod Numbered
+pub mod Entailed
+pub mod PlainWords
+pub mod AxiomSlots
+pub mod AxiomMore
+pub mod AxiomLess
+pub mod WordUndeclared
+pub mod Widened

@@ -10,3 +10,6 @@ pub mod Inside
 pub mod Edges
 pub mod Forgetting
 pub mod Passes
+pub mod Linking
+pub mod Undeclaring
+pub mod Widening

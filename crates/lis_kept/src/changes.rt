@@ -17,6 +17,8 @@ ghost use Rattle.lis_kept.specs.Areas.Area.{Files, Rows};
 ghost use Rattle.lis_kept.specs.Sound.{BlocksAreTaken};
 ghost use Rattle.lis_kept.specs.Changes.{Describes, Drops, Adds};
 
+mod widening;
+
 use crate::parts::Parts;
 use crate::places::{bitmap_start, data_start, files_start, rows_start};
 use crate::spelling::FILES_PER_BLOCK;

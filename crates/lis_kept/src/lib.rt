@@ -5,6 +5,7 @@
 
 mod changes;
 mod joining;
+mod linking;
 mod parts;
 mod places;
 mod reading;

@@ -17,6 +17,8 @@ ghost use Rattle.lis_kept.specs.Areas.Area.{Properties};
 ghost use Rattle.lis_kept.specs.Changes.{Declares, Learns, Forgets};
 ghost use Rattle.lis_kept.specs.Telling.{is_left_of, is_head_by, is_left_head_of, is_had, is_used};
 
+mod undeclaring;
+
 use crate::parts::Parts;
 use crate::places::PROPERTIES_START;
 use crate::spelling::PROPERTIES_PER_BLOCK;

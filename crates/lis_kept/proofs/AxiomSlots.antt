@@ -1,0 +1,144 @@
+-- A list with another element in one place.
+use Rattle.std.proofs.Common.{◌≡◌, ◌⊎◌, ℕ, zero, suc, ◌+◌, ◌*◌, ◌/◌, ◌<◌, ◌≤◌, ◌==◌, ◌&&◌, ◌||◌, cond, Bool, true, false, Option, Some, None, slice_get, List, [], ◌∷◌, length, set, get_or, refl, sym, ap, ap₂, ◌∙◌, subst, inl, inr, arith}
+use Rattle.std.specs.List.{list_any, position, position_or_len}
+use Rattle.std.proofs.lemmas.Bool.{cases_eq, cases_lt, and_parts, both_ways, eqb-true, lt-ltb}
+use Rattle.std.proofs.lemmas.List.Sums.{fails_before_first}
+use Rattle.std.proofs.lemmas.Option.{same_Some, slice_get-get_or, slice_get_within, get_or_from_slice_get}
+use Rattle.std.proofs.lemmas.List.Quantifiers.{position-Some}
+use Rattle.lis_graph.proofs.Members.{among_from_any}
+use Rattle.lis_fields.specs.declared.slots.AxiomSlot.{AxiomSlot}
+use Rattle.lis_fields.specs.declared.slots.AxiomSlot.TheVariants.{Free as FreeAxiom, Pair}
+use Rattle.lis_model.specs.declared.limits.Limits.{Limits}
+use Rattle.lis_kept.specs.Kept.{Kept}
+use Rattle.lis_kept.specs.Areas.{axiom_slots}
+use Rattle.lis_kept.specs.Sound.{AreSound}
+use Rattle.lis_kept.specs.Links.{is_pair, has_pair}
+use Rattle.lis_kept.specs.Linking.{is_free}
+use Rattle.lis_kept.proofs.InArea.{few_properties}
+use Rattle.lis_kept.proofs.OwnLinks.{slot_at}
+
+-- ---- any list
+pub set_here : {X : Type 0} (xs : List X) (i : ℕ) (x y : X) → slice_get xs i ≡ Some x → slice_get (set xs i y) i ≡ Some y
+set_here [] i x y is = absurd cc
+set_here (z ∷ xs) zero x y is = refl
+set_here (z ∷ xs) (suc i) x y is = set_here xs i x y is
+
+pub set_there : {X : Type 0} (xs : List X) (i : ℕ) (y : X) (k : ℕ) → (k ≡ i → ⊥) → slice_get (set xs i y) k ≡ slice_get xs k
+set_there [] i y k differ = refl
+set_there (z ∷ xs) zero y zero differ = absurd (differ refl)
+set_there (z ∷ xs) zero y (suc k) differ = refl
+set_there (z ∷ xs) (suc i) y zero differ = refl
+set_there (z ∷ xs) (suc i) y (suc k) differ = set_there xs i y k (λ same. differ (ap suc same))
+
+-- what stands in each place then
+pub set_cases : {X : Type 0} (xs : List X) (i : ℕ) (x y : X) → slice_get xs i ≡ Some x → (k : ℕ) (z : X) → slice_get (set xs i y) k ≡ Some z
+    → ((k ≡ i) × (y ≡ z)) ⊎ ((k ≡ i → ⊥) × (slice_get xs k ≡ Some z))
+set_cases xs i x y at k z is = by (cases_eq k i)
+  where
+    by : (k ≡ i) ⊎ (k ≡ i → ⊥) → ((k ≡ i) × (y ≡ z)) ⊎ ((k ≡ i → ⊥) × (slice_get xs k ≡ Some z))
+    by (inl same) = inl (same, same_Some y z (sym (set_here xs i x y at) ∙ (ap (slice_get (set xs i y)) (sym same) ∙ is)))
+    by (inr differ) = inr (differ, sym (set_there xs i y k differ) ∙ is)
+
+or_around : (a b c : Bool) → a ≡ false → (b || c) ≡ (b || (a || c))
+or_around a b c none = ap (λ x. b || (x || c)) (sym none)
+
+or_past : (a b c : Bool) → (a || (b || c)) ≡ (b || (a || c))
+or_past true true c = refl
+or_past true false c = refl
+or_past false b c = refl
+
+-- an element that passes the test comes in the place of one that does not, or of one that does not either
+pub any_set : {X : Type 0} (f : X → Bool) (xs : List X) (i : ℕ) (x y : X) → slice_get xs i ≡ Some x → f x ≡ false → list_any f (set xs i y) ≡ (f y || list_any f xs)
+any_set f [] i x y is none = absurd cc
+any_set f (z ∷ xs) zero x y is none = or_around (f z) (f y) (list_any f xs) (ap f (same_Some z x is) ∙ none)
+any_set f (z ∷ xs) (suc i) x y is none = ap (λ b. f z || b) (any_set f xs i x y is none) ∙ or_past (f z) (f y) (list_any f xs)
+
+-- ---- the first place of an element
+pub first_place : {X : Type 0} (test : X → Bool) (xs : List X) (d : X) (i : ℕ) → position test xs ≡ Some i → (slice_get xs i ≡ Some (get_or xs i d)) × (test (get_or xs i d) ≡ true)
+first_place test xs d i is = let found = position-Some test xs i d is in (slice_get-get_or xs i d found.0, found.1)
+
+-- an axiom slot of a number is one of the slots of whole blocks
+pub axiom_within : (limits : Limits) (slot : ℕ) → slot < limits.props → slot < (axiom_slots limits).count
+axiom_within limits slot lt = within limits.props slot lt
+  where
+    within : (props n : ℕ) → n < props → n < 512 * ((props + 511) / 512)
+    within props n below = omega arith
+
+-- what stood there comes back
+pub set_back : {X : Type 0} (xs : List X) (i : ℕ) (x y : X) → slice_get xs i ≡ Some x → set (set xs i y) i x ≡ xs
+set_back [] i x y is = refl
+set_back (z ∷ xs) zero x y is = ap (λ w. w ∷ xs) (sym (same_Some z x is))
+set_back (z ∷ xs) (suc i) x y is = ap (λ ws. z ∷ ws) (set_back xs i x y is)
+
+-- one element that passes no test goes
+pub any_unset : {X : Type 0} (f : X → Bool) (xs : List X) (i : ℕ) (x y : X) → slice_get xs i ≡ Some x → f y ≡ false → list_any f xs ≡ (f x || list_any f (set xs i y))
+any_unset f xs i x y is none =
+    ap (list_any f) (sym (set_back xs i x y is)) ∙ any_set f (set xs i y) i y x (set_here xs i x y is) none
+
+-- the sides of two pairs
+pub same_sides : {a b x y : ℕ} → ◌≡◌ {A = AxiomSlot} (Pair a b) (Pair x y) → (a ≡ x) × (b ≡ y)
+same_sides is = (cc, cc)
+
+-- ---- the first slot that passes a test
+-- where some element passes it, there is a first one, and it is no later
+pub first_found : {X : Type 0} (test : X → Bool) (xs : List X) (i : ℕ) (x : X) → slice_get xs i ≡ Some x → test x ≡ true
+    → (position test xs ≡ Some (position_or_len test xs)) × (position_or_len test xs ≤ i)
+first_found test xs i x at passes =
+    let inside : position_or_len test xs < length xs = omega (arith, le, slice_get_within xs i x at) in
+    (ap (λ b. cond b (Some (position_or_len test xs)) None) (lt-ltb (position_or_len test xs) (length xs) inside), le)
+  where
+    le : position_or_len test xs ≤ i
+    le = by (cases_lt i (position_or_len test xs))
+      where
+        by : (i < position_or_len test xs) ⊎ (position_or_len test xs ≤ i) → position_or_len test xs ≤ i
+        by (inl before) = absurd (both_ways (test (get_or xs i x)) (fails_before_first test xs i x before) (ap test (get_or_from_slice_get xs i x x at) ∙ passes))
+        by (inr le) = le
+
+pub first_is_some : {X : Type 0} (test : X → Bool) (xs : List X) (i : ℕ) (x : X) → slice_get xs i ≡ Some x → test x ≡ true → position test xs ≡ None → ⊥
+first_is_some test xs i x at passes none =
+    let both : ◌≡◌ {A = Option ℕ} None (Some (position_or_len test xs)) = sym none ∙ (first_found test xs i x at passes).0 in cc
+
+pub first_no_later : {X : Type 0} (test : X → Bool) (xs : List X) (i k : ℕ) (x : X) → slice_get xs i ≡ Some x → test x ≡ true → position test xs ≡ Some k → k ≤ i
+first_no_later test xs i k x at passes is =
+    let found = first_found test xs i x at passes in
+    omega (arith, found.1, same_Some (position_or_len test xs) k (sym found.0 ∙ is))
+
+free_is : (a : AxiomSlot) → is_free a ≡ true → a ≡ FreeAxiom
+free_is FreeAxiom is = refl
+free_is (Pair left right) is = absurd cc
+
+pair_is : (left right : ℕ) (a : AxiomSlot) → is_pair left right a ≡ true → a ≡ Pair left right
+pair_is left right FreeAxiom is = absurd cc
+pair_is left right (Pair x y) is =
+    let parts = and_parts (x == left) (y == right) is in
+    ap₂ (λ (a b : ℕ). Pair a b) (eqb-true x left parts.0) (eqb-true y right parts.1)
+
+pub free_place : (axioms : List AxiomSlot) (k : ℕ) → position is_free axioms ≡ Some k → slice_get axioms k ≡ Some FreeAxiom
+free_place axioms k is = let found = first_place is_free axioms FreeAxiom k is in found.0 ∙ ap Some (free_is (get_or axioms k FreeAxiom) found.1)
+
+pair_place : (axioms : List AxiomSlot) (left right k : ℕ) → position (is_pair left right) axioms ≡ Some k → slice_get axioms k ≡ Some (Pair left right)
+pair_place axioms left right k is = let found = first_place (is_pair left right) axioms FreeAxiom k is in found.0 ∙ ap Some (pair_is left right (get_or axioms k FreeAxiom) found.1)
+
+-- a pair that is there is first somewhere; `seen` are the axioms as a call sees them, and `x` and `y` the numbers
+pub pair_found : (axioms seen : List AxiomSlot) (left right x y : ℕ) → seen ≡ axioms → x ≡ left → y ≡ right → has_pair axioms left right ≡ true → position (is_pair x y) seen ≡ None → ⊥
+pair_found axioms seen left right x y are lefts rights has none =
+    let found = among_from_any (is_pair left right) axioms has in
+    let at = slot_at axioms found.0 found.1 in
+    first_is_some (is_pair left right) axioms at.0 found.0 at.1 found.2
+    (subst (λ n. position (is_pair left n) axioms ≡ None) rights (subst (λ n. position (is_pair n y) axioms ≡ None) lefts (ap (position (is_pair x y)) (sym are) ∙ none)))
+
+pub pair_placed : (axioms seen : List AxiomSlot) (left right x y k : ℕ) → seen ≡ axioms → x ≡ left → y ≡ right → position (is_pair x y) seen ≡ Some k → slice_get axioms k ≡ Some (Pair left right)
+pair_placed axioms seen left right x y k are lefts rights is =
+    pair_place axioms left right k
+    (subst (λ n. position (is_pair left n) axioms ≡ Some k) rights (subst (λ n. position (is_pair n y) axioms ≡ Some k) lefts (ap (position (is_pair x y)) (sym are) ∙ is)))
+
+-- some slot has the pair
+abbrev pub InSlot : List AxiomSlot → ℕ → ℕ → Type 0
+InSlot axioms left right = (slot : ℕ) × (slice_get axioms slot ≡ Some (Pair left right))
+
+-- how many slots there are
+pub few_slots : (k : Kept) → AreSound k → length k.axioms ≤ 8192
+few_slots k sound = few k.limits.props (length k.axioms) (few_properties k.limits sound.range) sound.axiom_count
+  where
+    few : (props count : ℕ) → props ≤ 8192 → count ≡ 512 * ((props + 511) / 512) → count ≤ 8192
+    few props count most is = omega (arith, most, is)

@@ -1,0 +1,13 @@
+use Rattle.std.proofs.Common.{◌∙◌, ℕ, List, ap, ap₂}
+use Rattle.lis_fields.specs.declared.slots.AxiomSlot.{AxiomSlot}
+use Rattle.lis_kept.specs.Kept.{Kept}
+use Rattle.lis_kept.specs.Links.{has_pair}
+use Rattle.lis_kept.specs.contracts.parts.Parts.{the_view}
+use Rattle.lis_kept.proofs.parts.Parts.has_axiom.Goals as goal
+
+pub returns : goal.returns
+returns c =
+    let v = the_view c.self.inside in
+    c.has_pair.ensures
+    ∙ (ap (λ (xs : List AxiomSlot). has_pair xs c.from.result c.from-2.result) c.as_slice.ensures.value
+    ∙ (ap₂ (λ (x y : ℕ). has_pair v.axioms x y) c.from.ensures c.from-2.ensures ∙ ap (λ (k : Kept). has_pair k.axioms c.args.left c.args.right) c.self.view_is))

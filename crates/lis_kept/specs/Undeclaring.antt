@@ -1,0 +1,38 @@
+-- A declared word that goes.
+use Rattle.std.specs.Prelude.{◌≡◌, ◌≢◌, ℕ, ◌==◌, true, false, if◌then◌else◌, Some, None, is_some, List, slice_get, slice_set}
+use Rattle.lis_blockmap.specs.Bitmap.{is_taken}
+use Rattle.lis_content.specs.Content.{has_number}
+use Rattle.lis_dict.specs.Dict.{word_of, without_word}
+use Rattle.lis_catalog.specs.Catalog.{rec_at}
+use Rattle.lis_fields.specs.Records.{FileRecord}
+use Rattle.lis_fields.specs.declared.slots.AxiomSlot.TheVariants.{Pair}
+use Rattle.lis_model.specs.Changes.{undeclared}
+use Rattle.lis_kept.specs.Kept.{Kept}
+use Rattle.lis_kept.specs.Areas.{block_of}
+use Rattle.lis_kept.specs.Areas.Area.{Properties}
+use Rattle.lis_kept.specs.Telling.{state_of, is_head_by, is_had, is_named_left, is_used}
+use Rattle.lis_kept.specs.Changes.{Marks}
+
+-- It is declared and in use for nothing else: no description has it, no axiom names it, no file was given it, and it is no known word's
+-- head.
+pub record MayUndeclare (number : ℕ) (k : Kept) : Type 0 where
+  pub declared : is_taken k.declared number ≡ true
+  pub had : is_had k.ext number ≡ false
+  pub lefts : is_named_left k number ≡ false
+  pub rights : (slot left right : ℕ) → slice_get k.axioms slot ≡ Some (Pair left right) → right ≢ number
+  pub tags : (slot : ℕ) (rec : FileRecord) → rec_at k.catalog slot ≡ Some rec → has_number rec.tags number ≡ false
+  pub heads : (n : ℕ) → is_head_by (word_of k.dict n) (word_of k.dict number) ≡ false
+
+-- The word of the number is not declared any more, and has no number.
+pub record Undeclares (number : ℕ) (p q : Kept) : Type 0 where
+  pub word : List ℕ
+  pub named : word_of p.dict number ≡ Some word
+  pub parts : q ≡ record p {
+    dict = without_word p.dict word;
+    declared = slice_set p.declared number false;
+    marks = slice_set p.marks (block_of p.limits Properties number) true;
+  }
+  pub marks : Marks 1 p q
+  pub words : (n : ℕ) → word_of q.dict n ≡ (if number == n then None else word_of p.dict n)
+  pub state : (at : ℕ → List ℕ) → state_of q at ≡ undeclared (state_of p at) word
+  pub used : (n : ℕ) → is_some (word_of q.dict n) ≡ true → is_used q n ≡ is_used p n
