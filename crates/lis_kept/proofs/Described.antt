@@ -148,6 +148,7 @@ module _ (p : Kept) (t : Taxonomy) (held : AreHeld p t) (slot : ℕ) (old new : 
       sets = sets;
       settled = settled;
       edits = λ was is. subst (λ ns. e.edits ≤ p.ext.edits + length (numbers_where p.ext.props (differs ns new))) (sym is_old ∙ sym is) edits;
+      touched = λ was is. subst (λ ns. marks ≡ marked p.marks (map (block_of p.limits Rows) (numbers_where p.ext.props (differs ns new)))) (sym is_old ∙ sym is) are_marks;
       marks = λ was is. subst (λ ns. Marks (length (numbers_where p.ext.props (differs ns new))) p described) (sym is_old ∙ sym is) marks_owed;
     },
   )

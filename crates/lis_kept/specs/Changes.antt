@@ -1,5 +1,5 @@
 -- The changes of memory. Each marks the blocks that it touches, and tells what becomes of the state.
-use Rattle.std.specs.Prelude.{◌≡◌, ◌⊎◌, ℕ, ◌+◌, ◌<◌, ◌≤◌, true, ◌&&◌, not, if◌then◌else◌, is_some, Some, None, List, [], length, slice_set, IsTrue}
+use Rattle.std.specs.Prelude.{◌≡◌, ◌⊎◌, ℕ, ◌+◌, ◌<◌, ◌≤◌, true, ◌&&◌, not, if◌then◌else◌, is_some, Some, None, List, [], length, map, slice_set, IsTrue}
 use Rattle.lis_journal.specs.Journal.{Held}
 use Rattle.lis_journal.specs.Images.{look}
 use Rattle.lis_journal.specs.Phases.{looked}
@@ -14,7 +14,7 @@ use Rattle.lis_model.specs.Sets.{with_word}
 use Rattle.lis_model.specs.Changes.{declared_under, new_file, file_added, file_removed}
 use Rattle.lis_kept.specs.Kept.{Kept}
 use Rattle.lis_kept.specs.Areas.{IsSaved, block_of, marked_count}
-use Rattle.lis_kept.specs.Areas.Area.{Properties, Files}
+use Rattle.lis_kept.specs.Areas.Area.{Properties, Files, Rows}
 use Rattle.lis_kept.specs.Telling.{state_of, words_told, is_used, AreUsed}
 
 -- what every change owes: slots in blocks that are not marked are spelled as before, and few blocks more are marked
@@ -60,13 +60,14 @@ pub record Forgets (numbers : List ℕ) (p q : Kept) : Type 0 where
   pub used : (n : ℕ) → is_some (word_of q.dict n) ≡ true → is_used q n ≡ is_used p n
 
 -- ---- descriptions
--- The file slot has these numbers now. As many bits of rows are edited as differ.
+-- The file slot has these numbers now. As many bits of rows are edited as differ, and of exactly these rows the blocks are marked.
 pub record Describes (slot : ℕ) (numbers : List ℕ) (p q : Kept) : Type 0 where
   pub parts : q ≡ record p { ext = q.ext; marks = q.marks }
   pub props : q.ext.props ≡ p.ext.props
   pub sets : q.ext.sets ≡ slice_set p.ext.sets slot numbers
   pub settled : q.ext.marks ≡ []
   pub edits : (old : List ℕ) → old ≡ set_of p.ext slot → q.ext.edits ≤ p.ext.edits + length (numbers_where p.ext.props (differs old numbers))
+  pub touched : (old : List ℕ) → old ≡ set_of p.ext slot → q.marks ≡ marked p.marks (map (block_of p.limits Rows) (numbers_where p.ext.props (differs old numbers)))
   pub marks : (old : List ℕ) → old ≡ set_of p.ext slot → Marks (length (numbers_where p.ext.props (differs old numbers))) p q
 
 -- ---- files

@@ -117,7 +117,7 @@ pub record IsFileBlock (k : Kept) (at : ℕ → List ℕ) (data_block : ℕ) : T
   pub has : has_number (blocks_told k.limits at file.rec) data_block ≡ true
 
 -- Where blocks hold these bytes, what is kept tells the state: its words, axioms and files are those of the state, the numbers of each
--- file are those of its description, a free slot has none, and the taken blocks are those of the files, none of them used twice.
+-- file are those of its description, and the taken blocks are those of the files, none of them used by two.
 pub record Tells (k : Kept) (at : ℕ → List ℕ) (s : State) : Type 0 where
   pub super : at 0 ≡ super_bytes s.limits
   pub state : state_of k at ≡ s

@@ -32,7 +32,7 @@ pub enum OpenFault {
     /// How many bytes the disk has, and how many are needed.
     #[error("the disk has {0} bytes, and {1} are needed")]
     TooShort(u64, u64),
-    /// The image stands for no state. The spot is where a check failed.
+    /// The image stands for no state. The spot is that of the first check that fails.
     #[error("the image stands for no state")]
     Damaged(Spot),
     #[error("the disk failed")]

@@ -1,4 +1,4 @@
-//! A session over an image: what a stop at any moment may leave of it.
+//! A session over an image: carries out one item after another, and says what a stop at any moment may leave.
 #![tactic(auto)]
 
 ghost use Rattle.lis_session.specs.Session.{OneForm};

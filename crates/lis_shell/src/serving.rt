@@ -71,7 +71,7 @@ fn carry_out<S: Source, T: Station>(
 /// limit, and no memory: the session has made room for any state within the limits.
 ///
 /// Stopped at any moment, the image stands for the state after some first items, and what was shown is a front of their replies that
-/// lacks less than one: no reply runs ahead of the image, and no change whose reply was begun is lost.
+/// lacks at most the last one: no reply runs ahead of the image, and no change whose reply was begun is lost.
 pub fn serve<S: Source, T: Station>(
     store: &mut Store,
     session: &mut Session,

@@ -29,7 +29,7 @@ module _ (old : Stored) (q : Kept) (j : Held) (name : List ℕ) (assigned : List
   pub added_sound : AreSound q → IsSound (settled q j)
   added_sound = sound_added old.parts q old.journal j name assigned bytes sound.parts admitted puts old.is_broken unbroken sound
 
-  pub added_marks : length j.staged + marked_count q ≤ 575
+  pub added_marks : length j.staged + marked_count q ≤ 531
   added_marks =
       let marked = few_marked old.parts q old.journal j name assigned bytes sound.parts admitted puts sound.free (none_marked old.parts (sound.clean unbroken)) in
       let staged = few_staged old.parts q old.journal j name assigned bytes sound.parts admitted puts sound.free (ap (λ (es : List Entry). length es) (sound.staged unbroken)) in

@@ -380,7 +380,7 @@ module _ (old : Stored) (q : Kept) (slot : ℕ) (place : List Formula) (name : L
   pub removed_sound : AreSound q → IsSound (settled q old.journal)
   removed_sound = sound_removed slot old.parts q out sound.parts old.journal old.is_broken unbroken sound
 
-  pub removed_marks : length old.journal.staged + marked_count q ≤ 575
+  pub removed_marks : length old.journal.staged + marked_count q ≤ 531
   removed_marks =
       let few = few_marked slot old.parts q out sound.parts (sound.short slot) (none_marked old.parts (sound.clean unbroken)) in
       omega (arith, few, ap length (sound.staged unbroken))

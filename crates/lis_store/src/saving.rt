@@ -14,7 +14,7 @@ use lis_journal::Journal;
 use lis_kept::Parts;
 use lis_ports::Disk;
 
-/// Stages all marked blocks, and commits what is staged. Then nothing is marked.
+/// Stages all marked blocks, and commits what is staged, 531 blocks at most. Then nothing is marked.
 pub(crate) fn save<D: Disk>(
     parts: &mut Parts,
     journal: &mut Journal,
@@ -26,7 +26,7 @@ pub(crate) fn save<D: Disk>(
     requires unplaced { journal.old.placed ≡ [] }
     requires unbroken { journal.old.is_broken ≡ false }
     requires whole { is_broken.old ≡ false }
-    requires room { length journal.old.staged + marked_count parts.old ≤ 575 }
+    requires room { length journal.old.staged + marked_count parts.old ≤ 531 }
     requires long { 4096 * journal.old.blocks ≤ (D.meaning disk.old).len }
     ensures sound { IsSound (record { parts = parts.new; journal = journal.new; is_broken = is_broken.new }) }
     ensures saves { Saves parts.old journal.old (record { parts = parts.new; journal = journal.new; is_broken = is_broken.new })

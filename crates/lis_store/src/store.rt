@@ -43,7 +43,7 @@ pub struct Built {
     pub journal: Journal,
 }
 
-/// What memory keeps of an image, and its journal. It holds no bytes of files, and no call takes memory.
+/// What memory keeps of an image, and its journal. It holds no bytes of files but those in open records, and no call takes memory.
 #[derive(Drop)]
 pub struct Store {
     parts: Parts,
@@ -88,6 +88,14 @@ impl Store {
         ensures { result ≡ self.now.is_broken }
     {
         self.is_broken
+    }
+
+    /// For each file slot the numbers of its file's description, as rows of bits. These are the rows that listings look at, and
+    /// their edits are counted.
+    pub fn descriptions(&self) -> &Ext
+        ensures { result.now ≡ self.now.parts.ext }
+    {
+        self.parts.ext()
     }
 
     /// Whether the word is declared.
