@@ -50,7 +50,7 @@ use Rattle.lis_open.specs.ReadFiles.{AreFirstFiles, FilesAreTold}
 use Rattle.lis_open.specs.ReadAll.{kept_in}
 use Rattle.lis_open.proofs.Counts.{rising_map}
 use Rattle.lis_open.proofs.Descriptions.{told_among, among_told}
-use Rattle.lis_open.proofs.FileFaults.{are_axioms, file_is, rec_is, slot_read, used_slot}
+use Rattle.lis_open.proofs.FileFaults.{are_axioms, file_is, slot_read}
 use Rattle.lis_open.proofs.Joined.{Sides, sides, slots_without}
 use Rattle.lis_open.proofs.WordChains.{one_number, pair_among, among_pair}
 use Rattle.lis_open.proofs.WordsTold.{told_properties, declared_told, axioms_told, file_is_told, are_told}

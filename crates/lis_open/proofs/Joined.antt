@@ -1,8 +1,8 @@
 -- What was read and checked is what a store may keep.
-use Rattle.std.proofs.Common.{◌≡◌, ◌⊎◌, ◌∙◌, refl, sym, ap, ap₂, subst, inl, inr, ℕ, zero, suc, ◌<◌, ◌==◌, ◌&&◌, ◌||◌, not, Bool, true, false, List, [], length, replicate, Option, Some, None, is_some, IsSome, slice_get, IsTrue, arith}
+use Rattle.std.proofs.Common.{◌≡◌, ◌⊎◌, ◌∙◌, refl, sym, ap, ap₂, subst, inl, inr, ℕ, zero, suc, ◌<◌, ◌≤◌, ◌==◌, ◌&&◌, ◌||◌, not, Bool, true, false, List, [], length, replicate, Option, Some, None, is_some, IsSome, slice_get, IsTrue, arith}
 use Rattle.std.specs.FinSet as set
 use Rattle.std.specs.List.{list_all, list_any}
-use Rattle.std.proofs.lemmas.Bool.{and_parts, or_cases, both_ways, eqb-true}
+use Rattle.std.proofs.lemmas.Bool.{and_parts, or_cases, both_ways, eqb-true, false_from_ne_true}
 use Rattle.std.proofs.lemmas.Option.{same_Some}
 use Rattle.lis_graph.specs.Graph.{Chain}
 use Rattle.lis_graph.proofs.Members.{Among, among_filter, among_from_any, any_from_among, among_map}
@@ -217,6 +217,10 @@ module _ (limits : Limits) (words : Words) (axioms : Axioms) (files : Files) (ma
           let w = given_word limits words axioms files limits.files read.files_are slot from.tag from.rec from.there from.given in
           some_from (word_of words.dict n) w.0 (ap (word_of words.dict) (sym same) ∙ w.1)
       by from (inr bare) = some_from (word_of words.dict n) bare.word bare.is
+
+  pub none_past : (n slot : ℕ) → limits.props ≤ n → has files.ext n slot ≡ false
+  none_past n slot past =
+      false_from_ne_true (has files.ext n slot) (λ h. both_ways (is_some (word_of words.dict n)) (ap is_some (read.words_are.rest n past)) (named n slot h))
 
   -- the head of a valued word has a number, since the word is in use
   module _ (n : ℕ) (word : List ℕ) (is : word_of words.dict n ≡ Some word) (valued : is_valued word ≡ true) where

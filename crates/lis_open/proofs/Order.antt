@@ -45,7 +45,7 @@ use Rattle.lis_open.specs.ReadAll.{AreNoMarks, kept_in, is_stray, IsFirstStray, 
 use Rattle.lis_open.proofs.AllRead.{HasRead, contents_are, state_read, used_known, known_used}
 use Rattle.lis_open.proofs.Damage.{one_contents}
 use Rattle.lis_open.proofs.FileFaults.{used_is, rec_is, slot_read}
-use Rattle.lis_open.proofs.Joined.{named, parts_sound, slots_without}
+use Rattle.lis_open.proofs.Joined.{named, none_past, parts_sound, slots_without}
 use Rattle.lis_open.proofs.WordsTold.{word_at_told, file_is_told}
 use Rattle.lis_open.proofs.ZeroRows.{no_file_has}
 
@@ -259,13 +259,8 @@ module _ (limits : Limits) (at : ℕ → List ℕ) (words : Words) (axioms : Axi
         ∙ (bytes_same (limits.files / 8) (has files.ext p) (row_bit s limits contents at p) (λ i small. bit_is p i (omega (arith, small)))
         ∙ ap (λ (t : State). bits_bytes (limits.files / 8) (row_bit t limits contents at p)) (sym (state_read limits at words axioms files (no_marks limits) read)))
 
-    pub no_file_past : (p slot : ℕ) → limits.props ≤ p → has files.ext p slot ≡ false
-    no_file_past p slot past =
-        false_from_ne_true (has files.ext p slot) (λ h.
-        both_ways (is_some (word_of words.dict p)) (ap is_some (read.words_are.rest p past)) (named limits words axioms files (no_marks limits) all_read p slot h))
-
     rest_is : (p : ℕ) → limits.props ≤ p → row_bytes files.ext p ≡ zeros (limits.files / 8)
-    rest_is p past = no_file_has files.ext limits.files p read.files_are.count (λ slot. no_file_past p slot past)
+    rest_is p past = no_file_has files.ext limits.files p read.files_are.count (λ slot. none_past limits words axioms files (no_marks limits) all_read p slot past)
 
     row_passes : (m : ℕ) → m < limits.props → IsRowSpelled limits at files.ext m → RowFails limits at m → ⊥
     row_passes m below spelled fails =
