@@ -1,11 +1,10 @@
 -- Which axiom slots fail their checks, by what was read of the slots before.
-use Rattle.std.proofs.Common.{◌≡◌, ◌⊎◌, ◌∙◌, refl, sym, ap, ap₂, subst, inl, inr, ℕ, suc, ◌+◌, ◌^◌, ◌-◌, ◌<◌, ◌≤◌, ◌==◌, nat_lt, nat_le, Bool, true, false, not, ◌&&◌, ◌||◌, is_some, Option, Some, None, List, [], ◌∷◌, ◌++◌, length, take, slice_get, get_or, IsTrue, arith}
-use Rattle.std.specs.List.{list_all, Contains}
+use Rattle.std.proofs.Common.{◌≡◌, ◌⊎◌, ◌∙◌, refl, sym, ap, subst, inl, inr, ℕ, ◌^◌, ◌-◌, ◌<◌, ◌≤◌, nat_lt, nat_le, Bool, true, false, not, ◌&&◌, ◌||◌, is_some, Option, Some, None, List, [], ◌∷◌, length, take, slice_get, arith}
+use Rattle.std.specs.List.{list_all}
 use Rattle.std.proofs.lemmas.Bool.{and_parts, and_from, or_cases, both_ways, cases_lt, false_from_ne_true, lt-ltb}
 use Rattle.std.proofs.lemmas.List.{length-take-le, get_or-take, get_or_past}
-use Rattle.std.proofs.lemmas.Option.{slice_get_within, slice_get-get_or, get_or_from_slice_get, same_Some}
+use Rattle.std.proofs.lemmas.Option.{slice_get-get_or, get_or_from_slice_get, same_Some}
 use Rattle.lis_graph.proofs.Members.{Among, among_from_contains, contains_from_among, among_from_any, among_right}
-use Rattle.lis_slots.specs.Slots.{slot}
 use Rattle.lis_dict.specs.Dict.{IsDict, number_of, word_of}
 use Rattle.lis_dict.proofs.Laws.{number_from_word, number_below, word_from_number}
 use Rattle.lis_taxonomy.specs.Taxonomy.{has_edge, Entails as Leads}
@@ -40,7 +39,7 @@ use Rattle.lis_open.proofs.Once.{taken_place}
 use Rattle.lis_open.proofs.Joined.{Sides, sides}
 use Rattle.lis_open.proofs.WordsTold.{told_properties, word_at_told, declared_told, told_word, word_told, axioms_told, are_told, only_told}
 use Rattle.lis_open.proofs.WordChains.{pair_among, left_numbered, chain_named}
-use Rattle.lis_open.proofs.AxiomsRead.{sides_of, pair_same, only_pair, pairs_within, slot_below}
+use Rattle.lis_open.proofs.AxiomsRead.{sides_of, only_pair, pairs_within, slot_below}
 
 -- ---- fronts of lists
 front_among : {X : Type 0} (n : ℕ) (xs : List X) (x : X) → Among (take n xs) x → Among xs x

@@ -1,7 +1,6 @@
 -- The axioms of axiom slots, read one after another.
 use Rattle.std.proofs.Common.{◌≡◌, ◌⊎◌, ◌∙◌, ◌↔◌, refl, sym, ap, ap₂, subst, inl, inr, ℕ, ◌+◌, ◌<◌, ◌≤◌, ◌==◌, nat_lt, Bool, true, false, ◌&&◌, ◌||◌, Option, Some, None, Result, Ok, Err, OnOk, List, [], ◌∷◌, length, set, replicate, slice_get, get_or, IsTrue, arith, eq-eqb}
 use Rattle.std.specs.Result.{is_err}
-use Rattle.std.specs.List.{list_any}
 use Rattle.std.specs.FinSet as finite
 use Rattle.std.proofs.lemmas.Bool.{and_parts, and_from, or_cases, or_left, or_right, both_ways, cases_eq, cases_lt, eqb-true, false_from_ne_true, lt-ltb}
 use Rattle.std.proofs.lemmas.List.{length-set, length-replicate, get_or-replicate, get_or_past, get_or-set_same, get_or-set_other}
@@ -24,7 +23,7 @@ use Rattle.lis_laws.proofs.Apart.{plain_not_valued}
 use Rattle.lis_laws.proofs.Chains.{acyclic_within, acyclic_cons, acyclic_decides}
 use Rattle.lis_laws.proofs.Members.{pair_exact}
 use Rattle.lis_model.specs.declared.limits.Limits.{Limits}
-use Rattle.lis_model.specs.State.{Entails, Acyclic, pair_cmp, links}
+use Rattle.lis_model.specs.State.{Entails, Acyclic, pair_cmp}
 use Rattle.lis_kept.specs.Kept.{axiom_at}
 use Rattle.lis_kept.specs.Areas.{axiom_slots}
 use Rattle.lis_kept.specs.Telling.{is_head_by, pair_told, pairs_told, axioms_of}
@@ -37,7 +36,7 @@ use Rattle.lis_open.specs.declared.blocks.LastBlock.{LastBlock}
 use Rattle.lis_open.specs.declared.words.Words.{Words}
 use Rattle.lis_open.specs.declared.axioms.Axioms.{Axioms}
 use Rattle.lis_open.specs.Reading.{OnlyReads, Recalls, IsReadAs}
-use Rattle.lis_open.specs.ReadWords.{declared_words, kept_words, AreWords, AreFirstWords, LinksHeads, AreNoAxioms, is_left, is_right, are_sides, TakesPair, TakesAxiom, IsGoodPair, AreFirstAxioms, AxiomsAreSpelled}
+use Rattle.lis_open.specs.ReadWords.{declared_words, kept_words, AreWords, AreFirstWords, LinksHeads, is_left, is_right, are_sides, TakesPair, TakesAxiom, IsGoodPair, AreFirstAxioms, AxiomsAreSpelled}
 use Rattle.lis_open.proofs.Joined.{Sides, left_word, right_word, sides}
 use Rattle.lis_open.proofs.WordUses.{no_word_past}
 use Rattle.lis_open.proofs.HeadLinks.{last_false}

@@ -1,12 +1,10 @@
 -- What words may be used for, by what is read of them.
-use Rattle.std.proofs.Common.{◌≡◌, ◌∙◌, sym, ap, refl, ℕ, ◌≤◌, ◌<◌, Bool, true, false, not, ◌&&◌, ◌||◌, Option, Some, None, List, [], arith}
-use Rattle.std.proofs.lemmas.Bool.{and_parts}
+use Rattle.std.proofs.Common.{◌≡◌, ◌∙◌, sym, ap, refl, ℕ, ◌≤◌, Bool, true, false, ◌&&◌, ◌||◌, Option, Some, None, List, [], arith}
 use Rattle.lis_dict.specs.Dict.{Dict, IsDict, number_of, word_of}
 use Rattle.lis_dict.proofs.Laws.{number_below, number_from_word}
 use Rattle.lis_words.specs.Words.{has_word, is_plain_word, is_head, is_valued, is_test, is_word, is_built_in, head_bytes}
 use Rattle.lis_model.specs.declared.limits.Limits.{Limits}
 use Rattle.lis_model.specs.State.{is_assignable, is_nameable, is_known_head}
-use Rattle.lis_kept.specs.Kept.{Kept}
 use Rattle.lis_kept.specs.Telling.{bit_of, declared_of, is_declared}
 use Rattle.lis_kept.proofs.WordMore.{declared_there, there_declared}
 use Rattle.lis_kept.proofs.Filing.{same_tests}

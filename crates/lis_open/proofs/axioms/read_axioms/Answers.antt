@@ -1,4 +1,4 @@
-use Rattle.std.proofs.Common.{◌≡◌, refl, sym, subst, ◌∙◌, arith}
+use Rattle.std.proofs.Common.{◌≡◌, refl, subst, ◌∙◌, arith}
 use Rattle.lis_kept.specs.Areas.{axiom_slots}
 use Rattle.lis_open.specs.ReadWords.{AreFirstAxioms, AxiomsAreSpelled}
 use Rattle.lis_open.proofs.Quiet.{reads_none, reads_then, fits_after}

@@ -1,5 +1,5 @@
-use Rattle.std.proofs.Common.{◌∙◌, refl, sym, ap, subst, Bool, true, false}
-use Rattle.lis_words.specs.Words.{is_head, is_valued}
+use Rattle.std.proofs.Common.{◌∙◌, refl, sym, ap}
+use Rattle.lis_words.specs.Words.{is_head}
 use Rattle.lis_open.specs.ReadWords.{declared_words}
 use Rattle.lis_open.proofs.WordUses.{nameable_by_head, nameable_head, nameable_declared, not_valued}
 use Rattle.lis_open.proofs.naming.is_nameable.Goals as goal

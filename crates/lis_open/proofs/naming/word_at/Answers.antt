@@ -1,4 +1,4 @@
-use Rattle.std.proofs.Common.{◌≤◌, ◌*◌, sym, arith}
+use Rattle.std.proofs.Common.{◌≤◌, sym, arith}
 use Rattle.lis_open.proofs.WordUses.{no_word_past}
 use Rattle.lis_open.proofs.naming.word_at.Goals as goal
 
