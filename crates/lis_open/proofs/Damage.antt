@@ -7,6 +7,7 @@ use Rattle.std.proofs.lemmas.Bool.{and_parts, both_ways, ltb-true, leb-true, cas
 use Rattle.std.proofs.lemmas.List.{length-map, length-take-le, length-drop, length-replicate, get_or-replicate, get_or_past, get_or-drop}
 use Rattle.std.proofs.lemmas.Option.{slice_get-get_or, slice_get_within, get_or_from_slice_get}
 use Rattle.lis_graph.proofs.Members.{Among, among_from_contains, contains_from_among, map_among, among_flat_map, flat_map_among, among_with_more, with_more_new}
+use Rattle.lis_journal.specs.Record.{block, replayed}
 use Rattle.lis_slots.specs.Slots.{Slots, slot}
 use Rattle.lis_bits.specs.Bytes.{bits_bytes}
 use Rattle.lis_bits.proofs.Numbers.{bytes_same}
@@ -33,7 +34,7 @@ use Rattle.lis_model.specs.declared.limits.Limits.{Limits}
 use Rattle.lis_model.specs.declared.spot.Spot.{Spot}
 use Rattle.lis_model.specs.declared.spot.Spot.TheVariants.{Super, BadRecord, Property, Axiom, File as FileSpot, Word, Bitmap, Row}
 use Rattle.lis_model.specs.Ranges.{are_in_range}
-use Rattle.lis_model.specs.Image.{bitmap_start}
+use Rattle.lis_model.specs.Image.{bitmap_start, image_blocks}
 use Rattle.lis_model.specs.Sets.{set_of}
 use Rattle.lis_model.specs.State.{State, File, Entails, pair_cmp, file_cmp, description, known, is_nameable, is_assignable}
 use Rattle.lis_kept.specs.Areas.{property_slots, axiom_slots, file_slots, row_slots}
@@ -43,12 +44,13 @@ use Rattle.lis_kept.proofs.Formed.{some_word}
 use Rattle.lis_kept.proofs.InArea.{files_range, whole_files, each_files_limit}
 use Rattle.lis_kept.proofs.Known.{only_word, placed_at, among_place}
 use Rattle.lis_kept.proofs.RowBytes.{row_bytes_none}
-use Rattle.lis_store.specs.Stands.{Contents, AreSlots, word_in, words_in, all_declared, word_at, pair_in, pairs_in, is_named_axiom, is_free_axiom, records_in, all_records, all_blocks, file_by, spelled_state, is_had_by, row_bit, Spells}
+use Rattle.lis_store.specs.Stands.{Contents, AreSlots, word_in, words_in, all_declared, word_at, pair_in, pairs_in, is_named_axiom, is_free_axiom, records_in, all_records, all_blocks, file_by, spelled_state, is_had_by, row_bit, Spells, Stands}
 use Rattle.lis_store.proofs.Points.{AllApart}
-use Rattle.lis_open.specs.Checks.{IsProperty, IsFile, HasWord, AreContents, IsUsed, declared_by, axioms_by, PropertyFails, AxiomFault, HasAxiomFault, AxiomFails, FileFault, HasFileFault, FileFails, WordFails, BitFails, RowFault, RowFails, Fails}
+use Rattle.lis_open.specs.Checks.{IsProperty, IsFile, HasWord, AreContents, IsUsed, declared_by, axioms_by, PropertyFails, AxiomFault, HasAxiomFault, AxiomFails, FileFault, HasFileFault, FileFails, WordFails, BitFails, RowFault, RowFails, Fails, FailsReplayed, RecordFails, FailsIn}
 use Rattle.lis_open.specs.Checks.AxiomFault.{PastLast, LeftUnnumbered, RightUnnumbered, RightNotPlain, RightUndeclared, LeftUnnameable, HeadUnnumbered, PairThere, Circle}
 use Rattle.lis_open.specs.Checks.FileFault.{NameTaken, TagUnnumbered, TagUnassignable, BlockMissing, BlockTaken, WordUnnumbered, TooManyWords}
 use Rattle.lis_open.specs.Checks.RowFault.{RowWrong, RestNotZero}
+use Rattle.lis_open.proofs.Needs.{one_limits, has_super}
 use Rattle.lis_open.proofs.Numbers.{is_taken-marked}
 use Rattle.lis_open.proofs.OneList.{one_list}
 use Rattle.lis_open.proofs.ZeroRows.{zero_row, rows_enough}
@@ -408,3 +410,33 @@ module _ (limits : Limits) (contents : Contents) (at : ℕ → List ℕ) (spells
 -- where blocks spell a state, no part behind the journal fails its check
 pub spelled_passes : (limits : Limits) (contents : Contents) (at : ℕ → List ℕ) (s : State) (spot : Spot) → Spells limits contents at s → Fails limits at spot → ⊥
 spelled_passes limits contents at s spot spells = none_fails limits contents at (subst (λ (t : State). Spells limits contents at t) spells.state spells) spot
+
+-- ---- images
+one_some : {X : Type 0} (a b : X) → ◌≡◌ {A = Option X} (Some a) (Some b) → a ≡ b
+one_some a b e = cc
+
+replayed_passes : (image : List ℕ) (s : State) (spot : Spot) → Stands image s → FailsReplayed image spot → ⊥
+unfolding Stands
+replayed_passes image s spot stands fails =
+    let limits = one_limits image fails.limits s.limits fails.super (record { range = stands.range; spelled = stands.super }) in
+    let replay = one_some fails.replay stands.replay (sym fails.replays ∙ (ap (λ (l : Limits). replayed (image_blocks l) image) limits ∙ stands.replays)) in
+    let there = subst (λ (l : Limits). Fails l (λ n. block n fails.replay) spot) limits fails.fails in
+    spelled_passes s.limits stands.contents (λ n. block n stands.replay) s spot stands.spells (subst (λ (r : List ℕ). Fails s.limits (λ n. block n r) spot) replay there)
+
+record_passes : (image : List ℕ) (s : State) (b : ℕ) → Stands image s → RecordFails image b → ⊥
+unfolding Stands
+record_passes image s b stands fails =
+    let limits = one_limits image fails.limits s.limits fails.super (record { range = stands.range; spelled = stands.super }) in
+    let none = sym fails.replays ∙ (ap (λ (l : Limits). replayed (image_blocks l) image) limits ∙ stands.replays) in
+    cc
+
+-- an image of which a part fails its check stands for no state
+pub damaged : (image : List ℕ) (s : State) (spot : Spot) → Stands image s → FailsIn image spot → ⊥
+damaged image s Super stands fails = fails s.limits (has_super image s stands)
+damaged image s (BadRecord b) stands fails = record_passes image s b stands fails
+damaged image s (Property n) stands fails = replayed_passes image s (Property n) stands fails
+damaged image s (Axiom n) stands fails = replayed_passes image s (Axiom n) stands fails
+damaged image s (FileSpot n) stands fails = replayed_passes image s (FileSpot n) stands fails
+damaged image s (Word n) stands fails = replayed_passes image s (Word n) stands fails
+damaged image s (Bitmap n) stands fails = replayed_passes image s (Bitmap n) stands fails
+damaged image s (Row n) stands fails = replayed_passes image s (Row n) stands fails

@@ -27,6 +27,14 @@ join-requires g c =
     c.args.journal c.requires.range c.requires.image c.requires.unbroken c.requires.clean c.requires.unplaced in
     subst (λ (k : Kept). IsSound (record { parts = k; journal = c.args.journal; is_broken = false })) (sym c.join-parts.ensures) sound
 
+pub returns-clause-sound : goal.returns-clause-sound
+returns-clause-sound g c =
+    let limits = c.args.limits in
+    let range = (and_parts (limits.version == 1) (are_in_range limits) c.requires.range).1 in
+    let sound = store_sound limits c.read_parts.new.words c.read_parts.new.axioms c.read_parts.new.files c.args.room.marks (c.in_ok-read_parts.ensures.read c.args.room.marks) range c.requires.room.marks
+    c.args.journal c.requires.range c.requires.image c.requires.unbroken c.requires.clean c.requires.unplaced in
+    subst IsSound (sym c.join.ensures) (subst (λ (k : Kept). IsSound (record { parts = k; journal = c.args.journal; is_broken = false })) (sym c.join-parts.ensures) sound)
+
 pub returns-clause-ended : goal.returns-clause-ended
 returns-clause-ended g c = λ kept fits super.
     let limits = c.args.limits in
