@@ -55,13 +55,6 @@ no_bit_set r next bits n shape is below =
 pub named_in : (d : Dict) → IsDict d → (n : ℕ) → is_some (word_of d n) ≡ true → n < d.props
 named_in d dict n some = let w = some_word (word_of d n) some in number_below d dict w.0 n (number_from_word d dict w.0 n w.1)
 
-pub unnamed_past : (d : Dict) → IsDict d → (n : ℕ) → d.props ≤ n → word_of d n ≡ None
-unnamed_past d dict n past = by (word_of d n) refl
-  where
-    by : (o : Option (List ℕ)) → word_of d n ≡ o → o ≡ None
-    by None is = refl
-    by (Some w) is = absurd (let below = named_in d dict n (ap is_some is) in omega (arith, below, past))
-
 pub head_below : (d : Dict) → IsDict d → (o : Option (List ℕ)) (head : ℕ) → head_by d o ≡ Some head → head < d.props
 head_below d dict None head is = absurd cc
 head_below d dict (Some w) head is = by (is_valued w) is

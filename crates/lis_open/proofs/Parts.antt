@@ -11,7 +11,6 @@ use Rattle.lis_open.specs.declared.mounting.OpenFault.TheVariants.{TooShort, Dam
 use Rattle.lis_open.specs.declared.words.Words.{Words}
 use Rattle.lis_open.specs.declared.axioms.Axioms.{Axioms}
 use Rattle.lis_open.specs.declared.files.Files.{Files}
-use Rattle.lis_open.specs.Opens.{HasOpenCause}
 use Rattle.lis_kept.specs.Kept.{Kept}
 use Rattle.lis_open.specs.declared.blocks.LastBlock.{LastBlock}
 use Rattle.lis_open.specs.Reading.{HasPartCause, Recalls, KindFails, IsFirst, PartsFail}
@@ -79,13 +78,3 @@ stray_cause T before now k (TooShort len need) same stray = stray
 stray_cause T before now k (Damaged spot) same stray = same
 stray_cause T before now k DiskFault same stray = absurd stray
 stray_cause T before now k NoMemory same stray = stray
-
-pub open_cause : {T : Type 0} (before now : ℕ) (result : Result T OpenFault) → HasPartCause before now result → HasOpenCause before now result
-open_cause before now (Ok done) cause = cause
-open_cause before now (Err (TooShort len need)) cause = absurd cause
-open_cause before now (Err (Damaged spot)) cause = cause
-open_cause before now (Err DiskFault) cause = cause
-open_cause before now (Err NoMemory) cause = absurd cause
-
-pub part_enough : {T : Type 0} (before now : ℕ) (result : Result T OpenFault) → HasPartCause before now result → (len need : ℕ) → result ≡ Err (TooShort len need) → ⊥
-part_enough {T} before now result cause len need is = subst (λ (r : Result T OpenFault). HasPartCause before now r) is cause

@@ -2,7 +2,6 @@ use Rattle.std.proofs.Common.{◌∙◌, sym, ap, subst, inl, Err}
 use Rattle.std.proofs.lemmas.Result.{err_from_is_err_and}
 use Rattle.lis_ports.proofs.Moments.{leaves_weaken}
 use Rattle.lis_open.specs.Opens.{HasOpenCause, InOpening}
-use Rattle.lis_open.proofs.Parts.{open_cause, part_enough}
 use Rattle.lis_open.proofs.Opening.{opened_before, opening_before, moments_stand, mount_past}
 use Rattle.lis_open.proofs.mounting.mount.Goals as goal
 
@@ -35,10 +34,10 @@ returns-clause-past g c = λ limits honest super settled.
 
 pub returns-clause-cause : goal.returns-clause-cause
 returns-clause-cause g c =
-    subst (λ before. HasOpenCause before (g.D.Disk.meaning c.mount_image.new.disk).disk_faults c.mount_image.result) c.in_ok-limits.ensures.cause (open_cause _ _ c.mount_image.result c.mount_image.ensures.cause)
+    subst (λ before. HasOpenCause before (g.D.Disk.meaning c.mount_image.new.disk).disk_faults c.mount_image.result) c.in_ok-limits.ensures.cause c.mount_image.ensures.cause
 
 pub returns-clause-numbers : goal.returns-clause-numbers
-returns-clause-numbers g c = λ len need is. absurd (part_enough _ _ c.mount_image.result c.mount_image.ensures.cause len need is)
+returns-clause-numbers g c = λ len need is. absurd (c.mount_image.ensures.fits_disk len need is)
 
 pub returns-in_err-limits-clause-any_moment : goal.returns-in_err-limits-clause-any_moment
 returns-in_err-limits-clause-any_moment g c = λ honest.
