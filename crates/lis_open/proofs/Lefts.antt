@@ -1,7 +1,7 @@
 -- Rows of the left sides of axioms and of their heads, and the words that are not in use.
-use Rattle.std.proofs.Common.{◌≡◌, ◌⊎◌, ◌∙◌, refl, sym, ap, ap₂, inl, inr, ℕ, ◌<◌, ◌≤◌, ◌==◌, if◌then◌else◌, ◌&&◌, ◌||◌, not, Bool, true, false, cond, List, length, Option, Some, None, is_some, eq-eqb, arith}
+use Rattle.std.proofs.Common.{◌≡◌, ◌⊎◌, ◌∙◌, refl, sym, ap, ap₂, inl, inr, ℕ, ◌<◌, ◌==◌, if◌then◌else◌, ◌&&◌, ◌||◌, not, Bool, true, false, cond, List, length, Option, Some, None, is_some, eq-eqb, arith}
 use Rattle.std.specs.List.{list_any}
-use Rattle.std.proofs.lemmas.Bool.{both_ways, ne_eqb, cases_eq, cases_lt}
+use Rattle.std.proofs.lemmas.Bool.{both_ways, ne_eqb, cases_eq}
 use Rattle.lis_bits.specs.Rows.{Rows, HasShape, get, with_row}
 use Rattle.lis_bits.proofs.Laws.{get-with_row_same, length-with_row}
 use Rattle.lis_blockmap.specs.Bitmap.{is_taken}

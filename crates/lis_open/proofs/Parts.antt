@@ -1,6 +1,6 @@
 -- How reading the parts one after another ends.
-use Rattle.std.proofs.Common.{◌≡◌, ◌∙◌, sym, ap, subst, ℕ, ◌<◌, Bool, false, List, [], Option, None, Result, Ok, Err, replicate, IsTrue, IfSome, OnOk}
-use Rattle.lis_blockmap.specs.Bitmap.{is_taken, has_bit, bitmap_bytes}
+use Rattle.std.proofs.Common.{◌≡◌, ◌∙◌, sym, ap, subst, ℕ, Bool, false, List, [], None, Result, Ok, Err, replicate, IsTrue, IfSome, OnOk}
+use Rattle.lis_blockmap.specs.Bitmap.{has_bit, bitmap_bytes}
 use Rattle.lis_blockmap.proofs.Laws.{has_bit-bitmap_bytes}
 use Rattle.lis_model.specs.declared.limits.Limits.{Limits}
 use Rattle.lis_model.specs.declared.spot.Spot.{Spot}

@@ -1,4 +1,4 @@
-use Rattle.std.proofs.Common.{◌≡◌, ◌⊎◌, ◌∙◌, sym, ap, inl, inr, ℕ, ◌<◌, ◌≤◌, ◌||◌, is_some, None, Some, arith}
+use Rattle.std.proofs.Common.{◌⊎◌, ◌∙◌, sym, ap, inl, inr, ◌<◌, ◌≤◌, ◌||◌, is_some, Some, arith}
 use Rattle.std.proofs.lemmas.Bool.{cases_lt}
 use Rattle.lis_bits.specs.Rows.{Rows, get}
 use Rattle.lis_dict.specs.Dict.{word_of}

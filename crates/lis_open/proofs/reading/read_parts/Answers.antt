@@ -1,9 +1,8 @@
-use Rattle.std.proofs.Common.{◌≡◌, ◌∙◌, ◌==◌, List, [], Bool, subst}
+use Rattle.std.proofs.Common.{◌∙◌, ◌==◌, []}
 use Rattle.std.proofs.lemmas.Bool.{and_parts}
 use Rattle.std.proofs.lemmas.Result.{err_from_is_err_and}
 use Rattle.lis_model.specs.Ranges.{are_in_range}
-use Rattle.lis_kept.specs.Areas.{axiom_slots}
-use Rattle.lis_open.specs.ReadAll.{kept_in, AreRead}
+use Rattle.lis_open.specs.ReadAll.{kept_in}
 use Rattle.lis_open.proofs.AllRead.{HasRead}
 use Rattle.lis_open.proofs.Joined.{none_past}
 use Rattle.lis_open.proofs.Order.{none_below, pass_more}
