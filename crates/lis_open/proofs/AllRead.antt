@@ -1,17 +1,14 @@
 -- The contents of the slots that were read, and the state that they spell.
-use Rattle.std.proofs.Common.{◌≡◌, ◌⊎◌, ◌∙◌, refl, sym, ap, ap₂, subst, inl, inr, ℕ, ◌+◌, ◌<◌, ◌==◌, ◌&&◌, ◌||◌, not, Bool, true, false, List, [], ◌∷◌, map, Option, Some, None, is_some, slice_get, IsTrue, arith, eq-eqb}
+use Rattle.std.proofs.Common.{◌≡◌, ◌⊎◌, ◌∙◌, refl, sym, ap, ap₂, subst, inl, inr, ℕ, ◌&&◌, ◌||◌, Bool, true, List, [], map, Option, Some, None, slice_get, IsTrue, arith, eq-eqb}
 use Rattle.std.specs.BTreeSet.{insert_key}
 use Rattle.std.specs.List.{fold, list_any, range_with_len}
-use Rattle.std.proofs.lemmas.Bool.{and_parts, and_from, or_cases, or_left, or_right, both_ways, eqb-true, false_from_ne_true}
+use Rattle.std.proofs.lemmas.Bool.{and_parts, and_from, or_cases, or_left, or_right, both_ways, eqb-true}
 use Rattle.std.proofs.lemmas.List.FromFn.{length-map-range_with_len}
-use Rattle.std.proofs.lemmas.Option.{same_Some}
-use Rattle.lis_graph.specs.Graph.{is_rising}
-use Rattle.lis_graph.proofs.Members.{Among, among_from_any, any_from_among, contains_from_among, among_map, map_among, among_flat_map, flat_map_among, with_more_new}
-use Rattle.lis_graph.proofs.Ranges.{among_range, range_among}
+use Rattle.lis_graph.proofs.Members.{Among, among_from_any, any_from_among, contains_from_among, among_map, map_among, among_flat_map, flat_map_among}
+use Rattle.lis_graph.proofs.Ranges.{range_among}
 use Rattle.lis_graph.proofs.Sets.{sorted_from_rising}
 use Rattle.lis_blockmap.specs.Bitmap.{is_taken}
-use Rattle.lis_content.specs.Content.{has_number}
-use Rattle.lis_dict.specs.Dict.{IsDict, number_of, word_of}
+use Rattle.lis_dict.specs.Dict.{IsDict, word_of}
 use Rattle.lis_dict.proofs.Laws.{number_from_word}
 use Rattle.lis_catalog.specs.Catalog.{Filed, rec_at}
 use Rattle.lis_ext.specs.Ext.{has, set_of as numbers_at}
@@ -20,18 +17,17 @@ use Rattle.lis_fields.specs.Layouts.{file_bytes, is_file}
 use Rattle.lis_fields.specs.declared.slots.AxiomSlot.{AxiomSlot}
 use Rattle.lis_fields.specs.declared.slots.AxiomSlot.TheVariants.{Free as FreeAxiom, Pair}
 use Rattle.lis_fields.specs.declared.slots.FileSlot.{FileSlot}
-use Rattle.lis_fields.specs.declared.slots.FileSlot.TheVariants.{Free as FreeFile, Used}
-use Rattle.lis_words.specs.Words.{word_cmp, is_valued, same_word, head_bytes, has_word}
+use Rattle.lis_words.specs.Words.{word_cmp, is_valued, same_word, head_bytes}
 use Rattle.lis_laws.proofs.Chains.{among_heads, heads_of_valued}
 use Rattle.lis_laws.proofs.Forms.{file_order}
-use Rattle.lis_laws.proofs.Members.{same_word_decides, pair_exact}
+use Rattle.lis_laws.proofs.Members.{same_word_decides}
 use Rattle.lis_laws.proofs.Sources.{Source, source_of, known_from}
 use Rattle.lis_laws.proofs.Sources.Source.{Declared, Left, LeftHead, Described}
 use Rattle.lis_model.specs.declared.limits.Limits.{Limits}
-use Rattle.lis_model.specs.State.{State, File, heads, pair_cmp, file_cmp, description, known}
+use Rattle.lis_model.specs.State.{State, File, heads, file_cmp, description, known}
 use Rattle.lis_kept.specs.Kept.{Kept, file_by, record_at}
 use Rattle.lis_kept.specs.Areas.{axiom_slots, file_slots}
-use Rattle.lis_kept.specs.Telling.{bit_of, words_told, axioms_of, file_told, state_of, is_left_of, is_head_by, is_left_head_of, is_had, is_named_left, is_used}
+use Rattle.lis_kept.specs.Telling.{bit_of, words_told, file_told, state_of, is_left_of, is_head_by, is_left_head_of, is_had, is_named_left, is_used}
 use Rattle.lis_kept.proofs.Filing.{among_from_number, number_from_among as has_from_among, filed_rec, filed_at_slot}
 use Rattle.lis_kept.proofs.Known.{placed_at, among_place}
 use Rattle.lis_kept.proofs.Used.{had_at}
@@ -45,15 +41,15 @@ use Rattle.lis_open.specs.declared.words.Words.{Words}
 use Rattle.lis_open.specs.declared.axioms.Axioms.{Axioms}
 use Rattle.lis_open.specs.declared.files.Files.{Files}
 use Rattle.lis_open.specs.Checks.{AreContents}
-use Rattle.lis_open.specs.ReadWords.{AreFirstWords, AreFirstAxioms, WordsAreSpelled, AxiomsAreSpelled, declared_words, kept_words}
+use Rattle.lis_open.specs.ReadWords.{AreFirstWords, AreFirstAxioms, WordsAreSpelled, AxiomsAreSpelled}
 use Rattle.lis_open.specs.ReadFiles.{AreFirstFiles, FilesAreTold}
 use Rattle.lis_open.specs.ReadAll.{kept_in}
 use Rattle.lis_open.proofs.Counts.{rising_map}
 use Rattle.lis_open.proofs.Descriptions.{told_among, among_told}
-use Rattle.lis_open.proofs.FileFaults.{are_axioms, file_is, rec_is, slot_read, used_slot}
+use Rattle.lis_open.proofs.FileFaults.{are_axioms, file_is, slot_read}
 use Rattle.lis_open.proofs.Joined.{Sides, sides, slots_without}
 use Rattle.lis_open.proofs.WordChains.{one_number, pair_among, among_pair}
-use Rattle.lis_open.proofs.WordsTold.{told_properties, declared_told, axioms_told, file_is_told, are_told}
+use Rattle.lis_open.proofs.WordsTold.{declared_told, axioms_told, file_is_told, are_told}
 
 -- what was read before words in use, the bitmap and the rows are checked
 pub record HasRead (limits : Limits) (at : ℕ → List ℕ) (words : Words) (axioms : Axioms) (files : Files) : Type 0 where

@@ -1,21 +1,19 @@
 -- Where blocks spell a state, no part fails its check.
-use Rattle.std.proofs.Common.{◌≡◌, ◌⊎◌, ◌∙◌, refl, sym, ap, ap₂, subst, inl, inr, ℕ, ◌+◌, ◌-◌, ◌*◌, ◌/◌, ◌<◌, ◌≤◌, nat_lt, nat_le, Bool, true, false, ◌&&◌, ◌||◌, is_some, List, [], ◌∷◌, ◌++◌, length, map, take, drop, get_or, replicate, slice_get, Option, Some, None, IsTrue, arith}
+use Rattle.std.proofs.Common.{◌≡◌, ◌⊎◌, ◌∙◌, refl, sym, ap, subst, inl, inr, ℕ, ◌+◌, ◌-◌, ◌/◌, ◌<◌, ◌≤◌, nat_lt, nat_le, Bool, true, false, ◌||◌, is_some, List, [], ◌∷◌, ◌++◌, length, map, take, drop, get_or, replicate, slice_get, Option, Some, None, IsTrue, arith}
 use Rattle.std.specs.Option.{option_to_list}
-use Rattle.std.specs.BTreeSet.{insert_key}
-use Rattle.std.specs.List.{list_all, flat_map, fold}
+use Rattle.std.specs.List.{list_all, flat_map}
 use Rattle.std.proofs.lemmas.Bool.{and_parts, both_ways, ltb-true, leb-true, cases_lt}
 use Rattle.std.proofs.lemmas.List.{length-map, length-take-le, length-drop, length-replicate, get_or-replicate, get_or_past, get_or-drop}
 use Rattle.std.proofs.lemmas.Option.{slice_get-get_or, slice_get_within, get_or_from_slice_get}
 use Rattle.lis_graph.proofs.Members.{Among, among_from_contains, contains_from_among, map_among, among_flat_map, flat_map_among, among_with_more, with_more_new}
+use Rattle.lis_journal.specs.Record.{block, replayed}
 use Rattle.lis_slots.specs.Slots.{Slots, slot}
-use Rattle.lis_bits.specs.Bytes.{bits_bytes}
-use Rattle.lis_bits.proofs.Numbers.{bytes_same}
 use Rattle.lis_blockmap.specs.Bitmap.{is_taken, has_bit}
 use Rattle.lis_blockmap.proofs.Laws.{has_bit-bitmap_bytes}
 use Rattle.lis_content.specs.Content.{marked, has_number, are_distinct}
-use Rattle.lis_ext.specs.Ext.{Ext, has, set_of as numbers_at, empty_ext}
+use Rattle.lis_ext.specs.Ext.{has}
 use Rattle.lis_fields.specs.Records.{FileRecord}
-use Rattle.lis_fields.specs.Layouts.{zeros, prop_bytes, is_prop, axiom_bytes, is_axiom, file_bytes, is_file}
+use Rattle.lis_fields.specs.Layouts.{prop_bytes, is_prop, axiom_bytes, is_axiom, file_bytes, is_file}
 use Rattle.lis_fields.specs.declared.slots.PropSlot.{PropSlot}
 use Rattle.lis_fields.specs.declared.slots.PropSlot.TheVariants.{Free as FreeProp}
 use Rattle.lis_fields.specs.declared.slots.AxiomSlot.{AxiomSlot}
@@ -27,28 +25,25 @@ use Rattle.lis_words.specs.Words.{word_cmp, is_plain_word, has_word, head_bytes}
 use Rattle.lis_laws.proofs.Members.{word_order, word_exact, pair_order, pair_exact, among_from_has_word, has_word_from_among, among_set_of, set_of_among}
 use Rattle.lis_laws.proofs.Counts.{all_among}
 use Rattle.lis_laws.proofs.Chains.{heads_of_valued, entails_within}
-use Rattle.lis_laws.proofs.Sources.{Source, known_from, described_known, rights_are, assigned_are}
+use Rattle.lis_laws.proofs.Sources.{known_from, described_known, rights_are, assigned_are}
 use Rattle.lis_laws.proofs.Sources.Source.{LeftHead}
 use Rattle.lis_model.specs.declared.limits.Limits.{Limits}
 use Rattle.lis_model.specs.declared.spot.Spot.{Spot}
 use Rattle.lis_model.specs.declared.spot.Spot.TheVariants.{Super, BadRecord, Property, Axiom, File as FileSpot, Word, Bitmap, Row}
-use Rattle.lis_model.specs.Ranges.{are_in_range}
-use Rattle.lis_model.specs.Image.{bitmap_start}
+use Rattle.lis_model.specs.Image.{bitmap_start, image_blocks}
 use Rattle.lis_model.specs.Sets.{set_of}
-use Rattle.lis_model.specs.State.{State, File, Entails, pair_cmp, file_cmp, description, known, is_nameable, is_assignable}
-use Rattle.lis_kept.specs.Areas.{property_slots, axiom_slots, file_slots, row_slots}
-use Rattle.lis_kept.specs.Rows.{row_bytes}
+use Rattle.lis_model.specs.State.{State, File, pair_cmp, description, known, is_nameable, is_assignable}
+use Rattle.lis_kept.specs.Areas.{property_slots, axiom_slots, file_slots}
 use Rattle.lis_kept.proofs.Filing.{among_from_number, number_from_among as has_from_among}
 use Rattle.lis_kept.proofs.Formed.{some_word}
-use Rattle.lis_kept.proofs.InArea.{files_range, whole_files, each_files_limit}
-use Rattle.lis_kept.proofs.Known.{only_word, placed_at, among_place}
-use Rattle.lis_kept.proofs.RowBytes.{row_bytes_none}
-use Rattle.lis_store.specs.Stands.{Contents, AreSlots, word_in, words_in, all_declared, word_at, pair_in, pairs_in, is_named_axiom, is_free_axiom, records_in, all_records, all_blocks, file_by, spelled_state, is_had_by, row_bit, Spells}
+use Rattle.lis_kept.proofs.Known.{placed_at, among_place}
+use Rattle.lis_store.specs.Stands.{Contents, AreSlots, word_in, words_in, word_at, pair_in, pairs_in, is_named_axiom, is_free_axiom, records_in, all_records, all_blocks, file_by, spelled_state, is_had_by, row_bit, Spells, Stands}
 use Rattle.lis_store.proofs.Points.{AllApart}
-use Rattle.lis_open.specs.Checks.{IsProperty, IsFile, HasWord, AreContents, IsUsed, declared_by, axioms_by, PropertyFails, AxiomFault, HasAxiomFault, AxiomFails, FileFault, HasFileFault, FileFails, WordFails, BitFails, RowFault, RowFails, Fails}
+use Rattle.lis_open.specs.Checks.{IsFile, AreContents, IsUsed, axioms_by, PropertyFails, AxiomFault, HasAxiomFault, AxiomFails, FileFault, HasFileFault, FileFails, WordFails, BitFails, RowFault, RowFails, Fails, FailsReplayed, RecordFails, FailsIn}
 use Rattle.lis_open.specs.Checks.AxiomFault.{PastLast, LeftUnnumbered, RightUnnumbered, RightNotPlain, RightUndeclared, LeftUnnameable, HeadUnnumbered, PairThere, Circle}
 use Rattle.lis_open.specs.Checks.FileFault.{NameTaken, TagUnnumbered, TagUnassignable, BlockMissing, BlockTaken, WordUnnumbered, TooManyWords}
 use Rattle.lis_open.specs.Checks.RowFault.{RowWrong, RestNotZero}
+use Rattle.lis_open.proofs.Needs.{one_limits, has_super}
 use Rattle.lis_open.proofs.Numbers.{is_taken-marked}
 use Rattle.lis_open.proofs.OneList.{one_list}
 use Rattle.lis_open.proofs.ZeroRows.{zero_row, rows_enough}
@@ -408,3 +403,33 @@ module _ (limits : Limits) (contents : Contents) (at : ℕ → List ℕ) (spells
 -- where blocks spell a state, no part behind the journal fails its check
 pub spelled_passes : (limits : Limits) (contents : Contents) (at : ℕ → List ℕ) (s : State) (spot : Spot) → Spells limits contents at s → Fails limits at spot → ⊥
 spelled_passes limits contents at s spot spells = none_fails limits contents at (subst (λ (t : State). Spells limits contents at t) spells.state spells) spot
+
+-- ---- images
+one_some : {X : Type 0} (a b : X) → ◌≡◌ {A = Option X} (Some a) (Some b) → a ≡ b
+one_some a b e = cc
+
+replayed_passes : (image : List ℕ) (s : State) (spot : Spot) → Stands image s → FailsReplayed image spot → ⊥
+unfolding Stands
+replayed_passes image s spot stands fails =
+    let limits = one_limits image fails.limits s.limits fails.super (record { range = stands.range; spelled = stands.super }) in
+    let replay = one_some fails.replay stands.replay (sym fails.replays ∙ (ap (λ (l : Limits). replayed (image_blocks l) image) limits ∙ stands.replays)) in
+    let there = subst (λ (l : Limits). Fails l (λ n. block n fails.replay) spot) limits fails.fails in
+    spelled_passes s.limits stands.contents (λ n. block n stands.replay) s spot stands.spells (subst (λ (r : List ℕ). Fails s.limits (λ n. block n r) spot) replay there)
+
+record_passes : (image : List ℕ) (s : State) (b : ℕ) → Stands image s → RecordFails image b → ⊥
+unfolding Stands
+record_passes image s b stands fails =
+    let limits = one_limits image fails.limits s.limits fails.super (record { range = stands.range; spelled = stands.super }) in
+    let none = sym fails.replays ∙ (ap (λ (l : Limits). replayed (image_blocks l) image) limits ∙ stands.replays) in
+    cc
+
+-- an image of which a part fails its check stands for no state
+pub damaged : (image : List ℕ) (s : State) (spot : Spot) → Stands image s → FailsIn image spot → ⊥
+damaged image s Super stands fails = fails s.limits (has_super image s stands)
+damaged image s (BadRecord b) stands fails = record_passes image s b stands fails
+damaged image s (Property n) stands fails = replayed_passes image s (Property n) stands fails
+damaged image s (Axiom n) stands fails = replayed_passes image s (Axiom n) stands fails
+damaged image s (FileSpot n) stands fails = replayed_passes image s (FileSpot n) stands fails
+damaged image s (Word n) stands fails = replayed_passes image s (Word n) stands fails
+damaged image s (Bitmap n) stands fails = replayed_passes image s (Bitmap n) stands fails
+damaged image s (Row n) stands fails = replayed_passes image s (Row n) stands fails

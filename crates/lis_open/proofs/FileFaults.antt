@@ -73,7 +73,7 @@ module _ (limits : Limits) (words : Words) (axioms : Axioms) (are : AreFirstWord
       small m w named = lt-ltb m (2 ^ 32 - 1) (let below = number_within limits words are.are are.props m w named in let few = are.are.few in omega (arith, below, few, are.props))
 
   module _ (at : ℕ → List ℕ) (spelled : AxiomsAreSpelled limits at axioms (axiom_slots limits).count) where
-    are_axioms : AreAxioms limits at axioms.slots.items
+    pub are_axioms : AreAxioms limits at axioms.slots.items
     are_axioms = record {
       count = first.count;
       each = λ n value is.
@@ -99,7 +99,7 @@ module _ (limits : Limits) (words : Words) (axioms : Axioms) (files : Files) (en
       ltb-true data_block limits.blocks (all_among (λ k. nat_lt k limits.blocks) rec.blocks data_block all (among_from_number rec.blocks data_block has))
 
   -- a slot that has a file is below the end
-  slot_read : (n : ℕ) (rec : FileRecord) → rec_at files.catalog n ≡ Some rec → n < end
+  pub slot_read : (n : ℕ) (rec : FileRecord) → rec_at files.catalog n ≡ Some rec → n < end
   slot_read n rec is = by (cases_lt n end)
     where
       by : (n < end) ⊎ (end ≤ n) → n < end
@@ -120,17 +120,17 @@ module _ (limits : Limits) (words : Words) (axioms : Axioms) (files : Files) (en
     abbrev items : List AxiomSlot
     items = axioms.slots.items
 
-    file_is : (n : ℕ) → n < end → n < limits.files → IsFile limits at n (record_at files.catalog n)
+    pub file_is : (n : ℕ) → n < end → n < limits.files → IsFile limits at n (record_at files.catalog n)
     file_is n lt below = record { below = below; bytes = spelled n lt; range = by (rec_at files.catalog n) refl }
       where
         by : (o : Option FileRecord) → rec_at files.catalog n ≡ o → is_file (file_by o) ≡ true
         by None is = refl
         by (Some rec) is = record_of n rec is
 
-    used_is : (n : ℕ) (rec : FileRecord) → n < limits.files → rec_at files.catalog n ≡ Some rec → IsFile limits at n (Used rec)
+    pub used_is : (n : ℕ) (rec : FileRecord) → n < limits.files → rec_at files.catalog n ≡ Some rec → IsFile limits at n (Used rec)
     used_is n rec below is = subst (λ (file : FileSlot). IsFile limits at n file) (ap file_by is) (file_is n (slot_read n rec is) below)
 
-    rec_is : (n : ℕ) (rec : FileRecord) → n < end → IsFile limits at n (Used rec) → rec_at files.catalog n ≡ Some rec
+    pub rec_is : (n : ℕ) (rec : FileRecord) → n < end → IsFile limits at n (Used rec) → rec_at files.catalog n ≡ Some rec
     rec_is n rec lt is = used_slot (rec_at files.catalog n) rec (one_file limits at n (record_at files.catalog n) (Used rec) (file_is n lt is.below) is)
 
     -- the words of a record's numbers are its description, where it may be given them

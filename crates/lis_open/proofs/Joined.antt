@@ -1,14 +1,14 @@
 -- What was read and checked is what a store may keep.
-use Rattle.std.proofs.Common.{◌≡◌, ◌⊎◌, ◌∙◌, refl, sym, ap, ap₂, subst, inl, inr, ℕ, zero, suc, ◌<◌, ◌==◌, ◌&&◌, ◌||◌, not, Bool, true, false, List, [], length, replicate, Option, Some, None, is_some, IsSome, slice_get, IsTrue, arith}
+use Rattle.std.proofs.Common.{◌≡◌, ◌⊎◌, ◌∙◌, refl, sym, ap, ap₂, subst, inl, inr, ℕ, zero, suc, ◌<◌, ◌≤◌, ◌==◌, ◌&&◌, ◌||◌, not, Bool, true, false, List, [], Option, Some, None, is_some, IsSome, slice_get, IsTrue, arith}
 use Rattle.std.specs.FinSet as set
-use Rattle.std.specs.List.{list_all, list_any}
-use Rattle.std.proofs.lemmas.Bool.{and_parts, or_cases, both_ways, eqb-true}
+use Rattle.std.specs.List.{list_any}
+use Rattle.std.proofs.lemmas.Bool.{and_parts, or_cases, both_ways, eqb-true, false_from_ne_true}
 use Rattle.std.proofs.lemmas.Option.{same_Some}
 use Rattle.lis_graph.specs.Graph.{Chain}
 use Rattle.lis_graph.proofs.Members.{Among, among_filter, among_from_any, any_from_among, among_map}
 use Rattle.lis_journal.specs.Journal.{Held}
 use Rattle.lis_blockmap.specs.Bitmap.{is_taken}
-use Rattle.lis_content.specs.Content.{are_taken, has_number}
+use Rattle.lis_content.specs.Content.{has_number}
 use Rattle.lis_dict.specs.Dict.{IsDict, words as words_of, number_of, word_of}
 use Rattle.lis_dict.proofs.Laws.{number_from_among, number_from_word, number_below}
 use Rattle.lis_catalog.specs.Catalog.{rec_at}
@@ -33,8 +33,8 @@ use Rattle.lis_model.specs.Image.{image_blocks}
 use Rattle.lis_model.specs.State.{is_declarable, is_assignable, is_nameable}
 use Rattle.lis_kept.specs.Kept.{Kept, property_by}
 use Rattle.lis_kept.specs.Sound.{IsSoundAxiom, AreSound, FreeSlotsAreEmpty, BlocksAreTaken}
-use Rattle.lis_kept.specs.Links.{is_pair, has_pair, is_own_link, is_linked, TellsLinks, AreHeld}
-use Rattle.lis_kept.specs.Telling.{bit_of, declared_of, is_left_of, is_left_head_of, is_head_by, is_had, is_named_left, is_used, AreUsed}
+use Rattle.lis_kept.specs.Links.{is_pair, has_pair, is_own_link, TellsLinks, AreHeld}
+use Rattle.lis_kept.specs.Telling.{bit_of, is_left_of, is_left_head_of, is_head_by, is_had, is_named_left, is_used, AreUsed}
 use Rattle.lis_kept.specs.Forgetting.{KeepsInUse}
 use Rattle.lis_kept.proofs.Filing.{among_from_number, number_from_among as has_from_among}
 use Rattle.lis_kept.proofs.Known.{placed_at}
@@ -44,9 +44,9 @@ use Rattle.lis_store.specs.Stored.{AreClosed, IsSound}
 use Rattle.lis_open.specs.declared.words.Words.{Words}
 use Rattle.lis_open.specs.declared.axioms.Axioms.{Axioms}
 use Rattle.lis_open.specs.declared.files.Files.{Files}
-use Rattle.lis_open.specs.ReadWords.{declared_words, kept_words, is_left, is_right, AreFirstWords, AreFirstAxioms}
+use Rattle.lis_open.specs.ReadWords.{declared_words, kept_words, is_left, is_right, AreFirstAxioms}
 use Rattle.lis_open.specs.ReadFiles.{is_described, described, described_by, is_assignable_by, is_assignable_number, AreFirstFiles}
-use Rattle.lis_open.specs.ReadAll.{AreNoMarks, kept_in, is_stray, AreRead}
+use Rattle.lis_open.specs.ReadAll.{AreNoMarks, kept_in, AreRead}
 use Rattle.lis_open.proofs.Edges.{edge_of, leads_on}
 
 -- ---- what words may stand where
@@ -82,12 +82,12 @@ assignable_word words (Some w) h = (w, refl, h)
 pub some_from : (o : Option (List ℕ)) (w : List ℕ) → o ≡ Some w → IsSome o
 some_from o w is = ap is_some is
 
-used_from : (a b : Bool) → (a && not b) ≡ false → a ≡ true → b ≡ true
+pub used_from : (a b : Bool) → (a && not b) ≡ false → a ≡ true → b ≡ true
 used_from true true h e = refl
 used_from true false h e = sym h
 used_from false b h e = absurd (both_ways false refl e)
 
-valued_headed : (a b : Bool) → (not a || b) ≡ true → a ≡ true → b ≡ true
+pub valued_headed : (a b : Bool) → (not a || b) ≡ true → a ≡ true → b ≡ true
 valued_headed true b h e = h
 valued_headed false b h e = absurd (both_ways false refl e)
 
@@ -217,6 +217,10 @@ module _ (limits : Limits) (words : Words) (axioms : Axioms) (files : Files) (ma
           let w = given_word limits words axioms files limits.files read.files_are slot from.tag from.rec from.there from.given in
           some_from (word_of words.dict n) w.0 (ap (word_of words.dict) (sym same) ∙ w.1)
       by from (inr bare) = some_from (word_of words.dict n) bare.word bare.is
+
+  pub none_past : (n slot : ℕ) → limits.props ≤ n → has files.ext n slot ≡ false
+  none_past n slot past =
+      false_from_ne_true (has files.ext n slot) (λ h. both_ways (is_some (word_of words.dict n)) (ap is_some (read.words_are.rest n past)) (named n slot h))
 
   -- the head of a valued word has a number, since the word is in use
   module _ (n : ℕ) (word : List ℕ) (is : word_of words.dict n ≡ Some word) (valued : is_valued word ≡ true) where

@@ -1,7 +1,7 @@
 -- Rows of the left sides of axioms and of their heads, and the words that are not in use.
-use Rattle.std.proofs.Common.{◌≡◌, ◌⊎◌, ◌∙◌, refl, sym, ap, ap₂, inl, inr, ℕ, ◌<◌, ◌≤◌, ◌==◌, if◌then◌else◌, ◌&&◌, ◌||◌, not, Bool, true, false, cond, List, length, Option, Some, None, is_some, eq-eqb, arith}
+use Rattle.std.proofs.Common.{◌≡◌, ◌⊎◌, ◌∙◌, refl, sym, ap, ap₂, inl, inr, ℕ, ◌<◌, ◌==◌, if◌then◌else◌, ◌&&◌, ◌||◌, not, Bool, true, false, cond, List, length, Option, Some, None, is_some, eq-eqb, arith}
 use Rattle.std.specs.List.{list_any}
-use Rattle.std.proofs.lemmas.Bool.{both_ways, ne_eqb, cases_eq, cases_lt}
+use Rattle.std.proofs.lemmas.Bool.{both_ways, ne_eqb, cases_eq}
 use Rattle.lis_bits.specs.Rows.{Rows, HasShape, get, with_row}
 use Rattle.lis_bits.proofs.Laws.{get-with_row_same, length-with_row}
 use Rattle.lis_blockmap.specs.Bitmap.{is_taken}
@@ -54,13 +54,6 @@ no_bit_set r next bits n shape is below =
 -- ---- the left side of one axiom
 pub named_in : (d : Dict) → IsDict d → (n : ℕ) → is_some (word_of d n) ≡ true → n < d.props
 named_in d dict n some = let w = some_word (word_of d n) some in number_below d dict w.0 n (number_from_word d dict w.0 n w.1)
-
-pub unnamed_past : (d : Dict) → IsDict d → (n : ℕ) → d.props ≤ n → word_of d n ≡ None
-unnamed_past d dict n past = by (word_of d n) refl
-  where
-    by : (o : Option (List ℕ)) → word_of d n ≡ o → o ≡ None
-    by None is = refl
-    by (Some w) is = absurd (let below = named_in d dict n (ap is_some is) in omega (arith, below, past))
 
 pub head_below : (d : Dict) → IsDict d → (o : Option (List ℕ)) (head : ℕ) → head_by d o ≡ Some head → head < d.props
 head_below d dict None head is = absurd cc

@@ -30,3 +30,4 @@ mod ZeroRows
 mod AllRead
 mod Order
 mod Parts
+mod Opening

@@ -5,20 +5,18 @@ use Rattle.lis_model.specs.declared.limits.Limits.{Limits}
 use Rattle.lis_model.specs.Image.{image_blocks}
 use Rattle.lis_model.specs.State.{State}
 use Rattle.lis_store.specs.Stands.{Stands}
-use Rattle.lis_store.proofs.OneState.{super_told}
 use Rattle.lis_open.specs.Opens.{HasSuper, IsNeeded}
 
--- its super block tells the state's limits, and no others
-limits_told : (image : List ℕ) (s : State) (limits : Limits) → Stands image s → HasSuper limits image → limits ≡ s.limits
+-- a super block tells one value of limits
+pub one_limits : (image : List ℕ) (a b : Limits) → HasSuper a image → HasSuper b image → a ≡ b
+one_limits image a b is_a is_b = super_once a b is_a.range is_b.range (sym is_a.spelled ∙ is_b.spelled)
+
+pub has_super : (image : List ℕ) (s : State) → Stands image s → HasSuper s.limits image
 unfolding Stands
-limits_told image s limits stands told =
-    super_once limits s.limits (super_told limits told.range told.version) (super_told s.limits stands.spells.formed.limits stands.version) (sym told.spelled ∙ stands.super)
+has_super image s stands = record { range = stands.range; spelled = stands.super }
 
 pub needs_no_more : (image : List ℕ) (s : State) (need : ℕ) → Stands image s → IsNeeded image need → need ≤ length image
 unfolding Stands
 needs_no_more image s need stands (inl one) = omega (arith, one, stands.long)
-needs_no_more image s need stands (inr told) = omega (arith, ap image_blocks (limits_told image s told.0 stands told.1), told.2, stands.long)
-
-pub has_super : (image : List ℕ) (s : State) → Stands image s → HasSuper s.limits image
-unfolding Stands
-has_super image s stands = record { range = stands.spells.formed.limits; version = stands.version; spelled = stands.super }
+needs_no_more image s need stands (inr told) =
+    omega (arith, ap image_blocks (one_limits image told.0 s.limits told.1 (record { range = stands.range; spelled = stands.super })), told.2, stands.long)

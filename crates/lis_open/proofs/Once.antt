@@ -1,5 +1,5 @@
 -- Lists in whose places nothing stands twice.
-use Rattle.std.proofs.Common.{◌≡◌, ◌⊎◌, ◌∙◌, refl, sym, ap, subst, inl, inr, ℕ, zero, suc, ◌+◌, ◌<◌, ◌≤◌, Bool, true, List, [], ◌∷◌, ◌++◌, length, map, take, get_or, slice_get, Option, Some, None, arith}
+use Rattle.std.proofs.Common.{◌≡◌, ◌⊎◌, ◌∙◌, refl, sym, ap, subst, inl, inr, ℕ, zero, suc, ◌+◌, ◌<◌, ◌≤◌, Bool, true, List, [], ◌∷◌, ◌++◌, length, map, take, get_or, slice_get, Some, arith}
 use Rattle.std.specs.declared.cmp.Ordering.{Ordering}
 use Rattle.std.specs.declared.cmp.Ordering.TheVariants.{Less, Equal, Greater}
 use Rattle.std.specs.Ordering.{match_ordering}
@@ -10,7 +10,7 @@ use Rattle.std.specs.List.Sorted.{IsStrictlySortedBy}
 use Rattle.std.proofs.lemmas.Map.Lookups.{CmpEqualImpliesEq}
 use Rattle.std.proofs.lemmas.Option.{slice_get_within, slice_get-get_or}
 use Rattle.lis_graph.specs.Graph.{with_more}
-use Rattle.lis_graph.proofs.Members.{Among, among_left, among_right, among_insert_key, insert_key_old, insert_key_new, with_more_old, flat_map_among}
+use Rattle.lis_graph.proofs.Members.{Among, among_right, among_insert_key, insert_key_old, insert_key_new, with_more_old, flat_map_among}
 use Rattle.lis_graph.proofs.Sets.{sorted_nil, sorted_insert_key, members_le}
 use Rattle.lis_slots.specs.Slots.{Slots}
 use Rattle.lis_content.specs.Content.{are_distinct}

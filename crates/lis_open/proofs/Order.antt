@@ -1,6 +1,6 @@
 -- The parts that pass their checks, and the first one that fails.
-use Rattle.std.proofs.Common.{◌≡◌, ◌≢◌, ◌⊎◌, ◌∙◌, refl, sym, ap, ap₂, subst, inl, inr, ℕ, ◌+◌, ◌/◌, ◌<◌, ◌≤◌, ◌&&◌, nat_lt, not, Bool, true, false, cond, is_some, Option, Some, None, List, [], length, get_or, replicate, IsTrue, arith}
-use Rattle.std.proofs.lemmas.Bool.{and_parts, and_from, both_ways, cases_eq, cases_lt, false_from_ne_true, lt-ltb, le-ltb}
+use Rattle.std.proofs.Common.{◌≡◌, ◌≢◌, ◌⊎◌, ◌∙◌, refl, sym, ap, ap₂, subst, inl, inr, ℕ, ◌+◌, ◌/◌, ◌<◌, ◌≤◌, ◌&&◌, not, Bool, true, false, cond, is_some, Option, Some, None, List, [], replicate, IsTrue, arith}
+use Rattle.std.proofs.lemmas.Bool.{and_parts, both_ways, cases_eq, cases_lt, false_from_ne_true, lt-ltb, le-ltb}
 use Rattle.std.proofs.lemmas.List.{length-replicate}
 use Rattle.std.proofs.lemmas.List.FromFn.{get_or-map-range_with_len}
 use Rattle.lis_graph.proofs.Members.{contains_from_among}
@@ -8,15 +8,13 @@ use Rattle.lis_slots.specs.Slots.{slot}
 use Rattle.lis_bits.specs.Bytes.{bits_bytes}
 use Rattle.lis_bits.proofs.Numbers.{bytes_same}
 use Rattle.lis_blockmap.specs.Bitmap.{is_taken, has_bit, IsFirstDifference}
-use Rattle.lis_content.specs.Content.{has_number}
 use Rattle.lis_content.proofs.Numbers.{not_true}
 use Rattle.lis_dict.specs.Dict.{word_of}
 use Rattle.lis_catalog.specs.Catalog.{Filed, rec_at}
 use Rattle.lis_ext.specs.Ext.{has, set_of as numbers_at}
 use Rattle.lis_fields.specs.Records.{FileRecord}
 use Rattle.lis_fields.specs.Layouts.{zeros}
-use Rattle.lis_fields.specs.declared.slots.FileSlot.{FileSlot}
-use Rattle.lis_fields.specs.declared.slots.FileSlot.TheVariants.{Free as FreeFile, Used}
+use Rattle.lis_fields.specs.declared.slots.FileSlot.TheVariants.{Free as FreeFile}
 use Rattle.lis_words.specs.Words.{has_word}
 use Rattle.lis_laws.proofs.Members.{among_from_has_word, has_word_from_among}
 use Rattle.lis_model.specs.declared.limits.Limits.{Limits}
@@ -26,10 +24,10 @@ use Rattle.lis_model.specs.Ranges.{are_in_range}
 use Rattle.lis_model.specs.Image.{bitmap_start, data_start}
 use Rattle.lis_model.specs.State.{State, File, description, known}
 use Rattle.lis_kept.specs.Kept.{Kept, file_by, record_at}
-use Rattle.lis_kept.specs.Areas.{axiom_slots, row_slots}
+use Rattle.lis_kept.specs.Areas.{row_slots}
 use Rattle.lis_kept.specs.Rows.{row_bytes}
 use Rattle.lis_kept.specs.Sound.{AreSound}
-use Rattle.lis_kept.specs.Telling.{file_told, state_of, is_used}
+use Rattle.lis_kept.specs.Telling.{state_of, is_used}
 use Rattle.lis_kept.proofs.Filing.{filed_at_slot}
 use Rattle.lis_kept.proofs.Formed.{some_word}
 use Rattle.lis_kept.proofs.Known.{number_told}
@@ -38,14 +36,14 @@ use Rattle.lis_store.proofs.Spelled.{contents_of}
 use Rattle.lis_open.specs.declared.words.Words.{Words}
 use Rattle.lis_open.specs.declared.axioms.Axioms.{Axioms}
 use Rattle.lis_open.specs.declared.files.Files.{Files}
-use Rattle.lis_open.specs.Checks.{IsFile, IsUsed, WordFails, BitFails, RowFault, RowFails, Fails, rank, place, IsBefore}
+use Rattle.lis_open.specs.Checks.{IsUsed, WordFails, BitFails, RowFault, RowFails, Fails, rank, place, IsBefore}
 use Rattle.lis_open.specs.Checks.RowFault.{RowWrong, RestNotZero}
 use Rattle.lis_open.specs.Reading.{IsFirst, IsFirstOfAll}
 use Rattle.lis_open.specs.ReadAll.{AreNoMarks, kept_in, is_stray, IsFirstStray, IsRowSpelled, IsFirstRow, row_place, AreRead}
 use Rattle.lis_open.proofs.AllRead.{HasRead, contents_are, state_read, used_known, known_used}
 use Rattle.lis_open.proofs.Damage.{one_contents}
 use Rattle.lis_open.proofs.FileFaults.{used_is, rec_is, slot_read}
-use Rattle.lis_open.proofs.Joined.{named, parts_sound, slots_without}
+use Rattle.lis_open.proofs.Joined.{used_from, named, none_past, parts_sound, slots_without}
 use Rattle.lis_open.proofs.WordsTold.{word_at_told, file_is_told}
 use Rattle.lis_open.proofs.ZeroRows.{no_file_has}
 
@@ -132,16 +130,11 @@ module _ (limits : Limits) (at : ℕ → List ℕ) (words : Words) (axioms : Axi
   word_is : (n : ℕ) → word_at contents.properties n ≡ word_of words.dict n
   word_is n = word_at_told limits words read.words_are.are read.words_are.props n
 
-  used_or_not : (some used : Bool) → (some && not used) ≡ false → some ≡ true → used ≡ true
-  used_or_not true true h e = refl
-  used_or_not true false h e = sym h
-  used_or_not false used h e = absurd (both_ways false refl e)
-
   word_passes : (n : ℕ) → is_stray k n ≡ false → WordFails limits at n → ⊥
   word_passes n no_stray fails =
       let same = one_contents limits at fails.contents contents fails.are (contents_are limits at words axioms files (no_marks limits) read) in
       let is = sym (word_is n) ∙ subst (λ (c : Contents). word_at c.properties n ≡ Some fails.word) same fails.has in
-      let used = used_or_not (is_some (word_of words.dict n)) (is_used k n) no_stray (ap is_some is) in
+      let used = used_from (is_some (word_of words.dict n)) (is_used k n) no_stray (ap is_some is) in
       let there = used_known limits at words axioms files (no_marks limits) read n fails.word is used in
       let unknown = subst (λ (c : Contents). has_word (known (spelled_state limits c at)) fails.word ≡ false) same fails.unknown in
       both_ways (has_word (known (state_of k at)) fails.word)
@@ -259,13 +252,8 @@ module _ (limits : Limits) (at : ℕ → List ℕ) (words : Words) (axioms : Axi
         ∙ (bytes_same (limits.files / 8) (has files.ext p) (row_bit s limits contents at p) (λ i small. bit_is p i (omega (arith, small)))
         ∙ ap (λ (t : State). bits_bytes (limits.files / 8) (row_bit t limits contents at p)) (sym (state_read limits at words axioms files (no_marks limits) read)))
 
-    pub no_file_past : (p slot : ℕ) → limits.props ≤ p → has files.ext p slot ≡ false
-    no_file_past p slot past =
-        false_from_ne_true (has files.ext p slot) (λ h.
-        both_ways (is_some (word_of words.dict p)) (ap is_some (read.words_are.rest p past)) (named limits words axioms files (no_marks limits) all_read p slot h))
-
     rest_is : (p : ℕ) → limits.props ≤ p → row_bytes files.ext p ≡ zeros (limits.files / 8)
-    rest_is p past = no_file_has files.ext limits.files p read.files_are.count (λ slot. no_file_past p slot past)
+    rest_is p past = no_file_has files.ext limits.files p read.files_are.count (λ slot. none_past limits words axioms files (no_marks limits) all_read p slot past)
 
     row_passes : (m : ℕ) → m < limits.props → IsRowSpelled limits at files.ext m → RowFails limits at m → ⊥
     row_passes m below spelled fails =

@@ -1,6 +1,6 @@
 -- How reading the parts one after another ends.
-use Rattle.std.proofs.Common.{◌≡◌, ◌∙◌, sym, ap, subst, ℕ, ◌<◌, Bool, false, List, [], Result, Ok, Err, replicate, IsTrue}
-use Rattle.lis_blockmap.specs.Bitmap.{is_taken, has_bit, bitmap_bytes}
+use Rattle.std.proofs.Common.{◌≡◌, ◌∙◌, sym, ap, subst, ℕ, Bool, false, List, [], None, Result, Ok, Err, replicate, IsTrue, IfSome, OnOk}
+use Rattle.lis_blockmap.specs.Bitmap.{has_bit, bitmap_bytes}
 use Rattle.lis_blockmap.proofs.Laws.{has_bit-bitmap_bytes}
 use Rattle.lis_model.specs.declared.limits.Limits.{Limits}
 use Rattle.lis_model.specs.declared.spot.Spot.{Spot}
@@ -11,8 +11,9 @@ use Rattle.lis_open.specs.declared.mounting.OpenFault.TheVariants.{TooShort, Dam
 use Rattle.lis_open.specs.declared.words.Words.{Words}
 use Rattle.lis_open.specs.declared.axioms.Axioms.{Axioms}
 use Rattle.lis_open.specs.declared.files.Files.{Files}
-use Rattle.lis_open.specs.Opens.{HasOpenCause}
-use Rattle.lis_open.specs.Reading.{HasPartCause, KindFails, IsFirst, PartsFail}
+use Rattle.lis_kept.specs.Kept.{Kept}
+use Rattle.lis_open.specs.declared.blocks.LastBlock.{LastBlock}
+use Rattle.lis_open.specs.Reading.{HasPartCause, Recalls, KindFails, IsFirst, PartsFail}
 use Rattle.lis_open.specs.ReadAll.{kept_in, is_stray, HasStray, Differs, RowsChecked, PartsEnded}
 use Rattle.lis_open.proofs.AllRead.{HasRead}
 use Rattle.lis_open.proofs.Order.{PassBelow, pass_more, first_of_all, first_stray, words_pass, first_difference, bits_pass, first_wrong_row}
@@ -62,13 +63,18 @@ module _ (limits : Limits) (at : ℕ → List ℕ) (words : Words) (axioms : Axi
       rows_ended (Err DiskFault) differs = tt
       rows_ended (Err NoMemory) differs = absurd differs
 
--- ---- causes
-pub open_cause : {T : Type 0} (before now : ℕ) (result : Result T OpenFault) → HasPartCause before now result → HasOpenCause before now result
-open_cause before now (Ok done) cause = cause
-open_cause before now (Err (TooShort len need)) cause = absurd cause
-open_cause before now (Err (Damaged spot)) cause = cause
-open_cause before now (Err DiskFault) cause = cause
-open_cause before now (Err NoMemory) cause = absurd cause
+-- ---- the block that was read last
+pub none_recalled : (last : LastBlock) (kept : ℕ → List ℕ) → last.number ≡ None → Recalls last kept
+none_recalled last kept none = subst (λ o. IfSome o (λ n. last.bytes ≡ kept n)) (sym none) tt
 
-pub part_enough : {T : Type 0} (before now : ℕ) (result : Result T OpenFault) → HasPartCause before now result → (len need : ℕ) → result ≡ Err (TooShort len need) → ⊥
-part_enough {T} before now result cause len need is = subst (λ (r : Result T OpenFault). HasPartCause before now r) is cause
+-- what holds anyhow holds where there is no fault
+pub on_ok : {T E P : Type 0} (r : Result T E) → P → OnOk r P
+on_ok (Ok done) holds = holds
+on_ok (Err fault) holds = tt
+
+-- ---- causes
+pub stray_cause : (T : Type 0) (before now : ℕ) (k : Kept) (fault : OpenFault) → now ≡ before → HasStray k fault → HasPartCause {T = T} before now (Err fault)
+stray_cause T before now k (TooShort len need) same stray = stray
+stray_cause T before now k (Damaged spot) same stray = same
+stray_cause T before now k DiskFault same stray = absurd stray
+stray_cause T before now k NoMemory same stray = stray

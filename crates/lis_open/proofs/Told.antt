@@ -1,5 +1,5 @@
 -- What was read and checked tells a state.
-use Rattle.std.proofs.Common.{◌≡◌, ◌⊎◌, ◌∙◌, refl, sym, ap, ap₂, subst, inl, inr, ℕ, zero, suc, ◌+◌, ◌-◌, ◌<◌, ◌≤◌, ◌==◌, nat_lt, nat_le, ◌&&◌, Bool, true, List, [], ◌∷◌, ◌++◌, length, map, sum, Option, Some, None, is_some, slice_get, IsTrue, arith, length-append}
+use Rattle.std.proofs.Common.{◌≡◌, ◌∙◌, refl, sym, ap, ap₂, subst, ℕ, zero, suc, ◌+◌, ◌-◌, ◌<◌, ◌≤◌, ◌==◌, nat_lt, nat_le, ◌&&◌, Bool, true, List, [], ◌∷◌, length, map, sum, Option, Some, None, is_some, slice_get, IsTrue, arith, length-append}
 use Rattle.std.specs.Option.{option_to_list}
 use Rattle.std.specs.List.{list_all, flat_map, Contains}
 use Rattle.std.proofs.lemmas.Bool.{and_parts, and_from, eqb-true, ltb-true, le-leb}
@@ -8,12 +8,10 @@ use Rattle.std.proofs.lemmas.List.Folds.{list_all-map}
 use Rattle.std.proofs.lemmas.Option.{same_Some}
 use mathlib.Core.List.{map-map}
 use Rattle.lis_graph.specs.Graph.{is_rising}
-use Rattle.lis_graph.proofs.Members.{Among, among_from_contains, contains_from_among, among_filter, among_flat_map}
+use Rattle.lis_graph.proofs.Members.{Among, among_from_contains, contains_from_among, among_flat_map}
 use Rattle.lis_graph.proofs.Sets.{sorted_nil, sorted_with_more}
-use Rattle.lis_blockmap.specs.Bitmap.{is_taken}
-use Rattle.lis_content.specs.Content.{content, has_number, are_distinct}
-use Rattle.lis_dict.specs.Dict.{Dict, words as words_of, number_of, word_of}
-use Rattle.lis_dict.proofs.Laws.{number_from_word}
+use Rattle.lis_content.specs.Content.{content, are_distinct}
+use Rattle.lis_dict.specs.Dict.{Dict, words as words_of, word_of}
 use Rattle.lis_catalog.specs.Catalog.{Filed, rec_at}
 use Rattle.lis_ext.specs.Ext.{set_of as numbers_at}
 use Rattle.lis_fields.specs.Layouts.{super_bytes, is_super, is_prop, is_record}
@@ -28,10 +26,10 @@ use Rattle.lis_model.specs.Ranges.{are_in_range}
 use Rattle.lis_model.specs.Image.{data_start}
 use Rattle.lis_model.specs.State.{State, File, description, known, is_declarable, is_assignable, is_nameable, pair_cmp, file_cmp, file_limit, blocks_needed, blocks_taken, used_blocks, AxiomsAreFormed, FilesAreFormed, WellFormed}
 use Rattle.lis_kept.specs.Kept.{Kept, property_by}
-use Rattle.lis_kept.specs.Areas.{Area, IsWritten}
+use Rattle.lis_kept.specs.Areas.{IsWritten}
 use Rattle.lis_kept.specs.Areas.Area.{Properties, Axioms as AxiomArea, Files as FileArea, Rows, Bitmap}
-use Rattle.lis_kept.specs.Sound.{AreSound, FreeSlotsAreEmpty, is_sound_record}
-use Rattle.lis_kept.specs.Telling.{declared_of, words_told, pair_by, pair_told, pairs_told, file_told, state_of, AreUsed, IsFileBlock, Tells}
+use Rattle.lis_kept.specs.Sound.{AreSound, FreeSlotsAreEmpty}
+use Rattle.lis_kept.specs.Telling.{words_told, pair_by, pairs_told, file_told, state_of, AreUsed, Tells}
 use Rattle.lis_kept.proofs.Filing.{among_from_number, number_from_among as has_from_among, same_distinct, filed_rec, filed_at_slot}
 use Rattle.lis_kept.proofs.Known.{declared_set, declared_has_number, among_axiom, words_known, among_word}
 use Rattle.lis_store.proofs.Spelled.{sound_parts}

@@ -27,7 +27,7 @@ use Rattle.lis_kept.proofs.OwnLinks.{declared_no_tests}
 use Rattle.lis_open.specs.declared.words.Words.{Words}
 use Rattle.lis_open.specs.ReadWords.{declared_words, kept_words}
 use Rattle.lis_open.proofs.Edges.{edge_among, edge_of}
-use Rattle.lis_open.proofs.Joined.{Sides}
+use Rattle.lis_open.proofs.Joined.{valued_headed, Sides}
 
 -- the word has the number, and its head has one where it is valued
 pub record IsNumbered (words : Words) (n : ℕ) (word : List ℕ) : Type 0 where
@@ -36,10 +36,6 @@ pub record IsNumbered (words : Words) (n : ℕ) (word : List ℕ) : Type 0 where
 
 pub bare_numbered : (words : Words) (n : ℕ) (word : List ℕ) → word_of words.dict n ≡ Some word → is_valued word ≡ false → IsNumbered words n word
 bare_numbered words n word is bare = record { named = is; headed = λ valued. absurd (both_ways (is_valued word) bare valued) }
-
-not_or : (a b : Bool) → (not a || b) ≡ true → a ≡ true → b ≡ true
-not_or true b h is = h
-not_or false b h is = absurd cc
 
 module _ (limits : Limits) (words : Words) (dict : IsDict words.dict) (axioms : List AxiomSlot)
     (sides : (slot left right : ℕ) → slice_get axioms slot ≡ Some (Pair left right) → Sides words left right) where
@@ -84,7 +80,7 @@ module _ (limits : Limits) (words : Words) (dict : IsDict words.dict) (axioms : 
       record {
         named = is;
         headed = λ valued.
-            not_or (is_valued l) (is_some (number_of words.dict (head_bytes l)))
+            valued_headed (is_valued l) (is_some (number_of words.dict (head_bytes l)))
             (subst (λ w. (not (is_valued w) || is_some (number_of words.dict (head_bytes w))) ≡ true) same from.headed) valued;
       }
 

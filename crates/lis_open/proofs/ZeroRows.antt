@@ -1,5 +1,5 @@
 -- Rows of which no bit is set, and how many rows there are.
-use Rattle.std.proofs.Common.{◌≡◌, ◌⊎◌, ◌∙◌, sym, ap, ap₂, inl, inr, ℕ, ◌+◌, ◌*◌, ◌/◌, ◌<◌, ◌≤◌, ◌==◌, min, Bool, true, false, cond, List, [], length, replicate, IsTrue, ◌↔◌, arith}
+use Rattle.std.proofs.Common.{◌≡◌, ◌⊎◌, ◌∙◌, sym, ap, ap₂, inl, inr, ℕ, ◌+◌, ◌*◌, ◌/◌, ◌<◌, ◌≤◌, ◌==◌, min, Bool, false, cond, List, [], length, replicate, IsTrue, ◌↔◌, arith}
 use Rattle.std.specs.List.{list_all}
 use Rattle.std.proofs.lemmas.Bool.{cases_lt, both_ways, lt-ltb, le-ltb}
 use Rattle.std.proofs.lemmas.List.{length-replicate, get_or-replicate, get_or_past}
@@ -12,8 +12,7 @@ use Rattle.lis_fields.proofs.Widths.{zeros_pass, zeros_of}
 use Rattle.lis_model.specs.declared.limits.Limits.{Limits}
 use Rattle.lis_model.specs.Ranges.{are_in_range}
 use Rattle.lis_model.specs.Image.{rows_start}
-use Rattle.lis_slots.specs.Slots.{Slots, slot}
-use Rattle.lis_model.specs.declared.spot.Spot.{Spot}
+use Rattle.lis_slots.specs.Slots.{slot}
 use Rattle.lis_model.specs.declared.spot.Spot.TheVariants.{Row}
 use Rattle.lis_open.specs.ReadAll.{IsRowSpelled, IsFirstRow, row_place}
 use Rattle.lis_kept.specs.Areas.{row_slots}

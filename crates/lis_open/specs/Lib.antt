@@ -6,3 +6,4 @@ pub mod Reading
 pub mod ReadWords
 pub mod ReadFiles
 pub mod ReadAll
+pub mod Laws

@@ -6,6 +6,7 @@ mod blocks;
 mod checks;
 mod clearing;
 mod files;
+pub mod laws;
 mod making;
 mod mounting;
 mod naming;

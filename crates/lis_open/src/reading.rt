@@ -5,6 +5,7 @@ ghost use Rattle.lis_bits.specs.Rows.{HasShape};
 ghost use Rattle.lis_journal.specs.Images.{Fits};
 ghost use Rattle.lis_fields.specs.Layouts.{super_bytes, is_super};
 ghost use Rattle.lis_model.specs.Image.{image_blocks};
+ghost use Rattle.lis_store.specs.Stored.{IsSound};
 ghost use Rattle.lis_open.specs.Reading.{OnlyReads, HasPartCause};
 ghost use Rattle.lis_open.specs.ReadWords.{no_words, AreNoAxioms};
 ghost use Rattle.lis_open.specs.ReadFiles.{no_files};
@@ -74,6 +75,7 @@ pub fn read_store<D: Disk>(
     requires long { 4096 * journal.blocks ≤ (D.meaning disk.old).len }
     ensures reads { OnlyReads (D.meaning disk.old) (D.meaning disk.new) }
     ensures cause { HasPartCause (D.meaning disk.old).disk_faults (D.meaning disk.new).disk_faults result }
+    ensures sound { IfOk result IsSound }
     ensures journal { IfOk result (λ store. store.journal ≡ journal) }
     ensures unbroken { IfOk result (λ store. store.is_broken ≡ false) }
     ensures ended { (kept : ℕ → List ℕ) → Fits journal (D.meaning disk.old) kept

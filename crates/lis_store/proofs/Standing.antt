@@ -102,7 +102,7 @@ module _ (at there : ℕ → List ℕ) (same : (n : ℕ) → 578 ≤ n → at n 
   }
 
 -- ---- images stand
-kept_stands : (s : State) (contents : Contents) (at : ℕ → List ℕ) (image : List ℕ) → IsTrue (is_super s.limits) → at 0 ≡ super_bytes s.limits → Spells s.limits contents at s
+pub kept_stands : (s : State) (contents : Contents) (at : ℕ → List ℕ) (image : List ℕ) → IsTrue (is_super s.limits) → at 0 ≡ super_bytes s.limits → Spells s.limits contents at s
     → KeptBy (image_blocks s.limits) at image → Stands image s
 unfolding KeptBy Stands
 kept_stands s contents at image range super spells keeps = by (replayed (image_blocks s.limits) image) refl keeps.1

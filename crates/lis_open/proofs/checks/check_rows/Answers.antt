@@ -1,4 +1,4 @@
-use Rattle.std.proofs.Common.{◌≡◌, ◌∙◌, ◌<◌, sym, subst, below_more}
+use Rattle.std.proofs.Common.{◌∙◌, ◌<◌, subst, below_more}
 use Rattle.lis_kept.specs.Areas.{row_slots}
 use Rattle.lis_open.proofs.Quiet.{reads_then, fits_after}
 use Rattle.lis_open.proofs.ZeroRows.{first_row}

@@ -1,4 +1,4 @@
-use Rattle.std.proofs.Common.{◌≡◌, ◌∙◌, sym, ap, not, is_some, arith}
+use Rattle.std.proofs.Common.{◌∙◌, sym, ap, not, is_some, arith}
 use Rattle.lis_blockmap.specs.Bitmap.{is_taken}
 use Rattle.lis_bits.specs.Rows.{get}
 use Rattle.lis_dict.specs.Dict.{word_of}

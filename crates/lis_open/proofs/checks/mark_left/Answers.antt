@@ -1,10 +1,11 @@
-use Rattle.std.proofs.Common.{◌≡◌, ◌⊎◌, ◌∙◌, sym, ap, inl, inr, ℕ, ◌<◌, ◌≤◌, ◌||◌, is_some, None, Some, arith}
+use Rattle.std.proofs.Common.{◌⊎◌, ◌∙◌, sym, ap, inl, inr, ◌<◌, ◌≤◌, ◌||◌, is_some, Some, arith}
 use Rattle.std.proofs.lemmas.Bool.{cases_lt}
 use Rattle.lis_bits.specs.Rows.{Rows, get}
 use Rattle.lis_dict.specs.Dict.{word_of}
 use Rattle.lis_kept.specs.Telling.{is_left_of, is_left_head_of}
 use Rattle.lis_open.specs.ReadWords.{head_by}
-use Rattle.lis_open.proofs.Lefts.{named_in, unnamed_past, head_below, none_marked, left_marked, both_marked}
+use Rattle.lis_open.proofs.Lefts.{named_in, head_below, none_marked, left_marked, both_marked}
+use Rattle.lis_open.proofs.WordUses.{no_word_past}
 use Rattle.lis_open.proofs.checks.mark_left.Goals as goal
 
 pub put-requires-clause-bit : goal.put-requires-clause-bit
@@ -24,7 +25,7 @@ pub returns-in_default-try_from-clause-bits : goal.returns-in_default-try_from-c
 returns-in_default-try_from-clause-bits c = λ n below some.
     let d = c.args.words.now.dict in
     let far : d.props ≤ c.in-Pair.left = by (cases_lt c.in-Pair.left 65536) in
-    none_marked d c.requires.words.dict c.in-Pair.left n c.args.row.now (unnamed_past d c.requires.words.dict c.in-Pair.left far) some
+    none_marked d c.requires.words.dict c.in-Pair.left n c.args.row.now (no_word_past d c.requires.words.dict c.in-Pair.left far) some
     ∙ ap (λ slot. get c.args.row.now 0 n || (is_left_of n slot || is_left_head_of d n slot)) (sym c.in-Pair.is)
   where
     by : (c.in-Pair.left < 65536) ⊎ (65536 ≤ c.in-Pair.left) → c.args.words.now.dict.props ≤ c.in-Pair.left

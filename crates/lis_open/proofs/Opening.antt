@@ -1,0 +1,386 @@
+-- How opening an image ends: the super block, the journal, and the parts behind it.
+use Rattle.std.proofs.Common.{◌≡◌, ◌⊎◌, ◌∙◌, refl, sym, ap, subst, inl, inr, ℕ, ◌*◌, ◌<◌, ◌≤◌, false, List, length, Option, Some, None, Result, Ok, Err, IsTrue, IsSomeAnd, arith, Bool, true, cond, []}
+use Rattle.lis_ports.specs.Meaning.{Meaning}
+use Rattle.lis_ports.specs.Bytes.{part}
+use Rattle.lis_ports.specs.Calls.{IsUnchanged}
+use Rattle.lis_ports.specs.Runs.{IsDiskRun, IsSettled, Leaves}
+use Rattle.lis_ports.proofs.Moments.{leaves_weaken, leaves_then}
+use Rattle.lis_journal.specs.Record.{block, has_open, bad_record, replayed, recovered_as, recovered}
+use Rattle.lis_journal.specs.Journal.{Held}
+use Rattle.lis_journal.specs.Images.{StandsFor as KeptBy, Fits, KeepsPast}
+use Rattle.lis_journal.specs.Recovery.{HasMountCause, StandsForReplayed, InRecovery, MountEnded, IsSettledPast}
+use Rattle.lis_journal.specs.declared.journal.JournalFault.{JournalFault}
+use Rattle.lis_journal.specs.declared.journal.JournalFault.TheVariants.{DiskFault as JournalDisk, BadRecord as JournalRecord, NoMemory as JournalMemory}
+use Rattle.lis_journal.proofs.Fitting.{replayed-front}
+use Rattle.lis_fields.specs.Layouts.{super_bytes, is_super}
+use Rattle.lis_model.specs.declared.limits.Limits.{Limits}
+use Rattle.lis_model.specs.declared.spot.Spot.{Spot}
+use Rattle.lis_model.specs.declared.spot.Spot.TheVariants.{Super, BadRecord, Property, Axiom, File, Word, Bitmap, Row}
+use Rattle.lis_model.specs.Image.{image_blocks}
+use Rattle.lis_model.specs.State.{State}
+use Rattle.lis_store.specs.Stands.{Stands}
+use Rattle.lis_kept.specs.Areas.{IsWritten}
+use Rattle.lis_kept.specs.Telling.{Tells}
+use Rattle.lis_store.specs.Stored.{Stored, IsSound}
+use Rattle.lis_store.proofs.Spelled.{contents_of, tells_spells}
+use Rattle.lis_store.proofs.Standing.{kept_stands}
+use Rattle.lis_open.specs.declared.mounting.OpenFault.{OpenFault}
+use Rattle.lis_open.specs.declared.mounting.OpenFault.TheVariants.{TooShort, Damaged, DiskFault, NoMemory}
+use Rattle.lis_open.specs.Opens.{HasOpenCause, HasSuper, IsNeeded, IsLongEnough, OpenEnded, Recovers, OpenLeft, InOpening, journal_fault}
+use Rattle.lis_open.specs.Checks.{Fails, FailsReplayed, RecordFails, FailsIn, IsBefore, FailsFirst}
+use Rattle.lis_open.specs.Reading.{OnlyReads, IsFirstOfAll, Opened}
+use Rattle.lis_open.specs.ReadAll.{StoreEnded}
+use Rattle.lis_open.proofs.Quiet.{fits_after, settled_after, unchanged_then}
+use Rattle.lis_open.proofs.Needs.{one_limits, has_super, needs_no_more}
+use Rattle.lis_open.proofs.Damage.{damaged}
+
+-- what is said of a value that there is
+pub some_replay : (o : Option (List ℕ)) (P : List ℕ → Type 0) → IsSomeAnd o P → (r : List ℕ) × (o ≡ Some r) × P r
+some_replay None P is = absurd is
+some_replay (Some r) P is = (r, refl, is)
+
+some_one : (a b : List ℕ) → ◌≡◌ {A = Option (List ℕ)} (Some a) (Some b) → a ≡ b
+some_one a b e = cc
+
+-- with a record that is not in form nothing is to be done
+recovered-none : (blocks : ℕ) (image : List ℕ) → replayed blocks image ≡ None → recovered blocks image ≡ image
+unfolding recovered
+recovered-none blocks image none = ap (λ o. cond (has_open image) (recovered_as image o) image) none ∙ by (has_open image)
+  where
+    by : (opened : Bool) → cond opened image image ≡ image
+    by true = refl
+    by false = refl
+
+-- ---- faults
+pub one_fault : {T : Type 0} {a b : JournalFault} → ◌≡◌ {A = Result T JournalFault} (Err a) (Err b) → a ≡ b
+one_fault is = cc
+
+pub journal_cause : (T : Type 0) (before now : ℕ) (fault : JournalFault) → HasMountCause {T = Held} before now (Err fault) → HasOpenCause {T = T} before now (Err (journal_fault fault))
+journal_cause T before now JournalDisk cause = cause
+journal_cause T before now (JournalRecord b) cause = cause
+journal_cause T before now JournalMemory cause = cause
+
+never_short : (fault : JournalFault) (len need : ℕ) → journal_fault fault ≡ TooShort len need → ⊥
+never_short JournalDisk len need is = cc
+never_short (JournalRecord b) len need is = cc
+never_short JournalMemory len need is = cc
+
+pub journal_enough : (result : Result Stored OpenFault) (opened : OpenFault) (fault : JournalFault) → result ≡ Err opened → opened ≡ journal_fault fault → (len need : ℕ) → result ≡ Err (TooShort len need) → ⊥
+journal_enough result opened fault was is len need short =
+    let both : ◌≡◌ {A = Result Stored OpenFault} (Err opened) (Err (TooShort len need)) = sym was ∙ short in
+    never_short fault len need (sym is ∙ cc)
+
+same_spot : {T : Type 0} (a b : Spot) → ◌≡◌ {A = Result T OpenFault} (Err (Damaged a)) (Err (Damaged b)) → a ≡ b
+same_spot a b is = cc
+
+-- no part is damaged
+unspotted : (old new : Meaning) (fault : OpenFault) → OpenEnded old new (Err fault) → OpenLeft old new (Err fault) → ((spot : Spot) → fault ≡ Damaged spot → ⊥) → Opened old new (Err fault)
+unspotted old new fault ended left none = record { ended = ended; left = left; spot = λ spot is. absurd (none spot cc) }
+
+spotted : (old new : Meaning) (spot : Spot) → OpenEnded old new (Err (Damaged spot)) → OpenLeft old new (Err (Damaged spot)) → FailsFirst old.bytes spot → Opened old new (Err (Damaged spot))
+spotted old new spot ended left first = record {
+  ended = ended;
+  left = left;
+  spot = λ other is. subst (λ (p : Spot). FailsFirst old.bytes p) (same_spot {T = Stored} spot other is) first;
+}
+
+pub short_opened : (old new : Meaning) (len need : ℕ) → len ≡ old.len → len < need → IsNeeded old.bytes need → IsUnchanged old new → Opened old new (Err (TooShort len need))
+short_opened old new len need is short needed same = unspotted old new (TooShort len need) (is, short, needed) same (λ spot fault. cc)
+
+pub failed_opened : (old new : Meaning) → Opened old new (Err DiskFault)
+failed_opened old new = unspotted old new DiskFault tt tt (λ spot fault. cc)
+
+-- ---- the super block, as it was read
+pub super_read : (image read : List ℕ) (limits : Limits) → read ≡ part 0 4096 image → IsTrue (is_super limits) × (read ≡ super_bytes limits) → HasSuper limits image
+super_read image read limits is spelled = record { range = spelled.0; spelled = sym is ∙ spelled.1 }
+
+pub none_read : (image read : List ℕ) (found : Option Limits) → found ≡ None → read ≡ part 0 4096 image → ((told : Limits) → IsTrue (is_super told) → read ≡ super_bytes told → found ≡ Some told)
+    → (limits : Limits) → HasSuper limits image → ⊥
+none_read image read found none is same limits super =
+    let some = same limits super.range (is ∙ super.spelled) in
+    cc
+
+-- ---- no super block
+no_super_needs : (old : Meaning) → 4096 ≤ old.len → ((limits : Limits) → HasSuper limits old.bytes → ⊥) → IsLongEnough old
+no_super_needs old long none need (inl one) = omega (arith, one, long)
+no_super_needs old long none need (inr told) = absurd (none told.0 told.1)
+
+super_first : (image : List ℕ) → ((limits : Limits) → HasSuper limits image → ⊥) → FailsFirst image Super
+super_first image none = record { fails = none; none_before = none_before }
+  where
+    none_before : (earlier : Spot) → IsBefore earlier Super → FailsIn image earlier → ⊥
+    none_before earlier (inl lower) there = omega (arith, lower)
+    none_before earlier (inr same) there = omega (arith, same.1)
+
+pub no_super_opened : (old new : Meaning) → 4096 ≤ old.len → ((limits : Limits) → HasSuper limits old.bytes → ⊥) → IsUnchanged old new → Opened old new (Err (Damaged Super))
+no_super_opened old new long none same =
+    spotted old new Super (no_super_needs old long none, λ s stands. none s.limits (has_super old.bytes s stands)) (inl (none, same)) (super_first old.bytes none)
+
+-- ---- after calls that only read
+module _ (old mid : Meaning) (same : IsUnchanged old mid) (len : mid.len ≡ old.len) where
+  needs_before : IsLongEnough mid → IsLongEnough old
+  needs_before long need needed = omega (arith, long need (subst (λ bytes. IsNeeded bytes need) (sym same.bytes) needed), len)
+
+  pub stands_before : (s : State) → Stands old.bytes s → Stands mid.bytes s
+  stands_before s stands = subst (λ bytes. Stands bytes s) (sym same.bytes) stands
+
+  no_state_before : ((s : State) → Stands mid.bytes s → ⊥) → (s : State) → Stands old.bytes s → ⊥
+  no_state_before none s stands = none s (stands_before s stands)
+
+  recovers_before : (new : Meaning) → Recovers mid new → Recovers old new
+  recovers_before new recovers = (
+    recovers.0,
+    subst (λ bytes. HasSuper recovers.0 bytes) same.bytes recovers.1,
+    subst (λ bytes. IsSettled new (recovered (image_blocks recovers.0) bytes)) same.bytes recovers.2,
+  )
+
+  left_before : (new : Meaning) (result : Result Stored OpenFault) → IsDiskRun mid new → OpenLeft mid new result → OpenLeft old new result
+  left_before new (Ok store) run left = recovers_before new left
+  left_before new (Err (TooShort len need)) run left = unchanged_then run same left
+  left_before new (Err (Damaged spot)) run (inl unread) =
+      inl (λ limits super. unread.0 limits (subst (λ bytes. HasSuper limits bytes) (sym same.bytes) super), unchanged_then run same unread.1)
+  left_before new (Err (Damaged spot)) run (inr recovers) = inr (recovers_before new recovers)
+  left_before new (Err DiskFault) run left = tt
+  left_before new (Err NoMemory) run left = unchanged_then run same left
+
+  pub opening_before : (new : Meaning) → Leaves old mid old.images → Leaves mid new (InOpening mid) → Leaves old new (InOpening old)
+  opening_before new first second = leaves_then (leaves_weaken (InOpening old) first (λ image is. inl is)) (leaves_weaken (InOpening old) second by)
+    where
+      by : (image : List ℕ) → InOpening mid image → InOpening old image
+      by image (inl is) = inl (same.images.only image is)
+      by image (inr told) = inr (told.0, subst (λ bytes. HasSuper told.0 bytes) same.bytes told.1, subst (λ bytes. InRecovery (image_blocks told.0) bytes image) same.bytes told.2)
+
+  pub opened_before : (new : Meaning) (result : Result Stored OpenFault) → IsDiskRun mid new → Opened mid new result → Opened old new result
+  opened_before new result run opened = record {
+    ended = by result opened.ended;
+    left = left_before new result run opened.left;
+    spot = λ spot is. subst (λ bytes. FailsFirst bytes spot) same.bytes (opened.spot spot is);
+  }
+    where
+      by : (o : Result Stored OpenFault) → OpenEnded mid new o → OpenEnded old new o
+      by (Ok store) ended = (needs_before ended.0, (ended.1.0, subst (λ bytes. Stands bytes ended.1.0) same.bytes ended.1.1, ended.1.2))
+      by (Err (TooShort found need)) ended = (ended.0 ∙ len, ended.1, subst (λ bytes. IsNeeded bytes need) same.bytes ended.2)
+      by (Err (Damaged spot)) ended = (needs_before ended.0, no_state_before ended.1)
+      by (Err DiskFault) ended = tt
+      by (Err NoMemory) ended =
+          (needs_before ended.0, (ended.1.0, subst (λ bytes. HasSuper ended.1.0 bytes) same.bytes ended.1.1), λ s stands. ended.2 s (stands_before s stands))
+
+  settled_before : (blocks : ℕ) → IsSettledPast blocks old → IsSettledPast blocks mid
+  settled_before blocks settled image is n past = settled image (same.images.only image is) n past ∙ sym (ap (block n) same.bytes)
+
+  -- what lies past the image stays; the super block was read as `told`
+  pub mount_past : {Fails : Type 0} (new : Meaning) (told other : Limits) → HasSuper told old.bytes → HasSuper other old.bytes → (Fails → IsSettledPast (image_blocks other) old)
+      → ((Fails → IsSettledPast (image_blocks told) mid) → KeepsPast (image_blocks told) mid new) → KeepsPast (image_blocks other) old new
+  mount_past {Fails} new told other super others settled keeps =
+      let is : told ≡ other = one_limits old.bytes told other super others in
+      let settles : Fails → IsSettledPast (image_blocks told) mid =
+      λ failed. settled_before (image_blocks told) (subst (λ (l : Limits). IsSettledPast (image_blocks l) old) (sym is) (settled failed)) in
+      subst (λ (l : Limits). KeepsPast (image_blocks l) old new) is (λ n past. keeps settles n past ∙ ap (block n) same.bytes)
+
+-- ---- the super block tells the limits
+-- what holds of a store that was opened over a journal
+pub record IsOpened (journal : Held) (store : Stored) : Type 0 where
+  pub sound : IsSound store
+  pub over : store.journal ≡ journal
+  pub unbroken : store.is_broken ≡ false
+
+module _ (old : Meaning) (limits : Limits) (super : HasSuper limits old.bytes) (long : 4096 * image_blocks limits ≤ old.len) where
+  pub long_enough : IsLongEnough old
+  long_enough need (inl one) = omega (arith, one, long)
+  long_enough need (inr told) = omega (arith, ap image_blocks (one_limits old.bytes told.0 limits told.1 super), told.2, long)
+
+  pub state_limits : (s : State) → Stands old.bytes s → limits ≡ s.limits
+  state_limits s stands = one_limits old.bytes limits s.limits super (has_super old.bytes s stands)
+
+  -- what stands for the replayed image stands for the state
+  pub replayed_stands : (s : State) (image : List ℕ) → Stands old.bytes s → StandsForReplayed (image_blocks limits) old.bytes image → Stands image s
+  unfolding Stands
+  replayed_stands s image stands told =
+      let same = ap image_blocks (state_limits s stands) in
+      by (replayed (image_blocks s.limits) old.bytes) stands.replays (subst (λ b. StandsForReplayed b old.bytes image) same told)
+    where
+      at_replay : (o : Option (List ℕ)) → o ≡ Some stands.replay → IsSomeAnd o (λ r. KeptBy (image_blocks s.limits) (λ n. block n r) image) → KeptBy (image_blocks s.limits) (λ n. block n stands.replay) image
+      at_replay o is kept = subst (λ (p : Option (List ℕ)). IsSomeAnd p (λ r. KeptBy (image_blocks s.limits) (λ n. block n r) image)) is kept
+
+      by : (o : Option (List ℕ)) → o ≡ Some stands.replay → IsSomeAnd o (λ r. KeptBy (image_blocks s.limits) (λ n. block n r) image) → Stands image s
+      by o is kept =
+          kept_stands s stands.contents (λ n. block n stands.replay) image stands.range
+          (replayed-front (image_blocks s.limits) old.bytes stands.replay (omega arith) stands.long stands.replays ∙ stands.super) stands.spells (at_replay o is kept)
+
+  -- ---- the journal
+  record_fails : (b : ℕ) → replayed (image_blocks limits) old.bytes ≡ None → bad_record (image_blocks limits) old.bytes ≡ Some b → RecordFails old.bytes b
+  record_fails b none is = record { limits = limits; super = super; replays = none; bad = is }
+
+  one_bad : (a b : ℕ) → RecordFails old.bytes a → bad_record (image_blocks limits) old.bytes ≡ Some b → a ≡ b
+  one_bad a b fails is =
+      let same = one_limits old.bytes fails.limits limits fails.super super in
+      let both = sym fails.bad ∙ (ap (λ (l : Limits). bad_record (image_blocks l) old.bytes) same ∙ is) in
+      cc
+
+  pub record_first : (b : ℕ) → replayed (image_blocks limits) old.bytes ≡ None → bad_record (image_blocks limits) old.bytes ≡ Some b → FailsFirst old.bytes (BadRecord b)
+  record_first b none is = record { fails = record_fails b none is; none_before = none_before }
+    where
+      none_before : (earlier : Spot) → IsBefore earlier (BadRecord b) → FailsIn old.bytes earlier → ⊥
+      none_before Super before fails = fails limits super
+      none_before (BadRecord a) (inl lower) fails = omega (arith, lower)
+      none_before (BadRecord a) (inr same) fails = omega (arith, same.1, one_bad a b fails is)
+      none_before (Property n) (inl lower) fails = omega (arith, lower)
+      none_before (Property n) (inr same) fails = omega (arith, same.0)
+      none_before (Axiom n) (inl lower) fails = omega (arith, lower)
+      none_before (Axiom n) (inr same) fails = omega (arith, same.0)
+      none_before (File n) (inl lower) fails = omega (arith, lower)
+      none_before (File n) (inr same) fails = omega (arith, same.0)
+      none_before (Word n) (inl lower) fails = omega (arith, lower)
+      none_before (Word n) (inr same) fails = omega (arith, same.0)
+      none_before (Bitmap n) (inl lower) fails = omega (arith, lower)
+      none_before (Bitmap n) (inr same) fails = omega (arith, same.0)
+      none_before (Row n) (inl lower) fails = omega (arith, lower)
+      none_before (Row n) (inr same) fails = omega (arith, same.0)
+
+  pub memory_opened : (new : Meaning) → IsUnchanged old new → Opened old new (Err NoMemory)
+  memory_opened new same =
+      unspotted old new NoMemory (long_enough, (limits, super), λ s stands. subst (λ bytes. Stands bytes s) (sym same.bytes) stands) same (λ spot none. cc)
+
+  pub journal_opened : (new : Meaning) (outcome : Result Held JournalFault) (fault : JournalFault) → outcome ≡ Err fault → MountEnded (image_blocks limits) old new outcome
+      → (outcome ≡ Err JournalMemory → IsUnchanged old new) → Opened old new (Err (journal_fault fault))
+  journal_opened new outcome fault is ended unread = by fault (subst (λ (o : Result Held JournalFault). MountEnded (image_blocks limits) old new o) is ended) (λ memory. unread (is ∙ ap Err memory))
+    where
+      by : (f : JournalFault) → MountEnded (image_blocks limits) old new (Err f) → (f ≡ JournalMemory → IsUnchanged old new) → Opened old new (Err (journal_fault f))
+      by JournalDisk told same = failed_opened old new
+      by (JournalRecord b) told same =
+          spotted old new (BadRecord b) (long_enough, λ s stands. damaged old.bytes s (BadRecord b) stands (record_fails b told.0 told.1))
+          (inr (limits, super, subst (λ bytes. IsSettled new bytes) (sym (recovered-none (image_blocks limits) old.bytes told.0)) told.2)) (record_first b told.0 told.1)
+      by JournalMemory told same =
+          memory_opened new (same refl)
+
+  in_opening : (image : List ℕ) → old.images image ⊎ InRecovery (image_blocks limits) old.bytes image → InOpening old image
+  in_opening image (inl is) = inl is
+  in_opening image (inr told) = inr (limits, super, told)
+
+  pub journal_moments : (new : Meaning) → Leaves old new (λ image. old.images image ⊎ InRecovery (image_blocks limits) old.bytes image) → Leaves old new (InOpening old)
+  journal_moments new moments = leaves_weaken (InOpening old) moments in_opening
+
+  -- ---- the parts behind the journal
+  module _ (whole : length old.bytes ≡ old.len) (r : List ℕ) (replays : replayed (image_blocks limits) old.bytes ≡ Some r) where
+    abbrev kept : ℕ → List ℕ
+    kept n = block n r
+
+    super_kept : block 0 r ≡ super_bytes limits
+    super_kept = replayed-front (image_blocks limits) old.bytes r (omega arith) (omega (arith, whole, long)) replays ∙ super.spelled
+
+    fails_replayed : (spot : Spot) → Fails limits kept spot → FailsReplayed old.bytes spot
+    fails_replayed spot fails = record { limits = limits; super = super; replay = r; replays = replays; fails = fails }
+
+    fails_in : (spot : Spot) → Fails limits kept spot → FailsIn old.bytes spot
+    fails_in Super fails = absurd fails
+    fails_in (BadRecord b) fails = absurd fails
+    fails_in (Property n) fails = fails_replayed (Property n) fails
+    fails_in (Axiom n) fails = fails_replayed (Axiom n) fails
+    fails_in (File n) fails = fails_replayed (File n) fails
+    fails_in (Word n) fails = fails_replayed (Word n) fails
+    fails_in (Bitmap n) fails = fails_replayed (Bitmap n) fails
+    fails_in (Row n) fails = fails_replayed (Row n) fails
+
+    replayed_fails : (spot : Spot) → FailsReplayed old.bytes spot → Fails limits kept spot
+    replayed_fails spot told =
+        let same = one_limits old.bytes told.limits limits told.super super in
+        let replay = some_one told.replay r (sym told.replays ∙ (ap (λ (l : Limits). replayed (image_blocks l) old.bytes) same ∙ replays)) in
+        subst (λ (l : Limits). Fails l kept spot) same (subst (λ (bytes : List ℕ). Fails told.limits (λ n. block n bytes) spot) replay told.fails)
+
+    no_bad_record : (b : ℕ) → RecordFails old.bytes b → ⊥
+    no_bad_record b told =
+        let same = one_limits old.bytes told.limits limits told.super super in
+        let none = sym told.replays ∙ (ap (λ (l : Limits). replayed (image_blocks l) old.bytes) same ∙ replays) in
+        cc
+
+    parts_first : (spot : Spot) → IsFirstOfAll limits kept spot → FailsFirst old.bytes spot
+    parts_first spot first = record { fails = fails_in spot first.fails; none_before = none_before }
+      where
+        none_before : (earlier : Spot) → IsBefore earlier spot → FailsIn old.bytes earlier → ⊥
+        none_before Super before fails = fails limits super
+        none_before (BadRecord b) before fails = no_bad_record b fails
+        none_before (Property n) before fails = first.none_before (Property n) before (replayed_fails (Property n) fails)
+        none_before (Axiom n) before fails = first.none_before (Axiom n) before (replayed_fails (Axiom n) fails)
+        none_before (File n) before fails = first.none_before (File n) before (replayed_fails (File n) fails)
+        none_before (Word n) before fails = first.none_before (Word n) before (replayed_fails (Word n) fails)
+        none_before (Bitmap n) before fails = first.none_before (Bitmap n) before (replayed_fails (Bitmap n) fails)
+        none_before (Row n) before fails = first.none_before (Row n) before (replayed_fails (Row n) fails)
+
+    kept_told : (image : List ℕ) → KeptBy (image_blocks limits) kept image → StandsForReplayed (image_blocks limits) old.bytes image
+    kept_told image stands =
+        subst (λ (o : Option (List ℕ)). IsSomeAnd o (λ bytes. KeptBy (image_blocks limits) (λ n. block n bytes) image)) (sym replays) stands
+
+    module _ (journal : Held) (new : Meaning) (fits : Fits journal new kept) (left : Recovers old new) where
+      -- the state that a store tells
+      told_stand : (store : Stored) (s : State) → IsSound store → Tells store.parts kept s → IsWritten store.parts kept → store.parts.limits ≡ limits → Stands old.bytes s
+      unfolding Stands
+      told_stand store s sound tells written same =
+          let limits_are : limits ≡ s.limits = sym same ∙ ap (λ (t : State). t.limits) tells.state in
+          record {
+            range = subst (λ (l : Limits). IsTrue (is_super l)) limits_are super.range;
+            super = super.spelled ∙ ap super_bytes limits_are;
+            long = omega (arith, whole, long, ap image_blocks limits_are);
+            replay = r;
+            replays = ap (λ (l : Limits). replayed (image_blocks l) old.bytes) (sym limits_are) ∙ replays;
+            contents = contents_of store.parts;
+            spells = tells_spells store.parts kept s sound.parts sound.free sound.pairs written tells;
+          }
+
+      -- its limits are those of the super block
+      told_limits : (store : Stored) (s : State) → IsSound store → Tells store.parts kept s → store.parts.limits ≡ limits
+      told_limits store s sound tells =
+          let told : store.parts.limits ≡ s.limits = ap (λ (t : State). t.limits) tells.state in
+          told
+          ∙ one_limits r s.limits limits (record { range = subst (λ (l : Limits). IsTrue (is_super l)) told sound.range; spelled = tells.super }) (record { range = super.range; spelled = super_kept })
+
+      parts_opened : (result : Result Stored OpenFault) → ((store : Stored) → result ≡ Ok store → IsOpened journal store) → StoreEnded limits kept result → Opened old new result
+      parts_opened (Ok store) opened ended =
+          let is = opened store refl in
+          record {
+            ended = (
+              long_enough,
+              (
+                ended.state,
+                told_stand store ended.state is.sound ended.tells ended.written (told_limits store ended.state is.sound ended.tells),
+                record {
+                  kept = kept;
+                  journal = subst (λ (j : Held). Fits j new kept) (sym is.over) fits;
+                  unbroken = is.unbroken;
+                  tells = ended.tells;
+                  written = ended.written;
+                },
+              ),
+            );
+            left = left;
+            spot = λ spot is. absurd cc;
+          }
+      parts_opened (Err (TooShort len need)) opened fails = absurd fails
+      parts_opened (Err (Damaged spot)) opened fails =
+          spotted old new spot (long_enough, λ s stands. damaged old.bytes s spot stands (fails_in spot fails.fails)) (inr left) (parts_first spot fails)
+      parts_opened (Err DiskFault) opened fails = failed_opened old new
+      parts_opened (Err NoMemory) opened fails = absurd fails
+
+  -- where it was mounted, and what it fits then was read
+  pub store_opened : length old.bytes ≡ old.len → (journal : Held) (mid new : Meaning) (result : Result Stored OpenFault) → IsSomeAnd (replayed (image_blocks limits) old.bytes) (λ r. Fits journal mid (λ n. block n r))
+      → IsSettled mid (recovered (image_blocks limits) old.bytes) → OnlyReads mid new → ((store : Stored) → result ≡ Ok store → IsOpened journal store)
+      → ((kept : ℕ → List ℕ) → Fits journal mid kept → kept 0 ≡ super_bytes limits → StoreEnded limits kept result) → Opened old new result
+  store_opened whole journal mid new result mounted settled reads opened ended =
+      let found = some_replay (replayed (image_blocks limits) old.bytes) (λ r. Fits journal mid (λ n. block n r)) mounted in
+      let kept : ℕ → List ℕ = λ n. block n found.0 in
+      let left : Recovers old new = (limits, super, settled_after reads found.2.honest settled) in
+      parts_opened whole found.0 found.1 journal new (fits_after journal kept reads found.2) left result opened (ended kept found.2 (super_kept whole found.0 found.1))
+
+  pub store_moments : (mid new : Meaning) → ((image : List ℕ) → mid.images image → old.images image ⊎ InRecovery (image_blocks limits) old.bytes image)
+      → Leaves old mid (λ image. old.images image ⊎ InRecovery (image_blocks limits) old.bytes image) → Leaves mid new mid.images → Leaves old new (InOpening old)
+  store_moments mid new still moments reads =
+      leaves_then (journal_moments mid moments) (leaves_weaken (InOpening old) reads (λ image is. in_opening image (still image is)))
+
+-- ---- where the image stood for a state
+pub moments_stand : (old new : Meaning) (s : State) → length old.bytes ≡ old.len → Stands old.bytes s → Leaves old new (InOpening old) → Leaves old new (λ image. old.images image ⊎ Stands image s)
+moments_stand old new s whole stands moments = leaves_weaken (λ image. old.images image ⊎ Stands image s) moments by
+  where
+    by : (image : List ℕ) → InOpening old image → old.images image ⊎ Stands image s
+    by image (inl is) = inl is
+    by image (inr told) =
+        let enough = needs_no_more old.bytes s (4096 * image_blocks told.0) stands (inr (told.0, told.1, refl)) in
+        inr (replayed_stands old told.0 told.1 (omega (arith, enough, whole)) s image stands told.2.stands)

@@ -1,0 +1,86 @@
+use Rattle.std.proofs.Common.{◌≡◌, ◌⊎◌, ℕ, List, ◌∙◌, sym, ap, subst, Err, Result, IfOk, false, arith}
+use Rattle.std.proofs.lemmas.Result.{err_from_is_err_and}
+use Rattle.lis_journal.specs.Record.{block, recovered}
+use Rattle.lis_journal.specs.Images.{KeepsPast}
+use Rattle.lis_journal.specs.Journal.{Held}
+use Rattle.lis_journal.specs.Recovery.{InRecovery, MountEnded, IsSettledPast}
+use Rattle.lis_journal.specs.declared.journal.JournalFault.{JournalFault}
+use Rattle.lis_journal.specs.declared.journal.JournalFault.TheVariants.{DiskFault as JournalDisk}
+use Rattle.lis_ports.specs.Runs.{Leaves, IsSettled}
+use Rattle.lis_ports.specs.Calls.{IsUnchanged}
+use Rattle.lis_model.specs.Image.{image_blocks}
+use Rattle.lis_store.specs.Stored.{Stored, IsSound}
+use Rattle.lis_open.specs.declared.mounting.OpenFault.{OpenFault}
+use Rattle.lis_open.proofs.Opening.{one_fault, memory_opened, journal_cause, journal_enough, journal_opened, journal_moments, store_opened, store_moments}
+use Rattle.lis_open.specs.Opens.{journal_fault}
+use Rattle.lis_open.proofs.Quiet.{unchanged_none}
+use Rattle.lis_open.proofs.mounting.mount_image.Goals as goal
+
+pub returns-in_err-room-clause-opened : goal.returns-in_err-room-clause-opened
+returns-in_err-room-clause-opened g c = λ honest.
+    let old = g.D.Disk.meaning c.args.disk.now in
+    let p = err_from_is_err_and c.from_residual.result c.from_residual.ensures.1 in
+    rw (p.1, p.2) (memory_opened old c.args.limits (c.requires.begins honest) c.requires.long old (unchanged_none old))
+
+pub returns-in_err-journal-clause-cause : goal.returns-in_err-journal-clause-cause
+returns-in_err-journal-clause-cause g c =
+    let p = err_from_is_err_and c.from_residual-in_err-journal.result c.from_residual-in_err-journal.ensures.1 in
+    rw (p.1, p.2) (journal_cause Stored _ _ c.in_err-journal.field-0.0 c.in_err-journal.ensures.cause)
+
+pub returns-in_err-journal-clause-fits_disk : goal.returns-in_err-journal-clause-fits_disk
+returns-in_err-journal-clause-fits_disk g c =
+    let p = err_from_is_err_and c.from_residual-in_err-journal.result c.from_residual-in_err-journal.ensures.1 in
+    journal_enough c.from_residual-in_err-journal.result p.0 c.in_err-journal.field-0.0 p.1 p.2
+
+pub returns-in_err-journal-clause-opened : goal.returns-in_err-journal-clause-opened
+returns-in_err-journal-clause-opened g c = λ honest.
+    let old = g.D.Disk.meaning c.args.disk.now in
+    let new = g.D.Disk.meaning c.mount.new.disk in
+    let p = err_from_is_err_and c.from_residual-in_err-journal.result c.from_residual-in_err-journal.ensures.1 in
+    let ended = subst (λ b. MountEnded b old new c.mount.result) c.image_blocks.ensures.blocks (c.mount.ensures.ended honest) in
+    rw (p.1, p.2) (journal_opened old c.args.limits (c.requires.begins honest) c.requires.long new c.mount.result c.in_err-journal.field-0.0 c.in_err-journal.was ended
+    (λ memory. subst (λ d. IsUnchanged old (g.D.Disk.meaning d)) (sym (c.mount.ensures.memory memory)) (unchanged_none old)))
+
+pub returns-in_err-journal-clause-any_moment : goal.returns-in_err-journal-clause-any_moment
+returns-in_err-journal-clause-any_moment g c = λ honest.
+    let old = g.D.Disk.meaning c.args.disk.now in
+    let new = g.D.Disk.meaning c.mount.new.disk in
+    journal_moments old c.args.limits (c.requires.begins honest) c.requires.long new
+    (subst (λ b. Leaves old new (λ image. old.images image ⊎ InRecovery b old.bytes image)) c.image_blocks.ensures.blocks (c.mount.ensures.any_moment honest))
+
+pub returns-in_err-journal-clause-past : goal.returns-in_err-journal-clause-past
+returns-in_err-journal-clause-past g c = λ honest settled.
+    let old = g.D.Disk.meaning c.args.disk.now in
+    let new = g.D.Disk.meaning c.mount.new.disk in
+    let p = err_from_is_err_and c.from_residual-in_err-journal.result c.from_residual-in_err-journal.ensures.1 in
+    let failed : c.mount.result ≡ Err JournalDisk → c.in_err-journal.field-0.0 ≡ JournalDisk = λ is. one_fault (sym c.in_err-journal.was ∙ is) in
+    subst (λ b. KeepsPast b old new) c.image_blocks.ensures.blocks
+    (c.mount.ensures.past honest (λ is. subst (λ b. IsSettledPast b old) (sym c.image_blocks.ensures.blocks) (settled (p.1 ∙ ap Err (p.2 ∙ ap journal_fault (failed is))))))
+
+pub returns-clause-opened : goal.returns-clause-opened
+returns-clause-opened g c = λ honest.
+    let old = g.D.Disk.meaning c.args.disk.now in
+    let mid = g.D.Disk.meaning c.mount.new.disk in
+    let ended = subst (λ b. MountEnded b old mid c.mount.result) c.image_blocks.ensures.blocks (c.mount.ensures.ended honest) in
+    store_opened old c.args.limits (c.requires.begins honest) c.requires.long (g.met.D.Disk.reads_len c.args.disk.now honest) c.in_ok-journal.journal mid (g.D.Disk.meaning c.read_store.new.disk) c.read_store.result
+    (subst (λ (o : Result Held JournalFault). MountEnded (image_blocks c.args.limits) old mid o) c.in_ok-journal.was ended)
+    (subst (λ b. IsSettled mid (recovered b old.bytes)) c.image_blocks.ensures.blocks (c.in_ok-journal.ensures.left honest)) c.read_store.ensures.reads
+    (λ store is. record {
+      sound = subst (λ (o : Result Stored OpenFault). IfOk o IsSound) is c.read_store.ensures.sound;
+      over = subst (λ (o : Result Stored OpenFault). IfOk o (λ k. k.journal ≡ c.in_ok-journal.journal)) is c.read_store.ensures.journal;
+      unbroken = subst (λ (o : Result Stored OpenFault). IfOk o (λ k. k.is_broken ≡ false)) is c.read_store.ensures.unbroken;
+    })
+    c.read_store.ensures.ended
+
+pub returns-clause-any_moment : goal.returns-clause-any_moment
+returns-clause-any_moment g c = λ honest.
+    let old = g.D.Disk.meaning c.args.disk.now in
+    let mid = g.D.Disk.meaning c.mount.new.disk in
+    store_moments old c.args.limits (c.requires.begins honest) c.requires.long mid (g.D.Disk.meaning c.read_store.new.disk)
+    (subst (λ b. (image : List ℕ) → mid.images image → old.images image ⊎ InRecovery b old.bytes image) c.image_blocks.ensures.blocks (c.in_ok-journal.ensures.images honest))
+    (subst (λ b. Leaves old mid (λ image. old.images image ⊎ InRecovery b old.bytes image)) c.image_blocks.ensures.blocks (c.mount.ensures.any_moment honest))
+    (c.read_store.ensures.reads.moments (c.mount.ensures.run.honest ∙ honest))
+
+pub returns-clause-past : goal.returns-clause-past
+returns-clause-past g c = λ honest settled n past.
+    ap (block n) (c.read_store.ensures.reads.same (c.mount.ensures.run.honest ∙ honest)).bytes ∙ c.in_ok-journal.ensures.past honest (λ e. absurd (cc)) n (omega (arith, past, c.image_blocks.ensures.blocks))

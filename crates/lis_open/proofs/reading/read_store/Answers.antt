@@ -1,0 +1,43 @@
+use Rattle.std.proofs.Common.{◌∙◌, ◌==◌, sym, ap, subst, false}
+use Rattle.std.proofs.lemmas.Bool.{and_parts}
+use Rattle.std.proofs.lemmas.Result.{err_from_is_err_and}
+use Rattle.lis_model.specs.Ranges.{are_in_range}
+use Rattle.lis_kept.specs.Kept.{Kept}
+use Rattle.lis_store.specs.Stored.{Stored, IsSound}
+use Rattle.lis_open.proofs.Joined.{parts_held, store_sound}
+use Rattle.lis_open.proofs.Told.{store_told}
+use Rattle.lis_open.proofs.reading.read_store.Goals as goal
+
+pub returns-in_err-read_parts-clause-ended : goal.returns-in_err-read_parts-clause-ended
+returns-in_err-read_parts-clause-ended g c = λ kept fits super.
+    let p = err_from_is_err_and c.from_residual.result c.from_residual.ensures.1 in
+    rw (p.1, p.2) (c.in_err-read_parts.ensures.ended kept fits)
+
+pub join-parts-requires : goal.join-parts-requires
+join-parts-requires g c =
+    let limits = c.args.limits in
+    let range = (and_parts (limits.version == 1) (are_in_range limits) c.requires.range).1 in
+    parts_held limits c.read_parts.new.words c.read_parts.new.axioms c.read_parts.new.files c.args.room.marks (c.in_ok-read_parts.ensures.read c.args.room.marks) range c.requires.room.marks
+
+pub join-requires : goal.join-requires
+join-requires g c =
+    let limits = c.args.limits in
+    let range = (and_parts (limits.version == 1) (are_in_range limits) c.requires.range).1 in
+    let sound = store_sound limits c.read_parts.new.words c.read_parts.new.axioms c.read_parts.new.files c.args.room.marks (c.in_ok-read_parts.ensures.read c.args.room.marks) range c.requires.room.marks
+    c.args.journal c.requires.range c.requires.image c.requires.unbroken c.requires.clean c.requires.unplaced in
+    subst (λ (k : Kept). IsSound (record { parts = k; journal = c.args.journal; is_broken = false })) (sym c.join-parts.ensures) sound
+
+pub returns-clause-sound : goal.returns-clause-sound
+returns-clause-sound g c =
+    let limits = c.args.limits in
+    let range = (and_parts (limits.version == 1) (are_in_range limits) c.requires.range).1 in
+    let sound = store_sound limits c.read_parts.new.words c.read_parts.new.axioms c.read_parts.new.files c.args.room.marks (c.in_ok-read_parts.ensures.read c.args.room.marks) range c.requires.room.marks
+    c.args.journal c.requires.range c.requires.image c.requires.unbroken c.requires.clean c.requires.unplaced in
+    subst IsSound (sym c.join.ensures) (subst (λ (k : Kept). IsSound (record { parts = k; journal = c.args.journal; is_broken = false })) (sym c.join-parts.ensures) sound)
+
+pub returns-clause-ended : goal.returns-clause-ended
+returns-clause-ended g c = λ kept fits super.
+    let limits = c.args.limits in
+    let parts = ap (λ (s : Stored). s.parts) c.join.ensures ∙ c.join-parts.ensures in
+    store_told limits c.read_parts.new.words c.read_parts.new.axioms c.read_parts.new.files c.args.room.marks kept (c.in_ok-read_parts.ensures.read c.args.room.marks)
+    (c.in_ok-read_parts.ensures.ended kept fits) c.requires.range c.requires.room.marks c.join.result parts super
