@@ -3,7 +3,7 @@
 ghost use Rattle.std.specs.Prelude.{◌≡◌};
 ghost use Rattle.lis_memdisk.specs.MemStation.{meaning_of};
 
-use crate::tests::tables::{FIRST_SESSIONS, IMAGE_WORDS, ROWS, SESSIONS};
+use crate::tests::tables::{IMAGE_WORDS, ROWS, SESSIONS};
 use crate::tests::{SOUND, call, row_of};
 use lis_memdisk::MemStation;
 use lis_ports::Disk;
@@ -61,7 +61,7 @@ pub fn session(alloc: Global, image: &[u8], row: &str) -> Result<(Status, String
 fn images_show_what_plain_states_show(rt: HostRuntime) -> Result<(), Fail> {
     let alloc = rt.alloc();
     let image = fresh(alloc)?;
-    for (row, wanted) in FIRST_SESSIONS.iter().chain(SESSIONS.iter()) {
+    for (row, wanted) in &SESSIONS {
         let (status, shown) = session(alloc, &image, row)?;
         assert_eq!(rt; shown.as_str(), *wanted, "{row}");
         assert_eq!(rt; status, Status::Done, "{row}");

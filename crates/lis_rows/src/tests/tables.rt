@@ -3,16 +3,13 @@
 use lis_model::spot::Spot;
 use lis_shell::status::Status;
 
-pub static FIRST_SESSIONS: [(&str, &str); 3] = [
+pub static SESSIONS: [(&str, &str); 36] = [
     ("", ""),
     (
         "mkdir music;create a;create b music;ls;",
         "ok;ok;ok;d music;f a;ok;",
     ),
     ("create a;create b;ls;", "ok;ok;f a;f b;ok;"),
-];
-
-pub static SESSIONS: [(&str, &str); 33] = [
     // Blanks, tabs, carriage returns, empty lines, and a last line without a line feed.
     ("mkdir a^;mkdir a;", "ok;no 11 already declared;"),
     ("mkdir a^^;mkdir a;", "no 01 bad line;ok;"),
