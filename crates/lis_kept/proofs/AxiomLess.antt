@@ -1,13 +1,12 @@
 -- An axiom that leaves its slot.
-use Rattle.std.proofs.Common.{◌≡◌, ◌⊎◌, ◌↔◌, refl, sym, ap, ap₂, ◌∙◌, subst, inl, inr, ℕ, ◌<◌, ◌==◌, ◌&&◌, ◌||◌, not, Bool, true, false, List, [], ◌∷◌, length, set, slice_get, Some, None, Option, Result, Err, IsSome, arith, length-set, get_or-set_other, eq-eqb}
+use Rattle.std.proofs.Common.{◌≡◌, ◌⊎◌, ◌↔◌, refl, sym, ap, ap₂, ◌∙◌, subst, inl, inr, ℕ, ◌<◌, ◌==◌, ◌&&◌, ◌||◌, not, Bool, true, false, List, set, slice_get, Some, Result, Err, arith, length-set, get_or-set_other}
 use Rattle.std.specs.declared.cmp.Ordering.{Ordering}
 use Rattle.std.specs.declared.cmp.Ordering.TheVariants.{Less, Equal, Greater}
 use Rattle.std.specs.Ordering.{nat_cmp, ordering_then, is_eq, eq_by_cmp}
 use Rattle.std.specs.Cmp.{IsTotalOrder, nat_cmp_total, unsigned_tied}
 use Rattle.std.specs.FinSet as set_of_edges
 use Rattle.std.specs.List.{list_any, filter}
-use Rattle.std.specs.List.Sorted.{IsStrictlySortedBy}
-use Rattle.std.proofs.lemmas.Bool.{cases_eq, and_parts, and_from, both_ways, eqb-true, false_from_ne_true, not_from_false, not-true}
+use Rattle.std.proofs.lemmas.Bool.{and_parts, and_from, both_ways, eqb-true, false_from_ne_true, not_from_false, not-true}
 use Rattle.std.proofs.lemmas.Option.{same_Some}
 use Rattle.std.proofs.lemmas.List.Kept.{IsStrictlySortedBy-filter}
 use Rattle.std.proofs.lemmas.Map.Lookups.{exact_unsigned}
@@ -24,7 +23,7 @@ use Rattle.lis_fields.specs.declared.slots.AxiomSlot.{AxiomSlot}
 use Rattle.lis_fields.specs.declared.slots.AxiomSlot.TheVariants.{Free as FreeAxiom, Pair}
 use Rattle.lis_words.specs.Words.{same_word}
 use Rattle.lis_model.specs.State.{pair_cmp}
-use Rattle.lis_model.specs.Changes.{same_pair, axiom_removed}
+use Rattle.lis_model.specs.Changes.{same_pair}
 use Rattle.lis_laws.proofs.Members.{pair_order, same_word_decides}
 use Rattle.lis_kept.specs.Kept.{Kept}
 use Rattle.lis_kept.specs.Areas.{Area, slots_of, block_of, spelled}
@@ -38,7 +37,7 @@ use Rattle.lis_kept.proofs.InArea.{among_slots}
 use Rattle.lis_kept.proofs.Marking.{block_marked}
 use Rattle.lis_kept.proofs.OwnLinks.{own_link_is, slot_at}
 use Rattle.lis_kept.proofs.Known.{one_number, axiom_among, among_axiom}
-use Rattle.lis_kept.proofs.AxiomSlots.{set_here, set_cases, set_there, any_set, any_unset, axiom_within, same_sides}
+use Rattle.lis_kept.proofs.AxiomSlots.{set_cases, set_there, any_unset, axiom_within, same_sides}
 use Rattle.lis_kept.proofs.PlainWords.{not_head}
 use Rattle.lis_kept.proofs.AxiomMore.{sorted_axioms, swapped, used_more}
 

@@ -1,7 +1,6 @@
 -- An axiom that comes into a free slot.
-use Rattle.std.proofs.Common.{◌≡◌, ◌⊎◌, ◌↔◌, refl, sym, ap, ap₂, ◌∙◌, subst, inl, inr, ℕ, ◌<◌, ◌==◌, ◌&&◌, ◌||◌, Bool, true, false, List, [], length, set, slice_get, Some, Option, Result, Err, is_some, IsSome, arith, length-set, get_or-set_other, eq-eqb}
-use Rattle.std.specs.BTreeSet.{insert_key}
-use Rattle.std.specs.List.{list_any, fold}
+use Rattle.std.proofs.Common.{◌≡◌, ◌⊎◌, ◌↔◌, refl, sym, ap, ap₂, ◌∙◌, subst, inl, inr, ℕ, ◌<◌, ◌==◌, ◌&&◌, ◌||◌, Bool, true, false, List, [], set, slice_get, Some, Result, Err, is_some, IsSome, arith, length-set, get_or-set_other, eq-eqb}
+use Rattle.std.specs.List.{list_any}
 use Rattle.std.specs.List.Sorted.{IsStrictlySortedBy}
 use Rattle.std.proofs.lemmas.Bool.{cases_eq, ne_eqb, both_ways}
 use Rattle.std.proofs.lemmas.Option.{same_Some}
@@ -17,7 +16,7 @@ use Rattle.lis_fields.specs.Layouts.{axiom_bytes}
 use Rattle.lis_fields.specs.declared.slots.AxiomSlot.{AxiomSlot}
 use Rattle.lis_fields.specs.declared.slots.AxiomSlot.TheVariants.{Free as FreeAxiom, Pair}
 use Rattle.lis_model.specs.State.{pair_cmp, up}
-use Rattle.lis_model.specs.Changes.{with_axiom, axiom_added}
+use Rattle.lis_model.specs.Changes.{with_axiom}
 use Rattle.lis_laws.proofs.Members.{pair_exact, pair_order, has_word_from_among}
 use Rattle.lis_kept.specs.Kept.{Kept}
 use Rattle.lis_kept.specs.Areas.{Area, slots_of, block_of, spelled}

@@ -27,4 +27,12 @@ pub mod AxiomSlots
 pub mod AxiomMore
 pub mod AxiomLess
 pub mod WordUndeclared
+pub mod MarkedWithin
 pub mod Widened
+pub mod AxiomsTold
+pub mod AxiomDescribed
+pub mod Needed
+pub mod UnderOthers
+pub mod StandsUnder
+pub mod AxiomTaken
+pub mod NeededTold

@@ -1,5 +1,5 @@
 -- Sets of words, by the numbers that have them.
-use Rattle.std.proofs.Common.{◌≡◌, ◌⊎◌, ℕ, Bool, true, false, ◌&&◌, ◌||◌, cond, List, ◌∷◌, Some, refl, sym, ap, ◌∙◌, subst, inl, inr}
+use Rattle.std.proofs.Common.{◌≡◌, ◌⊎◌, ℕ, Bool, true, false, ◌&&◌, ◌||◌, cond, List, Some, refl, sym, ap, ◌∙◌, subst, inl, inr}
 use Rattle.std.specs.Option.{option_to_list}
 use Rattle.std.specs.List.{flat_map}
 use Rattle.std.specs.List.Sorted.{IsStrictlySortedBy}
@@ -12,11 +12,10 @@ use Rattle.lis_model.specs.Sets.{with_words}
 use Rattle.lis_model.specs.State.{File, up, own_words, file_words}
 use Rattle.lis_model.specs.Changes.{with_axiom}
 use Rattle.lis_laws.proofs.Closures.{with_one_axiom, sorted_all_up}
-use Rattle.lis_laws.proofs.Members.{among_from_has_word, has_word_from_among, among_with_words, with_words_old, with_words_new, sorted_set_of, same_words}
+use Rattle.lis_laws.proofs.Members.{among_with_words, with_words_old, with_words_new, sorted_set_of, same_words}
 use Rattle.lis_kept.specs.Kept.{Kept}
 use Rattle.lis_kept.specs.Sound.{AreSound}
-use Rattle.lis_kept.specs.Telling.{words_told, declared_of, axioms_of}
-use Rattle.lis_kept.proofs.Filing.{same_tests}
+use Rattle.lis_kept.specs.Telling.{words_told}
 use Rattle.lis_kept.proofs.Known.{word_among, among_word, number_told}
 
 -- the numbers that pass the test are those of the words

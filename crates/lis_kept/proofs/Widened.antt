@@ -1,7 +1,6 @@
 -- Files that get more numbers.
-use Rattle.std.proofs.Common.{◌≡◌, ◌⊎◌, ℕ, ◌+◌, ◌<◌, ◌≤◌, ◌&&◌, ◌||◌, not, nat_eq, if◌then◌else◌, Bool, true, false, List, [], ◌∷◌, length, get_or, set, map, IsSome, refl, sym, ap, ap₂, ◌∙◌, subst, inl, inr, arith, get_or-set_other}
-use Rattle.std.specs.List.{list_any}
-use Rattle.std.proofs.lemmas.Bool.{cases_eq, cases_lt, both_ways, false_from_ne_true, true_from_ne_false, and_parts, and_from, or_cases}
+use Rattle.std.proofs.Common.{◌≡◌, ◌⊎◌, ℕ, ◌+◌, ◌<◌, ◌≤◌, ◌&&◌, ◌||◌, not, if◌then◌else◌, Bool, true, false, List, [], length, get_or, map, IsSome, refl, sym, ap, ◌∙◌, subst, inl, inr, arith}
+use Rattle.std.proofs.lemmas.Bool.{cases_lt, both_ways, false_from_ne_true, true_from_ne_false, and_from, or_cases}
 use Rattle.std.proofs.lemmas.List.{length-map, get_or-map, get_or_past}
 use Rattle.std.proofs.lemmas.List.Elements.{Contains-get_or}
 use Rattle.lis_graph.proofs.Members.{Among, among_map, map_among, any_from_among, among_from_contains}
@@ -20,23 +19,26 @@ use Rattle.lis_kept.specs.Changes.{Marks}
 use Rattle.lis_kept.specs.Widening.{lacked_numbers, Widens}
 use Rattle.lis_kept.proofs.InArea.{rows_counted, among_slots}
 use Rattle.lis_kept.proofs.RowBytes.{row_bytes_same}
-use Rattle.lis_kept.proofs.Formed.{held_files, named_below, none_past}
+use Rattle.lis_kept.proofs.Formed.{held_files, none_past}
 use Rattle.lis_kept.proofs.Filing.{same_tests, among_from_number, number_from_among}
 use Rattle.lis_kept.proofs.Marking.{AreBelow, blocks_marked}
 use Rattle.lis_kept.proofs.Described.{among_where, where_among}
-
--- ---- marks
--- what is marked was so, or is one of the blocks
-pub marked_only : (homes : List ℕ) (bits : List Bool) (n : ℕ) → is_taken (marked bits homes) n ≡ true → (is_taken bits n ≡ true) ⊎ Among homes n
-marked_only [] bits n is = inl is
-marked_only (h ∷ homes) bits n is = by (marked_only homes (set bits h true) n is) (cases_eq n h)
-  where
-    by : (is_taken (set bits h true) n ≡ true) ⊎ Among homes n → (n ≡ h) ⊎ (n ≡ h → ⊥) → (is_taken bits n ≡ true) ⊎ Among (h ∷ homes) n
-    by (inr m) other = inr (inr m)
-    by (inl taken) (inl same) = inr (inl (sym same))
-    by (inl taken) (inr differ) = inl (sym (get_or-set_other bits h n true false differ) ∙ taken)
+use Rattle.lis_kept.proofs.MarkedWithin.{marked_only}
 
 -- ---- rows
+-- where the blocks of rows were marked, a marked block was marked or is one of theirs
+pub marked_rows : (p q : Kept) (props : ℕ) (test : ℕ → Bool) → q.marks ≡ marked p.marks (map (block_of p.limits Rows) (numbers_where props test))
+    → (block : ℕ) → is_marked q block ≡ true → (is_marked p block ≡ true) ⊎ ((n : ℕ) × (n < props) × (test n ≡ true) × (block ≡ block_of p.limits Rows n))
+marked_rows p q props test are block is = by (marked_only (map (block_of p.limits Rows) (numbers_where props test)) p.marks block (ap (λ bits. is_taken bits block) (sym are) ∙ is))
+  where
+    by : (is_taken p.marks block ≡ true) ⊎ Among (map (block_of p.limits Rows) (numbers_where props test)) block
+        → (is_marked p block ≡ true) ⊎ ((n : ℕ) × (n < props) × (test n ≡ true) × (block ≡ block_of p.limits Rows n))
+    by (inl old) = inl old
+    by (inr m) =
+        let found = among_map (block_of p.limits Rows) (numbers_where props test) block m in
+        let at = among_where props test found.0 found.1 in
+        inr (found.0, at.0, at.1, sym found.2)
+
 or_none : (a : Bool) → a ≡ (a || false)
 or_none true = refl
 or_none false = refl
@@ -161,15 +163,12 @@ module _ (p : Kept) (t : Taxonomy) (held : AreHeld p t) (left : ℕ) (ups : ℕ 
 
   within : (block : ℕ) → is_marked wide_parts block ≡ true
       → (is_marked p block ≡ true) ⊎ ((n : ℕ) × (n < p.limits.props) × ((ups n && is_lacked p.ext left n) ≡ true) × (block ≡ block_of p.limits Rows n))
-  within block is = by (marked_only (map (block_of p.limits Rows) touched) p.marks block (ap (λ bits. is_taken bits block) (sym are_marks) ∙ is))
+  within block is = by (marked_rows p wide_parts p.ext.props (λ n. ups n && is_lacked p.ext left n) are_marks block is)
     where
-      by : (is_taken p.marks block ≡ true) ⊎ Among (map (block_of p.limits Rows) touched) block
+      by : (is_marked p block ≡ true) ⊎ ((n : ℕ) × (n < p.ext.props) × ((ups n && is_lacked p.ext left n) ≡ true) × (block ≡ block_of p.limits Rows n))
           → (is_marked p block ≡ true) ⊎ ((n : ℕ) × (n < p.limits.props) × ((ups n && is_lacked p.ext left n) ≡ true) × (block ≡ block_of p.limits Rows n))
       by (inl old) = inl old
-      by (inr m) =
-          let found = among_map (block_of p.limits Rows) touched block m in
-          let at = among_where p.ext.props (λ n. ups n && is_lacked p.ext left n) found.0 found.1 in
-          inr (found.0, omega (arith, at.0, held.sound.rows), at.1, sym found.2)
+      by (inr at) = inr (at.0, omega (arith, at.1, held.sound.rows), at.2, at.3)
 
   held_wide : AreHeld wide_parts t
   held_wide = held_files p t p.catalog p.taken e marks held (record {

@@ -1,5 +1,5 @@
 -- A declared word that loses its number.
-use Rattle.std.proofs.Common.{◌≡◌, ◌⊎◌, refl, sym, ap, ap₂, ◌∙◌, subst, inl, inr, ℕ, ◌<◌, ◌==◌, if◌then◌else◌, ◌&&◌, ◌||◌, not, nat_lt, Bool, true, false, List, [], ◌∷◌, length, map, set, Option, Some, None, is_some, IsSome, slice_get, arith, length-set, get_or-set_same, get_or-set_other}
+use Rattle.std.proofs.Common.{◌≡◌, ◌⊎◌, refl, sym, ap, ap₂, ◌∙◌, subst, inl, inr, ℕ, ◌<◌, ◌==◌, if◌then◌else◌, ◌&&◌, ◌||◌, not, nat_lt, Bool, true, false, List, [], ◌∷◌, map, set, Option, Some, None, is_some, IsSome, slice_get, arith, length-set, get_or-set_same, get_or-set_other}
 use Rattle.std.specs.Option.{option_to_list}
 use Rattle.std.specs.BTreeSet.{insert_key}
 use Rattle.std.specs.List.{list_all, list_any, fold, filter}
@@ -17,7 +17,7 @@ use Rattle.lis_fields.specs.Records.{FileRecord}
 use Rattle.lis_fields.specs.Layouts.{prop_bytes, is_prop, is_record}
 use Rattle.lis_fields.specs.declared.slots.AxiomSlot.{AxiomSlot}
 use Rattle.lis_fields.specs.declared.slots.AxiomSlot.TheVariants.{Free as FreeAxiom, Pair}
-use Rattle.lis_taxonomy.specs.Taxonomy.{Taxonomy, has_edge}
+use Rattle.lis_taxonomy.specs.Taxonomy.{Taxonomy}
 use Rattle.lis_words.specs.Words.{word_cmp, same_word, is_kept_word, is_valued, head_bytes}
 use Rattle.lis_model.specs.Sets.{set_of}
 use Rattle.lis_model.specs.State.{File, pair_cmp, is_declarable}
@@ -293,6 +293,7 @@ module _ (p : Kept) (t : Taxonomy) (held : AreHeld p t) {number : ℕ} (may : Ma
       words = word_then;
       state = state_then;
       used = used_then;
+      linked = links_then;
     },
   )
 

@@ -13,3 +13,4 @@ pub mod Passes
 pub mod Linking
 pub mod Undeclaring
 pub mod Widening
+pub mod Under

@@ -1,5 +1,5 @@
 -- An axiom more, and one fewer.
-use Rattle.std.specs.Prelude.{◌≡◌, ◌⊎◌, ℕ, ◌<◌, ◌==◌, true, false, Bool, not, ◌&&◌, ◌||◌, Some, List, slice_get, slice_set, IsTrue}
+use Rattle.std.specs.Prelude.{◌≡◌, ℕ, ◌<◌, ◌==◌, true, false, Bool, not, ◌&&◌, ◌||◌, Some, List, slice_get, slice_set, IsTrue}
 use Rattle.lis_dict.specs.Dict.{word_of}
 use Rattle.lis_fields.specs.declared.slots.AxiomSlot.{AxiomSlot}
 use Rattle.lis_fields.specs.declared.slots.AxiomSlot.TheVariants.{Free as FreeAxiom, Pair}

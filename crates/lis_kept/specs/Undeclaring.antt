@@ -1,16 +1,19 @@
 -- A declared word that goes.
-use Rattle.std.specs.Prelude.{◌≡◌, ◌≢◌, ℕ, ◌==◌, true, false, if◌then◌else◌, Some, None, is_some, List, slice_get, slice_set}
+use Rattle.std.specs.Prelude.{◌≡◌, ◌≢◌, ℕ, ◌==◌, ◌||◌, true, false, Bool, if◌then◌else◌, Some, None, is_some, List, slice_get, slice_set}
+use Rattle.std.specs.List.{list_any}
 use Rattle.lis_blockmap.specs.Bitmap.{is_taken}
 use Rattle.lis_content.specs.Content.{has_number}
-use Rattle.lis_dict.specs.Dict.{word_of, without_word}
+use Rattle.lis_dict.specs.Dict.{Dict, word_of, without_word}
 use Rattle.lis_catalog.specs.Catalog.{rec_at}
 use Rattle.lis_fields.specs.Records.{FileRecord}
-use Rattle.lis_fields.specs.declared.slots.AxiomSlot.TheVariants.{Pair}
+use Rattle.lis_fields.specs.declared.slots.AxiomSlot.{AxiomSlot}
+use Rattle.lis_fields.specs.declared.slots.AxiomSlot.TheVariants.{Free as FreeAxiom, Pair}
 use Rattle.lis_model.specs.Changes.{undeclared}
 use Rattle.lis_kept.specs.Kept.{Kept}
 use Rattle.lis_kept.specs.Areas.{block_of}
 use Rattle.lis_kept.specs.Areas.Area.{Properties}
-use Rattle.lis_kept.specs.Telling.{state_of, is_head_by, is_had, is_named_left, is_used}
+use Rattle.lis_kept.specs.Telling.{state_of, is_left_of, is_head_by, is_left_head_of, is_had, is_named_left, is_used}
+use Rattle.lis_kept.specs.Links.{is_linked}
 use Rattle.lis_kept.specs.Changes.{Marks}
 
 -- It is declared and in use for nothing else: no description has it, no axiom names it, no file was given it, and it is no known word's
@@ -36,3 +39,17 @@ pub record Undeclares (number : ℕ) (p q : Kept) : Type 0 where
   pub words : (n : ℕ) → word_of q.dict n ≡ (if number == n then None else word_of p.dict n)
   pub state : (at : ℕ → List ℕ) → state_of q at ≡ undeclared (state_of p at) word
   pub used : (n : ℕ) → is_some (word_of q.dict n) ≡ true → is_used q n ≡ is_used p n
+  pub linked : (x y : ℕ) → is_linked q x y ≡ is_linked p x y
+
+-- ---- what is needed
+abbrev pub is_right_of : ℕ → AxiomSlot → Bool
+is_right_of n FreeAxiom = false
+is_right_of n (Pair left right) = right == n
+
+-- an axiom has it on its left or its right, or has it as the head of its left
+abbrev pub is_named_by : Dict → ℕ → AxiomSlot → Bool
+is_named_by dict n slot = is_left_of n slot || is_left_head_of dict n slot || is_right_of n slot
+
+-- some description has it, or an axiom names it
+abbrev pub is_needed : Kept → ℕ → Bool
+is_needed k n = is_had k.ext n || list_any (is_named_by k.dict n) k.axioms

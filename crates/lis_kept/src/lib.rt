@@ -11,6 +11,7 @@ mod places;
 mod reading;
 mod rows;
 mod spelling;
+mod under;
 mod words;
 
 pub use joining::Fields;

@@ -1,11 +1,50 @@
 //! A declared word that goes.
 
-ghost use Rattle.lis_kept.specs.Undeclaring.{MayUndeclare, Undeclares};
+ghost use Rattle.std.specs.Prelude.{◌≡◌, ℕ, ◌<◌, IsSome};
+ghost use Rattle.std.specs.List.{list_any};
+ghost use Rattle.lis_dict.specs.Dict.{word_of};
+ghost use Rattle.lis_kept.specs.Undeclaring.{is_right_of, is_named_by, is_needed, MayUndeclare, Undeclares};
 
 use crate::parts::Parts;
-use crate::words::mark_property;
+use crate::words::{is_had, is_on_left, mark_property};
+use lis_dict::Dict;
+use lis_fields::AxiomSlot;
+
+// Whether a number is that of an axiom's right side.
+fn is_right_of(slot: AxiomSlot, number: u16) -> bool
+    ensures { result ≡ is_right_of number slot }
+{
+    match slot {
+        AxiomSlot::Free => false,
+        AxiomSlot::Pair(_, right) => right == u32::from(number),
+    }
+}
+
+// Whether an axiom names a number's word, or has it as the head of its left side.
+fn is_named_by(dict: &Dict, slot: AxiomSlot, number: u16) -> bool
+    requires { (n : ℕ) → IsSome (word_of dict.now n) → n < 65536 }
+    ensures { result ≡ is_named_by dict.now number slot }
+{
+    is_on_left(dict, slot, number) || is_right_of(slot, number)
+}
+
+// Whether some axiom does.
+fn is_named(dict: &Dict, axioms: &[AxiomSlot], number: u16) -> bool
+    requires { (n : ℕ) → IsSome (word_of dict.now n) → n < 65536 }
+    ensures { result ≡ list_any (is_named_by dict.now number) axioms.now }
+{
+    axioms.iter().any(|slot| is_named_by(dict, *slot, number))
+}
 
 impl Parts {
+    /// Whether a number's word may not go, if it is declared: some description has it, or an axiom names it.
+    pub fn is_needed(&self, number: u16) -> bool
+        requires { IsSome (word_of self.now.dict number) }
+        ensures { result ≡ is_needed self.now number }
+    {
+        is_had(&self.ext, number) || is_named(&self.dict, self.axioms.as_slice(), number)
+    }
+
     /// Takes the declaration of a word back, and with it its number.
     pub fn undeclare(&mut self, number: u16)
         requires { MayUndeclare number self.old }

@@ -1,7 +1,7 @@
-use Rattle.std.proofs.Common.{◌≡◌, ◌∙◌, ℕ, ◌&&◌, map, IsSome, sym, ap, subst, arith}
+use Rattle.std.proofs.Common.{◌∙◌, ℕ, ◌&&◌, map, IsSome, sym, ap, subst, arith}
 use Rattle.lis_bits.specs.Rows.{get}
 use Rattle.lis_dict.specs.Dict.{word_of}
-use Rattle.lis_ext.specs.Ext.{Ext, is_lacked, widened}
+use Rattle.lis_ext.specs.Ext.{Ext, is_lacked}
 use Rattle.lis_content.specs.Content.{marked}
 use Rattle.lis_kept.specs.Kept.{Kept}
 use Rattle.lis_kept.specs.Areas.{block_of}

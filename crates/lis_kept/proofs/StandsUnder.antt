@@ -1,0 +1,278 @@
+-- A new word comes under others, axiom by axiom.
+use Rattle.std.proofs.Common.{◌≡◌, ℕ, zero, suc, ◌+◌, ◌*◌, ◌/◌, ◌<◌, ◌≤◌, ◌==◌, if◌then◌else◌, ◌&&◌, ◌||◌, not, Bool, true, false, cond, Option, Some, None, is_some, IsSome, List, [], ◌∷◌, length, get_or, set, take, count_by, slice_get, refl, sym, ap, ap₂, ◌∙◌, subst, inl, inr, arith, eq-eqb}
+use Rattle.std.proofs.lemmas.Bool.{and_from, or_left, or_right, and_parts, both_ways, false_from_ne_true, not-true, ne_eqb}
+use Rattle.std.proofs.lemmas.List.{length-take-le, take_more}
+use Rattle.std.proofs.lemmas.List.Elements.{Contains-get_or}
+use Rattle.std.proofs.lemmas.List.Sums.{sum_by-set}
+use Rattle.std.proofs.lemmas.Option.{slice_get_within, get_or_from_slice_get}
+use Rattle.lis_graph.proofs.Members.{Among, among_from_contains, any_from_among}
+use Rattle.lis_content.specs.Content.{has_number, are_distinct}
+use Rattle.lis_content.proofs.Numbers.{neither}
+use Rattle.lis_dict.specs.Dict.{Dict, number_of, word_of}
+use Rattle.lis_dict.proofs.Laws.{word_of-with_entry, number_of-with_entry}
+use Rattle.lis_fields.specs.declared.slots.AxiomSlot.{AxiomSlot}
+use Rattle.lis_fields.specs.declared.slots.AxiomSlot.TheVariants.{Free as FreeAxiom, Pair}
+use Rattle.lis_words.specs.Words.{same_word, is_plain_word, is_valued, head_bytes}
+use Rattle.lis_model.specs.declared.limits.Limits.{Limits}
+use Rattle.lis_model.specs.State.{is_declarable}
+use Rattle.lis_laws.proofs.Apart.{declarable_not_valued}
+use Rattle.lis_laws.proofs.Counts.{all_among}
+use Rattle.lis_laws.proofs.Members.{same_word_decides}
+use Rattle.lis_kept.specs.Kept.{Kept}
+use Rattle.lis_kept.specs.Sound.{AreSound}
+use Rattle.lis_kept.specs.Changes.{Declares}
+use Rattle.lis_kept.specs.Telling.{is_head_by}
+use Rattle.lis_kept.specs.Links.{is_pair, has_pair, is_linked}
+use Rattle.lis_kept.specs.Linking.{is_filled, MayLink, Links}
+use Rattle.lis_kept.specs.Under.{LinksEach, is_plain_by, MayStandUnder}
+use Rattle.lis_kept.proofs.Filing.{among_from_number, number_from_among}
+use Rattle.lis_kept.proofs.OwnLinks.{among_slot, own_link_is, unnamed_to, unnamed_from}
+use Rattle.lis_kept.proofs.AxiomSlots.{InSlot}
+use Rattle.lis_kept.proofs.AxiomDescribed.{apart_linked}
+use Rattle.lis_kept.proofs.AxiomsTold.{slot_free}
+use Rattle.lis_kept.proofs.UnderOthers.{each_dict, each_more, not_entailed}
+
+-- ---- lists
+among_take : (i : ℕ) (ns : List ℕ) (n : ℕ) → Among (take i ns) n → Among ns n
+among_take zero ns n m = absurd m
+among_take (suc i) [] n m = m
+among_take (suc i) (x ∷ ns) n (inl same) = inl same
+among_take (suc i) (x ∷ ns) n (inr m) = inr (among_take i ns n m)
+
+among_at : (ns : List ℕ) (i : ℕ) → i < length ns → Among ns (get_or ns i 0)
+among_at ns i lt = among_from_contains ns (get_or ns i 0) (Contains-get_or ns i 0 lt)
+
+-- what stands in a place is none of those before it, where none stands twice
+not_before : (ns : List ℕ) (i : ℕ) → are_distinct ns ≡ true → i < length ns → has_number (take i ns) (get_or ns i 0) ≡ false
+not_before [] i distinct lt = absurd (omega (arith, lt))
+not_before (n ∷ ns) zero distinct lt = refl
+not_before (n ∷ ns) (suc i) distinct lt = by (not_before ns i parts.1 inside)
+  where
+    parts : (not (has_number ns n) ≡ true) × (are_distinct ns ≡ true)
+    parts = and_parts (not (has_number ns n)) (are_distinct ns) distinct
+
+    inside : i < length ns
+    inside = omega (arith, lt)
+
+    differ : n ≡ get_or ns i 0 → ⊥
+    differ same = both_ways (has_number ns n) (not-true (has_number ns n) parts.0) (number_from_among ns n (subst (λ m. Among ns m) (sym same) (among_at ns i inside)))
+
+    by : has_number (take i ns) (get_or ns i 0) ≡ false → ((n == get_or ns i 0) || has_number (take i ns) (get_or ns i 0)) ≡ false
+    by rest = ap₂ (λ a b. a || b) (ne_eqb n (get_or ns i 0) differ) rest
+
+plain_word : (o : Option (List ℕ)) → is_plain_by o ≡ true → (w : List ℕ) × (o ≡ Some w) × (is_plain_word w ≡ true)
+plain_word None plain = absurd (both_ways false refl plain)
+plain_word (Some w) plain = (w, refl, plain)
+
+-- ---- axioms one after another
+pub each_limits : (left : ℕ) (rights : List ℕ) (p q : Kept) → LinksEach left rights p q → q.limits ≡ p.limits
+each_limits left [] p q is = ap (λ (k : Kept). k.limits) is
+each_limits left (right ∷ rights) p q each = each_limits left rights each.0 q each.2 ∙ ap (λ (k : Kept). k.limits) each.1.parts
+
+-- x: the left side is the same; a: the first right side is; b: one of the others is; c: it was there
+pairs_in_order : (x a b c : Bool) → ((x && b) || ((x && a) || c)) ≡ ((x && (a || b)) || c)
+pairs_in_order true true true c = refl
+pairs_in_order true true false c = refl
+pairs_in_order true false b c = refl
+pairs_in_order false a b c = refl
+
+pub each_pairs : (left : ℕ) (rights : List ℕ) (p q : Kept) → LinksEach left rights p q → (x y : ℕ) → has_pair q.axioms x y ≡ (((left == x) && has_number rights y) || has_pair p.axioms x y)
+each_pairs left [] p q is x y = ap (λ (k : Kept). has_pair k.axioms x y) is ∙ none (left == x)
+  where
+    none : (b : Bool) → has_pair p.axioms x y ≡ ((b && false) || has_pair p.axioms x y)
+    none true = refl
+    none false = refl
+each_pairs left (right ∷ rights) p q each x y =
+    each_pairs left rights each.0 q each.2 x y
+    ∙ (ap (λ b. ((left == x) && has_number rights y) || b) (each.1.pairs x y)
+    ∙ pairs_in_order (left == x) (right == y) (has_number rights y) (has_pair p.axioms x y))
+
+-- and so are the links
+pub each_linked : (left : ℕ) (rights : List ℕ) (p q : Kept) → LinksEach left rights p q → (x y : ℕ) → is_linked q x y ≡ (((left == x) && has_number rights y) || is_linked p x y)
+each_linked left [] p q is x y = ap (λ (k : Kept). is_linked k x y) is ∙ none (left == x)
+  where
+    none : (b : Bool) → is_linked p x y ≡ ((b && false) || is_linked p x y)
+    none true = refl
+    none false = refl
+each_linked left (right ∷ rights) p q each x y =
+    each_linked left rights each.0 q each.2 x y
+    ∙ (ap (λ b. ((left == x) && has_number rights y) || b) (each.1.linked x y)
+    ∙ pairs_in_order (left == x) (right == y) (has_number rights y) (is_linked p x y))
+
+pub each_count : (left : ℕ) (rights : List ℕ) (p q : Kept) → LinksEach left rights p q → count_by is_filled q.axioms ≡ count_by is_filled p.axioms + length rights
+each_count left [] p q is = omega (arith, ap (λ (k : Kept). count_by is_filled k.axioms) is)
+each_count left (right ∷ rights) p q each =
+    let rest = each_count left rights each.0 q each.2 in
+    let one = one_more each.1.slot each.1.free (ap (λ (k : Kept). k.axioms) each.1.parts) in
+    omega (arith, rest, one)
+  where
+    one_more : (slot : ℕ) → slice_get p.axioms slot ≡ Some FreeAxiom → each.0.axioms ≡ set p.axioms slot (Pair left right) → count_by is_filled each.0.axioms ≡ count_by is_filled p.axioms + 1
+    one_more slot free is =
+        let was : cond (is_filled (get_or p.axioms slot FreeAxiom)) 1 0 ≡ 0 = ap (λ a. cond (is_filled a) 1 0) (get_or_from_slice_get p.axioms slot FreeAxiom FreeAxiom free) in
+        let more = sum_by-set (λ (a : AxiomSlot). cond (is_filled a) 1 0) p.axioms slot (Pair left right) FreeAxiom (slice_get_within p.axioms slot FreeAxiom free) in
+        ap (count_by is_filled) is ∙ sums (count_by is_filled (set p.axioms slot (Pair left right))) (count_by is_filled p.axioms) (cond (is_filled (get_or p.axioms slot FreeAxiom)) 1 0) more was
+      where
+        sums : (now before gone : ℕ) → now + gone ≡ before + 1 → gone ≡ 0 → now ≡ before + 1
+        sums now before gone e none = omega (arith, e, none)
+
+-- ---- the next axiom of a new word
+-- the number that the word has then
+pub number_declared : (p mid : Kept) (word : List ℕ) → number_of p.dict word ≡ None → (declares : Declares word p mid) → number_of mid.dict word ≡ Some declares.number
+number_declared p mid word new declares =
+    ap (λ (k : Kept). number_of k.dict word) declares.parts
+    ∙ (number_of-with_entry p.dict word declares.number new word ∙ ap (λ b. if b then Some declares.number else number_of p.dict word) ((same_word_decides word word).1 refl))
+
+module _ (p mid now : Kept) (sound : AreSound p) (after : AreSound now) (word : List ℕ) (form : is_declarable word ≡ true) (new : number_of p.dict word ≡ None) (declares : Declares word p mid)
+    (rights : List ℕ) (may : MayStandUnder rights p) where
+  abbrev number : ℕ
+  number = declares.number
+
+  module _ (i : ℕ) (lt : i < length rights) (each : LinksEach number (take i rights) mid now) where
+    abbrev right : ℕ
+    right = get_or rights i 0
+
+    abbrev before : List ℕ
+    before = take i rights
+
+    word_now : (n : ℕ) → word_of now.dict n ≡ (if number == n then Some word else word_of p.dict n)
+    word_now n =
+        ap (λ (d : Dict). word_of d n) (each_dict number before mid now each ∙ ap (λ (k : Kept). k.dict) declares.parts)
+        ∙ word_of-with_entry p.dict word number new declares.free n
+
+    named : word_of now.dict number ≡ Some word
+    named = word_now number ∙ ap (λ b. if b then Some word else word_of p.dict number) (eq-eqb number number refl)
+
+    -- the word of each of the numbers is known, so that none is the new one
+    plain_at : (n : ℕ) → Among rights n → is_plain_by (word_of p.dict n) ≡ true
+    plain_at n m = all_among (λ j. is_plain_by (word_of p.dict j)) rights n may.plain m
+
+    other : (n : ℕ) → Among rights n → n ≡ number → ⊥
+    other n m same = both_ways (is_plain_by (word_of p.dict n)) (ap is_plain_by (ap (word_of p.dict) same ∙ declares.free)) (plain_at n m)
+
+    to : (w : List ℕ) × (word_of p.dict right ≡ Some w) × (is_plain_word w ≡ true)
+    to = plain_word (word_of p.dict right) (plain_at right (among_at rights i lt))
+
+    named_right : word_of now.dict right ≡ Some to.0
+    named_right =
+        word_now right
+        ∙ (ap (λ b. if b then Some word else word_of p.dict right) (ne_eqb number right (λ same. other right (among_at rights i lt) (sym same))) ∙ to.1)
+
+    -- ---- it is new
+    no_pair : has_pair now.axioms number right ≡ false
+    no_pair =
+        each_pairs number before mid now each number right
+        ∙ (ap₂ (λ a b. ((number == number) && a) || b) (not_before rights i may.apart lt)
+        (ap (λ (k : Kept). has_pair k.axioms number right) declares.parts ∙ (neither _ (has_pair p.axioms number right) (unnamed_from p sound number declares.free right)).1)
+        ∙ none (number == number))
+      where
+        none : (b : Bool) → ((b && false) || false) ≡ false
+        none true = refl
+        none false = refl
+
+    -- ---- nothing leads to the new word
+    not_one : has_number before number ≡ false
+    not_one = false_from_ne_true (has_number before number) (λ has. other number (among_take i rights number (among_from_number before number has)) refl)
+
+    no_pair_to : (x : ℕ) → has_pair now.axioms x number ≡ false
+    no_pair_to x =
+        each_pairs number before mid now each x number
+        ∙ (ap₂ (λ a b. ((number == x) && a) || b) not_one
+        (ap (λ (k : Kept). has_pair k.axioms x number) declares.parts ∙ (neither _ (has_pair p.axioms x number) (unnamed_to p sound number declares.free x)).1)
+        ∙ none (number == x))
+      where
+        none : (b : Bool) → ((b && false) || false) ≡ false
+        none true = refl
+        none false = refl
+
+    no_head : (x : ℕ) → is_head_by (word_of now.dict x) (word_of now.dict number) ≡ false
+    no_head x = ap₂ is_head_by (word_now x) named ∙ by (number == x)
+      where
+        old : (o : Option (List ℕ)) → word_of p.dict x ≡ o → is_head_by o (Some word) ≡ false
+        old None is = refl
+        old (Some v) is =
+            false_from_ne_true (is_valued v && same_word (head_bytes v) word) (λ both.
+            let parts = and_parts (is_valued v) (same_word (head_bytes v) word) both in
+            let some = subst (λ u. IsSome (number_of p.dict u)) ((same_word_decides (head_bytes v) word).0 parts.1) (sound.heads x v is parts.0) in
+            both_ways (is_some (number_of p.dict word)) (ap is_some new) some)
+
+        by : (b : Bool) → is_head_by (if b then Some word else word_of p.dict x) (Some word) ≡ false
+        by true = ap (λ b. b && same_word (head_bytes word) word) (declarable_not_valued word form)
+        by false = old (word_of p.dict x) refl
+
+    nothing : (x : ℕ) → is_linked now x number ≡ false
+    nothing x = ap₂ (λ a b. a || b) (own_link_is now after.dict x number ∙ no_head x) (no_pair_to x)
+
+    -- ---- a slot is free
+    enough : count_by is_filled now.axioms < now.limits.props
+    enough =
+        let counted = each_count number before mid now each in
+        let started = ap (λ (k : Kept). count_by is_filled k.axioms) declares.parts in
+        let limit = ap (λ (l : Limits). l.props) (each_limits number before mid now each ∙ ap (λ (k : Kept). k.limits) declares.parts) in
+        room (count_by is_filled now.axioms) (count_by is_filled mid.axioms) (count_by is_filled p.axioms) (length before) (length rights) p.limits.props now.limits.props
+        counted started (length-take-le i rights (omega (arith, lt))) may.room limit lt
+      where
+        room : (last first start taken all most limit : ℕ) → last ≡ first + taken → first ≡ start → taken ≡ i → start + all ≤ most → limit ≡ most → i < all → last < limit
+        room last first start taken all most limit a b c d e f = omega (arith, a, b, c, d, e, f)
+
+    many : now.limits.props ≤ length now.axioms
+    many = few now.limits.props (length now.axioms) after.axiom_count
+      where
+        few : (props count : ℕ) → count ≡ 512 * ((props + 511) / 512) → props ≤ count
+        few props count is = omega (arith, is)
+
+    pub may_link_next : MayLink number right now
+    may_link_next =
+        let slot = slot_free now.axioms now.limits.props many enough in
+        record {
+          from = word;
+          to = to.0;
+          is_left = named;
+          is_right = named_right;
+          plain = to.2;
+          new = no_pair;
+          no_circle = not_entailed now after number word named nothing right to.0 named_right (other right (among_at rights i lt));
+          slot = slot.0;
+          below = slot.1;
+          free = slot.2;
+        }
+
+    pub linked_next : (next : Kept) → Links number right now next → LinksEach number (take (i + 1) rights) mid next
+    linked_next next link = subst (λ ns. LinksEach number ns mid next) (sym (take_more rights i 0 lt)) (each_more number before right mid now next each link)
+
+-- ---- no two slots have the same axiom
+abbrev pub AreApart : List AxiomSlot → Type 0
+AreApart axioms = (slot other x y : ℕ) → slice_get axioms slot ≡ Some (Pair x y) → slice_get axioms other ≡ Some (Pair x y) → slot ≡ other
+
+pub each_apart : (left : ℕ) (rights : List ℕ) (p q : Kept) → LinksEach left rights p q → are_distinct rights ≡ true → ((y : ℕ) → has_number rights y ≡ true → has_pair p.axioms left y ≡ false)
+    → AreApart p.axioms → AreApart q.axioms
+each_apart left [] p q is distinct none apart = subst (λ (k : Kept). AreApart k.axioms) (sym is) apart
+each_apart left (right ∷ rights) p q each distinct none apart =
+    each_apart left rights each.0 q each.2 parts.1 onward
+    (apart_linked left right p each.0 each.1 (λ there. both_ways (has_pair p.axioms left right) (none right (or_left (right == right) (has_number rights right) (eq-eqb right right refl))) (in_slot there)) apart)
+  where
+    parts : (not (has_number rights right) ≡ true) × (are_distinct rights ≡ true)
+    parts = and_parts (not (has_number rights right)) (are_distinct rights) distinct
+
+    in_slot : InSlot p.axioms left right → has_pair p.axioms left right ≡ true
+    in_slot there =
+        any_from_among (is_pair left right) p.axioms (Pair left right) (among_slot p.axioms there.0 (Pair left right) there.1)
+        (and_from (left == left) (right == right) (eq-eqb left left refl) (eq-eqb right right refl))
+
+    onward : (y : ℕ) → has_number rights y ≡ true → has_pair each.0.axioms left y ≡ false
+    onward y has =
+        each.1.pairs left y
+        ∙ (ap₂ (λ a b. ((left == left) && a) || b)
+        (ne_eqb right y (λ same. both_ways (has_number rights right) (not-true (has_number rights right) parts.0) (subst (λ n. has_number rights n ≡ true) (sym same) has)))
+        (none y (or_right (right == y) (has_number rights y) has))
+        ∙ last (left == left))
+      where
+        last : (b : Bool) → ((b && false) || false) ≡ false
+        last true = refl
+        last false = refl
+
+pub under_apart : (p mid q : Kept) → AreSound p → (word : List ℕ) (declares : Declares word p mid) (rights : List ℕ) → are_distinct rights ≡ true → LinksEach declares.number rights mid q
+    → AreApart p.axioms → AreApart q.axioms
+under_apart p mid q sound word declares rights distinct each apart =
+    each_apart declares.number rights mid q each distinct
+    (λ y has. ap (λ (k : Kept). has_pair k.axioms declares.number y) declares.parts ∙ (neither _ (has_pair p.axioms declares.number y) (unnamed_from p sound declares.number declares.free y)).1)
+    (subst (λ (k : Kept). AreApart k.axioms) (sym declares.parts) apart)

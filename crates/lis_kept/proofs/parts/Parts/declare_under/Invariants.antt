@@ -1,0 +1,7 @@
+use Rattle.std.proofs.Common.{take}
+use Rattle.lis_kept.specs.Under.{LinksEach}
+use Rattle.lis_kept.proofs.parts.Parts.declare_under.Given as goal
+
+-- the axioms so far are there
+abbrev pub invariant-loop-place : goal.invariant-loop-place
+invariant-loop-place l = LinksEach l.number (take l.place-index l.places) l.initial.self l.self

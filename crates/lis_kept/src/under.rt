@@ -1,0 +1,31 @@
+//! A word that is declared under others.
+
+ghost use Rattle.std.specs.Prelude.{◌≡◌, ◌<◌, None, length, IsTrue};
+ghost use Rattle.lis_dict.specs.Dict.{number_of};
+ghost use Rattle.lis_model.specs.State.{is_declarable};
+ghost use Rattle.lis_kept.specs.Under.{MayStandUnder, DeclaresUnder};
+
+use crate::parts::Parts;
+use lis_words::Word;
+
+impl Parts {
+    /// Gives a new word a free number, declares it, and adds an axiom from it to the word of each of these numbers.
+    pub fn declare_under(&mut self, word: &Word, places: &[u16])
+        requires form { IsTrue (is_declarable word.now) }
+        requires new { number_of self.old.dict word.now ≡ None }
+        requires room { length self.old.dict.entries < self.old.limits.props }
+        requires places { MayStandUnder places.now self.old }
+        ensures { DeclaresUnder word.now places.now self.old self.new }
+    {
+        // Only the limits tell that memory is in form, before and then at each axiom.
+        let _before = self.limits();
+        self.declare(word);
+        let Some(number) = self.number_of(word) else {
+            unreachable!()
+        };
+        for place in places {
+            let _now = self.limits();
+            self.link(number, *place);
+        }
+    }
+}
