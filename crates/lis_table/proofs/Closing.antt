@@ -1,5 +1,5 @@
 -- A set of words that axioms widen one after another comes to all that the words entail.
-use Rattle.std.proofs.Common.{◌≡◌, ◌⊎◌, ℕ, zero, suc, ◌<◌, ◌≤◌, Bool, true, false, not, cond, ◌&&◌, Option, Some, None, List, [], ◌∷◌, length, filter, refl, ap, sym, subst, ◌∙◌, inl, inr, arith}
+use Rattle.std.proofs.Common.{◌≡◌, ◌⊎◌, ℕ, zero, suc, ◌<◌, ◌≤◌, Bool, true, false, not, cond, ◌&&◌, Some, None, List, [], ◌∷◌, length, filter, refl, ap, sym, subst, ◌∙◌, inl, inr, arith}
 use Rattle.std.specs.List.{find, flat_map}
 use Rattle.std.specs.List.Sorted.{IsStrictlySortedBy}
 use Rattle.std.proofs.lemmas.Option.{none-some, same_Some}
@@ -35,12 +35,12 @@ pub begun : (declared : List (List ℕ)) (axioms : Pairs) (words : List (List �
 begun declared axioms words = record {
   sorted = sorted_set_of (flat_map (with_links declared) words);
   within = λ q m.
-    let source = among_flat_map (with_links declared) words q (among_set_of (flat_map (with_links declared) words) q m) in
-    entailed_in declared axioms words source.0 q source.1 (up_linked declared axioms source.0 q source.2);
+      let source = among_flat_map (with_links declared) words q (among_set_of (flat_map (with_links declared) words) q m) in
+      entailed_in declared axioms words source.0 q source.1 (up_linked declared axioms source.0 q source.2);
   given = λ w m. set_of_among (flat_map (with_links declared) words) w (flat_map_among (with_links declared) words w w m (inl refl));
   owned = λ p q m h.
-    let source = among_flat_map (with_links declared) words p (among_set_of (flat_map (with_links declared) words) p m) in
-    set_of_among (flat_map (with_links declared) words) q (flat_map_among (with_links declared) words source.0 q source.1 (linked_on declared source.0 p q source.2 h));
+      let source = among_flat_map (with_links declared) words p (among_set_of (flat_map (with_links declared) words) p m) in
+      set_of_among (flat_map (with_links declared) words) q (flat_map_among (with_links declared) words source.0 q source.1 (linked_on declared source.0 p q source.2 h));
 }
 
 -- ---- the first that passes a test

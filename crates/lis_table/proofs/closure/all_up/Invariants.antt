@@ -1,4 +1,3 @@
-use Rattle.std.proofs.Common.{ℕ}
 use Rattle.lis_table.proofs.Closing.{Closing, open_count}
 use Rattle.lis_table.proofs.closure.all_up.Given as goal
 
