@@ -74,3 +74,15 @@ pub fn content_reply(alloc: Global, bytes: &[u8]) -> Result<Vec<u8>, AllocError>
     reply.extend_from_slice(b"\nok\n")?;
     Ok(reply)
 }
+
+/// Puts a line of a label and a number behind the reply.
+pub fn push_number(reply: &mut Vec<u8>, label: &[u8], number: u64) -> Result<(), AllocError>
+    ensures { OnOk result (reply.new.items ≡ reply.old.items ++ number_line label.now number) }
+{
+    let mut buffer = Buffer::new();
+    reply.extend_from_slice(label)?;
+    reply.push(b' ')?;
+    reply.extend_from_slice(buffer.format(number).as_bytes())?;
+    reply.push(b'\n')?;
+    Ok(())
+}

@@ -1,8 +1,9 @@
 //! A file by its name, its bytes and the words that it was given.
 
-ghost use Rattle.std.specs.Prelude.{◌≡◌, IfOk};
-ghost use Rattle.lis_model.specs.Changes.{new_file};
+ghost use Rattle.std.specs.Prelude.{◌≡◌, [], IfOk};
+ghost use Rattle.lis_model.specs.Changes.{new_file, file_of};
 
+use lis_table::words::copies;
 use lis_words::{Name, Word};
 use std::alloc::{AllocError, Global};
 use std::marker::Model;
@@ -40,4 +41,26 @@ pub fn new_file(
         bytes: held,
         assigned,
     })
+}
+
+impl File {
+    /// The same file.
+    pub fn copied(&self, alloc: Global) -> Result<File, AllocError>
+        ensures { IfOk result (λ file. file ≡ self.now) }
+    {
+        let assigned = copies(alloc, &self.assigned)?;
+        new_file(alloc, &self.name, assigned, &self.bytes)
+    }
+}
+
+/// The file of that name. Where there is none, an empty one, at which no command looks.
+pub fn file_of(alloc: Global, files: &[File], name: &Name) -> Result<File, AllocError>
+    ensures { IfOk result (λ file. file ≡ file_of files.now name.now) }
+{
+    for file in files {
+        if file.name == *name {
+            return file.copied(alloc);
+        }
+    }
+    new_file(alloc, name, Vec::new(alloc), &[])
 }

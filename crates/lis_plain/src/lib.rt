@@ -1,10 +1,16 @@
 //! The commands over plain lists: the program that computes each definition afresh.
 #![tactic(auto)]
 
+mod axioms;
 mod content;
 pub mod end;
 mod file;
+mod files;
+mod looking;
+mod made;
 pub mod plain;
 mod room;
 mod sets;
+mod state;
 mod table;
+mod taxonomy;

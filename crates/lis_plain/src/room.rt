@@ -1,93 +1,38 @@
-//! Known words, and whether there is room for more of them.
+//! What rows ask of words and of the state that a command would give.
 
-ghost use Rattle.std.specs.Prelude.{◌≡◌, nat_lt, [], length, map, IfOk, OnOk};
-ghost use Rattle.std.specs.BTreeSet.{insert_key};
-ghost use Rattle.std.specs.List.{prefix_len, list_any, flat_map};
-ghost use Rattle.std.specs.Ordering.{is_gt};
-ghost use Rattle.lis_words.specs.Words.{is_built_in};
-ghost use Rattle.lis_model.specs.Sets.{with_words};
-ghost use Rattle.lis_model.specs.State.{file_cmp};
-ghost use Rattle.lis_model.specs.Table.{entry_of};
-ghost use Rattle.lis_model.specs.Step.{is_head_or_test};
-ghost use Rattle.lis_table.specs.Places.{first_is};
-ghost use Rattle.lis_plain.specs.Entries.{entry_cmp};
+ghost use Rattle.std.specs.Prelude.{◌≡◌, nat_lt, length, ◌&&◌, ◌||◌, IfOk};
+ghost use Rattle.std.specs.List.{list_any, list_all};
+ghost use Rattle.lis_words.specs.Words.{same_word, has_word, is_plain_word, is_head, is_valued, is_test, is_built_in, head_bytes};
+ghost use Rattle.lis_model.specs.State.{heads, description, is_known_head, is_nameable};
+ghost use Rattle.lis_model.specs.Step.{exceeds_axioms, exceeds_known, exceeds_words, is_head_or_test, is_side, is_had, is_in_use, room_checks};
+ghost use Rattle.lis_plain.specs.Carries.{Judges, word_room_checks};
 
-use crate::file::File;
-use crate::table::{all_entries, entry_of};
-use lis_model::limits::Limits;
-use lis_table::entry::Entry;
-use lis_table::table::known_words;
-use lis_words::{Word, is_builtin, is_head, test_of};
+use crate::plain::Answer;
+use crate::state::State;
+use crate::table::{description, known};
+use lis_model::refusal::Refusal;
+use lis_table::closure::Axiom;
+use lis_table::words::has_word;
+use lis_words::{Word, head_of, is_builtin, is_head, is_plain_word, test_of};
 use std::alloc::{AllocError, Global};
 
 /// The most words of a description.
 const MAX_WORDS: usize = 128;
 
-/// Whether these declared words and descriptions are more known words than there is room for.
-pub fn exceeds_known(
-    alloc: Global,
-    limits: Limits,
-    declared: &[Word],
-    files: &[Entry],
-) -> Result<bool, AllocError>
-    ensures { IfOk result (λ exceeds. exceeds ≡ nat_lt limits.props (length (with_words declared.now (flat_map (λ (e : Entry). e.words) files.now)))) }
-{
-    let known = known_words(alloc, declared, files)?;
-    Ok(known.len() > limits.props as usize)
-}
-
-/// Whether a file has more words than it may.
-pub fn exceeds_words(files: &[Entry]) -> bool
-    ensures { result ≡ list_any (λ (e : Entry). nat_lt 128 (length e.words)) files.now }
-{
-    files.iter().any(|file| file.words.len() > MAX_WORDS)
-}
-
-fn entry_place(entries: &[Entry], entry: &Entry) -> usize
-    ensures { result ≡ prefix_len (λ held. is_gt (entry_cmp entry.now held)) entries.now }
-{
-    entries
-        .iter()
-        .take_while(|held| entry.name.cmp(&held.name).is_gt())
-        .count()
-}
-
-fn begins_with_entry(entries: &[Entry], entry: &Entry) -> bool
-    ensures { result ≡ first_is entry_cmp entry.now entries.now }
-{
-    match entries {
-        [] => false,
-        [first, ..] => entry.name.cmp(&first.name).is_eq(),
-    }
-}
-
-fn insert_entry(entries: &mut Vec<Entry>, entry: Entry) -> Result<(), AllocError>
-    ensures { OnOk result (entries.new.items ≡ insert_key entry_cmp entries.old.items entry) }
-{
-    let place = entry_place(entries, &entry);
-    let (_, behind) = entries.as_slice().split_at(place);
-    if begins_with_entry(behind, &entry) {
-        return Ok(());
-    }
-    entries.insert(place, entry)?;
-    Ok(())
-}
-
-/// All files and one more with their descriptions, without axioms and declared tests.
-pub fn entries_with(alloc: Global, files: &[File], file: &File) -> Result<Vec<Entry>, AllocError>
-    ensures { IfOk result (λ entries. entries.items ≡ map (entry_of [] []) (insert_key file_cmp files.now file.now)) }
-{
-    let mut entries = all_entries(alloc, files)?;
-    let entry = entry_of(alloc, file)?;
-    insert_entry(&mut entries, entry)?;
-    Ok(entries)
-}
+// ---- words
 
 /// Whether one of the words is built in.
 pub fn has_built_in(words: &[Word]) -> bool
     ensures { result ≡ list_any is_built_in words.now }
 {
     words.iter().any(|word| is_builtin(word))
+}
+
+/// Whether one of the words is a head.
+pub fn has_head_word(words: &[Word]) -> bool
+    ensures { result ≡ list_any is_head words.now }
+{
+    words.iter().any(|word| is_head(word.bytes()))
 }
 
 /// Whether the word can't be given to a file, as a head or a test.
@@ -105,4 +50,200 @@ pub fn has_head_or_test(words: &[Word]) -> bool
     ensures { result ≡ list_any is_head_or_test words.now }
 {
     words.iter().any(|word| is_head_or_test(word))
+}
+
+/// Whether all the words are declared.
+pub fn are_declared(declared: &[Word], words: &[Word]) -> bool
+    ensures { result ≡ list_all (has_word declared.now) words.now }
+{
+    words.iter().all(|word| has_word(declared, word))
+}
+
+/// Whether all the words are plain.
+pub fn are_plain(words: &[Word]) -> bool
+    ensures { result ≡ list_all is_plain_word words.now }
+{
+    words.iter().all(|word| is_plain_word(word.bytes()))
+}
+
+fn is_plain_or_test(word: &Word) -> bool
+    ensures { result ≡ (is_plain_word word.now || is_test word.now) }
+{
+    if is_plain_word(word.bytes()) {
+        return true;
+    }
+    test_of(word).is_some()
+}
+
+fn is_named(declared: &[Word], word: &Word) -> bool
+    ensures { result ≡ ((is_plain_word word.now || is_test word.now) && has_word declared.now word.now) }
+{
+    if !is_plain_or_test(word) {
+        return false;
+    }
+    has_word(declared, word)
+}
+
+fn is_known_head(declared: &[Word], word: &Word) -> bool
+    ensures { result ≡ is_known_head declared.now word.now }
+{
+    if !is_head(word.bytes()) {
+        return false;
+    }
+    if has_word(declared, word) {
+        return true;
+    }
+    is_builtin(word)
+}
+
+fn has_known_head(declared: &[Word], word: &Word) -> bool
+    ensures { result ≡ (is_valued word.now && is_known_head declared.now (head_bytes word.now)) }
+{
+    match head_of(word) {
+        None => false,
+        Some(head) => is_known_head(declared, &head),
+    }
+}
+
+/// Whether an axiom may have the word as its left side.
+pub fn is_nameable(declared: &[Word], word: &Word) -> bool
+    ensures { result ≡ is_nameable declared.now word.now }
+{
+    if is_named(declared, word) {
+        return true;
+    }
+    if is_known_head(declared, word) {
+        return true;
+    }
+    has_known_head(declared, word)
+}
+
+// ---- uses of a word
+
+fn is_left(axioms: &[Axiom], word: &Word) -> bool
+    ensures { result ≡ list_any (λ pair. same_word pair.0 word.now) axioms.now }
+{
+    axioms.iter().any(|pair| pair.left == *word)
+}
+
+fn is_right(axioms: &[Axiom], word: &Word) -> bool
+    ensures { result ≡ list_any (λ pair. same_word pair.1 word.now) axioms.now }
+{
+    axioms.iter().any(|pair| pair.right == *word)
+}
+
+fn is_side(state: &State, word: &Word) -> bool
+    ensures { result ≡ is_side state.now word.now }
+{
+    is_left(&state.axioms, word) || is_right(&state.axioms, word)
+}
+
+fn is_head_of(left: &Word, word: &Word) -> bool
+    ensures { result ≡ has_word (heads left.now) word.now }
+{
+    match head_of(left) {
+        None => false,
+        Some(head) => head == *word,
+    }
+}
+
+fn is_left_head(axioms: &[Axiom], word: &Word) -> bool
+    ensures { result ≡ list_any (λ pair. has_word (heads pair.0) word.now) axioms.now }
+{
+    axioms.iter().any(|pair| is_head_of(&pair.left, word))
+}
+
+fn is_described(alloc: Global, state: &State, word: &Word) -> Result<bool, AllocError>
+    ensures { IfOk result (λ described. described ≡ list_any (λ file. has_word (description state.now file) word.now) state.now.files) }
+{
+    for file in &state.files {
+        let words = description(alloc, state, file)?;
+        if has_word(&words, word) {
+            return Ok(true);
+        }
+    }
+    Ok(false)
+}
+
+fn is_had(alloc: Global, state: &State, word: &Word) -> Result<bool, AllocError>
+    ensures { IfOk result (λ had. had ≡ is_had state.now word.now) }
+{
+    if is_left_head(&state.axioms, word) {
+        return Ok(true);
+    }
+    let described = is_described(alloc, state, word)?;
+    Ok(described)
+}
+
+/// Whether the word is a side of an axiom, or, where it is no test, the head of a left side or a word of some file.
+pub fn is_in_use(alloc: Global, state: &State, word: &Word) -> Result<bool, AllocError>
+    ensures { IfOk result (λ used. used ≡ is_in_use state.now word.now) }
+{
+    if is_side(state, word) {
+        return Ok(true);
+    }
+    if test_of(word).is_some() {
+        return Ok(false);
+    }
+    let had = is_had(alloc, state, word)?;
+    Ok(had)
+}
+
+// ---- room
+
+/// Whether there are more axioms than there is room for.
+fn exceeds_axioms(state: &State) -> bool
+    ensures { result ≡ exceeds_axioms state.now }
+{
+    state.axioms.len() > state.limits.props as usize
+}
+
+/// Whether there are more known words than there is room for.
+fn exceeds_known(alloc: Global, state: &State) -> Result<bool, AllocError>
+    ensures { IfOk result (λ exceeds. exceeds ≡ exceeds_known state.now) }
+{
+    let words = known(alloc, state)?;
+    Ok(words.len() > state.limits.props as usize)
+}
+
+/// Whether a file has more words than it may.
+fn exceeds_words(alloc: Global, state: &State) -> Result<bool, AllocError>
+    ensures { IfOk result (λ exceeds. exceeds ≡ exceeds_words state.now) }
+{
+    for file in &state.files {
+        let words = description(alloc, state, file)?;
+        if words.len() > MAX_WORDS {
+            return Ok(true);
+        }
+    }
+    Ok(false)
+}
+
+/// Whether there is room for what a command on words and axioms makes.
+pub fn word_room(alloc: Global, made: &State) -> Result<Answer, AllocError>
+    ensures { Judges (word_room_checks made.now) result }
+{
+    if exceeds_axioms(made) {
+        return Ok(Err(Refusal::NoAxiomRoom));
+    }
+    if exceeds_known(alloc, made)? {
+        return Ok(Err(Refusal::NoPropertyRoom));
+    }
+    if exceeds_words(alloc, made)? {
+        return Ok(Err(Refusal::LargeDescription));
+    }
+    Ok(Ok(()))
+}
+
+/// Whether there is room for what a command on files makes.
+pub fn file_room(alloc: Global, made: &State) -> Result<Answer, AllocError>
+    ensures { Judges (room_checks made.now) result }
+{
+    if exceeds_words(alloc, made)? {
+        return Ok(Err(Refusal::LargeDescription));
+    }
+    if exceeds_known(alloc, made)? {
+        return Ok(Err(Refusal::NoPropertyRoom));
+    }
+    Ok(Ok(()))
 }

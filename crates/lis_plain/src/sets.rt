@@ -1,6 +1,6 @@
 //! The files of a state as a list sorted by their names.
 
-ghost use Rattle.std.specs.Prelude.{◌≡◌, not, filter, OnOk, OnErr};
+ghost use Rattle.std.specs.Prelude.{◌≡◌, not, filter, OnOk, OnErr, IfOk};
 ghost use Rattle.std.specs.BTreeSet.{insert_key};
 ghost use Rattle.std.specs.List.{prefix_len};
 ghost use Rattle.std.specs.Ordering.{is_gt};
@@ -11,7 +11,7 @@ ghost use Rattle.lis_model.specs.Changes.{has_name};
 
 use crate::file::File;
 use lis_words::Name;
-use std::alloc::AllocError;
+use std::alloc::{AllocError, Global};
 
 /// Whether some file has the name.
 pub fn has_name(files: &[File], name: &Name) -> bool
@@ -52,9 +52,26 @@ pub fn insert_file(files: &mut Vec<File>, file: File) -> Result<(), AllocError>
     Ok(())
 }
 
-/// Takes out the file of that name.
-pub fn remove_file(files: &mut Vec<File>, name: &Name)
-    ensures { files.new.items ≡ filter (λ (file : Kept). not (same_word file.name name.now)) files.old.items }
+/// The same files.
+pub fn files_copied(alloc: Global, files: &[File]) -> Result<Vec<File>, AllocError>
+    ensures { IfOk result (λ copies. copies.items ≡ files.now) }
 {
-    files.retain(|file| file.name != *name);
+    let mut copies = Vec::new(alloc);
+    for file in files {
+        copies.push(file.copied(alloc)?)?;
+    }
+    Ok(copies)
+}
+
+/// All files but that of this name.
+pub fn without_file(alloc: Global, files: &[File], name: &Name) -> Result<Vec<File>, AllocError>
+    ensures { IfOk result (λ kept. kept.items ≡ filter (λ (file : Kept). not (same_word file.name name.now)) files.now) }
+{
+    let mut kept = Vec::new(alloc);
+    for file in files {
+        if file.name != *name {
+            kept.push(file.copied(alloc)?)?;
+        }
+    }
+    Ok(kept)
 }

@@ -1,47 +1,96 @@
-//! The table of a state, with each file's description.
+//! What is seen of a state: descriptions, known words, and the table.
 
-ghost use Rattle.std.specs.Prelude.{◌≡◌, [], map, IfOk, IsTrue};
-ghost use Rattle.lis_model.specs.Tests.{has_no_tests};
+ghost use Rattle.std.specs.Prelude.{◌≡◌, ◌++◌, map, OnOk, IfOk};
+ghost use Rattle.lis_model.specs.State.{own_words, file_words, description, known};
 ghost use Rattle.lis_model.specs.Table.{entry_of, table};
 
 use crate::file::File;
-use lis_model::limits::Limits;
-use lis_table::entry::{Entry, described};
-use lis_table::table::{Table, table_of};
+use crate::state::State;
+use lis_table::closure::{Axiom, all_up};
+use lis_table::derived::derived;
+use lis_table::entry::Entry;
+use lis_table::links::met_tests;
+use lis_table::table::{Table, known_words, table_of};
+use lis_table::words::copies;
 use lis_words::Word;
 use std::alloc::{AllocError, Global};
 
-/// A file with its description, without axioms and declared tests.
-pub fn entry_of(alloc: Global, file: &File) -> Result<Entry, AllocError>
-    ensures { IfOk result (λ entry. entry ≡ entry_of [] [] file.now) }
+fn push_copies(words: &mut Vec<Word>, more: &[Word]) -> Result<(), AllocError>
+    ensures { OnOk result (words.new.items ≡ words.old.items ++ more.now) }
 {
+    for word in more {
+        words.push(word.copied())?;
+    }
+    Ok(())
+}
+
+/// The words that a file has by itself.
+fn own_words(alloc: Global, declared: &[Word], file: &File) -> Result<Vec<Word>, AllocError>
+    ensures { IfOk result (λ words. words.items ≡ own_words declared.now file.now) }
+{
+    let mut words = copies(alloc, &file.assigned)?;
+    let noted = derived(&file.name, &file.bytes);
+    push_copies(&mut words, noted.as_slice())?;
+    let met = met_tests(alloc, declared, file.bytes.len() as u64)?;
+    push_copies(&mut words, &met)?;
+    Ok(words)
+}
+
+/// The words of a file with all that they entail.
+fn file_words(
+    alloc: Global,
+    declared: &[Word],
+    axioms: &[Axiom],
+    file: &File,
+) -> Result<Vec<Word>, AllocError>
+    ensures { IfOk result (λ words. words.items ≡ file_words declared.now axioms.now file.now) }
+{
+    let words = own_words(alloc, declared, file)?;
+    all_up(alloc, declared, axioms, &words)
+}
+
+/// The description of a file in a state.
+pub fn description(alloc: Global, state: &State, file: &File) -> Result<Vec<Word>, AllocError>
+    ensures { IfOk result (λ words. words.items ≡ description state.now file.now) }
+{
+    file_words(alloc, &state.declared, &state.axioms, file)
+}
+
+/// A file with its description.
+pub fn entry_of(alloc: Global, state: &State, file: &File) -> Result<Entry, AllocError>
+    ensures { IfOk result (λ entry. entry ≡ entry_of state.now.declared state.now.axioms file.now) }
+{
+    let words = description(alloc, state, file)?;
     Ok(Entry {
         name: file.name.copied(),
         size: file.bytes.len() as u64,
-        words: described(alloc, &file.assigned)?,
+        words,
     })
 }
 
-/// All files with their descriptions, without axioms and declared tests.
-pub fn all_entries(alloc: Global, files: &[File]) -> Result<Vec<Entry>, AllocError>
-    ensures { IfOk result (λ entries. entries.items ≡ map (entry_of [] []) files.now) }
+/// All files with their descriptions.
+pub fn all_entries(alloc: Global, state: &State) -> Result<Vec<Entry>, AllocError>
+    ensures { IfOk result (λ entries. entries.items ≡ (table state.now).files) }
 {
     let mut entries = Vec::new(alloc);
-    for file in files {
-        entries.push(entry_of(alloc, file)?)?;
+    for file in &state.files {
+        entries.push(entry_of(alloc, state, file)?)?;
     }
     Ok(entries)
 }
 
-/// The table of a state without axioms, with these declared words and files.
-pub fn make_table(
-    alloc: Global,
-    limits: Limits,
-    declared: &[Word],
-    files: &[File],
-) -> Result<Table, AllocError>
-    ensures { IfOk result (λ made. IsTrue (has_no_tests declared.now) → made ≡ table (record { limits = limits; declared = declared.now; axioms = []; files = files.now })) }
+/// The known words of a state.
+pub fn known(alloc: Global, state: &State) -> Result<Vec<Word>, AllocError>
+    ensures { IfOk result (λ words. words.items ≡ known state.now) }
 {
-    let files = all_entries(alloc, files)?;
-    table_of(alloc, limits, declared, files)
+    let entries = all_entries(alloc, state)?;
+    known_words(alloc, &state.declared, &state.axioms, &entries)
+}
+
+/// The table of a state.
+pub fn make_table(alloc: Global, state: &State) -> Result<Table, AllocError>
+    ensures { IfOk result (λ made. made ≡ table state.now) }
+{
+    let entries = all_entries(alloc, state)?;
+    table_of(alloc, state.limits, &state.declared, &state.axioms, entries)
 }

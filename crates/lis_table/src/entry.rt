@@ -1,12 +1,9 @@
-//! What a word entails, and a file as truth and listings see it.
+//! A file as truth and listings see it, and a word with all that it entails.
 
-ghost use Rattle.std.specs.Prelude.{◌≡◌, [], IfOk};
-ghost use Rattle.std.specs.List.{flat_map};
-ghost use Rattle.lis_model.specs.Sets.{with_words};
-ghost use Rattle.lis_model.specs.State.{up};
+ghost use Rattle.std.specs.Prelude.{◌≡◌, IfOk};
 
-use crate::words::{copies, insert_word, insert_words};
-use lis_words::{Name, Word, head_of};
+use crate::words::copies;
+use lis_words::{Name, Word};
 use std::alloc::{AllocError, Global};
 use std::marker::Model;
 
@@ -53,28 +50,4 @@ impl Model for Entailed {
     ghost Value = { List ℕ × List (List ℕ) };
 
     ghost view = { λ e. (e.word, e.above.items) };
-}
-
-/// What a word entails, without axioms and declared tests: itself, and its head where it is valued.
-pub fn ups(alloc: Global, word: &Word) -> Result<Vec<Word>, AllocError>
-    ensures { IfOk result (λ words. words.items ≡ up [] [] word.now) }
-{
-    let mut words = Vec::new(alloc);
-    insert_word(&mut words, word)?;
-    if let Some(head) = head_of(word) {
-        insert_word(&mut words, &head)?;
-    }
-    Ok(words)
-}
-
-/// The description of a file that was given these words, without axioms and declared tests.
-pub fn described(alloc: Global, assigned: &[Word]) -> Result<Vec<Word>, AllocError>
-    ensures { IfOk result (λ words. words.items ≡ with_words [] (flat_map (up [] []) assigned.now)) }
-{
-    let mut words = Vec::new(alloc);
-    for word in assigned {
-        let above = ups(alloc, word)?;
-        insert_words(&mut words, &above)?;
-    }
-    Ok(words)
 }

@@ -1,9 +1,13 @@
-//! What truth and listings look at: sets of words, descriptions, tables, and the words of places.
+//! What truth and listings look at: sets of words, what they entail, descriptions, tables, and the words of places.
 #![tactic(auto)]
 
+pub mod closure;
+pub mod derived;
 pub mod entry;
+pub mod links;
 pub mod listing;
 pub mod moving;
+pub mod route;
 pub mod table;
 pub mod tags;
 pub mod truth;

@@ -106,6 +106,16 @@ pub fn push_line(reply: &mut Vec<u8>, letter: u8, text: &[u8]) -> Result<(), All
     Ok(())
 }
 
+/// Puts a line of the letter for each of the words behind the reply.
+pub fn push_words(reply: &mut Vec<u8>, letter: u8, words: &[Word]) -> Result<(), AllocError>
+    ensures { OnOk result (reply.new.items ≡ reply.old.items ++ flat_map (body_line letter) words.now) }
+{
+    for word in words {
+        push_line(reply, letter, word.bytes())?;
+    }
+    Ok(())
+}
+
 /// Puts a line for each increment behind the reply.
 pub fn push_increments(
     reply: &mut Vec<u8>,

@@ -1,7 +1,7 @@
 //! What leads from a place to another.
 
-ghost use Rattle.std.specs.Prelude.{◌≡◌, List};
-ghost use Rattle.std.specs.List.{list_all};
+ghost use Rattle.std.specs.Prelude.{◌≡◌, List, ◌++◌, IfOk, OnOk};
+ghost use Rattle.std.specs.List.{list_all, flat_map};
 ghost use Rattle.lis_words.specs.Words.{has_word};
 ghost use Rattle.lis_grammar.specs.Formula.{Formula};
 ghost use Rattle.lis_grammar.specs.Places.{resolved, text_words};
@@ -13,6 +13,7 @@ use crate::words::has_word;
 use lis_formula::read_formula;
 use lis_place::{Node, Place};
 use lis_words::Word;
+use std::alloc::{AllocError, Global};
 
 /// Whether the place has no step.
 pub fn is_root(place: &Place) -> bool
@@ -45,5 +46,34 @@ pub fn knows_text(known: &[Word], text: &[u8]) -> bool
     match read_formula(text) {
         Ok(path) => are_known(known, path.place.nodes()),
         Err(_) => true,
+    }
+}
+
+fn push_named(words: &mut Vec<Word>, node: &Node) -> Result<(), AllocError>
+    ensures { OnOk result (words.new.items ≡ words.old.items ++ node_words node.now) }
+{
+    if let Node::Word(word) = node {
+        words.push(word.copied())?;
+    }
+    Ok(())
+}
+
+fn named_words(alloc: Global, nodes: &[Node]) -> Result<Vec<Word>, AllocError>
+    ensures { IfOk result (λ words. words.items ≡ flat_map node_words nodes.now) }
+{
+    let mut words = Vec::new(alloc);
+    for node in nodes {
+        push_named(&mut words, node)?;
+    }
+    Ok(words)
+}
+
+/// The words that the text names, where it leads from some place to another. The text `..` names none.
+pub fn text_words(alloc: Global, text: &[u8]) -> Result<Vec<Word>, AllocError>
+    ensures { IfOk result (λ words. (place new : List Formula) → resolved place text.now ≡ NewPlace new → words.items ≡ text_words text.now) }
+{
+    match read_formula(text) {
+        Ok(path) => named_words(alloc, path.place.nodes()),
+        Err(_) => Ok(Vec::new(alloc)),
     }
 }

@@ -1,13 +1,15 @@
 //! The words of a place, and those that a file in it is given.
 
-ghost use Rattle.std.specs.Prelude.{◌≡◌, Some, None, filter, IfOk, OnOk, MatchOption};
+ghost use Rattle.std.specs.Prelude.{◌≡◌, Some, None, not, filter, IfOk, OnOk, MatchOption};
 ghost use Rattle.std.specs.List.{list_all, flat_map};
+ghost use Rattle.lis_words.specs.Words.{has_word};
 ghost use Rattle.lis_place.specs.Nodes.{node_words};
 ghost use Rattle.lis_model.specs.Sets.{with_words, set_of};
 ghost use Rattle.lis_model.specs.Places.{place_words, is_tag};
+ghost use Rattle.lis_model.specs.Step.{words_at, tags_at, assigned_at, retagged};
 ghost use Rattle.lis_table.specs.Tags.{is_conjunct};
 
-use crate::words::{insert_word, insert_words};
+use crate::words::{has_word, insert_word, insert_words};
 use lis_place::{Node, Place};
 use lis_words::{Word, is_builtin, is_head};
 use std::alloc::{AllocError, Global};
@@ -77,11 +79,57 @@ pub fn tags_among(alloc: Global, words: &[Word]) -> Result<Vec<Word>, AllocError
     Ok(tags)
 }
 
-/// The tags among the words of a place, and more words.
-pub fn assigned_with(alloc: Global, words: &[Word], more: &[Word]) -> Result<Vec<Word>, AllocError>
-    ensures { IfOk result (λ assigned. assigned.items ≡ with_words (filter is_tag words.now) more.now) }
+/// The words of a place; none where it has none.
+pub fn words_at(alloc: Global, place: &Place) -> Result<Vec<Word>, AllocError>
+    ensures { IfOk result (λ words. words.items ≡ words_at place.now) }
 {
-    let mut assigned = tags_among(alloc, words)?;
+    match place_words(alloc, place)? {
+        Some(words) => Ok(words),
+        None => Ok(Vec::new(alloc)),
+    }
+}
+
+/// The tags of a place; none where it has none.
+pub fn tags_at(alloc: Global, place: &Place) -> Result<Vec<Word>, AllocError>
+    ensures { IfOk result (λ tags. tags.items ≡ tags_at place.now) }
+{
+    match place_words(alloc, place)? {
+        Some(words) => tags_among(alloc, &words),
+        None => Ok(Vec::new(alloc)),
+    }
+}
+
+/// The tags of a place, and more words.
+pub fn assigned_at(alloc: Global, place: &Place, more: &[Word]) -> Result<Vec<Word>, AllocError>
+    ensures { IfOk result (λ assigned. assigned.items ≡ assigned_at place.now more.now) }
+{
+    let mut assigned = tags_at(alloc, place)?;
     insert_words(&mut assigned, more)?;
     Ok(assigned)
+}
+
+fn without(alloc: Global, words: &[Word], others: &[Word]) -> Result<Vec<Word>, AllocError>
+    ensures { IfOk result (λ kept. kept.items ≡ filter (λ word. not (has_word others.now word)) words.now) }
+{
+    let mut kept = Vec::new(alloc);
+    for word in words {
+        if !has_word(others, word) {
+            kept.push(word.copied())?;
+        }
+    }
+    Ok(kept)
+}
+
+/// The words without those of one list, and with those of another.
+pub fn retagged(
+    alloc: Global,
+    assigned: &[Word],
+    here: &[Word],
+    there: &[Word],
+) -> Result<Vec<Word>, AllocError>
+    ensures { IfOk result (λ words. words.items ≡ retagged assigned.now here.now there.now) }
+{
+    let mut words = without(alloc, assigned, here)?;
+    insert_words(&mut words, there)?;
+    Ok(words)
 }
