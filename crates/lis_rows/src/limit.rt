@@ -1,10 +1,10 @@
-//! A session over an image in memory with a small limit.
+//! Sessions over an opened store: with a small limit, and what they edit of its extension rows.
 
-ghost use Rattle.std.specs.Prelude.{◌≡◌, ◌*◌, ◌≤◌, ◌^◌, false};
+ghost use Rattle.std.specs.Prelude.{◌≡◌, ◌*◌, ◌≤◌, ◌^◌, false, IfOk};
 ghost use Rattle.lis_memdisk.specs.MemStation.{meaning_of};
 
 use crate::images::{fresh, run, shown_behind};
-use crate::tests::tables::LIMITED;
+use crate::tests::tables::{EDITS, LIMITED};
 use crate::tests::{SOUND, row_of, source};
 use lis_line::reader::Payload;
 use lis_memdisk::MemStation;
@@ -41,6 +41,16 @@ fn serve_row(
     ))
 }
 
+fn opened(alloc: Global, station: &mut MemStation) -> Result<Store, Fail>
+    ensures unbroken { IfOk result (λ store. store.is_broken ≡ false) }
+    ensures long { IfOk result (λ store. 4096 * store.journal.blocks ≤ (meaning_of station.new).len) }
+{
+    match mount(alloc, station) {
+        Ok(store) => Ok(store),
+        Err(_) => Err("the image was not opened".into()),
+    }
+}
+
 // The same, with the opening.
 fn serve_image(
     alloc: Global,
@@ -50,10 +60,10 @@ fn serve_image(
 ) -> Result<Status, Fail>
     requires limit { limit ≤ 2 ^ 40 }
 {
-    match mount(alloc, station) {
-        Ok(mut store) => Ok(serve_row(alloc, &mut store, row, station, limit)?),
-        Err(_) => Err("the image was not opened".into()),
-    }
+    let mut store = opened(alloc, station)?;
+    let status = serve_row(alloc, &mut store, row, station, limit);
+    drop(store);
+    Ok(status?)
 }
 
 #[test]
@@ -72,6 +82,28 @@ fn a_session_ends_at_its_limit(rt: HostRuntime) -> Result<(), Fail> {
             *left,
             "{row}"
         );
+    }
+    Ok(())
+}
+
+// How often bits of extension rows were changed by a session over an empty image.
+fn edits_by(alloc: Global, row: &str, station: &mut MemStation) -> Result<u64, Fail> {
+    let mut store = opened(alloc, station)?;
+    let status = serve_row(alloc, &mut store, row, station, 1_000);
+    let edits = store.descriptions().rows().edits();
+    drop(store);
+    status?;
+    Ok(edits)
+}
+
+#[test]
+fn rows_are_edited_where_descriptions_differ(rt: HostRuntime) -> Result<(), Fail> {
+    let alloc = rt.alloc();
+    let image = fresh(alloc)?;
+    for (row, wanted) in &EDITS {
+        let mut station = MemStation::new(alloc, &image, 0)?;
+        let edits = edits_by(alloc, row, &mut station)?;
+        assert_eq!(rt; edits, *wanted, "{row}");
     }
     Ok(())
 }

@@ -352,6 +352,15 @@ pub static LIMITED: [(&str, Status, &str, &str); 2] = [
     ("mkdir abc;", Status::Done, "ok;", "no 11 already declared;"),
 ];
 
+/// Sessions on an empty image, and how many bits of its extension rows they edit: a bit for each word that a file gains or loses.
+pub static EDITS: [(&str, u64); 5] = [
+    ("mkdir a;mkdir b;", 0),
+    ("mkdir a;mkdir b;create f a;", 1),
+    ("mkdir a;mkdir k:;add f 1 a k:1;x;", 3),
+    ("mkdir a;mkdir b;create f a b;rm f;", 4),
+    ("mkdir a;create f a;create f a;create g b;rm g;", 1),
+];
+
 /// Eight commands, four kinds of changes among them.
 pub static SCRIPT: &str =
     "mkdir music;mkdir year:;create s1 music year:2003;add m 5 music;hello;create t;rm s1;add s1 3 year:1999;abc;rm m;";
