@@ -9,13 +9,13 @@ use Rattle.lis_grammar.specs.Places.{Resolution, resolved, text_words}
 use Rattle.lis_grammar.specs.Places.Resolution.{NewPlace, BeyondLimits, Unreadable}
 use Rattle.lis_model.specs.declared.limits.Limits.{Limits}
 use Rattle.lis_model.specs.declared.refusal.Refusal.{Refusal}
-use Rattle.lis_model.specs.declared.refusal.Refusal.TheVariants.{BadLine, BadFormula, UnknownProperty, LargeFormula, NotAPlace, NameTaken, NoFileHere, AlreadyDeclared, NotDeclared, InUse, NotAssignable, Cycle, AxiomThere, NoAxiom, TooManyAssigned, LargeDescription, LargeFile, NoFileRoom, NoPropertyRoom, NoAxiomRoom, NoSpace, BuiltIn}
+use Rattle.lis_model.specs.declared.refusal.Refusal.TheVariants.{BadFormula, UnknownProperty, LargeFormula, NotAPlace, NameTaken, NoFileHere, AlreadyDeclared, NotDeclared, InUse, NotAssignable, Cycle, AxiomThere, NoAxiom, TooManyAssigned, LargeDescription, LargeFile, NoFileRoom, NoPropertyRoom, NoAxiomRoom, NoSpace, BuiltIn}
 use Rattle.lis_model.specs.declared.command.Command.{Command}
 use Rattle.lis_model.specs.declared.command.Command.TheVariants.{Mkdir, Rmdir, Axiom, Unaxiom, Create, Add, Write, Cat, Mv, Rename, Rm, Cd, Pwd, Ls, Props, Way, Stat}
 use Rattle.lis_model.specs.Sets.{with_words}
 use Rattle.lis_model.specs.State.{State, File, empty_state, heads, up, description, known, is_assignable, is_nameable, file_limit, blocks_taken, used_blocks}
 use Rattle.lis_model.specs.Changes.{has_axiom, declared_under, undeclared, axiom_added, axiom_removed, new_file, has_name, file_of, file_added, file_removed, file_replaced}
-use Rattle.lis_model.specs.Places.{is_root, place_words, place_tags}
+use Rattle.lis_model.specs.Places.{place_words, place_tags}
 use Rattle.lis_model.specs.Table.{Entry, table, entry_of}
 use Rattle.lis_model.specs.Listing.{extension, increments, locals}
 use Rattle.lis_model.specs.Route.{route}
@@ -103,16 +103,12 @@ abbrev pub is_plain_place : Option (List (List ℕ)) → Bool
 is_plain_place None = false
 is_plain_place (Some words) = list_all is_plain_word words
 
--- Until axioms come, a word is declared at the root alone; then this is `is_plain_place (place_words place)`.
-abbrev pub is_declaring_place : List Formula → Bool
-is_declaring_place place = is_root place
-
 abbrev pub mkdir_checks : Situation → List ℕ → State → List (Bool × Refusal)
 mkdir_checks now word made =
     (is_built_in word, BuiltIn)
     ∷ (is_valued word, NotAssignable)
     ∷ (has_word now.state.declared word, AlreadyDeclared)
-    ∷ (not (is_declaring_place now.place), NotAPlace)
+    ∷ (not (is_plain_place (place_words now.place)), NotAPlace)
     ∷ (not (list_all (has_word now.state.declared) (words_at now.place)), UnknownProperty)
     ∷ (exceeds_axioms made, NoAxiomRoom)
     ∷ (exceeds_known made, NoPropertyRoom)
@@ -340,52 +336,24 @@ abbrev pub stat : Situation → Outcome
 stat now = shown now (count_lines now.state)
 
 -- what each command does
-abbrev pub all_done : Situation → Command → Payload → Outcome
-all_done now (Mkdir word) payload = mkdir now word
-all_done now (Rmdir word) payload = rmdir now word
-all_done now (Axiom left right) payload = add_axiom now (left, right)
-all_done now (Unaxiom left right) payload = unaxiom now (left, right)
-all_done now (Create name words) payload = create now name words
-all_done now (Add name words) payload = add now name words payload
-all_done now (Write name) payload = write now name payload
-all_done now (Cat name) payload = cat now name
-all_done now (Mv name text) payload = mv now name text
-all_done now (Rename name other) payload = rename now name other
-all_done now (Rm name) payload = rm now name
-all_done now (Cd text) payload = cd now text
-all_done now Pwd payload = pwd now
-all_done now Ls payload = ls now
-all_done now (Props name) payload = props now name
-all_done now (Way name) payload = way now name
-all_done now Stat payload = stat now
-
--- a command that has not come is a bad line
-abbrev pub not_come : Situation → Outcome
-not_come now = refused now BadLine
-
--- what the commands do that have come
-abbrev pub first_done : Situation → Command → Payload → Outcome
-first_done now (Mkdir word) payload = mkdir now word
-first_done now (Rmdir word) payload = not_come now
-first_done now (Axiom left right) payload = not_come now
-first_done now (Unaxiom left right) payload = not_come now
-first_done now (Create name words) payload = create now name words
-first_done now (Add name words) payload = add now name words payload
-first_done now (Write name) payload = not_come now
-first_done now (Cat name) payload = cat now name
-first_done now (Mv name text) payload = not_come now
-first_done now (Rename name other) payload = not_come now
-first_done now (Rm name) payload = rm now name
-first_done now (Cd text) payload = cd now text
-first_done now Pwd payload = pwd now
-first_done now Ls payload = ls now
-first_done now (Props name) payload = not_come now
-first_done now (Way name) payload = not_come now
-first_done now Stat payload = not_come now
-
--- Not all commands have come; then this is `all_done now command payload`.
 abbrev pub done : Situation → Command → Payload → Outcome
-done now command payload = first_done now command payload
+done now (Mkdir word) payload = mkdir now word
+done now (Rmdir word) payload = rmdir now word
+done now (Axiom left right) payload = add_axiom now (left, right)
+done now (Unaxiom left right) payload = unaxiom now (left, right)
+done now (Create name words) payload = create now name words
+done now (Add name words) payload = add now name words payload
+done now (Write name) payload = write now name payload
+done now (Cat name) payload = cat now name
+done now (Mv name text) payload = mv now name text
+done now (Rename name other) payload = rename now name other
+done now (Rm name) payload = rm now name
+done now (Cd text) payload = cd now text
+done now Pwd payload = pwd now
+done now Ls payload = ls now
+done now (Props name) payload = props now name
+done now (Way name) payload = way now name
+done now Stat payload = stat now
 
 unfoldable pub step : Situation → Item → Outcome
 step now (Do command payload) = done now command payload

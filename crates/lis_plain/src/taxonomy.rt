@@ -14,7 +14,6 @@ use crate::room::{are_declared, are_plain, is_in_use, is_nameable, word_room};
 use crate::state::State;
 use lis_model::refusal::Refusal;
 use lis_table::closure::{Axiom, up};
-use lis_table::moving::is_root;
 use lis_table::tags::{place_words, words_at};
 use lis_table::words::has_word;
 use lis_words::{Word, is_builtin, is_plain_word, is_valued};
@@ -22,7 +21,7 @@ use std::alloc::AllocError;
 
 impl Plain {
     // Whether the place has words, all of them plain.
-    pub(crate) fn is_plain_place(&self) -> Result<bool, AllocError>
+    fn is_plain_place(&self) -> Result<bool, AllocError>
         ensures { IfOk result (λ plain. plain ≡ is_plain_place (place_words self.now.place)) }
     {
         match place_words(self.alloc, self.place())? {
@@ -43,7 +42,7 @@ impl Plain {
         if has_word(&self.state().declared, word) {
             return Ok(Err(Refusal::AlreadyDeclared));
         }
-        if !is_root(self.place()) {
+        if !self.is_plain_place()? {
             return Ok(Err(Refusal::NotAPlace));
         }
         let words = words_at(self.alloc, self.place())?;
