@@ -10,4 +10,5 @@ pub mod Admitting
 pub mod Assigning
 pub mod Describing
 pub mod Removing
+pub mod Replacing
 pub mod Adding

@@ -1,0 +1,38 @@
+-- A file that takes the place of another.
+use Rattle.std.specs.Prelude.{◌≡◌, ◌≢◌, ℕ, ◌+◌, ◌≤◌, Some, None, List, [], length, map, filter, slice_set, IsTrue}
+use Rattle.std.specs.List.{list_all}
+use Rattle.lis_graph.specs.Graph.{is_rising}
+use Rattle.lis_blockmap.specs.Bitmap.{free_count}
+use Rattle.lis_catalog.specs.Catalog.{rec_at, slot_of}
+use Rattle.lis_fields.specs.Records.{FileRecord}
+use Rattle.lis_words.specs.Words.{is_file_name, word_cmp}
+use Rattle.lis_model.specs.Sets.{with_words}
+use Rattle.lis_model.specs.State.{File, is_assignable, blocks_needed}
+use Rattle.lis_kept.specs.Kept.{Kept}
+use Rattle.lis_kept.specs.Telling.{declared_of, is_used}
+use Rattle.lis_store.specs.Admitting.{described_by}
+
+-- what memory keeps, but for the description in a slot
+abbrev pub emptied : Kept → ℕ → Kept
+emptied k slot = record k { ext = record k.ext { sets = slice_set k.ext.sets slot [] } }
+
+-- the known words that are in use without the file in the slot
+abbrev pub words_without : Kept → ℕ → List (List ℕ)
+words_without k slot = map (λ (e : List ℕ × ℕ). e.0) (filter (λ (e : List ℕ × ℕ). is_used (emptied k slot) e.1) k.dict.entries)
+
+-- the words that would be known with a file in the place of that in the slot
+abbrev pub known_instead : Kept → ℕ → File → List (List ℕ)
+known_instead k slot file = with_words (words_without k slot) (described_by k file)
+
+-- A file that may come into the place of that in the slot.
+pub record MayReplace (k : Kept) (slot : ℕ) (rec : FileRecord) (file : File) : Type 0 where
+  pub there : rec_at k.catalog slot ≡ Some rec
+  pub name : IsTrue (is_file_name file.name)
+  pub new : file.name ≢ rec.name → slot_of k.catalog file.name ≡ None
+  pub set : IsTrue (is_rising word_cmp file.assigned)
+  pub assignable : IsTrue (list_all (is_assignable (declared_of k)) file.assigned)
+  pub few : length file.assigned ≤ 16
+  pub short : length (described_by k file) ≤ 128
+  pub room : length (known_instead k slot file) ≤ k.limits.props
+  pub small : length file.bytes ≤ 65536
+  pub blocks : blocks_needed (length file.bytes) ≤ free_count k.taken + length rec.blocks
