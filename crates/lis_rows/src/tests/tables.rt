@@ -3,7 +3,7 @@
 use lis_model::spot::Spot;
 use lis_shell::status::Status;
 
-pub static SESSIONS: [(&str, &str); 36] = [
+pub static SESSIONS: [(&str, &str); 50] = [
     ("", ""),
     (
         "mkdir music;create a;create b music;ls;",
@@ -83,8 +83,8 @@ pub static SESSIONS: [(&str, &str); 36] = [
         "ok;ok;ok;ok;ok;d b;f x;ok;ok;d b;f x;ok;ok;f y;ok;",
     ),
     (
-        "mkdir a;cd a;mkdir b;cd !a;create x;cd /size<1;create x;cd /a/a;create x;pwd;ls;",
-        "ok;ok;no 08 not a place;ok;no 08 not a place;ok;no 08 not a place;ok;ok;w a/a;ok;f x;ok;",
+        "mkdir a;cd !a;mkdir b;create x;cd /size<1;create x;cd /a/a;create x;pwd;ls;",
+        "ok;ok;no 08 not a place;no 08 not a place;ok;no 08 not a place;ok;ok;w a/a;ok;f x;ok;",
     ),
     (
         "create x ext:;create x size:0;create x nosuch:v;cd /size>=1;ls;cd /size<1;ls;",
@@ -101,7 +101,7 @@ pub static SESSIONS: [(&str, &str); 36] = [
     ),
     (
         "add . 1;x;pwd;write a 1;x;write a 1;xx;pwd;add a 65537;",
-        "no 01 bad line;w /;ok;no 01 bad line;no 04 payload end;w /;ok;no 03 cut payload;",
+        "no 01 bad line;w /;ok;no 10 no such file here;no 04 payload end;w /;ok;no 03 cut payload;",
     ),
     ("add a 4;a;b;;ls;cat a;add b 0", "ok;f a;ok;b 4;a;b;;ok;ok;"),
     (
@@ -117,6 +117,68 @@ pub static SESSIONS: [(&str, &str); 36] = [
     (
         "mkdir m;cd m;add a 2;hi;cd /!m;cat a;rm a;cd /size>=2;cat a;rm a;rm a;add b 32768;",
         "ok;ok;ok;ok;no 10 no such file here;no 10 no such file here;ok;b 2;hi;ok;ok;no 10 no such file here;no 03 cut payload;",
+    ),
+    // A word that entails another is hidden under it.
+    (
+        "mkdir music;mkdir rock;axiom rock music;mkdir text;create s1 rock;create s2 music;create t text;ls;cd music;ls;cd /!music|rock;ls;axiom music rock;axiom rock music;",
+        "ok;ok;ok;ok;ok;ok;ok;d music;d text;ok;ok;d rock;f s2;ok;ok;d music;d text;ok;no 15 cycle;no 16 axiom there;",
+    ),
+    // What another chain entails stays.
+    (
+        "mkdir top;mkdir l;mkdir r;mkdir bot;axiom l top;axiom r top;axiom bot l;axiom bot r;create x bot;create y;unaxiom bot l;ls;unaxiom bot r;ls;",
+        "ok;ok;ok;ok;ok;ok;ok;ok;ok;ok;ok;d top;f y;ok;ok;d bot;f y;ok;",
+    ),
+    (
+        "mkdir a;mkdir b;mkdir c;axiom a b;axiom b c;create x a;create y;props x;unaxiom b c;props x;axiom c a;axiom b c;rmdir c;ls;",
+        "ok;ok;ok;ok;ok;ok;ok;p a;p b;p c;ok;ok;p a;p b;ok;ok;no 15 cycle;no 13 in use;d b;f y;ok;",
+    ),
+    (
+        "mkdir size:;mkdir year:2003;mkdir a;mkdir a;rmdir z;axiom a z;unaxiom a a;axiom a a;create x;create x;cat y;cd a/;rmdir a;frob;",
+        "no 25 built-in attribute;no 14 not assignable;ok;no 11 already declared;no 12 not declared;no 06 unknown property;no 17 no such axiom;no 15 cycle;ok;no 09 name taken;no 10 no such file here;no 05 formula;ok;no 01 bad line;",
+    ),
+    // A valued word on the left, whose head is built in.
+    (
+        "mkdir a;axiom from:me a;axiom a from:me;stat;unaxiom from:me a;stat;rmdir from:;rmdir from:me;rmdir a;stat;",
+        "ok;ok;no 14 not assignable;s files 0;s known 3;s axioms 1;s free 8;ok;ok;s files 0;s known 1;s axioms 0;s free 8;ok;no 25 built-in attribute;no 25 built-in attribute;ok;s files 0;s known 0;s axioms 0;s free 8;ok;",
+    ),
+    // A word that is declared at a place entails the words of the place.
+    (
+        "mkdir music;cd music;mkdir jazz;create j jazz;cd /;create x;ls;rmdir jazz;",
+        "ok;ok;ok;ok;ok;ok;d music;f x;ok;no 13 in use;",
+    ),
+    (
+        "mkdir a;mkdir k:;cd a;mkdir b;cd b/a;mkdir c;stat;cd k:;mkdir d;cd /a;create x c;props x;rm x;rmdir c;",
+        "ok;ok;ok;ok;ok;ok;s files 0;s known 4;s axioms 3;s free 8;ok;ok;no 08 not a place;ok;ok;p a;p b;p c;ok;ok;no 13 in use;",
+    ),
+    // Files get other bytes, words and names.
+    (
+        "create a;write a 5;xyz",
+        "ok;no 03 cut payload;",
+    ),
+    (
+        "mkdir t;add a 3 t;abc;write a 5;hello;cat a;write a 0;;cat a;cd t;ls;write b 0;;write a 65537;",
+        "ok;ok;ok;b 5;hello;ok;ok;b 0;;ok;ok;f a;ok;no 10 no such file here;no 03 cut payload;",
+    ),
+    (
+        "mkdir a;mkdir b;cd a;create x;mv x /b;ls;cd /b;ls;cd /a|b;create y;rename x x;",
+        "ok;ok;ok;ok;ok;ok;ok;f x;ok;ok;no 08 not a place;no 09 name taken;",
+    ),
+    (
+        "mkdir a;mkdir k:;add x 2 a k:1;hi;add y 1;u;mv x /k:2;props x;cd a;mv x ..;props x;cat x;mv y /a;cd /;mv y a;mv x !a;mv x k:;mv x size:1;mv x nosuch;mv x (;ls;",
+        "ok;ok;ok;ok;ok;p a;p k:;p k:1;p k:2;ok;ok;ok;p k:;p k:1;p k:2;ok;no 10 no such file here;no 10 no such file here;ok;ok;no 08 not a place;no 14 not assignable;no 25 built-in attribute;no 06 unknown property;no 05 formula;d a;d k:;ok;",
+    ),
+    (
+        "mkdir a;create x a;create y;rename x z;ls;cd a;ls;rename z z;rename z y;rename y w;rename z x;ls;",
+        "ok;ok;ok;ok;d a;f y;ok;ok;f z;ok;no 09 name taken;no 09 name taken;no 10 no such file here;ok;f x;ok;",
+    ),
+    // Routes and counts.
+    (
+        "mkdir p1;mkdir p2;mkdir p3;mkdir p4;axiom p2 p1;axiom p3 p2;axiom p4 p3;create a p1;create b p2;create c p3;create d p4;way d;way a;cd !p4;way d;way c;",
+        "ok;ok;ok;ok;ok;ok;ok;ok;ok;ok;ok;d p2;d p3;d p4;ok;ok;ok;no 10 no such file here;d p2;d p3;ok;",
+    ),
+    (
+        "mkdir a;create x a;stat;add y 4097;",
+        "ok;ok;s files 1;s known 1;s axioms 0;s free 8;ok;no 03 cut payload;",
     ),
 ];
 
@@ -353,29 +415,38 @@ pub static LIMITED: [(&str, Status, &str, &str); 2] = [
 ];
 
 /// Sessions on an empty image, and how many bits of its extension rows they edit: a bit for each word that a file gains or loses.
-pub static EDITS: [(&str, u64); 5] = [
+pub static EDITS: [(&str, u64); 8] = [
     ("mkdir a;mkdir b;", 0),
     ("mkdir a;mkdir b;create f a;", 1),
     ("mkdir a;mkdir k:;add f 1 a k:1;x;", 3),
     ("mkdir a;mkdir b;create f a b;rm f;", 4),
     ("mkdir a;create f a;create f a;create g b;rm g;", 1),
+    // What a file has before and after stays.
+    ("mkdir a;mkdir b;create e;create f a;rm e;mv f /b;", 2),
+    ("mkdir a;create f a;write f 1;x;rename f g;", 1),
+    (
+        "mkdir a;mkdir b;mkdir c;create f a;create g a c;axiom a b;axiom c b;unaxiom a b;unaxiom c b;",
+        7,
+    ),
 ];
 
-/// Eight commands, four kinds of changes among them.
+/// Ten commands, each of another kind but for the first two.
 pub static SCRIPT: &str =
-    "mkdir music;mkdir year:;create s1 music year:2003;add m 5 music;hello;create t;rm s1;add s1 3 year:1999;abc;rm m;";
+    "mkdir music;mkdir rock;create s1 rock;add m 5 music;hello;axiom rock music;write m 2;hi;mv m /rock;rename s1 s2;unaxiom rock music;rm m;";
 
 /// What `ls;cat m;` shows before the script, and behind each command.
-pub static SCRIPT_STATES: [&str; 9] = [
+pub static SCRIPT_STATES: [&str; 11] = [
     "ok;no 10 no such file here;",
     "ok;no 10 no such file here;",
     "ok;no 10 no such file here;",
     "f s1;ok;no 10 no such file here;",
-    "d year:;f m;ok;b 5;hello;ok;",
-    "d music;d year:;f t;ok;b 5;hello;ok;",
-    "d music;f t;ok;b 5;hello;ok;",
-    "d music;d year:;f t;ok;b 5;hello;ok;",
-    "d year:;f t;ok;no 10 no such file here;",
+    "d music;d rock;ok;b 5;hello;ok;",
+    "d rock;f m;ok;b 5;hello;ok;",
+    "d rock;f m;ok;b 2;hi;ok;",
+    "f m;f s1;ok;b 2;hi;ok;",
+    "f m;f s2;ok;b 2;hi;ok;",
+    "d music;f s2;ok;b 2;hi;ok;",
+    "f s2;ok;no 10 no such file here;",
 ];
 
 /// A byte of the rows of an image in which file 0 has word 0, what it is changed to, and how a run ends then.
