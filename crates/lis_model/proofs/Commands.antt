@@ -17,7 +17,7 @@ use Rattle.lis_model.specs.Step.{Situation, Outcome, Item, Payload, no_payload, 
 use Rattle.lis_model.specs.Step.Item.{Do, Bad}
 use Rattle.lis_model.specs.Tests.{is_weaker}
 
--- what all commands reply, those that have not come yet among them
+-- what commands reply
 abbrev reply_then : Outcome → (Situation → List ℕ) → List ℕ
 reply_then outcome next = outcome.reply ++ next outcome.next
 
