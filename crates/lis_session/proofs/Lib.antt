@@ -9,5 +9,6 @@ pub mod Blocks
 pub mod Going
 pub mod Whole
 pub mod InTurn
+pub mod Described
 mod TextWords
 mod Examples

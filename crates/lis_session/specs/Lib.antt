@@ -2,3 +2,4 @@ pub mod Session
 pub mod Item
 pub mod Runs
 pub mod Parts
+pub mod Described

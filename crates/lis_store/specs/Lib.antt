@@ -11,3 +11,4 @@ pub mod Assigning
 pub mod Describing
 pub mod Removing
 pub mod Adding
+pub mod Counting

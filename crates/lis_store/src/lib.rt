@@ -7,6 +7,7 @@ mod adding;
 mod admitting;
 mod assigning;
 mod change;
+mod counting;
 mod derived;
 mod describing;
 mod judging;
@@ -17,4 +18,5 @@ mod saving;
 mod store;
 
 pub use change::Change;
+pub use counting::Counts;
 pub use store::{Built, Store};
