@@ -1,5 +1,5 @@
 -- The words that a file has, and the route to it.
-use Rattle.std.proofs.Common.{◌≡◌, ℕ, ◌+◌, ◌≤◌, cond, Bool, true, false, Option, Some, None, is_some, option_to_list, List, [], ◌∷◌, ◌++◌, length, map, filter, drop, slice_get, refl, sym, ap, ◌∙◌, subst, arith, append_assoc}
+use Rattle.std.proofs.Common.{◌≡◌, ℕ, ◌+◌, ◌≤◌, cond, Bool, true, false, Option, Some, None, is_some, option_to_list, List, [], ◌∷◌, ◌++◌, length, map, filter, drop, slice_get, refl, sym, ap, ◌∙◌, subst, arith, append_assoc, append-nil, ◌<◌}
 use Rattle.std.specs.List.{find, flat_map, list_any}
 use Rattle.std.proofs.lemmas.Cmp.{nat_list_cmp_total}
 use Rattle.std.proofs.lemmas.List.{drop_more, drop_all}
@@ -8,7 +8,7 @@ use Rattle.lis_graph.proofs.Members.{Among, among_filter, filter_among, among_ma
 use Rattle.lis_graph.proofs.Sets.{sorted_from_rising}
 use Rattle.lis_ports.specs.Meaning.{Meaning}
 use Rattle.lis_dict.specs.Dict.{word_of}
-use Rattle.lis_dict.proofs.Laws.{among_from_word, word_from_among}
+use Rattle.lis_dict.proofs.Laws.{among_from_word, word_from_among, number_from_among, number_below}
 use Rattle.lis_catalog.specs.Catalog.{slot_of}
 use Rattle.lis_ext.specs.Ext.{has, set_of as numbers_at}
 use Rattle.lis_words.specs.Words.{word_cmp, same_word}
@@ -26,6 +26,7 @@ use Rattle.lis_kept.specs.Kept.{Kept}
 use Rattle.lis_kept.specs.Sound.{AreSound}
 use Rattle.lis_kept.specs.Telling.{words_told}
 use Rattle.lis_kept.proofs.Filing.{rising_kept}
+use Rattle.lis_kept.proofs.Known.{among_place}
 use Rattle.lis_kept.proofs.Numbered.{Numbers, numbers_are}
 use Rattle.lis_store.specs.Stored.{Stored, IsSound, StoreFits}
 use Rattle.lis_store.specs.Seen.{table_of}
@@ -33,7 +34,7 @@ use Rattle.lis_store.proofs.Facts.{any_is_found, table_told}
 use Rattle.lis_store.proofs.Described.{description_told, entry_found}
 use Rattle.lis_session.specs.Described.{words_had}
 
--- ---- words from a place on
+-- ---- a list from a place on
 split_at : {X : Type 0} (xs : List X) (n : ℕ) → drop n xs ≡ option_to_list (slice_get xs n) ++ drop (n + 1) xs
 split_at xs n = by (slice_get xs n) refl
   where
@@ -59,13 +60,37 @@ module _ (k : Kept) (slot : ℕ) where
       by true rest = ap (λ text. body_line 112 x.0 ++ text) rest ∙ sym (append_assoc (body_line 112 x.0) (flat_map (body_line 112) (words_had k slot xs)) (flat_map (body_line 112) (words_had k slot ys)))
       by false rest = rest
 
+  -- ---- the word of one place
+  abbrev pub text_at : ℕ → List ℕ
+  text_at n = flat_map (body_line 112) (words_had k slot (option_to_list (slice_get k.dict.entries n)))
+
+  pub text_none : (n : ℕ) → slice_get k.dict.entries n ≡ None → text_at n ≡ []
+  text_none n none = ap (λ o. flat_map (body_line 112) (words_had k slot (option_to_list o))) none
+
+  module _ (n : ℕ) (word : List ℕ) (number : ℕ) (at : slice_get k.dict.entries n ≡ Some (word, number)) where
+    text_if : text_at n ≡ flat_map (body_line 112) (map (λ (w : Numbered). w.0) (cond (has k.ext number slot) ((word, number) ∷ []) []))
+    text_if = ap (λ (o : Option Numbered). flat_map (body_line 112) (words_had k slot (option_to_list o))) at
+
+    pub text_lacks : has k.ext number slot ≡ false → text_at n ≡ []
+    text_lacks lacks = text_if ∙ ap (λ b. flat_map (body_line 112) (map (λ (w : Numbered). w.0) (cond b ((word, number) ∷ []) []))) lacks
+
+    pub text_had : has k.ext number slot ≡ true → text_at n ≡ body_line 112 word
+    text_had has_it =
+        text_if ∙ (ap (λ b. flat_map (body_line 112) (map (λ (w : Numbered). w.0) (cond b ((word, number) ∷ []) []))) has_it ∙ append-nil (body_line 112 word))
+
+    -- its number is one of the rows
+    pub number_in : AreSound k → number < k.ext.props
+    number_in sound =
+        omega (arith, number_below k.dict sound.dict word number (number_from_among k.dict sound.dict word number (among_place k.dict.entries n (word, number) at)), sound.numbers, sound.rows)
+
+  -- ---- the words from a place on
   abbrev pub text_from : ℕ → List ℕ
   text_from n = flat_map (body_line 112) (words_had k slot (drop n k.dict.entries))
 
   pub text_start : text_from 0 ≡ flat_map (body_line 112) (words_had k slot k.dict.entries)
   text_start = ap (λ ws. flat_map (body_line 112) (words_had k slot ws)) (drop_none k.dict.entries)
 
-  pub text_next : (n : ℕ) → text_from n ≡ flat_map (body_line 112) (words_had k slot (option_to_list (slice_get k.dict.entries n))) ++ text_from (n + 1)
+  pub text_next : (n : ℕ) → text_from n ≡ text_at n ++ text_from (n + 1)
   text_next n =
       ap (λ ws. flat_map (body_line 112) (words_had k slot ws)) (split_at k.dict.entries n)
       ∙ had_of_both (option_to_list (slice_get k.dict.entries n)) (drop (n + 1) k.dict.entries)

@@ -1,11 +1,12 @@
 -- What a store tells of one file of the state.
-use Rattle.std.proofs.Common.{◌≡◌, ℕ, Option, Some, List, map, filter, refl, sym, ap, ◌∙◌, subst}
+use Rattle.std.proofs.Common.{◌≡◌, ℕ, Option, Some, IsSomeAnd, List, map, filter, refl, sym, ap, ◌∙◌, subst}
 use Rattle.std.specs.List.{find}
 use Rattle.lis_graph.proofs.Members.{Among, contains_from_among, among_filter, among_map}
 use Rattle.lis_ports.specs.Meaning.{Meaning}
-use Rattle.lis_catalog.specs.Catalog.{Filed, slot_of}
+use Rattle.lis_catalog.specs.Catalog.{Filed, slot_of, rec_at}
 use Rattle.lis_catalog.proofs.Laws.{rec_at-slot_of}
 use Rattle.lis_ext.specs.Ext.{set_of as numbers_at}
+use Rattle.lis_fields.specs.Records.{FileRecord}
 use Rattle.lis_words.specs.Words.{same_word}
 use Rattle.lis_grammar.specs.Formula.{Formula}
 use Rattle.lis_model.specs.State.{State, File, description}
@@ -29,6 +30,15 @@ module _ (m : Meaning) (k : Stored) (s : State) (sound : IsSound k) (fits : Stor
       let there = (filed_named k.parts sound.parts name slot found.0 is found.1).0 in
       fits.tells.described f (contains_from_among k.parts.catalog.entries f there)
       ∙ ap (description s) (sym (file_in_slot k.parts fits.kept s sound.parts sound.free fits.tells name slot found.0 is found.1))
+
+  -- and the words of its record are those that the file was given
+  pub tags_told : (name : List ℕ) (slot : ℕ) → slot_of k.parts.catalog name ≡ Some slot
+      → IsSomeAnd (rec_at k.parts.catalog slot) (λ (rec : FileRecord). words_told k.parts.dict rec.tags ≡ (file_of s.files name).assigned)
+  tags_told name slot is =
+      let found = rec_at-slot_of k.parts.catalog name slot sound.parts.catalog is in
+      let file = file_in_slot k.parts fits.kept s sound.parts sound.free fits.tells name slot found.0 is found.1 in
+      subst (λ (o : Option FileRecord). IsSomeAnd o (λ (rec : FileRecord). words_told k.parts.dict rec.tags ≡ (file_of s.files name).assigned)) (sym found.1)
+      (ap (λ (f : File). f.assigned) (sym file))
 
   -- a file of the state is the one of its name
   file_named : (file : File) → Among s.files file → file_of s.files file.name ≡ file

@@ -17,7 +17,7 @@ use Rattle.lis_model.specs.Step.{Situation, no_payload, create, add}
 use Rattle.lis_model.specs.Table.{table}
 use Rattle.lis_kept.specs.Areas.{IsWritten}
 use Rattle.lis_kept.specs.Sound.{AreSound, FreeSlotsAreEmpty}
-use Rattle.lis_kept.specs.Telling.{axioms_of, Tells}
+use Rattle.lis_kept.specs.Telling.{words_told, axioms_of, Tells}
 use Rattle.lis_store.specs.Blank.{IsBlank}
 use Rattle.lis_store.specs.Stands.{Stands}
 use Rattle.lis_store.specs.Stored.{Stored, PairsAreApart, IsSound, StoreFits, empty_stored}
@@ -49,6 +49,12 @@ FittingStoresCount m = (k : Stored) (s : State) → IsSound k → StoreFits k m 
 -- and its axioms are those of the state
 abbrev pub FittingStoresHaveAxioms : Meaning → Type 0
 FittingStoresHaveAxioms m = (k : Stored) (s : State) → IsSound k → StoreFits k m s → axioms_of k.parts ≡ s.axioms
+
+-- and each file was given the words that its record tells
+abbrev pub FittingStoresHaveTags : Meaning → Type 0
+FittingStoresHaveTags m =
+    (k : Stored) (s : State) → IsSound k → StoreFits k m s → (name : List ℕ) (slot : ℕ) → slot_of k.parts.catalog name ≡ Some slot
+    → IsSomeAnd (rec_at k.parts.catalog slot) (λ (rec : FileRecord). words_told k.parts.dict rec.tags ≡ (file_of s.files name).assigned)
 
 -- the parts of an empty store are in form
 abbrev pub EmptyStoresAreSound : Type 0

@@ -16,6 +16,7 @@ mod looking;
 mod removing;
 mod saving;
 mod store;
+mod tags;
 
 pub use change::Change;
 pub use counting::Counts;
