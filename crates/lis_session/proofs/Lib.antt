@@ -10,5 +10,6 @@ pub mod Going
 pub mod Whole
 pub mod InTurn
 pub mod Described
+pub mod Counted
 mod TextWords
 mod Examples

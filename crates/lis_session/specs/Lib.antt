@@ -3,3 +3,4 @@ pub mod Item
 pub mod Runs
 pub mod Parts
 pub mod Described
+pub mod Counting

@@ -1,0 +1,13 @@
+use Rattle.std.proofs.Common.{refl}
+use Rattle.lis_model.specs.Step.{Situation, stat}
+use Rattle.lis_store.proofs.Counting.{counts_state}
+use Rattle.lis_session.proofs.Answering.{shows_item}
+use Rattle.lis_session.proofs.Counted.{counts_shown}
+use Rattle.lis_session.proofs.counting.stat.Goals as goal
+
+pub returns-clause-carries : goal.returns-clause-carries
+returns-clause-carries g c = λ state fitting.
+    let now : Situation = record { state = state; place = c.args.place.now } in
+    let told = counts_state (g.T.Disk.meaning c.args.station.now) c.args.store.now state c.limits-limits.ensures.sound fitting.own in
+    let is = counts_shown c.args.store.now.parts state c.counts.result told c.counts.ensures.files c.counts.ensures.known c.counts.ensures.axioms c.counts.ensures.free in
+    shows_item (stat now) c.args.place.now fitting (rw is at c.answer_counts.ensures) refl
