@@ -1,14 +1,10 @@
 -- How much there is, as it is shown.
-use Rattle.std.proofs.Common.{◌≡◌, ℕ, List, ◌++◌, length, count_by, codes, Result, Ok, Err, ap, ◌∙◌}
+use Rattle.std.proofs.Common.{◌≡◌, ℕ, List, ◌++◌, length, codes, Result, Ok, Err, ap, ◌∙◌}
 use Rattle.lis_ports.specs.Meaning.{Meaning}
-use Rattle.lis_blockmap.specs.Bitmap.{free_count}
 use Rattle.lis_model.specs.Replies.{number_line, ok_line}
 use Rattle.lis_model.specs.State.{State, known}
 use Rattle.lis_model.specs.Step.{free_blocks, count_lines}
-use Rattle.lis_kept.specs.Kept.{Kept}
-use Rattle.lis_kept.specs.Linking.{is_filled}
 use Rattle.lis_store.specs.declared.counting.Counts.{Counts}
-use Rattle.lis_store.specs.Counting.{CountsState}
 use Rattle.lis_session.specs.declared.end.End.{End}
 use Rattle.lis_session.specs.Parts.{Answers}
 use Rattle.lis_session.specs.Counting.{counts_text}
@@ -70,11 +66,11 @@ module _ (c : Counts) {old : Meaning} where
         all_shown x result fourth last = answers_then (counts_text c) ok_line x result (answers_then three_lines (free_line c.free) w (Ok x) shown_three fourth) last
 
 -- ---- the lines are those of the state
-pub counts_shown : (k : Kept) (s : State) (c : Counts) → CountsState k s → c.files ≡ length k.catalog.entries → c.known ≡ length k.dict.entries → c.axioms ≡ count_by is_filled k.axioms → c.free ≡ free_count k.taken
+pub counts_shown : (s : State) (c : Counts) → c.files ≡ length s.files → c.known ≡ length (known s) → c.axioms ≡ length s.axioms → c.free ≡ free_blocks s
     → counts_text c ++ ok_line ≡ count_lines s ++ ok_line
-counts_shown k s c counts files known_is axioms free =
+counts_shown s c files are_known axioms free =
     let text : ℕ → ℕ → ℕ → ℕ → List ℕ = λ a b x y. (((files_line a ++ known_line b) ++ axioms_line x) ++ free_line y) ++ ok_line in
-    ap (λ n. text n c.known c.axioms c.free) (files ∙ counts.files)
-    ∙ (ap (λ n. text (length s.files) n c.axioms c.free) (known_is ∙ counts.known)
-    ∙ (ap (λ n. text (length s.files) (length (known s)) n c.free) (axioms ∙ counts.axioms)
-    ∙ ap (text (length s.files) (length (known s)) (length s.axioms)) (free ∙ counts.free)))
+    ap (λ n. text n c.known c.axioms c.free) files
+    ∙ (ap (λ n. text (length s.files) n c.axioms c.free) are_known
+    ∙ (ap (λ n. text (length s.files) (length (known s)) n c.free) axioms
+    ∙ ap (text (length s.files) (length (known s)) (length s.axioms)) free))

@@ -1,4 +1,4 @@
-use Rattle.std.proofs.Common.{refl}
+use Rattle.std.proofs.Common.{refl, ◌∙◌}
 use Rattle.lis_model.specs.Step.{Situation, stat}
 use Rattle.lis_store.proofs.Counting.{counts_state}
 use Rattle.lis_session.proofs.Answering.{shows_item}
@@ -9,5 +9,6 @@ pub returns-clause-carries : goal.returns-clause-carries
 returns-clause-carries g c = λ state fitting.
     let now : Situation = record { state = state; place = c.args.place.now } in
     let told = counts_state (g.T.Disk.meaning c.args.station.now) c.args.store.now state c.limits-limits.ensures.sound fitting.own in
-    let is = counts_shown c.args.store.now.parts state c.counts.result told c.counts.ensures.files c.counts.ensures.known c.counts.ensures.axioms c.counts.ensures.free in
+    let counts = c.counts.ensures in
+    let is = counts_shown state c.counts.result (counts.files ∙ told.files) (counts.known ∙ told.known) (counts.axioms ∙ told.axioms) (counts.free ∙ told.free) in
     shows_item (stat now) c.args.place.now fitting (rw is at c.answer_counts.ensures) refl
