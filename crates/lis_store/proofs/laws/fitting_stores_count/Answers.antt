@@ -1,4 +1,4 @@
-use Rattle.lis_store.proofs.Counting.{counts_state}
+use Rattle.lis_store.proofs.Counted.{counts_state}
 use Rattle.lis_store.proofs.laws.fitting_stores_count.Goals as goal
 
 pub returns : goal.returns

@@ -1,4 +1,4 @@
-use Rattle.lis_store.proofs.Counting.{axioms_are}
+use Rattle.lis_store.proofs.Counted.{axioms_are}
 use Rattle.lis_store.proofs.laws.fitting_stores_have_axioms.Goals as goal
 
 pub returns : goal.returns
