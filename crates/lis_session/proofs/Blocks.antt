@@ -30,7 +30,7 @@ use Rattle.lis_session.specs.declared.end.End.TheVariants.{DiskFault}
 use Rattle.lis_session.specs.Session.{root_of}
 use Rattle.lis_session.specs.Item.{FitsAt, OneItem}
 use Rattle.lis_session.specs.Parts.{only_shows, Answers}
-use Rattle.lis_session.proofs.Laws.{cat_here}
+use Rattle.lis_session.proofs.Laws.{shown_if_here}
 use Rattle.lis_session.proofs.Fitting.{store_shown}
 use Rattle.lis_session.proofs.Saying.{SaidSoFar, said_none, said_read, said_more, said_all, read_broke}
 use Rattle.lis_session.proofs.Answering.{said_broke, said_last}
@@ -177,4 +177,4 @@ found_here {k} {m} now name found sound fits told =
 
 pub as_cat : {old new : Meaning} {result : Result (Unit {0}) End} {fits : State → Type 0} {place : List Formula} (now : Situation) (name : List ℕ) → is_here now name ≡ true
     → OneItem now (shown now (content_lines (file_of now.state.files name).bytes)) old new result fits place → OneItem now (cat now name) old new result fits place
-as_cat {old} {new} {result} {fits} {place} now name here item = subst (λ (o : Outcome). OneItem now o old new result fits place) (sym (cat_here now name here)) item
+as_cat {old} {new} {result} {fits} {place} now name here item = subst (λ (o : Outcome). OneItem now o old new result fits place) (sym (shown_if_here now name (content_lines (file_of now.state.files name).bytes) here)) item

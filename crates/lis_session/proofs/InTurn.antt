@@ -41,35 +41,36 @@ answers_none m = record {
   fault = tt;
 }
 
--- ---- lines
--- what a loop over the lines keeps: so much was shown, and these lines are left
-pub record LinesSoFar (all left : List Line) (old now : Meaning) : Type 0 where
+-- ---- a text in pieces
+-- what a loop over pieces keeps: so much was shown, and this is left
+pub record TextSoFar (all left : List ℕ) (old now : Meaning) : Type 0 where
   pub said : List ℕ
   pub answers : Answers old now said (Ok tt)
-  pub is : flat_map shown_line all ≡ said ++ flat_map shown_line left
+  pub is : all ≡ said ++ left
 
-pub lines_none : (all : List Line) (m : Meaning) → LinesSoFar all all m m
-lines_none all m = record { said = []; answers = answers_none m; is = refl }
+pub text_none : (all : List ℕ) (m : Meaning) → TextSoFar all all m m
+text_none all m = record { said = []; answers = answers_none m; is = refl }
 
-pub lines_more : {all left rest : List Line} {old now next : Meaning} (line : Line) (u : Unit {0}) → LinesSoFar all left old now → left ≡ line ∷ rest → Answers now next (shown_line line) (Ok u)
-    → LinesSoFar all rest old next
-lines_more {rest = rest} line u so_far next answers = record {
-  said = so_far.said ++ shown_line line;
-  answers = answers_then so_far.said (shown_line line) tt (Ok tt) so_far.answers answers;
-  is = so_far.is ∙ ap (λ lines. so_far.said ++ flat_map shown_line lines) next ∙ sym (append_assoc so_far.said (shown_line line) (flat_map shown_line rest));
+pub text_more : {all left rest : List ℕ} {old now next : Meaning} (piece : List ℕ) (u : Unit {0}) → TextSoFar all left old now → left ≡ piece ++ rest → Answers now next piece (Ok u)
+    → TextSoFar all rest old next
+text_more {rest = rest} piece u so_far splits answers = record {
+  said = so_far.said ++ piece;
+  answers = answers_then so_far.said piece tt (Ok tt) so_far.answers answers;
+  is = so_far.is ∙ ap (λ text. so_far.said ++ text) splits ∙ sym (append_assoc so_far.said piece rest);
 }
 
-pub lines_broke : {all left rest : List Line} {old now next : Meaning} (line : Line) (end : End) → LinesSoFar all left old now → left ≡ line ∷ rest → Answers now next (shown_line line) (Err end)
-    → Answers old next (flat_map shown_line all) (Err end)
-lines_broke {rest = rest} {old = old} {next = after} line end so_far next answers =
-    let front = answers_front (shown_line line) (flat_map shown_line rest) end answers in
-    subst (λ bytes. Answers old after bytes (Err end)) (sym (so_far.is ∙ ap (λ lines. so_far.said ++ flat_map shown_line lines) next))
-    (answers_then so_far.said (flat_map shown_line (line ∷ rest)) tt (Err end) so_far.answers front)
+pub text_broke : {all left rest : List ℕ} {old now next : Meaning} (piece : List ℕ) (end : End) → TextSoFar all left old now → left ≡ piece ++ rest → Answers now next piece (Err end)
+    → Answers old next all (Err end)
+text_broke {rest = rest} {old = old} {next = after} piece end so_far splits answers =
+    let front = answers_front piece rest end answers in
+    subst (λ bytes. Answers old after bytes (Err end)) (sym (so_far.is ∙ ap (λ text. so_far.said ++ text) splits))
+    (answers_then so_far.said (piece ++ rest) tt (Err end) so_far.answers front)
 
-pub lines_all : {all left : List Line} {old now : Meaning} → LinesSoFar all left old now → left ≡ [] → Answers old now (flat_map shown_line all) (Ok tt)
-lines_all {old = old} {now = now} so_far none =
-    subst (λ bytes. Answers old now bytes (Ok tt)) (sym (so_far.is ∙ ap (λ lines. so_far.said ++ flat_map shown_line lines) none ∙ append-nil so_far.said)) so_far.answers
+pub text_all : {all left : List ℕ} {old now : Meaning} → TextSoFar all left old now → left ≡ [] → Answers old now all (Ok tt)
+text_all {old = old} {now = now} so_far none =
+    subst (λ bytes. Answers old now bytes (Ok tt)) (sym (so_far.is ∙ ap (λ text. so_far.said ++ text) none ∙ append-nil so_far.said)) so_far.answers
 
+-- ---- lines
 names_shown : (files : List Entry) → flat_map shown_line (map (λ name. File name) (map (λ (e : Entry). e.name) files)) ≡ flat_map (λ (e : Entry). body_line 102 e.name) files
 names_shown [] = refl
 names_shown (e ∷ files) = ap (λ bytes. body_line 102 e.name ++ bytes) (names_shown files)

@@ -15,7 +15,7 @@ use Rattle.lis_model.specs.Table.{table}
 use Rattle.lis_model.specs.Listing.{increments, locals}
 use Rattle.lis_model.specs.Replies.{line, body_line, ok_line, two_digits, number_of, refusal_words, listing_lines, content_lines}
 use Rattle.lis_model.specs.Changes.{declared_under, new_file, file_added, file_of, file_removed}
-use Rattle.lis_model.specs.Step.{Situation, Item, Outcome, Payload, refused, changed, shown, judged, moved, words_at, mkdir_checks, mkdir, assigned_at, create_checks, add_checks, add, is_here, cat, rm, cd_to, cd, done, step, replies, situation_after}
+use Rattle.lis_model.specs.Step.{Situation, Item, Outcome, Payload, refused, changed, shown, judged, moved, words_at, mkdir_checks, mkdir, assigned_at, create_checks, add_checks, add, is_here, shown_here, rm, cd_to, cd, done, step, replies, situation_after}
 use Rattle.lis_model.specs.Step.Item.{Do, Bad}
 use Rattle.lis_session.specs.Parts.{led_to}
 use Rattle.lis_model.proofs.Runs.{replies-append, situation_after-append}
@@ -131,11 +131,11 @@ pub rm_stays : (now : Situation) (name : List ℕ) → (rm now name).next.place 
 rm_stays now name = judged_stays now ((not (is_here now name), NoFileHere) ∷ []) (changed now (file_removed now.state name)) refl
 
 -- ---- commands in other words
-pub cat_here : (now : Situation) (name : List ℕ) → is_here now name ≡ true → cat now name ≡ shown now (content_lines (file_of now.state.files name).bytes)
-cat_here now name here = ap (λ t. cond (not t) (refused now NoFileHere) (shown now (content_lines (file_of now.state.files name).bytes))) here
+pub shown_if_here : (now : Situation) (name body : List ℕ) → is_here now name ≡ true → shown_here now name body ≡ shown now body
+shown_if_here now name body here = ap (λ t. cond (not t) (refused now NoFileHere) (shown now body)) here
 
-pub cat_nowhere : (now : Situation) (name : List ℕ) → is_here now name ≡ false → cat now name ≡ refused now NoFileHere
-cat_nowhere now name nowhere = ap (λ t. cond (not t) (refused now NoFileHere) (shown now (content_lines (file_of now.state.files name).bytes))) nowhere
+pub refused_nowhere : (now : Situation) (name body : List ℕ) → is_here now name ≡ false → shown_here now name body ≡ refused now NoFileHere
+refused_nowhere now name body nowhere = ap (λ t. cond (not t) (refused now NoFileHere) (shown now body)) nowhere
 
 -- where a text leads, as the code judges it
 abbrev pub arrived : Situation → Result (List Formula) Refusal → Outcome

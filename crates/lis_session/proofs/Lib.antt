@@ -9,5 +9,7 @@ pub mod Blocks
 pub mod Going
 pub mod Whole
 pub mod InTurn
+pub mod Described
+pub mod Counted
 mod TextWords
 mod Examples

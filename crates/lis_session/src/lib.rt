@@ -5,10 +5,13 @@ ghost use Rattle.lis_session.specs.Session.{OneForm};
 
 mod changes;
 mod content;
+mod counting;
+mod description;
 pub mod end;
 mod listing;
 mod moving;
 mod replies;
+mod route;
 pub mod session;
 
 /// A moment of a session told by how many items were carried out, and told by the replies that were shown whole: the two say

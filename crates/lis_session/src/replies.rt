@@ -38,6 +38,14 @@ pub fn answer_size<T: Station>(station: &mut T, size: u32) -> Result<(), End>
     Ok(())
 }
 
+/// Shows how many there are of what the label names.
+pub fn answer_count<T: Station>(station: &mut T, label: &[u8], count: u32) -> Result<(), End>
+    ensures { Answers (T.meaning station.old) (T.meaning station.new) (number_line label.now count) result }
+{
+    show_number(station, label, u64::from(count))?;
+    Ok(())
+}
+
 /// Shows that a command was done.
 pub fn answer_ok<T: Station>(station: &mut T) -> Result<(), End>
     ensures { Answers (T.meaning station.old) (T.meaning station.new) ok_line result }

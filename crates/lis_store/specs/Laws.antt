@@ -17,11 +17,12 @@ use Rattle.lis_model.specs.Step.{Situation, no_payload, create, add}
 use Rattle.lis_model.specs.Table.{table}
 use Rattle.lis_kept.specs.Areas.{IsWritten}
 use Rattle.lis_kept.specs.Sound.{AreSound, FreeSlotsAreEmpty}
-use Rattle.lis_kept.specs.Telling.{Tells}
+use Rattle.lis_kept.specs.Telling.{words_told, axioms_of, Tells}
 use Rattle.lis_store.specs.Blank.{IsBlank}
 use Rattle.lis_store.specs.Stands.{Stands}
 use Rattle.lis_store.specs.Stored.{Stored, PairsAreApart, IsSound, StoreFits, empty_stored}
 use Rattle.lis_store.specs.Seen.{table_of}
+use Rattle.lis_store.specs.Counting.{CountsState}
 
 -- an image stands for one state at most
 abbrev pub OneState : Type 0
@@ -40,6 +41,20 @@ abbrev pub FittingStoresHold : Meaning → Type 0
 FittingStoresHold m =
     (k : Stored) (s : State) → IsSound k → StoreFits k m s → (name : List ℕ) (slot : ℕ) → slot_of k.parts.catalog name ≡ Some slot
     → IsSomeAnd (rec_at k.parts.catalog slot) (λ (rec : FileRecord). length (file_of s.files name).bytes ≡ rec.size)
+
+-- it has as many files, words, axioms and free blocks as the state
+abbrev pub FittingStoresCount : Meaning → Type 0
+FittingStoresCount m = (k : Stored) (s : State) → IsSound k → StoreFits k m s → CountsState k.parts s
+
+-- and its axioms are those of the state
+abbrev pub FittingStoresHaveAxioms : Meaning → Type 0
+FittingStoresHaveAxioms m = (k : Stored) (s : State) → IsSound k → StoreFits k m s → axioms_of k.parts ≡ s.axioms
+
+-- and each file was given the words that its record tells
+abbrev pub FittingStoresHaveTags : Meaning → Type 0
+FittingStoresHaveTags m =
+    (k : Stored) (s : State) → IsSound k → StoreFits k m s → (name : List ℕ) (slot : ℕ) → slot_of k.parts.catalog name ≡ Some slot
+    → IsSomeAnd (rec_at k.parts.catalog slot) (λ (rec : FileRecord). words_told k.parts.dict rec.tags ≡ (file_of s.files name).assigned)
 
 -- the parts of an empty store are in form
 abbrev pub EmptyStoresAreSound : Type 0

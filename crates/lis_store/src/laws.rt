@@ -1,6 +1,6 @@
 //! Laws on images that stand for a state, each the contract of an empty function.
 
-ghost use Rattle.lis_store.specs.Laws.{OneState, FittingStoresStand, FittingStoresTell, FittingStoresHold, EmptyStoresAreSound, EmptyStoresFit, ChangesStand, CreateIsAdd};
+ghost use Rattle.lis_store.specs.Laws.{OneState, FittingStoresStand, FittingStoresTell, FittingStoresHold, FittingStoresCount, FittingStoresHaveAxioms, FittingStoresHaveTags, EmptyStoresAreSound, EmptyStoresFit, ChangesStand, CreateIsAdd};
 
 use lis_ports::Disk;
 
@@ -22,6 +22,21 @@ pub fn fitting_stores_tell<D: Disk>(disk: &D)
 /// Where a store fits a disk at a state, the sizes of its records are those of the files.
 pub fn fitting_stores_hold<D: Disk>(disk: &D)
     ensures { FittingStoresHold (D.meaning disk.now) }
+{}
+
+/// Where a store fits a disk at a state, it has as many files, words, axioms and free blocks as the state.
+pub fn fitting_stores_count<D: Disk>(disk: &D)
+    ensures { FittingStoresCount (D.meaning disk.now) }
+{}
+
+/// Where a store fits a disk at a state, its axioms are those of the state.
+pub fn fitting_stores_have_axioms<D: Disk>(disk: &D)
+    ensures { FittingStoresHaveAxioms (D.meaning disk.now) }
+{}
+
+/// Where a store fits a disk at a state, each file was given the words that its record tells.
+pub fn fitting_stores_have_tags<D: Disk>(disk: &D)
+    ensures { FittingStoresHaveTags (D.meaning disk.now) }
 {}
 
 /// The parts of an empty store are in form.

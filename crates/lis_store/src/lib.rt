@@ -7,6 +7,7 @@ mod adding;
 mod admitting;
 mod assigning;
 mod change;
+mod counting;
 mod derived;
 mod describing;
 mod judging;
@@ -15,6 +16,8 @@ mod looking;
 mod removing;
 mod saving;
 mod store;
+mod tags;
 
 pub use change::Change;
+pub use counting::Counts;
 pub use store::{Built, Store};

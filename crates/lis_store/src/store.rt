@@ -83,6 +83,14 @@ impl Store {
         *self.parts.limits()
     }
 
+    /// What memory keeps of the image.
+    pub(crate) fn parts(&self) -> &Parts
+        ensures value { result.now ≡ self.now.parts }
+        ensures sound { IsSound self.now }
+    {
+        &self.parts
+    }
+
     /// Whether a call of the disk failed. Then only what is on the disk counts.
     pub fn is_broken(&self) -> bool
         ensures { result ≡ self.now.is_broken }

@@ -1,8 +1,9 @@
 use Rattle.std.proofs.Common.{is_some, ap, ◌∙◌}
 use Rattle.std.proofs.lemmas.Result.{err_from_is_err_and}
 use Rattle.lis_model.specs.Changes.{file_of}
+use Rattle.lis_model.specs.Replies.{content_lines}
 use Rattle.lis_model.specs.Step.{Situation, cat}
-use Rattle.lis_session.proofs.Laws.{cat_nowhere}
+use Rattle.lis_session.proofs.Laws.{refused_nowhere}
 use Rattle.lis_session.proofs.Answering.{shows_item}
 use Rattle.lis_session.proofs.Blocks.{size_is, size_broke, size_fits, bytes_broke, bytes_item, found_here, as_cat}
 use Rattle.lis_session.proofs.content.cat.Goals as goal
@@ -14,7 +15,7 @@ pub returns-in_default-clause-carries : goal.returns-in_default-clause-carries
 returns-in_default-clause-carries g c = λ state fitting.
     let now : Situation = record { state = state; place = c.args.place.now } in
     let nowhere = found_here now c.args.name.now c.slot_here.result c.limits-limits.ensures.sound fitting.own c.slot_here.ensures.here ∙ ap is_some c.in_default.is in
-    shows_item (cat now c.args.name.now) c.args.place.now fitting c.answer_refusal.ensures (cat_nowhere now c.args.name.now nowhere)
+    shows_item (cat now c.args.name.now) c.args.place.now fitting c.answer_refusal.ensures (refused_nowhere now c.args.name.now (content_lines (file_of state.files c.args.name.now).bytes) nowhere)
 
 pub returns-in_err-answer_size-clause-carries : goal.returns-in_err-answer_size-clause-carries
 returns-in_err-answer_size-clause-carries g c = λ state fitting.

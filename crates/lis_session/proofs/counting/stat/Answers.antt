@@ -1,0 +1,14 @@
+use Rattle.std.proofs.Common.{refl, ◌∙◌}
+use Rattle.lis_model.specs.Step.{Situation, stat}
+use Rattle.lis_store.proofs.Counted.{counts_state}
+use Rattle.lis_session.proofs.Answering.{shows_item}
+use Rattle.lis_session.proofs.Counted.{counts_shown}
+use Rattle.lis_session.proofs.counting.stat.Goals as goal
+
+pub returns-clause-carries : goal.returns-clause-carries
+returns-clause-carries g c = λ state fitting.
+    let now : Situation = record { state = state; place = c.args.place.now } in
+    let told = counts_state (g.T.Disk.meaning c.args.station.now) c.args.store.now state c.limits-limits.ensures.sound fitting.own in
+    let counts = c.counts.ensures in
+    let is = counts_shown state c.counts.result (counts.files ∙ told.files) (counts.known ∙ told.known) (counts.axioms ∙ told.axioms) (counts.free ∙ told.free) in
+    shows_item (stat now) c.args.place.now fitting (rw is at c.answer_counts.ensures) refl

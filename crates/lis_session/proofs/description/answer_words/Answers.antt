@@ -1,0 +1,17 @@
+use Rattle.std.proofs.Common.{◌≡◌, ◌∙◌, sym, ap, subst, List, ℕ, ◌≤◌, length, arith}
+use Rattle.std.proofs.lemmas.Result.{err_from_is_err_and}
+use Rattle.lis_session.proofs.InTurn.{TextSoFar, text_none, text_more, text_broke, text_all}
+use Rattle.lis_session.proofs.Described.{text_at, text_from, text_start, text_next, text_end}
+use Rattle.lis_session.proofs.description.answer_words.Goals as goal
+
+pub loop-k-preserved : goal.loop-k-preserved
+loop-k-preserved g c =
+    let k = c.args.store.now.parts in
+    text_more (text_at k c.args.slot c.loop-k.k) c.in_ok-answer_word.field-0 c.loop-k.invariant (text_next k c.args.slot c.loop-k.k) c.in_ok-answer_word.ensures
+
+pub returns-in_err-answer_word : goal.returns-in_err-answer_word
+returns-in_err-answer_word g c =
+    let k = c.args.store.now.parts in
+    let p = err_from_is_err_and c.from_residual.result c.from_residual.ensures.1 in
+    rw (p.1, p.2)
+    (text_broke (text_at k c.args.slot c.loop-k.k) c.in_err-answer_word.field-0.0 c.loop-k.invariant (text_next k c.args.slot c.loop-k.k) c.in_err-answer_word.ensures)

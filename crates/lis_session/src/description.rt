@@ -1,0 +1,81 @@
+//! Showing the description of a file.
+
+ghost use Rattle.std.specs.Prelude.{◌≡◌, ◌++◌, ◌<◌, length, slice_get, option_to_list};
+ghost use Rattle.std.specs.List.{flat_map};
+ghost use Rattle.lis_eval.specs.Room.{HasRoom};
+ghost use Rattle.lis_model.specs.Replies.{body_line, ok_line};
+ghost use Rattle.lis_model.specs.Step.{props};
+ghost use Rattle.lis_store.specs.Stored.{IsSound, StoreFits};
+ghost use Rattle.lis_session.specs.Parts.{Answers, Does, Ends};
+ghost use Rattle.lis_session.specs.Described.{words_had};
+
+use crate::end::End;
+use crate::replies::{answer_line, answer_ok, answer_refusal};
+use lis_eval::{Scratch, View};
+use lis_model::refusal::Refusal;
+use lis_place::Place;
+use lis_ports::Station;
+use lis_store::Store;
+use lis_words::Name;
+
+// Shows the k-th word, if there is one and the file in the slot has it.
+fn answer_word<T: Station>(store: &Store, slot: u16, k: u32, station: &mut T) -> Result<(), End>
+    requires sound { IsSound store.now }
+    requires slot { slot < length store.now.parts.ext.sets }
+    ensures { Answers (T.meaning station.old) (T.meaning station.new)
+        (flat_map (body_line 112) (words_had store.now.parts slot (option_to_list (slice_get store.now.parts.dict.entries k)))) result }
+{
+    let Some((word, number)) = store.word_at(k) else {
+        return Ok(());
+    };
+    if !store.descriptions().has(u32::from(number), u32::from(slot)) {
+        return Ok(());
+    }
+    answer_line(station, b'p', word.bytes())
+}
+
+// Shows the words that the file in the slot has, one by one.
+fn answer_words<T: Station>(store: &Store, slot: u16, station: &mut T) -> Result<(), End>
+    requires sound { IsSound store.now }
+    requires slot { slot < length store.now.parts.ext.sets }
+    ensures { Answers (T.meaning station.old) (T.meaning station.new)
+        (flat_map (body_line 112) (words_had store.now.parts slot store.now.parts.dict.entries)) result }
+{
+    for k in 0..store.limits().props {
+        answer_word(store, slot, k, station)?;
+    }
+    Ok(())
+}
+
+// Shows the words that the file in the slot has, and that the command was done.
+fn answer_description<T: Station>(store: &Store, slot: u16, station: &mut T) -> Result<(), End>
+    requires sound { IsSound store.now }
+    requires slot { slot < length store.now.parts.ext.sets }
+    ensures { Answers (T.meaning station.old) (T.meaning station.new)
+        (flat_map (body_line 112) (words_had store.now.parts slot store.now.parts.dict.entries) ++ ok_line) result }
+{
+    answer_words(store, slot, station)?;
+    answer_ok(station)
+}
+
+/// Shows the words of the description of the file of that name.
+pub fn props<T: Station>(
+    store: &Store,
+    scratch: &mut Scratch,
+    place: &Place,
+    name: &Name,
+    station: &mut T,
+) -> Result<(), End>
+    requires scratch { HasRoom scratch.old store.now.parts.limits }
+    ensures scratch { HasRoom scratch.new store.now.parts.limits }
+    ensures carries { Does (λ now. props now name.now) (StoreFits store.now (T.meaning station.old)) place.now
+        (T.meaning station.old) (T.meaning station.new) result (StoreFits store.now (T.meaning station.new)) place.now }
+    ensures ends { Ends (T.meaning station.old) (T.meaning station.new) result }
+{
+    // The limits tell that the store is sound, so that it shows the state's table.
+    let _limits = store.limits();
+    let Some(slot) = store.slot_here(scratch, place, name) else {
+        return answer_refusal(station, &Refusal::NoFileHere);
+    };
+    answer_description(store, slot, station)
+}

@@ -1,0 +1,57 @@
+-- What a store tells of one file of the state.
+use Rattle.std.proofs.Common.{◌≡◌, ℕ, Option, Some, IsSomeAnd, List, map, filter, refl, sym, ap, ◌∙◌, subst}
+use Rattle.std.specs.List.{find}
+use Rattle.lis_graph.proofs.Members.{Among, contains_from_among, among_filter, among_map}
+use Rattle.lis_ports.specs.Meaning.{Meaning}
+use Rattle.lis_catalog.specs.Catalog.{Filed, slot_of, rec_at}
+use Rattle.lis_catalog.proofs.Laws.{rec_at-slot_of}
+use Rattle.lis_ext.specs.Ext.{set_of as numbers_at}
+use Rattle.lis_fields.specs.Records.{FileRecord}
+use Rattle.lis_words.specs.Words.{same_word}
+use Rattle.lis_grammar.specs.Formula.{Formula}
+use Rattle.lis_model.specs.State.{State, File, description}
+use Rattle.lis_model.specs.Changes.{file_of}
+use Rattle.lis_model.specs.Table.{Entry, entry_of, table}
+use Rattle.lis_model.specs.Listing.{holds_all, extension}
+use Rattle.lis_model.specs.Step.{entry_at}
+use Rattle.lis_laws.proofs.Members.{same_word_decides}
+use Rattle.lis_kept.specs.Telling.{words_told}
+use Rattle.lis_kept.proofs.Filing.{find_among}
+use Rattle.lis_store.specs.Stored.{Stored, IsSound, StoreFits}
+use Rattle.lis_store.proofs.Facts.{filed_named, slot_of_file, file_in_slot}
+
+module _ (m : Meaning) (k : Stored) (s : State) (sound : IsSound k) (fits : StoreFits k m s) where
+  -- the numbers in the slot of a name are those of the file's description
+  pub description_told : (name : List ℕ) (slot : ℕ) → slot_of k.parts.catalog name ≡ Some slot
+      → words_told k.parts.dict (numbers_at k.parts.ext slot) ≡ description s (file_of s.files name)
+  description_told name slot is =
+      let found = rec_at-slot_of k.parts.catalog name slot sound.parts.catalog is in
+      let f : Filed = record { slot = slot; rec = found.0 } in
+      let there = (filed_named k.parts sound.parts name slot found.0 is found.1).0 in
+      fits.tells.described f (contains_from_among k.parts.catalog.entries f there)
+      ∙ ap (description s) (sym (file_in_slot k.parts fits.kept s sound.parts sound.free fits.tells name slot found.0 is found.1))
+
+  -- and the words of its record are those that the file was given
+  pub tags_told : (name : List ℕ) (slot : ℕ) → slot_of k.parts.catalog name ≡ Some slot
+      → IsSomeAnd (rec_at k.parts.catalog slot) (λ (rec : FileRecord). words_told k.parts.dict rec.tags ≡ (file_of s.files name).assigned)
+  tags_told name slot is =
+      let found = rec_at-slot_of k.parts.catalog name slot sound.parts.catalog is in
+      let file = file_in_slot k.parts fits.kept s sound.parts sound.free fits.tells name slot found.0 is found.1 in
+      subst (λ (o : Option FileRecord). IsSomeAnd o (λ (rec : FileRecord). words_told k.parts.dict rec.tags ≡ (file_of s.files name).assigned)) (sym found.1)
+      (ap (λ (f : File). f.assigned) (sym file))
+
+  -- a file of the state is the one of its name
+  file_named : (file : File) → Among s.files file → file_of s.files file.name ≡ file
+  file_named file there =
+      let at = slot_of_file k.parts fits.kept s sound.parts sound.free fits.tells file there in
+      file_in_slot k.parts fits.kept s sound.parts sound.free fits.tells file.name (at.0).slot (at.0).rec at.1 at.2 ∙ at.3
+
+  -- what a place has of a name is that file
+  pub entry_found : (place : List Formula) (name : List ℕ) (entry : Entry) → find (λ (e : Entry). same_word e.name name) (extension (table s) place) ≡ Some entry
+      → entry ≡ entry_at s name
+  entry_found place name entry is =
+      let found = find_among (λ (e : Entry). same_word e.name name) (extension (table s) place) entry is in
+      let kept = among_filter (holds_all place) (table s).files entry found.0 in
+      let file = among_map (entry_of s.declared s.axioms) s.files entry kept.0 in
+      let named : (file.0).name ≡ name = ap (λ (e : Entry). e.name) file.2 ∙ (same_word_decides entry.name name).0 found.1 in
+      sym file.2 ∙ ap (entry_of s.declared s.axioms) (sym (file_named file.0 file.1) ∙ ap (file_of s.files) named)

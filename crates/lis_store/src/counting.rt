@@ -1,0 +1,51 @@
+//! How much a store has.
+
+ghost use Rattle.std.specs.Prelude.{◌≡◌, length, count_by};
+ghost use Rattle.lis_blockmap.specs.Bitmap.{free_count};
+ghost use Rattle.lis_kept.specs.Linking.{is_filled};
+ghost use Rattle.lis_kept.specs.Telling.{axioms_of};
+ghost use Rattle.lis_model.specs.Changes.{has_axiom};
+
+use crate::store::Store;
+use lis_words::Word;
+
+/// How many files, known words, axioms and free data blocks there are.
+#[derive(Clone, Copy, Debug, PartialEq, Eq)]
+pub struct Counts {
+    pub files: u32,
+    pub known: u32,
+    pub axioms: u32,
+    pub free: u32,
+}
+
+impl Store {
+    /// How much there is. The axioms are counted slot by slot.
+    pub fn counts(&self) -> Counts
+        ensures files { result.files ≡ length self.now.parts.catalog.entries }
+        ensures known { result.known ≡ length self.now.parts.dict.entries }
+        ensures axioms { result.axioms ≡ count_by is_filled self.now.parts.axioms }
+        ensures free { result.free ≡ free_count self.now.parts.taken }
+    {
+        let parts = self.parts();
+        Counts {
+            files: parts.file_count(),
+            known: parts.word_count(),
+            axioms: parts.axiom_count(),
+            free: parts.free_blocks(),
+        }
+    }
+
+    /// Whether there is an axiom between two words.
+    pub fn has_axiom(&self, left: &Word, right: &Word) -> bool
+        ensures { result ≡ has_axiom (axioms_of self.now.parts) (left.now, right.now) }
+    {
+        let parts = self.parts();
+        let Some(from) = parts.number_of(left) else {
+            return false;
+        };
+        let Some(to) = parts.number_of(right) else {
+            return false;
+        };
+        parts.has_axiom(from, to)
+    }
+}
