@@ -2,7 +2,7 @@
 
 ghost use Rattle.std.specs.Prelude.{◌≡◌, ◌*◌, ◌≤◌, false};
 ghost use Rattle.lis_eval.specs.Room.{HasRoom};
-ghost use Rattle.lis_model.specs.Step.{mkdir, create, add, rm};
+ghost use Rattle.lis_model.specs.Step.{mkdir, rmdir, add_axiom, unaxiom, create, add, write, mv, rename, rm};
 ghost use Rattle.lis_store.specs.Stored.{StoreFits};
 ghost use Rattle.lis_session.specs.Item.{StoreLeft};
 ghost use Rattle.lis_session.specs.Parts.{Does, Ends};
@@ -12,7 +12,7 @@ use crate::replies::conclude;
 use lis_eval::Scratch;
 use lis_line::reader::Payload;
 use lis_model::command::Tags;
-use lis_place::Place;
+use lis_place::{Place, Text};
 use lis_ports::Station;
 use lis_store::Store;
 use lis_store::laws::create_is_add;
@@ -33,6 +33,74 @@ pub fn mkdir<T: Station>(
     ensures left { StoreLeft store.old store.new result }
 {
     let changed = store.declare(station, place, word);
+    conclude(store, station, changed)
+}
+
+/// Takes the declaration of the word back.
+pub fn rmdir<T: Station>(
+    store: &mut Store,
+    place: &Place,
+    word: &Word,
+    station: &mut T,
+) -> Result<(), End>
+    requires unbroken { store.old.is_broken ≡ false }
+    requires long { 4096 * store.old.journal.blocks ≤ (T.meaning station.old).len }
+    ensures carries { Does (λ now. rmdir now word.now) (StoreFits store.old (T.meaning station.old)) place.now
+        (T.meaning station.old) (T.meaning station.new) result (StoreFits store.new (T.meaning station.new)) place.now }
+    ensures ends { Ends (T.meaning station.old) (T.meaning station.new) result }
+    ensures left { StoreLeft store.old store.new result }
+{
+    // The place tells where the command was said.
+    let _place = place;
+    let changed = store.undeclare(station, word);
+    conclude(store, station, changed)
+}
+
+/// Adds the axiom that leads from the left word to the right one.
+pub fn axiom<T: Station>(
+    store: &mut Store,
+    scratch: &mut Scratch,
+    place: &Place,
+    left: &Word,
+    right: &Word,
+    station: &mut T,
+) -> Result<(), End>
+    requires scratch { HasRoom scratch.old store.old.parts.limits }
+    requires unbroken { store.old.is_broken ≡ false }
+    requires long { 4096 * store.old.journal.blocks ≤ (T.meaning station.old).len }
+    ensures scratch { HasRoom scratch.new store.old.parts.limits }
+    ensures carries { Does (λ now. add_axiom now (left.now, right.now)) (StoreFits store.old (T.meaning station.old)) place.now
+        (T.meaning station.old) (T.meaning station.new) result (StoreFits store.new (T.meaning station.new)) place.now }
+    ensures ends { Ends (T.meaning station.old) (T.meaning station.new) result }
+    ensures left { StoreLeft store.old store.new result }
+{
+    // The place tells where the command was said.
+    let _place = place;
+    let changed = store.axiom(station, scratch, left, right);
+    conclude(store, station, changed)
+}
+
+/// Takes this axiom back.
+pub fn unaxiom<T: Station>(
+    store: &mut Store,
+    scratch: &mut Scratch,
+    place: &Place,
+    left: &Word,
+    right: &Word,
+    station: &mut T,
+) -> Result<(), End>
+    requires scratch { HasRoom scratch.old store.old.parts.limits }
+    requires unbroken { store.old.is_broken ≡ false }
+    requires long { 4096 * store.old.journal.blocks ≤ (T.meaning station.old).len }
+    ensures scratch { HasRoom scratch.new store.old.parts.limits }
+    ensures carries { Does (λ now. unaxiom now (left.now, right.now)) (StoreFits store.old (T.meaning station.old)) place.now
+        (T.meaning station.old) (T.meaning station.new) result (StoreFits store.new (T.meaning station.new)) place.now }
+    ensures ends { Ends (T.meaning station.old) (T.meaning station.new) result }
+    ensures left { StoreLeft store.old store.new result }
+{
+    // The place tells where the command was said.
+    let _place = place;
+    let changed = store.unaxiom(station, scratch, left, right);
     conclude(store, station, changed)
 }
 
@@ -82,6 +150,74 @@ pub fn add<T: Station>(
     let bytes = payload.bytes();
     let size = payload.size();
     let changed = store.add_file(station, scratch, place, name, tags, bytes, size);
+    conclude(store, station, changed)
+}
+
+/// Gives the file of that name the payload's bytes.
+pub fn write<T: Station>(
+    store: &mut Store,
+    scratch: &mut Scratch,
+    place: &Place,
+    name: &Name,
+    payload: &Payload,
+    station: &mut T,
+) -> Result<(), End>
+    requires scratch { HasRoom scratch.old store.old.parts.limits }
+    requires unbroken { store.old.is_broken ≡ false }
+    requires long { 4096 * store.old.journal.blocks ≤ (T.meaning station.old).len }
+    ensures scratch { HasRoom scratch.new store.old.parts.limits }
+    ensures carries { Does (λ now. write now name.now payload.now) (StoreFits store.old (T.meaning station.old)) place.now
+        (T.meaning station.old) (T.meaning station.new) result (StoreFits store.new (T.meaning station.new)) place.now }
+    ensures ends { Ends (T.meaning station.old) (T.meaning station.new) result }
+    ensures left { StoreLeft store.old store.new result }
+{
+    let bytes = payload.bytes();
+    let size = payload.size();
+    let changed = store.write(station, scratch, place, name, bytes, size);
+    conclude(store, station, changed)
+}
+
+/// Takes the tags of the place from the file of that name, and gives it those of the place to which the text leads.
+pub fn mv<T: Station>(
+    store: &mut Store,
+    scratch: &mut Scratch,
+    place: &Place,
+    name: &Name,
+    text: &Text,
+    station: &mut T,
+) -> Result<(), End>
+    requires scratch { HasRoom scratch.old store.old.parts.limits }
+    requires unbroken { store.old.is_broken ≡ false }
+    requires long { 4096 * store.old.journal.blocks ≤ (T.meaning station.old).len }
+    ensures scratch { HasRoom scratch.new store.old.parts.limits }
+    ensures carries { Does (λ now. mv now name.now text.now) (StoreFits store.old (T.meaning station.old)) place.now
+        (T.meaning station.old) (T.meaning station.new) result (StoreFits store.new (T.meaning station.new)) place.now }
+    ensures ends { Ends (T.meaning station.old) (T.meaning station.new) result }
+    ensures left { StoreLeft store.old store.new result }
+{
+    let changed = store.retag(station, scratch, place, name, text);
+    conclude(store, station, changed)
+}
+
+/// Gives the file of that name another name.
+pub fn rename<T: Station>(
+    store: &mut Store,
+    scratch: &mut Scratch,
+    place: &Place,
+    name: &Name,
+    other: &Name,
+    station: &mut T,
+) -> Result<(), End>
+    requires scratch { HasRoom scratch.old store.old.parts.limits }
+    requires unbroken { store.old.is_broken ≡ false }
+    requires long { 4096 * store.old.journal.blocks ≤ (T.meaning station.old).len }
+    ensures scratch { HasRoom scratch.new store.old.parts.limits }
+    ensures carries { Does (λ now. rename now name.now other.now) (StoreFits store.old (T.meaning station.old)) place.now
+        (T.meaning station.old) (T.meaning station.new) result (StoreFits store.new (T.meaning station.new)) place.now }
+    ensures ends { Ends (T.meaning station.old) (T.meaning station.new) result }
+    ensures left { StoreLeft store.old store.new result }
+{
+    let changed = store.rename(station, scratch, place, name, other);
     conclude(store, station, changed)
 }
 

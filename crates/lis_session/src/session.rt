@@ -4,22 +4,26 @@ ghost use Rattle.std.specs.Prelude.{◌≡◌, ◌*◌, ◌≤◌, [], false, Is
 ghost use Rattle.lis_eval.specs.Room.{HasRoom};
 ghost use Rattle.lis_line.specs.Reading.{asked_by};
 ghost use Rattle.lis_model.specs.Ranges.{are_in_range};
-ghost use Rattle.lis_model.specs.Step.{refused, cd, pwd, done};
+ghost use Rattle.lis_model.specs.Step.{cd, pwd, done};
 ghost use Rattle.lis_store.specs.Stored.{Stored, StoreFits};
 ghost use Rattle.lis_session.specs.Item.{CarriesOut, HasEndCause, IsSameStation, StoreLeft};
 ghost use Rattle.lis_session.specs.Parts.{Does, Ends};
 
-use crate::changes::{add, create, mkdir, rm};
+use crate::changes::{
+    add, axiom, create, mkdir, mv, rename, rm, rmdir, unaxiom, write,
+};
 use crate::content::cat;
+use crate::counting::stat;
+use crate::description::props;
 use crate::end::End;
 use crate::listing::ls;
 use crate::moving::led_to;
 use crate::replies::{answer_ok, answer_place, answer_refusal};
+use crate::route::way;
 use lis_eval::Scratch;
 use lis_line::reader::{Item, Payload};
 use lis_model::command::Command;
 use lis_model::limits::Limits;
-use lis_model::refusal::Refusal;
 use lis_place::{Place, Text};
 use lis_ports::Station;
 use lis_store::Store;
@@ -66,17 +70,6 @@ impl Session {
     }
 }
 
-// Refuses a command. No store is looked at, so any one fits as before.
-fn refuse<T: Station>(place: &Place, refusal: &Refusal, station: &mut T) -> Result<(), End>
-    ensures carries { (k : Stored) → Does (λ now. refused now refusal.now) (StoreFits k (T.meaning station.old)) place.now
-        (T.meaning station.old) (T.meaning station.new) result (StoreFits k (T.meaning station.new)) place.now }
-    ensures ends { Ends (T.meaning station.old) (T.meaning station.new) result }
-{
-    // The place tells where the command was said.
-    let _place = place;
-    answer_refusal(station, refusal)
-}
-
 // Shows the place. No store is looked at, so any one fits as before.
 fn pwd<T: Station>(place: &Place, station: &mut T) -> Result<(), End>
     ensures carries { (k : Stored) → Does pwd (StoreFits k (T.meaning station.old)) place.now
@@ -121,23 +114,22 @@ fn carry_out<T: Station>(
 {
     match command {
         Command::Mkdir(word) => mkdir(store, place, word, station),
+        Command::Rmdir(word) => rmdir(store, place, word, station),
+        Command::Axiom(left, right) => axiom(store, scratch, place, left, right, station),
+        Command::Unaxiom(left, right) => unaxiom(store, scratch, place, left, right, station),
         Command::Create(name, tags) => create(store, scratch, place, name, tags, station),
         Command::Add(name, tags) => add(store, scratch, place, name, tags, payload, station),
-        Command::Rm(name) => rm(store, scratch, place, name, station),
+        Command::Write(name) => write(store, scratch, place, name, payload, station),
         Command::Cat(name) => cat(store, scratch, place, name, station),
+        Command::Mv(name, text) => mv(store, scratch, place, name, text, station),
+        Command::Rename(name, other) => rename(store, scratch, place, name, other, station),
+        Command::Rm(name) => rm(store, scratch, place, name, station),
         Command::Cd(text) => cd(store, place, text, station),
         Command::Pwd => pwd(place, station),
         Command::Ls => ls(store, scratch, place, station),
-        // They have not come.
-        Command::Rmdir(_)
-        | Command::Axiom(_, _)
-        | Command::Unaxiom(_, _)
-        | Command::Write(_)
-        | Command::Mv(_, _)
-        | Command::Rename(_, _)
-        | Command::Props(_)
-        | Command::Way(_)
-        | Command::Stat => refuse(place, &Refusal::BadLine, station),
+        Command::Props(name) => props(store, scratch, place, name, station),
+        Command::Way(name) => way(store, scratch, place, name, station),
+        Command::Stat => stat(store, place, station),
     }
 }
 
