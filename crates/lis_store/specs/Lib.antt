@@ -12,3 +12,5 @@ pub mod Describing
 pub mod Removing
 pub mod Replacing
 pub mod Adding
+pub mod Relating
+pub mod RelatingIn
