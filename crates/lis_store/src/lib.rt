@@ -12,6 +12,7 @@ mod describing;
 mod judging;
 pub mod laws;
 mod looking;
+mod relating;
 mod removing;
 mod saving;
 mod store;
