@@ -46,7 +46,7 @@ use Rattle.lis_store.proofs.Told.{words_grow}
 pub declared_known : (k : Kept) (word : List ℕ) → has_word (declared_of k) word ≡ true → IsSome (number_of k.dict word)
 declared_known k word h = number_there k.dict word (among_filter (is_declared k) (words k.dict) word (among_from_has_word (declared_of k) word h)).0
 
-abbrev may_by : Kept → List ℕ → Bool → Bool
+abbrev pub may_by : Kept → List ℕ → Bool → Bool
 may_by k word b = cond b (is_some (number_of k.dict (head_bytes word)) || is_built_in (head_bytes word)) (is_some (number_of k.dict word) || (is_head word && is_built_in word))
 
 assignable_may : (k : Kept) (word : List ℕ) → is_assignable (declared_of k) word ≡ true → may_learn k word ≡ true

@@ -2,6 +2,7 @@
 use Rattle.std.specs.Prelude.{◌≡◌, ℕ, ◌<◌, Bool, Some, List}
 use Rattle.lis_dict.specs.Dict.{number_of}
 use Rattle.lis_kept.specs.Kept.{Kept}
+use Rattle.lis_kept.specs.Sound.{AreSound}
 use Rattle.lis_kept.specs.Linking.{Links}
 use Rattle.lis_kept.specs.Widening.{Widens}
 use Rattle.lis_store.specs.Adding.{behind_head, LearnsAll}
@@ -11,6 +12,7 @@ use Rattle.lis_store.specs.Relating.{entails_number}
 pub record RelatesIn (left right : List ℕ) (p q : Kept) : Type 0 where
   pub learnt : Kept
   pub learns : LearnsAll (behind_head left) p learnt
+  pub sound : AreSound learnt
   pub from : ℕ
   pub is_left : number_of learnt.dict left ≡ Some from
   pub to : ℕ

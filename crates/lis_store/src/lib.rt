@@ -12,6 +12,7 @@ mod describing;
 mod judging;
 pub mod laws;
 mod looking;
+mod relating;
 mod relating_in;
 mod removing;
 mod saving;
