@@ -37,3 +37,4 @@ pub mod AddFile
 pub mod Sizes
 pub mod Learnt
 pub mod RelatingIn
+pub mod Relates

@@ -61,12 +61,12 @@ module _ (k : Kept) (left right : List ℕ) (may : MayRelate k left right) where
       by (inl there) = or_left (is_some (number_of k.dict word)) (is_built_in word) (declared_known k word there)
       by (inr own) = or_right (is_some (number_of k.dict word)) (is_built_in word) own
 
+  abbrev named : Bool
+  named = (is_plain_word left || is_test left) && has_word (declared_of k) left
+
   pub left_may : may_learn k left ≡ true
   left_may = by (or_cases (named || is_known_head (declared_of k) left) (is_valued left && is_known_head (declared_of k) (head_bytes left)) may.nameable)
     where
-      abbrev named : Bool
-      named = (is_plain_word left || is_test left) && has_word (declared_of k) left
-
       bare : is_valued left ≡ false → (is_some (number_of k.dict left) || (is_head left && is_built_in left)) ≡ true → may_learn k left ≡ true
       bare form h = ap (may_by k left) form ∙ h
 
