@@ -21,7 +21,7 @@ use Rattle.lis_kept.specs.Links.{is_pair, has_pair}
 use Rattle.lis_kept.specs.Sound.{AreSound, FreeSlotsAreEmpty}
 use Rattle.lis_kept.specs.Forgetting.{KeepsInUse}
 use Rattle.lis_kept.specs.Telling.{bit_of, declared_of, axioms_of, is_head_by, is_used, AreUsed}
-use Rattle.lis_kept.proofs.AxiomDescribed as axiom
+use Rattle.lis_kept.proofs.AxiomDescribed as described
 use Rattle.lis_kept.proofs.AxiomSlots.{InSlot, set_cases, same_sides}
 use Rattle.lis_kept.proofs.Filing.{same_tests}
 use Rattle.lis_kept.proofs.Formed.{some_word, named_below}
@@ -87,7 +87,7 @@ module _ (p q : Kept) (left right : List ℕ) (relates : RelatesIn left right p 
 
   pub end_is : q ≡ end
   end_is =
-      axiom.made_is learnt linked q relates.sound relates.links relates.widens left right is_from is_to numbers
+      described.made_is learnt linked q relates.sound relates.links relates.widens left right is_from is_to numbers
       ∙ ap (λ (k : Kept). record k { axioms = slice_set k.axioms relates.links.slot (Pair from to); ext = q.ext; marks = q.marks }) relates.learns.parts
 
   -- ---- descriptions
@@ -180,7 +180,7 @@ module _ (p q : Kept) (left right : List ℕ) (relates : RelatesIn left right p 
       let after : linked.axioms ≡ slice_set p.axioms relates.links.slot (Pair from to) =
       ap (λ (k : Kept). k.axioms) relates.links.parts ∙ ap (λ (xs : List AxiomSlot). slice_set xs relates.links.slot (Pair from to)) before in
       let P : List AxiomSlot → Type 0 = λ xs. AreOnce xs in
-      subst P after (axiom.apart_linked from to learnt linked relates.links none_there (subst P (sym before) apart))
+      subst P after (described.apart_linked from to learnt linked relates.links none_there (subst P (sym before) apart))
 
   right_declared : is_taken p.declared to ≡ true
   right_declared =
@@ -210,7 +210,7 @@ module _ (p q : Kept) (left right : List ℕ) (relates : RelatesIn left right p 
   pub used_then : AreUsed p → AreUsed end
   used_then used n some =
       subst (λ (k : Kept). is_used k n ≡ true) end_is
-      (axiom.used_then learnt linked q relates.sound relates.links relates.widens left right is_from is_to numbers n some (linked_used used n some))
+      (described.used_then learnt linked q relates.sound relates.links relates.widens left right is_from is_to numbers n some (linked_used used n some))
 
   in_use_then : KeepsInUse p → KeepsInUse end
   in_use_then keeps = record {
@@ -235,12 +235,12 @@ module _ (p q : Kept) (left right : List ℕ) (relates : RelatesIn left right p 
     free_then : FreeSlotsAreEmpty p → FreeSlotsAreEmpty end
     free_then free =
         subst (λ (k : Kept). FreeSlotsAreEmpty k) end_is
-        (axiom.free_then learnt linked q relates.sound relates.links relates.widens left right is_from is_to numbers named_then (free_learnt p learnt more relates.learns sound free))
+        (described.free_then learnt linked q relates.sound relates.links relates.widens left right is_from is_to numbers named_then (free_learnt p learnt more relates.learns sound free))
 
     closed_then : AreClosed p → AreClosed end
     closed_then closed =
         subst (λ (k : Kept). AreClosed k) end_is
-        (axiom.closed_then learnt linked q relates.sound relates.links relates.widens left right is_from is_to numbers named_then
+        (described.closed_then learnt linked q relates.sound relates.links relates.widens left right is_from is_to numbers named_then
         (closed_learnt p learnt more relates.learns sound relates.sound closed))
 
     pub sound_related : (j : Held) (b : Bool) → b ≡ false → IsSound (record { parts = p; journal = j; is_broken = b }) → IsSound (settled q j)
