@@ -38,3 +38,5 @@ pub mod Sizes
 pub mod Learnt
 pub mod RelatingIn
 pub mod Relates
+pub mod RelatesMarks
+pub mod AddAxiom

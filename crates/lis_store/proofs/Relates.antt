@@ -1,26 +1,40 @@
 -- What an axiom that is added comes to.
-use Rattle.std.proofs.Common.{◌≡◌, ◌⊎◌, refl, sym, ap, ap₂, ◌∙◌, subst, inl, inr, ℕ, ◌<◌, ◌≤◌, ◌==◌, ◌&&◌, ◌||◌, if◌then◌else◌, Bool, true, false, List, [], ◌∷◌, length, get_or, slice_get, slice_set, Some, is_some, IsSome, arith, eq-eqb}
-use Rattle.std.proofs.lemmas.Bool.{cases_lt, and_from, or_left, or_right, both_ways}
+use Rattle.std.specs.List.{list_all, flat_map, Contains}
+use Rattle.lis_graph.proofs.Sets.{members_le, sorted_from_rising}
+use Rattle.lis_catalog.specs.Catalog.{Filed}
+use Rattle.lis_model.specs.declared.limits.Limits.{Limits}
+use Rattle.lis_laws.specs.Changes.{AxiomFits}
+use Rattle.lis_laws.proofs.Counts.{all_from, insert_key_le}
+use Rattle.lis_laws.proofs.Forms as forms
+use Rattle.lis_laws.proofs.Growth.{known_adds_axiom}
+use Rattle.lis_kept.specs.Areas.{IsSaved}
+use Rattle.lis_kept.proofs.AxiomsTold.{axioms_counted}
+use Rattle.lis_store.proofs.Declared.{declared_told}
+use Rattle.lis_store.proofs.Facts.{limits_told, known_told, filed_of_file}
+use Rattle.std.proofs.Common.{◌≡◌, ◌⊎◌, refl, sym, ap, ap₂, ◌∙◌, subst, inl, inr, ℕ, ◌+◌, ◌<◌, ◌≤◌, ◌==◌, ◌&&◌, ◌||◌, if◌then◌else◌, Bool, true, false, List, [], ◌∷◌, length, get_or, slice_get, slice_set, nat_le, not, Option, Some, None, option_to_list, is_some, IsSome, arith, length-append, eq-eqb}
+use Rattle.std.proofs.lemmas.Bool.{cases_lt, and_from, or_left, or_right, both_ways, not_from_false, le-leb}
 use Rattle.std.proofs.lemmas.List.{length-map, get_or-map, get_or_past}
 use Rattle.std.proofs.lemmas.Option.{same_Some}
-use Rattle.lis_graph.proofs.Members.{Among, among_append, any_from_among}
+use Rattle.lis_graph.proofs.Members.{Among, contains_from_among, among_append, among_left, among_right, any_from_among}
 use Rattle.lis_journal.specs.Journal.{Held}
 use Rattle.lis_blockmap.specs.Bitmap.{is_taken}
-use Rattle.lis_dict.specs.Dict.{number_of, word_of}
+use Rattle.lis_dict.specs.Dict.{Dict, words, number_of, word_of}
 use Rattle.lis_dict.proofs.Laws.{number_from_word, word_from_number}
 use Rattle.lis_ext.specs.Ext.{Ext, has, set_of as numbers_at, widened}
 use Rattle.lis_ext.specs.Numbers.{has_number, numbers_where}
 use Rattle.lis_fields.specs.declared.slots.AxiomSlot.{AxiomSlot}
 use Rattle.lis_fields.specs.declared.slots.AxiomSlot.TheVariants.{Free as FreeAxiom, Pair}
-use Rattle.lis_words.specs.Words.{same_word, is_valued, head_bytes}
-use Rattle.lis_model.specs.State.{heads, up}
+use Rattle.lis_words.specs.Words.{word_cmp, same_word, has_word, is_plain_word, is_valued, head_bytes}
+use Rattle.lis_model.specs.Sets.{with_word, with_words}
+use Rattle.lis_model.specs.State.{State, File, pair_cmp, heads, up, is_nameable, description, known}
+use Rattle.lis_model.specs.Changes.{with_axiom, axiom_added}
 use Rattle.lis_laws.proofs.Chains.{among_heads}
-use Rattle.lis_laws.proofs.Members.{same_word_decides}
+use Rattle.lis_laws.proofs.Members.{word_order, same_word_decides, among_with_words, with_words_old, with_words_new, sorted_with_words}
 use Rattle.lis_kept.specs.Kept.{Kept}
 use Rattle.lis_kept.specs.Links.{is_pair, has_pair}
 use Rattle.lis_kept.specs.Sound.{AreSound, FreeSlotsAreEmpty}
 use Rattle.lis_kept.specs.Forgetting.{KeepsInUse}
-use Rattle.lis_kept.specs.Telling.{bit_of, declared_of, axioms_of, is_head_by, is_used, AreUsed}
+use Rattle.lis_kept.specs.Telling.{bit_of, declared_of, axioms_of, words_told, file_told, state_of, is_head_by, is_used, AreUsed, Tells}
 use Rattle.lis_kept.proofs.AxiomDescribed as described
 use Rattle.lis_kept.proofs.AxiomSlots.{InSlot, set_cases, same_sides}
 use Rattle.lis_kept.proofs.Filing.{same_tests}
@@ -29,16 +43,32 @@ use Rattle.lis_kept.proofs.Known.{some_number, one_number}
 use Rattle.lis_kept.proofs.Numbered.{Numbers}
 use Rattle.lis_kept.proofs.OwnLinks.{among_slot}
 use Rattle.lis_store.specs.Stored.{PairsAreApart, AreClosed, DescriptionsAreShort, IsSound}
-use Rattle.lis_store.specs.Saving.{settled}
+use Rattle.lis_store.specs.Saving.{settled, IsReady}
 use Rattle.lis_store.specs.Adding.{is_one_of, behind_head}
 use Rattle.lis_store.specs.Relating.{entails_number, widened_numbers, MayRelate}
 use Rattle.lis_store.specs.RelatingIn.{RelatesIn}
 use Rattle.lis_store.proofs.Cleaned.{clean_is, sound_clean, in_use_clean}
 use Rattle.lis_store.proofs.Entailment.{up_has_number}
-use Rattle.lis_store.proofs.Learnt.{used_learnt, free_learnt, word_before, closed_learnt}
+use Rattle.lis_store.proofs.Learnt.{used_learnt, free_learnt, file_learnt, described_learnt, word_before, closed_learnt}
 use Rattle.lis_store.proofs.Naming.{one_of, of_one}
 use Rattle.lis_store.proofs.Numbers.{numbers_same}
 use Rattle.lis_store.proofs.RelatingIn.{declared_same, axioms_same, left_named, right_named, new_pair}
+
+-- no more words are told than there are numbers
+few_with : (some more : List (List ℕ)) → length (with_words some more) ≤ length some + length more
+few_with some [] = omega arith
+few_with some (word ∷ more) = omega (arith, few_with (with_word some word) more, insert_key_le word_cmp some word)
+
+told_few : (d : Dict) (ns : List ℕ) → length (words_told d ns) ≤ length ns
+told_few d ns = omega (arith, few_with [] (flat_map (λ n. option_to_list (word_of d n)) ns), flat_few ns)
+  where
+    one : (o : Option (List ℕ)) → length (option_to_list o) ≤ 1
+    one None = omega arith
+    one (Some word) = omega arith
+
+    flat_few : (ms : List ℕ) → length (flat_map (λ n. option_to_list (word_of d n)) ms) ≤ length ms
+    flat_few [] = omega arith
+    flat_few (m ∷ ms) = omega (arith, flat_few ms, one (word_of d m), length-append (option_to_list (word_of d m)) (flat_map (λ n. option_to_list (word_of d n)) ms))
 
 module _ (p q : Kept) (left right : List ℕ) (relates : RelatesIn left right p q) (sound : AreSound p) (may : MayRelate p left right) where
   abbrev learnt : Kept
@@ -260,3 +290,88 @@ module _ (p q : Kept) (left right : List ℕ) (relates : RelatesIn left right p 
       placed = λ _. was.placed whole;
       clean = λ _. clean_is end;
     })
+
+    -- ---- the state that it tells
+    module _ (at : ℕ → List ℕ) (s : State) (free : FreeSlotsAreEmpty p) (pairs : PairsAreApart p) (short : DescriptionsAreShort p) (tells : Tells p at s) where
+      abbrev t : State
+      t = axiom_added s (left, right)
+
+      state_before : state_of learnt at ≡ s
+      state_before = relates.learns.state at ∙ tells.state
+
+      state_then : state_of q at ≡ t
+      state_then =
+          described.state_then learnt linked q relates.sound relates.links relates.widens left right is_from is_to numbers at ∙ ap (λ (x : State). axiom_added x (left, right)) state_before
+
+      described_then : (f : Filed) → Contains p.catalog.entries f → words_told learnt.dict (numbers_at q.ext f.slot) ≡ description t (file_told p.limits learnt.dict at f)
+      described_then f m =
+          let before = described_learnt p learnt more relates.learns sound at s tells.state tells.described f m in
+          let wide = described.described_then learnt linked q relates.sound relates.links relates.widens left right is_from is_to numbers at f before in
+          subst (λ (k : Kept). words_told k.dict (numbers_at q.ext f.slot) ≡ description t (file_told k.limits k.dict at f)) end_is
+          (wide ∙ ap (λ (x : State). description (axiom_added x (left, right)) (file_told q.limits q.dict at f)) state_before)
+
+      -- ---- the axiom fits
+      declared_are : declared_of p ≡ s.declared
+      declared_are = ap (λ (x : State). x.declared) tells.state
+
+      axioms_are : axioms_of p ≡ s.axioms
+      axioms_are = ap (λ (x : State). x.axioms) tells.state
+
+      limits_are : p.limits ≡ s.limits
+      limits_are = limits_told p at s sound free tells
+
+      right_is : (is_plain_word right && has_word s.declared right) ≡ true
+      right_is = and_from (is_plain_word right) (has_word s.declared right) may.plain (declared_told p at s tells right ∙ may.declared)
+
+      few_axioms : length (with_axiom s.axioms (left, right)) ≤ s.limits.props
+      few_axioms =
+          omega (arith, insert_key_le pair_cmp s.axioms (left, right), ap (λ (es : List (List ℕ × List ℕ)). length es) axioms_are, axioms_counted p sound pairs, may.slots, ap (λ (l : Limits). l.props) limits_are)
+
+      few_known : length (known t) ≤ s.limits.props
+      few_known =
+          let old = sorted_from_rising word_cmp word_order (words p.dict) sound.dict.rising in
+          let grown = ap (λ (ws : List (List ℕ)). length ws) (known_adds_axiom s tells.formed left right right_is) in
+          let same = ap (λ (ws : List (List ℕ)). length (with_words ws (left ∷ heads left))) (known_told p at s sound free tells) in
+          let le = members_le word_cmp word_order (with_words (words p.dict) (left ∷ heads left)) (with_words (words p.dict) more)
+          (sorted_with_words (words p.dict) (left ∷ heads left) old) (sorted_with_words (words p.dict) more old) (λ w m. by w (among_with_words (words p.dict) (left ∷ heads left) w m)) in
+          omega (arith, grown, same, le, may.room, ap (λ (l : Limits). l.props) limits_are)
+        where
+          by : (w : List ℕ) → Among (words p.dict) w ⊎ Among (left ∷ heads left) w → Among (with_words (words p.dict) more) w
+          by w (inl m) = with_words_old (words p.dict) more w m
+          by w (inr (inl same)) = with_words_new (words p.dict) more w (among_right (heads left) (left ∷ []) w (inl same))
+          by w (inr (inr head)) = with_words_new (words p.dict) more w (among_left (heads left) (left ∷ []) w head)
+
+      few_words : list_all (λ (file : File). nat_le (length (description t file)) 128) s.files ≡ true
+      few_words = all_from (λ (file : File). nat_le (length (description t file)) 128) s.files (λ file m.
+          let f = filed_of_file p at s sound free tells file m in
+          let told = described_then f.0 (contains_from_among p.catalog.entries f.0 f.1) ∙ ap (description t) (file_learnt p learnt more relates.learns sound at f.0 f.1 ∙ f.2) in
+          le-leb (length (description t file)) 128
+          (omega (arith, ap (λ (ws : List (List ℕ)). length ws) told, told_few learnt.dict (numbers_at q.ext (f.0).slot), short_then short (f.0).slot)))
+
+      fits : AxiomFits s (left, right)
+      fits = record {
+        right = right_is;
+        left = subst (λ ds. is_nameable ds left ≡ true) declared_are may.nameable;
+        no_circle = not_from_false (has_word (up s.declared s.axioms right) left) (ap₂ (λ ds es. has_word (up ds es right) left) (sym declared_are) (sym axioms_are) ∙ may.no_circle);
+        few_axioms = few_axioms;
+        few_known = few_known;
+        few_words = few_words;
+      }
+
+      tells_end : Tells end at t
+      tells_end = record {
+        super = tells.super;
+        state = ap (λ (k : Kept). state_of k at) (sym end_is) ∙ state_then;
+        formed = forms.adds_axiom s tells.formed (left, right) fits;
+        used = used_then tells.used;
+        described = described_then;
+        taken = λ n lt is. let b = tells.taken n lt is in record { file = b.file; kept = b.kept; has = b.has };
+        given = tells.given;
+        one_use = tells.one_use;
+      }
+
+      pub ready_related : IsSaved p at → IsReady q at t
+      ready_related saved = record {
+        tells = subst (λ (k : Kept). Tells k at t) (sym end_is) tells_end;
+        saved = relates.widens.marks.saved at (relates.links.marks.saved at (relates.learns.marks.saved at saved));
+      }
