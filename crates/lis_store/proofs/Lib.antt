@@ -35,6 +35,6 @@ pub mod Measured
 pub mod Admitted
 pub mod AddFile
 pub mod Sizes
-pub mod Relating
+pub mod RelatedNumbers
 pub mod Overfull
 pub mod Related

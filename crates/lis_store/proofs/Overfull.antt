@@ -1,7 +1,7 @@
 -- Descriptions that an axiom would make too large, by their numbers and by their words.
 use Rattle.std.proofs.Common.{◌≡◌, ◌⊎◌, refl, sym, ap, ap₂, ◌∙◌, subst, inl, inr, ℕ, ◌<◌, ◌≤◌, ◌&&◌, ◌||◌, nat_lt, nat_le, Bool, true, false, is_some, Option, Some, None, IsSome, List, [], length, arith}
 use Rattle.std.specs.List.{list_any}
-use Rattle.std.proofs.lemmas.Bool.{and_parts, and_from, or_cases, both_ways, cases_lt, leb-true, ltb-true}
+use Rattle.std.proofs.lemmas.Bool.{and_parts, and_from, or_cases, both_ways, cases_lt, false_from_ne_true, leb-true, ltb-true}
 use Rattle.std.proofs.lemmas.List.{get_or_default, get_or_past}
 use Rattle.std.proofs.lemmas.List.Elements.{Contains-get_or}
 use Rattle.std.proofs.lemmas.Option.{same_Some}
@@ -33,13 +33,34 @@ use Rattle.lis_store.proofs.Facts.{file_of_filed, filed_of_file}
 use Rattle.lis_store.proofs.Measured.{numbers_apart, told_counted}
 use Rattle.lis_store.proofs.Naming.{one_of, of_one}
 
--- a description that has a number is one of them
+-- ---- slots, one by one
+slot_among : (k : Kept) (slot : ℕ) → slot < length k.ext.sets → Among k.ext.sets (numbers_at k.ext slot)
+slot_among k slot lt = among_from_contains k.ext.sets (numbers_at k.ext slot) (Contains-get_or k.ext.sets slot [] lt)
+
 pub set_among : (k : Kept) (n slot : ℕ) → has k.ext n slot ≡ true → Among k.ext.sets (numbers_at k.ext slot)
 set_among k n slot has_it = by (cases_lt slot (length k.ext.sets))
   where
     by : (slot < length k.ext.sets) ⊎ (length k.ext.sets ≤ slot) → Among k.ext.sets (numbers_at k.ext slot)
-    by (inl lt) = among_from_contains k.ext.sets (numbers_at k.ext slot) (Contains-get_or k.ext.sets slot [] lt)
+    by (inl lt) = slot_among k slot lt
     by (inr past) = let none : has k.ext n slot ≡ false = ap (λ ns. has_number ns n) (get_or_past k.ext.sets slot [] past) in absurd (both_ways (has k.ext n slot) none has_it)
+
+module _ (k : Kept) (left right : List ℕ) where
+  -- a description that is too large stands in some slot
+  at_slot : has_overfull k left right ≡ true → (slot : ℕ) × (slot < length k.ext.sets) × (is_overfull k left right (numbers_at k.ext slot) ≡ true)
+  at_slot h =
+      let found = among_from_any (is_overfull k left right) k.ext.sets h in
+      let place = contains_from_among k.ext.sets found.0 found.1 in
+      (place.0, place.1, ap (is_overfull k left right) (get_or_default k.ext.sets place.0 [] found.0 place.1 ∙ place.2) ∙ found.2)
+
+  pub overfull_at : (slot : ℕ) → slot < length k.ext.sets → is_overfull k left right (numbers_at k.ext slot) ≡ true → has_overfull k left right ≡ true
+  overfull_at slot lt large = any_from_among (is_overfull k left right) k.ext.sets (numbers_at k.ext slot) (slot_among k slot lt) large
+
+  pub overfull_nowhere : ((slot : ℕ) → slot < length k.ext.sets → is_overfull k left right (numbers_at k.ext slot) ≡ false) → has_overfull k left right ≡ false
+  overfull_nowhere none = false_from_ne_true (has_overfull k left right) (λ h. let found = at_slot h in both_ways (is_overfull k left right (numbers_at k.ext found.0)) (none found.0 found.1) found.2)
+
+  -- none has a word that has no number
+  pub overfull_unnumbered : number_of k.dict left ≡ None → has_overfull k left right ≡ false
+  overfull_unnumbered none = overfull_nowhere (λ slot lt. ap (λ o. is_number_of (numbers_at k.ext slot) o && nat_lt 128 (length (widened_numbers k right (numbers_at k.ext slot)))) none)
 
 module _ (k : Kept) (sound : AreSound k) (right : List ℕ) (number : ℕ) (is_right : word_of k.dict number ≡ Some right) where
   abbrev ups : List (List ℕ)
@@ -112,11 +133,9 @@ module _ (k : Kept) (sound : AreSound k) (right : List ℕ) (number : ℕ) (is_r
 
     to_words : has_overfull k left right ≡ true → exceeds_words made ≡ true
     to_words h =
-        let found = among_from_any (is_overfull k left right) k.ext.sets h in
-        let place = contains_from_among k.ext.sets found.0 found.1 in
-        let set_in : numbers_at k.ext place.0 ≡ found.0 = get_or_default k.ext.sets place.0 [] found.0 place.1 ∙ place.2 in
-        let both = and_parts (is_number_of (numbers_at k.ext place.0) (number_of k.dict left)) (nat_lt 128 (length (wide (numbers_at k.ext place.0)))) (ap (is_overfull k left right) set_in ∙ found.2) in
-        by_slot place.0 (number_of k.dict left) refl both.0 both.1
+        let found = at_slot k left right h in
+        let both = and_parts (is_number_of (numbers_at k.ext found.0) (number_of k.dict left)) (nat_lt 128 (length (wide (numbers_at k.ext found.0)))) found.2 in
+        by_slot found.0 (number_of k.dict left) refl both.0 both.1
 
     -- ---- from words to numbers
     by_file : (f : Filed) → Among k.catalog.entries f → large (told f) ≡ true → (b : Bool) → has_word (description s (told f)) left ≡ b → has_overfull k left right ≡ true

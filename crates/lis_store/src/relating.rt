@@ -11,7 +11,7 @@ ghost use Rattle.lis_kept.specs.Sound.{AreSound};
 ghost use Rattle.lis_kept.specs.Telling.{declared_of, axioms_of};
 ghost use Rattle.lis_store.specs.Adding.{behind_head};
 ghost use Rattle.lis_store.specs.Changes.{Judges};
-ghost use Rattle.lis_store.specs.Relating.{entails_word, entails_number, widened_numbers, has_overfull, pair_checks, axiom_room_checks, axiom_checks_of};
+ghost use Rattle.lis_store.specs.Relating.{entails_word, entails_number, widened_numbers, is_overfull, has_overfull, pair_checks, axiom_room_checks, axiom_checks_of};
 
 use lis_kept::Parts;
 use lis_model::refusal::Refusal;
@@ -155,8 +155,29 @@ fn widened_count(parts: &Parts, slot: u32, number: u16, word: &Word) -> u32
     count
 }
 
+// Whether the description in a slot has the left word and would have more words than it may.
+fn is_overfull(
+    parts: &Parts,
+    slot: u32,
+    left: &Word,
+    from: u16,
+    right: &Word,
+    number: u16,
+) -> bool
+    requires sound { AreSound parts.now }
+    requires slot { slot < parts.now.limits.files }
+    requires left { number_of parts.now.dict left.now ≡ Some from }
+    requires right { number_of parts.now.dict right.now ≡ Some number }
+    ensures { result ≡ is_overfull parts.now left.now right.now (set_of parts.now.ext slot) }
+{
+    if !parts.ext().has(u32::from(from), slot) {
+        return false;
+    }
+    widened_count(parts, slot, number, right) > MAX_DESCRIPTION
+}
+
 // Whether a description that has the left word would have more words than it may.
-fn has_overfull(parts: &Parts, left: &Word, number: u16, right: &Word) -> bool
+fn has_overfull(parts: &Parts, left: &Word, right: &Word, number: u16) -> bool
     requires { number_of parts.now.dict right.now ≡ Some number }
     ensures { result ≡ has_overfull parts.now left.now right.now }
 {
@@ -165,9 +186,7 @@ fn has_overfull(parts: &Parts, left: &Word, number: u16, right: &Word) -> bool
     };
     let files = parts.limits().files;
     for slot in 0..files {
-        if parts.ext().has(u32::from(from), slot)
-            && widened_count(parts, slot, number, right) > MAX_DESCRIPTION
-        {
+        if is_overfull(parts, slot, left, from, right, number) {
             return true;
         }
     }
@@ -200,7 +219,7 @@ fn may_pair(parts: &Parts, left: &Word, right: &Word) -> Result<u16, Refusal>
 }
 
 // Whether there is room for an axiom between the two words.
-fn has_room(parts: &Parts, left: &Word, number: u16, right: &Word) -> Result<(), Refusal>
+fn has_room(parts: &Parts, left: &Word, right: &Word, number: u16) -> Result<(), Refusal>
     requires { number_of parts.now.dict right.now ≡ Some number }
     ensures row { Judges (axiom_room_checks parts.now left.now right.now) result }
 {
@@ -211,7 +230,7 @@ fn has_room(parts: &Parts, left: &Word, number: u16, right: &Word) -> Result<(),
     if parts.word_count() + lacked_with_head(parts, left) > props {
         return Err(Refusal::NoPropertyRoom);
     }
-    if has_overfull(parts, left, number, right) {
+    if has_overfull(parts, left, right, number) {
         return Err(Refusal::LargeDescription);
     }
     Ok(())
@@ -222,5 +241,5 @@ pub(crate) fn may_relate(parts: &Parts, left: &Word, right: &Word) -> Result<(),
     ensures row { Judges (axiom_checks_of parts.now left.now right.now) result }
 {
     let number = may_pair(parts, left, right)?;
-    has_room(parts, left, number, right)
+    has_room(parts, left, right, number)
 }

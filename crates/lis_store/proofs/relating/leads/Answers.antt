@@ -1,7 +1,7 @@
 use Rattle.std.proofs.Common.{◌∙◌, sym, ap₂, arith}
 use Rattle.lis_dict.proofs.Laws.{number_below}
 use Rattle.lis_taxonomy.specs.Taxonomy.{entails}
-use Rattle.lis_store.proofs.Relating.{entails_unnumbered, entails_numbered, decided}
+use Rattle.lis_store.proofs.RelatedNumbers.{entails_unnumbered, entails_numbered, decided}
 use Rattle.lis_store.proofs.relating.leads.Goals as goal
 
 pub returns-in_default : goal.returns-in_default

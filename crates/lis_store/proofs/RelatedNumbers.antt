@@ -1,5 +1,5 @@
 -- What the judging of an axiom asks of numbers.
-use Rattle.std.proofs.Common.{◌≡◌, ◌⊎◌, ◌↔◌, refl, sym, ap, ap₂, ◌∙◌, subst, inl, inr, ℕ, ◌+◌, ◌<◌, ◌≤◌, ◌==◌, ◌&&◌, ◌||◌, Bool, true, false, cond, is_some, Option, Some, None, List, [], ◌∷◌, ◌++◌, length, arith}
+use Rattle.std.proofs.Common.{◌≡◌, ◌⊎◌, ◌↔◌, refl, sym, ap, ap₂, ◌∙◌, subst, inl, inr, ℕ, ◌+◌, ◌<◌, ◌≤◌, ◌==◌, ◌&&◌, ◌||◌, Bool, true, false, cond, is_some, Option, Some, None, List, [], ◌∷◌, ◌++◌, length, arith, length-append}
 use Rattle.std.specs.List.Sorted.{IsStrictlySortedBy}
 use Rattle.std.proofs.lemmas.Bool.{and_parts, both_ways, false_from_ne_true}
 use Rattle.std.proofs.lemmas.List.{length-map}
@@ -29,6 +29,7 @@ use Rattle.lis_store.specs.Relating.{entails_word, entails_number}
 use Rattle.lis_store.proofs.Entailment.{chain_named, up_has_number}
 use Rattle.lis_store.proofs.Facts.{numbered}
 use Rattle.lis_store.proofs.Gathered.{headed, headless}
+use Rattle.lis_store.proofs.Had.{found_below, found_one, found_none}
 use Rattle.lis_store.proofs.Told.{length-with_word}
 
 -- a test that decides what a number leads to is the taxonomy's
@@ -130,3 +131,13 @@ module _ (k : Kept) (sound : AreSound k) (word : List ℕ) where
       old : (head_bytes word ≡ word) ⊎ Among known word → Among known word
       old (inl same) = absurd (both_ways (is_valued word) (subst (λ w. is_valued w ≡ false) same (head_not_valued word)) valued)
       old (inr there) = there
+
+-- ---- numbers that are counted
+module _ (test : ℕ → Bool) (n count : ℕ) (counted : count ≡ length (found_below test n)) where
+  pub count_one : test n ≡ true → count + 1 ≡ length (found_below test (n + 1))
+  count_one passes =
+      let ns = found_below test n in
+      omega (arith, counted, ap length (found_one test n ns (ns ++ n ∷ []) refl passes refl), length-append ns (n ∷ []))
+
+  pub count_none : test n ≡ false → count ≡ length (found_below test (n + 1))
+  count_none fails = counted ∙ ap length (found_none test n (found_below test n) refl fails)
