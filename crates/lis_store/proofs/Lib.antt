@@ -40,3 +40,6 @@ pub mod RelatingIn
 pub mod Relates
 pub mod RelatesMarks
 pub mod AddAxiom
+pub mod RelatedNumbers
+pub mod Overfull
+pub mod Related

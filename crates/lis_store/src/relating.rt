@@ -1,17 +1,17 @@
 //! What a new axiom is refused for.
 
-ghost use Rattle.std.specs.Prelude.{◌≡◌, ◌+◌, ◌<◌, ◌≤◌, true, ◌&&◌, ◌||◌, length, Some, IfOk};
-ghost use Rattle.lis_dict.specs.Dict.{words, number_of, word_of};
-ghost use Rattle.lis_ext.specs.Ext.{set_of};
+ghost use Rattle.std.specs.Prelude.{◌≡◌, ◌+◌, ◌<◌, ◌≤◌, ◌&&◌, ◌||◌, length, is_some, Some, IfOk, if◌then◌else◌};
+ghost use Rattle.lis_dict.specs.Dict.{words, number_of};
+ghost use Rattle.lis_ext.specs.Ext.{has, set_of};
 ghost use Rattle.lis_words.specs.Words.{has_word, is_plain_word, is_test, is_valued, head_bytes};
 ghost use Rattle.lis_model.specs.Sets.{with_words};
 ghost use Rattle.lis_model.specs.State.{is_known_head, is_nameable};
 ghost use Rattle.lis_model.specs.Changes.{has_axiom};
 ghost use Rattle.lis_kept.specs.Sound.{AreSound};
-ghost use Rattle.lis_kept.specs.Telling.{is_declared, declared_of, axioms_of};
+ghost use Rattle.lis_kept.specs.Telling.{declared_of, axioms_of};
 ghost use Rattle.lis_store.specs.Adding.{behind_head};
 ghost use Rattle.lis_store.specs.Changes.{Judges};
-ghost use Rattle.lis_store.specs.Relating.{entails_word, widened_numbers, has_overfull, pair_checks, axiom_room_checks, axiom_checks_of};
+ghost use Rattle.lis_store.specs.Relating.{entails_word, entails_number, widened_numbers, is_overfull, has_overfull, pair_checks, axiom_room_checks, axiom_checks_of};
 
 use lis_kept::Parts;
 use lis_model::refusal::Refusal;
@@ -77,6 +77,7 @@ fn is_nameable(parts: &Parts, word: &Word) -> bool
 
 // Whether the axiom is there.
 fn is_related(parts: &Parts, left: &Word, right: &Word) -> bool
+    requires sound { AreSound parts.now }
     ensures { result ≡ has_axiom (axioms_of parts.now) (left.now, right.now) }
 {
     let Some(from) = parts.number_of(left) else {
@@ -90,7 +91,8 @@ fn is_related(parts: &Parts, left: &Word, right: &Word) -> bool
 
 // Whether a word that has a number entails the other word.
 fn leads(parts: &Parts, number: u16, word: &Word, other: &Word) -> bool
-    requires { number_of parts.now.dict word.now ≡ Some number }
+    requires sound { AreSound parts.now }
+    requires number { number_of parts.now.dict word.now ≡ Some number }
     ensures { result ≡ entails_word parts.now word.now other.now }
 {
     let Some(to) = parts.number_of(other) else {
@@ -101,16 +103,40 @@ fn leads(parts: &Parts, number: u16, word: &Word, other: &Word) -> bool
         .entails(u32::from(number), u32::from(to))
 }
 
-// How many of a word and its head have no number.
-fn fresh_count(parts: &Parts, word: &Word) -> u32
-    ensures count { length (words parts.now.dict) + result ≡ length (with_words (words parts.now.dict) (behind_head word.now)) }
+// How many numbers a word still needs.
+fn lacked(parts: &Parts, word: &Word) -> u32
+    ensures { result ≡ (if is_some (number_of parts.now.dict word.now) then 0 else 1) }
+{
+    match parts.number_of(word) {
+        None => 1,
+        Some(_) => 0,
+    }
+}
+
+// How many numbers a word and its head still need.
+fn lacked_with_head(parts: &Parts, word: &Word) -> u32
+    requires sound { AreSound parts.now }
+    ensures count { length (with_words (words parts.now.dict) (behind_head word.now)) ≡ length parts.now.dict.entries + result }
     ensures few { result ≤ 2 }
 {
-    let fresh = u32::from(parts.number_of(word).is_none());
     match head_of(word) {
-        None => fresh,
-        Some(head) => fresh + u32::from(parts.number_of(&head).is_none()),
+        None => lacked(parts, word),
+        Some(head) => lacked(parts, &head) + lacked(parts, word),
     }
+}
+
+// Whether the description in a slot has a number, or a word entails the word of the number.
+fn would_have(parts: &Parts, slot: u32, number: u16, word: &Word, other: u32) -> bool
+    requires sound { AreSound parts.now }
+    requires slot { slot < parts.now.limits.files }
+    requires number { number_of parts.now.dict word.now ≡ Some number }
+    requires other { other < parts.now.limits.props }
+    ensures { result ≡ (has parts.now.ext other slot || entails_number parts.now word.now other) }
+{
+    if parts.ext().has(other, slot) {
+        return true;
+    }
+    parts.taxonomy().entails(u32::from(number), other)
 }
 
 // How many numbers the description in a slot would have with those of all that a word entails.
@@ -120,20 +146,38 @@ fn widened_count(parts: &Parts, slot: u32, number: u16, word: &Word) -> u32
     ensures { result ≡ length (widened_numbers parts.now word.now (set_of parts.now.ext slot)) }
 {
     let props = parts.limits().props;
-    let ext = parts.ext();
-    let taxonomy = parts.taxonomy();
-    let from = u32::from(number);
     let mut count = 0;
     for other in 0..props {
-        if ext.has(other, slot) || taxonomy.entails(from, other) {
+        if would_have(parts, slot, number, word, other) {
             count += 1;
         }
     }
     count
 }
 
+// Whether the description in a slot has the left word and would have more words than it may.
+fn is_overfull(
+    parts: &Parts,
+    slot: u32,
+    left: &Word,
+    from: u16,
+    right: &Word,
+    number: u16,
+) -> bool
+    requires sound { AreSound parts.now }
+    requires slot { slot < parts.now.limits.files }
+    requires left { number_of parts.now.dict left.now ≡ Some from }
+    requires right { number_of parts.now.dict right.now ≡ Some number }
+    ensures { result ≡ is_overfull parts.now left.now right.now (set_of parts.now.ext slot) }
+{
+    if !parts.ext().has(u32::from(from), slot) {
+        return false;
+    }
+    widened_count(parts, slot, number, right) > MAX_DESCRIPTION
+}
+
 // Whether a description that has the left word would have more words than it may.
-fn has_overfull(parts: &Parts, left: &Word, number: u16, right: &Word) -> bool
+fn has_overfull(parts: &Parts, left: &Word, right: &Word, number: u16) -> bool
     requires { number_of parts.now.dict right.now ≡ Some number }
     ensures { result ≡ has_overfull parts.now left.now right.now }
 {
@@ -142,9 +186,7 @@ fn has_overfull(parts: &Parts, left: &Word, number: u16, right: &Word) -> bool
     };
     let files = parts.limits().files;
     for slot in 0..files {
-        if parts.ext().has(u32::from(from), slot)
-            && widened_count(parts, slot, number, right) > MAX_DESCRIPTION
-        {
+        if is_overfull(parts, slot, left, from, right, number) {
             return true;
         }
     }
@@ -156,6 +198,8 @@ fn may_pair(parts: &Parts, left: &Word, right: &Word) -> Result<u16, Refusal>
     ensures row { Judges (pair_checks parts.now left.now right.now) result }
     ensures number { IfOk result (λ number. number_of parts.now.dict right.now ≡ Some number) }
 {
+    // Only the limits tell that memory is in form.
+    let _limits = parts.limits();
     if !is_plain_word(right.bytes()) {
         return Err(Refusal::NotAssignable);
     }
@@ -175,7 +219,7 @@ fn may_pair(parts: &Parts, left: &Word, right: &Word) -> Result<u16, Refusal>
 }
 
 // Whether there is room for an axiom between the two words.
-fn has_room(parts: &Parts, left: &Word, number: u16, right: &Word) -> Result<(), Refusal>
+fn has_room(parts: &Parts, left: &Word, right: &Word, number: u16) -> Result<(), Refusal>
     requires { number_of parts.now.dict right.now ≡ Some number }
     ensures row { Judges (axiom_room_checks parts.now left.now right.now) result }
 {
@@ -183,10 +227,10 @@ fn has_room(parts: &Parts, left: &Word, number: u16, right: &Word) -> Result<(),
     if parts.axiom_count() >= props {
         return Err(Refusal::NoAxiomRoom);
     }
-    if parts.word_count() + fresh_count(parts, left) > props {
+    if parts.word_count() + lacked_with_head(parts, left) > props {
         return Err(Refusal::NoPropertyRoom);
     }
-    if has_overfull(parts, left, number, right) {
+    if has_overfull(parts, left, right, number) {
         return Err(Refusal::LargeDescription);
     }
     Ok(())
@@ -197,5 +241,5 @@ pub(crate) fn may_relate(parts: &Parts, left: &Word, right: &Word) -> Result<(),
     ensures row { Judges (axiom_checks_of parts.now left.now right.now) result }
 {
     let number = may_pair(parts, left, right)?;
-    has_room(parts, left, number, right)
+    has_room(parts, left, right, number)
 }
