@@ -103,7 +103,7 @@ module _ (p q : Kept) (left right : List ℕ) (relates : RelatesIn left right p 
           found.0,
           found.1,
           relates.bits found.0 (named_below learnt relates.sound found.0 (ap is_some found.1))
-          ∙ of_one (up (declared_of learnt) (axioms_of learnt) right) (word_of learnt.dict found.0) w found.1 m,
+              ∙ of_one (up (declared_of learnt) (axioms_of learnt) right) (word_of learnt.dict found.0) w found.1 m,
         );
     worded = λ n w is passes.
         let found = one_of (up (declared_of learnt) (axioms_of learnt) right) (word_of learnt.dict n)
