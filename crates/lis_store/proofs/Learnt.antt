@@ -1,5 +1,5 @@
 -- What is kept once words are learnt.
-use Rattle.std.proofs.Common.{◌≡◌, ◌⊎◌, refl, sym, ap, ap₂, ◌∙◌, subst, inl, inr, ℕ, ◌&&◌, ◌||◌, Bool, true, List, Option, Some, None, IsSome}
+use Rattle.std.proofs.Common.{◌≡◌, ◌⊎◌, refl, sym, ap, ap₂, ◌∙◌, subst, inl, inr, ℕ, ◌||◌, Bool, true, List, Option, Some, None, IsSome}
 use Rattle.std.specs.List.{list_any, Contains}
 use Rattle.std.proofs.lemmas.Bool.{and_parts, or_cases, or_left, or_right}
 use Rattle.lis_graph.proofs.Members.{Among, among_from_contains, among_from_any, any_from_among}

@@ -11,7 +11,7 @@ use Rattle.lis_kept.specs.Areas.{IsSaved}
 use Rattle.lis_kept.proofs.AxiomsTold.{axioms_counted}
 use Rattle.lis_store.proofs.Declared.{declared_told}
 use Rattle.lis_store.proofs.Facts.{limits_told, known_told, filed_of_file}
-use Rattle.std.proofs.Common.{◌≡◌, ◌⊎◌, refl, sym, ap, ap₂, ◌∙◌, subst, inl, inr, ℕ, ◌+◌, ◌<◌, ◌≤◌, ◌==◌, ◌&&◌, ◌||◌, if◌then◌else◌, Bool, true, false, List, [], ◌∷◌, length, get_or, slice_get, slice_set, nat_le, not, Option, Some, None, option_to_list, is_some, IsSome, arith, length-append, eq-eqb}
+use Rattle.std.proofs.Common.{◌≡◌, ◌⊎◌, refl, sym, ap, ap₂, ◌∙◌, subst, inl, inr, ℕ, ◌+◌, ◌<◌, ◌≤◌, ◌==◌, ◌&&◌, ◌||◌, if◌then◌else◌, Bool, true, false, List, [], ◌∷◌, length, get_or, slice_get, slice_set, nat_le, Option, Some, None, option_to_list, is_some, IsSome, arith, length-append, eq-eqb}
 use Rattle.std.proofs.lemmas.Bool.{cases_lt, and_from, or_left, or_right, both_ways, not_from_false, le-leb}
 use Rattle.std.proofs.lemmas.List.{length-map, get_or-map, get_or_past}
 use Rattle.std.proofs.lemmas.Option.{same_Some}

@@ -1,12 +1,11 @@
 -- What an axiom that may come allows memory.
-use Rattle.std.proofs.Common.{◌≡◌, ◌⊎◌, refl, sym, ap, ap₂, ◌∙◌, subst, inl, inr, ℕ, ◌+◌, ◌*◌, ◌/◌, ◌<◌, ◌≤◌, not, ◌&&◌, ◌||◌, Bool, true, false, List, [], ◌∷◌, length, count_by, Some, is_some, IsSome, arith}
+use Rattle.std.proofs.Common.{◌≡◌, ◌⊎◌, refl, sym, ap, ap₂, ◌∙◌, inl, inr, ℕ, ◌+◌, ◌*◌, ◌/◌, ◌<◌, ◌≤◌, not, ◌&&◌, ◌||◌, Bool, true, false, List, [], ◌∷◌, length, count_by, Some, is_some, IsSome, arith}
 use Rattle.std.proofs.lemmas.Bool.{and_parts, and_from, or_cases, or_left, or_right}
 use Rattle.lis_graph.proofs.Members.{among_right}
 use Rattle.lis_bits.specs.Rows.{Rows, HasShape, get, with_row}
 use Rattle.lis_dict.specs.Dict.{number_of, word_of}
 use Rattle.lis_dict.proofs.Laws.{word_from_number, number_below}
 use Rattle.lis_taxonomy.specs.Taxonomy.{Taxonomy, entails}
-use Rattle.lis_fields.specs.declared.slots.AxiomSlot.{AxiomSlot}
 use Rattle.lis_words.specs.Words.{has_word, is_plain_word, is_test, is_valued, is_head, is_built_in, head_bytes}
 use Rattle.lis_model.specs.State.{State, heads, up, is_known_head}
 use Rattle.lis_model.specs.Changes.{has_axiom}

@@ -1,4 +1,4 @@
-use Rattle.std.proofs.Common.{◌∙◌, not, ◌&&◌, sym, ap, arith}
+use Rattle.std.proofs.Common.{◌∙◌, not, ◌&&◌, ap, arith}
 use Rattle.lis_bits.specs.Rows.{get, with_row}
 use Rattle.lis_dict.proofs.Laws.{number_below}
 use Rattle.lis_store.proofs.RelatingIn.{shown_bits}
