@@ -1,40 +1,38 @@
 -- What an axiom that is added comes to.
-use Rattle.std.specs.List.{list_all, flat_map, Contains}
-use Rattle.lis_graph.proofs.Sets.{members_le, sorted_from_rising}
-use Rattle.lis_catalog.specs.Catalog.{Filed}
-use Rattle.lis_model.specs.declared.limits.Limits.{Limits}
-use Rattle.lis_laws.specs.Changes.{AxiomFits}
-use Rattle.lis_laws.proofs.Counts.{all_from, insert_key_le}
-use Rattle.lis_laws.proofs.Forms as forms
-use Rattle.lis_laws.proofs.Growth.{known_adds_axiom}
-use Rattle.lis_kept.specs.Areas.{IsSaved}
-use Rattle.lis_kept.proofs.AxiomsTold.{axioms_counted}
-use Rattle.lis_store.proofs.Declared.{declared_told}
-use Rattle.lis_store.proofs.Facts.{limits_told, known_told, filed_of_file}
 use Rattle.std.proofs.Common.{◌≡◌, ◌⊎◌, refl, sym, ap, ap₂, ◌∙◌, subst, inl, inr, ℕ, ◌+◌, ◌<◌, ◌≤◌, ◌==◌, ◌&&◌, ◌||◌, if◌then◌else◌, Bool, true, false, List, [], ◌∷◌, length, get_or, slice_get, slice_set, nat_le, Option, Some, None, option_to_list, is_some, IsSome, arith, length-append, eq-eqb}
+use Rattle.std.specs.List.{list_all, flat_map, Contains}
 use Rattle.std.proofs.lemmas.Bool.{cases_lt, and_from, or_left, or_right, both_ways, not_from_false, le-leb}
 use Rattle.std.proofs.lemmas.List.{length-map, get_or-map, get_or_past}
 use Rattle.std.proofs.lemmas.Option.{same_Some}
+use Rattle.lis_graph.proofs.Sets.{members_le, sorted_from_rising}
 use Rattle.lis_graph.proofs.Members.{Among, contains_from_among, among_append, among_left, among_right, any_from_among}
 use Rattle.lis_journal.specs.Journal.{Held}
 use Rattle.lis_blockmap.specs.Bitmap.{is_taken}
 use Rattle.lis_dict.specs.Dict.{Dict, words, number_of, word_of}
 use Rattle.lis_dict.proofs.Laws.{number_from_word, word_from_number}
+use Rattle.lis_catalog.specs.Catalog.{Filed}
 use Rattle.lis_ext.specs.Ext.{Ext, has, set_of as numbers_at, widened}
 use Rattle.lis_ext.specs.Numbers.{has_number, numbers_where}
 use Rattle.lis_fields.specs.declared.slots.AxiomSlot.{AxiomSlot}
 use Rattle.lis_fields.specs.declared.slots.AxiomSlot.TheVariants.{Free as FreeAxiom, Pair}
 use Rattle.lis_words.specs.Words.{word_cmp, same_word, has_word, is_plain_word, is_valued, head_bytes}
+use Rattle.lis_model.specs.declared.limits.Limits.{Limits}
 use Rattle.lis_model.specs.Sets.{with_word, with_words}
 use Rattle.lis_model.specs.State.{State, File, pair_cmp, heads, up, is_nameable, description, known}
 use Rattle.lis_model.specs.Changes.{with_axiom, axiom_added}
+use Rattle.lis_laws.specs.Changes.{AxiomFits}
+use Rattle.lis_laws.proofs.Counts.{all_from, insert_key_le}
+use Rattle.lis_laws.proofs.Forms as forms
+use Rattle.lis_laws.proofs.Growth.{known_adds_axiom}
 use Rattle.lis_laws.proofs.Chains.{among_heads}
 use Rattle.lis_laws.proofs.Members.{word_order, same_word_decides, among_with_words, with_words_old, with_words_new, sorted_with_words}
+use Rattle.lis_kept.specs.Areas.{IsSaved}
 use Rattle.lis_kept.specs.Kept.{Kept}
 use Rattle.lis_kept.specs.Links.{is_pair, has_pair}
 use Rattle.lis_kept.specs.Sound.{AreSound, FreeSlotsAreEmpty}
 use Rattle.lis_kept.specs.Forgetting.{KeepsInUse}
 use Rattle.lis_kept.specs.Telling.{bit_of, declared_of, axioms_of, words_told, file_told, state_of, is_head_by, is_used, AreUsed, Tells}
+use Rattle.lis_kept.proofs.AxiomsTold.{axioms_counted}
 use Rattle.lis_kept.proofs.AxiomDescribed as described
 use Rattle.lis_kept.proofs.AxiomSlots.{InSlot, set_cases, same_sides}
 use Rattle.lis_kept.proofs.Filing.{same_tests}
@@ -47,6 +45,8 @@ use Rattle.lis_store.specs.Saving.{settled, IsReady}
 use Rattle.lis_store.specs.Adding.{is_one_of, behind_head}
 use Rattle.lis_store.specs.Relating.{entails_number, widened_numbers, MayRelate}
 use Rattle.lis_store.specs.RelatingIn.{RelatesIn}
+use Rattle.lis_store.proofs.Declared.{declared_told}
+use Rattle.lis_store.proofs.Facts.{limits_told, known_told, filed_of_file}
 use Rattle.lis_store.proofs.Cleaned.{clean_is, sound_clean, in_use_clean}
 use Rattle.lis_store.proofs.Entailment.{up_has_number}
 use Rattle.lis_store.proofs.Learnt.{used_learnt, free_learnt, file_learnt, described_learnt, word_before, closed_learnt}
