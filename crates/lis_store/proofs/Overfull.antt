@@ -1,6 +1,5 @@
 -- Descriptions that an axiom would make too large, by their numbers and by their words.
-use Rattle.std.proofs.Common.{◌≡◌, ◌⊎◌, refl, sym, ap, ap₂, ◌∙◌, subst, inl, inr, ℕ, ◌<◌, ◌≤◌, ◌&&◌, ◌||◌, nat_lt, nat_le, Bool, true, false, is_some, Option, Some, None, IsSome, List, [], length, arith}
-use Rattle.std.specs.List.{list_any}
+use Rattle.std.proofs.Common.{◌≡◌, ◌⊎◌, refl, sym, ap, ◌∙◌, subst, inl, inr, ℕ, ◌<◌, ◌≤◌, ◌&&◌, ◌||◌, nat_lt, nat_le, Bool, true, false, is_some, Option, Some, None, IsSome, List, [], length, arith}
 use Rattle.std.proofs.lemmas.Bool.{and_parts, and_from, or_cases, both_ways, cases_lt, false_from_ne_true, leb-true, ltb-true}
 use Rattle.std.proofs.lemmas.List.{get_or_default, get_or_past}
 use Rattle.std.proofs.lemmas.List.Elements.{Contains-get_or}
@@ -10,7 +9,7 @@ use Rattle.lis_catalog.specs.Catalog.{Filed, rec_at}
 use Rattle.lis_dict.specs.Dict.{number_of, word_of}
 use Rattle.lis_dict.proofs.Laws.{number_from_word, word_from_number}
 use Rattle.lis_ext.specs.Ext.{has, set_of as numbers_at}
-use Rattle.lis_ext.specs.Numbers.{has_number, numbers_where}
+use Rattle.lis_ext.specs.Numbers.{has_number}
 use Rattle.lis_fields.specs.Records.{FileRecord}
 use Rattle.lis_words.specs.Words.{has_word}
 use Rattle.lis_model.specs.State.{State, File, up, description}
@@ -20,7 +19,7 @@ use Rattle.lis_laws.proofs.Counts.{all_among}
 use Rattle.lis_laws.proofs.Members.{among_from_has_word}
 use Rattle.lis_kept.specs.Kept.{Kept}
 use Rattle.lis_kept.specs.Sound.{AreSound, FreeSlotsAreEmpty}
-use Rattle.lis_kept.specs.Telling.{declared_of, axioms_of, words_told, file_told, Tells}
+use Rattle.lis_kept.specs.Telling.{declared_of, axioms_of, file_told, Tells}
 use Rattle.lis_kept.proofs.AxiomTaken.{one_unfelt}
 use Rattle.lis_kept.proofs.Described.{among_where, where_among}
 use Rattle.lis_kept.proofs.Filing.{same_tests, among_from_number, number_from_among, filed_at_slot}

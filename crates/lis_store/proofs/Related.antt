@@ -1,12 +1,12 @@
 -- The row of `axiom`, told by what a store keeps, is the row of the state; and what holds where it refuses nothing.
-use Rattle.std.proofs.Common.{◌≡◌, ◌⊎◌, refl, sym, ap, ap₂, ◌∙◌, subst, inl, inr, ℕ, ◌+◌, ◌<◌, ◌≤◌, ◌&&◌, nat_lt, Bool, true, false, not, is_some, IsSome, Option, Some, None, List, [], ◌∷◌, length, arith}
-use Rattle.std.specs.Prelude.{count_by, IsTrue}
+use Rattle.std.proofs.Common.{◌≡◌, ◌⊎◌, refl, sym, ap, ap₂, ◌∙◌, subst, inl, inr, ℕ, ◌+◌, ◌&&◌, nat_lt, true, false, not, is_some, Option, Some, None, List, [], ◌∷◌, length, arith}
+use Rattle.std.specs.Prelude.{count_by}
 use Rattle.std.specs.List.Sorted.{IsStrictlySortedBy}
-use Rattle.std.proofs.lemmas.Bool.{and_parts, and_from, both_ways, not-false, ltb-true, ltb-false, false_from_ne_true}
+use Rattle.std.proofs.lemmas.Bool.{and_parts, and_from, both_ways, not-false, ltb-false, false_from_ne_true}
 use Rattle.lis_graph.proofs.Members.{Among, any_from_among, among_append, among_left, among_right}
 use Rattle.lis_dict.specs.Dict.{words, number_of}
 use Rattle.lis_dict.proofs.Laws.{word_from_number}
-use Rattle.lis_ext.specs.Ext.{has, set_of as numbers_at}
+use Rattle.lis_ext.specs.Ext.{set_of as numbers_at}
 use Rattle.lis_words.specs.Words.{word_cmp, same_word, has_word, is_plain_word}
 use Rattle.lis_model.specs.declared.limits.Limits.{Limits}
 use Rattle.lis_model.specs.declared.refusal.Refusal.{Refusal}
@@ -16,7 +16,7 @@ use Rattle.lis_model.specs.Changes.{same_pair, has_axiom, axiom_added}
 use Rattle.lis_model.specs.Step.{Situation, refused, changed, exceeds_axioms, exceeds_known, exceeds_words, axiom_checks, add_axiom}
 use Rattle.lis_laws.proofs.Growth.{known_adds_axiom}
 use Rattle.lis_laws.proofs.Known.{sorted_known}
-use Rattle.lis_laws.proofs.Members.{pair_exact, word_order, same_word_decides, among_with_words, with_words_old, with_words_new, sorted_with_words, same_words}
+use Rattle.lis_laws.proofs.Members.{pair_exact, same_word_decides, among_with_words, with_words_old, with_words_new, sorted_with_words, same_words}
 use Rattle.lis_kept.specs.Kept.{Kept}
 use Rattle.lis_kept.specs.Linking.{is_filled}
 use Rattle.lis_kept.specs.Telling.{bit_of, is_declared, declared_of, axioms_of, Tells}
@@ -25,7 +25,7 @@ use Rattle.lis_store.specs.Stored.{Stored, IsSound}
 use Rattle.lis_store.specs.Adding.{behind_head}
 use Rattle.lis_store.specs.Changes.{first_refusal}
 use Rattle.lis_store.specs.Relating.{entails_word, widened_numbers, is_number_of, is_overfull, has_overfull, axiom_checks_of, MayRelate}
-use Rattle.lis_store.proofs.Declared.{declared_told}
+use Rattle.lis_store.proofs.Assigned.{has_declared}
 use Rattle.lis_store.proofs.Facts.{limits_told, known_told}
 use Rattle.lis_store.proofs.Judged.{same_first, all_pass, judged_refused, judged_done}
 use Rattle.lis_store.proofs.Overfull.{set_among, overfull_told}
@@ -90,7 +90,7 @@ module _ (k : Stored) (at : ℕ → List ℕ) (now : Situation) (sound : IsSound
   axioms_are = ap (λ (t : State). t.axioms) tells.state
 
   right_told : is_declared p right ≡ has_word s.declared right
-  right_told = sym (declared_told p at s tells right)
+  right_told = sym (has_declared p right) ∙ ap (λ (ws : List (List ℕ)). has_word ws right) declared_are
 
   forms_told : not (is_declared p right && is_nameable (declared_of p) left) ≡ not (has_word s.declared right && is_nameable s.declared left)
   forms_told = ap₂ (λ b declared. not (b && is_nameable declared left)) right_told declared_are

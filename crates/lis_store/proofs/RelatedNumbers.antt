@@ -1,32 +1,29 @@
 -- What the judging of an axiom asks of numbers.
-use Rattle.std.proofs.Common.{◌≡◌, ◌⊎◌, ◌↔◌, refl, sym, ap, ap₂, ◌∙◌, subst, inl, inr, ℕ, ◌+◌, ◌<◌, ◌≤◌, ◌==◌, ◌&&◌, ◌||◌, Bool, true, false, cond, is_some, Option, Some, None, List, [], ◌∷◌, ◌++◌, length, arith, length-append}
+use Rattle.std.proofs.Common.{◌≡◌, ◌⊎◌, ◌↔◌, refl, sym, ap, ap₂, ◌∙◌, subst, inl, inr, ℕ, ◌+◌, Bool, true, false, cond, is_some, Some, None, List, [], ◌∷◌, ◌++◌, length, arith, length-append}
 use Rattle.std.specs.List.Sorted.{IsStrictlySortedBy}
 use Rattle.std.proofs.lemmas.Bool.{and_parts, both_ways, false_from_ne_true}
 use Rattle.std.proofs.lemmas.List.{length-map}
-use Rattle.std.proofs.lemmas.Option.{same_Some, none-some}
+use Rattle.std.proofs.lemmas.Option.{none-some}
 use Rattle.lis_graph.proofs.Members.{Among, among_from_any, among_insert_key, insert_key_old}
 use Rattle.lis_graph.proofs.Sets.{sorted_from_rising, sorted_insert_key}
-use Rattle.lis_dict.specs.Dict.{words, number_of, word_of}
+use Rattle.lis_dict.specs.Dict.{words, number_of}
 use Rattle.lis_dict.proofs.Laws.{number_from_word, word_from_number}
 use Rattle.lis_taxonomy.specs.Taxonomy.{Taxonomy, entails as leads, Entails as Leads}
 use Rattle.lis_taxonomy.proofs.Laws.{entails_decides}
 use Rattle.lis_words.specs.Words.{word_cmp, same_word, has_word, is_valued, head_bytes}
 use Rattle.lis_model.specs.Sets.{with_word, with_words}
-use Rattle.lis_model.specs.State.{heads, up}
+use Rattle.lis_model.specs.State.{up}
 use Rattle.lis_model.specs.Changes.{same_pair, has_axiom}
 use Rattle.lis_laws.proofs.Chains.{head_not_valued}
 use Rattle.lis_laws.proofs.Members.{word_exact, word_order, same_word_decides, among_from_has_word, has_word_from_among, same_words}
 use Rattle.lis_kept.specs.Kept.{Kept}
 use Rattle.lis_kept.specs.Sound.{AreSound}
-use Rattle.lis_kept.specs.Links.{TellsLinks, has_pair}
 use Rattle.lis_kept.specs.Telling.{declared_of, axioms_of}
-use Rattle.lis_kept.proofs.AxiomsTold.{axiom_told}
-use Rattle.lis_kept.proofs.Entailed.{leads_told}
 use Rattle.lis_kept.proofs.Filing.{same_tests}
 use Rattle.lis_kept.proofs.Known.{among_axiom}
-use Rattle.lis_store.specs.Adding.{is_one_of, behind_head}
-use Rattle.lis_store.specs.Relating.{entails_word, entails_number}
-use Rattle.lis_store.proofs.Entailment.{chain_named, up_has_number}
+use Rattle.lis_store.specs.Adding.{behind_head}
+use Rattle.lis_store.specs.Relating.{entails_word}
+use Rattle.lis_store.proofs.Entailment.{up_has_number}
 use Rattle.lis_store.proofs.Facts.{numbered}
 use Rattle.lis_store.proofs.Gathered.{headed, headless}
 use Rattle.lis_store.proofs.Had.{found_below, found_one, found_none}
@@ -51,35 +48,11 @@ module _ (k : Kept) (sound : AreSound k) where
           let rights = number_from_word k.dict sound.dict right at.2 (at.5 ∙ ap Some ((same_word_decides e.1 right).0 same.1)) in
           elim one [ inl none_left ↦ none-some at.1 (sym none_left ∙ lefts) | inr none_right ↦ none-some at.2 (sym none_right ∙ rights) ]
 
-  pub axiom_numbered : (left right : List ℕ) (m n : ℕ) → number_of k.dict left ≡ Some m → number_of k.dict right ≡ Some n → has_axiom (axioms_of k) (left, right) ≡ has_pair k.axioms m n
-  axiom_numbered left right m n is_left is_right =
-      axiom_told k sound m n left right (word_from_number k.dict sound.dict left m is_left) (word_from_number k.dict sound.dict right n is_right)
-
-  -- ---- what a word entails
+  -- and so has all that a word with a number entails
   pub entails_unnumbered : (word other : List ℕ) (n : ℕ) → number_of k.dict word ≡ Some n → number_of k.dict other ≡ None → entails_word k word other ≡ false
   entails_unnumbered word other n is none = false_from_ne_true (entails_word k word other) (λ has_it.
       let found = up_has_number k sound n word other (word_from_number k.dict sound.dict word n is) (among_from_has_word (up (declared_of k) (axioms_of k) word) other has_it) in
       none-some found.0 (sym none ∙ number_from_word k.dict sound.dict other found.0 found.1))
-
-  module _ (t : Taxonomy) (tells : TellsLinks k t) (word : List ℕ) (n : ℕ) (is : number_of k.dict word ≡ Some n) where
-    named : word_of k.dict n ≡ Some word
-    named = word_from_number k.dict sound.dict word n is
-
-    pub entails_numbered : (other : List ℕ) (m : ℕ) → number_of k.dict other ≡ Some m → leads t n m ≡ entails_word k word other
-    entails_numbered other m is_other = leads_told k sound t tells n m word other named (word_from_number k.dict sound.dict other m is_other)
-
-    pub number_entailed : (m : ℕ) → leads t n m ≡ entails_number k word m
-    number_entailed m = by (word_of k.dict m) refl
-      where
-        by : (o : Option (List ℕ)) → word_of k.dict m ≡ o → leads t n m ≡ entails_number k word m
-        by None none =
-            false_from_ne_true (leads t n m) (λ h.
-            let chain = (entails_decides t n m).0 h in
-            let found = chain_named k sound t tells chain.0 n m word named chain.1 in
-            let both : ◌≡◌ {A = Option (List ℕ)} None (Some found.0) = sym none ∙ found.1 in
-            cc)
-            ∙ sym (ap (is_one_of (up (declared_of k) (axioms_of k) word)) none)
-        by (Some other) there = leads_told k sound t tells n m word other named there ∙ sym (ap (is_one_of (up (declared_of k) (axioms_of k) word)) there)
 
 -- ---- words that have no number yet
 word_counted : (ws : List (List ℕ)) → IsStrictlySortedBy word_cmp ws → (w : List ℕ) → length (with_word ws w) ≡ length ws + cond (has_word ws w) 0 1
