@@ -69,7 +69,7 @@ module _ (k : Kept) (sound : AreSound k) (right : List ℕ) (number : ℕ) (is_r
   wide ns = widened_numbers k right ns
 
   -- the numbers of all that the right word entails
-  pub ups_numbers : Numbers k.dict (entails_number k right) ups
+  ups_numbers : Numbers k.dict (entails_number k right) ups
   ups_numbers = record {
     numbered = λ w m. let found = up_has_number k sound number right w is_right m in (found.0, found.1, of_one ups (word_of k.dict found.0) w found.1 m);
     worded = λ n w is passes. let found = one_of ups (word_of k.dict n) passes in subst (λ v. Among ups v) (same_Some found.0 w (sym found.1 ∙ is)) found.2;
