@@ -51,9 +51,6 @@ module _ (k : Kept) (left right : List ℕ) where
       let place = contains_from_among k.ext.sets found.0 found.1 in
       (place.0, place.1, ap (is_overfull k left right) (get_or_default k.ext.sets place.0 [] found.0 place.1 ∙ place.2) ∙ found.2)
 
-  pub overfull_at : (slot : ℕ) → slot < length k.ext.sets → is_overfull k left right (numbers_at k.ext slot) ≡ true → has_overfull k left right ≡ true
-  overfull_at slot lt large = any_from_among (is_overfull k left right) k.ext.sets (numbers_at k.ext slot) (slot_among k slot lt) large
-
   pub overfull_nowhere : ((slot : ℕ) → slot < length k.ext.sets → is_overfull k left right (numbers_at k.ext slot) ≡ false) → has_overfull k left right ≡ false
   overfull_nowhere none = false_from_ne_true (has_overfull k left right) (λ h. let found = at_slot h in both_ways (is_overfull k left right (numbers_at k.ext found.0)) (none found.0 found.1) found.2)
 
