@@ -51,9 +51,6 @@ module _ (k : Kept) (left right : List ℕ) where
       let place = contains_from_among k.ext.sets found.0 found.1 in
       (place.0, place.1, ap (is_overfull k left right) (get_or_default k.ext.sets place.0 [] found.0 place.1 ∙ place.2) ∙ found.2)
 
-  pub overfull_at : (slot : ℕ) → slot < length k.ext.sets → is_overfull k left right (numbers_at k.ext slot) ≡ true → has_overfull k left right ≡ true
-  overfull_at slot lt large = any_from_among (is_overfull k left right) k.ext.sets (numbers_at k.ext slot) (slot_among k slot lt) large
-
   pub overfull_nowhere : ((slot : ℕ) → slot < length k.ext.sets → is_overfull k left right (numbers_at k.ext slot) ≡ false) → has_overfull k left right ≡ false
   overfull_nowhere none = false_from_ne_true (has_overfull k left right) (λ h. let found = at_slot h in both_ways (is_overfull k left right (numbers_at k.ext found.0)) (none found.0 found.1) found.2)
 
@@ -69,7 +66,7 @@ module _ (k : Kept) (sound : AreSound k) (right : List ℕ) (number : ℕ) (is_r
   wide ns = widened_numbers k right ns
 
   -- the numbers of all that the right word entails
-  pub ups_numbers : Numbers k.dict (entails_number k right) ups
+  ups_numbers : Numbers k.dict (entails_number k right) ups
   ups_numbers = record {
     numbered = λ w m. let found = up_has_number k sound number right w is_right m in (found.0, found.1, of_one ups (word_of k.dict found.0) w found.1 m);
     worded = λ n w is passes. let found = one_of ups (word_of k.dict n) passes in subst (λ v. Among ups v) (same_Some found.0 w (sym found.1 ∙ is)) found.2;

@@ -32,7 +32,7 @@ use Rattle.lis_store.proofs.Overfull.{set_among, overfull_told}
 use Rattle.lis_store.proofs.Points.{length-with_more}
 
 -- a declared word has a number
-pub declared_numbered : (k : Kept) (word : List ℕ) → is_declared k word ≡ true → (n : ℕ) × (number_of k.dict word ≡ Some n)
+declared_numbered : (k : Kept) (word : List ℕ) → is_declared k word ≡ true → (n : ℕ) × (number_of k.dict word ≡ Some n)
 declared_numbered k word declared = by (number_of k.dict word) refl
   where
     by : (o : Option ℕ) → number_of k.dict word ≡ o → (n : ℕ) × (number_of k.dict word ≡ Some n)
@@ -159,7 +159,7 @@ module _ (k : Stored) (at : ℕ → List ℕ) (now : Situation) (sound : IsSound
       let found = declared_numbered p right declared in
       overfull_told p sound.parts right found.0 (word_from_number p.dict sound.parts.dict right found.0 found.1) at s sound.free tells left
 
-  pub same_row : first_refusal (axiom_checks_of p left right) ≡ first_refusal (axiom_checks s pair made)
+  same_row : first_refusal (axiom_checks_of p left right) ≡ first_refusal (axiom_checks s pair made)
   same_row =
       same_first (axiom_checks_of p left right) (axiom_checks s pair made) (
         refl,

@@ -98,9 +98,7 @@ fn leads(parts: &Parts, number: u16, word: &Word, other: &Word) -> bool
     let Some(to) = parts.number_of(other) else {
         return false;
     };
-    parts
-        .taxonomy()
-        .entails(u32::from(number), u32::from(to))
+    parts.taxonomy().entails(u32::from(number), u32::from(to))
 }
 
 // How many numbers a word still needs.
@@ -156,14 +154,7 @@ fn widened_count(parts: &Parts, slot: u32, number: u16, word: &Word) -> u32
 }
 
 // Whether the description in a slot has the left word and would have more words than it may.
-fn is_overfull(
-    parts: &Parts,
-    slot: u32,
-    left: &Word,
-    from: u16,
-    right: &Word,
-    number: u16,
-) -> bool
+fn is_overfull(parts: &Parts, slot: u32, left: &Word, from: u16, right: &Word, number: u16) -> bool
     requires sound { AreSound parts.now }
     requires slot { slot < parts.now.limits.files }
     requires left { number_of parts.now.dict left.now ≡ Some from }

@@ -18,4 +18,4 @@ returns-in_err-number c =
 pub returns : goal.returns
 returns c =
     let k = c.args.parts.now in
-    record { row = judges_then (pair_checks k c.args.left.now c.args.right.now) (axiom_room_checks k c.args.left.now c.args.right.now) c.has_room.result c.in_ok-number.ensures.row c.has_room.ensures.row; }
+    record { row = judges_then (pair_checks k c.args.left.now c.args.right.now) (axiom_room_checks k c.args.left.now c.args.right.now) c.has_room.result c.in_ok-number.ensures.row c.has_room.ensures.row }
