@@ -318,7 +318,7 @@ module _ (place : List Formula) (words start mid : List (List ℕ)) (some : IsSo
       (next.room ∙ ap (λ (ws : List (List ℕ)). nat_le (length ws) 16) both, λ h. next.words h ∙ both)
 
 -- ---- assignable words
-has_declared : (k : Kept) (word : List ℕ) → has_word (declared_of k) word ≡ is_declared k word
+pub has_declared : (k : Kept) (word : List ℕ) → has_word (declared_of k) word ≡ is_declared k word
 has_declared k word =
     same_tests (has_word (declared_of k) word) (is_declared k word) (λ h. there_declared k word (among_from_has_word (declared_of k) word h))
     (λ h. has_word_from_among (declared_of k) word (declared_there k word h))

@@ -63,7 +63,7 @@ leaves_none k row shape = record {
 
 module _ (k : Kept) (sound : AreSound k) (t : Taxonomy) (tells : TellsLinks k t) where
   -- the edges tell what a word entails
-  entails_told : (n : ℕ) (p : List ℕ) → word_of k.dict n ≡ Some p → (m : ℕ) → entails t n m ≡ is_one_of (up (declared_of k) (axioms_of k) p) (word_of k.dict m)
+  pub entails_told : (n : ℕ) (p : List ℕ) → word_of k.dict n ≡ Some p → (m : ℕ) → entails t n m ≡ is_one_of (up (declared_of k) (axioms_of k) p) (word_of k.dict m)
   entails_told n p is m =
       same_tests (entails t n m) (is_one_of (up (declared_of k) (axioms_of k) p) (word_of k.dict m))
       (λ h.

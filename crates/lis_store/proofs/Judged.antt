@@ -1,5 +1,5 @@
 -- Rows of refusals that are judged, and commands that are refused.
-use Rattle.std.proofs.Common.{◌≡◌, ◌⊎◌, refl, sym, ap, ap₂, ◌∙◌, subst, Bool, true, false, cond, List, [], ◌∷◌, ◌++◌, Option, Some, None, Result, Err}
+use Rattle.std.proofs.Common.{◌≡◌, ◌⊎◌, refl, sym, ap, ap₂, ◌∙◌, subst, Bool, true, false, cond, List, [], ◌∷◌, ◌++◌, Option, Some, None, Result, Ok, Err}
 use Rattle.std.proofs.lemmas.Option.{same_Some}
 use Rattle.lis_ports.specs.Meaning.{Meaning}
 use Rattle.lis_ports.proofs.Moments.{leaves_none}
@@ -63,6 +63,11 @@ refused_then (check ∷ checks) others none = by (refused_then checks others) ch
 
 pub judges_refused : {T : Type 0} (checks : List (Bool × Refusal)) (result : Result T Refusal) (refusal : Refusal) → result ≡ Err refusal → first_refusal checks ≡ Some refusal → Judges checks result
 judges_refused checks result refusal ends first = subst (λ r. Judges checks r) (sym ends) first
+
+-- what a row says that comes behind one that refuses nothing
+pub judges_then : {T : Type 0} (checks others : List (Bool × Refusal)) (result : Result T Refusal) → first_refusal checks ≡ None → Judges others result → Judges (checks ++ others) result
+judges_then checks others (Ok done) none judges = refused_then checks others none ∙ judges
+judges_then checks others (Err refusal) none judges = refused_then checks others none ∙ judges
 
 -- ---- rows with the same refusals, of which each check is the same where none before it stands
 abbrev pub Alike : List (Bool × Refusal) → List (Bool × Refusal) → Type 0

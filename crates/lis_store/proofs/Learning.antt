@@ -94,10 +94,14 @@ module _ (p q : Kept) (more : List (List ℕ)) (learns : LearnsAll more p q) whe
       head (inl some) = or_left (is_some (number_of q.dict (head_bytes word))) (is_built_in (head_bytes word)) (number_stays (head_bytes word) some)
       head (inr own) = or_right (is_some (number_of q.dict (head_bytes word))) (is_built_in (head_bytes word)) own
 
-      by : (b : Bool) → cond b (is_some (number_of p.dict (head_bytes word)) || is_built_in (head_bytes word)) (is_some (number_of p.dict word)) ≡ true
-          → cond b (is_some (number_of q.dict (head_bytes word)) || is_built_in (head_bytes word)) (is_some (number_of q.dict word)) ≡ true
+      bare : (is_some (number_of p.dict word) ≡ true) ⊎ ((is_head word && is_built_in word) ≡ true) → (is_some (number_of q.dict word) || (is_head word && is_built_in word)) ≡ true
+      bare (inl some) = or_left (is_some (number_of q.dict word)) (is_head word && is_built_in word) (number_stays word some)
+      bare (inr own) = or_right (is_some (number_of q.dict word)) (is_head word && is_built_in word) own
+
+      by : (b : Bool) → cond b (is_some (number_of p.dict (head_bytes word)) || is_built_in (head_bytes word)) (is_some (number_of p.dict word) || (is_head word && is_built_in word)) ≡ true
+          → cond b (is_some (number_of q.dict (head_bytes word)) || is_built_in (head_bytes word)) (is_some (number_of q.dict word) || (is_head word && is_built_in word)) ≡ true
       by true h = head (or_cases (is_some (number_of p.dict (head_bytes word))) (is_built_in (head_bytes word)) h)
-      by false h = number_stays word h
+      by false h = bare (or_cases (is_some (number_of p.dict word)) (is_head word && is_built_in word) h)
 
   -- what is left of the room
   pub room_left : (others : List (List ℕ)) → HasWordRoom p (more ++ others) → HasWordRoom q others
@@ -121,11 +125,14 @@ built_in_is_undeclared word valued own =
     by (inr again) = absurd (both_ways (is_valued (head_bytes word)) (head_not_valued word) again)
 
 module _ (p : Kept) (word : List ℕ) (may : may_learn p word ≡ true) (room : HasWordRoom p (behind_head word)) where
-  may_valued : is_valued word ≡ true → (is_some (number_of p.dict (head_bytes word)) || is_built_in (head_bytes word)) ≡ true
-  may_valued valued = subst (λ b. cond b (is_some (number_of p.dict (head_bytes word)) || is_built_in (head_bytes word)) (is_some (number_of p.dict word)) ≡ true) valued may
+  abbrev by_form : Bool → Bool
+  by_form b = cond b (is_some (number_of p.dict (head_bytes word)) || is_built_in (head_bytes word)) (is_some (number_of p.dict word) || (is_head word && is_built_in word))
 
-  may_plain : is_valued word ≡ false → IsSome (number_of p.dict word)
-  may_plain plain = subst (λ b. cond b (is_some (number_of p.dict (head_bytes word)) || is_built_in (head_bytes word)) (is_some (number_of p.dict word)) ≡ true) plain may
+  may_valued : is_valued word ≡ true → (is_some (number_of p.dict (head_bytes word)) || is_built_in (head_bytes word)) ≡ true
+  may_valued valued = subst (λ b. by_form b ≡ true) valued may
+
+  may_bare : is_valued word ≡ false → (is_some (number_of p.dict word) || (is_head word && is_built_in word)) ≡ true
+  may_bare bare = subst (λ b. by_form b ≡ true) bare may
 
   heads_are : is_valued word ≡ true → heads word ≡ head_bytes word ∷ []
   heads_are valued = ap (λ b. cond b (head_bytes word ∷ []) []) valued
@@ -158,15 +165,16 @@ module _ (p : Kept) (word : List ℕ) (may : may_learn p word ≡ true) (room : 
       subst (λ (k : Kept). LearnsAll (heads word) p k) (sym same) (subst (λ hs. LearnsAll hs p p) (sym (no_heads plain)) (learns_none p))
 
   module _ (q : Kept) (learns : LearnsAll (heads word) p q) where
-    known_then : is_valued word ≡ false → IsSome (number_of q.dict word)
-    known_then plain = number_stays p q (heads word) learns word (may_plain plain)
-
     pub word_form : number_of q.dict word ≡ None → is_undeclared word ≡ true
     word_form none = by (is_valued word) refl
       where
+        side : (is_some (number_of p.dict word) ≡ true) ⊎ ((is_head word && is_built_in word) ≡ true) → is_undeclared word ≡ true
+        side (inl some) = absurd (both_ways (is_some (number_of q.dict word)) (ap is_some none) (number_stays p q (heads word) learns word some))
+        side (inr own) = or_right (is_valued word) (is_head word && is_built_in word) own
+
         by : (b : Bool) → is_valued word ≡ b → is_undeclared word ≡ true
         by true valued = or_left (is_valued word) (is_head word && is_built_in word) valued
-        by false plain = absurd (both_ways (is_some (number_of q.dict word)) (ap is_some none) (known_then plain))
+        by false bare = side (or_cases (is_some (number_of p.dict word)) (is_head word && is_built_in word) (may_bare bare))
 
     pub word_headed : is_valued word ≡ true → IsSome (number_of q.dict (head_bytes word))
     word_headed valued = number_learnt p q (heads word) learns (head_bytes word) (subst (λ hs. Among hs (head_bytes word)) (sym (heads_are valued)) (inl refl))

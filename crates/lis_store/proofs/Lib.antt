@@ -37,3 +37,11 @@ pub mod AddFile
 pub mod Sizes
 pub mod Counted
 pub mod Described
+pub mod Learnt
+pub mod RelatingIn
+pub mod Relates
+pub mod RelatesMarks
+pub mod AddAxiom
+pub mod RelatedNumbers
+pub mod Overfull
+pub mod Related

@@ -66,7 +66,7 @@ pub row_counted : (bits : ℕ) (f : ℕ → Bool) → count_by (λ (b : Bool). b
 unfolding row_of numbers_where
 row_counted bits f = count_map f (range_with_len 0 bits) ∙ sym (length-filter f (range_with_len 0 bits))
 
-numbers_apart : (props : ℕ) (test : ℕ → Bool) → AllApart (numbers_where props test)
+pub numbers_apart : (props : ℕ) (test : ℕ → Bool) → AllApart (numbers_where props test)
 unfolding numbers_where
 numbers_apart props test = sorted_apart nat_cmp nat_cmp_total (filter test (range_with_len 0 props)) (IsStrictlySortedBy-filter nat_cmp test (range_with_len 0 props) (sorted_range 0 props))
 
@@ -116,7 +116,7 @@ module _ (k : Kept) (sound : AreSound k) where
       let is : flat_map word_list (n ∷ ns) ≡ here.0 ∷ flat_map word_list ns = ap (λ o. option_to_list o ++ flat_map word_list ns) here.1 in
       (subst (λ (ws : List (List ℕ)). AllApart ws) (sym is) (new, rest.0), omega (arith, ap length is, rest.1))
 
-  told_counted : (ns : List ℕ) → AllApart ns → ((n : ℕ) → Among ns n → IsSome (word_of k.dict n)) → length (words_told k.dict ns) ≡ length ns
+  pub told_counted : (ns : List ℕ) → AllApart ns → ((n : ℕ) → Among ns n → IsSome (word_of k.dict n)) → length (words_told k.dict ns) ≡ length ns
   told_counted ns apart some =
       let once = told_once ns apart some in
       omega (arith, length-with_more word_cmp word_exact [] (flat_map word_list ns) once.0 (λ w m none. none), once.1)

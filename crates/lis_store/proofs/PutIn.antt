@@ -4,7 +4,7 @@ use Rattle.std.specs.List.{flat_map, list_all}
 use Rattle.std.specs.List.Sorted.{IsStrictlyIncreasing}
 use Rattle.std.specs.Ordering.{nat_cmp}
 use Rattle.std.specs.Cmp.{nat_cmp_total}
-use Rattle.std.proofs.lemmas.Bool.{and_parts, and_from, or_cases, or_right, both_ways, le-leb, lt-ltb}
+use Rattle.std.proofs.lemmas.Bool.{and_parts, and_from, or_cases, or_left, or_right, both_ways, le-leb, lt-ltb}
 use Rattle.std.proofs.lemmas.List.Sums.{fold-append}
 use Rattle.std.proofs.lemmas.Grind.{flat_map-append}
 use Rattle.std.proofs.lemmas.Map.Keys.{IsStrictlyIncreasing-from_sorted}
@@ -17,7 +17,7 @@ use Rattle.lis_dict.specs.Dict.{words, number_of, word_of}
 use Rattle.lis_ext.specs.Ext.{Ext, set_of as numbers_at}
 use Rattle.lis_content.specs.Content.{has_number}
 use Rattle.lis_fields.specs.Layouts.{are_short, are_tags}
-use Rattle.lis_words.specs.Words.{word_cmp, has_word, is_plain_word, is_valued, is_built_in, head_bytes}
+use Rattle.lis_words.specs.Words.{word_cmp, has_word, is_plain_word, is_valued, is_head, is_built_in, head_bytes}
 use Rattle.lis_model.specs.Sets.{with_word, with_words}
 use Rattle.lis_model.specs.Derived.{derived_words}
 use Rattle.lis_model.specs.State.{State, File, heads, up, all_up, is_assignable}
@@ -43,8 +43,11 @@ use Rattle.lis_store.proofs.Numbers.{sorted_where}
 use Rattle.lis_store.proofs.Told.{words_grow}
 
 -- ---- words that may be learnt
-declared_known : (k : Kept) (word : List ℕ) → has_word (declared_of k) word ≡ true → IsSome (number_of k.dict word)
+pub declared_known : (k : Kept) (word : List ℕ) → has_word (declared_of k) word ≡ true → IsSome (number_of k.dict word)
 declared_known k word h = number_there k.dict word (among_filter (is_declared k) (words k.dict) word (among_from_has_word (declared_of k) word h)).0
+
+abbrev pub may_by : Kept → List ℕ → Bool → Bool
+may_by k word b = cond b (is_some (number_of k.dict (head_bytes word)) || is_built_in (head_bytes word)) (is_some (number_of k.dict word) || (is_head word && is_built_in word))
 
 assignable_may : (k : Kept) (word : List ℕ) → is_assignable (declared_of k) word ≡ true → may_learn k word ≡ true
 assignable_may k word h = by (or_cases (is_plain_word word && has_word (declared_of k) word) (is_valued word && has_word (declared_of k) (head_bytes word)) h)
@@ -52,15 +55,15 @@ assignable_may k word h = by (or_cases (is_plain_word word && has_word (declared
     by : ((is_plain_word word && has_word (declared_of k) word) ≡ true) ⊎ ((is_valued word && has_word (declared_of k) (head_bytes word)) ≡ true) → may_learn k word ≡ true
     by (inl both) =
         let parts = and_parts (is_plain_word word) (has_word (declared_of k) word) both in
-        ap (λ b. cond b (is_some (number_of k.dict (head_bytes word)) || is_built_in (head_bytes word)) (is_some (number_of k.dict word))) (plain_not_valued word parts.0) ∙ declared_known k word parts.1
+        ap (may_by k word) (plain_not_valued word parts.0) ∙ or_left (is_some (number_of k.dict word)) (is_head word && is_built_in word) (declared_known k word parts.1)
     by (inr both) =
         let parts = and_parts (is_valued word) (has_word (declared_of k) (head_bytes word)) both in
-        ap (λ b. cond b (is_some (number_of k.dict (head_bytes word)) || is_built_in (head_bytes word)) (is_some (number_of k.dict word))) parts.0 ∙ ap (λ b. b || is_built_in (head_bytes word)) (declared_known k (head_bytes word) parts.1)
+        ap (may_by k word) parts.0 ∙ ap (λ b. b || is_built_in (head_bytes word)) (declared_known k (head_bytes word) parts.1)
 
 built_may : (k : Kept) (word : List ℕ) → is_built_value word ≡ true → may_learn k word ≡ true
 built_may k word h =
     let parts = and_parts (is_valued word) (is_built_in (head_bytes word)) h in
-    ap (λ b. cond b (is_some (number_of k.dict (head_bytes word)) || is_built_in (head_bytes word)) (is_some (number_of k.dict word))) parts.0
+    ap (may_by k word) parts.0
     ∙ or_right (is_some (number_of k.dict (head_bytes word))) (is_built_in (head_bytes word)) parts.1
 
 pub derived_may : (k : Kept) (name bytes : List ℕ) → list_all (may_learn k) (derived_words name bytes) ≡ true

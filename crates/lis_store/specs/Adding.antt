@@ -1,10 +1,10 @@
 -- A file that comes into memory.
-use Rattle.std.specs.Prelude.{◌≡◌, ℕ, ◌≤◌, Bool, true, false, ◌||◌, if◌then◌else◌, Option, is_some, Some, None, List, [], ◌∷◌, ◌++◌, length, IsSome}
+use Rattle.std.specs.Prelude.{◌≡◌, ℕ, ◌≤◌, Bool, true, false, ◌&&◌, ◌||◌, if◌then◌else◌, Option, is_some, Some, None, List, [], ◌∷◌, ◌++◌, length, IsSome}
 use Rattle.std.specs.List.{flat_map}
 use Rattle.lis_journal.specs.Journal.{Held}
 use Rattle.lis_dict.specs.Dict.{Dict, words, number_of, word_of}
 use Rattle.lis_ext.specs.Numbers.{numbers_where}
-use Rattle.lis_words.specs.Words.{has_word, is_valued, head_bytes, is_built_in}
+use Rattle.lis_words.specs.Words.{has_word, is_valued, head_bytes, is_head, is_built_in}
 use Rattle.lis_model.specs.Sets.{with_words}
 use Rattle.lis_model.specs.Derived.{derived_words}
 use Rattle.lis_model.specs.State.{File, heads}
@@ -35,10 +35,11 @@ behind_head word = heads word ++ word ∷ []
 abbrev pub with_heads : List (List ℕ) → List (List ℕ)
 with_heads words = flat_map behind_head words
 
--- a valued word whose head has a number or is built in, or another word that has a number
+-- a valued word whose head has a number or is built in, or another word that has a number or is a built-in head
 abbrev pub may_learn : Kept → List ℕ → Bool
 may_learn k word =
-    if is_valued word then is_some (number_of k.dict (head_bytes word)) || is_built_in (head_bytes word) else is_some (number_of k.dict word)
+    if is_valued word then is_some (number_of k.dict (head_bytes word)) || is_built_in (head_bytes word)
+    else is_some (number_of k.dict word) || (is_head word && is_built_in word)
 
 -- with these words there are no more than there is room for
 abbrev pub HasWordRoom : Kept → List (List ℕ) → Type 0

@@ -13,3 +13,5 @@ pub mod Removing
 pub mod Replacing
 pub mod Adding
 pub mod Counting
+pub mod Relating
+pub mod RelatingIn

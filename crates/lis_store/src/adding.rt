@@ -34,8 +34,8 @@ fn learn_head(parts: &mut Parts, word: &Word)
     }
 }
 
-// Gives a word a number if it has none, and its head before.
-fn learn_word(parts: &mut Parts, word: &Word)
+/// Gives a word a number if it has none, and its head before.
+pub(crate) fn learn_word(parts: &mut Parts, word: &Word)
     requires form { IsTrue (may_learn parts.old word.now) }
     requires room { HasWordRoom parts.old (behind_head word.now) }
     ensures { LearnsAll (behind_head word.now) parts.old parts.new }

@@ -13,6 +13,8 @@ mod describing;
 mod judging;
 pub mod laws;
 mod looking;
+mod relating;
+mod relating_in;
 mod removing;
 mod saving;
 mod store;

@@ -1,0 +1,130 @@
+-- What is kept once words are learnt.
+use Rattle.std.proofs.Common.{◌≡◌, ◌⊎◌, refl, sym, ap, ap₂, ◌∙◌, subst, inl, inr, ℕ, ◌||◌, Bool, true, List, Option, Some, None, IsSome}
+use Rattle.std.specs.List.{list_any, Contains}
+use Rattle.std.proofs.lemmas.Bool.{and_parts, or_cases, or_left, or_right}
+use Rattle.lis_graph.proofs.Members.{Among, among_from_contains, among_from_any, any_from_among}
+use Rattle.lis_blockmap.specs.Bitmap.{is_taken}
+use Rattle.lis_dict.specs.Dict.{words, number_of, word_of}
+use Rattle.lis_dict.proofs.Laws.{word_from_number}
+use Rattle.lis_catalog.specs.Catalog.{Filed}
+use Rattle.lis_ext.specs.Ext.{has as number_has, set_of as numbers_at}
+use Rattle.lis_fields.specs.declared.slots.AxiomSlot.{AxiomSlot}
+use Rattle.lis_fields.specs.declared.slots.AxiomSlot.TheVariants.{Free as FreeAxiom, Pair}
+use Rattle.lis_words.specs.Words.{same_word, is_valued, head_bytes}
+use Rattle.lis_model.specs.State.{State, description}
+use Rattle.lis_laws.proofs.Members.{same_word_decides, among_with_words}
+use Rattle.lis_kept.specs.Kept.{Kept}
+use Rattle.lis_kept.specs.Links.{is_linked, has_pair}
+use Rattle.lis_kept.specs.Sound.{AreSound, FreeSlotsAreEmpty}
+use Rattle.lis_kept.specs.Telling.{words_told, file_told, state_of, is_left_of, is_left_head_of, is_head_by, is_had, is_named_left, is_used}
+use Rattle.lis_kept.proofs.Filing.{number_from_among}
+use Rattle.lis_kept.proofs.Formed.{some_word}
+use Rattle.lis_kept.proofs.Known.{some_number, one_number, word_known, known_word}
+use Rattle.lis_kept.proofs.OwnLinks.{own_link_is}
+use Rattle.lis_store.specs.Stored.{AreClosed}
+use Rattle.lis_store.specs.Adding.{LearnsAll}
+use Rattle.lis_store.proofs.Removed.{same_map}
+use Rattle.lis_store.proofs.Told.{words_same}
+
+module _ (p q : Kept) (more : List (List ℕ)) (learns : LearnsAll more p q) (sound : AreSound p) where
+  abbrev made : Kept
+  made = record p { dict = q.dict; marks = q.marks }
+
+  pub word_stays : (n : ℕ) → IsSome (word_of p.dict n) → word_of q.dict n ≡ word_of p.dict n
+  word_stays n some = let found = some_word (word_of p.dict n) some in learns.keeps n found.0 found.1 ∙ sym found.1
+
+  -- ---- what is in use stays in use
+  head_stays : (a b : ℕ) → is_head_by (word_of p.dict a) (word_of p.dict b) ≡ true → is_head_by (word_of q.dict a) (word_of q.dict b) ≡ true
+  head_stays a b h = by (word_of p.dict a) (word_of p.dict b) refl refl h
+    where
+      by : (x y : Option (List ℕ)) → word_of p.dict a ≡ x → word_of p.dict b ≡ y → is_head_by x y ≡ true → is_head_by (word_of q.dict a) (word_of q.dict b) ≡ true
+      by None y is_x is_y head = absurd cc
+      by (Some w) None is_x is_y head = absurd cc
+      by (Some w) (Some v) is_x is_y head = ap₂ is_head_by (learns.keeps a w is_x) (learns.keeps b v is_y) ∙ head
+
+  left_stays : (n : ℕ) → is_named_left p n ≡ true → is_named_left made n ≡ true
+  left_stays n left = by (or_cases (list_any (is_left_of n) p.axioms) (list_any (is_left_head_of p.dict n) p.axioms) left)
+    where
+      head : (a : AxiomSlot) → is_left_head_of p.dict n a ≡ true → is_left_head_of q.dict n a ≡ true
+      head FreeAxiom h = h
+      head (Pair a b) h = head_stays a n h
+
+      by : (list_any (is_left_of n) p.axioms ≡ true) ⊎ (list_any (is_left_head_of p.dict n) p.axioms ≡ true) → is_named_left made n ≡ true
+      by (inl some) = or_left (list_any (is_left_of n) p.axioms) (list_any (is_left_head_of q.dict n) p.axioms) some
+      by (inr some) =
+          let found = among_from_any (is_left_head_of p.dict n) p.axioms some in
+          or_right (list_any (is_left_of n) p.axioms) (list_any (is_left_head_of q.dict n) p.axioms)
+          (any_from_among (is_left_head_of q.dict n) p.axioms found.0 found.1 (head found.0 found.2))
+
+  pub used_learnt : (n : ℕ) → is_used p n ≡ true → is_used q n ≡ true
+  used_learnt n used = subst (λ (k : Kept). is_used k n ≡ true) (sym learns.parts) (by (or_cases (is_taken p.declared n || is_had p.ext n) (is_named_left p n) used))
+    where
+      by : ((is_taken p.declared n || is_had p.ext n) ≡ true) ⊎ (is_named_left p n ≡ true) → is_used made n ≡ true
+      by (inl either) = or_left (is_taken p.declared n || is_had p.ext n) (is_named_left made n) either
+      by (inr left) = or_right (is_taken p.declared n || is_had p.ext n) (is_named_left made n) (left_stays n left)
+
+  -- ---- files
+  pub free_learnt : FreeSlotsAreEmpty p → FreeSlotsAreEmpty q
+  free_learnt free = subst (λ (k : Kept). FreeSlotsAreEmpty k) (sym learns.parts) free
+
+  pub file_learnt : (at : ℕ → List ℕ) (f : Filed) → Among p.catalog.entries f → file_told p.limits q.dict at f ≡ file_told p.limits p.dict at f
+  file_learnt at f m =
+      let states : state_of made at ≡ state_of p at = ap (λ (k : Kept). state_of k at) (sym learns.parts) ∙ learns.state at in
+      same_map (file_told p.limits q.dict at) (file_told p.limits p.dict at) p.catalog.entries (ap (λ (s : State). s.files) states) f m
+
+  pub described_learnt : (at : ℕ → List ℕ) (s : State) → state_of p at ≡ s
+      → ((f : Filed) → Contains p.catalog.entries f → words_told p.dict (numbers_at p.ext f.slot) ≡ description s (file_told p.limits p.dict at f))
+      → (f : Filed) → Contains p.catalog.entries f → words_told q.dict (numbers_at q.ext f.slot) ≡ description (state_of q at) (file_told q.limits q.dict at f)
+  described_learnt at s told described f m =
+      let ns = numbers_at p.ext f.slot in
+      let states : state_of q at ≡ s = learns.state at ∙ told in
+      let here : words_told q.dict ns ≡ description (state_of q at) (file_told p.limits q.dict at f) =
+      words_same p.dict q.dict ns (λ n has_it. word_stays n (sound.named n f.slot (number_from_among ns n has_it)))
+      ∙ (described f m ∙ ap₂ (λ (x : State) (file : _). description x file) (sym states) (sym (file_learnt at f (among_from_contains p.catalog.entries f m)))) in
+      subst (λ (k : Kept). words_told q.dict (numbers_at k.ext f.slot) ≡ description (state_of q at) (file_told k.limits q.dict at f)) (sym learns.parts) here
+
+  module _ (after : AreSound q) where
+    -- a word is one that was known, or one that is learnt
+    pub word_before : (n : ℕ) (word : List ℕ) → word_of q.dict n ≡ Some word → (word_of p.dict n ≡ Some word) ⊎ Among more word
+    word_before n word is = by (among_with_words (words p.dict) more word (subst (λ ws. Among ws word) learns.words (word_known q after n word is)))
+      where
+        by : Among (words p.dict) word ⊎ Among more word → (word_of p.dict n ≡ Some word) ⊎ Among more word
+        by (inl m) =
+            let known = known_word p sound word m in
+            inl (subst (λ k. word_of p.dict k ≡ Some word) (one_number q after known.0 n word (learns.keeps known.0 word known.1) is) known.1)
+        by (inr m) = inr m
+
+    -- ---- links
+    link_before : (a b : ℕ) → IsSome (word_of p.dict a) → is_linked q a b ≡ true → is_linked p a b ≡ true
+    link_before a b some linked = by (or_cases (is_head_by (word_of q.dict a) (word_of q.dict b)) (has_pair p.axioms a b) in_made)
+      where
+        in_made : (is_head_by (word_of q.dict a) (word_of q.dict b) || has_pair p.axioms a b) ≡ true
+        in_made =
+            ap₂ (λ (t : Bool) (xs : List AxiomSlot). t || has_pair xs a b) (sym (own_link_is q after.dict a b)) (ap (λ (k : Kept). k.axioms) (sym learns.parts)) ∙ linked
+
+        head_before : (w v : List ℕ) → word_of p.dict a ≡ Some w → word_of q.dict b ≡ Some v → is_head_by (Some w) (Some v) ≡ true → is_head_by (word_of p.dict a) (word_of p.dict b) ≡ true
+        head_before w v is_w is_v head =
+            let both = and_parts (is_valued w) (same_word (head_bytes w) v) head in
+            let same = (same_word_decides (head_bytes w) v).0 both.1 in
+            let number = some_number (number_of p.dict (head_bytes w)) (sound.heads a w is_w both.0) in
+            let was : word_of p.dict number.0 ≡ Some v = word_from_number p.dict sound.dict (head_bytes w) number.0 number.1 ∙ ap Some same in
+            let here = one_number q after number.0 b v (learns.keeps number.0 v was) is_v in
+            ap₂ is_head_by is_w (subst (λ k. word_of p.dict k ≡ Some v) here was) ∙ head
+
+        heads_before : (x y : Option (List ℕ)) → word_of p.dict a ≡ x → word_of q.dict b ≡ y → is_head_by x y ≡ true → is_head_by (word_of p.dict a) (word_of p.dict b) ≡ true
+        heads_before None y is_x is_y h = absurd cc
+        heads_before (Some w) None is_x is_y h = absurd cc
+        heads_before (Some w) (Some v) is_x is_y h = head_before w v is_x is_y h
+
+        by : (is_head_by (word_of q.dict a) (word_of q.dict b) ≡ true) ⊎ (has_pair p.axioms a b ≡ true) → is_linked p a b ≡ true
+        by (inl head) =
+            subst (λ t. (t || has_pair p.axioms a b) ≡ true) (sym (own_link_is p sound.dict a b))
+            (or_left (is_head_by (word_of p.dict a) (word_of p.dict b)) (has_pair p.axioms a b)
+            (heads_before (word_of p.dict a) (word_of q.dict b) refl refl (subst (λ o. is_head_by o (word_of q.dict b) ≡ true) (word_stays a some) head)))
+        by (inr pair) = or_right _ (has_pair p.axioms a b) pair
+
+    pub closed_learnt : AreClosed p → AreClosed q
+    closed_learnt closed slot a b h linked =
+        let ext = ap (λ (k : Kept). k.ext) learns.parts in
+        let was = ap (λ e. number_has e a slot) (sym ext) ∙ h in
+        ap (λ e. number_has e b slot) ext ∙ closed slot a b was (link_before a b (sound.named a slot was) linked)

@@ -1,0 +1,11 @@
+use Rattle.std.proofs.Common.{◌&&◌, ◌∙◌, sym, ap}
+use Rattle.lis_words.specs.Words.{has_word}
+use Rattle.lis_kept.specs.Telling.{declared_of}
+use Rattle.lis_store.proofs.Assigned.{has_declared}
+use Rattle.lis_store.proofs.relating.is_named.Goals as goal
+
+pub returns : goal.returns
+returns c =
+    let k = c.args.parts.now in
+    let w = c.args.word.now in
+    c.is_declared.ensures ∙ (sym (has_declared k w) ∙ ap (λ b. b && has_word (declared_of k) w) (sym c.if-not-is_plain_or_test.false ∙ c.is_plain_or_test.ensures))

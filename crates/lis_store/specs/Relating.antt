@@ -1,0 +1,74 @@
+-- What refuses a new axiom, told by what a store keeps.
+use Rattle.std.specs.Prelude.{◌≡◌, ℕ, ◌+◌, ◌<◌, ◌≤◌, nat_lt, Bool, true, false, not, ◌&&◌, ◌||◌, Option, Some, None, List, [], ◌∷◌, ◌++◌, length, count_by, IsTrue, IsSome}
+use Rattle.std.specs.List.{list_any}
+use Rattle.lis_dict.specs.Dict.{words, number_of, word_of}
+use Rattle.lis_ext.specs.Ext.{has, set_of}
+use Rattle.lis_ext.specs.Numbers.{has_number, numbers_where}
+use Rattle.lis_words.specs.Words.{has_word, is_plain_word}
+use Rattle.lis_model.specs.declared.refusal.Refusal.{Refusal}
+use Rattle.lis_model.specs.declared.refusal.Refusal.TheVariants.{NotAssignable, UnknownProperty, AxiomThere, Cycle, NoAxiomRoom, NoPropertyRoom, LargeDescription}
+use Rattle.lis_model.specs.Sets.{with_words}
+use Rattle.lis_model.specs.State.{up, is_nameable}
+use Rattle.lis_model.specs.Changes.{has_axiom}
+use Rattle.lis_kept.specs.Kept.{Kept}
+use Rattle.lis_kept.specs.Linking.{is_filled}
+use Rattle.lis_kept.specs.Telling.{is_declared, declared_of, axioms_of}
+use Rattle.lis_store.specs.Adding.{is_one_of, behind_head}
+
+-- the first word entails the second one
+abbrev pub entails_word : Kept → List ℕ → List ℕ → Bool
+entails_word k word other = has_word (up (declared_of k) (axioms_of k) word) other
+
+-- the number is that of a word that this one entails
+abbrev pub entails_number : Kept → List ℕ → ℕ → Bool
+entails_number k word n = is_one_of (up (declared_of k) (axioms_of k) word) (word_of k.dict n)
+
+-- these numbers with those of all that a word entails, in rising order
+abbrev pub widened_numbers : Kept → List ℕ → List ℕ → List ℕ
+widened_numbers k word numbers = numbers_where k.ext.props (λ n. has_number numbers n || entails_number k word n)
+
+-- there is a number, and it is one of these
+abbrev pub is_number_of : List ℕ → Option ℕ → Bool
+is_number_of numbers None = false
+is_number_of numbers (Some n) = has_number numbers n
+
+-- a description that has the left word would have more words than it may
+abbrev pub is_overfull : Kept → List ℕ → List ℕ → List ℕ → Bool
+is_overfull k left right numbers = is_number_of numbers (number_of k.dict left) && nat_lt 128 (length (widened_numbers k right numbers))
+
+abbrev pub has_overfull : Kept → List ℕ → List ℕ → Bool
+has_overfull k left right = list_any (is_overfull k left right) k.ext.sets
+
+-- what the two words are refused for
+abbrev pub pair_checks : Kept → List ℕ → List ℕ → List (Bool × Refusal)
+pair_checks k left right =
+    (not (is_plain_word right), NotAssignable)
+    ∷ (not (is_declared k right && is_nameable (declared_of k) left), UnknownProperty)
+    ∷ (has_axiom (axioms_of k) (left, right), AxiomThere)
+    ∷ (entails_word k right left, Cycle)
+    ∷ []
+
+-- whether there is room for the axiom, and for what descriptions gain by it
+abbrev pub axiom_room_checks : Kept → List ℕ → List ℕ → List (Bool × Refusal)
+axiom_room_checks k left right =
+    (nat_lt k.limits.props (count_by is_filled k.axioms + 1), NoAxiomRoom)
+    ∷ (nat_lt k.limits.props (length (with_words (words k.dict) (behind_head left))), NoPropertyRoom)
+    ∷ (has_overfull k left right, LargeDescription)
+    ∷ []
+
+-- the row of `axiom`
+abbrev pub axiom_checks_of : Kept → List ℕ → List ℕ → List (Bool × Refusal)
+axiom_checks_of k left right = pair_checks k left right ++ axiom_room_checks k left right
+
+-- A new axiom that a row of no refusal lets in.
+pub record MayRelate (k : Kept) (left right : List ℕ) : Type 0 where
+  pub plain : IsTrue (is_plain_word right)
+  pub declared : is_declared k right ≡ true
+  pub numbered : IsSome (number_of k.dict right)
+  pub nameable : IsTrue (is_nameable (declared_of k) left)
+  pub new : has_axiom (axioms_of k) (left, right) ≡ false
+  pub no_circle : has_word (up (declared_of k) (axioms_of k) right) left ≡ false
+  pub slots : count_by is_filled k.axioms < k.limits.props
+  pub room : length (with_words (words k.dict) (behind_head left)) ≤ k.limits.props
+  -- no description that has the left word gets too large
+  pub short : (n slot : ℕ) → number_of k.dict left ≡ Some n → has k.ext n slot ≡ true → length (widened_numbers k right (set_of k.ext slot)) ≤ 128

@@ -1,0 +1,24 @@
+-- An axiom that comes into memory.
+use Rattle.std.specs.Prelude.{◌≡◌, ℕ, ◌<◌, Bool, Some, List}
+use Rattle.lis_dict.specs.Dict.{number_of}
+use Rattle.lis_kept.specs.Kept.{Kept}
+use Rattle.lis_kept.specs.Sound.{AreSound}
+use Rattle.lis_kept.specs.Linking.{Links}
+use Rattle.lis_kept.specs.Widening.{Widens}
+use Rattle.lis_store.specs.Adding.{behind_head, LearnsAll}
+use Rattle.lis_store.specs.Relating.{entails_number}
+
+-- The left word is learnt, then linked to the right one, and each file that has it gets the numbers of all that the right word entails.
+pub record RelatesIn (left right : List ℕ) (p q : Kept) : Type 0 where
+  pub learnt : Kept
+  pub learns : LearnsAll (behind_head left) p learnt
+  pub sound : AreSound learnt
+  pub from : ℕ
+  pub is_left : number_of learnt.dict left ≡ Some from
+  pub to : ℕ
+  pub is_right : number_of learnt.dict right ≡ Some to
+  pub linked : Kept
+  pub links : Links from to learnt linked
+  pub entailed : ℕ → Bool
+  pub bits : (n : ℕ) → n < learnt.limits.props → entailed n ≡ entails_number learnt right n
+  pub widens : Widens from entailed linked q

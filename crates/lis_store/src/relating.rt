@@ -1,0 +1,236 @@
+//! What a new axiom is refused for.
+
+ghost use Rattle.std.specs.Prelude.{◌≡◌, ◌+◌, ◌<◌, ◌≤◌, ◌&&◌, ◌||◌, length, is_some, Some, IfOk, if◌then◌else◌};
+ghost use Rattle.lis_dict.specs.Dict.{words, number_of};
+ghost use Rattle.lis_ext.specs.Ext.{has, set_of};
+ghost use Rattle.lis_words.specs.Words.{has_word, is_plain_word, is_test, is_valued, head_bytes};
+ghost use Rattle.lis_model.specs.Sets.{with_words};
+ghost use Rattle.lis_model.specs.State.{is_known_head, is_nameable};
+ghost use Rattle.lis_model.specs.Changes.{has_axiom};
+ghost use Rattle.lis_kept.specs.Sound.{AreSound};
+ghost use Rattle.lis_kept.specs.Telling.{declared_of, axioms_of};
+ghost use Rattle.lis_store.specs.Adding.{behind_head};
+ghost use Rattle.lis_store.specs.Changes.{Judges};
+ghost use Rattle.lis_store.specs.Relating.{entails_word, entails_number, widened_numbers, is_overfull, has_overfull, pair_checks, axiom_room_checks, axiom_checks_of};
+
+use lis_kept::Parts;
+use lis_model::refusal::Refusal;
+use lis_words::{Word, head_of, is_builtin, is_head, is_plain_word, test_of};
+
+/// The most words of a description.
+const MAX_DESCRIPTION: u32 = 128;
+
+fn is_plain_or_test(word: &Word) -> bool
+    ensures { result ≡ (is_plain_word word.now || is_test word.now) }
+{
+    if is_plain_word(word.bytes()) {
+        return true;
+    }
+    test_of(word).is_some()
+}
+
+// Whether the word is a declared one that is plain or a test.
+fn is_named(parts: &Parts, word: &Word) -> bool
+    ensures { result ≡ ((is_plain_word word.now || is_test word.now) && has_word (declared_of parts.now) word.now) }
+{
+    if !is_plain_or_test(word) {
+        return false;
+    }
+    parts.is_declared(word)
+}
+
+// Whether the word is a head that is declared or built in.
+fn is_known_head(parts: &Parts, word: &Word) -> bool
+    ensures { result ≡ is_known_head (declared_of parts.now) word.now }
+{
+    if !is_head(word.bytes()) {
+        return false;
+    }
+    if parts.is_declared(word) {
+        return true;
+    }
+    is_builtin(word)
+}
+
+// Whether the word is valued, and its head is declared or built in.
+fn has_known_head(parts: &Parts, word: &Word) -> bool
+    ensures { result ≡ (is_valued word.now && is_known_head (declared_of parts.now) (head_bytes word.now)) }
+{
+    match head_of(word) {
+        None => false,
+        Some(head) => is_known_head(parts, &head),
+    }
+}
+
+// Whether an axiom may have the word as its left side.
+fn is_nameable(parts: &Parts, word: &Word) -> bool
+    ensures { result ≡ is_nameable (declared_of parts.now) word.now }
+{
+    if is_named(parts, word) {
+        return true;
+    }
+    if is_known_head(parts, word) {
+        return true;
+    }
+    has_known_head(parts, word)
+}
+
+// Whether the axiom is there.
+fn is_related(parts: &Parts, left: &Word, right: &Word) -> bool
+    requires sound { AreSound parts.now }
+    ensures { result ≡ has_axiom (axioms_of parts.now) (left.now, right.now) }
+{
+    let Some(from) = parts.number_of(left) else {
+        return false;
+    };
+    let Some(to) = parts.number_of(right) else {
+        return false;
+    };
+    parts.has_axiom(from, to)
+}
+
+// Whether a word that has a number entails the other word.
+fn leads(parts: &Parts, number: u16, word: &Word, other: &Word) -> bool
+    requires sound { AreSound parts.now }
+    requires number { number_of parts.now.dict word.now ≡ Some number }
+    ensures { result ≡ entails_word parts.now word.now other.now }
+{
+    let Some(to) = parts.number_of(other) else {
+        return false;
+    };
+    parts.taxonomy().entails(u32::from(number), u32::from(to))
+}
+
+// How many numbers a word still needs.
+fn lacked(parts: &Parts, word: &Word) -> u32
+    ensures { result ≡ (if is_some (number_of parts.now.dict word.now) then 0 else 1) }
+{
+    match parts.number_of(word) {
+        None => 1,
+        Some(_) => 0,
+    }
+}
+
+// How many numbers a word and its head still need.
+fn lacked_with_head(parts: &Parts, word: &Word) -> u32
+    requires sound { AreSound parts.now }
+    ensures count { length (with_words (words parts.now.dict) (behind_head word.now)) ≡ length parts.now.dict.entries + result }
+    ensures few { result ≤ 2 }
+{
+    match head_of(word) {
+        None => lacked(parts, word),
+        Some(head) => lacked(parts, &head) + lacked(parts, word),
+    }
+}
+
+// Whether the description in a slot has a number, or a word entails the word of the number.
+fn would_have(parts: &Parts, slot: u32, number: u16, word: &Word, other: u32) -> bool
+    requires sound { AreSound parts.now }
+    requires slot { slot < parts.now.limits.files }
+    requires number { number_of parts.now.dict word.now ≡ Some number }
+    requires other { other < parts.now.limits.props }
+    ensures { result ≡ (has parts.now.ext other slot || entails_number parts.now word.now other) }
+{
+    if parts.ext().has(other, slot) {
+        return true;
+    }
+    parts.taxonomy().entails(u32::from(number), other)
+}
+
+// How many numbers the description in a slot would have with those of all that a word entails.
+fn widened_count(parts: &Parts, slot: u32, number: u16, word: &Word) -> u32
+    requires slot { slot < parts.now.limits.files }
+    requires number { number_of parts.now.dict word.now ≡ Some number }
+    ensures { result ≡ length (widened_numbers parts.now word.now (set_of parts.now.ext slot)) }
+{
+    let props = parts.limits().props;
+    let mut count = 0;
+    for other in 0..props {
+        if would_have(parts, slot, number, word, other) {
+            count += 1;
+        }
+    }
+    count
+}
+
+// Whether the description in a slot has the left word and would have more words than it may.
+fn is_overfull(parts: &Parts, slot: u32, left: &Word, from: u16, right: &Word, number: u16) -> bool
+    requires sound { AreSound parts.now }
+    requires slot { slot < parts.now.limits.files }
+    requires left { number_of parts.now.dict left.now ≡ Some from }
+    requires right { number_of parts.now.dict right.now ≡ Some number }
+    ensures { result ≡ is_overfull parts.now left.now right.now (set_of parts.now.ext slot) }
+{
+    if !parts.ext().has(u32::from(from), slot) {
+        return false;
+    }
+    widened_count(parts, slot, number, right) > MAX_DESCRIPTION
+}
+
+// Whether a description that has the left word would have more words than it may.
+fn has_overfull(parts: &Parts, left: &Word, right: &Word, number: u16) -> bool
+    requires { number_of parts.now.dict right.now ≡ Some number }
+    ensures { result ≡ has_overfull parts.now left.now right.now }
+{
+    let Some(from) = parts.number_of(left) else {
+        return false;
+    };
+    let files = parts.limits().files;
+    for slot in 0..files {
+        if is_overfull(parts, slot, left, from, right, number) {
+            return true;
+        }
+    }
+    false
+}
+
+// The number of the right word, or what the two words are refused for.
+fn may_pair(parts: &Parts, left: &Word, right: &Word) -> Result<u16, Refusal>
+    ensures row { Judges (pair_checks parts.now left.now right.now) result }
+    ensures number { IfOk result (λ number. number_of parts.now.dict right.now ≡ Some number) }
+{
+    // Only the limits tell that memory is in form.
+    let _limits = parts.limits();
+    if !is_plain_word(right.bytes()) {
+        return Err(Refusal::NotAssignable);
+    }
+    if !parts.is_declared(right) || !is_nameable(parts, left) {
+        return Err(Refusal::UnknownProperty);
+    }
+    if is_related(parts, left, right) {
+        return Err(Refusal::AxiomThere);
+    }
+    let Some(number) = parts.number_of(right) else {
+        unreachable!()
+    };
+    if leads(parts, number, right, left) {
+        return Err(Refusal::Cycle);
+    }
+    Ok(number)
+}
+
+// Whether there is room for an axiom between the two words.
+fn has_room(parts: &Parts, left: &Word, right: &Word, number: u16) -> Result<(), Refusal>
+    requires { number_of parts.now.dict right.now ≡ Some number }
+    ensures row { Judges (axiom_room_checks parts.now left.now right.now) result }
+{
+    let props = parts.limits().props;
+    if parts.axiom_count() >= props {
+        return Err(Refusal::NoAxiomRoom);
+    }
+    if parts.word_count() + lacked_with_head(parts, left) > props {
+        return Err(Refusal::NoPropertyRoom);
+    }
+    if has_overfull(parts, left, right, number) {
+        return Err(Refusal::LargeDescription);
+    }
+    Ok(())
+}
+
+/// What an axiom from the left word to the right one is refused for.
+pub(crate) fn may_relate(parts: &Parts, left: &Word, right: &Word) -> Result<(), Refusal>
+    ensures row { Judges (axiom_checks_of parts.now left.now right.now) result }
+{
+    let number = may_pair(parts, left, right)?;
+    has_room(parts, left, right, number)
+}
