@@ -11,6 +11,7 @@ mod derived;
 mod describing;
 mod judging;
 pub mod laws;
+mod lessening;
 mod looking;
 mod removing;
 mod saving;
