@@ -8,7 +8,7 @@ use Rattle.lis_catalog.specs.Catalog.{rec_at}
 use Rattle.lis_ext.specs.Ext.{has, set_of as numbers_at}
 use Rattle.lis_ext.specs.Numbers.{differs, numbers_where}
 use Rattle.lis_fields.specs.Records.{FileRecord}
-use Rattle.lis_words.specs.Words.{has_word, is_plain_word}
+use Rattle.lis_words.specs.Words.{is_plain_word}
 use Rattle.lis_model.specs.State.{up}
 use Rattle.lis_model.specs.Changes.{has_axiom}
 use Rattle.lis_kept.specs.Kept.{Kept}
@@ -20,6 +20,7 @@ use Rattle.lis_kept.specs.Telling.{declared_of, axioms_of}
 use Rattle.lis_kept.specs.Links.{has_pair}
 use Rattle.lis_kept.specs.Linking.{Unlinks}
 use Rattle.lis_kept.specs.Changes.{Describes, Forgets}
+use Rattle.lis_store.specs.Adding.{is_one_of}
 
 -- ---- the axiom
 -- it is kept; only plain words are right sides
@@ -36,8 +37,7 @@ pub record IsAxiomAt (k : Kept) (l r : List ℕ) (left right : ℕ) : Type 0 whe
 -- ---- descriptions
 abbrev pub entails_by : Kept → Option (List ℕ) → Option (List ℕ) → Bool
 entails_by k None q = false
-entails_by k (Some p) None = false
-entails_by k (Some p) (Some q) = has_word (up (declared_of k) (axioms_of k) p) q
+entails_by k (Some p) q = is_one_of (up (declared_of k) (axioms_of k) p) q
 
 -- the word of the one number entails that of the other
 abbrev pub is_entailed : Kept → ℕ → ℕ → Bool
