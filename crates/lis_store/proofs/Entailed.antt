@@ -41,11 +41,11 @@ module _ (declared : List (List ℕ)) (axioms : List (List ℕ × List ℕ)) (o 
   ups_one word = one_of_set (up declared axioms word ++ []) o ∙ ap (λ ws. is_one_of ws o) (append-nil (up declared axioms word))
 
 -- ---- left out
-out_none : (a : Bool) → a ≡ (a && not false)
+pub out_none : (a : Bool) → a ≡ (a && not false)
 out_none true = refl
 out_none false = refl
 
-out_more : (a x y : Bool) → ((a && not x) && not y) ≡ (a && not (x || y))
+pub out_more : (a x y : Bool) → ((a && not x) && not y) ≡ (a && not (x || y))
 out_more true true y = refl
 out_more true false y = refl
 out_more false x y = refl
@@ -63,7 +63,7 @@ leaves_none k row shape = record {
 
 module _ (k : Kept) (sound : AreSound k) (t : Taxonomy) (tells : TellsLinks k t) where
   -- the edges tell what a word entails
-  entails_told : (n : ℕ) (p : List ℕ) → word_of k.dict n ≡ Some p → (m : ℕ) → entails t n m ≡ is_one_of (up (declared_of k) (axioms_of k) p) (word_of k.dict m)
+  pub entails_told : (n : ℕ) (p : List ℕ) → word_of k.dict n ≡ Some p → (m : ℕ) → entails t n m ≡ is_one_of (up (declared_of k) (axioms_of k) p) (word_of k.dict m)
   entails_told n p is m =
       same_tests (entails t n m) (is_one_of (up (declared_of k) (axioms_of k) p) (word_of k.dict m))
       (λ h.

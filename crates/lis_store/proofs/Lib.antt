@@ -37,3 +37,5 @@ pub mod AddFile
 pub mod Sizes
 pub mod LeftNumbers
 pub mod HeadsUsed
+pub mod LeftRows
+pub mod Lessening
