@@ -39,3 +39,4 @@ pub mod LeftNumbers
 pub mod HeadsUsed
 pub mod LeftRows
 pub mod Lessening
+pub mod AxiomGone
