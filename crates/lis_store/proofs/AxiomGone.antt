@@ -89,39 +89,42 @@ module _ (k m : Kept) (sound : AreSound k) (closed : AreClosed k) (left right : 
           lessens.others slot le ∙ sym (ap (λ b. if b then left_at k right slot else numbers_at k.ext slot) not_had)
 
   -- one that had the left number has what is left, and each other one is as before
-  pub set_by : (slot : ℕ) → ((has k.ext left slot ≡ true) × (numbers_at m.ext slot ≡ left_at k right slot)) ⊎ ((has k.ext left slot ≡ false) × (numbers_at m.ext slot ≡ numbers_at k.ext slot))
+  abbrev pub SetCases : ℕ → Type 0
+  SetCases slot = ((has k.ext left slot ≡ true) × (numbers_at m.ext slot ≡ left_at k right slot)) ⊎ ((has k.ext left slot ≡ false) × (numbers_at m.ext slot ≡ numbers_at k.ext slot))
+
+  pub set_by : (slot : ℕ) → SetCases slot
   set_by slot = by (has k.ext left slot) refl (set_then slot)
     where
       by : (b : Bool) → has k.ext left slot ≡ b → numbers_at m.ext slot ≡ (if b then left_at k right slot else numbers_at k.ext slot)
-          → ((has k.ext left slot ≡ true) × (numbers_at m.ext slot ≡ left_at k right slot)) ⊎ ((has k.ext left slot ≡ false) × (numbers_at m.ext slot ≡ numbers_at k.ext slot))
+          → SetCases slot
       by true had is = inl (had, is)
       by false none is = inr (none, is)
 
   pub had_back : (n slot : ℕ) → has m.ext n slot ≡ true → has k.ext n slot ≡ true
   had_back n slot had = by (set_by slot)
     where
-      by : ((has k.ext left slot ≡ true) × (numbers_at m.ext slot ≡ left_at k right slot)) ⊎ ((has k.ext left slot ≡ false) × (numbers_at m.ext slot ≡ numbers_at k.ext slot)) → has k.ext n slot ≡ true
+      by : SetCases slot → has k.ext n slot ≡ true
       by (inl some) = left_had k sound closed right slot n (ap (λ ns. has_number ns n) (sym some.1) ∙ had)
       by (inr same) = ap (λ ns. has_number ns n) (sym same.1) ∙ had
 
   pub had_on : (n slot : ℕ) → has k.ext n slot ≡ true → stays k right (tags_at k slot) n ≡ true → has m.ext n slot ≡ true
   had_on n slot had held = by (set_by slot)
     where
-      by : ((has k.ext left slot ≡ true) × (numbers_at m.ext slot ≡ left_at k right slot)) ⊎ ((has k.ext left slot ≡ false) × (numbers_at m.ext slot ≡ numbers_at k.ext slot)) → has m.ext n slot ≡ true
+      by : SetCases slot → has m.ext n slot ≡ true
       by (inl some) = ap (λ ns. has_number ns n) some.1 ∙ stays_left k sound closed right slot n had held
       by (inr same) = ap (λ ns. has_number ns n) same.1 ∙ had
 
   pub lost : (n slot : ℕ) → has k.ext n slot ≡ true → has m.ext n slot ≡ false → is_entailed k right n ≡ true
   lost n slot had none = by (set_by slot)
     where
-      by : ((has k.ext left slot ≡ true) × (numbers_at m.ext slot ≡ left_at k right slot)) ⊎ ((has k.ext left slot ≡ false) × (numbers_at m.ext slot ≡ numbers_at k.ext slot)) → is_entailed k right n ≡ true
+      by : SetCases slot → is_entailed k right n ≡ true
       by (inl some) = lost_led k sound closed right slot n had (ap (λ ns. has_number ns n) (sym some.1) ∙ none)
       by (inr same) = absurd (both_ways (has m.ext n slot) none (ap (λ ns. has_number ns n) same.1 ∙ had))
 
   pub closed_less : (slot a b : ℕ) → has m.ext a slot ≡ true → is_linked k a b ≡ true → has m.ext b slot ≡ true
   closed_less slot a b had linked = by (set_by slot)
     where
-      by : ((has k.ext left slot ≡ true) × (numbers_at m.ext slot ≡ left_at k right slot)) ⊎ ((has k.ext left slot ≡ false) × (numbers_at m.ext slot ≡ numbers_at k.ext slot)) → has m.ext b slot ≡ true
+      by : SetCases slot → has m.ext b slot ≡ true
       by (inl some) = ap (λ ns. has_number ns b) some.1 ∙ left_closed k sound closed right slot a b (ap (λ ns. has_number ns a) (sym some.1) ∙ had) linked
       by (inr same) = ap (λ ns. has_number ns b) same.1 ∙ closed slot a b (ap (λ ns. has_number ns a) (sym same.1) ∙ had) linked
 
@@ -133,7 +136,7 @@ module _ (k m : Kept) (sound : AreSound k) (closed : AreClosed k) (left right : 
   pub short_less : DescriptionsAreShort k → DescriptionsAreShort less
   short_less short slot = by (set_by slot)
     where
-      by : ((has k.ext left slot ≡ true) × (numbers_at m.ext slot ≡ left_at k right slot)) ⊎ ((has k.ext left slot ≡ false) × (numbers_at m.ext slot ≡ numbers_at k.ext slot)) → length (numbers_at m.ext slot) ≤ 128
+      by : SetCases slot → length (numbers_at m.ext slot) ≤ 128
       by (inl some) = omega (arith, ap length some.1, left_few k sound closed right slot, short slot)
       by (inr same) = omega (arith, ap length same.1, short slot)
 
@@ -187,18 +190,20 @@ module _ (left right : ℕ) (p k m : Kept) (sound_before : AreSound p) (used : A
 
   -- a known word that is not in use is the left one, or its head
   pub unused_is : (n : ℕ) → is_some (word_of p.dict n) ≡ true → is_used made n ≡ false → has_number (with_head p.dict left) n ≡ true
-  unused_is n some unused = by (or_cases (left == n) (is_head_by (word_of p.dict left) (word_of p.dict n) || is_used k n) (sym (unlinks.used n) ∙ used n some))
+  unused_is n some unused = by (or_cases ((left == n) || is_head_by (word_of p.dict left) (word_of p.dict n)) (is_used k n) (sym (unlinks.used n) ∙ used n some))
     where
-      head : (is_head_by (word_of p.dict left) (word_of p.dict n) ≡ true) ⊎ (is_used k n ≡ true) → has_number (heads_by p.dict (word_of p.dict left)) n ≡ true
-      head (inl is) = head_has p.dict sound_before.dict (word_of p.dict left) n is
-      head (inr still) =
+      head : is_head_by (word_of p.dict left) (word_of p.dict n) ≡ true → has_number (with_head p.dict left) n ≡ true
+      head is = or_right (left == n) (has_number (heads_by p.dict (word_of p.dict left)) n) (head_has p.dict sound_before.dict (word_of p.dict left) n is)
+
+      front : ((left == n) ≡ true) ⊎ (is_head_by (word_of p.dict left) (word_of p.dict n) ≡ true) → has_number (with_head p.dict left) n ≡ true
+      front (inl same) = or_left (left == n) (has_number (heads_by p.dict (word_of p.dict left)) n) same
+      front (inr is) = head is
+
+      by : (((left == n) || is_head_by (word_of p.dict left) (word_of p.dict n)) ≡ true) ⊎ (is_used k n ≡ true) → has_number (with_head p.dict left) n ≡ true
+      by (inl either) = front (or_cases (left == n) (is_head_by (word_of p.dict left) (word_of p.dict n)) either)
+      by (inr still) =
           absurd (both_ways (is_used made n) unused
           (used_on k m sound closed left right lessens (rights_unlinked left right p k unlinks rights) (right_flagged left right p k unlinks rights) n still))
-
-      by : ((left == n) ≡ true) ⊎ ((is_head_by (word_of p.dict left) (word_of p.dict n) || is_used k n) ≡ true) → has_number (with_head p.dict left) n ≡ true
-      by (inl same) = or_left (left == n) (has_number (heads_by p.dict (word_of p.dict left)) n) same
-      by (inr other) =
-          or_right (left == n) (has_number (heads_by p.dict (word_of p.dict left)) n) (head (or_cases (is_head_by (word_of p.dict left) (word_of p.dict n)) (is_used k n) other))
 
   pub gone_may_forget : TagsAreHad p → AreSound m → MayForget (with_head p.dict left) m
   gone_may_forget tags sound_then =

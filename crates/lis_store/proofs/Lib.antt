@@ -40,3 +40,4 @@ pub mod HeadsUsed
 pub mod LeftRows
 pub mod Lessening
 pub mod AxiomGone
+pub mod Unaxiomed

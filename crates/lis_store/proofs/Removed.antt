@@ -60,7 +60,7 @@ had_there (x ∷ xs) zero n h = or_left (has_number x n) (list_any (λ ns. has_n
 had_there (x ∷ xs) (suc at) n h = or_right (has_number x n) (list_any (λ ns. has_number ns n) xs) (had_there xs at n h)
 
 -- lists that are told the same are told so one by one
-same_map : {X Y : Type 0} (f g : X → Y) (xs : List X) → map f xs ≡ map g xs → (x : X) → Among xs x → f x ≡ g x
+pub same_map : {X Y : Type 0} (f g : X → Y) (xs : List X) → map f xs ≡ map g xs → (x : X) → Among xs x → f x ≡ g x
 same_map f g [] e x m = absurd m
 same_map f g (y ∷ ys) e x (inl same) = let first : f y ≡ g y = cc in subst (λ z. f z ≡ g z) same first
 same_map f g (y ∷ ys) e x (inr m) = let rest : map f ys ≡ map g ys = cc in same_map f g ys rest x m

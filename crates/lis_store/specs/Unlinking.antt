@@ -113,5 +113,5 @@ pub record TakesAxiom (left right : ℕ) (p q : Kept) : Type 0 where
   pub unlinks : Unlinks left right p unlinked
   pub sound : AreSound unlinked
   pub made : Kept
-  pub lessens : Lessens left right p.limits.files unlinked made
+  pub lessens : Lessens left right unlinked.limits.files unlinked made
   pub forgets : Forgets (with_head p.dict left) made q
