@@ -1,6 +1,11 @@
 -- What is left of a description, as the bits of a row.
-use Rattle.std.proofs.Common.{◌≡◌, refl, sym, ap, ap₂, ◌∙◌, ℕ, ◌<◌, ◌≤◌, not, ◌&&◌, ◌||◌, Bool, true, false, List, [], ◌∷◌, ◌++◌, length, Option, is_some, arith}
-use Rattle.std.proofs.lemmas.Bool.{and_from}
+use Rattle.std.proofs.Common.{◌≡◌, refl, sym, ap, ap₂, ◌∙◌, subst, ℕ, ◌+◌, ◌<◌, ◌≤◌, not, ◌&&◌, ◌||◌, Bool, true, false, List, [], ◌∷◌, ◌++◌, length, take, get_or, Option, is_some, arith}
+use Rattle.std.specs.List.{list_all}
+use Rattle.std.proofs.lemmas.List.{take_more}
+use Rattle.std.proofs.lemmas.List.Elements.{Contains-get_or}
+use Rattle.lis_graph.proofs.Members.{among_from_contains}
+use Rattle.lis_content.specs.Content.{has_number}
+use Rattle.lis_laws.proofs.Counts.{all_among}
 use Rattle.std.proofs.lemmas.List.Folds.{list_any-append}
 use Rattle.lis_bits.specs.Rows.{Rows, HasShape, get, with_row}
 use Rattle.lis_dict.specs.Dict.{word_of}
@@ -84,3 +89,38 @@ module _ (k : Kept) (right : ℕ) (tags numbers : List ℕ) (start full rest don
 
   pub done_numbers : numbers_where k.limits.props (get done 0) ≡ numbers_left k right tags numbers
   done_numbers = numbers_same k.limits.props (get done 0) (is_left k right tags numbers) bits_then
+
+-- ---- one number after another
+module _ (k : Kept) (sound : AreSound k) (t : Taxonomy) (tells : TellsLinks k t) (entailed : Rows) (tall : HasShape entailed t.props t.props)
+    (values : (p q : ℕ) → p < t.props → q < t.props → get entailed p q ≡ entails t p q) (right : ℕ) (right_named : is_some (word_of k.dict right) ≡ true)
+    (tags numbers : List ℕ) (named : list_all (λ n. is_some (word_of k.dict n)) numbers ≡ true) (i : ℕ) (lt : i < length numbers) where
+  abbrev number : ℕ
+  number = get_or numbers i 0
+
+  number_named : is_some (word_of k.dict number) ≡ true
+  number_named = all_among (λ n. is_some (word_of k.dict n)) numbers number named (among_from_contains numbers number (Contains-get_or numbers i 0 lt))
+
+  pub right_in : right < length entailed.rows
+  right_in = omega (arith, named_below k sound right right_named, tells.props, tall.tall)
+
+  pub number_in : number < entailed.bits
+  number_in = omega (arith, named_below k sound number number_named, tells.props, tall.wide)
+
+  pub number_row : number < length entailed.rows
+  number_row = omega (arith, named_below k sound number number_named, tells.props, tall.tall)
+
+  pub stays_told : (b : Bool) → b ≡ (has_number tags number || not (get entailed right number)) → b ≡ stays k right tags number
+  stays_told b is = is ∙ ap (λ c. has_number tags number || not c) (row_led k sound t tells entailed values right number right_named (named_below k sound number number_named))
+
+  more : take (i + 1) numbers ≡ take i numbers ++ number ∷ []
+  more = take_more numbers i 0 lt
+
+  module _ (old row : Rows) (leaves : LeavesLed k right tags (take i numbers) old row) (b : Bool) (is : b ≡ (has_number tags number || not (get entailed right number))) where
+    pub next_out : b ≡ true → (new : Rows) → new ≡ with_row row 0 (λ bit. get row 0 bit && not (get entailed number bit)) → LeavesLed k right tags (take (i + 1) numbers) old new
+    next_out held new new_is =
+        subst (λ ns. LeavesLed k right tags ns old new) (sym more)
+        (led_more k right tags (take i numbers) number old row leaves (sym (stays_told b is) ∙ held) entailed new
+        (λ n below. row_led k sound t tells entailed values number n number_named below) new_is)
+
+    pub next_same : b ≡ false → LeavesLed k right tags (take (i + 1) numbers) old row
+    next_same goes = subst (λ ns. LeavesLed k right tags ns old row) (sym more) (led_same k right tags (take i numbers) number old row leaves (sym (stays_told b is) ∙ goes))

@@ -38,6 +38,6 @@ pub mod Sizes
 pub mod LeftNumbers
 pub mod HeadsUsed
 pub mod LeftRows
-pub mod Lessening
+pub mod LessSlots
 pub mod AxiomGone
 pub mod Unaxiomed

@@ -2,8 +2,8 @@
 use Rattle.std.proofs.Common.{◌≡◌, ◌⊎◌, refl, sym, ap, ap₂, ◌∙◌, subst, inl, inr, ℕ, ◌+◌, ◌<◌, ◌≤◌, ◌==◌, not, ◌&&◌, ◌||◌, if◌then◌else◌, Bool, true, false, List, [], ◌∷◌, length, map, filter, sum, Option, Some, None, is_some, option_to_list, slice_set, replicate, arith, eq-eqb}
 use Rattle.std.specs.List.{range_with_len, Contains}
 use Rattle.std.specs.List.Sorted.{IsStrictlySortedBy}
-use Rattle.std.proofs.lemmas.Bool.{and_parts, and_from, or_cases, or_left, or_right, both_ways, not-true}
-use Rattle.std.proofs.lemmas.List.{length-map}
+use Rattle.std.proofs.lemmas.Bool.{and_parts, and_from, or_cases, or_left, or_right, both_ways, cases_lt, not-true}
+use Rattle.std.proofs.lemmas.List.{length-map, length-replicate, get_or-replicate, get_or_past}
 use Rattle.lis_graph.proofs.Members.{Among, among_from_contains, contains_from_among, among_filter, any_from_among, map_among}
 use Rattle.lis_graph.proofs.Sets.{sorted_from_rising}
 use Rattle.lis_journal.specs.Journal.{Held}
@@ -50,6 +50,13 @@ use Rattle.lis_store.proofs.LeftNumbers.{led, led_had, few_within, left_told}
 use Rattle.lis_store.proofs.Numbers.{sorted_where}
 use Rattle.lis_store.proofs.Removed.{same_map}
 use Rattle.lis_store.proofs.Told.{words_same}
+
+none_set : (n i : ℕ) → is_taken (replicate n false) i ≡ false
+none_set n i = by (cases_lt i n)
+  where
+    by : (i < n) ⊎ (n ≤ i) → is_taken (replicate n false) i ≡ false
+    by (inl lt) = get_or-replicate n i false false lt
+    by (inr past) = get_or_past (replicate n false) i false (omega (arith, length-replicate n false))
 
 heads_few : (d : Dict) (o : Option (List ℕ)) → length (heads_by d o) ≤ 1
 heads_few d None = omega arith
@@ -193,36 +200,36 @@ module _ (left right : ℕ) (p q : Kept) (takes : TakesAxiom left right p q) (j 
         subst (λ (u : Kept). (f : Filed) → Among u.catalog.entries f → words_told u.dict (numbers_at u.ext f.slot) ≡ description s (file_told u.limits u.dict at f)) (sym takes.unlinks.parts)
         (λ f m. tells.described f (contains_from_among p.catalog.entries f m))
 
+    abbrev file_of : Filed → File
+    file_of f = file_told k.limits k.dict at f
+
     described_k : (f : Filed) → Among k.catalog.entries f → words_told k.dict (numbers_at m.ext f.slot) ≡ description t (file_told k.limits k.dict at f)
     described_k f of = by (set_by k m takes.sound closed_k left right takes.lessens f.slot)
       where
-        abbrev file : File
-        file = file_told k.limits k.dict at f
-
-        by : SetCases k m takes.sound closed_k left right takes.lessens f.slot → words_told k.dict (numbers_at m.ext f.slot) ≡ description t file
+        by : SetCases k m takes.sound closed_k left right takes.lessens f.slot → words_told k.dict (numbers_at m.ext f.slot) ≡ description t (file_of f)
         by (inl some) =
             ap (words_told k.dict) some.1
-            ∙ (left_told k takes.sound right f.slot l r file (ap (λ d. word_of d right) dict_is ∙ is_right) (right_plain s r (rights_are s tells.formed pair there))
+            ∙ (left_told k takes.sound right f.slot l r (file_of f) (ap (λ d. word_of d right) dict_is ∙ is_right) (right_plain s r (rights_are s tells.formed pair there))
             (λ e x. right_plain s e.1 (rights_are s tells.formed e (among_filter (λ c. not (same_pair c pair)) s.axioms e (subst (λ xs. Among xs e) axioms_are x)).0))
             (ap (λ o. words_told k.dict (tags_by o)) (sym (filed_rec k.catalog takes.sound.catalog f of)))
-            (told_k f of ∙ ap₂ (λ D A. file_words D A file) (sym declared_is) back)
-            ∙ ap₂ (λ D A. file_words D A file) declared_is axioms_are)
+            (told_k f of ∙ ap₂ (λ D A. file_words D A (file_of f)) (sym declared_is) back)
+            ∙ ap₂ (λ D A. file_words D A (file_of f)) declared_is axioms_are)
         by (inr none) =
-            let not_had : has_word (description s file) l ≡ false =
+            let not_had : has_word (description s (file_of f)) l ≡ false =
             ap (λ ws. has_word ws l) (sym (told_k f of)) ∙ (sym (number_told k takes.sound (numbers_at k.ext f.slot) left l (ap (λ d. word_of d left) dict_is ∙ is_left)) ∙ none.0) in
-            ap (words_told k.dict) none.1 ∙ (told_k f of ∙ sym (taken_unfelt s.declared s.axioms pair file sorted there not_had))
+            ap (words_told k.dict) none.1 ∙ (told_k f of ∙ sym (taken_unfelt s.declared s.axioms pair (file_of f) sorted there not_had))
 
     file_then : (f : Filed) → Among k.catalog.entries f → file_told k.limits q.dict at f ≡ file_told k.limits k.dict at f
     file_then f of =
         let states : state_of end at ≡ state_of less at = ap (λ (u : Kept). state_of u at) (sym end_is) ∙ (takes.forgets.state at ∙ ap (λ (u : Kept). state_of u at) takes.lessens.parts) in
         same_map (file_told k.limits q.dict at) (file_told k.limits k.dict at) k.catalog.entries (ap (λ (x : State). x.files) states) f of
 
+    abbrev unlinked : Kept
+    unlinked = record p { axioms = slice_set p.axioms takes.unlinks.slot FreeAxiom; marks = slice_set p.marks (block_of p.limits Axioms takes.unlinks.slot) true }
+
     taken_k : (n : ℕ) → n < k.limits.blocks → is_taken k.taken n ≡ true → IsFileBlock k at n
     taken_k = subst (λ (u : Kept). (n : ℕ) → n < u.limits.blocks → is_taken u.taken n ≡ true → IsFileBlock u at n) (sym takes.unlinks.parts) taken_p
       where
-        abbrev unlinked : Kept
-        unlinked = record p { axioms = slice_set p.axioms takes.unlinks.slot FreeAxiom; marks = slice_set p.marks (block_of p.limits Axioms takes.unlinks.slot) true }
-
         taken_p : (n : ℕ) → n < p.limits.blocks → is_taken p.taken n ≡ true → IsFileBlock unlinked at n
         taken_p n lt is = let one = tells.taken n lt is in record { file = one.file; kept = one.kept; has = one.has }
 
