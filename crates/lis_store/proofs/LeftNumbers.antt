@@ -1,6 +1,6 @@
 -- What is left of a description without an axiom.
 use Rattle.std.proofs.Common.{◌≡◌, ◌⊎◌, refl, sym, ap, ◌∙◌, subst, inl, inr, ℕ, ◌+◌, ◌<◌, ◌≤◌, not, ◌&&◌, ◌||◌, Bool, true, false, cond, List, [], ◌∷◌, length, Option, Some, None, is_some, arith}
-use Rattle.std.specs.List.{list_any}
+use Rattle.std.specs.List.{list_any, list_all}
 use Rattle.std.specs.Ordering.{nat_cmp}
 use Rattle.std.specs.Cmp.{nat_cmp_total}
 use Rattle.std.specs.BTreeSet.{insert_key}
@@ -24,7 +24,7 @@ use Rattle.lis_model.specs.Changes.{with_axiom}
 use Rattle.lis_laws.proofs.Apart.{plain_not_valued}
 use Rattle.lis_laws.proofs.Chains.{up_self, up_trans, entails_from_up}
 use Rattle.lis_laws.proofs.Closures.{entailing, entailed_in, all_up_has, all_up_closed, sorted_all_up, with_one_axiom}
-use Rattle.lis_laws.proofs.Counts.{all_among, insert_key_le}
+use Rattle.lis_laws.proofs.Counts.{all_among, all_from, insert_key_le}
 use Rattle.lis_laws.proofs.Leads.{link_cases, right_leads}
 use Rattle.lis_laws.proofs.Members.{among_with_words}
 use Rattle.lis_laws.proofs.Reached.{linked_up}
@@ -103,6 +103,13 @@ source_left k right tags numbers n lt from =
     (where_among k.limits.props (is_left k right tags numbers) n lt
     (any_from_among (λ m. stays k right tags m && is_entailed k m n) numbers from.source from.among
     (and_from (stays k right tags from.source) (is_entailed k from.source n) from.held from.entailed)))
+
+-- each of them has a word
+pub left_named : (k : Kept) (right : ℕ) (tags numbers : List ℕ) → list_all (λ n. is_some (word_of k.dict n)) (numbers_left k right tags numbers) ≡ true
+left_named k right tags numbers =
+    all_from (λ n. is_some (word_of k.dict n)) (numbers_left k right tags numbers) (λ n m.
+    let from = left_source k right tags numbers n (number_from_among (numbers_left k right tags numbers) n m) in
+    ap is_some (led k from.source n from.entailed).is_to)
 
 -- rising numbers among others are no more than those
 set_le : (xs ys : List ℕ) → length (with_more nat_cmp xs ys) ≤ length xs + length ys

@@ -67,6 +67,9 @@ module _ (k : Kept) (right : ℕ) (tags numbers : List ℕ) (m : ℕ) (old row :
   }
 
 -- ---- what is left over
+pub full_shape : (bits : ℕ) (start full : Rows) → HasShape start 1 bits → full ≡ with_row start 0 (λ _. true) → HasShape full 1 bits
+full_shape bits start full shape is = same_shape start full 1 bits 0 (λ _. true) shape is
+
 kept_whole : (x : Bool) → not (true && not x) ≡ x
 kept_whole true = refl
 kept_whole false = refl
@@ -80,9 +83,6 @@ module _ (k : Kept) (right : ℕ) (tags numbers : List ℕ) (start full rest don
       let whole = value_at start full k.limits.props n (λ _. true) shape is_full lt in
       value_at rest done k.limits.props n (λ bit. not (get rest 0 bit)) rest_shape turned lt
       ∙ (ap not (bits n lt ∙ ap (λ b. b && not (is_left k right tags numbers n)) whole) ∙ kept_whole (is_left k right tags numbers n))
-
-  pub full_shape : HasShape full 1 k.limits.props
-  full_shape = same_shape start full 1 k.limits.props 0 (λ _. true) shape is_full
 
   pub done_shape : HasShape done 1 k.limits.props
   done_shape = same_shape rest done 1 k.limits.props 0 (λ bit. not (get rest 0 bit)) rest_shape turned

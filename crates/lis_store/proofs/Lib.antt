@@ -41,3 +41,4 @@ pub mod LeftRows
 pub mod LessSlots
 pub mod AxiomGone
 pub mod Unaxiomed
+pub mod AxiomFound

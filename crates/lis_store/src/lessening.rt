@@ -185,8 +185,12 @@ pub(crate) fn take_axiom(parts: &mut Parts, scratch: &mut Scratch, left: u16, ri
     ensures scratch { HasRoom scratch.new parts.old.limits }
     ensures taken { TakesAxiom left right parts.old parts.new }
 {
+    // Only the limits tell that the parts are sound, before and then at each change.
+    let _before = parts.limits();
     let numbers = with_head(parts, left);
     parts.unlink(left, right);
+    let _unlinked = parts.limits();
     lessen_all(parts, &mut scratch.candidates, left, right);
+    let _lessened = parts.limits();
     parts.forget_unused(numbers.as_slice());
 }
