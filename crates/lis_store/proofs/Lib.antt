@@ -42,3 +42,4 @@ pub mod LessSlots
 pub mod AxiomGone
 pub mod Unaxiomed
 pub mod AxiomFound
+pub mod Unaxiom

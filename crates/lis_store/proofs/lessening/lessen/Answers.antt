@@ -1,7 +1,7 @@
 use Rattle.std.proofs.Common.{◌≡◌, ◌∙◌, ◌⊎◌, ℕ, ◌<◌, true, false, List, is_some, length, refl, sym, ap, ap₂, subst, inl, inr, arith}
 use Rattle.std.specs.List.{list_all}
 use Rattle.std.specs.List.Sorted.{IsStrictlyIncreasing}
-use Rattle.std.proofs.lemmas.List.Orders.{IsStrictlyIncreasing-from_sorted}
+use Rattle.std.proofs.lemmas.Map.Keys.{IsStrictlyIncreasing-from_sorted}
 use Rattle.lis_bits.specs.Rows.{get}
 use Rattle.lis_dict.specs.Dict.{word_of}
 use Rattle.lis_ext.specs.Ext.{Ext, has, set_of}
