@@ -340,7 +340,7 @@ module _ (left right : ℕ) (p q : Kept) (takes : TakesAxiom left right p q) (j 
           side : (is_taken p.marks block ≡ true) ⊎ Among (axiom_block ∷ []) block → Among (axiom_block ∷ map (block_of k.limits Rows) lost_few.0) block
           side (inl old) = absurd (none block old)
           side (inr (inl this)) = inl this
-          side (inr (inr no)) = absurd no
+          side (inr (inr never)) = absurd never
       by block (inr row) = inr (subst (λ c. Among (map (block_of k.limits Rows) lost_few.0) c) (sym row.is) (map_among (block_of k.limits Rows) lost_few.0 row.number (lost_few.2 block row)))
 
   -- ---- how often rows are edited
