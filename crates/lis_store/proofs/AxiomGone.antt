@@ -25,10 +25,10 @@ use Rattle.lis_kept.proofs.AxiomSlots.{set_cases}
 use Rattle.lis_kept.proofs.Known.{among_axiom, declared_word, declared_has_number}
 use Rattle.lis_kept.proofs.Used.{is_at, head_by_number}
 use Rattle.lis_store.specs.Stored.{AreClosed, PairsAreApart, DescriptionsAreShort}
-use Rattle.lis_store.specs.Unlinking.{is_entailed, tags_by, tags_at, stays, left_at, lessened, Lessens, heads_by, with_head}
+use Rattle.lis_store.specs.Unlinking.{is_entailed, tags_by, tags_at, stays, remaining_at, lessened, Lessens, heads_by, with_head}
 use Rattle.lis_store.proofs.HeadsUsed.{flagged_not_valued, used_flagged, used_had, used_left, IsUsedFor, used_for, head_used}
 use Rattle.lis_store.proofs.HeadsUsed.IsUsedFor.{Flagged, HadAt, NamedLeft}
-use Rattle.lis_store.proofs.LeftNumbers.{led, left_had, left_few, stays_left, lost_led, left_closed}
+use Rattle.lis_store.proofs.Remaining.{led, remaining_had, remaining_few, stays_remaining, lost_led, remaining_closed}
 
 -- axioms lead to declared words
 abbrev pub RightsAreDeclared : Kept → Type 0
@@ -86,16 +86,16 @@ module _ (k m : Kept) (sound : AreSound k) (closed : AreClosed k) (left right : 
       by (inr le) =
           let none : numbers_at k.ext slot ≡ [] = get_or_past k.ext.sets slot [] (omega (arith, le, sound.files)) in
           let not_had : has k.ext left slot ≡ false = ap (λ ns. has_number ns left) none in
-          lessens.others slot le ∙ sym (ap (λ b. if b then left_at k right slot else numbers_at k.ext slot) not_had)
+          lessens.others slot le ∙ sym (ap (λ b. if b then remaining_at k right slot else numbers_at k.ext slot) not_had)
 
   -- one that had the left number has what is left, and each other one is as before
   abbrev pub SetCases : ℕ → Type 0
-  SetCases slot = ((has k.ext left slot ≡ true) × (numbers_at m.ext slot ≡ left_at k right slot)) ⊎ ((has k.ext left slot ≡ false) × (numbers_at m.ext slot ≡ numbers_at k.ext slot))
+  SetCases slot = ((has k.ext left slot ≡ true) × (numbers_at m.ext slot ≡ remaining_at k right slot)) ⊎ ((has k.ext left slot ≡ false) × (numbers_at m.ext slot ≡ numbers_at k.ext slot))
 
   pub set_by : (slot : ℕ) → SetCases slot
   set_by slot = by (has k.ext left slot) refl (set_then slot)
     where
-      by : (b : Bool) → has k.ext left slot ≡ b → numbers_at m.ext slot ≡ (if b then left_at k right slot else numbers_at k.ext slot)
+      by : (b : Bool) → has k.ext left slot ≡ b → numbers_at m.ext slot ≡ (if b then remaining_at k right slot else numbers_at k.ext slot)
           → SetCases slot
       by true had is = inl (had, is)
       by false none is = inr (none, is)
@@ -104,14 +104,14 @@ module _ (k m : Kept) (sound : AreSound k) (closed : AreClosed k) (left right : 
   had_back n slot had = by (set_by slot)
     where
       by : SetCases slot → has k.ext n slot ≡ true
-      by (inl some) = left_had k sound closed right slot n (ap (λ ns. has_number ns n) (sym some.1) ∙ had)
+      by (inl some) = remaining_had k sound closed right slot n (ap (λ ns. has_number ns n) (sym some.1) ∙ had)
       by (inr same) = ap (λ ns. has_number ns n) (sym same.1) ∙ had
 
   pub had_on : (n slot : ℕ) → has k.ext n slot ≡ true → stays k right (tags_at k slot) n ≡ true → has m.ext n slot ≡ true
   had_on n slot had held = by (set_by slot)
     where
       by : SetCases slot → has m.ext n slot ≡ true
-      by (inl some) = ap (λ ns. has_number ns n) some.1 ∙ stays_left k sound closed right slot n had held
+      by (inl some) = ap (λ ns. has_number ns n) some.1 ∙ stays_remaining k sound closed right slot n had held
       by (inr same) = ap (λ ns. has_number ns n) same.1 ∙ had
 
   pub lost : (n slot : ℕ) → has k.ext n slot ≡ true → has m.ext n slot ≡ false → is_entailed k right n ≡ true
@@ -125,7 +125,7 @@ module _ (k m : Kept) (sound : AreSound k) (closed : AreClosed k) (left right : 
   closed_less slot a b had linked = by (set_by slot)
     where
       by : SetCases slot → has m.ext b slot ≡ true
-      by (inl some) = ap (λ ns. has_number ns b) some.1 ∙ left_closed k sound closed right slot a b (ap (λ ns. has_number ns a) (sym some.1) ∙ had) linked
+      by (inl some) = ap (λ ns. has_number ns b) some.1 ∙ remaining_closed k sound closed right slot a b (ap (λ ns. has_number ns a) (sym some.1) ∙ had) linked
       by (inr same) = ap (λ ns. has_number ns b) same.1 ∙ closed slot a b (ap (λ ns. has_number ns a) (sym same.1) ∙ had) linked
 
   pub tags_less : TagsAreHad k → TagsAreHad less
@@ -137,7 +137,7 @@ module _ (k m : Kept) (sound : AreSound k) (closed : AreClosed k) (left right : 
   short_less short slot = by (set_by slot)
     where
       by : SetCases slot → length (numbers_at m.ext slot) ≤ 128
-      by (inl some) = omega (arith, ap length some.1, left_few k sound closed right slot, short slot)
+      by (inl some) = omega (arith, ap length some.1, remaining_few k sound closed right slot, short slot)
       by (inr same) = omega (arith, ap length same.1, short slot)
 
   pub free_less : FreeSlotsAreEmpty k → FreeSlotsAreEmpty less

@@ -14,7 +14,7 @@ use Rattle.lis_kept.specs.Areas.Area.{Rows}
 use Rattle.lis_kept.specs.Changes.{Describes}
 use Rattle.lis_kept.proofs.Described.{among_where}
 use Rattle.lis_kept.proofs.MarkedWithin.{marked_only}
-use Rattle.lis_store.specs.Unlinking.{tags_at, numbers_left, left_at, lessened, lost_at, LessensAt, IsLostRow, Lessens}
+use Rattle.lis_store.specs.Unlinking.{tags_at, remaining, remaining_at, lessened, lost_at, LessensAt, IsLostRow, Lessens}
 
 pub lessens_none : (left right : ℕ) (p : Kept) → Lessens left right 0 p p
 lessens_none left right p = record {
@@ -33,8 +33,8 @@ module _ (left right n : ℕ) (p q : Kept) (so_far : Lessens left right n p q) w
   pub same_here : numbers_at q.ext n ≡ numbers_at p.ext n
   same_here = so_far.others n (omega arith)
 
-  pub left_same : left_at q right n ≡ left_at p right n
-  left_same = ap (λ (k : Kept). numbers_left k right (tags_at k n) (numbers_at q.ext n)) so_far.parts ∙ ap (numbers_left p right (tags_at p n)) same_here
+  pub left_same : remaining_at q right n ≡ remaining_at p right n
+  left_same = ap (λ (k : Kept). remaining k right (tags_at k n) (numbers_at q.ext n)) so_far.parts ∙ ap (remaining p right (tags_at p n)) same_here
 
   had_same : has q.ext left n ≡ has p.ext left n
   had_same = ap (λ ns. has_number ns left) same_here
@@ -51,33 +51,33 @@ module _ (left right n : ℕ) (p q : Kept) (so_far : Lessens left right n p q) w
       within : (block : ℕ) → is_marked r block ≡ true → (is_marked q block ≡ true) ⊎ IsLostRow p left right block
       edits : r.ext.edits ≤ q.ext.edits + length (lost_at p left right n)
 
-    module _ (had : has q.ext left n ≡ true) (describes : Describes n (left_at q right n) q r) where
-      new_is : left_at q right n ≡ lessened p left right n
-      new_is = left_same ∙ sym (ap (λ b. if b then left_at p right n else numbers_at p.ext n) (sym had_same ∙ had))
+    module _ (had : has q.ext left n ≡ true) (describes : Describes n (remaining_at q right n) q r) where
+      new_is : remaining_at q right n ≡ lessened p left right n
+      new_is = left_same ∙ sym (ap (λ b. if b then remaining_at p right n else numbers_at p.ext n) (sym had_same ∙ had))
 
-      lost_is : numbers_where q.ext.props (differs (numbers_at q.ext n) (left_at q right n)) ≡ lost_at p left right n
-      lost_is = ap (λ m. numbers_where m (differs (numbers_at q.ext n) (left_at q right n))) so_far.props ∙ ap₂ (λ a b. numbers_where p.ext.props (differs a b)) same_here new_is
+      lost_is : numbers_where q.ext.props (differs (numbers_at q.ext n) (remaining_at q right n)) ≡ lost_at p left right n
+      lost_is = ap (λ m. numbers_where m (differs (numbers_at q.ext n) (remaining_at q right n))) so_far.props ∙ ap₂ (λ a b. numbers_where p.ext.props (differs a b)) same_here new_is
 
       described_turn : Turn
       described_turn = record {
         parts = describes.parts ∙ ap (λ (k : Kept). record k { ext = r.ext; marks = r.marks }) so_far.parts;
         props = describes.props ∙ so_far.props;
-        slots = ap length describes.sets ∙ (length-set q.ext.sets n (left_at q right n) ∙ so_far.slots);
-        here = ap (λ ss. get_or ss n []) describes.sets ∙ (get_or-set_same q.ext.sets n (left_at q right n) [] (omega (arith, inside, so_far.slots)) ∙ new_is);
-        elsewhere = λ slot differ. ap (λ ss. get_or ss slot []) describes.sets ∙ get_or-set_other q.ext.sets n slot (left_at q right n) [] differ;
+        slots = ap length describes.sets ∙ (length-set q.ext.sets n (remaining_at q right n) ∙ so_far.slots);
+        here = ap (λ ss. get_or ss n []) describes.sets ∙ (get_or-set_same q.ext.sets n (remaining_at q right n) [] (omega (arith, inside, so_far.slots)) ∙ new_is);
+        elsewhere = λ slot differ. ap (λ ss. get_or ss slot []) describes.sets ∙ get_or-set_other q.ext.sets n slot (remaining_at q right n) [] differ;
         saved = (describes.marks (numbers_at q.ext n) refl).saved;
         within = λ block is.
             by block
-            (marked_only (map (block_of q.limits Rows) (numbers_where q.ext.props (differs (numbers_at q.ext n) (left_at q right n)))) q.marks block
+            (marked_only (map (block_of q.limits Rows) (numbers_where q.ext.props (differs (numbers_at q.ext n) (remaining_at q right n)))) q.marks block
             (ap (λ ms. is_taken ms block) (sym (describes.touched (numbers_at q.ext n) refl)) ∙ is));
         edits = subst (λ (ns : List ℕ). r.ext.edits ≤ q.ext.edits + length ns) lost_is (describes.edits (numbers_at q.ext n) refl);
       }
         where
-          by : (block : ℕ) → (is_marked q block ≡ true) ⊎ Among (map (block_of q.limits Rows) (numbers_where q.ext.props (differs (numbers_at q.ext n) (left_at q right n)))) block
+          by : (block : ℕ) → (is_marked q block ≡ true) ⊎ Among (map (block_of q.limits Rows) (numbers_where q.ext.props (differs (numbers_at q.ext n) (remaining_at q right n)))) block
               → (is_marked q block ≡ true) ⊎ IsLostRow p left right block
           by block (inl was) = inl was
           by block (inr row) =
-              let found = among_map (block_of q.limits Rows) (numbers_where q.ext.props (differs (numbers_at q.ext n) (left_at q right n))) block row in
+              let found = among_map (block_of q.limits Rows) (numbers_where q.ext.props (differs (numbers_at q.ext n) (remaining_at q right n))) block row in
               let passes = among_where p.ext.props (differs (numbers_at p.ext n) (lessened p left right n)) found.0 (subst (λ (ns : List ℕ). Among ns found.0) lost_is found.1) in
               inr (record {
                 slot = n;
@@ -92,7 +92,7 @@ module _ (left right n : ℕ) (p q : Kept) (so_far : Lessens left right n p q) w
       parts = is ∙ (so_far.parts ∙ ap (λ (k : Kept). record p { ext = k.ext; marks = k.marks }) (sym is));
       props = ap (λ (k : Kept). k.ext.props) is ∙ so_far.props;
       slots = ap (λ (k : Kept). length k.ext.sets) is ∙ so_far.slots;
-      here = ap (λ (k : Kept). numbers_at k.ext n) is ∙ (same_here ∙ sym (ap (λ b. if b then left_at p right n else numbers_at p.ext n) (sym had_same ∙ none)));
+      here = ap (λ (k : Kept). numbers_at k.ext n) is ∙ (same_here ∙ sym (ap (λ b. if b then remaining_at p right n else numbers_at p.ext n) (sym had_same ∙ none)));
       elsewhere = λ slot differ. ap (λ (k : Kept). numbers_at k.ext slot) is;
       saved = λ at saved. subst (λ (k : Kept). IsSaved k at) (sym is) saved;
       within = λ block marked_so. inl (ap (λ (k : Kept). is_marked k block) (sym is) ∙ marked_so);

@@ -35,9 +35,9 @@ pub mod Measured
 pub mod Admitted
 pub mod AddFile
 pub mod Sizes
-pub mod LeftNumbers
+pub mod Remaining
 pub mod HeadsUsed
-pub mod LeftRows
+pub mod RemainingRows
 pub mod LessSlots
 pub mod AxiomGone
 pub mod Unaxiomed

@@ -42,11 +42,11 @@ use Rattle.lis_kept.proofs.WordLess.{had_from}
 use Rattle.lis_store.specs.Stored.{AreClosed, PairsAreApart, DescriptionsAreShort, BlocksAreApart, IsSound}
 use Rattle.lis_store.specs.Changes.{differing_bits}
 use Rattle.lis_store.specs.Saving.{settled, IsReady}
-use Rattle.lis_store.specs.Unlinking.{is_entailed, tags_by, tags_at, left_at, lessened, lost_at, IsLostRow, Lessens, heads_by, with_head, TakesAxiom}
+use Rattle.lis_store.specs.Unlinking.{is_entailed, tags_by, tags_at, remaining_at, lessened, lost_at, IsLostRow, Lessens, heads_by, with_head, TakesAxiom}
 use Rattle.lis_store.proofs.AxiomGone.{rights_unlinked, pairs_unlinked, closed_unlinked, tags_unlinked, right_flagged, SetCases, set_then, set_by, had_back, lost, closed_less, tags_less, short_less, free_less, unused_is}
 use Rattle.lis_store.proofs.Cleaned.{clean_is, sound_clean, in_use_clean, none_marked}
 use Rattle.lis_store.proofs.HeadsUsed.{used_had}
-use Rattle.lis_store.proofs.LeftNumbers.{led, led_had, few_within, left_told}
+use Rattle.lis_store.proofs.Remaining.{led, led_had, few_within, remaining_told}
 use Rattle.lis_store.proofs.Numbers.{sorted_where}
 use Rattle.lis_store.proofs.Removed.{same_map}
 use Rattle.lis_store.proofs.Told.{words_same}
@@ -209,7 +209,7 @@ module _ (left right : ℕ) (p q : Kept) (takes : TakesAxiom left right p q) (j 
         by : SetCases k m takes.sound closed_k left right takes.lessens f.slot → words_told k.dict (numbers_at m.ext f.slot) ≡ description t (file_of f)
         by (inl some) =
             ap (words_told k.dict) some.1
-            ∙ (left_told k takes.sound right f.slot l r (file_of f) (ap (λ d. word_of d right) dict_is ∙ is_right) (right_plain s r (rights_are s tells.formed pair there))
+            ∙ (remaining_told k takes.sound right f.slot l r (file_of f) (ap (λ d. word_of d right) dict_is ∙ is_right) (right_plain s r (rights_are s tells.formed pair there))
             (λ e x. right_plain s e.1 (rights_are s tells.formed e (among_filter (λ c. not (same_pair c pair)) s.axioms e (subst (λ xs. Among xs e) axioms_are x)).0))
             (ap (λ o. words_told k.dict (tags_by o)) (sym (filed_rec k.catalog takes.sound.catalog f of)))
             (told_k f of ∙ ap₂ (λ D A. file_words D A (file_of f)) (sym declared_is) back)
@@ -320,7 +320,7 @@ module _ (left right : ℕ) (p q : Kept) (takes : TakesAxiom left right p q) (j 
               side : (c : Bool) → has k.ext left slot ≡ c → ⊥
               side true had = both_ways (is_had k.ext left) none (had_from k.ext left slot had)
               side false not_had =
-                  let stays : lessened k left right slot ≡ numbers_at k.ext slot = ap (λ c. if c then left_at k right slot else numbers_at k.ext slot) not_had in
+                  let stays : lessened k left right slot ≡ numbers_at k.ext slot = ap (λ c. if c then remaining_at k right slot else numbers_at k.ext slot) not_had in
                   both_ways (differs (numbers_at k.ext slot) (numbers_at k.ext slot) n) (same (has k.ext n slot)) (ap (λ ns. differs (numbers_at k.ext slot) ns n) (sym stays) ∙ differ)
 
   pub few_marked : p.marks ≡ replicate (length p.marks) false → marked_count q ≤ 131

@@ -56,19 +56,19 @@ abbrev pub stays : Kept → ℕ → List ℕ → ℕ → Bool
 stays k right tags n = has_number tags n || not (is_entailed k right n)
 
 -- what those of the numbers entail that stay
-abbrev pub is_left : Kept → ℕ → List ℕ → List ℕ → ℕ → Bool
-is_left k right tags numbers n = list_any (λ m. stays k right tags m && is_entailed k m n) numbers
+abbrev pub remains : Kept → ℕ → List ℕ → List ℕ → ℕ → Bool
+remains k right tags numbers n = list_any (λ m. stays k right tags m && is_entailed k m n) numbers
 
-abbrev pub numbers_left : Kept → ℕ → List ℕ → List ℕ → List ℕ
-numbers_left k right tags numbers = numbers_where k.limits.props (is_left k right tags numbers)
+abbrev pub remaining : Kept → ℕ → List ℕ → List ℕ → List ℕ
+remaining k right tags numbers = numbers_where k.limits.props (remains k right tags numbers)
 
 -- what is left of the description in a slot
-abbrev pub left_at : Kept → ℕ → ℕ → List ℕ
-left_at k right slot = numbers_left k right (tags_at k slot) (numbers_at k.ext slot)
+abbrev pub remaining_at : Kept → ℕ → ℕ → List ℕ
+remaining_at k right slot = remaining k right (tags_at k slot) (numbers_at k.ext slot)
 
 -- A description once the axiom between two numbers is gone. One without the left number stays as it is.
 abbrev pub lessened : Kept → ℕ → ℕ → ℕ → List ℕ
-lessened k left right slot = if has k.ext left slot then left_at k right slot else numbers_at k.ext slot
+lessened k left right slot = if has k.ext left slot then remaining_at k right slot else numbers_at k.ext slot
 
 -- which numbers differ then
 abbrev pub lost_at : Kept → ℕ → ℕ → ℕ → List ℕ
@@ -77,7 +77,7 @@ lost_at k left right slot = numbers_where k.ext.props (differs (numbers_at k.ext
 -- the description in one slot
 abbrev pub LessensAt : ℕ → ℕ → ℕ → Kept → Kept → Type 0
 LessensAt left right slot p q =
-    ((has p.ext left slot ≡ true) × Describes slot (left_at p right slot) p q) ⊎ ((has p.ext left slot ≡ false) × (q ≡ p))
+    ((has p.ext left slot ≡ true) × Describes slot (remaining_at p right slot) p q) ⊎ ((has p.ext left slot ≡ false) × (q ≡ p))
 
 -- the block is that of the row of a number that some slot loses
 pub record IsLostRow (k : Kept) (left right block : ℕ) : Type 0 where

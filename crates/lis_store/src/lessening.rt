@@ -11,7 +11,7 @@ ghost use Rattle.lis_kept.specs.Forgetting.{KeepsInUse};
 ghost use Rattle.lis_kept.specs.Linking.{MayUnlink};
 ghost use Rattle.lis_kept.specs.Sound.{AreSound};
 ghost use Rattle.lis_store.specs.Stored.{AreClosed, DescriptionsAreShort};
-ghost use Rattle.lis_store.specs.Unlinking.{is_axiom, IsAxiomAt, tags_at, is_left, numbers_left, left_at, LessensAt, Lessens, with_head, TakesAxiom};
+ghost use Rattle.lis_store.specs.Unlinking.{is_axiom, IsAxiomAt, tags_at, remains, remaining, remaining_at, LessensAt, Lessens, with_head, TakesAxiom};
 
 use crate::adding::numbers_in;
 use crate::removing::numbers_at;
@@ -67,7 +67,7 @@ fn leave_out(parts: &Parts, row: &mut Rows, right: u16, tags: &[u16], numbers: &
     requires named { IsTrue (list_all (λ n. is_some (word_of parts.now.dict n)) numbers.now) }
     ensures shape { HasShape row.new 1 parts.now.limits.props }
     ensures bits { (n : ℕ) → n < parts.now.limits.props
-        → get row.new 0 n ≡ (get row.old 0 n && not (is_left parts.now right tags.now numbers.now n)) }
+        → get row.new 0 n ≡ (get row.old 0 n && not (remains parts.now right tags.now numbers.now n)) }
 {
     let entailed = parts.taxonomy().rows();
     for number in numbers {
@@ -78,7 +78,7 @@ fn leave_out(parts: &Parts, row: &mut Rows, right: u16, tags: &[u16], numbers: &
 }
 
 // What is left of the numbers of a description.
-fn numbers_left(
+fn remaining(
     parts: &Parts,
     row: &mut Rows,
     right: u16,
@@ -88,8 +88,8 @@ fn numbers_left(
     requires shape { HasShape row.old 1 parts.now.limits.props }
     requires right { IsSome (word_of parts.now.dict right) }
     requires named { IsTrue (list_all (λ n. is_some (word_of parts.now.dict n)) numbers.now) }
-    requires few { length (numbers_left parts.now right tags.now numbers.now) ≤ 128 }
-    ensures numbers { result.items ≡ numbers_left parts.now right tags.now numbers.now }
+    requires few { length (remaining parts.now right tags.now numbers.now) ≤ 128 }
+    ensures numbers { result.items ≡ remaining parts.now right tags.now numbers.now }
     ensures shape { HasShape row.new 1 parts.now.limits.props }
 {
     let props = parts.limits().props;
@@ -100,7 +100,7 @@ fn numbers_left(
 }
 
 // What is left of the description in a slot, which has these numbers.
-fn left_at(
+fn remaining_at(
     parts: &Parts,
     row: &mut Rows,
     right: u16,
@@ -110,13 +110,13 @@ fn left_at(
     requires shape { HasShape row.old 1 parts.now.limits.props }
     requires right { IsSome (word_of parts.now.dict right) }
     requires named { IsTrue (list_all (λ n. is_some (word_of parts.now.dict n)) numbers.now) }
-    requires few { length (numbers_left parts.now right (tags_at parts.now slot) numbers.now) ≤ 128 }
-    ensures numbers { result.items ≡ numbers_left parts.now right (tags_at parts.now slot) numbers.now }
+    requires few { length (remaining parts.now right (tags_at parts.now slot) numbers.now) ≤ 128 }
+    ensures numbers { result.items ≡ remaining parts.now right (tags_at parts.now slot) numbers.now }
     ensures shape { HasShape row.new 1 parts.now.limits.props }
 {
     match parts.rec(slot) {
-        None => numbers_left(parts, row, right, &[], numbers),
-        Some(rec) => numbers_left(parts, row, right, rec.tags.as_slice(), numbers),
+        None => remaining(parts, row, right, &[], numbers),
+        Some(rec) => remaining(parts, row, right, rec.tags.as_slice(), numbers),
     }
 }
 
@@ -127,7 +127,7 @@ fn lessen(parts: &mut Parts, row: &mut Rows, left: u16, right: u16, slot: u16)
     requires left { IsSome (word_of parts.old.dict left) }
     requires right { IsSome (word_of parts.old.dict right) }
     requires short { length (set_of parts.old.ext slot) ≤ 128 }
-    requires few { length (left_at parts.old right slot) ≤ 128 }
+    requires few { length (remaining_at parts.old right slot) ≤ 128 }
     ensures shape { HasShape row.new 1 parts.old.limits.props }
     ensures lessened { LessensAt left right slot parts.old parts.new }
 {
@@ -136,7 +136,7 @@ fn lessen(parts: &mut Parts, row: &mut Rows, left: u16, right: u16, slot: u16)
         return;
     }
     let numbers = numbers_at(parts.ext(), props, slot);
-    let rest = left_at(parts, row, right, slot, numbers.as_slice());
+    let rest = remaining_at(parts, row, right, slot, numbers.as_slice());
     parts.describe(slot, numbers.as_slice(), rest.as_slice());
 }
 
@@ -146,7 +146,7 @@ fn lessen_all(parts: &mut Parts, row: &mut Rows, left: u16, right: u16)
     requires left { IsSome (word_of parts.old.dict left) }
     requires right { IsSome (word_of parts.old.dict right) }
     requires short { DescriptionsAreShort parts.old }
-    requires few { (slot : ℕ) → length (left_at parts.old right slot) ≤ 128 }
+    requires few { (slot : ℕ) → length (remaining_at parts.old right slot) ≤ 128 }
     ensures shape { HasShape row.new 1 parts.old.limits.props }
     ensures lessened { Lessens left right parts.old.limits.files parts.old parts.new }
 {

@@ -1,5 +1,5 @@
 use Rattle.std.proofs.Common.{take}
-use Rattle.lis_store.proofs.LeftRows.{LeavesLed}
+use Rattle.lis_store.proofs.RemainingRows.{LeavesLed}
 use Rattle.lis_store.proofs.lessening.leave_out.Given as goal
 
 -- what those of the numbers so far entail that stay is left out

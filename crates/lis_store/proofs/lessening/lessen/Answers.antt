@@ -9,8 +9,8 @@ use Rattle.lis_kept.specs.Changes.{Describes}
 use Rattle.lis_kept.proofs.Filing.{number_from_among}
 use Rattle.lis_kept.proofs.Formed.{named_below}
 use Rattle.lis_laws.proofs.Counts.{all_from}
-use Rattle.lis_store.specs.Unlinking.{tags_at, is_left, numbers_left, left_at, LessensAt}
-use Rattle.lis_store.proofs.LeftNumbers.{left_named}
+use Rattle.lis_store.specs.Unlinking.{tags_at, remains, remaining, remaining_at, LessensAt}
+use Rattle.lis_store.proofs.Remaining.{remaining_named}
 use Rattle.lis_store.proofs.Numbers.{sorted_where}
 use Rattle.lis_store.proofs.lessening.lessen.Goals as goal
 
@@ -40,8 +40,8 @@ returns-then-not-get-clause-lessened c =
     ∙ (sym (c.rows.ensures.values left slot lt within) ∙ (ap₂ (λ (a b : ℕ). get c.rows.result.now a b) (sym c.from.ensures) (sym c.from-2.ensures) ∙ sym c.get.ensures)) in
     inr (had ∙ c.if-not-get.true, refl)
 
-pub left_at-rest-requires-clause-named : goal.left_at-rest-requires-clause-named
-left_at-rest-requires-clause-named c =
+pub remaining_at-rest-requires-clause-named : goal.remaining_at-rest-requires-clause-named
+remaining_at-rest-requires-clause-named c =
     let p = c.args.parts.now in
     let sound = c.limits.ensures.sound in
     let slot = c.args.slot in
@@ -54,14 +54,14 @@ describe-requires-clause-rising c =
     let p = c.args.parts.now in
     let tags = tags_at p c.args.slot in
     let P : List ℕ → Type 0 = λ ns. IsStrictlyIncreasing ns in
-    subst P (sym (c.as_slice-3.ensures.value ∙ c.left_at-rest.ensures.numbers))
-    (IsStrictlyIncreasing-from_sorted (numbers_left p c.args.right tags c.as_slice.result.now) (sorted_where p.limits.props (is_left p c.args.right tags c.as_slice.result.now)))
+    subst P (sym (c.as_slice-3.ensures.value ∙ c.remaining_at-rest.ensures.numbers))
+    (IsStrictlyIncreasing-from_sorted (remaining p c.args.right tags c.as_slice.result.now) (sorted_where p.limits.props (remains p c.args.right tags c.as_slice.result.now)))
 
 pub describe-requires-clause-named : goal.describe-requires-clause-named
 describe-requires-clause-named c =
     let p = c.args.parts.now in
-    ap (list_all (λ n. is_some (word_of p.dict n))) (c.as_slice-3.ensures.value ∙ c.left_at-rest.ensures.numbers)
-    ∙ left_named p c.args.right (tags_at p c.args.slot) c.as_slice.result.now
+    ap (list_all (λ n. is_some (word_of p.dict n))) (c.as_slice-3.ensures.value ∙ c.remaining_at-rest.ensures.numbers)
+    ∙ remaining_named p c.args.right (tags_at p c.args.slot) c.as_slice.result.now
 
 pub returns-clause-lessened : goal.returns-clause-lessened
 returns-clause-lessened c =
@@ -76,6 +76,6 @@ returns-clause-lessened c =
     ap (λ (x : Ext). has x left slot) (sym c.ext.ensures)
     ∙ (sym (c.rows.ensures.values left slot lt within) ∙ (ap₂ (λ (a b : ℕ). get c.rows.result.now a b) (sym c.from.ensures) (sym c.from-2.ensures) ∙ sym c.get.ensures)) in
     let are = c.as_slice.ensures.value ∙ (c.numbers_at-numbers.ensures.numbers ∙ ap (λ (x : Ext). set_of x slot) c.ext-2.ensures) in
-    let new = c.as_slice-3.ensures.value ∙ (c.left_at-rest.ensures.numbers ∙ ap (numbers_left p c.args.right (tags_at p slot)) are) in
+    let new = c.as_slice-3.ensures.value ∙ (c.remaining_at-rest.ensures.numbers ∙ ap (remaining p c.args.right (tags_at p slot)) are) in
     let P : List ℕ → Type 0 = λ ns. Describes slot ns p c.describe.new.self in
     inl (had ∙ c.if-not-get.false, subst P new c.describe.ensures)

@@ -6,7 +6,7 @@ use Rattle.lis_kept.specs.Changes.{Forgets}
 use Rattle.lis_kept.specs.Forgetting.{MayForget}
 use Rattle.lis_store.proofs.AxiomFound.{pair_named}
 use Rattle.lis_store.proofs.AxiomGone.{closed_unlinked, gone_may_forget}
-use Rattle.lis_store.proofs.LeftNumbers.{left_few}
+use Rattle.lis_store.proofs.Remaining.{remaining_few}
 use Rattle.lis_store.proofs.lessening.take_axiom.Goals as goal
 
 pub with_head-numbers-requires : goal.with_head-numbers-requires
@@ -29,7 +29,7 @@ lessen_all-requires-clause-few c = λ slot.
     let closed = closed_unlinked c.args.left c.args.right p k c.unlink.ensures c.requires.closed in
     omega (
       arith,
-      left_few k c.limits-unlinked.ensures.sound closed c.args.right slot,
+      remaining_few k c.limits-unlinked.ensures.sound closed c.args.right slot,
       c.requires.short slot,
       ap (λ (u : Kept). length (set_of u.ext slot)) c.unlink.ensures.parts,
     )

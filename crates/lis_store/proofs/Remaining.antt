@@ -40,7 +40,7 @@ use Rattle.lis_kept.proofs.Formed.{named_below}
 use Rattle.lis_kept.proofs.Known.{one_number, among_word, word_among}
 use Rattle.lis_kept.proofs.Numbered.{Numbers, numbers_are}
 use Rattle.lis_store.specs.Stored.{AreClosed}
-use Rattle.lis_store.specs.Unlinking.{entails_by, is_entailed, tags_at, stays, is_left, numbers_left, left_at}
+use Rattle.lis_store.specs.Unlinking.{entails_by, is_entailed, tags_at, stays, remains, remaining, remaining_at}
 use Rattle.lis_store.proofs.DerivedWords.{is_built_value, derived_built}
 use Rattle.lis_store.proofs.Entailment.{link_named, up_has_number, closed_up}
 use Rattle.lis_store.proofs.Naming.{one_of, of_one}
@@ -90,25 +90,25 @@ pub record ComesFrom (k : Kept) (right : ℕ) (tags numbers : List ℕ) (n : ℕ
   pub held : stays k right tags source ≡ true
   pub entailed : is_entailed k source n ≡ true
 
-pub left_source : (k : Kept) (right : ℕ) (tags numbers : List ℕ) (n : ℕ) → has_number (numbers_left k right tags numbers) n ≡ true → ComesFrom k right tags numbers n
-left_source k right tags numbers n has_it =
-    let passes = among_where k.limits.props (is_left k right tags numbers) n (among_from_number (numbers_left k right tags numbers) n has_it) in
+pub remaining_source : (k : Kept) (right : ℕ) (tags numbers : List ℕ) (n : ℕ) → has_number (remaining k right tags numbers) n ≡ true → ComesFrom k right tags numbers n
+remaining_source k right tags numbers n has_it =
+    let passes = among_where k.limits.props (remains k right tags numbers) n (among_from_number (remaining k right tags numbers) n has_it) in
     let found = among_from_any (λ m. stays k right tags m && is_entailed k m n) numbers passes.1 in
     let both = and_parts (stays k right tags found.0) (is_entailed k found.0 n) found.2 in
     record { source = found.0; among = found.1; held = both.0; entailed = both.1 }
 
-pub source_left : (k : Kept) (right : ℕ) (tags numbers : List ℕ) (n : ℕ) → n < k.limits.props → ComesFrom k right tags numbers n → has_number (numbers_left k right tags numbers) n ≡ true
-source_left k right tags numbers n lt from =
-    number_from_among (numbers_left k right tags numbers) n
-    (where_among k.limits.props (is_left k right tags numbers) n lt
+pub remaining_from : (k : Kept) (right : ℕ) (tags numbers : List ℕ) (n : ℕ) → n < k.limits.props → ComesFrom k right tags numbers n → has_number (remaining k right tags numbers) n ≡ true
+remaining_from k right tags numbers n lt from =
+    number_from_among (remaining k right tags numbers) n
+    (where_among k.limits.props (remains k right tags numbers) n lt
     (any_from_among (λ m. stays k right tags m && is_entailed k m n) numbers from.source from.among
     (and_from (stays k right tags from.source) (is_entailed k from.source n) from.held from.entailed)))
 
 -- each of them has a word
-pub left_named : (k : Kept) (right : ℕ) (tags numbers : List ℕ) → list_all (λ n. is_some (word_of k.dict n)) (numbers_left k right tags numbers) ≡ true
-left_named k right tags numbers =
-    all_from (λ n. is_some (word_of k.dict n)) (numbers_left k right tags numbers) (λ n m.
-    let from = left_source k right tags numbers n (number_from_among (numbers_left k right tags numbers) n m) in
+pub remaining_named : (k : Kept) (right : ℕ) (tags numbers : List ℕ) → list_all (λ n. is_some (word_of k.dict n)) (remaining k right tags numbers) ≡ true
+remaining_named k right tags numbers =
+    all_from (λ n. is_some (word_of k.dict n)) (remaining k right tags numbers) (λ n m.
+    let from = remaining_source k right tags numbers n (number_from_among (remaining k right tags numbers) n m) in
     ap is_some (led k from.source n from.entailed).is_to)
 
 -- rising numbers among others are no more than those
@@ -123,42 +123,42 @@ few_within ns ys sorted within =
     omega (arith, few, set_le [] ys)
 
 module _ (k : Kept) (sound : AreSound k) (closed : AreClosed k) (right slot : ℕ) where
-  pub left_had : (n : ℕ) → has_number (left_at k right slot) n ≡ true → has k.ext n slot ≡ true
-  left_had n has_it =
-      let from = left_source k right (tags_at k slot) (numbers_at k.ext slot) n has_it in
+  pub remaining_had : (n : ℕ) → has_number (remaining_at k right slot) n ≡ true → has k.ext n slot ≡ true
+  remaining_had n has_it =
+      let from = remaining_source k right (tags_at k slot) (numbers_at k.ext slot) n has_it in
       led_had k sound closed slot from.source n (number_from_among (numbers_at k.ext slot) from.source from.among) from.entailed
 
-  pub left_few : length (left_at k right slot) ≤ length (numbers_at k.ext slot)
-  left_few =
-      few_within (left_at k right slot) (numbers_at k.ext slot) (sorted_where k.limits.props (is_left k right (tags_at k slot) (numbers_at k.ext slot)))
-      (λ n m. among_from_number (numbers_at k.ext slot) n (left_had n (number_from_among (left_at k right slot) n m)))
+  pub remaining_few : length (remaining_at k right slot) ≤ length (numbers_at k.ext slot)
+  remaining_few =
+      few_within (remaining_at k right slot) (numbers_at k.ext slot) (sorted_where k.limits.props (remains k right (tags_at k slot) (numbers_at k.ext slot)))
+      (λ n m. among_from_number (numbers_at k.ext slot) n (remaining_had n (number_from_among (remaining_at k right slot) n m)))
 
   -- a number that stays is left
-  pub stays_left : (n : ℕ) → has k.ext n slot ≡ true → stays k right (tags_at k slot) n ≡ true → has_number (left_at k right slot) n ≡ true
-  stays_left n had held = by (word_of k.dict n) refl (sound.named n slot had)
+  pub stays_remaining : (n : ℕ) → has k.ext n slot ≡ true → stays k right (tags_at k slot) n ≡ true → has_number (remaining_at k right slot) n ≡ true
+  stays_remaining n had held = by (word_of k.dict n) refl (sound.named n slot had)
     where
-      by : (o : Option (List ℕ)) → word_of k.dict n ≡ o → is_some o ≡ true → has_number (left_at k right slot) n ≡ true
+      by : (o : Option (List ℕ)) → word_of k.dict n ≡ o → is_some o ≡ true → has_number (remaining_at k right slot) n ≡ true
       by None is some = absurd (both_ways false refl some)
       by (Some w) is some =
-          source_left k right (tags_at k slot) (numbers_at k.ext slot) n (named_below k sound n (ap is_some is))
+          remaining_from k right (tags_at k slot) (numbers_at k.ext slot) n (named_below k sound n (ap is_some is))
           (record { source = n; among = among_from_number (numbers_at k.ext slot) n had; held = held; entailed = led_itself k n w is })
 
   -- what is lost the right word entails
-  pub lost_led : (n : ℕ) → has k.ext n slot ≡ true → has_number (left_at k right slot) n ≡ false → is_entailed k right n ≡ true
+  pub lost_led : (n : ℕ) → has k.ext n slot ≡ true → has_number (remaining_at k right slot) n ≡ false → is_entailed k right n ≡ true
   lost_led n had none = by (is_entailed k right n) refl
     where
       by : (b : Bool) → is_entailed k right n ≡ b → is_entailed k right n ≡ true
       by true is = is
       by false is =
-          absurd (both_ways (has_number (left_at k right slot) n) none
-          (stays_left n had (or_right (has_number (tags_at k slot) n) (not (is_entailed k right n)) (not_from_false (is_entailed k right n) is))))
+          absurd (both_ways (has_number (remaining_at k right slot) n) none
+          (stays_remaining n had (or_right (has_number (tags_at k slot) n) (not (is_entailed k right n)) (not_from_false (is_entailed k right n) is))))
 
-  pub left_closed : (a b : ℕ) → has_number (left_at k right slot) a ≡ true → is_linked k a b ≡ true → has_number (left_at k right slot) b ≡ true
-  left_closed a b has_it linked =
-      let from = left_source k right (tags_at k slot) (numbers_at k.ext slot) a has_it in
+  pub remaining_closed : (a b : ℕ) → has_number (remaining_at k right slot) a ≡ true → is_linked k a b ≡ true → has_number (remaining_at k right slot) b ≡ true
+  remaining_closed a b has_it linked =
+      let from = remaining_source k right (tags_at k slot) (numbers_at k.ext slot) a has_it in
       let on = led_on k sound from.source a b from.entailed linked in
       let l = led k from.source b on in
-      source_left k right (tags_at k slot) (numbers_at k.ext slot) b (named_below k sound b (ap is_some l.is_to))
+      remaining_from k right (tags_at k slot) (numbers_at k.ext slot) b (named_below k sound b (ap is_some l.is_to))
       (record { source = from.source; among = from.among; held = from.held; entailed = on })
 
 -- ---- what it tells
@@ -229,29 +229,29 @@ module _ (k : Kept) (sound : AreSound k) (right slot : ℕ) (l r : List ℕ) (fi
           side (inl without) = without
           side (inr by_right) = absurd (both_ways (is_entailed k right m) (not-true (is_entailed k right m) not_led) (led_from k right m r u is_right is by_right))
 
-  left_numbers : Numbers k.dict (has_number (left_at k right slot)) (all_up D A own)
-  left_numbers = record {
+  remaining_numbers : Numbers k.dict (has_number (remaining_at k right slot)) (all_up D A own)
+  remaining_numbers = record {
     numbered = λ w m.
         let from = entailing D A own w m in
         let at = among_word k sound old from.0 (subst (λ ws. Among ws from.0) (sym told) (all_up_has D (with_axiom A (l, r)) own from.0 from.1)) in
         let n = up_has_number k sound at.0 from.0 w at.1 from.2 in (
           n.0,
           n.1,
-          source_left k right tags old n.0 (named_below k sound n.0 (ap is_some n.1))
-          (record {
-            source = at.0;
-            among = among_from_number old at.0 at.2;
-            held = own_stays from.0 at.0 at.1 (own_word D file from.0 from.1);
-            entailed = led_from k at.0 n.0 from.0 w at.1 n.1 from.2;
-          }),
+          remaining_from k right tags old n.0 (named_below k sound n.0 (ap is_some n.1))
+              (record {
+                source = at.0;
+                among = among_from_number old at.0 at.2;
+                held = own_stays from.0 at.0 at.1 (own_word D file from.0 from.1);
+                entailed = led_from k at.0 n.0 from.0 w at.1 n.1 from.2;
+              }),
         );
     worded = λ n w is has_it.
-        let from = left_source k right tags old n has_it in
+        let from = remaining_source k right tags old n has_it in
         let l = led k from.source n from.entailed in
         let to : Among (up D A l.from) w = subst (λ v. Among (up D A l.from) v) (same_Some l.to w (sym l.is_to ∙ is)) l.entailed in
         all_up_closed D A own l.from w (held_come from.source l.from l.is_from from.among from.held) to;
   }
 
   -- the description without the axiom
-  pub left_told : words_told k.dict (left_at k right slot) ≡ file_words D A file
-  left_told = numbers_are k sound (left_at k right slot) (all_up D A own) (sorted_all_up D A own) left_numbers
+  pub remaining_told : words_told k.dict (remaining_at k right slot) ≡ file_words D A file
+  remaining_told = numbers_are k sound (remaining_at k right slot) (all_up D A own) (sorted_all_up D A own) remaining_numbers

@@ -15,7 +15,7 @@ use Rattle.lis_kept.specs.Kept.{Kept}
 use Rattle.lis_kept.specs.Links.{TellsLinks}
 use Rattle.lis_kept.specs.Sound.{AreSound}
 use Rattle.lis_kept.proofs.Formed.{some_word, named_below}
-use Rattle.lis_store.specs.Unlinking.{entails_by, is_entailed, stays, is_left, numbers_left}
+use Rattle.lis_store.specs.Unlinking.{entails_by, is_entailed, stays, remains, remaining}
 use Rattle.lis_store.proofs.Entailed.{entails_told, out_none, out_more}
 use Rattle.lis_store.proofs.Naming.{same_shape, value_at}
 use Rattle.lis_store.proofs.Numbers.{numbers_same}
@@ -31,7 +31,7 @@ row_led k sound t tells entailed values m n some lt =
 -- the row lost what those of the numbers entail that stay
 pub record LeavesLed (k : Kept) (right : ℕ) (tags numbers : List ℕ) (old row : Rows) : Type 0 where
   pub shape : HasShape row 1 k.limits.props
-  pub bits : (n : ℕ) → n < k.limits.props → get row 0 n ≡ (get old 0 n && not (is_left k right tags numbers n))
+  pub bits : (n : ℕ) → n < k.limits.props → get row 0 n ≡ (get old 0 n && not (remains k right tags numbers n))
 
 pub led_none : (k : Kept) (right : ℕ) (tags : List ℕ) (row : Rows) → HasShape row 1 k.limits.props → LeavesLed k right tags [] row row
 led_none k right tags row shape = record { shape = shape; bits = λ n lt. out_none (get row 0 n) }
@@ -41,10 +41,10 @@ or_none true = refl
 or_none false = refl
 
 module _ (k : Kept) (right : ℕ) (tags numbers : List ℕ) (m : ℕ) (old row : Rows) (leaves : LeavesLed k right tags numbers old row) where
-  one_more : (n : ℕ) → is_left k right tags (numbers ++ m ∷ []) n ≡ (is_left k right tags numbers n || (stays k right tags m && is_entailed k m n))
+  one_more : (n : ℕ) → remains k right tags (numbers ++ m ∷ []) n ≡ (remains k right tags numbers n || (stays k right tags m && is_entailed k m n))
   one_more n =
       list_any-append (λ j. stays k right tags j && is_entailed k j n) numbers (m ∷ [])
-      ∙ ap (λ b. is_left k right tags numbers n || b) (or_none (stays k right tags m && is_entailed k m n))
+      ∙ ap (λ b. remains k right tags numbers n || b) (or_none (stays k right tags m && is_entailed k m n))
 
   pub led_more : stays k right tags m ≡ true → (entailed new : Rows) → ((n : ℕ) → n < k.limits.props → get entailed m n ≡ is_entailed k m n)
       → new ≡ with_row row 0 (λ bit. get row 0 bit && not (get entailed m bit)) → LeavesLed k right tags (numbers ++ m ∷ []) old new
@@ -53,8 +53,8 @@ module _ (k : Kept) (right : ℕ) (tags numbers : List ℕ) (m : ℕ) (old row :
     bits = λ n lt.
         value_at row new k.limits.props n (λ bit. get row 0 bit && not (get entailed m bit)) leaves.shape is lt
         ∙ (ap₂ (λ a b. a && not b) (leaves.bits n lt) (values n lt)
-        ∙ (out_more (get old 0 n) (is_left k right tags numbers n) (is_entailed k m n)
-        ∙ sym (ap (λ b. get old 0 n && not b) (one_more n ∙ ap (λ b. is_left k right tags numbers n || (b && is_entailed k m n)) held))));
+        ∙ (out_more (get old 0 n) (remains k right tags numbers n) (is_entailed k m n)
+        ∙ sym (ap (λ b. get old 0 n && not b) (one_more n ∙ ap (λ b. remains k right tags numbers n || (b && is_entailed k m n)) held))));
   }
 
   pub led_same : stays k right tags m ≡ false → LeavesLed k right tags (numbers ++ m ∷ []) old row
@@ -63,7 +63,7 @@ module _ (k : Kept) (right : ℕ) (tags numbers : List ℕ) (m : ℕ) (old row :
     bits = λ n lt.
         leaves.bits n lt
         ∙ sym (ap (λ b. get old 0 n && not b)
-        (one_more n ∙ (ap (λ b. is_left k right tags numbers n || (b && is_entailed k m n)) goes ∙ or_none (is_left k right tags numbers n))));
+        (one_more n ∙ (ap (λ b. remains k right tags numbers n || (b && is_entailed k m n)) goes ∙ or_none (remains k right tags numbers n))));
   }
 
 -- ---- what is left over
@@ -76,19 +76,19 @@ kept_whole false = refl
 
 -- the rows in turn: full, without what stays entails, and turned over
 module _ (k : Kept) (right : ℕ) (tags numbers : List ℕ) (start full rest done : Rows) (shape : HasShape start 1 k.limits.props) (is_full : full ≡ with_row start 0 (λ _. true))
-    (rest_shape : HasShape rest 1 k.limits.props) (bits : (n : ℕ) → n < k.limits.props → get rest 0 n ≡ (get full 0 n && not (is_left k right tags numbers n)))
+    (rest_shape : HasShape rest 1 k.limits.props) (bits : (n : ℕ) → n < k.limits.props → get rest 0 n ≡ (get full 0 n && not (remains k right tags numbers n)))
     (turned : done ≡ with_row rest 0 (λ bit. not (get rest 0 bit))) where
-  bits_then : (n : ℕ) → n < k.limits.props → get done 0 n ≡ is_left k right tags numbers n
+  bits_then : (n : ℕ) → n < k.limits.props → get done 0 n ≡ remains k right tags numbers n
   bits_then n lt =
       let whole = value_at start full k.limits.props n (λ _. true) shape is_full lt in
       value_at rest done k.limits.props n (λ bit. not (get rest 0 bit)) rest_shape turned lt
-      ∙ (ap not (bits n lt ∙ ap (λ b. b && not (is_left k right tags numbers n)) whole) ∙ kept_whole (is_left k right tags numbers n))
+      ∙ (ap not (bits n lt ∙ ap (λ b. b && not (remains k right tags numbers n)) whole) ∙ kept_whole (remains k right tags numbers n))
 
   pub done_shape : HasShape done 1 k.limits.props
   done_shape = same_shape rest done 1 k.limits.props 0 (λ bit. not (get rest 0 bit)) rest_shape turned
 
-  pub done_numbers : numbers_where k.limits.props (get done 0) ≡ numbers_left k right tags numbers
-  done_numbers = numbers_same k.limits.props (get done 0) (is_left k right tags numbers) bits_then
+  pub done_numbers : numbers_where k.limits.props (get done 0) ≡ remaining k right tags numbers
+  done_numbers = numbers_same k.limits.props (get done 0) (remains k right tags numbers) bits_then
 
 -- ---- one number after another
 module _ (k : Kept) (sound : AreSound k) (t : Taxonomy) (tells : TellsLinks k t) (entailed : Rows) (tall : HasShape entailed t.props t.props)

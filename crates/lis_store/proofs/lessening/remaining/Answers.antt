@@ -3,8 +3,8 @@ use Rattle.lis_bits.specs.Rows.{HasShape, get}
 use Rattle.lis_ext.specs.Numbers.{numbers_where}
 use Rattle.lis_kept.proofs.InArea.{few_properties}
 use Rattle.lis_model.specs.declared.limits.Limits.{Limits}
-use Rattle.lis_store.proofs.LeftRows.{full_shape, done_shape, done_numbers}
-use Rattle.lis_store.proofs.lessening.numbers_left.Goals as goal
+use Rattle.lis_store.proofs.RemainingRows.{full_shape, done_shape, done_numbers}
+use Rattle.lis_store.proofs.lessening.remaining.Goals as goal
 
 pub leave_out-requires-clause-shape : goal.leave_out-requires-clause-shape
 leave_out-requires-clause-shape c = full_shape c.args.parts.now.limits.props c.args.row.now c.fill.new.self c.requires.shape c.fill.ensures
