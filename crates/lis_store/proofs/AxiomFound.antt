@@ -1,5 +1,5 @@
 -- An axiom that is looked for by its words.
-use Rattle.std.proofs.Common.{◌≡◌, ◌⊎◌, refl, sym, ap, ap₂, ◌∙◌, subst, ℕ, ◌&&◌, ◌==◌, Bool, true, false, List, Option, Some, None, is_some, IsSome}
+use Rattle.std.proofs.Common.{◌≡◌, refl, sym, ap, ◌∙◌, subst, ℕ, ◌&&◌, ◌==◌, true, false, List, Option, Some, None, IsSome}
 use Rattle.std.proofs.lemmas.Bool.{and_parts, eqb-true, both_ways, false_from_ne_true}
 use Rattle.lis_graph.proofs.Members.{Among, among_from_any}
 use Rattle.lis_dict.specs.Dict.{number_of, word_of}

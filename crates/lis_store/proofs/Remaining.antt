@@ -1,6 +1,6 @@
 -- What is left of a description without an axiom.
-use Rattle.std.proofs.Common.{◌≡◌, ◌⊎◌, refl, sym, ap, ◌∙◌, subst, inl, inr, ℕ, ◌+◌, ◌<◌, ◌≤◌, not, ◌&&◌, ◌||◌, Bool, true, false, cond, List, [], ◌∷◌, length, Option, Some, None, is_some, arith}
-use Rattle.std.specs.List.{list_any, list_all}
+use Rattle.std.proofs.Common.{◌≡◌, ◌⊎◌, refl, sym, ap, ◌∙◌, subst, inl, inr, ℕ, ◌+◌, ◌<◌, ◌≤◌, not, ◌&&◌, Bool, true, false, cond, List, [], ◌∷◌, length, Option, Some, None, is_some, arith}
+use Rattle.std.specs.List.{list_all}
 use Rattle.std.specs.Ordering.{nat_cmp}
 use Rattle.std.specs.Cmp.{nat_cmp_total}
 use Rattle.std.specs.BTreeSet.{insert_key}
@@ -23,7 +23,7 @@ use Rattle.lis_model.specs.State.{File, up, all_up, own_words, file_words}
 use Rattle.lis_model.specs.Changes.{with_axiom}
 use Rattle.lis_laws.proofs.Apart.{plain_not_valued}
 use Rattle.lis_laws.proofs.Chains.{up_self, up_trans, entails_from_up}
-use Rattle.lis_laws.proofs.Closures.{entailing, entailed_in, all_up_has, all_up_closed, sorted_all_up, with_one_axiom}
+use Rattle.lis_laws.proofs.Closures.{entailing, all_up_has, all_up_closed, sorted_all_up, with_one_axiom}
 use Rattle.lis_laws.proofs.Counts.{all_among, all_from, insert_key_le}
 use Rattle.lis_laws.proofs.Leads.{link_cases, right_leads}
 use Rattle.lis_laws.proofs.Members.{among_with_words}

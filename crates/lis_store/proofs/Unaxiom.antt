@@ -1,12 +1,11 @@
 -- A call that takes an axiom away.
-use Rattle.std.proofs.Common.{◌≡◌, refl, sym, ap, ◌∙◌, subst, ℕ, ◌+◌, ◌≤◌, not, ◌&&◌, Bool, true, false, cond, List, Some, length, Result, Err, arith}
+use Rattle.std.proofs.Common.{◌≡◌, refl, sym, ap, ◌∙◌, subst, ℕ, ◌+◌, ◌≤◌, not, ◌&&◌, Bool, true, false, cond, List, length, Result, Err, arith}
 use Rattle.std.proofs.lemmas.Bool.{and_parts}
 use Rattle.std.proofs.lemmas.Option.{same_Some}
 use Rattle.lis_graph.proofs.Members.{among_from_any}
 use Rattle.lis_ports.specs.Meaning.{Meaning}
 use Rattle.lis_journal.specs.Record.{Entry as Staged}
 use Rattle.lis_journal.specs.Phases.{looked}
-use Rattle.lis_dict.specs.Dict.{word_of}
 use Rattle.lis_words.specs.Words.{same_word, is_plain_word}
 use Rattle.lis_model.specs.declared.refusal.Refusal.TheVariants.{NoAxiom}
 use Rattle.lis_model.specs.State.{State}

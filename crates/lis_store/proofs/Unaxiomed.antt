@@ -13,7 +13,7 @@ use Rattle.lis_dict.specs.Dict.{Dict, word_of}
 use Rattle.lis_catalog.specs.Catalog.{Filed}
 use Rattle.lis_ext.specs.Ext.{Ext, has, set_of as numbers_at}
 use Rattle.lis_ext.specs.Numbers.{differs, numbers_where}
-use Rattle.lis_words.specs.Words.{has_word, is_plain_word}
+use Rattle.lis_words.specs.Words.{has_word}
 use Rattle.lis_fields.specs.declared.slots.AxiomSlot.TheVariants.{Free as FreeAxiom, Pair}
 use Rattle.lis_model.specs.State.{State, File, pair_cmp, description, file_words}
 use Rattle.lis_model.specs.Changes.{with_axiom, same_pair, axiom_removed}
@@ -28,7 +28,6 @@ use Rattle.lis_kept.specs.Areas.{IsSaved, block_of, is_marked, marked_count}
 use Rattle.lis_kept.specs.Areas.Area.{Axioms, Rows}
 use Rattle.lis_kept.specs.Links.{is_pair, has_pair, is_own_link, is_linked}
 use Rattle.lis_kept.specs.Sound.{AreSound, FreeSlotsAreEmpty, BlocksAreTaken}
-use Rattle.lis_kept.specs.Forgetting.{KeepsInUse}
 use Rattle.lis_kept.specs.Telling.{words_told, declared_of, axioms_of, file_told, blocks_told, state_of, is_head_by, is_had, is_used, AreUsed, IsFileBlock, Tells}
 use Rattle.lis_kept.proofs.AxiomTaken.{axiom_back, taken_unfelt}
 use Rattle.lis_kept.proofs.Described.{among_where, where_among}
@@ -39,12 +38,12 @@ use Rattle.lis_kept.proofs.MarkedWithin.{marked_only, marked_within}
 use Rattle.lis_kept.proofs.OwnLinks.{own_link_is}
 use Rattle.lis_kept.proofs.Used.{had_at}
 use Rattle.lis_kept.proofs.WordLess.{had_from}
-use Rattle.lis_store.specs.Stored.{AreClosed, PairsAreApart, DescriptionsAreShort, BlocksAreApart, IsSound}
+use Rattle.lis_store.specs.Stored.{AreClosed, DescriptionsAreShort, BlocksAreApart, IsSound}
 use Rattle.lis_store.specs.Changes.{differing_bits}
 use Rattle.lis_store.specs.Saving.{settled, IsReady}
-use Rattle.lis_store.specs.Unlinking.{is_entailed, tags_by, tags_at, remaining_at, lessened, lost_at, IsLostRow, Lessens, heads_by, with_head, TakesAxiom}
-use Rattle.lis_store.proofs.AxiomGone.{rights_unlinked, pairs_unlinked, closed_unlinked, tags_unlinked, right_flagged, SetCases, set_then, set_by, had_back, lost, closed_less, tags_less, short_less, free_less, unused_is}
-use Rattle.lis_store.proofs.Cleaned.{clean_is, sound_clean, in_use_clean, none_marked}
+use Rattle.lis_store.specs.Unlinking.{is_entailed, tags_by, remaining_at, lessened, lost_at, IsLostRow, heads_by, with_head, TakesAxiom}
+use Rattle.lis_store.proofs.AxiomGone.{rights_unlinked, pairs_unlinked, closed_unlinked, tags_unlinked, SetCases, set_then, set_by, had_back, lost, closed_less, tags_less, short_less, free_less, unused_is}
+use Rattle.lis_store.proofs.Cleaned.{clean_is, sound_clean, in_use_clean}
 use Rattle.lis_store.proofs.HeadsUsed.{used_had}
 use Rattle.lis_store.proofs.Remaining.{led, led_had, few_within, remaining_told}
 use Rattle.lis_store.proofs.Numbers.{sorted_where}

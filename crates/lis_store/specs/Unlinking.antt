@@ -55,10 +55,11 @@ tags_at k slot = tags_by (rec_at k.catalog slot)
 abbrev pub stays : Kept → ℕ → List ℕ → ℕ → Bool
 stays k right tags n = has_number tags n || not (is_entailed k right n)
 
--- what those of the numbers entail that stay
+-- one that stays entails it
 abbrev pub remains : Kept → ℕ → List ℕ → List ℕ → ℕ → Bool
 remains k right tags numbers n = list_any (λ m. stays k right tags m && is_entailed k m n) numbers
 
+-- all numbers that those of a description entail that stay
 abbrev pub remaining : Kept → ℕ → List ℕ → List ℕ → List ℕ
 remaining k right tags numbers = numbers_where k.limits.props (remains k right tags numbers)
 

@@ -1,4 +1,4 @@
-use Rattle.std.proofs.Common.{◌≡◌, ◌∙◌, sym, ap}
+use Rattle.std.proofs.Common.{◌∙◌, sym, ap}
 use Rattle.lis_words.specs.Words.{is_plain_word}
 use Rattle.lis_store.proofs.AxiomFound.{no_left, no_right, found_told, found_at}
 use Rattle.lis_store.proofs.lessening.axiom_numbers.Goals as goal

@@ -1,6 +1,6 @@
-use Rattle.std.proofs.Common.{◌≡◌, ◌∙◌, ℕ, ◌+◌, ◌<◌, not, ◌&&◌, List, length, take, get_or, sym, ap, subst, arith}
+use Rattle.std.proofs.Common.{◌∙◌, ℕ, ◌+◌, not, ◌&&◌, List, take, sym, ap, subst, arith}
 use Rattle.std.proofs.lemmas.List.{take_all}
-use Rattle.lis_bits.specs.Rows.{Rows, HasShape, get, with_row}
+use Rattle.lis_bits.specs.Rows.{Rows, get, with_row}
 use Rattle.lis_store.proofs.RemainingRows.{LeavesLed, led_none, right_in, number_in, number_row, next_out, next_same}
 use Rattle.lis_store.proofs.lessening.leave_out.Goals as goal
 use Rattle.lis_store.proofs.lessening.leave_out.Goals.{then-stays, else-stays}

@@ -1,4 +1,4 @@
-use Rattle.std.proofs.Common.{◌≡◌, ◌∙◌, ◌⊎◌, ℕ, ◌<◌, true, false, List, is_some, length, refl, sym, ap, ap₂, subst, inl, inr, arith}
+use Rattle.std.proofs.Common.{◌≡◌, ◌∙◌, ℕ, ◌<◌, List, is_some, length, refl, sym, ap, ap₂, subst, inl, inr, arith}
 use Rattle.std.specs.List.{list_all}
 use Rattle.std.specs.List.Sorted.{IsStrictlyIncreasing}
 use Rattle.std.proofs.lemmas.Map.Keys.{IsStrictlyIncreasing-from_sorted}
@@ -9,7 +9,7 @@ use Rattle.lis_kept.specs.Changes.{Describes}
 use Rattle.lis_kept.proofs.Filing.{number_from_among}
 use Rattle.lis_kept.proofs.Formed.{named_below}
 use Rattle.lis_laws.proofs.Counts.{all_from}
-use Rattle.lis_store.specs.Unlinking.{tags_at, remains, remaining, remaining_at, LessensAt}
+use Rattle.lis_store.specs.Unlinking.{tags_at, remains, remaining}
 use Rattle.lis_store.proofs.Remaining.{remaining_named}
 use Rattle.lis_store.proofs.Numbers.{sorted_where}
 use Rattle.lis_store.proofs.lessening.lessen.Goals as goal

@@ -1,4 +1,4 @@
-use Rattle.std.proofs.Common.{◌≡◌, ◌∙◌, ℕ, ◌+◌, ◌<◌, ◌≤◌, length, sym, ap, subst, arith}
+use Rattle.std.proofs.Common.{◌≡◌, ℕ, ◌<◌, length, ap, subst, arith}
 use Rattle.lis_bits.specs.Rows.{HasShape}
 use Rattle.lis_kept.specs.Kept.{Kept}
 use Rattle.lis_model.specs.declared.limits.Limits.{Limits}
