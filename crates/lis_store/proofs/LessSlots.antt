@@ -15,18 +15,6 @@ use Rattle.lis_kept.proofs.Described.{among_where}
 use Rattle.lis_kept.proofs.MarkedWithin.{marked_only}
 use Rattle.lis_store.specs.Unlinking.{tags_at, remaining, remaining_at, lessened, lost_at, LessensAt, IsLostRow, Lessens}
 
-pub lessens_none : (left right : ℕ) (p : Kept) → Lessens left right 0 p p
-lessens_none left right p = record {
-  parts = refl;
-  props = refl;
-  slots = refl;
-  done = λ slot lt. absurd (omega (arith, lt));
-  others = λ slot le. refl;
-  saved = λ at saved. saved;
-  within = λ block is. inl is;
-  edits = omega arith;
-}
-
 module _ (left right n : ℕ) (p q : Kept) (so_far : Lessens left right n p q) where
   -- the next slot is as it was at first
   pub same_here : numbers_at q.ext n ≡ numbers_at p.ext n
