@@ -41,11 +41,11 @@ module _ (declared : List (List ℕ)) (axioms : List (List ℕ × List ℕ)) (o 
   ups_one word = one_of_set (up declared axioms word ++ []) o ∙ ap (λ ws. is_one_of ws o) (append-nil (up declared axioms word))
 
 -- ---- left out
-out_none : (a : Bool) → a ≡ (a && not false)
+pub out_none : (a : Bool) → a ≡ (a && not false)
 out_none true = refl
 out_none false = refl
 
-out_more : (a x y : Bool) → ((a && not x) && not y) ≡ (a && not (x || y))
+pub out_more : (a x y : Bool) → ((a && not x) && not y) ≡ (a && not (x || y))
 out_more true true y = refl
 out_more true false y = refl
 out_more false x y = refl

@@ -45,3 +45,11 @@ pub mod AddAxiom
 pub mod RelatedNumbers
 pub mod Overfull
 pub mod Related
+pub mod Remaining
+pub mod HeadsUsed
+pub mod RemainingRows
+pub mod LessSlots
+pub mod AxiomGone
+pub mod Unaxiomed
+pub mod AxiomFound
+pub mod Unaxiom

@@ -15,3 +15,4 @@ pub mod Adding
 pub mod Counting
 pub mod Relating
 pub mod RelatingIn
+pub mod Unlinking

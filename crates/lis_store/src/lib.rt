@@ -12,6 +12,7 @@ mod derived;
 mod describing;
 mod judging;
 pub mod laws;
+mod lessening;
 mod looking;
 mod relating;
 mod relating_in;

@@ -18,6 +18,7 @@ ghost use Rattle.lis_store.specs.Judging.{is_among};
 ghost use Rattle.lis_store.specs.Changes.{Changes, HasChangeCause, ChangeLeft, EditsFew};
 
 mod linking;
+mod unlinking;
 
 use crate::adding::put_in;
 use crate::admitting::may_add;

@@ -1,0 +1,79 @@
+-- A call that takes an axiom away.
+use Rattle.std.proofs.Common.{◌≡◌, refl, sym, ap, ◌∙◌, subst, ℕ, ◌+◌, ◌≤◌, not, ◌&&◌, Bool, true, false, cond, List, length, Result, Err, arith}
+use Rattle.std.proofs.lemmas.Bool.{and_parts}
+use Rattle.std.proofs.lemmas.Option.{same_Some}
+use Rattle.lis_graph.proofs.Members.{among_from_any}
+use Rattle.lis_ports.specs.Meaning.{Meaning}
+use Rattle.lis_journal.specs.Record.{Entry as Staged}
+use Rattle.lis_journal.specs.Phases.{looked}
+use Rattle.lis_words.specs.Words.{same_word, is_plain_word}
+use Rattle.lis_model.specs.declared.refusal.Refusal.TheVariants.{NoAxiom}
+use Rattle.lis_model.specs.State.{State}
+use Rattle.lis_model.specs.Changes.{same_pair, has_axiom, axiom_removed}
+use Rattle.lis_model.specs.Step.{Situation, refused, changed, unaxiom}
+use Rattle.lis_laws.proofs.Members.{same_word_decides}
+use Rattle.lis_laws.proofs.Sources.{rights_are, right_plain}
+use Rattle.lis_kept.specs.Kept.{Kept}
+use Rattle.lis_kept.specs.Areas.{marked_count}
+use Rattle.lis_kept.specs.Linking.{MayUnlink}
+use Rattle.lis_kept.specs.Sound.{AreSound}
+use Rattle.lis_store.specs.declared.change.Change.{Change}
+use Rattle.lis_store.specs.declared.change.Change.TheVariants.{Refused}
+use Rattle.lis_store.specs.Stored.{Stored, PairsAreApart, IsSound, StoreFits}
+use Rattle.lis_store.specs.Changes.{Changes}
+use Rattle.lis_store.specs.Saving.{settled, IsReady, Saves}
+use Rattle.lis_store.specs.Unlinking.{is_axiom, IsAxiomAt, TakesAxiom}
+use Rattle.lis_store.proofs.Judged.{change_refused}
+use Rattle.lis_store.proofs.Unaxiomed.{limits_stay, sound_gone, ready_gone, few_marked}
+
+-- only plain words are right sides
+axiom_here : (k : Stored) (m : Meaning) (s : State) → StoreFits k m s → (l r : List ℕ) → is_axiom k.parts l r ≡ has_axiom s.axioms (l, r)
+axiom_here k m s fits l r =
+    ap (λ (t : State). is_plain_word r && has_axiom t.axioms (l, r)) fits.tells.state ∙ by (has_axiom s.axioms (l, r)) refl
+  where
+    either : (b : Bool) → (b && false) ≡ false
+    either true = refl
+    either false = refl
+
+    by : (b : Bool) → has_axiom s.axioms (l, r) ≡ b → (is_plain_word r && b) ≡ b
+    by false is = either (is_plain_word r)
+    by true is =
+        let found = among_from_any (λ p. same_pair p (l, r)) s.axioms is in
+        let e = found.0 in
+        let same = (same_word_decides e.1 r).0 (and_parts (same_word e.0 l) (same_word e.1 r) found.2).1 in
+        ap (λ b. b && true) (subst (λ w. is_plain_word w ≡ true) same (right_plain s e.1 (rights_are s fits.tells.formed e found.1)))
+
+-- an axiom that may go
+pub may_go : (k : Kept) → PairsAreApart k → (l r : List ℕ) (left right : ℕ) → IsAxiomAt k l r left right → MayUnlink left right k
+may_go k apart l r left right found = record {
+  there = found.there;
+  once = λ slot other is_slot is_other. apart slot other left right is_slot is_other;
+  plain = λ to is. subst (λ w. is_plain_word w ≡ true) (same_Some r to (sym found.is_right ∙ is)) found.plain;
+}
+
+-- one that is not there
+pub unaxiom_refused : {T : Type 0} (old : Stored) (m : Meaning) (l r : List ℕ) (result : Result T Change) → is_axiom old.parts l r ≡ false → result ≡ Err (Refused NoAxiom)
+    → (now : Situation) → StoreFits old m now.state → Changes now (unaxiom now (l, r)) old m m result
+unaxiom_refused old m l r result none ends now fits =
+    change_refused old m now (unaxiom now (l, r)) NoAxiom result fits
+    (ap (λ b. cond (not b) (refused now NoAxiom) (changed now (axiom_removed now.state (l, r)))) (sym (axiom_here old m now.state fits l r) ∙ none)) ends
+
+module _ (old : Stored) (q : Kept) (l r : List ℕ) (left right : ℕ) (found : IsAxiomAt old.parts l r left right) (takes : TakesAxiom left right old.parts q) (sound : IsSound old) (unbroken : old.is_broken ≡ false)
+    (there : is_axiom old.parts l r ≡ true) where
+  pub unaxiom_sound : AreSound q → IsSound (settled q old.journal)
+  unaxiom_sound = sound_gone left right old.parts q takes old.journal old.is_broken sound unbroken
+
+  pub unaxiom_marks : length old.journal.staged + marked_count q ≤ 531
+  unaxiom_marks =
+      let few = few_marked left right old.parts q takes old.journal old.is_broken sound (sound.clean unbroken) in
+      omega (arith, few, ap length (sound.staged unbroken))
+
+  pub unaxiom_changes : {T : Type 0} (new : Stored) (before after : Meaning) (result : Result T Change) → Saves q old.journal new before after result
+      → (now : Situation) → StoreFits old before now.state → Changes now (unaxiom now (l, r)) new before after result
+  unaxiom_changes new before after result saves now fits =
+      let s = now.state in
+      let made : State = axiom_removed s (l, r) in
+      let ready : IsReady q fits.kept made = ready_gone left right old.parts q takes old.journal old.is_broken sound fits.kept s fits.tells l r found.is_left found.is_right (λ area n lt unmarked. fits.written area n lt) in
+      saves old now (unaxiom now (l, r)) made fits sound refl refl refl (limits_stay left right old.parts q takes old.journal old.is_broken sound)
+      (λ _. subst (λ (es : List Staged). IsReady q (looked es fits.kept) made) (sym (sound.staged unbroken)) ready)
+      (ap (λ b. cond (not b) (refused now NoAxiom) (changed now made)) (sym (axiom_here old before s fits l r) ∙ there))

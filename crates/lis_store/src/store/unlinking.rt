@@ -1,0 +1,55 @@
+//! `unaxiom`.
+
+ghost use Rattle.std.specs.Prelude.{◌≡◌, ◌*◌, ◌≤◌, false, Err};
+ghost use Rattle.lis_ports.specs.Runs.{IsDiskRun};
+ghost use Rattle.lis_model.specs.declared.refusal.Refusal.{Refusal};
+ghost use Rattle.lis_model.specs.Step.{Situation, unaxiom};
+ghost use Rattle.lis_eval.specs.Room.{HasRoom};
+ghost use Rattle.lis_store.specs.declared.change.Change.TheVariants.{Refused};
+ghost use Rattle.lis_store.specs.Stored.{StoreFits};
+ghost use Rattle.lis_store.specs.Changes.{Changes, HasChangeCause, ChangeLeft, EditsFew};
+
+use crate::change::Change;
+use crate::lessening::{axiom_numbers, take_axiom};
+use crate::saving::save;
+use crate::store::Store;
+use lis_eval::Scratch;
+use lis_model::refusal::Refusal;
+use lis_ports::Disk;
+use lis_words::Word;
+
+impl Store {
+    /// Takes an axiom away: `unaxiom`.
+    pub fn unaxiom<D: Disk>(
+        &mut self,
+        disk: &mut D,
+        scratch: &mut Scratch,
+        left: &Word,
+        right: &Word,
+    ) -> Result<(), Change>
+        requires scratch { HasRoom scratch.old self.old.parts.limits }
+        requires unbroken { self.old.is_broken ≡ false }
+        requires long { 4096 * self.old.journal.blocks ≤ (D.meaning disk.old).len }
+        ensures scratch { HasRoom scratch.new self.old.parts.limits }
+        ensures changes { (now : Situation) → StoreFits self.old (D.meaning disk.old) now.state
+            → Changes now (unaxiom now (left.now, right.now)) self.new (D.meaning disk.old) (D.meaning disk.new) result }
+        ensures untouched { (refusal : Refusal) → result ≡ Err (Refused refusal) → disk.new ≡ disk.old }
+        ensures limits { self.new.parts.limits ≡ self.old.parts.limits }
+        ensures image { self.new.journal.blocks ≡ self.old.journal.blocks }
+        ensures left { ChangeLeft self.old self.new result }
+        ensures edits { EditsFew self.old self.new }
+        ensures run { IsDiskRun (D.meaning disk.old) (D.meaning disk.new) }
+        ensures cause { HasChangeCause (D.meaning disk.old).disk_faults (D.meaning disk.new).disk_faults result }
+    {
+        let Some((from, to)) = axiom_numbers(&self.parts, left, right) else {
+            return Err(Change::Refused(Refusal::NoAxiom));
+        };
+        take_axiom(&mut self.parts, scratch, from, to);
+        save(
+            &mut self.parts,
+            &mut self.journal,
+            &mut self.is_broken,
+            disk,
+        )
+    }
+}
