@@ -1,11 +1,12 @@
 //! What commands are refused for.
 
-ghost use Rattle.std.specs.Prelude.{◌≡◌, IsTrue, OnOk};
+ghost use Rattle.std.specs.Prelude.{◌≡◌, Some, IsTrue, OnOk, IfOk};
+ghost use Rattle.lis_dict.specs.Dict.{number_of};
 ghost use Rattle.lis_model.specs.Places.{is_root};
 ghost use Rattle.lis_model.specs.State.{is_declarable};
 ghost use Rattle.lis_words.specs.Words.{is_kept_word};
 ghost use Rattle.lis_store.specs.Changes.{Judges};
-ghost use Rattle.lis_store.specs.Judging.{word_checks};
+ghost use Rattle.lis_store.specs.Judging.{word_checks, undeclare_checks};
 
 use lis_kept::Parts;
 use lis_model::refusal::Refusal;
@@ -42,4 +43,27 @@ pub(crate) fn may_declare(parts: &Parts, place: &Place, word: &Word) -> Result<(
         return Err(Refusal::NoPropertyRoom);
     }
     Ok(())
+}
+
+/// The number of a word whose declaration may be taken back.
+pub(crate) fn may_undeclare(parts: &Parts, word: &Word) -> Result<u16, Refusal>
+    ensures row { Judges (undeclare_checks parts.now word.now) result }
+    ensures number { IfOk result (λ number. number_of parts.now.dict word.now ≡ Some number) }
+{
+    if is_builtin(word) {
+        return Err(Refusal::BuiltIn);
+    }
+    if is_valued(word.bytes()) {
+        return Err(Refusal::NotAssignable);
+    }
+    if !parts.is_declared(word) {
+        return Err(Refusal::NotDeclared);
+    }
+    let Some(number) = parts.number_of(word) else {
+        unreachable!()
+    };
+    if parts.is_needed(number) {
+        return Err(Refusal::InUse);
+    }
+    Ok(number)
 }
