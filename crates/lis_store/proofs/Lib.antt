@@ -15,6 +15,7 @@ pub mod Judged
 pub mod Cleaned
 pub mod Told
 pub mod Declared
+pub mod Undeclared
 pub mod Here
 pub mod Reading
 pub mod Given

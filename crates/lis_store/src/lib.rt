@@ -12,6 +12,7 @@ mod describing;
 mod judging;
 pub mod laws;
 mod looking;
+mod placing;
 mod removing;
 mod saving;
 mod store;
