@@ -31,6 +31,8 @@ pub mod FreeBlocks
 pub mod AddedTells
 pub mod AddedMarks
 pub mod Assigned
+pub mod Placing
+pub mod Under
 pub mod Gathered
 pub mod Measured
 pub mod Admitted

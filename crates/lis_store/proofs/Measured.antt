@@ -51,7 +51,7 @@ distinct_apart (w ∷ words) h =
     let both = and_parts (not (has_word words w)) (are_distinct words) h in
     (λ m. both_ways (has_word words w) (not-true (has_word words w) both.0) (has_word_from_among words w m), distinct_apart words both.1)
 
-sorted_apart : {K : Type 0} (cmp : K → K → Ordering) → IsTotalOrder cmp → (xs : List K) → IsStrictlySortedBy cmp xs → AllApart xs
+pub sorted_apart : {K : Type 0} (cmp : K → K → Ordering) → IsTotalOrder cmp → (xs : List K) → IsStrictlySortedBy cmp xs → AllApart xs
 sorted_apart cmp order [] sorted = tt
 sorted_apart cmp order (x ∷ xs) sorted =
     (λ m. no_tie cmp order x x xs (below_tail cmp order x xs sorted) m (tied_itself order x), sorted_apart cmp order xs (sorted_tail cmp order x xs sorted))
@@ -116,7 +116,7 @@ module _ (k : Kept) (sound : AreSound k) where
       let is : flat_map word_list (n ∷ ns) ≡ here.0 ∷ flat_map word_list ns = ap (λ o. option_to_list o ++ flat_map word_list ns) here.1 in
       (subst (λ (ws : List (List ℕ)). AllApart ws) (sym is) (new, rest.0), omega (arith, ap length is, rest.1))
 
-  told_counted : (ns : List ℕ) → AllApart ns → ((n : ℕ) → Among ns n → IsSome (word_of k.dict n)) → length (words_told k.dict ns) ≡ length ns
+  pub told_counted : (ns : List ℕ) → AllApart ns → ((n : ℕ) → Among ns n → IsSome (word_of k.dict n)) → length (words_told k.dict ns) ≡ length ns
   told_counted ns apart some =
       let once = told_once ns apart some in
       omega (arith, length-with_more word_cmp word_exact [] (flat_map word_list ns) once.0 (λ w m none. none), once.1)
