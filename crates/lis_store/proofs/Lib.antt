@@ -31,7 +31,7 @@ pub mod FreeBlocks
 pub mod AddedTells
 pub mod AddedMarks
 pub mod Assigned
-pub mod Placing
+pub mod PlaceNumbers
 pub mod Under
 pub mod Gathered
 pub mod Measured
