@@ -5,9 +5,10 @@ use Rattle.std.specs.List.{flat_map, list_all}
 use Rattle.std.specs.List.Sorted.{IsStrictlySortedBy}
 use Rattle.std.proofs.lemmas.Bool.{and_parts, and_from, both_ways, false_from_ne_true}
 use Rattle.std.proofs.lemmas.List.{take_all}
+use Rattle.std.proofs.lemmas.List.Elements.{Contains-get_or}
 use Rattle.std.proofs.lemmas.List.Folds.{list_all-append}
 use Rattle.std.proofs.lemmas.Grind.{flat_map-append}
-use Rattle.lis_graph.proofs.Members.{Among, among_flat_map, flat_map_among, among_insert_key, insert_key_old}
+use Rattle.lis_graph.proofs.Members.{Among, among_from_contains, among_flat_map, flat_map_among, among_insert_key, insert_key_old}
 use Rattle.lis_graph.proofs.Sets.{sorted_insert_key}
 use Rattle.lis_content.specs.Content.{has_number, are_distinct}
 use Rattle.lis_content.proofs.Numbers.{distinct_more}
@@ -29,7 +30,7 @@ use Rattle.lis_kept.specs.Telling.{is_declared, words_told}
 use Rattle.lis_kept.proofs.Filing.{same_tests}
 use Rattle.lis_kept.proofs.Known.{word_among}
 use Rattle.lis_store.specs.Assigning.{is_conjunct}
-use Rattle.lis_store.specs.Placing.{is_plain_conjunct, AreNumbersOf, TakesNumbers}
+use Rattle.lis_store.specs.Placing.{is_plain_conjunct, declared_number, AreNumbersOf, TakesNumbers}
 use Rattle.lis_store.proofs.Assigned.{place_words_are, place_has_words, with_words-append, flat_next}
 
 abbrev words_in : List Node → List (List ℕ)
@@ -39,13 +40,13 @@ words_in nodes = flat_map node_words nodes
 module _ (nodes : List Node) where
   plain_then : list_all is_plain_conjunct nodes ≡ true → list_all is_plain_word (set_of (words_in nodes)) ≡ true
   plain_then h = all_from is_plain_word (set_of (words_in nodes)) (λ w m.
-  let found = among_flat_map node_words nodes w (among_set_of (words_in nodes) w m) in
-  all_among is_plain_word (node_words found.0) w (and_parts (is_conjunct found.0) (list_all is_plain_word (node_words found.0)) (all_among is_plain_conjunct nodes found.0 h found.1)).1 found.2)
+      let found = among_flat_map node_words nodes w (among_set_of (words_in nodes) w m) in
+      all_among is_plain_word (node_words found.0) w (and_parts (is_conjunct found.0) (list_all is_plain_word (node_words found.0)) (all_among is_plain_conjunct nodes found.0 h found.1)).1 found.2)
 
   then_plain : list_all is_conjunct nodes ≡ true → list_all is_plain_word (set_of (words_in nodes)) ≡ true → list_all is_plain_conjunct nodes ≡ true
   then_plain all h = all_from is_plain_conjunct nodes (λ node m.
-  and_from (is_conjunct node) (list_all is_plain_word (node_words node)) (all_among is_conjunct nodes node all m)
-  (all_from is_plain_word (node_words node) (λ w of. all_among is_plain_word (set_of (words_in nodes)) w h (set_of_among (words_in nodes) w (flat_map_among node_words nodes node w m of)))))
+      and_from (is_conjunct node) (list_all is_plain_word (node_words node)) (all_among is_conjunct nodes node all m)
+      (all_from is_plain_word (node_words node) (λ w of. all_among is_plain_word (set_of (words_in nodes)) w h (set_of_among (words_in nodes) w (flat_map_among node_words nodes node w m of)))))
 
   plain_nodes : (b : Bool) → list_all is_conjunct nodes ≡ b → list_all is_plain_conjunct nodes ≡ is_plain_place (option_map set_of (cond b (Some (words_in nodes)) None))
   plain_nodes true all = same_tests (list_all is_plain_conjunct nodes) (list_all is_plain_word (set_of (words_in nodes))) plain_then (then_plain all)
@@ -82,6 +83,13 @@ with_word_same words word sorted there =
     by w (inr old) = old
 
 -- ---- numbers that come one after another
+pub declared_is : (k : Kept) (word : List ℕ) (n : ℕ) → declared_number k word ≡ Some n → (is_declared k word ≡ true) × (number_of k.dict word ≡ Some n)
+declared_is k word n is = by (is_declared k word) refl is
+  where
+    by : (b : Bool) → is_declared k word ≡ b → cond b (number_of k.dict word) None ≡ Some n → (is_declared k word ≡ true) × (number_of k.dict word ≡ Some n)
+    by true declared some = (declared, some)
+    by false declared some = absurd cc
+
 pub numbers_none : (k : Kept) → AreNumbersOf k [] []
 numbers_none k = record { declared = refl; apart = refl; named = refl; told = refl }
 
@@ -147,13 +155,16 @@ few_words Or = omega arith
 abbrev pub AreNumbersIn : Kept → List Node → List ℕ → Type 0
 AreNumbersIn k nodes numbers = AreNumbersOf k (set_of (flat_map node_words nodes)) numbers
 
+pub among_item : (nodes : List Node) (i : ℕ) (node : Node) → i < length nodes → node ≡ get_or nodes i node → Among nodes node
+among_item nodes i node lt is = subst (λ n. Among nodes n) (sym is) (among_from_contains nodes (get_or nodes i node) (Contains-get_or nodes i node lt))
+
 pub numbers_next : (k : Kept) (nodes : List Node) (i : ℕ) (node : Node) → i < length nodes → node ≡ get_or nodes i node → (old new : List ℕ) (fits : Bool) → fits ≡ true → length old ≤ i
     → AreNumbersIn k (take i nodes) old → TakesNumbers k (node_words node) old new fits → (length new ≤ i + 1) × AreNumbersIn k (take (i + 1) nodes) new
-numbers_next k nodes i node lt is old new fits yes few are takes =
+numbers_next k nodes i node lt is old new fits fit few are takes =
     let words = set_of (words_in (take i nodes)) in
     let all : with_words words (node_words node) ≡ set_of (words_in (take (i + 1) nodes)) =
     sym (with_words-append [] (words_in (take i nodes)) (node_words node)) ∙ ap set_of (sym (flat_next node_words nodes i node lt is)) in
-    (omega (arith, takes.few, few_words node, few), subst (λ ws. AreNumbersOf k ws new) all (takes.numbers yes words are))
+    (omega (arith, takes.few, few_words node, few), subst (λ ws. AreNumbersOf k ws new) all (takes.numbers fit words are))
 
 pub numbers_all : (k : Kept) (place : List Formula) (nodes : List Node) (i : ℕ) (numbers : List ℕ) → IsSome (place_words place) → nodes ≡ nodes_of place → length nodes ≤ i
     → AreNumbersIn k (take i nodes) numbers → AreNumbersOf k (words_at place) numbers
@@ -163,9 +174,9 @@ numbers_all k place nodes i numbers some is end are =
 -- where the word of a node is not declared
 pub not_all_declared : (k : Kept) (place : List Formula) (nodes : List Node) (node : Node) (old new : List ℕ) (fits : Bool) → IsSome (place_words place) → nodes ≡ nodes_of place → Among nodes node
     → fits ≡ false → TakesNumbers k (node_words node) old new fits → list_all (is_declared k) (words_at place) ≡ false
-not_all_declared k place nodes node old new fits some is m no takes =
+not_all_declared k place nodes node old new fits some is m not_fit takes =
     false_from_ne_true (list_all (is_declared k) (words_at place)) (λ all.
-    both_ways (list_all (is_declared k) (node_words node)) (sym takes.declared ∙ no)
+    both_ways (list_all (is_declared k) (node_words node)) (sym takes.declared ∙ not_fit)
     (all_from (is_declared k) (node_words node) (λ w of.
     all_among (is_declared k) (words_at place) w all
     (subst (λ ws. Among ws w) (sym (words_of_nodes place some))
