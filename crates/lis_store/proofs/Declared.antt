@@ -112,6 +112,50 @@ is_placeable k place word none =
       room = omega (arith, ltb-false k.limits.props (length k.dict.entries + 1) all.1.1.1.1.1.1.0);
     }
 
+true_from_ne_false : (b : Bool) → (b ≡ false → ⊥) → b ≡ true
+true_from_ne_false true none = refl
+true_from_ne_false false none = absurd (none refl)
+
+-- the rest of the row, where a new word stands under plain words that are declared
+row_rest : (own valued there plain over : Bool) (rest : List (Bool × Refusal)) → own ≡ false → valued ≡ false → there ≡ false → plain ≡ true → over ≡ true
+    → first_refusal ((own, BuiltIn) ∷ (valued, NotAssignable) ∷ (there, AlreadyDeclared) ∷ (not plain, NotAPlace) ∷ (not over, UnknownProperty) ∷ rest) ≡ first_refusal rest
+row_rest true valued there plain over rest a b c d e = absurd (both_ways true a refl)
+row_rest false true there plain over rest a b c d e = absurd (both_ways true b refl)
+row_rest false false true plain over rest a b c d e = absurd (both_ways true c refl)
+row_rest false false false false over rest a b c d e = absurd (both_ways false refl d)
+row_rest false false false true false rest a b c d e = absurd (both_ways false refl e)
+row_rest false false false true true rest a b c d e = refl
+
+module _ (k : Kept) (place : List Formula) (word : List ℕ) (own : is_built_in word ≡ false) (valued : is_valued word ≡ false) (there : is_declared k word ≡ false)
+    (plain : is_plain_place (place_words place) ≡ true) (over : list_all (is_declared k) (words_at place) ≡ true) where
+  abbrev axioms_then : ℕ
+  axioms_then = count_by is_filled k.axioms + length (words_at place)
+
+  abbrev words_then : ℕ
+  words_then = length k.dict.entries + 1
+
+  by_room : (axioms room : Bool) → nat_lt k.limits.props axioms_then ≡ axioms → nat_lt k.limits.props words_then ≡ room
+      → first_refusal (word_checks k place word) ≡ first_refusal ((axioms, NoAxiomRoom) ∷ (room, NoPropertyRoom) ∷ [])
+  by_room axioms room is_axioms is_room =
+      row_rest (is_built_in word) (is_valued word) (is_declared k word) (is_plain_place (place_words place)) (list_all (is_declared k) (words_at place))
+      ((nat_lt k.limits.props axioms_then, NoAxiomRoom) ∷ (nat_lt k.limits.props words_then, NoPropertyRoom) ∷ []) own valued there plain over
+      ∙ ap₂ (λ (a b : Bool). first_refusal ((a, NoAxiomRoom) ∷ (b, NoPropertyRoom) ∷ [])) is_axioms is_room
+
+  above : (n : ℕ) → k.limits.props < n → nat_lt k.limits.props n ≡ true
+  above n more = true_from_ne_false (nat_lt k.limits.props n) (λ e. omega (arith, ltb-false k.limits.props n e, more))
+
+  not_above : (n : ℕ) → n ≤ k.limits.props → nat_lt k.limits.props n ≡ false
+  not_above n few = false_from_ne_true (nat_lt k.limits.props n) (λ e. omega (arith, ltb-true k.limits.props n e, few))
+
+  pub no_axiom_room : k.limits.props < axioms_then → first_refusal (word_checks k place word) ≡ Some NoAxiomRoom
+  no_axiom_room more = by_room true (nat_lt k.limits.props words_then) (above axioms_then more) refl
+
+  pub no_word_room : axioms_then ≤ k.limits.props → k.limits.props < words_then → first_refusal (word_checks k place word) ≡ Some NoPropertyRoom
+  no_word_room few more = by_room false true (not_above axioms_then few) (above words_then more)
+
+  pub all_room : axioms_then ≤ k.limits.props → words_then ≤ k.limits.props → first_refusal (word_checks k place word) ≡ None
+  all_room few some = by_room false false (not_above axioms_then few) (not_above words_then some)
+
 -- ---- the words of a place
 plain_at : (place : List Formula) → is_plain_place (place_words place) ≡ true → list_all is_plain_word (words_at place) ≡ true
 plain_at place = by (place_words place)
@@ -206,7 +250,7 @@ module _ (p : Kept) (sound : AreSound p) (words : List (List ℕ)) (rights : Lis
       let both = and_parts (not (has_number ns n)) (are_distinct ns) h in
       ((λ m. both_ways (has_number ns n) (not-true (has_number ns n) both.0) (number_from_among ns n m)), apart_numbers ns both.1)
 
-  rights_counted : length rights ≡ length words
+  pub rights_counted : length rights ≡ length words
   rights_counted = sym (told_counted p sound rights (apart_numbers rights numbers.apart) right_some) ∙ ap length numbers.told
 
   may_stand : list_all is_plain_word words ≡ true → count_by is_filled p.axioms + length words ≤ p.limits.props → MayStandUnder rights p
@@ -499,12 +543,21 @@ module _ (old : Stored) (place : List Formula) (word : List ℕ) (rights : List 
   pub declared_new : number_of old.parts.dict word ≡ None
   declared_new = new_word old.parts word sound.parts form passes.new
 
+  pub declared_room : length old.parts.dict.entries < old.parts.limits.props
+  declared_room = passes.room
+
   pub declared_may : MayStandUnder rights old.parts
   declared_may = may_stand old.parts sound.parts (words_at place) rights numbers (plain_at place passes.plain) passes.axioms
 
   module _ (unbroken : old.is_broken ≡ false) (q : Kept) (stands : DeclaresUnder word rights old.parts q) where
     pub declared_sound : AreSound q → IsSound (settled q old.journal)
     declared_sound = sound_declared old.parts q word rights (words_at place) sound.parts declared_new numbers stands old.journal old.is_broken unbroken sound
+
+    pub declared_limits : q.limits ≡ old.parts.limits
+    declared_limits = limits_are old.parts q word rights (words_at place) sound.parts declared_new numbers stands
+
+    pub declared_edits : q.ext.edits ≤ old.parts.ext.edits + differing_bits old.parts.ext q.ext
+    declared_edits = few_edits old.parts q word rights (words_at place) sound.parts declared_new numbers stands
 
     pub declared_marks : length rights ≤ 64 → length old.journal.staged + marked_count q ≤ 531
     declared_marks few =
@@ -520,7 +573,7 @@ module _ (old : Stored) (place : List Formula) (word : List ℕ) (rights : List 
         passes.new (apart_at place) passes.axioms passes.room in
         let ready : IsReady q fits.kept made =
         ready_declared old.parts q word rights (words_at place) sound.parts declared_new numbers stands fits.kept s sound.free fits.tells kept formed sound.pairs (λ area n lt unmarked. fits.written area n lt) in
-        saves old now (mkdir now word) made fits sound refl refl refl (limits_are old.parts q word rights (words_at place) sound.parts declared_new numbers stands)
+        saves old now (mkdir now word) made fits sound refl refl refl declared_limits
         (λ _. subst (λ (es : List Entry). IsReady q (looked es fits.kept) made) (sym (sound.staged unbroken)) ready)
         (outcome_is old.parts sound.parts sound.pairs fits.kept s sound.free fits.tells place word kept ∙ judged_done now (word_checks old.parts place word) (changed now made) none)
 

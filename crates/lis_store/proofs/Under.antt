@@ -61,7 +61,7 @@ module _ (word : List ℕ) (axioms : List (List ℕ × List ℕ)) where
   length-under words apart new =
       let counted = length-with_more pair_cmp pair_exact axioms (pairs_from word words) (pairs_apart words apart)
       (λ e m old. let found = among_map (λ (p : List ℕ). (word, p)) words e m in new found.0 (subst (λ (x : List ℕ × List ℕ). Among axioms x) (sym found.2) old)) in
-      omega (arith, ap length (under_is word axioms words), counted, length-map words (λ (q : List ℕ). (word, q)))
+      omega (arith, ap length (under_is word axioms words), counted, length-map {B = List ℕ × List ℕ} words (λ (q : List ℕ). (word, q)))
 
 -- ---- a word that is no test and that a file does not have adds nothing to what it has
 module _ (s : State) (word : List ℕ) (words : List (List ℕ)) (no_test : is_test word ≡ false) (file : File) (none : Among (description s file) word → ⊥) where
