@@ -94,14 +94,14 @@ new_word k word sound form undeclared = by (number_of k.dict word) refl
         absurd (none_fits (subst (λ (p : PropSlot). is_prop p ≡ true) slot (sound.properties n)))
 
 -- what the row of `mkdir` says where it refuses nothing
-pub record IsPlaceable (k : Kept) (place : List Formula) (word : List ℕ) : Type 0 where
-  pub new : is_declared k word ≡ false
-  pub plain : is_plain_place (place_words place) ≡ true
-  pub declared : list_all (is_declared k) (words_at place) ≡ true
-  pub axioms : count_by is_filled k.axioms + length (words_at place) ≤ k.limits.props
-  pub room : length k.dict.entries < k.limits.props
+record IsPlaceable (k : Kept) (place : List Formula) (word : List ℕ) : Type 0 where
+  new : is_declared k word ≡ false
+  plain : is_plain_place (place_words place) ≡ true
+  declared : list_all (is_declared k) (words_at place) ≡ true
+  axioms : count_by is_filled k.axioms + length (words_at place) ≤ k.limits.props
+  room : length k.dict.entries < k.limits.props
 
-pub is_placeable : (k : Kept) (place : List Formula) (word : List ℕ) → first_refusal (word_checks k place word) ≡ None → IsPlaceable k place word
+is_placeable : (k : Kept) (place : List Formula) (word : List ℕ) → first_refusal (word_checks k place word) ≡ None → IsPlaceable k place word
 is_placeable k place word none =
     let all = all_pass (word_checks k place word) none in
     record {

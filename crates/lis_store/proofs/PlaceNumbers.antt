@@ -58,16 +58,8 @@ module _ (nodes : List Node) where
 pub plain_place : (place : List Formula) → list_all is_plain_conjunct (nodes_of place) ≡ is_plain_place (place_words place)
 plain_place place = plain_nodes (nodes_of place) (list_all is_conjunct (nodes_of place)) refl ∙ ap is_plain_place (sym (place_words_are place))
 
--- only a place that has words has plain ones
-pub plain_has_words : (place : List Formula) → is_plain_place (place_words place) ≡ true → IsSome (place_words place)
-plain_has_words place = by (place_words place)
-  where
-    by : (o : Option (List (List ℕ))) → is_plain_place o ≡ true → is_some o ≡ true
-    by None plain = absurd (both_ways false refl plain)
-    by (Some words) plain = refl
-
 -- ---- the words of a place
-pub words_of_nodes : (place : List Formula) → IsSome (place_words place) → words_at place ≡ set_of (words_in (nodes_of place))
+words_of_nodes : (place : List Formula) → IsSome (place_words place) → words_at place ≡ set_of (words_in (nodes_of place))
 words_of_nodes place some =
     ap (λ (o : Option (List (List ℕ))). unwrap_or o [])
     (place_words_are place ∙ ap (λ b. option_map set_of (cond b (Some (words_in (nodes_of place))) None)) (place_has_words place ∙ some))
@@ -90,16 +82,10 @@ declared_is k word n is = by (is_declared k word) refl is
     by true declared some = (declared, some)
     by false declared some = absurd cc
 
-pub numbers_none : (k : Kept) → AreNumbersOf k [] []
-numbers_none k = record { declared = refl; apart = refl; named = refl; told = refl }
-
 pub takes_no_numbers : (k : Kept) (ns : List ℕ) → TakesNumbers k [] ns ns true
 takes_no_numbers k ns = record { declared = refl; few = omega arith; numbers = λ fits words are. are }
 
 module _ (k : Kept) (word : List ℕ) (ns : List ℕ) where
-  pub takes_undeclared : is_declared k word ≡ false → TakesNumbers k (word ∷ []) ns ns false
-  takes_undeclared none = record { declared = sym (ap (λ b. b && true) none); few = omega arith; numbers = λ fits. absurd cc }
-
   module _ (sound : AreSound k) (n : ℕ) (declared : is_declared k word ≡ true) (numbered : number_of k.dict word ≡ Some n) where
     named : word_of k.dict n ≡ Some word
     named = word_from_number k.dict sound.dict word n numbered

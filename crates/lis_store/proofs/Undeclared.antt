@@ -1,9 +1,9 @@
 -- What a declaration that is taken back comes to.
 use Rattle.std.proofs.Common.{◌≡◌, ◌⊎◌, refl, sym, ap, ap₂, ◌∙◌, subst, inl, inr, ℕ, ◌+◌, ◌<◌, ◌≤◌, ◌==◌, not, ◌&&◌, ◌||◌, Bool, true, false, if◌then◌else◌, List, [], ◌∷◌, length, set, slice_get, Option, Some, None, is_some, IsSome, IsTrue, Result, Err, arith, eq-eqb, get_or-set_other}
 use Rattle.std.specs.List.{list_all, list_any, Contains}
-use Rattle.std.proofs.lemmas.Bool.{and_parts, or_cases, or_left, or_right, both_ways, ne_eqb, not_from_false, not-true}
+use Rattle.std.proofs.lemmas.Bool.{and_parts, or_cases, or_left, or_right, both_ways, ne_eqb, not_from_false, not-false}
 use Rattle.std.proofs.lemmas.Option.{same_Some}
-use Rattle.lis_graph.proofs.Members.{Among, among_from_contains, contains_from_among, among_filter, any_from_among}
+use Rattle.lis_graph.proofs.Members.{Among, among_from_contains, contains_from_among, any_from_among}
 use Rattle.lis_ports.specs.Meaning.{Meaning}
 use Rattle.lis_journal.specs.Journal.{Held}
 use Rattle.lis_journal.specs.Record.{Entry}
@@ -29,7 +29,7 @@ use Rattle.lis_model.specs.Changes.{undeclared}
 use Rattle.lis_model.specs.Tests.{has_no_tests}
 use Rattle.lis_model.specs.Step.{Situation, Outcome, changed, judged, is_in_use, rmdir_checks, rmdir}
 use Rattle.lis_model.proofs.NoTests.{word_not_test}
-use Rattle.lis_laws.proofs.Counts.{all_among, all_from}
+use Rattle.lis_laws.proofs.Counts.{all_filter}
 use Rattle.lis_laws.proofs.Forms as forms
 use Rattle.lis_kept.specs.Kept.{Kept, property_by}
 use Rattle.lis_kept.specs.Areas.{IsSaved}
@@ -58,7 +58,7 @@ use Rattle.lis_store.proofs.Declared.{declared_told}
 
 -- ---- a declared word
 module _ (k : Kept) (sound : AreSound k) (word : List ℕ) (n : ℕ) (numbered : number_of k.dict word ≡ Some n) (declared : is_declared k word ≡ true) where
-  pub word_at_number : word_of k.dict n ≡ Some word
+  word_at_number : word_of k.dict n ≡ Some word
   word_at_number = word_from_number k.dict sound.dict word n numbered
 
   bit : is_taken k.declared n ≡ true
@@ -82,13 +82,13 @@ module _ (k : Kept) (sound : AreSound k) (word : List ℕ) (n : ℕ) (numbered :
         both_ways (list_any (is_right_of n) k.axioms) (neither (is_named_left k n) (list_any (is_right_of n) k.axioms) unnamed).1
         (any_from_among (is_right_of n) k.axioms (Pair left right) (among_slot k.axioms slot (Pair left right) is) (eq-eqb right n same))
 
-    pub may_be_undeclared : MayUndeclare n k
+    may_be_undeclared : MayUndeclare n k
     may_be_undeclared =
         may_undeclare k sound in_use closed n bit (neither (is_had k.ext n) (list_any (is_named_by k.dict n) k.axioms) unneeded).0
         (neither (is_named_left k n) (list_any (is_right_of n) k.axioms) unnamed).0 not_right
 
   -- it is in use in the state exactly where memory needs its number
-  pub in_use_told : (at : ℕ → List ℕ) (s : State) → FreeSlotsAreEmpty k → Tells k at s → is_in_use s word ≡ is_needed k n
+  in_use_told : (at : ℕ → List ℕ) (s : State) → FreeSlotsAreEmpty k → Tells k at s → is_in_use s word ≡ is_needed k n
   in_use_told at s free tells =
       ap (λ (x : State). is_in_use x word) (sym tells.state) ∙ needed_told k sound free at (described_told k at s sound free tells) n word word_at_number no_test
 
@@ -170,7 +170,7 @@ module _ (p q : Kept) (number : ℕ) (sound : AreSound p) (may : MayUndeclare nu
     described_same file =
         let none : has_no_tests s.declared ≡ true = subst (λ (x : State). has_no_tests x.declared ≡ true) tells.state (declared_no_tests p sound.dict) in
         no_tests_more s.declared t.declared s.axioms file none
-        (all_from (λ w. not (is_test w)) t.declared (λ w m. all_among (λ v. not (is_test v)) s.declared w none (among_filter (λ v. not (same_word v gone.word)) s.declared w m).0))
+        (all_filter (λ w. not (is_test w)) (λ w. not (same_word w gone.word)) s.declared none)
 
     there : (f : Filed) → Contains q.catalog.entries f → Among p.catalog.entries f
     there f m = subst (λ (fs : List Filed). Among fs f) entries_are (among_from_contains q.catalog.entries f m)
@@ -218,20 +218,16 @@ module _ (k : Kept) (sound : AreSound k) (at : ℕ → List ℕ) (now : Situatio
       by None none = absurd (both_ways (is_declared k word) (ap (bit_of k.declared) none) is)
       by (Some n) numbered = ap (λ b. judged now (checks true b) made) (in_use_told k sound word n numbered is at now.state free tells)
 
-  pub rmdir_is : rmdir now word ≡ judged now (undeclare_checks k word) (changed now (undeclared now.state word))
+  rmdir_is : rmdir now word ≡ judged now (undeclare_checks k word) (changed now (undeclared now.state word))
   rmdir_is =
       ap (λ there. judged now (checks there (is_in_use now.state word)) (changed now (undeclared now.state word))) (declared_told k at now.state tells word)
       ∙ used_same (is_declared k word) refl (changed now (undeclared now.state word))
 
 -- what the row says where it refuses nothing
-pub undeclare_passes : (k : Kept) (word : List ℕ) (n : ℕ) → first_refusal (undeclare_checks k word) ≡ None → number_of k.dict word ≡ Some n → (is_declared k word ≡ true) × (is_needed k n ≡ false)
+undeclare_passes : (k : Kept) (word : List ℕ) (n : ℕ) → first_refusal (undeclare_checks k word) ≡ None → number_of k.dict word ≡ Some n → (is_declared k word ≡ true) × (is_needed k n ≡ false)
 undeclare_passes k word n none numbered =
     let all = all_pass (undeclare_checks k word) none in
-    (not_not (is_declared k word) all.1.1.0, ap (is_needed_by k) (sym numbered) ∙ all.1.1.1.0)
-  where
-    not_not : (b : Bool) → not b ≡ false → b ≡ true
-    not_not true e = refl
-    not_not false e = absurd cc
+    (not-false (is_declared k word) all.1.1.0, ap (is_needed_by k) (sym numbered) ∙ all.1.1.1.0)
 
 -- ---- a call that takes a declaration back
 module _ (old : Stored) (word : List ℕ) (number : ℕ) (sound : IsSound old) (unbroken : old.is_broken ≡ false)
