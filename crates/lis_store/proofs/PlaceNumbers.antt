@@ -1,5 +1,5 @@
 -- The words of a place under which a word is declared: whether they are plain, and their numbers.
-use Rattle.std.proofs.Common.{◌≡◌, ◌⊎◌, refl, sym, ap, ap₂, ◌∙◌, subst, inl, inr, ℕ, ◌+◌, ◌<◌, ◌≤◌, Bool, true, false, cond, not, ◌&&◌, is_some, IsSome, Option, Some, None, option_to_list, List, [], ◌∷◌, ◌++◌, length, take, get_or, arith, length-append}
+use Rattle.std.proofs.Common.{◌≡◌, ◌⊎◌, refl, sym, ap, ◌∙◌, subst, inl, inr, ℕ, ◌+◌, ◌<◌, ◌≤◌, Bool, true, false, cond, ◌&&◌, is_some, IsSome, Option, Some, None, option_to_list, List, [], ◌∷◌, ◌++◌, length, take, get_or, arith, length-append}
 use Rattle.std.specs.Prelude.{unwrap_or, option_map}
 use Rattle.std.specs.List.{flat_map, list_all}
 use Rattle.std.specs.List.Sorted.{IsStrictlySortedBy}
@@ -10,7 +10,7 @@ use Rattle.std.proofs.lemmas.List.Folds.{list_all-append}
 use Rattle.std.proofs.lemmas.Grind.{flat_map-append}
 use Rattle.lis_graph.proofs.Members.{Among, among_from_contains, among_flat_map, flat_map_among, among_insert_key, insert_key_old}
 use Rattle.lis_graph.proofs.Sets.{sorted_insert_key}
-use Rattle.lis_content.specs.Content.{has_number, are_distinct}
+use Rattle.lis_content.specs.Content.{has_number}
 use Rattle.lis_content.proofs.Numbers.{distinct_more}
 use Rattle.lis_dict.specs.Dict.{number_of, word_of}
 use Rattle.lis_dict.proofs.Laws.{word_from_number}

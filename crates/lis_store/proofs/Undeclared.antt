@@ -1,7 +1,7 @@
 -- What a declaration that is taken back comes to.
-use Rattle.std.proofs.Common.{◌≡◌, ◌⊎◌, refl, sym, ap, ap₂, ◌∙◌, subst, inl, inr, ℕ, ◌+◌, ◌<◌, ◌≤◌, ◌==◌, not, ◌&&◌, ◌||◌, Bool, true, false, if◌then◌else◌, List, [], ◌∷◌, length, set, slice_get, Option, Some, None, is_some, IsSome, IsTrue, Result, Err, arith, eq-eqb, get_or-set_other}
-use Rattle.std.specs.List.{list_all, list_any, Contains}
-use Rattle.std.proofs.lemmas.Bool.{and_parts, or_cases, or_left, or_right, both_ways, ne_eqb, not_from_false, not-false}
+use Rattle.std.proofs.Common.{◌≡◌, refl, sym, ap, ap₂, ◌∙◌, subst, ℕ, ◌<◌, not, ◌&&◌, ◌||◌, Bool, true, false, if◌then◌else◌, List, [], ◌∷◌, slice_get, Option, Some, None, is_some, IsSome, IsTrue, Result, Err, eq-eqb, get_or-set_other}
+use Rattle.std.specs.List.{list_any, Contains}
+use Rattle.std.proofs.lemmas.Bool.{and_parts, both_ways, ne_eqb, not_from_false, not-false}
 use Rattle.std.proofs.lemmas.Option.{same_Some}
 use Rattle.lis_graph.proofs.Members.{Among, among_from_contains, contains_from_among, any_from_among}
 use Rattle.lis_ports.specs.Meaning.{Meaning}
@@ -16,10 +16,9 @@ use Rattle.lis_dict.proofs.Laws.{word_from_number}
 use Rattle.lis_catalog.specs.Catalog.{Filed, rec_at}
 use Rattle.lis_ext.specs.Ext.{Ext, has, set_of as numbers_at}
 use Rattle.lis_fields.specs.Records.{FileRecord}
-use Rattle.lis_fields.specs.declared.slots.AxiomSlot.{AxiomSlot}
 use Rattle.lis_fields.specs.declared.slots.AxiomSlot.TheVariants.{Pair}
 use Rattle.lis_fields.specs.Layouts.{is_super, is_prop}
-use Rattle.lis_words.specs.Words.{same_word, has_word, is_kept_word, is_valued, is_built_in, is_test}
+use Rattle.lis_words.specs.Words.{same_word, is_kept_word, is_valued, is_built_in, is_test}
 use Rattle.lis_model.specs.declared.refusal.Refusal.{Refusal}
 use Rattle.lis_model.specs.declared.refusal.Refusal.TheVariants.{BuiltIn, NotAssignable, NotDeclared, InUse}
 use Rattle.lis_model.specs.declared.limits.Limits.{Limits}
@@ -27,7 +26,7 @@ use Rattle.lis_model.specs.Image.{image_blocks}
 use Rattle.lis_model.specs.State.{State, File, description, is_declarable}
 use Rattle.lis_model.specs.Changes.{undeclared}
 use Rattle.lis_model.specs.Tests.{has_no_tests}
-use Rattle.lis_model.specs.Step.{Situation, Outcome, changed, judged, is_in_use, rmdir_checks, rmdir}
+use Rattle.lis_model.specs.Step.{Situation, Outcome, changed, judged, is_in_use, rmdir}
 use Rattle.lis_model.proofs.NoTests.{word_not_test}
 use Rattle.lis_laws.proofs.Counts.{all_filter}
 use Rattle.lis_laws.proofs.Forms as forms
@@ -51,7 +50,7 @@ use Rattle.lis_store.specs.Changes.{Changes, first_refusal}
 use Rattle.lis_store.specs.declared.change.Change.{Change}
 use Rattle.lis_store.specs.declared.change.Change.TheVariants.{Refused}
 use Rattle.lis_store.proofs.Facts.{described_told}
-use Rattle.lis_store.proofs.Judged.{AllPass, all_pass, judged_refused, judged_done, change_refused}
+use Rattle.lis_store.proofs.Judged.{all_pass, judged_refused, judged_done, change_refused}
 use Rattle.lis_store.proofs.Cleaned.{clean_is, sound_clean, in_use_clean}
 use Rattle.lis_store.proofs.Told.{words_same, no_tests_more}
 use Rattle.lis_store.proofs.Declared.{declared_told}

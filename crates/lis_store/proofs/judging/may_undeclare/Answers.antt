@@ -1,4 +1,4 @@
-use Rattle.std.proofs.Common.{◌∙◌, sym, ap, is_some}
+use Rattle.std.proofs.Common.{sym, ap, is_some}
 use Rattle.lis_dict.proofs.Laws.{word_from_number}
 use Rattle.lis_store.proofs.judging.may_undeclare.Goals as goal
 

@@ -1,5 +1,4 @@
-use Rattle.std.proofs.Common.{◌<◌, ◌≤◌, length, sym, subst, arith}
-use Rattle.lis_graph.proofs.Members.{Among}
+use Rattle.std.proofs.Common.{◌<◌, ◌≤◌, length, arith}
 use Rattle.lis_store.proofs.PlaceNumbers.{numbers_next, numbers_all, not_all_declared, among_item}
 use Rattle.lis_store.proofs.placing.place_numbers.Goals as goal
 

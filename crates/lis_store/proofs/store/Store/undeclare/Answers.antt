@@ -1,6 +1,6 @@
 use Rattle.std.proofs.Common.{◌∙◌, sym, ap, subst, Err}
 use Rattle.std.proofs.lemmas.Result.{err_from_is_err_and}
-use Rattle.lis_model.specs.Step.{Situation, rmdir}
+use Rattle.lis_model.specs.Step.{rmdir}
 use Rattle.lis_store.specs.Stored.{Stored, StoreFits}
 use Rattle.lis_store.specs.Changes.{Changes}
 use Rattle.lis_store.proofs.Undeclared.{undeclared_may, undeclared_sound, undeclared_changes, undeclared_refused}
