@@ -91,6 +91,9 @@ steps_words : (steps : List Formula) → all_conjuncts steps ≡ words_if (are_c
 steps_words [] = refl
 steps_words (step ∷ steps) = ap₂ both_lists (tree_words step) (steps_words steps) ∙ parts_joined (tree_node_list step) (nodes_of steps)
 
+pub place_words_are : (place : List Formula) → place_words place ≡ option_map set_of (cond (list_all is_conjunct (nodes_of place)) (Some (flat_map node_words (nodes_of place))) None)
+place_words_are place = ap (option_map set_of) (steps_words place)
+
 pub place_has_words : (place : List Formula) → list_all is_conjunct (nodes_of place) ≡ is_some (place_words place)
 place_has_words place = by (are_conjuncts (nodes_of place)) refl ∙ ap (λ (o : Option (List (List ℕ))). is_some (option_map set_of o)) (sym (steps_words place))
   where
@@ -201,7 +204,7 @@ module _ (word : List ℕ) where
 pub takes_none : (words : List (List ℕ)) → length words ≤ 16 → Takes [] words words true
 takes_none words few = record { room = sym (le-leb (length words) 16 few); words = λ fits. refl }
 
-with_words-append : (words more others : List (List ℕ)) → with_words words (more ++ others) ≡ with_words (with_words words more) others
+pub with_words-append : (words more others : List (List ℕ)) → with_words words (more ++ others) ≡ with_words (with_words words more) others
 with_words-append words [] others = refl
 with_words-append words (w ∷ more) others = with_words-append (with_word words w) more others
 

@@ -1,61 +1,77 @@
 -- What a declared word comes to.
-use Rattle.std.proofs.Common.{◌≡◌, ◌⊎◌, refl, sym, ap, ap₂, ◌∙◌, subst, inl, inr, ℕ, ◌+◌, ◌<◌, ◌≤◌, ◌==◌, nat_lt, nat_le, not, ◌&&◌, ◌||◌, Bool, true, false, if◌then◌else◌, List, [], ◌∷◌, length, set, slice_get, Option, Some, None, is_some, IsSome, IsTrue, Result, Err, arith, get_or-set_same, get_or-set_other}
-use Rattle.std.specs.List.{list_all, Contains}
-use Rattle.std.proofs.lemmas.Bool.{and_parts, or_cases, or_left, or_right, both_ways, cases_eq, ne_eqb, false_from_ne_true, not_from_false, ltb-true, ltb-false, leb-true}
-use Rattle.lis_graph.proofs.Members.{Among, among_from_contains, contains_from_among, among_from_any}
+use Rattle.std.proofs.Common.{◌≡◌, ◌⊎◌, refl, sym, ap, ap₂, ◌∙◌, subst, inl, inr, ℕ, ◌+◌, ◌<◌, ◌≤◌, ◌==◌, nat_lt, nat_le, not, ◌&&◌, ◌||◌, Bool, true, false, if◌then◌else◌, List, [], ◌∷◌, ◌++◌, length, count_by, set, slice_get, Option, Some, None, option_to_list, is_some, IsSome, IsTrue, Result, Err, arith, eq-eqb, get_or-set_same, get_or-set_other}
+use Rattle.std.specs.List.{list_all, flat_map, Contains}
+use Rattle.std.specs.Prelude.{unwrap_or, option_map}
+use Rattle.std.proofs.lemmas.Bool.{and_parts, and_from, or_cases, or_left, or_right, both_ways, cases_eq, ne_eqb, eqb-true, false_from_ne_true, not_from_false, not-true, not-false, ltb-true, ltb-false, leb-true}
+use Rattle.lis_graph.proofs.Members.{Among, among_from_contains, contains_from_among, among_from_any, any_from_among}
 use Rattle.lis_ports.specs.Meaning.{Meaning}
 use Rattle.lis_journal.specs.Journal.{Held}
 use Rattle.lis_journal.specs.Record.{Entry}
 use Rattle.lis_journal.specs.Phases.{looked}
 use Rattle.lis_blockmap.specs.Bitmap.{is_taken}
-use Rattle.lis_content.specs.Content.{has_number}
-use Rattle.lis_dict.specs.Dict.{number_of, word_of}
-use Rattle.lis_dict.proofs.Laws.{word_from_number, word_of-with_entry}
+use Rattle.lis_content.specs.Content.{has_number, are_distinct}
+use Rattle.lis_dict.specs.Dict.{Dict, IsDict, number_of, word_of}
+use Rattle.lis_dict.proofs.Laws.{word_from_number, number_from_word, word_of-with_entry}
 use Rattle.lis_catalog.specs.Catalog.{Filed, rec_at}
 use Rattle.lis_ext.specs.Ext.{Ext, has, set_of as numbers_at}
 use Rattle.lis_grammar.specs.Formula.{Formula}
 use Rattle.lis_fields.specs.Records.{FileRecord}
-use Rattle.lis_fields.specs.declared.slots.AxiomSlot.TheVariants.{Pair}
+use Rattle.lis_fields.specs.declared.slots.AxiomSlot.{AxiomSlot}
+use Rattle.lis_fields.specs.declared.slots.AxiomSlot.TheVariants.{Free as FreeAxiom, Pair}
 use Rattle.lis_fields.specs.declared.slots.PropSlot.{PropSlot}
 use Rattle.lis_fields.specs.declared.slots.PropSlot.TheVariants.{Known}
 use Rattle.lis_fields.specs.Layouts.{is_super, is_prop, is_record}
-use Rattle.lis_words.specs.Words.{word_cmp, same_word, has_word, head_bytes, is_head, is_valued, is_built_in, is_word, is_test, is_kept_word}
+use Rattle.lis_words.specs.Words.{word_cmp, same_word, has_word, head_bytes, is_head, is_plain_word, is_valued, is_built_in, is_word, is_test, is_kept_word}
 use Rattle.lis_model.specs.declared.refusal.Refusal.{Refusal}
 use Rattle.lis_model.specs.declared.refusal.Refusal.TheVariants.{BuiltIn, NotAssignable, AlreadyDeclared, NotAPlace, UnknownProperty, NoAxiomRoom, NoPropertyRoom, LargeDescription}
 use Rattle.lis_model.specs.declared.limits.Limits.{Limits}
 use Rattle.lis_model.specs.Image.{image_blocks}
-use Rattle.lis_model.specs.Places.{is_root}
-use Rattle.lis_model.specs.Sets.{with_word}
+use Rattle.lis_model.specs.Places.{all_conjuncts, place_words}
+use Rattle.lis_model.specs.Sets.{with_word, set_of}
 use Rattle.lis_model.specs.State.{State, File, description, known, is_declarable, WellFormed}
 use Rattle.lis_model.specs.Changes.{declared_under}
-use Rattle.lis_model.specs.Tests.{has_no_tests}
-use Rattle.lis_model.specs.Step.{Situation, changed, judged, exceeds_axioms, exceeds_known, exceeds_words, mkdir}
+use Rattle.lis_model.specs.Step.{Situation, Outcome, changed, judged, exceeds_axioms, exceeds_known, exceeds_words, is_plain_place, words_at, mkdir}
 use Rattle.lis_model.proofs.NoTests.{word_not_test}
 use Rattle.lis_laws.proofs.Apart.{declarable_from, declarable_not_valued, declarable_not_built_in}
-use Rattle.lis_laws.proofs.Counts.{all_among, all_from, all_insert_key}
+use Rattle.lis_laws.proofs.Counts.{all_among, all_from}
 use Rattle.lis_laws.proofs.Forms as forms
+use Rattle.lis_laws.proofs.Forms.{under}
 use Rattle.lis_laws.proofs.Growth.{known_declares}
-use Rattle.lis_laws.proofs.Members.{word_exact, same_word_decides, among_from_has_word, has_word_from_among}
+use Rattle.lis_laws.proofs.Members.{word_exact, word_order, same_word_decides, sorted_set_of, among_from_has_word, has_word_from_among}
+use Rattle.lis_laws.proofs.Sources.{known_from}
+use Rattle.lis_laws.proofs.Sources.Source.{Left, Described}
 use Rattle.lis_kept.specs.Kept.{Kept, property_by, property_at}
-use Rattle.lis_kept.specs.Areas.{IsSaved}
-use Rattle.lis_kept.specs.Links.{is_linked, has_pair}
+use Rattle.lis_kept.specs.Areas.{IsSaved, marked_count}
+use Rattle.lis_kept.specs.Links.{is_pair, is_linked, has_pair}
+use Rattle.lis_kept.specs.Linking.{is_filled}
 use Rattle.lis_kept.specs.Sound.{AreSound, FreeSlotsAreEmpty, BlocksAreTaken}
 use Rattle.lis_kept.specs.Forgetting.{KeepsInUse}
 use Rattle.lis_kept.specs.Changes.{Declares}
-use Rattle.lis_kept.specs.Telling.{bit_of, is_declared, declared_of, words_told, file_told, is_head_by, Tells}
-use Rattle.lis_kept.proofs.Filing.{same_tests, number_from_among, filed_rec}
-use Rattle.lis_kept.proofs.OwnLinks.{declared_no_tests, own_link_is}
+use Rattle.lis_kept.specs.Under.{is_plain_by, MayStandUnder, DeclaresUnder}
+use Rattle.lis_kept.specs.Telling.{bit_of, is_declared, declared_of, words_told, axioms_of, file_told, state_of, is_head_by, Tells}
+use Rattle.lis_kept.proofs.Filing.{same_tests, among_from_number, number_from_among, filed_rec}
+use Rattle.lis_kept.proofs.Formed.{some_word}
+use Rattle.lis_kept.proofs.Known.{word_among}
+use Rattle.lis_kept.proofs.OwnLinks.{own_link_is, slot_at, among_slot}
+use Rattle.lis_kept.proofs.AxiomMore.{sorted_axioms}
+use Rattle.lis_kept.proofs.AxiomsTold.{axioms_counted}
+use Rattle.lis_kept.proofs.UnderOthers.{AreWordsOf, declared_then_linked, declared_then_marked, each_parts, under_used}
+use Rattle.lis_kept.proofs.StandsUnder.{each_pairs, each_linked, under_apart}
 use Rattle.lis_kept.proofs.WordMore.{declared_there, there_declared}
 use Rattle.lis_store.specs.Stored.{Stored, PairsAreApart, AreClosed, DescriptionsAreShort, BlocksAreApart, IsSound, StoreFits}
 use Rattle.lis_store.specs.Saving.{settled, IsReady, Saves}
 use Rattle.lis_store.specs.Judging.{word_checks}
-use Rattle.lis_store.specs.Changes.{Changes, first_refusal}
+use Rattle.lis_store.specs.Placing.{AreNumbersOf}
+use Rattle.lis_store.specs.Changes.{Changes, first_refusal, differing_bits}
 use Rattle.lis_store.specs.declared.change.Change.{Change}
 use Rattle.lis_store.specs.declared.change.Change.TheVariants.{Refused}
-use Rattle.lis_store.proofs.Facts.{limits_told, known_counted, number_of_known}
-use Rattle.lis_store.proofs.Judged.{passed, judged_refused, judged_done, change_refused}
-use Rattle.lis_store.proofs.Cleaned.{clean_is, sound_clean, in_use_clean}
-use Rattle.lis_store.proofs.Told.{words_same, no_tests_more, length-with_word}
+use Rattle.lis_store.proofs.Facts.{limits_told, known_counted, number_of_known, file_of_filed}
+use Rattle.lis_store.proofs.Judged.{all_pass, judged_refused, judged_done, change_refused}
+use Rattle.lis_store.proofs.Cleaned.{clean_is, sound_clean, in_use_clean, none_marked}
+use Rattle.lis_store.proofs.Told.{words_same, length-with_word}
+use Rattle.lis_store.proofs.Points.{AllApart}
+use Rattle.lis_store.proofs.Measured.{sorted_apart, told_counted}
+use Rattle.lis_store.proofs.Under.{under_set, length-under, described_under}
 
 -- ---- a word that may be declared, and is not, has no number
 pub new_word : (k : Kept) (word : List ℕ) → AreSound k → is_declarable word ≡ true → is_declared k word ≡ false → number_of k.dict word ≡ None
@@ -76,14 +92,82 @@ new_word k word sound form undeclared = by (number_of k.dict word) refl
         absurd (none_fits (subst (λ (p : PropSlot). is_prop p ≡ true) slot (sound.properties n)))
 
 -- what the row of `mkdir` says where it refuses nothing
-pub undeclared_word : (k : Kept) (place : List Formula) (word : List ℕ) → first_refusal (word_checks k place word) ≡ None → (is_declared k word ≡ false) × (length k.dict.entries < k.limits.props)
-undeclared_word k place word none =
-    let own = passed (is_built_in word) BuiltIn _ none in
-    let plain = passed (is_valued word) NotAssignable _ own.1 in
-    let new = passed (is_declared k word) AlreadyDeclared _ plain.1 in
-    let at = passed (not (is_root place)) NotAPlace _ new.1 in
-    let room = passed (nat_lt k.limits.props (length k.dict.entries + 1)) NoPropertyRoom None at.1 in
-    (new.0, omega (arith, ltb-false k.limits.props (length k.dict.entries + 1) room.0))
+record IsPlaceable (k : Kept) (place : List Formula) (word : List ℕ) : Type 0 where
+  new : is_declared k word ≡ false
+  plain : is_plain_place (place_words place) ≡ true
+  declared : list_all (is_declared k) (words_at place) ≡ true
+  axioms : count_by is_filled k.axioms + length (words_at place) ≤ k.limits.props
+  room : length k.dict.entries < k.limits.props
+
+is_placeable : (k : Kept) (place : List Formula) (word : List ℕ) → first_refusal (word_checks k place word) ≡ None → IsPlaceable k place word
+is_placeable k place word none =
+    let all = all_pass (word_checks k place word) none in
+    record {
+      new = all.1.1.0;
+      plain = not-false (is_plain_place (place_words place)) all.1.1.1.0;
+      declared = not-false (list_all (is_declared k) (words_at place)) all.1.1.1.1.0;
+      axioms = omega (arith, ltb-false k.limits.props (count_by is_filled k.axioms + length (words_at place)) all.1.1.1.1.1.0);
+      room = omega (arith, ltb-false k.limits.props (length k.dict.entries + 1) all.1.1.1.1.1.1.0);
+    }
+
+true_from_ne_false : (b : Bool) → (b ≡ false → ⊥) → b ≡ true
+true_from_ne_false true none = refl
+true_from_ne_false false none = absurd (none refl)
+
+-- the rest of the row, where a new word stands under plain words that are declared
+row_rest : (own valued there plain over : Bool) (rest : List (Bool × Refusal)) → own ≡ false → valued ≡ false → there ≡ false → plain ≡ true → over ≡ true
+    → first_refusal ((own, BuiltIn) ∷ (valued, NotAssignable) ∷ (there, AlreadyDeclared) ∷ (not plain, NotAPlace) ∷ (not over, UnknownProperty) ∷ rest) ≡ first_refusal rest
+row_rest true valued there plain over rest a b c d e = absurd (both_ways true a refl)
+row_rest false true there plain over rest a b c d e = absurd (both_ways true b refl)
+row_rest false false true plain over rest a b c d e = absurd (both_ways true c refl)
+row_rest false false false false over rest a b c d e = absurd (both_ways false refl d)
+row_rest false false false true false rest a b c d e = absurd (both_ways false refl e)
+row_rest false false false true true rest a b c d e = refl
+
+module _ (k : Kept) (place : List Formula) (word : List ℕ) (own : is_built_in word ≡ false) (valued : is_valued word ≡ false) (there : is_declared k word ≡ false)
+    (plain : is_plain_place (place_words place) ≡ true) (over : list_all (is_declared k) (words_at place) ≡ true) where
+  abbrev axioms_then : ℕ
+  axioms_then = count_by is_filled k.axioms + length (words_at place)
+
+  abbrev words_then : ℕ
+  words_then = length k.dict.entries + 1
+
+  by_room : (axioms room : Bool) → nat_lt k.limits.props axioms_then ≡ axioms → nat_lt k.limits.props words_then ≡ room
+      → first_refusal (word_checks k place word) ≡ first_refusal ((axioms, NoAxiomRoom) ∷ (room, NoPropertyRoom) ∷ [])
+  by_room axioms room is_axioms is_room =
+      row_rest (is_built_in word) (is_valued word) (is_declared k word) (is_plain_place (place_words place)) (list_all (is_declared k) (words_at place))
+      ((nat_lt k.limits.props axioms_then, NoAxiomRoom) ∷ (nat_lt k.limits.props words_then, NoPropertyRoom) ∷ []) own valued there plain over
+      ∙ ap₂ (λ (a b : Bool). first_refusal ((a, NoAxiomRoom) ∷ (b, NoPropertyRoom) ∷ [])) is_axioms is_room
+
+  above : (n : ℕ) → k.limits.props < n → nat_lt k.limits.props n ≡ true
+  above n more = true_from_ne_false (nat_lt k.limits.props n) (λ e. omega (arith, ltb-false k.limits.props n e, more))
+
+  not_above : (n : ℕ) → n ≤ k.limits.props → nat_lt k.limits.props n ≡ false
+  not_above n few = false_from_ne_true (nat_lt k.limits.props n) (λ e. omega (arith, ltb-true k.limits.props n e, few))
+
+  pub no_axiom_room : k.limits.props < axioms_then → first_refusal (word_checks k place word) ≡ Some NoAxiomRoom
+  no_axiom_room more = by_room true (nat_lt k.limits.props words_then) (above axioms_then more) refl
+
+  pub no_word_room : axioms_then ≤ k.limits.props → k.limits.props < words_then → first_refusal (word_checks k place word) ≡ Some NoPropertyRoom
+  no_word_room few more = by_room false true (not_above axioms_then few) (above words_then more)
+
+  pub all_room : axioms_then ≤ k.limits.props → words_then ≤ k.limits.props → first_refusal (word_checks k place word) ≡ None
+  all_room few some = by_room false false (not_above axioms_then few) (not_above words_then some)
+
+-- ---- the words of a place
+plain_at : (place : List Formula) → is_plain_place (place_words place) ≡ true → list_all is_plain_word (words_at place) ≡ true
+plain_at place = by (place_words place)
+  where
+    by : (o : Option (List (List ℕ))) → is_plain_place o ≡ true → list_all is_plain_word (unwrap_or o []) ≡ true
+    by None plain = refl
+    by (Some words) plain = plain
+
+apart_at : (place : List Formula) → AllApart (words_at place)
+apart_at place = by (all_conjuncts place)
+  where
+    by : (o : Option (List (List ℕ))) → AllApart (unwrap_or (option_map set_of o) [])
+    by None = tt
+    by (Some found) = sorted_apart word_cmp word_order (set_of found) (sorted_set_of found)
 
 -- ---- what a state tells of the word
 pub declared_told : (k : Kept) (at : ℕ → List ℕ) (s : State) → Tells k at s → (word : List ℕ) → has_word s.declared word ≡ is_declared k word
@@ -91,51 +175,119 @@ declared_told k at s tells word =
     ap (λ (x : State). has_word x.declared word) (sym tells.state)
     ∙ same_tests (has_word (declared_of k) word) (is_declared k word) (λ h. there_declared k word (among_from_has_word (declared_of k) word h)) (λ h. has_word_from_among (declared_of k) word (declared_there k word h))
 
--- it adds nothing to what files have, since it is no test
-described_alike : (k : Kept) → AreSound k → (word : List ℕ) → is_kept_word word ≡ true → (at : ℕ → List ℕ) (s : State) → Tells k at s → (file : File) → description (declared_under s word []) file ≡ description s file
-described_alike k sound word kept at s tells file =
-    let none : has_no_tests s.declared ≡ true = subst (λ (x : State). has_no_tests x.declared ≡ true) tells.state (declared_no_tests k sound.dict) in
-    no_tests_more s.declared (with_word s.declared word) s.axioms file none
-    (all_insert_key word_cmp (λ w. not (is_test w)) s.declared word none (not_from_false (is_test word) (word_not_test word kept)))
+-- ---- the state in which a word that has no number is declared under others
+module _ (k : Kept) (sound : AreSound k) (pairs : PairsAreApart k) (at : ℕ → List ℕ) (s : State) (free : FreeSlotsAreEmpty k) (tells : Tells k at s)
+    (word : List ℕ) (kept : is_kept_word word ≡ true) (new : number_of k.dict word ≡ None) (words : List (List ℕ)) where
+  abbrev under_them : State
+  under_them = declared_under s word words
 
-known_then : (k : Kept) → AreSound k → (at : ℕ → List ℕ) (s : State) → FreeSlotsAreEmpty k → Tells k at s → (word : List ℕ) → is_declarable word ≡ true → number_of k.dict word ≡ None
-    → length (known (declared_under s word [])) ≡ length k.dict.entries + 1
-known_then k sound at s free tells word form new =
-    let more = ap (λ (ws : List (List ℕ)). length ws) (known_declares s tells.formed word [] (record { form = form; over = refl })) in
-    let one = length-with_word (known s) word (λ w m tie.
-    let same = word_exact word w tie in
-    let found = number_of_known k at s sound free tells word (subst (λ v. Among (known s) v) (sym same) m) in
-    let both : is_some (number_of k.dict word) ≡ true = ap is_some found.1 in
-    both_ways (is_some (number_of k.dict word)) (ap is_some new) both) in
-    omega (arith, more, one, known_counted k at s sound free tells)
+  unknown : Among (known s) word → ⊥
+  unknown m =
+      let found = number_of_known k at s sound free tells word m in
+      both_ways (is_some (number_of k.dict word)) (ap is_some new) (ap is_some found.1)
 
--- ---- a declared word
-module _ (p q : Kept) (word : List ℕ) (sound : AreSound p) (new : number_of p.dict word ≡ None) (declares : Declares word p q) where
-  word_then : (m : ℕ) → word_of q.dict m ≡ (if declares.number == m then Some word else word_of p.dict m)
+  -- files have the same words
+  described_alike : (file : File) → Among s.files file → description under_them file ≡ description s file
+  described_alike file m = described_under s word words (word_not_test word kept) file (λ has. unknown (known_from s word (Described file m has)))
+
+  words_fit : exceeds_words under_them ≡ false
+  words_fit = false_from_ne_true (exceeds_words under_them) (λ some.
+      let found = among_from_any (λ (file : File). nat_lt 128 (length (description under_them file))) s.files some in
+      let few = all_among (λ (f : File). nat_le (length (description s f)) 128) s.files found.0 tells.formed.files.few_words found.1 in
+      let long : nat_lt 128 (length (description s found.0)) ≡ true = ap (λ ws. nat_lt 128 (length ws)) (sym (described_alike found.0 found.1)) ∙ found.2 in
+      omega (arith, leb-true (length (description s found.0)) 128 few, ltb-true 128 (length (description s found.0)) long))
+
+  axioms_more : AllApart words → length under_them.axioms ≡ count_by is_filled k.axioms + length words
+  axioms_more apart =
+      let counted = length-under word s.axioms words apart (λ q m. unknown (known_from s word (Left (word, q) m refl))) in
+      let before : length s.axioms ≡ count_by is_filled k.axioms = ap (λ (x : State). length x.axioms) (sym tells.state) ∙ axioms_counted k sound pairs in
+      omega (arith, counted, before)
+
+  module _ (form : is_declarable word ≡ true) (plain : list_all is_plain_word words ≡ true) (declared : list_all (is_declared k) words ≡ true) where
+    over_told : list_all (λ q. is_plain_word q && has_word s.declared q) words ≡ true
+    over_told = all_from (λ q. is_plain_word q && has_word s.declared q) words (λ q m.
+        and_from (is_plain_word q) (has_word s.declared q) (all_among is_plain_word words q plain m) (declared_told k at s tells q ∙ all_among (is_declared k) words q declared m))
+
+    known_more : length (known under_them) ≡ length k.dict.entries + 1
+    known_more =
+        let more = ap (λ (ws : List (List ℕ)). length ws) (known_declares s tells.formed word words (record { form = form; over = over_told })) in
+        let one = length-with_word (known s) word (λ w m tie. unknown (subst (λ v. Among (known s) v) (sym (word_exact word w tie)) m)) in
+        omega (arith, more, one, known_counted k at s sound free tells)
+
+    formed_then : is_declared k word ≡ false → AllApart words → count_by is_filled k.axioms + length words ≤ k.limits.props → length k.dict.entries < k.limits.props → WellFormed under_them
+    formed_then undeclared apart axioms room =
+        let most = ap (λ (l : Limits). l.props) (limits_told k at s sound free tells) in
+        forms.declares s tells.formed word words (record {
+          form = form;
+          new = not_from_false (has_word s.declared word) (declared_told k at s tells word ∙ undeclared);
+          over = over_told;
+          few_axioms = omega (arith, axioms_more apart, axioms, most);
+          few_known = omega (arith, known_more, room, most);
+          few_words = all_from (λ (file : File). nat_le (length (description under_them file)) 128) s.files (λ file m.
+              ap (λ ws. nat_le (length ws) 128) (described_alike file m) ∙ all_among (λ (f : File). nat_le (length (description s f)) 128) s.files file tells.formed.files.few_words m);
+        })
+
+-- ---- the numbers of the words under which it is declared
+module _ (p : Kept) (sound : AreSound p) (words : List (List ℕ)) (rights : List ℕ) (numbers : AreNumbersOf p words rights) where
+  right_some : (n : ℕ) → Among rights n → IsSome (word_of p.dict n)
+  right_some n m = all_among (λ i. is_some (word_of p.dict i)) rights n numbers.named m
+
+  right_word : (n : ℕ) → has_number rights n ≡ true → (w : List ℕ) × (word_of p.dict n ≡ Some w) × Among words w
+  right_word n has_it =
+      let found = some_word (word_of p.dict n) (right_some n (among_from_number rights n has_it)) in
+      (found.0, found.1, subst (λ ws. Among ws found.0) numbers.told (word_among p sound rights n found.0 found.1 has_it))
+
+  right_declared : (n : ℕ) → has_number rights n ≡ true → is_taken p.declared n ≡ true
+  right_declared n has_it =
+      let found = right_word n has_it in
+      ap (bit_of p.declared) (sym (number_from_word p.dict sound.dict found.0 n found.1)) ∙ all_among (is_declared p) words found.0 numbers.declared found.2
+
+  apart_numbers : (ns : List ℕ) → are_distinct ns ≡ true → AllApart ns
+  apart_numbers [] h = tt
+  apart_numbers (n ∷ ns) h =
+      let both = and_parts (not (has_number ns n)) (are_distinct ns) h in
+      ((λ m. both_ways (has_number ns n) (not-true (has_number ns n) both.0) (number_from_among ns n m)), apart_numbers ns both.1)
+
+  pub rights_counted : length rights ≡ length words
+  rights_counted = sym (told_counted p sound rights (apart_numbers rights numbers.apart) right_some) ∙ ap length numbers.told
+
+  may_stand : list_all is_plain_word words ≡ true → count_by is_filled p.axioms + length words ≤ p.limits.props → MayStandUnder rights p
+  may_stand plain room = record {
+    plain = all_from (λ n. is_plain_by (word_of p.dict n)) rights (λ n m.
+        let found = right_word n (number_from_among rights n m) in
+        ap is_plain_by found.1 ∙ all_among is_plain_word words found.0 plain found.2);
+    apart = numbers.apart;
+    room = omega (arith, rights_counted, room);
+  }
+
+words_each : (d : Dict) (ns : List ℕ) → ((n : ℕ) → Among ns n → IsSome (word_of d n)) → AreWordsOf d ns (flat_map (λ n. option_to_list (word_of d n)) ns)
+words_each d [] some = refl
+words_each d (n ∷ ns) some =
+    let found = some_word (word_of d n) (some n (inl refl)) in
+    let rest = flat_map (λ i. option_to_list (word_of d i)) ns in
+    (found.0, rest, found.1, ap (λ o. option_to_list o ++ rest) found.1, words_each d ns (λ i m. some i (inr m)))
+
+-- ---- a declared word, before axioms lead from it
+module _ (p mid : Kept) (word : List ℕ) (sound : AreSound p) (new : number_of p.dict word ≡ None) (declares : Declares word p mid) where
+  word_then : (m : ℕ) → word_of mid.dict m ≡ (if declares.number == m then Some word else word_of p.dict m)
   word_then m = ap (λ (k : Kept). word_of k.dict m) declares.parts ∙ word_of-with_entry p.dict word declares.number new declares.free m
 
-  stays : (m : ℕ) → IsSome (word_of p.dict m) → word_of q.dict m ≡ word_of p.dict m
+  stays : (m : ℕ) → IsSome (word_of p.dict m) → word_of mid.dict m ≡ word_of p.dict m
   stays m some = word_then m ∙ ap (λ b. if b then Some word else word_of p.dict m) (ne_eqb declares.number m (λ same.
       let none : is_some (word_of p.dict m) ≡ false = ap (λ i. is_some (word_of p.dict i)) (sym same) ∙ ap is_some declares.free in
       both_ways (is_some (word_of p.dict m)) none some))
 
-  file_then : (at : ℕ → List ℕ) (f : Filed) → Among p.catalog.entries f → file_told q.limits q.dict at f ≡ file_told p.limits p.dict at f
-  file_then at f m =
+  file_declared : (at : ℕ → List ℕ) (f : Filed) → Among p.catalog.entries f → file_told mid.limits mid.dict at f ≡ file_told p.limits p.dict at f
+  file_declared at f m =
       let fit = sound.records f.slot f.rec (filed_rec p.catalog sound.catalog f m) in
       let most = and_parts (is_record f.rec && list_all (λ n. is_some (word_of p.dict n)) f.rec.tags) (list_all (λ n. nat_lt n p.limits.blocks) f.rec.blocks) fit in
       let named = (and_parts (is_record f.rec) (list_all (λ n. is_some (word_of p.dict n)) f.rec.tags) most.0).1 in
-      ap (λ (l : Limits). file_told l q.dict at f) (ap (λ (k : Kept). k.limits) declares.parts)
+      ap (λ (l : Limits). file_told l mid.dict at f) (ap (λ (k : Kept). k.limits) declares.parts)
       ∙ ap (λ (ws : List (List ℕ)). record (file_told p.limits p.dict at f) { assigned = ws })
-      (words_same p.dict q.dict f.rec.tags (λ n of. stays n (all_among (λ i. is_some (word_of p.dict i)) f.rec.tags n named of)))
+      (words_same p.dict mid.dict f.rec.tags (λ n of. stays n (all_among (λ i. is_some (word_of p.dict i)) f.rec.tags n named of)))
 
-  ext_is : q.ext ≡ p.ext
-  ext_is = ap (λ (k : Kept). k.ext) declares.parts
-
-  entries_are : q.catalog.entries ≡ p.catalog.entries
-  entries_are = ap (λ (k : Kept). k.catalog.entries) declares.parts
-
-  link_back : AreSound q → (a b : ℕ) → IsSome (word_of p.dict a) → is_linked q a b ≡ true → is_linked p a b ≡ true
-  link_back after a b some linked = by (or_cases _ (has_pair q.axioms a b) (subst (λ t. (t || has_pair q.axioms a b) ≡ true) (own_link_is q after.dict a b) linked))
+  link_back : IsDict mid.dict → (a b : ℕ) → IsSome (word_of p.dict a) → is_linked mid a b ≡ true → is_linked p a b ≡ true
+  link_back dict a b some linked = by (or_cases _ (has_pair mid.axioms a b) (subst (λ t. (t || has_pair mid.axioms a b) ≡ true) (own_link_is mid dict a b) linked))
     where
       none_headed : (o : Option (List ℕ)) → word_of p.dict a ≡ o → is_head_by o (Some word) ≡ true → ⊥
       none_headed None is head = absurd cc
@@ -150,176 +302,278 @@ module _ (p q : Kept) (word : List ℕ) (sound : AreSound p) (new : number_of p.
       at false e head =
           subst (λ t. (t || has_pair p.axioms a b) ≡ true) (sym (own_link_is p sound.dict a b)) (or_left (is_head_by (word_of p.dict a) (word_of p.dict b)) (has_pair p.axioms a b) head)
 
-      by : (is_head_by (word_of q.dict a) (word_of q.dict b) ≡ true) ⊎ (has_pair q.axioms a b ≡ true) → is_linked p a b ≡ true
-      by (inl own) = at (declares.number == b) refl (subst (λ o. is_head_by (word_of p.dict a) o ≡ true) (word_then b) (subst (λ o. is_head_by o (word_of q.dict b) ≡ true) (stays a some) own))
+      by : (is_head_by (word_of mid.dict a) (word_of mid.dict b) ≡ true) ⊎ (has_pair mid.axioms a b ≡ true) → is_linked p a b ≡ true
+      by (inl own) = at (declares.number == b) refl (subst (λ o. is_head_by (word_of p.dict a) o ≡ true) (word_then b) (subst (λ o. is_head_by o (word_of mid.dict b) ≡ true) (stays a some) own))
       by (inr pair) = or_right _ (has_pair p.axioms a b) (subst (λ (k : Kept). has_pair k.axioms a b ≡ true) declares.parts pair)
 
-  closed_then : AreSound q → AreClosed p → AreClosed q
-  closed_then after closed =
-      subst (λ (e : Ext). (slot a b : ℕ) → has e a slot ≡ true → is_linked q a b ≡ true → has e b slot ≡ true) (sym ext_is)
-      (λ slot a b h l. closed slot a b h (link_back after a b (sound.named a slot h) l))
-
-  flagged_stays : (n : ℕ) → is_taken p.declared n ≡ true → is_taken q.declared n ≡ true
+  flagged_stays : (n : ℕ) → is_taken p.declared n ≡ true → is_taken mid.declared n ≡ true
   flagged_stays n bit = ap (λ (k : Kept). is_taken k.declared n) declares.parts ∙ by (cases_eq n declares.number)
     where
       by : (n ≡ declares.number) ⊎ (n ≡ declares.number → ⊥) → is_taken (set p.declared declares.number true) n ≡ true
       by (inl same) = ap (is_taken (set p.declared declares.number true)) same ∙ get_or-set_same p.declared declares.number true false (omega (arith, declares.below, sound.bits))
       by (inr differ) = get_or-set_other p.declared declares.number n true false differ ∙ bit
 
+-- ---- a word that is declared under others
+module _ (p q : Kept) (word : List ℕ) (rights : List ℕ) (words : List (List ℕ)) (sound : AreSound p) (new : number_of p.dict word ≡ None) (numbers : AreNumbersOf p words rights)
+    (stands : DeclaresUnder word rights p q) where
+  abbrev mid : Kept
+  mid = stands.mid
+
+  abbrev declares : Declares word p mid
+  declares = stands.declares
+
+  abbrev number : ℕ
+  number = declares.number
+
+  mid_is : q ≡ record mid { axioms = q.axioms; marks = q.marks }
+  mid_is = each_parts number rights mid q stands.links
+
+  parts_are : q ≡ record p { dict = mid.dict; declared = mid.declared; axioms = q.axioms; marks = q.marks }
+  parts_are = mid_is ∙ ap (λ (k : Kept). record k { dict = mid.dict; declared = mid.declared; axioms = q.axioms; marks = q.marks }) declares.parts
+
+  pub limits_are : q.limits ≡ p.limits
+  limits_are = ap (λ (k : Kept). k.limits) parts_are
+
+  dict_is : q.dict ≡ mid.dict
+  dict_is = ap (λ (k : Kept). k.dict) mid_is
+
+  ext_is : q.ext ≡ p.ext
+  ext_is = ap (λ (k : Kept). k.ext) parts_are
+
+  entries_are : q.catalog.entries ≡ p.catalog.entries
+  entries_are = ap (λ (k : Kept). k.catalog.entries) parts_are
+
+  stays_then : (m : ℕ) → IsSome (word_of p.dict m) → word_of q.dict m ≡ word_of p.dict m
+  stays_then m some = ap (λ (d : Dict). word_of d m) dict_is ∙ stays p mid word sound new declares m some
+
+  file_then : (at : ℕ → List ℕ) (f : Filed) → Among p.catalog.entries f → file_told q.limits q.dict at f ≡ file_told p.limits p.dict at f
+  file_then at f m = ap (λ (k : Kept). file_told k.limits k.dict at f) mid_is ∙ file_declared p mid word sound new declares at f m
+
+  -- links between the words that were known
+  link_then : IsDict mid.dict → (a b : ℕ) → IsSome (word_of p.dict a) → is_linked q a b ≡ true → is_linked p a b ≡ true
+  link_then dict a b some linked =
+      let other : (number == a) ≡ false = ne_eqb number a (λ same.
+      both_ways (is_some (word_of p.dict a)) (ap (λ i. is_some (word_of p.dict i)) (sym same) ∙ ap is_some declares.free) some) in
+      link_back p mid word sound new declares dict a b some
+      (sym (each_linked number rights mid q stands.links a b ∙ ap (λ c. (c && has_number rights b) || is_linked mid a b) other) ∙ linked)
+
+  closed_then : AreSound q → AreClosed p → AreClosed q
+  closed_then after closed =
+      subst (λ (e : Ext). (slot a b : ℕ) → has e a slot ≡ true → is_linked q a b ≡ true → has e b slot ≡ true) (sym ext_is)
+      (λ slot a b h l. closed slot a b h (link_then (subst (λ (d : Dict). IsDict d) dict_is after.dict) a b (sound.named a slot h) l))
+
+  flagged_then : (n : ℕ) → is_taken p.declared n ≡ true → is_taken q.declared n ≡ true
+  flagged_then n bit = ap (λ (k : Kept). is_taken k.declared n) mid_is ∙ flagged_stays p mid word sound new declares n bit
+
+  -- axioms lead to declared words
+  right_then : KeepsInUse p → (slot left right : ℕ) → slice_get q.axioms slot ≡ Some (Pair left right) → is_taken q.declared right ≡ true
+  right_then keeps slot left right is = flagged_then right (by (or_cases ((number == left) && has_number rights right) (has_pair mid.axioms left right) (sym (each_pairs number rights mid q stands.links left right) ∙ there)))
+    where
+      there : has_pair q.axioms left right ≡ true
+      there =
+          any_from_among (is_pair left right) q.axioms (Pair left right) (among_slot q.axioms slot (Pair left right) is)
+          (and_from (left == left) (right == right) (eq-eqb left left refl) (eq-eqb right right refl))
+
+      old : (a : AxiomSlot) → Among p.axioms a → is_pair left right a ≡ true → is_taken p.declared right ≡ true
+      old FreeAxiom m same = absurd cc
+      old (Pair x y) m same =
+          let place = slot_at p.axioms (Pair x y) m in
+          subst (λ n. is_taken p.declared n ≡ true) (eqb-true y right (and_parts (x == left) (y == right) same).1) (keeps.rights place.0 x y place.1)
+
+      by : (((number == left) && has_number rights right) ≡ true) ⊎ (has_pair mid.axioms left right ≡ true) → is_taken p.declared right ≡ true
+      by (inl both) = right_declared p sound words rights numbers right (and_parts (number == left) (has_number rights right) both).1
+      by (inr pair) =
+          let found = among_from_any (is_pair left right) p.axioms (subst (λ (k : Kept). has_pair k.axioms left right ≡ true) declares.parts pair) in
+          old found.0 found.1 found.2
+
   in_use_then : KeepsInUse p → KeepsInUse q
   in_use_then keeps = record {
-    used = declares.used keeps.used;
-    tags = subst (λ (k : Kept). (slot : ℕ) (rec : FileRecord) → rec_at k.catalog slot ≡ Some rec → (n : ℕ) → has_number rec.tags n ≡ true → has k.ext n slot ≡ true) (sym declares.parts) keeps.tags;
-    rights = λ slot left right is. flagged_stays right (keeps.rights slot left right (subst (λ (k : Kept). slice_get k.axioms slot ≡ Some (Pair left right)) declares.parts is));
+    used = under_used word p mid q declares rights stands.links keeps.used;
+    tags = subst (λ (k : Kept). (slot : ℕ) (rec : FileRecord) → rec_at k.catalog slot ≡ Some rec → (n : ℕ) → has_number rec.tags n ≡ true → has k.ext n slot ≡ true) (sym parts_are) keeps.tags;
+    rights = right_then keeps;
   }
 
   -- the store is in form again
-  pub sound_declared : (j : Held) (b : Bool) → b ≡ false → IsSound (record { parts = p; journal = j; is_broken = b }) → AreSound q → IsSound (settled q j)
+  sound_declared : (j : Held) (b : Bool) → b ≡ false → IsSound (record { parts = p; journal = j; is_broken = b }) → AreSound q → IsSound (settled q j)
   sound_declared j b whole was after =
       record {
         parts = sound_clean q after;
-        range = subst (λ (k : Kept). IsTrue (is_super k.limits)) (sym declares.parts) was.range;
-        free = subst (λ (k : Kept). FreeSlotsAreEmpty k) (sym declares.parts) was.free;
-        pairs = subst (λ (k : Kept). PairsAreApart k) (sym declares.parts) was.pairs;
+        range = subst (λ (k : Kept). IsTrue (is_super k.limits)) (sym parts_are) was.range;
+        free = subst (λ (k : Kept). FreeSlotsAreEmpty k) (sym parts_are) was.free;
+        pairs = under_apart p mid q sound word declares rights numbers.apart stands.links was.pairs;
         closed = closed_then after was.closed;
-        short = subst (λ (k : Kept). DescriptionsAreShort k) (sym declares.parts) was.short;
-        taken = subst (λ (k : Kept). BlocksAreTaken k) (sym declares.parts) was.taken;
-        apart = subst (λ (k : Kept). BlocksAreApart k) (sym declares.parts) was.apart;
+        short = subst (λ (k : Kept). DescriptionsAreShort k) (sym parts_are) was.short;
+        taken = subst (λ (k : Kept). BlocksAreTaken k) (sym parts_are) was.taken;
+        apart = subst (λ (k : Kept). BlocksAreApart k) (sym parts_are) was.apart;
         in_use = in_use_clean q (in_use_then was.in_use);
-        image = subst (λ (k : Kept). j.blocks ≡ image_blocks k.limits) (sym declares.parts) was.image;
+        image = subst (λ (k : Kept). j.blocks ≡ image_blocks k.limits) (sym parts_are) was.image;
         journal = λ _. was.journal whole;
         staged = λ _. refl;
         placed = λ _. was.placed whole;
         clean = λ _. clean_is q;
       }
 
-  room_after : (limits : ℕ) (entries : ℕ) → entries < limits → entries + 1 ≤ limits
-  room_after limits entries room = omega arith
+  few_marked : length rights ≤ 64 → marked_count p ≡ 0 → marked_count q ≤ 65
+  few_marked few none = omega (arith, (declared_then_marked word p mid q declares rights stands.links).few, few, none)
+
+  pub few_edits : q.ext.edits ≤ p.ext.edits + differing_bits p.ext q.ext
+  few_edits = omega (arith, ap (λ (e : Ext). e.edits) ext_is)
 
   -- ---- the state that it tells
-  module _ (at : ℕ → List ℕ) (s : State) (free : FreeSlotsAreEmpty p) (tells : Tells p at s) (form : is_declarable word ≡ true) (kept : is_kept_word word ≡ true) (undeclared : is_declared p word ≡ false) (room : length p.dict.entries < p.limits.props) where
+  module _ (at : ℕ → List ℕ) (s : State) (free : FreeSlotsAreEmpty p) (tells : Tells p at s) (kept : is_kept_word word ≡ true) (formed : WellFormed (declared_under s word words)) (pairs : PairsAreApart p) where
     abbrev t : State
-    t = declared_under s word []
+    t = declared_under s word words
 
-    described_same : (file : File) → description t file ≡ description s file
-    described_same file = described_alike p sound word kept at s tells file
-
-    words_now : (f : Filed) → Among p.catalog.entries f → words_told q.dict (numbers_at q.ext f.slot) ≡ words_told p.dict (numbers_at p.ext f.slot)
-    words_now f m =
-        ap (λ (e : Ext). words_told q.dict (numbers_at e f.slot)) ext_is
-        ∙ words_same p.dict q.dict (numbers_at p.ext f.slot) (λ n of. stays n (sound.named n f.slot (number_from_among (numbers_at p.ext f.slot) n of)))
+    state_then : state_of q at ≡ t
+    state_then =
+        let some : (n : ℕ) → Among rights n → IsSome (word_of p.dict n) = right_some p sound words rights numbers in
+        let same : (n : ℕ) → Among rights n → word_of mid.dict n ≡ word_of p.dict n = λ n m. stays p mid word sound new declares n (some n m) in
+        let ws = flat_map (λ n. option_to_list (word_of mid.dict n)) rights in
+        let named : word_of mid.dict number ≡ Some word = word_then p mid word sound new declares number ∙ ap (λ b. if b then Some word else word_of p.dict number) (eq-eqb number number refl) in
+        declared_then_linked word p mid q declares rights ws stands.links named (words_each mid.dict rights (λ n m. ap is_some (same n m) ∙ some n m)) at
+        ∙ (ap (λ (axioms : List (List ℕ × List ℕ)). record (state_of p at) { declared = with_word (declared_of p) word; axioms = axioms })
+        (under_set word (axioms_of p) (sorted_axioms p) ws ∙ ap (under word (axioms_of p)) (words_same p.dict mid.dict rights same ∙ numbers.told))
+        ∙ ap (λ (x : State). declared_under x word words) tells.state)
 
     there : (f : Filed) → Contains q.catalog.entries f → Among p.catalog.entries f
     there f m = subst (λ (fs : List Filed). Among fs f) entries_are (among_from_contains q.catalog.entries f m)
 
-    formed_then : WellFormed t
-    formed_then = forms.declares s tells.formed word [] (record {
-      form = form;
-      new = not_from_false (has_word s.declared word) (declared_told p at s tells word ∙ undeclared);
-      over = refl;
-      few_axioms = tells.formed.few_axioms;
-      few_known = omega (arith, known_then p sound at s free tells word form new, room_after p.limits.props (length p.dict.entries) room, ap (λ (l : Limits). l.props) (limits_told p at s sound free tells));
-      few_words = all_from _ s.files (λ file m. ap (λ ws. nat_le (length ws) 128) (described_same file) ∙ all_among (λ (f : File). nat_le (length (description s f)) 128) s.files file tells.formed.files.few_words m);
-    })
+    words_now : (f : Filed) → Among p.catalog.entries f → words_told q.dict (numbers_at q.ext f.slot) ≡ words_told p.dict (numbers_at p.ext f.slot)
+    words_now f m =
+        ap (λ (e : Ext). words_told q.dict (numbers_at e f.slot)) ext_is
+        ∙ words_same p.dict q.dict (numbers_at p.ext f.slot) (λ n of. stays_then n (sound.named n f.slot (number_from_among (numbers_at p.ext f.slot) n of)))
 
-    pub tells_declared : Tells q at t
+    described_then : (f : Filed) → Among p.catalog.entries f → description t (file_told q.limits q.dict at f) ≡ description s (file_told p.limits p.dict at f)
+    described_then f m =
+        ap (description t) (file_then at f m)
+        ∙ described_alike p sound pairs at s free tells word kept new words (file_told p.limits p.dict at f) (file_of_filed p at s sound free tells f m)
+
+    tells_declared : Tells q at t
     tells_declared = record {
       super = tells.super;
-      state = declares.state at ∙ ap (λ (x : State). declared_under x word []) tells.state;
-      formed = formed_then;
-      used = declares.used tells.used;
+      state = state_then;
+      formed = formed;
+      used = under_used word p mid q declares rights stands.links tells.used;
       described = λ f m.
           let of_p = there f m in
-          words_now f of_p
-          ∙ (tells.described f (contains_from_among p.catalog.entries f of_p)
-          ∙ (ap (description s) (sym (file_then at f of_p)) ∙ sym (described_same (file_told q.limits q.dict at f))));
+          words_now f of_p ∙ (tells.described f (contains_from_among p.catalog.entries f of_p) ∙ sym (described_then f of_p));
       taken = λ n lt is.
-          let b = tells.taken n (subst (λ (k : Kept). n < k.limits.blocks) declares.parts lt) (subst (λ (k : Kept). is_taken k.taken n ≡ true) declares.parts is) in
+          let b = tells.taken n (subst (λ (k : Kept). n < k.limits.blocks) parts_are lt) (subst (λ (k : Kept). is_taken k.taken n ≡ true) parts_are is) in
           record { file = b.file; kept = subst (λ (fs : List Filed). Contains fs b.file) (sym entries_are) b.kept; has = b.has };
-      given = λ f m n has.
-          let g = tells.given f (contains_from_among p.catalog.entries f (there f m)) n has in
-          subst (λ (k : Kept). (n < k.limits.blocks) × (is_taken k.taken n ≡ true)) (sym declares.parts) g;
+      given = λ f m n has_it.
+          let g = tells.given f (contains_from_among p.catalog.entries f (there f m)) n has_it in
+          subst (λ (k : Kept). (n < k.limits.blocks) × (is_taken k.taken n ≡ true)) (sym parts_are) g;
       one_use = λ f g mf mg n has_f has_g. tells.one_use f g (contains_from_among p.catalog.entries f (there f mf)) (contains_from_among p.catalog.entries g (there g mg)) n has_f has_g;
     }
 
-    pub ready_declared : IsSaved p at → IsReady q at t
-    ready_declared saved = record { tells = tells_declared; saved = declares.marks.saved at saved }
+    ready_declared : IsSaved p at → IsReady q at t
+    ready_declared saved = record { tells = tells_declared; saved = (declared_then_marked word p mid q declares rights stands.links).saved at saved }
 
 -- ---- the row of `mkdir`, asked of what memory keeps
-module _ (k : Kept) (sound : AreSound k) (at : ℕ → List ℕ) (s : State) (free : FreeSlotsAreEmpty k) (tells : Tells k at s) (word : List ℕ) (kept : is_kept_word word ≡ true) where
+module _ (k : Kept) (sound : AreSound k) (pairs : PairsAreApart k) (at : ℕ → List ℕ) (s : State) (free : FreeSlotsAreEmpty k) (tells : Tells k at s) (place : List Formula)
+    (word : List ℕ) (kept : is_kept_word word ≡ true) where
+  abbrev now : Situation
+  now = record { state = s; place = place }
+
+  abbrev words : List (List ℕ)
+  words = words_at place
+
   abbrev made : State
-  made = declared_under s word []
+  made = declared_under s word words
 
-  abbrev root : Situation
-  root = record { state = s; place = [] }
+  abbrev few_checks : Bool → Bool → Bool → Bool → Bool → Bool → Bool → List (Bool × Refusal) → List (Bool × Refusal)
+  few_checks own valued there plain over axioms room rest =
+      (own, BuiltIn) ∷ (valued, NotAssignable) ∷ (there, AlreadyDeclared) ∷ (not plain, NotAPlace) ∷ (not over, UnknownProperty) ∷ (axioms, NoAxiomRoom) ∷ (room, NoPropertyRoom) ∷ rest
 
-  abbrev all_checks : Bool → Bool → Bool → Bool → Bool → Bool → List (Bool × Refusal)
-  all_checks own valued there axioms room words =
-      (own, BuiltIn) ∷ (valued, NotAssignable) ∷ (there, AlreadyDeclared) ∷ (false, NotAPlace) ∷ (false, UnknownProperty) ∷ (axioms, NoAxiomRoom) ∷ (room, NoPropertyRoom) ∷ (words, LargeDescription) ∷ []
+  abbrev all_checks : Bool → Bool → Bool → Bool → Bool → Bool → Bool → Bool → List (Bool × Refusal)
+  all_checks own valued there plain over axioms room large = few_checks own valued there plain over axioms room ((large, LargeDescription) ∷ [])
 
-  abbrev few_checks : Bool → Bool → Bool → Bool → List (Bool × Refusal)
-  few_checks own valued there room = (own, BuiltIn) ∷ (valued, NotAssignable) ∷ (there, AlreadyDeclared) ∷ (false, NotAPlace) ∷ (room, NoPropertyRoom) ∷ []
+  abbrev many_axioms : Bool
+  many_axioms = nat_lt k.limits.props (count_by is_filled k.axioms + length words)
 
-  abbrev too_many : Bool
-  too_many = nat_lt k.limits.props (length k.dict.entries + 1)
+  abbrev many_words : Bool
+  many_words = nat_lt k.limits.props (length k.dict.entries + 1)
 
-  known_same : is_declarable word ≡ true → is_declared k word ≡ false → exceeds_known made ≡ too_many
-  known_same form undeclared =
-      ap₂ (λ most n. nat_lt most n) (ap (λ (l : Limits). l.props) (sym (limits_told k at s sound free tells)))
-      (known_then k sound at s free tells word form (new_word k word sound form undeclared))
+  most : s.limits.props ≡ k.limits.props
+  most = ap (λ (l : Limits). l.props) (sym (limits_told k at s sound free tells))
 
-  words_fit : exceeds_words made ≡ false
-  words_fit = false_from_ne_true (exceeds_words made) (λ some.
-      let found = among_from_any (λ (file : File). nat_lt 128 (length (description made file))) s.files some in
-      let few = all_among (λ (f : File). nat_le (length (description s f)) 128) s.files found.0 tells.formed.files.few_words found.1 in
-      let long : nat_lt 128 (length (description s found.0)) ≡ true = ap (λ ws. nat_lt 128 (length ws)) (sym (described_alike k sound word kept at s tells found.0)) ∙ found.2 in
-      omega (arith, leb-true (length (description s found.0)) 128 few, ltb-true 128 (length (description s found.0)) long))
-
-  axioms_fit : exceeds_axioms made ≡ false
-  axioms_fit = false_from_ne_true (exceeds_axioms made) (λ some. omega (arith, ltb-true s.limits.props (length s.axioms) some, tells.formed.few_axioms))
-
-  at_root : (own valued there : Bool) → is_built_in word ≡ own → is_valued word ≡ valued → is_declared k word ≡ there
-      → judged root (all_checks own valued there (exceeds_axioms made) (exceeds_known made) (exceeds_words made)) (changed root made) ≡ judged root (few_checks own valued there too_many) (changed root made)
-  at_root true valued there is_own is_valued is_there = refl
-  at_root false true there is_own is_valued is_there = refl
-  at_root false false true is_own is_valued is_there = refl
-  at_root false false false is_own is_valued is_there =
+  -- what is asked of the new state is asked of a new word alone, under plain declared words
+  by_row : (done : Outcome) (own valued there plain over : Bool) → is_built_in word ≡ own → is_valued word ≡ valued → is_declared k word ≡ there → is_plain_place (place_words place) ≡ plain
+      → list_all (is_declared k) words ≡ over
+      → judged now (all_checks own valued there plain over (exceeds_axioms made) (exceeds_known made) (exceeds_words made)) done ≡ judged now (few_checks own valued there plain over many_axioms many_words []) done
+  by_row done true valued there plain over is_own is_valued is_there is_plain is_over = refl
+  by_row done false true there plain over is_own is_valued is_there is_plain is_over = refl
+  by_row done false false true plain over is_own is_valued is_there is_plain is_over = refl
+  by_row done false false false false over is_own is_valued is_there is_plain is_over = refl
+  by_row done false false false true false is_own is_valued is_there is_plain is_over = refl
+  by_row done false false false true true is_own is_valued is_there is_plain is_over =
       let form = declarable_from word (or_left (is_word word) (is_test word) kept) is_valued is_own in
-      ap (λ b. judged root (all_checks false false false b (exceeds_known made) (exceeds_words made)) (changed root made)) axioms_fit
-      ∙ (ap (λ b. judged root (all_checks false false false false b (exceeds_words made)) (changed root made)) (known_same form is_there)
-      ∙ ap (λ b. judged root (all_checks false false false false too_many b) (changed root made)) words_fit)
+      let new = new_word k word sound form is_there in
+      let axioms : exceeds_axioms made ≡ many_axioms = ap₂ (λ a b. nat_lt a b) most (axioms_more k sound pairs at s free tells word kept new words (apart_at place)) in
+      let room : exceeds_known made ≡ many_words = ap₂ (λ a b. nat_lt a b) most (known_more k sound pairs at s free tells word kept new words form (plain_at place is_plain) is_over) in
+      ap (λ b. judged now (all_checks false false false true true b (exceeds_known made) (exceeds_words made)) done) axioms
+      ∙ (ap (λ b. judged now (all_checks false false false true true many_axioms b (exceeds_words made)) done) room
+      ∙ (ap (λ b. judged now (all_checks false false false true true many_axioms many_words b) done) (words_fit k sound pairs at s free tells word kept new words)
+      ∙ last many_axioms many_words))
+    where
+      last : (a b : Bool) → judged now (all_checks false false false true true a b false) done ≡ judged now (few_checks false false false true true a b []) done
+      last true b = refl
+      last false true = refl
+      last false false = refl
 
-  pub outcome_is : (place : List Formula) → mkdir (record { state = s; place = place }) word
-      ≡ judged (record { state = s; place = place }) (word_checks k place word) (changed (record { state = s; place = place }) made)
-  outcome_is [] =
-      ap (λ there. judged root (all_checks (is_built_in word) (is_valued word) there (exceeds_axioms made) (exceeds_known made) (exceeds_words made)) (changed root made)) (declared_told k at s tells word)
-      ∙ at_root (is_built_in word) (is_valued word) (is_declared k word) refl refl refl
-  outcome_is (step ∷ steps) =
-      let now : Situation = record { state = s; place = step ∷ steps } in
-      ap (λ there. judged now ((is_built_in word, BuiltIn) ∷ (is_valued word, NotAssignable) ∷ (there, AlreadyDeclared) ∷ (true, NotAPlace) ∷ []) (changed now made)) (declared_told k at s tells word)
+  all_told : list_all (has_word s.declared) words ≡ list_all (is_declared k) words
+  all_told = same_tests (list_all (has_word s.declared) words) (list_all (is_declared k) words)
+      (λ h. all_from (is_declared k) words (λ w m. sym (declared_told k at s tells w) ∙ all_among (has_word s.declared) words w h m))
+      (λ h. all_from (has_word s.declared) words (λ w m. declared_told k at s tells w ∙ all_among (is_declared k) words w h m))
+
+  pub outcome_is : mkdir now word ≡ judged now (word_checks k place word) (changed now made)
+  outcome_is =
+      ap₂ (λ there over. judged now (all_checks (is_built_in word) (is_valued word) there (is_plain_place (place_words place)) over (exceeds_axioms made) (exceeds_known made) (exceeds_words made)) (changed now made))
+      (declared_told k at s tells word) all_told
+      ∙ by_row (changed now made) (is_built_in word) (is_valued word) (is_declared k word) (is_plain_place (place_words place)) (list_all (is_declared k) words) refl refl refl refl refl
 
 -- ---- a call that declares a word
-module _ (old : Stored) (q : Kept) (place : List Formula) (word : List ℕ) (sound : IsSound old) (unbroken : old.is_broken ≡ false) (kept : is_kept_word word ≡ true) (form : is_declarable word ≡ true)
-    (none : first_refusal (word_checks old.parts place word) ≡ None) (declares : Declares word old.parts q) where
-  undeclared : (is_declared old.parts word ≡ false) × (length old.parts.dict.entries < old.parts.limits.props)
-  undeclared = undeclared_word old.parts place word none
+module _ (old : Stored) (place : List Formula) (word : List ℕ) (rights : List ℕ) (sound : IsSound old) (kept : is_kept_word word ≡ true) (form : is_declarable word ≡ true)
+    (none : first_refusal (word_checks old.parts place word) ≡ None) (numbers : AreNumbersOf old.parts (words_at place) rights) where
+  passes : IsPlaceable old.parts place word
+  passes = is_placeable old.parts place word none
 
-  new : number_of old.parts.dict word ≡ None
-  new = new_word old.parts word sound.parts form undeclared.0
+  pub declared_new : number_of old.parts.dict word ≡ None
+  declared_new = new_word old.parts word sound.parts form passes.new
 
-  pub declared_sound : AreSound q → IsSound (settled q old.journal)
-  declared_sound = sound_declared old.parts q word sound.parts new declares old.journal old.is_broken unbroken sound
+  pub declared_room : length old.parts.dict.entries < old.parts.limits.props
+  declared_room = passes.room
 
-  pub declared_changes : {T : Type 0} (after_call : Stored) (before after : Meaning) (result : Result T Change) → Saves q old.journal after_call before after result
-      → (s : State) → StoreFits old before s → Changes (record { state = s; place = place }) (mkdir (record { state = s; place = place }) word) after_call before after result
-  declared_changes after_call before after result saves s fits =
-      let now : Situation = record { state = s; place = place } in
-      let made : State = declared_under s word [] in
-      let ready : IsReady q fits.kept made =
-      ready_declared old.parts q word sound.parts new declares fits.kept s sound.free fits.tells form kept undeclared.0 undeclared.1 (λ area n lt unmarked. fits.written area n lt) in
-      saves old now (mkdir now word) made fits sound refl refl refl (ap (λ (k : Kept). k.limits) declares.parts)
-      (λ _. subst (λ (es : List Entry). IsReady q (looked es fits.kept) made) (sym (sound.staged unbroken)) ready)
-      (outcome_is old.parts sound.parts fits.kept s sound.free fits.tells word kept place ∙ judged_done now (word_checks old.parts place word) (changed now made) none)
+  pub declared_may : MayStandUnder rights old.parts
+  declared_may = may_stand old.parts sound.parts (words_at place) rights numbers (plain_at place passes.plain) passes.axioms
+
+  module _ (unbroken : old.is_broken ≡ false) (q : Kept) (stands : DeclaresUnder word rights old.parts q) where
+    pub declared_sound : AreSound q → IsSound (settled q old.journal)
+    declared_sound = sound_declared old.parts q word rights (words_at place) sound.parts declared_new numbers stands old.journal old.is_broken unbroken sound
+
+    pub declared_limits : q.limits ≡ old.parts.limits
+    declared_limits = limits_are old.parts q word rights (words_at place) sound.parts declared_new numbers stands
+
+    pub declared_edits : q.ext.edits ≤ old.parts.ext.edits + differing_bits old.parts.ext q.ext
+    declared_edits = few_edits old.parts q word rights (words_at place) sound.parts declared_new numbers stands
+
+    pub declared_marks : length rights ≤ 64 → length old.journal.staged + marked_count q ≤ 531
+    declared_marks few =
+        let marked = few_marked old.parts q word rights (words_at place) sound.parts declared_new numbers stands few (none_marked old.parts (sound.clean unbroken)) in
+        omega (arith, marked, ap length (sound.staged unbroken))
+
+    pub declared_changes : {T : Type 0} (new : Stored) (before after : Meaning) (result : Result T Change) → Saves q old.journal new before after result
+        → (s : State) → StoreFits old before s → Changes (record { state = s; place = place }) (mkdir (record { state = s; place = place }) word) new before after result
+    declared_changes new before after result saves s fits =
+        let now : Situation = record { state = s; place = place } in
+        let made : State = declared_under s word (words_at place) in
+        let formed = formed_then old.parts sound.parts sound.pairs fits.kept s sound.free fits.tells word kept declared_new (words_at place) form (plain_at place passes.plain) passes.declared
+        passes.new (apart_at place) passes.axioms passes.room in
+        let ready : IsReady q fits.kept made =
+        ready_declared old.parts q word rights (words_at place) sound.parts declared_new numbers stands fits.kept s sound.free fits.tells kept formed sound.pairs (λ area n lt unmarked. fits.written area n lt) in
+        saves old now (mkdir now word) made fits sound refl refl refl declared_limits
+        (λ _. subst (λ (es : List Entry). IsReady q (looked es fits.kept) made) (sym (sound.staged unbroken)) ready)
+        (outcome_is old.parts sound.parts sound.pairs fits.kept s sound.free fits.tells place word kept ∙ judged_done now (word_checks old.parts place word) (changed now made) none)
 
 -- one that is refused
 pub declared_refused : {T : Type 0} (old : Stored) (m : Meaning) (place : List Formula) (word : List ℕ) (refusal : Refusal) (result : Result T Change) → IsSound old → is_kept_word word ≡ true
@@ -328,5 +582,5 @@ pub declared_refused : {T : Type 0} (old : Stored) (m : Meaning) (place : List F
 declared_refused old m place word refusal result sound kept first ends s fits =
     let now : Situation = record { state = s; place = place } in
     change_refused old m now (mkdir now word) refusal result fits
-    (outcome_is old.parts sound.parts fits.kept s sound.free fits.tells word kept place
-    ∙ judged_refused now (word_checks old.parts place word) (changed now (declared_under s word [])) refusal first) ends
+    (outcome_is old.parts sound.parts sound.pairs fits.kept s sound.free fits.tells place word kept
+    ∙ judged_refused now (word_checks old.parts place word) (changed now (declared_under s word (words_at place))) refusal first) ends

@@ -15,6 +15,7 @@ pub mod Judged
 pub mod Cleaned
 pub mod Told
 pub mod Declared
+pub mod Undeclared
 pub mod Here
 pub mod Reading
 pub mod Given
@@ -30,6 +31,8 @@ pub mod FreeBlocks
 pub mod AddedTells
 pub mod AddedMarks
 pub mod Assigned
+pub mod PlaceNumbers
+pub mod Under
 pub mod Gathered
 pub mod Measured
 pub mod Admitted

@@ -51,7 +51,7 @@ distinct_apart (w ∷ words) h =
     let both = and_parts (not (has_word words w)) (are_distinct words) h in
     (λ m. both_ways (has_word words w) (not-true (has_word words w) both.0) (has_word_from_among words w m), distinct_apart words both.1)
 
-sorted_apart : {K : Type 0} (cmp : K → K → Ordering) → IsTotalOrder cmp → (xs : List K) → IsStrictlySortedBy cmp xs → AllApart xs
+pub sorted_apart : {K : Type 0} (cmp : K → K → Ordering) → IsTotalOrder cmp → (xs : List K) → IsStrictlySortedBy cmp xs → AllApart xs
 sorted_apart cmp order [] sorted = tt
 sorted_apart cmp order (x ∷ xs) sorted =
     (λ m. no_tie cmp order x x xs (below_tail cmp order x xs sorted) m (tied_itself order x), sorted_apart cmp order xs (sorted_tail cmp order x xs sorted))

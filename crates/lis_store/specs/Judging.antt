@@ -1,15 +1,19 @@
 -- What commands are refused for, asked of what memory keeps.
-use Rattle.std.specs.Prelude.{ℕ, ◌+◌, nat_lt, Bool, not, List, [], ◌∷◌, length}
-use Rattle.std.specs.List.{list_any}
+use Rattle.std.specs.Prelude.{ℕ, ◌+◌, nat_lt, Bool, false, not, Option, Some, None, List, [], ◌∷◌, length, count_by}
+use Rattle.std.specs.List.{list_any, list_all}
 use Rattle.lis_grammar.specs.Formula.{Formula}
+use Rattle.lis_dict.specs.Dict.{number_of}
 use Rattle.lis_words.specs.Words.{same_word, is_built_in, is_valued}
 use Rattle.lis_model.specs.declared.refusal.Refusal.{Refusal}
-use Rattle.lis_model.specs.declared.refusal.Refusal.TheVariants.{BuiltIn, NotAssignable, AlreadyDeclared, NotAPlace, NoPropertyRoom}
-use Rattle.lis_model.specs.Places.{is_root}
+use Rattle.lis_model.specs.declared.refusal.Refusal.TheVariants.{BuiltIn, NotAssignable, AlreadyDeclared, NotDeclared, InUse, NotAPlace, UnknownProperty, NoAxiomRoom, NoPropertyRoom}
+use Rattle.lis_model.specs.Places.{place_words}
+use Rattle.lis_model.specs.Step.{is_plain_place, words_at}
 use Rattle.lis_model.specs.Table.{Entry}
 use Rattle.lis_model.specs.Listing.{extension}
 use Rattle.lis_kept.specs.Kept.{Kept}
 use Rattle.lis_kept.specs.Telling.{is_declared}
+use Rattle.lis_kept.specs.Linking.{is_filled}
+use Rattle.lis_kept.specs.Undeclaring.{is_needed}
 use Rattle.lis_store.specs.Seen.{table_of}
 
 -- a file of that name is in the extension of the place
@@ -22,6 +26,22 @@ word_checks k place word =
     (is_built_in word, BuiltIn)
     ∷ (is_valued word, NotAssignable)
     ∷ (is_declared k word, AlreadyDeclared)
-    ∷ (not (is_root place), NotAPlace)
+    ∷ (not (is_plain_place (place_words place)), NotAPlace)
+    ∷ (not (list_all (is_declared k) (words_at place)), UnknownProperty)
+    ∷ (nat_lt k.limits.props (count_by is_filled k.axioms + length (words_at place)), NoAxiomRoom)
     ∷ (nat_lt k.limits.props (length k.dict.entries + 1), NoPropertyRoom)
+    ∷ []
+
+-- the word has a number, and is needed
+abbrev pub is_needed_by : Kept → Option ℕ → Bool
+is_needed_by k None = false
+is_needed_by k (Some number) = is_needed k number
+
+-- the row of `rmdir`
+abbrev pub undeclare_checks : Kept → List ℕ → List (Bool × Refusal)
+undeclare_checks k word =
+    (is_built_in word, BuiltIn)
+    ∷ (is_valued word, NotAssignable)
+    ∷ (not (is_declared k word), NotDeclared)
+    ∷ (is_needed_by k (number_of k.dict word), InUse)
     ∷ []

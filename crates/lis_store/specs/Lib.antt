@@ -8,6 +8,7 @@ pub mod Saving
 pub mod Judging
 pub mod Admitting
 pub mod Assigning
+pub mod Placing
 pub mod Describing
 pub mod Removing
 pub mod Replacing

@@ -1,29 +1,32 @@
 //! What commands are refused for.
 
-ghost use Rattle.std.specs.Prelude.{◌≡◌, IsTrue, OnOk};
-ghost use Rattle.lis_model.specs.Places.{is_root};
+ghost use Rattle.std.specs.Prelude.{◌≡◌, ◌≤◌, length, Some, IsTrue, OnOk, IfOk};
+ghost use Rattle.lis_dict.specs.Dict.{number_of};
 ghost use Rattle.lis_model.specs.State.{is_declarable};
+ghost use Rattle.lis_model.specs.Step.{words_at};
 ghost use Rattle.lis_words.specs.Words.{is_kept_word};
 ghost use Rattle.lis_store.specs.Changes.{Judges};
-ghost use Rattle.lis_store.specs.Judging.{word_checks};
+ghost use Rattle.lis_store.specs.Judging.{word_checks, undeclare_checks};
+ghost use Rattle.lis_store.specs.Placing.{AreNumbersOf};
 
+use crate::placing::{has_plain_words, place_numbers};
+use arrayvec::ArrayVec;
 use lis_kept::Parts;
 use lis_model::refusal::Refusal;
 use lis_place::Place;
 use lis_words::{Word, is_builtin, is_valued};
 
-// Whether the place has no step.
-fn is_root(place: &Place) -> bool
-    ensures { result ≡ is_root place.now }
-{
-    place.is_empty()
-}
-
-/// Whether a word may be declared at the place.
-pub(crate) fn may_declare(parts: &Parts, place: &Place, word: &Word) -> Result<(), Refusal>
+/// The numbers of the place's words, where a word may be declared at the place.
+pub(crate) fn may_declare(
+    parts: &Parts,
+    place: &Place,
+    word: &Word,
+) -> Result<ArrayVec<u16, 64>, Refusal>
     ensures row { Judges (word_checks parts.now place.now word.now) result }
     ensures form { OnOk result (IsTrue (is_declarable word.now)) }
     ensures word { IsTrue (is_kept_word word.now) }
+    ensures numbers { IfOk result (λ numbers. AreNumbersOf parts.now (words_at place.now) numbers.items) }
+    ensures few { IfOk result (λ numbers. length numbers.items ≤ 64) }
 {
     let bytes = word.bytes();
     if is_builtin(word) {
@@ -35,11 +38,43 @@ pub(crate) fn may_declare(parts: &Parts, place: &Place, word: &Word) -> Result<(
     if parts.is_declared(word) {
         return Err(Refusal::AlreadyDeclared);
     }
-    if !is_root(place) {
+    if !has_plain_words(place) {
         return Err(Refusal::NotAPlace);
     }
-    if parts.word_count() >= parts.limits().props {
+    let Some(numbers) = place_numbers(parts, place) else {
+        return Err(Refusal::UnknownProperty);
+    };
+    let props = parts.limits().props;
+    if parts.axiom_count() + numbers.len() as u32 > props {
+        return Err(Refusal::NoAxiomRoom);
+    }
+    if parts.word_count() >= props {
         return Err(Refusal::NoPropertyRoom);
     }
-    Ok(())
+    Ok(numbers)
+}
+
+/// The number of a word whose declaration may be taken back.
+pub(crate) fn may_undeclare(parts: &Parts, word: &Word) -> Result<u16, Refusal>
+    ensures row { Judges (undeclare_checks parts.now word.now) result }
+    ensures number { IfOk result (λ number. number_of parts.now.dict word.now ≡ Some number) }
+{
+    // Only the limits tell that memory is in form.
+    let _limits = parts.limits();
+    if is_builtin(word) {
+        return Err(Refusal::BuiltIn);
+    }
+    if is_valued(word.bytes()) {
+        return Err(Refusal::NotAssignable);
+    }
+    if !parts.is_declared(word) {
+        return Err(Refusal::NotDeclared);
+    }
+    let Some(number) = parts.number_of(word) else {
+        unreachable!()
+    };
+    if parts.is_needed(number) {
+        return Err(Refusal::InUse);
+    }
+    Ok(number)
 }

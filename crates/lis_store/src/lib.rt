@@ -16,6 +16,7 @@ mod lessening;
 mod looking;
 mod relating;
 mod relating_in;
+mod placing;
 mod removing;
 mod saving;
 mod store;

@@ -9,7 +9,7 @@ ghost use Rattle.lis_fields.specs.Records.{FileRecord};
 ghost use Rattle.lis_model.specs.declared.refusal.Refusal.{Refusal};
 ghost use Rattle.lis_model.specs.Changes.{file_of};
 ghost use Rattle.lis_model.specs.State.{State};
-ghost use Rattle.lis_model.specs.Step.{mkdir, add, rm};
+ghost use Rattle.lis_model.specs.Step.{add, rm};
 ghost use Rattle.lis_eval.specs.Room.{HasRoom};
 ghost use Rattle.lis_kept.specs.Telling.{is_declared};
 ghost use Rattle.lis_store.specs.declared.change.Change.TheVariants.{Refused};
@@ -19,11 +19,12 @@ ghost use Rattle.lis_store.specs.Changes.{Changes, HasChangeCause, ChangeLeft, E
 
 mod linking;
 mod unlinking;
+mod declaring;
+mod undeclaring;
 
 use crate::adding::put_in;
 use crate::admitting::may_add;
 use crate::change::Change;
-use crate::judging::may_declare;
 use crate::removing::take_out;
 use crate::saving::save;
 use lis_eval::{Scratch, View, evaluate, found};
@@ -161,36 +162,6 @@ impl Store {
             return Some(slot);
         }
         None
-    }
-
-    /// Declares a word: `mkdir` at the place.
-    pub fn declare<D: Disk>(
-        &mut self,
-        disk: &mut D,
-        place: &Place,
-        word: &Word,
-    ) -> Result<(), Change>
-        requires unbroken { self.old.is_broken ≡ false }
-        requires long { 4096 * self.old.journal.blocks ≤ (D.meaning disk.old).len }
-        ensures changes { (s : State) → StoreFits self.old (D.meaning disk.old) s
-            → Changes (record { state = s; place = place.now }) (mkdir (record { state = s; place = place.now }) word.now)
-            self.new (D.meaning disk.old) (D.meaning disk.new) result }
-        ensures untouched { (refusal : Refusal) → result ≡ Err (Refused refusal) → disk.new ≡ disk.old }
-        ensures limits { self.new.parts.limits ≡ self.old.parts.limits }
-        ensures image { self.new.journal.blocks ≡ self.old.journal.blocks }
-        ensures left { ChangeLeft self.old self.new result }
-        ensures edits { EditsFew self.old self.new }
-        ensures run { IsDiskRun (D.meaning disk.old) (D.meaning disk.new) }
-        ensures cause { HasChangeCause (D.meaning disk.old).disk_faults (D.meaning disk.new).disk_faults result }
-    {
-        may_declare(&self.parts, place, word)?;
-        self.parts.declare(word);
-        save(
-            &mut self.parts,
-            &mut self.journal,
-            &mut self.is_broken,
-            disk,
-        )
     }
 
     /// Makes a file of these bytes: `create` and `add` at the place. Where there are more bytes than a file may have, only their

@@ -1,0 +1,104 @@
+//! The words of a place under which a word is declared, and their numbers.
+
+ghost use Rattle.std.specs.Prelude.{◌≡◌, ◌∷◌, ◌<◌, ◌≤◌, [], false, length, IsSome, MatchOption, IfSome};
+ghost use Rattle.std.specs.List.{list_all};
+ghost use Rattle.lis_content.specs.Content.{has_number};
+ghost use Rattle.lis_place.specs.Nodes.{node_words};
+ghost use Rattle.lis_model.specs.Places.{place_words};
+ghost use Rattle.lis_model.specs.Step.{is_plain_place, words_at};
+ghost use Rattle.lis_kept.specs.Telling.{is_declared};
+ghost use Rattle.lis_store.specs.Placing.{is_plain_conjunct, declared_number, AreNumbersOf, TakesNumbers};
+
+use arrayvec::ArrayVec;
+use lis_kept::Parts;
+use lis_place::{Node, Place};
+use lis_words::{Word, is_plain_word};
+
+// Whether a node is a plain word, or a conjunction.
+fn is_plain_conjunct(node: &Node) -> bool
+    ensures { result ≡ is_plain_conjunct node.now }
+{
+    match node {
+        Node::Word(word) => is_plain_word(word.bytes()),
+        Node::AtLeast(_) => false,
+        Node::Below(_) => false,
+        Node::Not => false,
+        Node::And => true,
+        Node::Or => false,
+    }
+}
+
+// Whether all nodes are plain words and conjunctions.
+fn are_plain_conjuncts(nodes: &[Node]) -> bool
+    ensures { result ≡ list_all is_plain_conjunct nodes.now }
+{
+    nodes.iter().all(|node| is_plain_conjunct(node))
+}
+
+/// Whether the place's formula has only conjunctions and plain words.
+pub(crate) fn has_plain_words(place: &Place) -> bool
+    ensures { result ≡ is_plain_place (place_words place.now) }
+{
+    are_plain_conjuncts(place.nodes())
+}
+
+// The number of a word that is declared.
+fn declared_number(parts: &Parts, word: &Word) -> Option<u16>
+    ensures { result ≡ declared_number parts.now word.now }
+{
+    if !parts.is_declared(word) {
+        return None;
+    }
+    parts.number_of(word)
+}
+
+// Whether the number is one of these.
+fn has_number(numbers: &[u16], number: u16) -> bool
+    ensures { result ≡ has_number numbers.now number }
+{
+    numbers.iter().any(|held| *held == number)
+}
+
+// Puts the number of a word to others, if it is declared.
+fn take_number(parts: &Parts, numbers: &mut ArrayVec<u16, 64>, word: &Word) -> bool
+    requires { length numbers.old.items < 64 }
+    ensures { TakesNumbers parts.now (word.now ∷ []) numbers.old.items numbers.new.items result }
+{
+    // Only the limits tell that memory is in form.
+    let _limits = parts.limits();
+    let Some(number) = declared_number(parts, word) else {
+        return false;
+    };
+    if has_number(numbers.as_slice(), number) {
+        return true;
+    }
+    numbers.push(number);
+    true
+}
+
+// Puts the number of a node's word to others, if it is declared.
+fn take_node(parts: &Parts, numbers: &mut ArrayVec<u16, 64>, node: &Node) -> bool
+    requires { length numbers.old.items < 64 }
+    ensures { TakesNumbers parts.now (node_words node.now) numbers.old.items numbers.new.items result }
+{
+    let Node::Word(word) = node else {
+        return true;
+    };
+    take_number(parts, numbers, word)
+}
+
+/// The numbers of the words of the place, each once. None comes exactly where some word is not declared.
+pub(crate) fn place_numbers(parts: &Parts, place: &Place) -> Option<ArrayVec<u16, 64>>
+    requires { IsSome (place_words place.now) }
+    ensures numbers { MatchOption result (list_all (is_declared parts.now) (words_at place.now) ≡ false)
+        (λ numbers. AreNumbersOf parts.now (words_at place.now) numbers.items) }
+    ensures few { IfSome result (λ numbers. length numbers.items ≤ 64) }
+{
+    let mut numbers = ArrayVec::new();
+    for node in place.nodes() {
+        if !take_node(parts, &mut numbers, node) {
+            return None;
+        }
+    }
+    Some(numbers)
+}

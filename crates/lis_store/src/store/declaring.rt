@@ -1,0 +1,50 @@
+//! Words that are declared.
+
+ghost use Rattle.std.specs.Prelude.{◌≡◌, ◌*◌, ◌≤◌, false, Err};
+ghost use Rattle.lis_ports.specs.Runs.{IsDiskRun};
+ghost use Rattle.lis_model.specs.declared.refusal.Refusal.{Refusal};
+ghost use Rattle.lis_model.specs.State.{State};
+ghost use Rattle.lis_model.specs.Step.{mkdir};
+ghost use Rattle.lis_store.specs.declared.change.Change.TheVariants.{Refused};
+ghost use Rattle.lis_store.specs.Stored.{StoreFits};
+ghost use Rattle.lis_store.specs.Changes.{Changes, HasChangeCause, ChangeLeft, EditsFew};
+
+use crate::change::Change;
+use crate::judging::may_declare;
+use crate::saving::save;
+use crate::store::Store;
+use lis_place::Place;
+use lis_ports::Disk;
+use lis_words::Word;
+
+impl Store {
+    /// Declares a word: `mkdir` at the place.
+    pub fn declare<D: Disk>(
+        &mut self,
+        disk: &mut D,
+        place: &Place,
+        word: &Word,
+    ) -> Result<(), Change>
+        requires unbroken { self.old.is_broken ≡ false }
+        requires long { 4096 * self.old.journal.blocks ≤ (D.meaning disk.old).len }
+        ensures changes { (s : State) → StoreFits self.old (D.meaning disk.old) s
+            → Changes (record { state = s; place = place.now }) (mkdir (record { state = s; place = place.now }) word.now)
+            self.new (D.meaning disk.old) (D.meaning disk.new) result }
+        ensures untouched { (refusal : Refusal) → result ≡ Err (Refused refusal) → disk.new ≡ disk.old }
+        ensures limits { self.new.parts.limits ≡ self.old.parts.limits }
+        ensures image { self.new.journal.blocks ≡ self.old.journal.blocks }
+        ensures left { ChangeLeft self.old self.new result }
+        ensures edits { EditsFew self.old self.new }
+        ensures run { IsDiskRun (D.meaning disk.old) (D.meaning disk.new) }
+        ensures cause { HasChangeCause (D.meaning disk.old).disk_faults (D.meaning disk.new).disk_faults result }
+    {
+        let places = may_declare(&self.parts, place, word)?;
+        self.parts.declare_under(word, places.as_slice());
+        save(
+            &mut self.parts,
+            &mut self.journal,
+            &mut self.is_broken,
+            disk,
+        )
+    }
+}

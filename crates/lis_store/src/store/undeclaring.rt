@@ -1,0 +1,42 @@
+//! Words that are declared no more.
+
+ghost use Rattle.std.specs.Prelude.{◌≡◌, ◌*◌, ◌≤◌, false, Err};
+ghost use Rattle.lis_ports.specs.Runs.{IsDiskRun};
+ghost use Rattle.lis_model.specs.declared.refusal.Refusal.{Refusal};
+ghost use Rattle.lis_model.specs.Step.{Situation, rmdir};
+ghost use Rattle.lis_store.specs.declared.change.Change.TheVariants.{Refused};
+ghost use Rattle.lis_store.specs.Stored.{StoreFits};
+ghost use Rattle.lis_store.specs.Changes.{Changes, HasChangeCause, ChangeLeft, EditsFew};
+
+use crate::change::Change;
+use crate::judging::may_undeclare;
+use crate::saving::save;
+use crate::store::Store;
+use lis_ports::Disk;
+use lis_words::Word;
+
+impl Store {
+    /// Takes the declaration of a word back: `rmdir`.
+    pub fn undeclare<D: Disk>(&mut self, disk: &mut D, word: &Word) -> Result<(), Change>
+        requires unbroken { self.old.is_broken ≡ false }
+        requires long { 4096 * self.old.journal.blocks ≤ (D.meaning disk.old).len }
+        ensures changes { (now : Situation) → StoreFits self.old (D.meaning disk.old) now.state
+            → Changes now (rmdir now word.now) self.new (D.meaning disk.old) (D.meaning disk.new) result }
+        ensures untouched { (refusal : Refusal) → result ≡ Err (Refused refusal) → disk.new ≡ disk.old }
+        ensures limits { self.new.parts.limits ≡ self.old.parts.limits }
+        ensures image { self.new.journal.blocks ≡ self.old.journal.blocks }
+        ensures left { ChangeLeft self.old self.new result }
+        ensures edits { EditsFew self.old self.new }
+        ensures run { IsDiskRun (D.meaning disk.old) (D.meaning disk.new) }
+        ensures cause { HasChangeCause (D.meaning disk.old).disk_faults (D.meaning disk.new).disk_faults result }
+    {
+        let number = may_undeclare(&self.parts, word)?;
+        self.parts.undeclare(number);
+        save(
+            &mut self.parts,
+            &mut self.journal,
+            &mut self.is_broken,
+            disk,
+        )
+    }
+}
