@@ -165,19 +165,19 @@ module _ (k : Stored) (m : Meaning) (s : State) (sound : IsSound k) (fits : Stor
         refl,
         ap not among_told,
         λ here. let at = there (not-false (is_among kept place name) here) in
-        let made = made_is other old.bytes (old_given k m s sound fits name slot rec at.0 at.1) in (
-          refl,
-          sym named,
-          λ new. let free = still_free s name other (named ∙ new) in (
-            refl,
-            large_told k m s sound fits name slot rec at.0 at.1 (given_before kept rec other old.bytes) free ∙ ap exceeds_words made,
-            λ short. (
+            let made = made_is other old.bytes (old_given k m s sound fits name slot rec at.0 at.1) in (
               refl,
-              room_told k m s sound fits name slot rec at.0 at.1 (given_before kept rec other old.bytes) free ∙ ap exceeds_known made,
-              λ room. tt,
+              sym named,
+              λ new. let free = still_free s name other (named ∙ new) in (
+                refl,
+                large_told k m s sound fits name slot rec at.0 at.1 (given_before kept rec other old.bytes) free ∙ ap exceeds_words made,
+                λ short. (
+                  refl,
+                  room_told k m s sound fits name slot rec at.0 at.1 (given_before kept rec other old.bytes) free ∙ ap exceeds_known made,
+                  λ room. tt,
+                ),
+              ),
             ),
-          ),
-        ),
       )
 
   -- what `write` comes to
