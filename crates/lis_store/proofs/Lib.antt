@@ -56,3 +56,9 @@ pub mod AxiomGone
 pub mod Unaxiomed
 pub mod AxiomFound
 pub mod Unaxiom
+pub mod InsteadKnown
+pub mod InsteadMeasured
+pub mod InsteadGiven
+pub mod InsteadRows
+pub mod InsteadTold
+pub mod InsteadMay

@@ -17,3 +17,4 @@ pub mod Counting
 pub mod Relating
 pub mod RelatingIn
 pub mod Unlinking
+pub mod Instead

@@ -10,6 +10,7 @@ mod change;
 mod counting;
 mod derived;
 mod describing;
+mod instead;
 mod judging;
 pub mod laws;
 mod lessening;
