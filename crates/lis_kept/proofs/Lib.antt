@@ -20,6 +20,7 @@ pub mod Forgotten
 pub mod Used
 pub mod Emptied
 pub mod ToldInUse
+pub mod Without
 pub mod Numbered
 pub mod Entailed
 pub mod PlainWords
