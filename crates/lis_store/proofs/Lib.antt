@@ -37,3 +37,5 @@ pub mod AddFile
 pub mod Sizes
 pub mod InsteadKnown
 pub mod InsteadMeasured
+pub mod InsteadGiven
+pub mod InsteadRows
