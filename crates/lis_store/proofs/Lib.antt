@@ -39,3 +39,4 @@ pub mod InsteadKnown
 pub mod InsteadMeasured
 pub mod InsteadGiven
 pub mod InsteadRows
+pub mod Retagged

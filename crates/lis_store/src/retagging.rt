@@ -197,6 +197,8 @@ pub(crate) fn may_retag(
     ensures words { IfOk result (λ words. (rec : FileRecord) → rec_at parts.now.catalog slot ≡ Some rec
         → IsStrictlySortedBy word_cmp (words_told parts.now.dict rec.tags) → words.items ≡ words_moved parts.now rec here.now there.now) }
 {
+    // Only the limits tell that the parts are in form.
+    let _limits = parts.limits();
     may_lead(parts, here, there, text)?;
     let words = assigned_in(parts, slot);
     let Some(moved) = retagged(words.as_slice(), here, there) else {
