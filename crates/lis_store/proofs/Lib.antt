@@ -40,3 +40,5 @@ pub mod InsteadMeasured
 pub mod InsteadGiven
 pub mod InsteadRows
 pub mod Retagged
+pub mod InsteadTold
+pub mod InsteadMay
