@@ -20,7 +20,7 @@ returns-in_err-has_room_instead-clause-row c = λ rec bytes in_slot set.
     let few : nat_lt 16 (length (words_moved k rec here there)) ≡ false = le-ltb 16 (length (words_moved k rec here there)) (omega (arith, c.in-Some.ensures.few, ap length moved_is)) in
     let p = err_from_is_err_and c.from_residual-in_err-has_room_instead.result c.from_residual-in_err-has_room_instead.ensures.1 in
     judges_refused (retag_checks k here there words c.args.slot (moved_from k rec here there name bytes)) c.from_residual-in_err-has_room_instead.result c.in_err-has_room_instead.field-0.0 (p.1 ∙ ap Err p.2)
-    (room_judged k c.limits.ensures.sound here there words c.args.slot rec name bytes c.in_ok-may_lead.ensures.row c.as_slice-2.result.now (c.as_slice-2.ensures.value ∙ moved_is) few
+    (room_judged k c.limits-limits.ensures.sound here there words c.args.slot rec name bytes c.in_ok-may_lead.ensures.row c.as_slice-2.result.now (c.as_slice-2.ensures.value ∙ moved_is) few
     ∙ c.in_err-has_room_instead.ensures.row)
 
 pub returns-clause-row : goal.returns-clause-row
@@ -30,5 +30,5 @@ returns-clause-row c = λ rec bytes in_slot set.
     let moved_is : c.in-Some.moved.items ≡ words_moved k rec here there =
     c.in-Some.ensures.words (subst (IsStrictlySortedBy word_cmp) (sym words_are) set) ∙ ap (λ ws. retagged ws (tags_at here) (tags_at there)) words_are in
     let few : nat_lt 16 (length (words_moved k rec here there)) ≡ false = le-ltb 16 (length (words_moved k rec here there)) (omega (arith, c.in-Some.ensures.few, ap length moved_is)) in
-    room_judged k c.limits.ensures.sound here there words c.args.slot rec name bytes c.in_ok-may_lead.ensures.row c.as_slice-2.result.now (c.as_slice-2.ensures.value ∙ moved_is) few
+    room_judged k c.limits-limits.ensures.sound here there words c.args.slot rec name bytes c.in_ok-may_lead.ensures.row c.as_slice-2.result.now (c.as_slice-2.ensures.value ∙ moved_is) few
     ∙ c.in_ok-has_room_instead.ensures.row
