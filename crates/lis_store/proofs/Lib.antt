@@ -42,3 +42,4 @@ pub mod InsteadRows
 pub mod Retagged
 pub mod InsteadTold
 pub mod InsteadMay
+pub mod RetagTold

@@ -13,7 +13,7 @@ ghost use Rattle.lis_place.specs.Nodes.{node_words};
 ghost use Rattle.lis_model.specs.Places.{place_words};
 ghost use Rattle.lis_model.specs.Step.{tags_at, retagged};
 ghost use Rattle.lis_eval.specs.Room.{HasRoom};
-ghost use Rattle.lis_kept.specs.Telling.{words_told, AreUsed};
+ghost use Rattle.lis_kept.specs.Telling.{AreUsed};
 ghost use Rattle.lis_store.specs.Assigning.{node_tags};
 ghost use Rattle.lis_store.specs.Changes.{Judges};
 ghost use Rattle.lis_store.specs.Retagging.{led_by, words_moved, moved_from, text_checks, places_checks, retag_checks};
@@ -153,6 +153,20 @@ fn retagged(words: &[Word], here: &Place, there: &Place) -> Option<ArrayVec<Word
     Some(moved)
 }
 
+// The words of the file in a slot, without the tags of one place and with those of another. None comes exactly where they are more
+// than 16.
+fn words_moved(parts: &Parts, slot: u16, here: &Place, there: &Place) -> Option<ArrayVec<Word, 16>>
+    requires rec { IsSome (rec_at parts.now.catalog slot) }
+    requires here { IsSome (place_words here.now) }
+    requires there { IsSome (place_words there.now) }
+    ensures words { (rec : FileRecord) → rec_at parts.now.catalog slot ≡ Some rec
+        → MatchOption result (16 < length (words_moved parts.now rec here.now there.now)) (λ moved. moved.items ≡ words_moved parts.now rec here.now there.now) }
+    ensures few { IfSome result (λ moved. length moved.items ≤ 16) }
+{
+    let words = assigned_in(parts, slot);
+    retagged(words.as_slice(), here, there)
+}
+
 // ---- the row
 
 // What both places are refused for, and the words of the text that leads from one to the other.
@@ -192,16 +206,14 @@ pub(crate) fn may_retag(
     requires room { HasRoom scratch.old parts.now.limits }
     ensures room { HasRoom scratch.new parts.now.limits }
     ensures row { (rec : FileRecord) (bytes : List ℕ) → rec_at parts.now.catalog slot ≡ Some rec
-        → IsStrictlySortedBy word_cmp (words_told parts.now.dict rec.tags)
         → Judges (retag_checks parts.now here.now there.now (text_words text.now) slot (moved_from parts.now rec here.now there.now name.now bytes)) result }
     ensures words { IfOk result (λ words. (rec : FileRecord) → rec_at parts.now.catalog slot ≡ Some rec
-        → IsStrictlySortedBy word_cmp (words_told parts.now.dict rec.tags) → words.items ≡ words_moved parts.now rec here.now there.now) }
+        → words.items ≡ words_moved parts.now rec here.now there.now) }
 {
     // Only the limits tell that the parts are in form.
     let _limits = parts.limits();
     may_lead(parts, here, there, text)?;
-    let words = assigned_in(parts, slot);
-    let Some(moved) = retagged(words.as_slice(), here, there) else {
+    let Some(moved) = words_moved(parts, slot, here, there) else {
         return Err(Refusal::TooManyAssigned);
     };
     has_room_instead(parts, scratch, slot, name, moved.as_slice(), &[])?;
