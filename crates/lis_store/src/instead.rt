@@ -17,7 +17,7 @@ ghost use Rattle.lis_store.specs.Instead.{leaving, given_before, instead_checks,
 ghost use Rattle.lis_store.specs.Replacing.{emptied, known_instead};
 
 use crate::admitting::{MAX_DESCRIPTION, blocks_taken};
-use crate::assigning::put_word;
+use crate::assigning::{all_assignable, put_word};
 use crate::describing::measure;
 use arrayvec::ArrayVec;
 use lis_bits::Rows;
@@ -144,7 +144,7 @@ fn measure_instead(
     }
 }
 
-/// Whether there is room for the words of a file in the place of that in a slot.
+/// Whether the words of a file may stand in the place of those of the file in a slot.
 pub(crate) fn has_room_instead(
     parts: &Parts,
     scratch: &mut Scratch,
@@ -161,6 +161,10 @@ pub(crate) fn has_room_instead(
     ensures row { Judges (instead_checks parts.now slot (new_file name.now words.now payload.now)) result }
 {
     let limits = parts.limits();
+    // The words of a told file may be given. Memory alone does not tell so.
+    if !all_assignable(parts, words) {
+        return Err(Refusal::UnknownProperty);
+    }
     let measure = measure_instead(parts, &mut scratch.candidates, slot, name, words, payload);
     if measure.words > MAX_DESCRIPTION {
         return Err(Refusal::LargeDescription);

@@ -1,5 +1,3 @@
-use Rattle.lis_store.proofs.InsteadMay.{given_assignable, write_may, rename_may}
-use Rattle.lis_store.proofs.InsteadTold.{write_done}
 use Rattle.std.proofs.Common.{◌∙◌, sym, ap, is_some, Err}
 use Rattle.std.proofs.lemmas.Result.{err_from_is_err_and}
 use Rattle.lis_store.specs.Instead.{given_before, renaming_checks}
