@@ -1,5 +1,5 @@
 -- The row of `mv`, told by what a store keeps, is the row of the state; and what holds where it refuses nothing.
-use Rattle.std.proofs.Common.{◌≡◌, ◌⊎◌, refl, sym, ap, ap₂, ◌∙◌, subst, inl, inr, ℕ, ◌+◌, ◌≤◌, nat_lt, Bool, true, false, not, option_to_list, Option, Some, None, List, [], ◌∷◌, ◌++◌, length, filter, Err, arith}
+use Rattle.std.proofs.Common.{◌≡◌, ◌⊎◌, refl, sym, ap, ap₂, ◌∙◌, subst, inl, inr, ℕ, ◌+◌, ◌≤◌, nat_lt, Bool, true, false, not, ◌&&◌, is_some, option_to_list, Option, Some, None, List, [], ◌∷◌, ◌++◌, length, filter, Err, arith}
 use Rattle.std.specs.Prelude.{IsTrue}
 use Rattle.std.specs.List.{list_any, list_all, flat_map}
 use Rattle.std.specs.List.Sorted.{IsStrictlySortedBy}
@@ -15,14 +15,15 @@ use Rattle.lis_graph.proofs.Members.{Among, among_filter}
 use Rattle.lis_grammar.specs.Formula.{Formula}
 use Rattle.lis_grammar.specs.Places.{Resolution, resolved, text_words}
 use Rattle.lis_grammar.specs.Places.Resolution.{NewPlace, BeyondLimits, Unreadable}
-use Rattle.lis_words.specs.Words.{word_cmp, same_word, has_word, is_file_name}
+use Rattle.lis_words.specs.Words.{word_cmp, same_word, has_word, is_file_name, is_built_in, is_head}
 use Rattle.lis_model.specs.declared.refusal.Refusal.{Refusal}
-use Rattle.lis_model.specs.declared.refusal.Refusal.TheVariants.{BadFormula, LargeFormula, NoFileHere}
+use Rattle.lis_model.specs.declared.refusal.Refusal.TheVariants.{BadFormula, UnknownProperty, LargeFormula, NotAPlace, NoFileHere, NotAssignable, TooManyAssigned, BuiltIn}
 use Rattle.lis_model.specs.State.{State, File, is_assignable, blocks_needed}
+use Rattle.lis_model.specs.Places.{place_words}
 use Rattle.lis_model.specs.Changes.{file_of, new_file, file_replaced}
 use Rattle.lis_model.specs.Table.{Table, Entry}
 use Rattle.lis_model.specs.Listing.{extension}
-use Rattle.lis_model.specs.Step.{Situation, refused, changed, is_here, exceeds_words, exceeds_known, here_checks, tags_at, retagged, mv_checks, mv_to, mv}
+use Rattle.lis_model.specs.Step.{Situation, refused, changed, is_here, exceeds_words, exceeds_known, here_checks, room_checks, tags_at, retagged, mv_checks, mv_to, mv}
 use Rattle.lis_laws.proofs.Members.{word_order, sorted_set_of, sorted_with_words, among_with_words}
 use Rattle.lis_laws.proofs.Counts.{all_among, all_from, rising_from_sorted}
 use Rattle.lis_laws.proofs.Named.{file_of_name, gone_free}
@@ -36,8 +37,24 @@ use Rattle.lis_store.specs.Judging.{is_among}
 use Rattle.lis_store.specs.Replacing.{known_instead, MayReplace}
 use Rattle.lis_store.specs.Retagging.{words_moved, moved_from, retag_checks, mv_checks_by, mv_checks_of}
 use Rattle.lis_store.proofs.Facts.{table_told, blocks_counted, size_is_short}
+use Rattle.lis_store.proofs.InsteadMay.{given_assignable}
 use Rattle.lis_store.proofs.InsteadTold.{old_given, large_told, room_told}
 use Rattle.lis_store.proofs.Judged.{same_first, judged_refused, judged_done, all_pass}
+
+-- ---- the words that the file is given
+module _ (test : List ℕ → Bool) (given here next : List (List ℕ)) where
+  abbrev stays : List ℕ → Bool
+  stays word = not (has_word here word)
+
+  pub moved_set : IsStrictlySortedBy word_cmp given → IsStrictlySortedBy word_cmp (retagged given here next)
+  moved_set set = sorted_with_words (filter stays given) next (IsStrictlySortedBy-filter word_cmp stays given set)
+
+  pub moved_pass : list_all test given ≡ true → list_all test next ≡ true → list_all test (retagged given here next) ≡ true
+  moved_pass old new = all_from test (retagged given here next) (λ w among. by w (among_with_words (filter stays given) next w among))
+    where
+      by : (w : List ℕ) → Among (filter stays given) w ⊎ Among next w → test w ≡ true
+      by w (inl m) = all_among test given w old (among_filter stays given w m).0
+      by w (inr m) = all_among test next w new m
 
 -- ---- the row of the state
 module _ (k : Stored) (m : Meaning) (s : State) (sound : IsSound k) (fits : StoreFits k m s) (place : List Formula) (name : List ℕ) (slot : ℕ) (rec : FileRecord)
@@ -66,13 +83,25 @@ module _ (k : Stored) (m : Meaning) (s : State) (sound : IsSound k) (fits : Stor
   abbrev moved : List Formula → File
   moved next = moved_from kept rec place next name old.bytes
 
+  -- The words of a told file may be given, so the check of memory refuses nothing.
+  abbrev wanted : List Formula → List (List ℕ) → List (Bool × Refusal)
+  wanted next words =
+      (not (is_here now old.name), NoFileHere)
+      ∷ (not (is_some (place_words place) && is_some (place_words next)), NotAPlace)
+      ∷ (list_any is_built_in words, BuiltIn)
+      ∷ (list_any is_head words, NotAssignable)
+      ∷ (not (list_all (is_assignable s.declared) (tags_at next)), UnknownProperty)
+      ∷ (nat_lt 16 (length (new_of next).assigned), TooManyAssigned)
+      ∷ (false, UnknownProperty)
+      ∷ room_checks (file_replaced s old.name (new_of next))
+
   abbrev checks : List Formula → List (List ℕ) → List (Bool × Refusal)
   checks next words = (not (is_among kept place name), NoFileHere) ∷ retag_checks kept place next words slot (moved next)
 
   mv_row : (next : List Formula) (words : List (List ℕ)) → first_refusal (checks next words)
       ≡ first_refusal (here_checks now old.name ++ mv_checks now next words (new_of next) (file_replaced s old.name (new_of next)))
   mv_row next words =
-      same_first (checks next words) (here_checks now old.name ++ mv_checks now next words (new_of next) (file_replaced s old.name (new_of next))) (
+      same_first (checks next words) (wanted next words) (
         refl,
         ap not among_told,
         λ here. let at = there (not-false (is_among kept place name) here) in let given = old_given k m s sound fits name slot rec at.0 at.1 in (
@@ -92,11 +121,17 @@ module _ (k : Stored) (m : Meaning) (s : State) (sound : IsSound k) (fits : Stor
                   ap (λ ws. nat_lt 16 (length (retagged ws (tags_at place) (tags_at next)))) (sym given),
                   λ few. (
                     refl,
-                    large_told k m s sound fits name slot rec at.0 at.1 (moved next) (gone_free s name) ∙ ap exceeds_words (made given),
-                    λ short. (
+                    ap not
+                    (moved_pass (is_assignable (declared_of kept)) (words_told kept.dict rec.tags) (tags_at place) (tags_at next)
+                    (given_assignable k sound slot rec at.1 fits.kept s fits.tells) (not-false (list_all (is_assignable (declared_of kept)) (tags_at next)) known)),
+                    λ pass. (
                       refl,
-                      room_told k m s sound fits name slot rec at.0 at.1 (moved next) (gone_free s name) ∙ ap exceeds_known (made given),
-                      λ room. tt,
+                      large_told k m s sound fits name slot rec at.0 at.1 (moved next) (gone_free s name) ∙ ap exceeds_words (made given),
+                      λ short. (
+                        refl,
+                        room_told k m s sound fits name slot rec at.0 at.1 (moved next) (gone_free s name) ∙ ap exceeds_known (made given),
+                        λ room. tt,
+                      ),
                     ),
                   ),
                 ),
@@ -131,54 +166,33 @@ module _ (k : Stored) (m : Meaning) (s : State) (sound : IsSound k) (fits : Stor
       ∙ ap (λ n. changed now (file_replaced s n (new_file n (retagged old.assigned (tags_at place) (tags_at next)) old.bytes))) (file_of_name s.files name))
 
 -- ---- a row that refuses nothing
-module _ (k : Stored) (sound : IsSound k) (slot : ℕ) (rec : FileRecord) (is_rec : rec_at k.parts.catalog slot ≡ Some rec)
-    (assignable : list_all (is_assignable (declared_of k.parts)) (words_told k.parts.dict rec.tags) ≡ true) (here next : List Formula) where
+module _ (k : Stored) (sound : IsSound k) (slot : ℕ) (rec : FileRecord) (is_rec : rec_at k.parts.catalog slot ≡ Some rec) (here next : List Formula) where
   abbrev p : Kept
   p = k.parts
 
-  abbrev given : List (List ℕ)
-  given = words_told p.dict rec.tags
-
-  abbrev stays : List ℕ → Bool
-  stays word = not (has_word (tags_at here) word)
-
-  abbrev given_next : List (List ℕ)
-  given_next = words_moved p rec here next
-
-  moved_set : IsStrictlySortedBy word_cmp given_next
-  moved_set =
-      sorted_with_words (filter stays given) (tags_at next)
-      (IsStrictlySortedBy-filter word_cmp stays given (sorted_set_of (flat_map (λ n. option_to_list (word_of p.dict n)) rec.tags)))
-
-  moved_assignable : list_all (is_assignable (declared_of p)) (tags_at next) ≡ true → list_all (is_assignable (declared_of p)) given_next ≡ true
-  moved_assignable tags = all_from test given_next (λ w among. by w (among_with_words (filter stays given) (tags_at next) w among))
-    where
-      test : List ℕ → Bool
-      test = is_assignable (declared_of p)
-      by : (w : List ℕ) → Among (filter stays given) w ⊎ Among (tags_at next) w → test w ≡ true
-      by w (inl old) = all_among test given w assignable (among_filter stays given w old).0
-      by w (inr new) = all_among test (tags_at next) w tags new
-
-  pub mv_may : (name bytes : List ℕ) (words : List (List ℕ)) → rec.name ≡ name → is_file_name name ≡ true → length bytes ≡ rec.size
+  pub mv_may : (name bytes : List ℕ) (words : List (List ℕ)) → rec.name ≡ name → is_file_name name ≡ true → length bytes ≤ rec.size
       → first_refusal (retag_checks p here next words slot (moved_from p rec here next name bytes)) ≡ None → MayReplace p slot rec (moved_from p rec here next name bytes)
   mv_may name bytes words named form sized none =
+      let given = words_told p.dict rec.tags in
       let file = moved_from p rec here next name bytes in
       let filed : Filed = record { slot = slot; rec = rec } in
       let there = filed_at_slot p.catalog sound.parts.catalog slot rec is_rec in
       let row = all_pass (retag_checks p here next words slot file) none in
-      let tags = row.1.1.1 in
-      let few = tags.1 in
-      let short = few.1 in
+      let few = row.1.1.1.1 in
+      let assignable = few.1 in
+      let short = assignable.1 in
       let room = short.1 in
       record {
         there = is_rec;
         name = form;
         new = λ differ. absurd (differ (sym named));
-        set = rising_from_sorted word_cmp word_order given_next moved_set;
-        assignable = moved_assignable (not-false (list_all (is_assignable (declared_of p)) (tags_at next)) tags.0);
-        few = ltb-false 16 (length given_next) few.0;
+        set =
+            rising_from_sorted word_cmp word_order file.assigned
+            (moved_set (λ w. true) given (tags_at here) (tags_at next) (sorted_set_of (flat_map (λ n. option_to_list (word_of p.dict n)) rec.tags)));
+        assignable = not-false (list_all (is_assignable (declared_of p)) file.assigned) assignable.0;
+        few = ltb-false 16 (length file.assigned) few.0;
         short = ltb-false 128 (length (described_by p file)) short.0;
         room = ltb-false p.limits.props (length (known_instead p slot file)) room.0;
         small = omega (arith, sized, size_is_short p sound.parts filed there);
-        blocks = omega (arith, ap blocks_needed sized, blocks_counted p sound.parts filed there);
+        blocks = omega (arith, sized, blocks_counted p sound.parts filed there);
       }

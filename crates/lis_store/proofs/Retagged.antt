@@ -121,7 +121,11 @@ module _ (k : Kept) (sound : AreSound k) (here there : List Formula) (words : Li
       ∙ ap (λ b. cond b (Some TooManyAssigned) (first_refusal (instead_checks k slot (moved_from k rec here there name bytes)))) (le-leb 17 (length moved) many)
 
   room : List (List ℕ) → Option Refusal
-  room ws = first_refusal ((nat_lt 128 (length ws), LargeDescription) ∷ (nat_lt k.limits.props (length (with_words (words_without k slot) ws)), NoPropertyRoom) ∷ [])
+  room ws = first_refusal (
+      (not (list_all (is_assignable (declared_of k)) moved), UnknownProperty)
+      ∷ (nat_lt 128 (length ws), LargeDescription)
+      ∷ (nat_lt k.limits.props (length (with_words (words_without k slot) ws)), NoPropertyRoom)
+      ∷ [])
 
   pub room_judged : first_refusal (places_checks k here there words) ≡ None → (given : List (List ℕ)) → given ≡ moved → nat_lt 16 (length moved) ≡ false
       → first_refusal row ≡ first_refusal (instead_checks k slot (new_file name given []))
