@@ -1,9 +1,9 @@
 -- The row of `mv`, told by what a store keeps, is the row of the state; and what holds where it refuses nothing.
-use Rattle.std.proofs.Common.{◌≡◌, ◌⊎◌, refl, sym, ap, ap₂, ◌∙◌, subst, inl, inr, ℕ, ◌+◌, ◌≤◌, nat_lt, Bool, true, false, not, ◌&&◌, is_some, option_to_list, Option, Some, None, List, [], ◌∷◌, ◌++◌, length, filter, Err, arith}
-use Rattle.std.specs.Prelude.{IsTrue}
+use Rattle.std.proofs.Common.{◌≡◌, ◌⊎◌, refl, sym, ap, ap₂, ◌∙◌, subst, inl, inr, ℕ, ◌+◌, ◌≤◌, nat_lt, Bool, true, false, not, cond, ◌&&◌, is_some, option_to_list, Option, Some, None, List, [], ◌∷◌, ◌++◌, length, filter, Err, arith}
+use Rattle.std.specs.Result.{result_err}
 use Rattle.std.specs.List.{list_any, list_all, flat_map}
 use Rattle.std.specs.List.Sorted.{IsStrictlySortedBy}
-use Rattle.std.proofs.lemmas.Bool.{ltb-false, not-false}
+use Rattle.std.proofs.lemmas.Bool.{both_ways, ltb-false, not-false}
 use Rattle.std.proofs.lemmas.List.Kept.{IsStrictlySortedBy-filter}
 use Rattle.std.proofs.lemmas.Option.{same_Some}
 use Rattle.lis_ports.specs.Meaning.{Meaning}
@@ -35,7 +35,7 @@ use Rattle.lis_store.specs.Admitting.{described_by}
 use Rattle.lis_store.specs.Changes.{first_refusal}
 use Rattle.lis_store.specs.Judging.{is_among}
 use Rattle.lis_store.specs.Replacing.{known_instead, MayReplace}
-use Rattle.lis_store.specs.Retagging.{words_moved, moved_from, retag_checks, mv_checks_by, mv_checks_of}
+use Rattle.lis_store.specs.Retagging.{led_by, moved_from, retag_checks, mv_checks_by, mv_checks_of}
 use Rattle.lis_store.proofs.Facts.{table_told, blocks_counted, size_is_short}
 use Rattle.lis_store.proofs.InsteadMay.{given_assignable}
 use Rattle.lis_store.proofs.InsteadTold.{old_given, large_told, room_told}
@@ -164,6 +164,44 @@ module _ (k : Stored) (m : Meaning) (s : State) (sound : IsSound k) (fits : Stor
       ap (mv_to now old text) leads
       ∙ (judged_done now (here_checks now old.name ++ mv_checks now next (text_words text) (new_of next) made) (changed now made) (sym (mv_row next (text_words text)) ∙ row)
       ∙ ap (λ n. changed now (file_replaced s n (new_file n (retagged old.assigned (tags_at place) (tags_at next)) old.bytes))) (file_of_name s.files name))
+
+  -- the same of the file's slot, where the file is here and the text leads to a place
+  led_row : (text : List ℕ) (next : List Formula) → resolved place text ≡ NewPlace next
+      → first_refusal (mv_checks_of kept place name text slot rec old.bytes) ≡ first_refusal (checks next (text_words text))
+  led_row text next leads = ap (λ r. first_refusal (mv_checks_by kept place name text slot rec old.bytes r)) leads
+
+  row_here : (next : List Formula) (words : List (List ℕ)) → is_among kept place name ≡ true
+      → first_refusal (checks next words) ≡ first_refusal (retag_checks kept place next words slot (moved next))
+  row_here next words here = ap (λ b. cond (not b) (Some NoFileHere) (first_refusal (retag_checks kept place next words slot (moved next)))) here
+
+  pub mv_here_refused : (text : List ℕ) (next : List Formula) (refusal : Refusal) → resolved place text ≡ NewPlace next → is_among kept place name ≡ true
+      → first_refusal (retag_checks kept place next (text_words text) slot (moved next)) ≡ Some refusal → mv now name text ≡ refused now refusal
+  mv_here_refused text next refusal leads here first = mv_refused text refusal (led_row text next leads ∙ (row_here next (text_words text) here ∙ first))
+
+  pub mv_here_done : (text : List ℕ) (next : List Formula) → resolved place text ≡ NewPlace next → is_among kept place name ≡ true
+      → first_refusal (retag_checks kept place next (text_words text) slot (moved next)) ≡ None
+      → mv now name text ≡ changed now (file_replaced s name (new_file name (retagged old.assigned (tags_at place) (tags_at next)) old.bytes))
+  mv_here_done text next leads here none = mv_done text next leads (led_row text next leads ∙ (row_here next (text_words text) here ∙ none))
+
+-- ---- refusals before the slot is known
+pub mv_unled : (now : Situation) (name text : List ℕ) (refusal : Refusal) → led_by (resolved now.place text) ≡ Err refusal → mv now name text ≡ refused now refusal
+mv_unled now name text refusal first = by (resolved now.place text) first
+  where
+    by : (r : Resolution) → led_by r ≡ Err refusal → mv_to now (file_of now.state.files name) text r ≡ refused now refusal
+    by (Unreadable n) is = ap (refused now) (same_Some BadFormula refusal (ap result_err is))
+    by BeyondLimits is = ap (refused now) (same_Some LargeFormula refusal (ap result_err is))
+    by (NewPlace next) is = absurd cc
+
+pub mv_nowhere : (k : Stored) (m : Meaning) (s : State) → IsSound k → StoreFits k m s → (place next : List Formula) (name text : List ℕ)
+    → resolved place text ≡ NewPlace next → is_among k.parts place name ≡ false
+    → mv (record { state = s; place = place }) name text ≡ refused (record { state = s; place = place }) NoFileHere
+mv_nowhere k m s sound fits place next name text leads none =
+    let rec : FileRecord = record { name = []; size = 0; tags = []; blocks = [] } in
+    let bytes = (file_of s.files name).bytes in
+    let rest = retag_checks k.parts place next (text_words text) 0 (moved_from k.parts rec place next name bytes) in
+    mv_refused k m s sound fits place name 0 rec (λ here. absurd (both_ways (is_among k.parts place name) none here)) text NoFileHere
+    (ap (λ r. first_refusal (mv_checks_by k.parts place name text 0 rec bytes r)) leads
+    ∙ ap (λ b. cond (not b) (Some NoFileHere) (first_refusal rest)) none)
 
 -- ---- a row that refuses nothing
 module _ (k : Stored) (sound : IsSound k) (slot : ℕ) (rec : FileRecord) (is_rec : rec_at k.parts.catalog slot ≡ Some rec) (here next : List Formula) where
