@@ -1,21 +1,17 @@
 -- The words of a formula text that leads to a place.
-use Rattle.std.proofs.Common.{◌≡◌, ℕ, ◌<◌, nat_lt, inl, inr, Bool, true, false, ◌&&◌, Some, List, [], ◌∷◌, length, codes, Err, refl, ap, sym, ◌∙◌}
+use Rattle.std.proofs.Common.{◌≡◌, ℕ, Bool, true, ◌&&◌, Some, List, [], ◌∷◌, Err, refl, ap, sym, ◌∙◌}
 use Rattle.std.specs.List.{list_all, flat_map}
-use Rattle.std.proofs.lemmas.Bool.{le-leb}
 use Rattle.std.proofs.lemmas.List.Folds.{list_all-append}
-use Rattle.std.proofs.lemmas.Slice.Eq.{bytes_eq-Decides}
-use Rattle.lis_words.specs.Words.{same_word, has_word}
+use Rattle.lis_words.specs.Words.{has_word}
 use Rattle.lis_grammar.specs.Formula.{Formula}
 use Rattle.lis_grammar.specs.Machine.{text_steps}
-use Rattle.lis_grammar.specs.Places.{resolved, text_words, path_words, is_place}
-use Rattle.lis_grammar.specs.Places.Resolution.{NewPlace, BeyondLimits}
+use Rattle.lis_grammar.specs.Places.{resolved, text_words}
+use Rattle.lis_grammar.specs.Places.Resolution.{NewPlace}
 use Rattle.lis_place.specs.declared.node.Node.{Node}
 use Rattle.lis_place.specs.Nodes.{nodes_of, node_words}
-use Rattle.lis_place.proofs.Trees.{words_of_nodes}
 use Rattle.lis_formula.specs.Answers.{Computes}
 use Rattle.lis_formula.specs.declared.fault.FormulaFault.{FormulaFault}
 use Rattle.lis_formula.proofs.TextWords.{path_named, none_named}
-use Rattle.lis_formula.specs.declared.fault.FormulaFault.TheVariants.{TooLarge, Syntax}
 
 all_of_nodes : (p : List ℕ → Bool) (nodes : List Node) → list_all (λ node. list_all p (node_words node)) nodes ≡ list_all p (flat_map node_words nodes)
 all_of_nodes p [] = refl
