@@ -1,5 +1,5 @@
 -- The row of `mv`, told by what a store keeps, is the row of the state; and what holds where it refuses nothing.
-use Rattle.std.proofs.Common.{◌≡◌, ◌⊎◌, refl, sym, ap, ap₂, ◌∙◌, subst, inl, inr, ℕ, ◌+◌, ◌≤◌, nat_lt, Bool, true, false, not, cond, ◌&&◌, is_some, option_to_list, Option, Some, None, List, [], ◌∷◌, ◌++◌, length, filter, Err, arith}
+use Rattle.std.proofs.Common.{◌≡◌, ◌⊎◌, refl, sym, ap, ap₂, ◌∙◌, subst, inl, inr, ℕ, ◌≤◌, nat_lt, Bool, true, false, not, cond, ◌&&◌, is_some, option_to_list, Some, None, List, [], ◌∷◌, ◌++◌, length, filter, Err, arith}
 use Rattle.std.specs.Result.{result_err}
 use Rattle.std.specs.List.{list_any, list_all, flat_map}
 use Rattle.std.specs.List.Sorted.{IsStrictlySortedBy}
@@ -7,7 +7,6 @@ use Rattle.std.proofs.lemmas.Bool.{both_ways, ltb-false, not-false}
 use Rattle.std.proofs.lemmas.List.Kept.{IsStrictlySortedBy-filter}
 use Rattle.std.proofs.lemmas.Option.{same_Some}
 use Rattle.lis_ports.specs.Meaning.{Meaning}
-use Rattle.lis_blockmap.specs.Bitmap.{free_count}
 use Rattle.lis_catalog.specs.Catalog.{Filed, slot_of, rec_at}
 use Rattle.lis_dict.specs.Dict.{word_of}
 use Rattle.lis_fields.specs.Records.{FileRecord}
@@ -18,7 +17,7 @@ use Rattle.lis_grammar.specs.Places.Resolution.{NewPlace, BeyondLimits, Unreadab
 use Rattle.lis_words.specs.Words.{word_cmp, same_word, has_word, is_file_name, is_built_in, is_head}
 use Rattle.lis_model.specs.declared.refusal.Refusal.{Refusal}
 use Rattle.lis_model.specs.declared.refusal.Refusal.TheVariants.{BadFormula, UnknownProperty, LargeFormula, NotAPlace, NoFileHere, NotAssignable, TooManyAssigned, BuiltIn}
-use Rattle.lis_model.specs.State.{State, File, is_assignable, blocks_needed}
+use Rattle.lis_model.specs.State.{State, File, is_assignable}
 use Rattle.lis_model.specs.Places.{place_words}
 use Rattle.lis_model.specs.Changes.{file_of, new_file, file_replaced}
 use Rattle.lis_model.specs.Table.{Table, Entry}
@@ -122,8 +121,8 @@ module _ (k : Stored) (m : Meaning) (s : State) (sound : IsSound k) (fits : Stor
                   λ few. (
                     refl,
                     ap not
-                    (moved_pass (is_assignable (declared_of kept)) (words_told kept.dict rec.tags) (tags_at place) (tags_at next)
-                    (given_assignable k sound slot rec at.1 fits.kept s fits.tells) (not-false (list_all (is_assignable (declared_of kept)) (tags_at next)) known)),
+                        (moved_pass (is_assignable (declared_of kept)) (words_told kept.dict rec.tags) (tags_at place) (tags_at next)
+                        (given_assignable k sound slot rec at.1 fits.kept s fits.tells) (not-false (list_all (is_assignable (declared_of kept)) (tags_at next)) known)),
                     λ pass. (
                       refl,
                       large_told k m s sound fits name slot rec at.0 at.1 (moved next) (gone_free s name) ∙ ap exceeds_words (made given),

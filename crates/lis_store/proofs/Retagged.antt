@@ -1,5 +1,5 @@
 -- What a file is refused for that would move to another place, as the calls ask it.
-use Rattle.std.proofs.Common.{◌≡◌, refl, sym, ap, ap₂, ◌∙◌, inl, inr, ◌⊎◌, ℕ, ◌<◌, nat_lt, Bool, true, false, not, cond, ◌&&◌, ◌||◌, is_some, IsSome, Option, Some, None, List, [], ◌∷◌, ◌++◌, length, filter, take, get_or, ◌+◌, append-nil, arith}
+use Rattle.std.proofs.Common.{◌≡◌, refl, sym, ap, ◌∙◌, inl, inr, ◌⊎◌, ℕ, ◌<◌, nat_lt, Bool, true, false, not, cond, ◌||◌, IsSome, Option, Some, None, List, [], ◌∷◌, ◌++◌, length, filter, take, get_or, ◌+◌, append-nil, arith}
 use Rattle.std.specs.List.{list_any, list_all, flat_map}
 use Rattle.std.specs.List.Sorted.{IsStrictlySortedBy}
 use Rattle.std.proofs.lemmas.Bool.{leb-false, le-leb}
@@ -14,7 +14,7 @@ use Rattle.lis_grammar.specs.Formula.{Formula}
 use Rattle.lis_place.specs.declared.node.Node.{Node}
 use Rattle.lis_place.specs.Nodes.{nodes_of}
 use Rattle.lis_model.specs.declared.refusal.Refusal.{Refusal}
-use Rattle.lis_model.specs.declared.refusal.Refusal.TheVariants.{UnknownProperty, NotAPlace, TooManyAssigned, LargeDescription, NoPropertyRoom}
+use Rattle.lis_model.specs.declared.refusal.Refusal.TheVariants.{UnknownProperty, TooManyAssigned, LargeDescription, NoPropertyRoom}
 use Rattle.lis_model.specs.Sets.{with_words, set_of}
 use Rattle.lis_model.specs.Places.{place_words}
 use Rattle.lis_model.specs.State.{is_assignable}
@@ -23,17 +23,16 @@ use Rattle.lis_model.specs.Step.{tags_at, retagged}
 use Rattle.lis_laws.proofs.Members.{among_from_has_word, has_word_from_among, among_with_words, with_words_old, with_words_new, among_set_of, set_of_among, sorted_with_words, same_words}
 use Rattle.lis_kept.specs.Kept.{Kept}
 use Rattle.lis_kept.specs.Sound.{AreSound}
-use Rattle.lis_kept.specs.Telling.{declared_of, words_told}
+use Rattle.lis_kept.specs.Telling.{declared_of}
 use Rattle.lis_kept.proofs.Filing.{same_tests, filter_same}
-use Rattle.lis_store.specs.Admitting.{described_by}
 use Rattle.lis_store.specs.Assigning.{node_tags, Takes}
 use Rattle.lis_store.specs.Changes.{first_refusal}
 use Rattle.lis_store.specs.Instead.{instead_checks}
 use Rattle.lis_store.specs.Replacing.{words_without}
-use Rattle.lis_store.specs.Retagging.{words_moved, moved_from, text_checks, places_checks, retag_checks}
+use Rattle.lis_store.specs.Retagging.{words_moved, moved_from, places_checks, retag_checks}
 use Rattle.lis_store.proofs.Assigned.{tags_of_nodes}
 use Rattle.lis_store.proofs.InsteadRows.{any_bytes}
-use Rattle.lis_store.proofs.Judged.{refused_first, refused_then}
+use Rattle.lis_store.proofs.Judged.{refused_then}
 
 -- ---- words of nodes
 pub any_of_nodes : (p : List ℕ → Bool) (f : Node → List (List ℕ)) (nodes : List Node) → list_any (λ node. list_any p (f node)) nodes ≡ list_any p (flat_map f nodes)
@@ -73,6 +72,7 @@ with_set old more set =
     to : (w : List ℕ) → Among old w ⊎ Among more w → Among (with_words old (set_of more)) w
     to w (inl m) = with_words_old old (set_of more) w m
     to w (inr m) = with_words_new old (set_of more) w (set_of_among more w m)
+
     from : (w : List ℕ) → Among old w ⊎ Among (set_of more) w → Among (with_words old more) w
     from w (inl m) = with_words_old old more w m
     from w (inr m) = with_words_new old more w (among_set_of more w m)

@@ -1,4 +1,4 @@
-use Rattle.std.proofs.Common.{ℕ, ◌≡◌, ◌<◌, ◌≤◌, Bool, true, false, List, [], ◌∷◌, ◌++◌, not, take, length, refl, sym, ◌∙◌, ap, arith}
+use Rattle.std.proofs.Common.{ℕ, ◌≡◌, ◌<◌, Bool, true, false, List, [], ◌∷◌, ◌++◌, not, take, length, refl, sym, ◌∙◌, ap, arith}
 use Rattle.std.specs.List.{list_any}
 use Rattle.std.proofs.lemmas.List.{length-take-le}
 use Rattle.lis_words.specs.Words.{has_word}
@@ -26,11 +26,11 @@ loop-word-preserved c =
     let lt : i < length words = omega (arith, c.loop-word-test.true, c.loop-word.auto.word-index-end) in
     elim c.if-not-has_tag.branch [
       | then-not-has_tag w ↦
-        let passes : test word ≡ true = ap not (sym c.has_tag.ensures ∙ w.if-not-has_tag.true) in
-        let more = kept_one test words i word lt c.word-item.is kept c.loop-word.invariant passes (kept ++ word ∷ []) refl in cc
+          let passes : test word ≡ true = ap not (sym c.has_tag.ensures ∙ w.if-not-has_tag.true) in
+          let more = kept_one test words i word lt c.word-item.is kept c.loop-word.invariant passes (kept ++ word ∷ []) refl in cc
       | else-not-has_tag w ↦
-        let fails : test word ≡ false = ap not (sym c.has_tag.ensures ∙ w.if-not-has_tag.false) in
-        let same = kept_none test words i word lt c.word-item.is kept c.loop-word.invariant fails in cc
+          let fails : test word ≡ false = ap not (sym c.has_tag.ensures ∙ w.if-not-has_tag.false) in
+          let same = kept_none test words i word lt c.word-item.is kept c.loop-word.invariant fails in cc
     ]
 
 pub returns-clause-few : goal.returns-clause-few
