@@ -130,11 +130,11 @@ module _ (k : Stored) (m : Meaning) (s : State) (sound : IsSound k) (fits : Stor
       ≡ first_refusal (write_checks now old (file_replaced s old.name (new_file old.name old.assigned bytes)) size)
   write_row bytes size =
       same_first (write_checks_of kept place name slot rec (given_before kept rec name bytes) size) (
-      (is_large s size, LargeFile)
-      ∷ (not (is_here now old.name), NoFileHere)
-      ∷ (false, UnknownProperty)
-      ∷ room_checks (file_replaced s old.name (new_file old.name old.assigned bytes))
-      ++ (nat_lt (blocks_for s old) (blocks_taken s.limits.version size), NoSpace) ∷ []
+        (is_large s size, LargeFile)
+        ∷ (not (is_here now old.name), NoFileHere)
+        ∷ (false, UnknownProperty)
+        ∷ room_checks (file_replaced s old.name (new_file old.name old.assigned bytes))
+        ++ (nat_lt (blocks_for s old) (blocks_taken s.limits.version size), NoSpace) ∷ []
       ) (
         refl,
         ap (λ v. nat_lt (file_limit v) size) version_is,
@@ -173,31 +173,31 @@ module _ (k : Stored) (m : Meaning) (s : State) (sound : IsSound k) (fits : Stor
   rename_row other =
       let named = name_filed kept fits.kept s sound.parts sound.free fits.tells other in
       same_first (rename_checks_of kept place name slot (given_before kept rec other old.bytes)) (
-      (not (is_here now old.name), NoFileHere)
-      ∷ (has_name s.files other, NameTaken)
-      ∷ (false, UnknownProperty)
-      ∷ room_checks (file_replaced s old.name (new_file other old.assigned old.bytes))
+        (not (is_here now old.name), NoFileHere)
+        ∷ (has_name s.files other, NameTaken)
+        ∷ (false, UnknownProperty)
+        ∷ room_checks (file_replaced s old.name (new_file other old.assigned old.bytes))
       ) (
         refl,
         ap not among_told,
         λ here. let at = there (not-false (is_among kept place name) here) in
-            let made = made_is other old.bytes (old_given k m s sound fits name slot rec at.0 at.1) in (
+        let made = made_is other old.bytes (old_given k m s sound fits name slot rec at.0 at.1) in (
+          refl,
+          sym named,
+          λ new. let free = still_free s name other (named ∙ new) in (
+            refl,
+            ap not (given_assignable k sound slot rec at.1 fits.kept s fits.tells),
+            λ words. (
               refl,
-              sym named,
-              λ new. let free = still_free s name other (named ∙ new) in (
+              large_told k m s sound fits name slot rec at.0 at.1 (given_before kept rec other old.bytes) free ∙ ap exceeds_words made,
+              λ short. (
                 refl,
-                ap not (given_assignable k sound slot rec at.1 fits.kept s fits.tells),
-                λ words. (
-                  refl,
-                  large_told k m s sound fits name slot rec at.0 at.1 (given_before kept rec other old.bytes) free ∙ ap exceeds_words made,
-                  λ short. (
-                    refl,
-                    room_told k m s sound fits name slot rec at.0 at.1 (given_before kept rec other old.bytes) free ∙ ap exceeds_known made,
-                    λ room. tt,
-                  ),
-                ),
+                room_told k m s sound fits name slot rec at.0 at.1 (given_before kept rec other old.bytes) free ∙ ap exceeds_known made,
+                λ room. tt,
               ),
             ),
+          ),
+        ),
       )
 
   -- what `write` comes to
