@@ -5,3 +5,4 @@ pub mod Readings
 pub mod Resolutions
 pub mod Cuts
 pub mod Prints
+pub mod TextWords

@@ -1,10 +1,11 @@
 //! A state and a place as plain lists, and how an item is carried out.
 
-ghost use Rattle.std.specs.Prelude.{◌≡◌, Bool, List, IfOk, IfSome, IsSome};
+ghost use Rattle.std.specs.Prelude.{◌≡◌, Bool, List, IfOk, IfSome, IsSome, MatchOption};
 ghost use Rattle.lis_ports.specs.Calls.{IsShowCall};
 ghost use Rattle.lis_ports.specs.Since.{IsShowRun};
 ghost use Rattle.lis_model.specs.declared.refusal.Refusal.{Refusal};
-ghost use Rattle.lis_model.specs.Step.{start_of, step, done, judged, changed, refused};
+ghost use Rattle.lis_model.specs.declared.refusal.Refusal.TheVariants.{NoFileHere};
+ghost use Rattle.lis_model.specs.Step.{Situation, Outcome, start_of, step, done, judged, changed, refused};
 ghost use Rattle.lis_line.specs.Reading.{asked_by};
 ghost use Rattle.lis_plain.specs.Carries.{Carries, HasPlainCause, Answers, Says, answer_line};
 
@@ -17,6 +18,8 @@ use lis_model::refusal::Refusal;
 use lis_place::Place;
 use lis_ports::{Failed, Station};
 use lis_reply::{show_all, show_ok, show_refusal};
+use lis_table::closure::Axiom;
+use lis_words::Word;
 use std::alloc::{AllocError, Global};
 use std::marker::Model;
 
@@ -96,6 +99,67 @@ fn show_answer<T: Station>(station: &mut T, answer: &Answer) -> Result<(), Faile
     }
 }
 
+// Shows what a command that shows only `ok` or its refusal was answered.
+fn end_answer<T: Station>(
+    answer: Result<Answer, AllocError>,
+    station: &mut T,
+) -> Result<(), PlainEnd>
+    ensures step { (outcome : Outcome) (before after : Situation) → Answers outcome before after answer →
+        Carries outcome before after (T.meaning station.old).shown (T.meaning station.new).shown result }
+    ensures cause { HasPlainCause (T.meaning station.old).show_faults (T.meaning station.new).show_faults result }
+    ensures call { IsShowCall (T.meaning station.old) (T.meaning station.new) }
+{
+    let answer = answer?;
+    show_answer(station, &answer)?;
+    Ok(())
+}
+
+// Shows the whole reply of a command that changes nothing.
+fn end_reply<T: Station>(
+    reply: Result<Vec<u8>, AllocError>,
+    station: &mut T,
+) -> Result<(), PlainEnd>
+    ensures step { (outcome : Outcome) → IfOk reply (λ bytes. bytes.items ≡ outcome.reply) →
+        Carries outcome outcome.next outcome.next (T.meaning station.old).shown (T.meaning station.new).shown result }
+    ensures cause { HasPlainCause (T.meaning station.old).show_faults (T.meaning station.new).show_faults result }
+    ensures call { IsShowCall (T.meaning station.old) (T.meaning station.new) }
+{
+    let reply = reply?;
+    show_all(station, &reply)?;
+    Ok(())
+}
+
+// Shows the whole reply of a command on a file, or that no file of its name is here.
+fn end_found<T: Station>(
+    found: Result<Option<Vec<u8>>, AllocError>,
+    station: &mut T,
+) -> Result<(), PlainEnd>
+    ensures step { (outcome : Outcome) (now : Situation) → IfOk found (λ shown. MatchOption shown (outcome ≡ refused now NoFileHere) (λ bytes. outcome ≡ record { next = now; reply = bytes.items })) →
+        Carries outcome now now (T.meaning station.old).shown (T.meaning station.new).shown result }
+    ensures cause { HasPlainCause (T.meaning station.old).show_faults (T.meaning station.new).show_faults result }
+    ensures call { IsShowCall (T.meaning station.old) (T.meaning station.new) }
+{
+    match found? {
+        None => {
+            show_refusal(station, &Refusal::NoFileHere)?;
+            Ok(())
+        }
+        Some(reply) => {
+            show_all(station, &reply)?;
+            Ok(())
+        }
+    }
+}
+
+fn pair_of(left: &Word, right: &Word) -> Axiom
+    ensures { result ≡ (left.now, right.now) }
+{
+    Axiom {
+        left: left.copied(),
+        right: right.copied(),
+    }
+}
+
 impl Plain {
     fn carry_out<T: Station>(
         &mut self,
@@ -108,61 +172,23 @@ impl Plain {
         ensures call { IsShowCall (T.meaning station.old) (T.meaning station.new) }
     {
         match command {
-            Command::Mkdir(word) => {
-                let answer = self.mkdir(word)?;
-                show_answer(station, &answer)?;
-                Ok(())
-            }
-            Command::Create(name, tags) => {
-                let answer = self.create(name, tags)?;
-                show_answer(station, &answer)?;
-                Ok(())
-            }
-            Command::Add(name, tags) => {
-                let answer = self.add(name, tags, payload)?;
-                show_answer(station, &answer)?;
-                Ok(())
-            }
-            Command::Rm(name) => {
-                let answer = self.rm(name)?;
-                show_answer(station, &answer)?;
-                Ok(())
-            }
-            Command::Cat(name) => match self.content(name)? {
-                None => {
-                    show_refusal(station, &Refusal::NoFileHere)?;
-                    Ok(())
-                }
-                Some(reply) => {
-                    show_all(station, &reply)?;
-                    Ok(())
-                }
-            },
-            Command::Cd(text) => {
-                let answer = self.cd(text)?;
-                show_answer(station, &answer)?;
-                Ok(())
-            }
-            Command::Pwd => {
-                let reply = self.placed()?;
-                show_all(station, &reply)?;
-                Ok(())
-            }
-            Command::Ls => {
-                let reply = self.listing()?;
-                show_all(station, &reply)?;
-                Ok(())
-            }
-            // They have not come.
-            Command::Rmdir(_)
-            | Command::Axiom(_, _)
-            | Command::Unaxiom(_, _)
-            | Command::Write(_)
-            | Command::Mv(_, _)
-            | Command::Rename(_, _)
-            | Command::Props(_)
-            | Command::Way(_)
-            | Command::Stat => self.refuse(&Refusal::BadLine, station),
+            Command::Mkdir(word) => end_answer(self.mkdir(word), station),
+            Command::Rmdir(word) => end_answer(self.rmdir(word), station),
+            Command::Axiom(l, r) => end_answer(self.add_axiom(&pair_of(l, r)), station),
+            Command::Unaxiom(l, r) => end_answer(self.unaxiom(&pair_of(l, r)), station),
+            Command::Create(name, tags) => end_answer(self.create(name, tags), station),
+            Command::Add(name, tags) => end_answer(self.add(name, tags, payload), station),
+            Command::Write(name) => end_answer(self.write(name, payload), station),
+            Command::Mv(name, text) => end_answer(self.mv(name, text), station),
+            Command::Rename(name, other) => end_answer(self.rename(name, other), station),
+            Command::Rm(name) => end_answer(self.rm(name), station),
+            Command::Cd(text) => end_answer(self.cd(text), station),
+            Command::Pwd => end_reply(self.placed(), station),
+            Command::Ls => end_reply(self.listing(), station),
+            Command::Stat => end_reply(self.counts(), station),
+            Command::Cat(name) => end_found(self.content(name), station),
+            Command::Props(name) => end_found(self.described(name), station),
+            Command::Way(name) => end_found(self.led(name), station),
         }
     }
 

@@ -60,5 +60,7 @@ pub mod InsteadKnown
 pub mod InsteadMeasured
 pub mod InsteadGiven
 pub mod InsteadRows
+pub mod Retagged
 pub mod InsteadTold
 pub mod InsteadMay
+pub mod RetagTold

@@ -18,3 +18,4 @@ pub mod Relating
 pub mod RelatingIn
 pub mod Unlinking
 pub mod Instead
+pub mod Retagging

@@ -45,8 +45,8 @@ pub(crate) fn has_words(place: &Place) -> bool
     are_conjuncts(place.nodes())
 }
 
-// Whether a file that is in a place of this word can be given it.
-fn is_tag(word: &Word) -> bool
+/// Whether a file that is in a place of this word can be given it.
+pub(crate) fn is_tag(word: &Word) -> bool
     ensures { result ≡ is_tag word.now }
 {
     if is_head(word.bytes()) {
@@ -156,8 +156,8 @@ fn put_node(words: &mut ArrayVec<Word, 16>, node: &Node) -> bool
     put_word(words, word)
 }
 
-// Puts the words of a place into a set of words.
-fn put_place(words: &mut ArrayVec<Word, 16>, place: &Place) -> bool
+/// Puts the words of a place into a set of words.
+pub(crate) fn put_place(words: &mut ArrayVec<Word, 16>, place: &Place) -> bool
     requires { length words.old.items ≤ 16 }
     ensures { Takes (flat_map node_tags (nodes_of place.now)) words.old.items words.new.items result }
 {

@@ -57,8 +57,8 @@ fn words_of(parts: &Parts, numbers: &[u16]) -> ArrayVec<Word, 16>
     words
 }
 
-// The words that the file in a slot was given.
-fn assigned_in(parts: &Parts, slot: u16) -> ArrayVec<Word, 16>
+/// The words that the file in a slot was given.
+pub(crate) fn assigned_in(parts: &Parts, slot: u16) -> ArrayVec<Word, 16>
     requires { IsSome (rec_at parts.now.catalog slot) }
     ensures words { (rec : FileRecord) → rec_at parts.now.catalog slot ≡ Some rec → result.items ≡ words_told parts.now.dict rec.tags }
     ensures few { length result.items ≤ 16 }
@@ -144,8 +144,8 @@ fn measure_instead(
     }
 }
 
-// Whether there is room for the words of a file in the place of that in a slot.
-fn has_room_instead(
+/// Whether the words of a file may stand in the place of those of the file in a slot.
+pub(crate) fn has_room_instead(
     parts: &Parts,
     scratch: &mut Scratch,
     slot: u16,

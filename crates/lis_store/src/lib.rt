@@ -19,6 +19,7 @@ mod relating;
 mod relating_in;
 mod placing;
 mod removing;
+mod retagging;
 mod saving;
 mod store;
 mod tags;

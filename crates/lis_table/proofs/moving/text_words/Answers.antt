@@ -1,6 +1,6 @@
 use Rattle.std.proofs.Common.{◌∙◌}
 use Rattle.std.proofs.lemmas.Result.{IfOk-weaker}
-use Rattle.lis_table.proofs.KnownWords.{path_named, none_named}
+use Rattle.lis_formula.proofs.TextWords.{path_named, none_named}
 use Rattle.lis_table.proofs.moving.text_words.Goals as goal
 
 pub returns-in-Ok : goal.returns-in-Ok
