@@ -81,7 +81,7 @@ fn a_crash_leaves_the_state_before_a_command_or_behind_it(rt: HostRuntime) -> Re
 
         // Behind the last call nothing is lost.
         let left = left_by(alloc, &station, last, pick)?;
-        assert!(rt; is_behind(left.as_str(), 10), "behind the last call: {left}");
+        assert!(rt; is_behind(left.as_str(), 9), "behind the last call: {left}");
     }
     Ok(())
 }

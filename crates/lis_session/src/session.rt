@@ -4,13 +4,13 @@ ghost use Rattle.std.specs.Prelude.{◌≡◌, ◌*◌, ◌≤◌, [], false, Is
 ghost use Rattle.lis_eval.specs.Room.{HasRoom};
 ghost use Rattle.lis_line.specs.Reading.{asked_by};
 ghost use Rattle.lis_model.specs.Ranges.{are_in_range};
-ghost use Rattle.lis_model.specs.Step.{cd, pwd, done};
+ghost use Rattle.lis_model.specs.Step.{refused, cd, pwd, done};
 ghost use Rattle.lis_store.specs.Stored.{Stored, StoreFits};
 ghost use Rattle.lis_session.specs.Item.{CarriesOut, HasEndCause, IsSameStation, StoreLeft};
 ghost use Rattle.lis_session.specs.Parts.{Does, Ends};
 
 use crate::changes::{
-    add, axiom, create, mkdir, mv, rename, rm, rmdir, unaxiom, write,
+    add, axiom, create, mkdir, rename, rm, rmdir, unaxiom, write,
 };
 use crate::content::cat;
 use crate::counting::stat;
@@ -24,6 +24,7 @@ use lis_eval::Scratch;
 use lis_line::reader::{Item, Payload};
 use lis_model::command::Command;
 use lis_model::limits::Limits;
+use lis_model::refusal::Refusal;
 use lis_place::{Place, Text};
 use lis_ports::Station;
 use lis_store::Store;
@@ -68,6 +69,17 @@ impl Session {
     {
         &self.place
     }
+}
+
+// Refuses a command. No store is looked at, so any one fits as before.
+fn refuse<T: Station>(place: &Place, refusal: &Refusal, station: &mut T) -> Result<(), End>
+    ensures carries { (k : Stored) → Does (λ now. refused now refusal.now) (StoreFits k (T.meaning station.old)) place.now
+        (T.meaning station.old) (T.meaning station.new) result (StoreFits k (T.meaning station.new)) place.now }
+    ensures ends { Ends (T.meaning station.old) (T.meaning station.new) result }
+{
+    // The place tells where the command was said.
+    let _place = place;
+    answer_refusal(station, refusal)
 }
 
 // Shows the place. No store is looked at, so any one fits as before.
@@ -121,7 +133,6 @@ fn carry_out<T: Station>(
         Command::Add(name, tags) => add(store, scratch, place, name, tags, payload, station),
         Command::Write(name) => write(store, scratch, place, name, payload, station),
         Command::Cat(name) => cat(store, scratch, place, name, station),
-        Command::Mv(name, text) => mv(store, scratch, place, name, text, station),
         Command::Rename(name, other) => rename(store, scratch, place, name, other, station),
         Command::Rm(name) => rm(store, scratch, place, name, station),
         Command::Cd(text) => cd(store, place, text, station),
@@ -130,6 +141,8 @@ fn carry_out<T: Station>(
         Command::Props(name) => props(store, scratch, place, name, station),
         Command::Way(name) => way(store, scratch, place, name, station),
         Command::Stat => stat(store, place, station),
+        // It has not come.
+        Command::Mv(_, _) => refuse(place, &Refusal::BadLine, station),
     }
 }
 
