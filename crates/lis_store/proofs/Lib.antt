@@ -36,4 +36,5 @@ pub mod Admitted
 pub mod AddFile
 pub mod Sizes
 pub mod Counted
+mod TagWords
 pub mod Described
