@@ -3,13 +3,13 @@ use Rattle.lis_ext.specs.Ext.{Ext, has}
 use Rattle.lis_model.specs.Replies.{body_line}
 use Rattle.lis_session.specs.Parts.{Answers}
 use Rattle.lis_session.proofs.InTurn.{answers_none}
-use Rattle.lis_session.proofs.Described.{text_none, text_lacks, text_had, number_in}
+use Rattle.lis_session.proofs.Described.{text_past, text_lacks, text_had, number_in}
 use Rattle.lis_session.proofs.description.answer_word.Goals as goal
 
 pub returns-in_default : goal.returns-in_default
 returns-in_default g c =
     let m = g.T.Disk.meaning c.args.station.now in
-    subst (λ bytes. Answers m m bytes (Ok tt)) (sym (text_none c.args.store.now.parts c.args.slot c.args.k (sym c.word_at.ensures ∙ c.in_default.is))) (answers_none m)
+    subst (λ bytes. Answers m m bytes (Ok tt)) (sym (text_past c.args.store.now.parts c.args.slot c.args.k (sym c.word_at.ensures ∙ c.in_default.is))) (answers_none m)
 
 pub has-requires-clause-prop : goal.has-requires-clause-prop
 has-requires-clause-prop g c =
