@@ -23,22 +23,22 @@ abbrev free_line : ℕ → List ℕ
 free_line n = number_line (codes "s free") n
 
 -- ---- the lines in turn
+abbrev two_lines : Counts → List ℕ
+two_lines c = files_line c.files ++ known_line c.known
+
+abbrev three_lines : Counts → List ℕ
+three_lines c = two_lines c ++ axioms_line c.axioms
+
 module _ (c : Counts) {old : Meaning} where
-  abbrev two_lines : List ℕ
-  two_lines = files_line c.files ++ known_line c.known
-
-  abbrev three_lines : List ℕ
-  three_lines = two_lines ++ axioms_line c.axioms
-
   -- what was shown so far, and a line of it was not shown whole
   fourth_front : {now : Meaning} (end : End) → Answers old now (counts_text c) (Err end) → Answers old now (counts_text c ++ ok_line) (Err end)
   fourth_front end front = answers_front (counts_text c) ok_line end front
 
-  third_front : {now : Meaning} (end : End) → Answers old now three_lines (Err end) → Answers old now (counts_text c ++ ok_line) (Err end)
-  third_front end front = fourth_front end (answers_front three_lines (free_line c.free) end front)
+  third_front : {now : Meaning} (end : End) → Answers old now (three_lines c) (Err end) → Answers old now (counts_text c ++ ok_line) (Err end)
+  third_front end front = fourth_front end (answers_front (three_lines c) (free_line c.free) end front)
 
-  second_front : {now : Meaning} (end : End) → Answers old now two_lines (Err end) → Answers old now (counts_text c ++ ok_line) (Err end)
-  second_front end front = third_front end (answers_front two_lines (axioms_line c.axioms) end front)
+  second_front : {now : Meaning} (end : End) → Answers old now (two_lines c) (Err end) → Answers old now (counts_text c ++ ok_line) (Err end)
+  second_front end front = third_front end (answers_front (two_lines c) (axioms_line c.axioms) end front)
 
   pub first_broke : {one : Meaning} (end : End) → Answers old one (files_line c.files) (Err end) → Answers old one (counts_text c ++ ok_line) (Err end)
   first_broke end front = second_front end (answers_front (files_line c.files) (known_line c.known) end front)
@@ -48,22 +48,22 @@ module _ (c : Counts) {old : Meaning} where
     second_broke end next = second_front end (answers_then (files_line c.files) (known_line c.known) u (Err end) first next)
 
     module _ {two : Meaning} (v : Unit {0}) (second : Answers one two (known_line c.known) (Ok v)) where
-      shown_two : Answers old two two_lines (Ok v)
+      shown_two : Answers old two (two_lines c) (Ok v)
       shown_two = answers_then (files_line c.files) (known_line c.known) u (Ok v) first second
 
       pub third_broke : {three : Meaning} (end : End) → Answers two three (axioms_line c.axioms) (Err end) → Answers old three (counts_text c ++ ok_line) (Err end)
-      third_broke end next = third_front end (answers_then two_lines (axioms_line c.axioms) v (Err end) shown_two next)
+      third_broke end next = third_front end (answers_then (two_lines c) (axioms_line c.axioms) v (Err end) shown_two next)
 
       module _ {three : Meaning} (w : Unit {0}) (third : Answers two three (axioms_line c.axioms) (Ok w)) where
-        shown_three : Answers old three three_lines (Ok w)
-        shown_three = answers_then two_lines (axioms_line c.axioms) v (Ok w) shown_two third
+        shown_three : Answers old three (three_lines c) (Ok w)
+        shown_three = answers_then (two_lines c) (axioms_line c.axioms) v (Ok w) shown_two third
 
         pub fourth_broke : {four : Meaning} (end : End) → Answers three four (free_line c.free) (Err end) → Answers old four (counts_text c ++ ok_line) (Err end)
-        fourth_broke end next = fourth_front end (answers_then three_lines (free_line c.free) w (Err end) shown_three next)
+        fourth_broke end next = fourth_front end (answers_then (three_lines c) (free_line c.free) w (Err end) shown_three next)
 
         pub all_shown : {four new : Meaning} (x : Unit {0}) (result : Result (Unit {0}) End) → Answers three four (free_line c.free) (Ok x) → Answers four new ok_line result
             → Answers old new (counts_text c ++ ok_line) result
-        all_shown x result fourth last = answers_then (counts_text c) ok_line x result (answers_then three_lines (free_line c.free) w (Ok x) shown_three fourth) last
+        all_shown x result fourth last = answers_then (counts_text c) ok_line x result (answers_then (three_lines c) (free_line c.free) w (Ok x) shown_three fourth) last
 
 -- ---- the lines are those of the state
 pub counts_shown : (s : State) (c : Counts) → c.files ≡ length s.files → c.known ≡ length (known s) → c.axioms ≡ length s.axioms → c.free ≡ free_blocks s

@@ -64,8 +64,8 @@ module _ (k : Kept) (slot : ℕ) where
   abbrev pub text_at : ℕ → List ℕ
   text_at n = flat_map (body_line 112) (words_had k slot (option_to_list (slice_get k.dict.entries n)))
 
-  pub text_none : (n : ℕ) → slice_get k.dict.entries n ≡ None → text_at n ≡ []
-  text_none n none = ap (λ o. flat_map (body_line 112) (words_had k slot (option_to_list o))) none
+  pub text_past : (n : ℕ) → slice_get k.dict.entries n ≡ None → text_at n ≡ []
+  text_past n none = ap (λ o. flat_map (body_line 112) (words_had k slot (option_to_list o))) none
 
   module _ (n : ℕ) (word : List ℕ) (number : ℕ) (at : slice_get k.dict.entries n ≡ Some (word, number)) where
     text_if : text_at n ≡ flat_map (body_line 112) (map (λ (w : Numbered). w.0) (cond (has k.ext number slot) ((word, number) ∷ []) []))

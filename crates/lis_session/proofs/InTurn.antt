@@ -59,9 +59,9 @@ text_more {rest = rest} piece u so_far splits answers = record {
   is = so_far.is ∙ ap (λ text. so_far.said ++ text) splits ∙ sym (append_assoc so_far.said piece rest);
 }
 
-pub text_broke : {all left rest : List ℕ} {old now next : Meaning} (piece : List ℕ) (end : End) → TextSoFar all left old now → left ≡ piece ++ rest → Answers now next piece (Err end)
+pub text_broke : {all left : List ℕ} {old now next : Meaning} (piece rest : List ℕ) (end : End) → TextSoFar all left old now → left ≡ piece ++ rest → Answers now next piece (Err end)
     → Answers old next all (Err end)
-text_broke {rest = rest} {old = old} {next = after} piece end so_far splits answers =
+text_broke {old = old} {next = after} piece rest end so_far splits answers =
     let front = answers_front piece rest end answers in
     subst (λ bytes. Answers old after bytes (Err end)) (sym (so_far.is ∙ ap (λ text. so_far.said ++ text) splits))
     (answers_then so_far.said (piece ++ rest) tt (Err end) so_far.answers front)

@@ -39,6 +39,7 @@ pub mod Admitted
 pub mod AddFile
 pub mod Sizes
 pub mod Counted
+mod TagWords
 pub mod Described
 pub mod Learnt
 pub mod RelatingIn

@@ -1,7 +1,7 @@
-use Rattle.std.proofs.Common.{is_some, ap, ◌∙◌, ◌++◌, sym}
+use Rattle.std.proofs.Common.{is_some, ap, ◌∙◌, arith}
 use Rattle.std.specs.List.{flat_map}
 use Rattle.lis_model.specs.Changes.{file_of}
-use Rattle.lis_model.specs.Replies.{body_line, ok_line}
+use Rattle.lis_model.specs.Replies.{body_line}
 use Rattle.lis_model.specs.State.{description}
 use Rattle.lis_model.specs.Step.{Situation, props}
 use Rattle.lis_store.proofs.Here.{slot_in}
@@ -14,7 +14,7 @@ use Rattle.lis_session.proofs.description.props.Goals as goal
 pub answer_description-requires-clause-slot : goal.answer_description-requires-clause-slot
 answer_description-requires-clause-slot g c =
     let sound = c.limits-limits.ensures.sound in
-    omega (slot_in c.args.store.now.parts sound.parts c.args.name.now c.in-Some.slot (rw c.in-Some.is at c.slot_here.ensures.slot), sound.parts.files)
+    omega (arith, slot_in c.args.store.now.parts sound.parts c.args.name.now c.in-Some.slot (rw c.in-Some.is at c.slot_here.ensures.slot), sound.parts.files)
 
 pub returns-in_default-clause-carries : goal.returns-in_default-clause-carries
 returns-in_default-clause-carries g c = λ state fitting.

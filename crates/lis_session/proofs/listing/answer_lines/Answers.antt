@@ -13,4 +13,4 @@ pub returns-in_err-answer_shown : goal.returns-in_err-answer_shown
 returns-in_err-answer_shown g c =
     let p = err_from_is_err_and c.from_residual.result c.from_residual.ensures.1 in
     rw (p.1, p.2)
-    (text_broke (shown_line c.in-Some.line) c.in_err-answer_shown.field-0.0 c.loop-line.invariant (ap (flat_map shown_line) c.in-Some.ensures) c.in_err-answer_shown.ensures)
+    (text_broke (shown_line c.in-Some.line) _ c.in_err-answer_shown.field-0.0 c.loop-line.invariant (ap (flat_map shown_line) c.in-Some.ensures) c.in_err-answer_shown.ensures)

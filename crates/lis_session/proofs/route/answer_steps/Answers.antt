@@ -15,4 +15,4 @@ returns-in_err-answer_line g c =
     let p = err_from_is_err_and c.from_residual.result c.from_residual.ensures.1 in
     let line = rw c.bytes.ensures.bytes at c.in_err-answer_line.ensures in
     rw (p.1, p.2)
-    (text_broke (body_line 100 c.in-Some.word) c.in_err-answer_line.field-0.0 c.loop-word.invariant (ap (flat_map (body_line 100)) c.in-Some.ensures) line)
+    (text_broke (body_line 100 c.in-Some.word) _ c.in_err-answer_line.field-0.0 c.loop-word.invariant (ap (flat_map (body_line 100)) c.in-Some.ensures) line)
