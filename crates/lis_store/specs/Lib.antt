@@ -12,3 +12,4 @@ pub mod Describing
 pub mod Removing
 pub mod Replacing
 pub mod Adding
+pub mod ReplacingIn

@@ -7,9 +7,10 @@ use Rattle.lis_kept.specs.Kept.{Kept}
 use Rattle.lis_kept.specs.Changes.{Drops, Describes, Forgets}
 
 -- The file in the slot goes, then the numbers of its description, and then the words that nothing uses any more.
-pub record TakesOut (slot : ℕ) (rec : FileRecord) (p q : Kept) : Type 0 where
+pub record TakesOut (slot : ℕ) (p q : Kept) : Type 0 where
   pub rising : IsStrictlyIncreasing (set_of p.ext slot)
   pub below : All (λ n. n < p.ext.props) (set_of p.ext slot)
+  pub rec : FileRecord
   pub dropped : Kept
   pub drops : Drops slot rec p dropped
   pub emptied : Kept
