@@ -25,6 +25,7 @@ pub mod Naming
 pub mod Entailed
 pub mod DerivedWords
 pub mod PutIn
+pub mod Coming
 pub mod Added
 pub mod FreeBlocks
 pub mod AddedTells
@@ -35,3 +36,9 @@ pub mod Measured
 pub mod Admitted
 pub mod AddFile
 pub mod Sizes
+pub mod HeadsUsed
+pub mod Forgot
+pub mod Vacated
+pub mod Replaced
+pub mod ReplacedTells
+pub mod ReplacedMarks

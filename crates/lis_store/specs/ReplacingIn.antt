@@ -35,8 +35,8 @@ pub record MayReplaceFirst (k : Kept) (slot : ℕ) (file : File) : Type 0 where
 pub record LearnsOwn (file : File) (tags numbers : List ℕ) (p q : Kept) : Type 0 where
   pub learns : LearnsAll (with_heads (learnt_words file)) p q
   pub sound : AreSound q
-  pub tags : tags ≡ numbers_named q.dict file.assigned
-  pub numbers : numbers ≡ numbers_named q.dict (described_by p file)
+  pub tagged : tags ≡ numbers_named q.dict file.assigned
+  pub numbered : numbers ≡ numbers_named q.dict (described_by p file)
   pub few : length numbers ≤ 128
 
 -- The file in the slot goes, another one with other bytes comes into it, and then the words go that nothing uses any more.
@@ -45,7 +45,9 @@ pub record Overwrites (slot : ℕ) (file : File) (p q : Kept) (old new : Held) :
   pub rec : FileRecord
   pub dropped : Kept
   pub drops : Drops slot rec p dropped
+  pub form_dropped : AreSound dropped
   pub described : Kept
+  pub form_described : AreSound described
   pub puts : PutsIn file dropped described old new
   pub here : puts.slot ≡ slot
   pub forgets : Forgets (set_of p.ext slot) described q
@@ -56,11 +58,13 @@ pub record RefilesIn (slot : ℕ) (file : File) (p q : Kept) : Type 0 where
   pub rec : FileRecord
   pub dropped : Kept
   pub drops : Drops slot rec p dropped
+  pub form_dropped : AreSound dropped
   pub learnt : Kept
   pub learns : LearnsAll (with_heads (learnt_words file)) dropped learnt
   pub few : length (numbers_named learnt.dict (described_by dropped file)) ≤ 128
   pub filed : Kept
   pub refiles : Refiles slot (record rec { name = file.name; tags = numbers_named learnt.dict file.assigned }) learnt filed
   pub described : Kept
+  pub form_described : AreSound described
   pub describes : Describes slot (numbers_named learnt.dict (described_by dropped file)) filed described
   pub forgets : Forgets (set_of p.ext slot) described q

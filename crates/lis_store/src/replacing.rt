@@ -19,6 +19,13 @@ use lis_kept::Parts;
 use lis_ports::Disk;
 use lis_words::{Name, Word};
 
+// What memory keeps is in form, whatever is marked.
+fn note_form(parts: &Parts)
+    ensures { AreSound parts.now }
+{
+    let _limits = parts.limits();
+}
+
 // The numbers of the words that a file is given, and those of its description.
 #[derive(Drop)]
 struct Numbers {
@@ -73,11 +80,11 @@ pub(crate) fn overwrite<D: Disk>(
 {
     let old = numbers_at(parts.ext(), parts.limits().props, slot);
     parts.drop_file(slot);
-    // What memory keeps is in form also without the file.
-    let _limits = parts.limits();
+    note_form(parts);
     let numbers = learn_own(parts, scratch, name, assigned, payload);
     parts.add_file_at(journal, disk, slot, name, numbers.tags, payload);
     parts.describe(slot, old.as_slice(), numbers.all.as_slice());
+    note_form(parts);
     parts.forget_unused(old.as_slice());
 }
 
@@ -97,8 +104,7 @@ pub(crate) fn refile(
 {
     let old = numbers_at(parts.ext(), parts.limits().props, slot);
     let rec = parts.drop_file(slot);
-    // What memory keeps is in form also without the file.
-    let _limits = parts.limits();
+    note_form(parts);
     let numbers = learn_own(parts, scratch, name, assigned, &[]);
     parts.refile(
         slot,
@@ -110,5 +116,6 @@ pub(crate) fn refile(
         },
     );
     parts.describe(slot, old.as_slice(), numbers.all.as_slice());
+    note_form(parts);
     parts.forget_unused(old.as_slice());
 }

@@ -1,0 +1,93 @@
+-- The heads of words in use are in use.
+use Rattle.std.proofs.Common.{◌≡◌, ◌⊎◌, refl, sym, ap, ◌∙◌, inl, inr, ℕ, ◌&&◌, ◌||◌, true, false, List, Option, Some, None}
+use Rattle.std.specs.List.{list_any}
+use Rattle.std.proofs.lemmas.Bool.{and_parts, both_ways, eqb-true, or_cases, or_left, or_right}
+use Rattle.lis_graph.proofs.Members.{Among, among_from_any, any_from_among}
+use Rattle.lis_blockmap.specs.Bitmap.{is_taken}
+use Rattle.lis_dict.specs.Dict.{word_of}
+use Rattle.lis_fields.specs.Layouts.{is_prop}
+use Rattle.lis_fields.specs.declared.slots.AxiomSlot.{AxiomSlot}
+use Rattle.lis_fields.specs.declared.slots.AxiomSlot.TheVariants.{Free as FreeAxiom, Pair}
+use Rattle.lis_words.specs.Words.{same_word, is_kept_word, is_valued, head_bytes}
+use Rattle.lis_model.specs.State.{is_declarable}
+use Rattle.lis_laws.proofs.Members.{same_word_decides}
+use Rattle.lis_laws.proofs.Chains.{head_not_valued}
+use Rattle.lis_laws.proofs.Apart.{declarable_not_valued}
+use Rattle.lis_kept.specs.Kept.{Kept, property_by}
+use Rattle.lis_kept.specs.Sound.{AreSound}
+use Rattle.lis_kept.specs.Links.{has_pair, is_own_link}
+use Rattle.lis_kept.specs.Telling.{declared_of, is_left_of, is_head_by, is_left_head_of, is_had, is_named_left, is_used}
+use Rattle.lis_kept.proofs.OwnLinks.{own_link_is}
+use Rattle.lis_kept.proofs.Used.{had_at}
+use Rattle.lis_kept.proofs.WordLess.{had_from}
+use Rattle.lis_store.specs.Stored.{AreClosed}
+
+module _ (k : Kept) (sound : AreSound k) where
+  -- the word of a number that is declared is not valued
+  flagged_not_valued : (n : ℕ) (w : List ℕ) → word_of k.dict n ≡ Some w → is_taken k.declared n ≡ true → is_valued w ≡ false
+  flagged_not_valued n w is bit =
+      let formed : (is_kept_word w && is_declarable w) ≡ true =
+      sym (ap (λ b. is_prop (property_by (Some w) b)) bit) ∙ (sym (ap (λ o. is_prop (property_by o (is_taken k.declared n))) is) ∙ sound.properties n) in
+      declarable_not_valued w (and_parts (is_kept_word w) (is_declarable w) formed).1
+
+  pub used_flagged : (n : ℕ) → is_taken k.declared n ≡ true → is_used k n ≡ true
+  used_flagged n bit = or_left (is_taken k.declared n || is_had k.ext n) (is_named_left k n) (or_left (is_taken k.declared n) (is_had k.ext n) bit)
+
+  module _ (closed : AreClosed k) (n head : ℕ) (is_head : is_head_by (word_of k.dict n) (word_of k.dict head) ≡ true) where
+    not_bare : (w : List ℕ) → word_of k.dict n ≡ Some w → is_valued w ≡ false → ⊥
+    not_bare w is bare = by (word_of k.dict head) (sym (ap (λ o. is_head_by o (word_of k.dict head)) is) ∙ is_head)
+      where
+        by : (o : Option (List ℕ)) → is_head_by (Some w) o ≡ true → ⊥
+        by None h = both_ways false refl h
+        by (Some v) h = both_ways (is_valued w) bare (and_parts (is_valued w) (same_word (head_bytes w) v) h).0
+
+    flagged_head : (o : Option (List ℕ)) → word_of k.dict n ≡ o → is_taken k.declared n ≡ true → ⊥
+    flagged_head None is bit = both_ways false refl (sym (ap (λ o. is_head_by o (word_of k.dict head)) is) ∙ is_head)
+    flagged_head (Some w) is bit = not_bare w is (flagged_not_valued n w is bit)
+
+    had_head : is_had k.ext n ≡ true → is_used k head ≡ true
+    had_head h =
+        let at = had_at k.ext n h in
+        let linked = or_left (is_own_link (declared_of k) (word_of k.dict n) (word_of k.dict head)) (has_pair k.axioms n head) (own_link_is k sound.dict n head ∙ is_head) in
+        or_left (is_taken k.declared head || is_had k.ext head) (is_named_left k head)
+        (or_right (is_taken k.declared head) (is_had k.ext head) (had_from k.ext head at.0 (closed at.0 n head at.2 linked)))
+
+    left_head : list_any (is_left_of n) k.axioms ≡ true → is_used k head ≡ true
+    left_head h = let found = among_from_any (is_left_of n) k.axioms h in by found.0 found.1 found.2
+      where
+        by : (a : AxiomSlot) → Among k.axioms a → is_left_of n a ≡ true → is_used k head ≡ true
+        by FreeAxiom m is = absurd (both_ways false refl is)
+        by (Pair left right) m is =
+            or_right (is_taken k.declared head || is_had k.ext head) (is_named_left k head)
+            (or_right (list_any (is_left_of head) k.axioms) (list_any (is_left_head_of k.dict head) k.axioms)
+            (any_from_among (is_left_head_of k.dict head) k.axioms (Pair left right) m
+            (ap (λ i. is_head_by (word_of k.dict i) (word_of k.dict head)) (eqb-true left n is) ∙ is_head)))
+
+    no_head_twice : list_any (is_left_head_of k.dict n) k.axioms ≡ true → ⊥
+    no_head_twice h = let found = among_from_any (is_left_head_of k.dict n) k.axioms h in by found.0 found.2
+      where
+        two : (o w : Option (List ℕ)) → word_of k.dict n ≡ w → is_head_by o w ≡ true → ⊥
+        two None w is said = both_ways false refl said
+        two (Some v) None is said = both_ways false refl said
+        two (Some v) (Some w) is said =
+            let same = (same_word_decides (head_bytes v) w).0 (and_parts (is_valued v) (same_word (head_bytes v) w) said).1 in
+            not_bare w is (sym (ap is_valued same) ∙ head_not_valued v)
+
+        by : (a : AxiomSlot) → is_left_head_of k.dict n a ≡ true → ⊥
+        by FreeAxiom is = both_ways false refl is
+        by (Pair left right) is = two (word_of k.dict left) (word_of k.dict n) refl is
+
+    pub head_used : is_used k n ≡ true → is_used k head ≡ true
+    head_used used = by (or_cases (is_taken k.declared n || is_had k.ext n) (is_named_left k n) used)
+      where
+        first : (is_taken k.declared n ≡ true) ⊎ (is_had k.ext n ≡ true) → is_used k head ≡ true
+        first (inl bit) = absurd (flagged_head (word_of k.dict n) refl bit)
+        first (inr h) = had_head h
+
+        second : (list_any (is_left_of n) k.axioms ≡ true) ⊎ (list_any (is_left_head_of k.dict n) k.axioms ≡ true) → is_used k head ≡ true
+        second (inl left) = left_head left
+        second (inr again) = absurd (no_head_twice again)
+
+        by : ((is_taken k.declared n || is_had k.ext n) ≡ true) ⊎ (is_named_left k n ≡ true) → is_used k head ≡ true
+        by (inl either) = first (or_cases (is_taken k.declared n) (is_had k.ext n) either)
+        by (inr left) = second (or_cases (list_any (is_left_of n) k.axioms) (list_any (is_left_head_of k.dict n) k.axioms) left)
