@@ -1,5 +1,5 @@
 -- A file that comes into memory, from wherever its bytes come.
-use Rattle.std.proofs.Common.{◌≡◌, sym, ap, ◌∙◌, ℕ, ◌<◌, ◌≤◌, Bool, true, List, length, set, None}
+use Rattle.std.proofs.Common.{◌≡◌, ap, ◌∙◌, subst, ℕ, ◌<◌, ◌≤◌, Bool, true, List, length, set, None}
 use Rattle.lis_journal.specs.Journal.{Held}
 use Rattle.lis_content.specs.Content.{marked, are_free}
 use Rattle.lis_catalog.specs.Catalog.{rec_at, with_filed}
@@ -33,7 +33,7 @@ pub record ComesIn (file : File) (p q : Kept) : Type 0 where
   pub were_free : are_free learnt.taken rec.blocks ≡ true
   pub describes : Describes slot (numbers_named learnt.dict (described_by p file)) filed q
 
-pub comes_in : (file : File) (p q : Kept) (old new : Held) → PutsIn file p q old new → ComesIn file p q
+abbrev pub comes_in : (file : File) (p q : Kept) (old new : Held) → PutsIn file p q old new → ComesIn file p q
 comes_in file p q old new puts = record {
   learnt = puts.learnt;
   learns = puts.learns;
@@ -53,4 +53,22 @@ comes_in file p q old new puts = record {
   tagged = puts.adds.tagged;
   were_free = puts.adds.were_free;
   describes = puts.describes;
+}
+
+-- the same, over what is kept in another way
+abbrev pub comes_over : (file : File) (d p q : Kept) → d ≡ p → ComesIn file d q → ComesIn file p q
+comes_over file d p q same comes = record {
+  learnt = comes.learnt;
+  learns = subst (λ (x : Kept). LearnsAll (with_heads (learnt_words file)) x comes.learnt) same comes.learns;
+  few = subst (λ (x : Kept). length (numbers_named comes.learnt.dict (described_by x file)) ≤ 128) same comes.few;
+  slot = comes.slot;
+  rec = comes.rec;
+  filed = comes.filed;
+  below = comes.below;
+  free = comes.free;
+  parts = comes.parts;
+  named = comes.named;
+  tagged = comes.tagged;
+  were_free = comes.were_free;
+  describes = subst (λ (x : Kept). Describes comes.slot (numbers_named comes.learnt.dict (described_by x file)) comes.filed q) same comes.describes;
 }

@@ -40,5 +40,6 @@ pub mod HeadsUsed
 pub mod Forgot
 pub mod Vacated
 pub mod Replaced
+pub mod ReplacingIn
 pub mod ReplacedTells
 pub mod ReplacedMarks

@@ -1,0 +1,75 @@
+-- What each step needs where another file takes the place of one.
+use Rattle.std.proofs.Common.{◌≡◌, refl, sym, ap, ◌∙◌, subst, ℕ, ◌<◌, ◌≤◌, true, List, length, Option, Some, None, is_some, IsSome, IsSomeAnd, arith}
+use Rattle.std.specs.List.{list_all}
+use Rattle.std.specs.List.Sorted.{IsStrictlyIncreasing}
+use Rattle.lis_blockmap.specs.Bitmap.{free_count}
+use Rattle.lis_catalog.specs.Catalog.{slot_of, rec_at}
+use Rattle.lis_dict.specs.Dict.{word_of}
+use Rattle.lis_fields.specs.Records.{FileRecord}
+use Rattle.lis_fields.specs.Layouts.{are_tags}
+use Rattle.lis_model.specs.State.{File, blocks_needed}
+use Rattle.lis_model.specs.Changes.{new_file}
+use Rattle.lis_kept.specs.Kept.{Kept}
+use Rattle.lis_kept.specs.Sound.{AreSound, BlocksAreTaken}
+use Rattle.lis_kept.specs.Changes.{Drops}
+use Rattle.lis_store.specs.Admitting.{described_by, IsAdmitted}
+use Rattle.lis_store.specs.Replacing.{MayReplace}
+use Rattle.lis_store.specs.ReplacingIn.{AreInForm, MayReplaceFirst, LearnsOwn}
+use Rattle.lis_store.proofs.PutIn.{named_tags, named_rising, named_worded}
+use Rattle.lis_store.proofs.Vacated.{vacated, slot_below, slot_vacant, name_vacant, taken_others, admitted_then}
+
+-- a file is in the slot
+pub may_some : (p : Kept) (slot : ℕ) (file : File) → MayReplaceFirst p slot file → IsSome (rec_at p.catalog slot)
+may_some p slot file first = by (rec_at p.catalog slot) first.may
+  where
+    by : (o : Option FileRecord) → IsSomeAnd o (λ (x : FileRecord). MayReplace p slot x file) → IsSome o
+    by None may = absurd cc
+    by (Some x) may = refl
+
+module _ (p dropped : Kept) (slot : ℕ) (name : List ℕ) (assigned : List (List ℕ)) (bytes : List ℕ) (rec : FileRecord) (form : AreInForm p) (first : MayReplaceFirst p slot (new_file name assigned bytes))
+    (drops : Drops slot rec p dropped) (sound : AreSound dropped) where
+  pub may_rec : MayReplace p slot rec (new_file name assigned bytes)
+  may_rec = subst (λ o. IsSomeAnd o (λ (x : FileRecord). MayReplace p slot x (new_file name assigned bytes))) drops.there first.may
+
+  pub form_vacated : AreSound (vacated p slot rec)
+  form_vacated = subst (λ (x : Kept). AreSound x) drops.parts sound
+
+  pub admitted_vacated : IsAdmitted (vacated p slot rec) (new_file name assigned bytes)
+  admitted_vacated = admitted_then p slot rec form drops.there (new_file name assigned bytes) may_rec first.room form_vacated
+
+  pub admitted_dropped : IsAdmitted dropped (new_file name assigned bytes)
+  admitted_dropped = subst (λ (x : Kept). IsAdmitted x (new_file name assigned bytes)) (sym drops.parts) admitted_vacated
+
+  module _ (l : Kept) (tags numbers : List ℕ) (learns : LearnsOwn (new_file name assigned bytes) tags numbers dropped l) where
+    abbrev learnt : Kept
+    learnt = record (vacated p slot rec) { dict = l.dict; marks = l.marks }
+
+    pub learnt_is : l ≡ learnt
+    learnt_is = learns.learns.parts ∙ ap (λ (x : Kept). record x { dict = l.dict; marks = l.marks }) drops.parts
+
+    pub below_learnt : slot < l.limits.files
+    below_learnt = omega (arith, ap (λ (x : Kept). x.limits.files) learnt_is, slot_below p slot rec form drops.there)
+
+    pub free_learnt : rec_at l.catalog slot ≡ None
+    free_learnt = ap (λ (x : Kept). rec_at x.catalog slot) learnt_is ∙ slot_vacant p slot rec form drops.there
+
+    pub name_learnt : slot_of l.catalog name ≡ None
+    name_learnt = ap (λ (x : Kept). slot_of x.catalog name) learnt_is ∙ name_vacant p slot rec form drops.there (new_file name assigned bytes) may_rec first.room form_vacated
+
+    pub tags_formed : are_tags tags ≡ true
+    tags_formed = ap are_tags learns.tagged ∙ named_tags l learns.sound assigned may_rec.few
+
+    pub tags_worded : list_all (λ n. is_some (word_of l.dict n)) tags ≡ true
+    tags_worded = ap (list_all (λ n. is_some (word_of l.dict n))) learns.tagged ∙ named_worded l learns.sound assigned
+
+    pub blocks_enough : blocks_needed (length bytes) ≤ free_count l.taken
+    blocks_enough = omega (arith, admitted_vacated.blocks, ap (λ (x : Kept). free_count x.taken) learnt_is)
+
+    pub taken_learnt : BlocksAreTaken l
+    taken_learnt = subst (λ (x : Kept). BlocksAreTaken x) (sym learnt_is) (taken_others p slot rec form drops.there)
+
+    pub numbers_rising : IsStrictlyIncreasing numbers
+    numbers_rising = subst (λ ns. IsStrictlyIncreasing ns) (sym learns.numbered) (named_rising l learns.sound (described_by dropped (new_file name assigned bytes)))
+
+    pub numbers_worded : list_all (λ n. is_some (word_of l.dict n)) numbers ≡ true
+    numbers_worded = ap (list_all (λ n. is_some (word_of l.dict n))) learns.numbered ∙ named_worded l learns.sound (described_by dropped (new_file name assigned bytes))
