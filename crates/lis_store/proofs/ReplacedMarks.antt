@@ -58,8 +58,8 @@ filter_either f g h (x ∷ xs) either = by (f x) (g x) (h x) (either x) (filter_
     by true false false one rest = absurd (neither (one refl))
       where
         neither : (false ≡ true) ⊎ (false ≡ true) → ⊥
-        neither (inl no) = both_ways false refl no
-        neither (inr no) = both_ways false refl no
+        neither (inl h) = both_ways false refl h
+        neither (inr h) = both_ways false refl h
     by false true true one rest = omega (arith, rest)
     by false true false one rest = omega (arith, rest)
     by false false true one rest = omega (arith, rest)

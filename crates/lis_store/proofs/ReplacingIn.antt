@@ -1,16 +1,24 @@
 -- What each step needs where another file takes the place of one.
-use Rattle.std.proofs.Common.{◌≡◌, refl, sym, ap, ◌∙◌, subst, ℕ, ◌<◌, ◌≤◌, true, List, length, Option, Some, None, is_some, IsSome, IsSomeAnd, arith}
+use Rattle.std.proofs.Common.{◌≡◌, refl, sym, ap, ◌∙◌, subst, ℕ, ◌<◌, ◌≤◌, nat_lt, nat_le, not, ◌&&◌, true, List, length, Option, Some, None, is_some, IsSome, IsSomeAnd, arith}
 use Rattle.std.specs.List.{list_all}
+use Rattle.std.proofs.lemmas.Bool.{and_parts, and_from, and_right, lt-ltb, ltb-true, leb-true}
 use Rattle.std.specs.List.Sorted.{IsStrictlyIncreasing}
-use Rattle.lis_blockmap.specs.Bitmap.{free_count}
+use Rattle.lis_blockmap.specs.Bitmap.{free_count, is_taken}
+use Rattle.lis_content.specs.Content.{given, are_free, has_number}
+use Rattle.lis_content.proofs.Numbers.{length-given, below_from_taken}
 use Rattle.lis_catalog.specs.Catalog.{slot_of, rec_at}
 use Rattle.lis_dict.specs.Dict.{word_of}
 use Rattle.lis_fields.specs.Records.{FileRecord}
-use Rattle.lis_fields.specs.Layouts.{are_tags}
+use Rattle.lis_fields.specs.Layouts.{are_tags, are_blocks, is_record}
+use Rattle.lis_fields.proofs.Parts.{record_from}
+use Rattle.lis_words.specs.Words.{is_file_name}
 use Rattle.lis_model.specs.State.{File, blocks_needed}
 use Rattle.lis_model.specs.Changes.{new_file}
 use Rattle.lis_kept.specs.Kept.{Kept}
-use Rattle.lis_kept.specs.Sound.{AreSound, BlocksAreTaken}
+use Rattle.lis_kept.specs.Sound.{AreSound, BlocksAreTaken, is_sound_record}
+use Rattle.lis_kept.proofs.Filing.{number_from_among}
+use Rattle.lis_laws.proofs.Counts.{all_from, all_among}
+use Rattle.lis_store.proofs.Given.{given_taken}
 use Rattle.lis_kept.specs.Changes.{Drops}
 use Rattle.lis_store.specs.Admitting.{described_by, IsAdmitted}
 use Rattle.lis_store.specs.Replacing.{MayReplace}
@@ -23,7 +31,7 @@ pub may_some : (p : Kept) (slot : ℕ) (file : File) → MayReplaceFirst p slot 
 may_some p slot file first = by (rec_at p.catalog slot) first.may
   where
     by : (o : Option FileRecord) → IsSomeAnd o (λ (x : FileRecord). MayReplace p slot x file) → IsSome o
-    by None may = absurd cc
+    by None may = absurd may
     by (Some x) may = refl
 
 module _ (p dropped : Kept) (slot : ℕ) (name : List ℕ) (assigned : List (List ℕ)) (bytes : List ℕ) (rec : FileRecord) (form : AreInForm p) (first : MayReplaceFirst p slot (new_file name assigned bytes))
@@ -73,3 +81,26 @@ module _ (p dropped : Kept) (slot : ℕ) (name : List ℕ) (assigned : List (Lis
 
     pub numbers_worded : list_all (λ n. is_some (word_of l.dict n)) numbers ≡ true
     numbers_worded = ap (list_all (λ n. is_some (word_of l.dict n))) learns.numbered ∙ named_worded l learns.sound (described_by dropped (new_file name assigned bytes))
+
+    -- the blocks of the file that is gone
+    pub blocks_free : are_free l.taken rec.blocks ≡ true
+    blocks_free =
+        ap (λ (x : Kept). are_free x.taken rec.blocks) learnt_is
+        ∙ all_from (λ n. nat_lt n (length (given p.taken rec.blocks)) && not (is_taken (given p.taken rec.blocks) n)) rec.blocks (λ n m.
+        let lt = ltb-true n (length p.taken) (all_among (λ i. nat_lt i (length p.taken)) rec.blocks n (below_from_taken p.taken rec.blocks (form.taken slot rec drops.there)) m) in
+        and_from (nat_lt n (length (given p.taken rec.blocks))) (not (is_taken (given p.taken rec.blocks) n))
+        (lt-ltb n (length (given p.taken rec.blocks)) (omega (arith, lt, length-given p.taken rec.blocks)))
+        (ap not (given_taken p.taken rec.blocks n ∙ and_right (is_taken p.taken n) (not (has_number rec.blocks n)) (ap not (number_from_among rec.blocks n m)))))
+
+    -- the record with the other name and words
+    pub record_sound : is_sound_record l.dict l.limits.blocks (record rec { name = name; tags = tags }) ≡ true
+    record_sound =
+        let most = and_parts (is_record rec && list_all (λ n. is_some (word_of p.dict n)) rec.tags) (list_all (λ n. nat_lt n p.limits.blocks) rec.blocks) (form.sound.records slot rec drops.there) in
+        let formed = and_parts (is_record rec) (list_all (λ n. is_some (word_of p.dict n)) rec.tags) most.0 in
+        let both = and_parts (is_file_name rec.name && nat_le rec.size 65536 && are_tags rec.tags) (are_blocks rec.size rec.blocks) formed.0 in
+        let front = and_parts (is_file_name rec.name && nat_le rec.size 65536) (are_tags rec.tags) both.0 in
+        let size = (and_parts (is_file_name rec.name) (nat_le rec.size 65536) front.0).1 in
+        let now = record_from (record rec { name = name; tags = tags }) may_rec.name (leb-true rec.size 65536 size) tags_formed both.1 in
+        and_from (is_record (record rec { name = name; tags = tags }) && list_all (λ n. is_some (word_of l.dict n)) tags) (list_all (λ n. nat_lt n l.limits.blocks) rec.blocks)
+        (and_from (is_record (record rec { name = name; tags = tags })) (list_all (λ n. is_some (word_of l.dict n)) tags) now tags_worded)
+        (ap (λ (x : Kept). list_all (λ n. nat_lt n x.limits.blocks) rec.blocks) learnt_is ∙ most.1)

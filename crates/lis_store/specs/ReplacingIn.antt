@@ -1,7 +1,8 @@
 -- How a file takes the place of another in memory. Words are forgotten last, so that each bit of the rows is edited once at most.
-use Rattle.std.specs.Prelude.{◌≡◌, ℕ, ◌≤◌, List, length, IsSomeAnd}
+use Rattle.std.specs.Prelude.{◌≡◌, ℕ, ◌≤◌, List, length, IsTrue, IsSomeAnd}
 use Rattle.std.specs.List.Sorted.{IsStrictlyIncreasing}
 use Rattle.lis_journal.specs.Journal.{Held}
+use Rattle.lis_content.specs.Content.{are_free}
 use Rattle.lis_catalog.specs.Catalog.{rec_at}
 use Rattle.lis_ext.specs.Ext.{set_of}
 use Rattle.lis_fields.specs.Records.{FileRecord}
@@ -64,6 +65,7 @@ pub record RefilesIn (slot : ℕ) (file : File) (p q : Kept) : Type 0 where
   pub few : length (numbers_named learnt.dict (described_by dropped file)) ≤ 128
   pub filed : Kept
   pub refiles : Refiles slot (record rec { name = file.name; tags = numbers_named learnt.dict file.assigned }) learnt filed
+  pub were_free : IsTrue (are_free learnt.taken rec.blocks)
   pub described : Kept
   pub form_described : AreSound described
   pub describes : Describes slot (numbers_named learnt.dict (described_by dropped file)) filed described
