@@ -43,3 +43,5 @@ pub mod Replaced
 pub mod ReplacingIn
 pub mod ReplacedTells
 pub mod ReplacedMarks
+pub mod SameWords
+pub mod ReplaceFile

@@ -119,7 +119,7 @@ module _ (p e : Kept) (slot : ℕ) (rec : FileRecord) (name : List ℕ) (assigne
 
 -- ---- all in form again
 module _ (p q : Kept) (slot : ℕ) (name : List ℕ) (assigned : List (List ℕ)) (bytes : List ℕ) (form : AreInForm p) (r : Replaced slot (new_file name assigned bytes) p q)
-    (room : length (known_with p (new_file name assigned bytes)) ≤ p.limits.props) (after : AreSound q) where
+    (room : length (known_with p (new_file name assigned bytes)) ≤ p.limits.props) where
   abbrev file : File
   file = new_file name assigned bytes
 
@@ -141,32 +141,33 @@ module _ (p q : Kept) (slot : ℕ) (name : List ℕ) (assigned : List (List ℕ)
   pub last_is : q ≡ last
   last_is = went.parts
 
-  pub sound_last : AreSound last
-  sound_last = subst (λ (x : Kept). AreSound x) last_is after
+  module _ (after : AreSound q) where
+    pub sound_last : AreSound last
+    sound_last = subst (λ (x : Kept). AreSound x) last_is after
 
-  pub used_last : AreUsed last
-  used_last =
-      subst (λ (x : Kept). AreUsed x) last_is
-      (all_used (numbers_at p.ext slot) made q went
-      (known_used_or_old p r.described slot r.rec name assigned bytes form r.may.there r.form_vacated admitted r.comes r.here r.form_described))
+    pub used_last : AreUsed last
+    used_last =
+        subst (λ (x : Kept). AreUsed x) last_is
+        (all_used (numbers_at p.ext slot) made q went
+        (known_used_or_old p r.described slot r.rec name assigned bytes form r.may.there r.form_vacated admitted r.comes r.here r.form_described))
 
-  pub form_last : AreInForm last
-  form_last = record {
-    sound = sound_last;
-    free = free_then left r.described name assigned bytes r.form_vacated admitted r.comes r.form_described
-        (λ at differ. free_others p slot r.rec form r.may.there at (λ same. differ (same ∙ sym r.here)));
-    closed = closed_still (numbers_at p.ext slot) made q went (sound_end left r.described name assigned bytes r.form_vacated admitted r.comes r.form_described) sound_last
-        (closed_described p r.described slot r.rec name assigned bytes form r.may.there r.form_vacated admitted r.comes r.here r.form_described);
-    short = short_then left r.described name assigned bytes r.form_vacated admitted r.comes r.form_described form.short;
-    taken = taken_then left r.described name assigned bytes r.form_vacated admitted r.comes (taken_others p slot r.rec form r.may.there);
-    apart = apart_then left r.described name assigned bytes r.form_vacated admitted r.comes (taken_others p slot r.rec form r.may.there) (apart_others p slot r.rec form r.may.there);
-    in_use = record {
-      used = used_last;
-      tags = tags_described p r.described slot r.rec name assigned bytes form r.may.there r.form_vacated admitted r.comes r.here r.form_described;
-      rights = form.in_use.rights;
-    };
-  }
+    pub form_last : AreInForm last
+    form_last = record {
+      sound = sound_last;
+      free = free_then left r.described name assigned bytes r.form_vacated admitted r.comes r.form_described
+          (λ at differ. free_others p slot r.rec form r.may.there at (λ same. differ (same ∙ sym r.here)));
+      closed = closed_still (numbers_at p.ext slot) made q went (sound_end left r.described name assigned bytes r.form_vacated admitted r.comes r.form_described) sound_last
+          (closed_described p r.described slot r.rec name assigned bytes form r.may.there r.form_vacated admitted r.comes r.here r.form_described);
+      short = short_then left r.described name assigned bytes r.form_vacated admitted r.comes r.form_described form.short;
+      taken = taken_then left r.described name assigned bytes r.form_vacated admitted r.comes (taken_others p slot r.rec form r.may.there);
+      apart = apart_then left r.described name assigned bytes r.form_vacated admitted r.comes (taken_others p slot r.rec form r.may.there) (apart_others p slot r.rec form r.may.there);
+      in_use = record {
+        used = used_last;
+        tags = tags_described p r.described slot r.rec name assigned bytes form r.may.there r.form_vacated admitted r.comes r.here r.form_described;
+        rights = form.in_use.rights;
+      };
+    }
 
-  pub sound_replaced : (j : Held) → IsTrue (is_super p.limits) → PairsAreApart p → j.blocks ≡ image_blocks p.limits → j.is_broken ≡ false → j.placed ≡ [] → IsSound (settled q j)
-  sound_replaced j range pairs image unbroken unplaced =
-      subst (λ (x : Kept). IsSound (settled x j)) (sym last_is) (settled_sound last j form_last range pairs image unbroken unplaced)
+    pub sound_replaced : (j : Held) → IsTrue (is_super p.limits) → PairsAreApart p → j.blocks ≡ image_blocks p.limits → j.is_broken ≡ false → j.placed ≡ [] → IsSound (settled q j)
+    sound_replaced j range pairs image unbroken unplaced =
+        subst (λ (x : Kept). IsSound (settled x j)) (sym last_is) (settled_sound last j form_last range pairs image unbroken unplaced)

@@ -20,7 +20,6 @@ use Rattle.lis_model.specs.Changes.{new_file}
 use Rattle.lis_kept.specs.Kept.{Kept}
 use Rattle.lis_kept.specs.Areas.{block_of, is_marked, marked_count}
 use Rattle.lis_kept.specs.Areas.Area.{Files}
-use Rattle.lis_kept.specs.Sound.{AreSound}
 use Rattle.lis_kept.proofs.Described.{among_where}
 use Rattle.lis_kept.proofs.Filing.{among_from_number}
 use Rattle.lis_kept.proofs.InArea.{among_slots}
@@ -78,9 +77,9 @@ unfolding numbers_where
 where_either props f g h either = filter_either f g h (range_with_len 0 props) either
 
 module _ (p q : Kept) (slot : ℕ) (name : List ℕ) (assigned : List (List ℕ)) (bytes : List ℕ) (form : AreInForm p) (r : Replaced slot (new_file name assigned bytes) p q)
-    (room : length (known_with p (new_file name assigned bytes)) ≤ p.limits.props) (after : AreSound q) where
+    (room : length (known_with p (new_file name assigned bytes)) ≤ p.limits.props) where
   abbrev d : Kept
-  d = left p q slot name assigned bytes form r room after
+  d = left p q slot name assigned bytes form r room
 
   abbrev before : List ℕ
   before = numbers_at p.ext slot
@@ -92,7 +91,7 @@ module _ (p q : Kept) (slot : ℕ) (name : List ℕ) (assigned : List (List ℕ)
   changed = length (numbers_where p.ext.props (differs before numbers))
 
   ext_before : r.comes.filed.ext ≡ p.ext
-  ext_before = ap (λ (x : Kept). x.ext) (filed_is d r.described name assigned bytes r.form_vacated (admitted p q slot name assigned bytes form r room after) r.comes)
+  ext_before = ap (λ (x : Kept). x.ext) (filed_is d r.described name assigned bytes r.form_vacated (admitted p q slot name assigned bytes form r room) r.comes)
 
   was : before ≡ numbers_at r.comes.filed.ext r.comes.slot
   was = ap₂ (λ (e : Ext) (i : ℕ). numbers_at e i) (sym ext_before) (sym r.here)
@@ -151,13 +150,13 @@ module _ (p q : Kept) (slot : ℕ) (name : List ℕ) (assigned : List (List ℕ)
 
   pub few_edits : q.ext.edits ≤ p.ext.edits + differing_bits p.ext q.ext
   few_edits =
-      let adm = admitted p q slot name assigned bytes form r room after in
+      let adm = admitted p q slot name assigned bytes form r room in
       let made = subst (λ (e : Ext). r.described.ext.edits ≤ e.edits + length (numbers_where e.props (differs before numbers))) ext_before (r.comes.describes.edits before was) in
       let slot_in : slot < length p.ext.sets = omega (arith, slot_below p slot r.rec form r.may.there, form.sound.files) in
       let f : ℕ → ℕ = λ at. length (numbers_where p.ext.props (differs (numbers_at p.ext at) (numbers_at q.ext at))) in
       let one = sum_has f (range_with_len 0 (length p.ext.sets)) slot (range_among 0 (length p.ext.sets) slot (omega arith) (omega (arith, slot_in))) in
       let ext_is : q.ext ≡ r.described.ext = ap (λ (x : Kept). x.ext) r.forgets.parts in
-      let last_ext : q.ext ≡ (last p q slot name assigned bytes form r room after).ext = ap (λ (x : Kept). x.ext) (last_is p q slot name assigned bytes form r room after) in
+      let last_ext : q.ext ≡ (last p q slot name assigned bytes form r room).ext = ap (λ (x : Kept). x.ext) (last_is p q slot name assigned bytes form r room) in
       let now : numbers_at q.ext slot ≡ numbers =
       ap₂ (λ (e : Ext) (i : ℕ). numbers_at e i) last_ext (sym r.here) ∙ set_here d r.described name assigned bytes r.form_vacated adm r.comes in
       let bits : f slot ≡ changed = ap (λ ns. length (numbers_where p.ext.props (differs before ns))) now in

@@ -63,13 +63,13 @@ module _ (p q : Kept) (slot : ℕ) (name : List ℕ) (assigned : List (List ℕ)
   t = file_replaced s r.rec.name file
 
   abbrev d : Kept
-  d = left p q slot name assigned bytes form r room after
+  d = left p q slot name assigned bytes form r room
 
   abbrev k : Kept
-  k = made p q slot name assigned bytes form r room after
+  k = made p q slot name assigned bytes form r room
 
   abbrev l : Kept
-  l = last p q slot name assigned bytes form r room after
+  l = last p q slot name assigned bytes form r room
 
   abbrev filed : Filed
   filed = record { slot = r.comes.slot; rec = r.comes.rec }
@@ -78,7 +78,7 @@ module _ (p q : Kept) (slot : ℕ) (name : List ℕ) (assigned : List (List ℕ)
   old = record { slot = slot; rec = r.rec }
 
   in_form : AreSound k
-  in_form = sound_end d r.described name assigned bytes r.form_vacated (admitted p q slot name assigned bytes form r room after) r.comes r.form_described
+  in_form = sound_end d r.described name assigned bytes r.form_vacated (admitted p q slot name assigned bytes form r room) r.comes r.form_described
 
   sound : AreSound l
   sound = sound_last p q slot name assigned bytes form r room after
@@ -88,7 +88,7 @@ module _ (p q : Kept) (slot : ℕ) (name : List ℕ) (assigned : List (List ℕ)
   tags_told =
       ap (words_told k.dict) r.comes.tagged
       ∙ named_told k.dict in_form.dict assigned (sorted_from_rising word_cmp word_order assigned r.may.set) (λ word h.
-      own_numbered d r.form_vacated name assigned bytes (admitted p q slot name assigned bytes form r room after) r.comes.learnt r.comes.learns word
+      own_numbered d r.form_vacated name assigned bytes (admitted p q slot name assigned bytes form r room) r.comes.learnt r.comes.learns word
       (has_word_from_among (learnt_words file) word (among_left assigned _ word (among_from_has_word assigned word h))))
 
   state_dropped : state_of d at ≡ file_removed (state_of p at) r.rec.name
@@ -96,7 +96,7 @@ module _ (p q : Kept) (slot : ℕ) (name : List ℕ) (assigned : List (List ℕ)
 
   state_then : state_of l there ≡ t
   state_then =
-      ap (λ (x : Kept). state_of x there) (sym (last_is p q slot name assigned bytes form r room after))
+      ap (λ (x : Kept). state_of x there) (sym (last_is p q slot name assigned bytes form r room))
       ∙ (r.forgets.state there
       ∙ (ap (λ (x : Kept). state_of x there) r.comes.describes.parts
       ∙ (looks.state
@@ -122,7 +122,7 @@ module _ (p q : Kept) (slot : ℕ) (name : List ℕ) (assigned : List (List ℕ)
   new_there =
       contains_from_among l.catalog.entries filed
       (filed_at_slot l.catalog sound.catalog r.comes.slot r.comes.rec
-      (rec_here d r.described name assigned bytes r.form_vacated (admitted p q slot name assigned bytes form r room after) r.comes))
+      (rec_here d r.described name assigned bytes r.form_vacated (admitted p q slot name assigned bytes form r room) r.comes))
 
   old_there : (f : Filed) → Among d.catalog.entries f → Contains l.catalog.entries f
   old_there f m = contains_from_among l.catalog.entries f (insert_key_old filed_cmp d.catalog.entries filed f m)
@@ -190,24 +190,24 @@ module _ (p q : Kept) (slot : ℕ) (name : List ℕ) (assigned : List (List ℕ)
 
   -- ---- descriptions
   word_then : (n : ℕ) → is_used k n ≡ true → word_of l.dict n ≡ word_of k.dict n
-  word_then = used_word_stays (numbers_at p.ext slot) k q (went p q slot name assigned bytes form r room after)
+  word_then = used_word_stays (numbers_at p.ext slot) k q (went p q slot name assigned bytes form r room)
 
   described_new : words_told l.dict (numbers_at l.ext r.comes.slot) ≡ description t (told_then filed)
   described_new =
       let ns = numbers_named k.dict (described_by d file) in
-      ap (words_told l.dict) (set_here d r.described name assigned bytes r.form_vacated (admitted p q slot name assigned bytes form r room after) r.comes)
+      ap (words_told l.dict) (set_here d r.described name assigned bytes r.form_vacated (admitted p q slot name assigned bytes form r room) r.comes)
       ∙ (words_same k.dict l.dict ns (λ n m.
       word_then n
-      (used_had d r.described name assigned bytes r.form_vacated (admitted p q slot name assigned bytes form r room after) r.comes r.form_described n r.comes.slot
-      (ap (λ (xs : List ℕ). has_number xs n) (set_here d r.described name assigned bytes r.form_vacated (admitted p q slot name assigned bytes form r room after) r.comes) ∙ number_from_among ns n m)))
+      (used_had d r.described name assigned bytes r.form_vacated (admitted p q slot name assigned bytes form r room) r.comes r.form_described n r.comes.slot
+      (ap (λ (xs : List ℕ). has_number xs n) (set_here d r.described name assigned bytes r.form_vacated (admitted p q slot name assigned bytes form r room) r.comes) ∙ number_from_among ns n m)))
       ∙ (named_told k.dict in_form.dict (described_by d file) (sorted_set_of (flat_map (up (declared_of p) (axioms_of p)) (own_words (declared_of p) file)))
-      (described_numbered d r.described name assigned bytes r.form_vacated (admitted p q slot name assigned bytes form r room after) r.comes r.form_described)
+      (described_numbered d r.described name assigned bytes r.form_vacated (admitted p q slot name assigned bytes form r room) r.comes r.form_described)
       ∙ (ap (λ (x : State). description x file) tells.state ∙ ap (description s) (sym told_new))))
 
   described_old : (g : Filed) → Among d.catalog.entries g → words_told l.dict (numbers_at l.ext g.slot) ≡ description t (told_then g)
   described_old g of =
       let ns = numbers_at p.ext g.slot in
-      let adm = admitted p q slot name assigned bytes form r room after in
+      let adm = admitted p q slot name assigned bytes form r room in
       let differ = stayed_slot g of in
       ap (words_told l.dict) (set_other d r.described name assigned bytes r.form_vacated adm r.comes g.slot differ)
       ∙ (words_same p.dict l.dict ns (λ n m.
@@ -225,7 +225,7 @@ module _ (p q : Kept) (slot : ℕ) (name : List ℕ) (assigned : List (List ℕ)
 
   -- ---- data blocks
   new_blocks_free : (n : ℕ) → has_number r.comes.rec.blocks n ≡ true → (n < length d.taken) × (is_taken d.taken n ≡ false)
-  new_blocks_free = new_not_taken d r.described name assigned bytes r.form_vacated (admitted p q slot name assigned bytes form r room after) r.comes
+  new_blocks_free = new_not_taken d r.described name assigned bytes r.form_vacated (admitted p q slot name assigned bytes form r room) r.comes
 
   taken_then : (n : ℕ) → n < l.limits.blocks → is_taken l.taken n ≡ true → IsFileBlock l there n
   taken_then n lt is = by (or_cases (has_number r.comes.rec.blocks n) (is_taken d.taken n) (sym (taken_after d.taken r.comes.rec.blocks n (omega (arith, lt, r.form_vacated.blocks))) ∙ is))
@@ -257,7 +257,7 @@ module _ (p q : Kept) (slot : ℕ) (name : List ℕ) (assigned : List (List ℕ)
       of_new here = (
         omega (arith, (new_blocks_free n here).0, r.form_vacated.blocks),
         all_among (is_taken l.taken) r.comes.rec.blocks n
-        (new_taken d r.described name assigned bytes r.form_vacated (admitted p q slot name assigned bytes form r room after) r.comes) (among_from_number r.comes.rec.blocks n here),
+        (new_taken d r.described name assigned bytes r.form_vacated (admitted p q slot name assigned bytes form r room) r.comes) (among_from_number r.comes.rec.blocks n here),
       )
 
       by : (filed ≡ f) ⊎ Among d.catalog.entries f → (n < l.limits.blocks) × (is_taken l.taken n ≡ true)
@@ -331,11 +331,11 @@ module _ (p q : Kept) (slot : ℕ) (name : List ℕ) (assigned : List (List ℕ)
 
     pub ready_replaced : IsSaved p at → IsReady q there t
     ready_replaced saved =
-        let adm = admitted p q slot name assigned bytes form r room after in
+        let adm = admitted p q slot name assigned bytes form r room in
         let ext_is : r.comes.filed.ext ≡ p.ext = ap (λ (x : Kept). x.ext) (filed_is d r.described name assigned bytes r.form_vacated adm r.comes) in
         let was : numbers_at p.ext slot ≡ numbers_at r.comes.filed.ext r.comes.slot = ap₂ (λ (e : Ext) (i : ℕ). numbers_at e i) (sym ext_is) (sym r.here) in
         let dropped = subst (λ (x : Kept). IsSaved x at) r.drops.parts (r.drops.marks.saved at saved) in
         record {
-          tells = subst (λ (x : Kept). Tells x there t) (sym (last_is p q slot name assigned bytes form r room after)) tells_last;
+          tells = subst (λ (x : Kept). Tells x there t) (sym (last_is p q slot name assigned bytes form r room)) tells_last;
           saved = r.forgets.marks.saved there ((r.comes.describes.marks (numbers_at p.ext slot) was).saved there (looks.saved (r.comes.learns.marks.saved at dropped)));
         }

@@ -6,6 +6,8 @@ use Rattle.lis_dict.specs.Dict.{word_of}
 use Rattle.lis_ext.specs.Ext.{Ext, set_of as numbers_at}
 use Rattle.lis_model.specs.Changes.{new_file}
 use Rattle.lis_kept.specs.Kept.{Kept}
+use Rattle.lis_content.specs.Content.{are_free}
+use Rattle.lis_catalog.specs.Catalog.{slot_of}
 use Rattle.lis_fields.specs.Records.{FileRecord}
 use Rattle.lis_kept.specs.Changes.{Describes, Forgets}
 use Rattle.lis_kept.specs.Refiling.{Refiles}
@@ -38,7 +40,8 @@ refile-requires-clause-free c =
 
 pub refile-requires-clause-new : goal.refile-requires-clause-new
 refile-requires-clause-new c =
-    name_learnt c.args.parts.now c.drop_file-rec.new.self c.args.slot c.args.name.now c.args.assigned.now [] c.drop_file-rec.result c.requires.form c.requires.may c.drop_file-rec.ensures c.note_form.ensures c.learn_own-numbers.new.parts c.learn_own-numbers.result.tags.items c.learn_own-numbers.result.all.items c.learn_own-numbers.ensures.learnt
+    ap (slot_of c.learn_own-numbers.new.parts.catalog) c.copied.ensures
+    ∙ name_learnt c.args.parts.now c.drop_file-rec.new.self c.args.slot c.args.name.now c.args.assigned.now [] c.drop_file-rec.result c.requires.form c.requires.may c.drop_file-rec.ensures c.note_form.ensures c.learn_own-numbers.new.parts c.learn_own-numbers.result.tags.items c.learn_own-numbers.result.all.items c.learn_own-numbers.ensures.learnt
 
 pub describe-requires-clause-rising : goal.describe-requires-clause-rising
 describe-requires-clause-rising c =
@@ -54,11 +57,15 @@ describe-requires-clause-named c =
 
 pub refile-requires-clause-sound : goal.refile-requires-clause-sound
 refile-requires-clause-sound c =
-    ap (λ (nm : List ℕ). is_sound_record c.learn_own-numbers.new.parts.dict c.learn_own-numbers.new.parts.limits.blocks (record { name = nm; size = c.drop_file-rec.result.size; tags = c.learn_own-numbers.result.tags.items; blocks = c.drop_file-rec.result.blocks })) c.copied.ensures
+    let l = c.learn_own-numbers.new.parts in
+    let make : List ℕ → FileRecord → FileRecord = λ name rec. record rec { name = name; tags = c.learn_own-numbers.result.tags.items } in
+    ap (is_sound_record l.dict l.limits.blocks) (ap₂ make c.copied.ensures c.rec.view_is)
     ∙ record_sound c.args.parts.now c.drop_file-rec.new.self c.args.slot c.args.name.now c.args.assigned.now [] c.drop_file-rec.result c.requires.form c.requires.may c.drop_file-rec.ensures c.note_form.ensures c.learn_own-numbers.new.parts c.learn_own-numbers.result.tags.items c.learn_own-numbers.result.all.items c.learn_own-numbers.ensures.learnt
 
 pub refile-requires-clause-blocks : goal.refile-requires-clause-blocks
-refile-requires-clause-blocks c = blocks_free c.args.parts.now c.drop_file-rec.new.self c.args.slot c.args.name.now c.args.assigned.now [] c.drop_file-rec.result c.requires.form c.requires.may c.drop_file-rec.ensures c.note_form.ensures c.learn_own-numbers.new.parts c.learn_own-numbers.result.tags.items c.learn_own-numbers.result.all.items c.learn_own-numbers.ensures.learnt
+refile-requires-clause-blocks c =
+    ap (λ (rec : FileRecord). are_free c.learn_own-numbers.new.parts.taken rec.blocks) c.rec.view_is
+    ∙ blocks_free c.args.parts.now c.drop_file-rec.new.self c.args.slot c.args.name.now c.args.assigned.now [] c.drop_file-rec.result c.requires.form c.requires.may c.drop_file-rec.ensures c.note_form.ensures c.learn_own-numbers.new.parts c.learn_own-numbers.result.tags.items c.learn_own-numbers.result.all.items c.learn_own-numbers.ensures.learnt
 
 pub forget_unused-requires : goal.forget_unused-requires
 forget_unused-requires c =
@@ -69,8 +76,9 @@ forget_unused-requires c =
     let rec = c.drop_file-rec.result in
     let file = new_file c.args.name.now c.args.assigned.now [] in
     let own = c.learn_own-numbers.ensures.learnt in
-    let make : List ℕ → List ℕ → FileRecord = λ nm ts. record rec { name = nm; tags = ts } in
-    let refiles = subst (λ x. Refiles c.args.slot x l c.refile.new.self) (ap₂ make c.copied.ensures own.tagged) c.refile.ensures in
+    let make : List ℕ → FileRecord → FileRecord = λ name rec. record rec { name = name; tags = c.learn_own-numbers.result.tags.items } in
+    let tagged : List ℕ → FileRecord = λ tags. record rec { name = c.args.name.now; tags = tags } in
+    let refiles = subst (λ x. Refiles c.args.slot x l c.refile.new.self) (ap₂ make c.copied.ensures c.rec.view_is ∙ ap tagged own.tagged) c.refile.ensures in
     let D : List ℕ → Type 0 = λ ns. Describes c.args.slot ns c.refile.new.self e in
     let few : length (numbers_named l.dict (described_by d file)) ≤ 128 = omega (arith, own.few, ap (λ (ns : List ℕ). length ns) own.numbered) in
     let describes = subst D (c.as_slice-2.ensures.value ∙ own.numbered) c.describe.ensures in
@@ -91,8 +99,9 @@ returns-clause-refiled c =
     let rec = c.drop_file-rec.result in
     let file = new_file c.args.name.now c.args.assigned.now [] in
     let own = c.learn_own-numbers.ensures.learnt in
-    let make : List ℕ → List ℕ → FileRecord = λ nm ts. record rec { name = nm; tags = ts } in
-    let refiles = subst (λ x. Refiles c.args.slot x l c.refile.new.self) (ap₂ make c.copied.ensures own.tagged) c.refile.ensures in
+    let make : List ℕ → FileRecord → FileRecord = λ name rec. record rec { name = name; tags = c.learn_own-numbers.result.tags.items } in
+    let tagged : List ℕ → FileRecord = λ tags. record rec { name = c.args.name.now; tags = tags } in
+    let refiles = subst (λ x. Refiles c.args.slot x l c.refile.new.self) (ap₂ make c.copied.ensures c.rec.view_is ∙ ap tagged own.tagged) c.refile.ensures in
     let D : List ℕ → Type 0 = λ ns. Describes c.args.slot ns c.refile.new.self e in
     let few : length (numbers_named l.dict (described_by d file)) ≤ 128 = omega (arith, own.few, ap (λ (ns : List ℕ). length ns) own.numbered) in
     let describes = subst D (c.as_slice-2.ensures.value ∙ own.numbered) c.describe.ensures in
