@@ -101,14 +101,14 @@ module _ (old : Stored) (q : Kept) (j : Held) (slot : ℕ) (name : List ℕ) (as
 -- ---- another name and other words, and the same bytes
 module _ (old : Stored) (q : Kept) (slot : ℕ) (name : List ℕ) (assigned : List (List ℕ)) (sound : IsSound old) (unbroken : old.is_broken ≡ false)
     (first : MayReplaceFirst old.parts slot (new_file name assigned [])) (again : RefilesIn slot (new_file name assigned []) old.parts q) where
-  abbrev p : Kept
-  p = old.parts
+  abbrev parts : Kept
+  parts = old.parts
 
-  may_first : MayReplace p slot again.rec (new_file name assigned [])
-  may_first = may_rec p again.dropped slot name assigned [] again.rec (in_form old sound) first again.drops again.form_dropped
+  may_first : MayReplace parts slot again.rec (new_file name assigned [])
+  may_first = may_rec parts again.dropped slot name assigned [] again.rec (in_form old sound) first again.drops again.form_dropped
 
   -- whatever the bytes are
-  module _ (bytes : List ℕ) (may : MayReplace p slot again.rec (new_file name assigned bytes)) where
+  module _ (bytes : List ℕ) (may : MayReplace parts slot again.rec (new_file name assigned bytes)) where
     described_is : described_by again.dropped (new_file name assigned []) ≡ described_by again.dropped (new_file name assigned bytes)
     described_is = described_alike again.dropped again.form_dropped name assigned [] bytes
 
@@ -118,17 +118,17 @@ module _ (old : Stored) (q : Kept) (slot : ℕ) (name : List ℕ) (assigned : Li
     describes_is : Describes slot (numbers_named again.learnt.dict (described_by again.dropped (new_file name assigned bytes))) again.filed again.described
     describes_is = subst (λ ws. Describes slot (numbers_named again.learnt.dict ws) again.filed again.described) described_is again.describes
 
-    abbrev refiled_as : Replaced slot (new_file name assigned bytes) p q
+    abbrev refiled_as : Replaced slot (new_file name assigned bytes) parts q
     refiled_as = record {
       rising = again.rising;
       rec = again.rec;
       may = may;
       dropped = again.dropped;
       drops = again.drops;
-      form_vacated = form_vacated p again.dropped slot name assigned [] again.rec (in_form old sound) first again.drops again.form_dropped;
+      form_vacated = form_vacated parts again.dropped slot name assigned [] again.rec (in_form old sound) first again.drops again.form_dropped;
       described = again.described;
       form_described = again.form_described;
-      comes = comes_over (new_file name assigned bytes) again.dropped (vacated p slot again.rec) again.described again.drops.parts
+      comes = comes_over (new_file name assigned bytes) again.dropped (vacated parts slot again.rec) again.described again.drops.parts
           (comes_again slot again.rec name assigned bytes again.dropped again.learnt again.filed again.described again.learns few_is again.were_free again.refiles describes_is);
       here = refl;
       forgets = again.forgets;
@@ -136,41 +136,41 @@ module _ (old : Stored) (q : Kept) (slot : ℕ) (name : List ℕ) (assigned : Li
 
   pub refiled_sound : AreSound q → IsSound (settled q old.journal)
   refiled_sound after =
-      sound_replaced p q slot name assigned [] (in_form old sound) (refiled_as [] may_first) first.room after old.journal sound.range sound.pairs sound.image (sound.journal unbroken) (sound.placed unbroken)
+      sound_replaced parts q slot name assigned [] (in_form old sound) (refiled_as [] may_first) first.room after old.journal sound.range sound.pairs sound.image (sound.journal unbroken) (sound.placed unbroken)
 
   pub refiled_marks : length old.journal.staged + marked_count q ≤ 531
   refiled_marks =
-      let marked = few_marked p q slot name assigned [] (in_form old sound) (refiled_as [] may_first) first.room (none_marked p (sound.clean unbroken)) in
+      let marked = few_marked parts q slot name assigned [] (in_form old sound) (refiled_as [] may_first) first.room (none_marked parts (sound.clean unbroken)) in
       omega (arith, marked, ap (λ (es : List Entry). length es) (sound.staged unbroken))
 
-  pub refiled_edits : q.ext.edits ≤ p.ext.edits + differing_bits p.ext q.ext
-  refiled_edits = few_edits p q slot name assigned [] (in_form old sound) (refiled_as [] may_first) first.room
+  pub refiled_edits : q.ext.edits ≤ parts.ext.edits + differing_bits parts.ext q.ext
+  refiled_edits = few_edits parts q slot name assigned [] (in_form old sound) (refiled_as [] may_first) first.room
 
   pub refiled_changes : {T : Type 0} (place : List Formula) (new : Stored) (before after : Meaning) (result : Result T Change) (outcome : State → Outcome)
       → ((s : State) (fits : StoreFits old before s) → outcome s
-      ≡ changed (record { state = s; place = place }) (file_replaced s again.rec.name (new_file name assigned (bytes_told p.limits fits.kept again.rec))))
+      ≡ changed (record { state = s; place = place }) (file_replaced s again.rec.name (new_file name assigned (bytes_told parts.limits fits.kept again.rec))))
       → Saves q old.journal new before after result → (s : State) → StoreFits old before s → Changes (record { state = s; place = place }) (outcome s) new before after result
   refiled_changes place new before after result outcome done saves s fits =
       let now : Situation = record { state = s; place = place } in
       let filed : Filed = record { slot = slot; rec = again.rec } in
-      let bytes = bytes_told p.limits fits.kept again.rec in
+      let bytes = bytes_told parts.limits fits.kept again.rec in
       let t : State = file_replaced s again.rec.name (new_file name assigned bytes) in
-      let size = size_of_filed old before s sound fits filed (filed_at_slot p.catalog sound.parts.catalog slot again.rec may_first.there) in
-      let may = other_bytes p sound.parts slot again.rec name assigned [] bytes size may_first in
-      let room = other_room p sound.parts name assigned [] bytes first.room in
-      let limits_are : again.learnt.limits ≡ p.limits = ap (λ (x : Kept). x.limits) again.learns.parts ∙ ap (λ (x : Kept). x.limits) again.drops.parts in
+      let size = size_of_filed old before s sound fits filed (filed_at_slot parts.catalog sound.parts.catalog slot again.rec may_first.there) in
+      let may = other_bytes parts sound.parts slot again.rec name assigned [] bytes size may_first in
+      let room = other_room parts sound.parts name assigned [] bytes first.room in
+      let limits_are : again.learnt.limits ≡ parts.limits = ap (λ (x : Kept). x.limits) again.learns.parts ∙ ap (λ (x : Kept). x.limits) again.drops.parts in
       let tags = numbers_named again.learnt.dict assigned in
       let make : Limits → State = λ limits.
       file_added (state_of again.learnt fits.kept) (new_file name (words_told again.learnt.dict tags) (bytes_told limits fits.kept again.rec)) in
-      let looks : ComesTold (new_file name assigned bytes) (vacated p slot again.rec) again.described (refiled_as bytes may).comes fits.kept fits.kept = record {
+      let looks : ComesTold (new_file name assigned bytes) (vacated parts slot again.rec) again.described (refiled_as bytes may).comes fits.kept fits.kept = record {
         super = refl;
         state = again.refiles.state fits.kept ∙ ap make limits_are;
         saved = again.refiles.marks.saved fits.kept;
       } in
       saves old now (outcome s) t fits sound refl refl refl
-      (ap (λ (x : Kept). x.limits) (last_is p q slot name assigned [] (in_form old sound) (refiled_as [] may_first) first.room))
+      (ap (λ (x : Kept). x.limits) (last_is parts q slot name assigned [] (in_form old sound) (refiled_as [] may_first) first.room))
       (λ sound_then.
       subst (λ (es : List Entry). IsReady q (looked es fits.kept) t) (sym (sound.staged unbroken))
-      (ready_replaced p q slot name assigned bytes (in_form old sound) (refiled_as bytes may) room sound_then fits.kept fits.kept s fits.tells looks
+      (ready_replaced parts q slot name assigned bytes (in_form old sound) (refiled_as bytes may) room sound_then fits.kept fits.kept s fits.tells looks
       (version_told old before s sound fits) (used_told old before s sound fits) size (λ area n lt unmarked. fits.written area n lt)))
       (done s fits)
