@@ -21,6 +21,7 @@ pub mod Forgotten
 pub mod Used
 pub mod Emptied
 pub mod ToldInUse
+pub mod Without
 pub mod Numbered
 pub mod Entailed
 pub mod PlainWords

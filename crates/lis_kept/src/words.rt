@@ -18,6 +18,7 @@ ghost use Rattle.lis_kept.specs.Changes.{Declares, Learns, Forgets};
 ghost use Rattle.lis_kept.specs.Telling.{is_left_of, is_head_by, is_left_head_of, is_had, is_used};
 
 mod undeclaring;
+mod without;
 
 use crate::parts::Parts;
 use crate::places::PROPERTIES_START;

@@ -45,3 +45,8 @@ pub mod ReplacedTells
 pub mod ReplacedMarks
 pub mod SameWords
 pub mod ReplaceFile
+pub mod InsteadKnown
+pub mod InsteadMeasured
+pub mod InsteadGiven
+pub mod InsteadRows
+pub mod InsteadTold

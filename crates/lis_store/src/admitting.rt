@@ -24,17 +24,17 @@ use lis_words::{Name, Word, is_builtin, is_head, test_of};
 const BLOCK_LEN: u64 = 4_096;
 
 /// The most words of a description.
-const MAX_DESCRIPTION: u32 = 128;
+pub(crate) const MAX_DESCRIPTION: u32 = 128;
 
-// How many bytes a file may have.
-fn file_limit(version: u32) -> u64
+/// How many bytes a file may have.
+pub(crate) fn file_limit(version: u32) -> u64
     ensures { result ≡ file_limit version }
 {
     if version == 2 { 1_048_576 } else { 65_536 }
 }
 
-// How many blocks so many bytes take.
-fn blocks_taken(version: u32, size: u64) -> u64
+/// How many blocks so many bytes take.
+pub(crate) fn blocks_taken(version: u32, size: u64) -> u64
     ensures { result ≡ blocks_taken version size }
 {
     let blocks = size.div_ceil(BLOCK_LEN);

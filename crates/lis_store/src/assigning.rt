@@ -126,8 +126,8 @@ fn stands_at(words: &[Word], place: usize, word: &Word) -> bool
     }
 }
 
-// Puts a word into a set of words. The answer tells whether there is room for it.
-fn put_word(words: &mut ArrayVec<Word, 16>, word: &Word) -> bool
+/// Puts a word into a set of words. The answer tells whether there is room for it.
+pub(crate) fn put_word(words: &mut ArrayVec<Word, 16>, word: &Word) -> bool
     requires { length words.old.items ≤ 16 }
     ensures { Takes (word.now ∷ []) words.old.items words.new.items result }
 {

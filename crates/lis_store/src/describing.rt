@@ -8,6 +8,7 @@ ghost use Rattle.lis_model.specs.State.{heads};
 ghost use Rattle.lis_kept.specs.Sound.{AreSound};
 ghost use Rattle.lis_store.specs.Admitting.{described_by, known_with};
 ghost use Rattle.lis_store.specs.Describing.{with_heads, Gathers};
+ghost use Rattle.lis_store.specs.Instead.{HasNumbers};
 
 use crate::derived::derived;
 use arrayvec::ArrayVec;
@@ -75,7 +76,7 @@ fn gather_all(parts: &Parts, lacked: &mut Rows, fresh: &mut Fresh, words: &[Word
 }
 
 /// Measures the description of a new file of a name, the words that it is given, and these bytes. `row` is a row of words to
-/// work in.
+/// work in, and has then the numbers of its words.
 pub(crate) fn measure(
     parts: &Parts,
     row: &mut Rows,
@@ -90,6 +91,7 @@ pub(crate) fn measure(
     ensures words { result.words ≡ length (described_by parts.now (new_file name.now words.now payload.now)) }
     ensures known { length parts.now.dict.entries + result.fresh ≡ length (known_with parts.now (new_file name.now words.now payload.now)) }
     ensures fresh { result.fresh ≤ 128 }
+    ensures row { HasNumbers parts.now row.new (new_file name.now words.now payload.now) }
 {
     // Rows of other rows are taken from a row, so it has at first what the file lacks.
     let mut fresh = ArrayVec::new();

@@ -9,6 +9,7 @@ mod assigning;
 mod change;
 mod derived;
 mod describing;
+mod instead;
 mod judging;
 pub mod laws;
 mod looking;

@@ -1,0 +1,36 @@
+//! Numbers that are in use by more than the description of one file.
+
+ghost use Rattle.std.specs.Prelude.{◌≡◌, ◌<◌, [], slice_set, IsSome};
+ghost use Rattle.lis_dict.specs.Dict.{word_of};
+ghost use Rattle.lis_kept.specs.Telling.{is_had, is_used};
+
+use crate::parts::Parts;
+use crate::words::is_named_left;
+use lis_ext::Ext;
+
+// Whether the description of a file in another slot has a number.
+fn is_had_without(ext: &Ext, slot: u16, number: u16) -> bool
+    requires { number < ext.now.props }
+    ensures { result ≡ is_had (record ext.now { sets = slice_set ext.now.sets slot [] }) number }
+{
+    let rows = ext.rows();
+    let Some(first) = rows.next(u32::from(number), 0) else {
+        return false;
+    };
+    if first != u32::from(slot) {
+        return true;
+    }
+    rows.next(u32::from(number), first + 1).is_some()
+}
+
+impl Parts {
+    /// Whether a number is in use without the description in a slot.
+    pub fn is_used_without(&self, slot: u16, number: u16) -> bool
+        requires { IsSome (word_of self.now.dict number) }
+        ensures { result ≡ is_used (record self.now { ext = record self.now.ext { sets = slice_set self.now.ext.sets slot [] } }) number }
+    {
+        self.declared.get(u32::from(number))
+            || is_had_without(&self.ext, slot, number)
+            || is_named_left(&self.dict, self.axioms.as_slice(), number)
+    }
+}

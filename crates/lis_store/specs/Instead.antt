@@ -1,0 +1,61 @@
+-- What a file is refused for that would come into the place of another, told by what a store keeps.
+use Rattle.std.specs.Prelude.{◌≡◌, ℕ, ◌+◌, ◌<◌, nat_lt, not, ◌&&◌, Bool, is_some, List, [], ◌∷◌, ◌++◌, length}
+use Rattle.lis_bits.specs.Rows.{Rows, get}
+use Rattle.lis_blockmap.specs.Bitmap.{free_count}
+use Rattle.lis_catalog.specs.Catalog.{slot_of}
+use Rattle.lis_dict.specs.Dict.{word_of}
+use Rattle.lis_ext.specs.Ext.{has}
+use Rattle.lis_ext.specs.Numbers.{numbers_where}
+use Rattle.lis_fields.specs.Records.{FileRecord}
+use Rattle.lis_grammar.specs.Formula.{Formula}
+use Rattle.lis_model.specs.declared.refusal.Refusal.{Refusal}
+use Rattle.lis_model.specs.declared.refusal.Refusal.TheVariants.{NameTaken, NoFileHere, LargeDescription, LargeFile, NoPropertyRoom, NoSpace}
+use Rattle.lis_model.specs.State.{File, file_limit, blocks_taken}
+use Rattle.lis_model.specs.Changes.{new_file}
+use Rattle.lis_kept.specs.Kept.{Kept}
+use Rattle.lis_kept.specs.Telling.{words_told, is_used}
+use Rattle.lis_store.specs.Adding.{is_one_of}
+use Rattle.lis_store.specs.Admitting.{described_by}
+use Rattle.lis_store.specs.Judging.{is_among}
+use Rattle.lis_store.specs.Replacing.{emptied, known_instead}
+
+-- ---- words
+-- The row has the numbers of the words that the file's description would have, where they have any.
+abbrev pub HasNumbers : Kept → Rows → File → Type 0
+HasNumbers k row file = (n : ℕ) → n < k.limits.props → get row 0 n ≡ is_one_of (described_by k file) (word_of k.dict n)
+
+-- the numbers of the description in the slot which are not in the row, and which nothing else uses
+abbrev pub leaving : Kept → Rows → ℕ → List ℕ
+leaving k row slot = numbers_where k.limits.props (λ n. has k.ext n slot && not (get row 0 n) && not (is_used (emptied k slot) n))
+
+-- ---- files
+-- a file of a name and these bytes, with the words that the file of a record was given
+abbrev pub given_before : Kept → FileRecord → List ℕ → List ℕ → File
+given_before k rec name bytes = new_file name (words_told k.dict rec.tags) bytes
+
+-- ---- rows
+-- what the words of the file in the place of that in the slot are refused for
+abbrev pub instead_checks : Kept → ℕ → File → List (Bool × Refusal)
+instead_checks k slot file =
+    (nat_lt 128 (length (described_by k file)), LargeDescription)
+    ∷ (nat_lt k.limits.props (length (known_instead k slot file)), NoPropertyRoom)
+    ∷ []
+
+-- the blocks of the file that was there may be used again
+abbrev pub overwriting_checks : Kept → ℕ → FileRecord → File → ℕ → List (Bool × Refusal)
+overwriting_checks k slot rec file size =
+    instead_checks k slot file
+    ++ (nat_lt (free_count k.taken + length rec.blocks) (blocks_taken k.limits.version size), NoSpace) ∷ []
+
+abbrev pub renaming_checks : Kept → ℕ → File → List (Bool × Refusal)
+renaming_checks k slot file = (is_some (slot_of k.catalog file.name), NameTaken) ∷ instead_checks k slot file
+
+-- the rows of `write` and of `rename`
+abbrev pub write_checks_of : Kept → List Formula → List ℕ → ℕ → FileRecord → File → ℕ → List (Bool × Refusal)
+write_checks_of k place name slot rec file size =
+    (nat_lt (file_limit k.limits.version) size, LargeFile)
+    ∷ (not (is_among k place name), NoFileHere)
+    ∷ overwriting_checks k slot rec file size
+
+abbrev pub rename_checks_of : Kept → List Formula → List ℕ → ℕ → File → List (Bool × Refusal)
+rename_checks_of k place name slot file = (not (is_among k place name), NoFileHere) ∷ renaming_checks k slot file

@@ -1,0 +1,226 @@
+//! What a file is refused for that would come into the place of another.
+
+ghost use Rattle.std.specs.Prelude.{◌≡◌, ℕ, ◌<◌, ◌≤◌, not, ◌&&◌, List, Some, length, IsSome, IfOk};
+ghost use Rattle.std.specs.Option.{option_to_list};
+ghost use Rattle.lis_bits.specs.Rows.{HasShape, get};
+ghost use Rattle.lis_catalog.specs.Catalog.{rec_at};
+ghost use Rattle.lis_dict.specs.Dict.{word_of};
+ghost use Rattle.lis_ext.specs.Ext.{has};
+ghost use Rattle.lis_fields.specs.Records.{FileRecord};
+ghost use Rattle.lis_model.specs.Changes.{new_file};
+ghost use Rattle.lis_eval.specs.Room.{HasRoom};
+ghost use Rattle.lis_kept.specs.Telling.{words_told, is_used, AreUsed};
+ghost use Rattle.lis_store.specs.Admitting.{described_by};
+ghost use Rattle.lis_store.specs.Assigning.{Takes};
+ghost use Rattle.lis_store.specs.Changes.{Judges};
+ghost use Rattle.lis_store.specs.Instead.{leaving, given_before, instead_checks, overwriting_checks, renaming_checks};
+ghost use Rattle.lis_store.specs.Replacing.{emptied, known_instead};
+
+use crate::admitting::{MAX_DESCRIPTION, blocks_taken};
+use crate::assigning::put_word;
+use crate::describing::measure;
+use arrayvec::ArrayVec;
+use lis_bits::Rows;
+use lis_eval::Scratch;
+use lis_kept::Parts;
+use lis_model::refusal::Refusal;
+use lis_words::{Name, Word};
+
+/// How many words a description would have in the place of another, and how many words would be known then.
+#[derive(Clone, Copy, Debug, PartialEq, Eq)]
+struct Known {
+    words: u32,
+    known: u32,
+}
+
+// Puts the word of a number into a set of words, if there is one.
+fn put_number(parts: &Parts, words: &mut ArrayVec<Word, 16>, number: u16) -> bool
+    requires { length words.old.items ≤ 16 }
+    ensures { Takes (option_to_list (word_of parts.now.dict number)) words.old.items words.new.items result }
+{
+    let Some(word) = parts.word_of(number) else {
+        return true;
+    };
+    put_word(words, &word)
+}
+
+// The words that have these numbers.
+fn words_of(parts: &Parts, numbers: &[u16]) -> ArrayVec<Word, 16>
+    requires { length numbers.now ≤ 16 }
+    ensures words { result.items ≡ words_told parts.now.dict numbers.now }
+    ensures few { length result.items ≤ 16 }
+{
+    let mut words = ArrayVec::new();
+    for number in numbers {
+        put_number(parts, &mut words, *number);
+    }
+    words
+}
+
+// The words that the file in a slot was given.
+fn assigned_in(parts: &Parts, slot: u16) -> ArrayVec<Word, 16>
+    requires { IsSome (rec_at parts.now.catalog slot) }
+    ensures words { (rec : FileRecord) → rec_at parts.now.catalog slot ≡ Some rec → result.items ≡ words_told parts.now.dict rec.tags }
+    ensures few { length result.items ≤ 16 }
+{
+    // Only the limits tell that no file was given more.
+    let _limits = parts.limits();
+    let Some(rec) = parts.rec(slot) else {
+        unreachable!()
+    };
+    words_of(parts, rec.tags.as_slice())
+}
+
+// How many blocks the file in a slot has.
+fn blocks_in(parts: &Parts, slot: u16) -> u64
+    requires { IsSome (rec_at parts.now.catalog slot) }
+    ensures count { (rec : FileRecord) → rec_at parts.now.catalog slot ≡ Some rec → result ≡ length rec.blocks }
+    ensures few { result ≤ 16 }
+{
+    let Some(rec) = parts.rec(slot) else {
+        unreachable!()
+    };
+    rec.blocks.len() as u64
+}
+
+// Whether the description in a slot has a number which is not in the row, and which nothing else uses.
+fn is_leaving(parts: &Parts, row: &Rows, slot: u16, number: u16) -> bool
+    requires slot { slot < length parts.now.ext.sets }
+    requires number { number < parts.now.limits.props }
+    requires shape { HasShape row.now 1 parts.now.limits.props }
+    ensures { result ≡ (has parts.now.ext number slot && not (get row.now 0 number) && not (is_used (emptied parts.now slot) number)) }
+{
+    // Only the limits tell that each number of a description has a word.
+    let _limits = parts.limits();
+    if !parts.ext().rows().get(u32::from(number), u32::from(slot)) {
+        return false;
+    }
+    if row.get(0, u32::from(number)) {
+        return false;
+    }
+    !parts.is_used_without(slot, number)
+}
+
+// How many numbers of the description in a slot are not in the row, and nothing else uses them.
+fn leaving(parts: &Parts, row: &Rows, slot: u16) -> u32
+    requires slot { slot < length parts.now.ext.sets }
+    requires shape { HasShape row.now 1 parts.now.limits.props }
+    ensures { result ≡ length (leaving parts.now row.now slot) }
+{
+    let props = parts.limits().props;
+    let mut count = 0;
+    for number in 0..props {
+        if is_leaving(parts, row, slot, number as u16) {
+            count += 1;
+        }
+    }
+    count
+}
+
+// Measures what would be known with a file in the place of that in a slot.
+fn measure_instead(
+    parts: &Parts,
+    row: &mut Rows,
+    slot: u16,
+    name: &Name,
+    words: &[Word],
+    payload: &[u8],
+) -> Known
+    requires slot { slot < length parts.now.ext.sets }
+    requires used { AreUsed parts.now }
+    requires shape { HasShape row.old 1 parts.now.limits.props }
+    requires few { length words.now ≤ 16 }
+    ensures shape { HasShape row.new 1 parts.now.limits.props }
+    ensures words { result.words ≡ length (described_by parts.now (new_file name.now words.now payload.now)) }
+    ensures known { result.known ≡ length (known_instead parts.now slot (new_file name.now words.now payload.now)) }
+{
+    // Only the limits tell that the parts are in form.
+    let _limits = parts.limits();
+    let extent = measure(parts, row, name, words, payload);
+    let gone = leaving(parts, row, slot);
+    Known {
+        words: extent.words,
+        known: parts.word_count() + extent.fresh - gone,
+    }
+}
+
+// Whether there is room for the words of a file in the place of that in a slot.
+fn has_room_instead(
+    parts: &Parts,
+    scratch: &mut Scratch,
+    slot: u16,
+    name: &Name,
+    words: &[Word],
+    payload: &[u8],
+) -> Result<(), Refusal>
+    requires there { IsSome (rec_at parts.now.catalog slot) }
+    requires used { AreUsed parts.now }
+    requires few { length words.now ≤ 16 }
+    requires room { HasRoom scratch.old parts.now.limits }
+    ensures room { HasRoom scratch.new parts.now.limits }
+    ensures row { Judges (instead_checks parts.now slot (new_file name.now words.now payload.now)) result }
+{
+    let limits = parts.limits();
+    let measure = measure_instead(parts, &mut scratch.candidates, slot, name, words, payload);
+    if measure.words > MAX_DESCRIPTION {
+        return Err(Refusal::LargeDescription);
+    }
+    if measure.known > limits.props {
+        return Err(Refusal::NoPropertyRoom);
+    }
+    Ok(())
+}
+
+/// The words that the file in a slot was given, or what it is refused for with these bytes in the place of its own. `name` is its name.
+/// Where there are more bytes than a file may have, only their number counts.
+pub(crate) fn may_write(
+    parts: &Parts,
+    scratch: &mut Scratch,
+    slot: u16,
+    name: &Name,
+    payload: &[u8],
+    size: u64,
+) -> Result<ArrayVec<Word, 16>, Refusal>
+    requires there { IsSome (rec_at parts.now.catalog slot) }
+    requires used { AreUsed parts.now }
+    requires room { HasRoom scratch.old parts.now.limits }
+    ensures room { HasRoom scratch.new parts.now.limits }
+    ensures row { (rec : FileRecord) → rec_at parts.now.catalog slot ≡ Some rec
+        → Judges (overwriting_checks parts.now slot rec (given_before parts.now rec name.now payload.now) size) result }
+    ensures words { IfOk result (λ words. (rec : FileRecord) → rec_at parts.now.catalog slot ≡ Some rec
+        → words.items ≡ words_told parts.now.dict rec.tags) }
+{
+    let words = assigned_in(parts, slot);
+    has_room_instead(parts, scratch, slot, name, words.as_slice(), payload)?;
+    let free = u64::from(parts.free_blocks()) + blocks_in(parts, slot);
+    if blocks_taken(parts.limits().version, size) > free {
+        return Err(Refusal::NoSpace);
+    }
+    Ok(words)
+}
+
+/// The words that the file in a slot was given, or what it is refused for under another name. Its bytes stay, whatever they are.
+pub(crate) fn may_rename(
+    parts: &Parts,
+    scratch: &mut Scratch,
+    slot: u16,
+    other: &Name,
+) -> Result<ArrayVec<Word, 16>, Refusal>
+    requires there { IsSome (rec_at parts.now.catalog slot) }
+    requires used { AreUsed parts.now }
+    requires room { HasRoom scratch.old parts.now.limits }
+    ensures room { HasRoom scratch.new parts.now.limits }
+    ensures row { (rec : FileRecord) (bytes : List ℕ) → rec_at parts.now.catalog slot ≡ Some rec
+        → Judges (renaming_checks parts.now slot (given_before parts.now rec other.now bytes)) result }
+    ensures words { IfOk result (λ words. (rec : FileRecord) → rec_at parts.now.catalog slot ≡ Some rec
+        → words.items ≡ words_told parts.now.dict rec.tags) }
+{
+    // Only the limits tell that no test is declared, so that the bytes give no word.
+    let _limits = parts.limits();
+    if parts.slot_of(other).is_some() {
+        return Err(Refusal::NameTaken);
+    }
+    let words = assigned_in(parts, slot);
+    has_room_instead(parts, scratch, slot, other, words.as_slice(), &[])?;
+    Ok(words)
+}
