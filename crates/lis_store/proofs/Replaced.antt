@@ -1,5 +1,5 @@
 -- What memory comes to when another file takes the place of one.
-use Rattle.std.proofs.Common.{◌≡◌, ◌⊎◌, refl, sym, ap, ◌∙◌, subst, inl, inr, ℕ, ◌≤◌, true, false, List, [], length, Some, is_some, IsTrue}
+use Rattle.std.proofs.Common.{◌≡◌, ◌⊎◌, refl, sym, ap, ◌∙◌, subst, inl, inr, ℕ, true, false, List, Some, is_some, IsTrue}
 use Rattle.std.specs.List.Sorted.{IsStrictlyIncreasing}
 use Rattle.std.proofs.lemmas.Bool.{both_ways}
 use Rattle.lis_journal.specs.Journal.{Held}
@@ -19,15 +19,13 @@ use Rattle.lis_kept.specs.Forgetting.{MayForget}
 use Rattle.lis_kept.specs.Changes.{Drops, Forgets}
 use Rattle.lis_store.specs.Stored.{Stored, AreClosed, PairsAreApart, IsSound}
 use Rattle.lis_store.specs.Saving.{settled}
-use Rattle.lis_store.specs.Admitting.{known_with, IsAdmitted}
-use Rattle.lis_store.specs.Replacing.{MayReplace}
-use Rattle.lis_store.specs.ReplacingIn.{AreInForm}
+use Rattle.lis_store.specs.ReplacingIn.{AreInForm, MayComeIn, MayReplaceFirst}
 use Rattle.lis_store.proofs.Added.{end, end_is, sound_end, used_had, known_or_here, tags_then, free_then, closed_then, short_then, taken_then, apart_then}
 use Rattle.lis_store.proofs.Cleaned.{clean_is, sound_clean, in_use_clean}
 use Rattle.lis_store.proofs.Coming.{ComesIn}
 use Rattle.lis_store.proofs.Forgot.{rest, all_used, closed_still}
 use Rattle.lis_store.proofs.HeadsUsed.{used_flagged, head_used}
-use Rattle.lis_store.proofs.Vacated.{vacated, free_others, tags_others, taken_others, apart_others, admitted_then}
+use Rattle.lis_store.proofs.Vacated.{vacated, free_others, tags_others, taken_others, apart_others, come_vacated}
 
 -- ---- stores in form
 pub in_form : (k : Stored) → IsSound k → AreInForm k.parts
@@ -63,7 +61,7 @@ settled_sound q j form range pairs image unbroken unplaced = record {
 pub record Replaced (slot : ℕ) (file : File) (p q : Kept) : Type 0 where
   pub rising : IsStrictlyIncreasing (numbers_at p.ext slot)
   pub rec : FileRecord
-  pub may : MayReplace p slot rec file
+  pub may : MayReplaceFirst p slot rec file
   pub dropped : Kept
   pub drops : Drops slot rec p dropped
   pub form_vacated : AreSound (vacated p slot rec)
@@ -75,37 +73,37 @@ pub record Replaced (slot : ℕ) (file : File) (p q : Kept) : Type 0 where
 
 -- ---- words that may be forgotten
 module _ (p e : Kept) (slot : ℕ) (rec : FileRecord) (name : List ℕ) (assigned : List (List ℕ)) (bytes : List ℕ) (form : AreInForm p) (there : rec_at p.catalog slot ≡ Some rec)
-    (sound : AreSound (vacated p slot rec)) (admitted : IsAdmitted (vacated p slot rec) (new_file name assigned bytes)) (comes : ComesIn (new_file name assigned bytes) (vacated p slot rec) e)
+    (sound : AreSound (vacated p slot rec)) (coming : MayComeIn (vacated p slot rec) (new_file name assigned bytes)) (comes : ComesIn (new_file name assigned bytes) (vacated p slot rec) e)
     (here : comes.slot ≡ slot) (after : AreSound e) where
   abbrev d : Kept
   d = vacated p slot rec
 
   abbrev k : Kept
-  k = end d e name assigned bytes sound admitted comes
+  k = end d e name assigned bytes sound coming comes
 
   k_is : e ≡ k
-  k_is = end_is d e name assigned bytes sound admitted comes
+  k_is = end_is d e name assigned bytes sound coming comes
 
   sound_k : AreSound k
-  sound_k = sound_end d e name assigned bytes sound admitted comes after
+  sound_k = sound_end d e name assigned bytes sound coming comes after
 
   pub known_used_or_old : (n : ℕ) → is_some (word_of k.dict n) ≡ true → (is_used k n ≡ true) ⊎ (has_number (numbers_at p.ext slot) n ≡ true)
-  known_used_or_old n some = by (known_or_here d e name assigned bytes sound admitted comes after form.in_use.used n some)
+  known_used_or_old n some = by (known_or_here d e name assigned bytes sound coming comes after form.in_use.used n some)
     where
       by : (is_used k n ≡ true) ⊎ (has p.ext n comes.slot ≡ true) → (is_used k n ≡ true) ⊎ (has_number (numbers_at p.ext slot) n ≡ true)
       by (inl used) = inl used
       by (inr was) = inr (ap (has p.ext n) (sym here) ∙ was)
 
   pub closed_described : AreClosed k
-  closed_described = closed_then d e name assigned bytes sound admitted comes after form.closed
+  closed_described = closed_then d e name assigned bytes sound coming comes after form.closed
 
   pub tags_described : (at : ℕ) (r : FileRecord) → rec_at k.catalog at ≡ Some r → (n : ℕ) → has_number r.tags n ≡ true → has k.ext n at ≡ true
-  tags_described = tags_then d e name assigned bytes sound admitted comes after (tags_others p slot rec form there)
+  tags_described = tags_then d e name assigned bytes sound coming comes after (tags_others p slot rec form there)
 
   may_forget_k : MayForget (numbers_at p.ext slot) k
   may_forget_k = record {
     given = λ n some unused. by n unused (known_used_or_old n some);
-    tags = λ at r is n tag. used_had d e name assigned bytes sound admitted comes after n at (tags_described at r is n tag);
+    tags = λ at r is n tag. used_had d e name assigned bytes sound coming comes after n at (tags_described at r is n tag);
     rights = λ at left right is. used_flagged k sound_k right (form.in_use.rights at left right is);
     heads = λ n head used is. head_used k sound_k closed_described n head is used;
   }
@@ -118,22 +116,21 @@ module _ (p e : Kept) (slot : ℕ) (rec : FileRecord) (name : List ℕ) (assigne
   may_forget = subst (MayForget (numbers_at p.ext slot)) (sym k_is) may_forget_k
 
 -- ---- all in form again
-module _ (p q : Kept) (slot : ℕ) (name : List ℕ) (assigned : List (List ℕ)) (bytes : List ℕ) (form : AreInForm p) (r : Replaced slot (new_file name assigned bytes) p q)
-    (room : length (known_with p (new_file name assigned bytes)) ≤ p.limits.props) where
+module _ (p q : Kept) (slot : ℕ) (name : List ℕ) (assigned : List (List ℕ)) (bytes : List ℕ) (form : AreInForm p) (r : Replaced slot (new_file name assigned bytes) p q) where
   abbrev file : File
   file = new_file name assigned bytes
 
   abbrev pub left : Kept
   left = vacated p slot r.rec
 
-  pub admitted : IsAdmitted left file
-  admitted = admitted_then p slot r.rec form r.may.there file r.may room r.form_vacated
+  pub coming : MayComeIn left file
+  coming = come_vacated p slot r.rec form r.may.there file r.may
 
   abbrev pub made : Kept
-  made = end left r.described name assigned bytes r.form_vacated admitted r.comes
+  made = end left r.described name assigned bytes r.form_vacated coming r.comes
 
   pub went : Forgets (numbers_at p.ext slot) made q
-  went = subst (λ (x : Kept). Forgets (numbers_at p.ext slot) x q) (end_is left r.described name assigned bytes r.form_vacated admitted r.comes) r.forgets
+  went = subst (λ (x : Kept). Forgets (numbers_at p.ext slot) x q) (end_is left r.described name assigned bytes r.form_vacated coming r.comes) r.forgets
 
   abbrev pub last : Kept
   last = rest (numbers_at p.ext slot) made q went
@@ -149,21 +146,21 @@ module _ (p q : Kept) (slot : ℕ) (name : List ℕ) (assigned : List (List ℕ)
     used_last =
         subst (λ (x : Kept). AreUsed x) last_is
         (all_used (numbers_at p.ext slot) made q went
-        (known_used_or_old p r.described slot r.rec name assigned bytes form r.may.there r.form_vacated admitted r.comes r.here r.form_described))
+        (known_used_or_old p r.described slot r.rec name assigned bytes form r.may.there r.form_vacated coming r.comes r.here r.form_described))
 
     pub form_last : AreInForm last
     form_last = record {
       sound = sound_last;
-      free = free_then left r.described name assigned bytes r.form_vacated admitted r.comes r.form_described
+      free = free_then left r.described name assigned bytes r.form_vacated coming r.comes r.form_described
           (λ at differ. free_others p slot r.rec form r.may.there at (λ same. differ (same ∙ sym r.here)));
-      closed = closed_still (numbers_at p.ext slot) made q went (sound_end left r.described name assigned bytes r.form_vacated admitted r.comes r.form_described) sound_last
-          (closed_described p r.described slot r.rec name assigned bytes form r.may.there r.form_vacated admitted r.comes r.here r.form_described);
-      short = short_then left r.described name assigned bytes r.form_vacated admitted r.comes r.form_described form.short;
-      taken = taken_then left r.described name assigned bytes r.form_vacated admitted r.comes (taken_others p slot r.rec form r.may.there);
-      apart = apart_then left r.described name assigned bytes r.form_vacated admitted r.comes (taken_others p slot r.rec form r.may.there) (apart_others p slot r.rec form r.may.there);
+      closed = closed_still (numbers_at p.ext slot) made q went (sound_end left r.described name assigned bytes r.form_vacated coming r.comes r.form_described) sound_last
+          (closed_described p r.described slot r.rec name assigned bytes form r.may.there r.form_vacated coming r.comes r.here r.form_described);
+      short = short_then left r.described name assigned bytes r.form_vacated coming r.comes r.form_described form.short;
+      taken = taken_then left r.described name assigned bytes r.form_vacated coming r.comes (taken_others p slot r.rec form r.may.there);
+      apart = apart_then left r.described name assigned bytes r.form_vacated coming r.comes (taken_others p slot r.rec form r.may.there) (apart_others p slot r.rec form r.may.there);
       in_use = record {
         used = used_last;
-        tags = tags_described p r.described slot r.rec name assigned bytes form r.may.there r.form_vacated admitted r.comes r.here r.form_described;
+        tags = tags_described p r.described slot r.rec name assigned bytes form r.may.there r.form_vacated coming r.comes r.here r.form_described;
         rights = form.in_use.rights;
       };
     }

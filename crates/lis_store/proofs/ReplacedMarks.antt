@@ -24,7 +24,7 @@ use Rattle.lis_kept.proofs.Described.{among_where}
 use Rattle.lis_kept.proofs.Filing.{among_from_number}
 use Rattle.lis_kept.proofs.InArea.{among_slots}
 use Rattle.lis_store.specs.Changes.{differing_bits}
-use Rattle.lis_store.specs.Admitting.{described_by, known_with}
+use Rattle.lis_store.specs.Admitting.{described_by}
 use Rattle.lis_store.specs.Adding.{is_one_of, numbers_named, with_heads, learnt_words}
 use Rattle.lis_store.specs.ReplacingIn.{AreInForm}
 use Rattle.lis_store.proofs.Added.{filed_is, set_here}
@@ -32,7 +32,7 @@ use Rattle.lis_store.proofs.AddedMarks.{heads_few}
 use Rattle.lis_store.proofs.DerivedWords.{derived_few}
 use Rattle.lis_store.proofs.Numbers.{sorted_where}
 use Rattle.lis_store.proofs.Removed.{sum_has}
-use Rattle.lis_store.proofs.Replaced.{Replaced, left, admitted, last, last_is}
+use Rattle.lis_store.proofs.Replaced.{Replaced, left, coming, last, last_is}
 use Rattle.lis_store.proofs.Vacated.{vacated, slot_below}
 
 abbrev true_in : List Bool → ℕ
@@ -76,10 +76,9 @@ where_either : (props : ℕ) (f g h : ℕ → Bool) → ((x : ℕ) → f x ≡ t
 unfolding numbers_where
 where_either props f g h either = filter_either f g h (range_with_len 0 props) either
 
-module _ (p q : Kept) (slot : ℕ) (name : List ℕ) (assigned : List (List ℕ)) (bytes : List ℕ) (form : AreInForm p) (r : Replaced slot (new_file name assigned bytes) p q)
-    (room : length (known_with p (new_file name assigned bytes)) ≤ p.limits.props) where
+module _ (p q : Kept) (slot : ℕ) (name : List ℕ) (assigned : List (List ℕ)) (bytes : List ℕ) (form : AreInForm p) (r : Replaced slot (new_file name assigned bytes) p q) where
   abbrev d : Kept
-  d = left p q slot name assigned bytes form r room
+  d = left p q slot name assigned bytes form r
 
   abbrev before : List ℕ
   before = numbers_at p.ext slot
@@ -91,7 +90,7 @@ module _ (p q : Kept) (slot : ℕ) (name : List ℕ) (assigned : List (List ℕ)
   changed = length (numbers_where p.ext.props (differs before numbers))
 
   ext_before : r.comes.filed.ext ≡ p.ext
-  ext_before = ap (λ (x : Kept). x.ext) (filed_is d r.described name assigned bytes r.form_vacated (admitted p q slot name assigned bytes form r room) r.comes)
+  ext_before = ap (λ (x : Kept). x.ext) (filed_is d r.described name assigned bytes r.form_vacated (coming p q slot name assigned bytes form r) r.comes)
 
   was : before ≡ numbers_at r.comes.filed.ext r.comes.slot
   was = ap₂ (λ (e : Ext) (i : ℕ). numbers_at e i) (sym ext_before) (sym r.here)
@@ -150,13 +149,13 @@ module _ (p q : Kept) (slot : ℕ) (name : List ℕ) (assigned : List (List ℕ)
 
   pub few_edits : q.ext.edits ≤ p.ext.edits + differing_bits p.ext q.ext
   few_edits =
-      let adm = admitted p q slot name assigned bytes form r room in
+      let adm = coming p q slot name assigned bytes form r in
       let made = subst (λ (e : Ext). r.described.ext.edits ≤ e.edits + length (numbers_where e.props (differs before numbers))) ext_before (r.comes.describes.edits before was) in
       let slot_in : slot < length p.ext.sets = omega (arith, slot_below p slot r.rec form r.may.there, form.sound.files) in
       let f : ℕ → ℕ = λ at. length (numbers_where p.ext.props (differs (numbers_at p.ext at) (numbers_at q.ext at))) in
       let one = sum_has f (range_with_len 0 (length p.ext.sets)) slot (range_among 0 (length p.ext.sets) slot (omega arith) (omega (arith, slot_in))) in
       let ext_is : q.ext ≡ r.described.ext = ap (λ (x : Kept). x.ext) r.forgets.parts in
-      let last_ext : q.ext ≡ (last p q slot name assigned bytes form r room).ext = ap (λ (x : Kept). x.ext) (last_is p q slot name assigned bytes form r room) in
+      let last_ext : q.ext ≡ (last p q slot name assigned bytes form r).ext = ap (λ (x : Kept). x.ext) (last_is p q slot name assigned bytes form r) in
       let now : numbers_at q.ext slot ≡ numbers =
       ap₂ (λ (e : Ext) (i : ℕ). numbers_at e i) last_ext (sym r.here) ∙ set_here d r.described name assigned bytes r.form_vacated adm r.comes in
       let bits : f slot ≡ changed = ap (λ ns. length (numbers_where p.ext.props (differs before ns))) now in

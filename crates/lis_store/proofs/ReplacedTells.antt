@@ -29,7 +29,7 @@ use Rattle.lis_kept.specs.Changes.{Drops}
 use Rattle.lis_kept.proofs.Filing.{filed_rec, filed_slot, filed_at_slot, among_from_number, number_from_among}
 use Rattle.lis_kept.proofs.Known.{words_known}
 use Rattle.lis_store.specs.Saving.{IsReady}
-use Rattle.lis_store.specs.Admitting.{described_by, known_with}
+use Rattle.lis_store.specs.Admitting.{described_by}
 use Rattle.lis_store.specs.Adding.{numbers_named, learnt_words}
 use Rattle.lis_store.specs.ReplacingIn.{AreInForm}
 use Rattle.lis_store.proofs.Added.{end_is, filed_is, rec_here, set_here, set_other, has_other, word_stays, sound_end, used_had, has_here, described_numbered, new_not_taken, new_taken}
@@ -40,7 +40,7 @@ use Rattle.lis_store.proofs.Given.{given_taken}
 use Rattle.lis_store.proofs.Marks.{taken_after}
 use Rattle.lis_store.proofs.Naming.{named_told}
 use Rattle.lis_store.proofs.PutIn.{own_numbered}
-use Rattle.lis_store.proofs.Replaced.{Replaced, left, admitted, made, went, last, last_is, sound_last, used_last, form_last}
+use Rattle.lis_store.proofs.Replaced.{Replaced, left, coming, made, went, last, last_is, sound_last, used_last, form_last}
 use Rattle.lis_store.proofs.Told.{words_same}
 use Rattle.lis_store.proofs.Vacated.{vacated, name_vacant}
 
@@ -51,7 +51,7 @@ pub record ComesTold (file : File) (p q : Kept) (comes : ComesIn file p q) (at t
   pub saved : IsSaved comes.learnt at → IsSaved comes.filed there
 
 module _ (p q : Kept) (slot : ℕ) (name : List ℕ) (assigned : List (List ℕ)) (bytes : List ℕ) (form : AreInForm p) (r : Replaced slot (new_file name assigned bytes) p q)
-    (room : length (known_with p (new_file name assigned bytes)) ≤ p.limits.props) (after : AreSound q)
+    (after : AreSound q) (assignable : list_all (is_assignable (declared_of p)) assigned ≡ true)
     (at there : ℕ → List ℕ) (s : State) (tells : Tells p at s) (looks : ComesTold (new_file name assigned bytes) (vacated p slot r.rec) r.described r.comes at there) where
   abbrev file : File
   file = new_file name assigned bytes
@@ -63,13 +63,13 @@ module _ (p q : Kept) (slot : ℕ) (name : List ℕ) (assigned : List (List ℕ)
   t = file_replaced s r.rec.name file
 
   abbrev d : Kept
-  d = left p q slot name assigned bytes form r room
+  d = left p q slot name assigned bytes form r
 
   abbrev k : Kept
-  k = made p q slot name assigned bytes form r room
+  k = made p q slot name assigned bytes form r
 
   abbrev l : Kept
-  l = last p q slot name assigned bytes form r room
+  l = last p q slot name assigned bytes form r
 
   abbrev filed : Filed
   filed = record { slot = r.comes.slot; rec = r.comes.rec }
@@ -78,17 +78,17 @@ module _ (p q : Kept) (slot : ℕ) (name : List ℕ) (assigned : List (List ℕ)
   old = record { slot = slot; rec = r.rec }
 
   in_form : AreSound k
-  in_form = sound_end d r.described name assigned bytes r.form_vacated (admitted p q slot name assigned bytes form r room) r.comes r.form_described
+  in_form = sound_end d r.described name assigned bytes r.form_vacated (coming p q slot name assigned bytes form r) r.comes r.form_described
 
   sound : AreSound l
-  sound = sound_last p q slot name assigned bytes form r room after
+  sound = sound_last p q slot name assigned bytes form r after
 
   -- ---- the state
   tags_told : words_told k.dict r.comes.rec.tags ≡ assigned
   tags_told =
       ap (words_told k.dict) r.comes.tagged
       ∙ named_told k.dict in_form.dict assigned (sorted_from_rising word_cmp word_order assigned r.may.set) (λ word h.
-      own_numbered d r.form_vacated name assigned bytes (admitted p q slot name assigned bytes form r room) r.comes.learnt r.comes.learns word
+      own_numbered d r.form_vacated name assigned bytes (coming p q slot name assigned bytes form r) r.comes.learnt r.comes.learns word
       (has_word_from_among (learnt_words file) word (among_left assigned _ word (among_from_has_word assigned word h))))
 
   state_dropped : state_of d at ≡ file_removed (state_of p at) r.rec.name
@@ -96,7 +96,7 @@ module _ (p q : Kept) (slot : ℕ) (name : List ℕ) (assigned : List (List ℕ)
 
   state_then : state_of l there ≡ t
   state_then =
-      ap (λ (x : Kept). state_of x there) (sym (last_is p q slot name assigned bytes form r room))
+      ap (λ (x : Kept). state_of x there) (sym (last_is p q slot name assigned bytes form r))
       ∙ (r.forgets.state there
       ∙ (ap (λ (x : Kept). state_of x there) r.comes.describes.parts
       ∙ (looks.state
@@ -122,7 +122,7 @@ module _ (p q : Kept) (slot : ℕ) (name : List ℕ) (assigned : List (List ℕ)
   new_there =
       contains_from_among l.catalog.entries filed
       (filed_at_slot l.catalog sound.catalog r.comes.slot r.comes.rec
-      (rec_here d r.described name assigned bytes r.form_vacated (admitted p q slot name assigned bytes form r room) r.comes))
+      (rec_here d r.described name assigned bytes r.form_vacated (coming p q slot name assigned bytes form r) r.comes))
 
   old_there : (f : Filed) → Among d.catalog.entries f → Contains l.catalog.entries f
   old_there f m = contains_from_among l.catalog.entries f (insert_key_old filed_cmp d.catalog.entries filed f m)
@@ -144,7 +144,7 @@ module _ (p q : Kept) (slot : ℕ) (name : List ℕ) (assigned : List (List ℕ)
 
   stayed_name : (f : Filed) → Among d.catalog.entries f → f.rec.name ≡ name → ⊥
   stayed_name f m same =
-      both_ways (is_some (slot_of d.catalog name)) (ap is_some (name_vacant p slot r.rec form r.may.there file r.may room r.form_vacated))
+      both_ways (is_some (slot_of d.catalog name)) (ap is_some (name_vacant p slot r.rec form r.may.there file r.may))
       (ap is_some (ap (slot_of d.catalog) (sym same) ∙ filed_slot d.catalog r.form_vacated.catalog f m))
 
   -- a file of the state without the old one is that of a record that stayed
@@ -190,24 +190,24 @@ module _ (p q : Kept) (slot : ℕ) (name : List ℕ) (assigned : List (List ℕ)
 
   -- ---- descriptions
   word_then : (n : ℕ) → is_used k n ≡ true → word_of l.dict n ≡ word_of k.dict n
-  word_then = used_word_stays (numbers_at p.ext slot) k q (went p q slot name assigned bytes form r room)
+  word_then = used_word_stays (numbers_at p.ext slot) k q (went p q slot name assigned bytes form r)
 
   described_new : words_told l.dict (numbers_at l.ext r.comes.slot) ≡ description t (told_then filed)
   described_new =
       let ns = numbers_named k.dict (described_by d file) in
-      ap (words_told l.dict) (set_here d r.described name assigned bytes r.form_vacated (admitted p q slot name assigned bytes form r room) r.comes)
+      ap (words_told l.dict) (set_here d r.described name assigned bytes r.form_vacated (coming p q slot name assigned bytes form r) r.comes)
       ∙ (words_same k.dict l.dict ns (λ n m.
       word_then n
-      (used_had d r.described name assigned bytes r.form_vacated (admitted p q slot name assigned bytes form r room) r.comes r.form_described n r.comes.slot
-      (ap (λ (xs : List ℕ). has_number xs n) (set_here d r.described name assigned bytes r.form_vacated (admitted p q slot name assigned bytes form r room) r.comes) ∙ number_from_among ns n m)))
+      (used_had d r.described name assigned bytes r.form_vacated (coming p q slot name assigned bytes form r) r.comes r.form_described n r.comes.slot
+      (ap (λ (xs : List ℕ). has_number xs n) (set_here d r.described name assigned bytes r.form_vacated (coming p q slot name assigned bytes form r) r.comes) ∙ number_from_among ns n m)))
       ∙ (named_told k.dict in_form.dict (described_by d file) (sorted_set_of (flat_map (up (declared_of p) (axioms_of p)) (own_words (declared_of p) file)))
-      (described_numbered d r.described name assigned bytes r.form_vacated (admitted p q slot name assigned bytes form r room) r.comes r.form_described)
+      (described_numbered d r.described name assigned bytes r.form_vacated (coming p q slot name assigned bytes form r) r.comes r.form_described)
       ∙ (ap (λ (x : State). description x file) tells.state ∙ ap (description s) (sym told_new))))
 
   described_old : (g : Filed) → Among d.catalog.entries g → words_told l.dict (numbers_at l.ext g.slot) ≡ description t (told_then g)
   described_old g of =
       let ns = numbers_at p.ext g.slot in
-      let adm = admitted p q slot name assigned bytes form r room in
+      let adm = coming p q slot name assigned bytes form r in
       let differ = stayed_slot g of in
       ap (words_told l.dict) (set_other d r.described name assigned bytes r.form_vacated adm r.comes g.slot differ)
       ∙ (words_same p.dict l.dict ns (λ n m.
@@ -225,7 +225,7 @@ module _ (p q : Kept) (slot : ℕ) (name : List ℕ) (assigned : List (List ℕ)
 
   -- ---- data blocks
   new_blocks_free : (n : ℕ) → has_number r.comes.rec.blocks n ≡ true → (n < length d.taken) × (is_taken d.taken n ≡ false)
-  new_blocks_free = new_not_taken d r.described name assigned bytes r.form_vacated (admitted p q slot name assigned bytes form r room) r.comes
+  new_blocks_free = new_not_taken d r.described name assigned bytes r.form_vacated (coming p q slot name assigned bytes form r) r.comes
 
   taken_then : (n : ℕ) → n < l.limits.blocks → is_taken l.taken n ≡ true → IsFileBlock l there n
   taken_then n lt is = by (or_cases (has_number r.comes.rec.blocks n) (is_taken d.taken n) (sym (taken_after d.taken r.comes.rec.blocks n (omega (arith, lt, r.form_vacated.blocks))) ∙ is))
@@ -257,7 +257,7 @@ module _ (p q : Kept) (slot : ℕ) (name : List ℕ) (assigned : List (List ℕ)
       of_new here = (
         omega (arith, (new_blocks_free n here).0, r.form_vacated.blocks),
         all_among (is_taken l.taken) r.comes.rec.blocks n
-        (new_taken d r.described name assigned bytes r.form_vacated (admitted p q slot name assigned bytes form r room) r.comes) (among_from_number r.comes.rec.blocks n here),
+        (new_taken d r.described name assigned bytes r.form_vacated (coming p q slot name assigned bytes form r) r.comes) (among_from_number r.comes.rec.blocks n here),
       )
 
       by : (filed ≡ f) ⊎ Among d.catalog.entries f → (n < l.limits.blocks) × (is_taken l.taken n ≡ true)
@@ -285,7 +285,7 @@ module _ (p q : Kept) (slot : ℕ) (name : List ℕ) (assigned : List (List ℕ)
     known_then : length (known t) ≤ s.limits.props
     known_then =
         let D : State → Type 0 = λ x. (f : Filed) → Contains l.catalog.entries f → words_told l.dict (numbers_at l.ext f.slot) ≡ description x (told_then f) in
-        let words_are = words_known l sound (form_last p q slot name assigned bytes form r room after).free there (used_last p q slot name assigned bytes form r room after)
+        let words_are = words_known l sound (form_last p q slot name assigned bytes form r after).free there (used_last p q slot name assigned bytes form r after)
         (subst D (sym state_then) described_then) in
         omega (
           arith,
@@ -301,7 +301,7 @@ module _ (p q : Kept) (slot : ℕ) (name : List ℕ) (assigned : List (List ℕ)
     fits = record {
       name = r.may.name;
       assigned_set = r.may.set;
-      assigned = subst (λ (x : State). list_all (is_assignable x.declared) assigned ≡ true) tells.state r.may.assignable;
+      assigned = subst (λ (x : State). list_all (is_assignable x.declared) assigned ≡ true) tells.state assignable;
       few_assigned = r.may.few;
       few_words = subst (λ (x : State). length (description x file) ≤ 128) tells.state r.may.short;
       short = subst (λ v. length bytes ≤ file_limit v) (sym version) r.may.small;
@@ -322,7 +322,7 @@ module _ (p q : Kept) (slot : ℕ) (name : List ℕ) (assigned : List (List ℕ)
       super = looks.super ∙ tells.super;
       state = state_then;
       formed = forms.replaces_file s tells.formed (told old) file (file_of_filed p at s form.sound form.free tells old old_filed) fits;
-      used = used_last p q slot name assigned bytes form r room after;
+      used = used_last p q slot name assigned bytes form r after;
       described = described_then;
       taken = taken_then;
       given = given_then;
@@ -331,11 +331,11 @@ module _ (p q : Kept) (slot : ℕ) (name : List ℕ) (assigned : List (List ℕ)
 
     pub ready_replaced : IsSaved p at → IsReady q there t
     ready_replaced saved =
-        let adm = admitted p q slot name assigned bytes form r room in
+        let adm = coming p q slot name assigned bytes form r in
         let ext_is : r.comes.filed.ext ≡ p.ext = ap (λ (x : Kept). x.ext) (filed_is d r.described name assigned bytes r.form_vacated adm r.comes) in
         let was : numbers_at p.ext slot ≡ numbers_at r.comes.filed.ext r.comes.slot = ap₂ (λ (e : Ext) (i : ℕ). numbers_at e i) (sym ext_is) (sym r.here) in
         let dropped = subst (λ (x : Kept). IsSaved x at) r.drops.parts (r.drops.marks.saved at saved) in
         record {
-          tells = subst (λ (x : Kept). Tells x there t) (sym (last_is p q slot name assigned bytes form r room)) tells_last;
+          tells = subst (λ (x : Kept). Tells x there t) (sym (last_is p q slot name assigned bytes form r)) tells_last;
           saved = r.forgets.marks.saved there ((r.comes.describes.marks (numbers_at p.ext slot) was).saved there (looks.saved (r.comes.learns.marks.saved at dropped)));
         }

@@ -20,33 +20,32 @@ use Rattle.lis_kept.proofs.Filing.{number_from_among}
 use Rattle.lis_laws.proofs.Counts.{all_from, all_among}
 use Rattle.lis_store.proofs.Given.{given_taken}
 use Rattle.lis_kept.specs.Changes.{Drops}
-use Rattle.lis_store.specs.Admitting.{described_by, IsAdmitted}
-use Rattle.lis_store.specs.Replacing.{MayReplace}
-use Rattle.lis_store.specs.ReplacingIn.{AreInForm, MayReplaceFirst, LearnsOwn}
+use Rattle.lis_store.specs.Admitting.{described_by}
+use Rattle.lis_store.specs.ReplacingIn.{AreInForm, MayComeIn, MayReplaceFirst, LearnsOwn}
 use Rattle.lis_store.proofs.PutIn.{named_tags, named_rising, named_worded}
-use Rattle.lis_store.proofs.Vacated.{vacated, slot_below, slot_vacant, name_vacant, taken_others, admitted_then}
+use Rattle.lis_store.proofs.Vacated.{vacated, slot_below, slot_vacant, name_vacant, taken_others, come_vacated, blocks_vacated}
 
 -- a file is in the slot
-pub may_some : (p : Kept) (slot : ℕ) (file : File) → MayReplaceFirst p slot file → IsSome (rec_at p.catalog slot)
-may_some p slot file first = by (rec_at p.catalog slot) first.may
+pub may_some : (p : Kept) (slot : ℕ) (file : File) → IsSomeAnd (rec_at p.catalog slot) (λ (x : FileRecord). MayReplaceFirst p slot x file) → IsSome (rec_at p.catalog slot)
+may_some p slot file first = by (rec_at p.catalog slot) first
   where
-    by : (o : Option FileRecord) → IsSomeAnd o (λ (x : FileRecord). MayReplace p slot x file) → IsSome o
+    by : (o : Option FileRecord) → IsSomeAnd o (λ (x : FileRecord). MayReplaceFirst p slot x file) → IsSome o
     by None may = absurd may
     by (Some x) may = refl
 
-module _ (p dropped : Kept) (slot : ℕ) (name : List ℕ) (assigned : List (List ℕ)) (bytes : List ℕ) (rec : FileRecord) (form : AreInForm p) (first : MayReplaceFirst p slot (new_file name assigned bytes))
+module _ (p dropped : Kept) (slot : ℕ) (name : List ℕ) (assigned : List (List ℕ)) (bytes : List ℕ) (rec : FileRecord) (form : AreInForm p) (first : IsSomeAnd (rec_at p.catalog slot) (λ (x : FileRecord). MayReplaceFirst p slot x (new_file name assigned bytes)))
     (drops : Drops slot rec p dropped) (sound : AreSound dropped) where
-  pub may_rec : MayReplace p slot rec (new_file name assigned bytes)
-  may_rec = subst (λ o. IsSomeAnd o (λ (x : FileRecord). MayReplace p slot x (new_file name assigned bytes))) drops.there first.may
+  pub may_rec : MayReplaceFirst p slot rec (new_file name assigned bytes)
+  may_rec = subst (λ o. IsSomeAnd o (λ (x : FileRecord). MayReplaceFirst p slot x (new_file name assigned bytes))) drops.there first
 
   pub form_vacated : AreSound (vacated p slot rec)
   form_vacated = subst (λ (x : Kept). AreSound x) drops.parts sound
 
-  pub admitted_vacated : IsAdmitted (vacated p slot rec) (new_file name assigned bytes)
-  admitted_vacated = admitted_then p slot rec form drops.there (new_file name assigned bytes) may_rec first.room form_vacated
+  pub coming_vacated : MayComeIn (vacated p slot rec) (new_file name assigned bytes)
+  coming_vacated = come_vacated p slot rec form drops.there (new_file name assigned bytes) may_rec
 
-  pub admitted_dropped : IsAdmitted dropped (new_file name assigned bytes)
-  admitted_dropped = subst (λ (x : Kept). IsAdmitted x (new_file name assigned bytes)) (sym drops.parts) admitted_vacated
+  pub coming_dropped : MayComeIn dropped (new_file name assigned bytes)
+  coming_dropped = subst (λ (x : Kept). MayComeIn x (new_file name assigned bytes)) (sym drops.parts) coming_vacated
 
   module _ (l : Kept) (tags numbers : List ℕ) (learns : LearnsOwn (new_file name assigned bytes) tags numbers dropped l) where
     abbrev learnt : Kept
@@ -62,7 +61,7 @@ module _ (p dropped : Kept) (slot : ℕ) (name : List ℕ) (assigned : List (Lis
     free_learnt = ap (λ (x : Kept). rec_at x.catalog slot) learnt_is ∙ slot_vacant p slot rec form drops.there
 
     pub name_learnt : slot_of l.catalog name ≡ None
-    name_learnt = ap (λ (x : Kept). slot_of x.catalog name) learnt_is ∙ name_vacant p slot rec form drops.there (new_file name assigned bytes) may_rec first.room form_vacated
+    name_learnt = ap (λ (x : Kept). slot_of x.catalog name) learnt_is ∙ name_vacant p slot rec form drops.there (new_file name assigned bytes) may_rec
 
     pub tags_formed : are_tags tags ≡ true
     tags_formed = ap are_tags learns.tagged ∙ named_tags l learns.sound assigned may_rec.few
@@ -71,7 +70,7 @@ module _ (p dropped : Kept) (slot : ℕ) (name : List ℕ) (assigned : List (Lis
     tags_worded = ap (list_all (λ n. is_some (word_of l.dict n))) learns.tagged ∙ named_worded l learns.sound assigned
 
     pub blocks_enough : blocks_needed (length bytes) ≤ free_count l.taken
-    blocks_enough = omega (arith, admitted_vacated.blocks, ap (λ (x : Kept). free_count x.taken) learnt_is)
+    blocks_enough = omega (arith, blocks_vacated p slot rec form drops.there (new_file name assigned bytes) may_rec, ap (λ (x : Kept). free_count x.taken) learnt_is)
 
     pub taken_learnt : BlocksAreTaken l
     taken_learnt = subst (λ (x : Kept). BlocksAreTaken x) (sym learnt_is) (taken_others p slot rec form drops.there)

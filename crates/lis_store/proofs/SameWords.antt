@@ -18,17 +18,13 @@ use Rattle.lis_kept.specs.Telling.{words_told, declared_of, axioms_of}
 use Rattle.lis_kept.proofs.Filing.{filed_at_slot}
 use Rattle.lis_kept.proofs.Known.{word_known, only_word}
 use Rattle.lis_store.specs.Admitting.{described_by, known_with}
-use Rattle.lis_store.specs.Replacing.{words_without, MayReplace}
+use Rattle.lis_store.specs.ReplacingIn.{MayReplaceFirst}
 use Rattle.lis_store.proofs.Entailment.{up_has_number}
 use Rattle.lis_store.proofs.Facts.{blocks_counted, size_is_short}
+use Rattle.lis_store.proofs.InsteadRows.{any_bytes}
 use Rattle.lis_store.proofs.Measured.{own_given}
 
 module _ (k : Kept) (sound : AreSound k) where
-  -- nothing is derived from bytes yet
-  pub described_alike : (name : List ℕ) (assigned : List (List ℕ)) (bytes more : List ℕ) → described_by k (new_file name assigned bytes) ≡ described_by k (new_file name assigned more)
-  described_alike name assigned bytes more =
-      ap (all_up (declared_of k) (axioms_of k)) (own_given k sound (new_file name assigned bytes) ∙ sym (own_given k sound (new_file name assigned more)))
-
   -- the words of numbers have numbers
   told_known : (tags : List ℕ) (word : List ℕ) → Among (words_told k.dict tags) word → (n : ℕ) × (word_of k.dict n ≡ Some word)
   told_known tags word m =
@@ -64,21 +60,16 @@ module _ (k : Kept) (sound : AreSound k) where
 
   -- the bytes of the file stay in their blocks
   pub other_bytes : (slot : ℕ) (rec : FileRecord) (name : List ℕ) (assigned : List (List ℕ)) (bytes more : List ℕ) → length more ≡ rec.size
-      → MayReplace k slot rec (new_file name assigned bytes) → MayReplace k slot rec (new_file name assigned more)
+      → MayReplaceFirst k slot rec (new_file name assigned bytes) → MayReplaceFirst k slot rec (new_file name assigned more)
   other_bytes slot rec name assigned bytes more size may = record {
     there = may.there;
     name = may.name;
     new = may.new;
     set = may.set;
-    assignable = may.assignable;
+    learnable = may.learnable;
     few = may.few;
-    short = omega (arith, ap (λ (ws : List (List ℕ)). length ws) (described_alike name assigned more bytes), may.short);
-    room = omega (arith, ap (λ (ws : List (List ℕ)). length (with_words (words_without k slot) ws)) (described_alike name assigned more bytes), may.room);
+    short = omega (arith, ap (λ (ws : List (List ℕ)). length ws) (any_bytes k sound name assigned more bytes), may.short);
+    room = omega (arith, ap (λ (ws : List (List ℕ)). length (with_words (words k.dict) ws)) (any_bytes k sound name assigned more bytes), may.room);
     small = omega (arith, size, size_is_short k sound (record { slot = slot; rec = rec }) (filed_at_slot k.catalog sound.catalog slot rec may.there));
     blocks = omega (arith, ap blocks_needed size, blocks_counted k sound (record { slot = slot; rec = rec }) (filed_at_slot k.catalog sound.catalog slot rec may.there));
   }
-
-  pub other_room : (name : List ℕ) (assigned : List (List ℕ)) (bytes more : List ℕ) → length (known_with k (new_file name assigned bytes)) ≤ k.limits.props
-      → length (known_with k (new_file name assigned more)) ≤ k.limits.props
-  other_room name assigned bytes more room =
-      omega (arith, ap (λ (ws : List (List ℕ)). length (with_words (words k.dict) ws)) (described_alike name assigned more bytes), room)

@@ -12,20 +12,17 @@ use Rattle.lis_ext.specs.Ext.{has}
 use Rattle.lis_fields.specs.Records.{FileRecord}
 use Rattle.lis_words.specs.Words.{same_word}
 use Rattle.lis_model.specs.Image.{bitmap_start}
-use Rattle.lis_model.specs.State.{File}
+use Rattle.lis_model.specs.State.{File, blocks_needed}
 use Rattle.lis_laws.proofs.Counts.{all_from}
 use Rattle.lis_laws.proofs.Members.{same_word_decides}
 use Rattle.lis_kept.specs.Kept.{Kept}
 use Rattle.lis_kept.specs.Areas.{block_of}
 use Rattle.lis_kept.specs.Areas.Area.{Files}
-use Rattle.lis_kept.specs.Sound.{AreSound, BlocksAreTaken}
+use Rattle.lis_kept.specs.Sound.{BlocksAreTaken}
 use Rattle.lis_kept.proofs.Dropped.{blocks_apart, file_slot_below}
 use Rattle.lis_kept.proofs.Filing.{number_from_among}
-use Rattle.lis_kept.proofs.Refiled.{room_for_file}
 use Rattle.lis_store.specs.Stored.{BlocksAreApart}
-use Rattle.lis_store.specs.Admitting.{known_with, IsAdmitted}
-use Rattle.lis_store.specs.Replacing.{MayReplace}
-use Rattle.lis_store.specs.ReplacingIn.{AreInForm}
+use Rattle.lis_store.specs.ReplacingIn.{AreInForm, MayComeIn, MayReplaceFirst}
 
 -- ---- blocks that are given back are free
 one_more_free : (taken : List Bool) (n : ℕ) → is_taken taken n ≡ true → free_count (set taken n false) ≡ free_count taken + 1
@@ -85,10 +82,10 @@ module _ (p : Kept) (slot : ℕ) (rec : FileRecord) (form : AreInForm p) (there 
   pub apart_others : BlocksAreApart d
   apart_others at other r more n is_r is_more has_r has_more = form.apart at other r more n (rec_before at r is_r).1 (rec_before other more is_more).1 has_r has_more
 
-  pub free_blocks : free_count d.taken ≡ free_count p.taken + length rec.blocks
+  free_blocks : free_count d.taken ≡ free_count p.taken + length rec.blocks
   free_blocks = free_after_given p.taken rec.blocks (blocks_apart p form.sound slot rec there) (form.taken slot rec there)
 
-  module _ (file : File) (may : MayReplace p slot rec file) (room : length (known_with p file) ≤ p.limits.props) (sound : AreSound d) where
+  module _ (file : File) (may : MayReplaceFirst p slot rec file) where
     pub name_vacant : slot_of d.catalog file.name ≡ None
     name_vacant = slot_of-without_slot p.catalog slot file.name form.sound.catalog ∙ by (same_word file.name rec.name) refl
       where
@@ -99,20 +96,9 @@ module _ (p : Kept) (slot : ℕ) (rec : FileRecord) (form : AreInForm p) (there 
         by false other =
             filtered_none slot (slot_of p.catalog file.name) (may.new (λ same. both_ways (same_word file.name rec.name) other ((same_word_decides file.name rec.name).1 same)))
 
-    below_files : slot < d.catalog.files
-    below_files = omega (arith, slot_below, form.sound.slots)
+    -- its words may be learnt then, and its name is new
+    pub come_vacated : MayComeIn d file
+    come_vacated = record { new = name_vacant; learnable = may.learnable; few = may.few; short = may.short; room = may.room }
 
-    -- it may come as a new file
-    pub admitted_then : IsAdmitted d file
-    admitted_then = record {
-      name = may.name;
-      new = name_vacant;
-      set = may.set;
-      assignable = may.assignable;
-      few = may.few;
-      slots = omega (arith, room_for_file d.catalog sound.catalog slot (record rec { name = file.name }) name_vacant below_files slot_vacant, form.sound.slots);
-      short = may.short;
-      room = room;
-      small = may.small;
-      blocks = omega (arith, may.blocks, free_blocks);
-    }
+    pub blocks_vacated : blocks_needed (length file.bytes) ≤ free_count d.taken
+    blocks_vacated = omega (arith, may.blocks, free_blocks)

@@ -1,12 +1,13 @@
 //! Files that take the place of others.
 
-ghost use Rattle.std.specs.Prelude.{◌≡◌, ℕ, ◌*◌, ◌≤◌, false, []};
+ghost use Rattle.std.specs.Prelude.{◌≡◌, ℕ, ◌*◌, ◌≤◌, false, [], IsSomeAnd};
+ghost use Rattle.lis_catalog.specs.Catalog.{rec_at};
+ghost use Rattle.lis_fields.specs.Records.{FileRecord};
 ghost use Rattle.lis_model.specs.Image.{image_blocks};
 ghost use Rattle.lis_model.specs.Changes.{new_file};
 ghost use Rattle.lis_eval.specs.Room.{HasRoom};
 ghost use Rattle.lis_kept.specs.Sound.{AreSound};
-ghost use Rattle.lis_store.specs.Admitting.{IsAdmitted};
-ghost use Rattle.lis_store.specs.ReplacingIn.{AreInForm, MayReplaceFirst, LearnsOwn, Overwrites, RefilesIn};
+ghost use Rattle.lis_store.specs.ReplacingIn.{AreInForm, MayComeIn, MayReplaceFirst, LearnsOwn, Overwrites, RefilesIn};
 
 use crate::adding::{learn_words, numbers_entailed, numbers_of};
 use crate::derived::derived;
@@ -42,7 +43,7 @@ fn learn_own(
     payload: &[u8],
 ) -> Numbers
     requires sound { AreSound parts.old }
-    requires admitted { IsAdmitted parts.old (new_file name.now assigned.now payload.now) }
+    requires may { MayComeIn parts.old (new_file name.now assigned.now payload.now) }
     requires scratch { HasRoom scratch.old parts.old.limits }
     ensures scratch { HasRoom scratch.new parts.old.limits }
     ensures learnt { LearnsOwn (new_file name.now assigned.now payload.now) result.tags.items result.all.items parts.old parts.new }
@@ -67,7 +68,8 @@ pub(crate) fn overwrite<D: Disk>(
     payload: &[u8],
 )
     requires form { AreInForm parts.old }
-    requires may { MayReplaceFirst parts.old slot (new_file name.now assigned.now payload.now) }
+    requires may { IsSomeAnd (rec_at parts.old.catalog slot)
+        (λ (rec : FileRecord). MayReplaceFirst parts.old slot rec (new_file name.now assigned.now payload.now)) }
     requires image { journal.old.blocks ≡ image_blocks parts.old.limits }
     requires unbroken { journal.old.is_broken ≡ false }
     requires unplaced { journal.old.placed ≡ [] }
@@ -97,7 +99,8 @@ pub(crate) fn refile(
     assigned: &[Word],
 )
     requires form { AreInForm parts.old }
-    requires may { MayReplaceFirst parts.old slot (new_file name.now assigned.now []) }
+    requires may { IsSomeAnd (rec_at parts.old.catalog slot)
+        (λ (rec : FileRecord). MayReplaceFirst parts.old slot rec (new_file name.now assigned.now [])) }
     requires scratch { HasRoom scratch.old parts.old.limits }
     ensures scratch { HasRoom scratch.new parts.old.limits }
     ensures refiled { RefilesIn slot (new_file name.now assigned.now []) parts.old parts.new }

@@ -11,7 +11,7 @@ use Rattle.lis_kept.specs.Forgetting.{MayForget}
 use Rattle.lis_store.specs.Adding.{PutsIn}
 use Rattle.lis_store.proofs.Coming.{comes_in, comes_over}
 use Rattle.lis_store.proofs.Replaced.{may_forget}
-use Rattle.lis_store.proofs.ReplacingIn.{may_some, form_vacated, admitted_vacated, admitted_dropped, below_learnt, free_learnt, name_learnt, tags_formed, tags_worded, blocks_enough, taken_learnt, numbers_rising, numbers_worded}
+use Rattle.lis_store.proofs.ReplacingIn.{may_some, form_vacated, coming_vacated, coming_dropped, below_learnt, free_learnt, name_learnt, tags_formed, tags_worded, blocks_enough, taken_learnt, numbers_rising, numbers_worded}
 use Rattle.lis_store.proofs.Vacated.{vacated}
 use Rattle.lis_store.proofs.replacing.overwrite.Goals as goal
 
@@ -20,9 +20,9 @@ numbers_at-old-requires-clause-slot g c =
     let sound = c.requires.form.sound in
     omega (arith, slot_is_below c.args.parts.now.catalog c.args.slot sound.catalog (may_some c.args.parts.now c.args.slot (new_file c.args.name.now c.args.assigned.now c.args.payload.now) c.requires.may), sound.slots, sound.files, ap (λ (e : Ext). length e.sets) c.ext.ensures)
 
-pub learn_own-numbers-requires-clause-admitted : goal.learn_own-numbers-requires-clause-admitted
-learn_own-numbers-requires-clause-admitted g c =
-    admitted_dropped c.args.parts.now c.drop_file.new.self c.args.slot c.args.name.now c.args.assigned.now c.args.payload.now c.drop_file.result c.requires.form c.requires.may c.drop_file.ensures c.note_form.ensures
+pub learn_own-numbers-requires-clause-may : goal.learn_own-numbers-requires-clause-may
+learn_own-numbers-requires-clause-may g c =
+    coming_dropped c.args.parts.now c.drop_file.new.self c.args.slot c.args.name.now c.args.assigned.now c.args.payload.now c.drop_file.result c.requires.form c.requires.may c.drop_file.ensures c.note_form.ensures
 
 pub add_file_at-requires-clause-below : goal.add_file_at-requires-clause-below
 add_file_at-requires-clause-below g c =
@@ -87,7 +87,7 @@ forget_unused-requires g c =
     let comes = comes_over file d (vacated p c.args.slot c.drop_file.result) e c.drop_file.ensures.parts (comes_in file d e c.args.journal.now c.add_file_at.new.journal puts) in
     subst (λ ns. MayForget ns e) (sym here)
     (may_forget p e c.args.slot c.drop_file.result c.args.name.now c.args.assigned.now c.args.payload.now c.requires.form c.drop_file.ensures.there
-    (form_vacated c.args.parts.now c.drop_file.new.self c.args.slot c.args.name.now c.args.assigned.now c.args.payload.now c.drop_file.result c.requires.form c.requires.may c.drop_file.ensures c.note_form.ensures) (admitted_vacated c.args.parts.now c.drop_file.new.self c.args.slot c.args.name.now c.args.assigned.now c.args.payload.now c.drop_file.result c.requires.form c.requires.may c.drop_file.ensures c.note_form.ensures) comes refl c.note_form-2.ensures)
+    (form_vacated c.args.parts.now c.drop_file.new.self c.args.slot c.args.name.now c.args.assigned.now c.args.payload.now c.drop_file.result c.requires.form c.requires.may c.drop_file.ensures c.note_form.ensures) (coming_vacated c.args.parts.now c.drop_file.new.self c.args.slot c.args.name.now c.args.assigned.now c.args.payload.now c.drop_file.result c.requires.form c.requires.may c.drop_file.ensures c.note_form.ensures) comes refl c.note_form-2.ensures)
 
 pub returns-clause-overwritten : goal.returns-clause-overwritten
 returns-clause-overwritten g c =

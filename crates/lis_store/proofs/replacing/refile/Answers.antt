@@ -17,7 +17,7 @@ use Rattle.lis_store.specs.Admitting.{described_by}
 use Rattle.lis_store.specs.Adding.{numbers_named}
 use Rattle.lis_store.proofs.Coming.{comes_again, comes_over}
 use Rattle.lis_store.proofs.Replaced.{may_forget}
-use Rattle.lis_store.proofs.ReplacingIn.{may_some, form_vacated, admitted_vacated, admitted_dropped, below_learnt, free_learnt, name_learnt, record_sound, blocks_free, numbers_rising, numbers_worded}
+use Rattle.lis_store.proofs.ReplacingIn.{may_some, form_vacated, coming_vacated, coming_dropped, below_learnt, free_learnt, name_learnt, record_sound, blocks_free, numbers_rising, numbers_worded}
 use Rattle.lis_store.proofs.Vacated.{vacated}
 use Rattle.lis_store.proofs.replacing.refile.Goals as goal
 
@@ -26,9 +26,9 @@ numbers_at-old-requires-clause-slot c =
     let sound = c.requires.form.sound in
     omega (arith, slot_is_below c.args.parts.now.catalog c.args.slot sound.catalog (may_some c.args.parts.now c.args.slot (new_file c.args.name.now c.args.assigned.now []) c.requires.may), sound.slots, sound.files, ap (λ (e : Ext). length e.sets) c.ext.ensures)
 
-pub learn_own-numbers-requires-clause-admitted : goal.learn_own-numbers-requires-clause-admitted
-learn_own-numbers-requires-clause-admitted c =
-    admitted_dropped c.args.parts.now c.drop_file-rec.new.self c.args.slot c.args.name.now c.args.assigned.now [] c.drop_file-rec.result c.requires.form c.requires.may c.drop_file-rec.ensures c.note_form.ensures
+pub learn_own-numbers-requires-clause-may : goal.learn_own-numbers-requires-clause-may
+learn_own-numbers-requires-clause-may c =
+    coming_dropped c.args.parts.now c.drop_file-rec.new.self c.args.slot c.args.name.now c.args.assigned.now [] c.drop_file-rec.result c.requires.form c.requires.may c.drop_file-rec.ensures c.note_form.ensures
 
 pub refile-requires-clause-below : goal.refile-requires-clause-below
 refile-requires-clause-below c =
@@ -88,7 +88,7 @@ forget_unused-requires c =
     (blocks_free c.args.parts.now c.drop_file-rec.new.self c.args.slot c.args.name.now c.args.assigned.now [] c.drop_file-rec.result c.requires.form c.requires.may c.drop_file-rec.ensures c.note_form.ensures c.learn_own-numbers.new.parts c.learn_own-numbers.result.tags.items c.learn_own-numbers.result.all.items c.learn_own-numbers.ensures.learnt) refiles describes) in
     subst (λ ns. MayForget ns e) (sym here)
     (may_forget p e c.args.slot rec c.args.name.now c.args.assigned.now [] c.requires.form c.drop_file-rec.ensures.there
-    (form_vacated c.args.parts.now c.drop_file-rec.new.self c.args.slot c.args.name.now c.args.assigned.now [] c.drop_file-rec.result c.requires.form c.requires.may c.drop_file-rec.ensures c.note_form.ensures) (admitted_vacated c.args.parts.now c.drop_file-rec.new.self c.args.slot c.args.name.now c.args.assigned.now [] c.drop_file-rec.result c.requires.form c.requires.may c.drop_file-rec.ensures c.note_form.ensures) comes refl c.note_form-2.ensures)
+    (form_vacated c.args.parts.now c.drop_file-rec.new.self c.args.slot c.args.name.now c.args.assigned.now [] c.drop_file-rec.result c.requires.form c.requires.may c.drop_file-rec.ensures c.note_form.ensures) (coming_vacated c.args.parts.now c.drop_file-rec.new.self c.args.slot c.args.name.now c.args.assigned.now [] c.drop_file-rec.result c.requires.form c.requires.may c.drop_file-rec.ensures c.note_form.ensures) comes refl c.note_form-2.ensures)
 
 pub returns-clause-refiled : goal.returns-clause-refiled
 returns-clause-refiled c =
