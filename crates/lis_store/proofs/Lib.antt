@@ -50,3 +50,4 @@ pub mod InsteadMeasured
 pub mod InsteadGiven
 pub mod InsteadRows
 pub mod InsteadTold
+pub mod WriteFile

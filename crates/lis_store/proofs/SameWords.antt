@@ -26,7 +26,7 @@ use Rattle.lis_store.proofs.Measured.{own_given}
 
 module _ (k : Kept) (sound : AreSound k) where
   -- the words of numbers have numbers
-  told_known : (tags : List ℕ) (word : List ℕ) → Among (words_told k.dict tags) word → (n : ℕ) × (word_of k.dict n ≡ Some word)
+  pub told_known : (tags : List ℕ) (word : List ℕ) → Among (words_told k.dict tags) word → (n : ℕ) × (word_of k.dict n ≡ Some word)
   told_known tags word m =
       let found = among_flat_map (λ n. option_to_list (word_of k.dict n)) tags word (among_set_of (flat_map (λ n. option_to_list (word_of k.dict n)) tags) word m) in
       (found.0, only_word (word_of k.dict found.0) word found.2)

@@ -1,0 +1,181 @@
+-- The calls that write and rename a file.
+use Rattle.std.proofs.Common.{◌≡◌, ◌≢◌, refl, sym, ap, ◌∙◌, subst, ℕ, ◌+◌, ◌≤◌, ◌==◌, nat_lt, nat_le, ◌&&◌, ◌||◌, not, cond, Bool, true, false, List, [], ◌∷◌, length, Option, Some, None, is_some, option_to_list, Result, Err, length-append, arith}
+use Rattle.std.specs.List.{flat_map, list_all}
+use Rattle.std.specs.BTreeSet.{insert_key}
+use Rattle.std.proofs.lemmas.Bool.{and_parts, or_left, both_ways, eqb-true, leb-true, ltb-false}
+use Rattle.lis_graph.specs.Graph.{is_rising, with_more}
+use Rattle.lis_ports.specs.Meaning.{Meaning}
+use Rattle.lis_blockmap.specs.Bitmap.{free_count}
+use Rattle.lis_dict.specs.Dict.{Dict, number_of, word_of}
+use Rattle.lis_dict.proofs.Laws.{number_from_word}
+use Rattle.lis_catalog.specs.Catalog.{slot_of, rec_at}
+use Rattle.lis_catalog.proofs.Laws.{rec_at-slot_of}
+use Rattle.lis_fields.specs.Records.{FileRecord}
+use Rattle.lis_fields.specs.Layouts.{is_super, is_record, are_tags, are_short, are_blocks}
+use Rattle.lis_words.specs.Words.{word_cmp, is_file_name, is_valued, is_built_in, head_bytes}
+use Rattle.lis_grammar.specs.Formula.{Formula}
+use Rattle.lis_model.specs.declared.refusal.Refusal.{Refusal}
+use Rattle.lis_model.specs.declared.refusal.Refusal.TheVariants.{NoFileHere, LargeFile}
+use Rattle.lis_model.specs.Ranges.{are_in_range}
+use Rattle.lis_model.specs.State.{State, File, file_limit, blocks_needed, blocks_taken, is_assignable}
+use Rattle.lis_model.specs.Changes.{new_file, file_of}
+use Rattle.lis_model.specs.Step.{Situation, Payload, write, rename}
+use Rattle.lis_laws.proofs.Counts.{all_among, all_from, insert_key_le, rising_from_sorted}
+use Rattle.lis_laws.proofs.Members.{word_order, sorted_set_of}
+use Rattle.lis_kept.specs.Kept.{Kept}
+use Rattle.lis_kept.specs.Sound.{AreSound}
+use Rattle.lis_kept.specs.Telling.{declared_of, words_told, file_told}
+use Rattle.lis_kept.proofs.Filing.{filed_at_slot}
+use Rattle.lis_kept.proofs.Refiled.{record_named}
+use Rattle.lis_store.specs.declared.change.Change.{Change}
+use Rattle.lis_store.specs.declared.change.Change.TheVariants.{Refused}
+use Rattle.lis_store.specs.Stored.{Stored, IsSound, StoreFits}
+use Rattle.lis_store.specs.Changes.{Changes, first_refusal}
+use Rattle.lis_store.specs.Judging.{is_among}
+use Rattle.lis_store.specs.Admitting.{described_by}
+use Rattle.lis_store.specs.Adding.{may_learn}
+use Rattle.lis_store.specs.Instead.{given_before, overwriting_checks, renaming_checks, write_checks_of, rename_checks_of}
+use Rattle.lis_store.specs.ReplacingIn.{MayReplaceFirst}
+use Rattle.lis_store.proofs.Facts.{filed_named, file_of_filed}
+use Rattle.lis_store.proofs.Here.{none_here}
+use Rattle.lis_store.proofs.InsteadTold.{write_refused, rename_refused}
+use Rattle.lis_store.proofs.Judged.{all_pass, change_refused}
+use Rattle.lis_store.proofs.SameWords.{told_known, same_words_room}
+
+-- ---- the words that a file was given
+more_le : (xs more : List (List ℕ)) → length (with_more word_cmp xs more) ≤ length xs + length more
+more_le xs [] = omega arith
+more_le xs (m ∷ more) = omega (arith, more_le (insert_key word_cmp xs m) more, insert_key_le word_cmp xs m)
+
+one_each : (d : Dict) (tags : List ℕ) → length (flat_map (λ n. option_to_list (word_of d n)) tags) ≤ length tags
+one_each d [] = omega arith
+one_each d (n ∷ tags) =
+    omega (arith, one_each d tags, one (word_of d n), length-append (option_to_list (word_of d n)) (flat_map (λ k. option_to_list (word_of d k)) tags))
+  where
+    one : (o : Option (List ℕ)) → length (option_to_list o) ≤ 1
+    one None = omega arith
+    one (Some w) = omega arith
+
+module _ (p : Kept) (sound : AreSound p) (slot : ℕ) (rec : FileRecord) (there : rec_at p.catalog slot ≡ Some rec) where
+  abbrev pub given : List (List ℕ)
+  given = words_told p.dict rec.tags
+
+  given_rising : is_rising word_cmp given ≡ true
+  given_rising = rising_from_sorted word_cmp word_order given (sorted_set_of (flat_map (λ n. option_to_list (word_of p.dict n)) rec.tags))
+
+  given_few : length given ≤ 16
+  given_few =
+      let most = and_parts (is_record rec && list_all (λ n. is_some (word_of p.dict n)) rec.tags) (list_all (λ n. nat_lt n p.limits.blocks) rec.blocks) (sound.records slot rec there) in
+      let form = and_parts (is_record rec) (list_all (λ n. is_some (word_of p.dict n)) rec.tags) most.0 in
+      let both = and_parts (is_file_name rec.name && nat_le rec.size 65536 && are_tags rec.tags) (are_blocks rec.size rec.blocks) form.0 in
+      let tags = and_parts (is_file_name rec.name && nat_le rec.size 65536) (are_tags rec.tags) both.0 in
+      let few = and_parts (nat_le (length rec.tags) 16 && are_short rec.tags) _ tags.1 in
+      let short = leb-true (length rec.tags) 16 (and_parts (nat_le (length rec.tags) 16) (are_short rec.tags) few.0).0 in
+      omega (arith, short, one_each p.dict rec.tags, more_le [] (flat_map (λ n. option_to_list (word_of p.dict n)) rec.tags))
+
+  given_learnable : list_all (may_learn p) given ≡ true
+  given_learnable = all_from (may_learn p) given (λ word m. let known = told_known p sound rec.tags word m in by word known.0 known.1 (is_valued word) refl)
+    where
+      by : (word : List ℕ) (n : ℕ) → word_of p.dict n ≡ Some word → (b : Bool) → is_valued word ≡ b → may_learn p word ≡ true
+      by word n is true valued =
+          ap (λ b. cond b (is_some (number_of p.dict (head_bytes word)) || is_built_in (head_bytes word)) (is_some (number_of p.dict word))) valued
+          ∙ or_left (is_some (number_of p.dict (head_bytes word))) (is_built_in (head_bytes word)) (sound.heads n word is valued)
+      by word n is false plain =
+          ap (λ b. cond b (is_some (number_of p.dict (head_bytes word)) || is_built_in (head_bytes word)) (is_some (number_of p.dict word))) plain
+          ∙ ap is_some (number_from_word p.dict sound.dict word n is)
+
+  -- another file with these words
+  pub same_words_first : (name bytes : List ℕ) → is_file_name name ≡ true → (name ≢ rec.name → slot_of p.catalog name ≡ None) → length (described_by p (new_file name given bytes)) ≤ 128
+      → length bytes ≤ 65536 → blocks_needed (length bytes) ≤ free_count p.taken + length rec.blocks → MayReplaceFirst p slot rec (new_file name given bytes)
+  same_words_first name bytes form new short small blocks = record {
+    there = there;
+    name = form;
+    new = new;
+    set = given_rising;
+    learnable = given_learnable;
+    few = given_few;
+    short = short;
+    room = same_words_room p sound rec.tags (new_file name given bytes) refl;
+    small = small;
+    blocks = blocks;
+  }
+
+  pub write_first : (name bytes : List ℕ) (size : ℕ) → slot_of p.catalog name ≡ Some slot → is_super p.limits ≡ true → size ≤ file_limit p.limits.version → (size ≤ 65536 → length bytes ≡ size)
+      → first_refusal (overwriting_checks p slot rec (given_before p rec name bytes) size) ≡ None → MayReplaceFirst p slot rec (new_file name given bytes)
+  write_first name bytes size named range most whole none =
+      let version = eqb-true p.limits.version 1 (and_parts (p.limits.version == 1) (are_in_range p.limits) range).0 in
+      let same = (filed_named p sound name slot rec named there).1 in
+      let passes = all_pass (overwriting_checks p slot rec (given_before p rec name bytes) size) none in
+      let small : size ≤ 65536 = omega (arith, most, ap file_limit version) in
+      let short = ltb-false 128 (length (described_by p (new_file name given bytes))) passes.0 in
+      let room = ltb-false (free_count p.taken + length rec.blocks) (blocks_taken p.limits.version size) passes.2 in
+      same_words_first name bytes (subst (λ n. is_file_name n ≡ true) same (record_named p.dict p.limits.blocks rec (sound.records slot rec there)))
+      (λ differ. absurd (differ (sym same))) short
+      (omega (arith, whole small, small)) (omega (arith, ap blocks_needed (whole small), room, ap (λ v. blocks_taken v size) version))
+
+  pub rename_first : (other : List ℕ) → is_file_name other ≡ true → first_refusal (renaming_checks p slot (given_before p rec other [])) ≡ None → MayReplaceFirst p slot rec (new_file other given [])
+  rename_first other form none =
+      let passes = all_pass (renaming_checks p slot (given_before p rec other [])) none in
+      let short = ltb-false 128 (length (described_by p (new_file other given []))) passes.1 in
+      same_words_first other [] form (λ differ. absent (slot_of p.catalog other) passes.0) short (omega arith) (omega arith)
+    where
+      absent : (o : Option ℕ) → is_some o ≡ false → o ≡ None
+      absent None h = refl
+      absent (Some n) h = absurd (both_ways true h refl)
+
+-- where memory fits a state, files were given words that may be assigned
+pub given_assignable : (k : Stored) (m : Meaning) (s : State) → IsSound k → StoreFits k m s → (slot : ℕ) (rec : FileRecord) → rec_at k.parts.catalog slot ≡ Some rec
+    → list_all (is_assignable (declared_of k.parts)) (words_told k.parts.dict rec.tags) ≡ true
+given_assignable k m s sound fits slot rec there =
+    let filed = record { slot = slot; rec = rec } in
+    let file = file_told k.parts.limits k.parts.dict fits.kept filed in
+    let m_file = file_of_filed k.parts fits.kept s sound.parts sound.free fits.tells filed (filed_at_slot k.parts.catalog sound.parts.catalog slot rec there) in
+    let all = all_among (λ (f : File). list_all (is_assignable s.declared) f.assigned) s.files file fits.tells.formed.files.assigned m_file in
+    subst (λ (x : State). list_all (is_assignable x.declared) (words_told k.parts.dict rec.tags) ≡ true) (sym fits.tells.state) all
+
+-- ---- calls that are refused
+-- the slot of a name, where there is one
+pub slot_there : (k : Kept) → AreSound k → (place : List Formula) (name : List ℕ)
+    → (slot : ℕ) × (rec : FileRecord) × (is_among k place name ≡ true → (slot_of k.catalog name ≡ Some slot) × (rec_at k.catalog slot ≡ Some rec))
+slot_there k sound place name = by (slot_of k.catalog name) refl
+  where
+    by : (o : Option ℕ) → slot_of k.catalog name ≡ o
+        → (slot : ℕ) × (rec : FileRecord) × (is_among k place name ≡ true → (slot_of k.catalog name ≡ Some slot) × (rec_at k.catalog slot ≡ Some rec))
+    by None none =
+        (0, record { name = []; size = 0; tags = []; blocks = [] }, λ some. absurd (both_ways (is_among k place name) (none_here k sound place name none) some))
+    by (Some slot) is = let found = rec_at-slot_of k.catalog name slot sound.catalog is in (slot, found.0, λ some. (is, found.1))
+
+module _ {T : Type 0} (old : Stored) (m : Meaning) (place : List Formula) (name : List ℕ) (result : Result T Change) (sound : IsSound old) (s : State) (fits : StoreFits old m s) where
+  abbrev now : Situation
+  now = record { state = s; place = place }
+
+  module _ (slot : ℕ) (rec : FileRecord) (there : is_among old.parts place name ≡ true → (slot_of old.parts.catalog name ≡ Some slot) × (rec_at old.parts.catalog slot ≡ Some rec)) where
+    pub written_refused : (payload : Payload) (refusal : Refusal) → first_refusal (write_checks_of old.parts place name slot rec (given_before old.parts rec name payload.bytes) payload.size) ≡ Some refusal
+        → result ≡ Err (Refused refusal) → Changes now (write now name payload) old m m result
+    written_refused payload refusal first ends =
+        change_refused old m now (write now name payload) refusal result fits (write_refused old m s sound fits place name slot rec there payload refusal first) ends
+
+    pub renamed_refused : (other : List ℕ) (refusal : Refusal) → first_refusal (rename_checks_of old.parts place name slot (given_before old.parts rec other (file_of s.files name).bytes)) ≡ Some refusal
+        → result ≡ Err (Refused refusal) → Changes now (rename now name other) old m m result
+    renamed_refused other refusal first ends =
+        change_refused old m now (rename now name other) refusal result fits (rename_refused old m s sound fits place name slot rec there other refusal first) ends
+
+  pub written_large : (payload : Payload) → nat_lt (file_limit old.parts.limits.version) payload.size ≡ true → result ≡ Err (Refused LargeFile) → Changes now (write now name payload) old m m result
+  written_large payload large ends =
+      let at = slot_there old.parts sound.parts place name in
+      written_refused at.0 at.1 at.2 payload LargeFile
+      (ap (λ b. cond b (Some LargeFile) (first_refusal ((not (is_among old.parts place name), NoFileHere) ∷ overwriting_checks old.parts at.0 at.1 (given_before old.parts at.1 name payload.bytes) payload.size))) large) ends
+
+  pub written_nowhere : (payload : Payload) → nat_lt (file_limit old.parts.limits.version) payload.size ≡ false → is_among old.parts place name ≡ false → result ≡ Err (Refused NoFileHere)
+      → Changes now (write now name payload) old m m result
+  written_nowhere payload small none ends =
+      let at = slot_there old.parts sound.parts place name in
+      let rest = first_refusal (overwriting_checks old.parts at.0 at.1 (given_before old.parts at.1 name payload.bytes) payload.size) in
+      written_refused at.0 at.1 at.2 payload NoFileHere
+      (ap (λ b. cond b (Some LargeFile) (cond (not (is_among old.parts place name)) (Some NoFileHere) rest)) small ∙ ap (λ b. cond (not b) (Some NoFileHere) rest) none) ends
+
+  pub renamed_nowhere : (other : List ℕ) → is_among old.parts place name ≡ false → result ≡ Err (Refused NoFileHere) → Changes now (rename now name other) old m m result
+  renamed_nowhere other none ends =
+      let at = slot_there old.parts sound.parts place name in
+      let rest = first_refusal (renaming_checks old.parts at.0 (given_before old.parts at.1 other (file_of s.files name).bytes)) in
+      renamed_refused at.0 at.1 at.2 other NoFileHere (ap (λ b. cond (not b) (Some NoFileHere) rest) none) ends
