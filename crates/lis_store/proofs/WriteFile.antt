@@ -1,8 +1,9 @@
 -- The calls that write and rename a file.
-use Rattle.std.proofs.Common.{◌≡◌, ◌≢◌, refl, sym, ap, ◌∙◌, subst, ℕ, ◌+◌, ◌≤◌, ◌==◌, nat_lt, nat_le, ◌&&◌, ◌||◌, not, cond, Bool, true, false, List, [], ◌∷◌, length, Option, Some, None, is_some, option_to_list, Result, Err, length-append, arith}
+use Rattle.std.proofs.Common.{◌≡◌, ◌≢◌, refl, sym, ap, ap₂, ◌∙◌, subst, ℕ, ◌+◌, ◌≤◌, ◌==◌, nat_lt, nat_le, ◌&&◌, ◌||◌, not, cond, Bool, true, false, List, [], ◌∷◌, length, Option, Some, None, is_some, option_to_list, Result, Err, length-append, arith}
 use Rattle.std.specs.List.{flat_map, list_all}
 use Rattle.std.specs.BTreeSet.{insert_key}
-use Rattle.std.proofs.lemmas.Bool.{and_parts, or_left, both_ways, eqb-true, leb-true, ltb-false}
+use Rattle.std.proofs.lemmas.Bool.{and_parts, or_left, both_ways, eqb-true, leb-true, le-ltb, ltb-false}
+use Rattle.std.proofs.lemmas.Option.{same_Some}
 use Rattle.lis_graph.specs.Graph.{is_rising, with_more}
 use Rattle.lis_ports.specs.Meaning.{Meaning}
 use Rattle.lis_blockmap.specs.Bitmap.{free_count}
@@ -18,13 +19,13 @@ use Rattle.lis_model.specs.declared.refusal.Refusal.{Refusal}
 use Rattle.lis_model.specs.declared.refusal.Refusal.TheVariants.{NoFileHere, LargeFile}
 use Rattle.lis_model.specs.Ranges.{are_in_range}
 use Rattle.lis_model.specs.State.{State, File, file_limit, blocks_needed, blocks_taken, is_assignable}
-use Rattle.lis_model.specs.Changes.{new_file, file_of}
-use Rattle.lis_model.specs.Step.{Situation, Payload, write, rename}
+use Rattle.lis_model.specs.Changes.{new_file, file_of, file_replaced}
+use Rattle.lis_model.specs.Step.{Situation, Payload, changed, write, rename}
 use Rattle.lis_laws.proofs.Counts.{all_among, all_from, insert_key_le, rising_from_sorted}
 use Rattle.lis_laws.proofs.Members.{word_order, sorted_set_of}
 use Rattle.lis_kept.specs.Kept.{Kept}
 use Rattle.lis_kept.specs.Sound.{AreSound}
-use Rattle.lis_kept.specs.Telling.{declared_of, words_told, file_told}
+use Rattle.lis_kept.specs.Telling.{declared_of, words_told, bytes_told, file_told}
 use Rattle.lis_kept.proofs.Filing.{filed_at_slot}
 use Rattle.lis_kept.proofs.Refiled.{record_named}
 use Rattle.lis_store.specs.declared.change.Change.{Change}
@@ -38,7 +39,7 @@ use Rattle.lis_store.specs.Instead.{given_before, overwriting_checks, renaming_c
 use Rattle.lis_store.specs.ReplacingIn.{MayReplaceFirst}
 use Rattle.lis_store.proofs.Facts.{filed_named, file_of_filed}
 use Rattle.lis_store.proofs.Here.{none_here}
-use Rattle.lis_store.proofs.InsteadTold.{write_refused, rename_refused}
+use Rattle.lis_store.proofs.InsteadTold.{old_is, old_given, write_refused, write_done, rename_refused, rename_done}
 use Rattle.lis_store.proofs.Judged.{all_pass, change_refused}
 use Rattle.lis_store.proofs.SameWords.{told_known, same_words_room}
 
@@ -133,6 +134,51 @@ given_assignable k m s sound fits slot rec there =
     let all = all_among (λ (f : File). list_all (is_assignable s.declared) f.assigned) s.files file fits.tells.formed.files.assigned m_file in
     subst (λ (x : State). list_all (is_assignable x.declared) (words_told k.parts.dict rec.tags) ≡ true) (sym fits.tells.state) all
 
+-- ---- rows
+pub rest_of_write : (k : Kept) (place : List Formula) (name : List ℕ) (slot : ℕ) (rec : FileRecord) (file : File) (size : ℕ) → size ≤ file_limit k.limits.version → is_among k place name ≡ true
+    → first_refusal (write_checks_of k place name slot rec file size) ≡ first_refusal (overwriting_checks k slot rec file size)
+rest_of_write k place name slot rec file size small here =
+    let rest = first_refusal (overwriting_checks k slot rec file size) in
+    ap (λ b. cond b (Some LargeFile) (cond (not (is_among k place name)) (Some NoFileHere) rest)) (le-ltb (file_limit k.limits.version) size small)
+    ∙ ap (λ b. cond (not b) (Some NoFileHere) rest) here
+
+pub rest_of_rename : (k : Kept) (place : List Formula) (name : List ℕ) (slot : ℕ) (file : File) → is_among k place name ≡ true
+    → first_refusal (rename_checks_of k place name slot file) ≡ first_refusal (renaming_checks k slot file)
+rest_of_rename k place name slot file here = ap (λ b. cond (not b) (Some NoFileHere) (first_refusal (renaming_checks k slot file))) here
+
+-- ---- calls that are done
+module _ (k : Stored) (m : Meaning) (s : State) (sound : IsSound k) (fits : StoreFits k m s) (place : List Formula) (name : List ℕ) (slot : ℕ) (rec taken : FileRecord)
+    (named : slot_of k.parts.catalog name ≡ Some slot) (there : rec_at k.parts.catalog slot ≡ Some rec) (gone : rec_at k.parts.catalog slot ≡ Some taken) (here : is_among k.parts place name ≡ true)
+    (assigned : List (List ℕ)) (words_are : assigned ≡ words_told k.parts.dict rec.tags) where
+  same_rec : rec ≡ taken
+  same_rec = same_Some rec taken (sym there ∙ gone)
+
+  taken_named : taken.name ≡ name
+  taken_named = (filed_named k.parts sound.parts name slot taken named gone).1
+
+  old_words : (file_of s.files name).assigned ≡ assigned
+  old_words = old_given k m s sound fits name slot rec named there ∙ sym words_are
+
+  pub written_done : (payload : Payload) → payload.size ≤ file_limit k.parts.limits.version
+      → first_refusal (overwriting_checks k.parts slot rec (given_before k.parts rec name payload.bytes) payload.size) ≡ None
+      → write (record { state = s; place = place }) name payload ≡ changed (record { state = s; place = place }) (file_replaced s taken.name (new_file name assigned payload.bytes))
+  written_done payload small none =
+      let now : Situation = record { state = s; place = place } in
+      write_done k m s sound fits place name slot rec (λ _. (named, there)) payload (rest_of_write k.parts place name slot rec (given_before k.parts rec name payload.bytes) payload.size small here ∙ none)
+      ∙ ap₂ (λ n ws. changed now (file_replaced s n (new_file name ws payload.bytes))) (sym taken_named) old_words
+
+  pub renamed_done : (other : List ℕ) → ((bytes : List ℕ) → first_refusal (renaming_checks k.parts slot (given_before k.parts rec other bytes)) ≡ None)
+      → rename (record { state = s; place = place }) name other
+      ≡ changed (record { state = s; place = place }) (file_replaced s taken.name (new_file other assigned (bytes_told k.parts.limits fits.kept taken)))
+  renamed_done other none =
+      let now : Situation = record { state = s; place = place } in
+      let bytes = (file_of s.files name).bytes in
+      let same : bytes ≡ bytes_told k.parts.limits fits.kept taken =
+      ap (λ (f : File). f.bytes) (old_is k m s sound fits name slot rec named there) ∙ ap (bytes_told k.parts.limits fits.kept) same_rec in
+      rename_done k m s sound fits place name slot rec (λ _. (named, there)) other (rest_of_rename k.parts place name slot (given_before k.parts rec other bytes) here ∙ none bytes)
+      ∙ (ap₂ (λ n ws. changed now (file_replaced s n (new_file other ws bytes))) (sym taken_named) old_words
+      ∙ ap (λ bs. changed now (file_replaced s taken.name (new_file other assigned bs))) same)
+
 -- ---- calls that are refused
 -- the slot of a name, where there is one
 pub slot_there : (k : Kept) → AreSound k → (place : List Formula) (name : List ℕ)
@@ -166,13 +212,13 @@ module _ {T : Type 0} (old : Stored) (m : Meaning) (place : List Formula) (name 
       written_refused at.0 at.1 at.2 payload LargeFile
       (ap (λ b. cond b (Some LargeFile) (first_refusal ((not (is_among old.parts place name), NoFileHere) ∷ overwriting_checks old.parts at.0 at.1 (given_before old.parts at.1 name payload.bytes) payload.size))) large) ends
 
-  pub written_nowhere : (payload : Payload) → nat_lt (file_limit old.parts.limits.version) payload.size ≡ false → is_among old.parts place name ≡ false → result ≡ Err (Refused NoFileHere)
+  pub written_nowhere : (payload : Payload) → payload.size ≤ file_limit old.parts.limits.version → is_among old.parts place name ≡ false → result ≡ Err (Refused NoFileHere)
       → Changes now (write now name payload) old m m result
   written_nowhere payload small none ends =
       let at = slot_there old.parts sound.parts place name in
       let rest = first_refusal (overwriting_checks old.parts at.0 at.1 (given_before old.parts at.1 name payload.bytes) payload.size) in
       written_refused at.0 at.1 at.2 payload NoFileHere
-      (ap (λ b. cond b (Some LargeFile) (cond (not (is_among old.parts place name)) (Some NoFileHere) rest)) small ∙ ap (λ b. cond (not b) (Some NoFileHere) rest) none) ends
+      (ap (λ b. cond b (Some LargeFile) (cond (not (is_among old.parts place name)) (Some NoFileHere) rest)) (le-ltb (file_limit old.parts.limits.version) payload.size small) ∙ ap (λ b. cond (not b) (Some NoFileHere) rest) none) ends
 
   pub renamed_nowhere : (other : List ℕ) → is_among old.parts place name ≡ false → result ≡ Err (Refused NoFileHere) → Changes now (rename now name other) old m m result
   renamed_nowhere other none ends =
