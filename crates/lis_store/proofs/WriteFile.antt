@@ -9,7 +9,7 @@ use Rattle.lis_ports.specs.Meaning.{Meaning}
 use Rattle.lis_blockmap.specs.Bitmap.{free_count}
 use Rattle.lis_dict.specs.Dict.{Dict, number_of, word_of}
 use Rattle.lis_dict.proofs.Laws.{number_from_word}
-use Rattle.lis_catalog.specs.Catalog.{slot_of, rec_at}
+use Rattle.lis_catalog.specs.Catalog.{Filed, slot_of, rec_at}
 use Rattle.lis_catalog.proofs.Laws.{rec_at-slot_of}
 use Rattle.lis_fields.specs.Records.{FileRecord}
 use Rattle.lis_fields.specs.Layouts.{is_super, is_record, are_tags, are_short, are_blocks}
@@ -109,7 +109,7 @@ module _ (p : Kept) (sound : AreSound p) (slot : ℕ) (rec : FileRecord) (there 
       let passes = all_pass (overwriting_checks p slot rec (given_before p rec name bytes) size) none in
       let small : size ≤ 65536 = omega (arith, most, ap file_limit version) in
       let short = ltb-false 128 (length (described_by p (new_file name given bytes))) passes.0 in
-      let room = ltb-false (free_count p.taken + length rec.blocks) (blocks_taken p.limits.version size) passes.2 in
+      let room = ltb-false (free_count p.taken + length rec.blocks) (blocks_taken p.limits.version size) passes.1.1.0 in
       same_words_first name bytes (subst (λ n. is_file_name n ≡ true) same (record_named p.dict p.limits.blocks rec (sound.records slot rec there)))
       (λ differ. absurd (differ (sym same))) short
       (omega (arith, whole small, small)) (omega (arith, ap blocks_needed (whole small), room, ap (λ v. blocks_taken v size) version))
@@ -117,7 +117,7 @@ module _ (p : Kept) (sound : AreSound p) (slot : ℕ) (rec : FileRecord) (there 
   pub rename_first : (other : List ℕ) → is_file_name other ≡ true → first_refusal (renaming_checks p slot (given_before p rec other [])) ≡ None → MayReplaceFirst p slot rec (new_file other given [])
   rename_first other form none =
       let passes = all_pass (renaming_checks p slot (given_before p rec other [])) none in
-      let short = ltb-false 128 (length (described_by p (new_file other given []))) passes.1 in
+      let short = ltb-false 128 (length (described_by p (new_file other given []))) passes.1.0 in
       same_words_first other [] form (λ differ. absent (slot_of p.catalog other) passes.0) short (omega arith) (omega arith)
     where
       absent : (o : Option ℕ) → is_some o ≡ false → o ≡ None
@@ -128,7 +128,7 @@ module _ (p : Kept) (sound : AreSound p) (slot : ℕ) (rec : FileRecord) (there 
 pub given_assignable : (k : Stored) (m : Meaning) (s : State) → IsSound k → StoreFits k m s → (slot : ℕ) (rec : FileRecord) → rec_at k.parts.catalog slot ≡ Some rec
     → list_all (is_assignable (declared_of k.parts)) (words_told k.parts.dict rec.tags) ≡ true
 given_assignable k m s sound fits slot rec there =
-    let filed = record { slot = slot; rec = rec } in
+    let filed : Filed = record { slot = slot; rec = rec } in
     let file = file_told k.parts.limits k.parts.dict fits.kept filed in
     let m_file = file_of_filed k.parts fits.kept s sound.parts sound.free fits.tells filed (filed_at_slot k.parts.catalog sound.parts.catalog slot rec there) in
     let all = all_among (λ (f : File). list_all (is_assignable s.declared) f.assigned) s.files file fits.tells.formed.files.assigned m_file in

@@ -26,7 +26,7 @@ pub returns-in_default-clause-changes : goal.returns-in_default-clause-changes
 returns-in_default-clause-changes g c = λ s fits.
     let payload : Payload = record { size = c.args.size; bytes = c.args.payload.now } in
     let sound = subst (λ (k : Stored). IsSound k) c.self.view_is c.self.invariant in
-    let small = omega (arith, c.if-size-file_limit.false, c.file_limit.ensures, ap (λ (l : Limits). file_limit l.version) c.limits.ensures.value, ap (λ (k : Stored). file_limit k.parts.limits.version) c.self.view_is) in
+    let small : c.args.size ≤ file_limit c.args.self.now.parts.limits.version = omega (arith, c.if-size-file_limit.false, c.file_limit.ensures, ap (λ (l : Limits). file_limit l.version) c.limits.ensures.value, ap (λ (k : Stored). file_limit k.parts.limits.version) c.self.view_is) in
     written_nowhere c.args.self.now (g.D.Disk.meaning c.args.disk.now) c.args.place.now c.args.name.now _ sound s fits payload small (sym c.in_default.ensures.here) refl
 
 pub may_write-requires-clause-there : goal.may_write-requires-clause-there
@@ -43,7 +43,7 @@ returns-in_err-words-clause-changes g c = λ s fits.
     let old : Stored = record { parts = c.self.inside.parts; journal = c.self.inside.journal; is_broken = c.self.inside.is_broken } in
     let named = ap (λ (k : Stored). slot_of k.parts.catalog c.args.name.now) c.self.view_is ∙ c.in-Some.ensures.slot in
     let found = rec_at-slot_of c.self.inside.parts.catalog c.args.name.now c.in-Some.slot c.self.invariant.parts.catalog named in
-    let small = omega (arith, c.if-size-file_limit.false, c.file_limit.ensures, ap (λ (l : Limits). file_limit l.version) c.limits.ensures.value) in
+    let small : c.args.size ≤ file_limit c.self.inside.parts.limits.version = omega (arith, c.if-size-file_limit.false, c.file_limit.ensures, ap (λ (l : Limits). file_limit l.version) c.limits.ensures.value) in
     let here = ap (λ (k : Stored). is_among k.parts c.args.place.now c.args.name.now) c.self.view_is ∙ sym c.in-Some.ensures.here in
     let P : Stored → Type 0 = λ k. StoreFits k m s in
     let Q : Stored → Type 0 = λ k. Changes now (write now c.args.name.now payload) k m m c.from_residual.result in
@@ -56,7 +56,7 @@ pub overwrite-requires-clause-may : goal.overwrite-requires-clause-may
 overwrite-requires-clause-may g c =
     let named = ap (λ (k : Stored). slot_of k.parts.catalog c.args.name.now) c.self.view_is ∙ c.in-Some.ensures.slot in
     let found = rec_at-slot_of c.self.inside.parts.catalog c.args.name.now c.in-Some.slot c.self.invariant.parts.catalog named in
-    let small = omega (arith, c.if-size-file_limit.false, c.file_limit.ensures, ap (λ (l : Limits). file_limit l.version) c.limits.ensures.value) in
+    let small : c.args.size ≤ file_limit c.self.inside.parts.limits.version = omega (arith, c.if-size-file_limit.false, c.file_limit.ensures, ap (λ (l : Limits). file_limit l.version) c.limits.ensures.value) in
     let words = c.as_slice.ensures.value ∙ c.in_ok-words.ensures.words found.0 found.1 in
     let W : List (List ℕ) → Type 0 = λ ws. MayReplaceFirst c.self.inside.parts c.in-Some.slot found.0 (new_file c.args.name.now ws c.args.payload.now) in
     let first = subst (λ o. IsSomeAnd o (λ (x : FileRecord). MayReplaceFirst c.self.inside.parts c.in-Some.slot x (new_file c.args.name.now c.as_slice.result.now c.args.payload.now))) (sym found.1)
@@ -71,7 +71,7 @@ save-requires-clause-sound g c =
     let named = ap (λ (k : Stored). slot_of k.parts.catalog c.args.name.now) c.self.view_is ∙ c.in-Some.ensures.slot in
     let found = rec_at-slot_of c.self.inside.parts.catalog c.args.name.now c.in-Some.slot c.self.invariant.parts.catalog named in
     let unbroken = ap (λ (k : Stored). k.is_broken) c.self.view_is ∙ c.requires.unbroken in
-    let small = omega (arith, c.if-size-file_limit.false, c.file_limit.ensures, ap (λ (l : Limits). file_limit l.version) c.limits.ensures.value) in
+    let small : c.args.size ≤ file_limit c.self.inside.parts.limits.version = omega (arith, c.if-size-file_limit.false, c.file_limit.ensures, ap (λ (l : Limits). file_limit l.version) c.limits.ensures.value) in
     let words = c.as_slice.ensures.value ∙ c.in_ok-words.ensures.words found.0 found.1 in
     let W : List (List ℕ) → Type 0 = λ ws. MayReplaceFirst c.self.inside.parts c.in-Some.slot found.0 (new_file c.args.name.now ws c.args.payload.now) in
     let first = subst (λ o. IsSomeAnd o (λ (x : FileRecord). MayReplaceFirst c.self.inside.parts c.in-Some.slot x (new_file c.args.name.now c.as_slice.result.now c.args.payload.now))) (sym found.1)
@@ -86,7 +86,7 @@ save-requires-clause-room g c =
     let named = ap (λ (k : Stored). slot_of k.parts.catalog c.args.name.now) c.self.view_is ∙ c.in-Some.ensures.slot in
     let found = rec_at-slot_of c.self.inside.parts.catalog c.args.name.now c.in-Some.slot c.self.invariant.parts.catalog named in
     let unbroken = ap (λ (k : Stored). k.is_broken) c.self.view_is ∙ c.requires.unbroken in
-    let small = omega (arith, c.if-size-file_limit.false, c.file_limit.ensures, ap (λ (l : Limits). file_limit l.version) c.limits.ensures.value) in
+    let small : c.args.size ≤ file_limit c.self.inside.parts.limits.version = omega (arith, c.if-size-file_limit.false, c.file_limit.ensures, ap (λ (l : Limits). file_limit l.version) c.limits.ensures.value) in
     let words = c.as_slice.ensures.value ∙ c.in_ok-words.ensures.words found.0 found.1 in
     let W : List (List ℕ) → Type 0 = λ ws. MayReplaceFirst c.self.inside.parts c.in-Some.slot found.0 (new_file c.args.name.now ws c.args.payload.now) in
     let first = subst (λ o. IsSomeAnd o (λ (x : FileRecord). MayReplaceFirst c.self.inside.parts c.in-Some.slot x (new_file c.args.name.now c.as_slice.result.now c.args.payload.now))) (sym found.1)
@@ -104,7 +104,7 @@ returns-clause-changes g c = λ s fits.
     let named = ap (λ (k : Stored). slot_of k.parts.catalog c.args.name.now) c.self.view_is ∙ c.in-Some.ensures.slot in
     let found = rec_at-slot_of c.self.inside.parts.catalog c.args.name.now c.in-Some.slot c.self.invariant.parts.catalog named in
     let unbroken = ap (λ (k : Stored). k.is_broken) c.self.view_is ∙ c.requires.unbroken in
-    let small = omega (arith, c.if-size-file_limit.false, c.file_limit.ensures, ap (λ (l : Limits). file_limit l.version) c.limits.ensures.value) in
+    let small : c.args.size ≤ file_limit c.self.inside.parts.limits.version = omega (arith, c.if-size-file_limit.false, c.file_limit.ensures, ap (λ (l : Limits). file_limit l.version) c.limits.ensures.value) in
     let here = ap (λ (k : Stored). is_among k.parts c.args.place.now c.args.name.now) c.self.view_is ∙ sym c.in-Some.ensures.here in
     let words = c.as_slice.ensures.value ∙ c.in_ok-words.ensures.words found.0 found.1 in
     let W : List (List ℕ) → Type 0 = λ ws. MayReplaceFirst c.self.inside.parts c.in-Some.slot found.0 (new_file c.args.name.now ws c.args.payload.now) in
@@ -130,7 +130,7 @@ returns-clause-edits g c =
     let named = ap (λ (k : Stored). slot_of k.parts.catalog c.args.name.now) c.self.view_is ∙ c.in-Some.ensures.slot in
     let found = rec_at-slot_of c.self.inside.parts.catalog c.args.name.now c.in-Some.slot c.self.invariant.parts.catalog named in
     let unbroken = ap (λ (k : Stored). k.is_broken) c.self.view_is ∙ c.requires.unbroken in
-    let small = omega (arith, c.if-size-file_limit.false, c.file_limit.ensures, ap (λ (l : Limits). file_limit l.version) c.limits.ensures.value) in
+    let small : c.args.size ≤ file_limit c.self.inside.parts.limits.version = omega (arith, c.if-size-file_limit.false, c.file_limit.ensures, ap (λ (l : Limits). file_limit l.version) c.limits.ensures.value) in
     let words = c.as_slice.ensures.value ∙ c.in_ok-words.ensures.words found.0 found.1 in
     let W : List (List ℕ) → Type 0 = λ ws. MayReplaceFirst c.self.inside.parts c.in-Some.slot found.0 (new_file c.args.name.now ws c.args.payload.now) in
     let first = subst (λ o. IsSomeAnd o (λ (x : FileRecord). MayReplaceFirst c.self.inside.parts c.in-Some.slot x (new_file c.args.name.now c.as_slice.result.now c.args.payload.now))) (sym found.1)
