@@ -64,7 +64,7 @@ pub record Passes (k : Kept) (place : List Formula) (words : List (List ℕ)) (f
   pub room : length (known_with k file) ≤ k.limits.props
   pub blocks : blocks_taken k.limits.version size ≤ free_count k.taken
 
-none_there : {X : Type 0} (o : Option X) → is_some o ≡ false → o ≡ None
+pub none_there : {X : Type 0} (o : Option X) → is_some o ≡ false → o ≡ None
 none_there None e = refl
 none_there (Some x) e = absurd cc
 

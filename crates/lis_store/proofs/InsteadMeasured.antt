@@ -1,15 +1,15 @@
 -- How many words would be known with a file in the place of another.
-use Rattle.std.proofs.Common.{◌≡◌, ◌⊎◌, refl, sym, ap, ◌∙◌, subst, inl, inr, ℕ, suc, ◌+◌, ◌<◌, not, ◌&&◌, ◌||◌, Bool, true, false, cond, Some, is_some, IsSome, List, [], ◌∷◌, length, filter, arith}
+use Rattle.std.proofs.Common.{◌≡◌, ◌⊎◌, refl, sym, ap, ◌∙◌, subst, inl, inr, ℕ, ◌+◌, not, ◌&&◌, ◌||◌, Bool, true, false, cond, Some, is_some, IsSome, List, [], ◌∷◌, length, filter, arith}
 use Rattle.std.specs.Option.{option_to_list}
 use Rattle.std.specs.List.{flat_map}
 use Rattle.std.specs.List.Sorted.{IsStrictlySortedBy}
-use Rattle.std.proofs.lemmas.Bool.{and_parts, and_from, or_cases, or_left, or_right, both_ways, cases_eq, not-true, not_from_false, false_from_ne_true}
+use Rattle.std.proofs.lemmas.Bool.{and_parts, and_from, or_cases, or_left, or_right, both_ways, cases_eq, not-true, not_from_false}
 use Rattle.std.proofs.lemmas.List.Kept.{IsStrictlySortedBy-filter}
 use Rattle.lis_graph.proofs.Members.{Among, among_filter, filter_among}
 use Rattle.lis_graph.proofs.Sets.{sorted_from_rising}
 use Rattle.lis_bits.specs.Rows.{Rows, get}
 use Rattle.lis_blockmap.specs.Bitmap.{is_taken}
-use Rattle.lis_dict.specs.Dict.{words, number_of, word_of}
+use Rattle.lis_dict.specs.Dict.{words, word_of}
 use Rattle.lis_dict.proofs.Laws.{number_from_word}
 use Rattle.lis_ext.specs.Ext.{has}
 use Rattle.lis_words.specs.Words.{word_cmp, has_word}

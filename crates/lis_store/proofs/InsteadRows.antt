@@ -1,5 +1,5 @@
 -- What refuses a file in the place of another, as the calls ask it.
-use Rattle.std.proofs.Common.{◌≡◌, refl, sym, ap, ap₂, ◌∙◌, ℕ, ◌<◌, nat_lt, Bool, true, false, cond, is_some, Option, Some, None, List, [], ◌∷◌, ◌++◌, length}
+use Rattle.std.proofs.Common.{◌≡◌, sym, ap, ◌∙◌, ℕ, nat_lt, false, cond, is_some, Option, Some, List, [], ◌∷◌, ◌++◌, length}
 use Rattle.lis_catalog.specs.Catalog.{slot_of}
 use Rattle.lis_fields.specs.Records.{FileRecord}
 use Rattle.lis_model.specs.declared.refusal.Refusal.{Refusal}

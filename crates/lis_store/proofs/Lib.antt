@@ -51,3 +51,4 @@ pub mod InsteadGiven
 pub mod InsteadRows
 pub mod InsteadTold
 pub mod WriteFile
+pub mod InsteadMay

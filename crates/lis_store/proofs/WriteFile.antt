@@ -1,15 +1,14 @@
 -- The calls that write and rename a file.
-use Rattle.std.proofs.Common.{◌≡◌, ◌≢◌, refl, sym, ap, ap₂, ◌∙◌, subst, ℕ, ◌+◌, ◌≤◌, ◌==◌, nat_lt, nat_le, ◌&&◌, ◌||◌, not, cond, Bool, true, false, List, [], ◌∷◌, length, Option, Some, None, is_some, option_to_list, Result, Err, length-append, arith}
+use Rattle.std.proofs.Common.{◌≡◌, ◌≢◌, refl, sym, ap, ap₂, ◌∙◌, subst, ℕ, ◌+◌, ◌≤◌, ◌==◌, nat_lt, nat_le, ◌&&◌, ◌||◌, not, cond, Bool, true, false, List, [], ◌∷◌, length, Option, Some, None, is_some, option_to_list, Result, Err, arith}
 use Rattle.std.specs.List.{flat_map, list_all}
-use Rattle.std.specs.BTreeSet.{insert_key}
 use Rattle.std.proofs.lemmas.Bool.{and_parts, or_left, both_ways, eqb-true, leb-true, le-ltb, ltb-false}
 use Rattle.std.proofs.lemmas.Option.{same_Some}
-use Rattle.lis_graph.specs.Graph.{is_rising, with_more}
+use Rattle.lis_graph.specs.Graph.{is_rising}
 use Rattle.lis_ports.specs.Meaning.{Meaning}
 use Rattle.lis_blockmap.specs.Bitmap.{free_count}
-use Rattle.lis_dict.specs.Dict.{Dict, number_of, word_of}
+use Rattle.lis_dict.specs.Dict.{number_of, word_of}
 use Rattle.lis_dict.proofs.Laws.{number_from_word}
-use Rattle.lis_catalog.specs.Catalog.{Filed, slot_of, rec_at}
+use Rattle.lis_catalog.specs.Catalog.{slot_of, rec_at}
 use Rattle.lis_catalog.proofs.Laws.{rec_at-slot_of}
 use Rattle.lis_fields.specs.Records.{FileRecord}
 use Rattle.lis_fields.specs.Layouts.{is_super, is_record, are_tags, are_short, are_blocks}
@@ -18,15 +17,14 @@ use Rattle.lis_grammar.specs.Formula.{Formula}
 use Rattle.lis_model.specs.declared.refusal.Refusal.{Refusal}
 use Rattle.lis_model.specs.declared.refusal.Refusal.TheVariants.{NoFileHere, LargeFile}
 use Rattle.lis_model.specs.Ranges.{are_in_range}
-use Rattle.lis_model.specs.State.{State, File, file_limit, blocks_needed, blocks_taken, is_assignable}
+use Rattle.lis_model.specs.State.{State, File, file_limit, blocks_needed, blocks_taken}
 use Rattle.lis_model.specs.Changes.{new_file, file_of, file_replaced}
 use Rattle.lis_model.specs.Step.{Situation, Payload, changed, write, rename}
-use Rattle.lis_laws.proofs.Counts.{all_among, all_from, insert_key_le, rising_from_sorted}
+use Rattle.lis_laws.proofs.Counts.{all_from, rising_from_sorted}
 use Rattle.lis_laws.proofs.Members.{word_order, sorted_set_of}
 use Rattle.lis_kept.specs.Kept.{Kept}
 use Rattle.lis_kept.specs.Sound.{AreSound}
-use Rattle.lis_kept.specs.Telling.{declared_of, words_told, bytes_told, file_told}
-use Rattle.lis_kept.proofs.Filing.{filed_at_slot}
+use Rattle.lis_kept.specs.Telling.{words_told, bytes_told}
 use Rattle.lis_kept.proofs.Refiled.{record_named}
 use Rattle.lis_store.specs.declared.change.Change.{Change}
 use Rattle.lis_store.specs.declared.change.Change.TheVariants.{Refused}
@@ -37,26 +35,15 @@ use Rattle.lis_store.specs.Admitting.{described_by}
 use Rattle.lis_store.specs.Adding.{may_learn}
 use Rattle.lis_store.specs.Instead.{given_before, overwriting_checks, renaming_checks, write_checks_of, rename_checks_of}
 use Rattle.lis_store.specs.ReplacingIn.{MayReplaceFirst}
-use Rattle.lis_store.proofs.Facts.{filed_named, file_of_filed}
+use Rattle.lis_store.proofs.Admitted.{none_there}
+use Rattle.lis_store.proofs.Facts.{filed_named}
 use Rattle.lis_store.proofs.Here.{none_here}
+use Rattle.lis_store.proofs.InsteadGiven.{told_few}
 use Rattle.lis_store.proofs.InsteadTold.{old_is, old_given, write_refused, write_done, rename_refused, rename_done}
 use Rattle.lis_store.proofs.Judged.{all_pass, change_refused}
 use Rattle.lis_store.proofs.SameWords.{told_known, same_words_room}
 
 -- ---- the words that a file was given
-more_le : (xs more : List (List ℕ)) → length (with_more word_cmp xs more) ≤ length xs + length more
-more_le xs [] = omega arith
-more_le xs (m ∷ more) = omega (arith, more_le (insert_key word_cmp xs m) more, insert_key_le word_cmp xs m)
-
-one_each : (d : Dict) (tags : List ℕ) → length (flat_map (λ n. option_to_list (word_of d n)) tags) ≤ length tags
-one_each d [] = omega arith
-one_each d (n ∷ tags) =
-    omega (arith, one_each d tags, one (word_of d n), length-append (option_to_list (word_of d n)) (flat_map (λ k. option_to_list (word_of d k)) tags))
-  where
-    one : (o : Option (List ℕ)) → length (option_to_list o) ≤ 1
-    one None = omega arith
-    one (Some w) = omega arith
-
 module _ (p : Kept) (sound : AreSound p) (slot : ℕ) (rec : FileRecord) (there : rec_at p.catalog slot ≡ Some rec) where
   abbrev pub given : List (List ℕ)
   given = words_told p.dict rec.tags
@@ -72,7 +59,7 @@ module _ (p : Kept) (sound : AreSound p) (slot : ℕ) (rec : FileRecord) (there 
       let tags = and_parts (is_file_name rec.name && nat_le rec.size 65536) (are_tags rec.tags) both.0 in
       let few = and_parts (nat_le (length rec.tags) 16 && are_short rec.tags) _ tags.1 in
       let short = leb-true (length rec.tags) 16 (and_parts (nat_le (length rec.tags) 16) (are_short rec.tags) few.0).0 in
-      omega (arith, short, one_each p.dict rec.tags, more_le [] (flat_map (λ n. option_to_list (word_of p.dict n)) rec.tags))
+      omega (arith, short, told_few p.dict rec.tags)
 
   given_learnable : list_all (may_learn p) given ≡ true
   given_learnable = all_from (may_learn p) given (λ word m. let known = told_known p sound rec.tags word m in by word known.0 known.1 (is_valued word) refl)
@@ -118,21 +105,7 @@ module _ (p : Kept) (sound : AreSound p) (slot : ℕ) (rec : FileRecord) (there 
   rename_first other form none =
       let passes = all_pass (renaming_checks p slot (given_before p rec other [])) none in
       let short = ltb-false 128 (length (described_by p (new_file other given []))) passes.1.0 in
-      same_words_first other [] form (λ differ. absent (slot_of p.catalog other) passes.0) short (omega arith) (omega arith)
-    where
-      absent : (o : Option ℕ) → is_some o ≡ false → o ≡ None
-      absent None h = refl
-      absent (Some n) h = absurd (both_ways true h refl)
-
--- where memory fits a state, files were given words that may be assigned
-pub given_assignable : (k : Stored) (m : Meaning) (s : State) → IsSound k → StoreFits k m s → (slot : ℕ) (rec : FileRecord) → rec_at k.parts.catalog slot ≡ Some rec
-    → list_all (is_assignable (declared_of k.parts)) (words_told k.parts.dict rec.tags) ≡ true
-given_assignable k m s sound fits slot rec there =
-    let filed : Filed = record { slot = slot; rec = rec } in
-    let file = file_told k.parts.limits k.parts.dict fits.kept filed in
-    let m_file = file_of_filed k.parts fits.kept s sound.parts sound.free fits.tells filed (filed_at_slot k.parts.catalog sound.parts.catalog slot rec there) in
-    let all = all_among (λ (f : File). list_all (is_assignable s.declared) f.assigned) s.files file fits.tells.formed.files.assigned m_file in
-    subst (λ (x : State). list_all (is_assignable x.declared) (words_told k.parts.dict rec.tags) ≡ true) (sym fits.tells.state) all
+      same_words_first other [] form (λ differ. none_there (slot_of p.catalog other) passes.0) short (omega arith) (omega arith)
 
 -- ---- rows
 pub rest_of_write : (k : Kept) (place : List Formula) (name : List ℕ) (slot : ℕ) (rec : FileRecord) (file : File) (size : ℕ) → size ≤ file_limit k.limits.version → is_among k place name ≡ true

@@ -15,8 +15,9 @@ use Rattle.lis_store.specs.Changes.{Changes, differing_bits}
 use Rattle.lis_store.specs.Judging.{is_among}
 use Rattle.lis_store.specs.Instead.{given_before}
 use Rattle.lis_store.specs.ReplacingIn.{MayReplaceFirst}
+use Rattle.lis_store.proofs.InsteadMay.{given_assignable}
 use Rattle.lis_store.proofs.ReplaceFile.{refiled_sound, refiled_marks, refiled_changes, refiled_edits}
-use Rattle.lis_store.proofs.WriteFile.{rename_first, given_assignable, rest_of_rename, renamed_done, renamed_refused, renamed_nowhere}
+use Rattle.lis_store.proofs.WriteFile.{rename_first, rest_of_rename, renamed_done, renamed_refused, renamed_nowhere}
 use Rattle.lis_store.proofs.store.Store.rename.Goals as goal
 
 pub returns-in_default-clause-changes : goal.returns-in_default-clause-changes
@@ -101,7 +102,7 @@ returns-clause-changes g c = λ s fits.
     let F : Stored → Type 0 = λ k. StoreFits k m s in
     let fits_old = subst F (sym c.self.view_is) fits in
     let A : List (List ℕ) → Type 0 = λ ws. list_all (is_assignable (declared_of c.self.inside.parts)) ws ≡ true in
-    let assignable = subst A (sym words) (given_assignable old m s c.self.invariant fits_old c.in-Some.slot found.0 found.1) in
+    let assignable = subst A (sym words) (given_assignable old c.self.invariant c.in-Some.slot found.0 found.1 fits_old.kept s fits_old.tells) in
     refiled_changes old c.refile.new.parts c.in-Some.slot c.args.new.now c.as_slice.result.now c.self.invariant unbroken first c.refile.ensures.refiled
     c.args.place.now new m (g.D.Disk.meaning c.save.new.disk) c.save.result (λ t. rename (record { state = t; place = c.args.place.now }) c.args.name.now c.args.new.now)
     (λ t told. renamed_done old m t c.self.invariant told c.args.place.now c.args.name.now c.in-Some.slot found.0 again.rec named found.1 again.drops.there here c.as_slice.result.now words c.args.new.now

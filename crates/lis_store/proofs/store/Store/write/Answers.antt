@@ -18,8 +18,9 @@ use Rattle.lis_store.specs.Judging.{is_among}
 use Rattle.lis_store.specs.Saving.{Saves}
 use Rattle.lis_store.specs.Instead.{given_before}
 use Rattle.lis_store.specs.ReplacingIn.{MayReplaceFirst}
+use Rattle.lis_store.proofs.InsteadMay.{given_assignable}
 use Rattle.lis_store.proofs.ReplaceFile.{overwritten_sound, overwritten_marks, overwritten_changes, overwritten_edits}
-use Rattle.lis_store.proofs.WriteFile.{write_first, given_assignable, rest_of_write, written_done, written_refused, written_nowhere}
+use Rattle.lis_store.proofs.WriteFile.{write_first, rest_of_write, written_done, written_refused, written_nowhere}
 use Rattle.lis_store.proofs.store.Store.write.Goals as goal
 
 pub returns-in_default-clause-changes : goal.returns-in_default-clause-changes
@@ -117,7 +118,7 @@ returns-clause-changes g c = λ s fits.
     let S : Meaning → Type 0 = λ before. Saves c.overwrite.new.parts c.overwrite.new.journal new before (g.D.Disk.meaning c.save.new.disk) c.save.result in
     let fits_old = subst F (sym c.self.view_is) fits in
     let A : List (List ℕ) → Type 0 = λ ws. list_all (is_assignable (declared_of c.self.inside.parts)) ws ≡ true in
-    let assignable = subst A (sym words) (given_assignable old m s c.self.invariant fits_old c.in-Some.slot found.0 found.1) in
+    let assignable = subst A (sym words) (given_assignable old c.self.invariant c.in-Some.slot found.0 found.1 fits_old.kept s fits_old.tells) in
     overwritten_changes old c.overwrite.new.parts c.overwrite.new.journal c.in-Some.slot c.args.name.now c.as_slice.result.now c.args.payload.now c.self.invariant unbroken first c.overwrite.ensures.overwritten
     c.args.place.now new m (g.D.Disk.meaning c.save.new.disk) c.save.result (λ t. write (record { state = t; place = c.args.place.now }) c.args.name.now payload)
     (λ t told. written_done old m t c.self.invariant told c.args.place.now c.args.name.now c.in-Some.slot found.0 over.rec named found.1 over.drops.there here c.as_slice.result.now words payload small

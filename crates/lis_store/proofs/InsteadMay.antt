@@ -1,0 +1,115 @@
+-- Where a row refuses nothing, a file may come into the place of another.
+use Rattle.std.proofs.Common.{◌≡◌, sym, ap, subst, ℕ, ◌+◌, ◌≤◌, ◌==◌, nat_lt, nat_le, true, ◌&&◌, is_some, option_to_list, Some, None, List, length, arith, eqb-true}
+use Rattle.std.specs.List.{flat_map, list_all}
+use Rattle.std.proofs.lemmas.Bool.{and_parts, leb-true, ltb-false}
+use Rattle.lis_graph.specs.Graph.{is_rising}
+use Rattle.lis_graph.proofs.Members.{Among}
+use Rattle.std.specs.Ordering.{nat_cmp}
+use Rattle.lis_blockmap.specs.Bitmap.{free_count}
+use Rattle.lis_catalog.specs.Catalog.{Filed, slot_of, rec_at}
+use Rattle.lis_dict.specs.Dict.{word_of}
+use Rattle.lis_fields.specs.Records.{FileRecord}
+use Rattle.lis_fields.specs.Layouts.{is_record, are_short, are_tags, are_blocks}
+use Rattle.lis_grammar.specs.Formula.{Formula}
+use Rattle.lis_words.specs.Words.{word_cmp, is_file_name}
+use Rattle.lis_model.specs.Ranges.{are_in_range}
+use Rattle.lis_model.specs.State.{State, File, is_assignable, file_limit, blocks_needed, blocks_taken}
+use Rattle.lis_laws.proofs.Members.{word_order, sorted_set_of}
+use Rattle.lis_laws.proofs.Counts.{all_among, rising_from_sorted}
+use Rattle.lis_kept.specs.Kept.{Kept}
+use Rattle.lis_kept.specs.Telling.{declared_of, words_told, file_told, Tells}
+use Rattle.lis_kept.proofs.Filing.{filed_at_slot}
+use Rattle.lis_store.specs.Stored.{Stored, IsSound}
+use Rattle.lis_store.specs.Admitting.{described_by}
+use Rattle.lis_store.specs.Changes.{first_refusal}
+use Rattle.lis_store.specs.Instead.{given_before, write_checks_of, rename_checks_of}
+use Rattle.lis_store.specs.Replacing.{known_instead, MayReplace}
+use Rattle.lis_store.proofs.Admitted.{none_there}
+use Rattle.lis_store.proofs.Facts.{file_of_filed, blocks_counted, size_is_short}
+use Rattle.lis_store.proofs.InsteadGiven.{told_few}
+use Rattle.lis_store.proofs.Judged.{all_pass}
+
+module _ (k : Stored) (sound : IsSound k) (slot : ℕ) (rec : FileRecord) (is_rec : rec_at k.parts.catalog slot ≡ Some rec) where
+  abbrev p : Kept
+  p = k.parts
+
+  abbrev given : List (List ℕ)
+  given = words_told p.dict rec.tags
+
+  abbrev filed : Filed
+  filed = record { slot = slot; rec = rec }
+
+  there : Among p.catalog.entries filed
+  there = filed_at_slot p.catalog sound.parts.catalog slot rec is_rec
+
+  -- ---- the words that it was given
+  given_set : is_rising word_cmp given ≡ true
+  given_set = rising_from_sorted word_cmp word_order given (sorted_set_of (flat_map (λ n. option_to_list (word_of p.dict n)) rec.tags))
+
+  given_few : length given ≤ 16
+  given_few =
+      let most = and_parts (is_record rec && list_all (λ n. is_some (word_of p.dict n)) rec.tags) (list_all (λ n. nat_lt n p.limits.blocks) rec.blocks) (sound.parts.records slot rec is_rec) in
+      let both = and_parts (is_record rec) (list_all (λ n. is_some (word_of p.dict n)) rec.tags) most.0 in
+      let form = and_parts (is_file_name rec.name && nat_le rec.size 65536 && are_tags rec.tags) (are_blocks rec.size rec.blocks) both.0 in
+      let front = and_parts (is_file_name rec.name && nat_le rec.size 65536) (are_tags rec.tags) form.0 in
+      let tags = and_parts (nat_le (length rec.tags) 16 && are_short rec.tags) (is_rising nat_cmp rec.tags) front.1 in
+      let few = leb-true (length rec.tags) 16 (and_parts (nat_le (length rec.tags) 16) (are_short rec.tags) tags.0).0 in
+      omega (arith, few, told_few p.dict rec.tags)
+
+  -- A state that is told says that they may be given.
+  pub given_assignable : (at : ℕ → List ℕ) (s : State) → Tells p at s → list_all (is_assignable (declared_of p)) given ≡ true
+  given_assignable at s tells =
+      let m = file_of_filed p at s sound.parts sound.free tells filed there in
+      subst (λ declared. list_all (is_assignable declared) given ≡ true) (sym (ap (λ (t : State). t.declared) tells.state))
+      (all_among (λ (f : File). list_all (is_assignable s.declared) f.assigned) s.files (file_told p.limits p.dict at filed) tells.formed.files.assigned m)
+
+  module _ (assignable : list_all (is_assignable (declared_of p)) given ≡ true) (place : List Formula) where
+    -- ---- other bytes
+    pub write_may : (name bytes : List ℕ) (size : ℕ) → rec.name ≡ name → is_file_name name ≡ true → (size ≤ 65536 → length bytes ≡ size)
+        → first_refusal (write_checks_of p place name slot rec (given_before p rec name bytes) size) ≡ None → MayReplace p slot rec (given_before p rec name bytes)
+    write_may name bytes size named form whole none =
+        let file = given_before p rec name bytes in
+        let row = all_pass (write_checks_of p place name slot rec file size) none in
+        let here = row.1 in
+        let short = here.1 in
+        let room = short.1 in
+        let blocks = room.1 in
+        let version : p.limits.version ≡ 1 = eqb-true p.limits.version 1 (and_parts (p.limits.version == 1) (are_in_range p.limits) sound.range).0 in
+        let limit = ltb-false (file_limit p.limits.version) size row.0 in
+        let small : size ≤ 65536 = omega (arith, limit, ap file_limit version) in
+        let long = whole small in
+        let free = ltb-false (free_count p.taken + length rec.blocks) (blocks_taken p.limits.version size) blocks.0 in
+        record {
+          there = is_rec;
+          name = form;
+          new = λ differ. absurd (differ (sym named));
+          set = given_set;
+          assignable = assignable;
+          few = given_few;
+          short = ltb-false 128 (length (described_by p file)) short.0;
+          room = ltb-false p.limits.props (length (known_instead p slot file)) room.0;
+          small = omega (arith, long, small);
+          blocks = omega (arith, free, ap blocks_needed long, ap (λ v. blocks_taken v size) version);
+        }
+
+    -- ---- another name
+    pub rename_may : (name other bytes : List ℕ) → is_file_name other ≡ true → length bytes ≡ rec.size
+        → first_refusal (rename_checks_of p place name slot (given_before p rec other bytes)) ≡ None → MayReplace p slot rec (given_before p rec other bytes)
+    rename_may name other bytes form sized none =
+        let file = given_before p rec other bytes in
+        let row = all_pass (rename_checks_of p place name slot file) none in
+        let here = row.1 in
+        let new = here.1 in
+        let short = new.1 in
+        record {
+          there = is_rec;
+          name = form;
+          new = λ differ. none_there (slot_of p.catalog other) here.0;
+          set = given_set;
+          assignable = assignable;
+          few = given_few;
+          short = ltb-false 128 (length (described_by p file)) new.0;
+          room = ltb-false p.limits.props (length (known_instead p slot file)) short.0;
+          small = omega (arith, sized, size_is_short p sound.parts filed there);
+          blocks = omega (arith, ap blocks_needed sized, blocks_counted p sound.parts filed there);
+        }
