@@ -257,7 +257,7 @@ module _ (p q : Kept) (slot : ℕ) (name : List ℕ) (assigned : List (List ℕ)
       of_new here = (
         omega (arith, (new_blocks_free n here).0, r.form_vacated.blocks),
         all_among (is_taken l.taken) r.comes.rec.blocks n
-        (new_taken d r.described name assigned bytes r.form_vacated (coming p q slot name assigned bytes form r) r.comes) (among_from_number r.comes.rec.blocks n here),
+            (new_taken d r.described name assigned bytes r.form_vacated (coming p q slot name assigned bytes form r) r.comes) (among_from_number r.comes.rec.blocks n here),
       )
 
       by : (filed ≡ f) ⊎ Among d.catalog.entries f → (n < l.limits.blocks) × (is_taken l.taken n ≡ true)
