@@ -1,5 +1,5 @@
 -- How much is marked when another file takes the place of one, and how often rows are edited.
-use Rattle.std.proofs.Common.{◌≡◌, ◌⊎◌, refl, sym, ap, ap₂, ◌∙◌, subst, inl, inr, ℕ, ◌+◌, ◌*◌, ◌<◌, ◌≤◌, ◌&&◌, ◌||◌, not, Bool, true, false, cond, List, [], ◌∷◌, length, set, filter, count_by, length-append, arith, length-set, get_or-set_same}
+use Rattle.std.proofs.Common.{◌≡◌, ◌⊎◌, refl, sym, ap, ap₂, ◌∙◌, subst, inl, inr, ℕ, ◌+◌, ◌<◌, ◌≤◌, ◌&&◌, ◌||◌, not, Bool, true, false, cond, List, [], ◌∷◌, length, set, filter, count_by, length-append, arith, length-set, get_or-set_same}
 use Rattle.std.specs.List.{range_with_len}
 use Rattle.std.specs.Ordering.{nat_cmp}
 use Rattle.std.specs.Cmp.{nat_cmp_total}
@@ -15,7 +15,7 @@ use Rattle.lis_ext.specs.Ext.{Ext, set_of as numbers_at}
 use Rattle.lis_ext.specs.Numbers.{has_number, differs, numbers_where}
 use Rattle.lis_model.specs.declared.limits.Limits.{Limits}
 use Rattle.lis_model.specs.Derived.{derived_words}
-use Rattle.lis_model.specs.Image.{bitmap_start, data_start}
+use Rattle.lis_model.specs.Image.{bitmap_start}
 use Rattle.lis_model.specs.Changes.{new_file}
 use Rattle.lis_kept.specs.Kept.{Kept}
 use Rattle.lis_kept.specs.Areas.{block_of, is_marked, marked_count}
@@ -25,7 +25,7 @@ use Rattle.lis_kept.proofs.Filing.{among_from_number}
 use Rattle.lis_kept.proofs.InArea.{among_slots}
 use Rattle.lis_store.specs.Changes.{differing_bits}
 use Rattle.lis_store.specs.Admitting.{described_by}
-use Rattle.lis_store.specs.Adding.{is_one_of, numbers_named, with_heads, learnt_words}
+use Rattle.lis_store.specs.Adding.{is_one_of, numbers_named, learnt_words}
 use Rattle.lis_store.specs.ReplacingIn.{AreInForm}
 use Rattle.lis_store.proofs.Added.{filed_is, set_here}
 use Rattle.lis_store.proofs.AddedMarks.{heads_few}
@@ -33,7 +33,7 @@ use Rattle.lis_store.proofs.DerivedWords.{derived_few}
 use Rattle.lis_store.proofs.Numbers.{sorted_where}
 use Rattle.lis_store.proofs.Removed.{sum_has}
 use Rattle.lis_store.proofs.Replaced.{Replaced, left, coming, last, last_is}
-use Rattle.lis_store.proofs.Vacated.{vacated, slot_below}
+use Rattle.lis_store.proofs.Vacated.{slot_below}
 
 abbrev true_in : List Bool → ℕ
 true_in bits = count_by (λ (b : Bool). b) bits

@@ -1,5 +1,5 @@
 -- What memory tells when another file takes the place of one.
-use Rattle.std.proofs.Common.{◌≡◌, ◌⊎◌, sym, ap, ap₂, ◌∙◌, subst, inl, inr, ℕ, ◌+◌, ◌<◌, ◌≤◌, ◌==◌, not, ◌&&◌, true, false, List, [], length, is_some, arith}
+use Rattle.std.proofs.Common.{◌≡◌, ◌⊎◌, sym, ap, ap₂, ◌∙◌, subst, inl, inr, ℕ, ◌+◌, ◌<◌, ◌≤◌, ◌==◌, not, true, false, List, length, is_some, arith}
 use Rattle.std.specs.List.{flat_map, list_all, Contains}
 use Rattle.std.proofs.lemmas.Bool.{and_parts, and_from, both_ways, or_cases, eq-eqb, ne_eqb, false_from_ne_true, not_from_false}
 use Rattle.std.proofs.lemmas.List.{length-map}
@@ -9,7 +9,7 @@ use Rattle.lis_graph.proofs.Sets.{sorted_from_rising}
 use Rattle.lis_blockmap.specs.Bitmap.{is_taken, free_count}
 use Rattle.lis_content.specs.Content.{has_number}
 use Rattle.lis_content.proofs.Numbers.{stays_marked}
-use Rattle.lis_dict.specs.Dict.{words, word_of}
+use Rattle.lis_dict.specs.Dict.{word_of}
 use Rattle.lis_catalog.specs.Catalog.{Filed, filed_cmp, slot_of, rec_at}
 use Rattle.lis_ext.specs.Ext.{Ext, has, set_of as numbers_at}
 use Rattle.lis_fields.specs.Records.{FileRecord}
@@ -25,14 +25,13 @@ use Rattle.lis_kept.specs.Kept.{Kept}
 use Rattle.lis_kept.specs.Areas.{IsSaved}
 use Rattle.lis_kept.specs.Sound.{AreSound}
 use Rattle.lis_kept.specs.Telling.{declared_of, axioms_of, words_told, bytes_told, file_told, state_of, is_used, IsFileBlock, Tells}
-use Rattle.lis_kept.specs.Changes.{Drops}
 use Rattle.lis_kept.proofs.Filing.{filed_rec, filed_slot, filed_at_slot, among_from_number, number_from_among}
 use Rattle.lis_kept.proofs.Known.{words_known}
 use Rattle.lis_store.specs.Saving.{IsReady}
 use Rattle.lis_store.specs.Admitting.{described_by}
 use Rattle.lis_store.specs.Adding.{numbers_named, learnt_words}
 use Rattle.lis_store.specs.ReplacingIn.{AreInForm}
-use Rattle.lis_store.proofs.Added.{end_is, filed_is, rec_here, set_here, set_other, has_other, word_stays, sound_end, used_had, has_here, described_numbered, new_not_taken, new_taken}
+use Rattle.lis_store.proofs.Added.{filed_is, rec_here, set_here, set_other, has_other, word_stays, sound_end, used_had, described_numbered, new_not_taken, new_taken}
 use Rattle.lis_store.proofs.Coming.{ComesIn}
 use Rattle.lis_store.proofs.Facts.{limits_told, filed_of_file, file_of_filed, blocks_counted}
 use Rattle.lis_store.proofs.Forgot.{used_word_stays}

@@ -1,5 +1,5 @@
 -- A file with the words that the file in the slot was given: nothing new is known with it, whatever its bytes are.
-use Rattle.std.proofs.Common.{◌≡◌, ◌⊎◌, sym, ap, ◌∙◌, subst, inl, inr, ℕ, ◌≤◌, List, ◌++◌, length, Some, option_to_list, arith}
+use Rattle.std.proofs.Common.{◌≡◌, ◌⊎◌, ap, subst, inl, inr, ℕ, ◌≤◌, List, ◌++◌, length, Some, option_to_list, arith}
 use Rattle.std.specs.List.{flat_map}
 use Rattle.std.proofs.lemmas.List.{length-map}
 use Rattle.lis_graph.proofs.Members.{Among, among_append, among_flat_map}

@@ -1,5 +1,5 @@
 -- The calls that write and rename a file.
-use Rattle.std.proofs.Common.{◌≡◌, ◌≢◌, refl, sym, ap, ap₂, ◌∙◌, subst, ℕ, ◌+◌, ◌≤◌, ◌==◌, nat_lt, nat_le, ◌&&◌, ◌||◌, not, cond, Bool, true, false, List, [], ◌∷◌, length, Option, Some, None, is_some, option_to_list, Result, Err, arith}
+use Rattle.std.proofs.Common.{◌≡◌, ◌≢◌, refl, sym, ap, ap₂, ◌∙◌, subst, ℕ, ◌+◌, ◌≤◌, ◌==◌, nat_lt, nat_le, ◌&&◌, ◌||◌, not, cond, Bool, true, false, List, [], length, Option, Some, None, is_some, option_to_list, Result, Err, arith}
 use Rattle.std.specs.List.{flat_map, list_all}
 use Rattle.std.proofs.lemmas.Bool.{and_parts, or_left, both_ways, eqb-true, leb-true, le-ltb, ltb-false}
 use Rattle.std.proofs.lemmas.Option.{same_Some}
@@ -178,12 +178,6 @@ module _ {T : Type 0} (old : Stored) (m : Meaning) (place : List Formula) (name 
         → result ≡ Err (Refused refusal) → Changes now (rename now name other) old m m result
     renamed_refused other refusal first ends =
         change_refused old m now (rename now name other) refusal result fits (rename_refused old m s sound fits place name slot rec there other refusal first) ends
-
-  pub written_large : (payload : Payload) → nat_lt (file_limit old.parts.limits.version) payload.size ≡ true → result ≡ Err (Refused LargeFile) → Changes now (write now name payload) old m m result
-  written_large payload large ends =
-      let at = slot_there old.parts sound.parts place name in
-      written_refused at.0 at.1 at.2 payload LargeFile
-      (ap (λ b. cond b (Some LargeFile) (first_refusal ((not (is_among old.parts place name), NoFileHere) ∷ overwriting_checks old.parts at.0 at.1 (given_before old.parts at.1 name payload.bytes) payload.size))) large) ends
 
   pub written_nowhere : (payload : Payload) → payload.size ≤ file_limit old.parts.limits.version → is_among old.parts place name ≡ false → result ≡ Err (Refused NoFileHere)
       → Changes now (write now name payload) old m m result
