@@ -17,6 +17,7 @@ ghost use Rattle.lis_kept.specs.Areas.Area.{Files, Rows};
 ghost use Rattle.lis_kept.specs.Sound.{BlocksAreTaken};
 ghost use Rattle.lis_kept.specs.Changes.{Describes, Drops, Adds};
 
+mod refiling;
 mod widening;
 
 use crate::parts::Parts;

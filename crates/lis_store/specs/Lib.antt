@@ -17,5 +17,6 @@ pub mod Counting
 pub mod Relating
 pub mod RelatingIn
 pub mod Unlinking
+pub mod ReplacingIn
 pub mod Instead
 pub mod Retagging

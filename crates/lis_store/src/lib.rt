@@ -20,6 +20,7 @@ mod relating_in;
 mod placing;
 mod removing;
 mod retagging;
+mod replacing;
 mod saving;
 mod store;
 mod tags;

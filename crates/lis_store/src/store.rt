@@ -21,6 +21,7 @@ mod linking;
 mod unlinking;
 mod declaring;
 mod undeclaring;
+mod replacing;
 
 use crate::adding::put_in;
 use crate::admitting::may_add;

@@ -1,0 +1,194 @@
+-- The calls that write and rename a file.
+use Rattle.std.proofs.Common.{◌≡◌, ◌≢◌, refl, sym, ap, ap₂, ◌∙◌, subst, ℕ, ◌+◌, ◌≤◌, ◌==◌, nat_lt, nat_le, ◌&&◌, ◌||◌, not, cond, Bool, true, false, List, [], length, Option, Some, None, is_some, option_to_list, Result, Err, arith}
+use Rattle.std.specs.List.{flat_map, list_all}
+use Rattle.std.proofs.lemmas.Bool.{and_parts, or_left, both_ways, eqb-true, leb-true, le-ltb, ltb-false}
+use Rattle.std.proofs.lemmas.Option.{same_Some}
+use Rattle.lis_graph.specs.Graph.{is_rising}
+use Rattle.lis_ports.specs.Meaning.{Meaning}
+use Rattle.lis_blockmap.specs.Bitmap.{free_count}
+use Rattle.lis_dict.specs.Dict.{number_of, word_of}
+use Rattle.lis_dict.proofs.Laws.{number_from_word}
+use Rattle.lis_catalog.specs.Catalog.{slot_of, rec_at}
+use Rattle.lis_catalog.proofs.Laws.{rec_at-slot_of}
+use Rattle.lis_fields.specs.Records.{FileRecord}
+use Rattle.lis_fields.specs.Layouts.{is_super, is_record, are_tags, are_short, are_blocks}
+use Rattle.lis_words.specs.Words.{word_cmp, is_file_name, is_valued, is_built_in, head_bytes}
+use Rattle.lis_grammar.specs.Formula.{Formula}
+use Rattle.lis_model.specs.declared.refusal.Refusal.{Refusal}
+use Rattle.lis_model.specs.declared.refusal.Refusal.TheVariants.{NoFileHere, LargeFile}
+use Rattle.lis_model.specs.Ranges.{are_in_range}
+use Rattle.lis_model.specs.State.{State, File, file_limit, blocks_needed, blocks_taken}
+use Rattle.lis_model.specs.Changes.{new_file, file_of, file_replaced}
+use Rattle.lis_model.specs.Step.{Situation, Payload, changed, write, rename}
+use Rattle.lis_laws.proofs.Counts.{all_from, rising_from_sorted}
+use Rattle.lis_laws.proofs.Members.{word_order, sorted_set_of}
+use Rattle.lis_kept.specs.Kept.{Kept}
+use Rattle.lis_kept.specs.Sound.{AreSound}
+use Rattle.lis_kept.specs.Telling.{words_told, bytes_told}
+use Rattle.lis_kept.proofs.Refiled.{record_named}
+use Rattle.lis_store.specs.declared.change.Change.{Change}
+use Rattle.lis_store.specs.declared.change.Change.TheVariants.{Refused}
+use Rattle.lis_store.specs.Stored.{Stored, IsSound, StoreFits}
+use Rattle.lis_store.specs.Changes.{Changes, first_refusal}
+use Rattle.lis_store.specs.Judging.{is_among}
+use Rattle.lis_store.specs.Admitting.{described_by}
+use Rattle.lis_store.specs.Adding.{may_learn}
+use Rattle.lis_store.specs.Instead.{given_before, overwriting_checks, renaming_checks, write_checks_of, rename_checks_of}
+use Rattle.lis_store.specs.ReplacingIn.{MayReplaceFirst}
+use Rattle.lis_store.proofs.Admitted.{none_there}
+use Rattle.lis_store.proofs.Facts.{filed_named}
+use Rattle.lis_store.proofs.Here.{none_here}
+use Rattle.lis_store.proofs.InsteadGiven.{told_few}
+use Rattle.lis_store.proofs.InsteadTold.{old_is, old_given, write_refused, write_done, rename_refused, rename_done}
+use Rattle.lis_store.proofs.Judged.{all_pass, change_refused}
+use Rattle.lis_store.proofs.SameWords.{told_known, same_words_room}
+
+-- ---- the words that a file was given
+module _ (p : Kept) (sound : AreSound p) (slot : ℕ) (rec : FileRecord) (there : rec_at p.catalog slot ≡ Some rec) where
+  abbrev pub given : List (List ℕ)
+  given = words_told p.dict rec.tags
+
+  given_rising : is_rising word_cmp given ≡ true
+  given_rising = rising_from_sorted word_cmp word_order given (sorted_set_of (flat_map (λ n. option_to_list (word_of p.dict n)) rec.tags))
+
+  given_few : length given ≤ 16
+  given_few =
+      let most = and_parts (is_record rec && list_all (λ n. is_some (word_of p.dict n)) rec.tags) (list_all (λ n. nat_lt n p.limits.blocks) rec.blocks) (sound.records slot rec there) in
+      let form = and_parts (is_record rec) (list_all (λ n. is_some (word_of p.dict n)) rec.tags) most.0 in
+      let both = and_parts (is_file_name rec.name && nat_le rec.size 65536 && are_tags rec.tags) (are_blocks rec.size rec.blocks) form.0 in
+      let tags = and_parts (is_file_name rec.name && nat_le rec.size 65536) (are_tags rec.tags) both.0 in
+      let few = and_parts (nat_le (length rec.tags) 16 && are_short rec.tags) _ tags.1 in
+      let short = leb-true (length rec.tags) 16 (and_parts (nat_le (length rec.tags) 16) (are_short rec.tags) few.0).0 in
+      omega (arith, short, told_few p.dict rec.tags)
+
+  given_learnable : list_all (may_learn p) given ≡ true
+  given_learnable = all_from (may_learn p) given (λ word m. let known = told_known p sound rec.tags word m in by word known.0 known.1 (is_valued word) refl)
+    where
+      by : (word : List ℕ) (n : ℕ) → word_of p.dict n ≡ Some word → (b : Bool) → is_valued word ≡ b → may_learn p word ≡ true
+      by word n is true valued =
+          ap (λ b. cond b (is_some (number_of p.dict (head_bytes word)) || is_built_in (head_bytes word)) (is_some (number_of p.dict word))) valued
+          ∙ or_left (is_some (number_of p.dict (head_bytes word))) (is_built_in (head_bytes word)) (sound.heads n word is valued)
+      by word n is false plain =
+          ap (λ b. cond b (is_some (number_of p.dict (head_bytes word)) || is_built_in (head_bytes word)) (is_some (number_of p.dict word))) plain
+          ∙ ap is_some (number_from_word p.dict sound.dict word n is)
+
+  -- another file with these words
+  pub same_words_first : (name bytes : List ℕ) → is_file_name name ≡ true → (name ≢ rec.name → slot_of p.catalog name ≡ None) → length (described_by p (new_file name given bytes)) ≤ 128
+      → length bytes ≤ 65536 → blocks_needed (length bytes) ≤ free_count p.taken + length rec.blocks → MayReplaceFirst p slot rec (new_file name given bytes)
+  same_words_first name bytes form new short small blocks = record {
+    there = there;
+    name = form;
+    new = new;
+    set = given_rising;
+    learnable = given_learnable;
+    few = given_few;
+    short = short;
+    room = same_words_room p sound rec.tags (new_file name given bytes) refl;
+    small = small;
+    blocks = blocks;
+  }
+
+  pub write_first : (name bytes : List ℕ) (size : ℕ) → slot_of p.catalog name ≡ Some slot → is_super p.limits ≡ true → size ≤ file_limit p.limits.version → (size ≤ 65536 → length bytes ≡ size)
+      → first_refusal (overwriting_checks p slot rec (given_before p rec name bytes) size) ≡ None → MayReplaceFirst p slot rec (new_file name given bytes)
+  write_first name bytes size named range most whole none =
+      let version = eqb-true p.limits.version 1 (and_parts (p.limits.version == 1) (are_in_range p.limits) range).0 in
+      let same = (filed_named p sound name slot rec named there).1 in
+      let passes = all_pass (overwriting_checks p slot rec (given_before p rec name bytes) size) none in
+      let small : size ≤ 65536 = omega (arith, most, ap file_limit version) in
+      let short = ltb-false 128 (length (described_by p (new_file name given bytes))) passes.0 in
+      let room = ltb-false (free_count p.taken + length rec.blocks) (blocks_taken p.limits.version size) passes.1.1.0 in
+      same_words_first name bytes (subst (λ n. is_file_name n ≡ true) same (record_named p.dict p.limits.blocks rec (sound.records slot rec there)))
+      (λ differ. absurd (differ (sym same))) short
+      (omega (arith, whole small, small)) (omega (arith, ap blocks_needed (whole small), room, ap (λ v. blocks_taken v size) version))
+
+  pub rename_first : (other : List ℕ) → is_file_name other ≡ true → first_refusal (renaming_checks p slot (given_before p rec other [])) ≡ None → MayReplaceFirst p slot rec (new_file other given [])
+  rename_first other form none =
+      let passes = all_pass (renaming_checks p slot (given_before p rec other [])) none in
+      let short = ltb-false 128 (length (described_by p (new_file other given []))) passes.1.0 in
+      same_words_first other [] form (λ differ. none_there (slot_of p.catalog other) passes.0) short (omega arith) (omega arith)
+
+-- ---- rows
+pub rest_of_write : (k : Kept) (place : List Formula) (name : List ℕ) (slot : ℕ) (rec : FileRecord) (file : File) (size : ℕ) → size ≤ file_limit k.limits.version → is_among k place name ≡ true
+    → first_refusal (write_checks_of k place name slot rec file size) ≡ first_refusal (overwriting_checks k slot rec file size)
+rest_of_write k place name slot rec file size small here =
+    let rest = first_refusal (overwriting_checks k slot rec file size) in
+    ap (λ b. cond b (Some LargeFile) (cond (not (is_among k place name)) (Some NoFileHere) rest)) (le-ltb (file_limit k.limits.version) size small)
+    ∙ ap (λ b. cond (not b) (Some NoFileHere) rest) here
+
+pub rest_of_rename : (k : Kept) (place : List Formula) (name : List ℕ) (slot : ℕ) (file : File) → is_among k place name ≡ true
+    → first_refusal (rename_checks_of k place name slot file) ≡ first_refusal (renaming_checks k slot file)
+rest_of_rename k place name slot file here = ap (λ b. cond (not b) (Some NoFileHere) (first_refusal (renaming_checks k slot file))) here
+
+-- ---- calls that are done
+module _ (k : Stored) (m : Meaning) (s : State) (sound : IsSound k) (fits : StoreFits k m s) (place : List Formula) (name : List ℕ) (slot : ℕ) (rec taken : FileRecord)
+    (named : slot_of k.parts.catalog name ≡ Some slot) (there : rec_at k.parts.catalog slot ≡ Some rec) (gone : rec_at k.parts.catalog slot ≡ Some taken) (here : is_among k.parts place name ≡ true)
+    (assigned : List (List ℕ)) (words_are : assigned ≡ words_told k.parts.dict rec.tags) where
+  same_rec : rec ≡ taken
+  same_rec = same_Some rec taken (sym there ∙ gone)
+
+  taken_named : taken.name ≡ name
+  taken_named = (filed_named k.parts sound.parts name slot taken named gone).1
+
+  old_words : (file_of s.files name).assigned ≡ assigned
+  old_words = old_given k m s sound fits name slot rec named there ∙ sym words_are
+
+  pub written_done : (payload : Payload) → payload.size ≤ file_limit k.parts.limits.version
+      → first_refusal (overwriting_checks k.parts slot rec (given_before k.parts rec name payload.bytes) payload.size) ≡ None
+      → write (record { state = s; place = place }) name payload ≡ changed (record { state = s; place = place }) (file_replaced s taken.name (new_file name assigned payload.bytes))
+  written_done payload small none =
+      let now : Situation = record { state = s; place = place } in
+      write_done k m s sound fits place name slot rec (λ _. (named, there)) payload (rest_of_write k.parts place name slot rec (given_before k.parts rec name payload.bytes) payload.size small here ∙ none)
+      ∙ ap₂ (λ n ws. changed now (file_replaced s n (new_file name ws payload.bytes))) (sym taken_named) old_words
+
+  pub renamed_done : (other : List ℕ) → ((bytes : List ℕ) → first_refusal (renaming_checks k.parts slot (given_before k.parts rec other bytes)) ≡ None)
+      → rename (record { state = s; place = place }) name other
+      ≡ changed (record { state = s; place = place }) (file_replaced s taken.name (new_file other assigned (bytes_told k.parts.limits fits.kept taken)))
+  renamed_done other none =
+      let now : Situation = record { state = s; place = place } in
+      let bytes = (file_of s.files name).bytes in
+      let same : bytes ≡ bytes_told k.parts.limits fits.kept taken =
+      ap (λ (f : File). f.bytes) (old_is k m s sound fits name slot rec named there) ∙ ap (bytes_told k.parts.limits fits.kept) same_rec in
+      rename_done k m s sound fits place name slot rec (λ _. (named, there)) other (rest_of_rename k.parts place name slot (given_before k.parts rec other bytes) here ∙ none bytes)
+      ∙ (ap₂ (λ n ws. changed now (file_replaced s n (new_file other ws bytes))) (sym taken_named) old_words
+      ∙ ap (λ bs. changed now (file_replaced s taken.name (new_file other assigned bs))) same)
+
+-- ---- calls that are refused
+-- the slot of a name, where there is one
+pub slot_there : (k : Kept) → AreSound k → (place : List Formula) (name : List ℕ)
+    → (slot : ℕ) × (rec : FileRecord) × (is_among k place name ≡ true → (slot_of k.catalog name ≡ Some slot) × (rec_at k.catalog slot ≡ Some rec))
+slot_there k sound place name = by (slot_of k.catalog name) refl
+  where
+    by : (o : Option ℕ) → slot_of k.catalog name ≡ o
+        → (slot : ℕ) × (rec : FileRecord) × (is_among k place name ≡ true → (slot_of k.catalog name ≡ Some slot) × (rec_at k.catalog slot ≡ Some rec))
+    by None none =
+        (0, record { name = []; size = 0; tags = []; blocks = [] }, λ some. absurd (both_ways (is_among k place name) (none_here k sound place name none) some))
+    by (Some slot) is = let found = rec_at-slot_of k.catalog name slot sound.catalog is in (slot, found.0, λ some. (is, found.1))
+
+module _ {T : Type 0} (old : Stored) (m : Meaning) (place : List Formula) (name : List ℕ) (result : Result T Change) (sound : IsSound old) (s : State) (fits : StoreFits old m s) where
+  abbrev now : Situation
+  now = record { state = s; place = place }
+
+  module _ (slot : ℕ) (rec : FileRecord) (there : is_among old.parts place name ≡ true → (slot_of old.parts.catalog name ≡ Some slot) × (rec_at old.parts.catalog slot ≡ Some rec)) where
+    pub written_refused : (payload : Payload) (refusal : Refusal) → first_refusal (write_checks_of old.parts place name slot rec (given_before old.parts rec name payload.bytes) payload.size) ≡ Some refusal
+        → result ≡ Err (Refused refusal) → Changes now (write now name payload) old m m result
+    written_refused payload refusal first ends =
+        change_refused old m now (write now name payload) refusal result fits (write_refused old m s sound fits place name slot rec there payload refusal first) ends
+
+    pub renamed_refused : (other : List ℕ) (refusal : Refusal) → first_refusal (rename_checks_of old.parts place name slot (given_before old.parts rec other (file_of s.files name).bytes)) ≡ Some refusal
+        → result ≡ Err (Refused refusal) → Changes now (rename now name other) old m m result
+    renamed_refused other refusal first ends =
+        change_refused old m now (rename now name other) refusal result fits (rename_refused old m s sound fits place name slot rec there other refusal first) ends
+
+  pub written_nowhere : (payload : Payload) → payload.size ≤ file_limit old.parts.limits.version → is_among old.parts place name ≡ false → result ≡ Err (Refused NoFileHere)
+      → Changes now (write now name payload) old m m result
+  written_nowhere payload small none ends =
+      let at = slot_there old.parts sound.parts place name in
+      let rest = first_refusal (overwriting_checks old.parts at.0 at.1 (given_before old.parts at.1 name payload.bytes) payload.size) in
+      written_refused at.0 at.1 at.2 payload NoFileHere
+      (ap (λ b. cond b (Some LargeFile) (cond (not (is_among old.parts place name)) (Some NoFileHere) rest)) (le-ltb (file_limit old.parts.limits.version) payload.size small) ∙ ap (λ b. cond (not b) (Some NoFileHere) rest) none) ends
+
+  pub renamed_nowhere : (other : List ℕ) → is_among old.parts place name ≡ false → result ≡ Err (Refused NoFileHere) → Changes now (rename now name other) old m m result
+  renamed_nowhere other none ends =
+      let at = slot_there old.parts sound.parts place name in
+      let rest = first_refusal (renaming_checks old.parts at.0 (given_before old.parts at.1 other (file_of s.files name).bytes)) in
+      renamed_refused at.0 at.1 at.2 other NoFileHere (ap (λ b. cond (not b) (Some NoFileHere) rest) none) ends
