@@ -70,8 +70,6 @@ pub mod InsteadKnown
 pub mod InsteadMeasured
 pub mod InsteadGiven
 pub mod InsteadRows
-pub mod Retagged
 pub mod InsteadTold
 pub mod WriteFile
 pub mod InsteadMay
-pub mod RetagTold

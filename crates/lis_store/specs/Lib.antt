@@ -19,4 +19,3 @@ pub mod RelatingIn
 pub mod Unlinking
 pub mod ReplacingIn
 pub mod Instead
-pub mod Retagging

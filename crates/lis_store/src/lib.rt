@@ -19,7 +19,6 @@ mod relating;
 mod relating_in;
 mod placing;
 mod removing;
-mod retagging;
 mod replacing;
 mod saving;
 mod store;
