@@ -1,5 +1,5 @@
 -- What a store tells of one file of the state.
-use Rattle.std.proofs.Common.{◌≡◌, ℕ, Option, Some, IsSomeAnd, List, map, filter, refl, sym, ap, ◌∙◌, subst}
+use Rattle.std.proofs.Common.{◌≡◌, ℕ, Option, Some, IsSomeAnd, List, sym, ap, ◌∙◌, subst}
 use Rattle.std.specs.List.{find}
 use Rattle.lis_graph.proofs.Members.{Among, contains_from_among, among_filter, among_map}
 use Rattle.lis_ports.specs.Meaning.{Meaning}

@@ -12,7 +12,7 @@ use Rattle.lis_catalog.specs.Catalog.{slot_of, rec_at}
 use Rattle.lis_catalog.proofs.Laws.{rec_at-slot_of}
 use Rattle.lis_fields.specs.Records.{FileRecord}
 use Rattle.lis_fields.specs.Layouts.{is_super, is_record, are_tags, are_short, are_blocks}
-use Rattle.lis_words.specs.Words.{word_cmp, is_file_name, is_valued, is_built_in, head_bytes}
+use Rattle.lis_words.specs.Words.{word_cmp, is_file_name, is_valued, is_head, is_built_in, head_bytes}
 use Rattle.lis_grammar.specs.Formula.{Formula}
 use Rattle.lis_model.specs.declared.refusal.Refusal.{Refusal}
 use Rattle.lis_model.specs.declared.refusal.Refusal.TheVariants.{NoFileHere, LargeFile}
@@ -66,11 +66,11 @@ module _ (p : Kept) (sound : AreSound p) (slot : ℕ) (rec : FileRecord) (there 
     where
       by : (word : List ℕ) (n : ℕ) → word_of p.dict n ≡ Some word → (b : Bool) → is_valued word ≡ b → may_learn p word ≡ true
       by word n is true valued =
-          ap (λ b. cond b (is_some (number_of p.dict (head_bytes word)) || is_built_in (head_bytes word)) (is_some (number_of p.dict word))) valued
+          ap (λ b. cond b (is_some (number_of p.dict (head_bytes word)) || is_built_in (head_bytes word)) (is_some (number_of p.dict word) || (is_head word && is_built_in word))) valued
           ∙ or_left (is_some (number_of p.dict (head_bytes word))) (is_built_in (head_bytes word)) (sound.heads n word is valued)
       by word n is false plain =
-          ap (λ b. cond b (is_some (number_of p.dict (head_bytes word)) || is_built_in (head_bytes word)) (is_some (number_of p.dict word))) plain
-          ∙ ap is_some (number_from_word p.dict sound.dict word n is)
+          ap (λ b. cond b (is_some (number_of p.dict (head_bytes word)) || is_built_in (head_bytes word)) (is_some (number_of p.dict word) || (is_head word && is_built_in word))) plain
+          ∙ or_left (is_some (number_of p.dict word)) (is_head word && is_built_in word) (ap is_some (number_from_word p.dict sound.dict word n is))
 
   -- another file with these words
   pub same_words_first : (name bytes : List ℕ) → is_file_name name ≡ true → (name ≢ rec.name → slot_of p.catalog name ≡ None) → length (described_by p (new_file name given bytes)) ≤ 128
