@@ -1,20 +1,18 @@
 -- The words that a file has, and the route to it.
-use Rattle.std.proofs.Common.{◌≡◌, ℕ, ◌+◌, ◌≤◌, cond, Bool, true, false, Option, Some, None, is_some, option_to_list, List, [], ◌∷◌, ◌++◌, length, map, filter, drop, slice_get, refl, sym, ap, ◌∙◌, subst, arith, append_assoc, append-nil, ◌<◌}
-use Rattle.std.specs.List.{find, flat_map, list_any}
+use Rattle.std.proofs.Common.{◌≡◌, ℕ, ◌+◌, ◌≤◌, cond, Bool, true, false, Option, Some, None, is_some, option_to_list, List, [], ◌∷◌, ◌++◌, length, map, filter, drop, slice_get, refl, sym, ap, ◌∙◌, arith, append_assoc, append-nil, ◌<◌}
+use Rattle.std.specs.List.{flat_map}
 use Rattle.std.proofs.lemmas.Cmp.{nat_list_cmp_total}
 use Rattle.std.proofs.lemmas.List.{drop_more, drop_all}
 use Rattle.std.proofs.lemmas.Option.{slice_get_within, get_or_from_slice_get}
-use Rattle.lis_graph.proofs.Members.{Among, among_filter, filter_among, among_map, map_among}
+use Rattle.lis_graph.proofs.Members.{among_filter, filter_among, among_map, map_among}
 use Rattle.lis_graph.proofs.Sets.{sorted_from_rising}
 use Rattle.lis_ports.specs.Meaning.{Meaning}
-use Rattle.lis_dict.specs.Dict.{word_of}
 use Rattle.lis_dict.proofs.Laws.{among_from_word, word_from_among, number_from_among, number_below}
 use Rattle.lis_catalog.specs.Catalog.{slot_of}
 use Rattle.lis_ext.specs.Ext.{has, set_of as numbers_at}
 use Rattle.lis_words.specs.Words.{word_cmp, same_word}
-use Rattle.lis_grammar.specs.Formula.{Formula}
 use Rattle.lis_model.specs.Replies.{body_line}
-use Rattle.lis_model.specs.State.{State, description}
+use Rattle.lis_model.specs.State.{description}
 use Rattle.lis_model.specs.Changes.{file_of}
 use Rattle.lis_model.specs.Table.{Table, Entry, table}
 use Rattle.lis_model.specs.Listing.{extension}

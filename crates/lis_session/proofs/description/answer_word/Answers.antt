@@ -1,4 +1,4 @@
-use Rattle.std.proofs.Common.{◌≡◌, ◌∙◌, sym, ap, ap₂, subst, Some, Ok, List, ℕ, length, slice_get, arith}
+use Rattle.std.proofs.Common.{◌∙◌, sym, ap, ap₂, subst, Ok, length, arith}
 use Rattle.lis_ext.specs.Ext.{Ext, has}
 use Rattle.lis_model.specs.Replies.{body_line}
 use Rattle.lis_session.specs.Parts.{Answers}

@@ -1,10 +1,10 @@
-use Rattle.std.proofs.Common.{◌≡◌, ◌∙◌, sym, ap, subst, List, ℕ, ◌≤◌, length, arith}
+use Rattle.std.proofs.Common.{sym, subst}
 use Rattle.std.specs.List.{flat_map}
 use Rattle.std.proofs.lemmas.Result.{err_from_is_err_and}
 use Rattle.lis_model.specs.Replies.{body_line}
 use Rattle.lis_session.specs.Described.{words_had}
-use Rattle.lis_session.proofs.InTurn.{TextSoFar, text_none, text_more, text_broke, text_all}
-use Rattle.lis_session.proofs.Described.{text_at, text_from, text_start, text_next, text_end}
+use Rattle.lis_session.proofs.InTurn.{TextSoFar, text_none, text_more, text_broke}
+use Rattle.lis_session.proofs.Described.{text_at, text_start, text_next}
 use Rattle.lis_session.proofs.description.answer_words.Goals as goal
 
 pub loop-k-init : goal.loop-k-init

@@ -1,4 +1,3 @@
-use Rattle.std.proofs.Common.{ap, ◌∙◌, sym}
 use Rattle.std.specs.List.{flat_map}
 use Rattle.lis_incr.specs.Left.{words_left}
 use Rattle.lis_model.specs.Replies.{body_line}
