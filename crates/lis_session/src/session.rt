@@ -9,9 +9,7 @@ ghost use Rattle.lis_store.specs.Stored.{Stored, StoreFits};
 ghost use Rattle.lis_session.specs.Item.{CarriesOut, HasEndCause, IsSameStation, StoreLeft};
 ghost use Rattle.lis_session.specs.Parts.{Does, Ends};
 
-use crate::changes::{
-    add, axiom, create, mkdir, rename, rm, rmdir, unaxiom, write,
-};
+use crate::changes::{add, axiom, create, mkdir, rename, rm, rmdir, unaxiom, write};
 use crate::content::cat;
 use crate::counting::stat;
 use crate::description::props;

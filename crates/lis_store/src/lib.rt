@@ -1,6 +1,6 @@
 //! A store over what memory keeps: a state on an image, what memory keeps of it, and calls that read and change both. Opening joins its
-//! parts; truth and listings see it as a view; files are made, read and removed, and words are declared. The laws say what images it
-//! stands for.
+//! parts; truth and listings see it as a view; words are declared and taken back, axioms come and go, and files are made, read, changed
+//! and removed. The laws say what images it stands for.
 #![tactic(auto)]
 
 mod adding;
@@ -15,9 +15,9 @@ mod judging;
 pub mod laws;
 mod lessening;
 mod looking;
+mod placing;
 mod relating;
 mod relating_in;
-mod placing;
 mod removing;
 mod replacing;
 mod saving;

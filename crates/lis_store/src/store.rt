@@ -17,11 +17,11 @@ ghost use Rattle.lis_store.specs.Stored.{IsSound, StoreFits};
 ghost use Rattle.lis_store.specs.Judging.{is_among};
 ghost use Rattle.lis_store.specs.Changes.{Changes, HasChangeCause, ChangeLeft, EditsFew};
 
-mod linking;
-mod unlinking;
 mod declaring;
-mod undeclaring;
+mod linking;
 mod replacing;
+mod undeclaring;
+mod unlinking;
 
 use crate::adding::put_in;
 use crate::admitting::may_add;

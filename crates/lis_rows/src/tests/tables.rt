@@ -151,15 +151,15 @@ pub static SESSIONS: [(&str, &str); 49] = [
         "ok;ok;ok;ok;ok;ok;s files 0;s known 4;s axioms 3;s free 8;ok;ok;no 08 not a place;ok;ok;p a;p b;p c;ok;ok;no 13 in use;",
     ),
     // Files get other bytes, words and names.
-    (
-        "create a;write a 5;xyz",
-        "ok;no 03 cut payload;",
-    ),
+    ("create a;write a 5;xyz", "ok;no 03 cut payload;"),
     (
         "mkdir t;add a 3 t;abc;write a 5;hello;cat a;write a 0;;cat a;cd t;ls;write b 0;;write a 65537;",
         "ok;ok;ok;b 5;hello;ok;ok;b 0;;ok;ok;f a;ok;no 10 no such file here;no 03 cut payload;",
     ),
-    ("create x;mv x /;rename x x;", "ok;no 01 bad line;no 09 name taken;"),
+    (
+        "create x;mv x /;rename x x;",
+        "ok;no 01 bad line;no 09 name taken;",
+    ),
     (
         "mkdir a;create x a;create y;rename x z;ls;cd a;ls;rename z z;rename z y;rename y w;rename z x;ls;",
         "ok;ok;ok;ok;d a;f y;ok;ok;f z;ok;no 09 name taken;no 09 name taken;no 10 no such file here;ok;f x;ok;",
@@ -415,7 +415,10 @@ pub static EDITS: [(&str, u64); 7] = [
     ("mkdir a;mkdir b;create f a b;rm f;", 4),
     ("mkdir a;create f a;create f a;create g b;rm g;", 1),
     // What a file has before and after stays.
-    ("mkdir a;create e;create f a;rm e;write f 1;x;rename f g;", 1),
+    (
+        "mkdir a;create e;create f a;rm e;write f 1;x;rename f g;",
+        1,
+    ),
     (
         "mkdir a;mkdir b;mkdir c;create f a;create g a c;axiom a b;axiom c b;unaxiom a b;unaxiom c b;",
         7,
