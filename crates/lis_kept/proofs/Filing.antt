@@ -230,7 +230,7 @@ module _ (c : Catalog) (is : IsCatalog c) (slot : ℕ) (rec : FileRecord) (absen
   names_then : names (with_filed c slot rec) ≡ insert_key word_cmp (names c) rec.name
   names_then = map_insert_key (λ (f : Filed). f.rec.name) filed_cmp word_cmp (λ x y. refl) c.entries filed
 
-  slot_is_free : rec_at c slot ≡ None → has_number (slots c) slot ≡ false
+  pub slot_is_free : rec_at c slot ≡ None → has_number (slots c) slot ≡ false
   slot_is_free free = false_from_ne_true (has_number (slots c) slot) (λ has. by (among_from_any (λ n. n == slot) (slots c) has))
     where
       by : (n : ℕ) × Among (slots c) n × ((n == slot) ≡ true) → ⊥

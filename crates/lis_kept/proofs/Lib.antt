@@ -9,6 +9,7 @@ pub mod Described
 pub mod Filing
 pub mod Dropped
 pub mod Added
+pub mod Refiled
 pub mod OwnLinks
 pub mod WordMore
 pub mod WordDeclared

@@ -87,7 +87,11 @@ pub record Adds (name tags bytes : List ℕ) (slot : ℕ) (p q : Kept) (old new 
   pub below : slot < p.limits.files
   pub free : rec_at p.catalog slot ≡ None
   pub rec : FileRecord
-  pub parts : q ≡ record p { catalog = with_filed p.catalog slot rec; taken = q.taken; marks = q.marks }
+  pub parts : q ≡ record p {
+    catalog = with_filed p.catalog slot rec;
+    taken = q.taken;
+    marks = slice_set (slice_set p.marks (block_of p.limits Files slot) true) (bitmap_start p.limits) true;
+  }
   pub named : rec.name ≡ name
   pub tagged : rec.tags ≡ tags
   pub sized : rec.size ≡ length bytes

@@ -13,4 +13,5 @@ pub mod Passes
 pub mod Linking
 pub mod Undeclaring
 pub mod Widening
+pub mod Refiling
 pub mod Under

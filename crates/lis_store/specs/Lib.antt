@@ -13,3 +13,4 @@ pub mod Removing
 pub mod Replacing
 pub mod Adding
 pub mod Instead
+pub mod ReplacingIn

@@ -45,7 +45,7 @@ fn learn_word(parts: &mut Parts, word: &Word)
 }
 
 // Gives numbers to those words that have none.
-fn learn_words(parts: &mut Parts, words: &[Word])
+pub(crate) fn learn_words(parts: &mut Parts, words: &[Word])
     requires form { IsTrue (list_all (may_learn parts.old) words.now) }
     requires room { HasWordRoom parts.old (with_heads words.now) }
     ensures { LearnsAll (with_heads words.now) parts.old parts.new }
@@ -72,7 +72,7 @@ fn numbers_in<const MOST: usize>(row: &Rows, props: u32) -> ArrayVec<u16, MOST>
 }
 
 // The numbers of the words.
-fn numbers_of(parts: &Parts, words: &[Word], row: &mut Rows) -> ArrayVec<u16, 16>
+pub(crate) fn numbers_of(parts: &Parts, words: &[Word], row: &mut Rows) -> ArrayVec<u16, 16>
     requires shape { HasShape row.old 1 parts.now.limits.props }
     requires few { length words.now ≤ 16 }
     ensures numbers { result.items ≡ numbers_named parts.now.dict words.now }
@@ -108,7 +108,7 @@ fn leave_out(parts: &Parts, words: &[Word], row: &mut Rows)
 }
 
 // The numbers of all words that these entail.
-fn numbers_entailed(
+pub(crate) fn numbers_entailed(
     parts: &Parts,
     assigned: &[Word],
     derived: &[Word],

@@ -14,6 +14,7 @@ mod judging;
 pub mod laws;
 mod looking;
 mod removing;
+mod replacing;
 mod saving;
 mod store;
 

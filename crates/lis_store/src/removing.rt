@@ -14,7 +14,7 @@ use lis_ext::Ext;
 use lis_kept::Parts;
 
 // The numbers of the description in a slot.
-fn numbers_at(ext: &Ext, props: u32, slot: u16) -> ArrayVec<u16, 128>
+pub(crate) fn numbers_at(ext: &Ext, props: u32, slot: u16) -> ArrayVec<u16, 128>
     requires props { props ≡ ext.now.props }
     requires slot { slot < length ext.now.sets }
     requires few { length (set_of ext.now slot) ≤ 128 }
