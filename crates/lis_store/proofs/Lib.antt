@@ -35,3 +35,5 @@ pub mod Measured
 pub mod Admitted
 pub mod AddFile
 pub mod Sizes
+pub mod InsteadKnown
+pub mod InsteadMeasured

@@ -6,7 +6,7 @@ use Rattle.std.specs.Ordering.{nat_cmp}
 use Rattle.std.specs.Cmp.{IsTotalOrder, nat_cmp_total, tied_itself}
 use Rattle.std.specs.declared.cmp.Ordering.{Ordering}
 use Rattle.std.specs.List.Sorted.{IsStrictlySortedBy}
-use Rattle.std.proofs.lemmas.Bool.{and_parts, both_ways, not-true, not_from_false}
+use Rattle.std.proofs.lemmas.Bool.{and_parts, both_ways, not-true, not_from_false, false_from_ne_true}
 use Rattle.std.proofs.lemmas.Option.{same_Some, none-some}
 use Rattle.std.proofs.lemmas.List.{length-map}
 use Rattle.std.proofs.lemmas.List.Sums.{length-filter, sum_by-cons}
@@ -34,12 +34,14 @@ use Rattle.lis_kept.specs.Kept.{Kept}
 use Rattle.lis_kept.specs.Sound.{AreSound}
 use Rattle.lis_kept.specs.Telling.{declared_of, axioms_of, words_told}
 use Rattle.lis_kept.proofs.Described.{among_where, where_among, few_where}
-use Rattle.lis_kept.proofs.Filing.{among_from_number, number_from_among}
+use Rattle.lis_kept.proofs.Filing.{same_tests, among_from_number, number_from_among}
 use Rattle.lis_kept.proofs.Known.{among_axiom, declared_has_number, word_among, among_word, word_known, known_word, one_number, only_word}
 use Rattle.lis_kept.proofs.Formed.{some_word}
 use Rattle.lis_kept.proofs.OwnLinks.{declared_no_tests}
 use Rattle.lis_store.specs.Admitting.{described_by, known_with}
+use Rattle.lis_store.specs.Adding.{is_one_of}
 use Rattle.lis_store.specs.Describing.{with_heads, AreGathered}
+use Rattle.lis_store.specs.Instead.{HasNumbers}
 use Rattle.lis_store.proofs.Entailment.{up_has_number}
 use Rattle.lis_store.proofs.Gathered.{numbered_below}
 use Rattle.lis_store.proofs.Points.{AllApart, no_tie, length-with_more}
@@ -66,7 +68,7 @@ pub row_counted : (bits : ℕ) (f : ℕ → Bool) → count_by (λ (b : Bool). b
 unfolding row_of numbers_where
 row_counted bits f = count_map f (range_with_len 0 bits) ∙ sym (length-filter f (range_with_len 0 bits))
 
-numbers_apart : (props : ℕ) (test : ℕ → Bool) → AllApart (numbers_where props test)
+pub numbers_apart : (props : ℕ) (test : ℕ → Bool) → AllApart (numbers_where props test)
 unfolding numbers_where
 numbers_apart props test = sorted_apart nat_cmp nat_cmp_total (filter test (range_with_len 0 props)) (IsStrictlySortedBy-filter nat_cmp test (range_with_len 0 props) (sorted_range 0 props))
 
@@ -116,7 +118,7 @@ module _ (k : Kept) (sound : AreSound k) where
       let is : flat_map word_list (n ∷ ns) ≡ here.0 ∷ flat_map word_list ns = ap (λ o. option_to_list o ++ flat_map word_list ns) here.1 in
       (subst (λ (ws : List (List ℕ)). AllApart ws) (sym is) (new, rest.0), omega (arith, ap length is, rest.1))
 
-  told_counted : (ns : List ℕ) → AllApart ns → ((n : ℕ) → Among ns n → IsSome (word_of k.dict n)) → length (words_told k.dict ns) ≡ length ns
+  pub told_counted : (ns : List ℕ) → AllApart ns → ((n : ℕ) → Among ns n → IsSome (word_of k.dict n)) → length (words_told k.dict ns) ≡ length ns
   told_counted ns apart some =
       let once = told_once ns apart some in
       omega (arith, length-with_more word_cmp word_exact [] (flat_map word_list ns) once.0 (λ w m none. none), once.1)
@@ -239,6 +241,26 @@ module _ (k : Kept) (sound : AreSound k) where
         let at = among_where k.limits.props (λ i. not (get lacked 0 i)) n m in
         ap (λ (o : Option (List ℕ)). is_some o) (are.entailed n at.0 (not-true (get lacked 0 n) at.1)).worded
 
+    -- a number whose word is described is not lacked
+    pub numbered_in : (n : ℕ) → n < k.limits.props → not (get lacked 0 n) ≡ is_one_of described (word_of k.dict n)
+    numbered_in n lt = by (word_of k.dict n) refl
+      where
+        by : (o : Option (List ℕ)) → word_of k.dict n ≡ o → not (get lacked 0 n) ≡ is_one_of described o
+        by None none = false_from_ne_true (not (get lacked 0 n)) (λ on.
+            let e = are.entailed n lt (not-true (get lacked 0 n) on) in
+            none-some e.word (sym none ∙ e.worded))
+        by (Some w) some =
+            same_tests (not (get lacked 0 n)) (has_word described w)
+            (λ on. has_word_from_among described w (told_in w (word_among k sound numbers n w some (number_from_among numbers n (where_among k.limits.props (λ i. not (get lacked 0 i)) n lt on)))))
+            (λ has. back w some (among_with_words told fresh w (subst (λ ws. Among ws w) described_is (among_from_has_word described w has))))
+          where
+            back : (w : List ℕ) → word_of k.dict n ≡ Some w → Among told w ⊎ Among fresh w → not (get lacked 0 n) ≡ true
+            back w some (inl old) =
+                let found = among_word k sound numbers w old in
+                let same = one_number k sound found.0 n w found.1 some in
+                subst (λ i. not (get lacked 0 i) ≡ true) same (among_where k.limits.props (λ i. not (get lacked 0 i)) found.0 (among_from_number numbers found.0 found.2)).1
+            back w some (inr new) = absurd (not_known w n new some)
+
     pub described_counted : length described ≡ length numbers + length fresh
     described_counted =
         let joined = length-with_more word_cmp word_exact told fresh (distinct_apart fresh are.once) (λ w m old. let found = among_word k sound numbers w old in not_known w found.0 m found.1) in
@@ -297,3 +319,11 @@ module _ (k : Kept) (sound : AreSound k) where
 
     pub few_had : true_count had 0 ≤ k.limits.props
     few_had = omega (arith, had_counted, few_where k.limits.props (λ n. not (get lacked 0 n)) (numbers_where k.limits.props (λ n. not (get lacked 0 n))) refl)
+
+    -- the numbers of its words
+    pub file_has_numbers : HasNumbers k had file
+    file_has_numbers n lt =
+        ap (λ (r : Rows). get r 0 n) is
+        ∙ (get-with_row_same lacked 0 n (λ bit. not (get lacked 0 bit)) (omega (arith, shape.tall)) (omega (arith, lt, shape.wide))
+        ∙ (numbered_in file.assigned (derived_words file.name file.bytes) lacked fresh are n lt
+        ∙ ap (λ ws. is_one_of (all_up (declared_of k) (axioms_of k) ws) (word_of k.dict n)) (sym (own_given k sound file))))

@@ -4,7 +4,7 @@ use Rattle.lis_model.specs.Changes.{new_file}
 use Rattle.lis_kept.proofs.InArea.{few_properties}
 use Rattle.lis_store.specs.Describing.{with_heads, AreGathered}
 use Rattle.lis_store.proofs.Gathered.{with_heads_few}
-use Rattle.lis_store.proofs.Measured.{none_gathered, file_measured, file_known, few_had}
+use Rattle.lis_store.proofs.Measured.{none_gathered, file_measured, file_known, few_had, file_has_numbers}
 use Rattle.lis_store.proofs.describing.measure.Goals as goal
 
 pub gather_all-requires-2-clause-room : goal.gather_all-requires-2-clause-room
@@ -38,3 +38,9 @@ returns-clause-known c =
     let is = file_known k c.requires.sound (new_file c.args.name.now c.args.words.now c.args.payload.now) c.gather_all-2.new.lacked c.gather_all-2.new.fresh.items (all_gathered c)
     c.gather_all-2.ensures.shape c.negate.new.self c.negate.ensures in
     omega (arith, is, c.len-fresh.ensures.value)
+
+pub returns-clause-row : goal.returns-clause-row
+returns-clause-row c =
+    let k = c.args.parts.now in
+    file_has_numbers k c.requires.sound (new_file c.args.name.now c.args.words.now c.args.payload.now) c.gather_all-2.new.lacked c.gather_all-2.new.fresh.items (all_gathered c)
+    c.gather_all-2.ensures.shape c.negate.new.self c.negate.ensures
