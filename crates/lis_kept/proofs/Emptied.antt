@@ -1,4 +1,4 @@
--- The numbers of a file that is gone: of their words those may go that are not in use.
+-- The numbers of a file that is gone, but for some that stay in its slot: of their words those may go that are not in use.
 use Rattle.std.proofs.Common.{◌≡◌, ◌⊎◌, refl, sym, ap, ◌∙◌, subst, inl, inr, ℕ, ◌==◌, if◌then◌else◌, ◌&&◌, ◌||◌, true, false, List, [], set, get_or, Option, Some, None, arith, get_or-set_same, get_or-set_other}
 use Rattle.std.specs.List.{list_any}
 use Rattle.std.proofs.lemmas.Bool.{and_parts, both_ways, cases_eq, eq-eqb, ne_eqb, eqb-true, or_cases, or_left, or_right, true_from_ne_false}
@@ -36,31 +36,38 @@ flagged_not_valued k sound n w is bit =
     sym (ap (λ b. is_prop (property_by (Some w) b)) bit) ∙ (sym (ap (λ o. is_prop (property_by o (is_taken k.declared n))) is) ∙ sound.properties n) in
     declarable_not_valued w (and_parts (is_kept_word w) (is_declarable w) formed).1
 
-module _ (slot : ℕ) (rec : FileRecord) (p dropped q : Kept) (sound : AreSound p) (keeps : KeepsInUse p)
+module _ (slot : ℕ) (rest : List ℕ) (rec : FileRecord) (p dropped q : Kept) (sound : AreSound p) (keeps : KeepsInUse p)
     (closed : (at m n : ℕ) → has p.ext m at ≡ true → is_linked p m n ≡ true → has p.ext n at ≡ true)
-    (drops : Drops slot rec p dropped) (empties : Describes slot [] dropped q) where
+    (rest_closed : (m n : ℕ) → has_number rest m ≡ true → is_linked p m n ≡ true → has_number rest n ≡ true)
+    (drops : Drops slot rec p dropped) (describes : Describes slot rest dropped q) where
   abbrev mid : Kept
   mid = record p { catalog = without_slot p.catalog slot; taken = given p.taken rec.blocks; ext = q.ext; marks = q.marks }
 
   mid_is : q ≡ mid
-  mid_is = empties.parts ∙ ap (λ (k : Kept). record k { ext = q.ext; marks = q.marks }) drops.parts
+  mid_is = describes.parts ∙ ap (λ (k : Kept). record k { ext = q.ext; marks = q.marks }) drops.parts
 
   -- ---- descriptions
-  sets_are : mid.ext.sets ≡ set p.ext.sets slot []
-  sets_are = empties.sets ∙ ap (λ (k : Kept). set k.ext.sets slot []) drops.parts
+  sets_are : mid.ext.sets ≡ set p.ext.sets slot rest
+  sets_are = describes.sets ∙ ap (λ (k : Kept). set k.ext.sets slot rest) drops.parts
 
-  had_before : (n at : ℕ) → has mid.ext n at ≡ true → (at ≡ slot → ⊥) × (has p.ext n at ≡ true)
-  had_before n at h = by (cases_eq at slot)
-    where
-      here : numbers_at mid.ext slot ≡ []
-      here = ap (λ ss. get_or ss slot []) sets_are ∙ get_or-set_same p.ext.sets slot [] [] (omega (arith, file_slot_below p sound slot rec drops.there, sound.files))
+  here : numbers_at mid.ext slot ≡ rest
+  here = ap (λ ss. get_or ss slot []) sets_are ∙ get_or-set_same p.ext.sets slot rest [] (omega (arith, file_slot_below p sound slot rec drops.there, sound.files))
 
-      by : (at ≡ slot) ⊎ (at ≡ slot → ⊥) → (at ≡ slot → ⊥) × (has p.ext n at ≡ true)
-      by (inl same) = absurd (both_ways (has mid.ext n at) (ap (λ ns. has_number ns n) (ap (numbers_at mid.ext) same ∙ here)) h)
-      by (inr differ) = (differ, sym (ap (λ ns. has_number ns n) (ap (λ ss. get_or ss at []) sets_are ∙ get_or-set_other p.ext.sets slot at [] [] differ)) ∙ h)
+  had_other : (n at : ℕ) → (at ≡ slot → ⊥) → has mid.ext n at ≡ has p.ext n at
+  had_other n at differ = ap (λ ns. has_number ns n) (ap (λ ss. get_or ss at []) sets_are ∙ get_or-set_other p.ext.sets slot at rest [] differ)
+
+  had_here : (n at : ℕ) → at ≡ slot → has mid.ext n at ≡ has_number rest n
+  had_here n at same = ap (λ ns. has_number ns n) (ap (numbers_at mid.ext) same ∙ here)
 
   had_stays : (n at : ℕ) → (at ≡ slot → ⊥) → has p.ext n at ≡ true → has mid.ext n at ≡ true
-  had_stays n at differ h = ap (λ ns. has_number ns n) (ap (λ ss. get_or ss at []) sets_are ∙ get_or-set_other p.ext.sets slot at [] [] differ) ∙ h
+  had_stays n at differ h = had_other n at differ ∙ h
+
+  mid_closed : (at m n : ℕ) → has mid.ext m at ≡ true → is_linked p m n ≡ true → has mid.ext n at ≡ true
+  mid_closed at m n h linked = by (cases_eq at slot)
+    where
+      by : (at ≡ slot) ⊎ (at ≡ slot → ⊥) → has mid.ext n at ≡ true
+      by (inl same) = had_here n at same ∙ rest_closed m n (sym (had_here m at same) ∙ h) linked
+      by (inr differ) = had_stays n at differ (closed at m n (sym (had_other m at differ) ∙ h) linked)
 
   -- ---- use
   used_flagged : (n : ℕ) → is_taken p.declared n ≡ true → is_used mid n ≡ true
@@ -110,9 +117,8 @@ module _ (slot : ℕ) (rec : FileRecord) (p dropped q : Kept) (sound : AreSound 
     had_head : is_had mid.ext n ≡ true → is_used mid head ≡ true
     had_head h =
         let at = had_at mid.ext n h in
-        let before = had_before n at.0 at.2 in
         let linked = or_left (is_own_link (declared_of p) (word_of p.dict n) (word_of p.dict head)) (has_pair p.axioms n head) (own_link_is p sound.dict n head ∙ is_head) in
-        used_had head at.0 (had_stays head at.0 before.0 (closed at.0 n head before.1 linked))
+        used_had head at.0 (mid_closed at.0 n head at.2 linked)
 
     left_head : list_any (is_left_of n) p.axioms ≡ true → is_used mid head ≡ true
     left_head h = let found = among_from_any (is_left_of n) p.axioms h in by found.0 found.1 found.2

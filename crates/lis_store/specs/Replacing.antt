@@ -1,9 +1,12 @@
 -- A file that takes the place of another.
-use Rattle.std.specs.Prelude.{◌≡◌, ◌≢◌, ℕ, ◌+◌, ◌≤◌, Some, None, List, [], length, map, filter, slice_set, IsTrue}
+use Rattle.std.specs.Prelude.{◌≡◌, ◌≢◌, ℕ, ◌+◌, ◌≤◌, ◌&&◌, Some, None, List, [], length, map, filter, slice_set, IsTrue}
 use Rattle.std.specs.List.{list_all}
 use Rattle.lis_graph.specs.Graph.{is_rising}
 use Rattle.lis_blockmap.specs.Bitmap.{free_count}
 use Rattle.lis_catalog.specs.Catalog.{rec_at, slot_of}
+use Rattle.lis_dict.specs.Dict.{word_of}
+use Rattle.lis_ext.specs.Ext.{has}
+use Rattle.lis_ext.specs.Numbers.{numbers_where}
 use Rattle.lis_fields.specs.Records.{FileRecord}
 use Rattle.lis_words.specs.Words.{is_file_name, word_cmp}
 use Rattle.lis_model.specs.Sets.{with_words}
@@ -11,6 +14,7 @@ use Rattle.lis_model.specs.State.{File, is_assignable, blocks_needed}
 use Rattle.lis_kept.specs.Kept.{Kept}
 use Rattle.lis_kept.specs.Telling.{declared_of, is_used}
 use Rattle.lis_store.specs.Admitting.{described_by}
+use Rattle.lis_store.specs.Adding.{is_one_of}
 
 -- what memory keeps, but for the description in a slot
 abbrev pub emptied : Kept → ℕ → Kept
@@ -23,6 +27,10 @@ words_without k slot = map (λ (e : List ℕ × ℕ). e.0) (filter (λ (e : List
 -- the words that would be known with a file in the place of that in the slot
 abbrev pub known_instead : Kept → ℕ → File → List (List ℕ)
 known_instead k slot file = with_words (words_without k slot) (described_by k file)
+
+-- the numbers of the description in the slot that the file's description would have too
+abbrev pub shared_numbers : Kept → ℕ → File → List ℕ
+shared_numbers k slot file = numbers_where k.limits.props (λ n. has k.ext n slot && is_one_of (described_by k file) (word_of k.dict n))
 
 -- A file that may come into the place of that in the slot.
 pub record MayReplace (k : Kept) (slot : ℕ) (rec : FileRecord) (file : File) : Type 0 where

@@ -56,7 +56,7 @@ pub(crate) fn learn_words(parts: &mut Parts, words: &[Word])
 }
 
 // The numbers whose bits are set, in rising order.
-fn numbers_in<const MOST: usize>(row: &Rows, props: u32) -> ArrayVec<u16, MOST>
+pub(crate) fn numbers_in<const MOST: usize>(row: &Rows, props: u32) -> ArrayVec<u16, MOST>
     requires shape { HasShape row.now 1 props }
     requires small { props ≤ 8192 }
     requires few { length (numbers_where props (get row.now 0)) ≤ MOST }

@@ -16,6 +16,7 @@ mod looking;
 mod removing;
 mod replacing;
 mod saving;
+mod sharing;
 mod store;
 
 pub use change::Change;
