@@ -18,6 +18,7 @@ use Rattle.lis_fields.specs.Records.{FileRecord}
 use Rattle.lis_fields.specs.declared.slots.AxiomSlot.{AxiomSlot}
 use Rattle.lis_fields.specs.declared.slots.AxiomSlot.TheVariants.{Free as FreeAxiom, Pair}
 use Rattle.lis_words.specs.Words.{same_word, is_valued, head_bytes}
+use Rattle.lis_model.specs.Image.{bitmap_start}
 use Rattle.lis_model.specs.Derived.{derived_words}
 use Rattle.lis_model.specs.State.{File, up, all_up}
 use Rattle.lis_model.specs.Changes.{new_file}
@@ -25,6 +26,8 @@ use Rattle.lis_laws.proofs.Chains.{up_trans, up_from_entails}
 use Rattle.lis_laws.proofs.Counts.{all_among}
 use Rattle.lis_laws.proofs.Members.{same_word_decides, among_from_has_word, has_word_from_among, among_with_words, among_set_of, set_of_among}
 use Rattle.lis_kept.specs.Kept.{Kept}
+use Rattle.lis_kept.specs.Areas.{block_of}
+use Rattle.lis_kept.specs.Areas.Area.{Files}
 use Rattle.lis_kept.specs.Links.{is_linked, has_pair}
 use Rattle.lis_kept.specs.Sound.{AreSound, FreeSlotsAreEmpty, BlocksAreTaken}
 use Rattle.lis_kept.specs.Forgetting.{KeepsInUse}
@@ -37,6 +40,7 @@ use Rattle.lis_store.specs.Stored.{AreClosed, DescriptionsAreShort, BlocksAreApa
 use Rattle.lis_store.specs.Saving.{settled}
 use Rattle.lis_store.specs.Admitting.{described_by, IsAdmitted}
 use Rattle.lis_store.specs.Adding.{is_one_of, AreNumbered, numbers_named, with_heads, learnt_words, PutsIn}
+use Rattle.lis_store.proofs.Coming.{ComesIn, comes_in}
 use Rattle.lis_store.proofs.Cleaned.{clean_is, sound_clean, in_use_clean}
 use Rattle.lis_store.proofs.Entailment.{link_named, up_has_number}
 use Rattle.lis_store.proofs.Naming.{one_of, of_one, named_has, named_few}
@@ -46,19 +50,19 @@ use Rattle.lis_store.proofs.Removed.{had_there}
 has_number_of : (d : Dict) → IsDict d → (word : List ℕ) → (n : ℕ) × (word_of d n ≡ Some word) → IsSome (number_of d word)
 has_number_of d is word found = ap is_some (number_from_word d is word found.0 found.1)
 
-module _ (p q : Kept) (old new : Held) (name : List ℕ) (assigned : List (List ℕ)) (bytes : List ℕ) (sound : AreSound p) (admitted : IsAdmitted p (new_file name assigned bytes))
-    (puts : PutsIn (new_file name assigned bytes) p q old new) where
+module _ (p q : Kept) (name : List ℕ) (assigned : List (List ℕ)) (bytes : List ℕ) (sound : AreSound p) (admitted : IsAdmitted p (new_file name assigned bytes))
+    (comes : ComesIn (new_file name assigned bytes) p q) where
   abbrev file : File
   file = new_file name assigned bytes
 
   abbrev slot : ℕ
-  slot = puts.slot
+  slot = comes.slot
 
   abbrev rec : FileRecord
-  rec = puts.adds.rec
+  rec = comes.rec
 
   abbrev dict : Dict
-  dict = puts.learnt.dict
+  dict = comes.learnt.dict
 
   abbrev described : List (List ℕ)
   described = described_by p file
@@ -70,24 +74,29 @@ module _ (p q : Kept) (old new : Held) (name : List ℕ) (assigned : List (List 
   abbrev pub end : Kept
   end = record p { dict = dict; catalog = with_filed p.catalog slot rec; taken = marked p.taken rec.blocks; ext = q.ext; marks = q.marks }
 
-  pub filed_is : puts.filed ≡ record p { dict = dict; catalog = with_filed p.catalog slot rec; taken = marked p.taken rec.blocks; marks = puts.filed.marks }
-  filed_is =
-      puts.adds.parts
-      ∙ (ap (λ (ts : List Bool). record puts.learnt { catalog = with_filed puts.learnt.catalog slot rec; taken = ts; marks = puts.filed.marks }) puts.adds.taken
-      ∙ ap (λ (k : Kept). record k { dict = dict; catalog = with_filed k.catalog slot rec; taken = marked k.taken rec.blocks; marks = puts.filed.marks }) puts.learns.parts)
+  abbrev filed_marks : List Bool
+  filed_marks = set (set comes.learnt.marks (block_of comes.learnt.limits Files slot) true) (bitmap_start comes.learnt.limits) true
+
+  pub filed_is : comes.filed ≡ record p { dict = dict; catalog = with_filed p.catalog slot rec; taken = marked p.taken rec.blocks; marks = filed_marks }
+  filed_is = comes.parts ∙ ap (λ (k : Kept). record k {
+    dict = dict;
+    catalog = with_filed k.catalog slot rec;
+    taken = marked k.taken rec.blocks;
+    marks = filed_marks;
+  }) comes.learns.parts
 
   pub end_is : q ≡ end
-  end_is = puts.describes.parts ∙ ap (λ (k : Kept). record k { ext = q.ext; marks = q.marks }) filed_is
+  end_is = comes.describes.parts ∙ ap (λ (k : Kept). record k { ext = q.ext; marks = q.marks }) filed_is
 
   -- ---- the slot
   pub free_slot : rec_at p.catalog slot ≡ None
-  free_slot = ap (λ (k : Kept). rec_at k.catalog slot) (sym puts.learns.parts) ∙ puts.adds.free
+  free_slot = ap (λ (k : Kept). rec_at k.catalog slot) (sym comes.learns.parts) ∙ comes.free
 
   pub below_files : slot < p.limits.files
-  below_files = omega (arith, puts.adds.below, ap (λ (k : Kept). k.limits.files) puts.learns.parts)
+  below_files = omega (arith, comes.below, ap (λ (k : Kept). k.limits.files) comes.learns.parts)
 
   pub absent : slot_of p.catalog rec.name ≡ None
-  absent = ap (slot_of p.catalog) puts.adds.named ∙ admitted.new
+  absent = ap (slot_of p.catalog) comes.named ∙ admitted.new
 
   pub rec_here : rec_at end.catalog slot ≡ Some rec
   rec_here = rec_at-with_filed p.catalog slot rec slot absent free_slot ∙ ap (λ b. if b then Some rec else rec_at p.catalog slot) (eq-eqb slot slot refl)
@@ -98,7 +107,7 @@ module _ (p q : Kept) (old new : Held) (name : List ℕ) (assigned : List (List 
 
   -- ---- descriptions
   sets_are : end.ext.sets ≡ set p.ext.sets slot numbers
-  sets_are = puts.describes.sets ∙ ap (λ (k : Kept). set k.ext.sets slot numbers) filed_is
+  sets_are = comes.describes.sets ∙ ap (λ (k : Kept). set k.ext.sets slot numbers) filed_is
 
   pub set_here : numbers_at end.ext slot ≡ numbers
   set_here = ap (λ ss. get_or ss slot []) sets_are ∙ get_or-set_same p.ext.sets slot numbers [] (omega (arith, below_files, sound.files))
@@ -106,12 +115,12 @@ module _ (p q : Kept) (old new : Held) (name : List ℕ) (assigned : List (List 
   pub set_other : (at : ℕ) → (at ≡ slot → ⊥) → numbers_at end.ext at ≡ numbers_at p.ext at
   set_other at differ = ap (λ ss. get_or ss at []) sets_are ∙ get_or-set_other p.ext.sets slot at numbers [] differ
 
-  has_other : (n at : ℕ) → (at ≡ slot → ⊥) → has end.ext n at ≡ has p.ext n at
+  pub has_other : (n at : ℕ) → (at ≡ slot → ⊥) → has end.ext n at ≡ has p.ext n at
   has_other n at differ = ap (λ ns. has_number ns n) (set_other at differ)
 
   -- ---- words
   pub word_stays : (n : ℕ) → IsSome (word_of p.dict n) → word_of dict n ≡ word_of p.dict n
-  word_stays n some = let found = some_word (word_of p.dict n) some in puts.learns.keeps n found.0 found.1 ∙ sym found.1
+  word_stays n some = let found = some_word (word_of p.dict n) some in comes.learns.keeps n found.0 found.1 ∙ sym found.1
 
   -- each word that is learnt is one of the description
   learnt_described : (word : List ℕ) → Among (with_heads (learnt_words file)) word → Among described word
@@ -122,22 +131,22 @@ module _ (p q : Kept) (old new : Held) (name : List ℕ) (assigned : List (List 
     pub sound_end : AreSound end
     sound_end = subst (λ (k : Kept). AreSound k) end_is after
 
-    has_here : (n : ℕ) → has end.ext n slot ≡ is_one_of described (word_of dict n)
+    pub has_here : (n : ℕ) → has end.ext n slot ≡ is_one_of described (word_of dict n)
     has_here n = ap (λ ns. has_number ns n) set_here ∙ named_has dict sound_end.dict described n
 
     -- a word is one that was known, or one of the description
-    word_from : (n : ℕ) (word : List ℕ) → word_of dict n ≡ Some word → (word_of p.dict n ≡ Some word) ⊎ Among described word
+    pub word_from : (n : ℕ) (word : List ℕ) → word_of dict n ≡ Some word → (word_of p.dict n ≡ Some word) ⊎ Among described word
     word_from n word is =
-        by (among_with_words (words p.dict) (with_heads (learnt_words file)) word (subst (λ ws. Among ws word) puts.learns.words (word_known end sound_end n word is)))
+        by (among_with_words (words p.dict) (with_heads (learnt_words file)) word (subst (λ ws. Among ws word) comes.learns.words (word_known end sound_end n word is)))
       where
         by : Among (words p.dict) word ⊎ Among (with_heads (learnt_words file)) word → (word_of p.dict n ≡ Some word) ⊎ Among described word
         by (inl m) =
             let known = known_word p sound word m in
-            inl (subst (λ k. word_of p.dict k ≡ Some word) (one_number end sound_end known.0 n word (puts.learns.keeps known.0 word known.1) is) known.1)
+            inl (subst (λ k. word_of p.dict k ≡ Some word) (one_number end sound_end known.0 n word (comes.learns.keeps known.0 word known.1) is) known.1)
         by (inr m) = inr (learnt_described word m)
 
     -- ---- what is in use
-    used_had : (n at : ℕ) → has end.ext n at ≡ true → is_used end n ≡ true
+    pub used_had : (n at : ℕ) → has end.ext n at ≡ true → is_used end n ≡ true
     used_had n at h =
         or_left (is_taken p.declared n || is_had end.ext n) (is_named_left end n) (or_right (is_taken p.declared n) (is_had end.ext n) (had_there end.ext.sets at n h))
 
@@ -147,7 +156,7 @@ module _ (p q : Kept) (old new : Held) (name : List ℕ) (assigned : List (List 
         by : (x y : Option (List ℕ)) → word_of p.dict a ≡ x → word_of p.dict b ≡ y → is_head_by x y ≡ true → is_head_by (word_of dict a) (word_of dict b) ≡ true
         by None y is_x is_y head = absurd cc
         by (Some w) None is_x is_y head = absurd cc
-        by (Some w) (Some v) is_x is_y head = ap₂ is_head_by (puts.learns.keeps a w is_x) (puts.learns.keeps b v is_y) ∙ head
+        by (Some w) (Some v) is_x is_y head = ap₂ is_head_by (comes.learns.keeps a w is_x) (comes.learns.keeps b v is_y) ∙ head
 
     left_stays : (n : ℕ) → is_named_left p n ≡ true → is_named_left end n ≡ true
     left_stays n left = by (or_cases (list_any (is_left_of n) p.axioms) (list_any (is_left_head_of p.dict n) p.axioms) left)
@@ -163,62 +172,79 @@ module _ (p q : Kept) (old new : Held) (name : List ℕ) (assigned : List (List 
             or_right (list_any (is_left_of n) p.axioms) (list_any (is_left_head_of dict n) p.axioms)
             (any_from_among (is_left_head_of dict n) p.axioms found.0 found.1 (head found.0 found.2))
 
-    used_stays : FreeSlotsAreEmpty p → (n : ℕ) → is_used p n ≡ true → is_used end n ≡ true
-    used_stays free n used = by (or_cases (is_taken p.declared n || is_had p.ext n) (is_named_left p n) used)
+    -- what was in use is, but by what the slot was described with
+    pub used_or_here : (n : ℕ) → is_used p n ≡ true → (is_used end n ≡ true) ⊎ (has p.ext n slot ≡ true)
+    used_or_here n used = by (or_cases (is_taken p.declared n || is_had p.ext n) (is_named_left p n) used)
       where
-        had : is_had p.ext n ≡ true → is_used end n ≡ true
+        had : is_had p.ext n ≡ true → (is_used end n ≡ true) ⊎ (has p.ext n slot ≡ true)
         had h =
             let found = among_from_any (λ ns. has_number ns n) p.ext.sets h in
             let place = contains_from_among p.ext.sets found.0 found.1 in
             let set_in : numbers_at p.ext place.0 ≡ found.0 = get_or_default p.ext.sets place.0 [] found.0 place.1 ∙ place.2 in
             let has_it : has p.ext n place.0 ≡ true = ap (λ ns. has_number ns n) set_in ∙ found.2 in
-            let differ : place.0 ≡ slot → ⊥ = λ same. both_ways (has p.ext n place.0) (ap (has p.ext n) same ∙ free slot free_slot n) has_it in
-            used_had n place.0 (has_other n place.0 differ ∙ has_it)
+            at place.0 has_it (cases_eq place.0 slot)
+          where
+            at : (i : ℕ) → has p.ext n i ≡ true → (i ≡ slot) ⊎ (i ≡ slot → ⊥) → (is_used end n ≡ true) ⊎ (has p.ext n slot ≡ true)
+            at i has_it (inl same) = inr (ap (has p.ext n) (sym same) ∙ has_it)
+            at i has_it (inr differ) = inl (used_had n i (has_other n i differ ∙ has_it))
 
-        first : (is_taken p.declared n ≡ true) ⊎ (is_had p.ext n ≡ true) → is_used end n ≡ true
-        first (inl bit) = or_left (is_taken p.declared n || is_had end.ext n) (is_named_left end n) (or_left (is_taken p.declared n) (is_had end.ext n) bit)
+        first : (is_taken p.declared n ≡ true) ⊎ (is_had p.ext n ≡ true) → (is_used end n ≡ true) ⊎ (has p.ext n slot ≡ true)
+        first (inl bit) = inl (or_left (is_taken p.declared n || is_had end.ext n) (is_named_left end n) (or_left (is_taken p.declared n) (is_had end.ext n) bit))
         first (inr h) = had h
 
-        by : ((is_taken p.declared n || is_had p.ext n) ≡ true) ⊎ (is_named_left p n ≡ true) → is_used end n ≡ true
+        by : ((is_taken p.declared n || is_had p.ext n) ≡ true) ⊎ (is_named_left p n ≡ true) → (is_used end n ≡ true) ⊎ (has p.ext n slot ≡ true)
         by (inl either) = first (or_cases (is_taken p.declared n) (is_had p.ext n) either)
-        by (inr left) = or_right (is_taken p.declared n || is_had end.ext n) (is_named_left end n) (left_stays n left)
+        by (inr left) = inl (or_right (is_taken p.declared n || is_had end.ext n) (is_named_left end n) (left_stays n left))
+
+    -- each known word is in use then, but by what the slot was described with
+    pub known_or_here : AreUsed p → (n : ℕ) → is_some (word_of dict n) ≡ true → (is_used end n ≡ true) ⊎ (has p.ext n slot ≡ true)
+    known_or_here used n some = let word = some_word (word_of dict n) some in by word.0 word.1 (word_from n word.0 word.1)
+      where
+        by : (word : List ℕ) → word_of dict n ≡ Some word → (word_of p.dict n ≡ Some word) ⊎ Among described word → (is_used end n ≡ true) ⊎ (has p.ext n slot ≡ true)
+        by word is (inl was) = used_or_here n (used n (ap is_some was))
+        by word is (inr m) = inl (used_had n slot (has_here n ∙ of_one described (word_of dict n) word is m))
 
     pub used_then : FreeSlotsAreEmpty p → AreUsed p → AreUsed end
-    used_then free used n some = let word = some_word (word_of dict n) some in by word.0 word.1 (word_from n word.0 word.1)
+    used_then free used n some = by (known_or_here used n some)
       where
-        by : (word : List ℕ) → word_of dict n ≡ Some word → (word_of p.dict n ≡ Some word) ⊎ Among described word → is_used end n ≡ true
-        by word is (inl was) = used_stays free n (used n (ap is_some was))
-        by word is (inr m) = used_had n slot (has_here n ∙ of_one described (word_of dict n) word is m)
+        by : (is_used end n ≡ true) ⊎ (has p.ext n slot ≡ true) → is_used end n ≡ true
+        by (inl still) = still
+        by (inr here) = absurd (both_ways (has p.ext n slot) (free slot free_slot n) here)
 
     -- the words that the file was given are words of its description
     pub tags_described : (n : ℕ) → has_number rec.tags n ≡ true → has end.ext n slot ≡ true
     tags_described n tag =
-        let found = one_of assigned (word_of dict n) (sym (named_has dict sound_end.dict assigned n) ∙ (ap (λ ns. has_number ns n) (sym puts.adds.tagged) ∙ tag)) in
+        let found = one_of assigned (word_of dict n) (sym (named_has dict sound_end.dict assigned n) ∙ (ap (λ ns. has_number ns n) (sym comes.tagged) ∙ tag)) in
         has_here n
         ∙ of_one described (word_of dict n) found.0 found.1 (learnt_described found.0 (behind_itself (learnt_words file) found.0 (among_left assigned (derived_words name bytes) found.0 found.2)))
 
-    in_use_then : FreeSlotsAreEmpty p → KeepsInUse p → KeepsInUse end
-    in_use_then free keeps = record { used = used_then free keeps.used; tags = λ at r is n tag. by at r n tag is (cases_eq at slot); rights = keeps.rights }
+    -- what files were given is in their descriptions
+    pub tags_then : ((at : ℕ) (r : FileRecord) → rec_at p.catalog at ≡ Some r → (n : ℕ) → has_number r.tags n ≡ true → has p.ext n at ≡ true)
+        → (at : ℕ) (r : FileRecord) → rec_at end.catalog at ≡ Some r → (n : ℕ) → has_number r.tags n ≡ true → has end.ext n at ≡ true
+    tags_then tags at r is n tag = by (cases_eq at slot)
       where
-        by : (at : ℕ) (r : FileRecord) (n : ℕ) → has_number r.tags n ≡ true → rec_at end.catalog at ≡ Some r → (at ≡ slot) ⊎ (at ≡ slot → ⊥) → has end.ext n at ≡ true
-        by at r n tag is (inl same) =
+        by : (at ≡ slot) ⊎ (at ≡ slot → ⊥) → has end.ext n at ≡ true
+        by (inl same) =
             let this : rec ≡ r = same_Some rec r (sym rec_here ∙ (ap (rec_at end.catalog) (sym same) ∙ is)) in
             ap (has end.ext n) same ∙ tags_described n (subst (λ (x : FileRecord). has_number x.tags n ≡ true) (sym this) tag)
-        by at r n tag is (inr differ) = has_other n at differ ∙ keeps.tags at r (sym (rec_other at differ) ∙ is) n tag
+        by (inr differ) = has_other n at differ ∙ tags at r (sym (rec_other at differ) ∙ is) n tag
 
-    free_then : FreeSlotsAreEmpty p → FreeSlotsAreEmpty end
+    in_use_then : FreeSlotsAreEmpty p → KeepsInUse p → KeepsInUse end
+    in_use_then free keeps = record { used = used_then free keeps.used; tags = tags_then keeps.tags; rights = keeps.rights }
+
+    pub free_then : ((at : ℕ) → (at ≡ slot → ⊥) → rec_at p.catalog at ≡ None → (n : ℕ) → has p.ext n at ≡ false) → FreeSlotsAreEmpty end
     free_then free at none n = by (cases_eq at slot)
       where
         by : (at ≡ slot) ⊎ (at ≡ slot → ⊥) → has end.ext n at ≡ false
         by (inl same) = absurd (both_ways (is_some (rec_at end.catalog at)) (ap is_some none) (ap is_some (ap (rec_at end.catalog) same ∙ rec_here)))
-        by (inr differ) = has_other n at differ ∙ free at (sym (rec_other at differ) ∙ none) n
+        by (inr differ) = has_other n at differ ∙ free at differ (sym (rec_other at differ) ∙ none) n
 
     -- ---- links
     pub entailed_end : all_up (declared_of end) (axioms_of end) (learnt_words file) ≡ described
     entailed_end =
-        ap (λ (k : Kept). all_up (declared_of k) (axioms_of k) (learnt_words file)) (sym puts.learns.parts) ∙ entailed_is p sound name assigned bytes admitted puts.learnt puts.learns
+        ap (λ (k : Kept). all_up (declared_of k) (axioms_of k) (learnt_words file)) (sym comes.learns.parts) ∙ entailed_is p sound name assigned bytes admitted comes.learnt comes.learns
 
-    link_back : (a b : ℕ) → IsSome (word_of p.dict a) → is_linked end a b ≡ true → is_linked p a b ≡ true
+    pub link_back : (a b : ℕ) → IsSome (word_of p.dict a) → is_linked end a b ≡ true → is_linked p a b ≡ true
     link_back a b some linked = by (or_cases _ (has_pair p.axioms a b) (subst (λ t. (t || has_pair p.axioms a b) ≡ true) (own_link_is end sound_end.dict a b) linked))
       where
         head_back : (w v : List ℕ) → word_of p.dict a ≡ Some w → word_of dict b ≡ Some v → is_head_by (Some w) (Some v) ≡ true → is_head_by (word_of p.dict a) (word_of p.dict b) ≡ true
@@ -227,7 +253,7 @@ module _ (p q : Kept) (old new : Held) (name : List ℕ) (assigned : List (List 
             let same = (same_word_decides (head_bytes w) v).0 both.1 in
             let number = some_number (number_of p.dict (head_bytes w)) (sound.heads a w is_w both.0) in
             let was : word_of p.dict number.0 ≡ Some v = word_from_number p.dict sound.dict (head_bytes w) number.0 number.1 ∙ ap Some same in
-            let here = one_number end sound_end number.0 b v (puts.learns.keeps number.0 v was) is_v in
+            let here = one_number end sound_end number.0 b v (comes.learns.keeps number.0 v was) is_v in
             ap₂ is_head_by is_w (subst (λ k. word_of p.dict k ≡ Some v) here was) ∙ head
 
         heads_back : (x y : Option (List ℕ)) → word_of p.dict a ≡ x → word_of dict b ≡ y → is_head_by x y ≡ true → is_head_by (word_of p.dict a) (word_of p.dict b) ≡ true
@@ -248,7 +274,7 @@ module _ (p q : Kept) (old new : Held) (name : List ℕ) (assigned : List (List 
         let A = axioms_of end in
         let source = among_flat_map (up D A) (learnt_words file) word
         (among_set_of (flat_map (up D A) (learnt_words file)) word (subst (λ ws. Among ws word) (sym entailed_end) (among_from_has_word described word h))) in
-        let number = some_number (number_of dict source.0) (own_numbered p sound name assigned bytes admitted puts.learnt puts.learns source.0 (has_word_from_among (learnt_words file) source.0 source.1)) in
+        let number = some_number (number_of dict source.0) (own_numbered p sound name assigned bytes admitted comes.learnt comes.learns source.0 (has_word_from_among (learnt_words file) source.0 source.1)) in
         has_number_of dict sound_end.dict word (up_has_number end sound_end number.0 source.0 word (word_from_number dict sound_end.dict source.0 number.0 number.1) source.2)
 
     -- the description has all to which its words are linked
@@ -264,7 +290,7 @@ module _ (p q : Kept) (old new : Held) (name : List ℕ) (assigned : List (List 
         let there = flat_map_among (up D A) (learnt_words file) source.0 to.0 source.1 (up_trans D A source.0 word.0 to.0 source.2 step) in
         of_one described (word_of dict b) to.0 to.1 (subst (λ ws. Among ws to.0) entailed_end (set_of_among (flat_map (up D A) (learnt_words file)) to.0 there))
 
-    closed_then : AreClosed p → AreClosed end
+    pub closed_then : AreClosed p → AreClosed end
     closed_then closed at a b h linked = by (cases_eq at slot)
       where
         by : (at ≡ slot) ⊎ (at ≡ slot → ⊥) → has end.ext b at ≡ true
@@ -275,7 +301,7 @@ module _ (p q : Kept) (old new : Held) (name : List ℕ) (assigned : List (List 
             let was : has p.ext a at ≡ true = sym (has_other a at differ) ∙ h in
             has_other b at differ ∙ closed at a b was (link_back a b (sound.named a at was) linked)
 
-    short_then : DescriptionsAreShort p → DescriptionsAreShort end
+    pub short_then : DescriptionsAreShort p → DescriptionsAreShort end
     short_then short at = by (cases_eq at slot)
       where
         by : (at ≡ slot) ⊎ (at ≡ slot → ⊥) → length (numbers_at end.ext at) ≤ 128
@@ -285,7 +311,7 @@ module _ (p q : Kept) (old new : Held) (name : List ℕ) (assigned : List (List 
 
   -- ---- data blocks
   were_free : are_free p.taken rec.blocks ≡ true
-  were_free = ap (λ (k : Kept). are_free k.taken rec.blocks) (sym puts.learns.parts) ∙ puts.adds.were_free
+  were_free = ap (λ (k : Kept). are_free k.taken rec.blocks) (sym comes.learns.parts) ∙ comes.were_free
 
   pub new_not_taken : (n : ℕ) → has_number rec.blocks n ≡ true → (n < length p.taken) × (is_taken p.taken n ≡ false)
   new_not_taken n has_it =
@@ -296,7 +322,7 @@ module _ (p q : Kept) (old new : Held) (name : List ℕ) (assigned : List (List 
   pub new_taken : are_taken end.taken rec.blocks ≡ true
   new_taken = marked_are_taken (length p.taken) p.taken rec.blocks refl (below_from_free p.taken rec.blocks were_free)
 
-  taken_then : BlocksAreTaken p → BlocksAreTaken end
+  pub taken_then : BlocksAreTaken p → BlocksAreTaken end
   taken_then taken at r is = by (cases_eq at slot)
     where
       by : (at ≡ slot) ⊎ (at ≡ slot → ⊥) → are_taken end.taken r.blocks ≡ true
@@ -310,7 +336,7 @@ module _ (p q : Kept) (old new : Held) (name : List ℕ) (assigned : List (List 
   none_of_new taken at r n is has_it here =
       both_ways (is_taken p.taken n) (new_not_taken n here).1 (all_among (is_taken p.taken) r.blocks n (taken at r is) (among_from_number r.blocks n has_it))
 
-  apart_then : BlocksAreTaken p → BlocksAreApart p → BlocksAreApart end
+  pub apart_then : BlocksAreTaken p → BlocksAreApart p → BlocksAreApart end
   apart_then taken apart at other r more n is_r is_more has_r has_more = by (cases_eq at slot) (cases_eq other slot)
     where
       this : (i : ℕ) (x : FileRecord) → i ≡ slot → rec_at end.catalog i ≡ Some x → has_number x.blocks n ≡ true → has_number rec.blocks n ≡ true
@@ -323,21 +349,29 @@ module _ (p q : Kept) (old new : Held) (name : List ℕ) (assigned : List (List 
       by (inr a) (inl b) = absurd (none_of_new taken at r n (sym (rec_other at a) ∙ is_r) has_r (this other more b is_more has_more))
       by (inr a) (inr b) = apart at other r more n (sym (rec_other at a) ∙ is_r) (sym (rec_other other b) ∙ is_more) has_r has_more
 
-  -- ---- the store is in form again
+-- ---- the store is in form again
+module _ (p q : Kept) (old new : Held) (name : List ℕ) (assigned : List (List ℕ)) (bytes : List ℕ) (sound : AreSound p) (admitted : IsAdmitted p (new_file name assigned bytes))
+    (puts : PutsIn (new_file name assigned bytes) p q old new) where
+  abbrev comes : ComesIn (new_file name assigned bytes) p q
+  comes = comes_in (new_file name assigned bytes) p q old new puts
+
+  abbrev k : Kept
+  k = end p q name assigned bytes sound admitted comes
+
   pub sound_added : (b : Bool) → b ≡ false → IsSound (record { parts = p; journal = old; is_broken = b }) → AreSound q → IsSound (settled q new)
-  sound_added b whole was after = subst (λ (k : Kept). IsSound (settled k new)) (sym end_is) (record {
-    parts = sound_clean end (sound_end after);
+  sound_added b whole was after = subst (λ (k : Kept). IsSound (settled k new)) (sym (end_is p q name assigned bytes sound admitted comes)) (record {
+    parts = sound_clean k (sound_end p q name assigned bytes sound admitted comes after);
     range = was.range;
-    free = free_then after was.free;
+    free = free_then p q name assigned bytes sound admitted comes after (λ at differ. was.free at);
     pairs = was.pairs;
-    closed = closed_then after was.closed;
-    short = short_then after was.short;
-    taken = taken_then was.taken;
-    apart = apart_then was.taken was.apart;
-    in_use = in_use_clean end (in_use_then after was.free was.in_use);
+    closed = closed_then p q name assigned bytes sound admitted comes after was.closed;
+    short = short_then p q name assigned bytes sound admitted comes after was.short;
+    taken = taken_then p q name assigned bytes sound admitted comes was.taken;
+    apart = apart_then p q name assigned bytes sound admitted comes was.taken was.apart;
+    in_use = in_use_clean k (in_use_then p q name assigned bytes sound admitted comes after was.free was.in_use);
     image = puts.adds.image ∙ was.image;
     journal = λ _. puts.adds.broken ∙ was.journal whole;
     staged = λ _. refl;
     placed = λ _. puts.adds.placed ∙ was.placed whole;
-    clean = λ _. clean_is end;
+    clean = λ _. clean_is k;
   })

@@ -18,6 +18,9 @@ use Rattle.lis_laws.proofs.Chains.{head_not_valued}
 use Rattle.lis_laws.proofs.Counts.{all_among}
 use Rattle.lis_laws.proofs.Members.{word_exact, among_from_has_word, has_word_from_among}
 use Rattle.lis_kept.specs.Kept.{Kept}
+use Rattle.lis_content.proofs.Numbers.{stays_marked}
+use Rattle.lis_kept.specs.Areas.{block_of, is_marked}
+use Rattle.lis_kept.specs.Areas.Area.{Properties}
 use Rattle.lis_kept.specs.Changes.{Learns}
 use Rattle.lis_store.specs.Adding.{behind_head, with_heads, may_learn, HasWordRoom, LearnsAll}
 use Rattle.lis_store.proofs.Facts.{numbered}
@@ -45,6 +48,7 @@ pub learns_none : (p : Kept) → LearnsAll [] p p
 learns_none p = record {
   parts = refl;
   marks = record { saved = λ at saved. saved; few = omega arith };
+  marked = λ block is. is;
   words = refl;
   keeps = λ n word is. is;
   state = λ at. refl;
@@ -57,6 +61,10 @@ learns_one p q word number learns = record {
     | inr new ↦ subst (λ (k : Kept). k ≡ record p { dict = k.dict; marks = k.marks }) (sym new.2) refl
   ];
   marks = learns.marks;
+  marked = λ block is. elim learns.parts [
+    | inl there ↦ subst (λ (k : Kept). is_marked k block ≡ true) (sym there.1) is
+    | inr new ↦ subst (λ (k : Kept). is_marked k block ≡ true) (sym new.2) (stays_marked p.marks (block_of p.limits Properties number ∷ []) block is)
+  ];
   words = learns.words;
   keeps = learns.keeps;
   state = learns.state;
@@ -69,6 +77,7 @@ learns_more p q r some more first second = record {
     saved = λ at saved. second.marks.saved at (first.marks.saved at saved);
     few = omega (arith, first.marks.few, second.marks.few, length-append some more);
   };
+  marked = λ block is. second.marked block (first.marked block is);
   words = second.words ∙ (ap (λ ws. with_words ws more) first.words ∙ sym (fold-append with_word (words p.dict) some more));
   keeps = λ n word is. second.keeps n word (first.keeps n word is);
   state = λ at. second.state at ∙ first.state at;

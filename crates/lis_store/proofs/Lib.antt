@@ -25,6 +25,7 @@ pub mod Naming
 pub mod Entailed
 pub mod DerivedWords
 pub mod PutIn
+pub mod Coming
 pub mod Added
 pub mod FreeBlocks
 pub mod AddedTells
@@ -35,5 +36,8 @@ pub mod Measured
 pub mod Admitted
 pub mod AddFile
 pub mod Sizes
-pub mod InsteadKnown
-pub mod InsteadMeasured
+pub mod Forgot
+pub mod Vacated
+pub mod Sharing
+pub mod Shared
+pub mod Left

@@ -9,6 +9,7 @@ use Rattle.lis_model.specs.Sets.{with_words}
 use Rattle.lis_model.specs.Derived.{derived_words}
 use Rattle.lis_model.specs.State.{File, heads}
 use Rattle.lis_kept.specs.Kept.{Kept}
+use Rattle.lis_kept.specs.Areas.{is_marked}
 use Rattle.lis_kept.specs.Telling.{state_of}
 use Rattle.lis_kept.specs.Changes.{Marks, Adds, Describes}
 use Rattle.lis_store.specs.Admitting.{described_by}
@@ -48,6 +49,7 @@ HasWordRoom k more = length (with_words (words k.dict) more) ≤ k.limits.props
 pub record LearnsAll (more : List (List ℕ)) (p q : Kept) : Type 0 where
   pub parts : q ≡ record p { dict = q.dict; marks = q.marks }
   pub marks : Marks (length more) p q
+  pub marked : (block : ℕ) → is_marked p block ≡ true → is_marked q block ≡ true
   pub words : words q.dict ≡ with_words (words p.dict) more
   pub keeps : (n : ℕ) (word : List ℕ) → word_of p.dict n ≡ Some word → word_of q.dict n ≡ Some word
   pub state : (at : ℕ → List ℕ) → state_of q at ≡ state_of p at

@@ -1,16 +1,18 @@
 //! Files that take the place of others.
 
-ghost use Rattle.std.specs.Prelude.{◌≡◌, ℕ, ◌*◌, ◌≤◌, false, []};
+ghost use Rattle.std.specs.Prelude.{◌≡◌, ◌*◌, ◌≤◌, Some, false, [], IsSome};
+ghost use Rattle.lis_catalog.specs.Catalog.{rec_at};
 ghost use Rattle.lis_model.specs.Image.{image_blocks};
 ghost use Rattle.lis_model.specs.Changes.{new_file};
 ghost use Rattle.lis_eval.specs.Room.{HasRoom};
 ghost use Rattle.lis_kept.specs.Sound.{AreSound};
 ghost use Rattle.lis_store.specs.Admitting.{IsAdmitted};
-ghost use Rattle.lis_store.specs.ReplacingIn.{AreInForm, MayReplaceFirst, LearnsOwn, Overwrites, RefilesIn};
+ghost use Rattle.lis_store.specs.ReplacingIn.{AreInForm, MayReplaceIn, MayStay, Vacates, LearnsOwn, Overwrites, RefilesIn};
 
 use crate::adding::{learn_words, numbers_entailed, numbers_of};
 use crate::derived::derived;
 use crate::removing::numbers_at;
+use crate::sharing::shared_numbers;
 use arrayvec::ArrayVec;
 use lis_eval::Scratch;
 use lis_fields::FileRec;
@@ -18,6 +20,31 @@ use lis_journal::Journal;
 use lis_kept::Parts;
 use lis_ports::Disk;
 use lis_words::{Name, Word};
+
+// What memory keeps is in form, whatever is marked.
+fn note_form(parts: &Parts)
+    ensures { AreSound parts.now }
+{
+    let _limits = parts.limits();
+}
+
+// Takes the file out of its slot, with its description but for the rest, and with the words that nothing uses any more. Answers its
+// record.
+fn vacate(parts: &mut Parts, slot: u16, rest: &[u16]) -> FileRec
+    requires form { AreInForm parts.old }
+    requires rest { MayStay parts.old slot rest.now }
+    requires there { IsSome (rec_at parts.old.catalog slot) }
+    ensures rec { rec_at parts.old.catalog slot ≡ Some result }
+    ensures vacated { Vacates slot rest.now parts.old parts.new }
+{
+    let old = numbers_at(parts.ext(), parts.limits().props, slot);
+    let rec = parts.drop_file(slot);
+    parts.describe(slot, old.as_slice(), rest);
+    note_form(parts);
+    parts.forget_unused(old.as_slice());
+    note_form(parts);
+    rec
+}
 
 // The numbers of the words that a file is given, and those of its description.
 #[derive(Drop)]
@@ -60,7 +87,7 @@ pub(crate) fn overwrite<D: Disk>(
     payload: &[u8],
 )
     requires form { AreInForm parts.old }
-    requires may { MayReplaceFirst parts.old slot (new_file name.now assigned.now payload.now) }
+    requires may { MayReplaceIn parts.old slot (new_file name.now assigned.now payload.now) }
     requires image { journal.old.blocks ≡ image_blocks parts.old.limits }
     requires unbroken { journal.old.is_broken ≡ false }
     requires unplaced { journal.old.placed ≡ [] }
@@ -71,14 +98,12 @@ pub(crate) fn overwrite<D: Disk>(
     ensures overwritten { Overwrites slot (new_file name.now assigned.now payload.now) parts.old parts.new journal.old journal.new }
     ensures disk { disk.new ≡ disk.old }
 {
-    let old = numbers_at(parts.ext(), parts.limits().props, slot);
-    parts.drop_file(slot);
-    // What memory keeps is in form also without the file.
-    let _limits = parts.limits();
+    let row = &mut scratch.candidates;
+    let rest = shared_numbers(parts, row, slot, name, assigned, payload);
+    vacate(parts, slot, rest.as_slice());
     let numbers = learn_own(parts, scratch, name, assigned, payload);
     parts.add_file_at(journal, disk, slot, name, numbers.tags, payload);
-    parts.describe(slot, old.as_slice(), numbers.all.as_slice());
-    parts.forget_unused(old.as_slice());
+    parts.describe(slot, rest.as_slice(), numbers.all.as_slice());
 }
 
 /// Gives the file in the slot another name and other words. Its bytes stay, and nothing is derived from them yet.
@@ -90,15 +115,14 @@ pub(crate) fn refile(
     assigned: &[Word],
 )
     requires form { AreInForm parts.old }
-    requires may { MayReplaceFirst parts.old slot (new_file name.now assigned.now []) }
+    requires may { MayReplaceIn parts.old slot (new_file name.now assigned.now []) }
     requires scratch { HasRoom scratch.old parts.old.limits }
     ensures scratch { HasRoom scratch.new parts.old.limits }
     ensures refiled { RefilesIn slot (new_file name.now assigned.now []) parts.old parts.new }
 {
-    let old = numbers_at(parts.ext(), parts.limits().props, slot);
-    let rec = parts.drop_file(slot);
-    // What memory keeps is in form also without the file.
-    let _limits = parts.limits();
+    let row = &mut scratch.candidates;
+    let rest = shared_numbers(parts, row, slot, name, assigned, &[]);
+    let rec = vacate(parts, slot, rest.as_slice());
     let numbers = learn_own(parts, scratch, name, assigned, &[]);
     parts.refile(
         slot,
@@ -109,6 +133,5 @@ pub(crate) fn refile(
             blocks: rec.blocks,
         },
     );
-    parts.describe(slot, old.as_slice(), numbers.all.as_slice());
-    parts.forget_unused(old.as_slice());
+    parts.describe(slot, rest.as_slice(), numbers.all.as_slice());
 }
