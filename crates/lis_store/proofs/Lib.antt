@@ -38,6 +38,8 @@ pub mod AddFile
 pub mod Sizes
 pub mod Forgot
 pub mod Vacated
-pub mod Sharing
+pub mod InsteadKnown
+pub mod InsteadMeasured
+pub mod Lacking
 pub mod Shared
 pub mod Left

@@ -1,5 +1,5 @@
 use Rattle.lis_ext.specs.Ext.{has}
-use Rattle.lis_store.proofs.Sharing.{Lacks}
+use Rattle.lis_store.proofs.Lacking.{Lacks}
 use Rattle.lis_store.proofs.sharing.leave_lacked.Given as goal
 
 abbrev pub invariant-loop-number : goal.invariant-loop-number

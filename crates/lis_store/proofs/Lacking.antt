@@ -1,11 +1,14 @@
 -- A row from which the numbers are taken that a slot lacks.
-use Rattle.std.proofs.Common.{◌≡◌, ◌⊎◌, refl, ◌∙◌, sym, ap, ap₂, inl, inr, ℕ, ◌+◌, ◌<◌, ◌≤◌, ◌==◌, if◌then◌else◌, ◌&&◌, Bool, true, false, List, length, absurd, arith}
+use Rattle.std.proofs.Common.{◌≡◌, ◌⊎◌, refl, ◌∙◌, sym, ap, ap₂, inl, inr, ℕ, ◌+◌, ◌<◌, ◌≤◌, ◌==◌, if◌then◌else◌, ◌&&◌, Bool, true, false, List, length, arith}
 use Rattle.std.proofs.lemmas.Bool.{and_parts, cases_eq, eq-eqb, ne_eqb}
 use Rattle.lis_bits.specs.Rows.{Rows, HasShape, get, with_row}
 use Rattle.lis_ext.specs.Ext.{has, set_of}
 use Rattle.lis_ext.specs.Numbers.{has_number, numbers_where}
 use Rattle.lis_kept.specs.Kept.{Kept}
 use Rattle.lis_model.specs.State.{File}
+use Rattle.lis_dict.specs.Dict.{word_of}
+use Rattle.lis_store.specs.Admitting.{described_by}
+use Rattle.lis_store.specs.Adding.{is_one_of}
 use Rattle.lis_store.specs.Instead.{HasNumbers}
 use Rattle.lis_store.specs.Replacing.{shared_numbers}
 use Rattle.lis_store.proofs.Naming.{same_shape, value_at}
@@ -64,10 +67,12 @@ swapped false false = refl
 
 pub shared_left : (k : Kept) (slot : ℕ) (file : File) (measured left : Rows) → HasNumbers k measured file
     → ((n : ℕ) → n < k.limits.props → get left 0 n ≡ (get measured 0 n && has k.ext n slot)) → numbers_where k.limits.props (get left 0) ≡ shared_numbers k slot file
-shared_left k slot file measured left numbers bits = numbers_same k.limits.props (get left 0) _ (λ n lt.
-    bits n lt ∙ (ap (λ b. b && has k.ext n slot) (numbers n lt) ∙ swapped _ (has k.ext n slot)))
+shared_left k slot file measured left numbers bits = numbers_same k.limits.props (get left 0)
+    (λ n. has k.ext n slot && is_one_of (described_by k file) (word_of k.dict n)) (λ n lt.
+    bits n lt ∙ (ap (λ b. b && has k.ext n slot) (numbers n lt) ∙ swapped (is_one_of (described_by k file) (word_of k.dict n)) (has k.ext n slot)))
 
 pub shared_few : (k : Kept) (slot : ℕ) (file : File) → numbers_where k.limits.props (λ n. has k.ext n slot) ≡ set_of k.ext slot → length (shared_numbers k slot file) ≤ length (set_of k.ext slot)
 shared_few k slot file same =
-    let le = numbers_le k.limits.props _ (λ n. has k.ext n slot) (λ n lt h. (and_parts (has k.ext n slot) _ h).0) in
+    let le = numbers_le k.limits.props (λ n. has k.ext n slot && is_one_of (described_by k file) (word_of k.dict n)) (λ n. has k.ext n slot)
+    (λ n lt h. (and_parts (has k.ext n slot) (is_one_of (described_by k file) (word_of k.dict n)) h).0) in
     omega (arith, le, ap (length {A = ℕ}) same)
