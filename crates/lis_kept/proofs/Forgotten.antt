@@ -81,6 +81,7 @@ both f g a b p q r first second = record {
   parts = parts_both p q r first.parts second.parts;
   props = second.props ∙ first.props;
   marks = record { saved = λ at saved. second.marks.saved at (first.marks.saved at saved); few = omega (arith, first.marks.few, second.marks.few) };
+  marked = λ block is. second.marked block (first.marked block is);
   words = λ n. second.words n ∙ (ap (λ (o : Option (List ℕ)). if g n then None else o) (first.words n) ∙ words_both (f n) (g n) (word_of p.dict n));
   state = λ at. second.state at ∙ first.state at;
   used = λ n some. second.used n some ∙ first.used n (ap is_some (sym (same_word_then g b q r second n some)) ∙ some);
@@ -96,6 +97,7 @@ retest f g a b p q went same le = record {
   parts = went.parts;
   props = went.props;
   marks = record { saved = went.marks.saved; few = omega (arith, went.marks.few, le) };
+  marked = went.marked;
   words = λ n. went.words n ∙ by n (word_of p.dict n) refl;
   state = went.state;
   used = went.used;
@@ -106,10 +108,10 @@ retest f g a b p q went same le = record {
     by n (Some w) e = ap (λ t. if t then None else word_of p.dict n) (same n (ap is_some e))
 
 where_from : (numbers : List ℕ) (p q : Kept) → Forgets numbers p q → ForgetsWhere (λ n. has_number numbers n && not (is_used p n)) (length numbers) p q
-where_from numbers p q went = record { parts = went.parts; props = went.props; marks = went.marks; words = went.words; state = went.state; used = went.used }
+where_from numbers p q went = record { parts = went.parts; props = went.props; marks = went.marks; marked = went.marked; words = went.words; state = went.state; used = went.used }
 
 from_where : (numbers : List ℕ) (p q : Kept) → ForgetsWhere (λ n. has_number numbers n && not (is_used p n)) (length numbers) p q → Forgets numbers p q
-from_where numbers p q went = record { parts = went.parts; props = went.props; marks = went.marks; words = went.words; state = went.state; used = went.used }
+from_where numbers p q went = record { parts = went.parts; props = went.props; marks = went.marks; marked = went.marked; words = went.words; state = went.state; used = went.used }
 
 -- ---- a pass, number by number
 pub due_none : (valued : Bool) (p : Kept) → ForgetsDue valued [] p p
@@ -117,6 +119,7 @@ due_none valued p = record {
   parts = refl;
   props = refl;
   marks = record { saved = λ at saved. saved; few = omega arith };
+  marked = λ block is. is;
   words = λ n. refl;
   state = λ at. refl;
   used = λ n some. refl;

@@ -1,7 +1,6 @@
 -- A record that comes into a free slot with the data blocks that it names.
-use Rattle.std.proofs.Common.{◌≡◌, refl, sym, ap, ◌∙◌, subst, inl, inr, ℕ, ◌+◌, ◌<◌, ◌≤◌, ◌==◌, eqb, if◌then◌else◌, ◌&&◌, ◌||◌, nat_lt, nat_le, not, Bool, true, false, List, [], ◌∷◌, length, drop, get_or, set, Some, None, is_some, arith, add-one, drop-cons, length-set, get_or-set_other}
+use Rattle.std.proofs.Common.{◌≡◌, refl, sym, ap, ◌∙◌, subst, inl, inr, ℕ, ◌+◌, ◌<◌, ◌==◌, eqb, if◌then◌else◌, ◌&&◌, nat_lt, nat_le, not, Bool, true, false, List, [], ◌∷◌, length, drop, get_or, set, Some, None, is_some, arith, add-one, drop-cons, length-set, get_or-set_other}
 use Rattle.std.specs.List.{list_all, AllByRecursion, IsDistinct}
-use Rattle.std.specs.BTreeSet.{insert_key}
 use Rattle.std.proofs.lemmas.Bool.{and_parts, and_from, or_parts, both_ways, ne_eqb, eqb-true, ltb-true}
 use Rattle.std.proofs.lemmas.List.{length-map}
 use Rattle.std.proofs.lemmas.Map.Steps.{length-le_from_distinct_below}
@@ -25,9 +24,8 @@ use Rattle.lis_kept.specs.Kept.{Kept, file_by}
 use Rattle.lis_kept.specs.Areas.{Area, slots_of, block_of, spelled}
 use Rattle.lis_kept.specs.Areas.Area.{Properties, Axioms, Files, Rows, Bitmap}
 use Rattle.lis_kept.specs.Telling.{state_of, file_told, words_told, bytes_told}
-use Rattle.lis_kept.specs.Sound.{is_sound_record, AreSound}
+use Rattle.lis_kept.specs.Sound.{is_sound_record}
 use Rattle.lis_kept.specs.Links.{AreHeld}
-use Rattle.lis_kept.specs.Changes.{Marks}
 use Rattle.lis_kept.specs.Refiling.{Refiles}
 use Rattle.lis_kept.proofs.Formed.{held_files}
 use Rattle.lis_kept.proofs.Marking.{blocks_marked}

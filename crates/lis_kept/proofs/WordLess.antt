@@ -8,6 +8,7 @@ use Rattle.std.proofs.lemmas.List.{get_or_past}
 use Rattle.std.proofs.lemmas.List.Elements.{Contains-get_or}
 use Rattle.lis_graph.proofs.Members.{Among, among_from_any, among_from_contains, any_from_among}
 use Rattle.lis_blockmap.specs.Bitmap.{is_taken}
+use Rattle.lis_content.proofs.Numbers.{stays_marked}
 use Rattle.lis_content.specs.Content.{has_number}
 use Rattle.lis_content.proofs.Numbers.{neither}
 use Rattle.lis_dict.specs.Dict.{Dict, IsDict, number_of, word_of, without_word}
@@ -324,6 +325,7 @@ module _ (p : Kept) (t : Taxonomy) (held : AreHeld p t) {word : List ℕ} {numbe
       parts = refl;
       props = refl;
       marks = marks_then;
+      marked = λ block is. stays_marked p.marks (block_of p.limits Properties number ∷ []) block is;
       words = words_then;
       state = state_then;
       used = used_then;
@@ -349,6 +351,7 @@ forgets_none k number none = record {
   parts = refl;
   props = refl;
   marks = record { saved = λ at saved. saved; few = omega arith };
+  marked = λ block is. is;
   words = λ n. by n (cases_eq number n) (is_used k n);
   state = λ at. refl;
   used = λ n some. refl;

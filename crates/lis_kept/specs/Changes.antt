@@ -13,7 +13,7 @@ use Rattle.lis_model.specs.Image.{bitmap_start, data_start}
 use Rattle.lis_model.specs.Sets.{with_word}
 use Rattle.lis_model.specs.Changes.{declared_under, new_file, file_added, file_removed}
 use Rattle.lis_kept.specs.Kept.{Kept}
-use Rattle.lis_kept.specs.Areas.{IsSaved, block_of, marked_count}
+use Rattle.lis_kept.specs.Areas.{IsSaved, block_of, is_marked, marked_count}
 use Rattle.lis_kept.specs.Areas.Area.{Properties, Files, Rows}
 use Rattle.lis_kept.specs.Telling.{state_of, words_told, is_used, AreUsed}
 
@@ -55,6 +55,7 @@ pub record Forgets (numbers : List ℕ) (p q : Kept) : Type 0 where
   pub parts : q ≡ record p { dict = q.dict; marks = q.marks }
   pub props : q.dict.props ≡ p.dict.props
   pub marks : Marks (length numbers) p q
+  pub marked : (block : ℕ) → is_marked p block ≡ true → is_marked q block ≡ true
   pub words : (n : ℕ) → word_of q.dict n ≡ (if has_number numbers n && not (is_used p n) then None else word_of p.dict n)
   pub state : (at : ℕ → List ℕ) → state_of q at ≡ state_of p at
   pub used : (n : ℕ) → is_some (word_of q.dict n) ≡ true → is_used q n ≡ is_used p n
