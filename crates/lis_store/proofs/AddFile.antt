@@ -23,6 +23,7 @@ use Rattle.lis_store.proofs.AddedMarks.{few_marked, few_staged}
 use Rattle.lis_store.proofs.AddedTells.{ready_added}
 use Rattle.lis_store.proofs.Cleaned.{none_marked}
 use Rattle.lis_store.proofs.Coming.{comes_in}
+use Rattle.lis_store.proofs.PutIn.{may_come}
 use Rattle.lis_store.proofs.FreeBlocks.{used_told, version_told}
 
 module _ (old : Stored) (q : Kept) (j : Held) (name : List ℕ) (assigned : List (List ℕ)) (bytes : List ℕ) (sound : IsSound old) (unbroken : old.is_broken ≡ false)
@@ -47,7 +48,7 @@ module _ (old : Stored) (q : Kept) (j : Held) (name : List ℕ) (assigned : List
       let tells = subst T (sym (sound.staged unbroken)) fits.tells in
       let written = subst W (sym (sound.staged unbroken)) (λ area n lt unmarked. fits.written area n lt) in
       saves old now (outcome s) t fits sound puts.adds.image puts.adds.records puts.adds.placed
-      (ap (λ (k : Kept). k.limits) (end_is old.parts q name assigned bytes sound.parts admitted (comes_in (new_file name assigned bytes) old.parts q old.journal j puts)))
+      (ap (λ (k : Kept). k.limits) (end_is old.parts q name assigned bytes sound.parts (may_come old.parts (new_file name assigned bytes) admitted) (comes_in (new_file name assigned bytes) old.parts q old.journal j puts)))
       (λ sound_then.
       ready_added old.parts q old.journal j name assigned bytes sound.parts admitted puts sound_then fits.kept s sound.free tells
       (version_told old before s sound fits) (used_told old before s sound fits) written)

@@ -39,18 +39,19 @@ use Rattle.lis_kept.proofs.OwnLinks.{own_link_is}
 use Rattle.lis_store.specs.Stored.{AreClosed, DescriptionsAreShort, BlocksAreApart, IsSound}
 use Rattle.lis_store.specs.Saving.{settled}
 use Rattle.lis_store.specs.Admitting.{described_by, IsAdmitted}
+use Rattle.lis_store.specs.ReplacingIn.{MayComeIn}
 use Rattle.lis_store.specs.Adding.{is_one_of, AreNumbered, numbers_named, with_heads, learnt_words, PutsIn}
 use Rattle.lis_store.proofs.Coming.{ComesIn, comes_in}
 use Rattle.lis_store.proofs.Cleaned.{clean_is, sound_clean, in_use_clean}
 use Rattle.lis_store.proofs.Entailment.{link_named, up_has_number}
 use Rattle.lis_store.proofs.Naming.{one_of, of_one, named_has, named_few}
-use Rattle.lis_store.proofs.PutIn.{described_is, entailed_is, own_numbered, head_entailed, behind_itself}
+use Rattle.lis_store.proofs.PutIn.{may_come, described_is, entailed_is, own_numbered, head_entailed, behind_itself}
 use Rattle.lis_store.proofs.Removed.{had_there}
 
 has_number_of : (d : Dict) → IsDict d → (word : List ℕ) → (n : ℕ) × (word_of d n ≡ Some word) → IsSome (number_of d word)
 has_number_of d is word found = ap is_some (number_from_word d is word found.0 found.1)
 
-module _ (p q : Kept) (name : List ℕ) (assigned : List (List ℕ)) (bytes : List ℕ) (sound : AreSound p) (admitted : IsAdmitted p (new_file name assigned bytes))
+module _ (p q : Kept) (name : List ℕ) (assigned : List (List ℕ)) (bytes : List ℕ) (sound : AreSound p) (may : MayComeIn p (new_file name assigned bytes))
     (comes : ComesIn (new_file name assigned bytes) p q) where
   abbrev file : File
   file = new_file name assigned bytes
@@ -96,7 +97,7 @@ module _ (p q : Kept) (name : List ℕ) (assigned : List (List ℕ)) (bytes : Li
   below_files = omega (arith, comes.below, ap (λ (k : Kept). k.limits.files) comes.learns.parts)
 
   pub absent : slot_of p.catalog rec.name ≡ None
-  absent = ap (slot_of p.catalog) comes.named ∙ admitted.new
+  absent = ap (slot_of p.catalog) comes.named ∙ may.new
 
   pub rec_here : rec_at end.catalog slot ≡ Some rec
   rec_here = rec_at-with_filed p.catalog slot rec slot absent free_slot ∙ ap (λ b. if b then Some rec else rec_at p.catalog slot) (eq-eqb slot slot refl)
@@ -125,7 +126,7 @@ module _ (p q : Kept) (name : List ℕ) (assigned : List (List ℕ)) (bytes : Li
   -- each word that is learnt is one of the description
   learnt_described : (word : List ℕ) → Among (with_heads (learnt_words file)) word → Among described word
   learnt_described word m =
-      subst (λ ws. Among ws word) (sym (described_is p sound name assigned bytes admitted)) (head_entailed (declared_of p) (axioms_of p) (learnt_words file) word m)
+      subst (λ ws. Among ws word) (sym (described_is p sound name assigned bytes may)) (head_entailed (declared_of p) (axioms_of p) (learnt_words file) word m)
 
   module _ (after : AreSound q) where
     pub sound_end : AreSound end
@@ -242,7 +243,7 @@ module _ (p q : Kept) (name : List ℕ) (assigned : List (List ℕ)) (bytes : Li
     -- ---- links
     pub entailed_end : all_up (declared_of end) (axioms_of end) (learnt_words file) ≡ described
     entailed_end =
-        ap (λ (k : Kept). all_up (declared_of k) (axioms_of k) (learnt_words file)) (sym comes.learns.parts) ∙ entailed_is p sound name assigned bytes admitted comes.learnt comes.learns
+        ap (λ (k : Kept). all_up (declared_of k) (axioms_of k) (learnt_words file)) (sym comes.learns.parts) ∙ entailed_is p sound name assigned bytes may comes.learnt comes.learns
 
     pub link_back : (a b : ℕ) → IsSome (word_of p.dict a) → is_linked end a b ≡ true → is_linked p a b ≡ true
     link_back a b some linked = by (or_cases _ (has_pair p.axioms a b) (subst (λ t. (t || has_pair p.axioms a b) ≡ true) (own_link_is end sound_end.dict a b) linked))
@@ -274,7 +275,7 @@ module _ (p q : Kept) (name : List ℕ) (assigned : List (List ℕ)) (bytes : Li
         let A = axioms_of end in
         let source = among_flat_map (up D A) (learnt_words file) word
         (among_set_of (flat_map (up D A) (learnt_words file)) word (subst (λ ws. Among ws word) (sym entailed_end) (among_from_has_word described word h))) in
-        let number = some_number (number_of dict source.0) (own_numbered p sound name assigned bytes admitted comes.learnt comes.learns source.0 (has_word_from_among (learnt_words file) source.0 source.1)) in
+        let number = some_number (number_of dict source.0) (own_numbered p sound name assigned bytes may comes.learnt comes.learns source.0 (has_word_from_among (learnt_words file) source.0 source.1)) in
         has_number_of dict sound_end.dict word (up_has_number end sound_end number.0 source.0 word (word_from_number dict sound_end.dict source.0 number.0 number.1) source.2)
 
     -- the description has all to which its words are linked
@@ -306,7 +307,7 @@ module _ (p q : Kept) (name : List ℕ) (assigned : List (List ℕ)) (bytes : Li
       where
         by : (at ≡ slot) ⊎ (at ≡ slot → ⊥) → length (numbers_at end.ext at) ≤ 128
         by (inl same) =
-            omega (arith, ap length (ap (numbers_at end.ext) same ∙ set_here), named_few dict sound_end.dict described, admitted.short)
+            omega (arith, ap length (ap (numbers_at end.ext) same ∙ set_here), named_few dict sound_end.dict described, may.short)
         by (inr differ) = omega (arith, ap length (set_other at differ), short at)
 
   -- ---- data blocks
@@ -356,19 +357,19 @@ module _ (p q : Kept) (old new : Held) (name : List ℕ) (assigned : List (List 
   comes = comes_in (new_file name assigned bytes) p q old new puts
 
   abbrev k : Kept
-  k = end p q name assigned bytes sound admitted comes
+  k = end p q name assigned bytes sound (may_come p (new_file name assigned bytes) admitted) comes
 
   pub sound_added : (b : Bool) → b ≡ false → IsSound (record { parts = p; journal = old; is_broken = b }) → AreSound q → IsSound (settled q new)
-  sound_added b whole was after = subst (λ (k : Kept). IsSound (settled k new)) (sym (end_is p q name assigned bytes sound admitted comes)) (record {
-    parts = sound_clean k (sound_end p q name assigned bytes sound admitted comes after);
+  sound_added b whole was after = subst (λ (k : Kept). IsSound (settled k new)) (sym (end_is p q name assigned bytes sound (may_come p (new_file name assigned bytes) admitted) comes)) (record {
+    parts = sound_clean k (sound_end p q name assigned bytes sound (may_come p (new_file name assigned bytes) admitted) comes after);
     range = was.range;
-    free = free_then p q name assigned bytes sound admitted comes after (λ at differ. was.free at);
+    free = free_then p q name assigned bytes sound (may_come p (new_file name assigned bytes) admitted) comes after (λ at differ. was.free at);
     pairs = was.pairs;
-    closed = closed_then p q name assigned bytes sound admitted comes after was.closed;
-    short = short_then p q name assigned bytes sound admitted comes after was.short;
-    taken = taken_then p q name assigned bytes sound admitted comes was.taken;
-    apart = apart_then p q name assigned bytes sound admitted comes was.taken was.apart;
-    in_use = in_use_clean k (in_use_then p q name assigned bytes sound admitted comes after was.free was.in_use);
+    closed = closed_then p q name assigned bytes sound (may_come p (new_file name assigned bytes) admitted) comes after was.closed;
+    short = short_then p q name assigned bytes sound (may_come p (new_file name assigned bytes) admitted) comes after was.short;
+    taken = taken_then p q name assigned bytes sound (may_come p (new_file name assigned bytes) admitted) comes was.taken;
+    apart = apart_then p q name assigned bytes sound (may_come p (new_file name assigned bytes) admitted) comes was.taken was.apart;
+    in_use = in_use_clean k (in_use_then p q name assigned bytes sound (may_come p (new_file name assigned bytes) admitted) comes after was.free was.in_use);
     image = puts.adds.image ∙ was.image;
     journal = λ _. puts.adds.broken ∙ was.journal whole;
     staged = λ _. refl;

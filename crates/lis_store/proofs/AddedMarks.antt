@@ -24,11 +24,11 @@ use Rattle.lis_store.proofs.Added.{filed_is, free_slot, below_files, set_here}
 use Rattle.lis_store.proofs.Coming.{comes_in}
 use Rattle.lis_store.proofs.DerivedWords.{derived_few}
 use Rattle.lis_store.proofs.Numbers.{sorted_where}
-use Rattle.lis_store.proofs.PutIn.{none_has, slot_was_empty}
+use Rattle.lis_store.proofs.PutIn.{may_come, none_has, slot_was_empty}
 use Rattle.lis_store.proofs.Removed.{sum_has}
 
 -- a word has one head at most
-heads_few : (words : List (List ℕ)) → length (with_heads words) ≤ 2 * length words
+pub heads_few : (words : List (List ℕ)) → length (with_heads words) ≤ 2 * length words
 heads_few [] = omega arith
 heads_few (word ∷ words) = omega (arith, heads_few words, length-append (behind_head word) (with_heads words), one (is_valued word))
   where
@@ -57,7 +57,7 @@ module _ (p q : Kept) (old new : Held) (name : List ℕ) (assigned : List (List 
       slot_was_empty p puts.learnt puts.filed (with_heads (learnt_words (new_file name assigned bytes))) name (numbers_named puts.learnt.dict assigned) bytes slot old new free puts.learns puts.adds
 
   ext_before : puts.filed.ext ≡ p.ext
-  ext_before = ap (λ (k : Kept). k.ext) (filed_is p q name assigned bytes sound admitted (comes_in (new_file name assigned bytes) p q old new puts))
+  ext_before = ap (λ (k : Kept). k.ext) (filed_is p q name assigned bytes sound (may_come p (new_file name assigned bytes) admitted) (comes_in (new_file name assigned bytes) p q old new puts))
 
   gained_few : gained ≤ 128
   gained_few =
@@ -81,10 +81,10 @@ module _ (p q : Kept) (old new : Held) (name : List ℕ) (assigned : List (List 
   pub few_edits : q.ext.edits ≤ p.ext.edits + differing_bits p.ext q.ext
   few_edits =
       let made = subst (λ (e : Ext). q.ext.edits ≤ e.edits + length (numbers_where e.props (differs [] numbers))) ext_before (puts.describes.edits [] (sym was_empty)) in
-      let slot_in : slot < length p.ext.sets = omega (arith, below_files p q name assigned bytes sound admitted (comes_in (new_file name assigned bytes) p q old new puts), sound.files) in
+      let slot_in : slot < length p.ext.sets = omega (arith, below_files p q name assigned bytes sound (may_come p (new_file name assigned bytes) admitted) (comes_in (new_file name assigned bytes) p q old new puts), sound.files) in
       let f : ℕ → ℕ = λ at. length (numbers_where p.ext.props (differs (numbers_at p.ext at) (numbers_at q.ext at))) in
       let one = sum_has f (range_with_len 0 (length p.ext.sets)) slot (range_among 0 (length p.ext.sets) slot (omega arith) (omega (arith, slot_in))) in
-      let before : numbers_at p.ext slot ≡ [] = none_has (numbers_at p.ext slot) (free slot (free_slot p q name assigned bytes sound admitted (comes_in (new_file name assigned bytes) p q old new puts))) in
-      let now : numbers_at q.ext slot ≡ numbers = set_here p q name assigned bytes sound admitted (comes_in (new_file name assigned bytes) p q old new puts) in
+      let before : numbers_at p.ext slot ≡ [] = none_has (numbers_at p.ext slot) (free slot (free_slot p q name assigned bytes sound (may_come p (new_file name assigned bytes) admitted) (comes_in (new_file name assigned bytes) p q old new puts))) in
+      let now : numbers_at q.ext slot ≡ numbers = set_here p q name assigned bytes sound (may_come p (new_file name assigned bytes) admitted) (comes_in (new_file name assigned bytes) p q old new puts) in
       let bits : f slot ≡ gained = ap₂ (λ a b. length (numbers_where p.ext.props (differs a b))) before now in
       omega (arith, made, one, bits)

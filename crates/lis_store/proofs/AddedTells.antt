@@ -36,7 +36,7 @@ use Rattle.lis_store.proofs.Coming.{comes_in}
 use Rattle.lis_store.proofs.Facts.{limits_told, known_told, name_filed, files_counted, filed_of_file}
 use Rattle.lis_store.proofs.Marks.{taken_after}
 use Rattle.lis_store.proofs.Naming.{named_told}
-use Rattle.lis_store.proofs.PutIn.{own_numbered, slot_was_empty}
+use Rattle.lis_store.proofs.PutIn.{may_come, own_numbered, slot_was_empty}
 use Rattle.lis_store.proofs.Told.{words_same}
 
 module _ (p q : Kept) (old new : Held) (name : List ℕ) (assigned : List (List ℕ)) (bytes : List ℕ) (sound : AreSound p) (admitted : IsAdmitted p (new_file name assigned bytes))
@@ -54,7 +54,7 @@ module _ (p q : Kept) (old new : Held) (name : List ℕ) (assigned : List (List 
   there = looked new.staged kept
 
   abbrev k : Kept
-  k = end p q name assigned bytes sound admitted (comes_in (new_file name assigned bytes) p q old new puts)
+  k = end p q name assigned bytes sound (may_come p (new_file name assigned bytes) admitted) (comes_in (new_file name assigned bytes) p q old new puts)
 
   abbrev slot : ℕ
   slot = puts.slot
@@ -66,18 +66,18 @@ module _ (p q : Kept) (old new : Held) (name : List ℕ) (assigned : List (List 
   filed = record { slot = slot; rec = rec }
 
   in_form : AreSound k
-  in_form = sound_end p q name assigned bytes sound admitted (comes_in (new_file name assigned bytes) p q old new puts) after
+  in_form = sound_end p q name assigned bytes sound (may_come p (new_file name assigned bytes) admitted) (comes_in (new_file name assigned bytes) p q old new puts) after
 
   -- ---- the state
   tags_told : words_told k.dict (numbers_named k.dict assigned) ≡ assigned
   tags_told =
       named_told k.dict in_form.dict assigned (sorted_from_rising word_cmp word_order assigned admitted.set) (λ word h.
-      own_numbered p sound name assigned bytes admitted puts.learnt puts.learns word
+      own_numbered p sound name assigned bytes (may_come p (new_file name assigned bytes) admitted) puts.learnt puts.learns word
       (has_word_from_among (learnt_words file) word (among_left assigned _ word (among_from_has_word assigned word h))))
 
   state_then : state_of k there ≡ t
   state_then =
-      ap (λ (x : Kept). state_of x there) (sym (end_is p q name assigned bytes sound admitted (comes_in (new_file name assigned bytes) p q old new puts)))
+      ap (λ (x : Kept). state_of x there) (sym (end_is p q name assigned bytes sound (may_come p (new_file name assigned bytes) admitted) (comes_in (new_file name assigned bytes) p q old new puts)))
       ∙ (ap (λ (x : Kept). state_of x there) puts.describes.parts
       ∙ (puts.adds.state kept
       ∙ (ap (λ (ws : List (List ℕ)). file_added (state_of puts.learnt at) (new_file name ws bytes)) tags_told
@@ -98,14 +98,14 @@ module _ (p q : Kept) (old new : Held) (name : List ℕ) (assigned : List (List 
   new_or_old f m = among_insert_key filed_cmp p.catalog.entries filed f (among_from_contains k.catalog.entries f m)
 
   new_there : Contains k.catalog.entries filed
-  new_there = contains_from_among k.catalog.entries filed (filed_at_slot k.catalog in_form.catalog slot rec (rec_here p q name assigned bytes sound admitted (comes_in (new_file name assigned bytes) p q old new puts)))
+  new_there = contains_from_among k.catalog.entries filed (filed_at_slot k.catalog in_form.catalog slot rec (rec_here p q name assigned bytes sound (may_come p (new_file name assigned bytes) admitted) (comes_in (new_file name assigned bytes) p q old new puts)))
 
   old_there : (f : Filed) → Among p.catalog.entries f → Contains k.catalog.entries f
   old_there f m = contains_from_among k.catalog.entries f (insert_key_old filed_cmp p.catalog.entries filed f m)
 
   old_slot : (f : Filed) → Among p.catalog.entries f → f.slot ≡ slot → ⊥
   old_slot f m same =
-      both_ways (is_some (rec_at p.catalog slot)) (ap is_some (free_slot p q name assigned bytes sound admitted (comes_in (new_file name assigned bytes) p q old new puts)))
+      both_ways (is_some (rec_at p.catalog slot)) (ap is_some (free_slot p q name assigned bytes sound (may_come p (new_file name assigned bytes) admitted) (comes_in (new_file name assigned bytes) p q old new puts)))
       (ap is_some (ap (rec_at p.catalog) (sym same) ∙ filed_rec p.catalog sound.catalog f m))
 
   old_name : (f : Filed) → Among p.catalog.entries f → f.rec.name ≡ name → ⊥
@@ -154,17 +154,17 @@ module _ (p q : Kept) (old new : Held) (name : List ℕ) (assigned : List (List 
 
       of_new : words_told k.dict (numbers_at k.ext slot) ≡ description t (told_then filed)
       of_new =
-          ap (words_told k.dict) (set_here p q name assigned bytes sound admitted (comes_in (new_file name assigned bytes) p q old new puts))
+          ap (words_told k.dict) (set_here p q name assigned bytes sound (may_come p (new_file name assigned bytes) admitted) (comes_in (new_file name assigned bytes) p q old new puts))
           ∙ (named_told k.dict in_form.dict (described_by p file) (sorted_set_of (flat_map (up (declared_of p) (axioms_of p)) (own_words (declared_of p) file)))
-          (described_numbered p q name assigned bytes sound admitted (comes_in (new_file name assigned bytes) p q old new puts) after)
+          (described_numbered p q name assigned bytes sound (may_come p (new_file name assigned bytes) admitted) (comes_in (new_file name assigned bytes) p q old new puts) after)
           ∙ (described_is ∙ ap (description s) (sym told_new)))
 
       by : (g : Filed) → (filed ≡ g) ⊎ Among p.catalog.entries g → words_told k.dict (numbers_at k.ext g.slot) ≡ description t (told_then g)
       by g (inl same) = subst (λ (x : Filed). words_told k.dict (numbers_at k.ext x.slot) ≡ description t (told_then x)) same of_new
       by g (inr of) =
           let ns = numbers_at p.ext g.slot in
-          ap (words_told k.dict) (set_other p q name assigned bytes sound admitted (comes_in (new_file name assigned bytes) p q old new puts) g.slot (old_slot g of))
-          ∙ (words_same p.dict k.dict ns (λ n has_it. word_stays p q name assigned bytes sound admitted (comes_in (new_file name assigned bytes) p q old new puts) n (sound.named n g.slot (number_from_among ns n has_it)))
+          ap (words_told k.dict) (set_other p q name assigned bytes sound (may_come p (new_file name assigned bytes) admitted) (comes_in (new_file name assigned bytes) p q old new puts) g.slot (old_slot g of))
+          ∙ (words_same p.dict k.dict ns (λ n has_it. word_stays p q name assigned bytes sound (may_come p (new_file name assigned bytes) admitted) (comes_in (new_file name assigned bytes) p q old new puts) n (sound.named n g.slot (number_from_among ns n has_it)))
           ∙ (tells.described g (contains_from_among p.catalog.entries g of) ∙ ap (description s) (sym (told_old g of))))
 
   -- ---- data blocks
@@ -183,8 +183,8 @@ module _ (p q : Kept) (old new : Held) (name : List ℕ) (assigned : List (List 
     where
       of_new : has_number rec.blocks n ≡ true → (n < k.limits.blocks) × (is_taken k.taken n ≡ true)
       of_new here = (
-        omega (arith, (new_not_taken p q name assigned bytes sound admitted (comes_in (new_file name assigned bytes) p q old new puts) n here).0, sound.blocks),
-        all_among (is_taken k.taken) rec.blocks n (new_taken p q name assigned bytes sound admitted (comes_in (new_file name assigned bytes) p q old new puts)) (among_from_number rec.blocks n here),
+        omega (arith, (new_not_taken p q name assigned bytes sound (may_come p (new_file name assigned bytes) admitted) (comes_in (new_file name assigned bytes) p q old new puts) n here).0, sound.blocks),
+        all_among (is_taken k.taken) rec.blocks n (new_taken p q name assigned bytes sound (may_come p (new_file name assigned bytes) admitted) (comes_in (new_file name assigned bytes) p q old new puts)) (among_from_number rec.blocks n here),
       )
 
       by : (g : Filed) → (filed ≡ g) ⊎ Among p.catalog.entries g → has_number g.rec.blocks n ≡ true → (n < k.limits.blocks) × (is_taken k.taken n ≡ true)
@@ -199,7 +199,7 @@ module _ (p q : Kept) (old new : Held) (name : List ℕ) (assigned : List (List 
       apart : (x y : Filed) → filed ≡ x → Among p.catalog.entries y → has_number x.rec.blocks n ≡ true → has_number y.rec.blocks n ≡ true → ⊥
       apart x y same of has_x has_y =
           let here = subst (λ (z : Filed). has_number z.rec.blocks n ≡ true) (sym same) has_x in
-          both_ways (is_taken p.taken n) (new_not_taken p q name assigned bytes sound admitted (comes_in (new_file name assigned bytes) p q old new puts) n here).1 (tells.given y (contains_from_among p.catalog.entries y of) n has_y).1
+          both_ways (is_taken p.taken n) (new_not_taken p q name assigned bytes sound (may_come p (new_file name assigned bytes) admitted) (comes_in (new_file name assigned bytes) p q old new puts) n here).1 (tells.given y (contains_from_among p.catalog.entries y of) n has_y).1
 
       by : (filed ≡ f) ⊎ Among p.catalog.entries f → (filed ≡ g) ⊎ Among p.catalog.entries g → f ≡ g
       by (inl a) (inl b) = sym a ∙ b
@@ -236,7 +236,7 @@ module _ (p q : Kept) (old new : Held) (name : List ℕ) (assigned : List (List 
       super = puts.adds.front 0 (kept 0) (omega arith) ∙ tells.super;
       state = state_then;
       formed = forms.adds_file s tells.formed file fits;
-      used = used_then p q name assigned bytes sound admitted (comes_in (new_file name assigned bytes) p q old new puts) after free tells.used;
+      used = used_then p q name assigned bytes sound (may_come p (new_file name assigned bytes) admitted) (comes_in (new_file name assigned bytes) p q old new puts) after free tells.used;
       described = described_then;
       taken = taken_then;
       given = given_then;
@@ -247,6 +247,6 @@ module _ (p q : Kept) (old new : Held) (name : List ℕ) (assigned : List (List 
     ready_added saved =
         let was = slot_was_empty p puts.learnt puts.filed (with_heads (learnt_words file)) name (numbers_named k.dict assigned) bytes slot old new free puts.learns puts.adds in
         record {
-          tells = subst (λ (x : Kept). Tells x there t) (sym (end_is p q name assigned bytes sound admitted (comes_in (new_file name assigned bytes) p q old new puts))) tells_end;
+          tells = subst (λ (x : Kept). Tells x there t) (sym (end_is p q name assigned bytes sound (may_come p (new_file name assigned bytes) admitted) (comes_in (new_file name assigned bytes) p q old new puts))) tells_end;
           saved = (puts.describes.marks [] (sym was)).saved there (puts.adds.saved kept (puts.learns.marks.saved at saved));
         }

@@ -12,3 +12,7 @@ derived_few name bytes = omega arith
 
 pub derived_built : (name bytes : List ℕ) → list_all is_built_value (derived_words name bytes) ≡ true
 derived_built name bytes = refl
+
+-- Nothing is derived from bytes yet. Then a file under another name is read again, for the words that its bytes give it.
+pub derived_alike : (name bytes others : List ℕ) → derived_words name bytes ≡ derived_words name others
+derived_alike name bytes others = refl

@@ -1,5 +1,7 @@
 -- How many words would be known with a file in the place of another.
 use Rattle.std.proofs.Common.{◌≡◌, ◌⊎◌, refl, sym, ap, ◌∙◌, subst, inl, inr, ℕ, suc, ◌+◌, ◌<◌, not, ◌&&◌, ◌||◌, Bool, true, false, cond, Some, is_some, IsSome, List, [], ◌∷◌, length, filter, arith}
+use Rattle.std.specs.Option.{option_to_list}
+use Rattle.std.specs.List.{flat_map}
 use Rattle.std.specs.List.Sorted.{IsStrictlySortedBy}
 use Rattle.std.proofs.lemmas.Bool.{and_parts, and_from, or_cases, or_left, or_right, both_ways, cases_eq, not-true, not_from_false, false_from_ne_true}
 use Rattle.std.proofs.lemmas.List.Kept.{IsStrictlySortedBy-filter}
@@ -118,7 +120,7 @@ module _ (k : Kept) (sound : AreSound k) (used : AreUsed k) (slot : ℕ) (file :
   leaving_is : filter (λ w. not (remains w)) all ≡ words_told k.dict numbers
   leaving_is =
       same_words (filter (λ w. not (remains w)) all) (words_told k.dict numbers) (IsStrictlySortedBy-filter word_cmp (λ w. not (remains w)) all sorted_all)
-      (sorted_set_of _)
+      (sorted_set_of (flat_map (λ n. option_to_list (word_of k.dict n)) numbers))
       (λ w m. let both = among_filter (λ x. not (remains x)) all w m in to w (neither (stays k sound slot w) (has_word described w) both.1) (among_with_words (words k.dict) described w both.0))
       from
     where

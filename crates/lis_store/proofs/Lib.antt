@@ -43,3 +43,13 @@ pub mod InsteadMeasured
 pub mod Lacking
 pub mod Shared
 pub mod Left
+pub mod HeadsUsed
+pub mod Replaced
+pub mod ReplacingIn
+pub mod ReplacedTells
+pub mod ReplacedMarks
+pub mod SameWords
+pub mod ReplaceFile
+pub mod InsteadGiven
+pub mod InsteadRows
+pub mod InsteadTold

@@ -35,6 +35,7 @@ use Rattle.lis_kept.proofs.Described.{among_where}
 use Rattle.lis_kept.proofs.InArea.{few_properties}
 use Rattle.lis_store.specs.Admitting.{described_by, known_with, IsAdmitted}
 use Rattle.lis_store.specs.Adding.{is_one_of, numbers_named, AreNumbered, behind_head, with_heads, may_learn, HasWordRoom, LearnsAll, learnt_words}
+use Rattle.lis_store.specs.ReplacingIn.{MayComeIn}
 use Rattle.lis_store.proofs.DerivedWords.{is_built_value, derived_built}
 use Rattle.lis_store.proofs.Learning.{number_there, learns_more, number_learnt, room_left}
 use Rattle.lis_store.proofs.Measured.{own_given}
@@ -63,6 +64,9 @@ built_may k word h =
     ap (λ b. cond b (is_some (number_of k.dict (head_bytes word)) || is_built_in (head_bytes word)) (is_some (number_of k.dict word))) parts.0
     ∙ or_right (is_some (number_of k.dict (head_bytes word))) (is_built_in (head_bytes word)) parts.1
 
+pub learnable_from : (k : Kept) (words : List (List ℕ)) → list_all (is_assignable (declared_of k)) words ≡ true → list_all (may_learn k) words ≡ true
+learnable_from k words h = all_weaker (is_assignable (declared_of k)) (may_learn k) words (λ word m one. assignable_may k word one) h
+
 pub derived_may : (k : Kept) (name bytes : List ℕ) → list_all (may_learn k) (derived_words name bytes) ≡ true
 derived_may k name bytes = all_weaker is_built_value (may_learn k) (derived_words name bytes) (λ word m h. built_may k word h) (derived_built name bytes)
 
@@ -86,8 +90,18 @@ behind_itself own word m = flat_map_among behind_head own word word m (by (is_va
     by true = inr (inl refl)
     by false = inl refl
 
+-- a file that is admitted
+pub may_come : (p : Kept) (file : File) → IsAdmitted p file → MayComeIn p file
+may_come p file admitted = record {
+  new = admitted.new;
+  learnable = learnable_from p file.assigned admitted.assignable;
+  few = admitted.few;
+  short = admitted.short;
+  room = admitted.room;
+}
+
 -- ---- the file
-module _ (p : Kept) (sound : AreSound p) (name : List ℕ) (assigned : List (List ℕ)) (bytes : List ℕ) (admitted : IsAdmitted p (new_file name assigned bytes)) where
+module _ (p : Kept) (sound : AreSound p) (name : List ℕ) (assigned : List (List ℕ)) (bytes : List ℕ) (may : MayComeIn p (new_file name assigned bytes)) where
   abbrev file : File
   file = new_file name assigned bytes
 
@@ -95,7 +109,7 @@ module _ (p : Kept) (sound : AreSound p) (name : List ℕ) (assigned : List (Lis
   described_is = ap (all_up (declared_of p) (axioms_of p)) (own_given p sound file)
 
   pub assigned_may : list_all (may_learn p) assigned ≡ true
-  assigned_may = all_weaker (is_assignable (declared_of p)) (may_learn p) assigned (λ word m h. assignable_may p word h) admitted.assignable
+  assigned_may = may.learnable
 
   -- the words and their heads are words of the description
   words_fit : HasWordRoom p (with_heads (learnt_words file))
@@ -104,7 +118,7 @@ module _ (p : Kept) (sound : AreSound p) (name : List ℕ) (assigned : List (Lis
       let le = members_le word_cmp word_order (with_words (words p.dict) (with_heads (learnt_words file))) (known_with p file)
       (sorted_with_words (words p.dict) (with_heads (learnt_words file)) old) (sorted_with_words (words p.dict) (described_by p file) old)
       (λ word m. by word (among_with_words (words p.dict) (with_heads (learnt_words file)) word m)) in
-      omega (arith, le, admitted.room)
+      omega (arith, le, may.room)
     where
       by : (word : List ℕ) → Among (words p.dict) word ⊎ Among (with_heads (learnt_words file)) word → Among (known_with p file) word
       by word (inl m) = with_words_old (words p.dict) (described_by p file) word m
@@ -144,7 +158,7 @@ module _ (p : Kept) (sound : AreSound p) (name : List ℕ) (assigned : List (Lis
         ap₂ (λ (declared : List (List ℕ)) (axioms : List (List ℕ × List ℕ)). all_up declared axioms (learnt_words file)) declared_same axioms_same ∙ sym described_is
 
     pub entailed_short : length (all_up (declared_of r) (axioms_of r) (learnt_words file)) ≤ 128
-    entailed_short = omega (arith, ap length entailed_is, admitted.short)
+    entailed_short = omega (arith, ap length entailed_is, may.short)
 
 -- ---- numbers in form
 module _ (r : Kept) (sound : AreSound r) (words : List (List ℕ)) where

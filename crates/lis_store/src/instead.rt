@@ -215,6 +215,8 @@ pub(crate) fn may_rename(
     ensures words { IfOk result (λ words. (rec : FileRecord) → rec_at parts.now.catalog slot ≡ Some rec
         → words.items ≡ words_told parts.now.dict rec.tags) }
 {
+    // Only the limits tell that no test is declared, so that the bytes give no word.
+    let _limits = parts.limits();
     if parts.slot_of(other).is_some() {
         return Err(Refusal::NameTaken);
     }

@@ -17,6 +17,8 @@ ghost use Rattle.lis_store.specs.Stored.{IsSound, StoreFits};
 ghost use Rattle.lis_store.specs.Judging.{is_among};
 ghost use Rattle.lis_store.specs.Changes.{Changes, HasChangeCause, ChangeLeft, EditsFew};
 
+mod replacing;
+
 use crate::adding::put_in;
 use crate::admitting::may_add;
 use crate::change::Change;

@@ -11,14 +11,16 @@ use Rattle.lis_kept.specs.Telling.{declared_of, axioms_of}
 use Rattle.lis_store.specs.Admitting.{described_by}
 use Rattle.lis_store.specs.Adding.{numbers_named, AreNumbered, with_heads, may_learn, HasWordRoom}
 use Rattle.lis_store.proofs.Naming.{named_few}
-use Rattle.lis_store.proofs.PutIn.{assigned_may, derived_may, assigned_room, derived_room, both_learnt, own_numbered, entailed_is, entailed_short, named_tags, named_rising, named_worded, slot_was_empty}
+use Rattle.lis_store.proofs.PutIn.{may_come, assigned_may, derived_may, assigned_room, derived_room, both_learnt, own_numbered, entailed_is, entailed_short, named_tags, named_rising, named_worded, slot_was_empty}
 use Rattle.lis_store.proofs.adding.put_in.Goals as goal
 
 pub learn_words-requires-clause-form : goal.learn_words-requires-clause-form
-learn_words-requires-clause-form g c = assigned_may c.args.parts.now c.requires.sound c.args.name.now c.args.assigned.now c.args.payload.now c.requires.admitted
+learn_words-requires-clause-form g c = assigned_may c.args.parts.now c.requires.sound c.args.name.now c.args.assigned.now c.args.payload.now
+    (may_come c.args.parts.now (new_file c.args.name.now c.args.assigned.now c.args.payload.now) c.requires.admitted)
 
 pub learn_words-requires-clause-room : goal.learn_words-requires-clause-room
-learn_words-requires-clause-room g c = assigned_room c.args.parts.now c.requires.sound c.args.name.now c.args.assigned.now c.args.payload.now c.requires.admitted
+learn_words-requires-clause-room g c = assigned_room c.args.parts.now c.requires.sound c.args.name.now c.args.assigned.now c.args.payload.now
+    (may_come c.args.parts.now (new_file c.args.name.now c.args.assigned.now c.args.payload.now) c.requires.admitted)
 
 pub learn_words-requires-2-clause-form : goal.learn_words-requires-2-clause-form
 learn_words-requires-2-clause-form g c =
@@ -30,27 +32,32 @@ pub learn_words-requires-2-clause-room : goal.learn_words-requires-2-clause-room
 learn_words-requires-2-clause-room g c =
     let derived = c.as_slice.ensures.words ∙ c.derived-derived.ensures in
     let P : List (List ℕ) → Type 0 = λ ws. HasWordRoom c.learn_words.new.parts (with_heads ws) in
-    subst P (sym derived) (derived_room c.args.parts.now c.requires.sound c.args.name.now c.args.assigned.now c.args.payload.now c.requires.admitted c.learn_words.new.parts c.learn_words.ensures)
+    subst P (sym derived) (derived_room c.args.parts.now c.requires.sound c.args.name.now c.args.assigned.now c.args.payload.now
+    (may_come c.args.parts.now (new_file c.args.name.now c.args.assigned.now c.args.payload.now) c.requires.admitted) c.learn_words.new.parts c.learn_words.ensures)
 
 pub numbers_entailed-numbers-requires-clause-numbered : goal.numbers_entailed-numbers-requires-clause-numbered
 numbers_entailed-numbers-requires-clause-numbered g c =
     let p = c.args.parts.now in
     let r = c.learn_words-2.new.parts in
-    let learns = both_learnt p c.requires.sound c.args.name.now c.args.assigned.now c.args.payload.now c.requires.admitted
+    let learns = both_learnt p c.requires.sound c.args.name.now c.args.assigned.now c.args.payload.now
+    (may_come c.args.parts.now (new_file c.args.name.now c.args.assigned.now c.args.payload.now) c.requires.admitted)
     c.learn_words.new.parts r c.as_slice.result.now c.learn_words.ensures (c.as_slice.ensures.words ∙ c.derived-derived.ensures) c.learn_words-2.ensures in
     let P : List (List ℕ) → Type 0 = λ ws. AreNumbered r.dict (c.args.assigned.now ++ ws) in
     subst P (sym (c.as_slice-2.ensures.words ∙ c.derived-derived.ensures))
-    (own_numbered p c.requires.sound c.args.name.now c.args.assigned.now c.args.payload.now c.requires.admitted r learns)
+    (own_numbered p c.requires.sound c.args.name.now c.args.assigned.now c.args.payload.now
+    (may_come c.args.parts.now (new_file c.args.name.now c.args.assigned.now c.args.payload.now) c.requires.admitted) r learns)
 
 pub numbers_entailed-numbers-requires-clause-few : goal.numbers_entailed-numbers-requires-clause-few
 numbers_entailed-numbers-requires-clause-few g c =
     let p = c.args.parts.now in
     let r = c.learn_words-2.new.parts in
-    let learns = both_learnt p c.requires.sound c.args.name.now c.args.assigned.now c.args.payload.now c.requires.admitted
+    let learns = both_learnt p c.requires.sound c.args.name.now c.args.assigned.now c.args.payload.now
+    (may_come c.args.parts.now (new_file c.args.name.now c.args.assigned.now c.args.payload.now) c.requires.admitted)
     c.learn_words.new.parts r c.as_slice.result.now c.learn_words.ensures (c.as_slice.ensures.words ∙ c.derived-derived.ensures) c.learn_words-2.ensures in
     let P : List (List ℕ) → Type 0 = λ ws. length (all_up (declared_of r) (axioms_of r) (c.args.assigned.now ++ ws)) ≤ 128 in
     subst P (sym (c.as_slice-2.ensures.words ∙ c.derived-derived.ensures))
-    (entailed_short p c.requires.sound c.args.name.now c.args.assigned.now c.args.payload.now c.requires.admitted r learns)
+    (entailed_short p c.requires.sound c.args.name.now c.args.assigned.now c.args.payload.now
+    (may_come c.args.parts.now (new_file c.args.name.now c.args.assigned.now c.args.payload.now) c.requires.admitted) r learns)
 
 pub add_file-slot-requires-clause-tagged : goal.add_file-slot-requires-clause-tagged
 add_file-slot-requires-clause-tagged g c =
@@ -65,7 +72,8 @@ pub describe-requires-clause-was : goal.describe-requires-clause-was
 describe-requires-clause-was g c =
     let p = c.args.parts.now in
     let r = c.learn_words-2.new.parts in
-    let learns = both_learnt p c.requires.sound c.args.name.now c.args.assigned.now c.args.payload.now c.requires.admitted
+    let learns = both_learnt p c.requires.sound c.args.name.now c.args.assigned.now c.args.payload.now
+    (may_come c.args.parts.now (new_file c.args.name.now c.args.assigned.now c.args.payload.now) c.requires.admitted)
     c.learn_words.new.parts r c.as_slice.result.now c.learn_words.ensures (c.as_slice.ensures.words ∙ c.derived-derived.ensures) c.learn_words-2.ensures in
     slot_was_empty p r c.add_file-slot.new.self _ c.args.name.now c.numbers_of-tags.result.items c.args.payload.now c.add_file-slot.result c.args.journal.now c.add_file-slot.new.journal
     c.requires.free learns c.add_file-slot.ensures.added
@@ -89,14 +97,16 @@ returns-clause-put g c =
     let p = c.args.parts.now in
     let r = c.learn_words-2.new.parts in
     let derived = c.as_slice-2.ensures.words ∙ c.derived-derived.ensures in
-    let learns = both_learnt p c.requires.sound c.args.name.now c.args.assigned.now c.args.payload.now c.requires.admitted
+    let learns = both_learnt p c.requires.sound c.args.name.now c.args.assigned.now c.args.payload.now
+    (may_come c.args.parts.now (new_file c.args.name.now c.args.assigned.now c.args.payload.now) c.requires.admitted)
     c.learn_words.new.parts r c.as_slice.result.now c.learn_words.ensures (c.as_slice.ensures.words ∙ c.derived-derived.ensures) c.learn_words-2.ensures in
     let numbers =
     c.as_slice-3.ensures.value
     ∙ (c.numbers_entailed-numbers.ensures.numbers
     ∙ ap (λ (ws : List (List ℕ)). numbers_named r.dict ws)
     (ap (λ ws. all_up (declared_of r) (axioms_of r) (c.args.assigned.now ++ ws)) derived
-    ∙ entailed_is p c.requires.sound c.args.name.now c.args.assigned.now c.args.payload.now c.requires.admitted r learns)) in
+    ∙ entailed_is p c.requires.sound c.args.name.now c.args.assigned.now c.args.payload.now
+    (may_come c.args.parts.now (new_file c.args.name.now c.args.assigned.now c.args.payload.now) c.requires.admitted) r learns)) in
     let A : List ℕ → Type 0 = λ ns. Adds c.args.name.now ns c.args.payload.now c.add_file-slot.result r c.add_file-slot.new.self c.args.journal.now c.add_file-slot.new.journal in
     let D : List ℕ → Type 0 = λ ns. Describes c.add_file-slot.result ns c.add_file-slot.new.self c.describe.new.self in
     record {

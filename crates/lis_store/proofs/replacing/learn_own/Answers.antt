@@ -15,10 +15,10 @@ use Rattle.lis_store.proofs.PutIn.{assigned_may, derived_may, assigned_room, der
 use Rattle.lis_store.proofs.replacing.learn_own.Goals as goal
 
 pub learn_words-requires-clause-form : goal.learn_words-requires-clause-form
-learn_words-requires-clause-form c = assigned_may c.args.parts.now c.requires.sound c.args.name.now c.args.assigned.now c.args.payload.now c.requires.admitted
+learn_words-requires-clause-form c = assigned_may c.args.parts.now c.requires.sound c.args.name.now c.args.assigned.now c.args.payload.now c.requires.may
 
 pub learn_words-requires-clause-room : goal.learn_words-requires-clause-room
-learn_words-requires-clause-room c = assigned_room c.args.parts.now c.requires.sound c.args.name.now c.args.assigned.now c.args.payload.now c.requires.admitted
+learn_words-requires-clause-room c = assigned_room c.args.parts.now c.requires.sound c.args.name.now c.args.assigned.now c.args.payload.now c.requires.may
 
 pub learn_words-requires-2-clause-form : goal.learn_words-requires-2-clause-form
 learn_words-requires-2-clause-form c =
@@ -30,27 +30,27 @@ pub learn_words-requires-2-clause-room : goal.learn_words-requires-2-clause-room
 learn_words-requires-2-clause-room c =
     let derived = c.as_slice.ensures.words ∙ c.derived-derived.ensures in
     let P : List (List ℕ) → Type 0 = λ ws. HasWordRoom c.learn_words.new.parts (with_heads ws) in
-    subst P (sym derived) (derived_room c.args.parts.now c.requires.sound c.args.name.now c.args.assigned.now c.args.payload.now c.requires.admitted c.learn_words.new.parts c.learn_words.ensures)
+    subst P (sym derived) (derived_room c.args.parts.now c.requires.sound c.args.name.now c.args.assigned.now c.args.payload.now c.requires.may c.learn_words.new.parts c.learn_words.ensures)
 
 pub numbers_entailed-all-requires-clause-numbered : goal.numbers_entailed-all-requires-clause-numbered
 numbers_entailed-all-requires-clause-numbered c =
     let p = c.args.parts.now in
     let r = c.learn_words-2.new.parts in
-    let learns = both_learnt p c.requires.sound c.args.name.now c.args.assigned.now c.args.payload.now c.requires.admitted
+    let learns = both_learnt p c.requires.sound c.args.name.now c.args.assigned.now c.args.payload.now c.requires.may
     c.learn_words.new.parts r c.as_slice.result.now c.learn_words.ensures (c.as_slice.ensures.words ∙ c.derived-derived.ensures) c.learn_words-2.ensures in
     let P : List (List ℕ) → Type 0 = λ ws. AreNumbered r.dict (c.args.assigned.now ++ ws) in
     subst P (sym (c.as_slice-2.ensures.words ∙ c.derived-derived.ensures))
-    (own_numbered p c.requires.sound c.args.name.now c.args.assigned.now c.args.payload.now c.requires.admitted r learns)
+    (own_numbered p c.requires.sound c.args.name.now c.args.assigned.now c.args.payload.now c.requires.may r learns)
 
 pub numbers_entailed-all-requires-clause-few : goal.numbers_entailed-all-requires-clause-few
 numbers_entailed-all-requires-clause-few c =
     let p = c.args.parts.now in
     let r = c.learn_words-2.new.parts in
-    let learns = both_learnt p c.requires.sound c.args.name.now c.args.assigned.now c.args.payload.now c.requires.admitted
+    let learns = both_learnt p c.requires.sound c.args.name.now c.args.assigned.now c.args.payload.now c.requires.may
     c.learn_words.new.parts r c.as_slice.result.now c.learn_words.ensures (c.as_slice.ensures.words ∙ c.derived-derived.ensures) c.learn_words-2.ensures in
     let P : List (List ℕ) → Type 0 = λ ws. length (all_up (declared_of r) (axioms_of r) (c.args.assigned.now ++ ws)) ≤ 128 in
     subst P (sym (c.as_slice-2.ensures.words ∙ c.derived-derived.ensures))
-    (entailed_short p c.requires.sound c.args.name.now c.args.assigned.now c.args.payload.now c.requires.admitted r learns)
+    (entailed_short p c.requires.sound c.args.name.now c.args.assigned.now c.args.payload.now c.requires.may r learns)
 
 pub returns-clause-learnt : goal.returns-clause-learnt
 returns-clause-learnt c =
@@ -58,17 +58,17 @@ returns-clause-learnt c =
     let r = c.learn_words-2.new.parts in
     let file = new_file c.args.name.now c.args.assigned.now c.args.payload.now in
     let derived = c.as_slice-2.ensures.words ∙ c.derived-derived.ensures in
-    let learns = both_learnt p c.requires.sound c.args.name.now c.args.assigned.now c.args.payload.now c.requires.admitted
+    let learns = both_learnt p c.requires.sound c.args.name.now c.args.assigned.now c.args.payload.now c.requires.may
     c.learn_words.new.parts r c.as_slice.result.now c.learn_words.ensures (c.as_slice.ensures.words ∙ c.derived-derived.ensures) c.learn_words-2.ensures in
     let numbers =
     c.numbers_entailed-all.ensures.numbers
     ∙ ap (λ (ws : List (List ℕ)). numbers_named r.dict ws)
     (ap (λ ws. all_up (declared_of r) (axioms_of r) (c.args.assigned.now ++ ws)) derived
-    ∙ entailed_is p c.requires.sound c.args.name.now c.args.assigned.now c.args.payload.now c.requires.admitted r learns) in
+    ∙ entailed_is p c.requires.sound c.args.name.now c.args.assigned.now c.args.payload.now c.requires.may r learns) in
     record {
       learns = learns;
       sound = c.numbers_of-tags.ensures.sound;
       tagged = c.numbers_of-tags.ensures.numbers;
       numbered = numbers;
-      few = omega (arith, ap length numbers, named_few r.dict c.numbers_of-tags.ensures.sound.dict (described_by p file), c.requires.admitted.short);
+      few = omega (arith, ap length numbers, named_few r.dict c.numbers_of-tags.ensures.sound.dict (described_by p file), c.requires.may.short);
     }

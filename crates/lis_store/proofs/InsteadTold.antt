@@ -1,0 +1,210 @@
+-- The rows of `write` and `rename`, told by what a store keeps, are the rows of the state.
+use Rattle.std.proofs.Common.{◌≡◌, ◌⊎◌, refl, sym, ap, ap₂, ◌∙◌, subst, inl, inr, ℕ, ◌+◌, ◌<◌, ◌≤◌, ◌==◌, nat_lt, nat_le, Bool, true, false, not, cond, is_some, Option, Some, None, List, [], ◌∷◌, ◌++◌, length, Result, Err, arith, eqb-true}
+use Rattle.std.specs.Prelude.{IsTrue}
+use Rattle.std.specs.List.{list_any}
+use Rattle.std.proofs.lemmas.Bool.{and_parts, leb-true, ltb-true, not-false}
+use Rattle.lis_ports.specs.Meaning.{Meaning}
+use Rattle.lis_blockmap.specs.Bitmap.{free_count}
+use Rattle.lis_catalog.specs.Catalog.{Filed, slot_of, rec_at}
+use Rattle.lis_fields.specs.Records.{FileRecord}
+use Rattle.lis_graph.proofs.Members.{Among, among_from_any, any_from_among, among_insert_key, among_filter}
+use Rattle.lis_grammar.specs.Formula.{Formula}
+use Rattle.lis_words.specs.Words.{same_word}
+use Rattle.lis_model.specs.declared.limits.Limits.{Limits}
+use Rattle.lis_model.specs.declared.refusal.Refusal.{Refusal}
+use Rattle.lis_model.specs.State.{State, File, description, known, file_cmp, file_limit, blocks_needed, blocks_taken}
+use Rattle.lis_model.specs.Changes.{has_name, file_of, new_file, file_removed, file_replaced}
+use Rattle.lis_model.specs.Table.{Table, Entry}
+use Rattle.lis_model.specs.Listing.{extension}
+use Rattle.lis_model.specs.Step.{Situation, Payload, refused, changed, exceeds_words, exceeds_known, free_blocks, blocks_for, is_here, write_checks, write_with, write, rename_checks, rename_as, rename}
+use Rattle.lis_laws.proofs.Counts.{all_among}
+use Rattle.lis_laws.proofs.Named.{file_there, file_of_name, gone_free, still_free}
+use Rattle.lis_kept.specs.Kept.{Kept}
+use Rattle.lis_kept.specs.Telling.{words_told, bytes_told, file_told}
+use Rattle.lis_kept.proofs.Filing.{same_tests, filed_at_slot}
+use Rattle.lis_store.specs.Stored.{Stored, IsSound, StoreFits}
+use Rattle.lis_store.specs.Admitting.{described_by}
+use Rattle.lis_store.specs.Changes.{first_refusal}
+use Rattle.lis_store.specs.Judging.{is_among}
+use Rattle.lis_store.specs.Replacing.{known_instead}
+use Rattle.lis_store.specs.Instead.{given_before, write_checks_of, rename_checks_of}
+use Rattle.lis_store.proofs.Facts.{limits_told, name_filed, filed_named, file_in_slot, blocks_counted, size_of_filed, table_told}
+use Rattle.lis_store.proofs.FreeBlocks.{used_told, version_told}
+use Rattle.lis_store.proofs.InsteadKnown.{described_are, known_replaced}
+use Rattle.lis_store.proofs.Judged.{same_first, judged_refused, judged_done}
+
+-- ---- a file in the place of another
+module _ (k : Stored) (m : Meaning) (s : State) (sound : IsSound k) (fits : StoreFits k m s) (name : List ℕ) (slot : ℕ) (rec : FileRecord)
+    (is_slot : slot_of k.parts.catalog name ≡ Some slot) (is_rec : rec_at k.parts.catalog slot ≡ Some rec) where
+  abbrev p : Kept
+  p = k.parts
+
+  -- the file that is there
+  pub old_is : file_of s.files name ≡ given_before p rec rec.name (bytes_told p.limits fits.kept rec)
+  old_is = file_in_slot p fits.kept s sound.parts sound.free fits.tells name slot rec is_slot is_rec
+
+  pub old_given : (file_of s.files name).assigned ≡ words_told p.dict rec.tags
+  old_given = ap (λ (f : File). f.assigned) old_is
+
+  -- Other files have few words, so the new one alone may have too many.
+  pub large_told : (file : File) → has_name (file_removed s name).files file.name ≡ false → nat_lt 128 (length (described_by p file)) ≡ exceeds_words (file_replaced s name file)
+  large_told file new =
+      ap (λ ws. nat_lt 128 (length ws)) (described_are p fits.kept s sound.parts sound.free fits.tells name slot rec is_slot is_rec file)
+      ∙ same_tests (large file) (list_any large made.files) to from
+    where
+      made : State
+      made = file_replaced s name file
+
+      large : File → Bool
+      large f = nat_lt 128 (length (description s f))
+
+      to : large file ≡ true → list_any large made.files ≡ true
+      to h = any_from_among large made.files file (file_there (file_removed s name) file new) h
+
+      from : list_any large made.files ≡ true → large file ≡ true
+      from h = let found = among_from_any large made.files h in by found.0 (among_insert_key file_cmp (file_removed s name).files file found.0 found.1) found.2
+        where
+          by : (f : File) → (file ≡ f) ⊎ Among (file_removed s name).files f → large f ≡ true → large file ≡ true
+          by f (inl same) too = ap large same ∙ too
+          by f (inr old) too =
+              let there = (among_filter (λ (g : File). not (same_word g.name name)) s.files f old).0 in
+              let few = leb-true (length (description s f)) 128 (all_among (λ (g : File). nat_le (length (description s g)) 128) s.files f fits.tells.formed.files.few_words there) in
+              absurd (omega (arith, few, ltb-true 128 (length (description s f)) too))
+
+  props_told : p.limits.props ≡ s.limits.props
+  props_told = ap (λ (l : Limits). l.props) (limits_told p fits.kept s sound.parts sound.free fits.tells)
+
+  pub room_told : (file : File) → has_name (file_removed s name).files file.name ≡ false
+      → nat_lt p.limits.props (length (known_instead p slot file)) ≡ nat_lt s.limits.props (length (known (file_replaced s name file)))
+  room_told file new =
+      ap₂ (λ props ws. nat_lt props (length ws)) props_told (known_replaced p fits.kept s sound.parts sound.free fits.tells name slot rec is_slot is_rec file new)
+
+  -- the blocks that are free, and those that the file has
+  pub blocks_told : free_count p.taken + length rec.blocks ≡ blocks_for s (file_of s.files name)
+  blocks_told =
+      sum
+      ∙ sym (ap (λ v. cond (v == 2) (free_blocks s) (free_blocks s + blocks_taken v (length (file_of s.files name).bytes))) (version_told k m s sound fits))
+    where
+      f : Filed
+      f = record { slot = slot; rec = rec }
+
+      there : Among p.catalog.entries f
+      there = filed_at_slot p.catalog sound.parts.catalog slot rec is_rec
+
+      taken : length rec.blocks ≡ blocks_needed (length (file_of s.files name).bytes)
+      taken =
+          blocks_counted p sound.parts f there
+          ∙ ap blocks_needed (sym (ap (λ (x : File). length x.bytes) old_is ∙ size_of_filed k m s sound fits f there))
+
+      sum : free_count p.taken + length rec.blocks ≡ free_blocks s + blocks_needed (length (file_of s.files name).bytes)
+      sum = omega (arith, used_told k m s sound fits, taken)
+
+-- ---- the rows
+module _ (k : Stored) (m : Meaning) (s : State) (sound : IsSound k) (fits : StoreFits k m s) (place : List Formula) (name : List ℕ) (slot : ℕ) (rec : FileRecord)
+    (there : is_among k.parts place name ≡ true → (slot_of k.parts.catalog name ≡ Some slot) × (rec_at k.parts.catalog slot ≡ Some rec)) where
+  abbrev now : Situation
+  now = record { state = s; place = place }
+
+  abbrev old : File
+  old = file_of s.files name
+
+  abbrev kept : Kept
+  kept = k.parts
+
+  among_told : is_among kept place name ≡ is_here now old.name
+  among_told =
+      ap (λ (t : Table). list_any (λ (file : Entry). same_word file.name name) (extension t place)) (table_told k m s sound fits)
+      ∙ ap (is_here now) (sym (file_of_name s.files name))
+
+  version_is : kept.limits.version ≡ s.limits.version
+  version_is = ap (λ (l : Limits). l.version) (limits_told kept fits.kept s sound.parts sound.free fits.tells)
+
+  -- what the model makes of the file is what memory makes of it
+  made_is : (other bytes : List ℕ) → old.assigned ≡ words_told kept.dict rec.tags → file_replaced s name (given_before kept rec other bytes) ≡ file_replaced s old.name (new_file other old.assigned bytes)
+  made_is other bytes given = ap₂ (λ n ws. file_replaced s n (new_file other ws bytes)) (sym (file_of_name s.files name)) (sym given)
+
+  write_row : (bytes : List ℕ) (size : ℕ)
+      → first_refusal (write_checks_of kept place name slot rec (given_before kept rec name bytes) size)
+      ≡ first_refusal (write_checks now old (file_replaced s old.name (new_file old.name old.assigned bytes)) size)
+  write_row bytes size =
+      same_first (write_checks_of kept place name slot rec (given_before kept rec name bytes) size)
+      (write_checks now old (file_replaced s old.name (new_file old.name old.assigned bytes)) size) (
+        refl,
+        ap (λ v. nat_lt (file_limit v) size) version_is,
+        λ small. (
+          refl,
+          ap not among_told,
+          λ here. let at = there (not-false (is_among kept place name) here) in (
+            refl,
+            large_told k m s sound fits name slot rec at.0 at.1 (given_before kept rec name bytes) (gone_free s name) ∙ ap exceeds_words (made at),
+            λ short. (
+              refl,
+              room_told k m s sound fits name slot rec at.0 at.1 (given_before kept rec name bytes) (gone_free s name) ∙ ap exceeds_known (made at),
+              λ room. (
+                refl,
+                ap₂ nat_lt (blocks_told k m s sound fits name slot rec at.0 at.1) (ap (λ v. blocks_taken v size) version_is),
+                λ blocks. tt,
+              ),
+            ),
+          ),
+        ),
+      )
+    where
+      made : (slot_of kept.catalog name ≡ Some slot) × (rec_at kept.catalog slot ≡ Some rec)
+          → file_replaced s name (given_before kept rec name bytes) ≡ file_replaced s old.name (new_file old.name old.assigned bytes)
+      made at =
+          made_is name bytes (old_given k m s sound fits name slot rec at.0 at.1)
+          ∙ ap (λ n. file_replaced s old.name (new_file n old.assigned bytes)) (sym (file_of_name s.files name))
+
+  rename_row : (other : List ℕ)
+      → first_refusal (rename_checks_of kept place name slot (given_before kept rec other old.bytes))
+      ≡ first_refusal (rename_checks now old.name (new_file other old.assigned old.bytes) (file_replaced s old.name (new_file other old.assigned old.bytes)))
+  rename_row other =
+      let named = name_filed kept fits.kept s sound.parts sound.free fits.tells other in
+      same_first (rename_checks_of kept place name slot (given_before kept rec other old.bytes))
+      (rename_checks now old.name (new_file other old.assigned old.bytes) (file_replaced s old.name (new_file other old.assigned old.bytes))) (
+        refl,
+        ap not among_told,
+        λ here. let at = there (not-false (is_among kept place name) here) in
+        let made = made_is other old.bytes (old_given k m s sound fits name slot rec at.0 at.1) in (
+          refl,
+          sym named,
+          λ new. let free = still_free s name other (named ∙ new) in (
+            refl,
+            large_told k m s sound fits name slot rec at.0 at.1 (given_before kept rec other old.bytes) free ∙ ap exceeds_words made,
+            λ short. (
+              refl,
+              room_told k m s sound fits name slot rec at.0 at.1 (given_before kept rec other old.bytes) free ∙ ap exceeds_known made,
+              λ room. tt,
+            ),
+          ),
+        ),
+      )
+
+  -- what `write` comes to
+  pub write_refused : (payload : Payload) (refusal : Refusal)
+      → first_refusal (write_checks_of kept place name slot rec (given_before kept rec name payload.bytes) payload.size) ≡ Some refusal → write now name payload ≡ refused now refusal
+  write_refused payload refusal first =
+      let made = file_replaced s old.name (new_file old.name old.assigned payload.bytes) in
+      judged_refused now (write_checks now old made payload.size) (changed now made) refusal (sym (write_row payload.bytes payload.size) ∙ first)
+
+  pub write_done : (payload : Payload) → first_refusal (write_checks_of kept place name slot rec (given_before kept rec name payload.bytes) payload.size) ≡ None
+      → write now name payload ≡ changed now (file_replaced s name (new_file name old.assigned payload.bytes))
+  write_done payload none =
+      let made = file_replaced s old.name (new_file old.name old.assigned payload.bytes) in
+      judged_done now (write_checks now old made payload.size) (changed now made) (sym (write_row payload.bytes payload.size) ∙ none)
+      ∙ ap (λ n. changed now (file_replaced s n (new_file n old.assigned payload.bytes))) (file_of_name s.files name)
+
+  -- what `rename` comes to
+  pub rename_refused : (other : List ℕ) (refusal : Refusal) → first_refusal (rename_checks_of kept place name slot (given_before kept rec other old.bytes)) ≡ Some refusal
+      → rename now name other ≡ refused now refusal
+  rename_refused other refusal first =
+      let new = new_file other old.assigned old.bytes in
+      judged_refused now (rename_checks now old.name new (file_replaced s old.name new)) (changed now (file_replaced s old.name new)) refusal (sym (rename_row other) ∙ first)
+
+  pub rename_done : (other : List ℕ) → first_refusal (rename_checks_of kept place name slot (given_before kept rec other old.bytes)) ≡ None
+      → rename now name other ≡ changed now (file_replaced s name (new_file other old.assigned old.bytes))
+  rename_done other none =
+      let new = new_file other old.assigned old.bytes in
+      judged_done now (rename_checks now old.name new (file_replaced s old.name new)) (changed now (file_replaced s old.name new)) (sym (rename_row other) ∙ none)
+      ∙ ap (λ n. changed now (file_replaced s n new)) (file_of_name s.files name)

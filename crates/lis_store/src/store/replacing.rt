@@ -1,0 +1,116 @@
+//! Calls that change a file.
+
+ghost use Rattle.std.specs.Prelude.{◌≡◌, ℕ, ◌*◌, ◌≤◌, false, length, Err};
+ghost use Rattle.lis_ports.specs.Runs.{IsDiskRun};
+ghost use Rattle.lis_model.specs.declared.refusal.Refusal.{Refusal};
+ghost use Rattle.lis_model.specs.State.{State};
+ghost use Rattle.lis_model.specs.Step.{write, rename};
+ghost use Rattle.lis_eval.specs.Room.{HasRoom};
+ghost use Rattle.lis_store.specs.declared.change.Change.TheVariants.{Refused};
+ghost use Rattle.lis_store.specs.Stored.{StoreFits};
+ghost use Rattle.lis_store.specs.Changes.{Changes, HasChangeCause, ChangeLeft, EditsFew};
+
+use crate::admitting::file_limit;
+use crate::change::Change;
+use crate::instead::{may_rename, may_write};
+use crate::replacing::{overwrite, refile};
+use crate::saving::save;
+use crate::store::Store;
+use lis_eval::Scratch;
+use lis_model::refusal::Refusal;
+use lis_place::Place;
+use lis_ports::Disk;
+use lis_words::Name;
+
+impl Store {
+    /// Gives a file other bytes: `write` at the place. Where there are more bytes than a file may have, only their number counts.
+    pub fn write<D: Disk>(
+        &mut self,
+        disk: &mut D,
+        scratch: &mut Scratch,
+        place: &Place,
+        name: &Name,
+        payload: &[u8],
+        size: u64,
+    ) -> Result<(), Change>
+        requires whole { size ≤ 65536 → length payload.now ≡ size }
+        requires scratch { HasRoom scratch.old self.old.parts.limits }
+        requires unbroken { self.old.is_broken ≡ false }
+        requires long { 4096 * self.old.journal.blocks ≤ (D.meaning disk.old).len }
+        ensures scratch { HasRoom scratch.new self.old.parts.limits }
+        ensures changes { (s : State) → StoreFits self.old (D.meaning disk.old) s
+            → Changes (record { state = s; place = place.now })
+            (write (record { state = s; place = place.now }) name.now (record { size = size; bytes = payload.now }))
+            self.new (D.meaning disk.old) (D.meaning disk.new) result }
+        ensures untouched { (refusal : Refusal) → result ≡ Err (Refused refusal) → disk.new ≡ disk.old }
+        ensures limits { self.new.parts.limits ≡ self.old.parts.limits }
+        ensures image { self.new.journal.blocks ≡ self.old.journal.blocks }
+        ensures left { ChangeLeft self.old self.new result }
+        ensures edits { EditsFew self.old self.new }
+        ensures run { IsDiskRun (D.meaning disk.old) (D.meaning disk.new) }
+        ensures cause { HasChangeCause (D.meaning disk.old).disk_faults (D.meaning disk.new).disk_faults result }
+    {
+        if size > file_limit(self.parts.limits().version) {
+            return Err(Change::Refused(Refusal::LargeFile));
+        }
+        let Some(slot) = self.slot_here(scratch, place, name) else {
+            return Err(Change::Refused(Refusal::NoFileHere));
+        };
+        let words = may_write(&self.parts, scratch, slot, name, payload, size)?;
+        overwrite(
+            &mut self.parts,
+            &mut self.journal,
+            disk,
+            scratch,
+            slot,
+            name,
+            words.as_slice(),
+            payload,
+        );
+        save(
+            &mut self.parts,
+            &mut self.journal,
+            &mut self.is_broken,
+            disk,
+        )
+    }
+
+    /// Gives a file another name: `rename` at the place.
+    pub fn rename<D: Disk>(
+        &mut self,
+        disk: &mut D,
+        scratch: &mut Scratch,
+        place: &Place,
+        name: &Name,
+        new: &Name,
+    ) -> Result<(), Change>
+        requires scratch { HasRoom scratch.old self.old.parts.limits }
+        requires unbroken { self.old.is_broken ≡ false }
+        requires long { 4096 * self.old.journal.blocks ≤ (D.meaning disk.old).len }
+        ensures scratch { HasRoom scratch.new self.old.parts.limits }
+        ensures changes { (s : State) → StoreFits self.old (D.meaning disk.old) s
+            → Changes (record { state = s; place = place.now }) (rename (record { state = s; place = place.now }) name.now new.now)
+            self.new (D.meaning disk.old) (D.meaning disk.new) result }
+        ensures untouched { (refusal : Refusal) → result ≡ Err (Refused refusal) → disk.new ≡ disk.old }
+        ensures limits { self.new.parts.limits ≡ self.old.parts.limits }
+        ensures image { self.new.journal.blocks ≡ self.old.journal.blocks }
+        ensures left { ChangeLeft self.old self.new result }
+        ensures edits { EditsFew self.old self.new }
+        ensures run { IsDiskRun (D.meaning disk.old) (D.meaning disk.new) }
+        ensures cause { HasChangeCause (D.meaning disk.old).disk_faults (D.meaning disk.new).disk_faults result }
+    {
+        // Only its bytes tell that a name has a name's form.
+        let _name = new.bytes();
+        let Some(slot) = self.slot_here(scratch, place, name) else {
+            return Err(Change::Refused(Refusal::NoFileHere));
+        };
+        let words = may_rename(&self.parts, scratch, slot, new)?;
+        refile(&mut self.parts, scratch, slot, new, words.as_slice());
+        save(
+            &mut self.parts,
+            &mut self.journal,
+            &mut self.is_broken,
+            disk,
+        )
+    }
+}
