@@ -1,6 +1,9 @@
 -- What memory keeps when a file is gone and a part of its description stays in the slot: another file may come into the slot.
 use Rattle.std.proofs.Common.{◌≡◌, ◌⊎◌, refl, sym, ap, ◌∙◌, subst, inl, inr, ℕ, ◌<◌, ◌≤◌, ◌&&◌, ◌||◌, not, Bool, true, false, List, [], length, set, get_or, Some, None, is_some, IsSome, arith, get_or-set_same, get_or-set_other}
 use Rattle.std.specs.List.{list_all}
+use Rattle.std.specs.Ordering.{nat_cmp}
+use Rattle.std.specs.Cmp.{nat_cmp_total}
+use Rattle.std.proofs.lemmas.Map.Keys.{sorted_from_strictly_increasing}
 use Rattle.std.proofs.lemmas.Bool.{cases_eq, or_cases, or_left, or_right}
 use Rattle.std.proofs.lemmas.Option.{same_Some}
 use Rattle.lis_graph.proofs.Members.{Among}
@@ -21,6 +24,8 @@ use Rattle.lis_kept.specs.Sound.{AreSound, BlocksAreTaken}
 use Rattle.lis_kept.specs.Telling.{declared_of, axioms_of, state_of, is_had, is_named_left, is_used, AreUsed}
 use Rattle.lis_kept.specs.Changes.{Forgets}
 use Rattle.lis_kept.proofs.Dropped.{file_slot_below}
+use Rattle.lis_kept.proofs.Filing.{among_from_number, number_from_among}
+use Rattle.lis_kept.proofs.Formed.{some_word}
 use Rattle.lis_kept.proofs.Known.{known_word}
 use Rattle.lis_kept.proofs.Used.{had_at}
 use Rattle.lis_kept.proofs.WordLess.{had_from}
@@ -119,6 +124,9 @@ module _ (p left : Kept) (slot : ℕ) (rest : List ℕ) (form : AreInForm p) (st
   pub word_was : (n : ℕ) (w : List ℕ) → word_of end.dict n ≡ Some w → word_of p.dict n ≡ Some w
   word_was n w is = word_before (numbers_at p.ext slot) mid left went n w is
 
+  pub same_word : (n : ℕ) → IsSome (word_of end.dict n) → word_of end.dict n ≡ word_of p.dict n
+  same_word n some = let found = some_word (word_of end.dict n) some in found.1 ∙ sym (word_was n found.0 found.1)
+
   pub word_is_still : (n at : ℕ) → (at ≡ slot → ⊥) → has p.ext n at ≡ true → word_of end.dict n ≡ word_of p.dict n
   word_is_still n at differ h = used_word_stays (numbers_at p.ext slot) mid left went n (used_had n at (has_other n at differ ∙ h))
 
@@ -159,10 +167,18 @@ module _ (p left : Kept) (slot : ℕ) (file : File) (form : AreInForm p) (out : 
   abbrev k : Kept
   k = end p left slot rest form stay out
 
-  described_is : described_by k file ≡ described_by p file
+  pub described_is : described_by k file ≡ described_by p file
   described_is =
       ap (λ (ds : List (List ℕ)). file_words ds (axioms_of k) file) (declared_end p left slot rest form stay out)
       ∙ ap (λ (axioms : List (List ℕ × List ℕ)). file_words (declared_of p) axioms file) (axioms_end p left slot rest form stay out)
+
+  -- what stays is a part of both descriptions
+  pub rest_few : length rest ≤ 128
+  rest_few =
+      let le = members_le nat_cmp nat_cmp_total rest (numbers_at p.ext slot) (sorted_from_strictly_increasing rest stay.rising)
+      (sorted_from_strictly_increasing (numbers_at p.ext slot) out.rising) (λ n m.
+      among_from_number (numbers_at p.ext slot) n (stay.within n (number_from_among rest n m))) in
+      omega (arith, le, form.short slot)
 
   -- with its words no more are known than there would be with it in the place of the other
   room_then : length (known_with k file) ≤ p.limits.props

@@ -1,7 +1,6 @@
 -- What memory comes to when another file takes the place of one.
-use Rattle.std.proofs.Common.{◌≡◌, ◌⊎◌, refl, sym, ap, ◌∙◌, subst, inl, inr, ℕ, true, false, List, Some, is_some, IsTrue}
-use Rattle.std.specs.List.Sorted.{IsStrictlyIncreasing}
-use Rattle.std.proofs.lemmas.Bool.{both_ways}
+use Rattle.std.proofs.Common.{◌≡◌, ◌⊎◌, refl, sym, ap, ◌∙◌, subst, inl, inr, ℕ, ◌<◌, ◌≤◌, true, false, List, [], length, Some, is_some, IsSome, IsTrue, arith}
+use Rattle.std.proofs.lemmas.Bool.{cases_eq}
 use Rattle.lis_journal.specs.Journal.{Held}
 use Rattle.lis_content.specs.Content.{has_number}
 use Rattle.lis_catalog.specs.Catalog.{rec_at}
@@ -15,17 +14,18 @@ use Rattle.lis_model.specs.Changes.{new_file}
 use Rattle.lis_kept.specs.Kept.{Kept}
 use Rattle.lis_kept.specs.Sound.{AreSound}
 use Rattle.lis_kept.specs.Telling.{is_used, AreUsed}
-use Rattle.lis_kept.specs.Forgetting.{MayForget}
-use Rattle.lis_kept.specs.Changes.{Drops, Forgets}
-use Rattle.lis_store.specs.Stored.{Stored, AreClosed, PairsAreApart, IsSound}
+use Rattle.lis_store.specs.Stored.{Stored, DescriptionsAreShort, PairsAreApart, IsSound}
 use Rattle.lis_store.specs.Saving.{settled}
-use Rattle.lis_store.specs.ReplacingIn.{AreInForm, MayComeIn, MayReplaceFirst}
-use Rattle.lis_store.proofs.Added.{end, end_is, sound_end, used_had, known_or_here, tags_then, free_then, closed_then, short_then, taken_then, apart_then}
+use Rattle.lis_store.specs.Admitting.{described_by, IsAdmitted}
+use Rattle.lis_store.specs.Adding.{is_one_of}
+use Rattle.lis_store.specs.Replacing.{shared_numbers, MayReplace}
+use Rattle.lis_store.specs.ReplacingIn.{AreInForm, MayStay, Vacates}
+use Rattle.lis_store.proofs.Added.{end, end_is, sound_end, word_stays, used_had, has_here, known_or_here, tags_then, free_then, closed_then, short_then, taken_then, apart_then}
 use Rattle.lis_store.proofs.Cleaned.{clean_is, sound_clean, in_use_clean}
-use Rattle.lis_store.proofs.Coming.{ComesIn}
-use Rattle.lis_store.proofs.Forgot.{rest, all_used, closed_still}
-use Rattle.lis_store.proofs.HeadsUsed.{used_flagged, head_used}
-use Rattle.lis_store.proofs.Vacated.{vacated, free_others, tags_others, taken_others, apart_others, come_vacated}
+use Rattle.lis_store.proofs.Coming.{ComesIn, comes_over}
+use Rattle.lis_store.proofs.Left as left
+use Rattle.lis_store.proofs.Shared.{shared_parts, may_stay}
+use Rattle.lis_store.proofs.Vacated.{rec_before, none_before, tags_others, taken_others, apart_others}
 
 -- ---- stores in form
 pub in_form : (k : Stored) → IsSound k → AreInForm k.parts
@@ -57,110 +57,102 @@ settled_sound q j form range pairs image unbroken unplaced = record {
   clean = λ _. clean_is q;
 }
 
--- A file comes into the slot of another one that is gone, and then words are forgotten.
+-- A file goes, and another one comes into its slot.
 pub record Replaced (slot : ℕ) (file : File) (p q : Kept) : Type 0 where
-  pub rising : IsStrictlyIncreasing (numbers_at p.ext slot)
-  pub rec : FileRecord
-  pub may : MayReplaceFirst p slot rec file
-  pub dropped : Kept
-  pub drops : Drops slot rec p dropped
-  pub form_vacated : AreSound (vacated p slot rec)
-  pub described : Kept
-  pub form_described : AreSound described
-  pub comes : ComesIn file (vacated p slot rec) described
+  pub without : Kept
+  pub vacates : Vacates slot (shared_numbers p slot file) p without
+  pub may : MayReplace p slot vacates.rec file
+  pub comes : ComesIn file without q
   pub here : comes.slot ≡ slot
-  pub forgets : Forgets (numbers_at p.ext slot) described q
 
--- ---- words that may be forgotten
-module _ (p e : Kept) (slot : ℕ) (rec : FileRecord) (name : List ℕ) (assigned : List (List ℕ)) (bytes : List ℕ) (form : AreInForm p) (there : rec_at p.catalog slot ≡ Some rec)
-    (sound : AreSound (vacated p slot rec)) (coming : MayComeIn (vacated p slot rec) (new_file name assigned bytes)) (comes : ComesIn (new_file name assigned bytes) (vacated p slot rec) e)
-    (here : comes.slot ≡ slot) (after : AreSound e) where
-  abbrev d : Kept
-  d = vacated p slot rec
-
-  abbrev k : Kept
-  k = end d e name assigned bytes sound coming comes
-
-  k_is : e ≡ k
-  k_is = end_is d e name assigned bytes sound coming comes
-
-  sound_k : AreSound k
-  sound_k = sound_end d e name assigned bytes sound coming comes after
-
-  pub known_used_or_old : (n : ℕ) → is_some (word_of k.dict n) ≡ true → (is_used k n ≡ true) ⊎ (has_number (numbers_at p.ext slot) n ≡ true)
-  known_used_or_old n some = by (known_or_here d e name assigned bytes sound coming comes after form.in_use.used n some)
-    where
-      by : (is_used k n ≡ true) ⊎ (has p.ext n comes.slot ≡ true) → (is_used k n ≡ true) ⊎ (has_number (numbers_at p.ext slot) n ≡ true)
-      by (inl used) = inl used
-      by (inr was) = inr (ap (has p.ext n) (sym here) ∙ was)
-
-  pub closed_described : AreClosed k
-  closed_described = closed_then d e name assigned bytes sound coming comes after form.closed
-
-  pub tags_described : (at : ℕ) (r : FileRecord) → rec_at k.catalog at ≡ Some r → (n : ℕ) → has_number r.tags n ≡ true → has k.ext n at ≡ true
-  tags_described = tags_then d e name assigned bytes sound coming comes after (tags_others p slot rec form there)
-
-  may_forget_k : MayForget (numbers_at p.ext slot) k
-  may_forget_k = record {
-    given = λ n some unused. by n unused (known_used_or_old n some);
-    tags = λ at r is n tag. used_had d e name assigned bytes sound coming comes after n at (tags_described at r is n tag);
-    rights = λ at left right is. used_flagged k sound_k right (form.in_use.rights at left right is);
-    heads = λ n head used is. head_used k sound_k closed_described n head is used;
-  }
-    where
-      by : (n : ℕ) → is_used k n ≡ false → (is_used k n ≡ true) ⊎ (has_number (numbers_at p.ext slot) n ≡ true) → has_number (numbers_at p.ext slot) n ≡ true
-      by n unused (inl used) = absurd (both_ways (is_used k n) unused used)
-      by n unused (inr old) = old
-
-  pub may_forget : MayForget (numbers_at p.ext slot) e
-  may_forget = subst (MayForget (numbers_at p.ext slot)) (sym k_is) may_forget_k
-
--- ---- all in form again
 module _ (p q : Kept) (slot : ℕ) (name : List ℕ) (assigned : List (List ℕ)) (bytes : List ℕ) (form : AreInForm p) (r : Replaced slot (new_file name assigned bytes) p q) where
-  abbrev file : File
+  abbrev pub file : File
   file = new_file name assigned bytes
 
-  abbrev pub left : Kept
-  left = vacated p slot r.rec
+  abbrev pub rest : List ℕ
+  rest = shared_numbers p slot file
 
-  pub coming : MayComeIn left file
-  coming = come_vacated p slot r.rec form r.may.there file r.may
+  pub stay : MayStay p slot rest
+  stay = may_stay p form slot file
 
-  abbrev pub made : Kept
-  made = end left r.described name assigned bytes r.form_vacated coming r.comes
+  abbrev pub rec : FileRecord
+  rec = r.vacates.rec
 
-  pub went : Forgets (numbers_at p.ext slot) made q
-  went = subst (λ (x : Kept). Forgets (numbers_at p.ext slot) x q) (end_is left r.described name assigned bytes r.form_vacated coming r.comes) r.forgets
+  -- what is kept without the file
+  abbrev pub d : Kept
+  d = left.end p r.without slot rest form stay r.vacates
 
+  pub d_is : r.without ≡ d
+  d_is = left.end_is p r.without slot rest form stay r.vacates
+
+  pub sound_d : AreSound d
+  sound_d = left.sound_end p r.without slot rest form stay r.vacates
+
+  pub admitted : IsAdmitted d file
+  admitted = left.admitted p r.without slot file form r.vacates stay r.may
+
+  abbrev pub comes : ComesIn file d q
+  comes = comes_over file r.without d q d_is r.comes
+
+  -- and with the other one
   abbrev pub last : Kept
-  last = rest (numbers_at p.ext slot) made q went
+  last = end d q name assigned bytes sound_d admitted comes
 
   pub last_is : q ≡ last
-  last_is = went.parts
+  last_is = end_is d q name assigned bytes sound_d admitted comes
+
+  -- ---- other slots than this one
+  pub has_d_other : (n at : ℕ) → (at ≡ slot → ⊥) → has d.ext n at ≡ has p.ext n at
+  has_d_other n at differ = ap (λ ns. has_number ns n) (left.set_other p r.without slot rest form stay r.vacates at differ)
+
+  short_d : DescriptionsAreShort d
+  short_d at = by (cases_eq at slot)
+    where
+      by : (at ≡ slot) ⊎ (at ≡ slot → ⊥) → length (numbers_at d.ext at) ≤ 128
+      by (inl same) =
+          omega (arith, ap length (ap (numbers_at d.ext) same ∙ left.set_here p r.without slot rest form stay r.vacates), left.rest_few p r.without slot file form r.vacates stay r.may)
+      by (inr differ) = omega (arith, ap length (left.set_other p r.without slot rest form stay r.vacates at differ), form.short at)
+
+  tags_d : (at : ℕ) (x : FileRecord) → rec_at d.catalog at ≡ Some x → (n : ℕ) → has_number x.tags n ≡ true → has d.ext n at ≡ true
+  tags_d at x is n tag = has_d_other n at (rec_before p slot rec form r.may.there at x is).0 ∙ tags_others p slot rec form r.may.there at x is n tag
 
   module _ (after : AreSound q) where
     pub sound_last : AreSound last
-    sound_last = subst (λ (x : Kept). AreSound x) last_is after
+    sound_last = sound_end d q name assigned bytes sound_d admitted comes after
+
+    -- what stayed in the slot is of the new description
+    rest_here : (n : ℕ) → has d.ext n comes.slot ≡ true → is_used last n ≡ true
+    rest_here n h =
+        let in_rest : has_number rest n ≡ true =
+        sym (ap (λ ns. has_number ns n) (ap (numbers_at d.ext) r.here ∙ left.set_here p r.without slot rest form stay r.vacates)) ∙ h in
+        let some : IsSome (word_of d.dict n) = sound_d.named n comes.slot h in
+        let word : word_of last.dict n ≡ word_of p.dict n = word_stays d q name assigned bytes sound_d admitted comes n some ∙ left.same_word p r.without slot rest form stay r.vacates n some in
+        used_had d q name assigned bytes sound_d admitted comes after n comes.slot
+        (has_here d q name assigned bytes sound_d admitted comes after n
+        ∙ (ap (is_one_of (described_by d file)) word
+        ∙ (ap (λ ws. is_one_of ws (word_of p.dict n)) (left.described_is p r.without slot file form r.vacates stay r.may) ∙ (shared_parts p form slot file n in_rest).2)))
 
     pub used_last : AreUsed last
-    used_last =
-        subst (λ (x : Kept). AreUsed x) last_is
-        (all_used (numbers_at p.ext slot) made q went
-        (known_used_or_old p r.described slot r.rec name assigned bytes form r.may.there r.form_vacated coming r.comes r.here r.form_described))
+    used_last n some = by (known_or_here d q name assigned bytes sound_d admitted comes after (left.used_end p r.without slot rest form stay r.vacates) n some)
+      where
+        by : (is_used last n ≡ true) ⊎ (has d.ext n comes.slot ≡ true) → is_used last n ≡ true
+        by (inl used) = used
+        by (inr here) = rest_here n here
 
     pub form_last : AreInForm last
     form_last = record {
       sound = sound_last;
-      free = free_then left r.described name assigned bytes r.form_vacated coming r.comes r.form_described
-          (λ at differ. free_others p slot r.rec form r.may.there at (λ same. differ (same ∙ sym r.here)));
-      closed = closed_still (numbers_at p.ext slot) made q went (sound_end left r.described name assigned bytes r.form_vacated coming r.comes r.form_described) sound_last
-          (closed_described p r.described slot r.rec name assigned bytes form r.may.there r.form_vacated coming r.comes r.here r.form_described);
-      short = short_then left r.described name assigned bytes r.form_vacated coming r.comes r.form_described form.short;
-      taken = taken_then left r.described name assigned bytes r.form_vacated coming r.comes (taken_others p slot r.rec form r.may.there);
-      apart = apart_then left r.described name assigned bytes r.form_vacated coming r.comes (taken_others p slot r.rec form r.may.there) (apart_others p slot r.rec form r.may.there);
+      free = free_then d q name assigned bytes sound_d admitted comes after
+          (λ at differ none n.
+          let other : at ≡ slot → ⊥ = λ same. differ (same ∙ sym r.here) in
+          has_d_other n at other ∙ form.free at (none_before p slot rec form r.may.there at other none) n);
+      closed = closed_then d q name assigned bytes sound_d admitted comes after (left.closed_end p r.without slot rest form stay r.vacates);
+      short = short_then d q name assigned bytes sound_d admitted comes after short_d;
+      taken = taken_then d q name assigned bytes sound_d admitted comes (taken_others p slot rec form r.may.there);
+      apart = apart_then d q name assigned bytes sound_d admitted comes (taken_others p slot rec form r.may.there) (apart_others p slot rec form r.may.there);
       in_use = record {
         used = used_last;
-        tags = tags_described p r.described slot r.rec name assigned bytes form r.may.there r.form_vacated coming r.comes r.here r.form_described;
+        tags = tags_then d q name assigned bytes sound_d admitted comes after tags_d;
         rights = form.in_use.rights;
       };
     }

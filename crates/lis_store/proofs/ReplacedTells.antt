@@ -1,5 +1,5 @@
 -- What memory tells when another file takes the place of one.
-use Rattle.std.proofs.Common.{◌≡◌, ◌⊎◌, sym, ap, ap₂, ◌∙◌, subst, inl, inr, ℕ, ◌+◌, ◌<◌, ◌≤◌, ◌==◌, not, ◌&&◌, true, false, List, [], length, is_some, arith}
+use Rattle.std.proofs.Common.{◌≡◌, ◌⊎◌, refl, sym, ap, ap₂, ◌∙◌, subst, inl, inr, ℕ, ◌+◌, ◌<◌, ◌≤◌, ◌==◌, not, ◌&&◌, true, false, List, [], length, is_some, arith}
 use Rattle.std.specs.List.{flat_map, list_all, Contains}
 use Rattle.std.proofs.lemmas.Bool.{and_parts, and_from, both_ways, or_cases, eq-eqb, ne_eqb, false_from_ne_true, not_from_false}
 use Rattle.std.proofs.lemmas.List.{length-map}
@@ -29,18 +29,19 @@ use Rattle.lis_kept.specs.Changes.{Drops}
 use Rattle.lis_kept.proofs.Filing.{filed_rec, filed_slot, filed_at_slot, among_from_number, number_from_among}
 use Rattle.lis_kept.proofs.Known.{words_known}
 use Rattle.lis_store.specs.Saving.{IsReady}
-use Rattle.lis_store.specs.Admitting.{described_by}
+use Rattle.lis_store.specs.Admitting.{IsAdmitted, described_by}
 use Rattle.lis_store.specs.Adding.{numbers_named, learnt_words}
 use Rattle.lis_store.specs.ReplacingIn.{AreInForm}
 use Rattle.lis_store.proofs.Added.{end_is, filed_is, rec_here, set_here, set_other, has_other, word_stays, sound_end, used_had, has_here, described_numbered, new_not_taken, new_taken}
 use Rattle.lis_store.proofs.Coming.{ComesIn}
 use Rattle.lis_store.proofs.Facts.{limits_told, filed_of_file, file_of_filed, blocks_counted}
-use Rattle.lis_store.proofs.Forgot.{used_word_stays}
 use Rattle.lis_store.proofs.Given.{given_taken}
 use Rattle.lis_store.proofs.Marks.{taken_after}
 use Rattle.lis_store.proofs.Naming.{named_told}
 use Rattle.lis_store.proofs.PutIn.{own_numbered}
-use Rattle.lis_store.proofs.Replaced.{Replaced, left, coming, made, went, last, last_is, sound_last, used_last, form_last}
+use Rattle.lis_store.proofs.Left as left
+use Rattle.lis_store.proofs.Replaced as replaced
+use Rattle.lis_store.proofs.Replaced.{Replaced}
 use Rattle.lis_store.proofs.Told.{words_same}
 use Rattle.lis_store.proofs.Vacated.{vacated, name_vacant}
 
@@ -50,60 +51,64 @@ pub record ComesTold (file : File) (p q : Kept) (comes : ComesIn file p q) (at t
   pub state : state_of comes.filed there ≡ file_added (state_of comes.learnt at) (new_file file.name (words_told comes.learnt.dict comes.rec.tags) file.bytes)
   pub saved : IsSaved comes.learnt at → IsSaved comes.filed there
 
-module _ (p q : Kept) (slot : ℕ) (name : List ℕ) (assigned : List (List ℕ)) (bytes : List ℕ) (form : AreInForm p) (r : Replaced slot (new_file name assigned bytes) p q)
-    (after : AreSound q) (assignable : list_all (is_assignable (declared_of p)) assigned ≡ true)
-    (at there : ℕ → List ℕ) (s : State) (tells : Tells p at s) (looks : ComesTold (new_file name assigned bytes) (vacated p slot r.rec) r.described r.comes at there) where
+module _ (p q : Kept) (slot : ℕ) (name : List ℕ) (assigned : List (List ℕ)) (bytes : List ℕ) (form : AreInForm p) (r : Replaced slot (new_file name assigned bytes) p q) (after : AreSound q)
+    (at there : ℕ → List ℕ) (s : State) (tells : Tells p at s) (looks : ComesTold (new_file name assigned bytes) (replaced.d p q slot name assigned bytes form r) q (replaced.comes p q slot name assigned bytes form r) at there) where
   abbrev file : File
   file = new_file name assigned bytes
 
+  abbrev rec : FileRecord
+  rec = r.vacates.rec
+
   abbrev gone : State
-  gone = file_removed s r.rec.name
+  gone = file_removed s rec.name
 
   abbrev t : State
-  t = file_replaced s r.rec.name file
+  t = file_replaced s rec.name file
 
   abbrev d : Kept
-  d = left p q slot name assigned bytes form r
-
-  abbrev k : Kept
-  k = made p q slot name assigned bytes form r
+  d = replaced.d p q slot name assigned bytes form r
 
   abbrev l : Kept
-  l = last p q slot name assigned bytes form r
+  l = replaced.last p q slot name assigned bytes form r
+
+  abbrev cs : ComesIn file d q
+  cs = replaced.comes p q slot name assigned bytes form r
+
+  sound_d : AreSound d
+  sound_d = replaced.sound_d p q slot name assigned bytes form r
+
+  adm : IsAdmitted d file
+  adm = replaced.admitted p q slot name assigned bytes form r
 
   abbrev filed : Filed
-  filed = record { slot = r.comes.slot; rec = r.comes.rec }
+  filed = record { slot = cs.slot; rec = cs.rec }
 
   abbrev old : Filed
-  old = record { slot = slot; rec = r.rec }
-
-  in_form : AreSound k
-  in_form = sound_end d r.described name assigned bytes r.form_vacated (coming p q slot name assigned bytes form r) r.comes r.form_described
+  old = record { slot = slot; rec = rec }
 
   sound : AreSound l
-  sound = sound_last p q slot name assigned bytes form r after
+  sound = replaced.sound_last p q slot name assigned bytes form r after
 
   -- ---- the state
-  tags_told : words_told k.dict r.comes.rec.tags ≡ assigned
+  tags_told : words_told l.dict cs.rec.tags ≡ assigned
   tags_told =
-      ap (words_told k.dict) r.comes.tagged
-      ∙ named_told k.dict in_form.dict assigned (sorted_from_rising word_cmp word_order assigned r.may.set) (λ word h.
-      own_numbered d r.form_vacated name assigned bytes (coming p q slot name assigned bytes form r) r.comes.learnt r.comes.learns word
+      ap (words_told l.dict) cs.tagged
+      ∙ named_told l.dict sound.dict assigned (sorted_from_rising word_cmp word_order assigned r.may.set) (λ word h.
+      own_numbered d sound_d name assigned bytes adm cs.learnt cs.learns word
       (has_word_from_among (learnt_words file) word (among_left assigned _ word (among_from_has_word assigned word h))))
 
-  state_dropped : state_of d at ≡ file_removed (state_of p at) r.rec.name
-  state_dropped = ap (λ (x : Kept). state_of x at) (sym r.drops.parts) ∙ r.drops.state at
+  state_dropped : state_of d at ≡ file_removed (state_of p at) rec.name
+  state_dropped = left.state_end p r.without slot (replaced.rest p q slot name assigned bytes form r) form (replaced.stay p q slot name assigned bytes form r) r.vacates at
 
   state_then : state_of l there ≡ t
   state_then =
-      ap (λ (x : Kept). state_of x there) (sym (last_is p q slot name assigned bytes form r))
-      ∙ (r.forgets.state there
-      ∙ (ap (λ (x : Kept). state_of x there) r.comes.describes.parts
+      ap (λ (x : Kept). state_of x there) (sym (replaced.last_is p q slot name assigned bytes form r))
+      ∙ (ap (λ (x : Kept). state_of x there) cs.describes.parts
       ∙ (looks.state
-      ∙ (ap (λ (ws : List (List ℕ)). file_added (state_of r.comes.learnt at) (new_file name ws bytes)) tags_told
-      ∙ (ap (λ (x : State). file_added x file) (r.comes.learns.state at)
+      ∙ (ap (λ (ws : List (List ℕ)). file_added (state_of cs.learnt at) (new_file name ws bytes)) tags_told
+      ∙ (ap (λ (x : State). file_added x file) (cs.learns.state at)
       ∙ (ap (λ (x : State). file_added x file) state_dropped
-      ∙ ap (λ (x : State). file_added (file_removed x r.rec.name) file) tells.state))))))
+      ∙ ap (λ (x : State). file_added (file_removed x rec.name) file) tells.state)))))
 
   -- ---- its files
   abbrev told : Filed → File
@@ -113,7 +118,7 @@ module _ (p q : Kept) (slot : ℕ) (name : List ℕ) (assigned : List (List ℕ)
   told_then = file_told l.limits l.dict there
 
   old_filed : Among p.catalog.entries old
-  old_filed = filed_at_slot p.catalog form.sound.catalog slot r.rec r.may.there
+  old_filed = filed_at_slot p.catalog form.sound.catalog slot rec r.may.there
 
   new_or_old : (f : Filed) → Contains l.catalog.entries f → (filed ≡ f) ⊎ Among d.catalog.entries f
   new_or_old f m = among_insert_key filed_cmp d.catalog.entries filed f (among_from_contains l.catalog.entries f m)
@@ -121,8 +126,8 @@ module _ (p q : Kept) (slot : ℕ) (name : List ℕ) (assigned : List (List ℕ)
   new_there : Contains l.catalog.entries filed
   new_there =
       contains_from_among l.catalog.entries filed
-      (filed_at_slot l.catalog sound.catalog r.comes.slot r.comes.rec
-      (rec_here d r.described name assigned bytes r.form_vacated (coming p q slot name assigned bytes form r) r.comes))
+      (filed_at_slot l.catalog sound.catalog cs.slot cs.rec
+      (rec_here d q name assigned bytes sound_d adm cs))
 
   old_there : (f : Filed) → Among d.catalog.entries f → Contains l.catalog.entries f
   old_there f m = contains_from_among l.catalog.entries f (insert_key_old filed_cmp d.catalog.entries filed f m)
@@ -135,26 +140,26 @@ module _ (p q : Kept) (slot : ℕ) (name : List ℕ) (assigned : List (List ℕ)
   stays : (f : Filed) → Among p.catalog.entries f → (f.slot ≡ slot → ⊥) → Among d.catalog.entries f
   stays f m differ = filter_among (λ (g : Filed). not (g.slot == slot)) p.catalog.entries f m (not_from_false (f.slot == slot) (ne_eqb f.slot slot differ))
 
-  stayed_slot : (f : Filed) → Among d.catalog.entries f → f.slot ≡ r.comes.slot → ⊥
+  stayed_slot : (f : Filed) → Among d.catalog.entries f → f.slot ≡ cs.slot → ⊥
   stayed_slot f m same = (stayed f m).1 (same ∙ r.here)
 
   -- the record in the slot
-  rec_old : (f : Filed) → Among p.catalog.entries f → f.slot ≡ slot → f.rec ≡ r.rec
-  rec_old f m same = same_Some f.rec r.rec (sym (filed_rec p.catalog form.sound.catalog f m) ∙ (ap (rec_at p.catalog) same ∙ r.may.there))
+  rec_old : (f : Filed) → Among p.catalog.entries f → f.slot ≡ slot → f.rec ≡ rec
+  rec_old f m same = same_Some f.rec rec (sym (filed_rec p.catalog form.sound.catalog f m) ∙ (ap (rec_at p.catalog) same ∙ r.may.there))
 
   stayed_name : (f : Filed) → Among d.catalog.entries f → f.rec.name ≡ name → ⊥
   stayed_name f m same =
-      both_ways (is_some (slot_of d.catalog name)) (ap is_some (name_vacant p slot r.rec form r.may.there file r.may))
-      (ap is_some (ap (slot_of d.catalog) (sym same) ∙ filed_slot d.catalog r.form_vacated.catalog f m))
+      both_ways (is_some (slot_of d.catalog name)) (ap is_some (name_vacant p slot rec form r.may.there file r.may))
+      (ap is_some (ap (slot_of d.catalog) (sym same) ∙ filed_slot d.catalog sound_d.catalog f m))
 
   -- a file of the state without the old one is that of a record that stayed
   of_gone : (other : File) → Among gone.files other → (f : Filed) × Among d.catalog.entries f × (told f ≡ other)
   of_gone other m =
-      let kept = among_filter (λ (f : File). not (same_word f.name r.rec.name)) s.files other m in
+      let kept = among_filter (λ (f : File). not (same_word f.name rec.name)) s.files other m in
       let found = filed_of_file p at s form.sound form.free tells other kept.0 in
       let differ : (found.0).slot ≡ slot → ⊥ = λ same.
-      let named : other.name ≡ r.rec.name = ap (λ (x : File). x.name) (sym found.2) ∙ ap (λ (x : FileRecord). x.name) (rec_old found.0 found.1 same) in
-      both_ways (not (same_word other.name r.rec.name)) (ap not ((same_word_decides other.name r.rec.name).1 named)) kept.1 in
+      let named : other.name ≡ rec.name = ap (λ (x : File). x.name) (sym found.2) ∙ ap (λ (x : FileRecord). x.name) (rec_old found.0 found.1 same) in
+      both_ways (not (same_word other.name rec.name)) (ap not ((same_word_decides other.name rec.name).1 named)) kept.1 in
       (found.0, stays found.0 found.1 differ, found.2)
 
   no_file_named : (other : File) → Among gone.files other → other.name ≡ name → ⊥
@@ -170,15 +175,15 @@ module _ (p q : Kept) (slot : ℕ) (name : List ℕ) (assigned : List (List ℕ)
     where
       by : (file ≡ told_then filed) ⊎ Among gone.files (told_then filed) → told_then filed ≡ file
       by (inl same) = sym same
-      by (inr m) = absurd (no_file_named (told_then filed) m r.comes.named)
+      by (inr m) = absurd (no_file_named (told_then filed) m cs.named)
 
   told_old : (f : Filed) → Among d.catalog.entries f → told_then f ≡ told f
   told_old f m = by (told_of f (old_there f m))
     where
       same_filed : (g : Filed) → Among d.catalog.entries g → g.rec.name ≡ f.rec.name → g ≡ f
       same_filed g of_g same =
-          let slots : g.slot ≡ f.slot = same_Some g.slot f.slot (sym (filed_slot d.catalog r.form_vacated.catalog g of_g) ∙ (ap (slot_of d.catalog) same ∙ filed_slot d.catalog r.form_vacated.catalog f m)) in
-          let recs : g.rec ≡ f.rec = same_Some g.rec f.rec (sym (filed_rec d.catalog r.form_vacated.catalog g of_g) ∙ (ap (rec_at d.catalog) slots ∙ filed_rec d.catalog r.form_vacated.catalog f m)) in
+          let slots : g.slot ≡ f.slot = same_Some g.slot f.slot (sym (filed_slot d.catalog sound_d.catalog g of_g) ∙ (ap (slot_of d.catalog) same ∙ filed_slot d.catalog sound_d.catalog f m)) in
+          let recs : g.rec ≡ f.rec = same_Some g.rec f.rec (sym (filed_rec d.catalog sound_d.catalog g of_g) ∙ (ap (rec_at d.catalog) slots ∙ filed_rec d.catalog sound_d.catalog f m)) in
           let make : ℕ → FileRecord → Filed = λ n x. record { slot = n; rec = x } in
           ap₂ make slots recs
 
@@ -189,31 +194,26 @@ module _ (p q : Kept) (slot : ℕ) (name : List ℕ) (assigned : List (List ℕ)
           sym found.2 ∙ ap told (same_filed found.0 found.1 (ap (λ (x : File). x.name) found.2))
 
   -- ---- descriptions
-  word_then : (n : ℕ) → is_used k n ≡ true → word_of l.dict n ≡ word_of k.dict n
-  word_then = used_word_stays (numbers_at p.ext slot) k q (went p q slot name assigned bytes form r)
-
-  described_new : words_told l.dict (numbers_at l.ext r.comes.slot) ≡ description t (told_then filed)
+  described_new : words_told l.dict (numbers_at l.ext cs.slot) ≡ description t (told_then filed)
   described_new =
-      let ns = numbers_named k.dict (described_by d file) in
-      ap (words_told l.dict) (set_here d r.described name assigned bytes r.form_vacated (coming p q slot name assigned bytes form r) r.comes)
-      ∙ (words_same k.dict l.dict ns (λ n m.
-      word_then n
-      (used_had d r.described name assigned bytes r.form_vacated (coming p q slot name assigned bytes form r) r.comes r.form_described n r.comes.slot
-      (ap (λ (xs : List ℕ). has_number xs n) (set_here d r.described name assigned bytes r.form_vacated (coming p q slot name assigned bytes form r) r.comes) ∙ number_from_among ns n m)))
-      ∙ (named_told k.dict in_form.dict (described_by d file) (sorted_set_of (flat_map (up (declared_of p) (axioms_of p)) (own_words (declared_of p) file)))
-      (described_numbered d r.described name assigned bytes r.form_vacated (coming p q slot name assigned bytes form r) r.comes r.form_described)
+      ap (words_told l.dict) (set_here d q name assigned bytes sound_d adm cs)
+      ∙ (named_told l.dict sound.dict (described_by d file) (sorted_set_of (flat_map (up (declared_of d) (axioms_of d)) (own_words (declared_of d) file)))
+      (described_numbered d q name assigned bytes sound_d adm cs after)
+      ∙ (left.described_is p r.without slot file form r.vacates (replaced.stay p q slot name assigned bytes form r) r.may
       ∙ (ap (λ (x : State). description x file) tells.state ∙ ap (description s) (sym told_new))))
 
   described_old : (g : Filed) → Among d.catalog.entries g → words_told l.dict (numbers_at l.ext g.slot) ≡ description t (told_then g)
   described_old g of =
+      let stay = replaced.stay p q slot name assigned bytes form r in
+      let rest = replaced.rest p q slot name assigned bytes form r in
+      let other = (stayed g of).1 in
+      let same = left.set_other p r.without slot rest form stay r.vacates g.slot other in
       let ns = numbers_at p.ext g.slot in
-      let adm = coming p q slot name assigned bytes form r in
-      let differ = stayed_slot g of in
-      ap (words_told l.dict) (set_other d r.described name assigned bytes r.form_vacated adm r.comes g.slot differ)
+      ap (words_told l.dict) (set_other d q name assigned bytes sound_d adm cs g.slot (stayed_slot g of) ∙ same)
       ∙ (words_same p.dict l.dict ns (λ n m.
       let had : has p.ext n g.slot ≡ true = number_from_among ns n m in
-      word_then n (used_had d r.described name assigned bytes r.form_vacated adm r.comes r.form_described n g.slot (has_other d r.described name assigned bytes r.form_vacated adm r.comes n g.slot differ ∙ had))
-      ∙ word_stays d r.described name assigned bytes r.form_vacated adm r.comes n (form.sound.named n g.slot had))
+      let had_d : has d.ext n g.slot ≡ true = ap (λ (xs : List ℕ). has_number xs n) same ∙ had in
+      word_stays d q name assigned bytes sound_d adm cs n (sound_d.named n g.slot had_d) ∙ left.word_is_still p r.without slot rest form stay r.vacates n g.slot other had)
       ∙ (tells.described g (contains_from_among p.catalog.entries g (stayed g of).0) ∙ ap (description s) (sym (told_old g of))))
 
   described_then : (f : Filed) → Contains l.catalog.entries f → words_told l.dict (numbers_at l.ext f.slot) ≡ description t (told_then f)
@@ -224,20 +224,20 @@ module _ (p q : Kept) (slot : ℕ) (name : List ℕ) (assigned : List (List ℕ)
       by (inr of) = described_old f of
 
   -- ---- data blocks
-  new_blocks_free : (n : ℕ) → has_number r.comes.rec.blocks n ≡ true → (n < length d.taken) × (is_taken d.taken n ≡ false)
-  new_blocks_free = new_not_taken d r.described name assigned bytes r.form_vacated (coming p q slot name assigned bytes form r) r.comes
+  new_blocks_free : (n : ℕ) → has_number cs.rec.blocks n ≡ true → (n < length d.taken) × (is_taken d.taken n ≡ false)
+  new_blocks_free = new_not_taken d q name assigned bytes sound_d adm cs
 
   taken_then : (n : ℕ) → n < l.limits.blocks → is_taken l.taken n ≡ true → IsFileBlock l there n
-  taken_then n lt is = by (or_cases (has_number r.comes.rec.blocks n) (is_taken d.taken n) (sym (taken_after d.taken r.comes.rec.blocks n (omega (arith, lt, r.form_vacated.blocks))) ∙ is))
+  taken_then n lt is = by (or_cases (has_number cs.rec.blocks n) (is_taken d.taken n) (sym (taken_after d.taken cs.rec.blocks n (omega (arith, lt, sound_d.blocks))) ∙ is))
     where
-      by : (has_number r.comes.rec.blocks n ≡ true) ⊎ (is_taken d.taken n ≡ true) → IsFileBlock l there n
+      by : (has_number cs.rec.blocks n ≡ true) ⊎ (is_taken d.taken n ≡ true) → IsFileBlock l there n
       by (inl has_it) = record { file = filed; kept = new_there; has = has_it }
       by (inr was) =
-          let both = and_parts (is_taken p.taken n) (not (has_number r.rec.blocks n)) (sym (given_taken p.taken r.rec.blocks n) ∙ was) in
+          let both = and_parts (is_taken p.taken n) (not (has_number rec.blocks n)) (sym (given_taken p.taken rec.blocks n) ∙ was) in
           let b = tells.taken n lt both.0 in
           let m = among_from_contains p.catalog.entries b.file b.kept in
           let differ : b.file.slot ≡ slot → ⊥ = λ same.
-          both_ways (not (has_number r.rec.blocks n)) (ap not (ap (λ (x : FileRecord). has_number x.blocks n) (sym (rec_old b.file m same)) ∙ b.has)) both.1 in
+          both_ways (not (has_number rec.blocks n)) (ap not (ap (λ (x : FileRecord). has_number x.blocks n) (sym (rec_old b.file m same)) ∙ b.has)) both.1 in
           record { file = b.file; kept = old_there b.file (stays b.file m differ); has = b.has }
 
   -- a block of a file that stayed is taken without the old file
@@ -246,23 +246,23 @@ module _ (p q : Kept) (slot : ℕ) (name : List ℕ) (assigned : List (List ℕ)
       let stay = stayed g of in
       let there_g = contains_from_among p.catalog.entries g stay.0 in
       let was = tells.given g there_g n here in
-      let free = false_from_ne_true (has_number r.rec.blocks n) (λ also.
+      let free = false_from_ne_true (has_number rec.blocks n) (λ also.
       stay.1 (ap (λ (x : Filed). x.slot) (tells.one_use g old there_g (contains_from_among p.catalog.entries old old_filed) n here also))) in
-      (was.0, given_taken p.taken r.rec.blocks n ∙ and_from (is_taken p.taken n) (not (has_number r.rec.blocks n)) was.1 (not_from_false (has_number r.rec.blocks n) free))
+      (was.0, given_taken p.taken rec.blocks n ∙ and_from (is_taken p.taken n) (not (has_number rec.blocks n)) was.1 (not_from_false (has_number rec.blocks n) free))
 
   given_then : (f : Filed) → Contains l.catalog.entries f → (n : ℕ) → has_number f.rec.blocks n ≡ true → (n < l.limits.blocks) × (is_taken l.taken n ≡ true)
   given_then f m n has_it = by (new_or_old f m)
     where
-      of_new : has_number r.comes.rec.blocks n ≡ true → (n < l.limits.blocks) × (is_taken l.taken n ≡ true)
+      of_new : has_number cs.rec.blocks n ≡ true → (n < l.limits.blocks) × (is_taken l.taken n ≡ true)
       of_new here = (
-        omega (arith, (new_blocks_free n here).0, r.form_vacated.blocks),
-        all_among (is_taken l.taken) r.comes.rec.blocks n
-        (new_taken d r.described name assigned bytes r.form_vacated (coming p q slot name assigned bytes form r) r.comes) (among_from_number r.comes.rec.blocks n here),
+        omega (arith, (new_blocks_free n here).0, sound_d.blocks),
+        all_among (is_taken l.taken) cs.rec.blocks n
+        (new_taken d q name assigned bytes sound_d adm cs) (among_from_number cs.rec.blocks n here),
       )
 
       by : (filed ≡ f) ⊎ Among d.catalog.entries f → (n < l.limits.blocks) × (is_taken l.taken n ≡ true)
       by (inl same) = of_new (subst (λ (x : Filed). has_number x.rec.blocks n ≡ true) (sym same) has_it)
-      by (inr of) = let was = still_taken f of n has_it in (was.0, stays_marked d.taken r.comes.rec.blocks n was.1)
+      by (inr of) = let was = still_taken f of n has_it in (was.0, stays_marked d.taken cs.rec.blocks n was.1)
 
   one_use_then : (f g : Filed) → Contains l.catalog.entries f → Contains l.catalog.entries g → (n : ℕ) → has_number f.rec.blocks n ≡ true → has_number g.rec.blocks n ≡ true → f ≡ g
   one_use_then f g mf mg n has_f has_g = by (new_or_old f mf) (new_or_old g mg)
@@ -278,14 +278,14 @@ module _ (p q : Kept) (slot : ℕ) (name : List ℕ) (assigned : List (List ℕ)
       by (inr a) (inr b) = tells.one_use f g (contains_from_among p.catalog.entries f (stayed f a).0) (contains_from_among p.catalog.entries g (stayed g b).0) n has_f has_g
 
   -- ---- the state is well formed
-  module _ (version : s.limits.version ≡ 1) (blocks : used_blocks s + free_count p.taken ≡ s.limits.blocks) (size : length (bytes_told p.limits at r.rec) ≡ r.rec.size) where
+  module _ (version : s.limits.version ≡ 1) (blocks : used_blocks s + free_count p.taken ≡ s.limits.blocks) (size : length (bytes_told p.limits at rec) ≡ rec.size) where
     limits_are : p.limits ≡ s.limits
     limits_are = limits_told p at s form.sound form.free tells
 
     known_then : length (known t) ≤ s.limits.props
     known_then =
         let D : State → Type 0 = λ x. (f : Filed) → Contains l.catalog.entries f → words_told l.dict (numbers_at l.ext f.slot) ≡ description x (told_then f) in
-        let words_are = words_known l sound (form_last p q slot name assigned bytes form r after).free there (used_last p q slot name assigned bytes form r after)
+        let words_are = words_known l sound (replaced.form_last p q slot name assigned bytes form r after).free there (replaced.used_last p q slot name assigned bytes form r after)
         (subst D (sym state_then) described_then) in
         omega (
           arith,
@@ -311,7 +311,7 @@ module _ (p q : Kept) (slot : ℕ) (name : List ℕ) (assigned : List (List ℕ)
         blocks,
         r.may.blocks,
         ap (λ v. blocks_taken v (length bytes)) version,
-        ap (λ v. blocks_taken v (length (bytes_told p.limits at r.rec))) version,
+        ap (λ v. blocks_taken v (length (bytes_told p.limits at rec))) version,
         ap (blocks_taken 1) size,
         blocks_counted p form.sound old old_filed,
       );
@@ -322,7 +322,7 @@ module _ (p q : Kept) (slot : ℕ) (name : List ℕ) (assigned : List (List ℕ)
       super = looks.super ∙ tells.super;
       state = state_then;
       formed = forms.replaces_file s tells.formed (told old) file (file_of_filed p at s form.sound form.free tells old old_filed) fits;
-      used = used_last p q slot name assigned bytes form r after;
+      used = replaced.used_last p q slot name assigned bytes form r after;
       described = described_then;
       taken = taken_then;
       given = given_then;
@@ -331,11 +331,12 @@ module _ (p q : Kept) (slot : ℕ) (name : List ℕ) (assigned : List (List ℕ)
 
     pub ready_replaced : IsSaved p at → IsReady q there t
     ready_replaced saved =
-        let adm = coming p q slot name assigned bytes form r in
-        let ext_is : r.comes.filed.ext ≡ p.ext = ap (λ (x : Kept). x.ext) (filed_is d r.described name assigned bytes r.form_vacated adm r.comes) in
-        let was : numbers_at p.ext slot ≡ numbers_at r.comes.filed.ext r.comes.slot = ap₂ (λ (e : Ext) (i : ℕ). numbers_at e i) (sym ext_is) (sym r.here) in
-        let dropped = subst (λ (x : Kept). IsSaved x at) r.drops.parts (r.drops.marks.saved at saved) in
+        let v = r.vacates in
+        let ext_is : cs.filed.ext ≡ d.ext = ap (λ (x : Kept). x.ext) (filed_is d q name assigned bytes sound_d adm cs) in
+        let was : replaced.rest p q slot name assigned bytes form r ≡ numbers_at cs.filed.ext cs.slot =
+        sym (left.set_here p r.without slot (replaced.rest p q slot name assigned bytes form r) form (replaced.stay p q slot name assigned bytes form r) v) ∙ ap₂ (λ (e : Ext) (i : ℕ). numbers_at e i) (sym ext_is) (sym r.here) in
+        let gone_saved = v.forgets.marks.saved at ((v.describes.marks (numbers_at v.dropped.ext slot) refl).saved at (v.drops.marks.saved at saved)) in
         record {
-          tells = subst (λ (x : Kept). Tells x there t) (sym (last_is p q slot name assigned bytes form r)) tells_last;
-          saved = r.forgets.marks.saved there ((r.comes.describes.marks (numbers_at p.ext slot) was).saved there (looks.saved (r.comes.learns.marks.saved at dropped)));
+          tells = subst (λ (x : Kept). Tells x there t) (sym (replaced.last_is p q slot name assigned bytes form r)) tells_last;
+          saved = (cs.describes.marks (replaced.rest p q slot name assigned bytes form r) was).saved there (looks.saved (r.comes.learns.marks.saved at gone_saved));
         }
