@@ -74,7 +74,7 @@ module _ (k : Kept) (sound : AreSound k) (slot : ℕ) where
       let found = known_word k sound w both.0 in
       (found.0, found.1, sym (ap (passes (is_used (emptied k slot))) (number_from_word k.dict sound.dict w found.0 found.1)) ∙ both.1)
 
-  word_without : (w : List ℕ) (n : ℕ) → word_of k.dict n ≡ Some w → is_used (emptied k slot) n ≡ true → Among (words_without k slot) w
+  pub word_without : (w : List ℕ) (n : ℕ) → word_of k.dict n ≡ Some w → is_used (emptied k slot) n ≡ true → Among (words_without k slot) w
   word_without w n is used =
       map_among (λ (e : List ℕ × ℕ). e.0) (filter (λ (e : List ℕ × ℕ). is_used (emptied k slot) e.1) k.dict.entries) (w, n)
       (filter_among (λ (e : List ℕ × ℕ). is_used (emptied k slot) e.1) k.dict.entries (w, n) (among_from_word k.dict w n is) used)
