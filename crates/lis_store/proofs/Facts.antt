@@ -101,7 +101,7 @@ module _ (k : Kept) (at : ℕ → List ℕ) (s : State) (sound : AreSound k) (fr
   pub files_told : map (file_told k.limits k.dict at) k.catalog.entries ≡ s.files
   files_told = ap (λ (t : State). t.files) tells.state
 
-  described_told : (f : Filed) → Contains k.catalog.entries f → words_told k.dict (numbers_at k.ext f.slot) ≡ description (state_of k at) (file_told k.limits k.dict at f)
+  pub described_told : (f : Filed) → Contains k.catalog.entries f → words_told k.dict (numbers_at k.ext f.slot) ≡ description (state_of k at) (file_told k.limits k.dict at f)
   described_told f m = tells.described f m ∙ ap (λ (t : State). description t (file_told k.limits k.dict at f)) (sym tells.state)
 
   pub known_told : words k.dict ≡ known s

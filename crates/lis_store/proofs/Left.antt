@@ -49,7 +49,7 @@ module _ (p left : Kept) (slot : ℕ) (rest : List ℕ) (form : AreInForm p) (st
   mid_is : out.lessened ≡ mid
   mid_is = out.describes.parts ∙ ap (λ (k : Kept). record k { ext = out.lessened.ext; marks = out.lessened.marks }) out.drops.parts
 
-  went : Forgets (numbers_at p.ext slot) mid left
+  pub went : Forgets (numbers_at p.ext slot) mid left
   went = subst (λ (k : Kept). Forgets (numbers_at p.ext slot) k left) mid_is out.forgets
 
   abbrev pub end : Kept
