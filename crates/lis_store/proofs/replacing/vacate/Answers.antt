@@ -9,8 +9,6 @@ use Rattle.lis_kept.specs.Forgetting.{MayForget}
 use Rattle.lis_kept.specs.Changes.{Forgets}
 use Rattle.lis_kept.proofs.Emptied.{emptied_may_forget}
 use Rattle.lis_kept.proofs.Filing.{number_from_among}
-use Rattle.lis_store.proofs.Shared.{may_stay}
-use Rattle.lis_store.proofs.Left.{admitted}
 use Rattle.lis_store.proofs.replacing.vacate.Goals as goal
 
 pub numbers_at-old-requires-clause-slot : goal.numbers_at-old-requires-clause-slot
