@@ -1,6 +1,6 @@
-use Rattle.std.proofs.Common.{◌≡◌, ◌∙◌, ◌<◌, ◌&&◌, ℕ, All, length, sym, ap, subst, arith}
+use Rattle.std.proofs.Common.{◌≡◌, ◌∙◌, ◌<◌, ◌&&◌, ℕ, All, length, ap, subst, arith}
 use Rattle.std.specs.List.Sorted.{IsStrictlyIncreasing}
-use Rattle.lis_bits.specs.Rows.{HasShape, get}
+use Rattle.lis_bits.specs.Rows.{get}
 use Rattle.lis_ext.specs.Ext.{Ext, has, set_of}
 use Rattle.lis_ext.specs.Numbers.{numbers_where}
 use Rattle.lis_kept.proofs.InArea.{few_properties}
