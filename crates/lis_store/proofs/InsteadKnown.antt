@@ -1,5 +1,5 @@
 -- The words in use without a file are those that are known where it is gone; so those known with another in its place are told by memory.
-use Rattle.std.proofs.Common.{◌≡◌, ◌⊎◌, refl, sym, ap, ap₂, ◌∙◌, subst, inl, inr, ℕ, ◌<◌, ◌==◌, ◌||◌, ◌&&◌, not, Bool, true, false, cond, Option, Some, None, List, [], ◌∷◌, length, map, filter, slice_get, eq-eqb}
+use Rattle.std.proofs.Common.{◌≡◌, ◌⊎◌, refl, sym, ap, ap₂, ◌∙◌, subst, inl, inr, ℕ, ◌||◌, ◌&&◌, not, Bool, true, false, cond, Option, Some, None, List, [], ◌∷◌, map, filter, eq-eqb}
 use Rattle.std.specs.List.{list_any}
 use Rattle.std.specs.List.Sorted.{IsStrictlySortedBy}
 use Rattle.std.proofs.lemmas.Bool.{and_parts, and_from, or_cases, or_left, or_right, both_ways, not-true, not_from_false, false_from_ne_true, eqb-true}
@@ -9,9 +9,8 @@ use Rattle.lis_graph.proofs.Members.{Among, contains_from_among, among_from_any,
 use Rattle.lis_graph.specs.Graph.{is_rising}
 use Rattle.lis_graph.proofs.Sets.{sorted_from_rising}
 use Rattle.lis_blockmap.specs.Bitmap.{is_taken}
-use Rattle.lis_content.specs.Content.{has_number}
 use Rattle.lis_dict.specs.Dict.{words, number_of, word_of}
-use Rattle.lis_dict.proofs.Laws.{among_from_word, number_from_word, word_from_number, word_from_among, number_from_among}
+use Rattle.lis_dict.proofs.Laws.{among_from_word, number_from_word, word_from_number, number_from_among}
 use Rattle.lis_catalog.specs.Catalog.{Filed, slot_of, rec_at}
 use Rattle.lis_ext.specs.Ext.{has, set_of as numbers_at}
 use Rattle.lis_fields.specs.Records.{FileRecord}
@@ -29,7 +28,7 @@ use Rattle.lis_laws.proofs.Sources.{Source, source_of, known_from}
 use Rattle.lis_laws.proofs.Sources.Source.{Declared, Left, LeftHead, Described}
 use Rattle.lis_kept.specs.Kept.{Kept}
 use Rattle.lis_kept.specs.Sound.{AreSound, FreeSlotsAreEmpty}
-use Rattle.lis_kept.specs.Telling.{bit_of, is_declared, declared_of, axioms_of, words_told, file_told, state_of, is_left_of, is_head_by, is_left_head_of, is_had, is_named_left, is_used, Tells}
+use Rattle.lis_kept.specs.Telling.{bit_of, is_declared, file_told, state_of, is_left_of, is_head_by, is_left_head_of, is_had, is_named_left, is_used, Tells}
 use Rattle.lis_kept.proofs.Filing.{filed_rec, filed_slot, filed_at_slot}
 use Rattle.lis_kept.proofs.Formed.{some_word}
 use Rattle.lis_kept.proofs.Known.{placed_at, among_place, some_number, word_among, among_word, known_word, declared_word, axiom_among, among_axiom}
@@ -74,7 +73,7 @@ module _ (k : Kept) (sound : AreSound k) (slot : ℕ) where
       let found = known_word k sound w both.0 in
       (found.0, found.1, sym (ap (passes (is_used (emptied k slot))) (number_from_word k.dict sound.dict w found.0 found.1)) ∙ both.1)
 
-  word_without : (w : List ℕ) (n : ℕ) → word_of k.dict n ≡ Some w → is_used (emptied k slot) n ≡ true → Among (words_without k slot) w
+  pub word_without : (w : List ℕ) (n : ℕ) → word_of k.dict n ≡ Some w → is_used (emptied k slot) n ≡ true → Among (words_without k slot) w
   word_without w n is used =
       map_among (λ (e : List ℕ × ℕ). e.0) (filter (λ (e : List ℕ × ℕ). is_used (emptied k slot) e.1) k.dict.entries) (w, n)
       (filter_among (λ (e : List ℕ × ℕ). is_used (emptied k slot) e.1) k.dict.entries (w, n) (among_from_word k.dict w n is) used)

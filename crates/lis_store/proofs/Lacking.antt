@@ -1,9 +1,9 @@
 -- A row from which the numbers are taken that a slot lacks.
-use Rattle.std.proofs.Common.{◌≡◌, ◌⊎◌, refl, ◌∙◌, sym, ap, ap₂, inl, inr, ℕ, ◌+◌, ◌<◌, ◌≤◌, ◌==◌, if◌then◌else◌, ◌&&◌, Bool, true, false, List, length, arith}
+use Rattle.std.proofs.Common.{◌≡◌, ◌⊎◌, refl, ◌∙◌, sym, ap, inl, inr, ℕ, ◌+◌, ◌<◌, ◌≤◌, ◌==◌, if◌then◌else◌, ◌&&◌, Bool, true, false, length, arith}
 use Rattle.std.proofs.lemmas.Bool.{and_parts, cases_eq, eq-eqb, ne_eqb}
 use Rattle.lis_bits.specs.Rows.{Rows, HasShape, get, with_row}
 use Rattle.lis_ext.specs.Ext.{has, set_of}
-use Rattle.lis_ext.specs.Numbers.{has_number, numbers_where}
+use Rattle.lis_ext.specs.Numbers.{numbers_where}
 use Rattle.lis_kept.specs.Kept.{Kept}
 use Rattle.lis_model.specs.State.{File}
 use Rattle.lis_dict.specs.Dict.{word_of}

@@ -1,5 +1,5 @@
 -- What memory keeps when a file is gone and a part of its description stays in the slot: another file may come into the slot.
-use Rattle.std.proofs.Common.{◌≡◌, ◌⊎◌, refl, sym, ap, ◌∙◌, subst, inl, inr, ℕ, ◌<◌, ◌≤◌, ◌&&◌, ◌||◌, not, Bool, true, false, List, [], length, set, get_or, Some, None, is_some, IsSome, arith, get_or-set_same, get_or-set_other}
+use Rattle.std.proofs.Common.{◌≡◌, ◌⊎◌, sym, ap, ◌∙◌, subst, inl, inr, ℕ, ◌≤◌, ◌||◌, true, List, [], length, set, get_or, Some, is_some, arith, get_or-set_same, get_or-set_other}
 use Rattle.std.specs.List.{list_all}
 use Rattle.std.specs.Ordering.{nat_cmp}
 use Rattle.std.specs.Cmp.{nat_cmp_total}
@@ -10,17 +10,16 @@ use Rattle.lis_graph.proofs.Members.{Among}
 use Rattle.lis_graph.proofs.Sets.{members_le, sorted_from_rising}
 use Rattle.lis_blockmap.specs.Bitmap.{is_taken}
 use Rattle.lis_content.specs.Content.{given, has_number}
-use Rattle.lis_catalog.specs.Catalog.{rec_at, slot_of, without_slot}
+use Rattle.lis_catalog.specs.Catalog.{rec_at, without_slot}
 use Rattle.lis_dict.specs.Dict.{words, word_of}
-use Rattle.lis_ext.specs.Ext.{Ext, has, set_of as numbers_at}
+use Rattle.lis_ext.specs.Ext.{has, set_of as numbers_at}
 use Rattle.lis_fields.specs.Records.{FileRecord}
 use Rattle.lis_words.specs.Words.{word_cmp}
-use Rattle.lis_model.specs.Sets.{with_words}
 use Rattle.lis_model.specs.State.{State, File, file_words, is_assignable}
 use Rattle.lis_model.specs.Changes.{file_removed}
 use Rattle.lis_laws.proofs.Members.{word_order, among_with_words, with_words_old, with_words_new, sorted_with_words}
 use Rattle.lis_kept.specs.Kept.{Kept}
-use Rattle.lis_kept.specs.Sound.{AreSound, BlocksAreTaken}
+use Rattle.lis_kept.specs.Sound.{AreSound}
 use Rattle.lis_kept.specs.Telling.{declared_of, axioms_of, state_of, is_had, is_named_left, is_used, AreUsed}
 use Rattle.lis_kept.specs.Changes.{Forgets}
 use Rattle.lis_kept.proofs.Dropped.{file_slot_below}
@@ -30,7 +29,7 @@ use Rattle.lis_kept.proofs.Known.{known_word}
 use Rattle.lis_kept.proofs.Used.{had_at}
 use Rattle.lis_kept.proofs.WordLess.{had_from}
 use Rattle.lis_kept.proofs.Without.{elsewhere_had}
-use Rattle.lis_store.specs.Stored.{AreClosed, BlocksAreApart}
+use Rattle.lis_store.specs.Stored.{AreClosed}
 use Rattle.lis_store.specs.Admitting.{described_by, known_with, IsAdmitted}
 use Rattle.lis_store.specs.Replacing.{emptied, words_without, known_instead, shared_numbers, MayReplace}
 use Rattle.lis_store.specs.ReplacingIn.{AreInForm, MayStay, Vacates}
@@ -54,7 +53,7 @@ module _ (p left : Kept) (slot : ℕ) (rest : List ℕ) (form : AreInForm p) (st
   mid_is : out.lessened ≡ mid
   mid_is = out.describes.parts ∙ ap (λ (k : Kept). record k { ext = out.lessened.ext; marks = out.lessened.marks }) out.drops.parts
 
-  went : Forgets (numbers_at p.ext slot) mid left
+  pub went : Forgets (numbers_at p.ext slot) mid left
   went = subst (λ (k : Kept). Forgets (numbers_at p.ext slot) k left) mid_is out.forgets
 
   abbrev pub end : Kept

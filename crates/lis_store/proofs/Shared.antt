@@ -1,9 +1,9 @@
 -- What two descriptions of a slot have in common may stay while the file goes.
-use Rattle.std.proofs.Common.{◌≡◌, refl, sym, ap, ◌∙◌, subst, suc, zero, ℕ, ◌<◌, ◌≤◌, ◌&&◌, Bool, true, List, length, arith}
+use Rattle.std.proofs.Common.{◌≡◌, refl, suc, zero, ℕ, ◌<◌, ◌&&◌, Bool, true, List}
 use Rattle.std.specs.List.{flat_map}
 use Rattle.std.proofs.lemmas.Bool.{and_parts, and_from}
 use Rattle.std.proofs.lemmas.Map.Keys.{IsStrictlyIncreasing-from_sorted}
-use Rattle.lis_graph.proofs.Members.{Among, among_flat_map, flat_map_among}
+use Rattle.lis_graph.proofs.Members.{among_flat_map, flat_map_among}
 use Rattle.lis_content.specs.Content.{has_number}
 use Rattle.lis_dict.specs.Dict.{word_of}
 use Rattle.lis_ext.specs.Ext.{has}

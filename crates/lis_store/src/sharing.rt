@@ -1,6 +1,7 @@
 //! What the description of a file has in common with that of the file whose place it takes.
 
-ghost use Rattle.std.specs.Prelude.{◌≡◌, ℕ, ◌<◌, ◌≤◌, ◌&&◌, length};
+ghost use Rattle.std.specs.Prelude.{◌≡◌, ℕ, ◌<◌, ◌≤◌, ◌&&◌, All, length};
+ghost use Rattle.std.specs.List.Sorted.{IsStrictlyIncreasing};
 ghost use Rattle.lis_bits.specs.Rows.{HasShape, get};
 ghost use Rattle.lis_ext.specs.Ext.{has, set_of};
 ghost use Rattle.lis_model.specs.Changes.{new_file};
@@ -22,6 +23,8 @@ fn leave_lacked(ext: &Ext, props: u32, slot: u16, row: &mut Rows)
     requires shape { HasShape row.old 1 props }
     ensures shape { HasShape row.new 1 props }
     ensures bits { (n : ℕ) → n < props → get row.new 0 n ≡ (get row.old 0 n && has ext.now n slot) }
+    ensures rising { IsStrictlyIncreasing (set_of ext.now slot) }
+    ensures below { All (λ n. n < ext.now.props) (set_of ext.now slot) }
 {
     let rows = ext.rows();
     for number in 0..props {

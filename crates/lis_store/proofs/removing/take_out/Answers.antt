@@ -1,4 +1,4 @@
-use Rattle.std.proofs.Common.{length, sym, ap, subst, ◌∙◌, arith}
+use Rattle.std.proofs.Common.{[], length, sym, ap, subst, ◌∙◌, arith}
 use Rattle.lis_catalog.proofs.Laws.{slot_is_below}
 use Rattle.lis_ext.specs.Ext.{Ext, set_of}
 use Rattle.lis_kept.specs.Kept.{Kept}
@@ -20,4 +20,4 @@ pub forget_unused-requires : goal.forget_unused-requires
 forget_unused-requires c =
     let here = c.as_slice-2.ensures.value ∙ (c.numbers_at-numbers.ensures.numbers ∙ ap (λ (e : Ext). set_of e c.args.slot) c.ext.ensures) in
     subst (λ ns. MayForget ns c.describe.new.self) (sym here)
-    (emptied_may_forget c.args.slot c.drop_file.result c.args.parts.now c.drop_file.new.self c.describe.new.self c.limits.ensures.sound c.requires.in_use c.requires.closed c.drop_file.ensures c.describe.ensures)
+    (emptied_may_forget c.args.slot [] c.drop_file.result c.args.parts.now c.drop_file.new.self c.describe.new.self c.limits.ensures.sound c.requires.in_use c.requires.closed (λ m n h linked. cc) c.drop_file.ensures c.describe.ensures)

@@ -1,17 +1,12 @@
-use Rattle.std.proofs.Common.{◌≡◌, ◌∙◌, ◌++◌, ◌≤◌, ℕ, List, true, is_some, length, sym, ap, subst, arith}
+use Rattle.std.proofs.Common.{◌≡◌, ◌∙◌, ◌++◌, ◌≤◌, ℕ, List, true, length, sym, ap, subst, arith}
 use Rattle.std.specs.List.{list_all}
-use Rattle.std.specs.List.Sorted.{IsStrictlyIncreasing}
-use Rattle.lis_dict.specs.Dict.{word_of}
-use Rattle.lis_fields.specs.Layouts.{are_tags}
 use Rattle.lis_model.specs.Changes.{new_file}
 use Rattle.lis_model.specs.State.{all_up}
-use Rattle.lis_kept.specs.Kept.{Kept}
-use Rattle.lis_kept.specs.Changes.{Adds, Describes}
 use Rattle.lis_kept.specs.Telling.{declared_of, axioms_of}
 use Rattle.lis_store.specs.Admitting.{described_by}
 use Rattle.lis_store.specs.Adding.{numbers_named, AreNumbered, with_heads, may_learn, HasWordRoom}
 use Rattle.lis_store.proofs.Naming.{named_few}
-use Rattle.lis_store.proofs.PutIn.{assigned_may, derived_may, assigned_room, derived_room, both_learnt, own_numbered, entailed_is, entailed_short, named_tags, named_rising, named_worded, slot_was_empty}
+use Rattle.lis_store.proofs.PutIn.{assigned_may, derived_may, assigned_room, derived_room, both_learnt, own_numbered, entailed_is, entailed_short}
 use Rattle.lis_store.proofs.replacing.learn_own.Goals as goal
 
 pub learn_words-requires-clause-form : goal.learn_words-requires-clause-form
