@@ -14,6 +14,9 @@ pub trait View {
     /// The known words with their numbers, the files with their slots, and what words entail.
     ghost seen: { Self → Seen };
 
+    /// The rows of the files, with the count of their edits.
+    ghost rows: { Self → ext.Ext };
+
     /// The number of a word.
     fn id_of(&self, word: &Word) -> Option<u16>
         ensures { result ≡ number_of (seen self.now) word.now };
@@ -37,6 +40,7 @@ pub trait View {
 
     /// For each word's number the row of the files that have it. The contract also tells what each view keeps.
     fn ext(&self) -> &Ext
+        ensures rows { result.now ≡ rows self.now }
         ensures told { TellsFiles (seen self.now) result.now }
         ensures kept { IsView (seen self.now) };
 

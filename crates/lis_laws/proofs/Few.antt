@@ -15,7 +15,7 @@ use Rattle.lis_model.specs.Changes.{same_pair, has_axiom, declared_under, undecl
 use Rattle.lis_model.specs.Table.{table}
 use Rattle.lis_model.specs.Route.{route}
 use Rattle.lis_model.specs.Replies.{body_line, content_lines}
-use Rattle.lis_model.specs.Step.{Situation, Payload, Item, refused, changed, shown, words_at, tags_at, here_checks, mkdir, mkdir_checks, is_in_use, rmdir, rmdir_checks, add_axiom, axiom_checks, unaxiom, unaxiom_checks, assigned_at, create, create_checks, add, add_checks, write, write_checks, retagged, mv_to, mv_checks, rename, rename_checks, rm, shown_here, entry_at, moved, cd_to, all_done, done, step}
+use Rattle.lis_model.specs.Step.{Situation, Payload, Item, refused, changed, shown, words_at, tags_at, here_checks, mkdir, mkdir_checks, is_in_use, rmdir, rmdir_checks, add_axiom, axiom_checks, unaxiom, unaxiom_checks, assigned_at, create, create_checks, add, add_checks, write, write_checks, retagged, mv_to, mv_checks, rename, rename_checks, rm, shown_here, entry_at, moved, cd_to, done, step}
 use Rattle.lis_model.specs.Step.Item.{Do, Bad}
 use Rattle.lis_laws.specs.Changes.{WordFits, AxiomFits}
 use Rattle.lis_laws.specs.Steps.{has_forms, is_payload, is_formed, IsInForm}
@@ -258,44 +258,24 @@ cd_few now text (NewPlace place) = by (list_all (has_word (known now.state)) (te
     by true = touches_none now.state
     by false = touches_none now.state
 
-all_few : (now : Situation) (command : Command) (payload : Payload) → IsInForm now → has_forms command ≡ true → is_payload payload ≡ true → IsFew now (all_done now command payload).next
-all_few now (Mkdir word) payload before form sized = mkdir_few now word before.state form
-all_few now (Rmdir word) payload before form sized = rmdir_few now word before.state
-all_few now (Axiom left right) payload before form sized = axiom_few now left right before.state
-all_few now (Unaxiom left right) payload before form sized = unaxiom_few now left right before.state
-all_few now (Create name words) payload before form sized = create_few now name words before (and_parts _ _ form).0
-all_few now (Add name words) payload before form sized = add_few now name words payload before (and_parts _ _ form).0 sized
-all_few now (Write name) payload before form sized = write_few now name payload before sized
-all_few now (Cat name) payload before form sized = shown_few now name (content_lines (file_of now.state.files name).bytes)
-all_few now (Mv name text) payload before form sized = mv_few now name text (resolved now.place text) before
-all_few now (Rename name other) payload before form sized = rename_few now name other before (and_parts (is_file_name name) (is_file_name other) form).1
-all_few now (Rm name) payload before form sized = rm_few now name before.state
-all_few now (Cd text) payload before form sized = cd_few now text (resolved now.place text)
-all_few now Pwd payload before form sized = touches_none now.state
-all_few now Ls payload before form sized = touches_none now.state
-all_few now (Props name) payload before form sized = shown_few now name (flat_map (body_line 112) (description now.state (file_of now.state.files name)))
-all_few now (Way name) payload before form sized = shown_few now name (flat_map (body_line 100) (route (table now.state) now.place (entry_at now.state name)))
-all_few now Stat payload before form sized = touches_none now.state
-
--- one that has not come touches nothing
 command_few : (now : Situation) (command : Command) (payload : Payload) → IsInForm now → has_forms command ≡ true → is_payload payload ≡ true → IsFew now (done now command payload).next
-command_few now (Mkdir word) payload before form sized = all_few now (Mkdir word) payload before form sized
-command_few now (Rmdir word) payload before form sized = all_few now (Rmdir word) payload before form sized
-command_few now (Axiom left right) payload before form sized = all_few now (Axiom left right) payload before form sized
-command_few now (Unaxiom left right) payload before form sized = all_few now (Unaxiom left right) payload before form sized
-command_few now (Create name words) payload before form sized = all_few now (Create name words) payload before form sized
-command_few now (Add name words) payload before form sized = all_few now (Add name words) payload before form sized
-command_few now (Write name) payload before form sized = all_few now (Write name) payload before form sized
-command_few now (Cat name) payload before form sized = all_few now (Cat name) payload before form sized
-command_few now (Mv name text) payload before form sized = touches_none now.state
-command_few now (Rename name other) payload before form sized = all_few now (Rename name other) payload before form sized
-command_few now (Rm name) payload before form sized = all_few now (Rm name) payload before form sized
-command_few now (Cd text) payload before form sized = all_few now (Cd text) payload before form sized
-command_few now Pwd payload before form sized = all_few now Pwd payload before form sized
-command_few now Ls payload before form sized = all_few now Ls payload before form sized
-command_few now (Props name) payload before form sized = all_few now (Props name) payload before form sized
-command_few now (Way name) payload before form sized = all_few now (Way name) payload before form sized
-command_few now Stat payload before form sized = all_few now Stat payload before form sized
+command_few now (Mkdir word) payload before form sized = mkdir_few now word before.state form
+command_few now (Rmdir word) payload before form sized = rmdir_few now word before.state
+command_few now (Axiom left right) payload before form sized = axiom_few now left right before.state
+command_few now (Unaxiom left right) payload before form sized = unaxiom_few now left right before.state
+command_few now (Create name words) payload before form sized = create_few now name words before (and_parts _ _ form).0
+command_few now (Add name words) payload before form sized = add_few now name words payload before (and_parts _ _ form).0 sized
+command_few now (Write name) payload before form sized = write_few now name payload before sized
+command_few now (Cat name) payload before form sized = shown_few now name (content_lines (file_of now.state.files name).bytes)
+command_few now (Mv name text) payload before form sized = mv_few now name text (resolved now.place text) before
+command_few now (Rename name other) payload before form sized = rename_few now name other before (and_parts (is_file_name name) (is_file_name other) form).1
+command_few now (Rm name) payload before form sized = rm_few now name before.state
+command_few now (Cd text) payload before form sized = cd_few now text (resolved now.place text)
+command_few now Pwd payload before form sized = touches_none now.state
+command_few now Ls payload before form sized = touches_none now.state
+command_few now (Props name) payload before form sized = shown_few now name (flat_map (body_line 112) (description now.state (file_of now.state.files name)))
+command_few now (Way name) payload before form sized = shown_few now name (flat_map (body_line 100) (route (table now.state) now.place (entry_at now.state name)))
+command_few now Stat payload before form sized = touches_none now.state
 
 pub step_few : (now : Situation) (item : Item) → IsInForm now → is_formed item ≡ true → TouchesFew now.state (step now item).next.state
 unfolding step

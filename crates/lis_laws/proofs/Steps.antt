@@ -24,7 +24,7 @@ use Rattle.lis_model.specs.Table.{table}
 use Rattle.lis_model.specs.Route.{route}
 use Rattle.lis_model.specs.Replies.{body_line, content_lines}
 use Rattle.lis_model.specs.Script.{payload_limit}
-use Rattle.lis_model.specs.Step.{Situation, Payload, situation_after, start_of, Outcome, Item, refused, changed, shown, judged, exceeds_axioms, exceeds_known, exceeds_words, words_at, tags_at, free_blocks, is_large, is_here, here_checks, room_checks, is_plain_place, mkdir, mkdir_checks, is_in_use, rmdir, rmdir_checks, add_axiom, axiom_checks, unaxiom, unaxiom_checks, assigned_at, create, create_checks, add, add_checks, blocks_for, write, write_with, write_checks, retagged, mv, mv_to, mv_checks, rename, rename_as, rename_checks, rm, shown_here, entry_at, moved, cd_to, all_done, done, step}
+use Rattle.lis_model.specs.Step.{Situation, Payload, situation_after, start_of, Outcome, Item, refused, changed, shown, judged, exceeds_axioms, exceeds_known, exceeds_words, words_at, tags_at, free_blocks, is_large, is_here, here_checks, room_checks, is_plain_place, mkdir, mkdir_checks, is_in_use, rmdir, rmdir_checks, add_axiom, axiom_checks, unaxiom, unaxiom_checks, assigned_at, create, create_checks, add, add_checks, blocks_for, write, write_with, write_checks, retagged, mv, mv_to, mv_checks, rename, rename_as, rename_checks, rm, shown_here, entry_at, moved, cd_to, done, step}
 use Rattle.lis_model.specs.Step.Item.{Do, Bad}
 use Rattle.lis_laws.specs.Changes.{WordFits, AxiomFits, FileFits, FileReplaces}
 use Rattle.lis_laws.specs.Steps.{has_forms, is_payload, is_formed, IsInForm}
@@ -415,44 +415,24 @@ cd_keeps now text (NewPlace place) e before = by (list_all (has_word (known now.
     by false = before
 
 -- ---- all commands
-all_keeps : (now : Situation) (command : Command) (payload : Payload) → IsInForm now → has_forms command ≡ true → is_payload payload ≡ true → IsInForm (all_done now command payload).next
-all_keeps now (Mkdir word) payload before form sized = mkdir_keeps now word before form
-all_keeps now (Rmdir word) payload before form sized = rmdir_keeps now word before
-all_keeps now (Axiom left right) payload before form sized = axiom_keeps now (left, right) before
-all_keeps now (Unaxiom left right) payload before form sized = unaxiom_keeps now (left, right) before
-all_keeps now (Create name words) payload before form sized = create_keeps now name words before (and_parts _ _ form).0
-all_keeps now (Add name words) payload before form sized = add_keeps now name words payload before (and_parts _ _ form).0 sized
-all_keeps now (Write name) payload before form sized = write_keeps now name payload before sized
-all_keeps now (Cat name) payload before form sized = shown_keeps now name (content_lines (file_of now.state.files name).bytes) before
-all_keeps now (Mv name text) payload before form sized = mv_keeps now name text (resolved now.place text) before
-all_keeps now (Rename name other) payload before form sized = rename_keeps now name other before (and_parts (is_file_name name) (is_file_name other) form).1
-all_keeps now (Rm name) payload before form sized = rm_keeps now name before
-all_keeps now (Cd text) payload before form sized = cd_keeps now text (resolved now.place text) refl before
-all_keeps now Pwd payload before form sized = before
-all_keeps now Ls payload before form sized = before
-all_keeps now (Props name) payload before form sized = shown_keeps now name (flat_map (body_line 112) (description now.state (file_of now.state.files name))) before
-all_keeps now (Way name) payload before form sized = shown_keeps now name (flat_map (body_line 100) (route (table now.state) now.place (entry_at now.state name))) before
-all_keeps now Stat payload before form sized = before
-
--- one that has not come changes nothing
 command_keeps : (now : Situation) (command : Command) (payload : Payload) → IsInForm now → has_forms command ≡ true → is_payload payload ≡ true → IsInForm (done now command payload).next
-command_keeps now (Mkdir word) payload before form sized = all_keeps now (Mkdir word) payload before form sized
-command_keeps now (Rmdir word) payload before form sized = all_keeps now (Rmdir word) payload before form sized
-command_keeps now (Axiom left right) payload before form sized = all_keeps now (Axiom left right) payload before form sized
-command_keeps now (Unaxiom left right) payload before form sized = all_keeps now (Unaxiom left right) payload before form sized
-command_keeps now (Create name words) payload before form sized = all_keeps now (Create name words) payload before form sized
-command_keeps now (Add name words) payload before form sized = all_keeps now (Add name words) payload before form sized
-command_keeps now (Write name) payload before form sized = all_keeps now (Write name) payload before form sized
-command_keeps now (Cat name) payload before form sized = all_keeps now (Cat name) payload before form sized
-command_keeps now (Mv name text) payload before form sized = before
-command_keeps now (Rename name other) payload before form sized = all_keeps now (Rename name other) payload before form sized
-command_keeps now (Rm name) payload before form sized = all_keeps now (Rm name) payload before form sized
-command_keeps now (Cd text) payload before form sized = all_keeps now (Cd text) payload before form sized
-command_keeps now Pwd payload before form sized = all_keeps now Pwd payload before form sized
-command_keeps now Ls payload before form sized = all_keeps now Ls payload before form sized
-command_keeps now (Props name) payload before form sized = all_keeps now (Props name) payload before form sized
-command_keeps now (Way name) payload before form sized = all_keeps now (Way name) payload before form sized
-command_keeps now Stat payload before form sized = all_keeps now Stat payload before form sized
+command_keeps now (Mkdir word) payload before form sized = mkdir_keeps now word before form
+command_keeps now (Rmdir word) payload before form sized = rmdir_keeps now word before
+command_keeps now (Axiom left right) payload before form sized = axiom_keeps now (left, right) before
+command_keeps now (Unaxiom left right) payload before form sized = unaxiom_keeps now (left, right) before
+command_keeps now (Create name words) payload before form sized = create_keeps now name words before (and_parts _ _ form).0
+command_keeps now (Add name words) payload before form sized = add_keeps now name words payload before (and_parts _ _ form).0 sized
+command_keeps now (Write name) payload before form sized = write_keeps now name payload before sized
+command_keeps now (Cat name) payload before form sized = shown_keeps now name (content_lines (file_of now.state.files name).bytes) before
+command_keeps now (Mv name text) payload before form sized = mv_keeps now name text (resolved now.place text) before
+command_keeps now (Rename name other) payload before form sized = rename_keeps now name other before (and_parts (is_file_name name) (is_file_name other) form).1
+command_keeps now (Rm name) payload before form sized = rm_keeps now name before
+command_keeps now (Cd text) payload before form sized = cd_keeps now text (resolved now.place text) refl before
+command_keeps now Pwd payload before form sized = before
+command_keeps now Ls payload before form sized = before
+command_keeps now (Props name) payload before form sized = shown_keeps now name (flat_map (body_line 112) (description now.state (file_of now.state.files name))) before
+command_keeps now (Way name) payload before form sized = shown_keeps now name (flat_map (body_line 100) (route (table now.state) now.place (entry_at now.state name))) before
+command_keeps now Stat payload before form sized = before
 
 pub step_keeps : (now : Situation) (item : Item) → IsInForm now → is_formed item ≡ true → IsInForm (step now item).next
 unfolding step

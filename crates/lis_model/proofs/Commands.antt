@@ -13,7 +13,7 @@ use Rattle.lis_model.specs.declared.command.Command.TheVariants.{Mkdir, Rmdir, A
 use Rattle.lis_model.specs.Derived.{all_derived_words}
 use Rattle.lis_model.specs.State.{file_limit, blocks_taken}
 use Rattle.lis_model.specs.Replies.{line}
-use Rattle.lis_model.specs.Step.{Situation, Outcome, Item, Payload, no_payload, start_of, all_done}
+use Rattle.lis_model.specs.Step.{Situation, Outcome, Item, Payload, no_payload, start_of, done}
 use Rattle.lis_model.specs.Step.Item.{Do, Bad}
 use Rattle.lis_model.specs.Tests.{is_weaker}
 
@@ -23,7 +23,7 @@ reply_then outcome next = outcome.reply ++ next outcome.next
 
 abbrev all_replies : Situation → List Item → List ℕ
 all_replies now [] = []
-all_replies now (Do command payload ∷ items) = reply_then (all_done now command payload) (λ next. all_replies next items)
+all_replies now (Do command payload ∷ items) = reply_then (done now command payload) (λ next. all_replies next items)
 all_replies now (Bad refusal ∷ items) = all_replies now items
 
 abbrev said : List Item → List ℕ

@@ -9,7 +9,7 @@ use Rattle.lis_grammar.specs.Places.{Resolution, resolved, text_words}
 use Rattle.lis_grammar.specs.Places.Resolution.{NewPlace, BeyondLimits, Unreadable}
 use Rattle.lis_model.specs.declared.limits.Limits.{Limits}
 use Rattle.lis_model.specs.declared.refusal.Refusal.{Refusal}
-use Rattle.lis_model.specs.declared.refusal.Refusal.TheVariants.{BadLine, BadFormula, UnknownProperty, LargeFormula, NotAPlace, NameTaken, NoFileHere, AlreadyDeclared, NotDeclared, InUse, NotAssignable, Cycle, AxiomThere, NoAxiom, TooManyAssigned, LargeDescription, LargeFile, NoFileRoom, NoPropertyRoom, NoAxiomRoom, NoSpace, BuiltIn}
+use Rattle.lis_model.specs.declared.refusal.Refusal.TheVariants.{BadFormula, UnknownProperty, LargeFormula, NotAPlace, NameTaken, NoFileHere, AlreadyDeclared, NotDeclared, InUse, NotAssignable, Cycle, AxiomThere, NoAxiom, TooManyAssigned, LargeDescription, LargeFile, NoFileRoom, NoPropertyRoom, NoAxiomRoom, NoSpace, BuiltIn}
 use Rattle.lis_model.specs.declared.command.Command.{Command}
 use Rattle.lis_model.specs.declared.command.Command.TheVariants.{Mkdir, Rmdir, Axiom, Unaxiom, Create, Add, Write, Cat, Mv, Rename, Rm, Cd, Pwd, Ls, Props, Way, Stat}
 use Rattle.lis_model.specs.Sets.{with_words}
@@ -336,30 +336,6 @@ abbrev pub stat : Situation → Outcome
 stat now = shown now (count_lines now.state)
 
 -- what each command does
-abbrev pub all_done : Situation → Command → Payload → Outcome
-all_done now (Mkdir word) payload = mkdir now word
-all_done now (Rmdir word) payload = rmdir now word
-all_done now (Axiom left right) payload = add_axiom now (left, right)
-all_done now (Unaxiom left right) payload = unaxiom now (left, right)
-all_done now (Create name words) payload = create now name words
-all_done now (Add name words) payload = add now name words payload
-all_done now (Write name) payload = write now name payload
-all_done now (Cat name) payload = cat now name
-all_done now (Mv name text) payload = mv now name text
-all_done now (Rename name other) payload = rename now name other
-all_done now (Rm name) payload = rm now name
-all_done now (Cd text) payload = cd now text
-all_done now Pwd payload = pwd now
-all_done now Ls payload = ls now
-all_done now (Props name) payload = props now name
-all_done now (Way name) payload = way now name
-all_done now Stat payload = stat now
-
--- a command that has not come is a bad line
-abbrev pub not_come : Situation → Outcome
-not_come now = refused now BadLine
-
--- What each command does today: `mv` has not come. Then this is `all_done now command payload`.
 abbrev pub done : Situation → Command → Payload → Outcome
 done now (Mkdir word) payload = mkdir now word
 done now (Rmdir word) payload = rmdir now word
@@ -369,7 +345,7 @@ done now (Create name words) payload = create now name words
 done now (Add name words) payload = add now name words payload
 done now (Write name) payload = write now name payload
 done now (Cat name) payload = cat now name
-done now (Mv name text) payload = not_come now
+done now (Mv name text) payload = mv now name text
 done now (Rename name other) payload = rename now name other
 done now (Rm name) payload = rm now name
 done now (Cd text) payload = cd now text

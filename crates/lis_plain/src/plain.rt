@@ -179,6 +179,7 @@ impl Plain {
             Command::Create(name, tags) => end_answer(self.create(name, tags), station),
             Command::Add(name, tags) => end_answer(self.add(name, tags, payload), station),
             Command::Write(name) => end_answer(self.write(name, payload), station),
+            Command::Mv(name, text) => end_answer(self.mv(name, text), station),
             Command::Rename(name, other) => end_answer(self.rename(name, other), station),
             Command::Rm(name) => end_answer(self.rm(name), station),
             Command::Cd(text) => end_answer(self.cd(text), station),
@@ -188,8 +189,6 @@ impl Plain {
             Command::Cat(name) => end_found(self.content(name), station),
             Command::Props(name) => end_found(self.described(name), station),
             Command::Way(name) => end_found(self.led(name), station),
-            // It has not come.
-            Command::Mv(_, _) => self.refuse(&Refusal::BadLine, station),
         }
     }
 

@@ -256,6 +256,8 @@ impl View for Store {
 
     ghost seen = { λ s. seen_of s.parts };
 
+    ghost rows = { λ s. s.parts.ext };
+
     fn id_of(&self, word: &Word) -> Option<u16> {
         self.parts.number_of(word)
     }

@@ -1,5 +1,5 @@
 use Rattle.std.proofs.Common.{subst}
-use Rattle.lis_model.specs.Step.{mkdir, rmdir, add_axiom, unaxiom, create, add, write, rename, rm, cd}
+use Rattle.lis_model.specs.Step.{mkdir, rmdir, add_axiom, unaxiom, create, add, write, mv, rename, rm, cd}
 use Rattle.lis_plain.specs.Carries.{Answers}
 use Rattle.lis_plain.proofs.plain.Plain.carry_out.Goals as goal
 
@@ -31,7 +31,7 @@ pub returns-in-Write-clause-step : goal.returns-in-Write-clause-step
 returns-in-Write-clause-step g c = rw c.in-Write.is (c.end_answer-in-Write.ensures.step (write c.args.self.now c.in-Write.name c.args.payload.now) c.args.self.now c.write.new.self c.write.ensures)
 
 pub returns-in-Mv-clause-step : goal.returns-in-Mv-clause-step
-returns-in-Mv-clause-step g c = rw c.in-Mv.is c.refuse.ensures.step
+returns-in-Mv-clause-step g c = rw c.in-Mv.is (c.end_answer-in-Mv.ensures.step (mv c.args.self.now c.in-Mv.name c.in-Mv.text) c.args.self.now c.mv.new.self c.mv.ensures)
 
 pub returns-in-Rename-clause-step : goal.returns-in-Rename-clause-step
 returns-in-Rename-clause-step g c = rw c.in-Rename.is (c.end_answer-in-Rename.ensures.step (rename c.args.self.now c.in-Rename.name c.in-Rename.other) c.args.self.now c.rename.new.self c.rename.ensures)
