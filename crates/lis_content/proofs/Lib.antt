@@ -1,3 +1,4 @@
 pub mod Numbers
 mod Taking
 mod Reading
+pub mod Buffers

@@ -75,19 +75,14 @@ module _ (p q : Kept) (name : List ℕ) (assigned : List (List ℕ)) (bytes : Li
   abbrev pub end : Kept
   end = record p { dict = dict; catalog = with_filed p.catalog slot rec; taken = marked p.taken rec.blocks; ext = q.ext; marks = q.marks }
 
-  abbrev filed_marks : List Bool
-  filed_marks = set (set comes.learnt.marks (block_of comes.learnt.limits Files slot) true) (bitmap_start comes.learnt.limits) true
-
-  pub filed_is : comes.filed ≡ record p { dict = dict; catalog = with_filed p.catalog slot rec; taken = marked p.taken rec.blocks; marks = filed_marks }
-  filed_is = comes.parts ∙ ap (λ (k : Kept). record k {
+  pub end_is : q ≡ end
+  end_is = comes.parts ∙ ap (λ (k : Kept). record k {
     dict = dict;
     catalog = with_filed k.catalog slot rec;
     taken = marked k.taken rec.blocks;
-    marks = filed_marks;
+    ext = q.ext;
+    marks = q.marks;
   }) comes.learns.parts
-
-  pub end_is : q ≡ end
-  end_is = comes.describes.parts ∙ ap (λ (k : Kept). record k { ext = q.ext; marks = q.marks }) filed_is
 
   -- ---- the slot
   pub free_slot : rec_at p.catalog slot ≡ None
@@ -108,7 +103,7 @@ module _ (p q : Kept) (name : List ℕ) (assigned : List (List ℕ)) (bytes : Li
 
   -- ---- descriptions
   sets_are : end.ext.sets ≡ set p.ext.sets slot numbers
-  sets_are = comes.describes.sets ∙ ap (λ (k : Kept). set k.ext.sets slot numbers) filed_is
+  sets_are = comes.sets ∙ ap (λ (k : Kept). set k.ext.sets slot numbers) comes.learns.parts
 
   pub set_here : numbers_at end.ext slot ≡ numbers
   set_here = ap (λ ss. get_or ss slot []) sets_are ∙ get_or-set_same p.ext.sets slot numbers [] (omega (arith, below_files, sound.files))

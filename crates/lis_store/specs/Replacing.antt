@@ -1,5 +1,5 @@
 -- A file that takes the place of another.
-use Rattle.std.specs.Prelude.{◌≡◌, ◌≢◌, ℕ, ◌+◌, ◌≤◌, Some, None, List, [], length, map, filter, slice_set, IsTrue}
+use Rattle.std.specs.Prelude.{◌≡◌, ◌≢◌, ℕ, ◌+◌, ◌≤◌, Some, None, List, length, map, filter, IsTrue}
 use Rattle.std.specs.List.{list_all}
 use Rattle.lis_graph.specs.Graph.{is_rising}
 use Rattle.lis_blockmap.specs.Bitmap.{free_count}
@@ -10,11 +10,8 @@ use Rattle.lis_model.specs.Sets.{with_words}
 use Rattle.lis_model.specs.State.{File, is_assignable, blocks_needed}
 use Rattle.lis_kept.specs.Kept.{Kept}
 use Rattle.lis_kept.specs.Telling.{declared_of, is_used}
+use Rattle.lis_kept.specs.Forgetting.{emptied}
 use Rattle.lis_store.specs.Admitting.{described_by}
-
--- what memory keeps, but for the description in a slot
-abbrev pub emptied : Kept → ℕ → Kept
-emptied k slot = record k { ext = record k.ext { sets = slice_set k.ext.sets slot [] } }
 
 -- the known words that are in use without the file in the slot
 abbrev pub words_without : Kept → ℕ → List (List ℕ)

@@ -1,0 +1,169 @@
+//! The bytes of a file, in memory that is taken once.
+
+ghost use Rattle.std.specs.Prelude.{◌≡◌, ◌*◌, ◌≤◌, ℕ, List, [], false, length, take, IsTrue, IfOk, OnOk};
+ghost use Rattle.lis_ports.specs.Runs.{IsDiskRun, Leaves};
+ghost use Rattle.lis_ports.specs.Calls.{HasCause, IsUnchanged};
+ghost use Rattle.lis_model.specs.State.{blocks_needed};
+ghost use Rattle.lis_journal.specs.Images.{Fits};
+ghost use Rattle.lis_journal.specs.Phases.{looked};
+ghost use Rattle.lis_content.specs.Content.{content, are_within};
+ghost use Rattle.lis_content.specs.Inside.{kept_bytes, IsKept};
+
+use crate::content::read;
+use lis_journal::Journal;
+use lis_ports::{Disk, Failed};
+use lis_region::{Frame, Region};
+use std::alloc::{AllocError, Global};
+use std::marker::Model;
+
+/// The most bytes that a file has.
+const MOST_BYTES: u32 = 65_536;
+
+/// The bytes of a file, in memory that is taken once.
+#[derive(Drop)]
+pub struct Buffer {
+    region: Region<u8>,
+    frame: Frame,
+    size: u32,
+}
+
+impl Model for Buffer {
+    ghost use Rattle.std.specs.Prelude.{ℕ, List};
+    ghost use Rattle.lis_content.specs.Inside.{kept_bytes, IsKept};
+
+    ghost Value = { List ℕ };
+
+    ghost view = { λ b. kept_bytes b.region b.frame b.size };
+
+    ghost invariant = { λ b. IsKept b.region b.frame b.size };
+}
+
+// Reads the bytes of a file into the front of this memory.
+fn read_front<D: Disk>(
+    items: &mut [u8],
+    journal: &Journal,
+    disk: &mut D,
+    base: u32,
+    blocks: &[u16],
+    size: u32,
+) -> Result<(), Failed>
+    requires short { size ≤ length items.old }
+    requires count { length blocks.now ≡ blocks_needed size }
+    requires home { 578 ≤ base }
+    requires within { IsTrue (are_within base journal.now.blocks blocks.now) }
+    requires unbroken { journal.now.is_broken ≡ false }
+    requires long { 4096 * journal.now.blocks ≤ (D.meaning disk.old).len }
+    ensures read { OnOk result ((kept : ℕ → List ℕ) → Fits journal.now (D.meaning disk.old) kept
+        → take size items.new ≡ content base blocks.now size (looked journal.now.staged kept)) }
+    ensures run { IsDiskRun (D.meaning disk.old) (D.meaning disk.new) }
+    ensures cause { HasCause (D.meaning disk.old).disk_faults (D.meaning disk.new).disk_faults result }
+    ensures same { IsTrue (D.meaning disk.old).is_honest → IsUnchanged (D.meaning disk.old) (D.meaning disk.new) }
+    ensures any_moment { IsTrue (D.meaning disk.old).is_honest
+        → Leaves (D.meaning disk.old) (D.meaning disk.new) (D.meaning disk.old).images }
+    ensures fits { (kept : ℕ → List ℕ) → Fits journal.now (D.meaning disk.old) kept
+        → Fits journal.now (D.meaning disk.new) kept }
+{
+    read(
+        journal,
+        disk,
+        base,
+        blocks,
+        size,
+        &mut items[..size as usize],
+    )
+}
+
+// Reads the bytes of a file into the front of a frame.
+fn read_frame<D: Disk>(
+    region: &mut Region<u8>,
+    frame: &Frame,
+    journal: &Journal,
+    disk: &mut D,
+    base: u32,
+    blocks: &[u16],
+    size: u32,
+) -> Result<(), Failed>
+    requires kept { IsKept region.old frame.now size }
+    requires count { length blocks.now ≡ blocks_needed size }
+    requires home { 578 ≤ base }
+    requires within { IsTrue (are_within base journal.now.blocks blocks.now) }
+    requires unbroken { journal.now.is_broken ≡ false }
+    requires long { 4096 * journal.now.blocks ≤ (D.meaning disk.old).len }
+    ensures kept { IsKept region.new frame.now size }
+    ensures read { OnOk result ((kept : ℕ → List ℕ) → Fits journal.now (D.meaning disk.old) kept
+        → kept_bytes region.new frame.now size ≡ content base blocks.now size (looked journal.now.staged kept)) }
+    ensures run { IsDiskRun (D.meaning disk.old) (D.meaning disk.new) }
+    ensures cause { HasCause (D.meaning disk.old).disk_faults (D.meaning disk.new).disk_faults result }
+    ensures same { IsTrue (D.meaning disk.old).is_honest → IsUnchanged (D.meaning disk.old) (D.meaning disk.new) }
+    ensures any_moment { IsTrue (D.meaning disk.old).is_honest
+        → Leaves (D.meaning disk.old) (D.meaning disk.new) (D.meaning disk.old).images }
+    ensures fits { (kept : ℕ → List ℕ) → Fits journal.now (D.meaning disk.old) kept
+        → Fits journal.now (D.meaning disk.new) kept }
+{
+    let items = region.items_mut(frame);
+    read_front(items, journal, disk, base, blocks, size)
+}
+
+impl Buffer {
+    /// A buffer with no bytes yet. All memory that it will use is taken here.
+    pub fn new(alloc: Global) -> Result<Buffer, AllocError>
+        ensures { IfOk result (λ buffer. buffer ≡ []) }
+    {
+        let mut region = Region::new(alloc, 1, MOST_BYTES, 0)?;
+        let Some(frame) = region.take() else {
+            unreachable!()
+        };
+        Ok(Buffer {
+            region,
+            frame,
+            size: 0,
+        })
+    }
+
+    /// The bytes that were read last.
+    pub fn bytes(&self) -> &[u8]
+        ensures bytes { result.now ≡ self.now }
+        ensures few { length result.now ≤ 65536 }
+    {
+        &self.region.items(&self.frame)[..self.size as usize]
+    }
+
+    /// Reads the bytes of a file in place of those that it has. After a fault it has so many bytes, and they may be
+    /// anything.
+    pub fn read<D: Disk>(
+        &mut self,
+        journal: &Journal,
+        disk: &mut D,
+        base: u32,
+        blocks: &[u16],
+        size: u32,
+    ) -> Result<(), Failed>
+        requires short { size ≤ 65536 }
+        requires count { length blocks.now ≡ blocks_needed size }
+        requires home { 578 ≤ base }
+        requires within { IsTrue (are_within base journal.now.blocks blocks.now) }
+        requires unbroken { journal.now.is_broken ≡ false }
+        requires long { 4096 * journal.now.blocks ≤ (D.meaning disk.old).len }
+        ensures read { OnOk result ((kept : ℕ → List ℕ) → Fits journal.now (D.meaning disk.old) kept
+            → self.new ≡ content base blocks.now size (looked journal.now.staged kept)) }
+        ensures size { OnOk result (length self.new ≡ size) }
+        ensures run { IsDiskRun (D.meaning disk.old) (D.meaning disk.new) }
+        ensures cause { HasCause (D.meaning disk.old).disk_faults (D.meaning disk.new).disk_faults result }
+        ensures same { IsTrue (D.meaning disk.old).is_honest → IsUnchanged (D.meaning disk.old) (D.meaning disk.new) }
+        ensures any_moment { IsTrue (D.meaning disk.old).is_honest
+            → Leaves (D.meaning disk.old) (D.meaning disk.new) (D.meaning disk.old).images }
+        ensures fits { (kept : ℕ → List ℕ) → Fits journal.now (D.meaning disk.old) kept
+            → Fits journal.now (D.meaning disk.new) kept }
+    {
+        self.size = size;
+        read_frame(
+            &mut self.region,
+            &self.frame,
+            journal,
+            disk,
+            base,
+            blocks,
+            size,
+        )
+    }
+}
