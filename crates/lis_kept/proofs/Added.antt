@@ -1,8 +1,8 @@
 -- A file that comes into a free slot, its bytes in free data blocks.
-use Rattle.std.proofs.Common.{◌≡◌, refl, sym, ap, ap₂, ◌∙◌, subst, inl, inr, ℕ, ◌+◌, ◌^◌, ◌<◌, ◌≤◌, ◌==◌, if◌then◌else◌, ◌&&◌, ◌||◌, nat_lt, not, Bool, true, false, List, [], ◌∷◌, ◌++◌, length, set, take, Some, None, is_some, arith, length-set}
+use Rattle.std.proofs.Common.{◌≡◌, refl, sym, ap, ap₂, ◌∙◌, subst, inl, inr, ℕ, ◌+◌, ◌^◌, ◌<◌, ◌≤◌, ◌==◌, if◌then◌else◌, ◌&&◌, ◌||◌, nat_lt, not, Bool, true, false, List, [], ◌∷◌, ◌++◌, length, set, take, Some, None, is_some, IsSome, arith, length-set}
 use Rattle.std.specs.BTreeSet.{insert_key}
 use Rattle.std.specs.List.{flat_map, list_all}
-use Rattle.std.proofs.lemmas.Bool.{and_parts, and_from, both_ways, eq-eqb, ne_eqb, ltb-true, lt-ltb, false_from_ne_true}
+use Rattle.std.proofs.lemmas.Bool.{and_parts, and_from, both_ways, eq-eqb, eqb-true, ne_eqb, ltb-true, lt-ltb, false_from_ne_true}
 use Rattle.std.proofs.lemmas.Option.{same_Some}
 use Rattle.lis_graph.proofs.Members.{Among}
 use Rattle.lis_journal.specs.Journal.{Held}
@@ -15,6 +15,7 @@ use Rattle.lis_content.proofs.Numbers.{neither, not_true, are_below, below_from_
 use Rattle.lis_dict.specs.Dict.{word_of}
 use Rattle.lis_catalog.specs.Catalog.{Catalog, Filed, filed_cmp, rec_at, slot_of, with_filed}
 use Rattle.lis_catalog.proofs.Laws.{rec_at-with_filed}
+use Rattle.lis_ext.specs.Ext.{has}
 use Rattle.lis_fields.specs.Records.{FileRecord}
 use Rattle.lis_fields.specs.Layouts.{file_bytes, are_short, are_tags, are_blocks, is_record, are_distinct as slots_distinct}
 use Rattle.lis_fields.proofs.Parts.{record_from}
@@ -71,6 +72,7 @@ pub record NewFile (p : Kept) (old new : Held) (name tags bytes blocks : List �
   pub free : rec_at p.catalog slot ≡ None
   pub room : length p.catalog.entries < p.catalog.files
   pub all_taken : BlocksAreTaken p
+  pub described : (n : ℕ) → has p.ext n slot ≡ true → IsSome (word_of p.dict n)
   pub put : IsPut (data_start p.limits) [] bytes p.taken taken old new blocks
 
 module _ (p : Kept) (t : Taxonomy) (held : AreHeld p t) {old new : Held} {name tags bytes blocks : List ℕ} {slot : ℕ} {taken : List Bool} (file : NewFile p old new name tags bytes blocks slot taken) where
@@ -109,6 +111,13 @@ module _ (p : Kept) (t : Taxonomy) (held : AreHeld p t) {old new : Held} {name t
       by true same = subst (λ (q : FileRecord). is_sound_record p.dict p.limits.blocks q ≡ true) (same_Some new_record r same) sound_new
       by false some = held.sound.records n r some
 
+  named_then : (n s : ℕ) → IsSome (rec_at (with_filed p.catalog slot new_record) s) → has p.ext n s ≡ true → IsSome (word_of p.dict n)
+  named_then n s there has_it = by (slot == s) refl (sym (ap is_some (rec_at-with_filed p.catalog slot new_record s file.absent file.free)) ∙ there)
+    where
+      by : (b : Bool) → (slot == s) ≡ b → is_some (if b then Some new_record else rec_at p.catalog s) ≡ true → IsSome (word_of p.dict n)
+      by true same some = file.described n (ap (has p.ext n) (eqb-true slot s same) ∙ has_it)
+      by false other some = held.sound.named n s some has_it
+
   held_added : AreHeld added t
   held_added = held_files p t (with_filed p.catalog slot new_record) taken p.ext added_marks held (record {
     slots = refl;
@@ -117,7 +126,7 @@ module _ (p : Kept) (t : Taxonomy) (held : AreHeld p t) {old new : Held} {name t
     blocks = file.put.len;
     rows = refl;
     files = refl;
-    named = held.sound.named;
+    named = λ n s there has_it. named_then n s there has_it;
     settled = held.sound.settled;
     as_many = length-set (set p.marks (block_of p.limits Files slot) true) (bitmap_start p.limits) true ∙ length-set p.marks (block_of p.limits Files slot) true;
   })

@@ -10,6 +10,7 @@ use Rattle.lis_graph.proofs.Ranges.{among_range, range_among}
 use Rattle.lis_content.specs.Content.{marked}
 use Rattle.lis_content.proofs.Numbers.{length-marked}
 use Rattle.lis_dict.specs.Dict.{word_of}
+use Rattle.lis_catalog.specs.Catalog.{rec_at}
 use Rattle.lis_ext.specs.Ext.{Ext, has, set_of, with_marks}
 use Rattle.lis_ext.specs.Numbers.{has_number, differs, numbers_where}
 use Rattle.lis_taxonomy.specs.Taxonomy.{Taxonomy}
@@ -22,7 +23,7 @@ use Rattle.lis_kept.specs.Links.{AreHeld}
 use Rattle.lis_kept.specs.Changes.{Marks, Describes}
 use Rattle.lis_kept.proofs.InArea.{rows_counted, among_slots}
 use Rattle.lis_kept.proofs.RowBytes.{row_bytes_same}
-use Rattle.lis_kept.proofs.Formed.{held_files, named_below}
+use Rattle.lis_kept.proofs.Formed.{held_files, named_below, AreWithin, had_within}
 use Rattle.lis_kept.proofs.Marking.{AreBelow, blocks_marked}
 
 -- ---- numbers
@@ -61,7 +62,7 @@ where_below props limit test ns is same =
     all_from (λ n. nat_lt n limit) ns (λ n m. lt-ltb n limit (omega (arith, same, (among_where props test n (subst (λ l. Among l n) is m)).0)))
 
 module _ (p : Kept) (t : Taxonomy) (held : AreHeld p t) (slot : ℕ) (old new : List ℕ) (e : Ext) (marks : List Bool)
-    (below : slot < p.limits.files) (is_old : set_of p.ext slot ≡ old) (named : list_all (λ n. is_some (word_of p.dict n)) new ≡ true)
+    (within : AreWithin p.ext) (below : slot < p.limits.files) (is_old : set_of p.ext slot ≡ old) (named : list_all (λ n. is_some (word_of p.dict n)) new ≡ true)
     (props : e.props ≡ p.ext.props) (sets : e.sets ≡ set p.ext.sets slot new) (settled : e.marks ≡ [])
     (edits : e.edits ≤ p.ext.edits + length (numbers_where p.ext.props (differs old new)))
     (are_marks : marks ≡ marked p.marks (map (block_of p.limits Rows) (numbers_where p.ext.props (differs old new)))) where
@@ -98,7 +99,7 @@ module _ (p : Kept) (t : Taxonomy) (held : AreHeld p t) (slot : ℕ) (old new : 
       in_range : differs old new n ≡ true → n < p.ext.props
       in_range differ = elim (or_cases (has_number new n && not (has_number old n)) (has_number old n && not (has_number new n)) differ) [
         | inl one ↦ omega (arith, held.sound.rows, named_below p held.sound n (new_named n (and_parts (has_number new n) (not (has_number old n)) one).0))
-        | inr one ↦ omega (arith, held.sound.rows, named_below p held.sound n (held.sound.named n slot (ap (λ ns. has_number ns n) is_old ∙ (and_parts (has_number old n) (not (has_number new n)) one).0)))
+        | inr one ↦ had_within p.ext within n slot (ap (λ ns. has_number ns n) is_old ∙ (and_parts (has_number old n) (not (has_number new n)) one).0)
       ]
 
       alike : differs old new n ≡ false
@@ -135,9 +136,9 @@ module _ (p : Kept) (t : Taxonomy) (held : AreHeld p t) (slot : ℕ) (old new : 
     as_many = ap length are_marks ∙ length-marked p.marks (map (block_of p.limits Rows) touched);
   })
     where
-      by : (n s : ℕ) → (s ≡ slot) ⊎ (s ≡ slot → ⊥) → has e n s ≡ true → IsSome (word_of p.dict n)
-      by n s (inl same) has_it = new_named n (ap (λ ns. has_number ns n) (sym (ap (set_of e) same ∙ set_in)) ∙ has_it)
-      by n s (inr differ) has_it = held.sound.named n s (ap (λ ns. has_number ns n) (sym (set_at s differ)) ∙ has_it)
+      by : (n s : ℕ) → (s ≡ slot) ⊎ (s ≡ slot → ⊥) → IsSome (rec_at p.catalog s) → has e n s ≡ true → IsSome (word_of p.dict n)
+      by n s (inl same) there has_it = new_named n (ap (λ ns. has_number ns n) (sym (ap (set_of e) same ∙ set_in)) ∙ has_it)
+      by n s (inr differ) there has_it = held.sound.named n s there (ap (λ ns. has_number ns n) (sym (set_at s differ)) ∙ has_it)
 
   pub described_made : AreHeld described t × Describes slot new p described
   described_made = (
@@ -161,12 +162,12 @@ numbers_below k p ns is sound named i d lt =
     omega (arith, sound.rows, named_below p sound (get_or ns i d) (all_among (λ n. is_some (word_of p.dict n)) ns (get_or ns i d) (subst P (sym is) named) there))
 
 -- the same, over what memory kept
-pub describes : (k p : Kept) (t : Taxonomy) (slot : ℕ) (old new : List ℕ) (e : Ext) (marks : List Bool) → p ≡ k → AreHeld p t
+pub describes : (k p : Kept) (t : Taxonomy) (slot : ℕ) (old new : List ℕ) (e : Ext) (marks : List Bool) → p ≡ k → AreHeld p t → AreWithin p.ext
     → slot < k.limits.files → set_of k.ext slot ≡ old → list_all (λ n. is_some (word_of k.dict n)) new ≡ true
     → e.props ≡ p.ext.props → e.sets ≡ set p.ext.sets slot new → e.marks ≡ [] → e.edits ≤ p.ext.edits + length (numbers_where p.ext.props (differs old new))
     → marks ≡ marked p.marks (map (block_of p.limits Rows) (numbers_where p.ext.props (differs old new)))
     → AreHeld (record p { ext = e; marks = marks }) t × Describes slot new k (record p { ext = e; marks = marks })
-describes k p t slot old new e marks is held below is_old named props sets settled edits are_marks =
+describes k p t slot old new e marks is held within below is_old named props sets settled edits are_marks =
     let P : Kept → Type 0 = λ q. slot < q.limits.files → set_of q.ext slot ≡ old → list_all (λ n. is_some (word_of q.dict n)) new ≡ true
     → AreHeld (record p { ext = e; marks = marks }) t × Describes slot new q (record p { ext = e; marks = marks }) in
-    subst P is (λ b o n. described_made p t held slot old new e marks b o n props sets settled edits are_marks) below is_old named
+    subst P is (λ b o n. described_made p t held slot old new e marks within b o n props sets settled edits are_marks) below is_old named

@@ -1,5 +1,5 @@
 -- A file that goes.
-use Rattle.std.proofs.Common.{◌≡◌, refl, sym, ap, ◌∙◌, subst, inl, inr, ℕ, ◌<◌, ◌==◌, if◌then◌else◌, ◌&&◌, nat_lt, nat_le, not, Bool, true, false, List, [], ◌∷◌, length, map, set, Some, None, is_some, arith, length-set}
+use Rattle.std.proofs.Common.{◌≡◌, refl, sym, ap, ◌∙◌, subst, inl, inr, ℕ, ◌<◌, ◌==◌, if◌then◌else◌, ◌&&◌, nat_lt, nat_le, not, Bool, true, false, List, [], ◌∷◌, length, map, set, Some, None, is_some, IsSome, arith, length-set}
 use Rattle.std.specs.List.{list_all}
 use Rattle.std.proofs.lemmas.Bool.{eq-eqb, eqb-true, ne_eqb, and_parts}
 use Rattle.std.proofs.lemmas.Option.{same_Some}
@@ -75,6 +75,13 @@ module _ (p : Kept) (t : Taxonomy) (held : AreHeld p t) (slot : ℕ) (rec : File
       by true none = absurd cc
       by false some = held.sound.records n r some
 
+  was_there : (n : ℕ) → IsSome (rec_at (without_slot p.catalog slot) n) → IsSome (rec_at p.catalog n)
+  was_there n some = by (n == slot) (sym (ap is_some (rec_at-without_slot p.catalog slot n)) ∙ some)
+    where
+      by : (b : Bool) → is_some (if b then None else rec_at p.catalog n) ≡ true → IsSome (rec_at p.catalog n)
+      by true none = absurd cc
+      by false there = there
+
   held_dropped : AreHeld dropped t
   held_dropped = held_files p t (without_slot p.catalog slot) (given p.taken rec.blocks) p.ext dropped_marks held (record {
     slots = refl;
@@ -83,7 +90,7 @@ module _ (p : Kept) (t : Taxonomy) (held : AreHeld p t) (slot : ℕ) (rec : File
     blocks = length-given p.taken rec.blocks;
     rows = refl;
     files = refl;
-    named = held.sound.named;
+    named = λ n s there has_it. held.sound.named n s (was_there s there) has_it;
     settled = held.sound.settled;
     as_many = length-set (set p.marks (block_of p.limits Files slot) true) (bitmap_start p.limits) true ∙ length-set p.marks (block_of p.limits Files slot) true;
   })

@@ -1,21 +1,25 @@
 -- What sound parts spell is in the ranges of its layouts.
-use Rattle.std.proofs.Common.{◌≡◌, ℕ, ◌-◌, ◌^◌, ◌<◌, ◌≤◌, ◌&&◌, nat_lt, Bool, true, false, List, [], length, Option, Some, None, is_some, unwrap_or, slice_get, IsSome, refl, sym, ap, ◌∙◌, arith}
-use Rattle.std.specs.List.{list_all}
-use Rattle.std.proofs.lemmas.Bool.{and_parts, and_from, lt-ltb}
+use Rattle.std.proofs.Common.{◌≡◌, ◌⊎◌, inl, inr, ℕ, ◌-◌, ◌^◌, ◌<◌, ◌≤◌, ◌&&◌, nat_lt, Bool, true, false, List, [], length, Option, Some, None, is_some, unwrap_or, slice_get, IsSome, refl, sym, ap, ◌∙◌, subst, arith}
+use Rattle.std.specs.List.{list_all, All}
+use Rattle.std.proofs.lemmas.Bool.{and_parts, and_from, lt-ltb, both_ways, cases_lt, false_from_ne_true}
+use Rattle.std.proofs.lemmas.List.{get_or_past}
 use Rattle.std.proofs.lemmas.Option.{unwrap_or-slice_get, get_or_from_slice_get}
+use Rattle.lis_graph.proofs.Members.{Among, contains_from_among}
 use Rattle.lis_dict.specs.Dict.{word_of}
 use Rattle.lis_dict.proofs.Laws.{number_from_word, number_below}
 use Rattle.lis_catalog.specs.Catalog.{Catalog, IsCatalog, rec_at}
-use Rattle.lis_ext.specs.Ext.{Ext, has}
+use Rattle.lis_content.specs.Content.{has_number}
+use Rattle.lis_ext.specs.Ext.{Ext, has, set_of}
 use Rattle.lis_taxonomy.specs.Taxonomy.{Taxonomy}
 use Rattle.lis_fields.specs.Records.{FileRecord}
 use Rattle.lis_fields.specs.declared.slots.AxiomSlot.{AxiomSlot}
 use Rattle.lis_fields.specs.declared.slots.AxiomSlot.TheVariants.{Free as FreeAxiom, Pair}
 use Rattle.lis_fields.specs.Layouts.{is_axiom, is_file, is_record}
 use Rattle.lis_kept.specs.Kept.{Kept, axiom_at, file_by, record_at}
-use Rattle.lis_kept.specs.Sound.{AreSound, is_sound_record}
+use Rattle.lis_kept.specs.Sound.{AreSound, is_sound_record, FreeSlotsAreEmpty}
 use Rattle.lis_kept.specs.Links.{TellsLinks, AreHeld}
 use Rattle.lis_kept.proofs.InArea.{few_properties}
+use Rattle.lis_kept.proofs.Filing.{among_from_number}
 
 pub some_word : (o : Option (List ℕ)) → IsSome o → (w : List ℕ) × (o ≡ Some w)
 some_word None h = absurd cc
@@ -54,13 +58,33 @@ module _ (k : Kept) (sound : AreSound k) where
           let most = and_parts (is_record rec && list_all (λ m. is_some (word_of k.dict m)) rec.tags) (list_all (λ m. nat_lt m k.limits.blocks) rec.blocks) (sound.records n rec is) in
           (and_parts (is_record rec) (list_all (λ m. is_some (word_of k.dict m)) rec.tags) most.0).0
 
-  -- no description has a number past the last one
-  pub none_past : (n slot : ℕ) → k.limits.props ≤ n → has k.ext n slot ≡ false
-  none_past n slot past = by (has k.ext n slot) refl
+  -- where free slots are empty, each number of any slot has a word
+  pub named_all : FreeSlotsAreEmpty k → (n slot : ℕ) → has k.ext n slot ≡ true → IsSome (word_of k.dict n)
+  named_all free n slot has_it = by (rec_at k.catalog slot) refl
     where
-      by : (b : Bool) → has k.ext n slot ≡ b → b ≡ false
-      by true is = absurd (let lt = named_below n (sound.named n slot is) in omega (arith, lt, past))
-      by false is = refl
+      by : (o : Option FileRecord) → rec_at k.catalog slot ≡ o → IsSome (word_of k.dict n)
+      by None none = absurd (both_ways (has k.ext n slot) (free slot none n) has_it)
+      by (Some rec) there = sound.named n slot (ap is_some there) has_it
+
+-- ---- rows
+-- what rows tell of each set: its numbers are below the limit
+abbrev pub AreWithin : Ext → Type 0
+AreWithin e = (slot : ℕ) → slot < length e.sets → All (λ p. p < e.props) (set_of e slot)
+
+-- what is asked of each place of a list, of each number
+pub each_below : (props : ℕ) (numbers : List ℕ) → All (λ p. p < props) numbers → (p : ℕ) → Among numbers p → p < props
+each_below props numbers all p m = let found = contains_from_among numbers p m in subst (λ k. k < props) found.2 (all found.0 p found.1)
+
+-- so no slot has a number past the last one
+pub had_within : (e : Ext) → AreWithin e → (n slot : ℕ) → has e n slot ≡ true → n < e.props
+had_within e within n slot has_it = by (cases_lt slot (length e.sets))
+  where
+    by : (slot < length e.sets) ⊎ (length e.sets ≤ slot) → n < e.props
+    by (inl lt) = each_below e.props (set_of e slot) (within slot lt) n (among_from_number (set_of e slot) n has_it)
+    by (inr past) = let none : has e n slot ≡ false = ap (λ ns. has_number ns n) (get_or_past e.sets slot [] past) in absurd (both_ways (has e n slot) none has_it)
+
+pub none_past : (e : Ext) → AreWithin e → (n slot : ℕ) → e.props ≤ n → has e n slot ≡ false
+none_past e within n slot past = false_from_ne_true (has e n slot) (λ has_it. let below = had_within e within n slot has_it in omega (arith, below, past))
 
 -- ---- parts of which words, axioms and the like stay
 pub links_stay : (p : Kept) (catalog : Catalog) (taken : List Bool) (ext : Ext) (marks : List Bool) (t : Taxonomy) → TellsLinks p t
@@ -75,7 +99,7 @@ pub record FilesHold (p : Kept) (catalog : Catalog) (taken : List Bool) (ext : E
   pub blocks : length taken ≡ length p.taken
   pub rows : ext.props ≡ p.ext.props
   pub files : length ext.sets ≡ length p.ext.sets
-  pub named : (n slot : ℕ) → has ext n slot ≡ true → IsSome (word_of p.dict n)
+  pub named : (n slot : ℕ) → IsSome (rec_at catalog slot) → has ext n slot ≡ true → IsSome (word_of p.dict n)
   pub settled : ext.marks ≡ []
   pub as_many : length marks ≡ length p.marks
 

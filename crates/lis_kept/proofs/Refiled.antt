@@ -1,7 +1,6 @@
 -- A record that comes into a free slot with the data blocks that it names.
-use Rattle.std.proofs.Common.{◌≡◌, refl, sym, ap, ◌∙◌, subst, inl, inr, ℕ, ◌+◌, ◌<◌, ◌≤◌, ◌==◌, eqb, if◌then◌else◌, ◌&&◌, ◌||◌, nat_lt, nat_le, not, Bool, true, false, List, [], ◌∷◌, length, drop, get_or, set, Some, None, is_some, arith, add-one, drop-cons, length-set, get_or-set_other}
+use Rattle.std.proofs.Common.{◌≡◌, refl, sym, ap, ◌∙◌, subst, inl, inr, ℕ, ◌+◌, ◌<◌, ◌==◌, eqb, if◌then◌else◌, ◌&&◌, nat_lt, nat_le, not, Bool, true, false, List, [], ◌∷◌, length, drop, get_or, set, Some, None, is_some, IsSome, arith, add-one, drop-cons, length-set, get_or-set_other}
 use Rattle.std.specs.List.{list_all, AllByRecursion, IsDistinct}
-use Rattle.std.specs.BTreeSet.{insert_key}
 use Rattle.std.proofs.lemmas.Bool.{and_parts, and_from, or_parts, both_ways, ne_eqb, eqb-true, ltb-true}
 use Rattle.std.proofs.lemmas.List.{length-map}
 use Rattle.std.proofs.lemmas.Map.Steps.{length-le_from_distinct_below}
@@ -13,6 +12,7 @@ use Rattle.lis_content.proofs.Numbers.{length-marked, not_true}
 use Rattle.lis_catalog.specs.Catalog.{Catalog, Filed, IsCatalog, filed_cmp, rec_at, slot_of, slots, with_filed}
 use Rattle.lis_catalog.proofs.Laws.{rec_at-with_filed}
 use Rattle.lis_dict.specs.Dict.{Dict, word_of}
+use Rattle.lis_ext.specs.Ext.{has}
 use Rattle.lis_fields.specs.Records.{FileRecord}
 use Rattle.lis_fields.specs.Layouts.{file_bytes, is_record, are_tags, are_short, are_blocks, are_distinct as slots_distinct}
 use Rattle.lis_taxonomy.specs.Taxonomy.{Taxonomy}
@@ -25,9 +25,8 @@ use Rattle.lis_kept.specs.Kept.{Kept, file_by}
 use Rattle.lis_kept.specs.Areas.{Area, slots_of, block_of, spelled}
 use Rattle.lis_kept.specs.Areas.Area.{Properties, Axioms, Files, Rows, Bitmap}
 use Rattle.lis_kept.specs.Telling.{state_of, file_told, words_told, bytes_told}
-use Rattle.lis_kept.specs.Sound.{is_sound_record, AreSound}
+use Rattle.lis_kept.specs.Sound.{is_sound_record}
 use Rattle.lis_kept.specs.Links.{AreHeld}
-use Rattle.lis_kept.specs.Changes.{Marks}
 use Rattle.lis_kept.specs.Refiling.{Refiles}
 use Rattle.lis_kept.proofs.Formed.{held_files}
 use Rattle.lis_kept.proofs.Marking.{blocks_marked}
@@ -127,6 +126,7 @@ pub record MayRefile (p : Kept) (slot : ℕ) (rec : FileRecord) : Type 0 where
   pub free : rec_at p.catalog slot ≡ None
   pub absent : slot_of p.catalog rec.name ≡ None
   pub sound : is_sound_record p.dict p.limits.blocks rec ≡ true
+  pub described : (n : ℕ) → has p.ext n slot ≡ true → IsSome (word_of p.dict n)
 
 module _ (p : Kept) (t : Taxonomy) (held : AreHeld p t) (slot : ℕ) (rec : FileRecord) (may : MayRefile p slot rec) where
   abbrev refiled_marks : List Bool
@@ -145,6 +145,13 @@ module _ (p : Kept) (t : Taxonomy) (held : AreHeld p t) (slot : ℕ) (rec : File
   below_files : slot < p.catalog.files
   below_files = omega (arith, may.below, held.sound.slots)
 
+  named_then : (n s : ℕ) → IsSome (rec_at (with_filed p.catalog slot rec) s) → has p.ext n s ≡ true → IsSome (word_of p.dict n)
+  named_then n s there has_it = by (slot == s) refl (sym (ap is_some (rec_at-with_filed p.catalog slot rec s may.absent may.free)) ∙ there)
+    where
+      by : (b : Bool) → (slot == s) ≡ b → is_some (if b then Some rec else rec_at p.catalog s) ≡ true → IsSome (word_of p.dict n)
+      by true same some = may.described n (ap (has p.ext n) (eqb-true slot s same) ∙ has_it)
+      by false other some = held.sound.named n s some has_it
+
   held_refiled : AreHeld refiled t
   held_refiled = held_files p t (with_filed p.catalog slot rec) (marked p.taken rec.blocks) p.ext refiled_marks held (record {
     slots = refl;
@@ -154,7 +161,7 @@ module _ (p : Kept) (t : Taxonomy) (held : AreHeld p t) (slot : ℕ) (rec : File
     blocks = length-marked p.taken rec.blocks;
     rows = refl;
     files = refl;
-    named = held.sound.named;
+    named = λ n s there has_it. named_then n s there has_it;
     settled = held.sound.settled;
     as_many = length-set (set p.marks (block_of p.limits Files slot) true) (bitmap_start p.limits) true ∙ length-set p.marks (block_of p.limits Files slot) true;
   })

@@ -8,6 +8,7 @@ use Rattle.lis_blockmap.specs.Bitmap.{is_taken}
 use Rattle.lis_content.specs.Content.{marked}
 use Rattle.lis_content.proofs.Numbers.{length-marked}
 use Rattle.lis_dict.specs.Dict.{word_of}
+use Rattle.lis_catalog.specs.Catalog.{rec_at}
 use Rattle.lis_ext.specs.Ext.{Ext, has, set_of, with_marks, is_lacked, widened}
 use Rattle.lis_ext.specs.Numbers.{has_number, numbers_where}
 use Rattle.lis_taxonomy.specs.Taxonomy.{Taxonomy}
@@ -19,7 +20,7 @@ use Rattle.lis_kept.specs.Changes.{Marks}
 use Rattle.lis_kept.specs.Widening.{lacked_numbers, Widens}
 use Rattle.lis_kept.proofs.InArea.{rows_counted, among_slots}
 use Rattle.lis_kept.proofs.RowBytes.{row_bytes_same}
-use Rattle.lis_kept.proofs.Formed.{held_files, none_past}
+use Rattle.lis_kept.proofs.Formed.{held_files, AreWithin, none_past}
 use Rattle.lis_kept.proofs.Filing.{same_tests, among_from_number, number_from_among}
 use Rattle.lis_kept.proofs.Marking.{AreBelow, blocks_marked}
 use Rattle.lis_kept.proofs.Described.{among_where, where_among}
@@ -58,7 +59,7 @@ pub marks_lacked : (e : Ext) (left : ℕ) (ups : ℕ → Bool) → e.marks ≡ [
 marks_lacked e left ups none = ap (λ ms. numbers_where e.props (λ n. has_number ms n || (ups n && is_lacked e left n))) none
 
 module _ (p : Kept) (t : Taxonomy) (held : AreHeld p t) (left : ℕ) (ups : ℕ → Bool) (e : Ext) (marks : List Bool)
-    (named : (n : ℕ) → n < p.limits.props → ups n ≡ true → IsSome (word_of p.dict n))
+    (within : AreWithin p.ext) (named : (n : ℕ) → n < p.limits.props → ups n ≡ true → IsSome (word_of p.dict n))
     (props : e.props ≡ p.ext.props) (sets : e.sets ≡ widened p.ext left ups) (settled : e.marks ≡ [])
     (edits : e.edits ≤ p.ext.edits + length (lacked_numbers p.ext left ups))
     (are_marks : marks ≡ marked p.marks (map (block_of p.limits Rows) (lacked_numbers p.ext left ups))) where
@@ -135,16 +136,19 @@ module _ (p : Kept) (t : Taxonomy) (held : AreHeld p t) (left : ℕ) (ups : ℕ 
       has_already lt lefts up =
           true_from_ne_false (has p.ext n s) (λ lacks. not_touched lt (and_from (ups n) (is_lacked p.ext left n) up (lacked_there p.ext left n s lefts lacks)))
 
+      none_before : p.limits.props ≤ n → has p.ext n s ≡ false
+      none_before past = none_past p.ext within n s (omega (arith, past, held.sound.rows))
+
       none : p.limits.props ≤ n → has e n s ≡ true → ⊥
       none past has_it = side (had_then n s has_it)
         where
           side : (has p.ext n s ≡ true) ⊎ ((n < p.limits.props) × (ups n ≡ true)) → ⊥
-          side (inl old) = both_ways (has p.ext n s) (none_past p held.sound n s past) old
+          side (inl old) = both_ways (has p.ext n s) (none_before past) old
           side (inr new) = omega (arith, new.0, past)
 
       by : (n < p.limits.props) ⊎ (p.limits.props ≤ n) → has e n s ≡ has p.ext n s
       by (inl lt) = row_then n s lt ∙ alike (has p.ext n s) (has p.ext left s) (ups n) (has_already lt)
-      by (inr past) = false_from_ne_true (has e n s) (none past) ∙ sym (none_past p held.sound n s past)
+      by (inr past) = false_from_ne_true (has e n s) (none past) ∙ sym (none_before past)
 
   as_many : length e.sets ≡ length p.ext.sets
   as_many = ap length sets ∙ length-map p.ext.sets wider
@@ -161,9 +165,9 @@ module _ (p : Kept) (t : Taxonomy) (held : AreHeld p t) (left : ℕ) (ups : ℕ 
       let M : ℕ → Type 0 = λ n. Marks n p wide_parts in
       subst M (length-map touched (block_of p.limits Rows)) (blocks_marked p wide_parts (map (block_of p.limits Rows) touched) refl are_marks homes_below spelled_before)
 
-  within : (block : ℕ) → is_marked wide_parts block ≡ true
+  marked_within : (block : ℕ) → is_marked wide_parts block ≡ true
       → (is_marked p block ≡ true) ⊎ ((n : ℕ) × (n < p.limits.props) × ((ups n && is_lacked p.ext left n) ≡ true) × (block ≡ block_of p.limits Rows n))
-  within block is = by (marked_rows p wide_parts p.ext.props (λ n. ups n && is_lacked p.ext left n) are_marks block is)
+  marked_within block is = by (marked_rows p wide_parts p.ext.props (λ n. ups n && is_lacked p.ext left n) are_marks block is)
     where
       by : (is_marked p block ≡ true) ⊎ ((n : ℕ) × (n < p.ext.props) × ((ups n && is_lacked p.ext left n) ≡ true) × (block ≡ block_of p.limits Rows n))
           → (is_marked p block ≡ true) ⊎ ((n : ℕ) × (n < p.limits.props) × ((ups n && is_lacked p.ext left n) ≡ true) × (block ≡ block_of p.limits Rows n))
@@ -178,14 +182,14 @@ module _ (p : Kept) (t : Taxonomy) (held : AreHeld p t) (left : ℕ) (ups : ℕ 
     blocks = refl;
     rows = props;
     files = as_many;
-    named = λ n s has_it. worded n s (had_then n s has_it);
+    named = λ n s there has_it. worded n s there (had_then n s has_it);
     settled = settled;
     as_many = ap length are_marks ∙ length-marked p.marks (map (block_of p.limits Rows) touched);
   })
     where
-      worded : (n s : ℕ) → (has p.ext n s ≡ true) ⊎ ((n < p.limits.props) × (ups n ≡ true)) → IsSome (word_of p.dict n)
-      worded n s (inl old) = held.sound.named n s old
-      worded n s (inr new) = named n new.0 new.1
+      worded : (n s : ℕ) → IsSome (rec_at p.catalog s) → (has p.ext n s ≡ true) ⊎ ((n < p.limits.props) × (ups n ≡ true)) → IsSome (word_of p.dict n)
+      worded n s there (inl old) = held.sound.named n s there old
+      worded n s there (inr new) = named n new.0 new.1
 
   pub wide_made : AreHeld wide_parts t × Widens left ups p wide_parts
   wide_made = (
@@ -198,7 +202,7 @@ module _ (p : Kept) (t : Taxonomy) (held : AreHeld p t) (left : ℕ) (ups : ℕ 
       settled = settled;
       edits = edits;
       marks = marks_owed;
-      within = within;
+      within = marked_within;
     },
   )
 
@@ -207,12 +211,12 @@ abbrev pub AreWidened : Kept → Kept → Taxonomy → ℕ → (ℕ → Bool) �
 AreWidened k p t left ups e marks = AreHeld (record p { ext = e; marks = marks }) t × Widens left ups k (record p { ext = e; marks = marks })
 
 -- the same, over what memory kept
-pub widens : (k p : Kept) (t : Taxonomy) (left : ℕ) (ups : ℕ → Bool) (e : Ext) (marks : List Bool) → p ≡ k → AreHeld p t
+pub widens : (k p : Kept) (t : Taxonomy) (left : ℕ) (ups : ℕ → Bool) (e : Ext) (marks : List Bool) → p ≡ k → AreHeld p t → AreWithin p.ext
     → ((n : ℕ) → n < k.limits.props → ups n ≡ true → IsSome (word_of k.dict n))
     → e.props ≡ p.ext.props → e.sets ≡ widened p.ext left ups → e.marks ≡ [] → e.edits ≤ p.ext.edits + length (lacked_numbers p.ext left ups)
     → marks ≡ marked p.marks (map (block_of p.limits Rows) (lacked_numbers p.ext left ups))
     → AreWidened k p t left ups e marks
-widens k p t left ups e marks is held named props sets settled edits are_marks =
+widens k p t left ups e marks is held within named props sets settled edits are_marks =
     let P : Kept → Type 0 = λ q. ((n : ℕ) → n < q.limits.props → ups n ≡ true → IsSome (word_of q.dict n))
     → AreWidened q p t left ups e marks in
-    subst P is (λ worded. wide_made p t held left ups e marks worded props sets settled edits are_marks) named
+    subst P is (λ worded. wide_made p t held left ups e marks within worded props sets settled edits are_marks) named

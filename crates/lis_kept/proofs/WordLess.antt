@@ -153,8 +153,8 @@ module _ (p : Kept) (t : Taxonomy) (held : AreHeld p t) {word : List ℕ} {numbe
     blocks = held.sound.blocks;
     rows = held.sound.rows;
     files = held.sound.files;
-    named = λ n slot has_it.
-        some_stays n (λ same. both_ways (is_had p.ext number) not_had (subst (λ m. is_had p.ext m ≡ true) same (had_from p.ext n slot has_it))) (held.sound.named n slot has_it);
+    named = λ n slot file has_it.
+        some_stays n (λ same. both_ways (is_had p.ext number) not_had (subst (λ m. is_had p.ext m ≡ true) same (had_from p.ext n slot has_it))) (held.sound.named n slot file has_it);
     settled = held.sound.settled;
     marks = omega (arith, length-set p.marks (block_of p.limits Properties number) true, held.sound.marks);
   }

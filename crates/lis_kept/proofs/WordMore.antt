@@ -156,7 +156,7 @@ module _ (p : Kept) (t : Taxonomy) (held : AreHeld p t) {word : List ℕ} {numbe
     blocks = held.sound.blocks;
     rows = held.sound.rows;
     files = held.sound.files;
-    named = λ n slot has_it. some_stays n (held.sound.named n slot has_it);
+    named = λ n slot file has_it. some_stays n (held.sound.named n slot file has_it);
     settled = held.sound.settled;
     marks = omega (arith, length-set p.marks (block_of p.limits Properties number) true, held.sound.marks);
   }

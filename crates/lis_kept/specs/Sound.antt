@@ -44,8 +44,8 @@ pub record AreSound (k : Kept) : Type 0 where
   pub blocks : length k.taken ≡ k.limits.blocks
   pub rows : k.ext.props ≡ k.limits.props
   pub files : length k.ext.sets ≡ k.limits.files
-  -- each number of a description has a word
-  pub named : (n slot : ℕ) → has k.ext n slot ≡ true → IsSome (word_of k.dict n)
+  -- each number of a file's description has a word
+  pub named : (n slot : ℕ) → IsSome (rec_at k.catalog slot) → has k.ext n slot ≡ true → IsSome (word_of k.dict n)
   -- rows that changed are marked by their blocks alone
   pub settled : k.ext.marks ≡ []
   pub marks : data_start k.limits ≤ length k.marks

@@ -14,7 +14,7 @@ ghost use Rattle.lis_model.specs.Image.{bitmap_start, data_start, image_blocks};
 ghost use Rattle.lis_model.specs.Ranges.{are_in_range};
 ghost use Rattle.lis_kept.specs.Areas.{block_of};
 ghost use Rattle.lis_kept.specs.Areas.Area.{Files, Rows};
-ghost use Rattle.lis_kept.specs.Sound.{BlocksAreTaken};
+ghost use Rattle.lis_kept.specs.Sound.{BlocksAreTaken, FreeSlotsAreEmpty};
 ghost use Rattle.lis_kept.specs.Changes.{Describes, Drops, Adds};
 
 mod refiling;
@@ -74,6 +74,8 @@ impl Parts {
         requires named { IsTrue (list_all (λ n. is_some (word_of self.old.dict n)) new.now) }
         ensures { Describes slot new.now self.old self.new }
     {
+        // Only its rows tell that each file's numbers are below the limit.
+        let _rows = self.ext.rows();
         self.ext.set_file(u32::from(slot), old, new);
         mark_rows(&self.ext, &self.limits, &mut self.marks);
         self.ext.settle();
@@ -110,6 +112,7 @@ impl Parts {
         requires short { length bytes.now ≤ 65536 }
         requires enough { blocks_needed (length bytes.now) ≤ free_count self.old.taken }
         requires taken { BlocksAreTaken self.old }
+        requires empty { FreeSlotsAreEmpty self.old }
         requires image { journal.old.blocks ≡ image_blocks self.old.limits }
         requires unbroken { journal.old.is_broken ≡ false }
         requires unplaced { journal.old.placed ≡ [] }

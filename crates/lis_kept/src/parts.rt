@@ -143,6 +143,8 @@ impl Parts {
             write_files(&self.catalog, first, block);
             return;
         }
+        // Only its rows tell that each file's numbers are below the limit.
+        let _rows = self.ext.rows();
         let width = self.limits.files / 8;
         let count = BLOCK_LEN as u32 / width;
         write_rows(

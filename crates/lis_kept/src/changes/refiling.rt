@@ -1,11 +1,12 @@
 //! Files that come into a slot that is given.
 
-ghost use Rattle.std.specs.Prelude.{◌≡◌, ℕ, ◌+◌, ◌*◌, ◌<◌, ◌≤◌, false, is_some, None, [], length, IsTrue};
+ghost use Rattle.std.specs.Prelude.{◌≡◌, ℕ, ◌+◌, ◌*◌, ◌<◌, ◌≤◌, false, is_some, None, [], length, true, IsTrue, IsSome};
 ghost use Rattle.std.specs.List.{list_all};
 ghost use Rattle.lis_content.specs.Content.{marked, are_free, are_distinct};
 ghost use Rattle.lis_blockmap.specs.Bitmap.{free_count};
 ghost use Rattle.lis_dict.specs.Dict.{word_of};
 ghost use Rattle.lis_catalog.specs.Catalog.{rec_at, slot_of};
+ghost use Rattle.lis_ext.specs.Ext.{has};
 ghost use Rattle.lis_fields.specs.Layouts.{are_tags};
 ghost use Rattle.lis_model.specs.Image.{image_blocks};
 ghost use Rattle.lis_model.specs.State.{blocks_needed};
@@ -41,6 +42,7 @@ impl Parts {
     pub fn refile(&mut self, slot: u16, rec: FileRec)
         requires below { slot < self.old.limits.files }
         requires free { rec_at self.old.catalog slot ≡ None }
+        requires described { (n : ℕ) → has self.old.ext n slot ≡ true → IsSome (word_of self.old.dict n) }
         requires new { slot_of self.old.catalog rec.name ≡ None }
         requires sound { IsTrue (is_sound_record self.old.dict self.old.limits.blocks rec) }
         requires blocks { IsTrue (are_free self.old.taken rec.blocks) }
@@ -63,6 +65,7 @@ impl Parts {
     )
         requires below { slot < self.old.limits.files }
         requires free { rec_at self.old.catalog slot ≡ None }
+        requires described { (n : ℕ) → has self.old.ext n slot ≡ true → IsSome (word_of self.old.dict n) }
         requires new { slot_of self.old.catalog name.now ≡ None }
         requires tagged { IsTrue (are_tags tags.items) }
         requires worded { IsTrue (list_all (λ n. is_some (word_of self.old.dict n)) tags.items) }

@@ -18,6 +18,8 @@ impl Parts {
         requires named { (n : ℕ) → n < self.old.limits.props → get ups.now row n ≡ true → IsSome (word_of self.old.dict n) }
         ensures { Widens left (get ups.now row) self.old self.new }
     {
+        // Only its rows tell that each file's numbers are below the limit.
+        let _rows = self.ext.rows();
         self.ext.add_up(u32::from(left), ups, row);
         mark_rows(&self.ext, &self.limits, &mut self.marks);
         self.ext.settle();

@@ -1,4 +1,4 @@
-use Rattle.std.proofs.Common.{◌∙◌, ◌||◌, false, [], IsSome, slice_index_or, set, sym, ap, subst, arith}
+use Rattle.std.proofs.Common.{◌∙◌, ◌||◌, false, IsSome, slice_index_or, sym, ap, subst, arith}
 use Rattle.std.specs.List.{list_any}
 use Rattle.std.proofs.lemmas.Bool.{both_ways}
 use Rattle.lis_dict.specs.Dict.{word_of}

@@ -16,7 +16,7 @@ pub invariant_of-self : goal.invariant_of-self
 invariant_of-self c =
     let v = the_view c.self.inside in
     let M : Kept → Type 0 = λ k. MayRefile k c.args.slot c.args.rec in
-    let may = subst M (sym c.self.view_is) (record { below = c.requires.below; free = c.requires.free; absent = c.requires.new; sound = c.requires.sound }) in
+    let may = subst M (sym c.self.view_is) (record { below = c.requires.below; free = c.requires.free; absent = c.requires.new; sound = c.requires.sound; described = c.requires.described }) in
     (refiles c.args.self.now v c.self.inside.taxonomy c.args.slot c.args.rec c.place.new.self c.take_all.new.map c.mark_file.new.marks c.self.view_is c.self.invariant may
     c.place.ensures (c.take_all.ensures ∙ ap (marked c.self.inside.map) (c.as_slice.ensures.value ∙ ap (λ (r : FileRecord). r.blocks) c.rec.view_is)) c.mark_file.ensures).0
 
@@ -24,6 +24,6 @@ pub returns : goal.returns
 returns c =
     let v = the_view c.self.inside in
     let M : Kept → Type 0 = λ k. MayRefile k c.args.slot c.args.rec in
-    let may = subst M (sym c.self.view_is) (record { below = c.requires.below; free = c.requires.free; absent = c.requires.new; sound = c.requires.sound }) in
+    let may = subst M (sym c.self.view_is) (record { below = c.requires.below; free = c.requires.free; absent = c.requires.new; sound = c.requires.sound; described = c.requires.described }) in
     (refiles c.args.self.now v c.self.inside.taxonomy c.args.slot c.args.rec c.place.new.self c.take_all.new.map c.mark_file.new.marks c.self.view_is c.self.invariant may
     c.place.ensures (c.take_all.ensures ∙ ap (marked c.self.inside.map) (c.as_slice.ensures.value ∙ ap (λ (r : FileRecord). r.blocks) c.rec.view_is)) c.mark_file.ensures).1

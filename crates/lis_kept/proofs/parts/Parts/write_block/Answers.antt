@@ -38,7 +38,8 @@ returns-then-n-rows c =
     (omega (arith, c.if-n-files.false, c.files_start-files.ensures)) (omega (arith, c.if-n-rows.true, c.rows_start-rows.ensures)) c.write_files.ensures)
 
 pub write_rows-requires-clause-past : goal.write_rows-requires-clause-past
-write_rows-requires-clause-past c = none_past (the_view c.self.inside) c.self.invariant.sound
+write_rows-requires-clause-past c = λ n slot past.
+    none_past c.self.inside.ext c.rows-rows.ensures.in_range n slot (omega (arith, past, c.self.invariant.sound.rows))
 
 pub returns : goal.returns
 returns c =

@@ -1,4 +1,4 @@
-use Rattle.std.proofs.Common.{◌≡◌, ◌<◌, ◌∙◌, ℕ, sym, ap, subst, arith}
+use Rattle.std.proofs.Common.{◌<◌, ◌∙◌, sym, ap, subst, arith}
 use Rattle.lis_bits.specs.Rows.{NoneTrue}
 use Rattle.lis_kept.specs.Telling.{is_had}
 use Rattle.lis_kept.proofs.Without.{left_out, none_had, first_had, next_had}
