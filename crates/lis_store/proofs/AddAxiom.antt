@@ -25,7 +25,7 @@ module _ (old : Stored) (q : Kept) (left right : List ℕ) (sound : IsSound old)
 
   pub axiom_marks : length old.journal.staged + marked_count q ≤ 531
   axiom_marks =
-      let few = few_marked old.parts q left right relates sound.parts may (none_marked old.parts (sound.clean unbroken)) in
+      let few = few_marked old.parts q left right relates sound.parts may sound.free (none_marked old.parts (sound.clean unbroken)) in
       omega (arith, few, ap (λ (es : List Entry). length es) (sound.staged unbroken))
 
   pub axiom_changes : {T : Type 0} (new : Stored) (before after : Meaning) (result : Result T Change) → Saves q old.journal new before after result

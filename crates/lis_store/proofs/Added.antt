@@ -33,7 +33,7 @@ use Rattle.lis_kept.specs.Sound.{AreSound, FreeSlotsAreEmpty, BlocksAreTaken}
 use Rattle.lis_kept.specs.Forgetting.{KeepsInUse}
 use Rattle.lis_kept.specs.Telling.{declared_of, axioms_of, is_left_of, is_left_head_of, is_head_by, is_had, is_named_left, is_used, AreUsed}
 use Rattle.lis_kept.proofs.Filing.{among_from_number}
-use Rattle.lis_kept.proofs.Formed.{some_word}
+use Rattle.lis_kept.proofs.Formed.{some_word, named_all}
 use Rattle.lis_kept.proofs.Known.{some_number, one_number, word_known, known_word}
 use Rattle.lis_kept.proofs.OwnLinks.{own_link_is}
 use Rattle.lis_store.specs.Stored.{AreClosed, DescriptionsAreShort, BlocksAreApart, IsSound}
@@ -286,8 +286,10 @@ module _ (p q : Kept) (name : List ℕ) (assigned : List (List ℕ)) (bytes : Li
         let there = flat_map_among (up D A) (learnt_words file) source.0 to.0 source.1 (up_trans D A source.0 word.0 to.0 source.2 step) in
         of_one described (word_of dict b) to.0 to.1 (subst (λ ws. Among ws to.0) entailed_end (set_of_among (flat_map (up D A) (learnt_words file)) to.0 there))
 
-    pub closed_then : AreClosed p → AreClosed end
-    closed_then closed at a b h linked = by (cases_eq at slot)
+    -- of other slots: their numbers have words, and they have what those are linked to
+    pub closed_then : ((n at : ℕ) → (at ≡ slot → ⊥) → has p.ext n at ≡ true → IsSome (word_of p.dict n))
+        → ((at a b : ℕ) → (at ≡ slot → ⊥) → has p.ext a at ≡ true → is_linked p a b ≡ true → has p.ext b at ≡ true) → AreClosed end
+    closed_then named closed at a b h linked = by (cases_eq at slot)
       where
         by : (at ≡ slot) ⊎ (at ≡ slot → ⊥) → has end.ext b at ≡ true
         by (inl same) =
@@ -295,7 +297,7 @@ module _ (p q : Kept) (name : List ℕ) (assigned : List (List ℕ)) (bytes : Li
             ap (has end.ext b) same ∙ (has_here b ∙ link_described a b here linked)
         by (inr differ) =
             let was : has p.ext a at ≡ true = sym (has_other a at differ) ∙ h in
-            has_other b at differ ∙ closed at a b was (link_back a b (sound.named a at was) linked)
+            has_other b at differ ∙ closed at a b differ was (link_back a b (named a at differ was) linked)
 
     pub short_then : DescriptionsAreShort p → DescriptionsAreShort end
     short_then short at = by (cases_eq at slot)
@@ -360,7 +362,8 @@ module _ (p q : Kept) (old new : Held) (name : List ℕ) (assigned : List (List 
     range = was.range;
     free = free_then p q name assigned bytes sound (may_come p (new_file name assigned bytes) admitted) comes after (λ at differ. was.free at);
     pairs = was.pairs;
-    closed = closed_then p q name assigned bytes sound (may_come p (new_file name assigned bytes) admitted) comes after was.closed;
+    closed = closed_then p q name assigned bytes sound (may_come p (new_file name assigned bytes) admitted) comes after
+        (λ n at differ. named_all p sound was.free n at) (λ at a b differ. was.closed at a b);
     short = short_then p q name assigned bytes sound (may_come p (new_file name assigned bytes) admitted) comes after was.short;
     taken = taken_then p q name assigned bytes sound (may_come p (new_file name assigned bytes) admitted) comes was.taken;
     apart = apart_then p q name assigned bytes sound (may_come p (new_file name assigned bytes) admitted) comes was.taken was.apart;

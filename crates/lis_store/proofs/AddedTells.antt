@@ -164,7 +164,7 @@ module _ (p q : Kept) (old new : Held) (name : List ℕ) (assigned : List (List 
       by g (inr of) =
           let ns = numbers_at p.ext g.slot in
           ap (words_told k.dict) (set_other p q name assigned bytes sound (may_come p (new_file name assigned bytes) admitted) (comes_in (new_file name assigned bytes) p q old new puts) g.slot (old_slot g of))
-          ∙ (words_same p.dict k.dict ns (λ n has_it. word_stays p q name assigned bytes sound (may_come p (new_file name assigned bytes) admitted) (comes_in (new_file name assigned bytes) p q old new puts) n (sound.named n g.slot (number_from_among ns n has_it)))
+          ∙ (words_same p.dict k.dict ns (λ n has_it. word_stays p q name assigned bytes sound (may_come p (new_file name assigned bytes) admitted) (comes_in (new_file name assigned bytes) p q old new puts) n (sound.named n g.slot (ap is_some (filed_rec p.catalog sound.catalog g of)) (number_from_among ns n has_it)))
           ∙ (tells.described g (contains_from_among p.catalog.entries g of) ∙ ap (description s) (sym (told_old g of))))
 
   -- ---- data blocks

@@ -1,5 +1,5 @@
 -- An axiom that is gone, and descriptions without it: what holds of memory then.
-use Rattle.std.proofs.Common.{◌≡◌, ◌⊎◌, refl, sym, ap, ◌∙◌, subst, inl, inr, ℕ, ◌<◌, ◌≤◌, ◌==◌, not, ◌||◌, Bool, true, false, if◌then◌else◌, List, [], length, set, slice_get, Option, Some, None, is_some, option_to_list, arith}
+use Rattle.std.proofs.Common.{◌≡◌, ◌⊎◌, refl, sym, ap, ◌∙◌, subst, inl, inr, ℕ, ◌<◌, ◌≤◌, ◌==◌, not, ◌||◌, Bool, true, false, if◌then◌else◌, List, [], length, set, slice_get, Option, Some, None, is_some, IsSome, option_to_list, arith}
 use Rattle.std.proofs.lemmas.Bool.{and_parts, or_cases, or_left, or_right, both_ways, cases_lt, false_from_ne_true}
 use Rattle.std.proofs.lemmas.List.{get_or_past}
 use Rattle.lis_graph.proofs.Members.{Among, among_filter}
@@ -107,18 +107,18 @@ module _ (k m : Kept) (sound : AreSound k) (closed : AreClosed k) (left right : 
       by (inl some) = remaining_had k sound closed right slot n (ap (λ ns. has_number ns n) (sym some.1) ∙ had)
       by (inr same) = ap (λ ns. has_number ns n) (sym same.1) ∙ had
 
-  pub had_on : (n slot : ℕ) → has k.ext n slot ≡ true → stays k right (tags_at k slot) n ≡ true → has m.ext n slot ≡ true
-  had_on n slot had held = by (set_by slot)
+  pub had_on : (n slot : ℕ) → IsSome (word_of k.dict n) → has k.ext n slot ≡ true → stays k right (tags_at k slot) n ≡ true → has m.ext n slot ≡ true
+  had_on n slot worded had held = by (set_by slot)
     where
       by : SetCases slot → has m.ext n slot ≡ true
-      by (inl some) = ap (λ ns. has_number ns n) some.1 ∙ stays_remaining k sound closed right slot n had held
+      by (inl some) = ap (λ ns. has_number ns n) some.1 ∙ stays_remaining k sound closed right slot n worded had held
       by (inr same) = ap (λ ns. has_number ns n) same.1 ∙ had
 
-  pub lost : (n slot : ℕ) → has k.ext n slot ≡ true → has m.ext n slot ≡ false → is_entailed k right n ≡ true
-  lost n slot had none = by (set_by slot)
+  pub lost : (n slot : ℕ) → IsSome (word_of k.dict n) → has k.ext n slot ≡ true → has m.ext n slot ≡ false → is_entailed k right n ≡ true
+  lost n slot worded had none = by (set_by slot)
     where
       by : SetCases slot → is_entailed k right n ≡ true
-      by (inl some) = lost_led k sound closed right slot n had (ap (λ ns. has_number ns n) (sym some.1) ∙ none)
+      by (inl some) = lost_led k sound closed right slot n worded had (ap (λ ns. has_number ns n) (sym some.1) ∙ none)
       by (inr same) = absurd (both_ways (has m.ext n slot) none (ap (λ ns. has_number ns n) same.1 ∙ had))
 
   pub closed_less : (slot a b : ℕ) → has m.ext a slot ≡ true → is_linked k a b ≡ true → has m.ext b slot ≡ true
@@ -130,7 +130,7 @@ module _ (k m : Kept) (sound : AreSound k) (closed : AreClosed k) (left right : 
 
   pub tags_less : TagsAreHad k → TagsAreHad less
   tags_less tags slot rec is n tag =
-      had_on n slot (tags slot rec is n tag)
+      had_on n slot (sound.named n slot (ap is_some is) (tags slot rec is n tag)) (tags slot rec is n tag)
       (or_left (has_number (tags_at k slot) n) (not (is_entailed k right n)) (ap (λ o. has_number (tags_by o) n) is ∙ tag))
 
   pub short_less : DescriptionsAreShort k → DescriptionsAreShort less
@@ -162,12 +162,12 @@ module _ (k m : Kept) (sound : AreSound k) (closed : AreClosed k) (left right : 
         flag_of n l.to l.is_to
         (declared_leads (declared_of k) (axioms_of k) none_valued rights_there chain.0 l.from l.to (declared_word k sound right l.from l.is_from flagged) chain.1)
 
-    pub used_on : (n : ℕ) → is_used k n ≡ true → is_used less n ≡ true
-    used_on n used = by (used_for k n used)
+    pub used_on : (n : ℕ) → IsSome (word_of k.dict n) → is_used k n ≡ true → is_used less n ≡ true
+    used_on n worded used = by (used_for k n used)
       where
         had : (slot : ℕ) → has k.ext n slot ≡ true → (b : Bool) → has m.ext n slot ≡ b → is_used less n ≡ true
         had slot was true now = used_had less n slot now
-        had slot was false gone = used_flagged less n (led_flagged n (lost n slot was gone))
+        had slot was false gone = used_flagged less n (led_flagged n (lost n slot worded was gone))
 
         by : IsUsedFor k n → is_used less n ≡ true
         by (Flagged bit) = used_flagged less n bit
@@ -203,7 +203,7 @@ module _ (left right : ℕ) (p k m : Kept) (sound_before : AreSound p) (used : A
       by (inl either) = front (or_cases (left == n) (is_head_by (word_of p.dict left) (word_of p.dict n)) either)
       by (inr still) =
           absurd (both_ways (is_used made n) unused
-          (used_on k m sound closed left right lessens (rights_unlinked left right p k unlinks rights) (right_flagged left right p k unlinks rights) n still))
+          (used_on k m sound closed left right lessens (rights_unlinked left right p k unlinks rights) (right_flagged left right p k unlinks rights) n (ap (λ (u : Kept). is_some (word_of u.dict n)) unlinks.parts ∙ some) still))
 
   pub gone_may_forget : TagsAreHad p → AreSound m → MayForget (with_head p.dict left) m
   gone_may_forget tags sound_then =

@@ -50,7 +50,7 @@ use Rattle.lis_kept.specs.Changes.{Declares}
 use Rattle.lis_kept.specs.Under.{is_plain_by, MayStandUnder, DeclaresUnder}
 use Rattle.lis_kept.specs.Telling.{bit_of, is_declared, declared_of, words_told, axioms_of, file_told, state_of, is_head_by, Tells}
 use Rattle.lis_kept.proofs.Filing.{same_tests, among_from_number, number_from_among, filed_rec}
-use Rattle.lis_kept.proofs.Formed.{some_word}
+use Rattle.lis_kept.proofs.Formed.{some_word, named_all}
 use Rattle.lis_kept.proofs.Known.{word_among}
 use Rattle.lis_kept.proofs.OwnLinks.{own_link_is, slot_at, among_slot}
 use Rattle.lis_kept.proofs.AxiomMore.{sorted_axioms}
@@ -357,10 +357,10 @@ module _ (p q : Kept) (word : List ℕ) (rights : List ℕ) (words : List (List 
       link_back p mid word sound new declares dict a b some
       (sym (each_linked number rights mid q stands.links a b ∙ ap (λ c. (c && has_number rights b) || is_linked mid a b) other) ∙ linked)
 
-  closed_then : AreSound q → AreClosed p → AreClosed q
-  closed_then after closed =
+  closed_then : AreSound q → FreeSlotsAreEmpty p → AreClosed p → AreClosed q
+  closed_then after free closed =
       subst (λ (e : Ext). (slot a b : ℕ) → has e a slot ≡ true → is_linked q a b ≡ true → has e b slot ≡ true) (sym ext_is)
-      (λ slot a b h l. closed slot a b h (link_then (subst (λ (d : Dict). IsDict d) dict_is after.dict) a b (sound.named a slot h) l))
+      (λ slot a b h l. closed slot a b h (link_then (subst (λ (d : Dict). IsDict d) dict_is after.dict) a b (named_all p sound free a slot h) l))
 
   flagged_then : (n : ℕ) → is_taken p.declared n ≡ true → is_taken q.declared n ≡ true
   flagged_then n bit = ap (λ (k : Kept). is_taken k.declared n) mid_is ∙ flagged_stays p mid word sound new declares n bit
@@ -401,7 +401,7 @@ module _ (p q : Kept) (word : List ℕ) (rights : List ℕ) (words : List (List 
         range = subst (λ (k : Kept). IsTrue (is_super k.limits)) (sym parts_are) was.range;
         free = subst (λ (k : Kept). FreeSlotsAreEmpty k) (sym parts_are) was.free;
         pairs = under_apart p mid q sound word declares rights numbers.apart stands.links was.pairs;
-        closed = closed_then after was.closed;
+        closed = closed_then after was.free was.closed;
         short = subst (λ (k : Kept). DescriptionsAreShort k) (sym parts_are) was.short;
         taken = subst (λ (k : Kept). BlocksAreTaken k) (sym parts_are) was.taken;
         apart = subst (λ (k : Kept). BlocksAreApart k) (sym parts_are) was.apart;
@@ -441,7 +441,7 @@ module _ (p q : Kept) (word : List ℕ) (rights : List ℕ) (words : List (List 
     words_now : (f : Filed) → Among p.catalog.entries f → words_told q.dict (numbers_at q.ext f.slot) ≡ words_told p.dict (numbers_at p.ext f.slot)
     words_now f m =
         ap (λ (e : Ext). words_told q.dict (numbers_at e f.slot)) ext_is
-        ∙ words_same p.dict q.dict (numbers_at p.ext f.slot) (λ n of. stays_then n (sound.named n f.slot (number_from_among (numbers_at p.ext f.slot) n of)))
+        ∙ words_same p.dict q.dict (numbers_at p.ext f.slot) (λ n of. stays_then n (sound.named n f.slot (ap is_some (filed_rec p.catalog sound.catalog f m)) (number_from_among (numbers_at p.ext f.slot) n of)))
 
     described_then : (f : Filed) → Among p.catalog.entries f → description t (file_told q.limits q.dict at f) ≡ description s (file_told p.limits p.dict at f)
     described_then f m =

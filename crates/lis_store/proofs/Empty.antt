@@ -87,7 +87,7 @@ module _ (limits : Limits) (blocks : ℕ) where
     blocks = length-replicate limits.blocks false;
     rows = refl;
     files = length-replicate limits.files [];
-    named = λ n at is. absurd (both_ways (has parts.ext n at) (no_set n at) is);
+    named = λ n at file is. absurd (both_ways (has parts.ext n at) (no_set n at) is);
     settled = refl;
     marks = omega (arith, room, length-replicate blocks false);
   }

@@ -9,6 +9,7 @@ use Rattle.lis_graph.proofs.Members.{Among, among_filter, filter_among}
 use Rattle.lis_graph.proofs.Sets.{sorted_from_rising}
 use Rattle.lis_bits.specs.Rows.{Rows, get}
 use Rattle.lis_blockmap.specs.Bitmap.{is_taken}
+use Rattle.lis_catalog.specs.Catalog.{rec_at}
 use Rattle.lis_dict.specs.Dict.{words, word_of}
 use Rattle.lis_dict.proofs.Laws.{number_from_word}
 use Rattle.lis_ext.specs.Ext.{has}
@@ -152,11 +153,11 @@ module _ (k : Kept) (sound : AreSound k) (used : AreUsed k) (slot : ℕ) (file :
           both_false true b e f = absurd cc
           both_false false b e f = f
 
-  leaving_named : (n : ℕ) → Among numbers n → IsSome (word_of k.dict n)
-  leaving_named n m =
+  leaving_named : IsSome (rec_at k.catalog slot) → (n : ℕ) → Among numbers n → IsSome (word_of k.dict n)
+  leaving_named there n m =
       let at = among_where k.limits.props leaves n m in
-      sound.named n slot (and_parts (has k.ext n slot) (not (get row 0 n)) (and_parts (has k.ext n slot && not (get row 0 n)) (not (is_used (emptied k slot) n)) at.1).0).0
+      sound.named n slot there (and_parts (has k.ext n slot) (not (get row 0 n)) (and_parts (has k.ext n slot && not (get row 0 n)) (not (is_used (emptied k slot) n)) at.1).0).0
 
-  pub instead_counted : length (known_instead k slot file) + length numbers ≡ length all
-  instead_counted =
-      omega (arith, parted remains all, ap length remaining_is, ap length leaving_is, told_counted k sound numbers (numbers_apart k.limits.props leaves) leaving_named)
+  pub instead_counted : IsSome (rec_at k.catalog slot) → length (known_instead k slot file) + length numbers ≡ length all
+  instead_counted there =
+      omega (arith, parted remains all, ap length remaining_is, ap length leaving_is, told_counted k sound numbers (numbers_apart k.limits.props leaves) (leaving_named there))

@@ -1,5 +1,5 @@
 -- What is kept once words are learnt.
-use Rattle.std.proofs.Common.{◌≡◌, ◌⊎◌, refl, sym, ap, ap₂, ◌∙◌, subst, inl, inr, ℕ, ◌||◌, Bool, true, List, Option, Some, None, IsSome}
+use Rattle.std.proofs.Common.{◌≡◌, ◌⊎◌, refl, sym, ap, ap₂, ◌∙◌, subst, inl, inr, ℕ, ◌||◌, Bool, true, List, Option, Some, None, is_some, IsSome}
 use Rattle.std.specs.List.{list_any, Contains}
 use Rattle.std.proofs.lemmas.Bool.{and_parts, or_cases, or_left, or_right}
 use Rattle.lis_graph.proofs.Members.{Among, among_from_contains, among_from_any, any_from_among}
@@ -17,8 +17,8 @@ use Rattle.lis_kept.specs.Kept.{Kept}
 use Rattle.lis_kept.specs.Links.{is_linked, has_pair}
 use Rattle.lis_kept.specs.Sound.{AreSound, FreeSlotsAreEmpty}
 use Rattle.lis_kept.specs.Telling.{words_told, file_told, state_of, is_left_of, is_left_head_of, is_head_by, is_had, is_named_left, is_used}
-use Rattle.lis_kept.proofs.Filing.{number_from_among}
-use Rattle.lis_kept.proofs.Formed.{some_word}
+use Rattle.lis_kept.proofs.Filing.{number_from_among, filed_rec}
+use Rattle.lis_kept.proofs.Formed.{some_word, named_all}
 use Rattle.lis_kept.proofs.Known.{some_number, one_number, word_known, known_word}
 use Rattle.lis_kept.proofs.OwnLinks.{own_link_is}
 use Rattle.lis_store.specs.Stored.{AreClosed}
@@ -79,7 +79,7 @@ module _ (p q : Kept) (more : List (List ℕ)) (learns : LearnsAll more p q) (so
       let ns = numbers_at p.ext f.slot in
       let states : state_of q at ≡ s = learns.state at ∙ told in
       let here : words_told q.dict ns ≡ description (state_of q at) (file_told p.limits q.dict at f) =
-      words_same p.dict q.dict ns (λ n has_it. word_stays n (sound.named n f.slot (number_from_among ns n has_it)))
+      words_same p.dict q.dict ns (λ n has_it. word_stays n (sound.named n f.slot (ap is_some (filed_rec p.catalog sound.catalog f (among_from_contains p.catalog.entries f m))) (number_from_among ns n has_it)))
       ∙ (described f m ∙ ap₂ (λ (x : State) (file : _). description x file) (sym states) (sym (file_learnt at f (among_from_contains p.catalog.entries f m)))) in
       subst (λ (k : Kept). words_told q.dict (numbers_at k.ext f.slot) ≡ description (state_of q at) (file_told k.limits q.dict at f)) (sym learns.parts) here
 
@@ -123,8 +123,8 @@ module _ (p q : Kept) (more : List (List ℕ)) (learns : LearnsAll more p q) (so
             (heads_before (word_of p.dict a) (word_of q.dict b) refl refl (subst (λ o. is_head_by o (word_of q.dict b) ≡ true) (word_stays a some) head)))
         by (inr pair) = or_right _ (has_pair p.axioms a b) pair
 
-    pub closed_learnt : AreClosed p → AreClosed q
-    closed_learnt closed slot a b h linked =
+    pub closed_learnt : FreeSlotsAreEmpty p → AreClosed p → AreClosed q
+    closed_learnt free closed slot a b h linked =
         let ext = ap (λ (k : Kept). k.ext) learns.parts in
         let was = ap (λ e. number_has e a slot) (sym ext) ∙ h in
-        ap (λ e. number_has e b slot) ext ∙ closed slot a b was (link_before a b (sound.named a slot was) linked)
+        ap (λ e. number_has e b slot) ext ∙ closed slot a b was (link_before a b (named_all p sound free a slot was) linked)

@@ -66,6 +66,7 @@ pub mod ReplacingIn
 pub mod ReplacedTells
 pub mod ReplacedMarks
 pub mod ReplaceFile
+pub mod FileRead
 pub mod InsteadKnown
 pub mod InsteadMeasured
 pub mod InsteadGiven

@@ -2,12 +2,12 @@
 use Rattle.std.proofs.Common.{◌≡◌, ℕ, ◌<◌, Bool, nat_eq, List, Decides, refl, sym, subst, ◌∙◌, eq-eqb}
 use Rattle.std.specs.Ordering.{nat_cmp}
 use Rattle.std.specs.Cmp.{nat_cmp_total}
-use Rattle.std.specs.List.{range_with_len, All}
+use Rattle.std.specs.List.{range_with_len}
 use Rattle.std.specs.List.Sorted.{IsStrictlySortedBy, IsStrictlyIncreasing}
 use Rattle.std.proofs.lemmas.Bool.{eqb-true}
 use Rattle.std.proofs.lemmas.List.Kept.{IsStrictlySortedBy-filter}
 use Rattle.std.proofs.lemmas.Map.Keys.{sorted_from_strictly_increasing}
-use Rattle.lis_graph.proofs.Members.{Among, among_from_any, any_from_among, contains_from_among}
+use Rattle.lis_graph.proofs.Members.{Among, among_from_any, any_from_among}
 use Rattle.lis_graph.proofs.Sets.{same_sets}
 use Rattle.lis_graph.proofs.Ranges.{sorted_range}
 use Rattle.lis_ext.specs.Numbers.{has_number, numbers_where}
@@ -33,6 +33,3 @@ pub numbers_of : (props : ℕ) (numbers : List ℕ) → IsStrictlyIncreasing num
 numbers_of props numbers rises below = same_sets nat_cmp nat_cmp_total (numbers_where props (has_number numbers)) numbers (sorted_where props (has_number numbers)) (sorted_from_strictly_increasing numbers rises)
     (λ p m. (has_decides numbers p).0 (among_where props (has_number numbers) p m).1)
     (λ p m. where_among props (has_number numbers) p (below p m) ((has_decides numbers p).1 m))
-
-pub each_below : (props : ℕ) (numbers : List ℕ) → All (λ p. p < props) numbers → (p : ℕ) → Among numbers p → p < props
-each_below props numbers all p m = let found = contains_from_among numbers p m in subst (λ k. k < props) found.2 (all found.0 p found.1)

@@ -22,7 +22,7 @@ use Rattle.lis_kept.specs.Sound.{AreSound, FreeSlotsAreEmpty}
 use Rattle.lis_kept.specs.Telling.{declared_of, axioms_of, file_told, Tells}
 use Rattle.lis_kept.proofs.AxiomTaken.{one_unfelt}
 use Rattle.lis_kept.proofs.Described.{among_where, where_among}
-use Rattle.lis_kept.proofs.Filing.{same_tests, among_from_number, number_from_among, filed_at_slot}
+use Rattle.lis_kept.proofs.Filing.{same_tests, among_from_number, number_from_among, filed_rec, filed_at_slot}
 use Rattle.lis_kept.proofs.Formed.{named_below}
 use Rattle.lis_kept.proofs.Known.{among_word}
 use Rattle.lis_kept.proofs.Numbered.{Numbers, widened_told}
@@ -79,11 +79,11 @@ module _ (k : Kept) (sound : AreSound k) (right : List ℕ) (number : ℕ) (is_r
       (λ h. (among_where k.ext.props (λ i. has_number ns i || entails_number k right i) n (among_from_number (wide ns) n h)).1)
       (λ h. number_from_among (wide ns) n (where_among k.ext.props (λ i. has_number ns i || entails_number k right i) n below h))
 
-  wide_named : (slot n : ℕ) → Among (wide (numbers_at k.ext slot)) n → IsSome (word_of k.dict n)
-  wide_named slot n m = by (or_cases (has k.ext n slot) (entails_number k right n) (among_where k.ext.props (λ i. has k.ext i slot || entails_number k right i) n m).1)
+  wide_named : (slot : ℕ) → IsSome (rec_at k.catalog slot) → (n : ℕ) → Among (wide (numbers_at k.ext slot)) n → IsSome (word_of k.dict n)
+  wide_named slot file n m = by (or_cases (has k.ext n slot) (entails_number k right n) (among_where k.ext.props (λ i. has k.ext i slot || entails_number k right i) n m).1)
     where
       by : (has k.ext n slot ≡ true) ⊎ (entails_number k right n ≡ true) → IsSome (word_of k.dict n)
-      by (inl had) = sound.named n slot had
+      by (inl had) = sound.named n slot file had
       by (inr entailed) = let found = one_of ups (word_of k.dict n) entailed in ap is_some found.1
 
   module _ (at : ℕ → List ℕ) (s : State) (free : FreeSlotsAreEmpty k) (tells : Tells k at s) (left : List ℕ) where
@@ -104,7 +104,7 @@ module _ (k : Kept) (sound : AreSound k) (right : List ℕ) (number : ℕ) (is_r
         → length (wide (numbers_at k.ext f.slot)) ≡ length (description made (told f))
     wide_told f m n is had =
         let row = numbers_at k.ext f.slot in
-        sym (told_counted k sound (wide row) (numbers_apart k.ext.props (λ i. has_number row i || entails_number k right i)) (wide_named f.slot))
+        sym (told_counted k sound (wide row) (numbers_apart k.ext.props (λ i. has_number row i || entails_number k right i)) (wide_named f.slot (ap is_some (filed_rec k.catalog sound.catalog f m))))
         ∙ ap (λ (ws : List (List ℕ)). length ws)
         (widened_told k sound s.declared s.axioms (told f) n left right row (wide row) (entails_number k right) is (tells.described f (contains_from_among k.catalog.entries f m)) state_ups
         (λ i w named. wide_has row i w named ∙ ap (λ b. has_number row i || (b && entails_number k right i)) (sym had)))

@@ -10,7 +10,7 @@ use Rattle.lis_journal.specs.Journal.{Held}
 use Rattle.lis_blockmap.specs.Bitmap.{is_taken}
 use Rattle.lis_dict.specs.Dict.{Dict, words, number_of, word_of}
 use Rattle.lis_dict.proofs.Laws.{number_from_word, word_from_number}
-use Rattle.lis_catalog.specs.Catalog.{Filed}
+use Rattle.lis_catalog.specs.Catalog.{Filed, rec_at}
 use Rattle.lis_ext.specs.Ext.{Ext, has, set_of as numbers_at, widened}
 use Rattle.lis_ext.specs.Numbers.{has_number, numbers_where}
 use Rattle.lis_fields.specs.declared.slots.AxiomSlot.{AxiomSlot}
@@ -36,7 +36,7 @@ use Rattle.lis_kept.proofs.AxiomsTold.{axioms_counted}
 use Rattle.lis_kept.proofs.AxiomDescribed as described
 use Rattle.lis_kept.proofs.AxiomSlots.{InSlot, set_cases, same_sides}
 use Rattle.lis_kept.proofs.Filing.{same_tests}
-use Rattle.lis_kept.proofs.Formed.{some_word, named_below}
+use Rattle.lis_kept.proofs.Formed.{some_word, named_below, named_all}
 use Rattle.lis_kept.proofs.Known.{some_number, one_number}
 use Rattle.lis_kept.proofs.Numbered.{Numbers}
 use Rattle.lis_kept.proofs.OwnLinks.{among_slot}
@@ -49,7 +49,7 @@ use Rattle.lis_store.proofs.Declared.{declared_told}
 use Rattle.lis_store.proofs.Facts.{limits_told, known_told, filed_of_file}
 use Rattle.lis_store.proofs.Cleaned.{clean_is, sound_clean, in_use_clean}
 use Rattle.lis_store.proofs.Entailment.{up_has_number}
-use Rattle.lis_store.proofs.Learnt.{used_learnt, free_learnt, file_learnt, described_learnt, word_before, closed_learnt}
+use Rattle.lis_store.proofs.Learnt.{used_learnt, file_learnt, described_learnt, word_before, closed_learnt}
 use Rattle.lis_store.proofs.Naming.{one_of, of_one}
 use Rattle.lis_store.proofs.Numbers.{numbers_same}
 use Rattle.lis_store.proofs.RelatingIn.{declared_same, axioms_same, left_named, right_named, new_pair}
@@ -168,9 +168,9 @@ module _ (p q : Kept) (left right : List ℕ) (relates : RelatesIn left right p 
           ∙ sym (ap each (get_or_past p.ext.sets slot [] past))
 
   -- a file that has the left word had it before
-  pub left_before : (slot : ℕ) → has p.ext from slot ≡ true → number_of p.dict left ≡ Some from
-  left_before slot has_it =
-      let word = some_word (word_of p.dict from) (sound.named from slot has_it) in
+  pub left_before : FreeSlotsAreEmpty p → (slot : ℕ) → has p.ext from slot ≡ true → number_of p.dict left ≡ Some from
+  left_before free slot has_it =
+      let word = some_word (word_of p.dict from) (named_all p sound free from slot has_it) in
       let same = same_Some word.0 left (sym (relates.learns.keeps from word.0 word.1) ∙ is_from) in
       number_from_word p.dict sound.dict left from (word.1 ∙ ap Some same)
 
@@ -181,15 +181,15 @@ module _ (p q : Kept) (left right : List ℕ) (relates : RelatesIn left right p 
       ∙ numbers_same p.ext.props (λ n. has_number (numbers_at p.ext slot) n || ups n) (λ n. has_number (numbers_at p.ext slot) n || entails_number p right n)
       (λ n lt. ap (λ b. has_number (numbers_at p.ext slot) n || b) (ups_are n (omega (arith, lt, sound.rows)))))
 
-  pub short_then : DescriptionsAreShort p → DescriptionsAreShort end
-  short_then short slot = by (has p.ext from slot) refl
+  pub short_then : FreeSlotsAreEmpty p → DescriptionsAreShort p → DescriptionsAreShort end
+  short_then free short slot = by (has p.ext from slot) refl
     where
       by : (b : Bool) → has p.ext from slot ≡ b → length (numbers_at q.ext slot) ≤ 128
-      by true has_it = omega (arith, ap length (wide_is slot has_it), may.short from slot (left_before slot has_it) has_it)
+      by true has_it = omega (arith, ap length (wide_is slot has_it), may.short from slot (left_before free slot has_it) has_it)
       by false lacks = omega (arith, ap length (set_then slot ∙ ap (λ b. wider b (numbers_at p.ext slot)) lacks), short slot)
 
-  pub had_stays : (n slot : ℕ) → has p.ext n slot ≡ true → has q.ext n slot ≡ true
-  had_stays n slot has_it = rows n slot (named_below p sound n (sound.named n slot has_it)) ∙ or_left (has p.ext n slot) (has p.ext from slot && ups n) has_it
+  pub had_stays : (n slot : ℕ) → IsSome (rec_at p.catalog slot) → has p.ext n slot ≡ true → has q.ext n slot ≡ true
+  had_stays n slot file has_it = rows n slot (named_below p sound n (sound.named n slot file has_it)) ∙ or_left (has p.ext n slot) (has p.ext from slot && ups n) has_it
 
   -- ---- axioms
   slot_was_free : slice_get p.axioms relates.links.slot ≡ Some FreeAxiom
@@ -245,7 +245,7 @@ module _ (p q : Kept) (left right : List ℕ) (relates : RelatesIn left right p 
   in_use_then : KeepsInUse p → KeepsInUse end
   in_use_then keeps = record {
     used = used_then keeps.used;
-    tags = λ slot rec is n tag. had_stays n slot (keeps.tags slot rec is n tag);
+    tags = λ slot rec is n tag. had_stays n slot (ap is_some is) (keeps.tags slot rec is n tag);
     rights = λ slot x y is. by slot x y (set_cases p.axioms relates.links.slot FreeAxiom (Pair from to) slot_was_free slot (Pair x y) is);
   }
     where
@@ -259,19 +259,16 @@ module _ (p q : Kept) (left right : List ℕ) (relates : RelatesIn left right p 
     pub sound_end : AreSound end
     sound_end = subst (λ (k : Kept). AreSound k) end_is after
 
-    named_then : (n slot : ℕ) → has q.ext n slot ≡ true → IsSome (word_of learnt.dict n)
-    named_then = sound_end.named
-
+    -- a slot without a file has no numbers, so that it gets none
     free_then : FreeSlotsAreEmpty p → FreeSlotsAreEmpty end
-    free_then free =
-        subst (λ (k : Kept). FreeSlotsAreEmpty k) end_is
-        (described.free_then learnt linked q relates.sound relates.links relates.widens left right is_from is_to numbers named_then (free_learnt p learnt more relates.learns sound free))
+    free_then free slot none n =
+        ap (λ ns. has_number ns n) (set_then slot ∙ ap (λ b. wider b (numbers_at p.ext slot)) (free slot none from)) ∙ free slot none n
 
-    closed_then : AreClosed p → AreClosed end
-    closed_then closed =
+    closed_then : FreeSlotsAreEmpty p → AreClosed p → AreClosed end
+    closed_then free closed =
         subst (λ (k : Kept). AreClosed k) end_is
-        (described.closed_then learnt linked q relates.sound relates.links relates.widens left right is_from is_to numbers named_then
-        (closed_learnt p learnt more relates.learns sound relates.sound closed))
+        (described.closed_then learnt linked q relates.sound relates.links relates.widens left right is_from is_to numbers (named_all end sound_end (free_then free))
+        (closed_learnt p learnt more relates.learns sound relates.sound free closed))
 
     pub sound_related : (j : Held) (b : Bool) → b ≡ false → IsSound (record { parts = p; journal = j; is_broken = b }) → IsSound (settled q j)
     sound_related j b whole was = subst (λ (k : Kept). IsSound (settled k j)) (sym end_is) (record {
@@ -279,8 +276,8 @@ module _ (p q : Kept) (left right : List ℕ) (relates : RelatesIn left right p 
       range = was.range;
       free = free_then was.free;
       pairs = pairs_then was.pairs;
-      closed = closed_then was.closed;
-      short = short_then was.short;
+      closed = closed_then was.free was.closed;
+      short = short_then was.free was.short;
       taken = was.taken;
       apart = was.apart;
       in_use = in_use_clean end (in_use_then was.in_use);
@@ -346,7 +343,7 @@ module _ (p q : Kept) (left right : List ℕ) (relates : RelatesIn left right p 
           let f = filed_of_file p at s sound free tells file m in
           let told = described_then f.0 (contains_from_among p.catalog.entries f.0 f.1) ∙ ap (description t) (file_learnt p learnt more relates.learns sound at f.0 f.1 ∙ f.2) in
           le-leb (length (description t file)) 128
-          (omega (arith, ap (λ (ws : List (List ℕ)). length ws) told, told_few learnt.dict (numbers_at q.ext (f.0).slot), short_then short (f.0).slot)))
+          (omega (arith, ap (λ (ws : List (List ℕ)). length ws) told, told_few learnt.dict (numbers_at q.ext (f.0).slot), short_then free short (f.0).slot)))
 
       fits : AxiomFits s (left, right)
       fits = record {

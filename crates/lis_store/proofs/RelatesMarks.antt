@@ -17,7 +17,7 @@ use Rattle.lis_ext.specs.Numbers.{has_number, differs, numbers_where}
 use Rattle.lis_words.specs.Words.{is_valued, head_bytes}
 use Rattle.lis_kept.specs.Kept.{Kept}
 use Rattle.lis_kept.specs.Areas.{marked_count}
-use Rattle.lis_kept.specs.Sound.{AreSound}
+use Rattle.lis_kept.specs.Sound.{AreSound, FreeSlotsAreEmpty}
 use Rattle.lis_kept.specs.Widening.{lacked_numbers}
 use Rattle.lis_kept.proofs.Described.{among_where, where_among}
 use Rattle.lis_kept.proofs.Filing.{among_from_number, number_from_among}
@@ -70,7 +70,7 @@ lacking e left n is =
     let parts = and_parts (has_number found.0 left) (not (has_number found.0 n)) found.2 in
     (place.0, place.1, ap (λ ns. has_number ns left) set_in ∙ parts.0, ap (λ ns. has_number ns n) set_in ∙ not-true (has_number found.0 n) parts.1)
 
-module _ (p q : Kept) (left right : List ℕ) (relates : RelatesIn left right p q) (sound : AreSound p) (may : MayRelate p left right) where
+module _ (p q : Kept) (left right : List ℕ) (relates : RelatesIn left right p q) (sound : AreSound p) (may : MayRelate p left right) (free : FreeSlotsAreEmpty p) where
   abbrev from : ℕ
   from = relates.from
 
@@ -98,7 +98,7 @@ module _ (p q : Kept) (left right : List ℕ) (relates : RelatesIn left right p 
           let here = among_where p.ext.props test m of in
           let up = sym (ups_are p q left right relates sound may m (omega (arith, here.0, sound.rows))) ∙ (and_parts (ups m) (is_lacked p.ext from m) here.1).0 in
           where_among p.ext.props (λ k. has_number numbers k || entails_number p right k) m here.0 (or_right (has_number numbers m) (entails_number p right m) up)) in
-          omega (arith, le, may.short from slot.0 (left_before p q left right relates sound may slot.0 slot.2) slot.2)
+          omega (arith, le, may.short from slot.0 (left_before p q left right relates sound may free slot.0 slot.2) slot.2)
 
   pub few_marked : marked_count p ≡ 0 → marked_count q ≤ 131
   few_marked none =

@@ -1,5 +1,5 @@
 -- What is left of a description without an axiom.
-use Rattle.std.proofs.Common.{◌≡◌, ◌⊎◌, refl, sym, ap, ◌∙◌, subst, inl, inr, ℕ, ◌+◌, ◌<◌, ◌≤◌, not, ◌&&◌, Bool, true, false, cond, List, [], ◌∷◌, length, Option, Some, None, is_some, arith}
+use Rattle.std.proofs.Common.{◌≡◌, ◌⊎◌, refl, sym, ap, ◌∙◌, subst, inl, inr, ℕ, ◌+◌, ◌<◌, ◌≤◌, not, ◌&&◌, Bool, true, false, cond, List, [], ◌∷◌, length, Option, Some, None, is_some, IsSome, arith}
 use Rattle.std.specs.List.{list_all}
 use Rattle.std.specs.Ordering.{nat_cmp}
 use Rattle.std.specs.Cmp.{nat_cmp_total}
@@ -134,8 +134,8 @@ module _ (k : Kept) (sound : AreSound k) (closed : AreClosed k) (right slot : �
       (λ n m. among_from_number (numbers_at k.ext slot) n (remaining_had n (number_from_among (remaining_at k right slot) n m)))
 
   -- a number that stays is left
-  pub stays_remaining : (n : ℕ) → has k.ext n slot ≡ true → stays k right (tags_at k slot) n ≡ true → has_number (remaining_at k right slot) n ≡ true
-  stays_remaining n had held = by (word_of k.dict n) refl (sound.named n slot had)
+  pub stays_remaining : (n : ℕ) → IsSome (word_of k.dict n) → has k.ext n slot ≡ true → stays k right (tags_at k slot) n ≡ true → has_number (remaining_at k right slot) n ≡ true
+  stays_remaining n worded had held = by (word_of k.dict n) refl worded
     where
       by : (o : Option (List ℕ)) → word_of k.dict n ≡ o → is_some o ≡ true → has_number (remaining_at k right slot) n ≡ true
       by None is some = absurd (both_ways false refl some)
@@ -144,14 +144,14 @@ module _ (k : Kept) (sound : AreSound k) (closed : AreClosed k) (right slot : �
           (record { source = n; among = among_from_number (numbers_at k.ext slot) n had; held = held; entailed = led_itself k n w is })
 
   -- what is lost the right word entails
-  pub lost_led : (n : ℕ) → has k.ext n slot ≡ true → has_number (remaining_at k right slot) n ≡ false → is_entailed k right n ≡ true
-  lost_led n had none = by (is_entailed k right n) refl
+  pub lost_led : (n : ℕ) → IsSome (word_of k.dict n) → has k.ext n slot ≡ true → has_number (remaining_at k right slot) n ≡ false → is_entailed k right n ≡ true
+  lost_led n worded had none = by (is_entailed k right n) refl
     where
       by : (b : Bool) → is_entailed k right n ≡ b → is_entailed k right n ≡ true
       by true is = is
       by false is =
           absurd (both_ways (has_number (remaining_at k right slot) n) none
-          (stays_remaining n had (or_right (has_number (tags_at k slot) n) (not (is_entailed k right n)) (not_from_false (is_entailed k right n) is))))
+          (stays_remaining n worded had (or_right (has_number (tags_at k slot) n) (not (is_entailed k right n)) (not_from_false (is_entailed k right n) is))))
 
   pub remaining_closed : (a b : ℕ) → has_number (remaining_at k right slot) a ≡ true → is_linked k a b ≡ true → has_number (remaining_at k right slot) b ≡ true
   remaining_closed a b has_it linked =

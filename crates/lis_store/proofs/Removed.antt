@@ -38,6 +38,7 @@ use Rattle.lis_kept.specs.Forgetting.{KeepsInUse}
 use Rattle.lis_kept.specs.Telling.{words_told, file_told, state_of, is_head_by, is_had, is_named_left, is_used, AreUsed, IsFileBlock, Tells}
 use Rattle.lis_kept.proofs.Filing.{number_from_among, filed_rec, filed_at_slot}
 use Rattle.lis_kept.proofs.Dropped.{file_slot_below}
+use Rattle.lis_kept.proofs.Formed.{each_below}
 use Rattle.lis_kept.proofs.OwnLinks.{own_link_is}
 use Rattle.lis_store.specs.declared.change.Change.{Change}
 use Rattle.lis_store.specs.declared.change.Change.TheVariants.{Refused}
@@ -46,7 +47,7 @@ use Rattle.lis_store.specs.Changes.{Changes, differing_bits}
 use Rattle.lis_store.specs.Judging.{is_among}
 use Rattle.lis_store.specs.Saving.{settled, IsReady, Saves}
 use Rattle.lis_store.specs.Removing.{TakesOut}
-use Rattle.lis_store.proofs.Numbers.{numbers_same, numbers_of, each_below}
+use Rattle.lis_store.proofs.Numbers.{numbers_same, numbers_of}
 use Rattle.lis_store.proofs.Facts.{filed_named, table_told}
 use Rattle.lis_store.proofs.Judged.{change_refused}
 use Rattle.lis_store.proofs.Cleaned.{clean_is, sound_clean, in_use_clean, none_marked}

@@ -430,7 +430,7 @@ module _ (k : Kept) (at : ℕ → List ℕ) (sound : AreSound k) (free : FreeSlo
           nothing None = refl
           nothing (Some w) = refl
       by None (Some rec) is there =
-          false_from_ne_true (has k.ext p i) (λ h. let word = some_word (word_of k.dict p) (sound.named p i h) in let e = sym is ∙ word.1 in absurd cc)
+          false_from_ne_true (has k.ext p i) (λ h. let word = some_word (word_of k.dict p) (sound.named p i (ap is_some there) h) in let e = sym is ∙ word.1 in absurd cc)
           ∙ sym (ap (λ o. is_had_by s (file_of_record k.limits (properties_told k) at) o (file_by (rec_at k.catalog i))) is)
       by (Some w) (Some rec) is there =
           let f : Filed = record { slot = i; rec = rec } in

@@ -32,7 +32,7 @@ use Rattle.lis_kept.specs.Telling.{words_told, declared_of, axioms_of, file_told
 use Rattle.lis_kept.proofs.AxiomTaken.{axiom_back, taken_unfelt}
 use Rattle.lis_kept.proofs.Described.{among_where, where_among}
 use Rattle.lis_kept.proofs.Filing.{among_from_number, number_from_among, filed_rec, map_all}
-use Rattle.lis_kept.proofs.Formed.{some_word, named_below}
+use Rattle.lis_kept.proofs.Formed.{some_word, named_below, named_all}
 use Rattle.lis_kept.proofs.Known.{among_place, number_told, axiom_among}
 use Rattle.lis_kept.proofs.MarkedWithin.{marked_only, marked_within}
 use Rattle.lis_kept.proofs.OwnLinks.{own_link_is}
@@ -94,6 +94,9 @@ module _ (left right : ℕ) (p q : Kept) (takes : TakesAxiom left right p q) (j 
   closed_k : AreClosed k
   closed_k = closed_unlinked left right p k takes.unlinks was.closed
 
+  free_k : FreeSlotsAreEmpty k
+  free_k = subst (λ (u : Kept). FreeSlotsAreEmpty u) (sym takes.unlinks.parts) was.free
+
   -- ---- words
   words_then : (n : ℕ) → word_of q.dict n ≡ (if has_number numbers n && not (is_used less n) then None else word_of k.dict n)
   words_then n = subst (λ (u : Kept). word_of q.dict n ≡ (if has_number numbers n && not (is_used u n) then None else word_of u.dict n)) takes.lessens.parts (takes.forgets.words n)
@@ -144,7 +147,7 @@ module _ (left right : ℕ) (p q : Kept) (takes : TakesAxiom left right p q) (j 
   sound_gone whole after = subst (λ (u : Kept). IsSound (settled u j)) (sym end_is) (record {
     parts = sound_clean end sound_end;
     range = subst (λ (u : Kept). is_super u.limits ≡ true) (sym takes.unlinks.parts) was.range;
-    free = free_less k m takes.sound closed_k left right takes.lessens (subst (λ (u : Kept). FreeSlotsAreEmpty u) (sym takes.unlinks.parts) was.free);
+    free = free_less k m takes.sound closed_k left right takes.lessens free_k;
     pairs = pairs_unlinked left right p k takes.unlinks was.pairs;
     closed = λ slot x y had linked. closed_less k m takes.sound closed_k left right takes.lessens slot x y had (link_back sound_end x y linked);
     short = short_less k m takes.sound closed_k left right takes.lessens (subst (λ (u : Kept). DescriptionsAreShort u) (sym takes.unlinks.parts) was.short);
@@ -277,7 +280,7 @@ module _ (left right : ℕ) (p q : Kept) (takes : TakesAxiom left right p q) (j 
           absurd (both_ways (has k.ext n slot) (not-true (has k.ext n slot) both.1) (had_back k m takes.sound closed_k left right takes.lessens n slot both.0))
       by n slot (inr fewer) =
           let both = and_parts (has k.ext n slot) (not (has m.ext n slot)) fewer in
-          let up = lost k m takes.sound closed_k left right takes.lessens n slot both.0 (not-true (has m.ext n slot) both.1) in
+          let up = lost k m takes.sound closed_k left right takes.lessens n slot (named_all k takes.sound free_k n slot both.0) both.0 (not-true (has m.ext n slot) both.1) in
           let l = led k right n up in
           where_among k.limits.props (is_entailed k right) n (named_below k takes.sound n (ap is_some l.is_to)) up
 

@@ -1,15 +1,15 @@
 //! An axiom that leaves memory, and descriptions without it.
 
-ghost use Rattle.std.specs.Prelude.{◌≡◌, ℕ, ◌<◌, ◌≤◌, not, ◌&&◌, ◌||◌, is_some, length, IsTrue, IsSome, IfSome};
+ghost use Rattle.std.specs.Prelude.{◌≡◌, ℕ, ◌<◌, ◌≤◌, true, not, ◌&&◌, ◌||◌, is_some, length, IsTrue, IsSome, IfSome};
 ghost use Rattle.std.specs.List.{list_all};
 ghost use Rattle.lis_bits.specs.Rows.{HasShape, get};
 ghost use Rattle.lis_content.specs.Content.{has_number};
 ghost use Rattle.lis_dict.specs.Dict.{word_of};
-ghost use Rattle.lis_ext.specs.Ext.{set_of};
+ghost use Rattle.lis_ext.specs.Ext.{has, set_of};
 ghost use Rattle.lis_eval.specs.Room.{HasRoom};
 ghost use Rattle.lis_kept.specs.Forgetting.{KeepsInUse};
 ghost use Rattle.lis_kept.specs.Linking.{MayUnlink};
-ghost use Rattle.lis_kept.specs.Sound.{AreSound};
+ghost use Rattle.lis_kept.specs.Sound.{AreSound, FreeSlotsAreEmpty};
 ghost use Rattle.lis_store.specs.Stored.{AreClosed, DescriptionsAreShort};
 ghost use Rattle.lis_store.specs.Unlinking.{is_axiom, IsAxiomAt, tags_at, remains, remaining, remaining_at, LessensAt, Lessens, with_head, TakesAxiom};
 
@@ -126,6 +126,7 @@ fn lessen(parts: &mut Parts, row: &mut Rows, left: u16, right: u16, slot: u16)
     requires slot { slot < parts.old.limits.files }
     requires left { IsSome (word_of parts.old.dict left) }
     requires right { IsSome (word_of parts.old.dict right) }
+    requires named { (n : ℕ) → has parts.old.ext n slot ≡ true → IsSome (word_of parts.old.dict n) }
     requires short { length (set_of parts.old.ext slot) ≤ 128 }
     requires few { length (remaining_at parts.old right slot) ≤ 128 }
     ensures shape { HasShape row.new 1 parts.old.limits.props }
@@ -145,6 +146,7 @@ fn lessen_all(parts: &mut Parts, row: &mut Rows, left: u16, right: u16)
     requires shape { HasShape row.old 1 parts.old.limits.props }
     requires left { IsSome (word_of parts.old.dict left) }
     requires right { IsSome (word_of parts.old.dict right) }
+    requires free { FreeSlotsAreEmpty parts.old }
     requires short { DescriptionsAreShort parts.old }
     requires few { (slot : ℕ) → length (remaining_at parts.old right slot) ≤ 128 }
     ensures shape { HasShape row.new 1 parts.old.limits.props }
@@ -178,6 +180,7 @@ fn with_head(parts: &Parts, left: u16) -> ArrayVec<u16, 2>
 /// Takes an axiom away, with all that descriptions have by it alone, and with the words that nothing uses any more.
 pub(crate) fn take_axiom(parts: &mut Parts, scratch: &mut Scratch, left: u16, right: u16)
     requires may { MayUnlink left right parts.old }
+    requires free { FreeSlotsAreEmpty parts.old }
     requires closed { AreClosed parts.old }
     requires short { DescriptionsAreShort parts.old }
     requires in_use { KeepsInUse parts.old }

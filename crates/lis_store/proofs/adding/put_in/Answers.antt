@@ -10,6 +10,7 @@ use Rattle.lis_kept.specs.Changes.{Adds, Describes}
 use Rattle.lis_kept.specs.Telling.{declared_of, axioms_of}
 use Rattle.lis_store.specs.Admitting.{described_by}
 use Rattle.lis_store.specs.Adding.{numbers_named, AreNumbered, with_heads, may_learn, HasWordRoom}
+use Rattle.lis_store.proofs.Learnt.{free_learnt}
 use Rattle.lis_store.proofs.Naming.{named_few}
 use Rattle.lis_store.proofs.PutIn.{may_come, assigned_may, derived_may, assigned_room, derived_room, both_learnt, own_numbered, entailed_is, entailed_short, named_tags, named_rising, named_worded, slot_was_empty}
 use Rattle.lis_store.proofs.adding.put_in.Goals as goal
@@ -67,6 +68,15 @@ pub add_file-slot-requires-clause-worded : goal.add_file-slot-requires-clause-wo
 add_file-slot-requires-clause-worded g c =
     let r = c.learn_words-2.new.parts in
     ap (list_all (λ n. is_some (word_of r.dict n))) c.numbers_of-tags.ensures.numbers ∙ named_worded r c.numbers_of-tags.ensures.sound c.args.assigned.now
+
+pub add_file-slot-requires-clause-empty : goal.add_file-slot-requires-clause-empty
+add_file-slot-requires-clause-empty g c =
+    let p = c.args.parts.now in
+    let r = c.learn_words-2.new.parts in
+    let learns = both_learnt p c.requires.sound c.args.name.now c.args.assigned.now c.args.payload.now
+    (may_come c.args.parts.now (new_file c.args.name.now c.args.assigned.now c.args.payload.now) c.requires.admitted)
+    c.learn_words.new.parts r c.as_slice.result.now c.learn_words.ensures (c.as_slice.ensures.words ∙ c.derived-derived.ensures) c.learn_words-2.ensures in
+    free_learnt p r _ learns c.requires.sound c.requires.free
 
 pub describe-requires-clause-was : goal.describe-requires-clause-was
 describe-requires-clause-was g c =

@@ -47,7 +47,7 @@ remaining_at-rest-requires-clause-named c =
     let slot = c.args.slot in
     let are = c.as_slice.ensures.value ∙ (c.numbers_at-numbers.ensures.numbers ∙ ap (λ (e : Ext). set_of e slot) c.ext-2.ensures) in
     ap (list_all (λ n. is_some (word_of p.dict n))) are
-    ∙ all_from (λ n. is_some (word_of p.dict n)) (set_of p.ext slot) (λ n m. sound.named n slot (number_from_among (set_of p.ext slot) n m))
+    ∙ all_from (λ n. is_some (word_of p.dict n)) (set_of p.ext slot) (λ n m. c.requires.named n (number_from_among (set_of p.ext slot) n m))
 
 pub describe-requires-clause-rising : goal.describe-requires-clause-rising
 describe-requires-clause-rising c =

@@ -1,15 +1,26 @@
-use Rattle.std.proofs.Common.{◌≡◌, ℕ, ◌<◌, length, ap, subst, arith}
+use Rattle.std.proofs.Common.{◌≡◌, ◌∙◌, ℕ, ◌<◌, length, is_some, sym, ap, subst, arith}
 use Rattle.lis_bits.specs.Rows.{HasShape}
+use Rattle.lis_content.specs.Content.{has_number}
+use Rattle.lis_dict.specs.Dict.{word_of}
 use Rattle.lis_kept.specs.Kept.{Kept}
+use Rattle.lis_kept.proofs.Formed.{named_all}
 use Rattle.lis_model.specs.declared.limits.Limits.{Limits}
 use Rattle.lis_store.specs.Unlinking.{Lessens}
-use Rattle.lis_store.proofs.LessSlots.{left_same, lessens_more}
+use Rattle.lis_store.proofs.LessSlots.{same_here, left_same, lessens_more}
 use Rattle.lis_store.proofs.lessening.lessen_all.Goals as goal
 
 pub lessen-requires-clause-few : goal.lessen-requires-clause-few
 lessen-requires-clause-few c =
     let n = c.loop-slot.slot in
     omega (arith, ap length (left_same c.args.left c.args.right n c.args.parts.now c.loop-slot.parts c.loop-slot.invariant.1), c.requires.few n)
+
+pub lessen-requires-clause-named : goal.lessen-requires-clause-named
+lessen-requires-clause-named c = λ m had.
+    let n = c.loop-slot.slot in
+    let p = c.args.parts.now in
+    let was = same_here c.args.left c.args.right n p c.loop-slot.parts c.loop-slot.invariant.1 in
+    ap (λ (k : Kept). is_some (word_of k.dict m)) c.loop-slot.invariant.1.parts
+    ∙ named_all p c.limits.ensures.sound c.requires.free m n (ap (λ ns. has_number ns m) (sym was) ∙ had)
 
 pub loop-slot-preserved : goal.loop-slot-preserved
 loop-slot-preserved c =

@@ -4,6 +4,7 @@ use Rattle.lis_ext.specs.Ext.{set_of}
 use Rattle.lis_kept.specs.Kept.{Kept}
 use Rattle.lis_kept.specs.Changes.{Forgets}
 use Rattle.lis_kept.specs.Forgetting.{MayForget}
+use Rattle.lis_kept.specs.Sound.{FreeSlotsAreEmpty}
 use Rattle.lis_store.proofs.AxiomFound.{pair_named}
 use Rattle.lis_store.proofs.AxiomGone.{closed_unlinked, gone_may_forget}
 use Rattle.lis_store.proofs.Remaining.{remaining_few}
@@ -21,6 +22,9 @@ pub lessen_all-requires-clause-right : goal.lessen_all-requires-clause-right
 lessen_all-requires-clause-right c =
     let P : Kept → Type 0 = λ k. IsSome (word_of k.dict c.args.right) in
     subst P (sym c.unlink.ensures.parts) (pair_named c.args.parts.now c.limits-before.ensures.sound c.args.left c.args.right c.requires.may.there).1
+
+pub lessen_all-requires-clause-free : goal.lessen_all-requires-clause-free
+lessen_all-requires-clause-free c = subst (λ (k : Kept). FreeSlotsAreEmpty k) (sym c.unlink.ensures.parts) c.requires.free
 
 pub lessen_all-requires-clause-few : goal.lessen_all-requires-clause-few
 lessen_all-requires-clause-few c = λ slot.

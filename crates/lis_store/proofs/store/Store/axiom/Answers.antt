@@ -60,7 +60,7 @@ returns-clause-changes g c = λ now fits.
 pub returns-clause-edits : goal.returns-clause-edits
 returns-clause-edits g c =
     let may = related c.self.inside.parts c.args.left.now c.args.right.now c.in_ok-may_relate.ensures.row in
-    let few = few_edits c.self.inside.parts c.relate.new.parts c.args.left.now c.args.right.now c.relate.ensures.relates c.self.invariant.parts may in
+    let few = few_edits c.self.inside.parts c.relate.new.parts c.args.left.now c.args.right.now c.relate.ensures.relates c.self.invariant.parts may c.self.invariant.free in
     let E : Ext → Ext → Type 0 = λ a b. b.edits ≤ a.edits + differing_bits a b in
     let A : Ext → Type 0 = λ b. E c.args.self.now.parts.ext b in
     let B : Ext → Type 0 = λ a. E a c.relate.new.parts.ext in
