@@ -1,5 +1,5 @@
 -- A word that loses its number.
-use Rattle.std.proofs.Common.{rules, ◌≡◌, ◌⊎◌, refl, sym, ap, ap₂, ◌∙◌, subst, inl, inr, ℕ, ◌<◌, ◌≤◌, ◌==◌, if◌then◌else◌, ◌&&◌, ◌||◌, not, nat_lt, Bool, true, false, List, [], ◌∷◌, length, map, set, get_or, Option, Some, None, is_some, IsSome, IfSome, slice_get, arith, length-set}
+use Rattle.std.proofs.Common.{rules, ◌≡◌, ◌⊎◌, refl, sym, ap, ap₂, ◌∙◌, subst, inl, inr, ℕ, ◌<◌, ◌≤◌, ◌==◌, if◌then◌else◌, ◌&&◌, ◌||◌, nat_lt, Bool, true, false, List, [], ◌∷◌, length, map, set, get_or, Option, Some, None, is_some, IsSome, IfSome, slice_get, arith, length-set}
 use Rattle.std.specs.Option.{option_to_list}
 use Rattle.std.specs.BTreeSet.{insert_key}
 use Rattle.std.specs.List.{list_all, list_any, fold}
@@ -27,12 +27,13 @@ use Rattle.lis_laws.proofs.Counts.{all_weaker}
 use Rattle.lis_kept.specs.Kept.{Kept, property_by, property_at}
 use Rattle.lis_kept.specs.Areas.{Area, slots_of, block_of, spelled}
 use Rattle.lis_kept.specs.Areas.Area.{Properties, Axioms, Files, Rows, Bitmap}
-use Rattle.lis_kept.specs.Telling.{bit_of, is_declared, declared_of, pair_by, pair_told, axioms_of, file_told, state_of, is_left_of, is_head_by, is_left_head_of, is_named_left, is_had, is_used}
+use Rattle.lis_kept.specs.Telling.{bit_of, is_declared, declared_of, pair_by, pair_told, axioms_of, file_told, state_of, is_left_of, is_head_by, is_left_head_of, is_named_left, is_had}
 use Rattle.lis_kept.specs.Sound.{AreSound, is_sound_record}
 use Rattle.lis_kept.specs.Links.{AreHeld, is_pair, has_pair, is_linked}
 use Rattle.lis_kept.specs.Edges.{head_number, without_edge_to}
 use Rattle.lis_kept.specs.Forgetting.{MayGo}
-use Rattle.lis_kept.specs.Changes.{Marks, Forgets}
+use Rattle.lis_kept.specs.Changes.{Marks}
+use Rattle.lis_kept.specs.Passes.{ForgetsWhere}
 use Rattle.lis_kept.proofs.InArea.{among_slots}
 use Rattle.lis_kept.proofs.Formed.{named_below}
 use Rattle.lis_kept.proofs.Marking.{block_marked}
@@ -60,19 +61,10 @@ module _ (p : Kept) (t : Taxonomy) (held : AreHeld p t) {word : List ℕ} {numbe
   abbrev pub forgotten : Kept
   forgotten = record p { dict = less; marks = set p.marks (block_of p.limits Properties number) true }
 
-  -- ---- why it is not in use
-  unused_parts : ((is_taken p.declared number || is_had p.ext number) ≡ false) × (is_named_left p number ≡ false)
-  unused_parts = neither (is_taken p.declared number || is_had p.ext number) (is_named_left p number) go.unused
-
-  not_flagged : is_taken p.declared number ≡ false
-  not_flagged = (neither (is_taken p.declared number) (is_had p.ext number) unused_parts.0).0
-
-  not_had : is_had p.ext number ≡ false
-  not_had = (neither (is_taken p.declared number) (is_had p.ext number) unused_parts.0).1
-
+  -- ---- why it may go
   not_left : (slot left right : ℕ) → slice_get p.axioms slot ≡ Some (Pair left right) → Among p.axioms (Pair left right) → left ≡ number → ⊥
   not_left slot left right is m same =
-      let none = (neither (list_any (is_left_of number) p.axioms) (list_any (is_left_head_of p.dict number) p.axioms) unused_parts.1).0 in
+      let none = (neither (list_any (is_left_of number) p.axioms) (list_any (is_left_head_of p.dict number) p.axioms) go.lefts).0 in
       both_ways (list_any (is_left_of number) p.axioms) none (any_from_among (is_left_of number) p.axioms (Pair left right) m (eq-eqb left number same))
 
   -- ---- words and numbers
@@ -137,7 +129,7 @@ module _ (p : Kept) (t : Taxonomy) (held : AreHeld p t) {word : List ℕ} {numbe
     dict = dict_kept;
     heads = head_stays;
     bits = held.sound.bits;
-    flagged = λ n bit. some_stays n (λ same. both_ways (is_taken p.declared number) not_flagged (subst (λ m. is_taken p.declared m ≡ true) same bit)) (held.sound.flagged n bit);
+    flagged = λ n bit. some_stays n (λ same. both_ways (is_taken p.declared number) go.flagged (subst (λ m. is_taken p.declared m ≡ true) same bit)) (held.sound.flagged n bit);
     properties = λ n. property_then n (cases_eq n number);
     axiom_count = held.sound.axiom_count;
     axioms = λ slot left right is.
@@ -154,7 +146,7 @@ module _ (p : Kept) (t : Taxonomy) (held : AreHeld p t) {word : List ℕ} {numbe
     rows = held.sound.rows;
     files = held.sound.files;
     named = λ n slot file has_it.
-        some_stays n (λ same. both_ways (is_had p.ext number) not_had (subst (λ m. is_had p.ext m ≡ true) same (had_from p.ext n slot has_it))) (held.sound.named n slot file has_it);
+        some_stays n (λ same. both_ways (has p.ext number slot) (go.had slot file) (subst (λ m. has p.ext m slot ≡ true) same has_it)) (held.sound.named n slot file has_it);
     settled = held.sound.settled;
     marks = omega (arith, length-set p.marks (block_of p.limits Properties number) true, held.sound.marks);
   }
@@ -199,7 +191,7 @@ module _ (p : Kept) (t : Taxonomy) (held : AreHeld p t) {word : List ℕ} {numbe
     where
       by : (b : Bool) → same_word word v ≡ b → bit_of p.declared (if b then None else number_of p.dict v) ≡ is_declared p v
       by false e = refl
-      by true e = sym (ap (bit_of p.declared) (ap (number_of p.dict) (sym ((same_word_decides word v).0 e)) ∙ at) ∙ not_flagged)
+      by true e = sym (ap (bit_of p.declared) (ap (number_of p.dict) (sym ((same_word_decides word v).0 e)) ∙ at) ∙ go.flagged)
 
   declared_same : declared_of forgotten ≡ declared_of p
   declared_same =
@@ -289,10 +281,10 @@ module _ (p : Kept) (t : Taxonomy) (held : AreHeld p t) {word : List ℕ} {numbe
   same_props None = refl
   same_props (Some h) = refl
 
-  -- ---- what is used
-  used_then : (n : ℕ) → is_some (word_of forgotten.dict n) ≡ true → is_used forgotten n ≡ is_used p n
-  used_then n some =
-      ap (λ b. is_taken p.declared n || is_had p.ext n || (list_any (is_left_of n) p.axioms || b))
+  -- ---- what is named on a left
+  lefts_then : (n : ℕ) → is_some (word_of forgotten.dict n) ≡ true → is_named_left forgotten n ≡ is_named_left p n
+  lefts_then n some =
+      ap (λ b. list_any (is_left_of n) p.axioms || b)
       (any_same (is_left_head_of less n) (is_left_head_of p.dict n) p.axioms alike)
     where
       still : n ≡ number → ⊥
@@ -304,17 +296,7 @@ module _ (p : Kept) (t : Taxonomy) (held : AreHeld p t) {word : List ℕ} {numbe
           let found = slot_at p.axioms (Pair left right) m in
           ap₂ is_head_by (word_other left (not_left found.0 left right found.1 m)) (word_other n still)
 
-  words_then : (n : ℕ) → word_of less n ≡ (if has_number (number ∷ []) n && not (is_used p n) then None else word_of p.dict n)
-  words_then n = by (cases_eq number n)
-    where
-      by : (number ≡ n) ⊎ (number ≡ n → ⊥) → word_of less n ≡ (if has_number (number ∷ []) n && not (is_used p n) then None else word_of p.dict n)
-      by (inl same) =
-          ap (word_of less) (sym same) ∙ (word_gone
-          ∙ sym (ap₂ (λ a b. if (a || false) && not b then None else word_of p.dict n) (eq-eqb number n same) (ap (is_used p) (sym same) ∙ go.unused)))
-      by (inr differ) =
-          word_other n (λ e. differ (sym e)) ∙ sym (ap (λ a. if (a || false) && not (is_used p n) then None else word_of p.dict n) (ne_eqb number n differ))
-
-  pub forgotten_made : AreHeld forgotten unlinked × Forgets (number ∷ []) p forgotten
+  pub forgotten_made : AreHeld forgotten unlinked × ForgetsWhere (λ n. number == n) 1 p forgotten
   forgotten_made = (
     record {
       sound = sound_then;
@@ -324,37 +306,36 @@ module _ (p : Kept) (t : Taxonomy) (held : AreHeld p t) {word : List ℕ} {numbe
       parts = refl;
       props = refl;
       marks = marks_then;
-      words = words_then;
+      words = word_then;
       state = state_then;
-      used = used_then;
+      lefts = lefts_then;
     },
   )
 
 -- the same, over what memory kept
 pub forgets : (k p : Kept) (t u : Taxonomy) (word : List ℕ) (number : ℕ) (dict : Dict) (marks : List Bool) → p ≡ k → AreHeld p t → word_of p.dict number ≡ Some word → MayGo number p
     → dict ≡ without_word p.dict word → u ≡ without_edge_to t number (head_number p.dict word) → marks ≡ set p.marks (block_of p.limits Properties number) true
-    → AreHeld (record p { dict = dict; marks = marks }) u × Forgets (number ∷ []) k (record p { dict = dict; marks = marks })
+    → AreHeld (record p { dict = dict; marks = marks }) u × ForgetsWhere (λ n. number == n) 1 k (record p { dict = dict; marks = marks })
 forgets k p t u word number dict marks is held there go dict_is unlinked_is marks_are =
-    let P : Kept → Type 0 = λ q. AreHeld q u × Forgets (number ∷ []) k q in
-    let R : Taxonomy → Type 0 = λ v. AreHeld (forgotten p t held there go) v × Forgets (number ∷ []) k (forgotten p t held there go) in
-    let Q : Kept → Type 0 = λ q. AreHeld (forgotten p t held there go) (without_edge_to t number (head_number p.dict word)) × Forgets (number ∷ []) q (forgotten p t held there go) in
+    let P : Kept → Type 0 = λ q. AreHeld q u × ForgetsWhere (λ n. number == n) 1 k q in
+    let R : Taxonomy → Type 0 = λ v. AreHeld (forgotten p t held there go) v × ForgetsWhere (λ n. number == n) 1 k (forgotten p t held there go) in
+    let Q : Kept → Type 0 = λ q. AreHeld (forgotten p t held there go) (without_edge_to t number (head_number p.dict word)) × ForgetsWhere (λ n. number == n) 1 q (forgotten p t held there go) in
     let same : forgotten p t held there go ≡ record p { dict = dict; marks = marks } =
     ap (λ (d : Dict). record p { dict = d; marks = set p.marks (block_of p.limits Properties number) true }) (sym dict_is)
     ∙ ap (λ (ms : List Bool). record p { dict = dict; marks = ms }) (sym marks_are) in
     subst P same (subst R (sym unlinked_is) (subst Q is (forgotten_made p t held there go)))
 
 -- a number without a word
-pub forgets_none : (k : Kept) (number : ℕ) → word_of k.dict number ≡ None → Forgets (number ∷ []) k k
+pub forgets_none : (k : Kept) (number : ℕ) → word_of k.dict number ≡ None → ForgetsWhere (λ n. number == n) 1 k k
 forgets_none k number none = record {
   parts = refl;
   props = refl;
   marks = record { saved = λ at saved. saved; few = omega arith };
-  words = λ n. by n (cases_eq number n) (is_used k n);
+  words = λ n. by n (cases_eq number n);
   state = λ at. refl;
-  used = λ n some. refl;
+  lefts = λ n some. refl;
 }
   where
-    by : (n : ℕ) → (number ≡ n) ⊎ (number ≡ n → ⊥) → (b : Bool) → word_of k.dict n ≡ (if has_number (number ∷ []) n && not b then None else word_of k.dict n)
-    by n (inl same) true = sym (ap (λ a. if (a || false) && false then None else word_of k.dict n) (eq-eqb number n same))
-    by n (inl same) false = ap (word_of k.dict) (sym same) ∙ (none ∙ sym (ap (λ a. if (a || false) && true then None else word_of k.dict n) (eq-eqb number n same)))
-    by n (inr differ) b = sym (ap (λ a. if (a || false) && not b then None else word_of k.dict n) (ne_eqb number n differ))
+    by : (n : ℕ) → (number ≡ n) ⊎ (number ≡ n → ⊥) → word_of k.dict n ≡ (if number == n then None else word_of k.dict n)
+    by n (inl same) = ap (word_of k.dict) (sym same) ∙ (none ∙ sym (ap (λ b. if b then None else word_of k.dict n) (eq-eqb number n same)))
+    by n (inr differ) = sym (ap (λ b. if b then None else word_of k.dict n) (ne_eqb number n differ))

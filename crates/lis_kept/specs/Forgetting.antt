@@ -1,5 +1,5 @@
--- When the words of numbers may go.
-use Rattle.std.specs.Prelude.{◌≡◌, ◌≢◌, ℕ, true, false, is_some, Some, List, slice_get}
+-- When the words of numbers may go, and which go where a slot has no file but keeps its bits.
+use Rattle.std.specs.Prelude.{◌≡◌, ◌≢◌, ℕ, ◌&&◌, not, true, false, if◌then◌else◌, is_some, IsSome, Some, None, List, [], length, slice_get, slice_set}
 use Rattle.lis_content.specs.Content.{has_number}
 use Rattle.lis_dict.specs.Dict.{word_of}
 use Rattle.lis_catalog.specs.Catalog.{rec_at}
@@ -8,11 +8,18 @@ use Rattle.lis_ext.specs.Ext.{has}
 use Rattle.lis_fields.specs.Records.{FileRecord}
 use Rattle.lis_fields.specs.declared.slots.AxiomSlot.TheVariants.{Pair}
 use Rattle.lis_kept.specs.Kept.{Kept}
-use Rattle.lis_kept.specs.Telling.{is_head_by, is_used, AreUsed}
+use Rattle.lis_kept.specs.Telling.{state_of, is_head_by, is_named_left, is_used, AreUsed}
+use Rattle.lis_kept.specs.Changes.{Marks}
 
--- it is not in use, no file was given it, no axiom leads to it, and it is no known word's head
+-- what memory keeps, but for the description in a slot
+abbrev pub emptied : Kept → ℕ → Kept
+emptied k slot = record k { ext = record k.ext { sets = slice_set k.ext.sets slot [] } }
+
+-- It is not declared, no file has it or was given it, no axiom names it, and it is no known word's head. A slot without a file may keep it.
 pub record MayGo (number : ℕ) (k : Kept) : Type 0 where
-  pub unused : is_used k number ≡ false
+  pub flagged : is_taken k.declared number ≡ false
+  pub had : (slot : ℕ) → IsSome (rec_at k.catalog slot) → has k.ext number slot ≡ false
+  pub lefts : is_named_left k number ≡ false
   pub tags : (slot : ℕ) (rec : FileRecord) → rec_at k.catalog slot ≡ Some rec → has_number rec.tags number ≡ false
   pub rights : (slot left right : ℕ) → slice_get k.axioms slot ≡ Some (Pair left right) → right ≢ number
   pub heads : (n : ℕ) → is_head_by (word_of k.dict n) (word_of k.dict number) ≡ false
@@ -24,6 +31,15 @@ pub record MayForget (numbers : List ℕ) (k : Kept) : Type 0 where
   pub tags : (slot : ℕ) (rec : FileRecord) → rec_at k.catalog slot ≡ Some rec → (n : ℕ) → has_number rec.tags n ≡ true → is_used k n ≡ true
   pub rights : (slot left right : ℕ) → slice_get k.axioms slot ≡ Some (Pair left right) → is_used k right ≡ true
   pub heads : (n head : ℕ) → is_used k n ≡ true → is_head_by (word_of k.dict n) (word_of k.dict head) ≡ true → is_used k head ≡ true
+
+-- Of these numbers those have no word any more that nothing uses but the description in a slot. The slot has no file, and keeps its bits.
+pub record ForgetsWithout (slot : ℕ) (numbers : List ℕ) (p q : Kept) : Type 0 where
+  pub parts : q ≡ record p { dict = q.dict; marks = q.marks }
+  pub props : q.dict.props ≡ p.dict.props
+  pub marks : Marks (length numbers) p q
+  pub words : (n : ℕ) → word_of q.dict n ≡ (if has_number numbers n && not (is_used (emptied p slot) n) then None else word_of p.dict n)
+  pub state : (at : ℕ → List ℕ) → state_of q at ≡ state_of p at
+  pub used : (n : ℕ) → is_some (word_of q.dict n) ≡ true → is_used (emptied q slot) n ≡ is_used (emptied p slot) n
 
 -- What a told state keeps in use: every known word is, a file has what it was given, and axioms lead to declared words.
 pub record KeepsInUse (k : Kept) : Type 0 where

@@ -1,6 +1,6 @@
 //! Changes of the words that memory keeps.
 
-ghost use Rattle.std.specs.Prelude.{◌≡◌, ◌≢◌, ℕ, ◌<◌, ◌≤◌, true, false, ◌||◌, None, [], ◌∷◌, length, slice_set, IsTrue, IsSome, IfSome};
+ghost use Rattle.std.specs.Prelude.{◌≡◌, ◌≢◌, ℕ, ◌<◌, ◌≤◌, true, false, ◌||◌, ◌==◌, None, length, slice_set, IsTrue, IsSome, IfSome};
 ghost use Rattle.std.specs.List.{list_any};
 ghost use Rattle.lis_dict.specs.Dict.{number_of, word_of};
 ghost use Rattle.lis_fields.specs.Layouts.{is_undeclared};
@@ -12,7 +12,7 @@ ghost use Rattle.lis_words.specs.Words.{is_valued, head_bytes};
 ghost use Rattle.lis_kept.specs.Areas.{block_of};
 ghost use Rattle.lis_kept.specs.Edges.{head_number, with_edge_to, without_edge_to};
 ghost use Rattle.lis_kept.specs.Forgetting.{MayGo, MayForget};
-ghost use Rattle.lis_kept.specs.Passes.{is_due, ForgetsDue};
+ghost use Rattle.lis_kept.specs.Passes.{is_due, ForgetsWhere, ForgetsDue};
 ghost use Rattle.lis_kept.specs.Areas.Area.{Properties};
 ghost use Rattle.lis_kept.specs.Changes.{Declares, Learns, Forgets};
 ghost use Rattle.lis_kept.specs.Telling.{is_left_of, is_head_by, is_left_head_of, is_had, is_used};
@@ -168,10 +168,10 @@ impl Parts {
         number
     }
 
-    /// Forgets the word of a number that is not in use, if it has one.
-    pub fn forget(&mut self, number: u16)
+    // Forgets the word of a number that may go, if it has one.
+    fn forget(&mut self, number: u16)
         requires { IsSome (word_of self.old.dict number) → MayGo number self.old }
-        ensures { Forgets (number ∷ []) self.old self.new }
+        ensures { ForgetsWhere (λ n. number == n) 1 self.old self.new }
     {
         let Some(word) = self.dict.word_of(number) else {
             return;
@@ -188,25 +188,26 @@ impl Parts {
         ensures { Forgets numbers.now self.old self.new }
     {
         // The head of a known word keeps its number, so valued words go before heads.
-        self.forget_due(numbers, true);
-        self.forget_due(numbers, false);
+        self.forget_due(numbers, true, None);
+        self.forget_due(numbers, false, None);
     }
 
-    // Forgets the words of those numbers that are not in use: valued words, or the others.
-    fn forget_due(&mut self, numbers: &[u16], valued: bool)
-        requires { (n : ℕ) → is_due self.old valued n ≡ true → MayGo n self.old }
-        ensures { ForgetsDue valued numbers.now self.old self.new }
+    // Forgets the words of those numbers that nothing uses, but the description in a slot, if one is given: valued words, or
+    // the others.
+    fn forget_due(&mut self, numbers: &[u16], valued: bool, slot: Option<u16>)
+        requires { (n : ℕ) → is_due slot self.old valued n ≡ true → MayGo n self.old }
+        ensures { ForgetsDue slot valued numbers.now self.old self.new }
     {
         for number in numbers {
-            if self.is_due(*number, valued) {
+            if self.is_due(*number, valued, slot) {
                 self.forget(*number);
             }
         }
     }
 
-    // Whether a number is not in use, and its word is valued, or is not.
-    fn is_due(&self, number: u16, valued: bool) -> bool
-        ensures { result ≡ is_due self.now valued number }
+    // Whether nothing uses a number, but the description in a slot, if one is given, and its word is valued, or is not.
+    fn is_due(&self, number: u16, valued: bool, slot: Option<u16>) -> bool
+        ensures { result ≡ is_due slot self.now valued number }
     {
         let Some(word) = self.dict.word_of(number) else {
             return false;
@@ -214,7 +215,10 @@ impl Parts {
         if is_valued(word.bytes()) != valued {
             return false;
         }
-        !self.is_used(number)
+        match slot {
+            None => !self.is_used(number),
+            Some(slot) => !self.is_used_without(slot, number),
+        }
     }
 
     // Whether a number is in use.

@@ -1,7 +1,9 @@
-//! Numbers that are in use by more than the description of one file.
+//! Numbers that are in use by more than the description in one slot.
 
-ghost use Rattle.std.specs.Prelude.{◌≡◌, ◌<◌, [], slice_set, IsSome};
+ghost use Rattle.std.specs.Prelude.{◌≡◌, ◌<◌, None, [], slice_set, IsSome};
 ghost use Rattle.lis_dict.specs.Dict.{word_of};
+ghost use Rattle.lis_catalog.specs.Catalog.{rec_at};
+ghost use Rattle.lis_kept.specs.Forgetting.{emptied, MayForget, ForgetsWithout};
 ghost use Rattle.lis_kept.specs.Telling.{is_had, is_used};
 
 use crate::parts::Parts;
@@ -27,10 +29,22 @@ impl Parts {
     /// Whether a number is in use without the description in a slot.
     pub fn is_used_without(&self, slot: u16, number: u16) -> bool
         requires { IsSome (word_of self.now.dict number) }
-        ensures { result ≡ is_used (record self.now { ext = record self.now.ext { sets = slice_set self.now.ext.sets slot [] } }) number }
+        ensures { result ≡ is_used (emptied self.now slot) number }
     {
         self.declared.get(u32::from(number))
             || is_had_without(&self.ext, slot, number)
             || is_named_left(&self.dict, self.axioms.as_slice(), number)
+    }
+
+    /// Forgets the words of those numbers that nothing uses but the description in a slot without a file.
+    pub fn forget_without(&mut self, slot: u16, numbers: &[u16])
+        requires slot { slot < self.old.limits.files }
+        requires empty { rec_at self.old.catalog slot ≡ None }
+        requires may { MayForget numbers.now (emptied self.old slot) }
+        ensures { ForgetsWithout slot numbers.now self.old self.new }
+    {
+        // As in `forget_unused`.
+        self.forget_due(numbers, true, Some(slot));
+        self.forget_due(numbers, false, Some(slot));
     }
 }

@@ -11,7 +11,7 @@ forget-requires c = λ there.
     let q = c.loop-number.self in
     let number = get_or c.args.numbers.now c.loop-number.number-index 0 in
     let due = sym c.is_due.ensures ∙ c.if-is_due.true in
-    may_still _ _ p q c.loop-number.invariant c.args.valued number due (c.requires number (due_before _ _ p q c.loop-number.invariant c.args.valued number due))
+    may_still _ _ p q c.loop-number.invariant c.args.slot c.args.valued number due (c.requires number (due_before _ _ p q c.loop-number.invariant c.args.slot c.args.valued number due))
 
 pub loop-number-preserved : goal.loop-number-preserved
 loop-number-preserved c =
@@ -19,10 +19,10 @@ loop-number-preserved c =
     let q = c.loop-number.self in
     let numbers = c.args.numbers.now in
     let i = c.loop-number.number-index in
-    let P : Kept → Type 0 = λ k. ForgetsDue c.args.valued (take (i + 1) numbers) p k in
+    let P : Kept → Type 0 = λ k. ForgetsDue c.args.slot c.args.valued (take (i + 1) numbers) p k in
     let lt : i < length numbers = omega (arith, c.loop-number-test.true, c.loop-number.auto.number-index-end) in
     elim c.if-is_due.branch [
       | then-is_due w ↦
-          subst P (sym w.self-is) (due_more c.args.valued numbers i p q lt c.loop-number.invariant w.forget.new.self (sym c.is_due.ensures ∙ w.if-is_due.true) w.forget.ensures)
-      | else-is_due w ↦ subst P (sym w.self-is) (due_past c.args.valued numbers i p q lt c.loop-number.invariant (sym c.is_due.ensures ∙ w.if-is_due.false))
+          subst P (sym w.self-is) (due_more c.args.slot c.args.valued numbers i p q lt c.loop-number.invariant w.forget.new.self (sym c.is_due.ensures ∙ w.if-is_due.true) w.forget.ensures)
+      | else-is_due w ↦ subst P (sym w.self-is) (due_past c.args.slot c.args.valued numbers i p q lt c.loop-number.invariant (sym c.is_due.ensures ∙ w.if-is_due.false))
     ]
