@@ -7,8 +7,7 @@ use Rattle.lis_kept.specs.Kept.{Kept}
 use Rattle.lis_kept.specs.Links.{is_linked, has_pair}
 use Rattle.lis_kept.specs.Sound.{AreSound}
 use Rattle.lis_kept.specs.Telling.{is_head_by, is_used}
-use Rattle.lis_kept.specs.Forgetting.{emptied}
-use Rattle.lis_kept.specs.Changes.{ForgetsWithout}
+use Rattle.lis_kept.specs.Forgetting.{emptied, ForgetsWithout}
 use Rattle.lis_kept.proofs.OwnLinks.{own_link_is}
 use Rattle.lis_store.specs.Stored.{AreClosed}
 

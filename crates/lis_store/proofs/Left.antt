@@ -1,5 +1,5 @@
 -- What memory keeps when a file is gone with the words that nothing else used, and its slot is described as before: another file may come.
-use Rattle.std.proofs.Common.{◌≡◌, ◌⊎◌, sym, ap, ◌∙◌, subst, inl, inr, ℕ, ◌≤◌, true, List, [], length, is_some, arith}
+use Rattle.std.proofs.Common.{◌≡◌, ◌⊎◌, sym, ap, ◌∙◌, subst, inl, inr, ℕ, ◌≤◌, true, List, [], length, Some, is_some, arith}
 use Rattle.std.specs.List.{list_all}
 use Rattle.lis_graph.proofs.Members.{Among}
 use Rattle.lis_graph.proofs.Sets.{members_le, sorted_from_rising}
@@ -14,8 +14,7 @@ use Rattle.lis_laws.proofs.Members.{word_order, among_with_words, with_words_old
 use Rattle.lis_kept.specs.Kept.{Kept}
 use Rattle.lis_kept.specs.Sound.{AreSound}
 use Rattle.lis_kept.specs.Telling.{declared_of, axioms_of, state_of, is_used}
-use Rattle.lis_kept.specs.Forgetting.{emptied}
-use Rattle.lis_kept.specs.Changes.{ForgetsWithout}
+use Rattle.lis_kept.specs.Forgetting.{emptied, ForgetsWithout}
 use Rattle.lis_kept.proofs.Known.{known_word}
 use Rattle.lis_store.specs.Stored.{AreClosed}
 use Rattle.lis_store.specs.Admitting.{described_by, known_with}

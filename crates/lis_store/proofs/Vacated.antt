@@ -121,7 +121,7 @@ module _ (p : Kept) (slot : ℕ) (rec : FileRecord) (form : AreInForm p) (there 
       flagged = sound.flagged;
       properties = sound.properties;
       axiom_count = sound.axiom_count;
-      axioms = λ at left right is. let axiom = sound.axioms at left right is in record { below = axiom.below; left = axiom.left; right = axiom.right };
+      axioms = λ at left right is. let held = sound.axioms at left right is in record { below = held.below; left = held.left; right = held.right };
       slots = sound.slots;
       catalog = sound.catalog;
       records = sound.records;

@@ -10,8 +10,8 @@ use Rattle.lis_fields.specs.Records.{FileRecord}
 use Rattle.lis_model.specs.State.{File}
 use Rattle.lis_kept.specs.Kept.{Kept}
 use Rattle.lis_kept.specs.Sound.{AreSound, FreeSlotsAreEmpty, BlocksAreTaken}
-use Rattle.lis_kept.specs.Forgetting.{KeepsInUse}
-use Rattle.lis_kept.specs.Changes.{Drops, Describes, Adds, ForgetsWithout}
+use Rattle.lis_kept.specs.Forgetting.{KeepsInUse, ForgetsWithout}
+use Rattle.lis_kept.specs.Changes.{Drops, Describes, Adds}
 use Rattle.lis_kept.specs.Refiling.{Refiles}
 use Rattle.lis_store.specs.Stored.{AreClosed, DescriptionsAreShort, BlocksAreApart}
 use Rattle.lis_store.specs.Admitting.{described_by, known_with}

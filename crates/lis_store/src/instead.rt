@@ -128,6 +128,7 @@ fn measure_instead(
     payload: &[u8],
 ) -> Known
     requires slot { slot < length parts.now.ext.sets }
+    requires there { IsSome (rec_at parts.now.catalog slot) }
     requires used { AreUsed parts.now }
     requires shape { HasShape row.old 1 parts.now.limits.props }
     requires few { length words.now ≤ 16 }

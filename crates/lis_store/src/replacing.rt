@@ -158,13 +158,14 @@ pub(crate) fn refile(
     ensures refiled { RefilesIn slot (new_file name.now assigned.now payload.now) parts.old parts.new }
 {
     let way = make_way(parts, scratch, slot, name, assigned, payload);
+    let rec = way.rec;
     parts.refile(
         slot,
         FileRec {
             name: name.copied(),
-            size: way.rec.size,
+            size: rec.size,
             tags: way.tags,
-            blocks: way.rec.blocks,
+            blocks: rec.blocks,
         },
     );
 }
