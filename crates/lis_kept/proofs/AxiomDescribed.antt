@@ -1,9 +1,9 @@
 -- An axiom more, and all that its right word entails in each file that has its left one: what is told then.
-use Rattle.std.proofs.Common.{◌≡◌, ◌⊎◌, ℕ, ◌<◌, ◌&&◌, ◌||◌, Bool, true, List, Some, None, is_some, IsSome, slice_get, slice_set, sym, ap, ◌∙◌, subst, inl, inr}
-use Rattle.std.proofs.lemmas.Bool.{and_parts, and_from, or_cases, or_left, or_right, both_ways, false_from_ne_true}
+use Rattle.std.proofs.Common.{◌≡◌, ◌⊎◌, ℕ, ◌<◌, ◌&&◌, ◌||◌, Bool, true, List, Some, is_some, IsSome, slice_get, slice_set, sym, ap, ◌∙◌, subst, inl, inr}
+use Rattle.std.proofs.lemmas.Bool.{and_parts, and_from, or_cases, or_left, or_right}
 use Rattle.lis_blockmap.specs.Bitmap.{is_taken}
 use Rattle.lis_dict.specs.Dict.{word_of}
-use Rattle.lis_catalog.specs.Catalog.{Filed, rec_at}
+use Rattle.lis_catalog.specs.Catalog.{Filed}
 use Rattle.lis_ext.specs.Ext.{has, set_of as numbers_at}
 use Rattle.lis_fields.specs.declared.slots.AxiomSlot.{AxiomSlot}
 use Rattle.lis_fields.specs.declared.slots.AxiomSlot.TheVariants.{Free as FreeAxiom, Pair}
@@ -15,7 +15,7 @@ use Rattle.lis_laws.proofs.Reached.{linked_up}
 use Rattle.lis_kept.specs.Kept.{Kept}
 use Rattle.lis_kept.specs.Areas.{block_of}
 use Rattle.lis_kept.specs.Areas.Area.{Axioms}
-use Rattle.lis_kept.specs.Sound.{AreSound, FreeSlotsAreEmpty}
+use Rattle.lis_kept.specs.Sound.{AreSound}
 use Rattle.lis_kept.specs.Telling.{words_told, declared_of, axioms_of, file_told, state_of, is_had, is_named_left, is_used}
 use Rattle.lis_kept.specs.Links.{is_linked}
 use Rattle.lis_kept.specs.Linking.{are_both, Links}
@@ -128,20 +128,6 @@ module _ (p mid q : Kept) (sound : AreSound p) {left right : ℕ} {ups : ℕ →
       by (inl new) (inr wide) = subst (λ n. has q.ext n slot ≡ true) (both_sides left right x y new).1 (had_new right slot r is_r wide.0 ups_right)
       by (inr old) (inl had) = let w = onward old in had_stays y slot w.0 w.1 (closed slot x y had old)
       by (inr old) (inr wide) = let w = onward old in had_new y slot w.0 w.1 wide.0 (ups_on x y v.0 v.1 old wide.1)
-
-  -- a slot without a file has no numbers
-  pub free_then : ((n slot : ℕ) → has q.ext n slot ≡ true → IsSome (word_of p.dict n)) → FreeSlotsAreEmpty p → FreeSlotsAreEmpty q
-  free_then named free slot none n = false_from_ne_true (has q.ext n slot) (λ has_it. by n has_it (some_word (word_of p.dict n) (named n slot has_it)))
-    where
-      empty : rec_at p.catalog slot ≡ None
-      empty = ap (λ (k : Kept). rec_at k.catalog slot) (sym made_is) ∙ none
-
-      by : (n : ℕ) → has q.ext n slot ≡ true → (w : List ℕ) × (word_of p.dict n ≡ Some w) → ⊥
-      by n has_it w = side (had_then n slot w.0 w.1 has_it)
-        where
-          side : (has p.ext n slot ≡ true) ⊎ ((has p.ext left slot ≡ true) × (ups n ≡ true)) → ⊥
-          side (inl old) = both_ways (has p.ext n slot) (free slot empty n) old
-          side (inr wide) = both_ways (has p.ext left slot) (free slot empty left) wide.0
 
   -- ---- what is in use stays in use
   pub used_then : (n : ℕ) → IsSome (word_of p.dict n) → is_used mid n ≡ true → is_used q n ≡ true

@@ -314,7 +314,7 @@ module _ (limits : Limits) (words : Words) (axioms : Axioms) (files : Files) (ma
       blocks = read.files_are.blocks;
       rows = read.files_are.props;
       files = read.files_are.count;
-      named = named;
+      named = λ n slot file. named n slot;
       settled = read.files_are.settled;
       marks = clean.long;
     }
