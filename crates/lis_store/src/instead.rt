@@ -86,6 +86,7 @@ fn blocks_in(parts: &Parts, slot: u16) -> u64
 
 // Whether the description in a slot has a number which is not in the row, and which nothing else uses.
 fn is_leaving(parts: &Parts, row: &Rows, slot: u16, number: u16) -> bool
+    requires there { IsSome (rec_at parts.now.catalog slot) }
     requires slot { slot < length parts.now.ext.sets }
     requires number { number < parts.now.limits.props }
     requires shape { HasShape row.now 1 parts.now.limits.props }
@@ -104,6 +105,7 @@ fn is_leaving(parts: &Parts, row: &Rows, slot: u16, number: u16) -> bool
 
 // How many numbers of the description in a slot are not in the row, and nothing else uses them.
 fn leaving(parts: &Parts, row: &Rows, slot: u16) -> u32
+    requires there { IsSome (rec_at parts.now.catalog slot) }
     requires slot { slot < length parts.now.ext.sets }
     requires shape { HasShape row.now 1 parts.now.limits.props }
     ensures { result ≡ length (leaving parts.now row.now slot) }
