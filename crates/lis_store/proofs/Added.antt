@@ -154,7 +154,7 @@ module _ (p q : Kept) (name : List ℕ) (assigned : List (List ℕ)) (bytes : Li
         by (Some w) None is_x is_y head = absurd cc
         by (Some w) (Some v) is_x is_y head = ap₂ is_head_by (comes.learns.keeps a w is_x) (comes.learns.keeps b v is_y) ∙ head
 
-    left_stays : (n : ℕ) → is_named_left p n ≡ true → is_named_left end n ≡ true
+    pub left_stays : (n : ℕ) → is_named_left p n ≡ true → is_named_left end n ≡ true
     left_stays n left = by (or_cases (list_any (is_left_of n) p.axioms) (list_any (is_left_head_of p.dict n) p.axioms) left)
       where
         head : (a : AxiomSlot) → is_left_head_of p.dict n a ≡ true → is_left_head_of dict n a ≡ true

@@ -92,7 +92,7 @@ module _ (file : File) (slot : ℕ) (rec : FileRecord) (p learnt described q : K
   abbrev last : Ext → List Bool → Kept
   last ext marks = record learnt { catalog = with_filed learnt.catalog slot rec; taken = marked learnt.taken rec.blocks; ext = ext; marks = marks }
 
-  last_is : q ≡ filed (record learnt { ext = described.ext; marks = described.marks })
+  pub last_is : q ≡ filed (record learnt { ext = described.ext; marks = described.marks })
   last_is = into.parts ∙ ap filed describes.parts
 
   abbrev pub comes_described : rec.name ≡ file.name → rec.tags ≡ numbers_named learnt.dict file.assigned → ComesIn file p q

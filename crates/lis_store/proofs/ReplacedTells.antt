@@ -30,7 +30,7 @@ use Rattle.lis_kept.proofs.Known.{words_known}
 use Rattle.lis_store.specs.Saving.{IsReady}
 use Rattle.lis_store.specs.Admitting.{described_by}
 use Rattle.lis_store.specs.Adding.{numbers_named, learnt_words}
-use Rattle.lis_store.specs.ReplacingIn.{AreInForm}
+use Rattle.lis_store.specs.ReplacingIn.{AreInForm, MayComeIn}
 use Rattle.lis_store.proofs.Added.{rec_here, set_here, set_other, word_stays, described_numbered, new_not_taken, new_taken}
 use Rattle.lis_store.proofs.Coming.{ComesIn}
 use Rattle.lis_store.proofs.Facts.{limits_told, filed_of_file, file_of_filed, blocks_counted}

@@ -11,6 +11,8 @@ use Rattle.lis_kept.specs.Kept.{Kept}
 use Rattle.lis_kept.specs.Telling.{bytes_told}
 use Rattle.lis_journal.specs.Images.{Fits}
 use Rattle.lis_journal.specs.Phases.{looked}
+use Rattle.lis_model.specs.declared.refusal.Refusal.TheVariants.{NameTaken}
+use Rattle.lis_store.specs.declared.change.Change.TheVariants.{Refused}
 use Rattle.lis_store.specs.Stored.{Stored, IsSound, StoreFits}
 use Rattle.lis_store.specs.Changes.{Changes, first_refusal, differing_bits}
 use Rattle.lis_store.specs.Judging.{is_among}
@@ -36,10 +38,10 @@ returns-then-is_some-clause-changes g c = λ s fits.
     let m = g.D.Disk.meaning c.args.disk.now in
     let now : Situation = record { state = s; place = c.args.place.now } in
     let P : Stored → Type 0 = λ k. StoreFits k m s in
-    let Q : Stored → Type 0 = λ k. Changes now (rename now c.args.name.now c.args.new.now) k m m _ in
+    let Q : Stored → Type 0 = λ k. Changes {T = Unit {0}} now (rename now c.args.name.now c.args.new.now) k m m (Err (Refused NameTaken)) in
     let taken = sym (c.is_some.ensures ∙ ap is_some c.slot_of.ensures) ∙ c.if-is_some.true in
     subst Q c.self.view_is
-    (name_taken old c.args.place.now c.args.name.now c.in-Some.slot found.0 c.self.invariant named found.1 here m s (subst P (sym c.self.view_is) fits) c.args.new.now _ taken refl)
+    (name_taken old c.args.place.now c.args.name.now c.in-Some.slot found.0 c.self.invariant named found.1 here m s (subst P (sym c.self.view_is) fits) c.args.new.now (Err (Refused NameTaken)) taken refl)
 
 pub read_file-requires-clause-there : goal.read_file-requires-clause-there
 read_file-requires-clause-there g c =
@@ -77,7 +79,7 @@ returns-in_err-words-clause-changes g c = λ s fits.
     let P : Stored → Type 0 = λ k. StoreFits k m s in
     let fits_old = subst P (sym c.self.view_is) fits in
     let R : List ℕ → Type 0 = λ bs. (kept : ℕ → List ℕ) → Fits c.self.inside.journal m kept → bs ≡ bytes_told c.self.inside.parts.limits (looked c.self.inside.journal.staged kept) found.0 in
-    let read_now : R c.read_file.new.bytes = λ kept held. c.in_default.ensures.read found.0 kept found.1 held in
+    let read_now : R c.read_file.new.bytes = λ kept held. c.in_default-read_file.ensures.read found.0 kept found.1 held in
     renaming_refused old c.args.place.now c.args.name.now c.in-Some.slot found.0 c.self.invariant named found.1 here m s fits_old mid c.read_file.ensures.same c.read_file.ensures.any_moment c.read_file.ensures.fits
     c.bytes.result.now (subst R (sym c.bytes.ensures.bytes) read_now) c.args.new.now c.in_err-words.field-0.0 c.from_residual.result (c.in_err-words.ensures.row found.0 found.1) (e.1 ∙ ap Err e.2)
 
@@ -92,7 +94,7 @@ refile-requires-clause-may g c =
     let F : List (List ℕ) → List ℕ → Type 0 = λ ws bs. MayReplace c.self.inside.parts c.in-Some.slot found.0 (new_file c.args.new.now ws bs) in
     let W : List (List ℕ) → Type 0 = λ ws. F ws c.bytes.result.now in
     let V : List ℕ → Type 0 = λ bs. F c.as_slice.result.now bs in
-    let size = ap length c.bytes.ensures.bytes ∙ c.in_default.ensures.size found.0 found.1 in
+    let size = ap length c.bytes.ensures.bytes ∙ c.in_default-read_file.ensures.size found.0 found.1 in
     let may = rename_first old c.self.invariant c.args.place.now c.args.name.now c.in-Some.slot found.0 named found.1 here c.args.new.now c.bytes.result.now c.bytes-name.ensures.name size
     (c.in_ok-words.ensures.row found.0 found.1) in
     let first = subst (λ o. IsSomeAnd o (λ (x : FileRecord). MayReplace c.self.inside.parts c.in-Some.slot x (new_file c.args.new.now c.as_slice.result.now c.bytes-2.result.now))) (sym found.1)
@@ -111,7 +113,7 @@ save-requires-clause-sound g c =
     let F : List (List ℕ) → List ℕ → Type 0 = λ ws bs. MayReplace c.self.inside.parts c.in-Some.slot found.0 (new_file c.args.new.now ws bs) in
     let W : List (List ℕ) → Type 0 = λ ws. F ws c.bytes.result.now in
     let V : List ℕ → Type 0 = λ bs. F c.as_slice.result.now bs in
-    let size = ap length c.bytes.ensures.bytes ∙ c.in_default.ensures.size found.0 found.1 in
+    let size = ap length c.bytes.ensures.bytes ∙ c.in_default-read_file.ensures.size found.0 found.1 in
     let may = rename_first old c.self.invariant c.args.place.now c.args.name.now c.in-Some.slot found.0 named found.1 here c.args.new.now c.bytes.result.now c.bytes-name.ensures.name size
     (c.in_ok-words.ensures.row found.0 found.1) in
     let first = subst (λ o. IsSomeAnd o (λ (x : FileRecord). MayReplace c.self.inside.parts c.in-Some.slot x (new_file c.args.new.now c.as_slice.result.now c.bytes-2.result.now))) (sym found.1)
@@ -130,7 +132,7 @@ save-requires-clause-room g c =
     let F : List (List ℕ) → List ℕ → Type 0 = λ ws bs. MayReplace c.self.inside.parts c.in-Some.slot found.0 (new_file c.args.new.now ws bs) in
     let W : List (List ℕ) → Type 0 = λ ws. F ws c.bytes.result.now in
     let V : List ℕ → Type 0 = λ bs. F c.as_slice.result.now bs in
-    let size = ap length c.bytes.ensures.bytes ∙ c.in_default.ensures.size found.0 found.1 in
+    let size = ap length c.bytes.ensures.bytes ∙ c.in_default-read_file.ensures.size found.0 found.1 in
     let may = rename_first old c.self.invariant c.args.place.now c.args.name.now c.in-Some.slot found.0 named found.1 here c.args.new.now c.bytes.result.now c.bytes-name.ensures.name size
     (c.in_ok-words.ensures.row found.0 found.1) in
     let first = subst (λ o. IsSomeAnd o (λ (x : FileRecord). MayReplace c.self.inside.parts c.in-Some.slot x (new_file c.args.new.now c.as_slice.result.now c.bytes-2.result.now))) (sym found.1)
@@ -149,7 +151,7 @@ returns-clause-edits g c =
     let F : List (List ℕ) → List ℕ → Type 0 = λ ws bs. MayReplace c.self.inside.parts c.in-Some.slot found.0 (new_file c.args.new.now ws bs) in
     let W : List (List ℕ) → Type 0 = λ ws. F ws c.bytes.result.now in
     let V : List ℕ → Type 0 = λ bs. F c.as_slice.result.now bs in
-    let size = ap length c.bytes.ensures.bytes ∙ c.in_default.ensures.size found.0 found.1 in
+    let size = ap length c.bytes.ensures.bytes ∙ c.in_default-read_file.ensures.size found.0 found.1 in
     let may = rename_first old c.self.invariant c.args.place.now c.args.name.now c.in-Some.slot found.0 named found.1 here c.args.new.now c.bytes.result.now c.bytes-name.ensures.name size
     (c.in_ok-words.ensures.row found.0 found.1) in
     let first = subst (λ o. IsSomeAnd o (λ (x : FileRecord). MayReplace c.self.inside.parts c.in-Some.slot x (new_file c.args.new.now c.as_slice.result.now c.bytes-2.result.now))) (sym found.1)
@@ -172,7 +174,7 @@ returns-clause-changes g c = λ s fits.
     let F : List (List ℕ) → List ℕ → Type 0 = λ ws bs. MayReplace c.self.inside.parts c.in-Some.slot found.0 (new_file c.args.new.now ws bs) in
     let W : List (List ℕ) → Type 0 = λ ws. F ws c.bytes.result.now in
     let V : List ℕ → Type 0 = λ bs. F c.as_slice.result.now bs in
-    let size = ap length c.bytes.ensures.bytes ∙ c.in_default.ensures.size found.0 found.1 in
+    let size = ap length c.bytes.ensures.bytes ∙ c.in_default-read_file.ensures.size found.0 found.1 in
     let may = rename_first old c.self.invariant c.args.place.now c.args.name.now c.in-Some.slot found.0 named found.1 here c.args.new.now c.bytes.result.now c.bytes-name.ensures.name size
     (c.in_ok-words.ensures.row found.0 found.1) in
     let first = subst (λ o. IsSomeAnd o (λ (x : FileRecord). MayReplace c.self.inside.parts c.in-Some.slot x (new_file c.args.new.now c.as_slice.result.now c.bytes-2.result.now))) (sym found.1)
@@ -184,7 +186,7 @@ returns-clause-changes g c = λ s fits.
     let P : Stored → Type 0 = λ k. StoreFits k m s in
     let fits_old = subst P (sym c.self.view_is) fits in
     let R : List ℕ → Type 0 = λ bs. (kept : ℕ → List ℕ) → Fits c.self.inside.journal m kept → bs ≡ bytes_told c.self.inside.parts.limits (looked c.self.inside.journal.staged kept) found.0 in
-    let read_now : R c.read_file.new.bytes = λ kept held. c.in_default.ensures.read found.0 kept found.1 held in
+    let read_now : R c.read_file.new.bytes = λ kept held. c.in_default-read_file.ensures.read found.0 kept found.1 held in
     let new : Stored = record { parts = c.save.new.parts; journal = c.save.new.journal; is_broken = c.save.new.is_broken } in
     let N : List ℕ → Type 0 = λ bs. first_refusal (renaming_checks c.self.inside.parts c.in-Some.slot (given_before c.self.inside.parts found.0 c.args.new.now bs)) ≡ None in
     renaming_changes old c.args.place.now c.args.name.now c.in-Some.slot found.0 c.self.invariant named found.1 here m s fits_old mid c.read_file.ensures.same c.read_file.ensures.any_moment c.read_file.ensures.fits
