@@ -129,6 +129,7 @@ both f g a b p q r first second = record {
   parts = parts_both p q r first.parts second.parts;
   props = second.props ∙ first.props;
   marks = record { saved = λ at saved. second.marks.saved at (first.marks.saved at saved); few = omega (arith, first.marks.few, second.marks.few) };
+  marked = λ block is. second.marked block (first.marked block is);
   words = λ n. second.words n ∙ (ap (λ (o : Option (List ℕ)). if g n then None else o) (first.words n) ∙ words_both (f n) (g n) (word_of p.dict n));
   state = λ at. second.state at ∙ first.state at;
   lefts = λ n some. second.lefts n some ∙ first.lefts n (ap is_some (sym (same_word_then g b q r second n some)) ∙ some);
@@ -144,6 +145,7 @@ retest f g a b p q went same le = record {
   parts = went.parts;
   props = went.props;
   marks = record { saved = went.marks.saved; few = omega (arith, went.marks.few, le) };
+  marked = went.marked;
   words = λ n. went.words n ∙ by n (word_of p.dict n) refl;
   state = went.state;
   lefts = went.lefts;
@@ -159,6 +161,7 @@ due_none but valued p = record {
   parts = refl;
   props = refl;
   marks = record { saved = λ at saved. saved; few = omega arith };
+  marked = λ block is. is;
   words = λ n. refl;
   state = λ at. refl;
   lefts = λ n some. refl;
@@ -389,6 +392,7 @@ forgets_beside slot numbers p q went = record {
   parts = went.parts;
   props = went.props;
   marks = went.marks;
+  marked = went.marked;
   words = went.words;
   state = went.state;
   used = used_then (λ n. has_number numbers n && not (is_used (beside (Some slot) p) n)) (length numbers) p q went (Some slot);

@@ -9,7 +9,7 @@ use Rattle.std.proofs.lemmas.List.Elements.{Contains-get_or}
 use Rattle.lis_graph.proofs.Members.{Among, among_from_any, among_from_contains, any_from_among}
 use Rattle.lis_blockmap.specs.Bitmap.{is_taken}
 use Rattle.lis_content.specs.Content.{has_number}
-use Rattle.lis_content.proofs.Numbers.{neither}
+use Rattle.lis_content.proofs.Numbers.{neither, stays_marked}
 use Rattle.lis_dict.specs.Dict.{Dict, IsDict, number_of, word_of, without_word}
 use Rattle.lis_dict.proofs.Laws.{number_from_word, word_from_number, number_of-without_word, word_of-without_word, length-without_word, kept_without_word}
 use Rattle.lis_catalog.specs.Catalog.{Filed, rec_at}
@@ -306,6 +306,7 @@ module _ (p : Kept) (t : Taxonomy) (held : AreHeld p t) {word : List ℕ} {numbe
       parts = refl;
       props = refl;
       marks = marks_then;
+      marked = stays_marked p.marks (block_of p.limits Properties number ∷ []);
       words = word_then;
       state = state_then;
       lefts = lefts_then;
@@ -331,6 +332,7 @@ forgets_none k number none = record {
   parts = refl;
   props = refl;
   marks = record { saved = λ at saved. saved; few = omega arith };
+  marked = λ block is. is;
   words = λ n. by n (cases_eq number n);
   state = λ at. refl;
   lefts = λ n some. refl;

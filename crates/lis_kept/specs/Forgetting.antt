@@ -9,6 +9,7 @@ use Rattle.lis_fields.specs.Records.{FileRecord}
 use Rattle.lis_fields.specs.declared.slots.AxiomSlot.TheVariants.{Pair}
 use Rattle.lis_kept.specs.Kept.{Kept}
 use Rattle.lis_kept.specs.Telling.{state_of, is_head_by, is_named_left, is_used, AreUsed}
+use Rattle.lis_kept.specs.Areas.{is_marked}
 use Rattle.lis_kept.specs.Changes.{Marks}
 
 -- what memory keeps, but for the description in a slot
@@ -37,6 +38,7 @@ pub record ForgetsWithout (slot : ℕ) (numbers : List ℕ) (p q : Kept) : Type 
   pub parts : q ≡ record p { dict = q.dict; marks = q.marks }
   pub props : q.dict.props ≡ p.dict.props
   pub marks : Marks (length numbers) p q
+  pub marked : (block : ℕ) → is_marked p block ≡ true → is_marked q block ≡ true
   pub words : (n : ℕ) → word_of q.dict n ≡ (if has_number numbers n && not (is_used (emptied p slot) n) then None else word_of p.dict n)
   pub state : (at : ℕ → List ℕ) → state_of q at ≡ state_of p at
   pub used : (n : ℕ) → is_some (word_of q.dict n) ≡ true → is_used (emptied q slot) n ≡ is_used (emptied p slot) n

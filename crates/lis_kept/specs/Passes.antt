@@ -6,6 +6,7 @@ use Rattle.lis_ext.specs.Ext.{Ext}
 use Rattle.lis_words.specs.Words.{is_valued}
 use Rattle.lis_kept.specs.Kept.{Kept}
 use Rattle.lis_kept.specs.Telling.{state_of, is_named_left, is_used}
+use Rattle.lis_kept.specs.Areas.{is_marked}
 use Rattle.lis_kept.specs.Changes.{Marks}
 
 -- what memory keeps, but for the description in a slot, if one is given
@@ -30,6 +31,7 @@ pub record ForgetsWhere (test : ℕ → Bool) (most : ℕ) (p q : Kept) : Type 0
   pub parts : q ≡ record p { dict = q.dict; marks = q.marks }
   pub props : q.dict.props ≡ p.dict.props
   pub marks : Marks most p q
+  pub marked : (block : ℕ) → is_marked p block ≡ true → is_marked q block ≡ true
   pub words : (n : ℕ) → word_of q.dict n ≡ (if test n then None else word_of p.dict n)
   pub state : (at : ℕ → List ℕ) → state_of q at ≡ state_of p at
   pub lefts : (n : ℕ) → is_some (word_of q.dict n) ≡ true → is_named_left q n ≡ is_named_left p n

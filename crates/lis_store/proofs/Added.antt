@@ -75,19 +75,14 @@ module _ (p q : Kept) (name : List ℕ) (assigned : List (List ℕ)) (bytes : Li
   abbrev pub end : Kept
   end = record p { dict = dict; catalog = with_filed p.catalog slot rec; taken = marked p.taken rec.blocks; ext = q.ext; marks = q.marks }
 
-  abbrev filed_marks : List Bool
-  filed_marks = set (set comes.learnt.marks (block_of comes.learnt.limits Files slot) true) (bitmap_start comes.learnt.limits) true
-
-  pub filed_is : comes.filed ≡ record p { dict = dict; catalog = with_filed p.catalog slot rec; taken = marked p.taken rec.blocks; marks = filed_marks }
-  filed_is = comes.parts ∙ ap (λ (k : Kept). record k {
+  pub end_is : q ≡ end
+  end_is = comes.parts ∙ ap (λ (k : Kept). record k {
     dict = dict;
     catalog = with_filed k.catalog slot rec;
     taken = marked k.taken rec.blocks;
-    marks = filed_marks;
+    ext = q.ext;
+    marks = q.marks;
   }) comes.learns.parts
-
-  pub end_is : q ≡ end
-  end_is = comes.describes.parts ∙ ap (λ (k : Kept). record k { ext = q.ext; marks = q.marks }) filed_is
 
   -- ---- the slot
   pub free_slot : rec_at p.catalog slot ≡ None
@@ -108,7 +103,7 @@ module _ (p q : Kept) (name : List ℕ) (assigned : List (List ℕ)) (bytes : Li
 
   -- ---- descriptions
   sets_are : end.ext.sets ≡ set p.ext.sets slot numbers
-  sets_are = comes.describes.sets ∙ ap (λ (k : Kept). set k.ext.sets slot numbers) filed_is
+  sets_are = comes.sets ∙ ap (λ (k : Kept). set k.ext.sets slot numbers) comes.learns.parts
 
   pub set_here : numbers_at end.ext slot ≡ numbers
   set_here = ap (λ ss. get_or ss slot []) sets_are ∙ get_or-set_same p.ext.sets slot numbers [] (omega (arith, below_files, sound.files))
@@ -159,7 +154,7 @@ module _ (p q : Kept) (name : List ℕ) (assigned : List (List ℕ)) (bytes : Li
         by (Some w) None is_x is_y head = absurd cc
         by (Some w) (Some v) is_x is_y head = ap₂ is_head_by (comes.learns.keeps a w is_x) (comes.learns.keeps b v is_y) ∙ head
 
-    left_stays : (n : ℕ) → is_named_left p n ≡ true → is_named_left end n ≡ true
+    pub left_stays : (n : ℕ) → is_named_left p n ≡ true → is_named_left end n ≡ true
     left_stays n left = by (or_cases (list_any (is_left_of n) p.axioms) (list_any (is_left_head_of p.dict n) p.axioms) left)
       where
         head : (a : AxiomSlot) → is_left_head_of p.dict n a ≡ true → is_left_head_of dict n a ≡ true

@@ -21,7 +21,7 @@ use Rattle.lis_kept.proofs.Filing.{among_from_number}
 use Rattle.lis_store.specs.Changes.{differing_bits}
 use Rattle.lis_store.specs.Admitting.{described_by, IsAdmitted}
 use Rattle.lis_store.specs.Adding.{is_one_of, numbers_named, behind_head, with_heads, learnt_words, PutsIn}
-use Rattle.lis_store.proofs.Added.{filed_is, free_slot, below_files, set_here}
+use Rattle.lis_store.proofs.Added.{free_slot, below_files, set_here}
 use Rattle.lis_store.proofs.Coming.{comes_in}
 use Rattle.lis_store.proofs.Numbers.{sorted_where}
 use Rattle.lis_store.proofs.PutIn.{may_come, none_has, slot_was_empty}
@@ -57,7 +57,7 @@ module _ (p q : Kept) (old new : Held) (name : List ℕ) (assigned : List (List 
       slot_was_empty p puts.learnt puts.filed (with_heads (learnt_words (new_file name assigned bytes))) name (numbers_named puts.learnt.dict assigned) bytes slot old new free puts.learns puts.adds
 
   ext_before : puts.filed.ext ≡ p.ext
-  ext_before = ap (λ (k : Kept). k.ext) (filed_is p q name assigned bytes sound (may_come p (new_file name assigned bytes) admitted) (comes_in (new_file name assigned bytes) p q old new puts))
+  ext_before = ap (λ (k : Kept). k.ext) puts.adds.parts ∙ ap (λ (k : Kept). k.ext) puts.learns.parts
 
   gained_few : gained ≤ 128
   gained_few =

@@ -1,4 +1,4 @@
--- What memory comes to when words are forgotten that nothing uses.
+-- What memory comes to when words are forgotten that nothing uses but what a slot is described by.
 use Rattle.std.proofs.Common.{◌≡◌, ◌⊎◌, refl, sym, ap, ap₂, ◌∙◌, subst, inl, inr, ℕ, not, ◌&&◌, ◌||◌, Bool, true, false, if◌then◌else◌, List, Option, Some, None, is_some}
 use Rattle.std.proofs.lemmas.Bool.{both_ways, or_cases, or_left, or_right}
 use Rattle.lis_content.specs.Content.{has_number}
@@ -6,20 +6,20 @@ use Rattle.lis_dict.specs.Dict.{word_of}
 use Rattle.lis_kept.specs.Kept.{Kept}
 use Rattle.lis_kept.specs.Links.{is_linked, has_pair}
 use Rattle.lis_kept.specs.Sound.{AreSound}
-use Rattle.lis_kept.specs.Telling.{is_head_by, is_used, AreUsed}
-use Rattle.lis_kept.specs.Changes.{Forgets}
+use Rattle.lis_kept.specs.Telling.{is_head_by, is_used}
+use Rattle.lis_kept.specs.Forgetting.{emptied, ForgetsWithout}
 use Rattle.lis_kept.proofs.OwnLinks.{own_link_is}
 use Rattle.lis_store.specs.Stored.{AreClosed}
 
-module _ (numbers : List ℕ) (k q : Kept) (went : Forgets numbers k q) where
+module _ (slot : ℕ) (numbers : List ℕ) (k q : Kept) (went : ForgetsWithout slot numbers k q) where
   pub word_before : (n : ℕ) (w : List ℕ) → word_of q.dict n ≡ Some w → word_of k.dict n ≡ Some w
-  word_before n w is = by (has_number numbers n && not (is_used k n)) (sym (went.words n) ∙ is)
+  word_before n w is = by (has_number numbers n && not (is_used (emptied k slot) n)) (sym (went.words n) ∙ is)
     where
       by : (b : Bool) → (if b then None else word_of k.dict n) ≡ Some w → word_of k.dict n ≡ Some w
       by true e = absurd cc
       by false e = e
 
-  pub used_word_stays : (n : ℕ) → is_used k n ≡ true → word_of q.dict n ≡ word_of k.dict n
+  pub used_word_stays : (n : ℕ) → is_used (emptied k slot) n ≡ true → word_of q.dict n ≡ word_of k.dict n
   used_word_stays n used = went.words n ∙ (ap (λ b. if has_number numbers n && not b then None else word_of k.dict n) used ∙ by (has_number numbers n))
     where
       by : (b : Bool) → (if b && false then None else word_of k.dict n) ≡ word_of k.dict n
@@ -27,8 +27,9 @@ module _ (numbers : List ℕ) (k q : Kept) (went : Forgets numbers k q) where
       by false = refl
 
   -- where each known word was in use or was one of the numbers
-  pub all_used : ((n : ℕ) → is_some (word_of k.dict n) ≡ true → (is_used k n ≡ true) ⊎ (has_number numbers n ≡ true)) → AreUsed q
-  all_used either n some = went.used n some ∙ by (is_used k n) refl
+  pub known_used : ((n : ℕ) → is_some (word_of k.dict n) ≡ true → (is_used (emptied k slot) n ≡ true) ⊎ (has_number numbers n ≡ true))
+      → (n : ℕ) → is_some (word_of q.dict n) ≡ true → is_used (emptied k slot) n ≡ true
+  known_used either n some = by (is_used (emptied k slot) n) refl
     where
       known : is_some (word_of k.dict n) ≡ true
       known = from (word_of q.dict n) refl some
@@ -37,15 +38,15 @@ module _ (numbers : List ℕ) (k q : Kept) (went : Forgets numbers k q) where
           from None is h = absurd (both_ways false refl h)
           from (Some w) is h = ap is_some (word_before n w is)
 
-      gone : is_used k n ≡ false → has_number numbers n ≡ true → ⊥
+      gone : is_used (emptied k slot) n ≡ false → has_number numbers n ≡ true → ⊥
       gone unused here =
           both_ways (is_some (word_of q.dict n)) (ap is_some (went.words n ∙ ap₂ (λ a b. if a && not b then None else word_of k.dict n) here unused)) some
 
-      side : is_used k n ≡ false → (is_used k n ≡ true) ⊎ (has_number numbers n ≡ true) → is_used k n ≡ true
+      side : is_used (emptied k slot) n ≡ false → (is_used (emptied k slot) n ≡ true) ⊎ (has_number numbers n ≡ true) → is_used (emptied k slot) n ≡ true
       side unused (inl used) = used
       side unused (inr here) = absurd (gone unused here)
 
-      by : (b : Bool) → is_used k n ≡ b → is_used k n ≡ true
+      by : (b : Bool) → is_used (emptied k slot) n ≡ b → is_used (emptied k slot) n ≡ true
       by true e = e
       by false e = side e (either n known)
 

@@ -34,7 +34,8 @@ use Rattle.lis_kept.proofs.Formed.{some_word}
 use Rattle.lis_kept.proofs.Known.{placed_at, among_place, some_number, word_among, among_word, known_word, declared_word, axiom_among, among_axiom}
 use Rattle.lis_kept.proofs.Without.{left_out, had_elsewhere, elsewhere_had}
 use Rattle.lis_store.specs.Admitting.{described_by}
-use Rattle.lis_store.specs.Replacing.{emptied, words_without, known_instead}
+use Rattle.lis_kept.specs.Forgetting.{emptied}
+use Rattle.lis_store.specs.Replacing.{words_without, known_instead}
 use Rattle.lis_store.proofs.Facts.{described_told, filed_named}
 
 -- ---- numbers and their words
@@ -73,7 +74,7 @@ module _ (k : Kept) (sound : AreSound k) (slot : ℕ) where
       let found = known_word k sound w both.0 in
       (found.0, found.1, sym (ap (passes (is_used (emptied k slot))) (number_from_word k.dict sound.dict w found.0 found.1)) ∙ both.1)
 
-  word_without : (w : List ℕ) (n : ℕ) → word_of k.dict n ≡ Some w → is_used (emptied k slot) n ≡ true → Among (words_without k slot) w
+  pub word_without : (w : List ℕ) (n : ℕ) → word_of k.dict n ≡ Some w → is_used (emptied k slot) n ≡ true → Among (words_without k slot) w
   word_without w n is used =
       map_among (λ (e : List ℕ × ℕ). e.0) (filter (λ (e : List ℕ × ℕ). is_used (emptied k slot) e.1) k.dict.entries) (w, n)
       (filter_among (λ (e : List ℕ × ℕ). is_used (emptied k slot) e.1) k.dict.entries (w, n) (among_from_word k.dict w n is) used)

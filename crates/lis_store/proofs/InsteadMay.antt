@@ -1,7 +1,8 @@
 -- Where a row refuses nothing, a file may come into the place of another.
-use Rattle.std.proofs.Common.{◌≡◌, sym, ap, subst, ℕ, ◌+◌, ◌≤◌, ◌==◌, nat_lt, nat_le, true, ◌&&◌, is_some, option_to_list, Some, None, List, length, arith, eqb-true}
+use Rattle.std.proofs.Common.{◌≡◌, refl, sym, ap, ◌∙◌, subst, ℕ, ◌+◌, ◌≤◌, ◌==◌, nat_lt, nat_le, Bool, true, ◌&&◌, not, is_some, option_to_list, Some, None, List, length, arith, eqb-true}
+use Rattle.std.specs.Prelude.{IsTrue}
 use Rattle.std.specs.List.{flat_map, list_all}
-use Rattle.std.proofs.lemmas.Bool.{and_parts, leb-true, ltb-false}
+use Rattle.std.proofs.lemmas.Bool.{and_parts, leb-true, ltb-false, not-false}
 use Rattle.lis_graph.specs.Graph.{is_rising}
 use Rattle.lis_graph.proofs.Members.{Among}
 use Rattle.std.specs.Ordering.{nat_cmp}
@@ -9,7 +10,7 @@ use Rattle.lis_blockmap.specs.Bitmap.{free_count}
 use Rattle.lis_catalog.specs.Catalog.{Filed, slot_of, rec_at}
 use Rattle.lis_dict.specs.Dict.{word_of}
 use Rattle.lis_fields.specs.Records.{FileRecord}
-use Rattle.lis_fields.specs.Layouts.{is_record, are_short, are_tags, are_blocks}
+use Rattle.lis_fields.specs.Layouts.{is_super, is_record, are_short, are_tags, are_blocks}
 use Rattle.lis_grammar.specs.Formula.{Formula}
 use Rattle.lis_words.specs.Words.{word_cmp, is_file_name}
 use Rattle.lis_model.specs.Ranges.{are_in_range}
@@ -63,7 +64,7 @@ module _ (k : Stored) (sound : IsSound k) (slot : ℕ) (rec : FileRecord) (is_re
       subst (λ declared. list_all (is_assignable declared) given ≡ true) (sym (ap (λ (t : State). t.declared) tells.state))
       (all_among (λ (f : File). list_all (is_assignable s.declared) f.assigned) s.files (file_told p.limits p.dict at filed) tells.formed.files.assigned m)
 
-  module _ (assignable : list_all (is_assignable (declared_of p)) given ≡ true) (place : List Formula) where
+  module _ (place : List Formula) where
     -- ---- other bytes
     pub write_may : (name bytes : List ℕ) (size : ℕ) → rec.name ≡ name → is_file_name name ≡ true → (size ≤ 65536 → length bytes ≡ size)
         → first_refusal (write_checks_of p place name slot rec (given_before p rec name bytes) size) ≡ None → MayReplace p slot rec (given_before p rec name bytes)
@@ -71,7 +72,8 @@ module _ (k : Stored) (sound : IsSound k) (slot : ℕ) (rec : FileRecord) (is_re
         let file = given_before p rec name bytes in
         let row = all_pass (write_checks_of p place name slot rec file size) none in
         let here = row.1 in
-        let short = here.1 in
+        let words = here.1 in
+        let short = words.1 in
         let room = short.1 in
         let blocks = room.1 in
         let version : p.limits.version ≡ 1 = eqb-true p.limits.version 1 (and_parts (p.limits.version == 1) (are_in_range p.limits) sound.range).0 in
@@ -84,7 +86,7 @@ module _ (k : Stored) (sound : IsSound k) (slot : ℕ) (rec : FileRecord) (is_re
           name = form;
           new = λ differ. absurd (differ (sym named));
           set = given_set;
-          assignable = assignable;
+          assignable = not-false (list_all (is_assignable (declared_of p)) given) words.0;
           few = given_few;
           short = ltb-false 128 (length (described_by p file)) short.0;
           room = ltb-false p.limits.props (length (known_instead p slot file)) room.0;
@@ -93,23 +95,24 @@ module _ (k : Stored) (sound : IsSound k) (slot : ℕ) (rec : FileRecord) (is_re
         }
 
     -- ---- another name
-    pub rename_may : (name other bytes : List ℕ) → is_file_name other ≡ true → length bytes ≡ rec.size
+    pub rename_may : (name other bytes : List ℕ) → is_file_name other ≡ true → length bytes ≤ rec.size
         → first_refusal (rename_checks_of p place name slot (given_before p rec other bytes)) ≡ None → MayReplace p slot rec (given_before p rec other bytes)
     rename_may name other bytes form sized none =
         let file = given_before p rec other bytes in
         let row = all_pass (rename_checks_of p place name slot file) none in
         let here = row.1 in
-        let new = here.1 in
-        let short = new.1 in
+        let words = here.1 in
+        let short = words.1 in
+        let room = short.1 in
         record {
           there = is_rec;
           name = form;
           new = λ differ. none_there (slot_of p.catalog other) here.0;
           set = given_set;
-          assignable = assignable;
+          assignable = not-false (list_all (is_assignable (declared_of p)) given) words.0;
           few = given_few;
-          short = ltb-false 128 (length (described_by p file)) new.0;
-          room = ltb-false p.limits.props (length (known_instead p slot file)) short.0;
+          short = ltb-false 128 (length (described_by p file)) short.0;
+          room = ltb-false p.limits.props (length (known_instead p slot file)) room.0;
           small = omega (arith, sized, size_is_short p sound.parts filed there);
-          blocks = omega (arith, ap blocks_needed sized, blocks_counted p sound.parts filed there);
+          blocks = omega (arith, sized, blocks_counted p sound.parts filed there);
         }

@@ -27,7 +27,8 @@ use Rattle.lis_kept.proofs.Without.{elsewhere_had}
 use Rattle.lis_store.specs.Adding.{is_one_of}
 use Rattle.lis_store.specs.Admitting.{described_by, known_with}
 use Rattle.lis_store.specs.Instead.{HasNumbers, leaving}
-use Rattle.lis_store.specs.Replacing.{emptied, words_without, known_instead}
+use Rattle.lis_kept.specs.Forgetting.{emptied}
+use Rattle.lis_store.specs.Replacing.{words_without, known_instead}
 use Rattle.lis_store.proofs.Gathered.{numbered_below}
 use Rattle.lis_store.proofs.InsteadKnown.{passes, stays, without_is, sorted_without, by_flag, by_had, by_left}
 use Rattle.lis_store.proofs.Measured.{numbers_apart, told_counted}

@@ -1,7 +1,8 @@
 -- The rows of `write` and `rename`, told by what a store keeps, are the rows of the state.
-use Rattle.std.proofs.Common.{◌≡◌, ◌⊎◌, refl, sym, ap, ap₂, ◌∙◌, inl, inr, ℕ, ◌+◌, ◌==◌, nat_lt, nat_le, Bool, true, false, not, cond, Some, None, List, length, arith}
+use Rattle.std.proofs.Common.{◌≡◌, ◌⊎◌, refl, sym, ap, ap₂, ◌∙◌, subst, inl, inr, ℕ, ◌+◌, ◌<◌, ◌≤◌, ◌==◌, nat_lt, nat_le, Bool, true, false, not, cond, is_some, Option, Some, None, List, [], ◌∷◌, ◌++◌, length, Result, Err, arith, eqb-true}
+use Rattle.std.specs.Prelude.{IsTrue}
 use Rattle.std.specs.List.{list_any}
-use Rattle.std.proofs.lemmas.Bool.{leb-true, ltb-true, not-false}
+use Rattle.std.proofs.lemmas.Bool.{and_parts, leb-true, ltb-true, not-false}
 use Rattle.lis_ports.specs.Meaning.{Meaning}
 use Rattle.lis_blockmap.specs.Bitmap.{free_count}
 use Rattle.lis_catalog.specs.Catalog.{Filed, slot_of, rec_at}
@@ -11,15 +12,16 @@ use Rattle.lis_grammar.specs.Formula.{Formula}
 use Rattle.lis_words.specs.Words.{same_word}
 use Rattle.lis_model.specs.declared.limits.Limits.{Limits}
 use Rattle.lis_model.specs.declared.refusal.Refusal.{Refusal}
+use Rattle.lis_model.specs.declared.refusal.Refusal.TheVariants.{UnknownProperty, NameTaken, NoFileHere, LargeFile, NoSpace}
 use Rattle.lis_model.specs.State.{State, File, description, known, file_cmp, file_limit, blocks_needed, blocks_taken}
 use Rattle.lis_model.specs.Changes.{has_name, file_of, new_file, file_removed, file_replaced}
 use Rattle.lis_model.specs.Table.{Table, Entry}
 use Rattle.lis_model.specs.Listing.{extension}
-use Rattle.lis_model.specs.Step.{Situation, Payload, refused, changed, exceeds_words, exceeds_known, free_blocks, blocks_for, is_here, write_checks, write, rename_checks, rename}
+use Rattle.lis_model.specs.Step.{Situation, Payload, refused, changed, exceeds_words, exceeds_known, free_blocks, blocks_for, is_here, is_large, room_checks, write_checks, write_with, write, rename_checks, rename_as, rename}
 use Rattle.lis_laws.proofs.Counts.{all_among}
 use Rattle.lis_laws.proofs.Named.{file_there, file_of_name, gone_free, still_free}
 use Rattle.lis_kept.specs.Kept.{Kept}
-use Rattle.lis_kept.specs.Telling.{words_told, bytes_told}
+use Rattle.lis_kept.specs.Telling.{words_told, bytes_told, file_told}
 use Rattle.lis_kept.proofs.Filing.{same_tests, filed_at_slot}
 use Rattle.lis_store.specs.Stored.{Stored, IsSound, StoreFits}
 use Rattle.lis_store.specs.Admitting.{described_by}
@@ -27,8 +29,9 @@ use Rattle.lis_store.specs.Changes.{first_refusal}
 use Rattle.lis_store.specs.Judging.{is_among}
 use Rattle.lis_store.specs.Replacing.{known_instead}
 use Rattle.lis_store.specs.Instead.{given_before, write_checks_of, rename_checks_of}
-use Rattle.lis_store.proofs.Facts.{limits_told, name_filed, file_in_slot, blocks_counted, size_of_filed, table_told}
+use Rattle.lis_store.proofs.Facts.{limits_told, name_filed, filed_named, file_in_slot, blocks_counted, size_of_filed, table_told}
 use Rattle.lis_store.proofs.FreeBlocks.{used_told, version_told}
+use Rattle.lis_store.proofs.InsteadMay.{given_assignable}
 use Rattle.lis_store.proofs.InsteadKnown.{described_are, known_replaced}
 use Rattle.lis_store.proofs.Judged.{same_first, judged_refused, judged_done}
 
@@ -126,8 +129,13 @@ module _ (k : Stored) (m : Meaning) (s : State) (sound : IsSound k) (fits : Stor
       → first_refusal (write_checks_of kept place name slot rec (given_before kept rec name bytes) size)
       ≡ first_refusal (write_checks now old (file_replaced s old.name (new_file old.name old.assigned bytes)) size)
   write_row bytes size =
-      same_first (write_checks_of kept place name slot rec (given_before kept rec name bytes) size)
-      (write_checks now old (file_replaced s old.name (new_file old.name old.assigned bytes)) size) (
+      same_first (write_checks_of kept place name slot rec (given_before kept rec name bytes) size) (
+        (is_large s size, LargeFile)
+        ∷ (not (is_here now old.name), NoFileHere)
+        ∷ (false, UnknownProperty)
+        ∷ room_checks (file_replaced s old.name (new_file old.name old.assigned bytes))
+        ++ (nat_lt (blocks_for s old) (blocks_taken s.limits.version size), NoSpace) ∷ []
+      ) (
         refl,
         ap (λ v. nat_lt (file_limit v) size) version_is,
         λ small. (
@@ -135,14 +143,18 @@ module _ (k : Stored) (m : Meaning) (s : State) (sound : IsSound k) (fits : Stor
           ap not among_told,
           λ here. let at = there (not-false (is_among kept place name) here) in (
             refl,
-            large_told k m s sound fits name slot rec at.0 at.1 (given_before kept rec name bytes) (gone_free s name) ∙ ap exceeds_words (made at),
-            λ short. (
+            ap not (given_assignable k sound slot rec at.1 fits.kept s fits.tells),
+            λ words. (
               refl,
-              room_told k m s sound fits name slot rec at.0 at.1 (given_before kept rec name bytes) (gone_free s name) ∙ ap exceeds_known (made at),
-              λ room. (
+              large_told k m s sound fits name slot rec at.0 at.1 (given_before kept rec name bytes) (gone_free s name) ∙ ap exceeds_words (made at),
+              λ short. (
                 refl,
-                ap₂ nat_lt (blocks_told k m s sound fits name slot rec at.0 at.1) (ap (λ v. blocks_taken v size) version_is),
-                λ blocks. tt,
+                room_told k m s sound fits name slot rec at.0 at.1 (given_before kept rec name bytes) (gone_free s name) ∙ ap exceeds_known (made at),
+                λ room. (
+                  refl,
+                  ap₂ nat_lt (blocks_told k m s sound fits name slot rec at.0 at.1) (ap (λ v. blocks_taken v size) version_is),
+                  λ blocks. tt,
+                ),
               ),
             ),
           ),
@@ -160,24 +172,32 @@ module _ (k : Stored) (m : Meaning) (s : State) (sound : IsSound k) (fits : Stor
       ≡ first_refusal (rename_checks now old.name (new_file other old.assigned old.bytes) (file_replaced s old.name (new_file other old.assigned old.bytes)))
   rename_row other =
       let named = name_filed kept fits.kept s sound.parts sound.free fits.tells other in
-      same_first (rename_checks_of kept place name slot (given_before kept rec other old.bytes))
-      (rename_checks now old.name (new_file other old.assigned old.bytes) (file_replaced s old.name (new_file other old.assigned old.bytes))) (
+      same_first (rename_checks_of kept place name slot (given_before kept rec other old.bytes)) (
+        (not (is_here now old.name), NoFileHere)
+        ∷ (has_name s.files other, NameTaken)
+        ∷ (false, UnknownProperty)
+        ∷ room_checks (file_replaced s old.name (new_file other old.assigned old.bytes))
+      ) (
         refl,
         ap not among_told,
         λ here. let at = there (not-false (is_among kept place name) here) in
-            let made = made_is other old.bytes (old_given k m s sound fits name slot rec at.0 at.1) in (
+        let made = made_is other old.bytes (old_given k m s sound fits name slot rec at.0 at.1) in (
+          refl,
+          sym named,
+          λ new. let free = still_free s name other (named ∙ new) in (
+            refl,
+            ap not (given_assignable k sound slot rec at.1 fits.kept s fits.tells),
+            λ words. (
               refl,
-              sym named,
-              λ new. let free = still_free s name other (named ∙ new) in (
+              large_told k m s sound fits name slot rec at.0 at.1 (given_before kept rec other old.bytes) free ∙ ap exceeds_words made,
+              λ short. (
                 refl,
-                large_told k m s sound fits name slot rec at.0 at.1 (given_before kept rec other old.bytes) free ∙ ap exceeds_words made,
-                λ short. (
-                  refl,
-                  room_told k m s sound fits name slot rec at.0 at.1 (given_before kept rec other old.bytes) free ∙ ap exceeds_known made,
-                  λ room. tt,
-                ),
+                room_told k m s sound fits name slot rec at.0 at.1 (given_before kept rec other old.bytes) free ∙ ap exceeds_known made,
+                λ room. tt,
               ),
             ),
+          ),
+        ),
       )
 
   -- what `write` comes to

@@ -1,12 +1,12 @@
 -- What memory comes to when another file takes the place of one.
-use Rattle.std.proofs.Common.{◌≡◌, ◌⊎◌, refl, sym, ap, ◌∙◌, subst, inl, inr, ℕ, true, false, List, [], Some, is_some, IsTrue}
-use Rattle.std.specs.List.Sorted.{IsStrictlyIncreasing}
-use Rattle.std.proofs.lemmas.Bool.{both_ways}
+use Rattle.std.proofs.Common.{◌≡◌, ◌⊎◌, refl, sym, ap, ◌∙◌, subst, inl, inr, ℕ, true, false, List, [], Some, None, is_some, IsTrue}
+use Rattle.std.proofs.lemmas.Bool.{both_ways, cases_eq}
+use Rattle.lis_graph.proofs.Members.{Among}
 use Rattle.lis_journal.specs.Journal.{Held}
 use Rattle.lis_content.specs.Content.{has_number}
 use Rattle.lis_catalog.specs.Catalog.{rec_at}
 use Rattle.lis_dict.specs.Dict.{word_of}
-use Rattle.lis_ext.specs.Ext.{has, set_of as numbers_at}
+use Rattle.lis_ext.specs.Ext.{has}
 use Rattle.lis_fields.specs.Records.{FileRecord}
 use Rattle.lis_fields.specs.Layouts.{is_super}
 use Rattle.lis_model.specs.Image.{image_blocks}
@@ -15,17 +15,22 @@ use Rattle.lis_model.specs.Changes.{new_file}
 use Rattle.lis_kept.specs.Kept.{Kept}
 use Rattle.lis_kept.specs.Sound.{AreSound}
 use Rattle.lis_kept.specs.Telling.{is_used, AreUsed}
-use Rattle.lis_kept.specs.Forgetting.{MayForget}
-use Rattle.lis_kept.specs.Changes.{Drops, Forgets}
-use Rattle.lis_store.specs.Stored.{Stored, AreClosed, PairsAreApart, IsSound}
+use Rattle.lis_kept.specs.Forgetting.{emptied}
+use Rattle.lis_kept.proofs.Formed.{some_word, named_all}
+use Rattle.lis_kept.proofs.Without.{none_here, same_elsewhere}
+use Rattle.lis_store.specs.Stored.{Stored, PairsAreApart, IsSound}
 use Rattle.lis_store.specs.Saving.{settled}
-use Rattle.lis_store.specs.ReplacingIn.{AreInForm, MayComeIn, MayReplaceFirst}
-use Rattle.lis_store.proofs.Added.{end, end_is, sound_end, used_had, known_or_here, tags_then, free_then, closed_then, short_then, taken_then, apart_then}
+use Rattle.lis_store.specs.Replacing.{MayReplace}
+use Rattle.lis_store.specs.ReplacingIn.{AreInForm, MayComeIn, MakesWay}
+use Rattle.lis_store.specs.Admitting.{described_by}
+use Rattle.lis_store.proofs.Added.{end, end_is, sound_end, used_had, word_from, has_here, has_other, left_stays, tags_then, free_then, closed_then, short_then, taken_then, apart_then}
 use Rattle.lis_store.proofs.Cleaned.{clean_is, sound_clean, in_use_clean}
-use Rattle.lis_store.proofs.Coming.{ComesIn}
-use Rattle.lis_store.proofs.Forgot.{rest, all_used, closed_still}
-use Rattle.lis_store.proofs.HeadsUsed.{used_flagged, head_used}
-use Rattle.lis_store.proofs.Vacated.{vacated, free_others, tags_others, taken_others, apart_others, come_vacated}
+use Rattle.lis_store.proofs.Coming.{ComesIn, ComesInto, comes_described, comes_over}
+use Rattle.lis_store.proofs.HeadsUsed.{IsUsedFor, used_flagged, used_left, used_for}
+use Rattle.lis_store.proofs.HeadsUsed.IsUsedFor.{Flagged, HadAt, NamedLeft}
+use Rattle.lis_store.proofs.Left as gone
+use Rattle.lis_store.proofs.Naming.{of_one}
+use Rattle.lis_store.proofs.Vacated.{free_others, tags_others, taken_others, apart_others}
 
 -- ---- stores in form
 pub in_form : (k : Stored) → IsSound k → AreInForm k.parts
@@ -57,110 +62,82 @@ settled_sound q j form range pairs image unbroken unplaced = record {
   clean = λ _. clean_is q;
 }
 
--- A file comes into the slot of another one that is gone, and then words are forgotten.
+-- A file makes way for another one, which comes into its slot.
 pub record Replaced (slot : ℕ) (file : File) (p q : Kept) : Type 0 where
-  pub rising : IsStrictlyIncreasing (numbers_at p.ext slot)
   pub rec : FileRecord
-  pub may : MayReplaceFirst p slot rec file
-  pub dropped : Kept
-  pub drops : Drops slot rec p dropped
-  pub form_vacated : AreSound (vacated p slot rec)
+  pub tags : List ℕ
   pub described : Kept
-  pub form_described : AreSound described
-  pub comes : ComesIn file (vacated p slot rec) described
-  pub here : comes.slot ≡ slot
-  pub forgets : Forgets (numbers_at p.ext slot) described q
+  pub way : MakesWay slot file rec tags p described
+  pub may : MayReplace p slot rec file
+  pub filed : FileRecord
+  pub into : ComesInto slot filed described q
+  pub named : filed.name ≡ file.name
+  pub tagged : filed.tags ≡ tags
 
--- ---- words that may be forgotten
-module _ (p e : Kept) (slot : ℕ) (rec : FileRecord) (name : List ℕ) (assigned : List (List ℕ)) (bytes : List ℕ) (form : AreInForm p) (there : rec_at p.catalog slot ≡ Some rec)
-    (sound : AreSound (vacated p slot rec)) (coming : MayComeIn (vacated p slot rec) (new_file name assigned bytes)) (comes : ComesIn (new_file name assigned bytes) (vacated p slot rec) e)
-    (here : comes.slot ≡ slot) (after : AreSound e) where
-  abbrev d : Kept
-  d = vacated p slot rec
-
-  abbrev k : Kept
-  k = end d e name assigned bytes sound coming comes
-
-  k_is : e ≡ k
-  k_is = end_is d e name assigned bytes sound coming comes
-
-  sound_k : AreSound k
-  sound_k = sound_end d e name assigned bytes sound coming comes after
-
-  pub known_used_or_old : (n : ℕ) → is_some (word_of k.dict n) ≡ true → (is_used k n ≡ true) ⊎ (has_number (numbers_at p.ext slot) n ≡ true)
-  known_used_or_old n some = by (known_or_here d e name assigned bytes sound coming comes after form.in_use.used n some)
-    where
-      by : (is_used k n ≡ true) ⊎ (has p.ext n comes.slot ≡ true) → (is_used k n ≡ true) ⊎ (has_number (numbers_at p.ext slot) n ≡ true)
-      by (inl used) = inl used
-      by (inr was) = inr (ap (has p.ext n) (sym here) ∙ was)
-
-  pub closed_described : AreClosed k
-  closed_described = closed_then d e name assigned bytes sound coming comes after form.closed
-
-  pub tags_described : (at : ℕ) (r : FileRecord) → rec_at k.catalog at ≡ Some r → (n : ℕ) → has_number r.tags n ≡ true → has k.ext n at ≡ true
-  tags_described = tags_then d e name assigned bytes sound coming comes after (tags_others p slot rec form there)
-
-  may_forget_k : MayForget (numbers_at p.ext slot) k
-  may_forget_k = record {
-    given = λ n some unused. by n unused (known_used_or_old n some);
-    tags = λ at r is n tag. used_had d e name assigned bytes sound coming comes after n at (tags_described at r is n tag);
-    rights = λ at left right is. used_flagged k right (form.in_use.rights at left right is);
-    heads = λ n head used is. head_used k sound_k closed_described n head is used;
-  }
-    where
-      by : (n : ℕ) → is_used k n ≡ false → (is_used k n ≡ true) ⊎ (has_number (numbers_at p.ext slot) n ≡ true) → has_number (numbers_at p.ext slot) n ≡ true
-      by n unused (inl used) = absurd (both_ways (is_used k n) unused used)
-      by n unused (inr old) = old
-
-  pub may_forget : MayForget (numbers_at p.ext slot) e
-  may_forget = subst (MayForget (numbers_at p.ext slot)) (sym k_is) may_forget_k
-
--- ---- all in form again
 module _ (p q : Kept) (slot : ℕ) (name : List ℕ) (assigned : List (List ℕ)) (bytes : List ℕ) (form : AreInForm p) (r : Replaced slot (new_file name assigned bytes) p q) where
-  abbrev file : File
+  abbrev pub file : File
   file = new_file name assigned bytes
 
+  -- what is kept without the file and its words
   abbrev pub left : Kept
-  left = vacated p slot r.rec
+  left = gone.left p r.way.vacated slot r.rec form r.way.vacates
+
+  pub sound_left : AreSound left
+  sound_left = gone.sound_left p r.way.vacated slot r.rec form r.way.vacates
 
   pub coming : MayComeIn left file
-  coming = come_vacated p slot r.rec form r.may.there file r.may
+  coming = gone.coming p r.way.vacated slot r.rec form r.way.vacates file r.may
 
-  abbrev pub made : Kept
-  made = end left r.described name assigned bytes r.form_vacated coming r.comes
-
-  pub went : Forgets (numbers_at p.ext slot) made q
-  went = subst (λ (x : Kept). Forgets (numbers_at p.ext slot) x q) (end_is left r.described name assigned bytes r.form_vacated coming r.comes) r.forgets
+  -- and with the other one
+  abbrev pub comes : ComesIn file left q
+  comes =
+      comes_over file r.way.vacated left q (gone.left_is p r.way.vacated slot r.rec form r.way.vacates)
+      (comes_described file slot r.filed r.way.vacated r.way.learnt r.described q r.way.learns.learns r.way.describes r.into r.named (r.tagged ∙ r.way.learns.tagged))
 
   abbrev pub last : Kept
-  last = rest (numbers_at p.ext slot) made q went
+  last = end left q name assigned bytes sound_left coming comes
 
   pub last_is : q ≡ last
-  last_is = went.parts
+  last_is = end_is left q name assigned bytes sound_left coming comes
 
   module _ (after : AreSound q) where
     pub sound_last : AreSound last
-    sound_last = subst (λ (x : Kept). AreSound x) last_is after
+    sound_last = sound_end left q name assigned bytes sound_left coming comes after
 
+    -- each known word stayed, and is in use without the slot, or it is one of the new description
     pub used_last : AreUsed last
-    used_last =
-        subst (λ (x : Kept). AreUsed x) last_is
-        (all_used (numbers_at p.ext slot) made q went
-        (known_used_or_old p r.described slot r.rec name assigned bytes form r.may.there r.form_vacated coming r.comes r.here r.form_described))
+    used_last n some = let word = some_word (word_of last.dict n) some in by word.0 word.1 (word_from left q name assigned bytes sound_left coming comes after n word.0 word.1)
+      where
+        elsewhere : (at : ℕ) → has (emptied left slot).ext n at ≡ true → (at ≡ slot) ⊎ (at ≡ slot → ⊥) → is_used last n ≡ true
+        elsewhere at h (inl same) = absurd (both_ways (has (emptied left slot).ext n at) (ap (has (emptied left slot).ext n) same ∙ none_here p.ext slot n) h)
+        elsewhere at h (inr differ) =
+            used_had left q name assigned bytes sound_left coming comes after n at
+            (has_other left q name assigned bytes sound_left coming comes n at differ ∙ (sym (same_elsewhere p.ext slot n at differ) ∙ h))
+
+        stayed : IsUsedFor (emptied left slot) n → is_used last n ≡ true
+        stayed (Flagged bit) = used_flagged last n bit
+        stayed (HadAt at h) = elsewhere at h (cases_eq at slot)
+        stayed (NamedLeft named) = used_left last n (left_stays left q name assigned bytes sound_left coming comes after n named)
+
+        by : (word : List ℕ) → word_of last.dict n ≡ Some word → (word_of left.dict n ≡ Some word) ⊎ Among (described_by left file) word → is_used last n ≡ true
+        by word is (inl was) = stayed (used_for (emptied left slot) n (gone.still_used p r.way.vacated slot r.rec form r.way.vacates n (ap is_some was)))
+        by word is (inr m) =
+            used_had left q name assigned bytes sound_left coming comes after n slot
+            (has_here left q name assigned bytes sound_left coming comes after n ∙ of_one (described_by left file) (word_of last.dict n) word is m)
 
     pub form_last : AreInForm last
     form_last = record {
       sound = sound_last;
-      free = free_then left r.described name assigned bytes r.form_vacated coming r.comes r.form_described
-          (λ at differ. free_others p slot r.rec form r.may.there at (λ same. differ (same ∙ sym r.here)));
-      closed = closed_still (numbers_at p.ext slot) made q went (sound_end left r.described name assigned bytes r.form_vacated coming r.comes r.form_described) sound_last
-          (closed_described p r.described slot r.rec name assigned bytes form r.may.there r.form_vacated coming r.comes r.here r.form_described);
-      short = short_then left r.described name assigned bytes r.form_vacated coming r.comes r.form_described form.short;
-      taken = taken_then left r.described name assigned bytes r.form_vacated coming r.comes (taken_others p slot r.rec form r.may.there);
-      apart = apart_then left r.described name assigned bytes r.form_vacated coming r.comes (taken_others p slot r.rec form r.may.there) (apart_others p slot r.rec form r.may.there);
+      free = free_then left q name assigned bytes sound_left coming comes after (free_others p slot r.rec form r.may.there);
+      closed = closed_then left q name assigned bytes sound_left coming comes after
+          (λ n at differ h. ap is_some (gone.word_is_still p r.way.vacated slot r.rec form r.way.vacates n at differ h) ∙ named_all p form.sound form.free n at h)
+          (λ at a b differ. gone.closed_left p r.way.vacated slot r.rec form r.way.vacates at a b);
+      short = short_then left q name assigned bytes sound_left coming comes after form.short;
+      taken = taken_then left q name assigned bytes sound_left coming comes (taken_others p slot r.rec form r.may.there);
+      apart = apart_then left q name assigned bytes sound_left coming comes (taken_others p slot r.rec form r.may.there) (apart_others p slot r.rec form r.may.there);
       in_use = record {
         used = used_last;
-        tags = tags_described p r.described slot r.rec name assigned bytes form r.may.there r.form_vacated coming r.comes r.here r.form_described;
+        tags = tags_then left q name assigned bytes sound_left coming comes after (tags_others p slot r.rec form r.may.there);
         rights = form.in_use.rights;
       };
     }

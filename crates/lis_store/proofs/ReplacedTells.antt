@@ -1,5 +1,5 @@
 -- What memory tells when another file takes the place of one.
-use Rattle.std.proofs.Common.{◌≡◌, ◌⊎◌, sym, ap, ap₂, ◌∙◌, subst, inl, inr, ℕ, ◌+◌, ◌<◌, ◌≤◌, ◌==◌, not, true, false, List, length, is_some, arith}
+use Rattle.std.proofs.Common.{◌≡◌, ◌⊎◌, sym, ap, ap₂, ◌∙◌, subst, inl, inr, ℕ, ◌+◌, ◌<◌, ◌≤◌, ◌==◌, not, true, false, List, length, is_some, IsSome, arith}
 use Rattle.std.specs.List.{flat_map, list_all, Contains}
 use Rattle.std.proofs.lemmas.Bool.{and_parts, and_from, both_ways, or_cases, eq-eqb, ne_eqb, false_from_ne_true, not_from_false}
 use Rattle.std.proofs.lemmas.List.{length-map}
@@ -30,28 +30,29 @@ use Rattle.lis_kept.proofs.Known.{words_known}
 use Rattle.lis_store.specs.Saving.{IsReady}
 use Rattle.lis_store.specs.Admitting.{described_by}
 use Rattle.lis_store.specs.Adding.{numbers_named, learnt_words}
-use Rattle.lis_store.specs.ReplacingIn.{AreInForm}
-use Rattle.lis_store.proofs.Added.{filed_is, rec_here, set_here, set_other, has_other, word_stays, sound_end, used_had, described_numbered, new_not_taken, new_taken}
+use Rattle.lis_store.specs.ReplacingIn.{AreInForm, MayComeIn}
+use Rattle.lis_store.proofs.Added.{rec_here, set_here, set_other, word_stays, described_numbered, new_not_taken, new_taken}
 use Rattle.lis_store.proofs.Coming.{ComesIn}
 use Rattle.lis_store.proofs.Facts.{limits_told, filed_of_file, file_of_filed, blocks_counted}
-use Rattle.lis_store.proofs.Forgot.{used_word_stays}
 use Rattle.lis_store.proofs.Given.{given_taken}
 use Rattle.lis_store.proofs.Marks.{taken_after}
 use Rattle.lis_store.proofs.Naming.{named_told}
 use Rattle.lis_store.proofs.PutIn.{own_numbered}
-use Rattle.lis_store.proofs.Replaced.{Replaced, left, coming, made, went, last, last_is, sound_last, used_last, form_last}
+use Rattle.lis_store.proofs.Left.{described_is, word_is_still}
+use Rattle.lis_store.proofs.Replaced.{Replaced, left, sound_left, coming, comes, last, last_is, sound_last, used_last, form_last}
+use Rattle.lis_store.proofs.ReplacedMarks.{was}
 use Rattle.lis_store.proofs.Told.{words_same}
-use Rattle.lis_store.proofs.Vacated.{vacated, name_vacant}
+use Rattle.lis_store.proofs.Vacated.{name_vacant}
 
 -- what blocks hold before and after a file comes
-pub record ComesTold (file : File) (p q : Kept) (comes : ComesIn file p q) (at there : ℕ → List ℕ) : Type 0 where
+pub record ComesTold (file : File) (filed : FileRecord) (p q : Kept) (at there : ℕ → List ℕ) : Type 0 where
   pub super : there 0 ≡ at 0
-  pub state : state_of comes.filed there ≡ file_added (state_of comes.learnt at) (new_file file.name (words_told comes.learnt.dict comes.rec.tags) file.bytes)
-  pub saved : IsSaved comes.learnt at → IsSaved comes.filed there
+  pub state : state_of q there ≡ file_added (state_of p at) (new_file file.name (words_told p.dict filed.tags) file.bytes)
+  pub saved : IsSaved p at → IsSaved q there
 
 module _ (p q : Kept) (slot : ℕ) (name : List ℕ) (assigned : List (List ℕ)) (bytes : List ℕ) (form : AreInForm p) (r : Replaced slot (new_file name assigned bytes) p q)
     (after : AreSound q) (assignable : list_all (is_assignable (declared_of p)) assigned ≡ true)
-    (at there : ℕ → List ℕ) (s : State) (tells : Tells p at s) (looks : ComesTold (new_file name assigned bytes) (vacated p slot r.rec) r.described r.comes at there) where
+    (at there : ℕ → List ℕ) (s : State) (tells : Tells p at s) (looks : ComesTold (new_file name assigned bytes) r.filed r.described q at there) where
   abbrev file : File
   file = new_file name assigned bytes
 
@@ -64,45 +65,50 @@ module _ (p q : Kept) (slot : ℕ) (name : List ℕ) (assigned : List (List ℕ)
   abbrev d : Kept
   d = left p q slot name assigned bytes form r
 
-  abbrev k : Kept
-  k = made p q slot name assigned bytes form r
+  abbrev sound_d : AreSound d
+  sound_d = sound_left p q slot name assigned bytes form r
+
+  abbrev may_come : MayComeIn d file
+  may_come = coming p q slot name assigned bytes form r
+
+  abbrev come : ComesIn file d q
+  come = comes p q slot name assigned bytes form r
 
   abbrev l : Kept
   l = last p q slot name assigned bytes form r
 
   abbrev filed : Filed
-  filed = record { slot = r.comes.slot; rec = r.comes.rec }
+  filed = record { slot = come.slot; rec = come.rec }
 
   abbrev old : Filed
   old = record { slot = slot; rec = r.rec }
-
-  in_form : AreSound k
-  in_form = sound_end d r.described name assigned bytes r.form_vacated (coming p q slot name assigned bytes form r) r.comes r.form_described
 
   sound : AreSound l
   sound = sound_last p q slot name assigned bytes form r after
 
   -- ---- the state
-  tags_told : words_told k.dict r.comes.rec.tags ≡ assigned
+  tags_told : words_told r.described.dict r.filed.tags ≡ assigned
   tags_told =
-      ap (words_told k.dict) r.comes.tagged
-      ∙ named_told k.dict in_form.dict assigned (sorted_from_rising word_cmp word_order assigned r.may.set) (λ word h.
-      own_numbered d r.form_vacated name assigned bytes (coming p q slot name assigned bytes form r) r.comes.learnt r.comes.learns word
-      (has_word_from_among (learnt_words file) word (among_left assigned _ word (among_from_has_word assigned word h))))
+      ap (λ (x : Kept). words_told x.dict r.filed.tags) r.way.describes.parts
+      ∙ (ap (words_told l.dict) come.tagged
+      ∙ named_told l.dict sound.dict assigned (sorted_from_rising word_cmp word_order assigned r.may.set) (λ word h.
+      own_numbered d sound_d name assigned bytes may_come come.learnt come.learns word
+      (has_word_from_among (learnt_words file) word (among_left assigned _ word (among_from_has_word assigned word h)))))
 
-  state_dropped : state_of d at ≡ file_removed (state_of p at) r.rec.name
-  state_dropped = ap (λ (x : Kept). state_of x at) (sym r.drops.parts) ∙ r.drops.state at
+  state_described : state_of r.described at ≡ gone
+  state_described =
+      ap (λ (x : Kept). state_of x at) r.way.describes.parts
+      ∙ (r.way.learns.learns.state at
+      ∙ (r.way.vacates.forgets.state at
+      ∙ (r.way.vacates.drops.state at
+      ∙ ap (λ (x : State). file_removed x r.rec.name) tells.state)))
 
   state_then : state_of l there ≡ t
   state_then =
       ap (λ (x : Kept). state_of x there) (sym (last_is p q slot name assigned bytes form r))
-      ∙ (r.forgets.state there
-      ∙ (ap (λ (x : Kept). state_of x there) r.comes.describes.parts
       ∙ (looks.state
-      ∙ (ap (λ (ws : List (List ℕ)). file_added (state_of r.comes.learnt at) (new_file name ws bytes)) tags_told
-      ∙ (ap (λ (x : State). file_added x file) (r.comes.learns.state at)
-      ∙ (ap (λ (x : State). file_added x file) state_dropped
-      ∙ ap (λ (x : State). file_added (file_removed x r.rec.name) file) tells.state))))))
+      ∙ (ap (λ (ws : List (List ℕ)). file_added (state_of r.described at) (new_file name ws bytes)) tags_told
+      ∙ ap (λ (x : State). file_added x file) state_described))
 
   -- ---- its files
   abbrev told : Filed → File
@@ -120,8 +126,8 @@ module _ (p q : Kept) (slot : ℕ) (name : List ℕ) (assigned : List (List ℕ)
   new_there : Contains l.catalog.entries filed
   new_there =
       contains_from_among l.catalog.entries filed
-      (filed_at_slot l.catalog sound.catalog r.comes.slot r.comes.rec
-      (rec_here d r.described name assigned bytes r.form_vacated (coming p q slot name assigned bytes form r) r.comes))
+      (filed_at_slot l.catalog sound.catalog come.slot come.rec
+      (rec_here d q name assigned bytes sound_d may_come come))
 
   old_there : (f : Filed) → Among d.catalog.entries f → Contains l.catalog.entries f
   old_there f m = contains_from_among l.catalog.entries f (insert_key_old filed_cmp d.catalog.entries filed f m)
@@ -134,8 +140,8 @@ module _ (p q : Kept) (slot : ℕ) (name : List ℕ) (assigned : List (List ℕ)
   stays : (f : Filed) → Among p.catalog.entries f → (f.slot ≡ slot → ⊥) → Among d.catalog.entries f
   stays f m differ = filter_among (λ (g : Filed). not (g.slot == slot)) p.catalog.entries f m (not_from_false (f.slot == slot) (ne_eqb f.slot slot differ))
 
-  stayed_slot : (f : Filed) → Among d.catalog.entries f → f.slot ≡ r.comes.slot → ⊥
-  stayed_slot f m same = (stayed f m).1 (same ∙ r.here)
+  stayed_slot : (f : Filed) → Among d.catalog.entries f → f.slot ≡ come.slot → ⊥
+  stayed_slot f m same = (stayed f m).1 same
 
   -- the record in the slot
   rec_old : (f : Filed) → Among p.catalog.entries f → f.slot ≡ slot → f.rec ≡ r.rec
@@ -144,7 +150,7 @@ module _ (p q : Kept) (slot : ℕ) (name : List ℕ) (assigned : List (List ℕ)
   stayed_name : (f : Filed) → Among d.catalog.entries f → f.rec.name ≡ name → ⊥
   stayed_name f m same =
       both_ways (is_some (slot_of d.catalog name)) (ap is_some (name_vacant p slot r.rec form r.may.there file r.may))
-      (ap is_some (ap (slot_of d.catalog) (sym same) ∙ filed_slot d.catalog r.form_vacated.catalog f m))
+      (ap is_some (ap (slot_of d.catalog) (sym same) ∙ filed_slot d.catalog sound_d.catalog f m))
 
   -- a file of the state without the old one is that of a record that stayed
   of_gone : (other : File) → Among gone.files other → (f : Filed) × Among d.catalog.entries f × (told f ≡ other)
@@ -169,15 +175,15 @@ module _ (p q : Kept) (slot : ℕ) (name : List ℕ) (assigned : List (List ℕ)
     where
       by : (file ≡ told_then filed) ⊎ Among gone.files (told_then filed) → told_then filed ≡ file
       by (inl same) = sym same
-      by (inr m) = absurd (no_file_named (told_then filed) m r.comes.named)
+      by (inr m) = absurd (no_file_named (told_then filed) m come.named)
 
   told_old : (f : Filed) → Among d.catalog.entries f → told_then f ≡ told f
   told_old f m = by (told_of f (old_there f m))
     where
       same_filed : (g : Filed) → Among d.catalog.entries g → g.rec.name ≡ f.rec.name → g ≡ f
       same_filed g of_g same =
-          let slots : g.slot ≡ f.slot = same_Some g.slot f.slot (sym (filed_slot d.catalog r.form_vacated.catalog g of_g) ∙ (ap (slot_of d.catalog) same ∙ filed_slot d.catalog r.form_vacated.catalog f m)) in
-          let recs : g.rec ≡ f.rec = same_Some g.rec f.rec (sym (filed_rec d.catalog r.form_vacated.catalog g of_g) ∙ (ap (rec_at d.catalog) slots ∙ filed_rec d.catalog r.form_vacated.catalog f m)) in
+          let slots : g.slot ≡ f.slot = same_Some g.slot f.slot (sym (filed_slot d.catalog sound_d.catalog g of_g) ∙ (ap (slot_of d.catalog) same ∙ filed_slot d.catalog sound_d.catalog f m)) in
+          let recs : g.rec ≡ f.rec = same_Some g.rec f.rec (sym (filed_rec d.catalog sound_d.catalog g of_g) ∙ (ap (rec_at d.catalog) slots ∙ filed_rec d.catalog sound_d.catalog f m)) in
           let make : ℕ → FileRecord → Filed = λ n x. record { slot = n; rec = x } in
           ap₂ make slots recs
 
@@ -188,31 +194,24 @@ module _ (p q : Kept) (slot : ℕ) (name : List ℕ) (assigned : List (List ℕ)
           sym found.2 ∙ ap told (same_filed found.0 found.1 (ap (λ (x : File). x.name) found.2))
 
   -- ---- descriptions
-  word_then : (n : ℕ) → is_used k n ≡ true → word_of l.dict n ≡ word_of k.dict n
-  word_then = used_word_stays (numbers_at p.ext slot) k q (went p q slot name assigned bytes form r)
-
-  described_new : words_told l.dict (numbers_at l.ext r.comes.slot) ≡ description t (told_then filed)
+  described_new : words_told l.dict (numbers_at l.ext slot) ≡ description t (told_then filed)
   described_new =
-      let ns = numbers_named k.dict (described_by d file) in
-      ap (words_told l.dict) (set_here d r.described name assigned bytes r.form_vacated (coming p q slot name assigned bytes form r) r.comes)
-      ∙ (words_same k.dict l.dict ns (λ n m.
-      word_then n
-      (used_had d r.described name assigned bytes r.form_vacated (coming p q slot name assigned bytes form r) r.comes r.form_described n r.comes.slot
-      (ap (λ (xs : List ℕ). has_number xs n) (set_here d r.described name assigned bytes r.form_vacated (coming p q slot name assigned bytes form r) r.comes) ∙ number_from_among ns n m)))
-      ∙ (named_told k.dict in_form.dict (described_by d file) (sorted_set_of (flat_map (up (declared_of p) (axioms_of p)) (own_words (declared_of p) file)))
-      (described_numbered d r.described name assigned bytes r.form_vacated (coming p q slot name assigned bytes form r) r.comes r.form_described)
+      ap (words_told l.dict) (set_here d q name assigned bytes sound_d may_come come)
+      ∙ (named_told l.dict sound.dict (described_by d file) (sorted_set_of (flat_map (up (declared_of d) (axioms_of d)) (own_words (declared_of d) file)))
+      (described_numbered d q name assigned bytes sound_d may_come come after)
+      ∙ (described_is p r.way.vacated slot r.rec form r.way.vacates file r.may
       ∙ (ap (λ (x : State). description x file) tells.state ∙ ap (description s) (sym told_new))))
 
   described_old : (g : Filed) → Among d.catalog.entries g → words_told l.dict (numbers_at l.ext g.slot) ≡ description t (told_then g)
   described_old g of =
       let ns = numbers_at p.ext g.slot in
-      let adm = coming p q slot name assigned bytes form r in
       let differ = stayed_slot g of in
-      ap (words_told l.dict) (set_other d r.described name assigned bytes r.form_vacated adm r.comes g.slot differ)
+      let here : IsSome (rec_at p.catalog g.slot) = ap is_some (filed_rec p.catalog form.sound.catalog g (stayed g of).0) in
+      ap (words_told l.dict) (set_other d q name assigned bytes sound_d may_come come g.slot differ)
       ∙ (words_same p.dict l.dict ns (λ n m.
       let had : has p.ext n g.slot ≡ true = number_from_among ns n m in
-      word_then n (used_had d r.described name assigned bytes r.form_vacated adm r.comes r.form_described n g.slot (has_other d r.described name assigned bytes r.form_vacated adm r.comes n g.slot differ ∙ had))
-      ∙ word_stays d r.described name assigned bytes r.form_vacated adm r.comes n (form.sound.named n g.slot had))
+      let still = word_is_still p r.way.vacated slot r.rec form r.way.vacates n g.slot differ had in
+      word_stays d q name assigned bytes sound_d may_come come n (ap is_some still ∙ form.sound.named n g.slot here had) ∙ still)
       ∙ (tells.described g (contains_from_among p.catalog.entries g (stayed g of).0) ∙ ap (description s) (sym (told_old g of))))
 
   described_then : (f : Filed) → Contains l.catalog.entries f → words_told l.dict (numbers_at l.ext f.slot) ≡ description t (told_then f)
@@ -223,13 +222,13 @@ module _ (p q : Kept) (slot : ℕ) (name : List ℕ) (assigned : List (List ℕ)
       by (inr of) = described_old f of
 
   -- ---- data blocks
-  new_blocks_free : (n : ℕ) → has_number r.comes.rec.blocks n ≡ true → (n < length d.taken) × (is_taken d.taken n ≡ false)
-  new_blocks_free = new_not_taken d r.described name assigned bytes r.form_vacated (coming p q slot name assigned bytes form r) r.comes
+  new_blocks_free : (n : ℕ) → has_number come.rec.blocks n ≡ true → (n < length d.taken) × (is_taken d.taken n ≡ false)
+  new_blocks_free = new_not_taken d q name assigned bytes sound_d may_come come
 
   taken_then : (n : ℕ) → n < l.limits.blocks → is_taken l.taken n ≡ true → IsFileBlock l there n
-  taken_then n lt is = by (or_cases (has_number r.comes.rec.blocks n) (is_taken d.taken n) (sym (taken_after d.taken r.comes.rec.blocks n (omega (arith, lt, r.form_vacated.blocks))) ∙ is))
+  taken_then n lt is = by (or_cases (has_number come.rec.blocks n) (is_taken d.taken n) (sym (taken_after d.taken come.rec.blocks n (omega (arith, lt, sound_d.blocks))) ∙ is))
     where
-      by : (has_number r.comes.rec.blocks n ≡ true) ⊎ (is_taken d.taken n ≡ true) → IsFileBlock l there n
+      by : (has_number come.rec.blocks n ≡ true) ⊎ (is_taken d.taken n ≡ true) → IsFileBlock l there n
       by (inl has_it) = record { file = filed; kept = new_there; has = has_it }
       by (inr was) =
           let both = and_parts (is_taken p.taken n) (not (has_number r.rec.blocks n)) (sym (given_taken p.taken r.rec.blocks n) ∙ was) in
@@ -252,16 +251,16 @@ module _ (p q : Kept) (slot : ℕ) (name : List ℕ) (assigned : List (List ℕ)
   given_then : (f : Filed) → Contains l.catalog.entries f → (n : ℕ) → has_number f.rec.blocks n ≡ true → (n < l.limits.blocks) × (is_taken l.taken n ≡ true)
   given_then f m n has_it = by (new_or_old f m)
     where
-      of_new : has_number r.comes.rec.blocks n ≡ true → (n < l.limits.blocks) × (is_taken l.taken n ≡ true)
+      of_new : has_number come.rec.blocks n ≡ true → (n < l.limits.blocks) × (is_taken l.taken n ≡ true)
       of_new here = (
-        omega (arith, (new_blocks_free n here).0, r.form_vacated.blocks),
-        all_among (is_taken l.taken) r.comes.rec.blocks n
-            (new_taken d r.described name assigned bytes r.form_vacated (coming p q slot name assigned bytes form r) r.comes) (among_from_number r.comes.rec.blocks n here),
+        omega (arith, (new_blocks_free n here).0, sound_d.blocks),
+        all_among (is_taken l.taken) come.rec.blocks n
+            (new_taken d q name assigned bytes sound_d may_come come) (among_from_number come.rec.blocks n here),
       )
 
       by : (filed ≡ f) ⊎ Among d.catalog.entries f → (n < l.limits.blocks) × (is_taken l.taken n ≡ true)
       by (inl same) = of_new (subst (λ (x : Filed). has_number x.rec.blocks n ≡ true) (sym same) has_it)
-      by (inr of) = let was = still_taken f of n has_it in (was.0, stays_marked d.taken r.comes.rec.blocks n was.1)
+      by (inr of) = let was = still_taken f of n has_it in (was.0, stays_marked d.taken come.rec.blocks n was.1)
 
   one_use_then : (f g : Filed) → Contains l.catalog.entries f → Contains l.catalog.entries g → (n : ℕ) → has_number f.rec.blocks n ≡ true → has_number g.rec.blocks n ≡ true → f ≡ g
   one_use_then f g mf mg n has_f has_g = by (new_or_old f mf) (new_or_old g mg)
@@ -330,11 +329,9 @@ module _ (p q : Kept) (slot : ℕ) (name : List ℕ) (assigned : List (List ℕ)
 
     pub ready_replaced : IsSaved p at → IsReady q there t
     ready_replaced saved =
-        let adm = coming p q slot name assigned bytes form r in
-        let ext_is : r.comes.filed.ext ≡ p.ext = ap (λ (x : Kept). x.ext) (filed_is d r.described name assigned bytes r.form_vacated adm r.comes) in
-        let was : numbers_at p.ext slot ≡ numbers_at r.comes.filed.ext r.comes.slot = ap₂ (λ (e : Ext) (i : ℕ). numbers_at e i) (sym ext_is) (sym r.here) in
-        let dropped = subst (λ (x : Kept). IsSaved x at) r.drops.parts (r.drops.marks.saved at saved) in
+        let vacated = r.way.vacates.forgets.marks.saved at (r.way.vacates.drops.marks.saved at saved) in
+        let described = (r.way.describes.marks (numbers_at p.ext slot) (was p q slot name assigned bytes form r)).saved at (r.way.learns.learns.marks.saved at vacated) in
         record {
           tells = subst (λ (x : Kept). Tells x there t) (sym (last_is p q slot name assigned bytes form r)) tells_last;
-          saved = r.forgets.marks.saved there ((r.comes.describes.marks (numbers_at p.ext slot) was).saved there (looks.saved (r.comes.learns.marks.saved at dropped)));
+          saved = looks.saved described;
         }

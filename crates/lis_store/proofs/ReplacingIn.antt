@@ -1,5 +1,5 @@
 -- What each step needs where another file takes the place of one.
-use Rattle.std.proofs.Common.{◌≡◌, refl, sym, ap, ◌∙◌, subst, ℕ, ◌<◌, ◌≤◌, nat_lt, nat_le, not, ◌&&◌, true, List, length, Option, Some, None, is_some, IsSome, IsSomeAnd, arith}
+use Rattle.std.proofs.Common.{◌≡◌, refl, sym, ap, ◌∙◌, subst, ℕ, ◌<◌, ◌≤◌, nat_lt, nat_le, not, ◌&&◌, true, List, [], length, set, Option, Some, None, is_some, IsSome, IsSomeAnd, arith, get_or, get_or-set_same}
 use Rattle.std.specs.List.{list_all}
 use Rattle.std.proofs.lemmas.Bool.{and_parts, and_from, and_right, lt-ltb, ltb-true, leb-true}
 use Rattle.std.specs.List.Sorted.{IsStrictlyIncreasing}
@@ -8,98 +8,166 @@ use Rattle.lis_content.specs.Content.{given, are_free, has_number}
 use Rattle.lis_content.proofs.Numbers.{length-given, below_from_taken}
 use Rattle.lis_catalog.specs.Catalog.{slot_of, rec_at}
 use Rattle.lis_dict.specs.Dict.{word_of}
+use Rattle.lis_ext.specs.Ext.{Ext, has, set_of as numbers_at}
 use Rattle.lis_fields.specs.Records.{FileRecord}
 use Rattle.lis_fields.specs.Layouts.{are_tags, are_blocks, is_record}
 use Rattle.lis_fields.proofs.Parts.{record_from}
 use Rattle.lis_words.specs.Words.{is_file_name}
+use Rattle.lis_model.specs.declared.limits.Limits.{Limits}
 use Rattle.lis_model.specs.State.{File, blocks_needed}
 use Rattle.lis_model.specs.Changes.{new_file}
 use Rattle.lis_kept.specs.Kept.{Kept}
 use Rattle.lis_kept.specs.Sound.{AreSound, BlocksAreTaken, is_sound_record}
-use Rattle.lis_kept.proofs.Filing.{number_from_among}
-use Rattle.lis_laws.proofs.Counts.{all_from, all_among}
-use Rattle.lis_store.proofs.Given.{given_taken}
 use Rattle.lis_kept.specs.Changes.{Drops}
+use Rattle.lis_kept.specs.Forgetting.{MayForget, emptied}
+use Rattle.lis_kept.proofs.Filing.{number_from_among, among_from_number}
+use Rattle.lis_laws.proofs.Counts.{all_from, all_among}
 use Rattle.lis_store.specs.Admitting.{described_by}
-use Rattle.lis_store.specs.ReplacingIn.{AreInForm, MayComeIn, MayReplaceFirst, LearnsOwn}
+use Rattle.lis_store.specs.Adding.{numbers_named}
+use Rattle.lis_store.specs.Replacing.{MayReplace}
+use Rattle.lis_store.specs.ReplacingIn.{AreInForm, MayComeIn, LearnsOwn, Vacates, MakesWay}
+use Rattle.lis_store.proofs.Given.{given_taken}
+use Rattle.lis_store.proofs.Left.{left, left_is, coming}
 use Rattle.lis_store.proofs.PutIn.{named_tags, named_rising, named_worded}
-use Rattle.lis_store.proofs.Vacated.{vacated, slot_below, slot_vacant, name_vacant, taken_others, come_vacated, blocks_vacated}
+use Rattle.lis_store.proofs.Vacated.{vacated, slot_below, slot_vacant, name_vacant, taken_others, blocks_vacated, may_forget}
 
 -- a file is in the slot
-pub may_some : (p : Kept) (slot : ℕ) (file : File) → IsSomeAnd (rec_at p.catalog slot) (λ (x : FileRecord). MayReplaceFirst p slot x file) → IsSome (rec_at p.catalog slot)
+pub may_some : (p : Kept) (slot : ℕ) (file : File) → IsSomeAnd (rec_at p.catalog slot) (λ (x : FileRecord). MayReplace p slot x file) → IsSome (rec_at p.catalog slot)
 may_some p slot file first = by (rec_at p.catalog slot) first
   where
-    by : (o : Option FileRecord) → IsSomeAnd o (λ (x : FileRecord). MayReplaceFirst p slot x file) → IsSome o
+    by : (o : Option FileRecord) → IsSomeAnd o (λ (x : FileRecord). MayReplace p slot x file) → IsSome o
     by None may = absurd may
     by (Some x) may = refl
 
-module _ (p dropped : Kept) (slot : ℕ) (name : List ℕ) (assigned : List (List ℕ)) (bytes : List ℕ) (rec : FileRecord) (form : AreInForm p) (first : IsSomeAnd (rec_at p.catalog slot) (λ (x : FileRecord). MayReplaceFirst p slot x (new_file name assigned bytes)))
-    (drops : Drops slot rec p dropped) (sound : AreSound dropped) where
-  pub may_rec : MayReplaceFirst p slot rec (new_file name assigned bytes)
-  may_rec = subst (λ o. IsSomeAnd o (λ (x : FileRecord). MayReplaceFirst p slot x (new_file name assigned bytes))) drops.there first
+pub may_there : (p : Kept) (slot : ℕ) (file : File) (rec : FileRecord) → rec_at p.catalog slot ≡ Some rec → IsSomeAnd (rec_at p.catalog slot) (λ (x : FileRecord). MayReplace p slot x file) → MayReplace p slot rec file
+may_there p slot file rec there first = subst (λ o. IsSomeAnd o (λ (x : FileRecord). MayReplace p slot x file)) there first
 
-  pub form_vacated : AreSound (vacated p slot rec)
-  form_vacated = subst (λ (x : Kept). AreSound x) drops.parts sound
+-- ---- the file is gone
+module _ (p dropped : Kept) (slot : ℕ) (rec : FileRecord) (form : AreInForm p) (drops : Drops slot rec p dropped) (sound : AreSound dropped) where
+  pub below_dropped : slot < dropped.limits.files
+  below_dropped = omega (arith, ap (λ (x : Kept). x.limits.files) drops.parts, slot_below p slot rec form drops.there)
 
-  pub coming_vacated : MayComeIn (vacated p slot rec) (new_file name assigned bytes)
-  coming_vacated = come_vacated p slot rec form drops.there (new_file name assigned bytes) may_rec
+  pub free_dropped : rec_at dropped.catalog slot ≡ None
+  free_dropped = ap (λ (x : Kept). rec_at x.catalog slot) drops.parts ∙ slot_vacant p slot rec form drops.there
 
-  pub coming_dropped : MayComeIn dropped (new_file name assigned bytes)
-  coming_dropped = subst (λ (x : Kept). MayComeIn x (new_file name assigned bytes)) (sym drops.parts) coming_vacated
+  pub may_forget_dropped : MayForget (numbers_at p.ext slot) (emptied dropped slot)
+  may_forget_dropped =
+      subst (λ (x : Kept). MayForget (numbers_at p.ext slot) (emptied x slot)) (sym drops.parts)
+      (may_forget p slot rec form drops.there (subst (λ (x : Kept). AreSound x) drops.parts sound))
 
-  module _ (l : Kept) (tags numbers : List ℕ) (learns : LearnsOwn (new_file name assigned bytes) tags numbers dropped l) where
+-- ---- and so are its words
+module _ (p v : Kept) (slot : ℕ) (rec : FileRecord) (form : AreInForm p) (out : Vacates slot rec p v) (file : File)
+    (first : IsSomeAnd (rec_at p.catalog slot) (λ (x : FileRecord). MayReplace p slot x file)) where
+  pub may_rec : MayReplace p slot rec file
+  may_rec = may_there p slot file rec out.drops.there first
+
+  pub coming_vacated : MayComeIn v file
+  coming_vacated = subst (λ (x : Kept). MayComeIn x file) (sym (left_is p v slot rec form out)) (coming p v slot rec form out file may_rec)
+
+  -- ---- the words of the other one are learnt
+  module _ (l : Kept) (tags numbers : List ℕ) (learns : LearnsOwn file tags numbers v l) where
     abbrev learnt : Kept
-    learnt = record (vacated p slot rec) { dict = l.dict; marks = l.marks }
+    learnt = record (left p v slot rec form out) { dict = l.dict; marks = l.marks }
 
-    pub learnt_is : l ≡ learnt
-    learnt_is = learns.learns.parts ∙ ap (λ (x : Kept). record x { dict = l.dict; marks = l.marks }) drops.parts
+    learnt_is : l ≡ learnt
+    learnt_is = learns.learns.parts ∙ ap (λ (x : Kept). record x { dict = l.dict; marks = l.marks }) (left_is p v slot rec form out)
 
     pub below_learnt : slot < l.limits.files
-    below_learnt = omega (arith, ap (λ (x : Kept). x.limits.files) learnt_is, slot_below p slot rec form drops.there)
+    below_learnt = omega (arith, ap (λ (x : Kept). x.limits.files) learnt_is, slot_below p slot rec form out.drops.there)
 
-    pub free_learnt : rec_at l.catalog slot ≡ None
-    free_learnt = ap (λ (x : Kept). rec_at x.catalog slot) learnt_is ∙ slot_vacant p slot rec form drops.there
-
-    pub name_learnt : slot_of l.catalog name ≡ None
-    name_learnt = ap (λ (x : Kept). slot_of x.catalog name) learnt_is ∙ name_vacant p slot rec form drops.there (new_file name assigned bytes) may_rec
-
-    pub tags_formed : are_tags tags ≡ true
-    tags_formed = ap are_tags learns.tagged ∙ named_tags l learns.sound assigned may_rec.few
-
-    pub tags_worded : list_all (λ n. is_some (word_of l.dict n)) tags ≡ true
-    tags_worded = ap (list_all (λ n. is_some (word_of l.dict n))) learns.tagged ∙ named_worded l learns.sound assigned
-
-    pub blocks_enough : blocks_needed (length bytes) ≤ free_count l.taken
-    blocks_enough = omega (arith, blocks_vacated p slot rec form drops.there (new_file name assigned bytes) may_rec, ap (λ (x : Kept). free_count x.taken) learnt_is)
-
-    pub taken_learnt : BlocksAreTaken l
-    taken_learnt = subst (λ (x : Kept). BlocksAreTaken x) (sym learnt_is) (taken_others p slot rec form drops.there)
+    pub was_learnt : numbers_at l.ext slot ≡ numbers_at p.ext slot
+    was_learnt = ap (λ (x : Kept). numbers_at x.ext slot) learnt_is
 
     pub numbers_rising : IsStrictlyIncreasing numbers
-    numbers_rising = subst (λ ns. IsStrictlyIncreasing ns) (sym learns.numbered) (named_rising l learns.sound (described_by dropped (new_file name assigned bytes)))
+    numbers_rising = subst (λ ns. IsStrictlyIncreasing ns) (sym learns.numbered) (named_rising l learns.sound (described_by v file))
 
     pub numbers_worded : list_all (λ n. is_some (word_of l.dict n)) numbers ≡ true
-    numbers_worded = ap (list_all (λ n. is_some (word_of l.dict n))) learns.numbered ∙ named_worded l learns.sound (described_by dropped (new_file name assigned bytes))
+    numbers_worded = ap (list_all (λ n. is_some (word_of l.dict n))) learns.numbered ∙ named_worded l learns.sound (described_by v file)
 
-    -- the blocks of the file that is gone
-    pub blocks_free : are_free l.taken rec.blocks ≡ true
-    blocks_free =
-        ap (λ (x : Kept). are_free x.taken rec.blocks) learnt_is
-        ∙ all_from (λ n. nat_lt n (length (given p.taken rec.blocks)) && not (is_taken (given p.taken rec.blocks) n)) rec.blocks (λ n m.
-        let lt = ltb-true n (length p.taken) (all_among (λ i. nat_lt i (length p.taken)) rec.blocks n (below_from_taken p.taken rec.blocks (form.taken slot rec drops.there)) m) in
-        and_from (nat_lt n (length (given p.taken rec.blocks))) (not (is_taken (given p.taken rec.blocks) n))
-        (lt-ltb n (length (given p.taken rec.blocks)) (omega (arith, lt, length-given p.taken rec.blocks)))
-        (ap not (given_taken p.taken rec.blocks n ∙ and_right (is_taken p.taken n) (not (has_number rec.blocks n)) (ap not (number_from_among rec.blocks n m)))))
+-- ---- the slot is described by them
+module _ (p q : Kept) (slot : ℕ) (name : List ℕ) (assigned : List (List ℕ)) (bytes : List ℕ) (rec : FileRecord) (tags : List ℕ) (form : AreInForm p)
+    (first : IsSomeAnd (rec_at p.catalog slot) (λ (x : FileRecord). MayReplace p slot x (new_file name assigned bytes))) (way : MakesWay slot (new_file name assigned bytes) rec tags p q) where
+  abbrev file : File
+  file = new_file name assigned bytes
 
-    -- the record with the other name and words
-    pub record_sound : is_sound_record l.dict l.limits.blocks (record rec { name = name; tags = tags }) ≡ true
-    record_sound =
-        let most = and_parts (is_record rec && list_all (λ n. is_some (word_of p.dict n)) rec.tags) (list_all (λ n. nat_lt n p.limits.blocks) rec.blocks) (form.sound.records slot rec drops.there) in
-        let formed = and_parts (is_record rec) (list_all (λ n. is_some (word_of p.dict n)) rec.tags) most.0 in
-        let both = and_parts (is_file_name rec.name && nat_le rec.size 65536 && are_tags rec.tags) (are_blocks rec.size rec.blocks) formed.0 in
-        let front = and_parts (is_file_name rec.name && nat_le rec.size 65536) (are_tags rec.tags) both.0 in
-        let size = (and_parts (is_file_name rec.name) (nat_le rec.size 65536) front.0).1 in
-        let now = record_from (record rec { name = name; tags = tags }) may_rec.name (leb-true rec.size 65536 size) tags_formed both.1 in
-        and_from (is_record (record rec { name = name; tags = tags }) && list_all (λ n. is_some (word_of l.dict n)) tags) (list_all (λ n. nat_lt n l.limits.blocks) rec.blocks)
-        (and_from (is_record (record rec { name = name; tags = tags })) (list_all (λ n. is_some (word_of l.dict n)) tags) now tags_worded)
-        (ap (λ (x : Kept). list_all (λ n. nat_lt n x.limits.blocks) rec.blocks) learnt_is ∙ most.1)
+  abbrev l : Kept
+  l = way.learnt
+
+  abbrev end : Kept
+  end = record (left p way.vacated slot rec form way.vacates) { dict = l.dict; ext = q.ext; marks = q.marks }
+
+  there : rec_at p.catalog slot ≡ Some rec
+  there = way.vacates.drops.there
+
+  pub may_way : MayReplace p slot rec file
+  may_way = may_there p slot file rec there first
+
+  end_is : q ≡ end
+  end_is =
+      way.describes.parts
+      ∙ (ap (λ (x : Kept). record x { ext = q.ext; marks = q.marks }) way.learns.learns.parts
+      ∙ ap (λ (x : Kept). record x { dict = l.dict; ext = q.ext; marks = q.marks }) (left_is p way.vacated slot rec form way.vacates))
+
+  dict_is : q.dict ≡ l.dict
+  dict_is = ap (λ (x : Kept). x.dict) end_is
+
+  pub limits_way : q.limits ≡ p.limits
+  limits_way = ap (λ (x : Kept). x.limits) end_is
+
+  pub below_way : slot < q.limits.files
+  below_way = omega (arith, ap (λ (x : Kept). x.limits.files) end_is, slot_below p slot rec form there)
+
+  pub free_way : rec_at q.catalog slot ≡ None
+  free_way = ap (λ (x : Kept). rec_at x.catalog slot) end_is ∙ slot_vacant p slot rec form there
+
+  pub name_way : slot_of q.catalog name ≡ None
+  name_way = ap (λ (x : Kept). slot_of x.catalog name) end_is ∙ name_vacant p slot rec form there file may_way
+
+  pub tags_formed : are_tags tags ≡ true
+  tags_formed = ap are_tags way.learns.tagged ∙ named_tags l way.learns.sound assigned may_way.few
+
+  pub tags_worded : list_all (λ n. is_some (word_of q.dict n)) tags ≡ true
+  tags_worded =
+      ap (λ (x : Kept). list_all (λ n. is_some (word_of x.dict n)) tags) end_is
+      ∙ (ap (list_all (λ n. is_some (word_of l.dict n))) way.learns.tagged ∙ named_worded l way.learns.sound assigned)
+
+  pub blocks_enough : blocks_needed (length bytes) ≤ free_count q.taken
+  blocks_enough = omega (arith, blocks_vacated p slot rec form there file may_way, ap (λ (x : Kept). free_count x.taken) end_is)
+
+  pub taken_way : BlocksAreTaken q
+  taken_way = subst (λ (x : Kept). BlocksAreTaken x) (sym end_is) (taken_others p slot rec form there)
+
+  -- each number by which the slot is described has a word
+  pub described_way : (n : ℕ) → has q.ext n slot ≡ true → IsSome (word_of q.dict n)
+  described_way n h =
+      let ns = numbers_named l.dict (described_by way.vacated file) in
+      let set_is : numbers_at q.ext slot ≡ ns =
+      ap (λ ss. get_or ss slot []) way.describes.sets ∙ get_or-set_same l.ext.sets slot ns [] (omega (arith, below_way, form.sound.files, ap (λ (x : Kept). x.limits.files) end_is, sets_long)) in
+      ap (λ (x : Kept). is_some (word_of x.dict n)) end_is
+      ∙ all_among (λ m. is_some (word_of l.dict m)) ns n (named_worded l way.learns.sound (described_by way.vacated file)) (among_from_number ns n (sym (ap (λ xs. has_number xs n) set_is) ∙ h))
+    where
+      sets_long : length l.ext.sets ≡ length p.ext.sets
+      sets_long = ap (λ (x : Kept). length x.ext.sets) (way.learns.learns.parts ∙ ap (λ (x : Kept). record x { dict = l.dict; marks = l.marks }) (left_is p way.vacated slot rec form way.vacates))
+
+  -- the blocks of the file that is gone
+  pub blocks_free : are_free q.taken rec.blocks ≡ true
+  blocks_free =
+      ap (λ (x : Kept). are_free x.taken rec.blocks) end_is
+      ∙ all_from (λ n. nat_lt n (length (given p.taken rec.blocks)) && not (is_taken (given p.taken rec.blocks) n)) rec.blocks (λ n m.
+      let lt = ltb-true n (length p.taken) (all_among (λ i. nat_lt i (length p.taken)) rec.blocks n (below_from_taken p.taken rec.blocks (form.taken slot rec there)) m) in
+      and_from (nat_lt n (length (given p.taken rec.blocks))) (not (is_taken (given p.taken rec.blocks) n))
+      (lt-ltb n (length (given p.taken rec.blocks)) (omega (arith, lt, length-given p.taken rec.blocks)))
+      (ap not (given_taken p.taken rec.blocks n ∙ and_right (is_taken p.taken n) (not (has_number rec.blocks n)) (ap not (number_from_among rec.blocks n m)))))
+
+  -- the record with the other name and words
+  pub record_sound : is_sound_record q.dict q.limits.blocks (record rec { name = name; tags = tags }) ≡ true
+  record_sound =
+      let most = and_parts (is_record rec && list_all (λ n. is_some (word_of p.dict n)) rec.tags) (list_all (λ n. nat_lt n p.limits.blocks) rec.blocks) (form.sound.records slot rec there) in
+      let formed = and_parts (is_record rec) (list_all (λ n. is_some (word_of p.dict n)) rec.tags) most.0 in
+      let both = and_parts (is_file_name rec.name && nat_le rec.size 65536 && are_tags rec.tags) (are_blocks rec.size rec.blocks) formed.0 in
+      let front = and_parts (is_file_name rec.name && nat_le rec.size 65536) (are_tags rec.tags) both.0 in
+      let size = (and_parts (is_file_name rec.name) (nat_le rec.size 65536) front.0).1 in
+      let now = record_from (record rec { name = name; tags = tags }) may_way.name (leb-true rec.size 65536 size) tags_formed both.1 in
+      and_from (is_record (record rec { name = name; tags = tags }) && list_all (λ n. is_some (word_of q.dict n)) tags) (list_all (λ n. nat_lt n q.limits.blocks) rec.blocks)
+      (and_from (is_record (record rec { name = name; tags = tags })) (list_all (λ n. is_some (word_of q.dict n)) tags) now tags_worded)
+      (ap (λ (x : Kept). list_all (λ n. nat_lt n x.limits.blocks) rec.blocks) end_is ∙ most.1)

@@ -1,5 +1,5 @@
 -- What memory keeps when a file is gone whose slot is still described: another file may come into the slot.
-use Rattle.std.proofs.Common.{◌≡◌, ◌⊎◌, refl, sym, ap, ◌∙◌, inl, inr, ℕ, ◌+◌, ◌<◌, ◌≤◌, ◌==◌, not, Bool, true, false, if◌then◌else◌, cond, List, [], ◌∷◌, length, set, Option, Some, None, arith}
+use Rattle.std.proofs.Common.{◌≡◌, ◌⊎◌, refl, sym, ap, ◌∙◌, inl, inr, ℕ, ◌+◌, ◌<◌, ◌≤◌, ◌==◌, not, Bool, true, false, if◌then◌else◌, cond, List, [], ◌∷◌, length, set, Option, Some, None, arith, length-set}
 use Rattle.std.proofs.lemmas.Bool.{and_parts, both_ways, cases_eq, eq-eqb, ne_eqb, false_from_ne_true, not-true, not_from_false}
 use Rattle.std.proofs.lemmas.Map.Entries.{option_filter}
 use Rattle.std.proofs.lemmas.List.Sums.{sum_by-set}
@@ -8,7 +8,7 @@ use Rattle.lis_content.specs.Content.{given, has_number, are_taken, are_distinct
 use Rattle.lis_content.proofs.Numbers.{below_if_taken, taken_still, stay_given}
 use Rattle.lis_catalog.specs.Catalog.{slot_of, rec_at, without_slot}
 use Rattle.lis_catalog.proofs.Laws.{rec_at-without_slot, slot_of-without_slot, slot_of-rec_at, filtered_none, filtered_one}
-use Rattle.lis_ext.specs.Ext.{has}
+use Rattle.lis_ext.specs.Ext.{has, set_of as numbers_at}
 use Rattle.lis_fields.specs.Records.{FileRecord}
 use Rattle.lis_words.specs.Words.{same_word}
 use Rattle.lis_model.specs.Image.{bitmap_start}
@@ -18,11 +18,17 @@ use Rattle.lis_laws.proofs.Members.{same_word_decides}
 use Rattle.lis_kept.specs.Kept.{Kept}
 use Rattle.lis_kept.specs.Areas.{block_of}
 use Rattle.lis_kept.specs.Areas.Area.{Files}
-use Rattle.lis_kept.specs.Sound.{BlocksAreTaken}
+use Rattle.lis_kept.specs.Sound.{AreSound, BlocksAreTaken}
+use Rattle.lis_kept.specs.Telling.{is_used}
+use Rattle.lis_kept.specs.Forgetting.{MayForget, emptied}
 use Rattle.lis_kept.proofs.Dropped.{blocks_apart, file_slot_below}
 use Rattle.lis_kept.proofs.Filing.{number_from_among}
-use Rattle.lis_store.specs.Stored.{BlocksAreApart}
-use Rattle.lis_store.specs.ReplacingIn.{AreInForm, MayComeIn, MayReplaceFirst}
+use Rattle.lis_kept.proofs.Without.{left_out, none_here, same_elsewhere}
+use Rattle.lis_store.specs.Stored.{AreClosed, BlocksAreApart}
+use Rattle.lis_store.specs.Replacing.{MayReplace}
+use Rattle.lis_store.specs.ReplacingIn.{AreInForm}
+use Rattle.lis_store.proofs.HeadsUsed.{IsUsedFor, used_flagged, used_had, used_left, used_for, head_used}
+use Rattle.lis_store.proofs.HeadsUsed.IsUsedFor.{Flagged, HadAt, NamedLeft}
 
 -- ---- blocks that are given back are free
 one_more_free : (taken : List Bool) (n : ℕ) → is_taken taken n ≡ true → free_count (set taken n false) ≡ free_count taken + 1
@@ -85,7 +91,7 @@ module _ (p : Kept) (slot : ℕ) (rec : FileRecord) (form : AreInForm p) (there 
   free_blocks : free_count d.taken ≡ free_count p.taken + length rec.blocks
   free_blocks = free_after_given p.taken rec.blocks (blocks_apart p form.sound slot rec there) (form.taken slot rec there)
 
-  module _ (file : File) (may : MayReplaceFirst p slot rec file) where
+  module _ (file : File) (may : MayReplace p slot rec file) where
     pub name_vacant : slot_of d.catalog file.name ≡ None
     name_vacant = slot_of-without_slot p.catalog slot file.name form.sound.catalog ∙ by (same_word file.name rec.name) refl
       where
@@ -96,9 +102,70 @@ module _ (p : Kept) (slot : ℕ) (rec : FileRecord) (form : AreInForm p) (there 
         by false other =
             filtered_none slot (slot_of p.catalog file.name) (may.new (λ same. both_ways (same_word file.name rec.name) other ((same_word_decides file.name rec.name).1 same)))
 
-    -- its words may be learnt then, and its name is new
-    pub come_vacated : MayComeIn d file
-    come_vacated = record { new = name_vacant; learnable = may.learnable; few = may.few; short = may.short; room = may.room }
-
     pub blocks_vacated : blocks_needed (length file.bytes) ≤ free_count d.taken
     blocks_vacated = omega (arith, may.blocks, free_blocks)
+
+  -- ---- words that may be forgotten
+  module _ (sound : AreSound d) where
+    -- what is kept but for the description
+    abbrev e : Kept
+    e = emptied d slot
+
+    sound_emptied : AreSound e
+    sound_emptied = record {
+      range = sound.range;
+      numbers = sound.numbers;
+      dict = sound.dict;
+      heads = sound.heads;
+      bits = sound.bits;
+      flagged = sound.flagged;
+      properties = sound.properties;
+      axiom_count = sound.axiom_count;
+      axioms = λ at left right is. let held = sound.axioms at left right is in record { below = held.below; left = held.left; right = held.right };
+      slots = sound.slots;
+      catalog = sound.catalog;
+      records = sound.records;
+      blocks = sound.blocks;
+      rows = sound.rows;
+      files = length-set p.ext.sets slot [] ∙ sound.files;
+      named = λ n at some h. sound.named n at some (sym (same_elsewhere p.ext slot n at (other_slot n at h)) ∙ h);
+      settled = sound.settled;
+      marks = sound.marks;
+    }
+      where
+        other_slot : (n at : ℕ) → has (left_out p.ext slot) n at ≡ true → at ≡ slot → ⊥
+        other_slot n at h same = both_ways (has (left_out p.ext slot) n at) (ap (has (left_out p.ext slot) n) same ∙ none_here p.ext slot n) h
+
+    closed_emptied : AreClosed e
+    closed_emptied at a b h linked = by (cases_eq at slot)
+      where
+        by : (at ≡ slot) ⊎ (at ≡ slot → ⊥) → has e.ext b at ≡ true
+        by (inl same) = absurd (both_ways (has e.ext a at) (ap (has e.ext a) same ∙ none_here p.ext slot a) h)
+        by (inr differ) = same_elsewhere p.ext slot b at differ ∙ form.closed at a b (sym (same_elsewhere p.ext slot a at differ) ∙ h) linked
+
+    pub used_or_here : (n : ℕ) → is_used p n ≡ true → (is_used e n ≡ true) ⊎ (has_number (numbers_at p.ext slot) n ≡ true)
+    used_or_here n used = by (used_for p n used)
+      where
+        place : (at : ℕ) → has p.ext n at ≡ true → (at ≡ slot) ⊎ (at ≡ slot → ⊥) → (is_used e n ≡ true) ⊎ (has_number (numbers_at p.ext slot) n ≡ true)
+        place at h (inl same) = inr (ap (has p.ext n) (sym same) ∙ h)
+        place at h (inr differ) = inl (used_had e n at (same_elsewhere p.ext slot n at differ ∙ h))
+
+        by : IsUsedFor p n → (is_used e n ≡ true) ⊎ (has_number (numbers_at p.ext slot) n ≡ true)
+        by (Flagged bit) = inl (used_flagged e n bit)
+        by (HadAt at h) = place at h (cases_eq at slot)
+        by (NamedLeft left) = inl (used_left e n left)
+
+    pub used_elsewhere : (n at : ℕ) → (at ≡ slot → ⊥) → has p.ext n at ≡ true → is_used e n ≡ true
+    used_elsewhere n at differ h = used_had e n at (same_elsewhere p.ext slot n at differ ∙ h)
+
+    pub may_forget : MayForget (numbers_at p.ext slot) e
+    may_forget = record {
+      given = λ n some unused. given n unused (used_or_here n (form.in_use.used n some));
+      tags = λ at r is n tag. used_elsewhere n at (rec_before at r is).0 (tags_others at r is n tag);
+      rights = λ at left right is. used_flagged e right (form.in_use.rights at left right is);
+      heads = λ n head used is. head_used e sound_emptied closed_emptied n head is used;
+    }
+      where
+        given : (n : ℕ) → is_used e n ≡ false → (is_used e n ≡ true) ⊎ (has_number (numbers_at p.ext slot) n ≡ true) → has_number (numbers_at p.ext slot) n ≡ true
+        given n unused (inl used) = absurd (both_ways (is_used e n) unused used)
+        given n unused (inr here) = here

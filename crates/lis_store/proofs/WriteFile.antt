@@ -34,78 +34,13 @@ use Rattle.lis_store.specs.Judging.{is_among}
 use Rattle.lis_store.specs.Admitting.{described_by}
 use Rattle.lis_store.specs.Adding.{may_learn}
 use Rattle.lis_store.specs.Instead.{given_before, overwriting_checks, renaming_checks, write_checks_of, rename_checks_of}
-use Rattle.lis_store.specs.ReplacingIn.{MayReplaceFirst}
+use Rattle.lis_store.specs.Replacing.{MayReplace}
 use Rattle.lis_store.proofs.Admitted.{none_there}
 use Rattle.lis_store.proofs.Facts.{filed_named}
 use Rattle.lis_store.proofs.Here.{none_here}
-use Rattle.lis_store.proofs.InsteadGiven.{told_few}
+use Rattle.lis_store.proofs.InsteadMay.{write_may, rename_may}
 use Rattle.lis_store.proofs.InsteadTold.{old_is, old_given, write_refused, write_done, rename_refused, rename_done}
 use Rattle.lis_store.proofs.Judged.{all_pass, change_refused}
-use Rattle.lis_store.proofs.SameWords.{told_known, same_words_room}
-
--- ---- the words that a file was given
-module _ (p : Kept) (sound : AreSound p) (slot : ℕ) (rec : FileRecord) (there : rec_at p.catalog slot ≡ Some rec) where
-  abbrev pub given : List (List ℕ)
-  given = words_told p.dict rec.tags
-
-  given_rising : is_rising word_cmp given ≡ true
-  given_rising = rising_from_sorted word_cmp word_order given (sorted_set_of (flat_map (λ n. option_to_list (word_of p.dict n)) rec.tags))
-
-  given_few : length given ≤ 16
-  given_few =
-      let most = and_parts (is_record rec && list_all (λ n. is_some (word_of p.dict n)) rec.tags) (list_all (λ n. nat_lt n p.limits.blocks) rec.blocks) (sound.records slot rec there) in
-      let form = and_parts (is_record rec) (list_all (λ n. is_some (word_of p.dict n)) rec.tags) most.0 in
-      let both = and_parts (is_file_name rec.name && nat_le rec.size 65536 && are_tags rec.tags) (are_blocks rec.size rec.blocks) form.0 in
-      let tags = and_parts (is_file_name rec.name && nat_le rec.size 65536) (are_tags rec.tags) both.0 in
-      let few = and_parts (nat_le (length rec.tags) 16 && are_short rec.tags) _ tags.1 in
-      let short = leb-true (length rec.tags) 16 (and_parts (nat_le (length rec.tags) 16) (are_short rec.tags) few.0).0 in
-      omega (arith, short, told_few p.dict rec.tags)
-
-  given_learnable : list_all (may_learn p) given ≡ true
-  given_learnable = all_from (may_learn p) given (λ word m. let known = told_known p sound rec.tags word m in by word known.0 known.1 (is_valued word) refl)
-    where
-      by : (word : List ℕ) (n : ℕ) → word_of p.dict n ≡ Some word → (b : Bool) → is_valued word ≡ b → may_learn p word ≡ true
-      by word n is true valued =
-          ap (λ b. cond b (is_some (number_of p.dict (head_bytes word)) || is_built_in (head_bytes word)) (is_some (number_of p.dict word) || (is_head word && is_built_in word))) valued
-          ∙ or_left (is_some (number_of p.dict (head_bytes word))) (is_built_in (head_bytes word)) (sound.heads n word is valued)
-      by word n is false plain =
-          ap (λ b. cond b (is_some (number_of p.dict (head_bytes word)) || is_built_in (head_bytes word)) (is_some (number_of p.dict word) || (is_head word && is_built_in word))) plain
-          ∙ or_left (is_some (number_of p.dict word)) (is_head word && is_built_in word) (ap is_some (number_from_word p.dict sound.dict word n is))
-
-  -- another file with these words
-  pub same_words_first : (name bytes : List ℕ) → is_file_name name ≡ true → (name ≢ rec.name → slot_of p.catalog name ≡ None) → length (described_by p (new_file name given bytes)) ≤ 128
-      → length bytes ≤ 65536 → blocks_needed (length bytes) ≤ free_count p.taken + length rec.blocks → MayReplaceFirst p slot rec (new_file name given bytes)
-  same_words_first name bytes form new short small blocks = record {
-    there = there;
-    name = form;
-    new = new;
-    set = given_rising;
-    learnable = given_learnable;
-    few = given_few;
-    short = short;
-    room = same_words_room p sound rec.tags (new_file name given bytes) refl;
-    small = small;
-    blocks = blocks;
-  }
-
-  pub write_first : (name bytes : List ℕ) (size : ℕ) → slot_of p.catalog name ≡ Some slot → is_super p.limits ≡ true → size ≤ file_limit p.limits.version → (size ≤ 65536 → length bytes ≡ size)
-      → first_refusal (overwriting_checks p slot rec (given_before p rec name bytes) size) ≡ None → MayReplaceFirst p slot rec (new_file name given bytes)
-  write_first name bytes size named range most whole none =
-      let version = eqb-true p.limits.version 1 (and_parts (p.limits.version == 1) (are_in_range p.limits) range).0 in
-      let same = (filed_named p sound name slot rec named there).1 in
-      let passes = all_pass (overwriting_checks p slot rec (given_before p rec name bytes) size) none in
-      let small : size ≤ 65536 = omega (arith, most, ap file_limit version) in
-      let short = ltb-false 128 (length (described_by p (new_file name given bytes))) passes.0 in
-      let room = ltb-false (free_count p.taken + length rec.blocks) (blocks_taken p.limits.version size) passes.1.1.0 in
-      same_words_first name bytes (subst (λ n. is_file_name n ≡ true) same (record_named p.dict p.limits.blocks rec (sound.records slot rec there)))
-      (λ differ. absurd (differ (sym same))) short
-      (omega (arith, whole small, small)) (omega (arith, ap blocks_needed (whole small), room, ap (λ v. blocks_taken v size) version))
-
-  pub rename_first : (other : List ℕ) → is_file_name other ≡ true → first_refusal (renaming_checks p slot (given_before p rec other [])) ≡ None → MayReplaceFirst p slot rec (new_file other given [])
-  rename_first other form none =
-      let passes = all_pass (renaming_checks p slot (given_before p rec other [])) none in
-      let short = ltb-false 128 (length (described_by p (new_file other given []))) passes.1.0 in
-      same_words_first other [] form (λ differ. none_there (slot_of p.catalog other) passes.0) short (omega arith) (omega arith)
 
 -- ---- rows
 pub rest_of_write : (k : Kept) (place : List Formula) (name : List ℕ) (slot : ℕ) (rec : FileRecord) (file : File) (size : ℕ) → size ≤ file_limit k.limits.version → is_among k place name ≡ true
@@ -118,6 +53,24 @@ rest_of_write k place name slot rec file size small here =
 pub rest_of_rename : (k : Kept) (place : List Formula) (name : List ℕ) (slot : ℕ) (file : File) → is_among k place name ≡ true
     → first_refusal (rename_checks_of k place name slot file) ≡ first_refusal (renaming_checks k slot file)
 rest_of_rename k place name slot file here = ap (λ b. cond (not b) (Some NoFileHere) (first_refusal (renaming_checks k slot file))) here
+
+-- ---- rows that refuse nothing
+module _ (k : Stored) (sound : IsSound k) (place : List Formula) (name : List ℕ) (slot : ℕ) (rec : FileRecord) (named : slot_of k.parts.catalog name ≡ Some slot)
+    (there : rec_at k.parts.catalog slot ≡ Some rec) (here : is_among k.parts place name ≡ true) where
+  same_name : rec.name ≡ name
+  same_name = (filed_named k.parts sound.parts name slot rec named there).1
+
+  pub write_first : (bytes : List ℕ) (size : ℕ) → size ≤ file_limit k.parts.limits.version → (size ≤ 65536 → length bytes ≡ size)
+      → first_refusal (overwriting_checks k.parts slot rec (given_before k.parts rec name bytes) size) ≡ None → MayReplace k.parts slot rec (given_before k.parts rec name bytes)
+  write_first bytes size most whole none =
+      write_may k sound slot rec there place name bytes size same_name
+      (subst (λ n. is_file_name n ≡ true) same_name (record_named k.parts.dict k.parts.limits.blocks rec (sound.parts.records slot rec there))) whole
+      (rest_of_write k.parts place name slot rec (given_before k.parts rec name bytes) size most here ∙ none)
+
+  pub rename_first : (other bytes : List ℕ) → is_file_name other ≡ true → length bytes ≡ rec.size
+      → first_refusal (renaming_checks k.parts slot (given_before k.parts rec other bytes)) ≡ None → MayReplace k.parts slot rec (given_before k.parts rec other bytes)
+  rename_first other bytes form size none =
+      rename_may k sound slot rec there place name other bytes form (omega (arith, size)) (rest_of_rename k.parts place name slot (given_before k.parts rec other bytes) here ∙ none)
 
 -- ---- calls that are done
 module _ (k : Stored) (m : Meaning) (s : State) (sound : IsSound k) (fits : StoreFits k m s) (place : List Formula) (name : List ℕ) (slot : ℕ) (rec taken : FileRecord)
@@ -140,16 +93,17 @@ module _ (k : Stored) (m : Meaning) (s : State) (sound : IsSound k) (fits : Stor
       write_done k m s sound fits place name slot rec (λ _. (named, there)) payload (rest_of_write k.parts place name slot rec (given_before k.parts rec name payload.bytes) payload.size small here ∙ none)
       ∙ ap₂ (λ n ws. changed now (file_replaced s n (new_file name ws payload.bytes))) (sym taken_named) old_words
 
-  pub renamed_done : (other : List ℕ) → ((bytes : List ℕ) → first_refusal (renaming_checks k.parts slot (given_before k.parts rec other bytes)) ≡ None)
-      → rename (record { state = s; place = place }) name other
-      ≡ changed (record { state = s; place = place }) (file_replaced s taken.name (new_file other assigned (bytes_told k.parts.limits fits.kept taken)))
-  renamed_done other none =
+  bytes_are : (file_of s.files name).bytes ≡ bytes_told k.parts.limits fits.kept taken
+  bytes_are = ap (λ (f : File). f.bytes) (old_is k m s sound fits name slot rec named there) ∙ ap (bytes_told k.parts.limits fits.kept) same_rec
+
+  pub renamed_done : (other bytes : List ℕ) → bytes_told k.parts.limits fits.kept taken ≡ bytes → first_refusal (renaming_checks k.parts slot (given_before k.parts rec other bytes)) ≡ None
+      → rename (record { state = s; place = place }) name other ≡ changed (record { state = s; place = place }) (file_replaced s taken.name (new_file other assigned bytes))
+  renamed_done other bytes told none =
       let now : Situation = record { state = s; place = place } in
-      let bytes = (file_of s.files name).bytes in
-      let same : bytes ≡ bytes_told k.parts.limits fits.kept taken =
-      ap (λ (f : File). f.bytes) (old_is k m s sound fits name slot rec named there) ∙ ap (bytes_told k.parts.limits fits.kept) same_rec in
-      rename_done k m s sound fits place name slot rec (λ _. (named, there)) other (rest_of_rename k.parts place name slot (given_before k.parts rec other bytes) here ∙ none bytes)
-      ∙ (ap₂ (λ n ws. changed now (file_replaced s n (new_file other ws bytes))) (sym taken_named) old_words
+      let same : (file_of s.files name).bytes ≡ bytes = bytes_are ∙ told in
+      let row = subst (λ bs. first_refusal (renaming_checks k.parts slot (given_before k.parts rec other bs)) ≡ None) (sym same) none in
+      rename_done k m s sound fits place name slot rec (λ _. (named, there)) other (rest_of_rename k.parts place name slot (given_before k.parts rec other (file_of s.files name).bytes) here ∙ row)
+      ∙ (ap₂ (λ n ws. changed now (file_replaced s n (new_file other ws (file_of s.files name).bytes))) (sym taken_named) old_words
       ∙ ap (λ bs. changed now (file_replaced s taken.name (new_file other assigned bs))) same)
 
 -- ---- calls that are refused

@@ -1,5 +1,6 @@
 -- What a file is refused for that would come into the place of another, told by what a store keeps.
 use Rattle.std.specs.Prelude.{◌≡◌, ℕ, ◌+◌, ◌<◌, nat_lt, not, ◌&&◌, Bool, is_some, List, [], ◌∷◌, ◌++◌, length}
+use Rattle.std.specs.List.{list_all}
 use Rattle.lis_bits.specs.Rows.{Rows, get}
 use Rattle.lis_blockmap.specs.Bitmap.{free_count}
 use Rattle.lis_catalog.specs.Catalog.{slot_of}
@@ -9,15 +10,16 @@ use Rattle.lis_ext.specs.Numbers.{numbers_where}
 use Rattle.lis_fields.specs.Records.{FileRecord}
 use Rattle.lis_grammar.specs.Formula.{Formula}
 use Rattle.lis_model.specs.declared.refusal.Refusal.{Refusal}
-use Rattle.lis_model.specs.declared.refusal.Refusal.TheVariants.{NameTaken, NoFileHere, LargeDescription, LargeFile, NoPropertyRoom, NoSpace}
-use Rattle.lis_model.specs.State.{File, file_limit, blocks_taken}
+use Rattle.lis_model.specs.declared.refusal.Refusal.TheVariants.{UnknownProperty, NameTaken, NoFileHere, LargeDescription, LargeFile, NoPropertyRoom, NoSpace}
+use Rattle.lis_model.specs.State.{File, is_assignable, file_limit, blocks_taken}
 use Rattle.lis_model.specs.Changes.{new_file}
 use Rattle.lis_kept.specs.Kept.{Kept}
-use Rattle.lis_kept.specs.Telling.{words_told, is_used}
+use Rattle.lis_kept.specs.Telling.{declared_of, words_told, is_used}
 use Rattle.lis_store.specs.Adding.{is_one_of}
 use Rattle.lis_store.specs.Admitting.{described_by}
 use Rattle.lis_store.specs.Judging.{is_among}
-use Rattle.lis_store.specs.Replacing.{emptied, known_instead}
+use Rattle.lis_kept.specs.Forgetting.{emptied}
+use Rattle.lis_store.specs.Replacing.{known_instead}
 
 -- ---- words
 -- The row has the numbers of the words that the file's description would have, where they have any.
@@ -34,10 +36,12 @@ abbrev pub given_before : Kept → FileRecord → List ℕ → List ℕ → File
 given_before k rec name bytes = new_file name (words_told k.dict rec.tags) bytes
 
 -- ---- rows
--- what the words of the file in the place of that in the slot are refused for
+-- What the words of the file in the place of that in the slot are refused for. A file of a state has words that may be given; what memory
+-- keeps does not say so by itself.
 abbrev pub instead_checks : Kept → ℕ → File → List (Bool × Refusal)
 instead_checks k slot file =
-    (nat_lt 128 (length (described_by k file)), LargeDescription)
+    (not (list_all (is_assignable (declared_of k)) file.assigned), UnknownProperty)
+    ∷ (nat_lt 128 (length (described_by k file)), LargeDescription)
     ∷ (nat_lt k.limits.props (length (known_instead k slot file)), NoPropertyRoom)
     ∷ []
 

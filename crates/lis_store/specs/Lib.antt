@@ -19,3 +19,4 @@ pub mod RelatingIn
 pub mod Unlinking
 pub mod ReplacingIn
 pub mod Instead
+pub mod Retagging

@@ -10,7 +10,7 @@ use Rattle.lis_model.specs.Sets.{with_words}
 use Rattle.lis_model.specs.State.{File, is_assignable, blocks_needed}
 use Rattle.lis_kept.specs.Kept.{Kept}
 use Rattle.lis_kept.specs.Telling.{declared_of, is_used}
-pub use Rattle.lis_kept.specs.Forgetting.{emptied}
+use Rattle.lis_kept.specs.Forgetting.{emptied}
 use Rattle.lis_store.specs.Admitting.{described_by}
 
 -- the known words that are in use without the file in the slot

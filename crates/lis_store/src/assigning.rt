@@ -68,8 +68,8 @@ fn is_assignable(parts: &Parts, word: &Word) -> bool
     }
 }
 
-// Whether a file can be given each of the words.
-fn all_assignable(parts: &Parts, words: &[Word]) -> bool
+/// Whether a file can be given each of the words.
+pub(crate) fn all_assignable(parts: &Parts, words: &[Word]) -> bool
     ensures { result ≡ list_all (is_assignable (declared_of parts.now)) words.now }
 {
     words.iter().all(|word| is_assignable(parts, word))

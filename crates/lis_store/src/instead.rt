@@ -1,9 +1,9 @@
 //! What a file is refused for that would come into the place of another.
 
-ghost use Rattle.std.specs.Prelude.{◌≡◌, ℕ, ◌<◌, ◌≤◌, not, ◌&&◌, List, Some, length, IsSome, IfOk};
+ghost use Rattle.std.specs.Prelude.{◌≡◌, ◌<◌, ◌≤◌, not, ◌&&◌, Some, None, length, IsSome, IfOk};
 ghost use Rattle.std.specs.Option.{option_to_list};
 ghost use Rattle.lis_bits.specs.Rows.{HasShape, get};
-ghost use Rattle.lis_catalog.specs.Catalog.{rec_at};
+ghost use Rattle.lis_catalog.specs.Catalog.{slot_of, rec_at};
 ghost use Rattle.lis_dict.specs.Dict.{word_of};
 ghost use Rattle.lis_ext.specs.Ext.{has};
 ghost use Rattle.lis_fields.specs.Records.{FileRecord};
@@ -14,10 +14,11 @@ ghost use Rattle.lis_store.specs.Admitting.{described_by};
 ghost use Rattle.lis_store.specs.Assigning.{Takes};
 ghost use Rattle.lis_store.specs.Changes.{Judges};
 ghost use Rattle.lis_store.specs.Instead.{leaving, given_before, instead_checks, overwriting_checks, renaming_checks};
-ghost use Rattle.lis_store.specs.Replacing.{emptied, known_instead};
+ghost use Rattle.lis_kept.specs.Forgetting.{emptied};
+ghost use Rattle.lis_store.specs.Replacing.{known_instead};
 
 use crate::admitting::{MAX_DESCRIPTION, blocks_taken};
-use crate::assigning::put_word;
+use crate::assigning::{all_assignable, put_word};
 use crate::describing::measure;
 use arrayvec::ArrayVec;
 use lis_bits::Rows;
@@ -85,6 +86,7 @@ fn blocks_in(parts: &Parts, slot: u16) -> u64
 
 // Whether the description in a slot has a number which is not in the row, and which nothing else uses.
 fn is_leaving(parts: &Parts, row: &Rows, slot: u16, number: u16) -> bool
+    requires there { IsSome (rec_at parts.now.catalog slot) }
     requires slot { slot < length parts.now.ext.sets }
     requires number { number < parts.now.limits.props }
     requires shape { HasShape row.now 1 parts.now.limits.props }
@@ -103,6 +105,7 @@ fn is_leaving(parts: &Parts, row: &Rows, slot: u16, number: u16) -> bool
 
 // How many numbers of the description in a slot are not in the row, and nothing else uses them.
 fn leaving(parts: &Parts, row: &Rows, slot: u16) -> u32
+    requires there { IsSome (rec_at parts.now.catalog slot) }
     requires slot { slot < length parts.now.ext.sets }
     requires shape { HasShape row.now 1 parts.now.limits.props }
     ensures { result ≡ length (leaving parts.now row.now slot) }
@@ -127,6 +130,7 @@ fn measure_instead(
     payload: &[u8],
 ) -> Known
     requires slot { slot < length parts.now.ext.sets }
+    requires there { IsSome (rec_at parts.now.catalog slot) }
     requires used { AreUsed parts.now }
     requires shape { HasShape row.old 1 parts.now.limits.props }
     requires few { length words.now ≤ 16 }
@@ -161,6 +165,10 @@ pub(crate) fn has_room_instead(
     ensures row { Judges (instead_checks parts.now slot (new_file name.now words.now payload.now)) result }
 {
     let limits = parts.limits();
+    // The words of a told file may be given. Memory alone does not tell so.
+    if !all_assignable(parts, words) {
+        return Err(Refusal::UnknownProperty);
+    }
     let measure = measure_instead(parts, &mut scratch.candidates, slot, name, words, payload);
     if measure.words > MAX_DESCRIPTION {
         return Err(Refusal::LargeDescription);
@@ -199,28 +207,26 @@ pub(crate) fn may_write(
     Ok(words)
 }
 
-/// The words that the file in a slot was given, or what it is refused for under another name. Its bytes stay, whatever they are.
+/// The words that the file in a slot was given, or what it is refused for under another name, which no file has. `payload` are
+/// its bytes.
 pub(crate) fn may_rename(
     parts: &Parts,
     scratch: &mut Scratch,
     slot: u16,
     other: &Name,
+    payload: &[u8],
 ) -> Result<ArrayVec<Word, 16>, Refusal>
     requires there { IsSome (rec_at parts.now.catalog slot) }
     requires used { AreUsed parts.now }
+    requires new { slot_of parts.now.catalog other.now ≡ None }
     requires room { HasRoom scratch.old parts.now.limits }
     ensures room { HasRoom scratch.new parts.now.limits }
-    ensures row { (rec : FileRecord) (bytes : List ℕ) → rec_at parts.now.catalog slot ≡ Some rec
-        → Judges (renaming_checks parts.now slot (given_before parts.now rec other.now bytes)) result }
+    ensures row { (rec : FileRecord) → rec_at parts.now.catalog slot ≡ Some rec
+        → Judges (renaming_checks parts.now slot (given_before parts.now rec other.now payload.now)) result }
     ensures words { IfOk result (λ words. (rec : FileRecord) → rec_at parts.now.catalog slot ≡ Some rec
         → words.items ≡ words_told parts.now.dict rec.tags) }
 {
-    // Only the limits tell that no test is declared, so that the bytes give no word.
-    let _limits = parts.limits();
-    if parts.slot_of(other).is_some() {
-        return Err(Refusal::NameTaken);
-    }
     let words = assigned_in(parts, slot);
-    has_room_instead(parts, scratch, slot, other, words.as_slice(), &[])?;
+    has_room_instead(parts, scratch, slot, other, words.as_slice(), payload)?;
     Ok(words)
 }

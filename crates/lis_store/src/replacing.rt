@@ -1,13 +1,15 @@
 //! Files that take the place of others.
 
-ghost use Rattle.std.specs.Prelude.{◌≡◌, ℕ, ◌*◌, ◌≤◌, false, [], IsSomeAnd};
+ghost use Rattle.std.specs.Prelude.{◌≡◌, ℕ, ◌*◌, ◌≤◌, false, [], length, IsSome, IsSomeAnd};
 ghost use Rattle.lis_catalog.specs.Catalog.{rec_at};
+ghost use Rattle.lis_ext.specs.Ext.{set_of};
 ghost use Rattle.lis_fields.specs.Records.{FileRecord};
 ghost use Rattle.lis_model.specs.Image.{image_blocks};
 ghost use Rattle.lis_model.specs.Changes.{new_file};
 ghost use Rattle.lis_eval.specs.Room.{HasRoom};
 ghost use Rattle.lis_kept.specs.Sound.{AreSound};
-ghost use Rattle.lis_store.specs.ReplacingIn.{AreInForm, MayComeIn, MayReplaceFirst, LearnsOwn, Overwrites, RefilesIn};
+ghost use Rattle.lis_store.specs.Replacing.{MayReplace};
+ghost use Rattle.lis_store.specs.ReplacingIn.{AreInForm, MayComeIn, LearnsOwn, Vacates, MakesWay, Overwrites, RefilesIn};
 
 use crate::adding::{learn_words, numbers_entailed, numbers_of};
 use crate::derived::derived;
@@ -27,11 +29,40 @@ fn note_form(parts: &Parts)
     let _limits = parts.limits();
 }
 
+// A file that is gone: its record, and the numbers by which its slot is still described.
+#[derive(Drop)]
+struct Gone {
+    rec: FileRec,
+    numbers: ArrayVec<u16, 128>,
+}
+
 // The numbers of the words that a file is given, and those of its description.
 #[derive(Drop)]
 struct Numbers {
     tags: ArrayVec<u16, 16>,
     all: ArrayVec<u16, 128>,
+}
+
+// The record of a file that is gone, and the numbers of the words that another one was given which is to come into its slot.
+#[derive(Drop)]
+struct Way {
+    rec: FileRec,
+    tags: ArrayVec<u16, 16>,
+}
+
+// Takes the file out of its slot, and forgets the words that nothing else uses. The slot is described as before.
+fn vacate(parts: &mut Parts, slot: u16) -> Gone
+    requires form { AreInForm parts.old }
+    requires there { IsSome (rec_at parts.old.catalog slot) }
+    ensures vacated { Vacates slot result.rec parts.old parts.new }
+    ensures numbers { result.numbers.items ≡ set_of parts.old.ext slot }
+{
+    let numbers = numbers_at(parts.ext(), parts.limits().props, slot);
+    let rec = parts.drop_file(slot);
+    note_form(parts);
+    parts.forget_without(slot, numbers.as_slice());
+    note_form(parts);
+    Gone { rec, numbers }
 }
 
 // Gives numbers to those words of a file that have none, and answers the numbers of its words.
@@ -56,6 +87,32 @@ fn learn_own(
     Numbers { tags, all }
 }
 
+// Takes the file out of its slot, and describes the slot by the words of another one that is to come into it.
+fn make_way(
+    parts: &mut Parts,
+    scratch: &mut Scratch,
+    slot: u16,
+    name: &Name,
+    assigned: &[Word],
+    payload: &[u8],
+) -> Way
+    requires form { AreInForm parts.old }
+    requires may { IsSomeAnd (rec_at parts.old.catalog slot)
+        (λ (rec : FileRecord). MayReplace parts.old slot rec (new_file name.now assigned.now payload.now)) }
+    requires scratch { HasRoom scratch.old parts.old.limits }
+    ensures scratch { HasRoom scratch.new parts.old.limits }
+    ensures way { MakesWay slot (new_file name.now assigned.now payload.now) result.rec result.tags.items parts.old parts.new }
+{
+    let gone = vacate(parts, slot);
+    let numbers = learn_own(parts, scratch, name, assigned, payload);
+    parts.describe(slot, gone.numbers.as_slice(), numbers.all.as_slice());
+    note_form(parts);
+    Way {
+        rec: gone.rec,
+        tags: numbers.tags,
+    }
+}
+
 /// Files other bytes in the place of those of the file in the slot.
 pub(crate) fn overwrite<D: Disk>(
     parts: &mut Parts,
@@ -69,7 +126,7 @@ pub(crate) fn overwrite<D: Disk>(
 )
     requires form { AreInForm parts.old }
     requires may { IsSomeAnd (rec_at parts.old.catalog slot)
-        (λ (rec : FileRecord). MayReplaceFirst parts.old slot rec (new_file name.now assigned.now payload.now)) }
+        (λ (rec : FileRecord). MayReplace parts.old slot rec (new_file name.now assigned.now payload.now)) }
     requires image { journal.old.blocks ≡ image_blocks parts.old.limits }
     requires unbroken { journal.old.is_broken ≡ false }
     requires unplaced { journal.old.placed ≡ [] }
@@ -80,45 +137,35 @@ pub(crate) fn overwrite<D: Disk>(
     ensures overwritten { Overwrites slot (new_file name.now assigned.now payload.now) parts.old parts.new journal.old journal.new }
     ensures disk { disk.new ≡ disk.old }
 {
-    let old = numbers_at(parts.ext(), parts.limits().props, slot);
-    parts.drop_file(slot);
-    note_form(parts);
-    let numbers = learn_own(parts, scratch, name, assigned, payload);
-    parts.add_file_at(journal, disk, slot, name, numbers.tags, payload);
-    parts.describe(slot, old.as_slice(), numbers.all.as_slice());
-    note_form(parts);
-    parts.forget_unused(old.as_slice());
+    let way = make_way(parts, scratch, slot, name, assigned, payload);
+    parts.add_file_at(journal, disk, slot, name, way.tags, payload);
 }
 
-/// Gives the file in the slot another name and other words. Its bytes stay, and nothing is derived from them yet.
+/// Gives the file in the slot another name and other words. Its bytes stay in their blocks: these are `payload`.
 pub(crate) fn refile(
     parts: &mut Parts,
     scratch: &mut Scratch,
     slot: u16,
     name: &Name,
     assigned: &[Word],
+    payload: &[u8],
 )
     requires form { AreInForm parts.old }
     requires may { IsSomeAnd (rec_at parts.old.catalog slot)
-        (λ (rec : FileRecord). MayReplaceFirst parts.old slot rec (new_file name.now assigned.now [])) }
+        (λ (rec : FileRecord). MayReplace parts.old slot rec (new_file name.now assigned.now payload.now)) }
     requires scratch { HasRoom scratch.old parts.old.limits }
     ensures scratch { HasRoom scratch.new parts.old.limits }
-    ensures refiled { RefilesIn slot (new_file name.now assigned.now []) parts.old parts.new }
+    ensures refiled { RefilesIn slot (new_file name.now assigned.now payload.now) parts.old parts.new }
 {
-    let old = numbers_at(parts.ext(), parts.limits().props, slot);
-    let rec = parts.drop_file(slot);
-    note_form(parts);
-    let numbers = learn_own(parts, scratch, name, assigned, &[]);
+    let way = make_way(parts, scratch, slot, name, assigned, payload);
+    let rec = way.rec;
     parts.refile(
         slot,
         FileRec {
             name: name.copied(),
             size: rec.size,
-            tags: numbers.tags,
+            tags: way.tags,
             blocks: rec.blocks,
         },
     );
-    parts.describe(slot, old.as_slice(), numbers.all.as_slice());
-    note_form(parts);
-    parts.forget_unused(old.as_slice());
 }

@@ -28,6 +28,7 @@ use crate::admitting::may_add;
 use crate::change::Change;
 use crate::removing::take_out;
 use crate::saving::save;
+use lis_content::Buffer;
 use lis_eval::{Scratch, View, evaluate, found};
 use lis_ext::Ext;
 use lis_journal::Journal;
@@ -46,13 +47,17 @@ use std::marker::Model;
 pub struct Built {
     pub parts: Parts,
     pub journal: Journal,
+    /// Memory for the bytes of a file.
+    pub bytes: Buffer,
 }
 
-/// What memory keeps of an image, and its journal. It holds no bytes of files but those in open records, and no call takes memory.
+/// What memory keeps of an image, and its journal. It holds no bytes of files but those in open records and those of the file that
+/// was read last, and no call takes memory.
 #[derive(Drop)]
 pub struct Store {
     parts: Parts,
     journal: Journal,
+    bytes: Buffer,
     // A call of the disk failed.
     is_broken: bool,
 }
@@ -76,6 +81,7 @@ impl Store {
         Store {
             parts: built.parts,
             journal: built.journal,
+            bytes: built.bytes,
             is_broken: false,
         }
     }

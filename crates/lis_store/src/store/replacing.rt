@@ -1,10 +1,11 @@
 //! Calls that change a file.
 
-ghost use Rattle.std.specs.Prelude.{◌≡◌, ℕ, ◌*◌, ◌≤◌, false, length, Err};
+ghost use Rattle.std.specs.Prelude.{◌≡◌, ℕ, ◌*◌, ◌≤◌, false, length, Err, IsTrue};
 ghost use Rattle.lis_ports.specs.Runs.{IsDiskRun};
+ghost use Rattle.lis_ports.specs.Calls.{IsUnchanged};
 ghost use Rattle.lis_model.specs.declared.refusal.Refusal.{Refusal};
 ghost use Rattle.lis_model.specs.State.{State};
-ghost use Rattle.lis_model.specs.Step.{write, rename};
+ghost use Rattle.lis_model.specs.Step.{write, rename, mv};
 ghost use Rattle.lis_eval.specs.Room.{HasRoom};
 ghost use Rattle.lis_store.specs.declared.change.Change.TheVariants.{Refused};
 ghost use Rattle.lis_store.specs.Stored.{StoreFits};
@@ -12,13 +13,15 @@ ghost use Rattle.lis_store.specs.Changes.{Changes, HasChangeCause, ChangeLeft, E
 
 use crate::admitting::file_limit;
 use crate::change::Change;
-use crate::instead::{may_rename, may_write};
+use crate::file_bytes::read_file;
+use crate::instead::{has_room_instead, may_rename, may_write};
 use crate::replacing::{overwrite, refile};
+use crate::retagging::{led_by, may_move};
 use crate::saving::save;
 use crate::store::Store;
 use lis_eval::Scratch;
 use lis_model::refusal::Refusal;
-use lis_place::Place;
+use lis_place::{Place, Text};
 use lis_ports::Disk;
 use lis_words::Name;
 
@@ -75,7 +78,7 @@ impl Store {
         )
     }
 
-    /// Gives a file another name: `rename` at the place.
+    /// Gives a file another name: `rename` at the place. Its bytes are read, since words are derived from them.
     pub fn rename<D: Disk>(
         &mut self,
         disk: &mut D,
@@ -91,7 +94,8 @@ impl Store {
         ensures changes { (s : State) → StoreFits self.old (D.meaning disk.old) s
             → Changes (record { state = s; place = place.now }) (rename (record { state = s; place = place.now }) name.now new.now)
             self.new (D.meaning disk.old) (D.meaning disk.new) result }
-        ensures untouched { (refusal : Refusal) → result ≡ Err (Refused refusal) → disk.new ≡ disk.old }
+        ensures untouched { (refusal : Refusal) → result ≡ Err (Refused refusal) → IsTrue (D.meaning disk.old).is_honest
+            → IsUnchanged (D.meaning disk.old) (D.meaning disk.new) }
         ensures limits { self.new.parts.limits ≡ self.old.parts.limits }
         ensures image { self.new.journal.blocks ≡ self.old.journal.blocks }
         ensures left { ChangeLeft self.old self.new result }
@@ -104,8 +108,80 @@ impl Store {
         let Some(slot) = self.slot_here(scratch, place, name) else {
             return Err(Change::Refused(Refusal::NoFileHere));
         };
-        let words = may_rename(&self.parts, scratch, slot, new)?;
-        refile(&mut self.parts, scratch, slot, new, words.as_slice());
+        if self.parts.slot_of(new).is_some() {
+            return Err(Change::Refused(Refusal::NameTaken));
+        }
+        if let Err(fault) = read_file(&self.parts, &self.journal, disk, &mut self.bytes, slot) {
+            self.is_broken = true;
+            return Err(Change::from(fault));
+        }
+        let words = may_rename(&self.parts, scratch, slot, new, self.bytes.bytes())?;
+        refile(
+            &mut self.parts,
+            scratch,
+            slot,
+            new,
+            words.as_slice(),
+            self.bytes.bytes(),
+        );
+        save(
+            &mut self.parts,
+            &mut self.journal,
+            &mut self.is_broken,
+            disk,
+        )
+    }
+
+    /// Moves a file to the place to which a text leads: `mv` at the place. Its bytes are read, since words are derived from them.
+    pub fn retag<D: Disk>(
+        &mut self,
+        disk: &mut D,
+        scratch: &mut Scratch,
+        place: &Place,
+        name: &Name,
+        text: &Text,
+    ) -> Result<(), Change>
+        requires scratch { HasRoom scratch.old self.old.parts.limits }
+        requires unbroken { self.old.is_broken ≡ false }
+        requires long { 4096 * self.old.journal.blocks ≤ (D.meaning disk.old).len }
+        ensures scratch { HasRoom scratch.new self.old.parts.limits }
+        ensures changes { (s : State) → StoreFits self.old (D.meaning disk.old) s
+            → Changes (record { state = s; place = place.now }) (mv (record { state = s; place = place.now }) name.now text.now)
+            self.new (D.meaning disk.old) (D.meaning disk.new) result }
+        ensures untouched { (refusal : Refusal) → result ≡ Err (Refused refusal) → IsTrue (D.meaning disk.old).is_honest
+            → IsUnchanged (D.meaning disk.old) (D.meaning disk.new) }
+        ensures limits { self.new.parts.limits ≡ self.old.parts.limits }
+        ensures image { self.new.journal.blocks ≡ self.old.journal.blocks }
+        ensures left { ChangeLeft self.old self.new result }
+        ensures edits { EditsFew self.old self.new }
+        ensures run { IsDiskRun (D.meaning disk.old) (D.meaning disk.new) }
+        ensures cause { HasChangeCause (D.meaning disk.old).disk_faults (D.meaning disk.new).disk_faults result }
+    {
+        let next = led_by(place, text)?;
+        let Some(slot) = self.slot_here(scratch, place, name) else {
+            return Err(Change::Refused(Refusal::NoFileHere));
+        };
+        let words = may_move(&self.parts, slot, place, &next, text)?;
+        if let Err(fault) = read_file(&self.parts, &self.journal, disk, &mut self.bytes, slot) {
+            self.is_broken = true;
+            return Err(Change::from(fault));
+        }
+        has_room_instead(
+            &self.parts,
+            scratch,
+            slot,
+            name,
+            words.as_slice(),
+            self.bytes.bytes(),
+        )?;
+        refile(
+            &mut self.parts,
+            scratch,
+            slot,
+            name,
+            words.as_slice(),
+            self.bytes.bytes(),
+        );
         save(
             &mut self.parts,
             &mut self.journal,

@@ -3,7 +3,7 @@ use Rattle.lis_bits.specs.Rows.{get}
 use Rattle.lis_ext.specs.Ext.{has}
 use Rattle.lis_model.specs.declared.limits.Limits.{Limits}
 use Rattle.lis_kept.specs.Telling.{is_used}
-use Rattle.lis_store.specs.Replacing.{emptied}
+use Rattle.lis_kept.specs.Forgetting.{emptied}
 use Rattle.lis_store.proofs.Had.{found_below, found_all, counted_one, counted_none}
 use Rattle.lis_store.proofs.instead.leaving.Goals as goal
 use Rattle.lis_store.proofs.instead.leaving.Goals.{then-is_leaving, else-is_leaving}

@@ -2,7 +2,7 @@ use Rattle.std.proofs.Common.{◌≡◌, ◌≤◌, length, not, ◌&&◌}
 use Rattle.lis_bits.specs.Rows.{get}
 use Rattle.lis_ext.specs.Ext.{has}
 use Rattle.lis_kept.specs.Telling.{is_used}
-use Rattle.lis_store.specs.Replacing.{emptied}
+use Rattle.lis_kept.specs.Forgetting.{emptied}
 use Rattle.lis_store.proofs.Had.{found_below}
 use Rattle.lis_store.proofs.instead.leaving.Given as goal
 

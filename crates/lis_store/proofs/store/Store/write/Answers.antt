@@ -17,8 +17,7 @@ use Rattle.lis_store.specs.Changes.{Changes, differing_bits}
 use Rattle.lis_store.specs.Judging.{is_among}
 use Rattle.lis_store.specs.Saving.{Saves}
 use Rattle.lis_store.specs.Instead.{given_before}
-use Rattle.lis_store.specs.ReplacingIn.{MayReplaceFirst}
-use Rattle.lis_store.proofs.InsteadMay.{given_assignable}
+use Rattle.lis_store.specs.Replacing.{MayReplace}
 use Rattle.lis_store.proofs.ReplaceFile.{overwritten_sound, overwritten_marks, overwritten_changes, overwritten_edits}
 use Rattle.lis_store.proofs.WriteFile.{write_first, rest_of_write, written_done, written_refused, written_nowhere}
 use Rattle.lis_store.proofs.store.Store.write.Goals as goal
@@ -59,11 +58,11 @@ overwrite-requires-clause-may g c =
     let found = rec_at-slot_of c.self.inside.parts.catalog c.args.name.now c.in-Some.slot c.self.invariant.parts.catalog named in
     let small : c.args.size ≤ file_limit c.self.inside.parts.limits.version = omega (arith, c.if-size-file_limit.false, c.file_limit.ensures, ap (λ (l : Limits). file_limit l.version) c.limits.ensures.value) in
     let words = c.as_slice.ensures.value ∙ c.in_ok-words.ensures.words found.0 found.1 in
-    let W : List (List ℕ) → Type 0 = λ ws. MayReplaceFirst c.self.inside.parts c.in-Some.slot found.0 (new_file c.args.name.now ws c.args.payload.now) in
-    let first = subst (λ o. IsSomeAnd o (λ (x : FileRecord). MayReplaceFirst c.self.inside.parts c.in-Some.slot x (new_file c.args.name.now c.as_slice.result.now c.args.payload.now))) (sym found.1)
-    (subst W (sym words)
-    (write_first c.self.inside.parts c.self.invariant.parts c.in-Some.slot found.0 found.1 c.args.name.now c.args.payload.now c.args.size named c.self.invariant.range small c.requires.whole
-    (c.in_ok-words.ensures.row found.0 found.1))) in
+    let here = ap (λ (k : Stored). is_among k.parts c.args.place.now c.args.name.now) c.self.view_is ∙ sym c.in-Some.ensures.here in
+    let W : List (List ℕ) → Type 0 = λ ws. MayReplace c.self.inside.parts c.in-Some.slot found.0 (new_file c.args.name.now ws c.args.payload.now) in
+    let may = write_first (record { parts = c.self.inside.parts; journal = c.self.inside.journal; is_broken = c.self.inside.is_broken }) c.self.invariant c.args.place.now c.args.name.now c.in-Some.slot found.0 named found.1 here
+    c.args.payload.now c.args.size small c.requires.whole (c.in_ok-words.ensures.row found.0 found.1) in
+    let first = subst (λ o. IsSomeAnd o (λ (x : FileRecord). MayReplace c.self.inside.parts c.in-Some.slot x (new_file c.args.name.now c.as_slice.result.now c.args.payload.now))) (sym found.1) (subst W (sym words) may) in
     first
 
 pub save-requires-clause-sound : goal.save-requires-clause-sound
@@ -74,11 +73,11 @@ save-requires-clause-sound g c =
     let unbroken = ap (λ (k : Stored). k.is_broken) c.self.view_is ∙ c.requires.unbroken in
     let small : c.args.size ≤ file_limit c.self.inside.parts.limits.version = omega (arith, c.if-size-file_limit.false, c.file_limit.ensures, ap (λ (l : Limits). file_limit l.version) c.limits.ensures.value) in
     let words = c.as_slice.ensures.value ∙ c.in_ok-words.ensures.words found.0 found.1 in
-    let W : List (List ℕ) → Type 0 = λ ws. MayReplaceFirst c.self.inside.parts c.in-Some.slot found.0 (new_file c.args.name.now ws c.args.payload.now) in
-    let first = subst (λ o. IsSomeAnd o (λ (x : FileRecord). MayReplaceFirst c.self.inside.parts c.in-Some.slot x (new_file c.args.name.now c.as_slice.result.now c.args.payload.now))) (sym found.1)
-    (subst W (sym words)
-    (write_first c.self.inside.parts c.self.invariant.parts c.in-Some.slot found.0 found.1 c.args.name.now c.args.payload.now c.args.size named c.self.invariant.range small c.requires.whole
-    (c.in_ok-words.ensures.row found.0 found.1))) in
+    let here = ap (λ (k : Stored). is_among k.parts c.args.place.now c.args.name.now) c.self.view_is ∙ sym c.in-Some.ensures.here in
+    let W : List (List ℕ) → Type 0 = λ ws. MayReplace c.self.inside.parts c.in-Some.slot found.0 (new_file c.args.name.now ws c.args.payload.now) in
+    let may = write_first (record { parts = c.self.inside.parts; journal = c.self.inside.journal; is_broken = c.self.inside.is_broken }) c.self.invariant c.args.place.now c.args.name.now c.in-Some.slot found.0 named found.1 here
+    c.args.payload.now c.args.size small c.requires.whole (c.in_ok-words.ensures.row found.0 found.1) in
+    let first = subst (λ o. IsSomeAnd o (λ (x : FileRecord). MayReplace c.self.inside.parts c.in-Some.slot x (new_file c.args.name.now c.as_slice.result.now c.args.payload.now))) (sym found.1) (subst W (sym words) may) in
     overwritten_sound old c.overwrite.new.parts c.overwrite.new.journal c.in-Some.slot c.args.name.now c.as_slice.result.now c.args.payload.now c.self.invariant unbroken first c.overwrite.ensures.overwritten
 
 pub save-requires-clause-room : goal.save-requires-clause-room
@@ -89,11 +88,11 @@ save-requires-clause-room g c =
     let unbroken = ap (λ (k : Stored). k.is_broken) c.self.view_is ∙ c.requires.unbroken in
     let small : c.args.size ≤ file_limit c.self.inside.parts.limits.version = omega (arith, c.if-size-file_limit.false, c.file_limit.ensures, ap (λ (l : Limits). file_limit l.version) c.limits.ensures.value) in
     let words = c.as_slice.ensures.value ∙ c.in_ok-words.ensures.words found.0 found.1 in
-    let W : List (List ℕ) → Type 0 = λ ws. MayReplaceFirst c.self.inside.parts c.in-Some.slot found.0 (new_file c.args.name.now ws c.args.payload.now) in
-    let first = subst (λ o. IsSomeAnd o (λ (x : FileRecord). MayReplaceFirst c.self.inside.parts c.in-Some.slot x (new_file c.args.name.now c.as_slice.result.now c.args.payload.now))) (sym found.1)
-    (subst W (sym words)
-    (write_first c.self.inside.parts c.self.invariant.parts c.in-Some.slot found.0 found.1 c.args.name.now c.args.payload.now c.args.size named c.self.invariant.range small c.requires.whole
-    (c.in_ok-words.ensures.row found.0 found.1))) in
+    let here = ap (λ (k : Stored). is_among k.parts c.args.place.now c.args.name.now) c.self.view_is ∙ sym c.in-Some.ensures.here in
+    let W : List (List ℕ) → Type 0 = λ ws. MayReplace c.self.inside.parts c.in-Some.slot found.0 (new_file c.args.name.now ws c.args.payload.now) in
+    let may = write_first (record { parts = c.self.inside.parts; journal = c.self.inside.journal; is_broken = c.self.inside.is_broken }) c.self.invariant c.args.place.now c.args.name.now c.in-Some.slot found.0 named found.1 here
+    c.args.payload.now c.args.size small c.requires.whole (c.in_ok-words.ensures.row found.0 found.1) in
+    let first = subst (λ o. IsSomeAnd o (λ (x : FileRecord). MayReplace c.self.inside.parts c.in-Some.slot x (new_file c.args.name.now c.as_slice.result.now c.args.payload.now))) (sym found.1) (subst W (sym words) may) in
     overwritten_marks old c.overwrite.new.parts c.overwrite.new.journal c.in-Some.slot c.args.name.now c.as_slice.result.now c.args.payload.now c.self.invariant unbroken first c.overwrite.ensures.overwritten
 
 pub returns-clause-changes : goal.returns-clause-changes
@@ -106,22 +105,21 @@ returns-clause-changes g c = λ s fits.
     let found = rec_at-slot_of c.self.inside.parts.catalog c.args.name.now c.in-Some.slot c.self.invariant.parts.catalog named in
     let unbroken = ap (λ (k : Stored). k.is_broken) c.self.view_is ∙ c.requires.unbroken in
     let small : c.args.size ≤ file_limit c.self.inside.parts.limits.version = omega (arith, c.if-size-file_limit.false, c.file_limit.ensures, ap (λ (l : Limits). file_limit l.version) c.limits.ensures.value) in
-    let here = ap (λ (k : Stored). is_among k.parts c.args.place.now c.args.name.now) c.self.view_is ∙ sym c.in-Some.ensures.here in
     let words = c.as_slice.ensures.value ∙ c.in_ok-words.ensures.words found.0 found.1 in
-    let W : List (List ℕ) → Type 0 = λ ws. MayReplaceFirst c.self.inside.parts c.in-Some.slot found.0 (new_file c.args.name.now ws c.args.payload.now) in
-    let first = subst (λ o. IsSomeAnd o (λ (x : FileRecord). MayReplaceFirst c.self.inside.parts c.in-Some.slot x (new_file c.args.name.now c.as_slice.result.now c.args.payload.now))) (sym found.1)
-    (subst W (sym words)
-    (write_first c.self.inside.parts c.self.invariant.parts c.in-Some.slot found.0 found.1 c.args.name.now c.args.payload.now c.args.size named c.self.invariant.range small c.requires.whole
-    (c.in_ok-words.ensures.row found.0 found.1))) in
+    let here = ap (λ (k : Stored). is_among k.parts c.args.place.now c.args.name.now) c.self.view_is ∙ sym c.in-Some.ensures.here in
+    let W : List (List ℕ) → Type 0 = λ ws. MayReplace c.self.inside.parts c.in-Some.slot found.0 (new_file c.args.name.now ws c.args.payload.now) in
+    let may = write_first (record { parts = c.self.inside.parts; journal = c.self.inside.journal; is_broken = c.self.inside.is_broken }) c.self.invariant c.args.place.now c.args.name.now c.in-Some.slot found.0 named found.1 here
+    c.args.payload.now c.args.size small c.requires.whole (c.in_ok-words.ensures.row found.0 found.1) in
+    let first = subst (λ o. IsSomeAnd o (λ (x : FileRecord). MayReplace c.self.inside.parts c.in-Some.slot x (new_file c.args.name.now c.as_slice.result.now c.args.payload.now))) (sym found.1) (subst W (sym words) may) in
     let over = c.overwrite.ensures.overwritten in
     let F : Stored → Type 0 = λ k. StoreFits k m s in
     let S : Meaning → Type 0 = λ before. Saves c.overwrite.new.parts c.overwrite.new.journal new before (g.D.Disk.meaning c.save.new.disk) c.save.result in
     let fits_old = subst F (sym c.self.view_is) fits in
     let A : List (List ℕ) → Type 0 = λ ws. list_all (is_assignable (declared_of c.self.inside.parts)) ws ≡ true in
-    let assignable = subst A (sym words) (given_assignable old c.self.invariant c.in-Some.slot found.0 found.1 fits_old.kept s fits_old.tells) in
+    let assignable = subst A (sym words) may.assignable in
     overwritten_changes old c.overwrite.new.parts c.overwrite.new.journal c.in-Some.slot c.args.name.now c.as_slice.result.now c.args.payload.now c.self.invariant unbroken first c.overwrite.ensures.overwritten
     c.args.place.now new m (g.D.Disk.meaning c.save.new.disk) c.save.result (λ t. write (record { state = t; place = c.args.place.now }) c.args.name.now payload)
-    (λ t told. written_done old m t c.self.invariant told c.args.place.now c.args.name.now c.in-Some.slot found.0 over.rec named found.1 over.drops.there here c.as_slice.result.now words payload small
+    (λ t told. written_done old m t c.self.invariant told c.args.place.now c.args.name.now c.in-Some.slot found.0 over.rec named found.1 over.way.vacates.drops.there here c.as_slice.result.now words payload small
     (c.in_ok-words.ensures.row found.0 found.1))
     assignable (subst S (ap g.D.Disk.meaning c.overwrite.ensures.disk) c.save.ensures.saves) s fits_old
 
@@ -133,11 +131,11 @@ returns-clause-edits g c =
     let unbroken = ap (λ (k : Stored). k.is_broken) c.self.view_is ∙ c.requires.unbroken in
     let small : c.args.size ≤ file_limit c.self.inside.parts.limits.version = omega (arith, c.if-size-file_limit.false, c.file_limit.ensures, ap (λ (l : Limits). file_limit l.version) c.limits.ensures.value) in
     let words = c.as_slice.ensures.value ∙ c.in_ok-words.ensures.words found.0 found.1 in
-    let W : List (List ℕ) → Type 0 = λ ws. MayReplaceFirst c.self.inside.parts c.in-Some.slot found.0 (new_file c.args.name.now ws c.args.payload.now) in
-    let first = subst (λ o. IsSomeAnd o (λ (x : FileRecord). MayReplaceFirst c.self.inside.parts c.in-Some.slot x (new_file c.args.name.now c.as_slice.result.now c.args.payload.now))) (sym found.1)
-    (subst W (sym words)
-    (write_first c.self.inside.parts c.self.invariant.parts c.in-Some.slot found.0 found.1 c.args.name.now c.args.payload.now c.args.size named c.self.invariant.range small c.requires.whole
-    (c.in_ok-words.ensures.row found.0 found.1))) in
+    let here = ap (λ (k : Stored). is_among k.parts c.args.place.now c.args.name.now) c.self.view_is ∙ sym c.in-Some.ensures.here in
+    let W : List (List ℕ) → Type 0 = λ ws. MayReplace c.self.inside.parts c.in-Some.slot found.0 (new_file c.args.name.now ws c.args.payload.now) in
+    let may = write_first (record { parts = c.self.inside.parts; journal = c.self.inside.journal; is_broken = c.self.inside.is_broken }) c.self.invariant c.args.place.now c.args.name.now c.in-Some.slot found.0 named found.1 here
+    c.args.payload.now c.args.size small c.requires.whole (c.in_ok-words.ensures.row found.0 found.1) in
+    let first = subst (λ o. IsSomeAnd o (λ (x : FileRecord). MayReplace c.self.inside.parts c.in-Some.slot x (new_file c.args.name.now c.as_slice.result.now c.args.payload.now))) (sym found.1) (subst W (sym words) may) in
     let few = overwritten_edits old c.overwrite.new.parts c.overwrite.new.journal c.in-Some.slot c.args.name.now c.as_slice.result.now c.args.payload.now c.self.invariant unbroken first c.overwrite.ensures.overwritten in
     let E : Ext → Ext → Type 0 = λ a b. b.edits ≤ a.edits + differing_bits a b in
     let A : Ext → Type 0 = λ b. E c.args.self.now.parts.ext b in

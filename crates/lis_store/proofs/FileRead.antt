@@ -1,0 +1,193 @@
+-- Calls that read a file's bytes before they judge.
+use Rattle.std.proofs.Common.{◌≡◌, ◌⊎◌, refl, sym, ap, ap₂, ◌∙◌, subst, inl, ℕ, ◌+◌, ◌≤◌, true, false, List, length, cond, is_some, Some, None, Result, Ok, Err, IsTrue, IsSomeAnd, arith}
+use Rattle.std.specs.Result.{result_ok}
+use Rattle.std.specs.List.{list_all}
+use Rattle.std.proofs.lemmas.Option.{same_Some}
+use Rattle.lis_journal.specs.Record.{Entry, block}
+use Rattle.lis_journal.specs.Phases.{looked}
+use Rattle.lis_catalog.specs.Catalog.{slot_of, rec_at}
+use Rattle.lis_fields.specs.Records.{FileRecord}
+use Rattle.lis_grammar.specs.Formula.{Formula}
+use Rattle.lis_grammar.specs.Places.{Resolution, resolved, text_words}
+use Rattle.lis_grammar.specs.Places.Resolution.{NewPlace, BeyondLimits, Unreadable}
+use Rattle.lis_words.specs.Words.{is_file_name}
+use Rattle.lis_model.specs.Changes.{file_of, new_file, file_replaced}
+use Rattle.lis_model.specs.State.{State, File}
+use Rattle.lis_kept.specs.Kept.{Kept}
+use Rattle.lis_kept.specs.Telling.{words_told, bytes_told}
+use Rattle.lis_kept.proofs.Refiled.{record_named}
+use Rattle.lis_ports.specs.Meaning.{Meaning}
+use Rattle.lis_ports.specs.Runs.{Leaves}
+use Rattle.lis_ports.specs.Calls.{IsUnchanged}
+use Rattle.lis_ports.proofs.Moments.{leaves_weaken, leaves_then}
+use Rattle.lis_journal.specs.Images.{Fits}
+use Rattle.lis_model.specs.declared.refusal.Refusal.{Refusal}
+use Rattle.lis_model.specs.declared.refusal.Refusal.TheVariants.{NameTaken, NoFileHere}
+use Rattle.lis_model.specs.Step.{Situation, Outcome, refused, changed, rename, mv, tags_at, retagged}
+use Rattle.lis_store.specs.declared.change.Change.{Change}
+use Rattle.lis_store.specs.declared.change.Change.TheVariants.{Refused, Disk}
+use Rattle.lis_store.specs.Stands.{Stands}
+use Rattle.lis_store.specs.Stored.{Stored, IsSound, StoreFits}
+use Rattle.lis_store.specs.Changes.{Changes, first_refusal}
+use Rattle.lis_store.specs.Judging.{is_among}
+use Rattle.lis_store.specs.Saving.{Saves}
+use Rattle.lis_store.specs.Instead.{given_before, instead_checks, renaming_checks}
+use Rattle.lis_store.specs.Replacing.{MayReplace}
+use Rattle.lis_store.specs.ReplacingIn.{RefilesIn}
+use Rattle.lis_store.specs.Retagging.{led_by, words_moved, moved_from, moving_checks, retag_checks}
+use Rattle.lis_store.proofs.Facts.{filed_named}
+use Rattle.lis_store.proofs.InsteadTold.{old_is, rename_refused}
+use Rattle.lis_store.proofs.Judged.{change_refused, refused_first, refused_then}
+use Rattle.lis_store.proofs.ReplaceFile.{refiled_changes}
+use Rattle.lis_store.proofs.RetagTold.{mv_may, mv_here_refused, mv_here_done, mv_nowhere}
+use Rattle.lis_store.proofs.Standing.{fitting_stands}
+use Rattle.lis_store.proofs.WriteFile.{rest_of_rename, renamed_done}
+
+module _ (k : Stored) (before mid : Meaning) (now : Situation) (sound : IsSound k) (fits : StoreFits k before now.state)
+    (same : IsTrue before.is_honest → IsUnchanged before mid) (any_moment : IsTrue before.is_honest → Leaves before mid before.images)
+    (still : (kept : ℕ → List ℕ) → Fits k.journal before kept → Fits k.journal mid kept) where
+  -- the store fits the disk as before, by the same blocks
+  abbrev pub fits_read : StoreFits k mid now.state
+  fits_read = record { kept = fits.kept; journal = still fits.kept fits.journal; unbroken = fits.unbroken; tells = fits.tells; written = fits.written }
+
+  honest : IsTrue before.is_honest
+  honest = fits.journal.honest
+
+  -- what comes after the read is what the call comes to
+  pub after_read : {T : Type 0} (outcome : Outcome) (new : Stored) (after : Meaning) (result : Result T Change) → Changes now outcome new mid after result → Changes now outcome new before after result
+  after_read outcome new after result changes = record {
+    moments = leaves_then
+        (leaves_weaken (λ image. Stands image now.state ⊎ Stands image outcome.next.state) (any_moment honest) (λ image is. inl ((fitting_stands before k now.state sound fits).leaves image is)))
+        changes.moments;
+    past = λ n le. changes.past n le ∙ ap (block n) (same honest).bytes;
+    ended = changes.ended;
+  }
+
+  pub refused_read : {T : Type 0} (outcome : Outcome) (refusal : Refusal) (result : Result T Change) → outcome ≡ refused now refusal → result ≡ Err (Refused refusal) → Changes now outcome k before mid result
+  refused_read outcome refusal result is ends = after_read outcome k mid result (change_refused k mid now outcome refusal result fits_read is ends)
+
+  pub lost_read : {T : Type 0} (outcome : Outcome) (new : Stored) (result : Result T Change) → new.is_broken ≡ true → result ≡ Err Disk → Changes now outcome new before mid result
+  lost_read outcome new result broken ends =
+      subst (λ r. Changes now outcome new before mid r) (sym ends) (record {
+        moments = leaves_weaken (λ image. Stands image now.state ⊎ Stands image outcome.next.state) (any_moment honest) (λ image is. inl ((fitting_stands before k now.state sound fits).leaves image is));
+        past = λ n le. ap (block n) (same honest).bytes;
+        ended = broken;
+      })
+
+-- the place to which a text leads
+pub led_to : (r : Resolution) (next : List Formula) → led_by r ≡ Ok next → r ≡ NewPlace next
+led_to (Unreadable n) next is = absurd cc
+led_to BeyondLimits next is = absurd cc
+led_to (NewPlace place) next is = ap NewPlace (same_Some place next (ap result_ok is))
+
+-- ---- a file that is here, and its bytes
+module _ (old : Stored) (place : List Formula) (name : List ℕ) (slot : ℕ) (rec : FileRecord) (sound : IsSound old) (named : slot_of old.parts.catalog name ≡ Some slot)
+    (there : rec_at old.parts.catalog slot ≡ Some rec) (here : is_among old.parts place name ≡ true) where
+  abbrev p : Kept
+  p = old.parts
+
+  same_name : rec.name ≡ name
+  same_name = (filed_named p sound.parts name slot rec named there).1
+
+  -- that may move
+  pub moved_first : (next : List Formula) (words : List (List ℕ)) (bytes : List ℕ) → length bytes ≡ rec.size → first_refusal (moving_checks p place next words rec) ≡ None
+      → first_refusal (instead_checks p slot (moved_from p rec place next name bytes)) ≡ None → MayReplace p slot rec (moved_from p rec place next name bytes)
+  moved_first next words bytes size moving none =
+      mv_may old sound slot rec there place next name bytes words same_name
+      (subst (λ n. is_file_name n ≡ true) same_name (record_named p.dict p.limits.blocks rec (sound.parts.records slot rec there))) (omega (arith, size))
+      (refused_then (moving_checks p place next words rec) (instead_checks p slot (moved_from p rec place next name bytes)) moving ∙ none)
+
+  module _ (m : Meaning) (s : State) (fits : StoreFits old m s) where
+    abbrev now : Situation
+    now = record { state = s; place = place }
+
+    -- a refusal of a move before the bytes are read
+    pub moving_refused : {T : Type 0} (text : List ℕ) (next : List Formula) (refusal : Refusal) (result : Result T Change) → resolved place text ≡ NewPlace next
+        → first_refusal (moving_checks p place next (text_words text) rec) ≡ Some refusal → result ≡ Err (Refused refusal) → Changes now (mv now name text) old m m result
+    moving_refused text next refusal result leads first ends =
+        change_refused old m now (mv now name text) refusal result fits
+        (mv_here_refused old m s sound fits place name slot rec (λ _. (named, there)) text next refusal leads here
+        (refused_first (moving_checks p place next (text_words text) rec) (instead_checks p slot (moved_from p rec place next name (file_of s.files name).bytes)) refusal first)) ends
+
+    -- another file has the name
+    pub name_taken : {T : Type 0} (other : List ℕ) (result : Result T Change) → is_some (slot_of p.catalog other) ≡ true → result ≡ Err (Refused NameTaken) → Changes now (rename now name other) old m m result
+    name_taken other result taken ends =
+        let file = given_before p rec other (file_of s.files name).bytes in
+        change_refused old m now (rename now name other) NameTaken result fits
+        (rename_refused old m s sound fits place name slot rec (λ _. (named, there)) other NameTaken
+        (rest_of_rename p place name slot file here ∙ ap (λ b. cond b (Some NameTaken) (first_refusal (instead_checks p slot file))) taken)) ends
+
+    module _ (mid : Meaning) (same : IsTrue m.is_honest → IsUnchanged m mid) (any_moment : IsTrue m.is_honest → Leaves m mid m.images)
+        (still : (kept : ℕ → List ℕ) → Fits old.journal m kept → Fits old.journal mid kept) (bytes : List ℕ)
+        (read : (kept : ℕ → List ℕ) → Fits old.journal m kept → bytes ≡ bytes_told p.limits (looked old.journal.staged kept) rec) where
+      abbrev after : StoreFits old mid s
+      after = fits_read old m mid now sound fits same any_moment still
+
+      told : bytes_told p.limits fits.kept rec ≡ bytes
+      told = sym (read fits.kept fits.journal ∙ ap (λ (es : List Entry). bytes_told p.limits (looked es fits.kept) rec) (sound.staged fits.unbroken))
+
+      bytes_are : bytes ≡ (file_of s.files name).bytes
+      bytes_are = sym (ap (λ (f : File). f.bytes) (old_is old m s sound fits name slot rec named there) ∙ told)
+
+      -- ---- under another name
+      pub renaming_refused : {T : Type 0} (other : List ℕ) (refusal : Refusal) (result : Result T Change) → first_refusal (renaming_checks p slot (given_before p rec other bytes)) ≡ Some refusal
+          → result ≡ Err (Refused refusal) → Changes now (rename now name other) old m mid result
+      renaming_refused other refusal result first ends =
+          let row = subst (λ bs. first_refusal (renaming_checks p slot (given_before p rec other bs)) ≡ Some refusal) bytes_are first in
+          refused_read old m mid now sound fits same any_moment still (rename now name other) refusal result
+          (rename_refused old m s sound fits place name slot rec (λ _. (named, there)) other refusal
+          (rest_of_rename p place name slot (given_before p rec other (file_of s.files name).bytes) here ∙ row)) ends
+
+      pub renaming_changes : {T : Type 0} (q : Kept) (other : List ℕ) (assigned : List (List ℕ)) (unbroken : old.is_broken ≡ false) → assigned ≡ words_told p.dict rec.tags
+          → (first : IsSomeAnd (rec_at p.catalog slot) (λ (x : FileRecord). MayReplace p slot x (new_file other assigned bytes))) → RefilesIn slot (new_file other assigned bytes) p q
+          → first_refusal (renaming_checks p slot (given_before p rec other bytes)) ≡ None → (new : Stored) (end : Meaning) (result : Result T Change)
+          → Saves q old.journal new mid end result → Changes now (rename now name other) new m end result
+      renaming_changes q other assigned unbroken words first again none new end result saves =
+          let same_rec : rec ≡ again.rec = same_Some rec again.rec (sym there ∙ again.way.vacates.drops.there) in
+          let told_then = subst (λ (r : FileRecord). bytes_told p.limits fits.kept r ≡ bytes) same_rec told in
+          let may = subst (λ o. IsSomeAnd o (λ (x : FileRecord). MayReplace p slot x (new_file other assigned bytes))) there first in
+          after_read old m mid now sound fits same any_moment still (rename now name other) new end result
+          (refiled_changes old q slot other assigned bytes sound unbroken first again place new mid end result (rename now name other) s after
+          (renamed_done old m s sound fits place name slot rec again.rec named there again.way.vacates.drops.there here assigned words other bytes told_then none)
+          told_then may.assignable saves)
+
+      -- ---- in another place
+      pub retagging_refused : {T : Type 0} (text : List ℕ) (next : List Formula) (refusal : Refusal) (result : Result T Change) → resolved place text ≡ NewPlace next
+          → first_refusal (moving_checks p place next (text_words text) rec) ≡ None → first_refusal (instead_checks p slot (moved_from p rec place next name bytes)) ≡ Some refusal
+          → result ≡ Err (Refused refusal) → Changes now (mv now name text) old m mid result
+      retagging_refused text next refusal result leads moving first ends =
+          let row = subst (λ bs. first_refusal (instead_checks p slot (moved_from p rec place next name bs)) ≡ Some refusal) bytes_are first in
+          refused_read old m mid now sound fits same any_moment still (mv now name text) refusal result
+          (mv_here_refused old m s sound fits place name slot rec (λ _. (named, there)) text next refusal leads here
+          (refused_then (moving_checks p place next (text_words text) rec) (instead_checks p slot (moved_from p rec place next name (file_of s.files name).bytes)) moving ∙ row)) ends
+
+      pub retagging_changes : {T : Type 0} (q : Kept) (text : List ℕ) (next : List Formula) (assigned : List (List ℕ)) (unbroken : old.is_broken ≡ false) → assigned ≡ words_moved p rec place next
+          → resolved place text ≡ NewPlace next → (first : IsSomeAnd (rec_at p.catalog slot) (λ (x : FileRecord). MayReplace p slot x (new_file name assigned bytes)))
+          → RefilesIn slot (new_file name assigned bytes) p q → first_refusal (moving_checks p place next (text_words text) rec) ≡ None
+          → first_refusal (instead_checks p slot (moved_from p rec place next name bytes)) ≡ None → (new : Stored) (end : Meaning) (result : Result T Change)
+          → Saves q old.journal new mid end result → Changes now (mv now name text) new m end result
+      retagging_changes q text next assigned unbroken words leads first again moving none new end result saves =
+          let same_rec : rec ≡ again.rec = same_Some rec again.rec (sym there ∙ again.way.vacates.drops.there) in
+          let told_then = subst (λ (r : FileRecord). bytes_told p.limits fits.kept r ≡ bytes) same_rec told in
+          let may = subst (λ o. IsSomeAnd o (λ (x : FileRecord). MayReplace p slot x (new_file name assigned bytes))) there first in
+          let was = file_of s.files name in
+          let row = subst (λ bs. first_refusal (instead_checks p slot (moved_from p rec place next name bs)) ≡ None) bytes_are none in
+          let done = mv_here_done old m s sound fits place name slot rec (λ _. (named, there)) text next leads here
+          (refused_then (moving_checks p place next (text_words text) rec) (instead_checks p slot (moved_from p rec place next name was.bytes)) moving ∙ row) in
+          let given : retagged was.assigned (tags_at place) (tags_at next) ≡ assigned =
+          ap (λ (f : File). retagged f.assigned (tags_at place) (tags_at next)) (old_is old m s sound fits name slot rec named there) ∙ sym words in
+          let old_name : name ≡ again.rec.name = sym same_name ∙ ap (λ (r : FileRecord). r.name) same_rec in
+          after_read old m mid now sound fits same any_moment still (mv now name text) new end result
+          (refiled_changes old q slot name assigned bytes sound unbroken first again place new mid end result (mv now name text) s after
+          (done
+          ∙ (ap₂ (λ ws bs. changed now (file_replaced s name (new_file name ws bs))) given (sym bytes_are)
+          ∙ ap (λ n. changed now (file_replaced s n (new_file name assigned bytes))) old_name))
+          told_then may.assignable saves)
+
+-- no file of the name is here
+pub moved_nowhere : {T : Type 0} (old : Stored) (m : Meaning) (s : State) (place next : List Formula) (name text : List ℕ) (result : Result T Change) → IsSound old → StoreFits old m s
+    → resolved place text ≡ NewPlace next → is_among old.parts place name ≡ false → result ≡ Err (Refused NoFileHere)
+    → Changes (record { state = s; place = place }) (mv (record { state = s; place = place }) name text) old m m result
+moved_nowhere old m s place next name text result sound fits leads none ends =
+    change_refused old m (record { state = s; place = place }) (mv (record { state = s; place = place }) name text) NoFileHere result fits
+    (mv_nowhere old m s sound fits place next name text leads none) ends

@@ -1,0 +1,119 @@
+-- What a file is refused for that would move to another place, as the calls ask it.
+use Rattle.std.proofs.Common.{◌≡◌, refl, sym, ap, ◌∙◌, inl, inr, ◌⊎◌, ℕ, ◌<◌, ◌≤◌, nat_lt, Bool, true, false, not, cond, ◌||◌, IsSome, Option, Some, None, List, [], ◌∷◌, ◌++◌, length, filter, take, get_or, ◌+◌, append-nil, arith}
+use Rattle.std.specs.List.{list_any, list_all, flat_map}
+use Rattle.std.specs.List.Sorted.{IsStrictlySortedBy}
+use Rattle.std.proofs.lemmas.Bool.{leb-false, le-leb, le-ltb}
+use Rattle.std.proofs.lemmas.List.{take_more}
+use Rattle.std.proofs.lemmas.List.Elements.{filter-append}
+use Rattle.std.proofs.lemmas.List.Folds.{list_any-append}
+use Rattle.std.proofs.lemmas.List.Kept.{IsStrictlySortedBy-filter}
+use Rattle.lis_graph.proofs.Members.{Among}
+use Rattle.lis_fields.specs.Records.{FileRecord}
+use Rattle.lis_words.specs.Words.{word_cmp, same_word, has_word}
+use Rattle.lis_grammar.specs.Formula.{Formula}
+use Rattle.lis_place.specs.declared.node.Node.{Node}
+use Rattle.lis_place.specs.Nodes.{nodes_of}
+use Rattle.lis_model.specs.declared.refusal.Refusal.{Refusal}
+use Rattle.lis_model.specs.declared.refusal.Refusal.TheVariants.{UnknownProperty, TooManyAssigned, LargeDescription, NoPropertyRoom}
+use Rattle.lis_model.specs.Sets.{with_words, set_of}
+use Rattle.lis_model.specs.Places.{place_words}
+use Rattle.lis_model.specs.State.{is_assignable}
+use Rattle.lis_model.specs.Changes.{new_file}
+use Rattle.lis_model.specs.Step.{tags_at, retagged}
+use Rattle.lis_laws.proofs.Members.{among_from_has_word, has_word_from_among, among_with_words, with_words_old, with_words_new, among_set_of, set_of_among, sorted_with_words, same_words}
+use Rattle.lis_kept.specs.Kept.{Kept}
+use Rattle.lis_kept.specs.Sound.{AreSound}
+use Rattle.lis_kept.specs.Telling.{declared_of}
+use Rattle.lis_kept.proofs.Filing.{same_tests, filter_same}
+use Rattle.lis_store.specs.Assigning.{node_tags, Takes}
+use Rattle.lis_store.specs.Changes.{first_refusal}
+use Rattle.lis_store.specs.Instead.{instead_checks}
+use Rattle.lis_store.specs.Replacing.{words_without}
+use Rattle.lis_store.specs.Retagging.{words_moved, places_checks, moving_checks}
+use Rattle.lis_store.proofs.Assigned.{tags_of_nodes}
+use Rattle.lis_store.proofs.Judged.{refused_then}
+
+-- ---- words of nodes
+pub any_of_nodes : (p : List ℕ → Bool) (f : Node → List (List ℕ)) (nodes : List Node) → list_any (λ node. list_any p (f node)) nodes ≡ list_any p (flat_map f nodes)
+any_of_nodes p f [] = refl
+any_of_nodes p f (node ∷ nodes) = ap (λ b. list_any p (f node) || b) (any_of_nodes p f nodes) ∙ sym (list_any-append p (f node) (flat_map f nodes))
+
+has_set : (words : List (List ℕ)) (word : List ℕ) → has_word words word ≡ has_word (set_of words) word
+has_set words word =
+    same_tests (has_word words word) (has_word (set_of words) word)
+    (λ h. has_word_from_among (set_of words) word (set_of_among words word (among_from_has_word words word h)))
+    (λ h. has_word_from_among words word (among_set_of words word (among_from_has_word (set_of words) word h)))
+
+has_tag : (place : List Formula) → IsSome (place_words place) → (word : List ℕ)
+    → list_any (λ node. has_word (node_tags node) word) (nodes_of place) ≡ has_word (tags_at place) word
+has_tag place some word =
+    any_of_nodes (λ w. same_word w word) node_tags (nodes_of place)
+    ∙ (has_set (flat_map node_tags (nodes_of place)) word ∙ ap (λ tags. has_word tags word) (sym (tags_of_nodes place some)))
+
+-- ---- the words of a file that moves
+module _ {X : Type 0} (p : X → Bool) (xs : List X) (i : ℕ) (x : X) (lt : i < length xs) (is : x ≡ get_or xs i x) (kept : List X) (so_far : kept ≡ filter p (take i xs)) where
+  one_more : filter p (take (i + 1) xs) ≡ kept ++ filter p (x ∷ [])
+  one_more =
+      ap (filter p) (take_more xs i x lt ∙ ap (λ (y : X). take i xs ++ y ∷ []) (sym is))
+      ∙ (filter-append p (take i xs) (x ∷ []) ∙ ap (λ ys. ys ++ filter p (x ∷ [])) (sym so_far))
+
+  pub kept_one : p x ≡ true → (new : List X) → new ≡ kept ++ x ∷ [] → new ≡ filter p (take (i + 1) xs)
+  kept_one passes new is_new = is_new ∙ sym (one_more ∙ ap (λ b. kept ++ cond b (x ∷ []) []) passes)
+
+  pub kept_none : p x ≡ false → kept ≡ filter p (take (i + 1) xs)
+  kept_none fails = sym (one_more ∙ (ap (λ b. kept ++ cond b (x ∷ []) []) fails ∙ append-nil kept))
+
+with_set : (old more : List (List ℕ)) → IsStrictlySortedBy word_cmp old → with_words old more ≡ with_words old (set_of more)
+with_set old more set =
+    same_words (with_words old more) (with_words old (set_of more)) (sorted_with_words old more set) (sorted_with_words old (set_of more) set)
+    (λ w m. to w (among_with_words old more w m)) (λ w m. from w (among_with_words old (set_of more) w m))
+  where
+    to : (w : List ℕ) → Among old w ⊎ Among more w → Among (with_words old (set_of more)) w
+    to w (inl m) = with_words_old old (set_of more) w m
+    to w (inr m) = with_words_new old (set_of more) w (set_of_among more w m)
+
+    from : (w : List ℕ) → Among old w ⊎ Among (set_of more) w → Among (with_words old more) w
+    from w (inl m) = with_words_old old more w m
+    from w (inr m) = with_words_new old more w (among_set_of more w m)
+
+module _ (here there : List Formula) (words kept : List (List ℕ)) (nodes : List Node) (place : IsSome (place_words here)) (other : IsSome (place_words there))
+    (of_place : nodes ≡ nodes_of here) (kept_is : kept ≡ filter (λ word. not (list_any (λ node. has_word (node_tags node) word) nodes)) words)
+    (set : IsStrictlySortedBy word_cmp words) where
+  abbrev tags : List (List ℕ)
+  tags = flat_map node_tags (nodes_of there)
+
+  abbrev left : List (List ℕ)
+  left = filter (λ word. not (has_word (tags_at here) word)) words
+
+  kept_left : kept ≡ left
+  kept_left =
+      kept_is
+      ∙ filter_same (λ word. not (list_any (λ node. has_word (node_tags node) word) nodes)) (λ word. not (has_word (tags_at here) word)) words
+      (λ w m. ap (λ ns. not (list_any (λ node. has_word (node_tags node) w) ns)) of_place ∙ ap not (has_tag here place w))
+
+  all_are : with_words kept tags ≡ retagged words (tags_at here) (tags_at there)
+  all_are =
+      ap (λ ws. with_words ws tags) kept_left
+      ∙ (with_set left tags (IsStrictlySortedBy-filter word_cmp (λ word. not (has_word (tags_at here) word)) words set)
+      ∙ ap (with_words left) (sym (tags_of_nodes there other)))
+
+  pub too_many_moved : (new : List (List ℕ)) → Takes tags kept new false → 16 < length (retagged words (tags_at here) (tags_at there))
+  too_many_moved new takes = omega (arith, leb-false (length (with_words kept tags)) 16 (sym takes.room), ap length all_are)
+
+  pub moved_are : (new : List (List ℕ)) → Takes tags kept new true → new ≡ retagged words (tags_at here) (tags_at there)
+  moved_are new takes = takes.words refl ∙ all_are
+
+-- ---- the row of a file that moves, whatever its bytes are
+module _ (k : Kept) (here there : List Formula) (words : List (List ℕ)) (rec : FileRecord) (none : first_refusal (places_checks k here there words) ≡ None) where
+  abbrev moved : List (List ℕ)
+  moved = words_moved k rec here there
+
+  pub many_refused : 16 < length moved → first_refusal (moving_checks k here there words rec) ≡ Some TooManyAssigned
+  many_refused many =
+      refused_then (places_checks k here there words) ((nat_lt 16 (length moved), TooManyAssigned) ∷ []) none
+      ∙ ap (λ b. cond b (Some TooManyAssigned) None) (le-leb 17 (length moved) many)
+
+  pub few_moved : length moved ≤ 16 → first_refusal (moving_checks k here there words rec) ≡ None
+  few_moved few =
+      refused_then (places_checks k here there words) ((nat_lt 16 (length moved), TooManyAssigned) ∷ []) none
+      ∙ ap (λ b. cond b (Some TooManyAssigned) None) (le-ltb 16 (length moved) few)

@@ -1,0 +1,43 @@
+use Rattle.std.proofs.Common.{ℕ, List, ◌∙◌, length, sym, ap, subst, arith}
+use Rattle.std.specs.List.Sorted.{IsStrictlyIncreasing}
+use Rattle.lis_catalog.proofs.Laws.{slot_is_below}
+use Rattle.lis_ext.specs.Ext.{Ext, set_of as numbers_at}
+use Rattle.lis_kept.specs.Forgetting.{MayForget, ForgetsWithout, emptied}
+use Rattle.lis_store.proofs.ReplacingIn.{below_dropped, free_dropped, may_forget_dropped}
+use Rattle.lis_store.proofs.replacing.vacate.Goals as goal
+
+pub numbers_at-numbers-requires-clause-slot : goal.numbers_at-numbers-requires-clause-slot
+numbers_at-numbers-requires-clause-slot c =
+    let sound = c.requires.form.sound in
+    omega (arith, slot_is_below c.args.parts.now.catalog c.args.slot sound.catalog c.requires.there, sound.slots, sound.files, ap (λ (e : Ext). length e.sets) c.ext.ensures)
+
+pub forget_without-requires-clause-slot : goal.forget_without-requires-clause-slot
+forget_without-requires-clause-slot c =
+    below_dropped c.args.parts.now c.drop_file-rec.new.self c.args.slot c.drop_file-rec.result c.requires.form c.drop_file-rec.ensures c.note_form.ensures
+
+pub forget_without-requires-clause-empty : goal.forget_without-requires-clause-empty
+forget_without-requires-clause-empty c =
+    free_dropped c.args.parts.now c.drop_file-rec.new.self c.args.slot c.drop_file-rec.result c.requires.form c.drop_file-rec.ensures c.note_form.ensures
+
+pub forget_without-requires-clause-may : goal.forget_without-requires-clause-may
+forget_without-requires-clause-may c =
+    let here = c.as_slice.ensures.value ∙ (c.numbers_at-numbers.ensures.numbers ∙ ap (λ (x : Ext). numbers_at x c.args.slot) c.ext.ensures) in
+    subst (λ ns. MayForget ns (emptied c.drop_file-rec.new.self c.args.slot)) (sym here)
+    (may_forget_dropped c.args.parts.now c.drop_file-rec.new.self c.args.slot c.drop_file-rec.result c.requires.form c.drop_file-rec.ensures c.note_form.ensures)
+
+pub returns-clause-vacated : goal.returns-clause-vacated
+returns-clause-vacated c =
+    let here = c.as_slice.ensures.value ∙ (c.numbers_at-numbers.ensures.numbers ∙ ap (λ (x : Ext). numbers_at x c.args.slot) c.ext.ensures) in
+    let R : Ext → Type 0 = λ x. IsStrictlyIncreasing (numbers_at x c.args.slot) in
+    let F : List ℕ → Type 0 = λ ns. ForgetsWithout c.args.slot ns c.drop_file-rec.new.self c.forget_without.new.self in
+    record {
+      rising = subst R c.ext.ensures c.numbers_at-numbers.ensures.rising;
+      dropped = c.drop_file-rec.new.self;
+      drops = c.drop_file-rec.ensures;
+      form_dropped = c.note_form.ensures;
+      forgets = subst F here c.forget_without.ensures;
+      form = c.note_form-2.ensures;
+    }
+
+pub returns-clause-numbers : goal.returns-clause-numbers
+returns-clause-numbers c = c.numbers_at-numbers.ensures.numbers ∙ ap (λ (x : Ext). numbers_at x c.args.slot) c.ext.ensures

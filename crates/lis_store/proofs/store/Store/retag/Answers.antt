@@ -1,0 +1,220 @@
+use Rattle.std.proofs.Common.{◌≡◌, ◌∙◌, ◌+◌, ◌≤◌, List, ℕ, length, Some, None, Err, IsSomeAnd, is_some, true, refl, sym, ap, subst}
+use Rattle.std.proofs.lemmas.Result.{err_from_is_err_and}
+use Rattle.lis_ports.specs.Meaning.{Meaning}
+use Rattle.lis_catalog.specs.Catalog.{slot_of}
+use Rattle.lis_catalog.proofs.Laws.{rec_at-slot_of}
+use Rattle.lis_ext.specs.Ext.{Ext}
+use Rattle.lis_fields.specs.Records.{FileRecord}
+use Rattle.lis_model.specs.Changes.{new_file}
+use Rattle.lis_model.specs.Step.{Situation, mv}
+use Rattle.lis_kept.specs.Kept.{Kept}
+use Rattle.lis_kept.specs.Telling.{bytes_told}
+use Rattle.lis_journal.specs.Images.{Fits}
+use Rattle.lis_journal.specs.Phases.{looked}
+use Rattle.lis_store.specs.Stored.{Stored, IsSound, StoreFits}
+use Rattle.lis_store.specs.Changes.{Changes, first_refusal, differing_bits}
+use Rattle.lis_store.specs.Judging.{is_among}
+use Rattle.lis_store.specs.Saving.{Saves}
+use Rattle.lis_store.specs.Replacing.{MayReplace}
+use Rattle.lis_grammar.specs.Places.{resolved, text_words}
+use Rattle.lis_store.specs.Instead.{instead_checks}
+use Rattle.lis_store.specs.Retagging.{words_moved, moved_from, moving_checks}
+use Rattle.lis_store.proofs.FileRead.{led_to, lost_read, moved_first, moved_nowhere, moving_refused, retagging_refused, retagging_changes}
+use Rattle.lis_store.proofs.ReplaceFile.{refiled_sound, refiled_marks, refiled_edits}
+use Rattle.lis_store.proofs.store.Store.retag.Goals as goal
+
+pub returns-in_default-clause-changes : goal.returns-in_default-clause-changes
+returns-in_default-clause-changes g c = λ s fits.
+    let sound = subst (λ (k : Stored). IsSound k) c.self.view_is c.self.invariant in
+    let leads = led_to (resolved c.args.place.now c.args.text.now) c.in_ok-next.next (sym c.in_ok-next.ensures) in
+    moved_nowhere c.args.self.now (g.D.Disk.meaning c.args.disk.now) s c.args.place.now c.in_ok-next.next c.args.name.now c.args.text.now _ sound fits leads (sym c.in_default.ensures.here) refl
+
+pub may_move-requires-clause-rec : goal.may_move-requires-clause-rec
+may_move-requires-clause-rec g c =
+    let named = ap (λ (k : Stored). slot_of k.parts.catalog c.args.name.now) c.self.view_is ∙ c.in-Some.ensures.slot in
+    ap is_some (rec_at-slot_of c.self.inside.parts.catalog c.args.name.now c.in-Some.slot c.self.invariant.parts.catalog named).1
+
+pub returns-in_err-words-clause-changes : goal.returns-in_err-words-clause-changes
+returns-in_err-words-clause-changes g c = λ s fits.
+    let old : Stored = record { parts = c.self.inside.parts; journal = c.self.inside.journal; is_broken = c.self.inside.is_broken } in
+    let named = ap (λ (k : Stored). slot_of k.parts.catalog c.args.name.now) c.self.view_is ∙ c.in-Some.ensures.slot in
+    let found = rec_at-slot_of c.self.inside.parts.catalog c.args.name.now c.in-Some.slot c.self.invariant.parts.catalog named in
+    let here = ap (λ (k : Stored). is_among k.parts c.args.place.now c.args.name.now) c.self.view_is ∙ sym c.in-Some.ensures.here in
+    let leads = led_to (resolved c.args.place.now c.args.text.now) c.in_ok-next.next (sym c.in_ok-next.ensures) in
+    let m = g.D.Disk.meaning c.args.disk.now in
+    let now : Situation = record { state = s; place = c.args.place.now } in
+    let e = err_from_is_err_and c.from_residual-in_err-words.result c.from_residual-in_err-words.ensures.1 in
+    let P : Stored → Type 0 = λ k. StoreFits k m s in
+    let Q : Stored → Type 0 = λ k. Changes now (mv now c.args.name.now c.args.text.now) k m m c.from_residual-in_err-words.result in
+    subst Q c.self.view_is
+    (moving_refused old c.args.place.now c.args.name.now c.in-Some.slot found.0 c.self.invariant named found.1 here m s (subst P (sym c.self.view_is) fits) c.args.text.now c.in_ok-next.next c.in_err-words.field-0.0
+    c.from_residual-in_err-words.result leads (c.in_err-words.ensures.row found.0 found.1) (e.1 ∙ ap Err e.2))
+
+pub read_file-requires-clause-there : goal.read_file-requires-clause-there
+read_file-requires-clause-there g c =
+    let named = ap (λ (k : Stored). slot_of k.parts.catalog c.args.name.now) c.self.view_is ∙ c.in-Some.ensures.slot in
+    ap is_some (rec_at-slot_of c.self.inside.parts.catalog c.args.name.now c.in-Some.slot c.self.invariant.parts.catalog named).1
+
+pub returns-in-Err-clause-changes : goal.returns-in-Err-clause-changes
+returns-in-Err-clause-changes g c = λ s fits.
+    let old : Stored = record { parts = c.self.inside.parts; journal = c.self.inside.journal; is_broken = c.self.inside.is_broken } in
+    let named = ap (λ (k : Stored). slot_of k.parts.catalog c.args.name.now) c.self.view_is ∙ c.in-Some.ensures.slot in
+    let found = rec_at-slot_of c.self.inside.parts.catalog c.args.name.now c.in-Some.slot c.self.invariant.parts.catalog named in
+    let here = ap (λ (k : Stored). is_among k.parts c.args.place.now c.args.name.now) c.self.view_is ∙ sym c.in-Some.ensures.here in
+    let m = g.D.Disk.meaning c.args.disk.now in
+    let mid = g.D.Disk.meaning c.read_file.new.disk in
+    let now : Situation = record { state = s; place = c.args.place.now } in
+    let P : Stored → Type 0 = λ k. StoreFits k m s in
+    let fits_old = subst P (sym c.self.view_is) fits in
+    lost_read old m mid now c.self.invariant fits_old c.read_file.ensures.same c.read_file.ensures.any_moment c.read_file.ensures.fits (mv now c.args.name.now c.args.text.now) _ _ refl (ap Err c.from.ensures)
+
+pub has_room_instead-requires-clause-there : goal.has_room_instead-requires-clause-there
+has_room_instead-requires-clause-there g c =
+    let named = ap (λ (k : Stored). slot_of k.parts.catalog c.args.name.now) c.self.view_is ∙ c.in-Some.ensures.slot in
+    ap is_some (rec_at-slot_of c.self.inside.parts.catalog c.args.name.now c.in-Some.slot c.self.invariant.parts.catalog named).1
+
+pub returns-in_err-has_room_instead-clause-changes : goal.returns-in_err-has_room_instead-clause-changes
+returns-in_err-has_room_instead-clause-changes g c = λ s fits.
+    let e = err_from_is_err_and c.from_residual-in_err-has_room_instead.result c.from_residual-in_err-has_room_instead.ensures.1 in
+    let old : Stored = record { parts = c.self.inside.parts; journal = c.self.inside.journal; is_broken = c.self.inside.is_broken } in
+    let named = ap (λ (k : Stored). slot_of k.parts.catalog c.args.name.now) c.self.view_is ∙ c.in-Some.ensures.slot in
+    let found = rec_at-slot_of c.self.inside.parts.catalog c.args.name.now c.in-Some.slot c.self.invariant.parts.catalog named in
+    let here = ap (λ (k : Stored). is_among k.parts c.args.place.now c.args.name.now) c.self.view_is ∙ sym c.in-Some.ensures.here in
+    let leads = led_to (resolved c.args.place.now c.args.text.now) c.in_ok-next.next (sym c.in_ok-next.ensures) in
+    let m = g.D.Disk.meaning c.args.disk.now in
+    let mid = g.D.Disk.meaning c.read_file.new.disk in
+    let now : Situation = record { state = s; place = c.args.place.now } in
+    let P : Stored → Type 0 = λ k. StoreFits k m s in
+    let fits_old = subst P (sym c.self.view_is) fits in
+    let R : List ℕ → Type 0 = λ bs. (kept : ℕ → List ℕ) → Fits c.self.inside.journal m kept → bs ≡ bytes_told c.self.inside.parts.limits (looked c.self.inside.journal.staged kept) found.0 in
+    let read_now : R c.read_file.new.bytes = λ kept held. c.in_default-read_file.ensures.read found.0 kept found.1 held in
+    let words_judged = c.as_slice.ensures.value ∙ c.in_ok-words.ensures.words found.0 found.1 in
+    let J : List (List ℕ) → Type 0 = λ ws. first_refusal (instead_checks c.self.inside.parts c.in-Some.slot (new_file c.args.name.now ws c.bytes.result.now)) ≡ Some c.in_err-has_room_instead.field-0.0 in
+    retagging_refused old c.args.place.now c.args.name.now c.in-Some.slot found.0 c.self.invariant named found.1 here m s fits_old mid c.read_file.ensures.same c.read_file.ensures.any_moment c.read_file.ensures.fits
+    c.bytes.result.now (subst R (sym c.bytes.ensures.bytes) read_now) c.args.text.now c.in_ok-next.next c.in_err-has_room_instead.field-0.0 c.from_residual-in_err-has_room_instead.result leads
+    (c.in_ok-words.ensures.row found.0 found.1) (subst J words_judged c.in_err-has_room_instead.ensures.row) (e.1 ∙ ap Err e.2)
+
+pub refile-requires-clause-may : goal.refile-requires-clause-may
+refile-requires-clause-may g c =
+    let old : Stored = record { parts = c.self.inside.parts; journal = c.self.inside.journal; is_broken = c.self.inside.is_broken } in
+    let named = ap (λ (k : Stored). slot_of k.parts.catalog c.args.name.now) c.self.view_is ∙ c.in-Some.ensures.slot in
+    let found = rec_at-slot_of c.self.inside.parts.catalog c.args.name.now c.in-Some.slot c.self.invariant.parts.catalog named in
+    let here = ap (λ (k : Stored). is_among k.parts c.args.place.now c.args.name.now) c.self.view_is ∙ sym c.in-Some.ensures.here in
+    let words = c.as_slice-2.ensures.value ∙ c.in_ok-words.ensures.words found.0 found.1 in
+    let words_judged = c.as_slice.ensures.value ∙ c.in_ok-words.ensures.words found.0 found.1 in
+    let same = c.bytes.ensures.bytes ∙ sym c.bytes-2.ensures.bytes in
+    let I : List (List ℕ) → List ℕ → Type 0 = λ ws bs. first_refusal (instead_checks c.self.inside.parts c.in-Some.slot (new_file c.args.name.now ws bs)) ≡ None in
+    let J : List (List ℕ) → Type 0 = λ ws. I ws c.bytes.result.now in
+    let K : List ℕ → Type 0 = λ bs. I (words_moved c.self.inside.parts found.0 c.args.place.now c.in_ok-next.next) bs in
+    let none = subst K same (subst J words_judged c.in_ok-has_room_instead.ensures.row) in
+    let size = ap length c.bytes-2.ensures.bytes ∙ c.in_default-read_file.ensures.size found.0 found.1 in
+    let moving = c.in_ok-words.ensures.row found.0 found.1 in
+    let may = moved_first old c.args.place.now c.args.name.now c.in-Some.slot found.0 c.self.invariant named found.1 here c.in_ok-next.next (text_words c.args.text.now) c.bytes-2.result.now size moving none in
+    let W : List (List ℕ) → Type 0 = λ ws. MayReplace c.self.inside.parts c.in-Some.slot found.0 (new_file c.args.name.now ws c.bytes-2.result.now) in
+    let first = subst (λ o. IsSomeAnd o (λ (x : FileRecord). MayReplace c.self.inside.parts c.in-Some.slot x (new_file c.args.name.now c.as_slice-2.result.now c.bytes-2.result.now))) (sym found.1)
+    (subst W (sym words) may) in
+    let unbroken = ap (λ (k : Stored). k.is_broken) c.self.view_is ∙ c.requires.unbroken in
+    first
+
+pub save-requires-clause-sound : goal.save-requires-clause-sound
+save-requires-clause-sound g c =
+    let old : Stored = record { parts = c.self.inside.parts; journal = c.self.inside.journal; is_broken = c.self.inside.is_broken } in
+    let named = ap (λ (k : Stored). slot_of k.parts.catalog c.args.name.now) c.self.view_is ∙ c.in-Some.ensures.slot in
+    let found = rec_at-slot_of c.self.inside.parts.catalog c.args.name.now c.in-Some.slot c.self.invariant.parts.catalog named in
+    let here = ap (λ (k : Stored). is_among k.parts c.args.place.now c.args.name.now) c.self.view_is ∙ sym c.in-Some.ensures.here in
+    let words = c.as_slice-2.ensures.value ∙ c.in_ok-words.ensures.words found.0 found.1 in
+    let words_judged = c.as_slice.ensures.value ∙ c.in_ok-words.ensures.words found.0 found.1 in
+    let same = c.bytes.ensures.bytes ∙ sym c.bytes-2.ensures.bytes in
+    let I : List (List ℕ) → List ℕ → Type 0 = λ ws bs. first_refusal (instead_checks c.self.inside.parts c.in-Some.slot (new_file c.args.name.now ws bs)) ≡ None in
+    let J : List (List ℕ) → Type 0 = λ ws. I ws c.bytes.result.now in
+    let K : List ℕ → Type 0 = λ bs. I (words_moved c.self.inside.parts found.0 c.args.place.now c.in_ok-next.next) bs in
+    let none = subst K same (subst J words_judged c.in_ok-has_room_instead.ensures.row) in
+    let size = ap length c.bytes-2.ensures.bytes ∙ c.in_default-read_file.ensures.size found.0 found.1 in
+    let moving = c.in_ok-words.ensures.row found.0 found.1 in
+    let may = moved_first old c.args.place.now c.args.name.now c.in-Some.slot found.0 c.self.invariant named found.1 here c.in_ok-next.next (text_words c.args.text.now) c.bytes-2.result.now size moving none in
+    let W : List (List ℕ) → Type 0 = λ ws. MayReplace c.self.inside.parts c.in-Some.slot found.0 (new_file c.args.name.now ws c.bytes-2.result.now) in
+    let first = subst (λ o. IsSomeAnd o (λ (x : FileRecord). MayReplace c.self.inside.parts c.in-Some.slot x (new_file c.args.name.now c.as_slice-2.result.now c.bytes-2.result.now))) (sym found.1)
+    (subst W (sym words) may) in
+    let unbroken = ap (λ (k : Stored). k.is_broken) c.self.view_is ∙ c.requires.unbroken in
+    refiled_sound old c.refile.new.parts c.in-Some.slot c.args.name.now c.as_slice-2.result.now c.bytes-2.result.now c.self.invariant unbroken first c.refile.ensures.refiled
+
+pub save-requires-clause-room : goal.save-requires-clause-room
+save-requires-clause-room g c =
+    let old : Stored = record { parts = c.self.inside.parts; journal = c.self.inside.journal; is_broken = c.self.inside.is_broken } in
+    let named = ap (λ (k : Stored). slot_of k.parts.catalog c.args.name.now) c.self.view_is ∙ c.in-Some.ensures.slot in
+    let found = rec_at-slot_of c.self.inside.parts.catalog c.args.name.now c.in-Some.slot c.self.invariant.parts.catalog named in
+    let here = ap (λ (k : Stored). is_among k.parts c.args.place.now c.args.name.now) c.self.view_is ∙ sym c.in-Some.ensures.here in
+    let words = c.as_slice-2.ensures.value ∙ c.in_ok-words.ensures.words found.0 found.1 in
+    let words_judged = c.as_slice.ensures.value ∙ c.in_ok-words.ensures.words found.0 found.1 in
+    let same = c.bytes.ensures.bytes ∙ sym c.bytes-2.ensures.bytes in
+    let I : List (List ℕ) → List ℕ → Type 0 = λ ws bs. first_refusal (instead_checks c.self.inside.parts c.in-Some.slot (new_file c.args.name.now ws bs)) ≡ None in
+    let J : List (List ℕ) → Type 0 = λ ws. I ws c.bytes.result.now in
+    let K : List ℕ → Type 0 = λ bs. I (words_moved c.self.inside.parts found.0 c.args.place.now c.in_ok-next.next) bs in
+    let none = subst K same (subst J words_judged c.in_ok-has_room_instead.ensures.row) in
+    let size = ap length c.bytes-2.ensures.bytes ∙ c.in_default-read_file.ensures.size found.0 found.1 in
+    let moving = c.in_ok-words.ensures.row found.0 found.1 in
+    let may = moved_first old c.args.place.now c.args.name.now c.in-Some.slot found.0 c.self.invariant named found.1 here c.in_ok-next.next (text_words c.args.text.now) c.bytes-2.result.now size moving none in
+    let W : List (List ℕ) → Type 0 = λ ws. MayReplace c.self.inside.parts c.in-Some.slot found.0 (new_file c.args.name.now ws c.bytes-2.result.now) in
+    let first = subst (λ o. IsSomeAnd o (λ (x : FileRecord). MayReplace c.self.inside.parts c.in-Some.slot x (new_file c.args.name.now c.as_slice-2.result.now c.bytes-2.result.now))) (sym found.1)
+    (subst W (sym words) may) in
+    let unbroken = ap (λ (k : Stored). k.is_broken) c.self.view_is ∙ c.requires.unbroken in
+    refiled_marks old c.refile.new.parts c.in-Some.slot c.args.name.now c.as_slice-2.result.now c.bytes-2.result.now c.self.invariant unbroken first c.refile.ensures.refiled
+
+pub returns-clause-edits : goal.returns-clause-edits
+returns-clause-edits g c =
+    let old : Stored = record { parts = c.self.inside.parts; journal = c.self.inside.journal; is_broken = c.self.inside.is_broken } in
+    let named = ap (λ (k : Stored). slot_of k.parts.catalog c.args.name.now) c.self.view_is ∙ c.in-Some.ensures.slot in
+    let found = rec_at-slot_of c.self.inside.parts.catalog c.args.name.now c.in-Some.slot c.self.invariant.parts.catalog named in
+    let here = ap (λ (k : Stored). is_among k.parts c.args.place.now c.args.name.now) c.self.view_is ∙ sym c.in-Some.ensures.here in
+    let words = c.as_slice-2.ensures.value ∙ c.in_ok-words.ensures.words found.0 found.1 in
+    let words_judged = c.as_slice.ensures.value ∙ c.in_ok-words.ensures.words found.0 found.1 in
+    let same = c.bytes.ensures.bytes ∙ sym c.bytes-2.ensures.bytes in
+    let I : List (List ℕ) → List ℕ → Type 0 = λ ws bs. first_refusal (instead_checks c.self.inside.parts c.in-Some.slot (new_file c.args.name.now ws bs)) ≡ None in
+    let J : List (List ℕ) → Type 0 = λ ws. I ws c.bytes.result.now in
+    let K : List ℕ → Type 0 = λ bs. I (words_moved c.self.inside.parts found.0 c.args.place.now c.in_ok-next.next) bs in
+    let none = subst K same (subst J words_judged c.in_ok-has_room_instead.ensures.row) in
+    let size = ap length c.bytes-2.ensures.bytes ∙ c.in_default-read_file.ensures.size found.0 found.1 in
+    let moving = c.in_ok-words.ensures.row found.0 found.1 in
+    let may = moved_first old c.args.place.now c.args.name.now c.in-Some.slot found.0 c.self.invariant named found.1 here c.in_ok-next.next (text_words c.args.text.now) c.bytes-2.result.now size moving none in
+    let W : List (List ℕ) → Type 0 = λ ws. MayReplace c.self.inside.parts c.in-Some.slot found.0 (new_file c.args.name.now ws c.bytes-2.result.now) in
+    let first = subst (λ o. IsSomeAnd o (λ (x : FileRecord). MayReplace c.self.inside.parts c.in-Some.slot x (new_file c.args.name.now c.as_slice-2.result.now c.bytes-2.result.now))) (sym found.1)
+    (subst W (sym words) may) in
+    let unbroken = ap (λ (k : Stored). k.is_broken) c.self.view_is ∙ c.requires.unbroken in
+    let few = refiled_edits old c.refile.new.parts c.in-Some.slot c.args.name.now c.as_slice-2.result.now c.bytes-2.result.now c.self.invariant unbroken first c.refile.ensures.refiled in
+    let E : Ext → Ext → Type 0 = λ a b. b.edits ≤ a.edits + differing_bits a b in
+    let A : Ext → Type 0 = λ b. E c.args.self.now.parts.ext b in
+    let B : Ext → Type 0 = λ a. E a c.refile.new.parts.ext in
+    subst A (sym (ap (λ (k : Kept). k.ext) c.save.ensures.parts)) (subst B (ap (λ (k : Stored). k.parts.ext) c.self.view_is) few)
+
+pub returns-clause-changes : goal.returns-clause-changes
+returns-clause-changes g c = λ s fits.
+    let old : Stored = record { parts = c.self.inside.parts; journal = c.self.inside.journal; is_broken = c.self.inside.is_broken } in
+    let named = ap (λ (k : Stored). slot_of k.parts.catalog c.args.name.now) c.self.view_is ∙ c.in-Some.ensures.slot in
+    let found = rec_at-slot_of c.self.inside.parts.catalog c.args.name.now c.in-Some.slot c.self.invariant.parts.catalog named in
+    let here = ap (λ (k : Stored). is_among k.parts c.args.place.now c.args.name.now) c.self.view_is ∙ sym c.in-Some.ensures.here in
+    let words = c.as_slice-2.ensures.value ∙ c.in_ok-words.ensures.words found.0 found.1 in
+    let words_judged = c.as_slice.ensures.value ∙ c.in_ok-words.ensures.words found.0 found.1 in
+    let same = c.bytes.ensures.bytes ∙ sym c.bytes-2.ensures.bytes in
+    let I : List (List ℕ) → List ℕ → Type 0 = λ ws bs. first_refusal (instead_checks c.self.inside.parts c.in-Some.slot (new_file c.args.name.now ws bs)) ≡ None in
+    let J : List (List ℕ) → Type 0 = λ ws. I ws c.bytes.result.now in
+    let K : List ℕ → Type 0 = λ bs. I (words_moved c.self.inside.parts found.0 c.args.place.now c.in_ok-next.next) bs in
+    let none = subst K same (subst J words_judged c.in_ok-has_room_instead.ensures.row) in
+    let size = ap length c.bytes-2.ensures.bytes ∙ c.in_default-read_file.ensures.size found.0 found.1 in
+    let moving = c.in_ok-words.ensures.row found.0 found.1 in
+    let may = moved_first old c.args.place.now c.args.name.now c.in-Some.slot found.0 c.self.invariant named found.1 here c.in_ok-next.next (text_words c.args.text.now) c.bytes-2.result.now size moving none in
+    let W : List (List ℕ) → Type 0 = λ ws. MayReplace c.self.inside.parts c.in-Some.slot found.0 (new_file c.args.name.now ws c.bytes-2.result.now) in
+    let first = subst (λ o. IsSomeAnd o (λ (x : FileRecord). MayReplace c.self.inside.parts c.in-Some.slot x (new_file c.args.name.now c.as_slice-2.result.now c.bytes-2.result.now))) (sym found.1)
+    (subst W (sym words) may) in
+    let unbroken = ap (λ (k : Stored). k.is_broken) c.self.view_is ∙ c.requires.unbroken in
+    let leads = led_to (resolved c.args.place.now c.args.text.now) c.in_ok-next.next (sym c.in_ok-next.ensures) in
+    let m = g.D.Disk.meaning c.args.disk.now in
+    let mid = g.D.Disk.meaning c.read_file.new.disk in
+    let now : Situation = record { state = s; place = c.args.place.now } in
+    let P : Stored → Type 0 = λ k. StoreFits k m s in
+    let fits_old = subst P (sym c.self.view_is) fits in
+    let R : List ℕ → Type 0 = λ bs. (kept : ℕ → List ℕ) → Fits c.self.inside.journal m kept → bs ≡ bytes_told c.self.inside.parts.limits (looked c.self.inside.journal.staged kept) found.0 in
+    let read_now : R c.read_file.new.bytes = λ kept held. c.in_default-read_file.ensures.read found.0 kept found.1 held in
+    let new : Stored = record { parts = c.save.new.parts; journal = c.save.new.journal; is_broken = c.save.new.is_broken } in
+    retagging_changes old c.args.place.now c.args.name.now c.in-Some.slot found.0 c.self.invariant named found.1 here m s fits_old mid c.read_file.ensures.same c.read_file.ensures.any_moment c.read_file.ensures.fits
+    c.bytes-2.result.now (subst R (sym c.bytes-2.ensures.bytes) read_now) c.refile.new.parts c.args.text.now c.in_ok-next.next c.as_slice-2.result.now unbroken words leads first c.refile.ensures.refiled
+    moving none new (g.D.Disk.meaning c.save.new.disk) c.save.result c.save.ensures.saves

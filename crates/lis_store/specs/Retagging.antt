@@ -1,0 +1,60 @@
+-- What a file is refused for that would move from one place to another, told by what a store keeps.
+use Rattle.std.specs.Prelude.{ℕ, true, nat_lt, Bool, not, ◌&&◌, is_some, List, [], ◌∷◌, ◌++◌, length, Result, Ok, Err}
+use Rattle.std.specs.List.{list_any, list_all}
+use Rattle.lis_fields.specs.Records.{FileRecord}
+use Rattle.lis_words.specs.Words.{is_built_in, is_head}
+use Rattle.lis_grammar.specs.Formula.{Formula}
+use Rattle.lis_grammar.specs.Places.{Resolution, resolved, text_words}
+use Rattle.lis_grammar.specs.Places.Resolution.{NewPlace, BeyondLimits, Unreadable}
+use Rattle.lis_model.specs.declared.refusal.Refusal.{Refusal}
+use Rattle.lis_model.specs.declared.refusal.Refusal.TheVariants.{BadFormula, UnknownProperty, LargeFormula, NotAPlace, NoFileHere, NotAssignable, TooManyAssigned, BuiltIn}
+use Rattle.lis_model.specs.State.{File, is_assignable}
+use Rattle.lis_model.specs.Changes.{new_file}
+use Rattle.lis_model.specs.Places.{place_words}
+use Rattle.lis_model.specs.Step.{tags_at, retagged}
+use Rattle.lis_kept.specs.Kept.{Kept}
+use Rattle.lis_kept.specs.Telling.{words_told, declared_of}
+use Rattle.lis_store.specs.Judging.{is_among}
+use Rattle.lis_store.specs.Instead.{instead_checks}
+
+-- the place that a text makes of a place, or why it is refused
+abbrev pub led_by : Resolution → Result (List Formula) Refusal
+led_by (Unreadable k) = Err BadFormula
+led_by BeyondLimits = Err LargeFormula
+led_by (NewPlace place) = Ok place
+
+-- the words of the file of a record, without the tags of one place and with those of another
+abbrev pub words_moved : Kept → FileRecord → List Formula → List Formula → List (List ℕ)
+words_moved k rec here there = retagged (words_told k.dict rec.tags) (tags_at here) (tags_at there)
+
+abbrev pub moved_from : Kept → FileRecord → List Formula → List Formula → List ℕ → List ℕ → File
+moved_from k rec here there name bytes = new_file name (words_moved k rec here there) bytes
+
+-- ---- rows
+-- what the words of a text are refused for
+abbrev pub text_checks : List (List ℕ) → List (Bool × Refusal)
+text_checks words = (list_any is_built_in words, BuiltIn) ∷ (list_any is_head words, NotAssignable) ∷ []
+
+-- what both places are refused for, given the words of the text
+abbrev pub places_checks : Kept → List Formula → List Formula → List (List ℕ) → List (Bool × Refusal)
+places_checks k here there words =
+    (not (is_some (place_words here) && is_some (place_words there)), NotAPlace)
+    ∷ text_checks words
+    ++ (not (list_all (is_assignable (declared_of k)) (tags_at there)), UnknownProperty) ∷ []
+
+-- what a file is refused for in the other place, whatever its bytes are
+abbrev pub moving_checks : Kept → List Formula → List Formula → List (List ℕ) → FileRecord → List (Bool × Refusal)
+moving_checks k here there words rec = places_checks k here there words ++ (nat_lt 16 (length (words_moved k rec here there)), TooManyAssigned) ∷ []
+
+abbrev pub retag_checks : Kept → List Formula → List Formula → List (List ℕ) → ℕ → FileRecord → File → List (Bool × Refusal)
+retag_checks k here there words slot rec file = moving_checks k here there words rec ++ instead_checks k slot file
+
+-- the row of `mv` of a file that has these bytes
+abbrev pub mv_checks_by : Kept → List Formula → List ℕ → List ℕ → ℕ → FileRecord → List ℕ → Resolution → List (Bool × Refusal)
+mv_checks_by k here name text slot rec bytes (Unreadable n) = (true, BadFormula) ∷ []
+mv_checks_by k here name text slot rec bytes BeyondLimits = (true, LargeFormula) ∷ []
+mv_checks_by k here name text slot rec bytes (NewPlace there) =
+    (not (is_among k here name), NoFileHere) ∷ retag_checks k here there (text_words text) slot rec (moved_from k rec here there name bytes)
+
+abbrev pub mv_checks_of : Kept → List Formula → List ℕ → List ℕ → ℕ → FileRecord → List ℕ → List (Bool × Refusal)
+mv_checks_of k here name text slot rec bytes = mv_checks_by k here name text slot rec bytes (resolved here text)
