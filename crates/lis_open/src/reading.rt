@@ -107,5 +107,9 @@ pub fn read_store<D: Disk>(
         ext: room.files.ext,
         marks: room.marks,
     });
-    Ok(Store::join(Built { parts, journal }))
+    Ok(Store::join(Built {
+        parts,
+        journal,
+        bytes: room.bytes,
+    }))
 }
