@@ -5,6 +5,7 @@ use Rattle.lis_ports.specs.Runs.{Leaves}
 use Rattle.lis_ports.specs.declared.disk.Failed.{Failed}
 use Rattle.lis_journal.specs.Images.{KeepsPast}
 use Rattle.lis_grammar.specs.Formula.{Formula}
+use Rattle.lis_model.specs.declared.refusal.Refusal.{Refusal}
 use Rattle.lis_model.specs.declared.command.Command.{Command}
 use Rattle.lis_model.specs.declared.command.Command.TheVariants.{Mkdir, Rmdir, Axiom, Unaxiom, Create, Add, Write, Cat, Mv, Rename, Rm, Cd, Pwd, Ls, Props, Way, Stat}
 use Rattle.lis_model.specs.Image.{image_blocks}
@@ -82,3 +83,8 @@ abbrev pub Concluded : Result (Unit {0}) Change → Result Tally Failed → Type
 Concluded (Ok done) result = result ≡ Ok (record { refused = false; listed = 0 })
 Concluded (Err (Refused refusal)) result = result ≡ Ok (record { refused = true; listed = 0 })
 Concluded (Err Disk) result = result ≡ Err (record {})
+
+-- where a text led to another place, and where it was refused
+abbrev pub Went : Result (List Formula) Refusal → List Formula → List Formula → Tally → Type 0
+Went (Ok next) before place tally = (place ≡ next) × (tally ≡ record { refused = false; listed = 0 })
+Went (Err refusal) before place tally = (place ≡ before) × (tally ≡ record { refused = true; listed = 0 })

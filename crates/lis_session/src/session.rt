@@ -21,7 +21,7 @@ use crate::listing::ls;
 use crate::moving::led_to;
 use crate::replies::{answer_ok, answer_place, answer_refusal};
 use crate::route::way;
-use crate::tally::{Tally, pass, tally_command};
+use crate::tally::{Tally, no_listing, tally_command};
 use lis_eval::Scratch;
 use lis_line::reader::{Item, Payload};
 use lis_model::command::Command;
@@ -214,7 +214,7 @@ impl Session {
                 payload,
                 disk,
             ),
-            Item::Bad(_) => Ok(pass(&self.place, true)),
+            Item::Bad(_) => Ok(no_listing(true)),
             Item::End | Item::Limit => unreachable!(),
         }
     }

@@ -1,17 +1,18 @@
 //! Carrying out a command without showing its reply.
 
-ghost use Rattle.std.specs.Prelude.{◌≡◌, ℕ, ◌+◌, ◌*◌, ◌≤◌, ◌<◌, ◌^◌, List, ◌++◌, length, false, Ok, IfOk};
-ghost use Rattle.lis_ports.specs.Meaning.{Meaning};
+ghost use Rattle.std.specs.Prelude.{◌≡◌, ◌+◌, ◌*◌, ◌≤◌, ◌<◌, ◌^◌, length, false, not, IfOk};
 ghost use Rattle.lis_ports.specs.Runs.{IsDiskRun};
 ghost use Rattle.lis_ports.specs.Calls.{HasCause};
+ghost use Rattle.lis_dict.specs.Dict.{words};
 ghost use Rattle.lis_eval.specs.Room.{HasRoom};
+ghost use Rattle.lis_grammar.specs.Places.{resolved};
 ghost use Rattle.lis_model.specs.Listing.{increments, locals};
-ghost use Rattle.lis_model.specs.Replies.{ok_line};
-ghost use Rattle.lis_model.specs.Step.{Situation, cd, ls, shown_here, done};
+ghost use Rattle.lis_model.specs.Step.{done};
 ghost use Rattle.lis_store.specs.Seen.{table_of};
-ghost use Rattle.lis_store.specs.Stored.{Stored, IsSound, StoreFits};
-ghost use Rattle.lis_session.specs.Parts.{only_shows};
-ghost use Rattle.lis_session.specs.Tally.{is_refusal, listed_lines, lines_listed, Concluded, Tallies};
+ghost use Rattle.lis_store.specs.Judging.{is_among};
+ghost use Rattle.lis_store.specs.Stored.{IsSound, StoreFits};
+ghost use Rattle.lis_session.specs.Parts.{led_to};
+ghost use Rattle.lis_session.specs.Tally.{lines_listed, Concluded, Tallies, Went};
 
 use crate::moving::led_to;
 use lis_eval::Scratch;
@@ -34,7 +35,7 @@ pub struct Tally {
 }
 
 // A reply that lists nothing.
-fn no_listing(refused: bool) -> Tally
+pub(crate) fn no_listing(refused: bool) -> Tally
     ensures { result ≡ record { refused = refused; listed = 0 } }
 {
     Tally { refused, listed: 0 }
@@ -72,16 +73,19 @@ fn count_listing(store: &Store, scratch: &mut Scratch, place: &Place) -> u64
     ensures room { HasRoom scratch.new store.now.parts.limits }
     ensures count { result ≡ length (increments (table_of store.now.parts) place.now) + length (locals (table_of store.now.parts) place.now) }
     ensures few { result ≤ store.now.parts.limits.props + store.now.parts.limits.files }
+    ensures sound { IsSound store.now }
 {
+    // The limits tell that the store is sound.
+    let _limits = store.limits();
     make_listing(store, scratch, place);
     count_lines(lines(store, scratch))
 }
 
-// Goes to the place to which the text leads. No disk is asked, so any one fits as before.
+// Goes to the place to which the text leads.
 fn go(store: &Store, place: &mut Place, text: &Text) -> Tally
-    ensures tallies { (m : Meaning) → Tallies (λ now. cd now text.now) (λ _. 0) (StoreFits store.now m) place.old
-        m m (Ok result) (StoreFits store.now m) place.new }
     ensures lists { result.listed ≡ 0 }
+    ensures went { Went (led_to (words store.now.parts.dict) text.now (resolved place.old text.now)) place.old place.new result }
+    ensures sound { IsSound store.now }
 {
     match led_to(store, place, text) {
         Ok(next) => {
@@ -92,14 +96,12 @@ fn go(store: &Store, place: &mut Place, text: &Text) -> Tally
     }
 }
 
-// Whether there is the file of which something is to be shown, and no more: the body of the reply would be no refusal.
+// Whether there is the file of which something is to be shown.
 fn look(store: &Store, scratch: &mut Scratch, place: &Place, name: &Name) -> Tally
     requires { HasRoom scratch.old store.now.parts.limits }
     ensures room { HasRoom scratch.new store.now.parts.limits }
-    ensures tallies { (m : Meaning) (body : Situation → List ℕ) → ((now : Situation) → is_refusal (body now ++ ok_line) ≡ false)
-        → Tallies (λ now. shown_here now name.now (body now)) (λ _. 0) (StoreFits store.now m) place.now
-        m m (Ok result) (StoreFits store.now m) place.now }
-    ensures lists { result.listed ≡ 0 }
+    ensures here { result ≡ record { refused = not (is_among store.now.parts place.now name.now); listed = 0 } }
+    ensures sound { IsSound store.now }
 {
     // The limits tell that the store is sound, so that it shows the state's table.
     let _limits = store.limits();
@@ -110,28 +112,15 @@ fn look(store: &Store, scratch: &mut Scratch, place: &Place, name: &Name) -> Tal
 fn list(store: &Store, scratch: &mut Scratch, place: &Place) -> Tally
     requires { HasRoom scratch.old store.now.parts.limits }
     ensures room { HasRoom scratch.new store.now.parts.limits }
-    ensures tallies { (m : Meaning) → Tallies ls listed_lines (StoreFits store.now m) place.now
-        m m (Ok result) (StoreFits store.now m) place.now }
+    ensures listed { result ≡ record { refused = false;
+        listed = length (increments (table_of store.now.parts) place.now) + length (locals (table_of store.now.parts) place.now) } }
+    ensures sound { IsSound store.now }
     ensures few { result.listed ≤ store.now.parts.limits.props + store.now.parts.limits.files }
 {
-    // The limits tell that the store is sound, so that it shows the state's table.
-    let _limits = store.limits();
     Tally {
         refused: false,
         listed: count_listing(store, scratch, place),
     }
-}
-
-// A reply of this kind is shown whatever the state is. No store is looked at, so any one fits as before.
-pub(crate) fn pass(place: &Place, refused: bool) -> Tally
-    ensures tallies { (k : Stored) (m : Meaning) (reply : Situation → List ℕ) → ((now : Situation) → is_refusal (reply now) ≡ refused)
-        → Tallies (λ now. only_shows (reply now) now) (λ _. 0) (StoreFits k m) place.now
-        m m (Ok result) (StoreFits k m) place.now }
-    ensures lists { result.listed ≡ 0 }
-{
-    // The place tells where the command was said.
-    let _place = place;
-    no_listing(refused)
 }
 
 /// Carries out a command. Its reply is tallied, and not shown.
@@ -190,9 +179,9 @@ pub(crate) fn tally_command<D: Disk>(
         Command::Way(name) => Ok(look(store, scratch, place, name)),
         Command::Cd(text) => Ok(go(store, place, text)),
         Command::Ls => Ok(list(store, scratch, place)),
-        Command::Pwd => Ok(pass(place, false)),
-        Command::Stat => Ok(pass(place, false)),
+        Command::Pwd => Ok(no_listing(false)),
+        Command::Stat => Ok(no_listing(false)),
         // It has not come.
-        Command::Mv(_, _) => Ok(pass(place, true)),
+        Command::Mv(_, _) => Ok(no_listing(true)),
     }
 }
