@@ -1,5 +1,5 @@
 -- Carrying out the session that is made of a number, and showing its summary.
-use Rattle.std.specs.Prelude.{◌≡◌, ℕ, ◌+◌, ◌≤◌, ◌<◌, if◌then◌else◌, List, [], ◌∷◌, ◌++◌, length, codes, Option, Result, Ok, Err, IfOk}
+use Rattle.std.specs.Prelude.{◌≡◌, ℕ, ◌+◌, ◌≤◌, ◌<◌, if◌then◌else◌, List, [], ◌∷◌, length, Option, Result, Ok, Err, IfOk}
 use Rattle.std.specs.Io.KnownBytes.{append_known}
 use Rattle.lis_ports.specs.Meaning.{Meaning}
 use Rattle.lis_ports.specs.Runs.{Adds, Leaves, Always}
@@ -7,7 +7,6 @@ use Rattle.lis_ports.specs.Since.{Begins, Since}
 use Rattle.lis_ports.specs.declared.disk.Failed.{Failed}
 use Rattle.lis_journal.specs.Images.{KeepsPast}
 use Rattle.lis_model.specs.Image.{image_blocks}
-use Rattle.lis_model.specs.Replies.{number_line}
 use Rattle.lis_model.specs.Script.{all_items}
 use Rattle.lis_model.specs.State.{State}
 use Rattle.lis_model.specs.Step.{Situation, Item, step, situation_after, free_blocks}
@@ -18,6 +17,7 @@ use Rattle.lis_session.specs.Item.{FitsAt}
 use Rattle.lis_session.specs.Session.{state_after}
 use Rattle.lis_session.specs.Tally.{is_refusal, listed}
 use Rattle.lis_grow.specs.Grow.{grow_bytes}
+use Rattle.lis_grow.specs.Summary.{summary_text}
 use Rattle.lis_grow.specs.declared.summary.Sum.{Sum}
 
 -- the items of the session
@@ -34,19 +34,12 @@ abbrev pub listings : Situation → List Item → ℕ
 listings now [] = 0
 listings now (item ∷ items) = listed now item + listings (step now item).next items
 
--- a summary: the items that had a reply, those of them that were refused, what the last state has, and the lines of listings
-abbrev pub summary_lines : State → ℕ → ℕ → ℕ → List ℕ
-summary_lines last replies refused lines =
-    number_line (codes "replies") replies
-    ++ number_line (codes "refused") refused
-    ++ number_line (codes "files") (length last.files)
-    ++ number_line (codes "axioms") (length last.axioms)
-    ++ number_line (codes "free") (free_blocks last)
-    ++ number_line (codes "listed") lines
+abbrev pub summary_in : State → ℕ → ℕ → ℕ → List ℕ
+summary_in last replies refused lines = summary_text replies refused (length last.files) (length last.axioms) (free_blocks last) lines
 
 -- the summary of these items
 abbrev pub summary : Situation → List Item → List ℕ
-summary start items = summary_lines (situation_after start items).state (length items) (refusals start items) (listings start items)
+summary start items = summary_in (situation_after start items).state (length items) (refusals start items) (listings start items)
 
 -- The image stands for the state after some first items.
 pub record StandsAmong (start : Situation) (items : List Item) (image : List ℕ) : Type 0 where

@@ -1,8 +1,9 @@
 //! What a session comes to, and how it is shown.
 
-ghost use Rattle.std.specs.Prelude.{◌≡◌, ◌+◌, ◌<◌, ◌^◌, if◌then◌else◌, ◌++◌, codes};
+ghost use Rattle.std.specs.Prelude.{◌≡◌, ◌+◌, ◌<◌, ◌^◌, if◌then◌else◌, ◌++◌};
 ghost use Rattle.lis_model.specs.Replies.{number_line};
 ghost use Rattle.lis_session.specs.Parts.{Answers};
+ghost use Rattle.lis_grow.specs.Summary.{summary_text};
 
 use lis_ports::Station;
 use lis_reply::show_number;
@@ -45,7 +46,15 @@ impl Sum {
     }
 }
 
-// Shows how many there are of what two labels name, a line each.
+// Shows how many there are of what the label names.
+fn show_count<T: Station>(station: &mut T, label: &[u8], count: u64) -> Result<(), End>
+    ensures { Answers (T.meaning station.old) (T.meaning station.new) (number_line label.now count) result }
+{
+    show_number(station, label, count)?;
+    Ok(())
+}
+
+// The same of two labels, a line each.
 fn show_two<T: Station>(
     station: &mut T,
     label: &[u8],
@@ -55,20 +64,14 @@ fn show_two<T: Station>(
 ) -> Result<(), End>
     ensures { Answers (T.meaning station.old) (T.meaning station.new) (number_line label.now count ++ number_line next.now more) result }
 {
-    show_number(station, label, count)?;
-    show_number(station, next, more)?;
-    Ok(())
+    show_count(station, label, count)?;
+    show_count(station, next, more)
 }
 
 /// Shows the summary of a session that ended where there is so much.
 pub fn show_summary<T: Station>(station: &mut T, sum: &Sum, last: &Counts) -> Result<(), End>
     ensures { Answers (T.meaning station.old) (T.meaning station.new)
-        (number_line (codes "replies") sum.now.replies
-        ++ number_line (codes "refused") sum.now.refused
-        ++ number_line (codes "files") last.now.files
-        ++ number_line (codes "axioms") last.now.axioms
-        ++ number_line (codes "free") last.now.free
-        ++ number_line (codes "listed") sum.now.listed) result }
+        (summary_text sum.now.replies sum.now.refused last.now.files last.now.axioms last.now.free sum.now.listed) result }
 {
     show_two(station, b"replies", sum.replies, b"refused", sum.refused)?;
     show_two(
