@@ -1,2 +1,5 @@
 pub mod Comings
 pub mod Takings
+mod Short
+mod Going
+mod Growing

@@ -1,2 +1,4 @@
 pub mod Grow
 pub mod Coming
+pub mod Summary
+pub mod Session

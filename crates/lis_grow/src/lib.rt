@@ -1,10 +1,12 @@
-//! A large session made of a number, as a source of its bytes.
+//! A large session made of a number: as a source of its bytes, and carried out, with a summary.
 #![tactic(auto)]
 
 mod lines;
 mod part;
 mod piece;
+pub mod session;
 mod source;
+pub mod summary;
 
 pub use source::GrowSource;
 

@@ -4,6 +4,8 @@
 #[cfg(test)]
 mod crashes;
 #[cfg(test)]
+mod growing;
+#[cfg(test)]
 mod images;
 #[cfg(test)]
 mod limit;

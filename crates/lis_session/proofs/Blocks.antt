@@ -170,10 +170,14 @@ module _ {k : Stored} {old : Meaning} (now : Situation) (bytes : List ℕ) (size
 
 -- ---- where the file is
 -- the store finds a slot exactly where the file is here
+pub looked_for : {k : Stored} {m : Meaning} (now : Situation) (name : List ℕ) → IsSound k → StoreFits k m now.state → is_here now name ≡ is_among k.parts now.place name
+looked_for {k} {m} now name sound fits =
+    ap (λ (t : Table). list_any (λ (file : Entry). same_word file.name name) (extension t now.place)) (sym (table_told k m now.state sound fits))
+
 pub found_here : {k : Stored} {m : Meaning} (now : Situation) (name : List ℕ) (found : Option ℕ) → IsSound k → StoreFits k m now.state → is_some found ≡ is_among k.parts now.place name
     → is_here now name ≡ is_some found
 found_here {k} {m} now name found sound fits told =
-    ap (λ (t : Table). list_any (λ (file : Entry). same_word file.name name) (extension t now.place)) (sym (table_told k m now.state sound fits)) ∙ sym told
+    looked_for now name sound fits ∙ sym told
 
 pub as_cat : {old new : Meaning} {result : Result (Unit {0}) End} {fits : State → Type 0} {place : List Formula} (now : Situation) (name : List ℕ) → is_here now name ≡ true
     → OneItem now (shown now (content_lines (file_of now.state.files name).bytes)) old new result fits place → OneItem now (cat now name) old new result fits place

@@ -81,7 +81,7 @@ item_read so_far says is few some = record {
 carries_item : (asked : Option Item) (item : Item) (P : Item → Type 0) → asked ≡ Some item → IfSome asked P → P item
 carries_item asked item P is holds = subst (λ (a : Option Item). IfSome a P) is holds
 
-past_then : (start : Situation) (first : List Item) (old mid new : Meaning) → KeepsPast (image_blocks start.state.limits) old mid
+pub past_then : (start : Situation) (first : List Item) (old mid new : Meaning) → KeepsPast (image_blocks start.state.limits) old mid
     → KeepsPast (image_blocks (situation_after start first).state.limits) mid new → KeepsPast (image_blocks start.state.limits) old new
 past_then start first old mid new before after =
     let same = subst (λ (limits : Limits). KeepsPast (image_blocks limits) mid new) (limits_after start first) after in

@@ -7,16 +7,16 @@ use Rattle.lis_grammar.specs.Printing.{printed}
 use Rattle.lis_grammar.specs.Places.{Resolution, resolved, text_words}
 use Rattle.lis_grammar.specs.Places.Resolution.{NewPlace, BeyondLimits, Unreadable}
 use Rattle.lis_model.specs.declared.refusal.Refusal.{Refusal}
-use Rattle.lis_model.specs.declared.refusal.Refusal.TheVariants.{BadLine, BadFormula, UnknownProperty, LargeFormula, NoFileHere}
+use Rattle.lis_model.specs.declared.refusal.Refusal.TheVariants.{BadFormula, UnknownProperty, LargeFormula, NoFileHere}
 use Rattle.lis_model.specs.declared.command.Command.{Command}
 use Rattle.lis_model.specs.declared.command.Command.TheVariants.{Mkdir, Rmdir, Axiom, Unaxiom, Create, Add, Write, Cat, Mv, Rename, Rm, Cd, Pwd, Ls, Props, Way, Stat}
-use Rattle.lis_model.specs.State.{State, known, description}
+use Rattle.lis_model.specs.State.{State, File, known, description}
 use Rattle.lis_model.specs.Table.{table}
 use Rattle.lis_model.specs.Listing.{increments, locals}
 use Rattle.lis_model.specs.Route.{route}
 use Rattle.lis_model.specs.Replies.{line, body_line, ok_line, two_digits, number_of, refusal_words, listing_lines, content_lines}
 use Rattle.lis_model.specs.Changes.{declared_under, undeclared, axiom_added, axiom_removed, new_file, file_added, file_of, file_removed, file_replaced}
-use Rattle.lis_model.specs.Step.{Situation, Item, Outcome, Payload, refused, changed, shown, judged, moved, words_at, mkdir_checks, mkdir, rmdir_checks, rmdir, axiom_checks, add_axiom, unaxiom_checks, unaxiom, assigned_at, create_checks, add_checks, add, write_checks, write, rename_checks, rename, is_here, here_checks, shown_here, entry_at, count_lines, rm, cd_to, cd, done, step, replies, situation_after}
+use Rattle.lis_model.specs.Step.{Situation, Item, Outcome, Payload, refused, changed, shown, judged, moved, words_at, tags_at, mkdir_checks, mkdir, rmdir_checks, rmdir, axiom_checks, add_axiom, unaxiom_checks, unaxiom, assigned_at, create_checks, add_checks, add, write_checks, write, rename_checks, rename, retagged, mv_checks, mv_to, mv, is_here, here_checks, shown_here, entry_at, count_lines, rm, cd_to, cd, done, step, replies, situation_after}
 use Rattle.lis_model.specs.Step.Item.{Do, Bad}
 use Rattle.lis_session.specs.Parts.{led_to}
 use Rattle.lis_model.proofs.Runs.{replies-append, situation_after-append}
@@ -60,6 +60,14 @@ cd_regular now text (NewPlace place) = by (list_all (has_word (known now.state))
 shown_here_regular : (now : Situation) (name body : List ℕ) → Regular now (shown_here now name body)
 shown_here_regular now name body = judged_regular now (here_checks now name) (shown now body) (shown_regular now body)
 
+mv_regular : (now : Situation) (old : File) (text : List ℕ) (to : Resolution) → Regular now (mv_to now old text to)
+mv_regular now old text (Unreadable k) = refused_regular now BadFormula
+mv_regular now old text BeyondLimits = refused_regular now LargeFormula
+mv_regular now old text (NewPlace place) =
+    let new = new_file old.name (retagged old.assigned (tags_at now.place) (tags_at place)) old.bytes in
+    let made = file_replaced now.state old.name new in
+    judged_regular now (here_checks now old.name ++ mv_checks now place (text_words text) new made) (changed now made) (changed_regular now made refl)
+
 done_regular : (now : Situation) (command : Command) (payload : Payload) → Regular now (done now command payload)
 done_regular now (Mkdir word) payload =
     let made = declared_under now.state word (words_at now.place) in
@@ -83,7 +91,7 @@ done_regular now (Write name) payload =
     let made = file_replaced now.state old.name (new_file old.name old.assigned payload.bytes) in
     judged_regular now (write_checks now old made payload.size) (changed now made) (changed_regular now made refl)
 done_regular now (Cat name) payload = shown_here_regular now name (content_lines (file_of now.state.files name).bytes)
-done_regular now (Mv name text) payload = refused_regular now BadLine
+done_regular now (Mv name text) payload = mv_regular now (file_of now.state.files name) text (resolved now.place text)
 done_regular now (Rename name other) payload =
     let old = file_of now.state.files name in
     let new = new_file other old.assigned old.bytes in
@@ -162,6 +170,17 @@ rename_stays now name other =
     let new = new_file other old.assigned old.bytes in
     let made = file_replaced now.state old.name new in
     judged_stays now (rename_checks now old.name new made) (changed now made) refl
+
+mv_to_stays : (now : Situation) (old : File) (text : List ℕ) (to : Resolution) → (mv_to now old text to).next.place ≡ now.place
+mv_to_stays now old text (Unreadable k) = refl
+mv_to_stays now old text BeyondLimits = refl
+mv_to_stays now old text (NewPlace place) =
+    let new = new_file old.name (retagged old.assigned (tags_at now.place) (tags_at place)) old.bytes in
+    let made = file_replaced now.state old.name new in
+    judged_stays now (here_checks now old.name ++ mv_checks now place (text_words text) new made) (changed now made) refl
+
+pub mv_stays : (now : Situation) (name text : List ℕ) → (mv now name text).next.place ≡ now.place
+mv_stays now name text = mv_to_stays now (file_of now.state.files name) text (resolved now.place text)
 
 pub rm_stays : (now : Situation) (name : List ℕ) → (rm now name).next.place ≡ now.place
 rm_stays now name = judged_stays now ((not (is_here now name), NoFileHere) ∷ []) (changed now (file_removed now.state name)) refl

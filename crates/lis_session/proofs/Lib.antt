@@ -6,6 +6,7 @@ pub mod Saying
 pub mod Answering
 pub mod Pieces
 pub mod Blocks
+pub mod Tallying
 pub mod Going
 pub mod Whole
 pub mod InTurn

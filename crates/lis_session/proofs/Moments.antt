@@ -37,7 +37,7 @@ pub front_begins : (before now : Option (List ℕ)) (bytes : List ℕ) → Appen
 front_begins before now bytes front =
     (take front.count bytes, record { rest = drop front.count bytes; is = sym (take-append-drop front.count bytes) }, front.front)
 
-take_none : (items : List Item) → take 0 items ≡ []
+pub take_none : (items : List Item) → take 0 items ≡ []
 take_none [] = refl
 take_none (item ∷ items) = refl
 
@@ -74,13 +74,13 @@ out_grows start (item ∷ items) (suc j) (suc k) less within =
 out_front : (start : Situation) (first others : List Item) (k : ℕ) → k ≤ length first → out start (first ++ others) k ≡ out start first k
 out_front start first others k le = ap (replies start) (take-append-le k first others le)
 
-state_front : (start : Situation) (first others : List Item) (k : ℕ) → k ≤ length first → state_after start (first ++ others) k ≡ state_after start first k
+pub state_front : (start : Situation) (first others : List Item) (k : ℕ) → k ≤ length first → state_after start (first ++ others) k ≡ state_after start first k
 state_front start first others k le = ap (λ items. (situation_after start items).state) (take-append-le k first others le)
 
 out_whole : (start : Situation) (items : List Item) → out start items (length items) ≡ replies start items
 out_whole start items = ap (replies start) (take_whole items)
 
-state_whole : (start : Situation) (items : List Item) → state_after start items (length items) ≡ (situation_after start items).state
+pub state_whole : (start : Situation) (items : List Item) → state_after start items (length items) ≡ (situation_after start items).state
 state_whole start items = ap (λ xs. (situation_after start xs).state) (take_whole items)
 
 -- before anything was carried out

@@ -4,3 +4,4 @@ pub mod Runs
 pub mod Parts
 pub mod Described
 pub mod Counting
+pub mod Tally

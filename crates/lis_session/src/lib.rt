@@ -13,6 +13,7 @@ mod moving;
 mod replies;
 mod route;
 pub mod session;
+pub mod tally;
 
 /// A moment of a session told by how many items were carried out, and told by the replies that were shown whole: the two say
 /// the same.

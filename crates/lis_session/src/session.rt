@@ -1,6 +1,8 @@
 //! A session over an image: a place, and one item after another.
 
-ghost use Rattle.std.specs.Prelude.{◌≡◌, ◌*◌, ◌≤◌, [], false, IsTrue, IfOk, IfSome, IsSome};
+ghost use Rattle.std.specs.Prelude.{◌≡◌, ◌+◌, ◌*◌, ◌≤◌, [], false, IsTrue, IfOk, IfSome, IsSome};
+ghost use Rattle.lis_ports.specs.Runs.{IsDiskRun};
+ghost use Rattle.lis_ports.specs.Calls.{HasCause};
 ghost use Rattle.lis_eval.specs.Room.{HasRoom};
 ghost use Rattle.lis_line.specs.Reading.{asked_by};
 ghost use Rattle.lis_model.specs.Ranges.{are_in_range};
@@ -8,6 +10,7 @@ ghost use Rattle.lis_model.specs.Step.{refused, cd, pwd, done};
 ghost use Rattle.lis_store.specs.Stored.{Stored, StoreFits};
 ghost use Rattle.lis_session.specs.Item.{CarriesOut, HasEndCause, IsSameStation, StoreLeft};
 ghost use Rattle.lis_session.specs.Parts.{Does, Ends};
+ghost use Rattle.lis_session.specs.Tally.{TalliesItem};
 
 use crate::changes::{add, axiom, create, mkdir, rename, rm, rmdir, unaxiom, write};
 use crate::content::cat;
@@ -18,13 +21,14 @@ use crate::listing::ls;
 use crate::moving::led_to;
 use crate::replies::{answer_ok, answer_place, answer_refusal};
 use crate::route::way;
+use crate::tally::{Tally, no_listing, tally_command};
 use lis_eval::Scratch;
 use lis_line::reader::{Item, Payload};
 use lis_model::command::Command;
 use lis_model::limits::Limits;
 use lis_model::refusal::Refusal;
 use lis_place::{Place, Text};
-use lis_ports::Station;
+use lis_ports::{Disk, Failed, Station};
 use lis_store::Store;
 use std::alloc::{AllocError, Global};
 use std::marker::Model;
@@ -175,6 +179,42 @@ impl Session {
                 station,
             ),
             Item::Bad(refusal) => answer_refusal(station, refusal),
+            Item::End | Item::Limit => unreachable!(),
+        }
+    }
+    /// Carries out one item over the store. Its reply is tallied, and not shown.
+    pub fn tally<D: Disk>(
+        &mut self,
+        store: &mut Store,
+        item: &Item,
+        payload: &Payload,
+        disk: &mut D,
+    ) -> Result<Tally, Failed>
+        requires asked { IsSome (asked_by item.now payload.now) }
+        requires limits { self.old.limits ≡ store.old.parts.limits }
+        requires unbroken { store.old.is_broken ≡ false }
+        requires long { 4096 * store.old.journal.blocks ≤ (D.meaning disk.old).len }
+        ensures tallies { IfSome (asked_by item.now payload.now)
+            (TalliesItem (StoreFits store.old (D.meaning disk.old)) self.old.place (D.meaning disk.old) (D.meaning disk.new) result
+            (StoreFits store.new (D.meaning disk.new)) self.new.place) }
+        ensures run { IsDiskRun (D.meaning disk.old) (D.meaning disk.new) }
+        ensures cause { HasCause (D.meaning disk.old).disk_faults (D.meaning disk.new).disk_faults result }
+        ensures limits { store.new.parts.limits ≡ store.old.parts.limits }
+        ensures image { store.new.journal.blocks ≡ store.old.journal.blocks }
+        ensures unbroken { IfOk result (λ _. store.new.is_broken ≡ false) }
+        ensures few { IfOk result (λ tally. tally.listed ≤ store.old.parts.limits.props + store.old.parts.limits.files) }
+        ensures room { self.new.limits ≡ self.old.limits }
+    {
+        match item {
+            Item::Command(command) => tally_command(
+                store,
+                &mut self.scratch,
+                &mut self.place,
+                command,
+                payload,
+                disk,
+            ),
+            Item::Bad(_) => Ok(no_listing(true)),
             Item::End | Item::Limit => unreachable!(),
         }
     }

@@ -7,24 +7,24 @@ use Rattle.lis_words.specs.Words.{same_word, is_count, count_of}
 use Rattle.lis_model.specs.declared.limits.Limits.{Limits}
 use Rattle.lis_model.specs.Ranges.{is_files_limit, is_props_limit, is_blocks_limit, is_version, are_in_range}
 use Rattle.lis_shell.specs.declared.words.Task.{Task}
-use Rattle.lis_shell.specs.declared.words.Task.TheVariants.{Try, Make, Run}
-use Rattle.lis_shell.specs.Words.{limits_of, task_of}
+use Rattle.lis_shell.specs.declared.words.Task.TheVariants.{Try, Make, Run, Grow}
+use Rattle.lis_shell.specs.Words.{limits_of, grow_number_of, task_of}
 
 -- as many words as no form has
-pub no_form : (words : List (List ℕ)) → (length words ≡ 2 → ⊥) → (length words ≡ 4 → ⊥) → (length words ≡ 5 → ⊥) → task_of words ≡ None
-no_form [] two four five = refl
-no_form (a ∷ []) two four five = refl
-no_form (a ∷ b ∷ []) two four five = absurd (two refl)
-no_form (a ∷ b ∷ c ∷ []) two four five = refl
-no_form (a ∷ b ∷ c ∷ d ∷ []) two four five = absurd (four refl)
-no_form (a ∷ b ∷ c ∷ d ∷ e ∷ []) two four five = absurd (five refl)
-no_form (a ∷ b ∷ c ∷ d ∷ e ∷ f ∷ words) two four five = refl
+pub no_form : (words : List (List ℕ)) → (length words ≡ 2 → ⊥) → (length words ≡ 3 → ⊥) → (length words ≡ 4 → ⊥) → (length words ≡ 5 → ⊥) → task_of words ≡ None
+no_form [] two three four five = refl
+no_form (a ∷ []) two three four five = refl
+no_form (a ∷ b ∷ []) two three four five = absurd (two refl)
+no_form (a ∷ b ∷ c ∷ []) two three four five = absurd (three refl)
+no_form (a ∷ b ∷ c ∷ d ∷ []) two three four five = absurd (four refl)
+no_form (a ∷ b ∷ c ∷ d ∷ e ∷ []) two three four five = absurd (five refl)
+no_form (a ∷ b ∷ c ∷ d ∷ e ∷ f ∷ words) two three four five = refl
 
 module _ {W : Type 0} (bytes : W → List ℕ) where
-  pub no_words : (words : List W) → (length words ≡ 2 → ⊥) → (length words ≡ 4 → ⊥) → (length words ≡ 5 → ⊥) → task_of (map bytes words) ≡ None
-  no_words words two four five =
+  pub no_words : (words : List W) → (length words ≡ 2 → ⊥) → (length words ≡ 3 → ⊥) → (length words ≡ 4 → ⊥) → (length words ≡ 5 → ⊥) → task_of (map bytes words) ≡ None
+  no_words words two three four five =
       let same = length-map words bytes in
-      no_form (map bytes words) (λ e. two (sym same ∙ e)) (λ e. four (sym same ∙ e)) (λ e. five (sym same ∙ e))
+      no_form (map bytes words) (λ e. two (sym same ∙ e)) (λ e. three (sym same ∙ e)) (λ e. four (sym same ∙ e)) (λ e. five (sym same ∙ e))
 
   pub two_words : (words : List W) (word : W) (is_run : Bool) → length words ≡ 2 → word ≡ slice_index_or words 0 word
       → same_word (bytes word) (codes "run") ≡ is_run → task_of (map bytes words) ≡ cond is_run (Some Run) None
@@ -33,6 +33,16 @@ module _ {W : Type 0} (bytes : W → List ℕ) where
   two_words (a ∷ b ∷ []) word is_run two is_word is =
       ap (λ t. cond t (Some Run) None) (ap (λ w. same_word (bytes w) (codes "run")) (sym is_word) ∙ is)
   two_words (a ∷ b ∷ c ∷ words) word is_run two is_word is = absurd (omega arith)
+
+  pub three_words : (words : List W) (word number : W) (is_grow : Bool) (found : Option ℕ) → length words ≡ 3 → word ≡ slice_index_or words 0 word → number ≡ slice_index_or words 2 number
+      → same_word (bytes word) (codes "grow") ≡ is_grow → grow_number_of (bytes number) ≡ found → task_of (map bytes words) ≡ cond is_grow (option_map Grow found) None
+  three_words [] word number is_grow found three is_word is_number is told = absurd (omega arith)
+  three_words (a ∷ []) word number is_grow found three is_word is_number is told = absurd (omega arith)
+  three_words (a ∷ b ∷ []) word number is_grow found three is_word is_number is told = absurd (omega arith)
+  three_words (a ∷ b ∷ c ∷ []) word number is_grow found three is_word is_number is told =
+      ap (λ t. cond t (option_map Grow (grow_number_of (bytes c))) None) (ap (λ w. same_word (bytes w) (codes "grow")) (sym is_word) ∙ is)
+      ∙ ap (λ n. cond is_grow (option_map Grow n) None) (ap (λ w. grow_number_of (bytes w)) (sym is_number) ∙ told)
+  three_words (a ∷ b ∷ c ∷ d ∷ words) word number is_grow found three is_word is_number is told = absurd (omega arith)
 
   pub five_words : (words : List W) (word files props blocks : W) (found : Option Limits) → length words ≡ 5 → word ≡ slice_index_or words 0 word
       → files ≡ slice_index_or words 2 files → props ≡ slice_index_or words 3 props → blocks ≡ slice_index_or words 4 blocks
@@ -93,6 +103,11 @@ not_run : (t : Bool) (limits : Limits) → cond t (Some Run) None ≡ Some (Make
 not_run true limits e = cc
 not_run false limits e = cc
 
+not_grown : (t : Bool) (found : Option ℕ) (limits : Limits) → cond t (option_map Grow found) None ≡ Some (Make limits) → ⊥
+not_grown true (Some x) limits e = cc
+not_grown true None limits e = cc
+not_grown false found limits e = cc
+
 -- limits that three words tell
 record AreSaid (limits : Limits) : Type 0 where
   files : List ℕ
@@ -104,7 +119,7 @@ made_limits : (words : List (List ℕ)) (limits : Limits) → task_of words ≡ 
 made_limits [] limits e = absurd (cc)
 made_limits (a ∷ []) limits e = absurd (cc)
 made_limits (a ∷ b ∷ []) limits e = absurd (not_run (same_word a (codes "run")) limits e)
-made_limits (a ∷ b ∷ c ∷ []) limits e = absurd (cc)
+made_limits (a ∷ b ∷ c ∷ []) limits e = absurd (not_grown (same_word a (codes "grow")) (grow_number_of c) limits e)
 made_limits (a ∷ b ∷ c ∷ d ∷ []) limits e = absurd (not_made (same_word a (codes "try")) (limits_of b c d) limits e)
 made_limits (a ∷ b ∷ c ∷ d ∷ f ∷ []) limits e = record { files = c; props = d; blocks = f; are = made_by (same_word a (codes "make")) (limits_of c d f) limits e }
 made_limits (a ∷ b ∷ c ∷ d ∷ f ∷ g ∷ words) limits e = absurd (cc)
@@ -118,3 +133,7 @@ made_version words limits e = let said = made_limits words limits e in limits_ve
 -- the limits of an image that is asked for are those that were said
 pub one_make : (a b : Limits) → ◌≡◌ {A = Option Task} (Some (Make a)) (Some (Make b)) → a ≡ b
 one_make a b is = cc
+
+-- the number is the one that was said
+pub one_grow : (a b : ℕ) → ◌≡◌ {A = Option Task} (Some (Grow a)) (Some (Grow b)) → a ≡ b
+one_grow a b is = cc

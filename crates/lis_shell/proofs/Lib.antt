@@ -2,3 +2,4 @@ mod Forms
 mod Going
 mod Served
 mod Opened
+mod Grown

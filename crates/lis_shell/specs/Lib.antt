@@ -3,4 +3,5 @@ pub mod Causes
 pub mod Endings
 pub mod Tries
 pub mod Runs
+pub mod Grows
 pub mod MakesImage

@@ -1,11 +1,11 @@
 -- What the words of the command line ask for.
-use Rattle.std.specs.Prelude.{ℕ, ◌*◌, ◌&&◌, if◌then◌else◌, Option, Some, None, List, [], ◌∷◌, codes}
+use Rattle.std.specs.Prelude.{ℕ, ◌*◌, nat_lt, ◌&&◌, if◌then◌else◌, Option, Some, None, List, [], ◌∷◌, codes}
 use Rattle.lis_words.specs.Words.{same_word, is_count, count_of}
 use Rattle.lis_model.specs.declared.limits.Limits.{Limits}
 use Rattle.lis_model.specs.Ranges.{is_files_limit, is_props_limit, is_blocks_limit}
 use Rattle.lis_model.specs.Image.{image_blocks}
 use Rattle.lis_shell.specs.declared.words.Task.{Task}
-use Rattle.lis_shell.specs.declared.words.Task.TheVariants.{Try, Make, Run}
+use Rattle.lis_shell.specs.declared.words.Task.TheVariants.{Try, Make, Run, Grow}
 use Rattle.std.specs.Option.{option_map}
 
 -- three counts that are limits in range, of version 1
@@ -15,12 +15,17 @@ limits_of files props blocks =
     then Some (record { files = count_of files; props = count_of props; blocks = count_of blocks; version = 1 })
     else None
 
--- `try` and three limits, `make` with an image and three limits, or `run` and an image. An image is any text.
+-- a count below 2^31, of which a session can be made
+abbrev pub grow_number_of : List ℕ → Option ℕ
+grow_number_of digits = if is_count digits && nat_lt (count_of digits) 2147483648 then Some (count_of digits) else None
+
+-- `try` and three limits, `make` with an image and three limits, `run` and an image, or `grow` with an image and a number. An image is
+-- any text.
 abbrev pub task_of : List (List ℕ) → Option Task
 task_of [] = None
 task_of (word ∷ []) = None
 task_of (word ∷ image ∷ []) = if same_word word (codes "run") then Some Run else None
-task_of (word ∷ files ∷ props ∷ []) = None
+task_of (word ∷ image ∷ number ∷ []) = if same_word word (codes "grow") then option_map Grow (grow_number_of number) else None
 task_of (word ∷ files ∷ props ∷ blocks ∷ []) = if same_word word (codes "try") then option_map Try (limits_of files props blocks) else None
 task_of (word ∷ image ∷ files ∷ props ∷ blocks ∷ []) = if same_word word (codes "make") then option_map Make (limits_of files props blocks) else None
 task_of (word ∷ image ∷ files ∷ props ∷ blocks ∷ more ∷ words) = None
@@ -31,3 +36,4 @@ length_for None = None
 length_for (Some (Try limits)) = None
 length_for (Some (Make limits)) = Some (4096 * image_blocks limits)
 length_for (Some Run) = None
+length_for (Some (Grow n)) = None

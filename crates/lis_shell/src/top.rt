@@ -20,22 +20,26 @@ ghost use Rattle.lis_open.specs.Makes.{InMaking, IsSettledAt, IsSpare};
 ghost use Rattle.lis_session.specs.Item.{IsSameStation};
 ghost use Rattle.lis_session.specs.Runs.{Serves, RunsImage};
 ghost use Rattle.lis_session.specs.Session.{root_of, Headline, FullHeadline};
+ghost use Rattle.lis_grow.specs.Session.{grow_items, Grows};
 ghost use Rattle.lis_shell.specs.Words.{task_of};
-ghost use Rattle.lis_shell.specs.declared.words.Task.TheVariants.{Try, Make, Run};
+ghost use Rattle.lis_shell.specs.declared.words.Task.TheVariants.{Try, Make, Run, Grow};
 ghost use Rattle.lis_shell.specs.Causes.{counts, HasStatusCause, IsTryStatus};
 ghost use Rattle.lis_shell.specs.Tries.{Tries};
 ghost use Rattle.lis_shell.specs.MakesImage.{MadeImage};
 ghost use Rattle.lis_shell.specs.Runs.{IsSessionStatus, Entry, Ran, NoFault, IsComplete, InputRead, IsJudged, IsIdle, Barred};
+ghost use Rattle.lis_shell.specs.Grows.{IsGrowStatus, GrowRan, GrowHeadline, GrowsImage, GrowEntry, IsGrown};
 
 use crate::serving::serve;
 use crate::session::try_session;
 use crate::status::Status;
 use crate::words::{Task, task_of};
+use lis_grow::session::grow_session;
 use lis_line::reader::Payload;
 use lis_model::limits::Limits;
 use lis_open::{MakeFault, OpenFault, make, mount};
 use lis_plain::plain::Plain;
 use lis_ports::{Source, Station};
+use lis_session::end::End;
 use lis_session::session::Session;
 use lis_store::Store;
 use std::alloc::{AllocError, Global};
@@ -157,14 +161,64 @@ fn run_image<S: Source, T: Station>(alloc: Global, input: &mut S, station: &mut 
     }
 }
 
+// Carries out the session that is made of the number on an opened image.
+fn grow_store<T: Station>(alloc: Global, mut store: Store, station: &mut T, n: u32) -> Status
+    requires unbroken { store.is_broken ≡ false }
+    requires long { 4096 * store.journal.blocks ≤ (T.meaning station.old).len }
+    ensures only { result ≢ Status.NoMemory → IsSessionStatus result }
+    ensures same { IsSameStation (T.meaning station.old) (T.meaning station.new) }
+    ensures cause { (k : ℕ) → HasStatusCause (counts (T.meaning station.old) k) (counts (T.meaning station.new) k) result }
+    ensures idle { result ≡ Status.NoMemory → station.new ≡ station.old }
+    ensures grows { (state : State) → StoreFits store (T.meaning station.old) state
+        → Grows (root_of state) (grow_items n) (T.meaning station.old) (T.meaning station.new)
+        (GrowRan state (grow_items n) (T.meaning station.old).shown (T.meaning station.new) result) }
+{
+    let Ok((mut session, mut payload)) = session_over(alloc, &store) else {
+        return Status::NoMemory;
+    };
+    match grow_session(&mut store, &mut session, &mut payload, station, n) {
+        Ok(()) => Status::Done,
+        Err(End::DiskFault) => Status::DiskFault,
+        Err(End::OutputFault) => Status::OutputFault,
+    }
+}
+
+// Opens the image, and carries out the session that is made of the number on it.
+fn grow_image<T: Station>(alloc: Global, station: &mut T, n: u32) -> Status
+    ensures only { IsGrowStatus result }
+    ensures same { IsSameStation (T.meaning station.old) (T.meaning station.new) }
+    ensures cause { (k : ℕ) → HasStatusCause (counts (T.meaning station.old) k) (counts (T.meaning station.new) k) result }
+    ensures small { (T.meaning station.old).len < 4096 → (result ≡ Status.TooShort (T.meaning station.old).len 4096) × (station.new ≡ station.old) }
+    ensures numbers { (len need : ℕ) → result ≡ Status.TooShort len need → (len ≡ (T.meaning station.old).len) × (len < need) }
+    ensures grows { (state : State) → GrowEntry (T.meaning station.old) state
+        → GrowsImage state (grow_items n) (T.meaning station.old) (T.meaning station.new)
+        (GrowRan state (grow_items n) (T.meaning station.old).shown (T.meaning station.new) result) }
+    ensures past { (state : State) → GrowEntry (T.meaning station.old) state
+        → (result ≡ Status.DiskFault → IsSettledPast (image_blocks state.limits) (T.meaning station.old))
+        → KeepsPast (image_blocks state.limits) (T.meaning station.old) (T.meaning station.new) }
+    ensures judged { IsTrue (T.meaning station.old).is_honest → IsJudged (T.meaning station.old) result }
+    ensures idle { IsIdle (Unit {0}) (T.meaning station.old) (T.meaning station.new) result }
+    ensures barred { IsTrue (T.meaning station.old).is_honest → ((state : State) → Stands (T.meaning station.old).bytes state → ⊥)
+        → Barred (T.meaning station.old) (T.meaning station.new) result }
+{
+    match mount(alloc, station) {
+        Ok(store) => grow_store(alloc, store, station, n),
+        Err(OpenFault::TooShort(len, need)) => Status::TooShort(len, need),
+        Err(OpenFault::Damaged(spot)) => Status::NotAnImage(spot),
+        Err(OpenFault::DiskFault) => Status::DiskFault,
+        Err(OpenFault::NoMemory) => Status::NoMemory,
+    }
+}
+
 /// Does what the words after the program's name ask for.
 ///
 /// `try FILES PROPS BLOCKS` carries out the commands of the input on a state that begins empty, and shows the replies. It makes
 /// no call of the disk. `make IMAGE FILES PROPS BLOCKS` makes an image of the empty state; it reads no input and shows nothing.
-/// `run IMAGE` opens the image, carries out the commands of the input on it and shows the replies. IMAGE is not looked at here: the
-/// station is the image. Any other words are `Usage`, which is judged before anything is read or taken.
+/// `run IMAGE` opens the image, carries out the commands of the input on it and shows the replies. `grow IMAGE N` opens the image and
+/// carries out the large session that is made of the number, below 2^31; it reads no input, and shows a summary in place of the replies.
+/// IMAGE is not looked at here: the station is the image. Any other words are `Usage`, which is judged before anything is read or taken.
 ///
-/// Want of memory in `run` comes at the opening alone, with nothing shown; in `try` it may come between two commands.
+/// Want of memory in `run` and `grow` comes at the opening alone, with nothing shown; in `try` it may come between two commands.
 pub fn lisfs<S: Source, T: Station>(
     alloc: Global,
     words: &[String],
@@ -238,11 +292,47 @@ pub fn lisfs<S: Source, T: Station>(
     ensures barred { task_of (map string_bytes words.now) ≡ Some Run → IsTrue (T.meaning station.old).is_honest
         → ((state : State) → Stands (T.meaning station.old).bytes state → ⊥)
         → (input.new ≡ input.old) × Barred (T.meaning station.old) (T.meaning station.new) result }
+
+    // `grow`: the input is left alone. Stopped at any moment, the image stands for the model's state after some first items of the session,
+    // and what was shown is a front of its summary: nothing before all items were carried out. Until the first sync a stop leaves what it
+    // could have left at entry.
+    ensures grow_only { (n : ℕ) → task_of (map string_bytes words.now) ≡ Some (Grow n) → IsGrowStatus result × (input.new ≡ input.old) }
+    ensures grow_headline { (n : ℕ) → task_of (map string_bytes words.now) ≡ Some (Grow n) → (state : State)
+        → GrowEntry (T.meaning station.old) state
+        → GrowHeadline state (grow_items n) (T.meaning station.old) (T.meaning station.new) }
+    ensures grows { (n : ℕ) → task_of (map string_bytes words.now) ≡ Some (Grow n) → (state : State)
+        → GrowEntry (T.meaning station.old) state
+        → GrowsImage state (grow_items n) (T.meaning station.old) (T.meaning station.new)
+        (GrowRan state (grow_items n) (T.meaning station.old).shown (T.meaning station.new) result) }
+    ensures grow_past { (n : ℕ) → task_of (map string_bytes words.now) ≡ Some (Grow n) → (state : State)
+        → GrowEntry (T.meaning station.old) state
+        → (result ≡ Status.DiskFault → IsSettledPast (image_blocks state.limits) (T.meaning station.old))
+        → KeepsPast (image_blocks state.limits) (T.meaning station.old) (T.meaning station.new) }
+    ensures grow_complete { (n : ℕ) → task_of (map string_bytes words.now) ≡ Some (Grow n) → (state : State)
+        → GrowEntry (T.meaning station.old) state
+        → NoFault (counts (T.meaning station.old) (S.faults input.old)) (counts (T.meaning station.new) (S.faults input.new))
+        → IsGrown state (grow_items n) (T.meaning station.old).shown (T.meaning station.new) result }
+    ensures grow_judged { (n : ℕ) → task_of (map string_bytes words.now) ≡ Some (Grow n) → IsTrue (T.meaning station.old).is_honest
+        → IsJudged (T.meaning station.old) result }
+    ensures grow_idle { (n : ℕ) → task_of (map string_bytes words.now) ≡ Some (Grow n)
+        → IsIdle (Unit {0}) (T.meaning station.old) (T.meaning station.new) result }
+
+    // `grow`, whatever the disk does: how the answer goes with its length.
+    ensures grow_small { (n : ℕ) → task_of (map string_bytes words.now) ≡ Some (Grow n) → (T.meaning station.old).len < 4096
+        → (result ≡ Status.TooShort (T.meaning station.old).len 4096) × (station.new ≡ station.old) }
+    ensures grow_numbers { (n : ℕ) → task_of (map string_bytes words.now) ≡ Some (Grow n) → (len need : ℕ) → result ≡ Status.TooShort len need
+        → (len ≡ (T.meaning station.old).len) × (len < need) }
+
+    // `grow` on an image that stands for no state: nothing is shown, and nothing is written but what an open gate asks for.
+    ensures grow_barred { (n : ℕ) → task_of (map string_bytes words.now) ≡ Some (Grow n) → IsTrue (T.meaning station.old).is_honest
+        → ((state : State) → Stands (T.meaning station.old).bytes state → ⊥)
+        → Barred (T.meaning station.old) (T.meaning station.new) result }
 {
     match task_of(words) {
         None => Status::Usage,
         Some(Task::Try(limits)) => try_from_empty(alloc, &limits, input, station),
         Some(Task::Make(limits)) => make_image(&limits, station),
         Some(Task::Run) => run_image(alloc, input, station),
+        Some(Task::Grow(n)) => grow_image(alloc, station, n),
     }
 }

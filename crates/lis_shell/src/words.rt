@@ -3,13 +3,16 @@
 ghost use Rattle.std.specs.Prelude.{◌≡◌, map};
 ghost use Rattle.std.specs.String.{string_bytes};
 ghost use Rattle.lis_words.specs.Words.{same_word};
-ghost use Rattle.lis_shell.specs.Words.{limits_of, task_of, length_for};
+ghost use Rattle.lis_shell.specs.Words.{limits_of, grow_number_of, task_of, length_for};
 
 use lis_model::limits::{Limits, image_blocks, is_blocks_limit, is_files_limit, is_props_limit};
 use lis_words::read_count;
 
 /// How many bytes a block of an image has.
 const BLOCK_LEN: u64 = 4_096;
+
+/// Large sessions are made of the numbers below.
+const GROW_END: u64 = 1 << 31;
 
 /// What the words of the command line ask for.
 #[derive(Clone, Copy, Debug, PartialEq, Eq)]
@@ -20,6 +23,8 @@ pub enum Task {
     Make(Limits),
     /// `run IMAGE`: a session over an image.
     Run,
+    /// `grow IMAGE N`: on an image, the large session that is made of the number.
+    Grow(u32),
 }
 
 fn is_word(word: &String, name: &[u8]) -> bool
@@ -51,7 +56,17 @@ fn limits_of(files: &[u8], props: &[u8], blocks: &[u8]) -> Option<Limits>
     })
 }
 
-/// What the words after the program's name ask for. None comes exactly where they are in none of the three forms, or a limit is out
+fn grow_number_of(digits: &[u8]) -> Option<u32>
+    ensures { result ≡ grow_number_of digits.now }
+{
+    let number = read_count(digits)?;
+    if number >= GROW_END {
+        return None;
+    }
+    Some(number as u32)
+}
+
+/// What the words after the program's name ask for. None comes exactly where they are in none of the four forms, or a number is out
 /// of range.
 pub fn task_of(words: &[String]) -> Option<Task>
     ensures { result ≡ task_of (map string_bytes words.now) }
@@ -62,6 +77,13 @@ pub fn task_of(words: &[String]) -> Option<Task>
                 return None;
             }
             Some(Task::Run)
+        }
+        [word, _, number] => {
+            if !is_word(word, b"grow") {
+                return None;
+            }
+            let number = grow_number_of(number.as_bytes())?;
+            Some(Task::Grow(number))
         }
         [word, files, props, blocks] => {
             if !is_word(word, b"try") {

@@ -5,9 +5,12 @@ use Rattle.lis_open.specs.Makes.{IsSpare}
 use Rattle.lis_model.specs.Script.{script}
 use Rattle.lis_session.proofs.Fitting.{same_none, same_run, same_shown}
 use Rattle.lis_session.proofs.Whole.{headline, headline_settled}
+use Rattle.lis_grow.specs.Session.{grow_items}
 use Rattle.lis_shell.specs.Causes.{counts}
-use Rattle.lis_shell.proofs.Forms.{made_in_range, made_version, one_make}
+use Rattle.lis_shell.specs.Grows.{GrowRan, GrowHeadline, GrowsImage, IsGrown}
+use Rattle.lis_shell.proofs.Forms.{made_in_range, made_version, one_make, one_grow}
 use Rattle.lis_shell.proofs.Opened.{run_complete}
+use Rattle.lis_shell.proofs.Grown.{grow_headline, grow_complete}
 use Rattle.lis_shell.proofs.top.lisfs.Goals as goal
 
 pub make_image-requires-clause-range : goal.make_image-requires-clause-range
@@ -48,3 +51,28 @@ pub returns-in-Some-Make-clause-make_spare : goal.returns-in-Some-Make-clause-ma
 returns-in-Some-Make-clause-make_spare g c = λ limits is_make n honest is settled.
     let same = one_make c.in-Some-Make.limits limits (sym (sym c.task_of.ensures ∙ c.in-Some-Make.is ∙ ap Some c.in-Some-Make.field-0-is) ∙ is_make) in
     c.make_image.ensures.spare n honest (subst (λ (l : Limits). IsSpare l n) (sym same) is) settled
+
+pub returns-in-Some-Grow-clause-cause : goal.returns-in-Some-Grow-clause-cause
+returns-in-Some-Grow-clause-cause g c = c.grow_image.ensures.cause (g.S.Source.faults c.args.input.now)
+
+pub returns-in-Some-Grow-clause-grow_headline : goal.returns-in-Some-Grow-clause-grow_headline
+returns-in-Some-Grow-clause-grow_headline g c = λ n is_grow state entry.
+    let same = one_grow c.in-Some-Grow.n n (sym (sym c.task_of.ensures ∙ c.in-Some-Grow.is ∙ ap Some c.in-Some-Grow.field-0-is) ∙ is_grow) in
+    subst (λ k. GrowHeadline state (grow_items k) (g.T.Disk.meaning c.args.station.now) (g.T.Disk.meaning c.grow_image.new.station)) same
+    (grow_headline state (grow_items c.in-Some-Grow.n) (g.met.T.Disk.only_now c.args.station.now) (c.grow_image.ensures.grows state entry).moments)
+
+pub returns-in-Some-Grow-clause-grows : goal.returns-in-Some-Grow-clause-grows
+returns-in-Some-Grow-clause-grows g c = λ n is_grow state entry.
+    let same = one_grow c.in-Some-Grow.n n (sym (sym c.task_of.ensures ∙ c.in-Some-Grow.is ∙ ap Some c.in-Some-Grow.field-0-is) ∙ is_grow) in
+    let old = g.T.Disk.meaning c.args.station.now in
+    let new = g.T.Disk.meaning c.grow_image.new.station in
+    subst (λ k. GrowsImage state (grow_items k) old new (GrowRan state (grow_items k) old.shown new c.grow_image.result)) same (c.grow_image.ensures.grows state entry)
+
+pub returns-in-Some-Grow-clause-grow_complete : goal.returns-in-Some-Grow-clause-grow_complete
+returns-in-Some-Grow-clause-grow_complete g c = λ n is_grow state entry none.
+    let same = one_grow c.in-Some-Grow.n n (sym (sym c.task_of.ensures ∙ c.in-Some-Grow.is ∙ ap Some c.in-Some-Grow.field-0-is) ∙ is_grow) in
+    let old = g.T.Disk.meaning c.args.station.now in
+    let new = g.T.Disk.meaning c.grow_image.new.station in
+    subst (λ k. IsGrown state (grow_items k) old.shown new c.grow_image.result) same
+    (grow_complete state (grow_items c.in-Some-Grow.n) old.shown new (counts old (g.S.Source.faults c.args.input.now)) (counts new (g.S.Source.faults c.args.input.now))
+    c.grow_image.result (c.grow_image.ensures.grows state entry).ended (c.grow_image.ensures.cause (g.S.Source.faults c.args.input.now)) none)

@@ -1,0 +1,23 @@
+use Rattle.std.proofs.Common.{◌≡◌, ◌+◌, ◌*◌, ◌≤◌, false, Some}
+use Rattle.lis_ports.specs.Runs.{IsDiskRun}
+use Rattle.lis_store.specs.Stored.{StoreFits}
+use Rattle.lis_grow.specs.Grow.{grow_bytes}
+use Rattle.lis_grow.proofs.Going.{SoFar}
+use Rattle.lis_grow.proofs.session.carry_out.Given as goal
+
+abbrev pub invariant-loop : goal.invariant-loop
+invariant-loop g l = record {
+  image : l.store.journal.blocks ≡ l.fn.store.journal.blocks;
+  limits : l.store.parts.limits ≡ l.fn.store.parts.limits;
+  session : l.session.limits ≡ l.fn.session.limits;
+  unbroken : l.store.is_broken ≡ false;
+  run : IsDiskRun (g.D.Disk.meaning l.fn.disk) (g.D.Disk.meaning l.disk);
+  disk_faults : (g.D.Disk.meaning l.disk).disk_faults ≡ (g.D.Disk.meaning l.fn.disk).disk_faults;
+  so_far : SoFar 131072 (Some (grow_bytes l.n)) (Some l.source) l.reader l.fn.session.place (StoreFits l.fn.store (g.D.Disk.meaning l.fn.disk)) (g.D.Disk.meaning l.fn.disk) (g.D.Disk.meaning l.disk) (StoreFits l.store (g.D.Disk.meaning l.disk)) l.session.place l.sum;
+  replies : l.sum.replies + l.reader.stock.rest ≤ 131073;
+  refused : l.sum.refused ≤ l.sum.replies;
+  listed : l.sum.listed ≤ 12288 * l.sum.replies;
+}
+
+abbrev pub decreases-loop : goal.decreases-loop
+decreases-loop g l = l.reader.stock.rest

@@ -1,0 +1,99 @@
+//! Large sessions over images in memory.
+
+use crate::tests::{SOUND, call, row_of};
+use lis_memdisk::MemStation;
+use lis_shell::status::Status;
+use std::alloc::{AllocError, Global};
+use std::test::Fail;
+
+/// How many bytes an image of `1024 192 128` takes.
+const IMAGE_LEN: usize = 3_198_976;
+
+/// Words that are judged, how many bytes the disk has, and the answer. Nothing is shown.
+static WORDS: [(&[&str], usize, Status); 9] = [
+    (&["grow"], 100, Status::Usage),
+    (&["grow", "i"], 100, Status::Usage),
+    (&["grow", "i", "7", "8"], 100, Status::Usage),
+    (&["grow", "i", ""], 100, Status::Usage),
+    (&["grow", "i", "-1"], 100, Status::Usage),
+    (&["grow", "i", "2147483648"], 100, Status::Usage),
+    (&["grows", "i", "7"], 100, Status::Usage),
+    (&["grow", "i", "2147483647"], 100, Status::TooShort(100, 4_096)),
+    (&["grow", "i", "0"], 0, Status::TooShort(0, 4_096)),
+];
+
+fn grow(alloc: Global, number: &str, station: &mut MemStation) -> Result<Status, AllocError> {
+    let (status, taken) = call(alloc, &["grow", "i", number], "mkdir a;", &SOUND, station)?;
+    if taken != 0 {
+        return Ok(Status::InputFault);
+    }
+    Ok(status)
+}
+
+// A station with an image without words and files.
+fn fresh(alloc: Global) -> Result<MemStation, Fail> {
+    let zeros = vec![in alloc; 0; IMAGE_LEN]?;
+    let mut station = MemStation::new(alloc, &zeros, 0)?;
+    let words = ["make", "i", "1024", "192", "128"];
+    let (status, _) = call(alloc, &words, "", &SOUND, &mut station)?;
+    if status != Status::Done {
+        return Err("no image was made".into());
+    }
+    Ok(station)
+}
+
+#[test]
+fn words_are_judged(rt: HostRuntime) -> Result<(), Fail> {
+    let alloc = rt.alloc();
+    for (words, len, wanted) in &WORDS {
+        let mut station = MemStation::new(alloc, &vec![in alloc; 0; *len]?, 0)?;
+        let (status, taken) = call(alloc, words, "mkdir a;", &SOUND, &mut station)?;
+        assert_eq!(rt; status, *wanted, "{words:?}");
+        assert_eq!(rt; taken, 0, "{words:?}");
+        assert!(rt; station.shown().is_empty(), "{words:?}");
+    }
+    Ok(())
+}
+
+#[test]
+fn a_session_of_a_number_is_always_the_same(rt: HostRuntime) -> Result<(), Fail> {
+    let alloc = rt.alloc();
+    let mut first = fresh(alloc)?;
+    let mut second = fresh(alloc)?;
+    for station in [&mut first, &mut second] {
+        assert_eq!(rt; grow(alloc, "7", station)?, Status::Done);
+    }
+    let summary = row_of(alloc, first.shown())?;
+    assert!(rt;
+        summary.starts_with("replies 1241;refused 0;files 800;axioms 15;free 28;listed "),
+        "{summary}"
+    );
+    assert_eq!(rt; second.shown(), first.shown());
+    // All words, axioms and files are there already, but for the files that were removed, and these are made and removed again.
+    assert_eq!(rt; grow(alloc, "7", &mut second)?, Status::Done);
+    let both = row_of(alloc, second.shown())?;
+    assert!(rt;
+        both.as_str().contains(";replies 1241;refused 832;files 800;axioms 15;free 28;listed "),
+        "{both}"
+    );
+    Ok(())
+}
+
+// A call of the disk fails behind the opening: nothing is shown. A call that shows fails: all was carried out.
+#[test]
+fn a_fault_shows_nothing_of_the_summary(rt: HostRuntime) -> Result<(), Fail> {
+    let alloc = rt.alloc();
+    let mut station = fresh(alloc)?;
+    station.fails.push(station.calls().saturating_add(1_000))?;
+    assert_eq!(rt; grow(alloc, "7", &mut station)?, Status::DiskFault);
+    assert!(rt; station.shown().is_empty());
+    station.fails.clear();
+    station.show_fails.push(1)?;
+    assert_eq!(rt; grow(alloc, "7", &mut station)?, Status::OutputFault);
+    assert!(rt; station.shown().is_empty());
+    let (status, _) = call(alloc, &["run", "i"], "stat;", &SOUND, &mut station)?;
+    assert_eq!(rt; status, Status::Done);
+    let shown = row_of(alloc, station.shown())?;
+    assert!(rt; shown.starts_with("s files 800;"), "{shown}");
+    Ok(())
+}

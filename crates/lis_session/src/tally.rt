@@ -1,0 +1,187 @@
+//! Carrying out a command without showing its reply.
+
+ghost use Rattle.std.specs.Prelude.{◌≡◌, ◌+◌, ◌*◌, ◌≤◌, ◌<◌, ◌^◌, length, false, not, IfOk};
+ghost use Rattle.lis_ports.specs.Runs.{IsDiskRun};
+ghost use Rattle.lis_ports.specs.Calls.{HasCause};
+ghost use Rattle.lis_dict.specs.Dict.{words};
+ghost use Rattle.lis_eval.specs.Room.{HasRoom};
+ghost use Rattle.lis_grammar.specs.Places.{resolved};
+ghost use Rattle.lis_model.specs.Listing.{increments, locals};
+ghost use Rattle.lis_model.specs.Step.{done};
+ghost use Rattle.lis_store.specs.Seen.{table_of};
+ghost use Rattle.lis_store.specs.Judging.{is_among};
+ghost use Rattle.lis_store.specs.Stored.{IsSound, StoreFits};
+ghost use Rattle.lis_session.specs.Parts.{led_to};
+ghost use Rattle.lis_session.specs.Tally.{lines_listed, Concluded, Tallies, Went};
+
+use crate::moving::led_to;
+use lis_eval::Scratch;
+use lis_incr::{Listing, lines, make_listing};
+use lis_line::reader::Payload;
+use lis_model::command::Command;
+use lis_place::{Place, Text};
+use lis_ports::{Disk, Failed};
+use lis_store::laws::create_is_add;
+use lis_store::{Change, Store};
+use lis_words::Name;
+
+/// What is kept of a reply that is not shown.
+#[derive(Clone, Copy, Debug, PartialEq, Eq)]
+pub struct Tally {
+    /// Whether it is a refusal.
+    pub refused: bool,
+    /// How many words and files it lists, where it is the reply to `ls`.
+    pub listed: u64,
+}
+
+// A reply that lists nothing.
+pub(crate) fn no_listing(refused: bool) -> Tally
+    ensures { result ≡ record { refused = refused; listed = 0 } }
+{
+    Tally { refused, listed: 0 }
+}
+
+// What a change of the store comes to.
+fn concluded(changed: Result<(), Change>, store: &Store) -> Result<Tally, Failed>
+    ensures tally { Concluded changed result }
+    ensures sound { IsSound store.now }
+{
+    // The limits tell that the store is sound.
+    let _limits = store.limits();
+    match changed {
+        Ok(()) => Ok(no_listing(false)),
+        Err(Change::Refused(_)) => Ok(no_listing(true)),
+        Err(Change::Disk) => Err(Failed),
+    }
+}
+
+// How many lines are left.
+fn count_lines(mut listing: Listing<'_, Store>) -> u64
+    requires { length listing < 2 ^ 64 }
+    ensures { result ≡ length listing.entry }
+{
+    let mut count = 0;
+    while let Some(_line) = listing.next() {
+        count += 1;
+    }
+    count
+}
+
+// How many lines the listing of the place has.
+fn count_listing(store: &Store, scratch: &mut Scratch, place: &Place) -> u64
+    requires { HasRoom scratch.old store.now.parts.limits }
+    ensures room { HasRoom scratch.new store.now.parts.limits }
+    ensures count { result ≡ length (increments (table_of store.now.parts) place.now) + length (locals (table_of store.now.parts) place.now) }
+    ensures few { result ≤ store.now.parts.limits.props + store.now.parts.limits.files }
+    ensures sound { IsSound store.now }
+{
+    // The limits tell that the store is sound.
+    let _limits = store.limits();
+    make_listing(store, scratch, place);
+    count_lines(lines(store, scratch))
+}
+
+// Goes to the place to which the text leads.
+fn go(store: &Store, place: &mut Place, text: &Text) -> Tally
+    ensures lists { result.listed ≡ 0 }
+    ensures went { Went (led_to (words store.now.parts.dict) text.now (resolved place.old text.now)) place.old place.new result }
+    ensures sound { IsSound store.now }
+{
+    match led_to(store, place, text) {
+        Ok(next) => {
+            *place = next;
+            no_listing(false)
+        }
+        Err(_) => no_listing(true),
+    }
+}
+
+// Whether there is the file of which something is to be shown.
+fn look(store: &Store, scratch: &mut Scratch, place: &Place, name: &Name) -> Tally
+    requires { HasRoom scratch.old store.now.parts.limits }
+    ensures room { HasRoom scratch.new store.now.parts.limits }
+    ensures here { result ≡ record { refused = not (is_among store.now.parts place.now name.now); listed = 0 } }
+    ensures sound { IsSound store.now }
+{
+    // The limits tell that the store is sound, so that it shows the state's table.
+    let _limits = store.limits();
+    no_listing(store.slot_here(scratch, place, name).is_none())
+}
+
+// Lists the place.
+fn list(store: &Store, scratch: &mut Scratch, place: &Place) -> Tally
+    requires { HasRoom scratch.old store.now.parts.limits }
+    ensures room { HasRoom scratch.new store.now.parts.limits }
+    ensures listed { result ≡ record { refused = false;
+        listed = length (increments (table_of store.now.parts) place.now) + length (locals (table_of store.now.parts) place.now) } }
+    ensures sound { IsSound store.now }
+    ensures few { result.listed ≤ store.now.parts.limits.props + store.now.parts.limits.files }
+{
+    Tally {
+        refused: false,
+        listed: count_listing(store, scratch, place),
+    }
+}
+
+/// Carries out a command. Its reply is tallied, and not shown.
+pub(crate) fn tally_command<D: Disk>(
+    store: &mut Store,
+    scratch: &mut Scratch,
+    place: &mut Place,
+    command: &Command,
+    payload: &Payload,
+    disk: &mut D,
+) -> Result<Tally, Failed>
+    requires scratch { HasRoom scratch.old store.old.parts.limits }
+    requires unbroken { store.old.is_broken ≡ false }
+    requires long { 4096 * store.old.journal.blocks ≤ (D.meaning disk.old).len }
+    ensures scratch { HasRoom scratch.new store.old.parts.limits }
+    ensures tallies { Tallies (λ now. done now command.now payload.now) (λ now. lines_listed now command.now) (StoreFits store.old (D.meaning disk.old)) place.old
+        (D.meaning disk.old) (D.meaning disk.new) result (StoreFits store.new (D.meaning disk.new)) place.new }
+    ensures run { IsDiskRun (D.meaning disk.old) (D.meaning disk.new) }
+    ensures cause { HasCause (D.meaning disk.old).disk_faults (D.meaning disk.new).disk_faults result }
+    ensures limits { store.new.parts.limits ≡ store.old.parts.limits }
+    ensures image { store.new.journal.blocks ≡ store.old.journal.blocks }
+    ensures unbroken { IfOk result (λ _. store.new.is_broken ≡ false) }
+    ensures few { IfOk result (λ tally. tally.listed ≤ store.old.parts.limits.props + store.old.parts.limits.files) }
+{
+    let bytes = payload.bytes();
+    let size = payload.size();
+    match command {
+        Command::Mkdir(word) => concluded(store.declare(disk, place, word), store),
+        Command::Rmdir(word) => concluded(store.undeclare(disk, word), store),
+        Command::Axiom(left, right) => concluded(store.axiom(disk, scratch, left, right), store),
+        Command::Unaxiom(left, right) => {
+            concluded(store.unaxiom(disk, scratch, left, right), store)
+        }
+        Command::Create(name, tags) => {
+            // To create a file is to add one without bytes.
+            create_is_add();
+            concluded(
+                store.add_file(disk, scratch, place, name, tags, &[], 0),
+                store,
+            )
+        }
+        Command::Add(name, tags) => concluded(
+            store.add_file(disk, scratch, place, name, tags, bytes, size),
+            store,
+        ),
+        Command::Write(name) => concluded(
+            store.write(disk, scratch, place, name, bytes, size),
+            store,
+        ),
+        Command::Rename(name, other) => {
+            concluded(store.rename(disk, scratch, place, name, other), store)
+        }
+        Command::Rm(name) => concluded(store.remove(disk, scratch, place, name), store),
+        Command::Cat(name) => Ok(look(store, scratch, place, name)),
+        Command::Props(name) => Ok(look(store, scratch, place, name)),
+        Command::Way(name) => Ok(look(store, scratch, place, name)),
+        Command::Cd(text) => Ok(go(store, place, text)),
+        Command::Ls => Ok(list(store, scratch, place)),
+        Command::Pwd => Ok(no_listing(false)),
+        Command::Stat => Ok(no_listing(false)),
+        // It has not come.
+        Command::Mv(_, _) => Ok(no_listing(true)),
+    }
+}

@@ -1,0 +1,81 @@
+-- A run of `grow` on an image: how it was opened, and how the session behind it ended.
+use Rattle.std.proofs.Common.{◌≡◌, ◌≢◌, ◌⊎◌, ℕ, List, [], Option, Some, refl, ap, sym, subst, ◌∙◌, inl, inr, arith}
+use Rattle.std.specs.Io.KnownBytes.{append_known}
+use Rattle.lis_ports.specs.Meaning.{Meaning, Now}
+use Rattle.lis_ports.specs.Runs.{Adds, Leaves}
+use Rattle.lis_ports.specs.Since.{Since}
+use Rattle.lis_ports.proofs.Moments.{adds_none, adds_then, adds_weaken, each_moment}
+use Rattle.lis_reply.proofs.Showing.{append_known-nil}
+use Rattle.lis_model.specs.State.{State}
+use Rattle.lis_model.specs.Step.{Situation, Item, situation_after}
+use Rattle.lis_store.specs.Stands.{Stands}
+use Rattle.lis_session.specs.Session.{root_of}
+use Rattle.lis_session.proofs.Moments.{begins_nothing, take_none}
+use Rattle.lis_session.proofs.Whole.{OnlyNow}
+use Rattle.lis_grow.specs.Session.{GrowMoment, Grows}
+use Rattle.lis_shell.specs.Causes.{Counts, HasStatusCause}
+use Rattle.lis_shell.specs.Runs.{IsSessionStatus, NoFault}
+use Rattle.lis_shell.specs.Grows.{IsGrowStatus, GrowRan, GrowRunMoment, GrowHeadline, GrowsImage, IsGrown}
+use Rattle.lis_shell.specs.declared.status.Status.{Status}
+use Rattle.lis_shell.specs.declared.status.Status.TheVariants.{Done, Usage, NotAnImage, TooShort, DiskFault, InputFault, OutputFault, InputLimit, NoMemory}
+
+-- before anything was carried out
+grow_none : (start : Situation) (items : List Item) (image : List ℕ) → Stands image start.state → GrowMoment start items image []
+grow_none start items image stands = record {
+  count = 0;
+  within = omega arith;
+  stands = subst (λ xs. Stands image (situation_after start xs).state) (sym (take_none items)) stands;
+  front = begins_nothing _;
+  quiet = λ less. refl;
+}
+
+since_none : (before : Option (List ℕ)) (start : Situation) (items : List Item) (image bytes : List ℕ) → Stands image start.state → before ≡ Some bytes
+    → Since before (GrowMoment start items) image bytes
+since_none before start items image bytes stands told = ([], append_known-nil before ∙ told, grow_none start items image stands)
+
+-- the moments of an opening, told by the session behind it
+opening_moments : {old mid : Meaning} (state : State) (items : List Item) → Leaves old mid (λ image. old.images image ⊎ Stands image state)
+    → Adds old mid (GrowRunMoment old state items)
+opening_moments {old} {mid} state items opening = adds_weaken _ opening.adds (λ image bytes had. by image bytes had.0 had.1)
+  where
+    by : (image bytes : List ℕ) → old.images image ⊎ Stands image state → old.shown ≡ Some bytes → GrowRunMoment old state items image bytes
+    by image bytes (inl there) told = inl (there, told)
+    by image bytes (inr stands) told = inr (since_none old.shown (root_of state) items image bytes stands told)
+
+-- an opening, and the session behind it
+pub grow_session : {old mid new : Meaning} (state : State) (items : List Item) (end : Option (List ℕ) → Type 0) → Leaves old mid (λ image. old.images image ⊎ Stands image state)
+    → Grows (root_of state) items mid new (end mid.shown) → GrowsImage state items old new (end old.shown)
+grow_session {old} {mid} {new} state items end opening session = record {
+  moments = adds_then (opening_moments state items opening)
+      (adds_weaken _ session.moments (λ image bytes since. inr (since.0, ap (λ known. append_known known since.0) (sym opening.run.shown) ∙ since.1, since.2)));
+  ended = subst end opening.run.shown session.ended;
+}
+
+-- an opening with no session behind it
+pub grow_barred : {old mid : Meaning} (state : State) (items : List Item) (end : Type 0) → Leaves old mid (λ image. old.images image ⊎ Stands image state)
+    → end → GrowsImage state items old mid end
+grow_barred state items end opening ended = record { moments = opening_moments state items opening; ended = ended }
+
+-- an opened image on which nothing was carried out
+pub grows_none : (state : State) (items : List Item) (m : Meaning) (end : Type 0) → end → Grows (root_of state) items m m end
+grows_none state items m end ended = record { moments = adds_none m _; past = λ n le. refl; ended = ended }
+
+pub grow_headline : {old new : Meaning} (state : State) (items : List Item) → OnlyNow old → Adds old new (GrowRunMoment old state items) → GrowHeadline state items old new
+grow_headline {old} {new} state items only_now adds = λ image bytes had.
+    elim (each_moment adds only_now image bytes had) as (λ _. GrowRunMoment old state items image bytes) [
+      | inl now ↦ inl now
+      | inr moment ↦ moment
+    ]
+
+-- a run without a fault
+pub grow_complete : (state : State) (items : List Item) (before : Option (List ℕ)) (new : Meaning) (faults faults_after : Counts) (status : Status)
+    → GrowRan state items before new status → HasStatusCause faults faults_after status → NoFault faults faults_after → IsGrown state items before new status
+grow_complete state items before new faults faults_after Done ran cause none = ran
+grow_complete state items before new faults faults_after NoMemory ran cause none = ran
+grow_complete state items before new faults faults_after OutputFault ran cause none = absurd (none.show cause.0)
+grow_complete state items before new faults faults_after DiskFault ran cause none = absurd (none.disk cause.0)
+grow_complete state items before new faults faults_after InputFault ran cause none = absurd ran
+grow_complete state items before new faults faults_after InputLimit ran cause none = absurd ran
+grow_complete state items before new faults faults_after Usage ran cause none = absurd ran
+grow_complete state items before new faults faults_after (NotAnImage spot) ran cause none = absurd ran
+grow_complete state items before new faults faults_after (TooShort len need) ran cause none = absurd ran
