@@ -2,7 +2,7 @@
 
 ghost use Rattle.std.specs.Prelude.{◌≡◌, ◌*◌, ◌≤◌, false};
 ghost use Rattle.lis_eval.specs.Room.{HasRoom};
-ghost use Rattle.lis_model.specs.Step.{mkdir, rmdir, add_axiom, unaxiom, create, add, write, rename, rm};
+ghost use Rattle.lis_model.specs.Step.{mkdir, rmdir, add_axiom, unaxiom, create, add, write, mv, rename, rm};
 ghost use Rattle.lis_store.specs.Stored.{StoreFits};
 ghost use Rattle.lis_session.specs.Item.{StoreLeft};
 ghost use Rattle.lis_session.specs.Parts.{Does, Ends};
@@ -12,7 +12,7 @@ use crate::replies::conclude;
 use lis_eval::Scratch;
 use lis_line::reader::Payload;
 use lis_model::command::Tags;
-use lis_place::Place;
+use lis_place::{Place, Text};
 use lis_ports::Station;
 use lis_store::Store;
 use lis_store::laws::create_is_add;
@@ -174,6 +174,28 @@ pub fn write<T: Station>(
     let bytes = payload.bytes();
     let size = payload.size();
     let changed = store.write(station, scratch, place, name, bytes, size);
+    conclude(store, station, changed)
+}
+
+/// Takes the file to the place to which the text leads.
+pub fn mv<T: Station>(
+    store: &mut Store,
+    scratch: &mut Scratch,
+    place: &Place,
+    name: &Name,
+    text: &Text,
+    station: &mut T,
+) -> Result<(), End>
+    requires scratch { HasRoom scratch.old store.old.parts.limits }
+    requires unbroken { store.old.is_broken ≡ false }
+    requires long { 4096 * store.old.journal.blocks ≤ (T.meaning station.old).len }
+    ensures scratch { HasRoom scratch.new store.old.parts.limits }
+    ensures carries { Does (λ now. mv now name.now text.now) (StoreFits store.old (T.meaning station.old)) place.now
+        (T.meaning station.old) (T.meaning station.new) result (StoreFits store.new (T.meaning station.new)) place.now }
+    ensures ends { Ends (T.meaning station.old) (T.meaning station.new) result }
+    ensures left { StoreLeft store.old store.new result }
+{
+    let changed = store.retag(station, scratch, place, name, text);
     conclude(store, station, changed)
 }
 

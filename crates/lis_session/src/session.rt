@@ -12,7 +12,7 @@ ghost use Rattle.lis_session.specs.Item.{CarriesOut, HasEndCause, IsSameStation,
 ghost use Rattle.lis_session.specs.Parts.{Does, Ends};
 ghost use Rattle.lis_session.specs.Tally.{TalliesItem};
 
-use crate::changes::{add, axiom, create, mkdir, rename, rm, rmdir, unaxiom, write};
+use crate::changes::{add, axiom, create, mkdir, mv, rename, rm, rmdir, unaxiom, write};
 use crate::content::cat;
 use crate::counting::stat;
 use crate::description::props;
@@ -135,6 +135,7 @@ fn carry_out<T: Station>(
         Command::Add(name, tags) => add(store, scratch, place, name, tags, payload, station),
         Command::Write(name) => write(store, scratch, place, name, payload, station),
         Command::Cat(name) => cat(store, scratch, place, name, station),
+        Command::Mv(name, text) => mv(store, scratch, place, name, text, station),
         Command::Rename(name, other) => rename(store, scratch, place, name, other, station),
         Command::Rm(name) => rm(store, scratch, place, name, station),
         Command::Cd(text) => cd(store, place, text, station),
@@ -143,8 +144,6 @@ fn carry_out<T: Station>(
         Command::Props(name) => props(store, scratch, place, name, station),
         Command::Way(name) => way(store, scratch, place, name, station),
         Command::Stat => stat(store, place, station),
-        // It has not come.
-        Command::Mv(_, _) => refuse(place, &Refusal::BadLine, station),
     }
 }
 

@@ -170,6 +170,9 @@ pub(crate) fn tally_command<D: Disk>(
             store.write(disk, scratch, place, name, bytes, size),
             store,
         ),
+        Command::Mv(name, text) => {
+            concluded(store.retag(disk, scratch, place, name, text), store)
+        }
         Command::Rename(name, other) => {
             concluded(store.rename(disk, scratch, place, name, other), store)
         }
@@ -181,7 +184,5 @@ pub(crate) fn tally_command<D: Disk>(
         Command::Ls => Ok(list(store, scratch, place)),
         Command::Pwd => Ok(no_listing(false)),
         Command::Stat => Ok(no_listing(false)),
-        // It has not come.
-        Command::Mv(_, _) => Ok(no_listing(true)),
     }
 }

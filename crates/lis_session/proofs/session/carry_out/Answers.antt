@@ -24,9 +24,8 @@ returns-in-Write-clause-carries g c = rw c.in-Write.is c.write.ensures.carries
 pub returns-in-Cat-clause-carries : goal.returns-in-Cat-clause-carries
 returns-in-Cat-clause-carries g c = rw c.in-Cat.is c.cat.ensures.carries
 
--- the one that has not come is refused as a bad line
 pub returns-in-Mv-clause-carries : goal.returns-in-Mv-clause-carries
-returns-in-Mv-clause-carries g c = rw c.in-Mv.is (c.refuse.ensures.carries c.args.store.now)
+returns-in-Mv-clause-carries g c = rw c.in-Mv.is c.mv.ensures.carries
 
 pub returns-in-Rename-clause-carries : goal.returns-in-Rename-clause-carries
 returns-in-Rename-clause-carries g c = rw c.in-Rename.is c.rename.ensures.carries
