@@ -9,7 +9,7 @@ use Rattle.lis_model.specs.Step.{Situation, Outcome, no_payload, entry_at, ls}
 use Rattle.lis_model.specs.Table.{Table, table}
 use Rattle.lis_store.specs.Changes.{Changes}
 use Rattle.lis_store.proofs.Facts.{table_told}
-use Rattle.lis_session.proofs.Laws.{mkdir_stays, rmdir_stays, axiom_stays, unaxiom_stays, add_stays, write_stays, rename_stays, rm_stays}
+use Rattle.lis_session.proofs.Laws.{mkdir_stays, rmdir_stays, axiom_stays, unaxiom_stays, add_stays, write_stays, mv_stays, rename_stays, rm_stays}
 use Rattle.lis_session.proofs.Answering.{cd_arrives}
 use Rattle.lis_session.proofs.Blocks.{looked_for}
 use Rattle.lis_session.proofs.Tallying.{tally_with, tallied_change, tallied_still, tallied_look, tallied_cd, no_refusal, listing_no_refusal}
@@ -50,6 +50,12 @@ returns-in-Write-clause-tallies g c =
     rw c.in-Write.is (λ state fitting.
     let now : Situation = record { state = state; place = c.args.place.now } in
     tallied_change c.write.result (write_stays now c.in-Write.name c.args.payload.now) c.concluded-in-Write.ensures.sound (rw (c.bytes-bytes.ensures.bytes, c.size-size.ensures) at (c.write.ensures.changes state fitting.own)) c.concluded-in-Write.ensures.tally)
+
+pub returns-in-Mv-clause-tallies : goal.returns-in-Mv-clause-tallies
+returns-in-Mv-clause-tallies g c =
+    rw c.in-Mv.is (λ state fitting.
+    let now : Situation = record { state = state; place = c.args.place.now } in
+    tallied_change c.retag.result (mv_stays now c.in-Mv.name c.in-Mv.text) c.concluded-in-Mv.ensures.sound (c.retag.ensures.changes state fitting.own) c.concluded-in-Mv.ensures.tally)
 
 pub returns-in-Rename-clause-tallies : goal.returns-in-Rename-clause-tallies
 returns-in-Rename-clause-tallies g c =
