@@ -18,7 +18,6 @@ use Rattle.lis_fields.specs.Records.{FileRecord}
 use Rattle.lis_fields.specs.declared.slots.AxiomSlot.{AxiomSlot}
 use Rattle.lis_fields.specs.declared.slots.AxiomSlot.TheVariants.{Free as FreeAxiom, Pair}
 use Rattle.lis_words.specs.Words.{same_word, is_valued, head_bytes}
-use Rattle.lis_model.specs.Image.{bitmap_start}
 use Rattle.lis_model.specs.Derived.{derived_words}
 use Rattle.lis_model.specs.State.{File, up, all_up}
 use Rattle.lis_model.specs.Changes.{new_file}
@@ -26,8 +25,6 @@ use Rattle.lis_laws.proofs.Chains.{up_trans, up_from_entails}
 use Rattle.lis_laws.proofs.Counts.{all_among}
 use Rattle.lis_laws.proofs.Members.{same_word_decides, among_from_has_word, has_word_from_among, among_with_words, among_set_of, set_of_among}
 use Rattle.lis_kept.specs.Kept.{Kept}
-use Rattle.lis_kept.specs.Areas.{block_of}
-use Rattle.lis_kept.specs.Areas.Area.{Files}
 use Rattle.lis_kept.specs.Links.{is_linked, has_pair}
 use Rattle.lis_kept.specs.Sound.{AreSound, FreeSlotsAreEmpty, BlocksAreTaken}
 use Rattle.lis_kept.specs.Forgetting.{KeepsInUse}

@@ -1,7 +1,6 @@
 -- Calls that read a file's bytes before they judge.
-use Rattle.std.proofs.Common.{◌≡◌, ◌⊎◌, refl, sym, ap, ap₂, ◌∙◌, subst, inl, ℕ, ◌+◌, ◌≤◌, true, false, List, length, cond, is_some, Some, None, Result, Ok, Err, IsTrue, IsSomeAnd, arith}
+use Rattle.std.proofs.Common.{◌≡◌, ◌⊎◌, sym, ap, ap₂, ◌∙◌, subst, inl, ℕ, true, false, List, length, cond, is_some, Some, None, Result, Ok, Err, IsTrue, IsSomeAnd, arith}
 use Rattle.std.specs.Result.{result_ok}
-use Rattle.std.specs.List.{list_all}
 use Rattle.std.proofs.lemmas.Option.{same_Some}
 use Rattle.lis_journal.specs.Record.{Entry, block}
 use Rattle.lis_journal.specs.Phases.{looked}
@@ -34,7 +33,7 @@ use Rattle.lis_store.specs.Saving.{Saves}
 use Rattle.lis_store.specs.Instead.{given_before, instead_checks, renaming_checks}
 use Rattle.lis_store.specs.Replacing.{MayReplace}
 use Rattle.lis_store.specs.ReplacingIn.{RefilesIn}
-use Rattle.lis_store.specs.Retagging.{led_by, words_moved, moved_from, moving_checks, retag_checks}
+use Rattle.lis_store.specs.Retagging.{led_by, words_moved, moved_from, moving_checks}
 use Rattle.lis_store.proofs.Facts.{filed_named}
 use Rattle.lis_store.proofs.InsteadTold.{old_is, rename_refused}
 use Rattle.lis_store.proofs.Judged.{change_refused, refused_first, refused_then}

@@ -1,6 +1,5 @@
 -- Where a row refuses nothing, a file may come into the place of another.
-use Rattle.std.proofs.Common.{◌≡◌, refl, sym, ap, ◌∙◌, subst, ℕ, ◌+◌, ◌≤◌, ◌==◌, nat_lt, nat_le, Bool, true, ◌&&◌, not, is_some, option_to_list, Some, None, List, length, arith, eqb-true}
-use Rattle.std.specs.Prelude.{IsTrue}
+use Rattle.std.proofs.Common.{◌≡◌, sym, ap, subst, ℕ, ◌+◌, ◌≤◌, ◌==◌, nat_lt, nat_le, true, ◌&&◌, is_some, option_to_list, Some, None, List, length, arith, eqb-true}
 use Rattle.std.specs.List.{flat_map, list_all}
 use Rattle.std.proofs.lemmas.Bool.{and_parts, leb-true, ltb-false, not-false}
 use Rattle.lis_graph.specs.Graph.{is_rising}
@@ -10,7 +9,7 @@ use Rattle.lis_blockmap.specs.Bitmap.{free_count}
 use Rattle.lis_catalog.specs.Catalog.{Filed, slot_of, rec_at}
 use Rattle.lis_dict.specs.Dict.{word_of}
 use Rattle.lis_fields.specs.Records.{FileRecord}
-use Rattle.lis_fields.specs.Layouts.{is_super, is_record, are_short, are_tags, are_blocks}
+use Rattle.lis_fields.specs.Layouts.{is_record, are_short, are_tags, are_blocks}
 use Rattle.lis_grammar.specs.Formula.{Formula}
 use Rattle.lis_words.specs.Words.{word_cmp, is_file_name}
 use Rattle.lis_model.specs.Ranges.{are_in_range}

@@ -1,8 +1,7 @@
 -- The rows of `write` and `rename`, told by what a store keeps, are the rows of the state.
-use Rattle.std.proofs.Common.{◌≡◌, ◌⊎◌, refl, sym, ap, ap₂, ◌∙◌, subst, inl, inr, ℕ, ◌+◌, ◌<◌, ◌≤◌, ◌==◌, nat_lt, nat_le, Bool, true, false, not, cond, is_some, Option, Some, None, List, [], ◌∷◌, ◌++◌, length, Result, Err, arith, eqb-true}
-use Rattle.std.specs.Prelude.{IsTrue}
+use Rattle.std.proofs.Common.{◌≡◌, ◌⊎◌, refl, sym, ap, ap₂, ◌∙◌, inl, inr, ℕ, ◌+◌, ◌==◌, nat_lt, nat_le, Bool, true, false, not, cond, Some, None, List, [], ◌∷◌, ◌++◌, length, arith}
 use Rattle.std.specs.List.{list_any}
-use Rattle.std.proofs.lemmas.Bool.{and_parts, leb-true, ltb-true, not-false}
+use Rattle.std.proofs.lemmas.Bool.{leb-true, ltb-true, not-false}
 use Rattle.lis_ports.specs.Meaning.{Meaning}
 use Rattle.lis_blockmap.specs.Bitmap.{free_count}
 use Rattle.lis_catalog.specs.Catalog.{Filed, slot_of, rec_at}
@@ -17,11 +16,11 @@ use Rattle.lis_model.specs.State.{State, File, description, known, file_cmp, fil
 use Rattle.lis_model.specs.Changes.{has_name, file_of, new_file, file_removed, file_replaced}
 use Rattle.lis_model.specs.Table.{Table, Entry}
 use Rattle.lis_model.specs.Listing.{extension}
-use Rattle.lis_model.specs.Step.{Situation, Payload, refused, changed, exceeds_words, exceeds_known, free_blocks, blocks_for, is_here, is_large, room_checks, write_checks, write_with, write, rename_checks, rename_as, rename}
+use Rattle.lis_model.specs.Step.{Situation, Payload, refused, changed, exceeds_words, exceeds_known, free_blocks, blocks_for, is_here, is_large, room_checks, write_checks, write, rename_checks, rename}
 use Rattle.lis_laws.proofs.Counts.{all_among}
 use Rattle.lis_laws.proofs.Named.{file_there, file_of_name, gone_free, still_free}
 use Rattle.lis_kept.specs.Kept.{Kept}
-use Rattle.lis_kept.specs.Telling.{words_told, bytes_told, file_told}
+use Rattle.lis_kept.specs.Telling.{words_told, bytes_told}
 use Rattle.lis_kept.proofs.Filing.{same_tests, filed_at_slot}
 use Rattle.lis_store.specs.Stored.{Stored, IsSound, StoreFits}
 use Rattle.lis_store.specs.Admitting.{described_by}
@@ -29,7 +28,7 @@ use Rattle.lis_store.specs.Changes.{first_refusal}
 use Rattle.lis_store.specs.Judging.{is_among}
 use Rattle.lis_store.specs.Replacing.{known_instead}
 use Rattle.lis_store.specs.Instead.{given_before, write_checks_of, rename_checks_of}
-use Rattle.lis_store.proofs.Facts.{limits_told, name_filed, filed_named, file_in_slot, blocks_counted, size_of_filed, table_told}
+use Rattle.lis_store.proofs.Facts.{limits_told, name_filed, file_in_slot, blocks_counted, size_of_filed, table_told}
 use Rattle.lis_store.proofs.FreeBlocks.{used_told, version_told}
 use Rattle.lis_store.proofs.InsteadMay.{given_assignable}
 use Rattle.lis_store.proofs.InsteadKnown.{described_are, known_replaced}
@@ -130,11 +129,11 @@ module _ (k : Stored) (m : Meaning) (s : State) (sound : IsSound k) (fits : Stor
       ≡ first_refusal (write_checks now old (file_replaced s old.name (new_file old.name old.assigned bytes)) size)
   write_row bytes size =
       same_first (write_checks_of kept place name slot rec (given_before kept rec name bytes) size) (
-        (is_large s size, LargeFile)
-        ∷ (not (is_here now old.name), NoFileHere)
-        ∷ (false, UnknownProperty)
-        ∷ room_checks (file_replaced s old.name (new_file old.name old.assigned bytes))
-        ++ (nat_lt (blocks_for s old) (blocks_taken s.limits.version size), NoSpace) ∷ []
+      (is_large s size, LargeFile)
+      ∷ (not (is_here now old.name), NoFileHere)
+      ∷ (false, UnknownProperty)
+      ∷ room_checks (file_replaced s old.name (new_file old.name old.assigned bytes))
+      ++ (nat_lt (blocks_for s old) (blocks_taken s.limits.version size), NoSpace) ∷ []
       ) (
         refl,
         ap (λ v. nat_lt (file_limit v) size) version_is,
@@ -173,31 +172,31 @@ module _ (k : Stored) (m : Meaning) (s : State) (sound : IsSound k) (fits : Stor
   rename_row other =
       let named = name_filed kept fits.kept s sound.parts sound.free fits.tells other in
       same_first (rename_checks_of kept place name slot (given_before kept rec other old.bytes)) (
-        (not (is_here now old.name), NoFileHere)
-        ∷ (has_name s.files other, NameTaken)
-        ∷ (false, UnknownProperty)
-        ∷ room_checks (file_replaced s old.name (new_file other old.assigned old.bytes))
+      (not (is_here now old.name), NoFileHere)
+      ∷ (has_name s.files other, NameTaken)
+      ∷ (false, UnknownProperty)
+      ∷ room_checks (file_replaced s old.name (new_file other old.assigned old.bytes))
       ) (
         refl,
         ap not among_told,
         λ here. let at = there (not-false (is_among kept place name) here) in
-        let made = made_is other old.bytes (old_given k m s sound fits name slot rec at.0 at.1) in (
-          refl,
-          sym named,
-          λ new. let free = still_free s name other (named ∙ new) in (
-            refl,
-            ap not (given_assignable k sound slot rec at.1 fits.kept s fits.tells),
-            λ words. (
+            let made = made_is other old.bytes (old_given k m s sound fits name slot rec at.0 at.1) in (
               refl,
-              large_told k m s sound fits name slot rec at.0 at.1 (given_before kept rec other old.bytes) free ∙ ap exceeds_words made,
-              λ short. (
+              sym named,
+              λ new. let free = still_free s name other (named ∙ new) in (
                 refl,
-                room_told k m s sound fits name slot rec at.0 at.1 (given_before kept rec other old.bytes) free ∙ ap exceeds_known made,
-                λ room. tt,
+                ap not (given_assignable k sound slot rec at.1 fits.kept s fits.tells),
+                λ words. (
+                  refl,
+                  large_told k m s sound fits name slot rec at.0 at.1 (given_before kept rec other old.bytes) free ∙ ap exceeds_words made,
+                  λ short. (
+                    refl,
+                    room_told k m s sound fits name slot rec at.0 at.1 (given_before kept rec other old.bytes) free ∙ ap exceeds_known made,
+                    λ room. tt,
+                  ),
+                ),
               ),
             ),
-          ),
-        ),
       )
 
   -- what `write` comes to

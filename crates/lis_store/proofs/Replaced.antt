@@ -1,10 +1,8 @@
 -- What memory comes to when another file takes the place of one.
-use Rattle.std.proofs.Common.{◌≡◌, ◌⊎◌, refl, sym, ap, ◌∙◌, subst, inl, inr, ℕ, true, false, List, [], Some, None, is_some, IsTrue}
+use Rattle.std.proofs.Common.{◌≡◌, ◌⊎◌, refl, sym, ap, ◌∙◌, subst, inl, inr, ℕ, true, false, List, [], Some, is_some, IsTrue}
 use Rattle.std.proofs.lemmas.Bool.{both_ways, cases_eq}
 use Rattle.lis_graph.proofs.Members.{Among}
 use Rattle.lis_journal.specs.Journal.{Held}
-use Rattle.lis_content.specs.Content.{has_number}
-use Rattle.lis_catalog.specs.Catalog.{rec_at}
 use Rattle.lis_dict.specs.Dict.{word_of}
 use Rattle.lis_ext.specs.Ext.{has}
 use Rattle.lis_fields.specs.Records.{FileRecord}

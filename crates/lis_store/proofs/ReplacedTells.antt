@@ -9,9 +9,8 @@ use Rattle.lis_graph.proofs.Sets.{sorted_from_rising}
 use Rattle.lis_blockmap.specs.Bitmap.{is_taken, free_count}
 use Rattle.lis_content.specs.Content.{has_number}
 use Rattle.lis_content.proofs.Numbers.{stays_marked}
-use Rattle.lis_dict.specs.Dict.{word_of}
 use Rattle.lis_catalog.specs.Catalog.{Filed, filed_cmp, slot_of, rec_at}
-use Rattle.lis_ext.specs.Ext.{Ext, has, set_of as numbers_at}
+use Rattle.lis_ext.specs.Ext.{has, set_of as numbers_at}
 use Rattle.lis_fields.specs.Records.{FileRecord}
 use Rattle.lis_words.specs.Words.{word_cmp, same_word}
 use Rattle.lis_model.specs.declared.limits.Limits.{Limits}
@@ -24,12 +23,12 @@ use Rattle.lis_laws.proofs.Members.{word_order, sorted_set_of, same_word_decides
 use Rattle.lis_kept.specs.Kept.{Kept}
 use Rattle.lis_kept.specs.Areas.{IsSaved}
 use Rattle.lis_kept.specs.Sound.{AreSound}
-use Rattle.lis_kept.specs.Telling.{declared_of, axioms_of, words_told, bytes_told, file_told, state_of, is_used, IsFileBlock, Tells}
+use Rattle.lis_kept.specs.Telling.{declared_of, axioms_of, words_told, bytes_told, file_told, state_of, IsFileBlock, Tells}
 use Rattle.lis_kept.proofs.Filing.{filed_rec, filed_slot, filed_at_slot, among_from_number, number_from_among}
 use Rattle.lis_kept.proofs.Known.{words_known}
 use Rattle.lis_store.specs.Saving.{IsReady}
 use Rattle.lis_store.specs.Admitting.{described_by}
-use Rattle.lis_store.specs.Adding.{numbers_named, learnt_words}
+use Rattle.lis_store.specs.Adding.{learnt_words}
 use Rattle.lis_store.specs.ReplacingIn.{AreInForm, MayComeIn}
 use Rattle.lis_store.proofs.Added.{rec_here, set_here, set_other, word_stays, described_numbered, new_not_taken, new_taken}
 use Rattle.lis_store.proofs.Coming.{ComesIn}

@@ -1,5 +1,5 @@
 -- What each step needs where another file takes the place of one.
-use Rattle.std.proofs.Common.{◌≡◌, refl, sym, ap, ◌∙◌, subst, ℕ, ◌<◌, ◌≤◌, nat_lt, nat_le, not, ◌&&◌, true, List, [], length, set, Option, Some, None, is_some, IsSome, IsSomeAnd, arith, get_or, get_or-set_same}
+use Rattle.std.proofs.Common.{◌≡◌, refl, sym, ap, ◌∙◌, subst, ℕ, ◌<◌, ◌≤◌, nat_lt, nat_le, not, ◌&&◌, true, List, [], length, Option, Some, None, is_some, IsSome, IsSomeAnd, arith, get_or, get_or-set_same}
 use Rattle.std.specs.List.{list_all}
 use Rattle.std.proofs.lemmas.Bool.{and_parts, and_from, and_right, lt-ltb, ltb-true, leb-true}
 use Rattle.std.specs.List.Sorted.{IsStrictlyIncreasing}
@@ -8,12 +8,11 @@ use Rattle.lis_content.specs.Content.{given, are_free, has_number}
 use Rattle.lis_content.proofs.Numbers.{length-given, below_from_taken}
 use Rattle.lis_catalog.specs.Catalog.{slot_of, rec_at}
 use Rattle.lis_dict.specs.Dict.{word_of}
-use Rattle.lis_ext.specs.Ext.{Ext, has, set_of as numbers_at}
+use Rattle.lis_ext.specs.Ext.{has, set_of as numbers_at}
 use Rattle.lis_fields.specs.Records.{FileRecord}
 use Rattle.lis_fields.specs.Layouts.{are_tags, are_blocks, is_record}
 use Rattle.lis_fields.proofs.Parts.{record_from}
 use Rattle.lis_words.specs.Words.{is_file_name}
-use Rattle.lis_model.specs.declared.limits.Limits.{Limits}
 use Rattle.lis_model.specs.State.{File, blocks_needed}
 use Rattle.lis_model.specs.Changes.{new_file}
 use Rattle.lis_kept.specs.Kept.{Kept}
@@ -29,7 +28,7 @@ use Rattle.lis_store.specs.ReplacingIn.{AreInForm, MayComeIn, LearnsOwn, Vacates
 use Rattle.lis_store.proofs.Given.{given_taken}
 use Rattle.lis_store.proofs.Left.{left, left_is, coming}
 use Rattle.lis_store.proofs.PutIn.{named_tags, named_rising, named_worded}
-use Rattle.lis_store.proofs.Vacated.{vacated, slot_below, slot_vacant, name_vacant, taken_others, blocks_vacated, may_forget}
+use Rattle.lis_store.proofs.Vacated.{slot_below, slot_vacant, name_vacant, taken_others, blocks_vacated, may_forget}
 
 -- a file is in the slot
 pub may_some : (p : Kept) (slot : ℕ) (file : File) → IsSomeAnd (rec_at p.catalog slot) (λ (x : FileRecord). MayReplace p slot x file) → IsSome (rec_at p.catalog slot)

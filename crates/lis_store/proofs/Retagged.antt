@@ -1,6 +1,6 @@
 -- What a file is refused for that would move to another place, as the calls ask it.
-use Rattle.std.proofs.Common.{◌≡◌, refl, sym, ap, ◌∙◌, inl, inr, ◌⊎◌, ℕ, ◌<◌, ◌≤◌, nat_lt, Bool, true, false, not, cond, ◌||◌, IsSome, Option, Some, None, List, [], ◌∷◌, ◌++◌, length, filter, take, get_or, ◌+◌, append-nil, arith}
-use Rattle.std.specs.List.{list_any, list_all, flat_map}
+use Rattle.std.proofs.Common.{◌≡◌, refl, sym, ap, ◌∙◌, inl, inr, ◌⊎◌, ℕ, ◌<◌, ◌≤◌, nat_lt, Bool, true, false, not, cond, ◌||◌, IsSome, Some, None, List, [], ◌∷◌, ◌++◌, length, filter, take, get_or, ◌+◌, append-nil, arith}
+use Rattle.std.specs.List.{list_any, flat_map}
 use Rattle.std.specs.List.Sorted.{IsStrictlySortedBy}
 use Rattle.std.proofs.lemmas.Bool.{leb-false, le-leb, le-ltb}
 use Rattle.std.proofs.lemmas.List.{take_more}
@@ -13,22 +13,15 @@ use Rattle.lis_words.specs.Words.{word_cmp, same_word, has_word}
 use Rattle.lis_grammar.specs.Formula.{Formula}
 use Rattle.lis_place.specs.declared.node.Node.{Node}
 use Rattle.lis_place.specs.Nodes.{nodes_of}
-use Rattle.lis_model.specs.declared.refusal.Refusal.{Refusal}
-use Rattle.lis_model.specs.declared.refusal.Refusal.TheVariants.{UnknownProperty, TooManyAssigned, LargeDescription, NoPropertyRoom}
+use Rattle.lis_model.specs.declared.refusal.Refusal.TheVariants.{TooManyAssigned}
 use Rattle.lis_model.specs.Sets.{with_words, set_of}
 use Rattle.lis_model.specs.Places.{place_words}
-use Rattle.lis_model.specs.State.{is_assignable}
-use Rattle.lis_model.specs.Changes.{new_file}
 use Rattle.lis_model.specs.Step.{tags_at, retagged}
 use Rattle.lis_laws.proofs.Members.{among_from_has_word, has_word_from_among, among_with_words, with_words_old, with_words_new, among_set_of, set_of_among, sorted_with_words, same_words}
 use Rattle.lis_kept.specs.Kept.{Kept}
-use Rattle.lis_kept.specs.Sound.{AreSound}
-use Rattle.lis_kept.specs.Telling.{declared_of}
 use Rattle.lis_kept.proofs.Filing.{same_tests, filter_same}
 use Rattle.lis_store.specs.Assigning.{node_tags, Takes}
 use Rattle.lis_store.specs.Changes.{first_refusal}
-use Rattle.lis_store.specs.Instead.{instead_checks}
-use Rattle.lis_store.specs.Replacing.{words_without}
 use Rattle.lis_store.specs.Retagging.{words_moved, places_checks, moving_checks}
 use Rattle.lis_store.proofs.Assigned.{tags_of_nodes}
 use Rattle.lis_store.proofs.Judged.{refused_then}

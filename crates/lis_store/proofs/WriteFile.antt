@@ -1,27 +1,18 @@
 -- The calls that write and rename a file.
-use Rattle.std.proofs.Common.{◌≡◌, ◌≢◌, refl, sym, ap, ap₂, ◌∙◌, subst, ℕ, ◌+◌, ◌≤◌, ◌==◌, nat_lt, nat_le, ◌&&◌, ◌||◌, not, cond, Bool, true, false, List, [], length, Option, Some, None, is_some, option_to_list, Result, Err, arith}
-use Rattle.std.specs.List.{flat_map, list_all}
-use Rattle.std.proofs.lemmas.Bool.{and_parts, or_left, both_ways, eqb-true, leb-true, le-ltb, ltb-false}
+use Rattle.std.proofs.Common.{◌≡◌, refl, sym, ap, ap₂, ◌∙◌, subst, ℕ, ◌≤◌, not, cond, true, false, List, [], length, Option, Some, None, Result, Err, arith}
+use Rattle.std.proofs.lemmas.Bool.{both_ways, le-ltb}
 use Rattle.std.proofs.lemmas.Option.{same_Some}
-use Rattle.lis_graph.specs.Graph.{is_rising}
 use Rattle.lis_ports.specs.Meaning.{Meaning}
-use Rattle.lis_blockmap.specs.Bitmap.{free_count}
-use Rattle.lis_dict.specs.Dict.{number_of, word_of}
-use Rattle.lis_dict.proofs.Laws.{number_from_word}
 use Rattle.lis_catalog.specs.Catalog.{slot_of, rec_at}
 use Rattle.lis_catalog.proofs.Laws.{rec_at-slot_of}
 use Rattle.lis_fields.specs.Records.{FileRecord}
-use Rattle.lis_fields.specs.Layouts.{is_super, is_record, are_tags, are_short, are_blocks}
-use Rattle.lis_words.specs.Words.{word_cmp, is_file_name, is_valued, is_head, is_built_in, head_bytes}
+use Rattle.lis_words.specs.Words.{is_file_name}
 use Rattle.lis_grammar.specs.Formula.{Formula}
 use Rattle.lis_model.specs.declared.refusal.Refusal.{Refusal}
 use Rattle.lis_model.specs.declared.refusal.Refusal.TheVariants.{NoFileHere, LargeFile}
-use Rattle.lis_model.specs.Ranges.{are_in_range}
-use Rattle.lis_model.specs.State.{State, File, file_limit, blocks_needed, blocks_taken}
+use Rattle.lis_model.specs.State.{State, File, file_limit}
 use Rattle.lis_model.specs.Changes.{new_file, file_of, file_replaced}
 use Rattle.lis_model.specs.Step.{Situation, Payload, changed, write, rename}
-use Rattle.lis_laws.proofs.Counts.{all_from, rising_from_sorted}
-use Rattle.lis_laws.proofs.Members.{word_order, sorted_set_of}
 use Rattle.lis_kept.specs.Kept.{Kept}
 use Rattle.lis_kept.specs.Sound.{AreSound}
 use Rattle.lis_kept.specs.Telling.{words_told, bytes_told}
@@ -31,16 +22,13 @@ use Rattle.lis_store.specs.declared.change.Change.TheVariants.{Refused}
 use Rattle.lis_store.specs.Stored.{Stored, IsSound, StoreFits}
 use Rattle.lis_store.specs.Changes.{Changes, first_refusal}
 use Rattle.lis_store.specs.Judging.{is_among}
-use Rattle.lis_store.specs.Admitting.{described_by}
-use Rattle.lis_store.specs.Adding.{may_learn}
 use Rattle.lis_store.specs.Instead.{given_before, overwriting_checks, renaming_checks, write_checks_of, rename_checks_of}
 use Rattle.lis_store.specs.Replacing.{MayReplace}
-use Rattle.lis_store.proofs.Admitted.{none_there}
 use Rattle.lis_store.proofs.Facts.{filed_named}
 use Rattle.lis_store.proofs.Here.{none_here}
 use Rattle.lis_store.proofs.InsteadMay.{write_may, rename_may}
 use Rattle.lis_store.proofs.InsteadTold.{old_is, old_given, write_refused, write_done, rename_refused, rename_done}
-use Rattle.lis_store.proofs.Judged.{all_pass, change_refused}
+use Rattle.lis_store.proofs.Judged.{change_refused}
 
 -- ---- rows
 pub rest_of_write : (k : Kept) (place : List Formula) (name : List ℕ) (slot : ℕ) (rec : FileRecord) (file : File) (size : ℕ) → size ≤ file_limit k.limits.version → is_among k place name ≡ true

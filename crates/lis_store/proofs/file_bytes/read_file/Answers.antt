@@ -1,11 +1,10 @@
-use Rattle.std.proofs.Common.{◌≡◌, ◌∙◌, ◌+◌, ◌<◌, ◌≤◌, ℕ, List, nat_lt, true, length, sym, ap, subst, arith}
+use Rattle.std.proofs.Common.{◌≡◌, ◌∙◌, ◌+◌, nat_lt, true, length, sym, ap, subst, arith}
 use Rattle.std.proofs.lemmas.Bool.{lt-ltb}
 use Rattle.lis_catalog.specs.Catalog.{Filed}
 use Rattle.lis_fields.specs.Records.{FileRecord}
 use Rattle.lis_content.specs.Content.{are_within}
 use Rattle.lis_model.specs.Image.{data_start}
 use Rattle.lis_model.specs.State.{blocks_needed}
-use Rattle.lis_model.specs.declared.limits.Limits.{Limits}
 use Rattle.lis_kept.proofs.Filing.{filed_at_slot}
 use Rattle.lis_laws.proofs.Counts.{all_from}
 use Rattle.lis_store.proofs.Facts.{size_is_short, blocks_counted, block_below}

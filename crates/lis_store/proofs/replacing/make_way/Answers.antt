@@ -1,4 +1,4 @@
-use Rattle.std.proofs.Common.{ℕ, List, ◌≤◌, ◌∙◌, is_some, length, refl, sym, ap, subst, arith}
+use Rattle.std.proofs.Common.{ℕ, List, ◌∙◌, is_some, sym, ap, subst}
 use Rattle.std.specs.List.{list_all}
 use Rattle.std.specs.List.Sorted.{IsStrictlyIncreasing}
 use Rattle.lis_dict.specs.Dict.{word_of}

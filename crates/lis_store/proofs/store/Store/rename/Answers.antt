@@ -1,6 +1,5 @@
-use Rattle.std.proofs.Common.{◌≡◌, ◌∙◌, ◌+◌, ◌≤◌, List, ℕ, length, None, Err, IsSomeAnd, is_some, true, refl, sym, ap, subst}
+use Rattle.std.proofs.Common.{◌≡◌, ◌∙◌, ◌+◌, ◌≤◌, List, ℕ, length, None, Err, IsSomeAnd, is_some, refl, sym, ap, subst}
 use Rattle.std.proofs.lemmas.Result.{err_from_is_err_and}
-use Rattle.lis_ports.specs.Meaning.{Meaning}
 use Rattle.lis_catalog.specs.Catalog.{slot_of}
 use Rattle.lis_catalog.proofs.Laws.{rec_at-slot_of}
 use Rattle.lis_ext.specs.Ext.{Ext}
@@ -16,7 +15,6 @@ use Rattle.lis_store.specs.declared.change.Change.TheVariants.{Refused}
 use Rattle.lis_store.specs.Stored.{Stored, IsSound, StoreFits}
 use Rattle.lis_store.specs.Changes.{Changes, first_refusal, differing_bits}
 use Rattle.lis_store.specs.Judging.{is_among}
-use Rattle.lis_store.specs.Saving.{Saves}
 use Rattle.lis_store.specs.Replacing.{MayReplace}
 use Rattle.lis_store.specs.Instead.{given_before, renaming_checks}
 use Rattle.lis_store.proofs.FileRead.{name_taken, lost_read, renaming_refused, renaming_changes}

@@ -1,6 +1,5 @@
-use Rattle.std.proofs.Common.{◌≡◌, ◌∙◌, ◌+◌, ◌≤◌, List, ℕ, length, Some, None, Err, IsSomeAnd, is_some, true, refl, sym, ap, subst}
+use Rattle.std.proofs.Common.{◌≡◌, ◌∙◌, ◌+◌, ◌≤◌, List, ℕ, length, Some, None, Err, IsSomeAnd, is_some, refl, sym, ap, subst}
 use Rattle.std.proofs.lemmas.Result.{err_from_is_err_and}
-use Rattle.lis_ports.specs.Meaning.{Meaning}
 use Rattle.lis_catalog.specs.Catalog.{slot_of}
 use Rattle.lis_catalog.proofs.Laws.{rec_at-slot_of}
 use Rattle.lis_ext.specs.Ext.{Ext}
@@ -14,11 +13,10 @@ use Rattle.lis_journal.specs.Phases.{looked}
 use Rattle.lis_store.specs.Stored.{Stored, IsSound, StoreFits}
 use Rattle.lis_store.specs.Changes.{Changes, first_refusal, differing_bits}
 use Rattle.lis_store.specs.Judging.{is_among}
-use Rattle.lis_store.specs.Saving.{Saves}
 use Rattle.lis_store.specs.Replacing.{MayReplace}
 use Rattle.lis_grammar.specs.Places.{resolved, text_words}
 use Rattle.lis_store.specs.Instead.{instead_checks}
-use Rattle.lis_store.specs.Retagging.{words_moved, moved_from, moving_checks}
+use Rattle.lis_store.specs.Retagging.{words_moved}
 use Rattle.lis_store.proofs.FileRead.{led_to, lost_read, moved_first, moved_nowhere, moving_refused, retagging_refused, retagging_changes}
 use Rattle.lis_store.proofs.ReplaceFile.{refiled_sound, refiled_marks, refiled_edits}
 use Rattle.lis_store.proofs.store.Store.retag.Goals as goal
