@@ -128,8 +128,7 @@ impl Buffer {
         &self.region.items(&self.frame)[..self.size as usize]
     }
 
-    /// Reads the bytes of a file in place of those that it has. After a fault it has so many bytes, and they may be
-    /// anything.
+    /// Reads the bytes of a file in place of those that it has. After a fault it may have any.
     pub fn read<D: Disk>(
         &mut self,
         journal: &Journal,

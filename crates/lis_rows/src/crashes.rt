@@ -81,7 +81,7 @@ fn wrong_state(alloc: Global, station: &MemStation, pick: u8) -> Result<Option<S
 
     // Behind the last call nothing is lost.
     let left = left_by(alloc, station, last, pick)?;
-    Ok(if is_behind(left.as_str(), 9) {
+    Ok(if is_behind(left.as_str(), 10) {
         None
     } else {
         Some(left)

@@ -190,7 +190,7 @@ fn want_of_memory_comes_before_anything_is_shown(rt: HostRuntime) -> Result<(), 
     let wanted = if status == Status::NoMemory {
         ""
     } else {
-        "ok;ok;ok;f x;f y;ok;ok;"
+        "ok;ok;ok;d size:empty;d size:small;ok;ok;"
     };
     assert_eq!(rt; shown.as_str(), wanted, "{status:?}");
     Ok(())

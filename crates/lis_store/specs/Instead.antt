@@ -54,7 +54,7 @@ overwriting_checks k slot rec file size =
 abbrev pub renaming_checks : Kept → ℕ → File → List (Bool × Refusal)
 renaming_checks k slot file = (is_some (slot_of k.catalog file.name), NameTaken) ∷ instead_checks k slot file
 
--- the rows of `write` and of `rename`
+-- the rows of `write` and of `rename`, and that the words may be given, as those of each file of a state may
 abbrev pub write_checks_of : Kept → List Formula → List ℕ → ℕ → FileRecord → File → ℕ → List (Bool × Refusal)
 write_checks_of k place name slot rec file size =
     (nat_lt (file_limit k.limits.version) size, LargeFile)

@@ -141,7 +141,8 @@ pub(crate) fn overwrite<D: Disk>(
     parts.add_file_at(journal, disk, slot, name, way.tags, payload);
 }
 
-/// Gives the file in the slot another name and other words. Its bytes stay in their blocks: these are `payload`.
+/// Gives the file in the slot another name and other words. Its bytes stay in their blocks; words are derived from
+/// `payload`.
 pub(crate) fn refile(
     parts: &mut Parts,
     scratch: &mut Scratch,

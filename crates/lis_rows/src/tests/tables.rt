@@ -3,7 +3,7 @@
 use lis_model::spot::Spot;
 use lis_shell::status::Status;
 
-pub static SESSIONS: [(&str, &str); 49] = [
+pub static SESSIONS: [(&str, &str); 53] = [
     ("", ""),
     (
         "mkdir music;create a;create b music;ls;",
@@ -130,7 +130,7 @@ pub static SESSIONS: [(&str, &str); 49] = [
     ),
     (
         "mkdir a;mkdir b;mkdir c;axiom a b;axiom b c;create x a;create y;props x;unaxiom b c;props x;axiom c a;axiom b c;rmdir c;ls;",
-        "ok;ok;ok;ok;ok;ok;ok;p a;p b;p c;ok;ok;p a;p b;ok;ok;no 15 cycle;no 13 in use;d b;f y;ok;",
+        "ok;ok;ok;ok;ok;ok;ok;p a;p b;p c;p size:;p size:empty;ok;ok;p a;p b;p size:;p size:empty;ok;ok;no 15 cycle;no 13 in use;d b;f y;ok;",
     ),
     (
         "mkdir size:;mkdir year:2003;mkdir a;mkdir a;rmdir z;axiom a z;unaxiom a a;axiom a a;create x;create x;cat y;cd a/;rmdir a;frob;",
@@ -148,7 +148,7 @@ pub static SESSIONS: [(&str, &str); 49] = [
     ),
     (
         "mkdir a;mkdir k:;cd a;mkdir b;cd b/a;mkdir c;stat;cd k:;mkdir d;cd /a;create x c;props x;rm x;rmdir c;",
-        "ok;ok;ok;ok;ok;ok;s files 0;s known 4;s axioms 3;s free 8;ok;ok;no 08 not a place;ok;ok;p a;p b;p c;ok;ok;no 13 in use;",
+        "ok;ok;ok;ok;ok;ok;s files 0;s known 4;s axioms 3;s free 8;ok;ok;no 08 not a place;ok;ok;p a;p b;p c;p size:;p size:empty;ok;ok;no 13 in use;",
     ),
     // Files get other bytes, words and names.
     ("create a;write a 5;xyz", "ok;no 03 cut payload;"),
@@ -157,12 +157,29 @@ pub static SESSIONS: [(&str, &str); 49] = [
         "ok;ok;ok;b 5;hello;ok;ok;b 0;;ok;ok;f a;ok;no 10 no such file here;no 03 cut payload;",
     ),
     (
-        "create x;mv x /;rename x x;",
-        "ok;no 01 bad line;no 09 name taken;",
+        "mkdir a;mkdir b;cd a;create x;mv x /b;ls;cd /b;ls;cd /a|b;create y;rename x x;",
+        "ok;ok;ok;ok;ok;ok;ok;f x;ok;ok;no 08 not a place;no 09 name taken;",
+    ),
+    (
+        "mkdir a;mkdir b;create x a;create y;mv x a/;mv x a|b;mv x c;mv x size:;mv x from:me;mv z /;mv x ..;mv x b;props x;cd a;mv y /b;mv x /;props x;",
+        "ok;ok;ok;ok;no 05 formula;no 08 not a place;no 06 unknown property;no 25 built-in attribute;no 25 built-in attribute;no 10 no such file here;ok;ok;p a;p b;p size:;p size:empty;ok;ok;no 10 no such file here;ok;no 10 no such file here;",
     ),
     (
         "mkdir a;create x a;create y;rename x z;ls;cd a;ls;rename z z;rename z y;rename y w;rename z x;ls;",
         "ok;ok;ok;ok;d a;f y;ok;ok;f z;ok;no 09 name taken;no 09 name taken;no 10 no such file here;ok;f x;ok;",
+    ),
+    // Words by name, size and content.
+    (
+        "create a.b.Txt;create .a;create a.;props a.b.Txt;props .a;props a.;rename a.b.Txt b;props b;stat;",
+        "ok;ok;ok;p ext:;p ext:Txt;p size:;p size:empty;ok;p size:;p size:empty;ok;p size:;p size:empty;ok;ok;p size:;p size:empty;ok;s files 3;s known 2;s axioms 0;s free 8;ok;",
+    ),
+    (
+        "add m.eml 21;To : a@b;TO: C@d^; e;;props m.eml;write m.eml 0;;props m.eml;",
+        "ok;p ext:;p ext:eml;p size:;p size:small;p to:;p to:c@d;ok;ok;p ext:;p ext:eml;p size:;p size:empty;ok;",
+    ),
+    (
+        "mkdir source;axiom ext:c source;axiom defines: source;add x.c 35;int f(int (*g)(void)) { return 1} ;;props x.c;unaxiom ext:c source;props x.c;rename x.c x.t;props x.t;",
+        "ok;ok;ok;ok;p defines:;p defines:f;p ext:;p ext:c;p size:;p size:small;p source;ok;ok;p defines:;p defines:f;p ext:;p ext:c;p size:;p size:small;p source;ok;ok;p ext:;p ext:t;p size:;p size:small;ok;",
     ),
     // Routes and counts.
     (
@@ -171,7 +188,7 @@ pub static SESSIONS: [(&str, &str); 49] = [
     ),
     (
         "mkdir a;create x a;stat;add y 4097;",
-        "ok;ok;s files 1;s known 1;s axioms 0;s free 8;ok;no 03 cut payload;",
+        "ok;ok;s files 1;s known 3;s axioms 0;s free 8;ok;no 03 cut payload;",
     ),
 ];
 
@@ -407,49 +424,55 @@ pub static LIMITED: [(&str, Status, &str, &str); 2] = [
     ("mkdir abc;", Status::Done, "ok;", "no 11 already declared;"),
 ];
 
-/// Sessions on an empty image, and how many bits of its extension rows they edit: a bit for each word that a file gains or loses.
-pub static EDITS: [(&str, u64); 7] = [
+/// Sessions on an empty image, and how many bits of its extension rows they edit: a bit for each word that a file gains or loses, its
+/// two by its size among them.
+pub static EDITS: [(&str, u64); 9] = [
     ("mkdir a;mkdir b;", 0),
-    ("mkdir a;mkdir b;create f a;", 1),
-    ("mkdir a;mkdir k:;add f 1 a k:1;x;", 3),
-    ("mkdir a;mkdir b;create f a b;rm f;", 4),
-    ("mkdir a;create f a;create f a;create g b;rm g;", 1),
-    // What a file has before and after stays.
+    ("mkdir a;mkdir b;create f a;", 3),
+    ("mkdir a;mkdir k:;add f 1 a k:1;x;", 5),
+    ("mkdir a;mkdir b;create f a b;rm f;", 8),
+    ("mkdir a;create f a;create f a;create g b;rm g;", 3),
+    // What a file has before and after stays; `size:small` gets the number that `size:empty` leaves, and then no bit differs.
     (
         "mkdir a;create e;create f a;rm e;write f 1;x;rename f g;",
-        1,
+        7,
     ),
+    // The first file keeps its word of an empty one, so that the second gets another number.
+    ("create e;create f;write f 1;x;", 6),
+    ("mkdir a;mkdir b;create x a;cd a;mv x /b;", 5),
     // An axiom gives its word to all files at once.
     (
         "mkdir a;mkdir b;mkdir c;create f a;create g a c;axiom a b;axiom c b;unaxiom a b;unaxiom c b;",
-        6,
+        10,
     ),
 ];
 
-/// Nine commands, each of another kind but for the first two.
+/// Ten commands, each of another kind but for the first two.
 pub static SCRIPT: &str =
-    "mkdir music;mkdir rock;create s1 rock;add m 5 music;hello;axiom rock music;write m 2;hi;rename s1 s2;unaxiom rock music;rm m;";
+    "mkdir music;mkdir rock;create s1 rock;add m 5 music;hello;axiom rock music;write m 2;hi;rename s1 s2.c;unaxiom rock music;mv s2.c /music;rm m;";
 
 /// What `ls;cat m;` shows before the script, and behind each command.
-pub static SCRIPT_STATES: [&str; 10] = [
+pub static SCRIPT_STATES: [&str; 11] = [
     "ok;no 10 no such file here;",
     "ok;no 10 no such file here;",
     "ok;no 10 no such file here;",
     "f s1;ok;no 10 no such file here;",
-    "d music;d rock;ok;b 5;hello;ok;",
-    "d rock;f m;ok;b 5;hello;ok;",
-    "d rock;f m;ok;b 2;hi;ok;",
-    "d rock;f m;ok;b 2;hi;ok;",
-    "d music;d rock;ok;b 2;hi;ok;",
-    "f s2;ok;no 10 no such file here;",
+    "d music;d rock;d size:empty;d size:small;ok;b 5;hello;ok;",
+    "d rock;d size:empty;d size:small;ok;b 5;hello;ok;",
+    "d rock;d size:empty;d size:small;ok;b 2;hi;ok;",
+    "d ext:;d rock;d size:empty;d size:small;ok;b 2;hi;ok;",
+    "d ext:;d music;d rock;d size:empty;d size:small;ok;b 2;hi;ok;",
+    "d ext:;d rock;d size:empty;d size:small;ok;b 2;hi;ok;",
+    "f s2.c;ok;no 10 no such file here;",
 ];
 
-/// A byte of the rows of an image in which file 0 has word 0, what it is changed to, and how a run ends then.
-pub static ROWS: [(usize, u8, Status); 7] = [
+/// A byte of the rows of an image in which file 0 has the words 0, 1 and 2, what it is changed to, and how a run ends then.
+pub static ROWS: [(usize, u8, Status); 8] = [
     (0, 1, Status::Done),
     (0, 0, Status::NotAnImage(Spot::Row(0))),
     (0, 3, Status::NotAnImage(Spot::Row(0))),
-    (8, 1, Status::NotAnImage(Spot::Row(1))),
+    (8, 0, Status::NotAnImage(Spot::Row(1))),
+    (24, 1, Status::NotAnImage(Spot::Row(3))),
     (511, 128, Status::NotAnImage(Spot::Row(63))),
     // Behind the last row.
     (512, 1, Status::NotAnImage(Spot::Row(64))),
