@@ -227,12 +227,12 @@ item_less : (old new : Reading) (left left_after : Option (List ℕ)) (item : It
 item_less old new left left_after item (on, (inl whole)) = omega (arith, whole.0.gave.rest, whole.0.some)
 item_less old new left left_after item (on, (inr last)) = omega (arith, last.0.gave.rest, last.0.some)
 
-gives_less : {E : Type 0} (old new : Reading) (left left_after : Option (List ℕ)) (payload : Payload) (said : Said) → (asked_by said payload ≡ None → ⊥)
+gives_less : (E : Type 0) (old new : Reading) (left left_after : Option (List ℕ)) (payload : Payload) (said : Said) → (asked_by said payload ≡ None → ⊥)
     → Gives {E = E} old new left left_after payload (Ok said) → new.stock.rest < old.stock.rest
-gives_less old new left left_after payload (Command command) some gives = item_less old new left left_after (Do command payload) gives
-gives_less old new left left_after payload (Bad refusal) some gives = item_less old new left left_after (Refused refusal) gives
-gives_less old new left left_after payload SaidEnd some gives = absurd (some refl)
-gives_less old new left left_after payload SaidLimit some gives = absurd (some refl)
+gives_less E old new left left_after payload (Command command) some gives = item_less old new left left_after (Do command payload) gives
+gives_less E old new left left_after payload (Bad refusal) some gives = item_less old new left left_after (Refused refusal) gives
+gives_less E old new left left_after payload SaidEnd some gives = absurd (some refl)
+gives_less E old new left left_after payload SaidLimit some gives = absurd (some refl)
 
 -- each item takes a byte at least
 pub takes_some : {E : Type 0} {old new : Reading} {left left_after : Option (List ℕ)} {payload : Payload} {said : Said} {result : Result Said E} → Says old new left left_after payload result → result ≡ Ok said
@@ -241,7 +241,11 @@ takes_some {E} {old} {new} {left} {left_after} {payload} {said} {result} says is
   where
     by : (b : Bool) → old.is_closed ≡ b → new.stock.rest < old.stock.rest
     by true closed = absurd (not_the_end said payload some (let e : ◌≡◌ {A = Result Said E} (Ok said) (Ok SaidEnd) = sym is ∙ (says.closes closed).ends in cc))
-    by false open = gives_less old new left left_after payload said some (subst (λ r. Gives old new left left_after payload r) is (says.gives open))
+    by false going = gives_less E old new left left_after payload said some (subst (λ r. Gives old new left left_after payload r) is (says.gives going))
 
 pub asks_some : (said : Said) (payload : Payload) → is_some (asked_by said payload) ≡ true → asked_by said payload ≡ None → ⊥
 asks_some said payload some none = absurd (let e : false ≡ true = sym (ap is_some none) ∙ some in cc)
+
+pub one_at_most : (t : Bool) → cond t 1 0 ≤ 1
+one_at_most true = omega arith
+one_at_most false = omega arith

@@ -3,3 +3,4 @@ pub mod Takings
 mod Short
 mod Going
 mod Growing
+mod Showing

@@ -70,8 +70,8 @@ pub record GrowMoment (start : Situation) (items : List Item) (image shown : Lis
   pub quiet : count < length items → shown ≡ []
 
 -- all items were carried out, and so much was shown
-pub record GrewAll (start : Situation) (items : List Item) (before : Option (List ℕ)) (new : Meaning) (shown : List ℕ) : Type 0 where
-  pub shown : new.shown ≡ append_known before shown
+pub record GrewAll (start : Situation) (items : List Item) (before : Option (List ℕ)) (new : Meaning) (bytes : List ℕ) : Type 0 where
+  pub shown : new.shown ≡ append_known before bytes
   pub stands : Always new (λ image. Stands image (situation_after start items).state)
 
 -- How it ended: the summary was shown whole; or a front of it, at a fault of showing; or nothing was, at a fault of the disk, and the moments

@@ -5,8 +5,8 @@ use Rattle.lis_grow.specs.Grow.{grow_bytes}
 use Rattle.lis_grow.proofs.Going.{SoFar}
 use Rattle.lis_grow.proofs.session.carry_out.Given as goal
 
-abbrev pub invariant-loop : goal.invariant-loop
-invariant-loop g l = record {
+abbrev pub invariant-loop-item : goal.invariant-loop-item
+invariant-loop-item g l = record {
   image : l.store.journal.blocks ≡ l.fn.store.journal.blocks;
   limits : l.store.parts.limits ≡ l.fn.store.parts.limits;
   session : l.session.limits ≡ l.fn.session.limits;
@@ -19,5 +19,5 @@ invariant-loop g l = record {
   listed : l.sum.listed ≤ 12288 * l.sum.replies;
 }
 
-abbrev pub decreases-loop : goal.decreases-loop
-decreases-loop g l = l.reader.stock.rest
+abbrev pub decreases-loop-item : goal.decreases-loop-item
+decreases-loop-item g l = l.reader.stock.rest
