@@ -202,7 +202,7 @@ pub static WORDED_SESSIONS: [([&str; 4], &str, &str); 2] = [
     (
         ["try", "64", "64", "2"],
         "add a 1;x;add b 1;y;add a 1;z;add c 1;z;rm b;create b;add c 1;z;ls;",
-        "ok;ok;no 09 name taken;no 24 no space;ok;ok;ok;f a;f b;f c;ok;",
+        "ok;ok;no 09 name taken;no 24 no space;ok;ok;ok;d size:empty;d size:small;ok;",
     ),
 ];
 
@@ -226,7 +226,12 @@ pub static LARGE_FILES: [([&str; 4], usize, usize, &str); 4] = [
         32_768,
         "ok;no 24 no space;f a;ok;",
     ),
-    (["try", "64", "64", "1"], 1, 0, "ok;ok;f a;f b;ok;"),
+    (
+        ["try", "64", "64", "1"],
+        1,
+        0,
+        "ok;ok;d size:empty;d size:small;ok;",
+    ),
 ];
 
 /// How many bytes `a`, what stands behind them, and what is shown.
