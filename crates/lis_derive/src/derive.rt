@@ -1,7 +1,7 @@
 //! All words that are derived from a file.
 
 ghost use Rattle.std.specs.Prelude.{◌≡◌, ℕ, ◌≤◌, List, length};
-ghost use Rattle.lis_model.specs.Derived.{all_derived_words};
+ghost use Rattle.lis_model.specs.Derived.{derived_words};
 
 use crate::content::note_content;
 use crate::size::note_size;
@@ -11,7 +11,7 @@ use lis_words::Name;
 
 /// The first 48 distinct words of the name, the size and the content, in this order. No memory is taken.
 pub fn derive_words(name: &Name, bytes: &[u8]) -> Derived
-    ensures { result ≡ all_derived_words name.now bytes.now }
+    ensures { result ≡ derived_words name.now bytes.now }
 {
     let mut words = Derived::new();
     let Some(suffix) = suffix_of(name.bytes()) else {

@@ -18,7 +18,7 @@ use Rattle.lis_transducers.specs.Entries as entries
 use Rattle.lis_transducers.specs.Entries.{last_part}
 use Rattle.lis_transducers.specs.Source.{is_path, is_candidate, is_defined, included_word, defined_word, entry_words, braces_after, parens_after, words_at, source_words}
 use Rattle.lis_model.specs.Noted.{noted, noted_all}
-use Rattle.lis_model.specs.Derived.{suffix_of, suffix_words, name_words, size_word, is_suffix, content_words, all_derived_words, derived_words}
+use Rattle.lis_model.specs.Derived.{suffix_of, suffix_words, name_words, size_word, is_suffix, content_words, derived_words}
 
 -- ---- a word that begins with a built-in head is built in
 pub begun : (head rest : List ℕ) → list_all is_plain_byte (head ++ rest) ≡ false → value (head ++ rest) ≡ rest → head_bytes (head ++ rest) ≡ head → has_word built_in_heads head ≡ true
@@ -183,8 +183,8 @@ noted_all_few : (words more : List (List ℕ)) → length words ≤ 48 → lengt
 noted_all_few words [] few = few
 noted_all_few words (word ∷ more) few = noted_all_few (noted words word) more (noted_few words word few)
 
-all_derived_built_in : (name bytes word : List ℕ) → Among (all_derived_words name bytes) word → is_built_in word ≡ true
-all_derived_built_in name bytes word m = by (among_noted_all [] (name_words name ++ size_word (length bytes) ∷ content_words (suffix_of name) bytes) word m)
+pub derived_built_in : (name bytes word : List ℕ) → Among (derived_words name bytes) word → is_built_in word ≡ true
+derived_built_in name bytes word m = by (among_noted_all [] (name_words name ++ size_word (length bytes) ∷ content_words (suffix_of name) bytes) word m)
   where
     at : Among (name_words name) word ⊎ Among (size_word (length bytes) ∷ content_words (suffix_of name) bytes) word → is_built_in word ≡ true
     at (inl named) = suffix_built_in (suffix_of name) word named
@@ -195,12 +195,5 @@ all_derived_built_in name bytes word m = by (among_noted_all [] (name_words name
     by (inl none) = absurd none
     by (inr found) = at (among_append (name_words name) (size_word (length bytes) ∷ content_words (suffix_of name) bytes) word found)
 
-all_derived_few : (name bytes : List ℕ) → length (all_derived_words name bytes) ≤ 48
-all_derived_few name bytes = noted_all_few [] (name_words name ++ size_word (length bytes) ∷ content_words (suffix_of name) bytes) (omega arith)
-
--- Nothing is derived yet; then these are the two above.
-pub derived_built_in : (name bytes word : List ℕ) → Among (derived_words name bytes) word → is_built_in word ≡ true
-derived_built_in name bytes word m = absurd m
-
 pub derived_few : (name bytes : List ℕ) → length (derived_words name bytes) ≤ 48
-derived_few name bytes = omega arith
+derived_few name bytes = noted_all_few [] (name_words name ++ size_word (length bytes) ∷ content_words (suffix_of name) bytes) (omega arith)

@@ -41,7 +41,7 @@ tree_formed = record {
 }
 
 -- ---- its listings, and a route
-s1_has : description tree (file (codes "s1") (codes "rock" ∷ [])) ≡ codes "music" ∷ codes "rock" ∷ []
+s1_has : description tree (file (codes "s1") (codes "rock" ∷ [])) ≡ codes "music" ∷ codes "rock" ∷ codes "size:" ∷ codes "size:empty" ∷ []
 s1_has = refl
 
 tree_shows : increments (table tree) [] ≡ codes "music" ∷ []
@@ -62,7 +62,7 @@ s1_route = refl
 n1_route : route (table tree) [] (entry_of tree.declared tree.axioms (file (codes "n1") [])) ≡ []
 n1_route = refl
 
--- ---- declared tests: the stronger one entails the weaker one, and the way to a large file leads through both
+-- ---- declared tests: the stronger one entails the weaker one, and the way to a file leads through its size and a test
 abbrev sized : List ℕ → List ℕ → File
 sized name bytes = record { name = name; bytes = bytes; assigned = [] }
 
@@ -89,16 +89,16 @@ tested_formed = record {
   few_blocks = omega arith;
 }
 
-c_has : description tested (sized (codes "c") (codes "xxxx")) ≡ codes "big" ∷ codes "size>=2" ∷ codes "size>=4" ∷ []
+c_has : description tested (sized (codes "c") (codes "xxxx")) ≡ codes "big" ∷ codes "size:" ∷ codes "size:small" ∷ codes "size>=2" ∷ codes "size>=4" ∷ []
 c_has = refl
 
-tested_shows : increments (table tested) [] ≡ codes "big" ∷ codes "size<3" ∷ codes "size>=2" ∷ []
+tested_shows : increments (table tested) [] ≡ codes "big" ∷ codes "size:empty" ∷ codes "size:small" ∷ codes "size<3" ∷ codes "size>=2" ∷ []
 tested_shows = refl
 
 at_least_2_shows : increments (table tested) (SizeAtLeast 2 ∷ []) ≡ codes "big" ∷ codes "size<3" ∷ []
 at_least_2_shows = refl
 
-b_route : route (table tested) [] (entry_of tested.declared tested.axioms (sized (codes "b") (codes "xx"))) ≡ codes "size<3" ∷ codes "size>=2" ∷ []
+b_route : route (table tested) [] (entry_of tested.declared tested.axioms (sized (codes "b") (codes "xx"))) ≡ codes "size:small" ∷ codes "size<3" ∷ []
 b_route = refl
 
 -- ---- axioms in a circle: each of the two words hides the other, and no increment covers x

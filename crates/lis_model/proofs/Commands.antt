@@ -10,14 +10,14 @@ use Rattle.lis_transducers.specs.Pieces.{pieces}
 use Rattle.lis_transducers.specs.Joined.{joined}
 use Rattle.lis_model.specs.declared.command.Command.{Command}
 use Rattle.lis_model.specs.declared.command.Command.TheVariants.{Mkdir, Rmdir, Axiom, Unaxiom, Create, Add, Write, Cat, Mv, Rename, Cd, Ls, Way, Stat}
-use Rattle.lis_model.specs.Derived.{all_derived_words}
+use Rattle.lis_model.specs.Derived.{derived_words}
 use Rattle.lis_model.specs.State.{file_limit, blocks_taken}
 use Rattle.lis_model.specs.Replies.{line}
 use Rattle.lis_model.specs.Step.{Situation, Outcome, Item, Payload, no_payload, start_of, done}
 use Rattle.lis_model.specs.Step.Item.{Do, Bad}
 use Rattle.lis_model.specs.Tests.{is_weaker}
 
--- what all commands reply, the one that has not come among them
+-- what all commands reply
 abbrev reply_then : Outcome → (Situation → List ℕ) → List ℕ
 reply_then outcome next = outcome.reply ++ next outcome.next
 
@@ -134,25 +134,25 @@ limit_2 : file_limit 2 ≡ 1048576
 limit_2 = refl
 
 -- ---- derived words
-name_and_size : all_derived_words (codes "a.b.Txt") [] ≡ codes "ext:Txt" ∷ codes "size:empty" ∷ []
+name_and_size : derived_words (codes "a.b.Txt") [] ≡ codes "ext:Txt" ∷ codes "size:empty" ∷ []
 name_and_size = refl
 
-no_suffix : all_derived_words (codes ".a") (codes "x") ++ all_derived_words (codes "a.") (codes "x") ≡ codes "size:small" ∷ codes "size:small" ∷ []
+no_suffix : derived_words (codes ".a") (codes "x") ++ derived_words (codes "a.") (codes "x") ≡ codes "size:small" ∷ codes "size:small" ∷ []
 no_suffix = refl
 
-a_mail : all_derived_words (codes "m.eml") (codes "From: Alice <alice@example.org>\nTo: bob@example.org,\n Carol <carol@example.org>\nSubject: Re: Lunch plan\n\nSee you.\n")
+a_mail : derived_words (codes "m.eml") (codes "From: Alice <alice@example.org>\nTo: bob@example.org,\n Carol <carol@example.org>\nSubject: Re: Lunch plan\n\nSee you.\n")
     ≡ codes "ext:eml" ∷ codes "size:small" ∷ codes "from:alice@example.org" ∷ codes "to:bob@example.org" ∷ codes "to:carol@example.org" ∷ codes "subject:re" ∷ codes "subject:lunch" ∷ codes "subject:plan" ∷ []
 unfolding mail_words
 a_mail = refl
 
-a_blank_before_the_colon : all_derived_words (codes "m.eml") (codes "To : a@b\nTO: C@d\r\n e\n") ≡ codes "ext:eml" ∷ codes "size:small" ∷ codes "to:c@d" ∷ []
+a_blank_before_the_colon : derived_words (codes "m.eml") (codes "To : a@b\nTO: C@d\r\n e\n") ≡ codes "ext:eml" ∷ codes "size:small" ∷ codes "to:c@d" ∷ []
 unfolding mail_words
 a_blank_before_the_colon = refl
 
-a_source : all_derived_words (codes "x.c") (codes "/* #include \"no.h\" */\n#include <stdio.h>\n#include \"sub/list.h\"\nstatic const char *s = \"{\";\nint main(void) {\n  puts(s);\n}\n")
+a_source : derived_words (codes "x.c") (codes "/* #include \"no.h\" */\n#include <stdio.h>\n#include \"sub/list.h\"\nstatic const char *s = \"{\";\nint main(void) {\n  puts(s);\n}\n")
     ≡ codes "ext:c" ∷ codes "size:small" ∷ codes "includes:stdio.h" ∷ codes "includes:list.h" ∷ codes "defines:main" ∷ []
 unfolding source_words pieces joined
 a_source = refl
 
-another_case : all_derived_words (codes "x.C") (codes "int f() {}\n") ≡ codes "ext:C" ∷ codes "size:small" ∷ []
+another_case : derived_words (codes "x.C") (codes "int f() {}\n") ≡ codes "ext:C" ∷ codes "size:small" ∷ []
 another_case = refl

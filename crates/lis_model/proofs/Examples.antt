@@ -67,7 +67,7 @@ with_blocks blocks bytes = replies (start_of (record { files = 64; props = 64; b
 -- files with bytes: one block is used, given back, and used again
 one_block : with_blocks 1 (codes "add a 1\nx\nadd b 0\n\nadd c 1\ny\nrm a\nadd c 1\nz\nls\ncat c\n")
     ≡ line (codes "ok") ++ line (codes "ok") ++ line (codes "no 24 no space") ++ line (codes "ok") ++ line (codes "ok")
-    ++ line (codes "f b") ++ line (codes "f c") ++ line (codes "ok") ++ line (codes "b 1") ++ line (codes "z") ++ line (codes "ok")
+    ++ line (codes "d size:empty") ++ line (codes "d size:small") ++ line (codes "ok") ++ line (codes "b 1") ++ line (codes "z") ++ line (codes "ok")
 unfolding all_items whole_items step digits
 one_block = refl
 

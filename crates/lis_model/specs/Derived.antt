@@ -49,9 +49,5 @@ content_words suffix bytes =
     ++ (if is_suffix (codes "c") suffix || is_suffix (codes "h") suffix then source_words bytes else [])
 
 -- the first 48 distinct words of the name, the size and the content
-abbrev pub all_derived_words : List ℕ → List ℕ → List (List ℕ)
-all_derived_words name bytes = noted_all [] (name_words name ++ size_word (length bytes) ∷ content_words (suffix_of name) bytes)
-
--- Nothing is derived yet; then it is `all_derived_words name bytes`.
 abbrev pub derived_words : List ℕ → List ℕ → List (List ℕ)
-derived_words name bytes = []
+derived_words name bytes = noted_all [] (name_words name ++ size_word (length bytes) ∷ content_words (suffix_of name) bytes)

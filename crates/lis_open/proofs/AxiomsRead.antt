@@ -37,10 +37,12 @@ use Rattle.lis_open.specs.declared.words.Words.{Words}
 use Rattle.lis_open.specs.declared.axioms.Axioms.{Axioms}
 use Rattle.lis_open.specs.Reading.{OnlyReads, Recalls, IsReadAs}
 use Rattle.lis_open.specs.ReadWords.{declared_words, kept_words, AreWords, AreFirstWords, LinksHeads, is_left, is_right, are_sides, TakesPair, TakesAxiom, IsGoodPair, AreFirstAxioms, AxiomsAreSpelled}
-use Rattle.lis_open.proofs.Joined.{Sides, left_word, right_word, sides}
+use Rattle.lis_open.proofs.Joined.{Sides, sides}
+use Rattle.lis_open.proofs.WordPlaces.{left_word, right_word}
 use Rattle.lis_open.proofs.WordUses.{no_word_past}
 use Rattle.lis_open.proofs.HeadLinks.{last_false}
-use Rattle.lis_open.proofs.WordChains.{bare_numbered, one_number, among_pair, pair_among, chain_numbered}
+use Rattle.lis_open.proofs.Owned.{bare_numbered}
+use Rattle.lis_open.proofs.WordChains.{one_number, among_pair, pair_among, chain_numbered}
 
 -- ---- the sides of an axiom
 pub sides_of : (words : Words) (left right : ℕ) → are_sides words left right ≡ true → Sides words left right

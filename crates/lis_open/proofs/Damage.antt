@@ -7,11 +7,10 @@ use Rattle.std.proofs.lemmas.List.{length-map, length-take-le, length-drop, leng
 use Rattle.std.proofs.lemmas.Option.{slice_get-get_or, slice_get_within, get_or_from_slice_get}
 use Rattle.lis_graph.proofs.Members.{Among, among_from_contains, contains_from_among, map_among, among_flat_map, flat_map_among, among_with_more, with_more_new}
 use Rattle.lis_journal.specs.Record.{block, replayed}
-use Rattle.lis_slots.specs.Slots.{Slots, slot}
+use Rattle.lis_slots.specs.Slots.{Slots}
 use Rattle.lis_blockmap.specs.Bitmap.{is_taken, has_bit}
 use Rattle.lis_blockmap.proofs.Laws.{has_bit-bitmap_bytes}
 use Rattle.lis_content.specs.Content.{marked, has_number, are_distinct}
-use Rattle.lis_ext.specs.Ext.{has}
 use Rattle.lis_fields.specs.Records.{FileRecord}
 use Rattle.lis_fields.specs.Layouts.{prop_bytes, is_prop, axiom_bytes, is_axiom, file_bytes, is_file}
 use Rattle.lis_fields.specs.declared.slots.PropSlot.{PropSlot}

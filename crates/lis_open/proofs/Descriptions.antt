@@ -6,7 +6,7 @@ use Rattle.std.specs.Ordering.{nat_cmp}
 use Rattle.std.specs.declared.cmp.Ordering.TheVariants.{Less}
 use Rattle.std.specs.Cmp.{nat_cmp_total, tied_itself}
 use Rattle.std.proofs.lemmas.Option.{same_Some}
-use Rattle.lis_graph.proofs.Members.{Among, among_from_any, any_from_among, among_append, among_left, among_flat_map, flat_map_among}
+use Rattle.lis_graph.proofs.Members.{Among, among_from_any, any_from_among, among_append, among_left, among_right, among_flat_map, flat_map_among}
 use Rattle.lis_graph.proofs.Sets.{below_tail, sorted_tail}
 use Rattle.lis_dict.specs.Dict.{Dict, IsDict, word_of}
 use Rattle.lis_dict.proofs.Laws.{number_from_word, number_below}
@@ -14,15 +14,11 @@ use Rattle.lis_taxonomy.specs.Taxonomy.{Taxonomy, entails, Entails as Leads}
 use Rattle.lis_taxonomy.proofs.Laws.{entails_decides}
 use Rattle.lis_ext.proofs.Numbers.{among_where, where_among, sorted_where}
 use Rattle.lis_words.specs.Words.{word_cmp}
-use Rattle.lis_laws.proofs.Apart.{plain_not_valued}
-use Rattle.lis_laws.proofs.Counts.{all_among}
 use Rattle.lis_laws.proofs.Members.{word_exact, among_set_of, set_of_among, sorted_set_of, same_words}
-use Rattle.lis_laws.proofs.Sources.{Assignable, assignable_cases}
-use Rattle.lis_laws.proofs.Sources.Assignable.{Plain, Valued}
 use Rattle.lis_model.specs.declared.limits.Limits.{Limits}
 use Rattle.lis_model.specs.Derived.{derived_words}
 use Rattle.lis_model.specs.Tests.{met_tests}
-use Rattle.lis_model.specs.State.{File, is_assignable, up, own_words, file_words}
+use Rattle.lis_model.specs.State.{File, up, own_words, file_words}
 use Rattle.lis_model.proofs.NoTests.{no_met}
 use Rattle.lis_kept.specs.Kept.{Kept}
 use Rattle.lis_kept.specs.Telling.{words_told, axioms_of}
@@ -32,11 +28,12 @@ use Rattle.lis_store.proofs.Points.{AllApart, length-with_more}
 use Rattle.lis_open.specs.declared.words.Words.{Words}
 use Rattle.lis_open.specs.declared.axioms.Axioms.{Axioms}
 use Rattle.lis_open.specs.ReadWords.{AreFirstWords, AreFirstAxioms, declared_words, kept_words}
-use Rattle.lis_open.specs.ReadFiles.{is_described, described, is_assignable_number}
+use Rattle.lis_open.specs.ReadFiles.{is_described, described, is_numbered, numbers_of, own_numbers, is_assignable_number}
 use Rattle.lis_open.proofs.Counts.{few_words, with_words_le}
-use Rattle.lis_open.proofs.Joined.{sides, assignable_word, declared_numbered}
+use Rattle.lis_open.proofs.Owned.{IsNumbered, derived_number, number_derived, own_cases, own_numbered, tag_owned, derived_owned}
+use Rattle.lis_open.proofs.Joined.{sides}
 use Rattle.lis_open.proofs.WordsTold.{one_of}
-use Rattle.lis_open.proofs.WordChains.{IsNumbered, bare_numbered, up_numbered, up_named}
+use Rattle.lis_open.proofs.WordChains.{up_numbered, up_named}
 
 -- ---- words of numbers
 pub told_among : (dict : Dict) (ns : List ℕ) (n : ℕ) (w : List ℕ) → word_of dict n ≡ Some w → Among ns n → Among (words_told dict ns) w
@@ -111,85 +108,114 @@ module _ (limits : Limits) (words : Words) (axioms : Axioms) (end : ℕ) (are : 
   within : (n : ℕ) (w : List ℕ) → word_of words.dict n ≡ Some w → n < t.props
   within n w is = let below = number_below words.dict dict w n (number_from_word words.dict dict w n is) in omega (arith, below, are.props, first.links.props)
 
-  -- a word that may be given has a number, and its head too
-  given_numbered : (n : ℕ) (w : List ℕ) → word_of words.dict n ≡ Some w → is_assignable (declared_words words) w ≡ true → IsNumbered words n w
-  given_numbered n w is may = by (assignable_cases (declared_words words) w may)
-    where
-      by : Assignable (declared_words words) w → IsNumbered words n w
-      by (Plain plain m) = bare_numbered words n w is (plain_not_valued w plain)
-      by (Valued valued m) = record { named = is; headed = λ v. declared_numbered limits words dict _ m }
-
-  module _ (tags : List ℕ) (given : list_all (is_assignable_number words) tags ≡ true) where
-    tag_word : (tag : ℕ) → Among tags tag → (w : List ℕ) × IsNumbered words tag w
-    tag_word tag m =
-        let word = assignable_word words (word_of words.dict tag) (all_among (is_assignable_number words) tags tag given m) in
-        (word.0, given_numbered tag word.0 word.1 word.2)
-
-    -- a number of the description is led to by one that was given
-    led_to : (n : ℕ) → Among (described axioms.taxonomy tags) n → (tag : ℕ) × Among tags tag × Leads axioms.taxonomy tag n
+  module _ (own : List ℕ) (each : (n : ℕ) → Among own n → (w : List ℕ) × IsNumbered words n w) where
+    -- a number of the description is led to by one of the file's own
+    led_to : (n : ℕ) → Among (described axioms.taxonomy own) n → (k : ℕ) × Among own k × Leads axioms.taxonomy k n
     led_to n m =
-        let inside = among_where t.props (is_described t tags) n m in
-        let found = among_from_any (λ tag. entails t tag n) tags inside.1 in
+        let inside = among_where t.props (is_described t own) n m in
+        let found = among_from_any (λ k. entails t k n) own inside.1 in
         (found.0, found.1, (entails_decides t found.0 n).0 found.2)
 
     -- and so it has a word
-    pub described_named : (n : ℕ) → Among (described axioms.taxonomy tags) n → (w : List ℕ) × (word_of words.dict n ≡ Some w)
+    pub described_named : (n : ℕ) → Among (described axioms.taxonomy own) n → (w : List ℕ) × (word_of words.dict n ≡ Some w)
     described_named n m =
         let from = led_to n m in
-        let word = tag_word from.0 from.1 in
+        let word = each from.0 from.1 in
         let named = up_named limits words dict axioms.slots.items (sides limits words axioms dict end first) t first.links from.0 n word.0 word.1.named from.2 in
         (named.0, named.1)
 
-    module _ (file : File) (assigned : file.assigned ≡ words_told words.dict tags) where
-      abbrev met : List (List ℕ)
-      met = met_tests (declared_words words) (length file.bytes)
+    -- there are as many of them as words
+    pub described_long : length (words_told words.dict (described axioms.taxonomy own)) ≡ length (described axioms.taxonomy own)
+    described_long = told_as_many words.dict dict (described t own) (sorted_where t.props (is_described t own)) described_named
 
-      -- no word is derived, and no declared word is a test
-      own_given : (w : List ℕ) → Among (own_words (declared_words words) file) w → Among (words_told words.dict tags) w
-      own_given w m = by (among_append (file.assigned ++ derived_words file.name file.bytes) met w m)
-        where
-          front : Among file.assigned w ⊎ Among (derived_words file.name file.bytes) w → Among (words_told words.dict tags) w
-          front (inl here) = subst (λ ws. Among ws w) assigned here
-          front (inr derived) = absurd derived
-
-          by : Among (file.assigned ++ derived_words file.name file.bytes) w ⊎ Among met w → Among (words_told words.dict tags) w
-          by (inl here) = front (among_append file.assigned (derived_words file.name file.bytes) w here)
-          by (inr test) = absurd (subst (λ ws. Among ws w) (no_met (declared_words words) (length file.bytes) (declared_no_tests k dict)) test)
-
-      given_own : (w : List ℕ) → Among (words_told words.dict tags) w → Among (own_words (declared_words words) file) w
-      given_own w m =
-          among_left (file.assigned ++ derived_words file.name file.bytes) met w (among_left file.assigned (derived_words file.name file.bytes) w (subst (λ ws. Among ws w) (sym assigned) m))
-
+    -- of a file whose own words have these numbers
+    module _ (file : File) (has : (w : List ℕ) → Among (own_words (declared_words words) file) w → Among (words_told words.dict own) w)
+        (told : (w : List ℕ) → Among (words_told words.dict own) w → Among (own_words (declared_words words) file) w) where
       abbrev entailed : List (List ℕ)
       entailed = flat_map (up (declared_words words) (axioms_of k)) (own_words (declared_words words) file)
 
-      numbers_tell : (w : List ℕ) → Among (words_told words.dict (described t tags)) w → Among entailed w
+      numbers_tell : (w : List ℕ) → Among (words_told words.dict (described t own)) w → Among entailed w
       numbers_tell w m =
-          let number = among_told words.dict (described t tags) w m in
+          let number = among_told words.dict (described t own) w m in
           let from = led_to number.0 number.1 in
-          let word = tag_word from.0 from.1 in
+          let word = each from.0 from.1 in
           let named = up_named limits words dict axioms.slots.items (sides limits words axioms dict end first) t first.links from.0 number.0 word.0 word.1.named from.2 in
-          flat_map_among (up (declared_words words) (axioms_of k)) (own_words (declared_words words) file) word.0 w (given_own word.0 (told_among words.dict tags from.0 word.0 word.1.named from.1))
+          flat_map_among (up (declared_words words) (axioms_of k)) (own_words (declared_words words) file) word.0 w (told word.0 (told_among words.dict own from.0 word.0 word.1.named from.1))
           (subst (λ v. Among (up (declared_words words) (axioms_of k) word.0) v) (same_Some named.0 w (sym named.1 ∙ number.2)) named.2)
 
-      told_by_numbers : (w : List ℕ) → Among entailed w → Among (words_told words.dict (described t tags)) w
+      told_by_numbers : (w : List ℕ) → Among entailed w → Among (words_told words.dict (described t own)) w
       told_by_numbers w m =
-          let own = among_flat_map (up (declared_words words) (axioms_of k)) (own_words (declared_words words) file) w m in
-          let tag = among_told words.dict tags own.0 (own_given own.0 own.1) in
-          let word = tag_word tag.0 tag.1 in
-          let is = subst (λ v. IsNumbered words tag.0 v) (same_Some word.0 own.0 (sym word.1.named ∙ tag.2)) word.1 in
-          let found = up_numbered limits words dict axioms.slots.items (sides limits words axioms dict end first) t first.links tag.0 own.0 w is own.2 in
-          let test = any_from_among (λ n. entails t n found.0) tags tag.0 tag.1 ((entails_decides t tag.0 found.0).1 found.2) in
-          told_among words.dict (described t tags) found.0 w found.1.named (where_among t.props (is_described t tags) found.0 (within found.0 w found.1.named) test)
+          let some = among_flat_map (up (declared_words words) (axioms_of k)) (own_words (declared_words words) file) w m in
+          let number = among_told words.dict own some.0 (has some.0 some.1) in
+          let word = each number.0 number.1 in
+          let is = subst (λ v. IsNumbered words number.0 v) (same_Some word.0 some.0 (sym word.1.named ∙ number.2)) word.1 in
+          let found = up_numbered limits words dict axioms.slots.items (sides limits words axioms dict end first) t first.links number.0 some.0 w is some.2 in
+          let test = any_from_among (λ n. entails t n found.0) own number.0 number.1 ((entails_decides t number.0 found.0).1 found.2) in
+          told_among words.dict (described t own) found.0 w found.1.named (where_among t.props (is_described t own) found.0 (within found.0 w found.1.named) test)
 
       -- the words of the numbers are the file's
-      pub described_words : words_told words.dict (described axioms.taxonomy tags) ≡ file_words (declared_words words) (axioms_of (kept_words limits words axioms.slots.items)) file
-      described_words =
-          same_words (words_told words.dict (described t tags)) (file_words (declared_words words) (axioms_of k) file)
-          (sorted_set_of (flat_map (λ n. option_to_list (word_of words.dict n)) (described t tags))) (sorted_set_of entailed)
+      words_are : words_told words.dict (described axioms.taxonomy own) ≡ file_words (declared_words words) (axioms_of (kept_words limits words axioms.slots.items)) file
+      words_are =
+          same_words (words_told words.dict (described t own)) (file_words (declared_words words) (axioms_of k) file)
+          (sorted_set_of (flat_map (λ n. option_to_list (word_of words.dict n)) (described t own))) (sorted_set_of entailed)
           (λ w m. set_of_among entailed w (numbers_tell w m))
           (λ w m. told_by_numbers w (among_set_of entailed w m))
 
-    -- and there are as many
-    pub described_long : length (words_told words.dict (described axioms.taxonomy tags)) ≡ length (described axioms.taxonomy tags)
-    described_long = told_as_many words.dict dict (described t tags) (sorted_where t.props (is_described t tags)) described_named
+  -- ---- the description of a file
+  module _ (tags : List ℕ) (file : File) (assigned : file.assigned ≡ words_told words.dict tags) (given : list_all (is_assignable_number words) tags ≡ true) where
+    abbrev derived : List (List ℕ)
+    derived = derived_words file.name file.bytes
+
+    abbrev met : List (List ℕ)
+    met = met_tests (declared_words words) (length file.bytes)
+
+    -- no declared word is a test
+    own_parts : (w : List ℕ) → Among (own_words (declared_words words) file) w → Among (words_told words.dict tags) w ⊎ Among (derived_words file.name file.bytes) w
+    own_parts w m = by (among_append (file.assigned ++ derived) met w m)
+      where
+        front : Among file.assigned w ⊎ Among derived w → Among (words_told words.dict tags) w ⊎ Among derived w
+        front (inl here) = inl (subst (λ ws. Among ws w) assigned here)
+        front (inr more) = inr more
+
+        by : Among (file.assigned ++ derived) w ⊎ Among met w → Among (words_told words.dict tags) w ⊎ Among derived w
+        by (inl here) = front (among_append file.assigned derived w here)
+        by (inr test) = absurd (subst (λ ws. Among ws w) (no_met (declared_words words) (length file.bytes) (declared_no_tests k dict)) test)
+
+    pub derived_own : (w : List ℕ) → Among (derived_words file.name file.bytes) w → Among (own_words (declared_words words) file) w
+    derived_own w m = among_left (file.assigned ++ derived) met w (among_right file.assigned derived w m)
+
+    tag_own : (w : List ℕ) → Among (words_told words.dict tags) w → Among (own_words (declared_words words) file) w
+    tag_own w m = among_left (file.assigned ++ derived) met w (among_left file.assigned derived w (subst (λ ws. Among ws w) (sym assigned) m))
+
+    module _ (numbered : list_all (is_numbered words.dict) (derived_words file.name file.bytes) ≡ true) where
+      own_has : (w : List ℕ) → Among (own_words (declared_words words) file) w → Among (words_told words.dict (own_numbers words.dict tags (derived_words file.name file.bytes))) w
+      own_has w m = by (own_parts w m)
+        where
+          by : Among (words_told words.dict tags) w ⊎ Among derived w → Among (words_told words.dict (own_numbers words.dict tags derived)) w
+          by (inl here) =
+              let number = among_told words.dict tags w here in
+              told_among words.dict (own_numbers words.dict tags derived) number.0 w number.2 (tag_owned limits words dict tags derived given numbered number.0 number.1)
+          by (inr more) =
+              let number = number_derived limits words dict tags derived given numbered w more in
+              told_among words.dict (own_numbers words.dict tags derived) number.0 w number.2.named (derived_owned limits words dict tags derived given numbered number.0 number.1)
+
+      own_told : (w : List ℕ) → Among (words_told words.dict (own_numbers words.dict tags (derived_words file.name file.bytes))) w → Among (own_words (declared_words words) file) w
+      own_told w m = by number.0 number.2 (own_cases limits words dict tags derived given numbered number.0 number.1)
+        where
+          number : (n : ℕ) × Among (own_numbers words.dict tags derived) n × (word_of words.dict n ≡ Some w)
+          number = among_told words.dict (own_numbers words.dict tags derived) w m
+
+          by : (n : ℕ) → word_of words.dict n ≡ Some w → Among tags n ⊎ Among (numbers_of words.dict derived) n → Among (own_words (declared_words words) file) w
+          by n is (inl here) = tag_own w (told_among words.dict tags n w is here)
+          by n is (inr more) =
+              let found = derived_number limits words dict tags derived given numbered n more in
+              derived_own w (subst (λ v. Among derived v) (same_Some found.0 w (sym found.2.named ∙ is)) found.1)
+
+      -- the words of its numbers are its description, and they are as many
+      pub described_words : words_told words.dict (described axioms.taxonomy (own_numbers words.dict tags (derived_words file.name file.bytes)))
+          ≡ file_words (declared_words words) (axioms_of (kept_words limits words axioms.slots.items)) file
+      described_words = words_are (own_numbers words.dict tags derived) (own_numbered limits words dict tags derived given numbered) file own_has own_told
+
+      pub description_long : length (words_told words.dict (described axioms.taxonomy (own_numbers words.dict tags (derived_words file.name file.bytes))))
+          ≡ length (described axioms.taxonomy (own_numbers words.dict tags (derived_words file.name file.bytes)))
+      description_long = described_long (own_numbers words.dict tags derived) (own_numbered limits words dict tags derived given numbered)

@@ -1,12 +1,13 @@
 -- What is wrong with a file slot that is not taken, and that nothing is wrong with those that are.
-use Rattle.std.proofs.Common.{◌≡◌, ◌⊎◌, ◌∙◌, refl, sym, ap, subst, inl, inr, ℕ, ◌-◌, ◌^◌, ◌<◌, ◌≤◌, nat_lt, nat_le, Bool, true, false, not, ◌&&◌, is_some, Option, Some, None, List, [], ◌∷◌, length, slice_get, arith}
-use Rattle.std.specs.List.{list_all}
-use Rattle.std.proofs.lemmas.Bool.{and_parts, and_from, both_ways, cases_Bool, cases_lt, lt-ltb, ltb-true, leb-false}
+use Rattle.std.proofs.Common.{◌≡◌, ◌⊎◌, ◌∙◌, refl, sym, ap, subst, inl, inr, ℕ, ◌-◌, ◌^◌, ◌<◌, ◌≤◌, nat_lt, nat_le, Bool, true, false, not, ◌&&◌, ◌||◌, is_some, Option, Some, None, List, [], ◌∷◌, length, slice_get, arith}
+use Rattle.std.specs.List.{list_all, flat_map}
+use Rattle.std.proofs.lemmas.Bool.{and_parts, and_from, or_left, or_right, both_ways, cases_Bool, cases_lt, lt-ltb, ltb-true, leb-false}
 use Rattle.std.proofs.lemmas.Option.{same_Some, slice_get_within, get_or_from_slice_get}
-use Rattle.lis_graph.proofs.Members.{Among}
+use Rattle.lis_graph.proofs.Members.{Among, flat_map_among}
 use Rattle.lis_blockmap.specs.Bitmap.{is_taken}
 use Rattle.lis_content.specs.Content.{are_free, has_number}
-use Rattle.lis_dict.specs.Dict.{word_of}
+use Rattle.lis_dict.specs.Dict.{number_of, word_of}
+use Rattle.lis_dict.proofs.Laws.{number_from_word}
 use Rattle.lis_catalog.specs.Catalog.{Filed, slot_of, rec_at}
 use Rattle.lis_catalog.proofs.Laws.{rec_at-slot_of, slot_of-rec_at}
 use Rattle.lis_ext.specs.Ext.{set_of as numbers_at}
@@ -18,16 +19,18 @@ use Rattle.lis_fields.specs.declared.slots.AxiomSlot.TheVariants.{Free as FreeAx
 use Rattle.lis_fields.specs.declared.slots.FileSlot.{FileSlot}
 use Rattle.lis_fields.specs.declared.slots.FileSlot.TheVariants.{Free as FreeFile, Used}
 use Rattle.lis_fields.proofs.OneSpelling.{axiom_once}
-use Rattle.lis_words.specs.Words.{has_word}
+use Rattle.lis_words.specs.Words.{has_word, is_valued, head_bytes}
 use Rattle.lis_laws.proofs.Counts.{all_among}
-use Rattle.lis_laws.proofs.Members.{among_from_has_word}
+use Rattle.lis_laws.proofs.Chains.{up_self, up_own, links_head}
+use Rattle.lis_laws.proofs.Members.{among_from_has_word, has_word_from_among, set_of_among}
 use Rattle.lis_model.specs.declared.limits.Limits.{Limits}
 use Rattle.lis_model.specs.declared.spot.Spot.{Spot}
 use Rattle.lis_model.specs.declared.spot.Spot.TheVariants.{Super, BadRecord, Property, Axiom, File as FileSpot, Word, Bitmap, Row}
-use Rattle.lis_model.specs.State.{file_words, is_assignable}
+use Rattle.lis_model.specs.State.{file_words, own_words, up, is_assignable}
+use Rattle.lis_model.specs.Derived.{derived_words}
 use Rattle.lis_kept.specs.Kept.{axiom_at, file_by, record_at}
 use Rattle.lis_kept.specs.Areas.{axiom_slots, file_slots}
-use Rattle.lis_kept.specs.Telling.{words_told, file_told, axioms_of}
+use Rattle.lis_kept.specs.Telling.{words_told, bytes_told, file_told, axioms_of}
 use Rattle.lis_kept.proofs.Filing.{among_from_number, number_from_among}
 use Rattle.lis_store.specs.Stands.{words_in}
 use Rattle.lis_open.specs.declared.words.Words.{Words}
@@ -37,12 +40,13 @@ use Rattle.lis_open.specs.Checks.{IsFile, AreAxioms, declared_by, axioms_by, des
 use Rattle.lis_open.specs.Checks.FileFault.{NameTaken, TagUnnumbered, TagUnassignable, BlockMissing, BlockTaken, WordUnnumbered, TooManyWords}
 use Rattle.lis_open.specs.Reading.{IsReadAs, IsFirst}
 use Rattle.lis_open.specs.ReadWords.{AreFirstWords, AreFirstAxioms, WordsAreSpelled, AxiomsAreSpelled, declared_words, kept_words}
-use Rattle.lis_open.specs.ReadFiles.{described, described_by, is_assignable_by, is_assignable_number, may_file, may_take_record, may_take_file, AreFirstFiles, FilesAreSpelled}
+use Rattle.lis_open.specs.ReadFiles.{described, is_numbered, own_numbers, may_describe, is_assignable_by, is_assignable_number, may_file, may_take_record, may_take_file, AreItsBytes, AreFirstFiles, FilesAreSpelled, FilesAreNumbered}
 use Rattle.lis_open.proofs.Slots.{one_file}
 use Rattle.lis_open.proofs.OneList.{one_list}
-use Rattle.lis_open.proofs.Joined.{sides, assignable_word}
-use Rattle.lis_open.proofs.WordsTold.{told_properties, number_within, word_at_told, declared_told, told_word, axioms_told, file_is_told, are_told, only_told}
-use Rattle.lis_open.proofs.Descriptions.{among_told, told_le, described_words, described_long}
+use Rattle.lis_open.proofs.WordPlaces.{assignable_word}
+use Rattle.lis_open.proofs.Joined.{sides}
+use Rattle.lis_open.proofs.WordsTold.{told_properties, number_within, word_at_told, declared_told, told_word, word_told, axioms_told, file_is_told, are_told, only_told}
+use Rattle.lis_open.proofs.Descriptions.{among_told, told_le, derived_own, described_words, description_long}
 
 -- a test that some member does not pass
 failing : {X : Type 0} (test : X → Bool) (xs : List X) → list_all test xs ≡ false → (x : X) × Among xs x × (test x ≡ false)
@@ -107,13 +111,21 @@ module _ (limits : Limits) (words : Words) (axioms : Axioms) (files : Files) (en
       by (inr past) = absurd (let none = sym (first.rest n past) ∙ is in cc)
 
   -- the words of a slot's numbers are the file's
-  pub slot_described : (f : Filed) → rec_at files.catalog f.slot ≡ Some f.rec → (at : ℕ → List ℕ) → words_told words.dict (numbers_at files.ext f.slot)
+  pub slot_described : (at : ℕ → List ℕ) → FilesAreNumbered limits at words axioms files → (f : Filed) → rec_at files.catalog f.slot ≡ Some f.rec → words_told words.dict (numbers_at files.ext f.slot)
       ≡ file_words (declared_words words) (axioms_of (kept_words limits words axioms.slots.items)) (file_told limits words.dict at f)
-  slot_described f is at =
-      ap (words_told words.dict) (first.sets f.slot ∙ ap (described_by axioms.taxonomy) is)
-      ∙ described_words limits words axioms (axiom_slots limits).count are links f.rec.tags (first.given f.slot f.rec is) (file_told limits words.dict at f) refl
+  slot_described at numbers f is =
+      let has = numbers f.slot f.rec is in
+      ap (words_told words.dict) has.are
+      ∙ described_words limits words axioms (axiom_slots limits).count are links f.rec.tags (file_told limits words.dict at f) refl (first.given f.slot f.rec is) has.numbered
 
   module _ (at : ℕ → List ℕ) (told : WordsAreSpelled limits at words limits.props) (pairs : AxiomsAreSpelled limits at axioms (axiom_slots limits).count) (spelled : FilesAreSpelled limits at files end) where
+    -- the words that are derived from a record's file, and the numbers of what it has by itself
+    abbrev derived : FileRecord → List (List ℕ)
+    derived rec = derived_words rec.name (bytes_told limits at rec)
+
+    abbrev own : FileRecord → List ℕ
+    own rec = own_numbers words.dict rec.tags (derived rec)
+
     abbrev properties : List PropSlot
     properties = told_properties limits words
 
@@ -133,78 +145,86 @@ module _ (limits : Limits) (words : Words) (axioms : Axioms) (files : Files) (en
     pub rec_is : (n : ℕ) (rec : FileRecord) → n < end → IsFile limits at n (Used rec) → rec_at files.catalog n ≡ Some rec
     rec_is n rec lt is = used_slot (rec_at files.catalog n) rec (one_file limits at n (record_at files.catalog n) (Used rec) (file_is n lt is.below) is)
 
-    -- the words of a record's numbers are its description, where it may be given them
-    description_is : (rec : FileRecord) → list_all (is_assignable_number words) rec.tags ≡ true → words_told words.dict (described axioms.taxonomy rec.tags) ≡ description_by limits properties items at rec
-    description_is rec given =
+    -- the words of a record's file are its description
+    file_words_are : (rec : FileRecord) → file_words (declared_words words) (axioms_of (kept_words limits words items)) (file_told limits words.dict at (record { slot = 0; rec = rec }))
+        ≡ description_by limits properties items at rec
+    file_words_are rec =
         let f : Filed = record { slot = 0; rec = rec } in
-        described_words limits words axioms (axiom_slots limits).count are links rec.tags given (file_told limits words.dict at f) refl
-        ∙ (ap (λ ds. file_words ds (axioms_of (kept_words limits words items)) (file_told limits words.dict at f)) (sym (declared_told limits words are.are are.props))
+        ap (λ ds. file_words ds (axioms_of (kept_words limits words items)) (file_told limits words.dict at f)) (sym (declared_told limits words are.are are.props))
         ∙ (ap (λ pairs. file_words (declared_by properties) pairs (file_told limits words.dict at f)) (sym (axioms_told limits words are.are are.props items))
-        ∙ ap (file_words (declared_by properties) (axioms_by properties items)) (sym (file_is_told limits words are.are are.props at f))))
+        ∙ ap (file_words (declared_by properties) (axioms_by properties items)) (sym (file_is_told limits words are.are are.props at f)))
+
+    -- and so are the words of its numbers, where it may be given its words and the derived ones have numbers
+    description_is : (rec : FileRecord) → list_all (is_assignable_number words) rec.tags ≡ true → list_all (is_numbered words.dict) (derived rec) ≡ true
+        → words_told words.dict (described axioms.taxonomy (own rec)) ≡ description_by limits properties items at rec
+    description_is rec given numbered =
+        described_words limits words axioms (axiom_slots limits).count are links rec.tags (file_told limits words.dict at (record { slot = 0; rec = rec })) refl given numbered ∙ file_words_are rec
 
     -- ---- no fault
-    no_fault : (n : ℕ) (rec : FileRecord) → rec_at files.catalog n ≡ Some rec → n < end → FileFault limits at properties items n rec → ⊥
-    no_fault n rec is lt (NameTaken earlier other before is_other same) =
-        let here = rec_is earlier other (omega arith) is_other in
-        let a = slot_of-rec_at files.catalog n rec first.catalog is in
-        let b = slot_of-rec_at files.catalog earlier other first.catalog here in
-        let one = same_Some n earlier (sym a ∙ (ap (slot_of files.catalog) (sym same) ∙ b)) in
-        omega (arith, one, before)
-    no_fault n rec is lt (TagUnnumbered tag has none) =
-        let word = assignable_word words (word_of words.dict tag) (all_among (is_assignable_number words) rec.tags tag (first.given n rec is) (among_from_number rec.tags tag has)) in
-        let e = sym none ∙ (word_at_told limits words are.are are.props tag ∙ word.1) in
-        cc
-    no_fault n rec is lt (TagUnassignable tag word has named not_given) =
-        let found = assignable_word words (word_of words.dict tag) (all_among (is_assignable_number words) rec.tags tag (first.given n rec is) (among_from_number rec.tags tag has)) in
-        let same = same_Some found.0 word (sym found.1 ∙ (sym (word_at_told limits words are.are are.props tag) ∙ named)) in
-        both_ways (is_assignable (declared_words words) word) (ap (λ ds. is_assignable ds word) (sym (declared_told limits words are.are are.props)) ∙ not_given)
-        (subst (λ w. is_assignable (declared_words words) w ≡ true) same found.2)
-    no_fault n rec is lt (BlockMissing data_block has past) =
-        let below = block_below n rec data_block is has in
-        omega (arith, below, past)
-    no_fault n rec is lt (BlockTaken earlier other data_block before is_other has_other has) =
-        let here = rec_is earlier other (omega arith) is_other in
-        let same = first.apart n earlier rec other data_block is here has has_other in
-        omega (arith, same, before)
-    no_fault n rec is lt (WordUnnumbered word has none) =
-        let m = among_from_has_word (description_by limits properties items at rec) word has in
-        let number = among_told words.dict (described axioms.taxonomy rec.tags) word (subst (λ ws. Among ws word) (sym (description_is rec (first.given n rec is))) m) in
-        both_ways (has_word (words_in properties) word) none (told_word limits words are.are are.props number.0 word number.2)
-    no_fault n rec is lt (TooManyWords many) =
-        let few = told_le words.dict (described axioms.taxonomy rec.tags) in
-        let short = first.short n in
-        let long = ap (length {A = List ℕ}) (description_is rec (first.given n rec is)) in
-        omega (arith, few, short, long, many, ap (length {A = ℕ}) (first.sets n ∙ ap (described_by axioms.taxonomy) is))
+    module _ (numbers : FilesAreNumbered limits at words axioms files) where
+      no_fault : (n : ℕ) (rec : FileRecord) → rec_at files.catalog n ≡ Some rec → n < end → FileFault limits at properties items n rec → ⊥
+      no_fault n rec is lt (NameTaken earlier other before is_other same) =
+          let here = rec_is earlier other (omega arith) is_other in
+          let a = slot_of-rec_at files.catalog n rec first.catalog is in
+          let b = slot_of-rec_at files.catalog earlier other first.catalog here in
+          let one = same_Some n earlier (sym a ∙ (ap (slot_of files.catalog) (sym same) ∙ b)) in
+          omega (arith, one, before)
+      no_fault n rec is lt (TagUnnumbered tag has none) =
+          let word = assignable_word words (word_of words.dict tag) (all_among (is_assignable_number words) rec.tags tag (first.given n rec is) (among_from_number rec.tags tag has)) in
+          let e = sym none ∙ (word_at_told limits words are.are are.props tag ∙ word.1) in
+          cc
+      no_fault n rec is lt (TagUnassignable tag word has named not_given) =
+          let found = assignable_word words (word_of words.dict tag) (all_among (is_assignable_number words) rec.tags tag (first.given n rec is) (among_from_number rec.tags tag has)) in
+          let same = same_Some found.0 word (sym found.1 ∙ (sym (word_at_told limits words are.are are.props tag) ∙ named)) in
+          both_ways (is_assignable (declared_words words) word) (ap (λ ds. is_assignable ds word) (sym (declared_told limits words are.are are.props)) ∙ not_given)
+          (subst (λ w. is_assignable (declared_words words) w ≡ true) same found.2)
+      no_fault n rec is lt (BlockMissing data_block has past) =
+          let below = block_below n rec data_block is has in
+          omega (arith, below, past)
+      no_fault n rec is lt (BlockTaken earlier other data_block before is_other has_other has) =
+          let here = rec_is earlier other (omega arith) is_other in
+          let same = first.apart n earlier rec other data_block is here has has_other in
+          omega (arith, same, before)
+      no_fault n rec is lt (WordUnnumbered word has none) =
+          let m = among_from_has_word (description_by limits properties items at rec) word has in
+          let number = among_told words.dict (described axioms.taxonomy (own rec)) word (subst (λ ws. Among ws word) (sym (description_is rec (first.given n rec is) (numbers n rec is).numbered)) m) in
+          both_ways (has_word (words_in properties) word) none (told_word limits words are.are are.props number.0 word number.2)
+      no_fault n rec is lt (TooManyWords many) =
+          let few = told_le words.dict (described axioms.taxonomy (own rec)) in
+          let short = first.short n in
+          let has = numbers n rec is in
+          let long = ap (length {A = List ℕ}) (description_is rec (first.given n rec is) has.numbered) in
+          omega (arith, few, short, long, many, ap (length {A = ℕ}) has.are)
 
-    file_passes : (n : ℕ) → n < end → FileFails limits at n → ⊥
-    file_passes n lt fails = by (rec_at files.catalog n) refl (fails.fault (record_at files.catalog n) (file_is n lt fails.below))
-      where
-        by : (o : Option FileRecord) → rec_at files.catalog n ≡ o → HasFileFault limits at fails.properties fails.axioms n (file_by o) → ⊥
-        by None is fault = fault
-        by (Some rec) is fault =
-            no_fault n rec is lt (subst (λ xs. FileFault limits at properties xs n rec) (only_axioms limits words axioms are links at pairs fails.axioms fails.pairs)
-            (subst (λ ps. FileFault limits at ps fails.axioms n rec) (only_told limits words are.are are.props at told fails.properties fails.words) fault))
+      file_passes : (n : ℕ) → n < end → FileFails limits at n → ⊥
+      file_passes n lt fails = by (rec_at files.catalog n) refl (fails.fault (record_at files.catalog n) (file_is n lt fails.below))
+        where
+          by : (o : Option FileRecord) → rec_at files.catalog n ≡ o → HasFileFault limits at fails.properties fails.axioms n (file_by o) → ⊥
+          by None is fault = fault
+          by (Some rec) is fault =
+              no_fault n rec is lt (subst (λ xs. FileFault limits at properties xs n rec) (only_axioms limits words axioms are links at pairs fails.axioms fails.pairs)
+              (subst (λ ps. FileFault limits at ps fails.axioms n rec) (only_told limits words are.are are.props at told fails.properties fails.words) fault))
 
-    none_before : (earlier : Spot) → rank earlier ≡ 4 → place earlier < end → Fails limits at earlier → ⊥
-    none_before Super kind lt fails = fails
-    none_before (BadRecord b) kind lt fails = fails
-    none_before (Property n) kind lt fails = omega (arith, kind)
-    none_before (Axiom n) kind lt fails = omega (arith, kind)
-    none_before (FileSpot n) kind lt fails = file_passes n lt fails
-    none_before (Word n) kind lt fails = omega (arith, kind)
-    none_before (Bitmap n) kind lt fails = omega (arith, kind)
-    none_before (Row n) kind lt fails = omega (arith, kind)
+      none_before : (earlier : Spot) → rank earlier ≡ 4 → place earlier < end → Fails limits at earlier → ⊥
+      none_before Super kind lt fails = fails
+      none_before (BadRecord b) kind lt fails = fails
+      none_before (Property n) kind lt fails = omega (arith, kind)
+      none_before (Axiom n) kind lt fails = omega (arith, kind)
+      none_before (FileSpot n) kind lt fails = file_passes n lt fails
+      none_before (Word n) kind lt fails = omega (arith, kind)
+      none_before (Bitmap n) kind lt fails = omega (arith, kind)
+      none_before (Row n) kind lt fails = omega (arith, kind)
 
-    -- where all slots were read, no check of a file fails
-    pub files_pass : end ≡ limits.files → (spot : Spot) → rank spot ≡ 4 → Fails limits at spot → ⊥
-    files_pass all Super kind fails = fails
-    files_pass all (BadRecord b) kind fails = fails
-    files_pass all (Property n) kind fails = omega (arith, kind)
-    files_pass all (Axiom n) kind fails = omega (arith, kind)
-    files_pass all (FileSpot n) kind fails = file_passes n (let below = fails.below in omega (arith, below, all)) fails
-    files_pass all (Word n) kind fails = omega (arith, kind)
-    files_pass all (Bitmap n) kind fails = omega (arith, kind)
-    files_pass all (Row n) kind fails = omega (arith, kind)
+      -- where all slots were read, no check of a file fails
+      pub files_pass : end ≡ limits.files → (spot : Spot) → rank spot ≡ 4 → Fails limits at spot → ⊥
+      files_pass all Super kind fails = fails
+      files_pass all (BadRecord b) kind fails = fails
+      files_pass all (Property n) kind fails = omega (arith, kind)
+      files_pass all (Axiom n) kind fails = omega (arith, kind)
+      files_pass all (FileSpot n) kind fails = file_passes n (let below = fails.below in omega (arith, below, all)) fails
+      files_pass all (Word n) kind fails = omega (arith, kind)
+      files_pass all (Bitmap n) kind fails = omega (arith, kind)
+      files_pass all (Row n) kind fails = omega (arith, kind)
 
     -- ---- the fault of a record that is not taken
     name_fault : (rec : FileRecord) → end < limits.files → not (is_some (slot_of files.catalog rec.name)) ≡ false → FileFault limits at properties items end rec
@@ -241,47 +261,107 @@ module _ (limits : Limits) (words : Words) (axioms : Axioms) (files : Files) (en
             BlockTaken owner.0 owner.1 n before (used_is owner.0 owner.1 (omega (arith, before, below)) owner.2) owner.3 has
         by n has not_free (inr past) = BlockMissing n has past
 
-    words_fault : (rec : FileRecord) → list_all (is_assignable_number words) rec.tags ≡ true → nat_le (length (described axioms.taxonomy rec.tags)) 128 ≡ false → FileFault limits at properties items end rec
-    words_fault rec given many =
-        let more = leb-false (length (described axioms.taxonomy rec.tags)) 128 many in
-        let long = described_long limits words axioms (axiom_slots limits).count are links rec.tags given in
-        TooManyWords (omega (arith, more, long, ap (length {A = List ℕ}) (description_is rec given)))
+    -- a word that the file has by itself is in its description, and so is the head of a valued one
+    derived_there : (rec : FileRecord) → list_all (is_assignable_number words) rec.tags ≡ true → (w q : List ℕ) → Among (derived rec) w → Among (up (declared_words words) (axioms_of (kept_words limits words items)) w) q
+        → has_word (description_by limits properties items at rec) q ≡ true
+    derived_there rec given w q m entails =
+        let f : Filed = record { slot = 0; rec = rec } in
+        let file = file_told limits words.dict at f in
+        let here = derived_own limits words axioms (axiom_slots limits).count are links rec.tags file refl given w m in
+        let entailed = flat_map (up (declared_words words) (axioms_of (kept_words limits words items))) (own_words (declared_words words) file) in
+        has_word_from_among (description_by limits properties items at rec) q
+        (subst (λ ws. Among ws q) (file_words_are rec)
+        (set_of_among entailed q (flat_map_among (up (declared_words words) (axioms_of (kept_words limits words items))) (own_words (declared_words words) file) w q here entails)))
 
-    record_fault : (rec : FileRecord) → end < limits.files → may_take_record words axioms.taxonomy files rec ≡ false → FileFault limits at properties items end rec
-    record_fault rec below fails =
+    -- a word without a number is in no slot
+    no_slot : (w : List ℕ) → number_of words.dict w ≡ None → has_word (words_in properties) w ≡ false
+    no_slot w none = by (has_word (words_in properties) w) refl
+      where
+        by : (b : Bool) → has_word (words_in properties) w ≡ b → b ≡ false
+        by true h =
+            let found = word_told limits words are.are are.props w h in
+            absurd (let e = sym none ∙ number_from_word words.dict are.are.dict w found.0 found.1 in cc)
+        by false h = refl
+
+    number_fault : (rec : FileRecord) → list_all (is_assignable_number words) rec.tags ≡ true → list_all (is_numbered words.dict) (derived rec) ≡ false → FileFault limits at properties items end rec
+    number_fault rec given fails =
+        let word = failing (is_numbered words.dict) (derived rec) fails in
+        by word.0 word.1 word.2 (number_of words.dict word.0) refl (is_valued word.0) refl (number_of words.dict (head_bytes word.0)) refl
+      where
+        numbered : (w : List ℕ) (n : ℕ) → number_of words.dict w ≡ Some n → (not (is_valued w) || is_some (number_of words.dict (head_bytes w))) ≡ true → is_numbered words.dict w ≡ true
+        numbered w n is head = and_from (is_some (number_of words.dict w)) (not (is_valued w) || is_some (number_of words.dict (head_bytes w))) (ap is_some is) head
+
+        by : (w : List ℕ) → Among (derived rec) w → is_numbered words.dict w ≡ false → (o : Option ℕ) → number_of words.dict w ≡ o → (v : Bool) → is_valued w ≡ v
+            → (h : Option ℕ) → number_of words.dict (head_bytes w) ≡ h → FileFault limits at properties items end rec
+        by w m fails None is v is_v h is_h =
+            WordUnnumbered w (derived_there rec given w w m (up_self (declared_words words) (axioms_of (kept_words limits words items)) w)) (no_slot w is)
+        by w m fails (Some n) is true is_v None is_h =
+            WordUnnumbered (head_bytes w)
+            (derived_there rec given w (head_bytes w) m (up_own (declared_words words) (axioms_of (kept_words limits words items)) w (head_bytes w) (links_head (declared_words words) w is_v))) (no_slot (head_bytes w) is_h)
+        by w m fails (Some n) is true is_v (Some h) is_h = absurd (both_ways (is_numbered words.dict w) fails (numbered w n is (or_right (not (is_valued w)) (is_some (number_of words.dict (head_bytes w))) (ap is_some is_h))))
+        by w m fails (Some n) is false is_v h is_h = absurd (both_ways (is_numbered words.dict w) fails (numbered w n is (or_left (not (is_valued w)) (is_some (number_of words.dict (head_bytes w))) (ap not is_v))))
+
+    long_fault : (rec : FileRecord) → list_all (is_assignable_number words) rec.tags ≡ true → list_all (is_numbered words.dict) (derived rec) ≡ true → nat_le (length (described axioms.taxonomy (own rec))) 128 ≡ false
+        → FileFault limits at properties items end rec
+    long_fault rec given numbered many =
+        let more = leb-false (length (described axioms.taxonomy (own rec))) 128 many in
+        let long = description_long limits words axioms (axiom_slots limits).count are links rec.tags (file_told limits words.dict at (record { slot = 0; rec = rec })) refl given numbered in
+        TooManyWords (omega (arith, more, long, ap (length {A = List ℕ}) (description_is rec given numbered)))
+
+    words_fault : (rec : FileRecord) → list_all (is_assignable_number words) rec.tags ≡ true → may_describe words axioms.taxonomy rec (derived rec) ≡ false → FileFault limits at properties items end rec
+    words_fault rec given fails = by (cases_Bool (list_all (is_numbered words.dict) (derived rec))) (cases_Bool (nat_le (length (described axioms.taxonomy (own rec))) 128))
+      where
+        by : (list_all (is_numbered words.dict) (derived rec) ≡ true) ⊎ (list_all (is_numbered words.dict) (derived rec) ≡ false)
+            → (nat_le (length (described axioms.taxonomy (own rec))) 128 ≡ true) ⊎ (nat_le (length (described axioms.taxonomy (own rec))) 128 ≡ false) → FileFault limits at properties items end rec
+        by (inr none) few = number_fault rec given none
+        by (inl all) (inr many) = long_fault rec given all many
+        by (inl all) (inl few) = absurd (both_ways (may_describe words axioms.taxonomy rec (derived rec)) fails
+            (and_from (list_all (is_numbered words.dict) (derived rec)) (nat_le (length (described axioms.taxonomy (own rec))) 128) all few))
+
+    may_from : (rec : FileRecord) → not (is_some (slot_of files.catalog rec.name)) ≡ true → list_all (is_assignable_number words) rec.tags ≡ true → are_free files.map rec.blocks ≡ true → may_file words files rec ≡ true
+    may_from rec name tags free =
+        and_from (not (is_some (slot_of files.catalog rec.name)) && list_all (is_assignable_number words) rec.tags) (are_free files.map rec.blocks)
+        (and_from (not (is_some (slot_of files.catalog rec.name))) (list_all (is_assignable_number words) rec.tags) name tags) free
+
+    record_fault : (rec : FileRecord) (bytes : List ℕ) → end < limits.files → may_take_record words axioms.taxonomy files rec (derived_words rec.name bytes) ≡ false
+        → (may_file words files rec ≡ true → bytes ≡ bytes_told limits at rec) → FileFault limits at properties items end rec
+    record_fault rec bytes below fails read =
         by (cases_Bool (not (is_some (slot_of files.catalog rec.name)))) (cases_Bool (list_all (is_assignable_number words) rec.tags)) (cases_Bool (are_free files.map rec.blocks))
-        (cases_Bool (nat_le (length (described axioms.taxonomy rec.tags)) 128))
+        (cases_Bool (may_describe words axioms.taxonomy rec (derived rec)))
       where
         by : (not (is_some (slot_of files.catalog rec.name)) ≡ true) ⊎ (not (is_some (slot_of files.catalog rec.name)) ≡ false)
             → (list_all (is_assignable_number words) rec.tags ≡ true) ⊎ (list_all (is_assignable_number words) rec.tags ≡ false)
             → (are_free files.map rec.blocks ≡ true) ⊎ (are_free files.map rec.blocks ≡ false)
-            → (nat_le (length (described axioms.taxonomy rec.tags)) 128 ≡ true) ⊎ (nat_le (length (described axioms.taxonomy rec.tags)) 128 ≡ false) → FileFault limits at properties items end rec
-        by (inr name) tags free few = name_fault rec below name
-        by (inl name) (inr tags) free few = tag_fault rec tags
-        by (inl name) (inl tags) (inr free) few = block_fault rec below free
-        by (inl name) (inl tags) (inl free) (inr many) = words_fault rec tags many
-        by (inl name) (inl tags) (inl free) (inl few) = absurd (both_ways (may_take_record words axioms.taxonomy files rec) fails
-            (and_from (may_file words files rec) (nat_le (length (described axioms.taxonomy rec.tags)) 128)
-            (and_from (not (is_some (slot_of files.catalog rec.name)) && list_all (is_assignable_number words) rec.tags) (are_free files.map rec.blocks)
-            (and_from (not (is_some (slot_of files.catalog rec.name))) (list_all (is_assignable_number words) rec.tags) name tags) free) few))
+            → (may_describe words axioms.taxonomy rec (derived rec) ≡ true) ⊎ (may_describe words axioms.taxonomy rec (derived rec) ≡ false) → FileFault limits at properties items end rec
+        by (inr name) tags free described = name_fault rec below name
+        by (inl name) (inr tags) free described = tag_fault rec tags
+        by (inl name) (inl tags) (inr free) described = block_fault rec below free
+        by (inl name) (inl tags) (inl free) (inr none) = words_fault rec tags none
+        by (inl name) (inl tags) (inl free) (inl described) =
+            let may = may_from rec name tags free in
+            let same = ap (derived_words rec.name) (read may) in
+            absurd (both_ways (may_take_record words axioms.taxonomy files rec (derived_words rec.name bytes)) fails
+            (subst (λ ws. may_take_record words axioms.taxonomy files rec ws ≡ true) (sym same)
+            (and_from (may_file words files rec) (may_describe words axioms.taxonomy rec (derived rec)) may described)))
 
-    file_fault : (found : Option FileSlot) → end < limits.files → may_take_file words axioms.taxonomy files found ≡ false → IsReadAs file_bytes is_file (file_slots limits) at end found
-        → (file : FileSlot) → IsFile limits at end file → HasFileFault limits at properties items end file
-    file_fault None below may read file is = absurd (read file is)
-    file_fault (Some FreeFile) below may read file is = absurd cc
-    file_fault (Some (Used rec)) below may read file is =
-        subst (λ (f : FileSlot). HasFileFault limits at properties items end f) (one_file limits at end (Used rec) file read is) (record_fault rec below may)
+    file_fault : (found : Option FileSlot) (bytes : List ℕ) → end < limits.files → may_take_file words axioms.taxonomy files found bytes ≡ false → AreItsBytes limits at words files found bytes
+        → IsReadAs file_bytes is_file (file_slots limits) at end found → (file : FileSlot) → IsFile limits at end file → HasFileFault limits at properties items end file
+    file_fault None bytes below may its read file is = absurd (read file is)
+    file_fault (Some FreeFile) bytes below may its read file is = absurd cc
+    file_fault (Some (Used rec)) bytes below may its read file is =
+        subst (λ (f : FileSlot). HasFileFault limits at properties items end f) (one_file limits at end (Used rec) file read is) (record_fault rec bytes below may its)
 
-    pub file_fails : (found : Option FileSlot) → end < limits.files → may_take_file words axioms.taxonomy files found ≡ false → IsReadAs file_bytes is_file (file_slots limits) at end found → IsFirst limits at 4 (FileSpot end)
-    file_fails found below may read = record {
+    pub file_fails : (numbers : FilesAreNumbered limits at words axioms files) (found : Option FileSlot) (bytes : List ℕ) → end < limits.files → may_take_file words axioms.taxonomy files found bytes ≡ false
+        → AreItsBytes limits at words files found bytes → IsReadAs file_bytes is_file (file_slots limits) at end found → IsFirst limits at 4 (FileSpot end)
+    file_fails numbers found bytes below may its read = record {
       fails = record {
         below = below;
         properties = properties;
         words = are_told limits words are.are are.props at told;
         axioms = items;
         pairs = are_axioms limits words axioms are links at pairs;
-        fault = file_fault found below may read;
+        fault = file_fault found bytes below may its read;
       };
       is = refl;
-      none_before = none_before;
+      none_before = none_before numbers;
     }

@@ -8,11 +8,13 @@ use Rattle.std.proofs.lemmas.Option.{same_Some}
 use Rattle.lis_ports.specs.Meaning.{Meaning}
 use Rattle.lis_journal.specs.Journal.{Held}
 use Rattle.lis_journal.specs.Images.{Fits}
+use Rattle.lis_journal.specs.Phases.{looked}
+use Rattle.lis_journal.specs.Record.{Entry}
 use Rattle.lis_slots.specs.Slots.{slot}
 use Rattle.lis_bits.specs.Rows.{Rows, HasShape}
 use Rattle.lis_blockmap.specs.Bitmap.{is_taken}
-use Rattle.lis_content.specs.Content.{are_free, has_number, are_distinct}
-use Rattle.lis_content.proofs.Numbers.{length-marked, not_true, are_below, below_from_free}
+use Rattle.lis_content.specs.Content.{content, are_free, has_number, are_distinct, are_within}
+use Rattle.lis_content.proofs.Numbers.{length-marked, not_true, are_below, below_from_free, within_if_below}
 use Rattle.lis_dict.specs.Dict.{word_of}
 use Rattle.lis_dict.proofs.Laws.{number_below, number_from_word}
 use Rattle.lis_catalog.specs.Catalog.{Catalog, slot_of, rec_at}
@@ -27,6 +29,9 @@ use Rattle.lis_fields.proofs.Parts.{record_tests}
 use Rattle.lis_laws.proofs.Counts.{all_among, all_weaker}
 use Rattle.lis_model.specs.declared.limits.Limits.{Limits}
 use Rattle.lis_model.specs.State.{blocks_needed}
+use Rattle.lis_model.specs.Image.{data_start, image_blocks}
+use Rattle.lis_model.specs.Derived.{derived_words}
+use Rattle.lis_kept.specs.Telling.{bytes_told}
 use Rattle.lis_kept.specs.Kept.{file_by, record_at}
 use Rattle.lis_kept.specs.Areas.{file_slots}
 use Rattle.lis_kept.specs.Sound.{is_sound_record}
@@ -36,7 +41,7 @@ use Rattle.lis_open.specs.declared.files.Files.{Files}
 use Rattle.lis_open.specs.declared.blocks.LastBlock.{LastBlock}
 use Rattle.lis_open.specs.Reading.{OnlyReads, Recalls, IsReadAs}
 use Rattle.lis_open.specs.ReadWords.{AreWords}
-use Rattle.lis_open.specs.ReadFiles.{no_files, described, described_by, is_assignable_by, is_assignable_number, may_file, may_take_record, may_take_file, TakesRecord, TakesFile, AreFirstFiles, FilesAreSpelled}
+use Rattle.lis_open.specs.ReadFiles.{no_files, described, is_numbered, own_numbers, may_describe, HasNumbers, AreNumbers, is_assignable_by, is_assignable_number, may_file, may_take_record, may_take_file, AreItsBytes, TakesRecord, TakesFile, AreFirstFiles, FilesAreSpelled, FilesAreNumbered}
 use Rattle.lis_kept.proofs.Filing.{among_from_number, same_distinct}
 use Rattle.lis_open.proofs.Numbers.{is_taken-marked}
 
@@ -78,6 +83,20 @@ pub tags_below : (words : Words) (files : Files) (rec : FileRecord) (props : ℕ
 tags_below words files rec props are same may =
     all_weaker (is_assignable_number words) (λ n. nat_lt n props) rec.tags (λ n m is. lt-ltb n props (let below = number_within words n are is in omega (arith, below, same))) (tests_of words files rec may).given
 
+-- ---- the bytes of a record's file
+-- its blocks are within the image
+pub blocks_within : (limits : Limits) (words : Words) (files : Files) (rec : FileRecord) (start end : ℕ) → start ≡ data_start limits → end ≡ image_blocks limits → length files.map ≡ limits.blocks
+    → may_file words files rec ≡ true → are_within start end rec.blocks ≡ true
+blocks_within limits words files rec start end is_start is_end long may =
+    within_if_below start end (length files.map) rec.blocks (omega (arith, is_start, is_end, long)) (below_from_free files.map rec.blocks (tests_of words files rec may).free)
+
+-- where nothing is staged, what was read are its bytes
+pub bytes_are : (limits : Limits) (rec : FileRecord) {seen : FileRecord} (blocks : List ℕ) (staged : List Entry) (kept : ℕ → List ℕ) (start : ℕ) (bytes : List ℕ) → start ≡ data_start limits → staged ≡ []
+    → seen ≡ rec → blocks ≡ seen.blocks → bytes ≡ content start blocks seen.size (looked staged kept) → bytes ≡ bytes_told limits kept rec
+bytes_are limits rec {seen} blocks staged kept start bytes is_start none view same is =
+    is ∙ (ap (λ ns. content start ns seen.size (looked staged kept)) same ∙ (ap (λ (r : FileRecord). content start r.blocks r.size (looked staged kept)) view
+    ∙ (ap (λ s. content s rec.blocks rec.size (looked staged kept)) is_start ∙ ap (λ (es : List Entry). content (data_start limits) rec.blocks rec.size (looked es kept)) none)))
+
 -- ---- no file yet
 nothing_at : {X : Type 0} (n k : ℕ) (x : X) → get_or (replicate n x) k x ≡ x
 nothing_at n k x = by (cases_lt k n)
@@ -105,15 +124,25 @@ no_files_yet limits words axioms = record {
   settled = refl;
 }
 
+pub none_numbered : (limits : Limits) (words : Words) (axioms : Axioms) (files : Files) (at : ℕ → List ℕ) → files ≡ no_files limits → FilesAreNumbered limits at words axioms files
+unfolding no_files
+none_numbered limits words axioms files at is slot rec there = absurd (let e = ap (λ (f : Files). rec_at f.catalog slot) (sym is) ∙ there in cc)
+
 -- ---- one file more
 absent : (o : Option ℕ) → not (is_some o) ≡ true → o ≡ None
 absent None new = refl
 absent (Some n) new = absurd cc
 
-module _ (limits : Limits) (words : Words) (axioms : Axioms) (files next : Files) (number : ℕ) (rec : FileRecord) (first : AreFirstFiles limits words axioms files number) (lt : number < limits.files)
-    (form : is_record rec ≡ true) (may : may_take_record words axioms.taxonomy files rec ≡ true) (takes : TakesRecord axioms.taxonomy number rec files next) where
-  parts : (may_file words files rec ≡ true) × (nat_le (length (described axioms.taxonomy rec.tags)) 128 ≡ true)
-  parts = and_parts (may_file words files rec) (nat_le (length (described axioms.taxonomy rec.tags)) 128) may
+module _ (limits : Limits) (words : Words) (axioms : Axioms) (files next : Files) (number : ℕ) (rec : FileRecord) (derived : List (List ℕ)) (first : AreFirstFiles limits words axioms files number) (lt : number < limits.files)
+    (form : is_record rec ≡ true) (may : may_take_record words axioms.taxonomy files rec derived ≡ true) (takes : TakesRecord words axioms.taxonomy number rec derived files next) where
+  abbrev numbers : List ℕ
+  numbers = described axioms.taxonomy (own_numbers words.dict rec.tags derived)
+
+  parts : (may_file words files rec ≡ true) × (may_describe words axioms.taxonomy rec derived ≡ true)
+  parts = and_parts (may_file words files rec) (may_describe words axioms.taxonomy rec derived) may
+
+  described_parts : (list_all (is_numbered words.dict) derived ≡ true) × (nat_le (length numbers) 128 ≡ true)
+  described_parts = and_parts (list_all (is_numbered words.dict) derived) (nat_le (length numbers) 128) parts.1
 
   tests : MayFile words files rec
   tests = tests_of words files rec parts.0
@@ -165,20 +194,39 @@ module _ (limits : Limits) (words : Words) (axioms : Axioms) (files next : Files
       let free = (and_parts (nat_lt n (length files.map)) (not (is_taken files.map n)) (all_among (λ k. nat_lt k (length files.map) && not (is_taken files.map k)) rec.blocks n tests.free (among_from_number rec.blocks n here))).1 in
       both_ways (is_taken files.map n) (not_true (is_taken files.map n) free) (first.taken slot r n is there)
 
-  set_new : set_of next.ext number ≡ described axioms.taxonomy rec.tags
-  set_new = ap (λ (sets : List (List ℕ)). get_or sets number []) takes.sets ∙ get_or-set_same files.ext.sets number (described axioms.taxonomy rec.tags) [] (omega (arith, lt, first.count))
+  set_new : set_of next.ext number ≡ numbers
+  set_new = ap (λ (sets : List (List ℕ)). get_or sets number []) takes.sets ∙ get_or-set_same files.ext.sets number numbers [] (omega (arith, lt, first.count))
+
+  has_new : HasNumbers words axioms.taxonomy rec derived (set_of next.ext number)
+  has_new = record { numbered = described_parts.0; are = set_new }
 
   set_old : (n : ℕ) → (n ≡ number → ⊥) → set_of next.ext n ≡ set_of files.ext n
-  set_old n differ = ap (λ (sets : List (List ℕ)). get_or sets n []) takes.sets ∙ get_or-set_other files.ext.sets number n (described axioms.taxonomy rec.tags) [] differ
+  set_old n differ = ap (λ (sets : List (List ℕ)). get_or sets n []) takes.sets ∙ get_or-set_other files.ext.sets number n numbers [] differ
 
-  sets_are : (n : ℕ) → (n ≡ number) ⊎ (n ≡ number → ⊥) → set_of next.ext n ≡ described_by axioms.taxonomy (rec_at next.catalog n)
+  sets_are : (n : ℕ) → (n ≡ number) ⊎ (n ≡ number → ⊥) → AreNumbers words axioms.taxonomy (rec_at next.catalog n) (set_of next.ext n)
   sets_are n (inl same) =
-      ap (set_of next.ext) same ∙ (set_new ∙ (ap (described_by axioms.taxonomy) (sym found_new) ∙ ap (λ k. described_by axioms.taxonomy (rec_at next.catalog k)) (sym same)))
-  sets_are n (inr differ) = set_old n differ ∙ (first.sets n ∙ ap (described_by axioms.taxonomy) (sym (found_old n differ)))
+      subst (λ k. AreNumbers words axioms.taxonomy (rec_at next.catalog k) (set_of next.ext k)) (sym same)
+      (subst (λ o. AreNumbers words axioms.taxonomy o (set_of next.ext number)) (sym found_new) (derived, has_new))
+  sets_are n (inr differ) =
+      subst (λ o. AreNumbers words axioms.taxonomy o (set_of next.ext n)) (sym (found_old n differ))
+      (subst (λ ns. AreNumbers words axioms.taxonomy (rec_at files.catalog n) ns) (sym (set_old n differ)) (first.sets n))
+
+  -- and by the words that are derived from their bytes
+  pub numbered_more : (at : ℕ → List ℕ) → FilesAreNumbered limits at words axioms files → derived ≡ derived_words rec.name (bytes_told limits at rec) → FilesAreNumbered limits at words axioms next
+  numbered_more at old is n r there = by (cases_eq n number)
+    where
+      by : (n ≡ number) ⊎ (n ≡ number → ⊥) → HasNumbers words axioms.taxonomy r (derived_words r.name (bytes_told limits at r)) (set_of next.ext n)
+      by (inl same) =
+          let one = same_Some rec r (sym found_new ∙ (ap (rec_at next.catalog) (sym same) ∙ there)) in
+          subst (λ (x : FileRecord). HasNumbers words axioms.taxonomy x (derived_words x.name (bytes_told limits at x)) (set_of next.ext n)) one
+          (subst (λ k. HasNumbers words axioms.taxonomy rec (derived_words rec.name (bytes_told limits at rec)) (set_of next.ext k)) (sym same)
+          (subst (λ ws. HasNumbers words axioms.taxonomy rec ws (set_of next.ext number)) is has_new))
+      by (inr differ) =
+          subst (λ ns. HasNumbers words axioms.taxonomy r (derived_words r.name (bytes_told limits at r)) ns) (sym (set_old n differ)) (old n r (sym (found_old n differ) ∙ there))
 
   short_at : (n : ℕ) → (n ≡ number) ⊎ (n ≡ number → ⊥) → length (set_of next.ext n) ≤ 128
   short_at n (inl same) =
-      let few = leb-true (length (described axioms.taxonomy rec.tags)) 128 parts.1 in
+      let few = leb-true (length numbers) 128 described_parts.1 in
       omega (arith, few, ap (length {A = ℕ}) (ap (set_of next.ext) same ∙ set_new))
   short_at n (inr differ) = let few = first.short n in omega (arith, few, ap (length {A = ℕ}) (set_old n differ))
 
@@ -200,7 +248,7 @@ module _ (limits : Limits) (words : Words) (axioms : Axioms) (files next : Files
         (λ k x is here. either (λ j y. has_number y.blocks n ≡ true → k ≡ j) (λ there. absurd (not_both n k x there is here)) (λ j y is_y there. first.apart k j x y n is is_y here there) other more is_more)
         slot r is_r;
     props = takes.props ∙ first.props;
-    count = ap (length {A = List ℕ}) takes.sets ∙ (length-set files.ext.sets number (described axioms.taxonomy rec.tags) ∙ first.count);
+    count = ap (length {A = List ℕ}) takes.sets ∙ (length-set files.ext.sets number numbers ∙ first.count);
     sets = λ n. sets_are n (cases_eq n number);
     short = λ n. short_at n (cases_eq n number);
     settled = takes.settled;
@@ -219,10 +267,10 @@ module _ (limits : Limits) (words : Words) (axioms : Axioms) (files next : Files
 
 -- ---- one slot more
 module _ (limits : Limits) (words : Words) (axioms : Axioms) (files : Files) (number : ℕ) (first : AreFirstFiles limits words axioms files number) (lt : number < limits.files) where
-  pub files_on : (found : Option FileSlot) (next : Files) → IfSome found (λ file. IsTrue (is_file file)) → may_take_file words axioms.taxonomy files found ≡ true → TakesFile axioms.taxonomy number found files next
-      → AreFirstFiles limits words axioms next (number + 1)
-  files_on None next form may takes = absurd takes
-  files_on (Some FreeFile) next form may takes = subst (λ (f : Files). AreFirstFiles limits words axioms f (number + 1)) (sym takes) (record {
+  pub files_on : (found : Option FileSlot) (bytes : List ℕ) (next : Files) → IfSome found (λ file. IsTrue (is_file file)) → may_take_file words axioms.taxonomy files found bytes ≡ true
+      → TakesFile words axioms.taxonomy number found bytes files next → AreFirstFiles limits words axioms next (number + 1)
+  files_on None bytes next form may takes = absurd takes
+  files_on (Some FreeFile) bytes next form may takes = subst (λ (f : Files). AreFirstFiles limits words axioms f (number + 1)) (sym takes) (record {
     slots = first.slots;
     catalog = first.catalog;
     records = first.records;
@@ -238,12 +286,22 @@ module _ (limits : Limits) (words : Words) (axioms : Axioms) (files : Files) (nu
     short = first.short;
     settled = first.settled;
   })
-  files_on (Some (Used rec)) next form may takes = files_more limits words axioms files next number rec first lt form may takes
+  files_on (Some (Used rec)) bytes next form may takes = files_more limits words axioms files next number rec (derived_words rec.name bytes) first lt form may takes
 
-  pub spelled_on : (at : ℕ → List ℕ) → FilesAreSpelled limits at files number → (found : Option FileSlot) (next : Files) → IfSome found (λ file. IsTrue (is_file file))
-      → may_take_file words axioms.taxonomy files found ≡ true → TakesFile axioms.taxonomy number found files next → IsReadAs file_bytes is_file (file_slots limits) at number found → FilesAreSpelled limits at next (number + 1)
-  spelled_on at spelled None next form may takes read = absurd takes
-  spelled_on at spelled (Some FreeFile) next form may takes read = subst (λ (f : Files). FilesAreSpelled limits at f (number + 1)) (sym takes) (λ n less. by n less (cases_eq n number))
+  -- the numbers are those of the descriptions, where the bytes were those of the files
+  pub numbered_on : (at : ℕ → List ℕ) → FilesAreNumbered limits at words axioms files → (found : Option FileSlot) (bytes : List ℕ) (next : Files) → IfSome found (λ file. IsTrue (is_file file))
+      → may_take_file words axioms.taxonomy files found bytes ≡ true → TakesFile words axioms.taxonomy number found bytes files next → AreItsBytes limits at words files found bytes → FilesAreNumbered limits at words axioms next
+  numbered_on at old None bytes next form may takes are = absurd takes
+  numbered_on at old (Some FreeFile) bytes next form may takes are = subst (λ (f : Files). FilesAreNumbered limits at words axioms f) (sym takes) old
+  numbered_on at old (Some (Used rec)) bytes next form may takes are =
+      let derived = derived_words rec.name bytes in
+      let told = are (and_parts (may_file words files rec) (may_describe words axioms.taxonomy rec derived) may).0 in
+      numbered_more limits words axioms files next number rec derived first lt form may takes at old (ap (derived_words rec.name) told)
+
+  pub spelled_on : (at : ℕ → List ℕ) → FilesAreSpelled limits at files number → (found : Option FileSlot) (bytes : List ℕ) (next : Files) → IfSome found (λ file. IsTrue (is_file file))
+      → may_take_file words axioms.taxonomy files found bytes ≡ true → TakesFile words axioms.taxonomy number found bytes files next → IsReadAs file_bytes is_file (file_slots limits) at number found → FilesAreSpelled limits at next (number + 1)
+  spelled_on at spelled None bytes next form may takes read = absurd takes
+  spelled_on at spelled (Some FreeFile) bytes next form may takes read = subst (λ (f : Files). FilesAreSpelled limits at f (number + 1)) (sym takes) (λ n less. by n less (cases_eq n number))
     where
       here : slot (file_slots limits) at number ≡ file_bytes (record_at files.catalog number)
       here = read.bytes ∙ ap (λ o. file_bytes (file_by o)) (sym (first.rest number (omega arith)))
@@ -251,7 +309,7 @@ module _ (limits : Limits) (words : Words) (axioms : Axioms) (files : Files) (nu
       by : (n : ℕ) → n < number + 1 → (n ≡ number) ⊎ (n ≡ number → ⊥) → slot (file_slots limits) at n ≡ file_bytes (record_at files.catalog n)
       by n less (inl same) = subst (λ k. slot (file_slots limits) at k ≡ file_bytes (record_at files.catalog k)) (sym same) here
       by n less (inr differ) = spelled n (omega arith)
-  spelled_on at spelled (Some (Used rec)) next form may takes read = spelled_more limits words axioms files next number rec first lt form may takes at spelled read.bytes
+  spelled_on at spelled (Some (Used rec)) bytes next form may takes read = spelled_more limits words axioms files next number rec (derived_words rec.name bytes) first lt form may takes at spelled read.bytes
 
 -- ---- the loop
 -- the slots below the end were read, by runs that only read
@@ -262,3 +320,4 @@ pub record FilesTurn (journal : Held) (limits : Limits) (words : Words) (axioms 
   pub first : AreFirstFiles limits words axioms files end
   pub recalls : (kept : ℕ → List ℕ) → Fits journal old kept → Recalls last_old kept → Recalls last kept
   pub spelled : (kept : ℕ → List ℕ) → Fits journal old kept → Recalls last_old kept → FilesAreSpelled limits kept files end
+  pub numbered : (kept : ℕ → List ℕ) → Fits journal old kept → FilesAreNumbered limits kept words axioms files

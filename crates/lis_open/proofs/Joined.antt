@@ -5,14 +5,14 @@ use Rattle.std.specs.List.{list_any}
 use Rattle.std.proofs.lemmas.Bool.{and_parts, or_cases, both_ways, eqb-true, false_from_ne_true}
 use Rattle.std.proofs.lemmas.Option.{same_Some}
 use Rattle.lis_graph.specs.Graph.{Chain}
-use Rattle.lis_graph.proofs.Members.{Among, among_filter, among_from_any, any_from_among, among_map}
+use Rattle.lis_graph.proofs.Members.{Among, among_from_any, any_from_among}
 use Rattle.lis_journal.specs.Journal.{Held}
 use Rattle.lis_blockmap.specs.Bitmap.{is_taken}
 use Rattle.lis_content.specs.Content.{has_number}
-use Rattle.lis_dict.specs.Dict.{IsDict, words as words_of, number_of, word_of}
-use Rattle.lis_dict.proofs.Laws.{number_from_among, number_from_word, number_below}
+use Rattle.lis_dict.specs.Dict.{IsDict, number_of, word_of}
+use Rattle.lis_dict.proofs.Laws.{number_from_word, number_below}
 use Rattle.lis_catalog.specs.Catalog.{rec_at}
-use Rattle.lis_ext.specs.Ext.{has}
+use Rattle.lis_ext.specs.Ext.{has, set_of as numbers_at}
 use Rattle.lis_kept.proofs.Described.{among_where, where_among}
 use Rattle.lis_taxonomy.specs.Taxonomy.{no_links, has_edge, entails, Entails as Leads}
 use Rattle.lis_taxonomy.proofs.Laws.{entails_decides}
@@ -20,21 +20,19 @@ use Rattle.lis_fields.specs.Records.{FileRecord}
 use Rattle.lis_fields.specs.Layouts.{is_prop, is_super}
 use Rattle.lis_fields.specs.declared.slots.AxiomSlot.{AxiomSlot}
 use Rattle.lis_fields.specs.declared.slots.AxiomSlot.TheVariants.{Free as FreeAxiom, Pair}
-use Rattle.lis_words.specs.Words.{is_plain_word, is_valued, is_kept_word, same_word, has_word, head_bytes}
+use Rattle.lis_words.specs.Words.{is_valued, is_kept_word, same_word, head_bytes}
 use Rattle.lis_laws.proofs.Apart.{plain_not_valued, declarable_not_valued}
 use Rattle.lis_laws.proofs.Chains.{head_not_valued}
 use Rattle.lis_laws.proofs.Counts.{all_among, all_from}
-use Rattle.lis_laws.proofs.Members.{same_word_decides, among_from_has_word}
-use Rattle.lis_laws.proofs.Sources.{Assignable, assignable_cases}
-use Rattle.lis_laws.proofs.Sources.Assignable.{Plain, Valued}
+use Rattle.lis_laws.proofs.Members.{same_word_decides}
 use Rattle.lis_model.specs.declared.limits.Limits.{Limits}
 use Rattle.lis_model.specs.Ranges.{are_in_range}
 use Rattle.lis_model.specs.Image.{image_blocks}
-use Rattle.lis_model.specs.State.{is_declarable, is_assignable, is_nameable}
+use Rattle.lis_model.specs.State.{is_declarable, is_assignable}
 use Rattle.lis_kept.specs.Kept.{Kept, property_by}
 use Rattle.lis_kept.specs.Sound.{IsSoundAxiom, AreSound, FreeSlotsAreEmpty, BlocksAreTaken}
 use Rattle.lis_kept.specs.Links.{is_pair, has_pair, is_own_link, TellsLinks, AreHeld}
-use Rattle.lis_kept.specs.Telling.{bit_of, is_left_of, is_left_head_of, is_head_by, is_had, is_named_left, is_used, AreUsed}
+use Rattle.lis_kept.specs.Telling.{is_left_of, is_left_head_of, is_head_by, is_had, is_named_left, is_used, AreUsed}
 use Rattle.lis_kept.specs.Forgetting.{KeepsInUse}
 use Rattle.lis_kept.proofs.Filing.{among_from_number, number_from_among as has_from_among}
 use Rattle.lis_kept.proofs.Known.{placed_at}
@@ -45,65 +43,11 @@ use Rattle.lis_open.specs.declared.words.Words.{Words}
 use Rattle.lis_open.specs.declared.axioms.Axioms.{Axioms}
 use Rattle.lis_open.specs.declared.files.Files.{Files}
 use Rattle.lis_open.specs.ReadWords.{declared_words, kept_words, is_left, is_right, AreFirstAxioms}
-use Rattle.lis_open.specs.ReadFiles.{is_described, described, described_by, is_assignable_by, is_assignable_number, AreFirstFiles}
+use Rattle.lis_open.specs.ReadFiles.{is_described, described, own_numbers, HasNumbers, AreNumbers, is_assignable_number, AreFirstFiles}
 use Rattle.lis_open.specs.ReadAll.{AreNoMarks, kept_in, AreRead}
 use Rattle.lis_open.proofs.Edges.{edge_of, leads_on}
-
--- ---- what words may stand where
-pub record RightWord (words : Words) (o : Option (List ℕ)) : Type 0 where
-  pub word : List ℕ
-  pub is : o ≡ Some word
-  pub plain : is_plain_word word ≡ true
-  pub declared : has_word (declared_words words) word ≡ true
-
-pub right_word : (words : Words) (o : Option (List ℕ)) → is_right words o ≡ true → RightWord words o
-right_word words None h = absurd (both_ways false refl h)
-right_word words (Some word) h =
-    let parts = and_parts (is_plain_word word) (has_word (declared_words words) word) h in
-    record { word = word; is = refl; plain = parts.0; declared = parts.1 }
-
-pub record LeftWord (words : Words) (o : Option (List ℕ)) : Type 0 where
-  pub word : List ℕ
-  pub is : o ≡ Some word
-  pub nameable : is_nameable (declared_words words) word ≡ true
-  pub headed : (not (is_valued word) || is_some (number_of words.dict (head_bytes word))) ≡ true
-
-pub left_word : (words : Words) (o : Option (List ℕ)) → is_left words o ≡ true → LeftWord words o
-left_word words None h = absurd (both_ways false refl h)
-left_word words (Some word) h =
-    let parts = and_parts (is_nameable (declared_words words) word) (not (is_valued word) || is_some (number_of words.dict (head_bytes word))) h in
-    record { word = word; is = refl; nameable = parts.0; headed = parts.1 }
-
-pub assignable_word : (words : Words) (o : Option (List ℕ)) → is_assignable_by words o ≡ true → (w : List ℕ) × (o ≡ Some w) × (is_assignable (declared_words words) w ≡ true)
-assignable_word words None h = absurd (both_ways false refl h)
-assignable_word words (Some w) h = (w, refl, h)
-
--- a word of whose kind there is one
-pub some_from : (o : Option (List ℕ)) (w : List ℕ) → o ≡ Some w → IsSome o
-some_from o w is = ap is_some is
-
-pub used_from : (a b : Bool) → (a && not b) ≡ false → a ≡ true → b ≡ true
-used_from true true h e = refl
-used_from true false h e = sym h
-used_from false b h e = absurd (both_ways false refl e)
-
-pub valued_headed : (a b : Bool) → (not a || b) ≡ true → a ≡ true → b ≡ true
-valued_headed true b h e = h
-valued_headed false b h e = absurd (both_ways false refl e)
-
-module _ (limits : Limits) (words : Words) (dict : IsDict words.dict) where
-  -- a declared word has a number
-  pub declared_numbered : (w : List ℕ) → Among (declared_words words) w → IsSome (number_of words.dict w)
-  declared_numbered w m =
-      let there = (among_filter (λ word. bit_of words.declared (number_of words.dict word)) (words_of words.dict) w m).0 in
-      let e = among_map (λ (e : List ℕ × ℕ). e.0) words.dict.entries w there in
-      ap is_some (subst (λ v. number_of words.dict v ≡ Some (e.0).1) e.2 (number_from_among words.dict dict (e.0).0 (e.0).1 e.1))
-
-  pub declared_flagged : (n : ℕ) (w : List ℕ) → word_of words.dict n ≡ Some w → has_word (declared_words words) w ≡ true → is_taken words.declared n ≡ true
-  declared_flagged n w is h =
-      let m = among_from_has_word (declared_words words) w h in
-      sym (ap (bit_of words.declared) (number_from_word words.dict dict w n is))
-      ∙ (among_filter (λ word. bit_of words.declared (number_of words.dict word)) (words_of words.dict) w m).1
+use Rattle.lis_open.proofs.WordPlaces.{LeftWord, RightWord, left_word, right_word, assignable_word, some_from, used_from, valued_headed, declared_flagged}
+use Rattle.lis_open.proofs.Owned.{IsNumbered, own_numbered, tag_owned}
 
 -- ---- axioms by their slots
 pub record Sides (words : Words) (left right : ℕ) : Type 0 where
@@ -156,36 +100,51 @@ module _ (limits : Limits) (words : Words) (axioms : Axioms) (dict : IsDict word
       by (inr end_of) = end_of
 
 -- ---- descriptions by their slots
--- a word that the slot's file was given leads to the number
-pub record IsGivenFrom (axioms : Axioms) (files : Files) (slot n : ℕ) : Type 0 where
+-- a number of what the slot's file has by itself leads to the number
+pub record IsOwnFrom (words : Words) (axioms : Axioms) (files : Files) (slot n : ℕ) : Type 0 where
   pub rec : FileRecord
   pub there : rec_at files.catalog slot ≡ Some rec
-  pub tag : ℕ
-  pub given : Among rec.tags tag
-  pub leads : Leads axioms.taxonomy tag n
+  pub derived : List (List ℕ)
+  pub numbers : HasNumbers words axioms.taxonomy rec derived (numbers_at files.ext slot)
+  pub own : ℕ
+  pub has : Among (own_numbers words.dict rec.tags derived) own
+  pub leads : Leads axioms.taxonomy own n
 
 module _ (limits : Limits) (words : Words) (axioms : Axioms) (files : Files) (end : ℕ) (first : AreFirstFiles limits words axioms files end) where
-  pub given_from : (slot n : ℕ) → has files.ext n slot ≡ true → IsGivenFrom axioms files slot n
-  given_from slot n h = by (rec_at files.catalog slot) refl (subst (λ ns. has_number ns n ≡ true) (first.sets slot) h)
-    where
-      by : (o : Option FileRecord) → rec_at files.catalog slot ≡ o → has_number (described_by axioms.taxonomy o) n ≡ true → IsGivenFrom axioms files slot n
-      by None is h = absurd (both_ways false refl h)
-      by (Some rec) is h =
-          let inside = among_where axioms.taxonomy.props (is_described axioms.taxonomy rec.tags) n (among_from_number (described axioms.taxonomy rec.tags) n h) in
-          let found = among_from_any (λ tag. entails axioms.taxonomy tag n) rec.tags inside.1 in
-          record { rec = rec; there = is; tag = found.0; given = found.1; leads = (entails_decides axioms.taxonomy found.0 n).0 found.2 }
+  -- what holds of the numbers of a slot's file
+  pub record SlotNumbers (slot : ℕ) (rec : FileRecord) : Type 0 where
+    pub derived : List (List ℕ)
+    pub numbers : HasNumbers words axioms.taxonomy rec derived (numbers_at files.ext slot)
 
-  pub slot_has : (slot n tag : ℕ) (rec : FileRecord) → rec_at files.catalog slot ≡ Some rec → Among rec.tags tag → Leads axioms.taxonomy tag n → n < axioms.taxonomy.props → has files.ext n slot ≡ true
-  slot_has slot n tag rec is given leads below =
-      let test = any_from_among (λ t. entails axioms.taxonomy t n) rec.tags tag given ((entails_decides axioms.taxonomy tag n).1 leads) in
-      ap (λ ns. has_number ns n) (first.sets slot ∙ ap (described_by axioms.taxonomy) is)
-      ∙ has_from_among (described axioms.taxonomy rec.tags) n (where_among axioms.taxonomy.props (is_described axioms.taxonomy rec.tags) n below test)
+  pub slot_numbers : (slot : ℕ) (rec : FileRecord) → rec_at files.catalog slot ≡ Some rec → SlotNumbers slot rec
+  slot_numbers slot rec is =
+      let found = subst (λ o. AreNumbers words axioms.taxonomy o (numbers_at files.ext slot)) is (first.sets slot) in
+      record { derived = found.0; numbers = found.1 }
+
+  pub own_from : (slot n : ℕ) → has files.ext n slot ≡ true → IsOwnFrom words axioms files slot n
+  own_from slot n h = by (rec_at files.catalog slot) refl (first.sets slot)
+    where
+      by : (o : Option FileRecord) → rec_at files.catalog slot ≡ o → AreNumbers words axioms.taxonomy o (numbers_at files.ext slot) → IsOwnFrom words axioms files slot n
+      by None is none = absurd (both_ways (has files.ext n slot) (ap (λ ns. has_number ns n) none) h)
+      by (Some rec) is found =
+          let own = own_numbers words.dict rec.tags found.0 in
+          let m = among_from_number (described axioms.taxonomy own) n (subst (λ ns. has_number ns n ≡ true) (found.1).are h) in
+          let inside = among_where axioms.taxonomy.props (is_described axioms.taxonomy own) n m in
+          let from = among_from_any (λ k. entails axioms.taxonomy k n) own inside.1 in
+          record { rec = rec; there = is; derived = found.0; numbers = found.1; own = from.0; has = from.1; leads = (entails_decides axioms.taxonomy from.0 n).0 from.2 }
+
+  pub slot_has : (slot n own : ℕ) (rec : FileRecord) (of : SlotNumbers slot rec) → Among (own_numbers words.dict rec.tags of.derived) own → Leads axioms.taxonomy own n → n < axioms.taxonomy.props → has files.ext n slot ≡ true
+  slot_has slot n own rec of m leads below =
+      let all = own_numbers words.dict rec.tags of.derived in
+      let test = any_from_among (λ k. entails axioms.taxonomy k n) all own m ((entails_decides axioms.taxonomy own n).1 leads) in
+      ap (λ ns. has_number ns n) of.numbers.are
+      ∙ has_from_among (described axioms.taxonomy all) n (where_among axioms.taxonomy.props (is_described axioms.taxonomy all) n below test)
 
   pub given_word : (slot tag : ℕ) (rec : FileRecord) → rec_at files.catalog slot ≡ Some rec → Among rec.tags tag → (w : List ℕ) × (word_of words.dict tag ≡ Some w) × (is_assignable (declared_words words) w ≡ true)
   given_word slot tag rec is m = assignable_word words (word_of words.dict tag) (all_among (is_assignable_number words) rec.tags tag (first.given slot rec is) m)
 
   pub slots_without : (slot : ℕ) → rec_at files.catalog slot ≡ None → (n : ℕ) → has files.ext n slot ≡ false
-  slots_without slot none n = ap (λ ns. has_number ns n) (first.sets slot ∙ ap (described_by axioms.taxonomy) none)
+  slots_without slot none n = ap (λ ns. has_number ns n) (subst (λ o. AreNumbers words axioms.taxonomy o (numbers_at files.ext slot)) none (first.sets slot))
 
 -- ---- all parts
 module _ (limits : Limits) (words : Words) (axioms : Axioms) (files : Files) (marks : List Bool) (read : AreRead limits words axioms files marks) where
@@ -206,16 +165,20 @@ module _ (limits : Limits) (words : Words) (axioms : Axioms) (files : Files) (ma
   pub each_used : AreUsed k
   each_used n some = used_from (is_some (word_of words.dict n)) (is_used k n) (read.used n) some
 
+  -- a number of what a file has by itself has a word, and its head has one too
+  own_word : (slot n : ℕ) (from : IsOwnFrom words axioms files slot n) → (w : List ℕ) × IsNumbered words from.own w
+  own_word slot n from = own_numbered limits words dict from.rec.tags from.derived (read.files_are.given slot from.rec from.there) from.numbers.numbered from.own from.has
+
   -- a number of a description has a word
   pub named : (n slot : ℕ) → has files.ext n slot ≡ true → IsSome (word_of words.dict n)
   named n slot h =
-      let from = given_from limits words axioms files limits.files read.files_are slot n h in
-      by from (leads_end limits words axioms dict _ read.axioms_are from.leads.0 from.tag n from.leads.1)
+      let from = own_from limits words axioms files limits.files read.files_are slot n h in
+      by from (leads_end limits words axioms dict _ read.axioms_are from.leads.0 from.own n from.leads.1)
     where
-      by : (from : IsGivenFrom axioms files slot n) → (from.tag ≡ n) ⊎ EndsBare words n → IsSome (word_of words.dict n)
+      by : (from : IsOwnFrom words axioms files slot n) → (from.own ≡ n) ⊎ EndsBare words n → IsSome (word_of words.dict n)
       by from (inl same) =
-          let w = given_word limits words axioms files limits.files read.files_are slot from.tag from.rec from.there from.given in
-          some_from (word_of words.dict n) w.0 (ap (word_of words.dict) (sym same) ∙ w.1)
+          let w = own_word slot n from in
+          some_from (word_of words.dict n) w.0 (ap (word_of words.dict) (sym same) ∙ w.1.named)
       by from (inr bare) = some_from (word_of words.dict n) bare.word bare.is
 
   pub none_past : (n slot : ℕ) → limits.props ≤ n → has files.ext n slot ≡ false
@@ -237,20 +200,17 @@ module _ (limits : Limits) (words : Words) (axioms : Axioms) (files : Files) (ma
         let form : (is_kept_word word && is_declarable word) ≡ true = ap₂ (λ o b. is_prop (property_by o b)) (sym is) (sym bit) ∙ read.words_are.are.forms n in
         absurd (both_ways (is_valued word) (declarable_not_valued word (and_parts (is_kept_word word) (is_declarable word) form).1) valued)
 
-    if_assignable : (w : List ℕ) → w ≡ word → Assignable (declared_words words) w → Headed
-    if_assignable w same (Plain plain m) = absurd (both_ways (is_valued word) (subst (λ v. is_valued v ≡ false) same (plain_not_valued w plain)) valued)
-    if_assignable w same (Valued is_one m) = subst (λ v. IsSome (number_of words.dict (head_bytes v))) same (declared_numbered limits words dict (head_bytes w) m)
-
     if_had : is_had files.ext n ≡ true → Headed
     if_had had =
         let at = had_at files.ext n had in
-        let from = given_from limits words axioms files limits.files read.files_are at.0 n at.2 in
-        by at.0 from (leads_end limits words axioms dict _ read.axioms_are from.leads.0 from.tag n from.leads.1)
+        let from = own_from limits words axioms files limits.files read.files_are at.0 n at.2 in
+        by at.0 from (leads_end limits words axioms dict _ read.axioms_are from.leads.0 from.own n from.leads.1)
       where
-        by : (slot : ℕ) (from : IsGivenFrom axioms files slot n) → (from.tag ≡ n) ⊎ EndsBare words n → Headed
+        by : (slot : ℕ) (from : IsOwnFrom words axioms files slot n) → (from.own ≡ n) ⊎ EndsBare words n → Headed
         by slot from (inl same) =
-            let w = given_word limits words axioms files limits.files read.files_are slot from.tag from.rec from.there from.given in
-            if_assignable w.0 (same_Some w.0 word (sym w.1 ∙ (ap (word_of words.dict) same ∙ is))) (assignable_cases (declared_words words) w.0 w.2)
+            let w = own_word slot n from in
+            let one = same_Some w.0 word (sym w.1.named ∙ (ap (word_of words.dict) same ∙ is)) in
+            subst (λ v. IsSome (number_of words.dict (head_bytes v))) one (w.1.headed (subst (λ v. is_valued v ≡ true) (sym one) valued))
         by slot from (inr bare) = not_bare bare
 
     if_left : (a : AxiomSlot) → Among axioms.slots.items a → is_left_of n a ≡ true → Headed
@@ -327,10 +287,11 @@ module _ (limits : Limits) (words : Words) (axioms : Axioms) (files : Files) (ma
 
     parts_closed : AreClosed k
     parts_closed slot p q h linked =
-        let from = given_from limits words axioms files limits.files read.files_are slot p h in
+        let from = own_from limits words axioms files limits.files read.files_are slot p h in
+        let of : SlotNumbers limits words axioms files limits.files read.files_are slot from.rec = record { derived = from.derived; numbers = from.numbers } in
         let edge = read.axioms_are.links.edges p q ∙ linked in
         let bare = edge_end limits words axioms dict _ read.axioms_are p q edge in
-        slot_has limits words axioms files limits.files read.files_are slot q from.tag from.rec from.there from.given (leads_on axioms.taxonomy from.tag p q from.leads edge) (below q bare.word bare.is)
+        slot_has limits words axioms files limits.files read.files_are slot q from.own from.rec of from.has (leads_on axioms.taxonomy from.own p q from.leads edge) (below q bare.word bare.is)
 
     parts_taken : BlocksAreTaken k
     parts_taken slot rec is = all_from (is_taken files.map) rec.blocks (λ n m. read.files_are.taken slot rec n is (has_from_among rec.blocks n m))
@@ -341,7 +302,9 @@ module _ (limits : Limits) (words : Words) (axioms : Axioms) (files : Files) (ma
       tags = λ slot rec is n tag.
           let m = among_from_number rec.tags n tag in
           let w = given_word limits words axioms files limits.files read.files_are slot n rec is m in
-          slot_has limits words axioms files limits.files read.files_are slot n n rec is m (zero, refl) (below n w.0 w.1);
+          let of = slot_numbers limits words axioms files limits.files read.files_are slot rec is in
+          let own = tag_owned limits words dict rec.tags of.derived (read.files_are.given slot rec is) of.numbers.numbered n m in
+          slot_has limits words axioms files limits.files read.files_are slot n n rec of own (zero, refl) (below n w.0 w.1);
       rights = λ slot left right is.
           let to = (sides limits words axioms dict _ read.axioms_are slot left right is).to in
           declared_flagged limits words dict right to.word to.is to.declared;

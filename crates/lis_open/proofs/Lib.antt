@@ -10,10 +10,13 @@ mod WordsRead
 mod WordUses
 mod Numbers
 mod Gathering
+mod OwnNumbers
 mod FilesRead
 mod Counts
 mod Once
 mod Edges
+mod WordPlaces
+mod Owned
 mod Joined
 mod Told
 mod HeadLinks

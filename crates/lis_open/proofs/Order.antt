@@ -1,10 +1,9 @@
 -- The parts that pass their checks, and the first one that fails.
-use Rattle.std.proofs.Common.{◌≡◌, ◌≢◌, ◌⊎◌, ◌∙◌, refl, sym, ap, ap₂, subst, inl, inr, ℕ, ◌+◌, ◌/◌, ◌<◌, ◌≤◌, ◌&&◌, not, Bool, true, false, cond, is_some, Option, Some, None, List, [], replicate, IsTrue, arith}
+use Rattle.std.proofs.Common.{◌≡◌, ◌≢◌, ◌⊎◌, ◌∙◌, refl, sym, ap, ap₂, subst, inl, inr, ℕ, ◌+◌, ◌/◌, ◌<◌, ◌≤◌, not, Bool, true, false, cond, is_some, Option, Some, None, List, replicate, IsTrue, arith}
 use Rattle.std.proofs.lemmas.Bool.{and_parts, both_ways, cases_eq, cases_lt, false_from_ne_true, lt-ltb, le-ltb}
 use Rattle.std.proofs.lemmas.List.{length-replicate}
 use Rattle.std.proofs.lemmas.List.FromFn.{get_or-map-range_with_len}
 use Rattle.lis_graph.proofs.Members.{contains_from_among}
-use Rattle.lis_slots.specs.Slots.{slot}
 use Rattle.lis_bits.specs.Bytes.{bits_bytes}
 use Rattle.lis_bits.proofs.Numbers.{bytes_same}
 use Rattle.lis_blockmap.specs.Bitmap.{is_taken, has_bit, IsFirstDifference}
@@ -43,7 +42,8 @@ use Rattle.lis_open.specs.ReadAll.{AreNoMarks, kept_in, is_stray, IsFirstStray, 
 use Rattle.lis_open.proofs.AllRead.{HasRead, contents_are, state_read, used_known, known_used}
 use Rattle.lis_open.proofs.Damage.{one_contents}
 use Rattle.lis_open.proofs.FileFaults.{used_is, rec_is, slot_read}
-use Rattle.lis_open.proofs.Joined.{used_from, named, none_past, parts_sound, slots_without}
+use Rattle.lis_open.proofs.WordPlaces.{used_from}
+use Rattle.lis_open.proofs.Joined.{named, none_past, parts_sound, slots_without}
 use Rattle.lis_open.proofs.WordsTold.{word_at_told, file_is_told}
 use Rattle.lis_open.proofs.ZeroRows.{no_file_has}
 

@@ -41,7 +41,8 @@ use Rattle.lis_open.specs.declared.files.Files.{Files}
 use Rattle.lis_open.specs.ReadWords.{declared_words}
 use Rattle.lis_open.specs.ReadAll.{AreNoMarks, kept_in, AreRead, AreSpelled, StoreTells}
 use Rattle.lis_open.proofs.Counts.{few_below, few_words, more_le, with_words_le, take_few, sum_within, rising_map}
-use Rattle.lis_open.proofs.Joined.{sides, given_word, declared_flagged, each_used, parts_sound, parts_free}
+use Rattle.lis_open.proofs.Joined.{sides, given_word, each_used, parts_sound, parts_free}
+use Rattle.lis_open.proofs.WordPlaces.{declared_flagged}
 
 -- ---- where pairs stand below an end only, they are no more than the places below it
 few_pairs : (dict : Dict) (end : ℕ) (xs : List AxiomSlot) (first : ℕ) → ((n left right : ℕ) → slice_get xs n ≡ Some (Pair left right) → first + n < end) → length (pairs_told dict xs) ≤ end - first

@@ -1,8 +1,8 @@
 -- Chains of links between words that have numbers are chains of edges between their numbers. A head without a number ends a chain of words,
 -- and so each word here has a number, and its head too.
-use Rattle.std.proofs.Common.{◌≡◌, ◌⊎◌, ◌∙◌, refl, sym, ap, ap₂, subst, inl, inr, ℕ, zero, suc, ◌==◌, Bool, true, false, not, ◌||◌, is_some, List, [], Option, Some, None, IsSome, slice_get, eq-eqb}
+use Rattle.std.proofs.Common.{◌≡◌, ◌⊎◌, ◌∙◌, refl, sym, ap, ap₂, subst, inl, inr, ℕ, zero, suc, ◌==◌, true, false, not, ◌||◌, is_some, List, [], Option, Some, None, slice_get, eq-eqb}
 use Rattle.std.specs.FinSet as set
-use Rattle.std.proofs.lemmas.Bool.{and_parts, and_from, or_cases, or_left, or_right, both_ways, eqb-true}
+use Rattle.std.proofs.lemmas.Bool.{and_parts, and_from, or_cases, or_left, or_right, eqb-true}
 use Rattle.std.proofs.lemmas.Option.{same_Some}
 use Rattle.lis_graph.specs.Graph.{Linked, Chain}
 use Rattle.lis_graph.proofs.Members.{Among, among_from_contains, contains_from_among, among_from_any, any_from_among, among_flat_map, flat_map_among, among_with_more, with_more_new}
@@ -27,15 +27,9 @@ use Rattle.lis_kept.proofs.OwnLinks.{declared_no_tests}
 use Rattle.lis_open.specs.declared.words.Words.{Words}
 use Rattle.lis_open.specs.ReadWords.{declared_words, kept_words}
 use Rattle.lis_open.proofs.Edges.{edge_among, edge_of}
-use Rattle.lis_open.proofs.Joined.{valued_headed, Sides}
-
--- the word has the number, and its head has one where it is valued
-pub record IsNumbered (words : Words) (n : ℕ) (word : List ℕ) : Type 0 where
-  pub named : word_of words.dict n ≡ Some word
-  pub headed : is_valued word ≡ true → IsSome (number_of words.dict (head_bytes word))
-
-pub bare_numbered : (words : Words) (n : ℕ) (word : List ℕ) → word_of words.dict n ≡ Some word → is_valued word ≡ false → IsNumbered words n word
-bare_numbered words n word is bare = record { named = is; headed = λ valued. absurd (both_ways (is_valued word) bare valued) }
+use Rattle.lis_open.proofs.WordPlaces.{valued_headed}
+use Rattle.lis_open.proofs.Owned.{IsNumbered, bare_numbered}
+use Rattle.lis_open.proofs.Joined.{Sides}
 
 module _ (limits : Limits) (words : Words) (dict : IsDict words.dict) (axioms : List AxiomSlot)
     (sides : (slot left right : ℕ) → slice_get axioms slot ≡ Some (Pair left right) → Sides words left right) where

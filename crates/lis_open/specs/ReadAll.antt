@@ -1,12 +1,11 @@
 -- What is checked behind words, axioms and files, and how all parts are joined. No public clause cites this module.
-use Rattle.std.specs.Prelude.{◌≡◌, ℕ, ◌≤◌, ◌<◌, nat_lt, Bool, true, false, not, ◌&&◌, if◌then◌else◌, is_some, Result, Ok, Err, List, length, replicate, IsTrue}
+use Rattle.std.specs.Prelude.{◌≡◌, ℕ, ◌≤◌, ◌<◌, nat_lt, Bool, false, not, ◌&&◌, if◌then◌else◌, is_some, Result, Ok, Err, List, length, replicate, IsTrue}
 use Rattle.lis_bits.specs.Rows.{HasShape}
 use Rattle.lis_slots.specs.Slots.{slot}
 use Rattle.lis_blockmap.specs.Bitmap.{bitmap_bytes, IsFirstDifference}
 use Rattle.lis_dict.specs.Dict.{word_of}
 use Rattle.lis_ext.specs.Ext.{Ext}
 use Rattle.lis_model.specs.declared.limits.Limits.{Limits}
-use Rattle.lis_model.specs.declared.spot.Spot.{Spot}
 use Rattle.lis_model.specs.declared.spot.Spot.TheVariants.{Word, Bitmap, Row}
 use Rattle.lis_model.specs.Image.{bitmap_start, data_start}
 use Rattle.lis_model.specs.State.{State}

@@ -1,10 +1,11 @@
 -- What is read of files. No public clause cites this module.
-use Rattle.std.specs.Prelude.{◌≡◌, ℕ, ◌≤◌, ◌<◌, nat_le, Bool, true, false, not, ◌&&◌, is_some, Option, Some, None, List, [], length, replicate, slice_set, IsTrue}
-use Rattle.std.specs.List.{list_all, list_any, Contains}
+use Rattle.std.specs.Prelude.{◌≡◌, ℕ, ◌≤◌, ◌<◌, nat_le, Bool, true, false, not, ◌&&◌, ◌||◌, is_some, Option, Some, None, List, [], ◌++◌, length, replicate, slice_set, IsTrue}
+use Rattle.std.specs.Option.{option_to_list}
+use Rattle.std.specs.List.{list_all, list_any, flat_map, Contains}
 use Rattle.lis_slots.specs.Slots.{slot}
 use Rattle.lis_blockmap.specs.Bitmap.{is_taken}
 use Rattle.lis_content.specs.Content.{marked, are_free, has_number}
-use Rattle.lis_dict.specs.Dict.{word_of}
+use Rattle.lis_dict.specs.Dict.{Dict, number_of, word_of}
 use Rattle.lis_catalog.specs.Catalog.{Filed, IsCatalog, slot_of, rec_at, with_filed}
 use Rattle.lis_ext.specs.Ext.{set_of, empty_ext}
 use Rattle.lis_ext.specs.Numbers.{numbers_where}
@@ -13,12 +14,14 @@ use Rattle.lis_fields.specs.Records.{FileRecord}
 use Rattle.lis_fields.specs.declared.slots.FileSlot.{FileSlot}
 use Rattle.lis_fields.specs.declared.slots.FileSlot.TheVariants.{Free as FreeFile, Used}
 use Rattle.lis_fields.specs.Layouts.{file_bytes}
+use Rattle.lis_words.specs.Words.{is_valued, head_bytes}
 use Rattle.lis_model.specs.declared.limits.Limits.{Limits}
+use Rattle.lis_model.specs.Derived.{derived_words}
 use Rattle.lis_model.specs.State.{file_words, is_assignable}
 use Rattle.lis_kept.specs.Kept.{record_at}
 use Rattle.lis_kept.specs.Areas.{file_slots}
 use Rattle.lis_kept.specs.Sound.{is_sound_record}
-use Rattle.lis_kept.specs.Telling.{words_told, file_told, axioms_of}
+use Rattle.lis_kept.specs.Telling.{words_told, bytes_told, file_told, axioms_of}
 use Rattle.lis_open.specs.declared.words.Words.{Words}
 use Rattle.lis_open.specs.declared.axioms.Axioms.{Axioms}
 use Rattle.lis_open.specs.declared.files.Files.{Files}
@@ -32,16 +35,44 @@ no_files limits = record {
 }
 
 -- ---- descriptions
--- The numbers of what a file has that was given these: all that they entail. What is derived from a file comes to them later.
+-- The numbers of what a file has that has these by itself: all that they entail.
 abbrev pub is_described : Taxonomy → List ℕ → ℕ → Bool
-is_described t tags n = list_any (λ tag. entails t tag n) tags
+is_described t own n = list_any (λ m. entails t m n) own
 
 abbrev pub described : Taxonomy → List ℕ → List ℕ
-described t tags = numbers_where t.props (is_described t tags)
+described t own = numbers_where t.props (is_described t own)
 
-abbrev pub described_by : Taxonomy → Option FileRecord → List ℕ
-described_by t None = []
-described_by t (Some rec) = described t rec.tags
+-- the word has a number, and so has its head where it is valued
+abbrev pub is_numbered : Dict → List ℕ → Bool
+is_numbered dict word = is_some (number_of dict word) && (not (is_valued word) || is_some (number_of dict (head_bytes word)))
+
+abbrev pub numbers_of : Dict → List (List ℕ) → List ℕ
+numbers_of dict words = flat_map (λ word. option_to_list (number_of dict word)) words
+
+-- The numbers of what a file has by itself: those that it was given, and those of the words that are derived from it.
+unfoldable pub own_numbers : Dict → List ℕ → List (List ℕ) → List ℕ
+own_numbers dict tags derived = tags ++ numbers_of dict derived
+
+-- the words that are derived from a file have numbers, and its description is not too long
+abbrev pub may_describe : Words → Taxonomy → FileRecord → List (List ℕ) → Bool
+may_describe words t rec derived =
+    list_all (is_numbered words.dict) derived && nat_le (length (described t (own_numbers words.dict rec.tags derived))) 128
+
+-- the numbers of a description where a file may have it
+abbrev pub AreDescribed : Words → Taxonomy → FileRecord → List (List ℕ) → Option (List ℕ) → Type 0
+AreDescribed words t rec derived None = may_describe words t rec derived ≡ false
+AreDescribed words t rec derived (Some numbers) =
+    (may_describe words t rec derived ≡ true) × (numbers ≡ described t (own_numbers words.dict rec.tags derived))
+
+-- a slot has these numbers, where these words are derived from its file
+pub record HasNumbers (words : Words) (t : Taxonomy) (rec : FileRecord) (derived : List (List ℕ)) (numbers : List ℕ) : Type 0 where
+  pub numbered : IsTrue (list_all (is_numbered words.dict) derived)
+  pub are : numbers ≡ described t (own_numbers words.dict rec.tags derived)
+
+-- whatever words those are
+abbrev pub AreNumbers : Words → Taxonomy → Option FileRecord → List ℕ → Type 0
+AreNumbers words t None numbers = numbers ≡ []
+AreNumbers words t (Some rec) numbers = (derived : List (List ℕ)) × HasNumbers words t rec derived numbers
 
 -- the numbers that were listed, or that there are more than a description may have
 abbrev pub AreListed : List ℕ → Option (List ℕ) → Type 0
@@ -62,28 +93,39 @@ abbrev pub may_file : Words → Files → FileRecord → Bool
 may_file words files rec =
     not (is_some (slot_of files.catalog rec.name)) && list_all (is_assignable_number words) rec.tags && are_free files.map rec.blocks
 
--- and it has no more words than a description may have
-abbrev pub may_take_record : Words → Taxonomy → Files → FileRecord → Bool
-may_take_record words t files rec = may_file words files rec && nat_le (length (described t rec.tags)) 128
+-- and its description may be had, where these words are derived from it
+abbrev pub may_take_record : Words → Taxonomy → Files → FileRecord → List (List ℕ) → Bool
+may_take_record words t files rec derived = may_file words files rec && may_describe words t rec derived
 
-abbrev pub may_take_file : Words → Taxonomy → Files → Option FileSlot → Bool
-may_take_file words t files None = false
-may_take_file words t files (Some FreeFile) = true
-may_take_file words t files (Some (Used rec)) = may_take_record words t files rec
+-- where its bytes are these
+abbrev pub may_take_file : Words → Taxonomy → Files → Option FileSlot → List ℕ → Bool
+may_take_file words t files None bytes = false
+may_take_file words t files (Some FreeFile) bytes = true
+may_take_file words t files (Some (Used rec)) bytes = may_take_record words t files rec (derived_words rec.name bytes)
 
--- the file is in the slot, its blocks are taken, and the slot has the numbers of its description
-pub record TakesRecord (t : Taxonomy) (slot : ℕ) (rec : FileRecord) (old new : Files) : Type 0 where
+-- The bytes are those of the slot's file. They are not looked at where the file may not be taken, whatever they are.
+abbrev pub AreItsBytes : Limits → (ℕ → List ℕ) → Words → Files → Option FileSlot → List ℕ → Type 0
+AreItsBytes limits at words files None bytes = Unit {0}
+AreItsBytes limits at words files (Some FreeFile) bytes = Unit {0}
+AreItsBytes limits at words files (Some (Used rec)) bytes = may_file words files rec ≡ true → bytes ≡ bytes_told limits at rec
+
+-- the file is in the slot, its blocks are taken, and the slot has these numbers
+pub record TakesNumbers (slot : ℕ) (rec : FileRecord) (numbers : List ℕ) (old new : Files) : Type 0 where
   pub catalog : new.catalog ≡ with_filed old.catalog slot rec
   pub kept : IsCatalog new.catalog
   pub map : new.map ≡ marked old.map rec.blocks
   pub props : new.ext.props ≡ old.ext.props
-  pub sets : new.ext.sets ≡ slice_set old.ext.sets slot (described t rec.tags)
+  pub sets : new.ext.sets ≡ slice_set old.ext.sets slot numbers
   pub settled : new.ext.marks ≡ []
 
-abbrev pub TakesFile : Taxonomy → ℕ → Option FileSlot → Files → Files → Type 0
-TakesFile t slot None old new = ⊥
-TakesFile t slot (Some FreeFile) old new = new ≡ old
-TakesFile t slot (Some (Used rec)) old new = TakesRecord t slot rec old new
+-- and they are those of its description
+abbrev pub TakesRecord : Words → Taxonomy → ℕ → FileRecord → List (List ℕ) → Files → Files → Type 0
+TakesRecord words t slot rec derived old new = TakesNumbers slot rec (described t (own_numbers words.dict rec.tags derived)) old new
+
+abbrev pub TakesFile : Words → Taxonomy → ℕ → Option FileSlot → List ℕ → Files → Files → Type 0
+TakesFile words t slot None bytes old new = ⊥
+TakesFile words t slot (Some FreeFile) bytes old new = new ≡ old
+TakesFile words t slot (Some (Used rec)) bytes old new = TakesRecord words t slot rec (derived_words rec.name bytes) old new
 
 -- ---- files
 -- Files of the slots below the end, which may be given their words; no data block is used twice, and those in use are taken; and the slots
@@ -102,13 +144,19 @@ pub record AreFirstFiles (limits : Limits) (words : Words) (axioms : Axioms) (fi
       → has_number rec.blocks n ≡ true → has_number more.blocks n ≡ true → slot ≡ other
   pub props : files.ext.props ≡ limits.props
   pub count : length files.ext.sets ≡ limits.files
-  pub sets : (slot : ℕ) → set_of files.ext slot ≡ described_by axioms.taxonomy (rec_at files.catalog slot)
+  pub sets : (slot : ℕ) → AreNumbers words axioms.taxonomy (rec_at files.catalog slot) (set_of files.ext slot)
   pub short : (slot : ℕ) → length (set_of files.ext slot) ≤ 128
   pub settled : files.ext.marks ≡ []
 
 abbrev pub FilesAreSpelled : Limits → (ℕ → List ℕ) → Files → ℕ → Type 0
 FilesAreSpelled limits at files end =
     (n : ℕ) → n < end → slot (file_slots limits) at n ≡ file_bytes (record_at files.catalog n)
+
+-- the numbers of each file are by the words that are derived from its bytes
+abbrev pub FilesAreNumbered : Limits → (ℕ → List ℕ) → Words → Axioms → Files → Type 0
+FilesAreNumbered limits at words axioms files =
+    (slot : ℕ) (rec : FileRecord) → rec_at files.catalog slot ≡ Some rec
+    → HasNumbers words axioms.taxonomy rec (derived_words rec.name (bytes_told limits at rec)) (set_of files.ext slot)
 
 -- the words of their numbers are their descriptions
 abbrev pub FilesAreDescribed : Limits → (ℕ → List ℕ) → Words → Axioms → Files → Type 0

@@ -16,7 +16,7 @@ use Rattle.lis_model.specs.State.{Acyclic, is_nameable}
 use Rattle.lis_kept.specs.Kept.{Kept, kept_of, property_at, axiom_at}
 use Rattle.lis_kept.specs.Areas.{property_slots, axiom_slots}
 use Rattle.lis_kept.specs.Edges.{head_number}
-use Rattle.lis_kept.specs.Telling.{bit_of, declared_of, axioms_of, is_head_by}
+use Rattle.lis_kept.specs.Telling.{bit_of, axioms_of, is_head_by}
 use Rattle.lis_kept.specs.Links.{TellsLinks}
 use Rattle.lis_open.specs.declared.words.Words.{Words}
 use Rattle.lis_open.specs.declared.axioms.Axioms.{Axioms}

@@ -1,8 +1,9 @@
 //! The files of an image: its file slots, and the descriptions that they have.
 
-ghost use Rattle.std.specs.Prelude.{◌≡◌, ◌*◌, ◌<◌, ◌≤◌, ◌&&◌, not, nat_lt, ℕ, List, [], length, false, Some, None, IsTrue, IfOk, IfSome, OnOk};
+ghost use Rattle.std.specs.Prelude.{◌≡◌, ◌*◌, ◌<◌, ◌≤◌, ◌&&◌, not, nat_lt, ℕ, List, [], length, All, true, false, Some, None, IsTrue, IfOk, IfSome, OnOk, MatchOption};
 ghost use Rattle.std.specs.Bool.{OnTrue, OnFalse};
 ghost use Rattle.std.specs.List.{list_all};
+ghost use Rattle.std.specs.List.Sorted.{IsStrictlyIncreasing};
 ghost use Rattle.std.specs.Option.{option_map};
 ghost use Rattle.lis_ports.specs.Calls.{HasCause};
 ghost use Rattle.lis_journal.specs.Images.{Fits};
@@ -15,24 +16,29 @@ ghost use Rattle.lis_ext.specs.Numbers.{numbers_where};
 ghost use Rattle.lis_fields.specs.Layouts.{file_bytes, is_file, is_record};
 ghost use Rattle.lis_model.specs.Ranges.{are_in_range};
 ghost use Rattle.lis_model.specs.Image.{image_blocks};
+ghost use Rattle.lis_model.specs.Derived.{derived_words};
+ghost use Rattle.lis_kept.specs.Telling.{bytes_told};
 ghost use Rattle.lis_kept.specs.Areas.{file_slots, axiom_slots};
 ghost use Rattle.lis_open.specs.Reading.{OnlyReads, HasPartCause, Recalls, IsReadAs, Ends};
 ghost use Rattle.lis_open.specs.ReadWords.{AreWords, AreFirstWords, AreFirstAxioms, WordsAreSpelled, AxiomsAreSpelled};
-ghost use Rattle.lis_open.specs.ReadFiles.{no_files, is_described, described, AreListed, may_file, may_take_record, may_take_file, TakesRecord, TakesFile, AreFirstFiles, FilesAreTold};
+ghost use Rattle.lis_open.specs.ReadFiles.{no_files, is_described, AreListed, is_numbered, own_numbers, AreDescribed, may_file, may_take_record, may_take_file, AreItsBytes, TakesNumbers, TakesRecord, TakesFile, AreFirstFiles, FilesAreTold};
 
 use crate::axioms::Axioms;
 use crate::blocks::LastBlock;
 use crate::mounting::OpenFault;
-use crate::naming::are_assignable;
+use crate::naming::{are_assignable, numbered};
 use crate::words::Words;
 use arrayvec::ArrayVec;
 use lis_bits::Rows;
 use lis_blockmap::BlockMap;
 use lis_catalog::Catalog;
+use lis_content::Buffer;
+use lis_derive::derive_words;
 use lis_ext::Ext;
 use lis_fields::{FILE_LEN, FileRec, FileSlot, read_file};
 use lis_journal::Journal;
-use lis_kept::files_start;
+use lis_kept::{data_start, files_start};
+use lis_model::derived::Derived;
 use lis_model::limits::Limits;
 use lis_model::spot::Spot;
 use lis_ports::{Disk, Failed};
@@ -146,15 +152,58 @@ fn list_numbers(row: &Rows) -> Option<ArrayVec<u16, MAX_WORDS>>
     Some(numbers)
 }
 
-// The numbers of a file's description: all that its own words entail. It has no other words than those that it was given.
-fn describe(taxonomy: &Taxonomy, rec: &FileRec, row: &mut Rows) -> Option<ArrayVec<u16, MAX_WORDS>>
+// Copies the numbers of the words that a file was given, with room for those of derived words.
+fn copy_tags(tags: &[u16]) -> ArrayVec<u16, 64>
+    requires { length tags.now ≤ 16 }
+    ensures { result.items ≡ tags.now }
+{
+    let mut numbers = ArrayVec::new();
+    numbers.try_extend_from_slice(tags).unwrap();
+    numbers
+}
+
+// The numbers of what a file has by itself: of the words that it was given, and of those that are derived from it. None comes where
+// a derived word, or its head, has no number.
+fn own_numbers(words: &Words, tags: &[u16], derived: &Derived) -> Option<ArrayVec<u16, 64>>
+    requires are { AreWords words.now }
+    requires few { length tags.now ≤ 16 }
+    ensures { MatchOption result (list_all (is_numbered words.now.dict) derived.now ≡ false)
+        (λ numbers. (list_all (is_numbered words.now.dict) derived.now ≡ true) × (numbers.items ≡ own_numbers words.now.dict tags.now derived.now)) }
+{
+    let mut numbers = copy_tags(tags);
+    for word in derived.as_slice() {
+        let Some(number) = numbered(words, word) else {
+            return None;
+        };
+        numbers.push(number);
+    }
+    Some(numbers)
+}
+
+// The numbers of a file's description: all that its own words entail. None comes where one of them has no number, or where there are
+// more than a description may have.
+fn describe(
+    words: &Words,
+    taxonomy: &Taxonomy,
+    rec: &FileRec,
+    bytes: &[u8],
+    row: &mut Rows,
+) -> Option<ArrayVec<u16, MAX_WORDS>>
+    requires are { AreWords words.now }
+    requires form { IsTrue (is_record rec.now) }
+    requires props { taxonomy.now.props ≡ words.now.dict.props }
     requires few { taxonomy.now.props ≤ 8192 }
     requires shape { HasShape row.old 2 taxonomy.now.props }
     requires below { IsTrue (list_all (λ n. nat_lt n taxonomy.now.props) rec.now.tags) }
     ensures shape { HasShape row.new 2 taxonomy.now.props }
-    ensures listed { AreListed (described taxonomy.now rec.now.tags) (option_map (λ listed. listed.items) result) }
+    ensures described { AreDescribed words.now taxonomy.now rec.now (derived_words rec.now.name bytes.now)
+        (option_map (λ listed. listed.items) result) }
 {
-    gather(taxonomy, rec.tags.as_slice(), row);
+    let derived = derive_words(&rec.name, bytes);
+    let Some(own) = own_numbers(words, rec.tags.as_slice(), &derived) else {
+        return None;
+    };
+    gather(taxonomy, own.as_slice(), row);
     list_numbers(row)
 }
 
@@ -173,7 +222,7 @@ fn may_file(words: &Words, files: &Files, rec: &FileRec) -> bool
 }
 
 // Files a record, and gives its slot the numbers of its description.
-fn file(files: &mut Files, slot: u16, rec: FileRec, numbers: &[u16], taxonomy: &Taxonomy)
+fn file(files: &mut Files, slot: u16, rec: FileRec, numbers: &[u16])
     requires form { IsTrue (is_record rec) }
     requires name { slot_of files.old.catalog rec.name ≡ None }
     requires free { IsTrue (are_free files.old.map rec.blocks) }
@@ -181,9 +230,9 @@ fn file(files: &mut Files, slot: u16, rec: FileRec, numbers: &[u16], taxonomy: &
     requires empty { rec_at files.old.catalog slot ≡ None }
     requires undescribed { set_of files.old.ext slot ≡ [] }
     requires within { slot < length files.old.ext.sets }
-    requires props { files.old.ext.props ≡ taxonomy.now.props }
-    requires listed { numbers.now ≡ described taxonomy.now rec.tags }
-    ensures { TakesRecord taxonomy.now slot rec files.old files.new }
+    requires rise { IsStrictlyIncreasing numbers.now }
+    requires in_range { All (λ n. n < files.old.ext.props) numbers.now }
+    ensures { TakesNumbers slot rec numbers.now files.old files.new }
 {
     mark_all(&mut files.map, rec.blocks.as_slice());
     files.catalog.place(slot, rec);
@@ -193,68 +242,107 @@ fn file(files: &mut Files, slot: u16, rec: FileRec, numbers: &[u16], taxonomy: &
     files.ext.settle();
 }
 
-// Takes the file of a record where it may be taken, and answers whether it is so.
-fn take_record(
+// Takes the file of a record where it may be taken, and answers whether it is so. Its bytes are read where nothing else speaks
+// against it.
+fn take_record<D: Disk>(
+    disk: &mut D,
+    journal: &Journal,
+    limits: &Limits,
     words: &Words,
     axioms: &Axioms,
     files: &mut Files,
     row: &mut Rows,
+    bytes: &mut Buffer,
     slot: u16,
     rec: FileRec,
-) -> bool
+) -> Result<bool, Failed>
+    requires range { IsTrue (are_in_range limits.now) }
+    requires image { journal.now.blocks ≡ image_blocks limits.now }
+    requires clean { journal.now.staged ≡ [] }
+    requires unbroken { journal.now.is_broken ≡ false }
+    requires long { 4096 * journal.now.blocks ≤ (D.meaning disk.old).len }
     requires are { AreWords words.now }
     requires form { IsTrue (is_record rec) }
     requires props { axioms.now.taxonomy.props ≡ words.now.dict.props }
     requires rows { files.old.ext.props ≡ words.now.dict.props }
+    requires blocks { length files.old.map ≡ limits.now.blocks }
     requires shape { HasShape row.old 2 words.now.dict.props }
     requires below { slot < files.old.catalog.files }
     requires free { rec_at files.old.catalog slot ≡ None }
     requires undescribed { set_of files.old.ext slot ≡ [] }
     requires within { slot < length files.old.ext.sets }
+    ensures reads { OnlyReads (D.meaning disk.old) (D.meaning disk.new) }
+    ensures cause { HasCause (D.meaning disk.old).disk_faults (D.meaning disk.new).disk_faults result }
     ensures shape { HasShape row.new 2 words.now.dict.props }
-    ensures answer { result ≡ may_take_record words.now axioms.now.taxonomy files.old rec }
-    ensures taken { OnTrue result (TakesRecord axioms.now.taxonomy slot rec files.old files.new) }
-    ensures refused { OnFalse result (files.new ≡ files.old) }
+    ensures bytes { OnOk result ((kept : ℕ → List ℕ) → Fits journal.now (D.meaning disk.old) kept → may_file words.now files.old rec ≡ true
+        → bytes.new ≡ bytes_told limits.now kept rec) }
+    ensures answer { IfOk result (λ taken. taken ≡ may_take_record words.now axioms.now.taxonomy files.old rec (derived_words rec.name bytes.new)) }
+    ensures taken { IfOk result (λ taken. OnTrue taken
+        (TakesRecord words.now axioms.now.taxonomy slot rec (derived_words rec.name bytes.new) files.old files.new)) }
+    ensures refused { IfOk result (λ taken. OnFalse taken (files.new ≡ files.old)) }
 {
     if !may_file(words, files, &rec) {
-        return false;
+        return Ok(false);
     }
-    match describe(&axioms.taxonomy, &rec, row) {
-        None => false,
+    bytes.read(
+        journal,
+        disk,
+        data_start(limits),
+        rec.blocks.as_slice(),
+        rec.size,
+    )?;
+    match describe(words, &axioms.taxonomy, &rec, bytes.bytes(), row) {
+        None => Ok(false),
         Some(numbers) => {
-            file(files, slot, rec, numbers.as_slice(), &axioms.taxonomy);
-            true
+            file(files, slot, rec, numbers.as_slice());
+            Ok(true)
         }
     }
 }
 
 // Takes the file of a slot where the slot is in its layout and the file may be taken, and answers whether it is so.
-fn take_file(
+fn take_file<D: Disk>(
+    disk: &mut D,
+    journal: &Journal,
+    limits: &Limits,
     words: &Words,
     axioms: &Axioms,
     files: &mut Files,
     row: &mut Rows,
+    bytes: &mut Buffer,
     slot: u16,
     found: Option<FileSlot>,
-) -> bool
+) -> Result<bool, Failed>
+    requires range { IsTrue (are_in_range limits.now) }
+    requires image { journal.now.blocks ≡ image_blocks limits.now }
+    requires clean { journal.now.staged ≡ [] }
+    requires unbroken { journal.now.is_broken ≡ false }
+    requires long { 4096 * journal.now.blocks ≤ (D.meaning disk.old).len }
     requires are { AreWords words.now }
     requires form { IfSome found (λ file. IsTrue (is_file file)) }
     requires props { axioms.now.taxonomy.props ≡ words.now.dict.props }
     requires rows { files.old.ext.props ≡ words.now.dict.props }
+    requires blocks { length files.old.map ≡ limits.now.blocks }
     requires shape { HasShape row.old 2 words.now.dict.props }
     requires below { slot < files.old.catalog.files }
     requires free { rec_at files.old.catalog slot ≡ None }
     requires undescribed { set_of files.old.ext slot ≡ [] }
     requires within { slot < length files.old.ext.sets }
+    ensures reads { OnlyReads (D.meaning disk.old) (D.meaning disk.new) }
+    ensures cause { HasCause (D.meaning disk.old).disk_faults (D.meaning disk.new).disk_faults result }
     ensures shape { HasShape row.new 2 words.now.dict.props }
-    ensures answer { result ≡ may_take_file words.now axioms.now.taxonomy files.old found }
-    ensures taken { OnTrue result (TakesFile axioms.now.taxonomy slot found files.old files.new) }
-    ensures refused { OnFalse result (files.new ≡ files.old) }
+    ensures bytes { OnOk result ((kept : ℕ → List ℕ) → Fits journal.now (D.meaning disk.old) kept
+        → AreItsBytes limits.now kept words.now files.old found bytes.new) }
+    ensures answer { IfOk result (λ taken. taken ≡ may_take_file words.now axioms.now.taxonomy files.old found bytes.new) }
+    ensures taken { IfOk result (λ taken. OnTrue taken (TakesFile words.now axioms.now.taxonomy slot found bytes.new files.old files.new)) }
+    ensures refused { IfOk result (λ taken. OnFalse taken (files.new ≡ files.old)) }
 {
     match found {
-        None => false,
-        Some(FileSlot::Free) => true,
-        Some(FileSlot::Used(rec)) => take_record(words, axioms, files, row, slot, rec),
+        None => Ok(false),
+        Some(FileSlot::Free) => Ok(true),
+        Some(FileSlot::Used(rec)) => take_record(
+            disk, journal, limits, words, axioms, files, row, bytes, slot, rec,
+        ),
     }
 }
 
@@ -268,6 +356,7 @@ pub fn read_files<D: Disk>(
     axioms: &Axioms,
     files: &mut Files,
     row: &mut Rows,
+    bytes: &mut Buffer,
 ) -> Result<(), OpenFault>
     requires range { IsTrue (are_in_range limits.now) }
     requires words { AreFirstWords limits.now words.now limits.now.props }
@@ -290,7 +379,19 @@ pub fn read_files<D: Disk>(
 {
     for slot in 0..limits.files {
         let found = read_slot(last, disk, journal, limits, slot)?;
-        if !take_file(words, axioms, files, row, slot as u16, found) {
+        let is_taken = take_file(
+            disk,
+            journal,
+            limits,
+            words,
+            axioms,
+            files,
+            row,
+            bytes,
+            slot as u16,
+            found,
+        )?;
+        if !is_taken {
             return Err(OpenFault::Damaged(Spot::File(slot)));
         }
     }

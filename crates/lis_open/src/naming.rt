@@ -1,12 +1,12 @@
 //! What the words of an image may be used for.
 
-ghost use Rattle.std.specs.Prelude.{◌≡◌, ◌||◌, not, is_some};
+ghost use Rattle.std.specs.Prelude.{◌≡◌, ◌||◌, not, is_some, true, false, Some, MatchOption};
 ghost use Rattle.std.specs.List.{list_all};
 ghost use Rattle.lis_dict.specs.Dict.{number_of, word_of};
 ghost use Rattle.lis_words.specs.Words.{has_word, is_valued, head_bytes};
 ghost use Rattle.lis_model.specs.State.{is_assignable, is_nameable, is_known_head};
 ghost use Rattle.lis_open.specs.ReadWords.{AreWords, declared_words, is_left, is_right};
-ghost use Rattle.lis_open.specs.ReadFiles.{is_assignable_number};
+ghost use Rattle.lis_open.specs.ReadFiles.{is_assignable_number, is_numbered};
 
 use crate::words::Words;
 use lis_words::{Word, head_of, is_builtin, is_head, is_plain_word};
@@ -88,6 +88,24 @@ fn has_its_head(words: &Words, word: &Word) -> bool
     match head_of(word) {
         None => true,
         Some(head) => words.dict.id_of(&head).is_some(),
+    }
+}
+
+/// The number of a word. None comes where it has none, or where it is valued and its head has none.
+pub fn numbered(words: &Words, word: &Word) -> Option<u16>
+    requires { AreWords words.now }
+    ensures { MatchOption result (is_numbered words.now.dict word.now ≡ false)
+        (λ number. (is_numbered words.now.dict word.now ≡ true) × (number_of words.now.dict word.now ≡ Some number)) }
+{
+    match words.dict.id_of(word) {
+        None => None,
+        Some(number) => {
+            if has_its_head(words, word) {
+                Some(number)
+            } else {
+                None
+            }
+        }
     }
 }
 

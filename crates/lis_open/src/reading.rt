@@ -19,6 +19,7 @@ use crate::mounting::OpenFault;
 use crate::room::Room;
 use crate::words::{Words, read_words};
 use lis_bits::Rows;
+use lis_content::Buffer;
 use lis_journal::Journal;
 use lis_kept::{Fields, Parts};
 use lis_model::limits::Limits;
@@ -34,6 +35,7 @@ fn read_parts<D: Disk>(
     axioms: &mut Axioms,
     files: &mut Files,
     row: &mut Rows,
+    bytes: &mut Buffer,
 ) -> Result<(), OpenFault>
     requires range { IsTrue (is_super limits.now) }
     requires image { journal.now.blocks ≡ image_blocks limits.now }
@@ -53,7 +55,9 @@ fn read_parts<D: Disk>(
     let mut last = LastBlock::new();
     read_words(&mut last, disk, journal, limits, words)?;
     read_axioms(&mut last, disk, journal, limits, words, axioms)?;
-    read_files(&mut last, disk, journal, limits, words, axioms, files, row)?;
+    read_files(
+        &mut last, disk, journal, limits, words, axioms, files, row, bytes,
+    )?;
     check_words(limits, words, axioms, files, row)?;
     check_bitmap(disk, journal, limits, &files.map)?;
     check_rows(&mut last, disk, journal, limits, &files.ext)
@@ -90,6 +94,7 @@ pub fn read_store<D: Disk>(
         &mut room.axioms,
         &mut room.files,
         &mut room.row,
+        &mut room.bytes,
     )?;
     let parts = Parts::join(Fields {
         limits,
@@ -102,5 +107,9 @@ pub fn read_store<D: Disk>(
         ext: room.files.ext,
         marks: room.marks,
     });
-    Ok(Store::join(Built { parts, journal }))
+    Ok(Store::join(Built {
+        parts,
+        journal,
+        bytes: room.bytes,
+    }))
 }

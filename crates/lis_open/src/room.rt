@@ -8,6 +8,7 @@ use crate::axioms::{Axioms, no_axioms};
 use crate::files::{Files, no_files};
 use crate::words::{Words, no_words};
 use lis_bits::{Flags, Rows};
+use lis_content::Buffer;
 use lis_kept::data_start;
 use lis_model::limits::Limits;
 use std::alloc::{AllocError, Global};
@@ -20,6 +21,8 @@ pub struct Room {
     pub files: Files,
     /// Two rows of numbers, which each reader uses as it likes.
     pub row: Rows,
+    /// The bytes of the file that is read.
+    pub bytes: Buffer,
     /// By block: it is to be written.
     pub marks: Flags,
 }
@@ -34,6 +37,7 @@ pub fn take_room(alloc: Global, limits: &Limits) -> Result<Room, AllocError>
         axioms: no_axioms(alloc, limits)?,
         files: no_files(alloc, limits)?,
         row: Rows::new(alloc, 2, limits.props)?,
+        bytes: Buffer::new(alloc)?,
         marks: Flags::new(alloc, 64 * data_start(limits).div_ceil(64))?,
     })
 }

@@ -41,12 +41,14 @@ const SUPER_START: &[u8] = b"LISFS-IM\x01\0\0\0\x40\0\0\0\x40\0\0\0\x08\0\0\0\0"
 type Change = (u64, &'static [u8]);
 
 // The words `music`, `rock`, `year:` and `year:1999`, the axioms from `rock` and from `year:1999` to `music`, and the file `song` with
-// `rock`, which has 2 bytes in data block 1.
+// `rock`, which has 2 bytes in data block 1, and so the word `size:small`.
 const SONG: &[Change] = &[
     (WORDS, b"\x02\x05music"),
     (WORDS + 64, b"\x02\x05year:"),
     (WORDS + 2 * 64, b"\x01\x09year:1999"),
     (WORDS + 5 * 64, b"\x02\x04rock"),
+    (WORDS + 8 * 64, b"\x01\x05size:"),
+    (WORDS + 9 * 64, b"\x01\x0asize:small"),
     (AXIOMS + 2 * 8, b"\x06\0\0\0\x01"),
     (AXIOMS + 4 * 8, b"\x03\0\0\0\x01"),
     (FILES + 256, b"\x01\x04song"),
@@ -54,7 +56,29 @@ const SONG: &[Change] = &[
     (FILES + 256 + 100, b"\x01"),
     (ROWS, b"\x02"),
     (ROWS + 5 * 8, b"\x02"),
+    (ROWS + 8 * 8, b"\x02"),
+    (ROWS + 9 * 8, b"\x02"),
     (BITMAP, b"\x02"),
+];
+
+// The file `a.c` in slot 0, whose 10 bytes are in data block 0, with the words that are derived from its name, its size and its content.
+const SOURCE: &[Change] = &[
+    (WORDS, b"\x01\x04ext:"),
+    (WORDS + 64, b"\x01\x05ext:c"),
+    (WORDS + 2 * 64, b"\x01\x05size:"),
+    (WORDS + 3 * 64, b"\x01\x0asize:small"),
+    (WORDS + 4 * 64, b"\x01\x08defines:"),
+    (WORDS + 5 * 64, b"\x01\x09defines:f"),
+    (FILES, b"\x01\x03a.c"),
+    (FILES + 62, b"\0\0\x0a"),
+    (ROWS, b"\x01"),
+    (ROWS + 8, b"\x01"),
+    (ROWS + 2 * 8, b"\x01"),
+    (ROWS + 3 * 8, b"\x01"),
+    (ROWS + 4 * 8, b"\x01"),
+    (ROWS + 5 * 8, b"\x01"),
+    (BITMAP, b"\x01"),
+    (DATA, b"int f(){}\n"),
 ];
 
 // Changes of an image without words and files, and the spot of the first check that then fails.
@@ -127,6 +151,17 @@ const SONG_DAMAGES: &[(&[Change], Spot)] = &[
     (&[(ROWS + 5 * 8, b"\0")], Spot::Row(5)),
     (&[(ROWS + 7, b"\x80")], Spot::Row(0)),
     (&[(ROWS + 4_095, b"\x01")], Spot::Row(64)),
+];
+
+// The same of the image with `a.c`: a derived word without a slot, and one whose head has none.
+const SOURCE_DAMAGES: &[(&[Change], Spot)] = &[
+    (&[(WORDS + 64, b"\0\0\0\0\0\0\0")], Spot::File(0)),
+    (&[(WORDS, b"\0\0\0\0\0\0")], Spot::File(0)),
+    (&[(DATA + 4, b"g")], Spot::File(0)),
+    (&[(FILES + 2, b"b.h")], Spot::File(0)),
+    // what is no longer derived is in no use
+    (&[(DATA, b"//")], Spot::Word(4)),
+    (&[(ROWS + 8, b"\0")], Spot::Row(1)),
 ];
 
 #[derive(Clone, Copy, Debug, PartialEq, Eq)]
@@ -257,7 +292,7 @@ fn a_short_disk_is_refused(rt: HostRuntime) -> Result<(), Fail> {
 // A gate behind a closed one counts for nothing, and so does a gate that is not 1.
 #[test]
 fn whole_images_are_opened(rt: HostRuntime) -> Result<(), Fail> {
-    for changes in [SONG, &[(GATES + 1, b"\x01")], &[(GATES, b"\x02")]] {
+    for changes in [SONG, SOURCE, &[(GATES + 1, b"\x01")], &[(GATES, b"\x02")]] {
         assert_eq!(rt; opening_with(rt.alloc(), changes, &[])?, Answer::Opened);
     }
     Ok(())
@@ -271,4 +306,9 @@ fn damage_to_an_empty_image_is_found(rt: HostRuntime) -> Result<(), Fail> {
 #[test]
 fn damage_to_words_and_files_is_found(rt: HostRuntime) -> Result<(), Fail> {
     assert_found(&rt, rt.alloc(), SONG, SONG_DAMAGES)
+}
+
+#[test]
+fn damage_to_what_files_tell_is_found(rt: HostRuntime) -> Result<(), Fail> {
+    assert_found(&rt, rt.alloc(), SOURCE, SOURCE_DAMAGES)
 }

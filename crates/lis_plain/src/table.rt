@@ -7,7 +7,7 @@ ghost use Rattle.lis_model.specs.Table.{entry_of, table};
 use crate::file::File;
 use crate::state::State;
 use lis_table::closure::{Axiom, all_up};
-use lis_table::derived::derived;
+use lis_derive::derive_words;
 use lis_table::entry::Entry;
 use lis_table::links::met_tests;
 use lis_table::table::{Table, known_words, table_of};
@@ -29,7 +29,7 @@ fn own_words(alloc: Global, declared: &[Word], file: &File) -> Result<Vec<Word>,
     ensures { IfOk result (λ words. words.items ≡ own_words declared.now file.now) }
 {
     let mut words = copies(alloc, &file.assigned)?;
-    let noted = derived(&file.name, &file.bytes);
+    let noted = derive_words(&file.name, &file.bytes);
     push_copies(&mut words, noted.as_slice())?;
     let met = met_tests(alloc, declared, file.bytes.len() as u64)?;
     push_copies(&mut words, &met)?;

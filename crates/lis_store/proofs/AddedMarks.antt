@@ -12,6 +12,7 @@ use Rattle.lis_ext.specs.Numbers.{has_number, differs, numbers_where}
 use Rattle.lis_words.specs.Words.{is_valued, head_bytes}
 use Rattle.lis_model.specs.Derived.{derived_words}
 use Rattle.lis_model.specs.Changes.{new_file}
+use Rattle.lis_laws.proofs.Derived.{derived_few}
 use Rattle.lis_kept.specs.Kept.{Kept}
 use Rattle.lis_kept.specs.Areas.{marked_count}
 use Rattle.lis_kept.specs.Sound.{AreSound, FreeSlotsAreEmpty}
@@ -22,7 +23,6 @@ use Rattle.lis_store.specs.Admitting.{described_by, IsAdmitted}
 use Rattle.lis_store.specs.Adding.{is_one_of, numbers_named, behind_head, with_heads, learnt_words, PutsIn}
 use Rattle.lis_store.proofs.Added.{free_slot, below_files, set_here}
 use Rattle.lis_store.proofs.Coming.{comes_in}
-use Rattle.lis_store.proofs.DerivedWords.{derived_few}
 use Rattle.lis_store.proofs.Numbers.{sorted_where}
 use Rattle.lis_store.proofs.PutIn.{may_come, none_has, slot_was_empty}
 use Rattle.lis_store.proofs.Removed.{sum_has}

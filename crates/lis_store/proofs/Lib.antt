@@ -24,7 +24,6 @@ pub mod Had
 pub mod Learning
 pub mod Naming
 pub mod Entailed
-pub mod DerivedWords
 pub mod PutIn
 pub mod Coming
 pub mod Added

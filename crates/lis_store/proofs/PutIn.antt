@@ -17,14 +17,15 @@ use Rattle.lis_dict.specs.Dict.{words, number_of, word_of}
 use Rattle.lis_ext.specs.Ext.{Ext, set_of as numbers_at}
 use Rattle.lis_content.specs.Content.{has_number}
 use Rattle.lis_fields.specs.Layouts.{are_short, are_tags}
-use Rattle.lis_words.specs.Words.{word_cmp, has_word, is_plain_word, is_valued, is_head, is_built_in, head_bytes}
+use Rattle.lis_words.specs.Words.{word_cmp, has_word, is_plain_word, is_valued, is_head, is_built_in, built_in_heads, head_bytes}
 use Rattle.lis_model.specs.Sets.{with_word, with_words}
 use Rattle.lis_model.specs.Derived.{derived_words}
 use Rattle.lis_model.specs.State.{State, File, heads, up, all_up, is_assignable}
 use Rattle.lis_model.specs.Changes.{new_file}
-use Rattle.lis_laws.proofs.Apart.{plain_not_valued}
+use Rattle.lis_laws.proofs.Apart.{plain_not_valued, head_built_in}
 use Rattle.lis_laws.proofs.Chains.{among_heads, up_self, up_own, links_head}
-use Rattle.lis_laws.proofs.Counts.{all_from, all_weaker, rising_from_sorted}
+use Rattle.lis_laws.proofs.Counts.{all_among, all_from, all_weaker, rising_from_sorted}
+use Rattle.lis_laws.proofs.Derived.{derived_built_in}
 use Rattle.lis_laws.proofs.Members.{word_order, among_with_words, with_words_old, with_words_new, sorted_with_words, among_from_has_word, set_of_among}
 use Rattle.lis_kept.specs.Kept.{Kept}
 use Rattle.lis_kept.specs.Changes.{Adds}
@@ -36,7 +37,6 @@ use Rattle.lis_kept.proofs.InArea.{few_properties}
 use Rattle.lis_store.specs.Admitting.{described_by, known_with, IsAdmitted}
 use Rattle.lis_store.specs.Adding.{is_one_of, numbers_named, AreNumbered, behind_head, with_heads, may_learn, HasWordRoom, LearnsAll, learnt_words}
 use Rattle.lis_store.specs.ReplacingIn.{MayComeIn}
-use Rattle.lis_store.proofs.DerivedWords.{is_built_value, derived_built}
 use Rattle.lis_store.proofs.Learning.{number_there, learns_more, number_learnt, room_left}
 use Rattle.lis_store.proofs.Measured.{own_given}
 use Rattle.lis_store.proofs.Naming.{one_of, named_one, named_few}
@@ -61,17 +61,25 @@ assignable_may k word h = by (or_cases (is_plain_word word && has_word (declared
         let parts = and_parts (is_valued word) (has_word (declared_of k) (head_bytes word)) both in
         ap (may_by k word) parts.0 ∙ ap (λ b. b || is_built_in (head_bytes word)) (declared_known k (head_bytes word) parts.1)
 
-built_may : (k : Kept) (word : List ℕ) → is_built_value word ≡ true → may_learn k word ≡ true
-built_may k word h =
-    let parts = and_parts (is_valued word) (is_built_in (head_bytes word)) h in
-    ap (may_by k word) parts.0
-    ∙ or_right (is_some (number_of k.dict (head_bytes word))) (is_built_in (head_bytes word)) parts.1
+-- a built-in word is valued, and its head is built in, or it is a bare head
+built_in_may : (k : Kept) (word : List ℕ) → is_built_in word ≡ true → may_learn k word ≡ true
+built_in_may k word own = by (is_valued word) refl
+  where
+    bare : is_valued word ≡ false → (has_word built_in_heads word ≡ true) ⊎ ((is_valued word && has_word built_in_heads (head_bytes word)) ≡ true) → is_head word ≡ true
+    bare not_valued (inl itself) = all_among is_head built_in_heads word refl (among_from_has_word built_in_heads word itself)
+    bare not_valued (inr both) = absurd (both_ways (is_valued word) not_valued (and_parts (is_valued word) (has_word built_in_heads (head_bytes word)) both).0)
+
+    by : (b : Bool) → is_valued word ≡ b → may_by k word b ≡ true
+    by true valued = or_right (is_some (number_of k.dict (head_bytes word))) (is_built_in (head_bytes word)) (head_built_in word valued own)
+    by false not_valued =
+        or_right (is_some (number_of k.dict word)) (is_head word && is_built_in word)
+        (and_from (is_head word) (is_built_in word) (bare not_valued (or_cases (has_word built_in_heads word) (is_valued word && has_word built_in_heads (head_bytes word)) own)) own)
 
 pub learnable_from : (k : Kept) (words : List (List ℕ)) → list_all (is_assignable (declared_of k)) words ≡ true → list_all (may_learn k) words ≡ true
 learnable_from k words h = all_weaker (is_assignable (declared_of k)) (may_learn k) words (λ word m one. assignable_may k word one) h
 
 pub derived_may : (k : Kept) (name bytes : List ℕ) → list_all (may_learn k) (derived_words name bytes) ≡ true
-derived_may k name bytes = all_weaker is_built_value (may_learn k) (derived_words name bytes) (λ word m h. built_may k word h) (derived_built name bytes)
+derived_may k name bytes = all_from (may_learn k) (derived_words name bytes) (λ word m. built_in_may k word (derived_built_in name bytes word m))
 
 -- ---- what words entail has them and their heads
 pub head_entailed : (declared : List (List ℕ)) (axioms : List (List ℕ × List ℕ)) (own : List (List ℕ)) (word : List ℕ) → Among (with_heads own) word → Among (all_up declared axioms own) word

@@ -14,17 +14,17 @@ use Rattle.lis_graph.proofs.Sets.{members_le, sorted_nil, sorted_with_more}
 use Rattle.lis_content.specs.Content.{has_number}
 use Rattle.lis_dict.specs.Dict.{word_of}
 use Rattle.lis_ext.specs.Ext.{has, set_of as numbers_at}
-use Rattle.lis_words.specs.Words.{is_valued, head_bytes, is_built_in, is_plain_word, is_test, has_word, test_of}
+use Rattle.lis_words.specs.Words.{is_plain_word, is_test, has_word, test_of}
 use Rattle.lis_words.proofs.Tests.{plain_not_test}
 use Rattle.lis_model.specs.Sets.{with_words}
 use Rattle.lis_model.specs.Tests.{is_met}
-use Rattle.lis_model.specs.Derived.{derived_words}
 use Rattle.lis_model.specs.State.{File, up, all_up, own_words, file_words}
 use Rattle.lis_model.specs.Changes.{with_axiom}
-use Rattle.lis_laws.proofs.Apart.{plain_not_valued}
+use Rattle.lis_laws.proofs.Apart.{built_in_not_plain}
 use Rattle.lis_laws.proofs.Chains.{up_self, up_trans, entails_from_up}
 use Rattle.lis_laws.proofs.Closures.{entailing, all_up_has, all_up_closed, sorted_all_up, with_one_axiom}
-use Rattle.lis_laws.proofs.Counts.{all_among, all_from, insert_key_le}
+use Rattle.lis_laws.proofs.Counts.{all_from, insert_key_le}
+use Rattle.lis_laws.proofs.Derived.{derived_built_in}
 use Rattle.lis_laws.proofs.Leads.{link_cases, right_leads}
 use Rattle.lis_laws.proofs.Members.{among_with_words}
 use Rattle.lis_laws.proofs.Reached.{linked_up}
@@ -41,7 +41,6 @@ use Rattle.lis_kept.proofs.Known.{one_number, among_word, word_among}
 use Rattle.lis_kept.proofs.Numbered.{Numbers, numbers_are}
 use Rattle.lis_store.specs.Stored.{AreClosed}
 use Rattle.lis_store.specs.Unlinking.{entails_by, is_entailed, tags_at, stays, remains, remaining, remaining_at}
-use Rattle.lis_store.proofs.DerivedWords.{is_built_value, derived_built}
 use Rattle.lis_store.proofs.Entailment.{link_named, up_has_number, closed_up}
 use Rattle.lis_store.proofs.Naming.{one_of, of_one}
 use Rattle.lis_store.proofs.Numbers.{sorted_where}
@@ -202,9 +201,7 @@ module _ (k : Kept) (sound : AreSound k) (right slot : ℕ) (l r : List ℕ) (fi
   own_stays u m is (Assigned of) =
       let tag = among_word k sound tags u (subst (λ ws. Among ws u) given of) in
       or_left (has_number tags m) (not (is_entailed k right m)) (subst (λ n. has_number tags n ≡ true) (one_number k sound tag.0 m u tag.1 is) tag.2)
-  own_stays u m is (Derived of) =
-      let valued = (and_parts (is_valued u) (is_built_in (head_bytes u)) (all_among is_built_value (derived_words file.name file.bytes) u (derived_built file.name file.bytes) of)).0 in
-      not_plain_stays u m is (λ h. both_ways (is_valued u) (plain_not_valued u h) valued)
+  own_stays u m is (Derived of) = not_plain_stays u m is (λ h. both_ways (is_plain_word u) (built_in_not_plain u (derived_built_in file.name file.bytes u of)) h)
   own_stays u m is (Met there met) = not_plain_stays u m is (λ h. both_ways (is_test u) (plain_not_test u h) (is_test_of u met))
 
   -- a word of the old description comes without the axiom, or by its right word

@@ -17,6 +17,7 @@ use Rattle.lis_model.specs.declared.limits.Limits.{Limits}
 use Rattle.lis_model.specs.Derived.{derived_words}
 use Rattle.lis_model.specs.Image.{bitmap_start}
 use Rattle.lis_model.specs.Changes.{new_file}
+use Rattle.lis_laws.proofs.Derived.{derived_few}
 use Rattle.lis_kept.specs.Kept.{Kept}
 use Rattle.lis_kept.specs.Areas.{block_of, marked_count}
 use Rattle.lis_kept.specs.Areas.Area.{Files, Rows}
@@ -28,7 +29,6 @@ use Rattle.lis_store.specs.Admitting.{described_by}
 use Rattle.lis_store.specs.Adding.{is_one_of, numbers_named, learnt_words}
 use Rattle.lis_store.specs.ReplacingIn.{AreInForm}
 use Rattle.lis_store.proofs.AddedMarks.{heads_few}
-use Rattle.lis_store.proofs.DerivedWords.{derived_few}
 use Rattle.lis_store.proofs.Numbers.{sorted_where}
 use Rattle.lis_store.proofs.Removed.{sum_has}
 use Rattle.lis_store.proofs.Left.{left_is}

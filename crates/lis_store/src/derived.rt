@@ -3,12 +3,13 @@
 ghost use Rattle.std.specs.Prelude.{◌≡◌};
 ghost use Rattle.lis_model.specs.Derived.{derived_words};
 
+use lis_derive::derive_words;
 use lis_model::derived::Derived;
 use lis_words::Name;
 
-/// The words that a file has by its name and its bytes. Nothing is derived yet.
-pub(crate) fn derived(_name: &Name, _bytes: &[u8]) -> Derived
-    ensures { result ≡ derived_words _name.now _bytes.now }
+/// The words that a file has by its name and its bytes.
+pub(crate) fn derived(name: &Name, bytes: &[u8]) -> Derived
+    ensures { result ≡ derived_words name.now bytes.now }
 {
-    Derived::new()
+    derive_words(name, bytes)
 }

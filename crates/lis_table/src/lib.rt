@@ -2,7 +2,6 @@
 #![tactic(auto)]
 
 pub mod closure;
-pub mod derived;
 pub mod entry;
 pub mod links;
 pub mod listing;

@@ -1,7 +1,38 @@
-use Rattle.std.proofs.Common.{sym}
-use Rattle.lis_open.proofs.FilesRead.{tags_below}
+use Rattle.std.proofs.Common.{◌≡◌, ap, sym, subst, ◌∙◌}
+use Rattle.lis_content.specs.Content.{are_within}
+use Rattle.lis_fields.specs.Records.{FileRecord}
+use Rattle.lis_model.specs.Derived.{derived_words}
+use Rattle.lis_open.specs.ReadFiles.{own_numbers}
+use Rattle.lis_open.proofs.FilesRead.{tags_below, blocks_within, bytes_are}
+use Rattle.lis_open.proofs.Gathering.{described_rise, described_in}
 use Rattle.lis_open.proofs.files.take_record.Goals as goal
 
+pub read-requires-clause-within : goal.read-requires-clause-within
+read-requires-clause-within g c =
+    let blocks = c.as_slice.ensures.value ∙ ap (λ (r : FileRecord). r.blocks) c.rec.view_is in
+    subst (λ ns. are_within c.data_start.result c.args.journal.now.blocks ns ≡ _) (sym blocks)
+    (blocks_within c.args.limits.now c.args.words.now c.args.files.now c.args.rec c.data_start.result c.args.journal.now.blocks c.data_start.ensures.start c.requires.image c.requires.blocks (sym c.if-not-may_file.ensures))
+
 pub describe-requires-clause-below : goal.describe-requires-clause-below
-describe-requires-clause-below c =
+describe-requires-clause-below g c =
     tags_below c.args.words.now c.args.files.now c.args.rec c.args.axioms.now.taxonomy.props c.requires.are c.requires.props (sym c.if-not-may_file.ensures)
+
+pub file-requires-clause-rise : goal.file-requires-clause-rise
+file-requires-clause-rise g c =
+    described_rise c.args.axioms.now.taxonomy (own_numbers c.args.words.now.dict c.args.rec.tags (derived_words c.args.rec.name c.bytes.result.now)) c.as_slice-in-Some.result.now
+    (c.as_slice-in-Some.ensures.value ∙ c.in-Some.ensures.described.1)
+
+pub file-requires-clause-in_range : goal.file-requires-clause-in_range
+file-requires-clause-in_range g c =
+    described_in c.args.axioms.now.taxonomy (own_numbers c.args.words.now.dict c.args.rec.tags (derived_words c.args.rec.name c.bytes.result.now)) c.as_slice-in-Some.result.now c.args.files.now.ext.props
+    (c.requires.rows ∙ sym c.requires.props) (c.as_slice-in-Some.ensures.value ∙ c.in-Some.ensures.described.1)
+
+pub returns-in-None-clause-bytes : goal.returns-in-None-clause-bytes
+returns-in-None-clause-bytes g c = λ kept fits may.
+    bytes_are c.args.limits.now c.args.rec c.as_slice.result.now c.args.journal.now.staged kept c.data_start.result c.read.new.self c.data_start.ensures.start c.requires.clean c.rec.view_is c.as_slice.ensures.value
+    (c.in_ok-read.ensures.read kept fits)
+
+pub returns-in-Some-clause-bytes : goal.returns-in-Some-clause-bytes
+returns-in-Some-clause-bytes g c = λ kept fits may.
+    bytes_are c.args.limits.now c.args.rec c.as_slice.result.now c.args.journal.now.staged kept c.data_start.result c.read.new.self c.data_start.ensures.start c.requires.clean c.rec.view_is c.as_slice.ensures.value
+    (c.in_ok-read.ensures.read kept fits)
