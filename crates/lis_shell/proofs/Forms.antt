@@ -34,16 +34,6 @@ module _ {W : Type 0} (bytes : W → List ℕ) where
       ap (λ t. cond t (Some Run) None) (ap (λ w. same_word (bytes w) (codes "run")) (sym is_word) ∙ is)
   two_words (a ∷ b ∷ c ∷ words) word is_run two is_word is = absurd (omega arith)
 
-  pub three_words : (words : List W) (word number : W) (is_grow : Bool) (found : Option ℕ) → length words ≡ 3 → word ≡ slice_index_or words 0 word → number ≡ slice_index_or words 2 number
-      → same_word (bytes word) (codes "grow") ≡ is_grow → grow_number_of (bytes number) ≡ found → task_of (map bytes words) ≡ cond is_grow (option_map Grow found) None
-  three_words [] word number is_grow found three is_word is_number is told = absurd (omega arith)
-  three_words (a ∷ []) word number is_grow found three is_word is_number is told = absurd (omega arith)
-  three_words (a ∷ b ∷ []) word number is_grow found three is_word is_number is told = absurd (omega arith)
-  three_words (a ∷ b ∷ c ∷ []) word number is_grow found three is_word is_number is told =
-      ap (λ t. cond t (option_map Grow (grow_number_of (bytes c))) None) (ap (λ w. same_word (bytes w) (codes "grow")) (sym is_word) ∙ is)
-      ∙ ap (λ n. cond is_grow (option_map Grow n) None) (ap (λ w. grow_number_of (bytes w)) (sym is_number) ∙ told)
-  three_words (a ∷ b ∷ c ∷ d ∷ words) word number is_grow found three is_word is_number is told = absurd (omega arith)
-
   pub five_words : (words : List W) (word files props blocks : W) (found : Option Limits) → length words ≡ 5 → word ≡ slice_index_or words 0 word
       → files ≡ slice_index_or words 2 files → props ≡ slice_index_or words 3 props → blocks ≡ slice_index_or words 4 blocks
       → same_word (bytes word) (codes "make") ≡ true → limits_of (bytes files) (bytes props) (bytes blocks) ≡ found

@@ -1,7 +1,7 @@
 -- A run of `grow` on an image: how it was opened, and how the session behind it ended.
-use Rattle.std.proofs.Common.{◌≡◌, ◌≢◌, ◌⊎◌, ℕ, List, [], Option, Some, refl, ap, sym, subst, ◌∙◌, inl, inr, arith}
+use Rattle.std.proofs.Common.{◌≡◌, ◌⊎◌, ℕ, List, [], Option, Some, refl, ap, sym, subst, ◌∙◌, inl, inr, arith}
 use Rattle.std.specs.Io.KnownBytes.{append_known}
-use Rattle.lis_ports.specs.Meaning.{Meaning, Now}
+use Rattle.lis_ports.specs.Meaning.{Meaning}
 use Rattle.lis_ports.specs.Runs.{Adds, Leaves}
 use Rattle.lis_ports.specs.Since.{Since}
 use Rattle.lis_ports.proofs.Moments.{adds_none, adds_then, adds_weaken, each_moment}
@@ -14,8 +14,8 @@ use Rattle.lis_session.proofs.Moments.{begins_nothing, take_none}
 use Rattle.lis_session.proofs.Whole.{OnlyNow}
 use Rattle.lis_grow.specs.Session.{GrowMoment, Grows}
 use Rattle.lis_shell.specs.Causes.{Counts, HasStatusCause}
-use Rattle.lis_shell.specs.Runs.{IsSessionStatus, NoFault}
-use Rattle.lis_shell.specs.Grows.{IsGrowStatus, GrowRan, GrowRunMoment, GrowHeadline, GrowsImage, IsGrown}
+use Rattle.lis_shell.specs.Runs.{NoFault}
+use Rattle.lis_shell.specs.Grows.{GrowRan, GrowRunMoment, GrowHeadline, GrowsImage, IsGrown}
 use Rattle.lis_shell.specs.declared.status.Status.{Status}
 use Rattle.lis_shell.specs.declared.status.Status.TheVariants.{Done, Usage, NotAnImage, TooShort, DiskFault, InputFault, OutputFault, InputLimit, NoMemory}
 
