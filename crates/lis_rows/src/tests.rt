@@ -196,6 +196,39 @@ fn files_are_as_large_as_there_are_blocks(rt: HostRuntime) -> Result<(), Fail> {
     Ok(())
 }
 
+/// Two files of about 1,000 bytes, looked at by their size, and what is shown.
+pub fn sized_row(alloc: Global) -> Result<(String, &'static str), AllocError> {
+    let mut row = String::new(alloc);
+    push_file(&mut row, "add a 1000;", 1_000)?;
+    push_file(&mut row, "add b 999;", 999)?;
+    row.push_str("cd size>=1000;ls;write a 0;;ls;cd /;props a;")?;
+    Ok((row, "ok;ok;ok;f a;ok;ok;ok;ok;p size:;p size:empty;ok;"))
+}
+
+/// Files each with a suffix of its own, as many as there is room for their words and one more, and what is shown.
+pub fn crowded_row(alloc: Global) -> Result<(String, String), AllocError> {
+    let mut row = String::new(alloc);
+    let mut wanted = String::new(alloc);
+    for n in 11..72 {
+        row.push_str(format!(in alloc; "create f{n}.e{n};")?.as_str())?;
+        wanted.push_str("ok;")?;
+    }
+    row.push_str("create f72.e72;mkdir music;rm f71.e71;mkdir music;")?;
+    wanted.push_str("no 22 no property room;no 22 no property room;ok;ok;")?;
+    Ok((row, wanted))
+}
+
+#[test]
+fn words_by_size_and_by_name_come_and_go(rt: HostRuntime) -> Result<(), Fail> {
+    let (row, wanted) = sized_row(rt.alloc())?;
+    let seen = run(rt.alloc(), &WORDS, row.as_str(), &SOUND)?;
+    assert_eq!(rt; seen.shown.as_str(), wanted);
+    let (row, wanted) = crowded_row(rt.alloc())?;
+    let seen = run(rt.alloc(), &WORDS, row.as_str(), &SOUND)?;
+    assert_eq!(rt; seen.shown.as_str(), wanted.as_str());
+    Ok(())
+}
+
 #[test]
 fn words_are_judged_before_anything_is_taken_or_shown(rt: HostRuntime) -> Result<(), Fail> {
     for words in &WRONG_WORDS {
