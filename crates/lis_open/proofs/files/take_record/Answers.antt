@@ -1,6 +1,4 @@
-use Rattle.std.proofs.Common.{◌≡◌, ap, sym, subst, ◌∙◌}
-use Rattle.lis_content.specs.Content.{are_within}
-use Rattle.lis_fields.specs.Records.{FileRecord}
+use Rattle.std.proofs.Common.{sym, ◌∙◌}
 use Rattle.lis_model.specs.Derived.{derived_words}
 use Rattle.lis_open.specs.ReadFiles.{own_numbers}
 use Rattle.lis_open.proofs.FilesRead.{tags_below, blocks_within, bytes_are}
