@@ -68,4 +68,3 @@ module _ (limits : Limits) (words : Words) (dict : IsDict words.dict) where
       let m = among_from_has_word (declared_words words) w h in
       sym (ap (bit_of words.declared) (number_from_word words.dict dict w n is))
       ∙ (among_filter (λ word. bit_of words.declared (number_of words.dict word)) (words_of words.dict) w m).1
-
