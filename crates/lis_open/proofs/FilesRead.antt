@@ -85,10 +85,11 @@ tags_below words files rec props are same may =
 
 -- ---- the bytes of a record's file
 -- its blocks are within the image
-pub blocks_within : (limits : Limits) (words : Words) (files : Files) (rec : FileRecord) (start end : ℕ) → start ≡ data_start limits → end ≡ image_blocks limits → length files.map ≡ limits.blocks
-    → may_file words files rec ≡ true → are_within start end rec.blocks ≡ true
-blocks_within limits words files rec start end is_start is_end long may =
-    within_if_below start end (length files.map) rec.blocks (omega (arith, is_start, is_end, long)) (below_from_free files.map rec.blocks (tests_of words files rec may).free)
+pub blocks_within : (limits : Limits) (words : Words) (files : Files) (rec : FileRecord) {seen : FileRecord} (blocks : List ℕ) (start end : ℕ) → start ≡ data_start limits → end ≡ image_blocks limits
+    → length files.map ≡ limits.blocks → seen ≡ rec → blocks ≡ seen.blocks → may_file words files rec ≡ true → are_within start end blocks ≡ true
+blocks_within limits words files rec blocks start end is_start is_end long view same may =
+    ap (are_within start end) (same ∙ ap (λ (r : FileRecord). r.blocks) view)
+    ∙ within_if_below start end (length files.map) rec.blocks (omega (arith, is_start, is_end, long)) (below_from_free files.map rec.blocks (tests_of words files rec may).free)
 
 -- where nothing is staged, what was read are its bytes
 pub bytes_are : (limits : Limits) (rec : FileRecord) {seen : FileRecord} (blocks : List ℕ) (staged : List Entry) (kept : ℕ → List ℕ) (start : ℕ) (bytes : List ℕ) → start ≡ data_start limits → staged ≡ []

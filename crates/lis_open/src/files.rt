@@ -265,7 +265,7 @@ fn take_record<D: Disk>(
     requires form { IsTrue (is_record rec) }
     requires props { axioms.now.taxonomy.props ≡ words.now.dict.props }
     requires rows { files.old.ext.props ≡ words.now.dict.props }
-    requires blocks { length files.old.map ≡ limits.now.blocks }
+    requires map { length files.old.map ≡ limits.now.blocks }
     requires shape { HasShape row.old 2 words.now.dict.props }
     requires below { slot < files.old.catalog.files }
     requires free { rec_at files.old.catalog slot ≡ None }
@@ -322,7 +322,7 @@ fn take_file<D: Disk>(
     requires form { IfSome found (λ file. IsTrue (is_file file)) }
     requires props { axioms.now.taxonomy.props ≡ words.now.dict.props }
     requires rows { files.old.ext.props ≡ words.now.dict.props }
-    requires blocks { length files.old.map ≡ limits.now.blocks }
+    requires map { length files.old.map ≡ limits.now.blocks }
     requires shape { HasShape row.old 2 words.now.dict.props }
     requires below { slot < files.old.catalog.files }
     requires free { rec_at files.old.catalog slot ≡ None }

@@ -1,6 +1,4 @@
-use Rattle.std.proofs.Common.{◌≡◌, ap, sym, subst, ◌∙◌}
-use Rattle.lis_content.specs.Content.{are_within}
-use Rattle.lis_fields.specs.Records.{FileRecord}
+use Rattle.std.proofs.Common.{sym, ◌∙◌}
 use Rattle.lis_model.specs.Derived.{derived_words}
 use Rattle.lis_open.specs.ReadFiles.{own_numbers}
 use Rattle.lis_open.proofs.FilesRead.{tags_below, blocks_within, bytes_are}
@@ -9,9 +7,8 @@ use Rattle.lis_open.proofs.files.take_record.Goals as goal
 
 pub read-requires-clause-within : goal.read-requires-clause-within
 read-requires-clause-within g c =
-    let blocks = c.as_slice.ensures.value ∙ ap (λ (r : FileRecord). r.blocks) c.rec.view_is in
-    subst (λ ns. are_within c.data_start.result c.args.journal.now.blocks ns ≡ _) (sym blocks)
-    (blocks_within c.args.limits.now c.args.words.now c.args.files.now c.args.rec c.data_start.result c.args.journal.now.blocks c.data_start.ensures.start c.requires.image c.requires.blocks (sym c.if-not-may_file.ensures))
+    blocks_within c.args.limits.now c.args.words.now c.args.files.now c.args.rec c.as_slice.result.now c.data_start.result _ c.data_start.ensures.start c.requires.image c.requires.map c.rec.view_is
+    c.as_slice.ensures.value (sym c.if-not-may_file.ensures)
 
 pub describe-requires-clause-below : goal.describe-requires-clause-below
 describe-requires-clause-below g c =
