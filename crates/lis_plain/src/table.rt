@@ -6,8 +6,8 @@ ghost use Rattle.lis_model.specs.Table.{entry_of, table};
 
 use crate::file::File;
 use crate::state::State;
-use lis_table::closure::{Axiom, all_up};
 use lis_derive::derive_words;
+use lis_table::closure::{Axiom, all_up};
 use lis_table::entry::Entry;
 use lis_table::links::met_tests;
 use lis_table::table::{Table, known_words, table_of};
