@@ -128,10 +128,10 @@ more_moments : {start : Situation} {first : List Item} {old mid : Meaning} {fits
 more_moments {start} {first} new result fits_after place_after item done one =
     leaves_then (leaves_weaken _ done.moments (stands_more start first (item ∷ [])))
     (leaves_weaken _ one.moments (λ image stands.
-        elim stands as (λ _. StandsAmong start (first ++ item ∷ []) image) [
-          | inl before ↦ stands_more start first (item ∷ []) image (stands_all start first image before)
-          | inr next ↦ stands_all start (first ++ item ∷ []) image (subst (λ (s : Situation). Stands image s.state) (sym (last_situation start first item)) next)
-        ]))
+    elim stands as (λ _. StandsAmong start (first ++ item ∷ []) image) [
+      | inl before ↦ stands_more start first (item ∷ []) image (stands_all start first image before)
+      | inr next ↦ stands_all start (first ++ item ∷ []) image (subst (λ (s : Situation). Stands image s.state) (sym (last_situation start first item)) next)
+    ]))
 
 -- what is added to a sum
 pub record AddsTo (tally : Tally) (old new : Sum) : Type 0 where

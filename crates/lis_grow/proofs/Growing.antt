@@ -74,8 +74,7 @@ module _ {old mid : Meaning} {fits : State → Type 0} (start : Situation) (item
     stands = always_unchanged summed.ended.fitting.stands (answers.run.call.same summed.ended.fitting.honest);
   }
   ended_all new (Err OutputFault) answers =
-      let front = front_begins mid.shown new.shown (summary start items) answers.run.shown in
-      (
+      let front = front_begins mid.shown new.shown (summary start items) answers.run.shown in (
         front.0,
         front.1,
         record {

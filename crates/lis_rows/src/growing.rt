@@ -18,7 +18,11 @@ static WORDS: [(&[&str], usize, Status); 9] = [
     (&["grow", "i", "-1"], 100, Status::Usage),
     (&["grow", "i", "2147483648"], 100, Status::Usage),
     (&["grows", "i", "7"], 100, Status::Usage),
-    (&["grow", "i", "2147483647"], 100, Status::TooShort(100, 4_096)),
+    (
+        &["grow", "i", "2147483647"],
+        100,
+        Status::TooShort(100, 4_096),
+    ),
     (&["grow", "i", "0"], 0, Status::TooShort(0, 4_096)),
 ];
 

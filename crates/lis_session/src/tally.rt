@@ -112,8 +112,10 @@ fn look(store: &Store, scratch: &mut Scratch, place: &Place, name: &Name) -> Tal
 fn list(store: &Store, scratch: &mut Scratch, place: &Place) -> Tally
     requires { HasRoom scratch.old store.now.parts.limits }
     ensures room { HasRoom scratch.new store.now.parts.limits }
-    ensures listed { result ≡ record { refused = false;
-        listed = length (increments (table_of store.now.parts) place.now) + length (locals (table_of store.now.parts) place.now) } }
+    ensures listed { result ≡ record {
+      refused = false;
+      listed = length (increments (table_of store.now.parts) place.now) + length (locals (table_of store.now.parts) place.now);
+    } }
     ensures sound { IsSound store.now }
     ensures few { result.listed ≤ store.now.parts.limits.props + store.now.parts.limits.files }
 {
