@@ -1,5 +1,5 @@
 -- Items that are carried out with nothing shown: on the way, and their sum.
-use Rattle.std.proofs.Common.{◌≡◌, ℕ, zero, suc, ◌+◌, ◌*◌, ◌≤◌, ◌<◌, Bool, cond, true, false, is_some, List, [], ◌∷◌, ◌++◌, length, Option, Some, None, Result, Ok, Err, refl, ap, sym, subst, ◌∙◌, arith, inl, inr, append_assoc, length-append}
+use Rattle.std.proofs.Common.{◌≡◌, ℕ, ◌+◌, ◌≤◌, ◌<◌, Bool, cond, true, false, is_some, List, [], ◌∷◌, ◌++◌, length, Option, Some, None, Result, Ok, Err, refl, ap, sym, subst, ◌∙◌, arith, inl, inr, length-append}
 use Rattle.std.specs.Option.{IfSome}
 use Rattle.lis_ports.specs.Meaning.{Meaning}
 use Rattle.lis_ports.specs.Runs.{Leaves}
@@ -20,7 +20,6 @@ use Rattle.lis_line.proofs.Answered.{ItemTaken, item_taken, all_taken, limit_tak
 use Rattle.lis_store.specs.Stands.{Stands}
 use Rattle.lis_session.specs.declared.tally.Tally.{Tally}
 use Rattle.lis_session.specs.Item.{FitsAt}
-use Rattle.lis_session.specs.Session.{state_after}
 use Rattle.lis_session.specs.Tally.{is_refusal, listed, Tallied, TalliesItem}
 use Rattle.lis_session.proofs.Laws.{last_situation}
 use Rattle.lis_session.proofs.Moments.{state_front, state_whole}

@@ -1,5 +1,5 @@
 -- The session: its moments, and how it ends.
-use Rattle.std.proofs.Common.{◌≡◌, ℕ, ◌<◌, List, [], length, Result, Ok, Err, refl, ap, sym, subst, ◌∙◌, arith}
+use Rattle.std.proofs.Common.{◌≡◌, ℕ, List, [], length, Result, Ok, Err, refl, ap, sym, subst, ◌∙◌, arith}
 use Rattle.std.specs.Io.KnownBytes.{append_known}
 use Rattle.lis_ports.specs.Meaning.{Meaning}
 use Rattle.lis_ports.specs.Runs.{Adds, Leaves}
@@ -19,7 +19,7 @@ use Rattle.lis_session.specs.Parts.{Answers}
 use Rattle.lis_session.proofs.Moments.{begins_nothing, front_begins, state_whole}
 use Rattle.lis_grow.specs.declared.summary.Sum.{Sum}
 use Rattle.lis_grow.specs.Summary.{summary_text}
-use Rattle.lis_grow.specs.Session.{refusals, listings, summary, StandsAmong, SummedAll, Summed, GrowMoment, GrewAll, GrowEnded, Grows}
+use Rattle.lis_grow.specs.Session.{refusals, listings, summary, StandsAmong, Summed, GrowMoment, GrowEnded, Grows}
 
 -- the text is the summary of the items
 pub summary_is : (start : Situation) (items : List Item) (sum : Sum) (c : Counts) → sum.replies ≡ length items → sum.refused ≡ refusals start items → sum.listed ≡ listings start items

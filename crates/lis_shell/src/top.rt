@@ -166,6 +166,7 @@ fn grow_store<T: Station>(alloc: Global, mut store: Store, station: &mut T, n: u
     requires unbroken { store.is_broken ≡ false }
     requires long { 4096 * store.journal.blocks ≤ (T.meaning station.old).len }
     ensures only { result ≢ Status.NoMemory → IsSessionStatus result }
+    ensures unread { IsGrowStatus result }
     ensures same { IsSameStation (T.meaning station.old) (T.meaning station.new) }
     ensures cause { (k : ℕ) → HasStatusCause (counts (T.meaning station.old) k) (counts (T.meaning station.new) k) result }
     ensures idle { result ≡ Status.NoMemory → station.new ≡ station.old }
@@ -204,7 +205,7 @@ fn grow_image<T: Station>(alloc: Global, station: &mut T, n: u32) -> Status
     match mount(alloc, station) {
         Ok(store) => grow_store(alloc, store, station, n),
         Err(OpenFault::TooShort(len, need)) => Status::TooShort(len, need),
-        Err(OpenFault::Damaged(spot)) => Status::NotAnImage(spot),
+        Err(OpenFault::Damaged(found)) => Status::NotAnImage(found),
         Err(OpenFault::DiskFault) => Status::DiskFault,
         Err(OpenFault::NoMemory) => Status::NoMemory,
     }

@@ -1,6 +1,7 @@
-use Rattle.std.proofs.Common.{Err, refl, ap, ◌∙◌}
+use Rattle.std.proofs.Common.{ℕ, Err, refl, ap, ap₂, subst, ◌∙◌}
 use Rattle.lis_grow.specs.Session.{grow_items}
 use Rattle.lis_session.proofs.Fitting.{same_run, same_then}
+use Rattle.lis_shell.specs.Causes.{Counts, counts, HasStatusCause}
 use Rattle.lis_shell.specs.Grows.{GrowRan}
 use Rattle.lis_shell.proofs.Opened.{not_short, opened_fits, judged_run, idle_run}
 use Rattle.lis_shell.proofs.Grown.{grow_barred, grow_session}
@@ -16,7 +17,7 @@ returns-in-Err-TooShort-clause-grows g c = λ state entry.
 pub returns-in-Err-Damaged-clause-judged : goal.returns-in-Err-Damaged-clause-judged
 returns-in-Err-Damaged-clause-judged g c = λ honest.
     let ended = rw c.in-Err-Damaged.field-0-is at (c.in-Err-Damaged.ensures.ended honest) in
-    rw c.in-Err-Damaged.field-0-is (ended.0, ended.1, c.in-Err-Damaged.ensures.spot c.in-Err-Damaged.spot (ap Err c.in-Err-Damaged.field-0-is) honest)
+    rw c.in-Err-Damaged.field-0-is (ended.0, ended.1, c.in-Err-Damaged.ensures.spot c.in-Err-Damaged.found (ap Err c.in-Err-Damaged.field-0-is) honest)
 
 pub returns-in-Err-NoMemory-clause-past : goal.returns-in-Err-NoMemory-clause-past
 returns-in-Err-NoMemory-clause-past g c = λ state entry settled.
@@ -95,3 +96,12 @@ returns-in-Ok-clause-barred g c = λ honest none.
 
 pub returns-in-Ok-clause-same : goal.returns-in-Ok-clause-same
 returns-in-Ok-clause-same g c = same_then (same_run c.in-Ok.ensures.run) c.grow_store.ensures.same
+
+pub returns-in-Ok-clause-only : goal.returns-in-Ok-clause-only
+returns-in-Ok-clause-only g c = c.grow_store.ensures.unread
+
+pub returns-in-Ok-clause-cause : goal.returns-in-Ok-clause-cause
+returns-in-Ok-clause-cause g c = λ k.
+    let new : Counts = counts (g.T.Disk.meaning c.grow_store.new.station) k in
+    subst (λ (old : Counts). HasStatusCause old new c.grow_store.result)
+    (ap₂ (λ (disk show : ℕ). record { disk = disk; input = k; show = show }) c.in-Ok.ensures.cause c.in-Ok.ensures.run.show_faults) (c.grow_store.ensures.cause k)

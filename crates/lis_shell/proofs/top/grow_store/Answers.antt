@@ -17,8 +17,8 @@ returns-in_default-clause-grows g c = λ state fits.
     let m = g.T.Disk.meaning c.args.station.now in
     grows_none state (grow_items c.args.n) m (GrowRan state (grow_items c.args.n) m.shown m NoMemory) (refl, (store_fits_at c.session_over.ensures.sound fits).stands.reads)
 
-pub returns-in-Ok-clause-grows : goal.returns-in-Ok-clause-grows
-returns-in-Ok-clause-grows g c = λ state fits.
+pub returns-in-Ok-grow_session-clause-grows : goal.returns-in-Ok-grow_session-clause-grows
+returns-in-Ok-grow_session-clause-grows g c = λ state fits.
     let old = g.T.Disk.meaning c.args.station.now in
     let new = g.T.Disk.meaning c.grow_session.new.station in
     let items = grow_items c.args.n in
@@ -33,8 +33,8 @@ returns-in-Err-DiskFault-clause-grows g c = λ state fits.
     subst (λ (place : List Formula). Grows (record { state = state; place = place }) items old new (GrowEnded (record { state = state; place = place }) items old.shown new (Err DiskFault)))
     (ap (λ (s : Situated). s.place) c.in-Ok.ensures.session) (rw c.in-Err-DiskFault.field-0-is at (c.in-Err-DiskFault.ensures.grows state fits))
 
-pub returns-in-Err-OutputFault-clause-grows : goal.returns-in-Err-OutputFault-clause-grows
-returns-in-Err-OutputFault-clause-grows g c = λ state fits.
+pub returns-clause-grows : goal.returns-clause-grows
+returns-clause-grows g c = λ state fits.
     let old = g.T.Disk.meaning c.args.station.now in
     let new = g.T.Disk.meaning c.grow_session.new.station in
     let items = grow_items c.args.n in
