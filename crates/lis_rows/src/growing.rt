@@ -70,14 +70,14 @@ fn a_session_of_a_number_is_always_the_same(rt: HostRuntime) -> Result<(), Fail>
     let summary = row_of(alloc, first.shown())?;
     assert_eq!(rt;
         summary.as_str(),
-        "replies 1241;refused 0;files 800;axioms 15;free 28;listed 108;"
+        "replies 1241;refused 0;files 800;axioms 15;free 28;listed 81;"
     );
     assert_eq!(rt; second.shown(), first.shown());
     // All words, axioms and files are there already, but for the files that were removed, and these are made and removed again.
     assert_eq!(rt; grow(alloc, "7", &mut second)?, Status::Done);
     let both = row_of(alloc, second.shown())?;
     assert!(rt;
-        both.as_str().contains(";replies 1241;refused 832;files 800;axioms 15;free 28;listed 108;"),
+        both.as_str().contains(";replies 1241;refused 832;files 800;axioms 15;free 28;listed 81;"),
         "{both}"
     );
     Ok(())
