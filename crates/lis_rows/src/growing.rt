@@ -64,9 +64,8 @@ fn a_session_of_a_number_is_always_the_same(rt: HostRuntime) -> Result<(), Fail>
     let alloc = rt.alloc();
     let mut first = fresh(alloc)?;
     let mut second = fresh(alloc)?;
-    for station in [&mut first, &mut second] {
-        assert_eq!(rt; grow(alloc, "7", station)?, Status::Done);
-    }
+    assert_eq!(rt; grow(alloc, "7", &mut first)?, Status::Done);
+    assert_eq!(rt; grow(alloc, "7", &mut second)?, Status::Done);
     let summary = row_of(alloc, first.shown())?;
     assert_eq!(rt;
         summary.as_str(),
@@ -88,7 +87,8 @@ fn a_session_of_a_number_is_always_the_same(rt: HostRuntime) -> Result<(), Fail>
 fn a_fault_shows_nothing_of_the_summary(rt: HostRuntime) -> Result<(), Fail> {
     let alloc = rt.alloc();
     let mut station = fresh(alloc)?;
-    station.fails.push(station.calls().saturating_add(1_000))?;
+    let made = station.calls();
+    station.fails.push(made.saturating_add(1_000))?;
     assert_eq!(rt; grow(alloc, "7", &mut station)?, Status::DiskFault);
     assert!(rt; station.shown().is_empty());
     station.fails.clear();
