@@ -7,6 +7,7 @@ ghost use Rattle.lis_model.specs.State.{heads, description, is_known_head, is_na
 ghost use Rattle.lis_model.specs.Step.{exceeds_axioms, exceeds_known, exceeds_words, is_head_or_test, is_side, is_had, is_in_use, room_checks};
 ghost use Rattle.lis_plain.specs.Carries.{Judges, word_room_checks};
 
+use crate::file::File;
 use crate::plain::Answer;
 use crate::state::State;
 use crate::table::{description, known};
@@ -153,12 +154,19 @@ fn is_left_head(axioms: &[Axiom], word: &Word) -> bool
     axioms.iter().any(|pair| is_head_of(&pair.left, word))
 }
 
+fn is_word_of(alloc: Global, state: &State, file: &File, word: &Word) -> Result<bool, AllocError>
+    ensures { IfOk result (λ has. has ≡ has_word (description state.now file.now) word.now) }
+{
+    let words = description(alloc, state, file)?;
+    Ok(has_word(&words, word))
+}
+
 fn is_described(alloc: Global, state: &State, word: &Word) -> Result<bool, AllocError>
     ensures { IfOk result (λ described. described ≡ list_any (λ file. has_word (description state.now file) word.now) state.now.files) }
 {
     for file in &state.files {
-        let words = description(alloc, state, file)?;
-        if has_word(&words, word) {
+        let has = is_word_of(alloc, state, file, word)?;
+        if has {
             return Ok(true);
         }
     }
