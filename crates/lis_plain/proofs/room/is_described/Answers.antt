@@ -20,5 +20,5 @@ loop-file-preserved c =
     let same : item ≡ get_or s.files i item = c.file-item.is ∙ ap (λ xs. get_or xs i item) files in
     let fails : has_word (description s item) c.args.word.now ≡ false = sym c.in_ok-has.ensures ∙ c.if-has.false in
     passed_over (λ (file : File). has_word (description s file) c.args.word.now) s.files i (i + 1) item (omega arith) (omega (arith, c.loop-file-test.true, ap length files))
-        (ap (λ file. has_word (description s file) c.args.word.now) (sym same) ∙ fails)
+    (ap (λ file. has_word (description s file) c.args.word.now) (sym same) ∙ fails)
     ∙ c.loop-file.invariant
