@@ -5,7 +5,7 @@ ghost use Rattle.lis_grammar.specs.Machine.{after_sign, is_test_front, is_operan
 ghost use Rattle.lis_formula.specs.Operands.{operand_node, test_node, counted_number, is_digits_front};
 
 use lis_place::Node;
-use lis_words::{is_count, read_count, read_word};
+use lis_words::{is_count, is_word, read_count, read_formula_word};
 
 /// What stands behind the sign of a test.
 fn after_sign<'a>(sign: &[u8], text: &'a [u8]) -> Option<&'a [u8]>
@@ -39,7 +39,7 @@ fn is_test_front(sign: &[u8], text: &[u8]) -> bool
 pub fn is_operand_front(text: &[u8]) -> bool
     ensures { result ≡ is_operand_front text.now }
 {
-    if read_word(text).is_some() {
+    if is_word(text) {
         return true;
     }
     if is_test_front(b"size>=".as_slice(), text) {
@@ -69,7 +69,7 @@ fn test(text: &[u8]) -> Option<Node>
 pub fn operand(text: &[u8]) -> Option<Node>
     ensures { result ≡ operand_node text.now }
 {
-    match read_word(text) {
+    match read_formula_word(text) {
         Some(word) => Some(Node::Word(word)),
         None => test(text),
     }

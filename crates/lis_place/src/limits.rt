@@ -4,9 +4,11 @@ ghost use Rattle.std.specs.Prelude.{◌≡◌, ◌+◌, ◌*◌, ◌<◌, ◌≤
 ghost use Rattle.std.specs.Fmt.{decimal};
 ghost use Rattle.lis_place.specs.Limits.{with_operand, with_test, with_mark, with_joint, tally_with, tally_after, no_tally, are_place};
 ghost use Rattle.lis_place.specs.Nodes.{steps_of};
+ghost use Rattle.lis_place.specs.declared.node.Node.TheVariants.{Word as NodeWord};
 
 use crate::node::Node;
 use itoa::Buffer;
+use lis_words::{Word, is_word};
 
 /// The most nodes of a place's formula.
 pub const MAX_NODES: usize = 64;
@@ -44,6 +46,19 @@ impl Tally {
             trees: self.trees + 1,
             bytes: self.bytes + bytes,
         })
+    }
+
+    /// A word that no formula may have, as a test is, makes no tree.
+    fn with_word(self, word: &Word) -> Option<Tally>
+        requires trees { self.trees ≤ 64 }
+        requires sum { self.bytes ≤ 3840 }
+        ensures value { result ≡ tally_with self (NodeWord word.now) }
+        ensures bytes { IfSome result (λ next. next.bytes ≤ self.bytes + 60) }
+    {
+        if !is_word(word.bytes()) {
+            return None;
+        }
+        self.with_operand(word.len())
     }
 
     fn with_test(self, sign: usize, number: u64) -> Option<Tally>
@@ -93,7 +108,7 @@ impl Tally {
         ensures bytes { IfSome result (λ next. next.bytes ≤ self.bytes + 60) }
     {
         match node {
-            Node::Word(word) => self.with_operand(word.bytes().len()),
+            Node::Word(word) => self.with_word(word),
             Node::AtLeast(size) => self.with_test(6, *size),
             Node::Below(size) => self.with_test(5, *size),
             Node::Not => self.with_mark(),

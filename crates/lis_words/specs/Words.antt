@@ -96,10 +96,6 @@ is_test word = is_some (test_of word)
 abbrev pub is_property : List ℕ → Bool
 is_property bytes = is_word bytes || is_test bytes
 
--- What the code keeps as a word. It sees no tests until lines name them; then this is `is_property bytes`.
-abbrev pub is_kept_word : List ℕ → Bool
-is_kept_word bytes = is_word bytes
-
 -- the head of a valued word
 abbrev pub head_bytes : List ℕ → List ℕ
 head_bytes bytes = stem bytes ++ 58 ∷ []

@@ -1,10 +1,12 @@
 //! Words: properties as they are written.
 
 ghost use Rattle.std.specs.Prelude.{◌≡◌, ℕ, ◌≤◌, ◌<◌, ◌↔◌, [], ◌∷◌, ◌++◌, ◌&&◌, List, length, codes, IsTrue, IsSome, IfSome};
-ghost use Rattle.lis_words.specs.Words.{is_word, is_kept_word, test_of, is_head, is_valued, is_built_in, has_word, head_bytes, built_in_heads};
+ghost use Rattle.lis_words.specs.Words.{is_word, is_property, test_of, is_head, is_valued, is_built_in, has_word, head_bytes, built_in_heads};
 ghost use Rattle.lis_words.specs.Kind.{kind_of};
 
-use crate::forms::{is_head, is_plain_word, is_valued, is_word, split_at_colon, test_in};
+use crate::forms::{
+    is_head, is_plain_word, is_property, is_valued, is_word, split_at_colon, test_in,
+};
 use arrayvec::ArrayVec;
 use std::marker::Model;
 
@@ -21,7 +23,7 @@ pub enum PropKind {
     Test,
 }
 
-/// A word: a plain word, a head or a valued word, of 1 to 60 bytes. Words are ordered by their bytes.
+/// A word: a plain word, a head, a valued word or a test, of 1 to 60 bytes. Words are ordered by their bytes.
 #[derive(Drop, Debug, Clone, PartialEq, Eq, PartialOrd, Ord)]
 pub struct Word {
     held: ArrayVec<u8, 60>,
@@ -29,13 +31,13 @@ pub struct Word {
 
 impl Model for Word {
     ghost use Rattle.std.specs.Prelude.{ℕ, List, IsTrue};
-    ghost use Rattle.lis_words.specs.Words.{is_kept_word};
+    ghost use Rattle.lis_words.specs.Words.{is_property};
 
     ghost Value = { List ℕ };
 
     ghost view = { λ w. w.held.items };
 
-    ghost invariant = { λ w. IsTrue (is_kept_word w.held.items) };
+    ghost invariant = { λ w. IsTrue (is_property w.held.items) };
 
     ghost inverse = { λ bytes. record { held = record { items = bytes } } };
 }
@@ -51,24 +53,44 @@ impl Default for Word {
     }
 }
 
+fn held(bytes: &[u8]) -> ArrayVec<u8, 60>
+    requires { length bytes.now ≤ 60 }
+    ensures { result.items ≡ bytes.now }
+{
+    let mut held = ArrayVec::new();
+    held.try_extend_from_slice(bytes).unwrap();
+    held
+}
+
 /// Reads a word. None comes exactly where the bytes are no word.
+#[tactic(auto, using(crate::proofs::Tests::property_short))]
 pub fn read_word(bytes: &[u8]) -> Option<Word>
-    ensures word { IsSome result ↔ IsTrue (is_kept_word bytes.now) }
+    ensures word { IsSome result ↔ IsTrue (is_property bytes.now) }
+    ensures same { IfSome result (λ word. word ≡ bytes.now) }
+{
+    if !is_property(bytes) {
+        return None;
+    }
+    let held = held(bytes);
+    Some(Word { held })
+}
+
+/// Reads a word that a formula may have. None comes exactly where the bytes are none: a test is no such word.
+pub fn read_formula_word(bytes: &[u8]) -> Option<Word>
+    ensures word { IsSome result ↔ IsTrue (is_word bytes.now) }
     ensures same { IfSome result (λ word. word ≡ bytes.now) }
 {
     if !is_word(bytes) {
         return None;
     }
-    let mut held = ArrayVec::new();
-    held.try_extend_from_slice(bytes).ok()?;
-    Some(Word { held })
+    read_word(bytes)
 }
 
 impl Word {
     /// The word's bytes.
     pub fn bytes(&self) -> &[u8]
         ensures bytes { result.now ≡ self.now }
-        ensures word { IsTrue (is_kept_word self.now) }
+        ensures word { IsTrue (is_property self.now) }
         ensures short { length result.now ≤ 60 }
     {
         self.held.as_slice()
@@ -190,6 +212,7 @@ pub fn is_builtin(word: &Word) -> bool
 }
 
 /// The word of a head and a value. None comes exactly where the first is no head, or the two are no valued word.
+#[tactic(auto, using(crate::proofs::Tests::valued_is_property))]
 pub fn with_value(head: &Word, value: &[u8]) -> Option<Word>
     ensures valued { IsSome result ↔ (IsTrue (is_head head.now) × IsTrue (is_valued (head.now ++ value.now))) }
     ensures joined { IfSome result (λ word. word ≡ head.now ++ value.now) }
