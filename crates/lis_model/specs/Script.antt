@@ -2,7 +2,7 @@
 use Rattle.std.specs.Prelude.{ℕ, ◌==◌, nat_lt, nat_le, zero, suc, Bool, false, true, ◌&&◌, ◌||◌, if◌then◌else◌, Option, Some, None, Result, Ok, Err, List, [], ◌∷◌, ◌++◌, length, take, drop, filter, codes}
 use Rattle.std.specs.Option.{option_to_list}
 use Rattle.std.specs.List.{list_any, list_all}
-use Rattle.lis_words.specs.Words.{same_word, is_word, is_file_name, is_count, count_of}
+use Rattle.lis_words.specs.Words.{same_word, is_property, is_file_name, is_count, count_of}
 use Rattle.lis_model.specs.declared.refusal.Refusal.{Refusal}
 use Rattle.lis_model.specs.declared.refusal.Refusal.TheVariants.{BadLine, LongLine, CutPayload, PayloadEnd, TooManyAssigned}
 use Rattle.lis_model.specs.declared.command.Command.TheVariants.{Mkdir, Rmdir, Axiom, Unaxiom, Create, Add, Write, Cat, Mv, Rename, Rm, Cd, Pwd, Ls, Props, Way, Stat}
@@ -47,26 +47,22 @@ words_of text = filter is_some_bytes (pieces_on [] text)
 abbrev pub bad_line : Item
 bad_line = Bad BadLine
 
--- A word of a line that may be a property. Tests are not read yet; then it is `is_property word`.
-abbrev pub is_line_word : List ℕ → Bool
-is_line_word word = is_word word
-
 -- one word, and two words
 abbrev pub word_form : (List ℕ → Item) → List (List ℕ) → Item
 word_form item [] = bad_line
-word_form item (word ∷ []) = if is_line_word word then item word else bad_line
+word_form item (word ∷ []) = if is_property word then item word else bad_line
 word_form item (word ∷ more ∷ words) = bad_line
 
 abbrev pub pair_form : (List ℕ → List ℕ → Item) → List (List ℕ) → Item
 pair_form item [] = bad_line
 pair_form item (left ∷ []) = bad_line
-pair_form item (left ∷ right ∷ []) = if is_line_word left && is_line_word right then item left right else bad_line
+pair_form item (left ∷ right ∷ []) = if is_property left && is_property right then item left right else bad_line
 pair_form item (left ∷ right ∷ more ∷ words) = bad_line
 
 -- words that a file is to be given: at most 16 in one line
 abbrev pub tags_form : List (List ℕ) → Result (List (List ℕ)) Refusal
 tags_form words =
-    if list_all is_line_word words then (if nat_lt 16 (length words) then Err TooManyAssigned else Ok words) else Err BadLine
+    if list_all is_property words then (if nat_lt 16 (length words) then Err TooManyAssigned else Ok words) else Err BadLine
 
 abbrev pub create_named : List ℕ → Result (List (List ℕ)) Refusal → Item
 create_named name (Ok words) = Do (Create name words) no_payload

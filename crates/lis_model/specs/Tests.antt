@@ -35,6 +35,6 @@ step_by (Some test) word = if test.0 then SizeAtLeast test.1 else SizeBelow test
 abbrev pub step_of : List ℕ → Formula
 step_of word = step_by (test_of word) word
 
--- None of the words is a test. So it is of all words that the code keeps, until lines name tests; then nothing asks for it.
+-- none of the words is a test
 abbrev pub has_no_tests : List (List ℕ) → Bool
 has_no_tests words = list_all (λ word. not (is_test word)) words
