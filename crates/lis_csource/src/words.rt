@@ -14,7 +14,7 @@ ghost use Rattle.lis_csource.specs.Runs.{run_text};
 use crate::joined::next_byte;
 use crate::runs::Run;
 use lis_model::derived::Derived;
-use lis_words::{Word, read_word};
+use lis_words::{Word, read_formula_word};
 
 fn is_short_keyword(name: &[u8]) -> bool
     ensures { result ≡ has_word keywords name.now }
@@ -62,7 +62,7 @@ fn word_of(head: &[u8], run: Run, bytes: &[u8]) -> Option<Word>
     ensures text { IfSome result (λ word. word ≡ head.now ++ run_text run bytes.now) }
 {
     let text = run.text(head, bytes)?;
-    read_word(text.as_slice())
+    read_formula_word(text.as_slice())
 }
 
 fn note_word(head: &[u8], run: Run, bytes: &[u8], out: &mut Derived)

@@ -6,13 +6,13 @@ ghost use Rattle.lis_model.specs.Noted.{noted_all};
 ghost use Rattle.lis_model.specs.Derived.{size_word};
 
 use lis_model::derived::Derived;
-use lis_words::{Word, read_word};
+use lis_words::{Word, read_formula_word};
 
 fn word_of(bytes: &[u8]) -> Word
     requires { IsTrue (is_word bytes.now) }
     ensures { result ≡ bytes.now }
 {
-    read_word(bytes).unwrap()
+    read_formula_word(bytes).unwrap()
 }
 
 fn size_word(size: usize) -> Word

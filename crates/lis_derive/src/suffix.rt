@@ -7,7 +7,7 @@ ghost use Rattle.lis_model.specs.Derived.{behind_stop, suffix_of, suffix_words};
 
 use arrayvec::ArrayVec;
 use lis_model::derived::Derived;
-use lis_words::{Word, read_word};
+use lis_words::{Word, read_formula_word};
 use memchr::memrchr;
 
 /// The most bytes of a suffix that is in a word.
@@ -61,7 +61,7 @@ fn suffix_word(suffix: &[u8]) -> Option<Word>
         return None;
     }
     let text = suffix_text(suffix);
-    read_word(text.as_slice())
+    read_formula_word(text.as_slice())
 }
 
 /// Notes the word of a suffix, where it is one.

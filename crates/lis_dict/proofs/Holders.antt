@@ -4,7 +4,7 @@ use Rattle.std.specs.BTreeSet.{insert_key}
 use Rattle.std.specs.List.{count_by, position, position_or_len}
 use Rattle.std.proofs.lemmas.Bool.{cases_eq, ne_eqb, ltb-false}
 use Rattle.std.proofs.lemmas.List.Sums.{sum_by-cons, sum_by-set, count_by-le-length}
-use Rattle.lis_words.specs.Words.{is_word}
+use Rattle.lis_words.specs.Words.{is_property}
 use Rattle.lis_dict.specs.Dict.{Dict, IsDict, number_of, word_of, entry_cmp}
 use Rattle.lis_dict.specs.Inside.{dict_of, IsSound}
 use Rattle.lis_dict.proofs.Entries.{Entry}
@@ -46,7 +46,7 @@ module _ (entries new : List Entry) (holders : Holders) (props room more : ℕ) 
   abbrev d : Dict
   d = dict_of entries props
 
-  module _ (below : number < props) (free : word_of d number ≡ None) (absent : number_of d word ≡ None) (form : IsTrue (is_word word))
+  module _ (below : number < props) (free : word_of d number ≡ None) (absent : number_of d word ≡ None) (form : IsTrue (is_property word))
       (same : new ≡ insert_key entry_cmp entries (word, number)) (longer : length new ≡ length entries + 1) where
     pub sound_with_entry : IsSound new (set holders number (Some word)) props more
     sound_with_entry = record {

@@ -7,7 +7,7 @@ use Rattle.std.specs.List.{find, HoldsAt}
 use Rattle.std.proofs.lemmas.Bool.{eq-eqb, eqb-true, ltb-true, lt-ltb}
 use Rattle.std.proofs.lemmas.Map.Lookups.{exact_bytes}
 use Rattle.lis_graph.proofs.Members.{Among, among_filter, among_insert_key, among_map, map_among}
-use Rattle.lis_words.specs.Words.{is_word, same_word}
+use Rattle.lis_words.specs.Words.{is_property, same_word}
 use Rattle.lis_dict.specs.Dict.{Dict, IsDict, words, number_of, word_of, entry_cmp, with_entry, without_word}
 use Rattle.lis_dict.proofs.Finds.{all_among, all_from, find_among, find_none, none_found, find_filter, find_filter_none, find_insert_key, length-insert_key}
 use Rattle.lis_dict.proofs.Entries.{Entry, Ordered, Apart, ordered_from_rising, rising_from_ordered, apart_from_distinct, distinct_from_apart, unique_word, unique_number, ordered_insert, apart_insert, ordered_filter, apart_filter}
@@ -102,8 +102,8 @@ module _ (d : Dict) (kept : IsDict d) where
   number_below word number h = ltb-true number d.props (all_among (λ (e : Entry). nat_lt e.1 d.props) d.entries (word, number) kept.below (among_from_number d word number h))
 
   -- what has a number is a word
-  pub word_is_formed : (word : List ℕ) (number : ℕ) → number_of d word ≡ Some number → IsTrue (is_word word)
-  word_is_formed word number h = all_among is_word (words d) word kept.forms (map_among (λ (e : Entry). e.0) d.entries (word, number) (among_from_number d word number h))
+  pub word_is_formed : (word : List ℕ) (number : ℕ) → number_of d word ≡ Some number → IsTrue (is_property word)
+  word_is_formed word number h = all_among is_property (words d) word kept.forms (map_among (λ (e : Entry). e.0) d.entries (word, number) (among_from_number d word number h))
 
 -- ---- one word more
 module _ (d : Dict) (word : List ℕ) (number : ℕ) (new : number_of d word ≡ None) where
@@ -131,10 +131,10 @@ module _ (d : Dict) (word : List ℕ) (number : ℕ) (new : number_of d word ≡
   pub length-with_entry : length (with_entry d word number).entries ≡ length d.entries + 1
   length-with_entry = length-insert_key entry_cmp d.entries (word, number) no_tie
 
-  pub kept_with_entry : IsDict d → IsTrue (is_word word) → number < d.props → word_of d number ≡ None → length (with_entry d word number).entries ≤ d.props → IsDict (with_entry d word number)
+  pub kept_with_entry : IsDict d → IsTrue (is_property word) → number < d.props → word_of d number ≡ None → length (with_entry d word number).entries ≤ d.props → IsDict (with_entry d word number)
   kept_with_entry kept form below free few = record {
     rising = rising_from_ordered (insert_key entry_cmp d.entries (word, number)) (ordered_insert d.entries (word, number) (ordered d kept));
-    forms = all_from is_word (words (with_entry d word number)) (λ w m. formed w (among_map (λ (e : Entry). e.0) (insert_key entry_cmp d.entries (word, number)) w m));
+    forms = all_from is_property (words (with_entry d word number)) (λ w m. formed w (among_map (λ (e : Entry). e.0) (insert_key entry_cmp d.entries (word, number)) w m));
     below = all_from (λ (e : Entry). nat_lt e.1 d.props) (insert_key entry_cmp d.entries (word, number)) (λ x m. lower x (among_insert_key entry_cmp d.entries (word, number) x m));
     apart = distinct_from_apart (insert_key entry_cmp d.entries (word, number)) (apart_insert d.entries (word, number) (apart d kept) (free_number d number free));
     few = few;
@@ -144,12 +144,12 @@ module _ (d : Dict) (word : List ℕ) (number : ℕ) (new : number_of d word ≡
       lower x (inl same) = subst (λ (e : Entry). nat_lt e.1 d.props ≡ true) same (lt-ltb number d.props below)
       lower x (inr m) = all_among (λ (e : Entry). nat_lt e.1 d.props) d.entries x kept.below m
 
-      formed_at : (x : Entry) → ((word, number) ≡ x) ⊎ Among d.entries x → is_word x.0 ≡ true
-      formed_at x (inl same) = subst (λ (e : Entry). is_word e.0 ≡ true) same form
-      formed_at x (inr m) = all_among is_word (words d) x.0 kept.forms (map_among (λ (e : Entry). e.0) d.entries x m)
+      formed_at : (x : Entry) → ((word, number) ≡ x) ⊎ Among d.entries x → is_property x.0 ≡ true
+      formed_at x (inl same) = subst (λ (e : Entry). is_property e.0 ≡ true) same form
+      formed_at x (inr m) = all_among is_property (words d) x.0 kept.forms (map_among (λ (e : Entry). e.0) d.entries x m)
 
-      formed : (w : List ℕ) → (x : Entry) × Among (insert_key entry_cmp d.entries (word, number)) x × (x.0 ≡ w) → is_word w ≡ true
-      formed w found = subst (λ v. is_word v ≡ true) found.2 (formed_at found.0 (among_insert_key entry_cmp d.entries (word, number) found.0 found.1))
+      formed : (w : List ℕ) → (x : Entry) × Among (insert_key entry_cmp d.entries (word, number)) x × (x.0 ≡ w) → is_property w ≡ true
+      formed w found = subst (λ v. is_property v ≡ true) found.2 (formed_at found.0 (among_insert_key entry_cmp d.entries (word, number) found.0 found.1))
 
 -- ---- one word less
 module _ (d : Dict) (word : List ℕ) where
@@ -184,9 +184,9 @@ module _ (d : Dict) (word : List ℕ) where
   pub kept_without_word : IsDict d → length (without_word d word).entries ≤ d.props → IsDict (without_word d word)
   kept_without_word kept few = record {
     rising = rising_from_ordered (filter (is_other word) d.entries) (ordered_filter (is_other word) d.entries (ordered d kept));
-    forms = all_from is_word (words (without_word d word)) (λ w m.
+    forms = all_from is_property (words (without_word d word)) (λ w m.
         let x = among_map (λ (e : Entry). e.0) (filter (is_other word) d.entries) w m in
-        subst (λ v. is_word v ≡ true) x.2 (all_among is_word (words d) (x.0).0 kept.forms (map_among (λ (e : Entry). e.0) d.entries x.0 (among_filter (is_other word) d.entries x.0 x.1).0)));
+        subst (λ v. is_property v ≡ true) x.2 (all_among is_property (words d) (x.0).0 kept.forms (map_among (λ (e : Entry). e.0) d.entries x.0 (among_filter (is_other word) d.entries x.0 x.1).0)));
     below = all_from (λ (e : Entry). nat_lt e.1 d.props) (filter (is_other word) d.entries) (λ x m. all_among (λ (e : Entry). nat_lt e.1 d.props) d.entries x kept.below (among_filter (is_other word) d.entries x m).0);
     apart = distinct_from_apart (filter (is_other word) d.entries) (apart_filter (is_other word) d.entries (apart d kept));
     few = few;

@@ -5,7 +5,7 @@ use Rattle.std.specs.List.{find, list_any, list_all}
 use Rattle.std.specs.BTreeSet.{insert_key}
 use Rattle.std.specs.declared.cmp.Ordering.{Ordering}
 use Rattle.lis_graph.specs.Graph.{is_rising}
-use Rattle.lis_words.specs.Words.{is_kept_word, word_cmp, same_word}
+use Rattle.lis_words.specs.Words.{is_property, word_cmp, same_word}
 
 -- words and their numbers, which are below `props`
 pub record Dict : Type 0 where
@@ -49,7 +49,7 @@ are_distinct (n ∷ ns) = not (list_any (λ m. m == n) ns) && are_distinct ns
 -- what holds of each dictionary
 pub record IsDict (d : Dict) : Type 0 where
   pub rising : IsTrue (is_rising word_cmp (words d))
-  pub forms : IsTrue (list_all is_kept_word (words d))
+  pub forms : IsTrue (list_all is_property (words d))
   pub below : IsTrue (list_all (λ e. nat_lt e.1 d.props) d.entries)
   pub apart : IsTrue (are_distinct (numbers d))
   pub few : length d.entries ≤ d.props

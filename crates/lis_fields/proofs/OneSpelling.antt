@@ -15,7 +15,8 @@ use Rattle.lis_fields.specs.declared.slots.FileSlot.{FileSlot}
 use Rattle.lis_fields.specs.declared.slots.FileSlot.TheVariants.{Free as FreeFile, Used}
 use Rattle.lis_fields.proofs.Widths.{front_is, same_number}
 use Rattle.lis_fields.proofs.Shorts.{shorts, length_shorts, same_shorts}
-use Rattle.lis_fields.proofs.Texts.{name_short, word_short}
+use Rattle.lis_words.proofs.Tests.{property_short}
+use Rattle.lis_fields.proofs.Texts.{name_short}
 use Rattle.lis_fields.proofs.Pairs.{left_number, right_number, axiom_spelled, axiom_fits}
 use Rattle.lis_fields.proofs.Parts.{text_parts, length_start, length_numbers, few_tags, few_blocks, record_tests, file_parts, same_record, undeclared_word, declarable_word}
 use Rattle.lis_fields.proofs.Supers.{super_fits, same_super}
@@ -68,12 +69,12 @@ prop_once FreeProp (Known w) is_a is_b e = let first : 0 ≡ 1 = ap (λ xs. get_
 prop_once FreeProp (Declared w) is_a is_b e = let first : 0 ≡ 2 = ap (λ xs. get_or xs 0 0) e in absurd (omega (arith, first))
 prop_once (Known v) FreeProp is_a is_b e = let first : 1 ≡ 0 = ap (λ xs. get_or xs 0 0) e in absurd (omega (arith, first))
 prop_once (Known v) (Known w) is_a is_b e =
-    ap Known (same_framed 1 1 v w (zeros 2) (zeros 2) (word_short v (undeclared_word v is_a)) (word_short w (undeclared_word w is_b)) e).0
+    ap Known (same_framed 1 1 v w (zeros 2) (zeros 2) (property_short v (undeclared_word v is_a)) (property_short w (undeclared_word w is_b)) e).0
 prop_once (Known v) (Declared w) is_a is_b e = let first : 1 ≡ 2 = ap (λ xs. get_or xs 0 0) e in absurd (omega (arith, first))
 prop_once (Declared v) FreeProp is_a is_b e = let first : 2 ≡ 0 = ap (λ xs. get_or xs 0 0) e in absurd (omega (arith, first))
 prop_once (Declared v) (Known w) is_a is_b e = let first : 2 ≡ 1 = ap (λ xs. get_or xs 0 0) e in absurd (omega (arith, first))
 prop_once (Declared v) (Declared w) is_a is_b e =
-    ap Declared (same_framed 2 2 v w (zeros 2) (zeros 2) (word_short v (declarable_word v is_a)) (word_short w (declarable_word w is_b)) e).0
+    ap Declared (same_framed 2 2 v w (zeros 2) (zeros 2) (property_short v (declarable_word v is_a)) (property_short w (declarable_word w is_b)) e).0
 
 short_tags : (tags : List ℕ) → IsTrue (are_tags tags) → are_short tags ≡ true
 short_tags tags h = (and_parts (nat_le (length tags) 16) (are_short tags) (and_parts (nat_le (length tags) 16 && are_short tags) (is_rising nat_cmp tags) h).0).1

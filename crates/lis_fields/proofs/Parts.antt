@@ -2,17 +2,17 @@
 use Rattle.std.proofs.Common.{◌≡◌, refl, sym, ap, ap₂, ◌∙◌, ℕ, ◌≤◌, nat_le, Bool, true, false, not, ◌&&◌, ◌||◌, inl, inr, take_at, drop_at, List, [], ◌∷◌, ◌++◌, length, get_or, take, drop, IsTrue, Option, Some, arith, length-append}
 use Rattle.std.proofs.lemmas.Bool.{and_parts, and_from, or_cases, or_left, or_right, leb-true, le-leb, eqb-true}
 use Rattle.byteorder.specs.Endian.{little_bytes}
-use Rattle.lis_words.specs.Words.{is_word, is_plain_word, is_head, is_valued, is_built_in, is_file_name}
+use Rattle.lis_words.specs.Words.{is_word, is_plain_word, is_head, is_valued, is_test, is_property, is_built_in, is_file_name}
+use Rattle.lis_words.proofs.Tests.{word_is_property, property_short}
 use Rattle.lis_model.specs.State.{is_declarable, blocks_needed}
-use Rattle.lis_model.proofs.NoTests.{word_not_test}
 use Rattle.lis_fields.specs.Records.{FileRecord}
-use Rattle.lis_fields.specs.Layouts.{zeros, text_bytes, named, prop_bytes, is_prop, is_undeclared, is_slot_word, file_start, numbers, record_bytes, file_bytes, are_tags, are_blocks, is_record, is_file}
+use Rattle.lis_fields.specs.Layouts.{zeros, text_bytes, named, prop_bytes, is_prop, is_undeclared, file_start, numbers, record_bytes, file_bytes, are_tags, are_blocks, is_record, is_file}
 use Rattle.lis_fields.specs.declared.slots.PropSlot.{PropSlot}
 use Rattle.lis_fields.specs.declared.slots.PropSlot.TheVariants.{Free as FreeProp, Known, Declared}
 use Rattle.lis_fields.specs.declared.slots.FileSlot.{FileSlot}
 use Rattle.lis_fields.specs.declared.slots.FileSlot.TheVariants.{Free as FreeFile, Used}
 use Rattle.lis_fields.proofs.Widths.{front_is, behind_is, joined, length_zeros, length_padded}
-use Rattle.lis_fields.proofs.Texts.{length_text, name_short, word_short}
+use Rattle.lis_fields.proofs.Texts.{length_text, name_short}
 use Rattle.lis_fields.proofs.Shorts.{shorts, length_shorts}
 
 pub same_found : {A B : Type 0} (a c : A) (b d : B) → ◌≡◌ {A = Option (A × B)} (Some (a, b)) (Some (c, d)) → (a ≡ c) × (b ≡ d)
@@ -112,39 +112,29 @@ unfolding file_bytes
 length_file FreeFile is = length_zeros 256
 length_file (Used rec) is = length_record rec is
 
-pub undeclared_word : (word : List ℕ) → IsTrue (is_undeclared word) → IsTrue (is_word word)
+pub undeclared_word : (word : List ℕ) → IsTrue (is_undeclared word) → IsTrue (is_property word)
 undeclared_word word h =
-    elim (or_cases (is_valued word) (is_head word && is_built_in word) h) [
+    word_is_property word
+    (elim (or_cases (is_valued word) (is_head word && is_built_in word) h) [
       | inl valued ↦ or_right (is_plain_word word || is_head word) (is_valued word) valued
       | inr head ↦ or_left (is_plain_word word || is_head word) (is_valued word) (or_right (is_plain_word word) (is_head word) (and_parts (is_head word) (is_built_in word) head).0)
+    ])
+
+pub declarable_word : (word : List ℕ) → IsTrue (is_declarable word) → IsTrue (is_property word)
+declarable_word word h =
+    elim (or_cases (is_plain_word word || is_test word) (is_head word && not (is_built_in word)) h) [
+      | inl early ↦ elim (or_cases (is_plain_word word) (is_test word) early) [
+        | inl plain ↦ word_is_property word (or_left (is_plain_word word || is_head word) (is_valued word) (or_left (is_plain_word word) (is_head word) plain))
+        | inr test ↦ or_right (is_word word) (is_test word) test
+      ]
+      | inr head ↦ word_is_property word (or_left (is_plain_word word || is_head word) (is_valued word) (or_right (is_plain_word word) (is_head word) (and_parts (is_head word) (not (is_built_in word)) head).0))
     ]
-
-pub declarable_word : (word : List ℕ) → IsTrue (is_slot_word word) → IsTrue (is_word word)
-declarable_word word h = (and_parts (is_word word) (is_declarable word) h).0
-
--- a word that the code keeps is plain, or a head, or none that may be declared
-slot_tests : (word : List ℕ) → IsTrue (is_word word) → is_slot_word word ≡ (is_plain_word word || (is_head word && not (is_built_in word)))
-slot_tests word is =
-    ap (λ b. b && is_declarable word) is
-    ∙ (ap (λ t. is_plain_word word || t || (is_head word && not (is_built_in word))) (word_not_test word is) ∙ or_none (is_plain_word word) _)
-  where
-    or_none : (a b : Bool) → (a || false || b) ≡ (a || b)
-    or_none true b = refl
-    or_none false b = refl
-
-pub plain_slot : (word : List ℕ) → IsTrue (is_word word) → is_plain_word word ≡ true → true ≡ is_slot_word word
-plain_slot word is plain = sym (slot_tests word is ∙ ap (λ t. t || (is_head word && not (is_built_in word))) plain)
-
-pub other_slot : (word : List ℕ) (head built : Bool) → IsTrue (is_word word) → is_plain_word word ≡ false → is_head word ≡ head → is_built_in word ≡ built
-    → (head && not built) ≡ is_slot_word word
-other_slot word head built is plain h b =
-    sym (slot_tests word is ∙ ap (λ t. t || (is_head word && not (is_built_in word))) plain ∙ ap₂ (λ x y. x && not y) h b)
 
 pub length_prop : (slot : PropSlot) → IsTrue (is_prop slot) → length (prop_bytes slot) ≡ 64
 unfolding prop_bytes
 length_prop FreeProp is = length_zeros 64
-length_prop (Known word) is = length_named 1 word (word_short word (undeclared_word word is))
-length_prop (Declared word) is = length_named 2 word (word_short word (declarable_word word is))
+length_prop (Known word) is = length_named 1 word (property_short word (undeclared_word word is))
+length_prop (Declared word) is = length_named 2 word (property_short word (declarable_word word is))
 
 abbrev record_of : List ℕ → ℕ → List ℕ → List ℕ → FileRecord
 record_of name size tags blocks = record { name = name; size = size; tags = tags; blocks = blocks }

@@ -1,7 +1,7 @@
 -- Texts behind their length, with zeros behind them.
 use Rattle.std.proofs.Common.{◌≡◌, sym, ap, ap₂, ◌∙◌, ℕ, ◌≤◌, true, false, ◌||◌, List, ◌∷◌, length, take, drop, IsTrue, arith, length-take-le, inl, inr}
-use Rattle.std.proofs.lemmas.Bool.{and_parts, or_cases, leb-true}
-use Rattle.lis_words.specs.Words.{is_word, is_plain_word, is_head, is_valued, is_file_name, has_stem}
+use Rattle.std.proofs.lemmas.Bool.{and_parts, leb-true}
+use Rattle.lis_words.specs.Words.{is_file_name}
 use Rattle.lis_fields.specs.Layouts.{padded, text_bytes}
 use Rattle.lis_fields.proofs.Widths.{are_zero, padding_zero, padded_from, length_padded}
 
@@ -26,19 +26,3 @@ text_from len rest text padding full few front behind all =
 
 pub name_short : (name : List ℕ) → IsTrue (is_file_name name) → length name ≤ 60
 name_short name h = leb-true _ _ (and_parts _ _ (and_parts _ _ (and_parts _ _ h).0).0).1
-
-plain_short : (word : List ℕ) → is_plain_word word ≡ true → length word ≤ 60
-plain_short word h = leb-true _ _ (and_parts _ _ (and_parts _ _ (and_parts _ _ h).0).0).1
-
-stem_short : (word : List ℕ) → has_stem word ≡ true → length word ≤ 60
-stem_short word h = leb-true _ _ (and_parts _ _ (and_parts _ _ h).0).0
-
-pub word_short : (word : List ℕ) → IsTrue (is_word word) → length word ≤ 60
-word_short word h =
-    elim (or_cases (is_plain_word word || is_head word) (is_valued word) h) [
-      | inl early ↦ elim (or_cases (is_plain_word word) (is_head word) early) [
-        | inl plain ↦ plain_short word plain
-        | inr head ↦ stem_short word (and_parts _ _ head).0
-      ]
-      | inr valued ↦ stem_short word (and_parts _ _ (and_parts _ _ valued).0).0
-    ]

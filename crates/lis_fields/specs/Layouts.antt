@@ -4,7 +4,7 @@ use Rattle.std.specs.List.{list_any, list_all, flat_map}
 use Rattle.std.specs.Ordering.{nat_cmp}
 use Rattle.byteorder.specs.Endian.{little_bytes}
 use Rattle.lis_graph.specs.Graph.{is_rising}
-use Rattle.lis_words.specs.Words.{is_kept_word, is_head, is_valued, is_built_in, is_file_name}
+use Rattle.lis_words.specs.Words.{is_head, is_valued, is_built_in, is_file_name}
 use Rattle.lis_model.specs.declared.limits.Limits.{Limits}
 use Rattle.lis_model.specs.Ranges.{are_in_range}
 use Rattle.lis_model.specs.State.{is_declarable, blocks_needed}
@@ -55,15 +55,11 @@ prop_bytes (Declared word) = named 2 word
 abbrev pub is_undeclared : List ℕ → Bool
 is_undeclared word = is_valued word || (is_head word && is_built_in word)
 
--- What may stand in a slot of a declared word. The code keeps no tests yet; then this is `is_declarable word`.
-abbrev pub is_slot_word : List ℕ → Bool
-is_slot_word word = is_kept_word word && is_declarable word
-
 -- the word is one of its kind
 abbrev pub is_prop : PropSlot → Bool
 is_prop FreeProp = true
 is_prop (Known word) = is_undeclared word
-is_prop (Declared word) = is_slot_word word
+is_prop (Declared word) = is_declarable word
 
 -- an axiom slot: the slot numbers of its two words, each plus 1
 unfoldable pub axiom_bytes : AxiomSlot → List ℕ

@@ -1,14 +1,15 @@
 //! Property slots.
 
 ghost use Rattle.std.specs.Prelude.{◌≡◌, ℕ, ◌^◌, ◌<◌, List, length, Option, Some, IfSome, IsTrue};
-ghost use Rattle.lis_words.specs.Words.{is_word};
-ghost use Rattle.lis_fields.specs.Layouts.{named, prop_bytes, is_prop, is_undeclared, is_slot_word};
+ghost use Rattle.lis_words.specs.Words.{is_property};
+ghost use Rattle.lis_model.specs.State.{is_declarable};
+ghost use Rattle.lis_fields.specs.Layouts.{named, prop_bytes, is_prop, is_undeclared};
 ghost use Rattle.lis_fields.specs.declared.slots.PropSlot.{PropSlot};
 ghost use Rattle.lis_fields.specs.declared.slots.PropSlot.TheVariants.{Known, Declared};
 
 use crate::fields::{TEXT_FIELD, are_zeros, read_text, write_text, write_zeros};
 use crate::slots::PropSlot;
-use lis_words::{Word, is_builtin, is_head, is_plain_word, is_valued, read_word};
+use lis_words::{Word, is_builtin, is_head, is_plain_word, is_valued, read_word, test_of};
 
 /// How many bytes a property slot has.
 pub const PROP_LEN: usize = 64;
@@ -27,11 +28,13 @@ fn is_undeclared(word: &Word) -> bool
 }
 
 /// Whether the word may be declared.
-#[tactic(auto, using(crate::proofs::Parts::plain_slot, crate::proofs::Parts::other_slot))]
-fn is_slot_word(word: &Word) -> bool
-    ensures { result ≡ is_slot_word word.now }
+fn is_declarable(word: &Word) -> bool
+    ensures { result ≡ is_declarable word.now }
 {
     if is_plain_word(word.bytes()) {
+        return true;
+    }
+    if test_of(word).is_some() {
         return true;
     }
     if !is_head(word.bytes()) {
@@ -44,7 +47,7 @@ fn is_slot_word(word: &Word) -> bool
 fn read_named(bytes: &[u8]) -> Option<(u8, Word)>
     requires { length bytes.now ≡ 64 }
     ensures spelled { IfSome result (λ found. bytes.now ≡ named found.0 found.1) }
-    ensures same { (kind : ℕ) (word : List ℕ) → IsTrue (is_word word) → bytes.now ≡ named kind word → result ≡ Some (kind, word) }
+    ensures same { (kind : ℕ) (word : List ℕ) → IsTrue (is_property word) → bytes.now ≡ named kind word → result ≡ Some (kind, word) }
 {
     let (kind, rest) = bytes.split_first()?;
     let (text, end) = rest.split_at(TEXT_FIELD);
@@ -60,7 +63,7 @@ fn read_named(bytes: &[u8]) -> Option<(u8, Word)>
 fn named_slot(kind: u8, word: Word) -> Option<PropSlot>
     ensures spelled { IfSome result (λ slot. IsTrue (is_prop slot) × (named kind word ≡ prop_bytes slot)) }
     ensures known { kind ≡ 1 → IsTrue (is_undeclared word) → result ≡ Some (Known word) }
-    ensures declared { kind ≡ 2 → IsTrue (is_slot_word word) → result ≡ Some (Declared word) }
+    ensures declared { kind ≡ 2 → IsTrue (is_declarable word) → result ≡ Some (Declared word) }
 {
     match kind {
         1 => {
@@ -70,7 +73,7 @@ fn named_slot(kind: u8, word: Word) -> Option<PropSlot>
             Some(PropSlot::Known(word))
         }
         2 => {
-            if !is_slot_word(&word) {
+            if !is_declarable(&word) {
                 return None;
             }
             Some(PropSlot::Declared(word))

@@ -5,12 +5,12 @@ use Rattle.std.specs.List.{list_all, list_any}
 use Rattle.std.proofs.lemmas.Bool.{and_parts, and_from, or_left, ltb-false}
 use Rattle.std.proofs.lemmas.List.{length-take}
 use Rattle.std.proofs.lemmas.List.Folds.{list_all-append}
-use Rattle.lis_words.specs.Words.{same_word, is_word, is_property, is_file_name, is_count}
+use Rattle.lis_words.specs.Words.{same_word, is_property, is_file_name, is_count}
 use Rattle.lis_model.specs.declared.refusal.Refusal.TheVariants.{BadLine, LongLine, CutPayload, PayloadEnd, TooManyAssigned}
 use Rattle.lis_model.specs.declared.command.Command.TheVariants.{Mkdir, Rmdir, Axiom, Unaxiom, Write, Cat, Mv, Rename, Rm, Pwd, Ls, Props, Way, Stat}
 use Rattle.lis_model.specs.Step.{Item, Payload, no_payload}
 use Rattle.lis_model.specs.Step.Item.{Do, Bad}
-use Rattle.lis_model.specs.Script.{bad_line, is_line_word, word_form, pair_form, tags_form, create_named, create_form, add_named, add_form, write_form, file_form, cd_form, mv_form, rename_form, alone_form, form_of, item_of_words, item_of, line_words, is_long, payload_limit, payload_of, payload_size, before_feed, after_feed, First, first_ended, first_with, first_by, first_of, items_within, all_items, whole_within, whole_items, script, is_feed}
+use Rattle.lis_model.specs.Script.{bad_line, word_form, pair_form, tags_form, create_named, create_form, add_named, add_form, write_form, file_form, cd_form, mv_form, rename_form, alone_form, form_of, item_of_words, item_of, line_words, is_long, payload_limit, payload_of, payload_size, before_feed, after_feed, First, first_ended, first_with, first_by, first_of, items_within, all_items, whole_within, whole_items, script, is_feed}
 use Rattle.lis_laws.specs.Steps.{is_payload, is_formed}
 
 -- a choice of two items in form is one
@@ -31,37 +31,27 @@ payload_formed size bytes is = by (nat_le size payload_limit)
     by true = eq-eqb (length bytes) size is
     by false = refl
 
--- what a line may have for a property is one
-line_property : (word : List ℕ) → is_line_word word ≡ true → is_property word ≡ true
-line_property word h = or_left _ _ h
-
-line_properties : (words : List (List ℕ)) → list_all is_line_word words ≡ true → list_all is_property words ≡ true
-line_properties [] h = refl
-line_properties (word ∷ words) h =
-    let parts = and_parts (is_line_word word) (list_all is_line_word words) h in
-    and_from _ _ (line_property word parts.0) (line_properties words parts.1)
-
 word_formed : (item : List ℕ → Item) → ((word : List ℕ) → is_property word ≡ true → is_formed (item word) ≡ true) → (words : List (List ℕ)) → is_formed (word_form item words) ≡ true
 word_formed item formed [] = refl
-word_formed item formed (word ∷ []) = tested (is_line_word word) (item word) (λ e. formed word (line_property word e))
+word_formed item formed (word ∷ []) = tested (is_property word) (item word) (formed word)
 word_formed item formed (word ∷ more ∷ words) = refl
 
 pair_formed : (item : List ℕ → List ℕ → Item) → ((left right : List ℕ) → is_property left ≡ true → is_property right ≡ true → is_formed (item left right) ≡ true)
     → (words : List (List ℕ)) → is_formed (pair_form item words) ≡ true
 pair_formed item formed [] = refl
 pair_formed item formed (left ∷ []) = refl
-pair_formed item formed (left ∷ right ∷ []) = tested (is_line_word left && is_line_word right) (item left right) both
+pair_formed item formed (left ∷ right ∷ []) = tested (is_property left && is_property right) (item left right) both
   where
-    both : (is_line_word left && is_line_word right) ≡ true → is_formed (item left right) ≡ true
-    both e = let parts = and_parts (is_line_word left) (is_line_word right) e in formed left right (line_property left parts.0) (line_property right parts.1)
+    both : (is_property left && is_property right) ≡ true → is_formed (item left right) ≡ true
+    both e = let parts = and_parts (is_property left) (is_property right) e in formed left right parts.0 parts.1
 pair_formed item formed (left ∷ right ∷ more ∷ words) = refl
 
 create_named_formed : (name : List ℕ) (words : List (List ℕ)) → is_file_name name ≡ true → is_formed (create_named name (tags_form words)) ≡ true
-create_named_formed name words named = by (list_all is_line_word words) refl (nat_lt 16 (length words))
+create_named_formed name words named = by (list_all is_property words) refl (nat_lt 16 (length words))
   where
-    by : (b : Bool) → list_all is_line_word words ≡ b → (many : Bool) → is_formed (create_named name (cond b (cond many (Err TooManyAssigned) (Ok words)) (Err BadLine))) ≡ true
+    by : (b : Bool) → list_all is_property words ≡ b → (many : Bool) → is_formed (create_named name (cond b (cond many (Err TooManyAssigned) (Ok words)) (Err BadLine))) ≡ true
     by true e true = refl
-    by true e false = and_from _ _ (and_from _ _ named (line_properties words e)) refl
+    by true e false = and_from _ _ (and_from _ _ named e) refl
     by false e many = refl
 
 create_formed : (words : List (List ℕ)) → is_formed (create_form words) ≡ true
@@ -69,11 +59,11 @@ create_formed [] = refl
 create_formed (name ∷ words) = tested (is_file_name name) (create_named name (tags_form words)) (create_named_formed name words)
 
 add_named_formed : (name : List ℕ) (words : List (List ℕ)) (payload : Payload) → is_payload payload ≡ true → is_file_name name ≡ true → is_formed (add_named name payload (tags_form words)) ≡ true
-add_named_formed name words payload sized named = by (list_all is_line_word words) refl (nat_lt 16 (length words))
+add_named_formed name words payload sized named = by (list_all is_property words) refl (nat_lt 16 (length words))
   where
-    by : (b : Bool) → list_all is_line_word words ≡ b → (many : Bool) → is_formed (add_named name payload (cond b (cond many (Err TooManyAssigned) (Ok words)) (Err BadLine))) ≡ true
+    by : (b : Bool) → list_all is_property words ≡ b → (many : Bool) → is_formed (add_named name payload (cond b (cond many (Err TooManyAssigned) (Ok words)) (Err BadLine))) ≡ true
     by true e true = refl
-    by true e false = and_from _ _ (and_from _ _ named (line_properties words e)) sized
+    by true e false = and_from _ _ (and_from _ _ named e) sized
     by false e many = refl
 
 add_formed : (words : List (List ℕ)) (payload : Payload) → is_payload payload ≡ true → is_formed (add_form words payload) ≡ true

@@ -1,10 +1,11 @@
 //! The forms of lines, by what stands behind the first word.
 
 ghost use Rattle.std.specs.Prelude.{◌≡◌, ◌↔◌, ℕ, ◌≤◌, List, length, IsSome, IfSome, IsTrue};
+ghost use Rattle.lis_words.specs.Words.{is_property};
 ghost use Rattle.lis_model.specs.Step.{Item, Payload, no_payload};
 ghost use Rattle.lis_model.specs.Step.Item.{Do};
 ghost use Rattle.lis_model.specs.declared.command.Command.TheVariants.{Mkdir, Rmdir, Axiom, Unaxiom, Cat, Rm, Pwd, Ls, Props, Way, Stat};
-ghost use Rattle.lis_model.specs.Script.{is_line_word, words_of, word_form, pair_form, tags_form, create_form, add_form, write_form, file_form, cd_form, mv_form, rename_form, alone_form};
+ghost use Rattle.lis_model.specs.Script.{words_of, word_form, pair_form, tags_form, create_form, add_form, write_form, file_form, cd_form, mv_form, rename_form, alone_form};
 ghost use Rattle.lis_line.specs.Forms.{asked_of, word_asks, pair_asks};
 
 use crate::line::{next_word, no_words, only_word, two_words};
@@ -18,7 +19,7 @@ const MAX_TAGS: usize = 16;
 
 /// Reads a word of a line that may be a property.
 fn read_property(bytes: &[u8]) -> Option<Word>
-    ensures word { IsSome result ↔ IsTrue (is_line_word bytes.now) }
+    ensures word { IsSome result ↔ IsTrue (is_property bytes.now) }
     ensures same { IfSome result (λ word. word ≡ bytes.now) }
 {
     read_word(bytes)

@@ -7,7 +7,7 @@ ghost use Rattle.lis_transducers.specs.Mail.{with_head};
 
 use arrayvec::ArrayVec;
 use lis_model::derived::Derived;
-use lis_words::{Word, read_word};
+use lis_words::{Word, read_formula_word};
 
 /// The head and the bytes behind it in small letters. None comes exactly where they are more than 60 bytes.
 pub fn with_head(head: &[u8], bytes: &[u8]) -> Option<ArrayVec<u8, 60>>
@@ -28,7 +28,7 @@ fn word_of(head: &[u8], token: &[u8]) -> Option<Word>
     ensures joined { IfSome result (λ word. word ≡ with_head head.now token.now) }
 {
     let joined = with_head(head, token)?;
-    read_word(joined.as_slice())
+    read_formula_word(joined.as_slice())
 }
 
 /// Notes the word of a head and a token, where it is one.
