@@ -8,7 +8,7 @@ use Rattle.lis_graph.proofs.Members.{Among, among_filter, among_from_any, among_
 use Rattle.lis_dict.specs.Dict.{IsDict, words, word_of}
 use Rattle.lis_fields.specs.declared.slots.AxiomSlot.{AxiomSlot}
 use Rattle.lis_fields.specs.declared.slots.AxiomSlot.TheVariants.{Free as FreeAxiom, Pair}
-use Rattle.lis_words.specs.Words.{same_word, has_word, head_bytes, is_valued, is_kept_word, is_test}
+use Rattle.lis_words.specs.Words.{same_word, has_word, head_bytes, is_valued, is_property, is_test}
 use Rattle.lis_model.specs.State.{heads}
 use Rattle.lis_model.specs.Tests.{has_no_tests}
 use Rattle.lis_model.proofs.NoTests.{word_not_test, no_weaker}
@@ -22,7 +22,7 @@ pub declared_no_tests : (k : Kept) → IsDict k.dict → has_no_tests (declared_
 declared_no_tests k dict =
     all_from (λ w. not (is_test w)) (declared_of k) (λ w m.
     let there = (among_filter (is_declared k) (words k.dict) w m).0 in
-    not_from_false (is_test w) (word_not_test w (all_among is_kept_word (words k.dict) w dict.forms there)))
+    not_from_false (is_test w) (word_not_test w (all_among is_property (words k.dict) w dict.forms there)))
 
 head_link : (w q : List ℕ) → has_word (heads w ++ []) q ≡ (is_valued w && same_word (head_bytes w) q)
 head_link w q = by (is_valued w)

@@ -6,7 +6,7 @@ use Rattle.lis_graph.proofs.Sets.{sorted_insert_key}
 use Rattle.lis_blockmap.specs.Bitmap.{is_taken}
 use Rattle.lis_dict.specs.Dict.{Dict, number_of, word_of, with_entry}
 use Rattle.lis_taxonomy.specs.Taxonomy.{Taxonomy}
-use Rattle.lis_words.specs.Words.{word_cmp, same_word, is_kept_word}
+use Rattle.lis_words.specs.Words.{word_cmp, same_word, is_property}
 use Rattle.lis_model.specs.Sets.{with_word}
 use Rattle.lis_model.specs.State.{is_declarable}
 use Rattle.lis_laws.proofs.Members.{word_exact, word_order, same_word_decides, same_words}
@@ -69,7 +69,7 @@ module _ (p : Kept) (t : Taxonomy) (held : AreHeld p t) {word : List ℕ} {numbe
 
 -- the same, over what memory kept
 pub declares : (k p : Kept) (t : Taxonomy) (word : List ℕ) (number : ℕ) (dict : Dict) (bits marks : List Bool) → p ≡ k → AreHeld p t
-    → is_declarable word ≡ true → is_kept_word word ≡ true → number_of p.dict word ≡ None → length p.dict.entries < p.limits.props
+    → is_declarable word ≡ true → is_property word ≡ true → number_of p.dict word ≡ None → length p.dict.entries < p.limits.props
     → number < p.dict.props → word_of p.dict number ≡ None → dict ≡ with_entry p.dict word number → bits ≡ set p.declared number true
     → marks ≡ set p.marks (block_of p.limits Properties number) true
     → AreHeld (record p { dict = dict; declared = bits; marks = marks }) t × Declares word k (record p { dict = dict; declared = bits; marks = marks })
@@ -81,7 +81,7 @@ declares k p t word number dict bits marks is held form kept new room below free
       free = free;
       room = room;
       form = kept;
-      fits = and_from (is_kept_word word) (is_declarable word) kept form;
+      fits = and_from (is_property word) (is_declarable word) kept form;
       headed = λ valued. absurd (let no : true ≡ false = sym valued ∙ declarable_not_valued word form in cc);
       long = length-set p.declared number true;
       here = get_or-set_same p.declared number true false lt;

@@ -18,7 +18,7 @@ use Rattle.lis_fields.specs.Layouts.{prop_bytes, is_prop, is_record}
 use Rattle.lis_fields.specs.declared.slots.AxiomSlot.{AxiomSlot}
 use Rattle.lis_fields.specs.declared.slots.AxiomSlot.TheVariants.{Free as FreeAxiom, Pair}
 use Rattle.lis_taxonomy.specs.Taxonomy.{Taxonomy}
-use Rattle.lis_words.specs.Words.{word_cmp, same_word, is_kept_word, is_valued, head_bytes}
+use Rattle.lis_words.specs.Words.{word_cmp, same_word, is_property, is_valued, head_bytes}
 use Rattle.lis_model.specs.Sets.{set_of}
 use Rattle.lis_model.specs.State.{File, pair_cmp}
 use Rattle.lis_laws.proofs.Members.{word_order, same_word_decides}
@@ -66,7 +66,7 @@ pub record NewWord (p : Kept) (word : List ℕ) (number : ℕ) (bits : List Bool
   pub below : number < p.limits.props
   pub free : word_of p.dict number ≡ None
   pub room : length p.dict.entries < p.limits.props
-  pub form : is_kept_word word ≡ true
+  pub form : is_property word ≡ true
   pub fits : is_prop (property_by (Some word) flag) ≡ true
   pub headed : is_valued word ≡ true → IsSome (number_of p.dict (head_bytes word))
   pub long : length bits ≡ length p.declared

@@ -18,7 +18,7 @@ use Rattle.lis_fields.specs.Layouts.{prop_bytes, is_prop, is_record}
 use Rattle.lis_fields.specs.declared.slots.AxiomSlot.{AxiomSlot}
 use Rattle.lis_fields.specs.declared.slots.AxiomSlot.TheVariants.{Free as FreeAxiom, Pair}
 use Rattle.lis_taxonomy.specs.Taxonomy.{Taxonomy}
-use Rattle.lis_words.specs.Words.{word_cmp, same_word, is_kept_word, is_valued, head_bytes}
+use Rattle.lis_words.specs.Words.{word_cmp, same_word, is_property, is_valued, head_bytes}
 use Rattle.lis_model.specs.Sets.{set_of}
 use Rattle.lis_model.specs.State.{File, pair_cmp, is_declarable}
 use Rattle.lis_model.specs.Changes.{undeclared}
@@ -68,8 +68,8 @@ module _ (p : Kept) (t : Taxonomy) (held : AreHeld p t) {number : ℕ} (may : Ma
   -- it is no valued word, as no declared word is
   not_valued : is_valued word ≡ false
   not_valued =
-      let fits : (is_kept_word word && is_declarable word) ≡ true = sym (ap is_prop (ap₂ property_by there may.declared)) ∙ held.sound.properties number in
-      declarable_not_valued word (and_parts (is_kept_word word) (is_declarable word) fits).1
+      let fits : (is_property word && is_declarable word) ≡ true = sym (ap is_prop (ap₂ property_by there may.declared)) ∙ held.sound.properties number in
+      declarable_not_valued word (and_parts (is_property word) (is_declarable word) fits).1
 
   -- ---- why nothing else needs it
   not_left : (slot left right : ℕ) → slice_get p.axioms slot ≡ Some (Pair left right) → left ≡ number → ⊥

@@ -20,7 +20,7 @@ use Rattle.lis_fields.specs.Records.{FileRecord}
 use Rattle.lis_fields.specs.Layouts.{is_prop, is_super}
 use Rattle.lis_fields.specs.declared.slots.AxiomSlot.{AxiomSlot}
 use Rattle.lis_fields.specs.declared.slots.AxiomSlot.TheVariants.{Free as FreeAxiom, Pair}
-use Rattle.lis_words.specs.Words.{is_valued, is_kept_word, same_word, head_bytes}
+use Rattle.lis_words.specs.Words.{is_valued, is_property, same_word, head_bytes}
 use Rattle.lis_laws.proofs.Apart.{plain_not_valued, declarable_not_valued}
 use Rattle.lis_laws.proofs.Chains.{head_not_valued}
 use Rattle.lis_laws.proofs.Counts.{all_among, all_from}
@@ -197,8 +197,8 @@ module _ (limits : Limits) (words : Words) (axioms : Axioms) (files : Files) (ma
 
     if_declared : is_taken words.declared n ≡ true → Headed
     if_declared bit =
-        let form : (is_kept_word word && is_declarable word) ≡ true = ap₂ (λ o b. is_prop (property_by o b)) (sym is) (sym bit) ∙ read.words_are.are.forms n in
-        absurd (both_ways (is_valued word) (declarable_not_valued word (and_parts (is_kept_word word) (is_declarable word) form).1) valued)
+        let form : (is_property word && is_declarable word) ≡ true = ap₂ (λ o b. is_prop (property_by o b)) (sym is) (sym bit) ∙ read.words_are.are.forms n in
+        absurd (both_ways (is_valued word) (declarable_not_valued word (and_parts (is_property word) (is_declarable word) form).1) valued)
 
     if_had : is_had files.ext n ≡ true → Headed
     if_had had =

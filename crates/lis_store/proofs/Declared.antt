@@ -21,7 +21,7 @@ use Rattle.lis_fields.specs.declared.slots.AxiomSlot.TheVariants.{Free as FreeAx
 use Rattle.lis_fields.specs.declared.slots.PropSlot.{PropSlot}
 use Rattle.lis_fields.specs.declared.slots.PropSlot.TheVariants.{Known}
 use Rattle.lis_fields.specs.Layouts.{is_super, is_prop, is_record}
-use Rattle.lis_words.specs.Words.{word_cmp, same_word, has_word, head_bytes, is_head, is_plain_word, is_valued, is_built_in, is_word, is_test, is_kept_word}
+use Rattle.lis_words.specs.Words.{word_cmp, same_word, has_word, head_bytes, is_head, is_plain_word, is_valued, is_built_in, is_word, is_test, is_property}
 use Rattle.lis_model.specs.declared.refusal.Refusal.{Refusal}
 use Rattle.lis_model.specs.declared.refusal.Refusal.TheVariants.{BuiltIn, NotAssignable, AlreadyDeclared, NotAPlace, UnknownProperty, NoAxiomRoom, NoPropertyRoom, LargeDescription}
 use Rattle.lis_model.specs.declared.limits.Limits.{Limits}
@@ -177,7 +177,7 @@ declared_told k at s tells word =
 
 -- ---- the state in which a word that has no number is declared under others
 module _ (k : Kept) (sound : AreSound k) (pairs : PairsAreApart k) (at : ℕ → List ℕ) (s : State) (free : FreeSlotsAreEmpty k) (tells : Tells k at s)
-    (word : List ℕ) (kept : is_kept_word word ≡ true) (new : number_of k.dict word ≡ None) (words : List (List ℕ)) where
+    (word : List ℕ) (kept : is_property word ≡ true) (new : number_of k.dict word ≡ None) (words : List (List ℕ)) where
   abbrev under_them : State
   under_them = declared_under s word words
 
@@ -420,7 +420,7 @@ module _ (p q : Kept) (word : List ℕ) (rights : List ℕ) (words : List (List 
   few_edits = omega (arith, ap (λ (e : Ext). e.edits) ext_is)
 
   -- ---- the state that it tells
-  module _ (at : ℕ → List ℕ) (s : State) (free : FreeSlotsAreEmpty p) (tells : Tells p at s) (kept : is_kept_word word ≡ true) (formed : WellFormed (declared_under s word words)) (pairs : PairsAreApart p) where
+  module _ (at : ℕ → List ℕ) (s : State) (free : FreeSlotsAreEmpty p) (tells : Tells p at s) (kept : is_property word ≡ true) (formed : WellFormed (declared_under s word words)) (pairs : PairsAreApart p) where
     abbrev t : State
     t = declared_under s word words
 
@@ -471,7 +471,7 @@ module _ (p q : Kept) (word : List ℕ) (rights : List ℕ) (words : List (List 
 
 -- ---- the row of `mkdir`, asked of what memory keeps
 module _ (k : Kept) (sound : AreSound k) (pairs : PairsAreApart k) (at : ℕ → List ℕ) (s : State) (free : FreeSlotsAreEmpty k) (tells : Tells k at s) (place : List Formula)
-    (word : List ℕ) (kept : is_kept_word word ≡ true) where
+    (word : List ℕ) (kept : is_property word ≡ true) where
   abbrev now : Situation
   now = record { state = s; place = place }
 
@@ -533,7 +533,7 @@ module _ (k : Kept) (sound : AreSound k) (pairs : PairsAreApart k) (at : ℕ →
       ∙ by_row (changed now made) (is_built_in word) (is_valued word) (is_declared k word) (is_plain_place (place_words place)) (list_all (is_declared k) words) refl refl refl refl refl
 
 -- ---- a call that declares a word
-module _ (old : Stored) (place : List Formula) (word : List ℕ) (rights : List ℕ) (sound : IsSound old) (kept : is_kept_word word ≡ true) (form : is_declarable word ≡ true)
+module _ (old : Stored) (place : List Formula) (word : List ℕ) (rights : List ℕ) (sound : IsSound old) (kept : is_property word ≡ true) (form : is_declarable word ≡ true)
     (none : first_refusal (word_checks old.parts place word) ≡ None) (numbers : AreNumbersOf old.parts (words_at place) rights) where
   passes : IsPlaceable old.parts place word
   passes = is_placeable old.parts place word none
@@ -576,7 +576,7 @@ module _ (old : Stored) (place : List Formula) (word : List ℕ) (rights : List 
         (outcome_is old.parts sound.parts sound.pairs fits.kept s sound.free fits.tells place word kept ∙ judged_done now (word_checks old.parts place word) (changed now made) none)
 
 -- one that is refused
-pub declared_refused : {T : Type 0} (old : Stored) (m : Meaning) (place : List Formula) (word : List ℕ) (refusal : Refusal) (result : Result T Change) → IsSound old → is_kept_word word ≡ true
+pub declared_refused : {T : Type 0} (old : Stored) (m : Meaning) (place : List Formula) (word : List ℕ) (refusal : Refusal) (result : Result T Change) → IsSound old → is_property word ≡ true
     → first_refusal (word_checks old.parts place word) ≡ Some refusal → result ≡ Err (Refused refusal)
     → (s : State) → StoreFits old m s → Changes (record { state = s; place = place }) (mkdir (record { state = s; place = place }) word) old m m result
 declared_refused old m place word refusal result sound kept first ends s fits =

@@ -18,7 +18,7 @@ use Rattle.lis_ext.specs.Ext.{Ext, has, set_of as numbers_at}
 use Rattle.lis_fields.specs.Records.{FileRecord}
 use Rattle.lis_fields.specs.declared.slots.AxiomSlot.TheVariants.{Pair}
 use Rattle.lis_fields.specs.Layouts.{is_super, is_prop}
-use Rattle.lis_words.specs.Words.{same_word, is_kept_word, is_valued, is_built_in, is_test}
+use Rattle.lis_words.specs.Words.{same_word, is_property, is_valued, is_built_in, is_test}
 use Rattle.lis_model.specs.declared.refusal.Refusal.{Refusal}
 use Rattle.lis_model.specs.declared.refusal.Refusal.TheVariants.{BuiltIn, NotAssignable, NotDeclared, InUse}
 use Rattle.lis_model.specs.declared.limits.Limits.{Limits}
@@ -65,8 +65,8 @@ module _ (k : Kept) (sound : AreSound k) (word : List ℕ) (n : ℕ) (numbered :
 
   no_test : is_test word ≡ false
   no_test =
-      let fits : (is_kept_word word && is_declarable word) ≡ true = sym (ap is_prop (ap₂ property_by word_at_number bit)) ∙ sound.properties n in
-      word_not_test word (and_parts (is_kept_word word) (is_declarable word) fits).0
+      let fits : (is_property word && is_declarable word) ≡ true = sym (ap is_prop (ap₂ property_by word_at_number bit)) ∙ sound.properties n in
+      word_not_test word (and_parts (is_property word) (is_declarable word) fits).0
 
   -- it may be taken back where nothing needs it
   module _ (in_use : KeepsInUse k) (closed : AreClosed k) (unneeded : is_needed k n ≡ false) where

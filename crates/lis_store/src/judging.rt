@@ -4,7 +4,7 @@ ghost use Rattle.std.specs.Prelude.{◌≡◌, ◌≤◌, length, Some, IsTrue, 
 ghost use Rattle.lis_dict.specs.Dict.{number_of};
 ghost use Rattle.lis_model.specs.State.{is_declarable};
 ghost use Rattle.lis_model.specs.Step.{words_at};
-ghost use Rattle.lis_words.specs.Words.{is_kept_word};
+ghost use Rattle.lis_words.specs.Words.{is_property};
 ghost use Rattle.lis_store.specs.Changes.{Judges};
 ghost use Rattle.lis_store.specs.Judging.{word_checks, undeclare_checks};
 ghost use Rattle.lis_store.specs.Placing.{AreNumbersOf};
@@ -24,7 +24,7 @@ pub(crate) fn may_declare(
 ) -> Result<ArrayVec<u16, 64>, Refusal>
     ensures row { Judges (word_checks parts.now place.now word.now) result }
     ensures form { OnOk result (IsTrue (is_declarable word.now)) }
-    ensures word { IsTrue (is_kept_word word.now) }
+    ensures word { IsTrue (is_property word.now) }
     ensures numbers { IfOk result (λ numbers. AreNumbersOf parts.now (words_at place.now) numbers.items) }
     ensures few { IfOk result (λ numbers. length numbers.items ≤ 64) }
 {
