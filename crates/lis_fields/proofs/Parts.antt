@@ -1,5 +1,5 @@
 -- The parts of a slot that has a word, of a super block and of a slot that has a file, read back from their spelling.
-use Rattle.std.proofs.Common.{◌≡◌, refl, sym, ap, ap₂, ◌∙◌, ℕ, ◌≤◌, nat_le, Bool, true, false, not, ◌&&◌, ◌||◌, inl, inr, take_at, drop_at, List, [], ◌∷◌, ◌++◌, length, get_or, take, drop, IsTrue, Option, Some, arith, length-append}
+use Rattle.std.proofs.Common.{◌≡◌, refl, sym, ap, ap₂, ◌∙◌, ℕ, ◌≤◌, nat_le, not, ◌&&◌, ◌||◌, inl, inr, take_at, drop_at, List, [], ◌∷◌, ◌++◌, length, get_or, take, drop, IsTrue, Option, Some, arith, length-append}
 use Rattle.std.proofs.lemmas.Bool.{and_parts, and_from, or_cases, or_left, or_right, leb-true, le-leb, eqb-true}
 use Rattle.byteorder.specs.Endian.{little_bytes}
 use Rattle.lis_words.specs.Words.{is_word, is_plain_word, is_head, is_valued, is_test, is_property, is_built_in, is_file_name}

@@ -1,4 +1,4 @@
-use Rattle.std.proofs.Common.{◌≡◌, ℕ, Bool, true, false, cond, List, [], ◌∷◌, ap, sym, ◌∙◌}
+use Rattle.std.proofs.Common.{◌≡◌, ℕ, false, cond, List, [], ◌∷◌, ap, sym, ◌∙◌}
 use Rattle.lis_words.specs.Words.{is_property}
 use Rattle.lis_model.specs.Step.{Item}
 use Rattle.lis_model.specs.Script.{bad_line, word_form}
