@@ -49,6 +49,24 @@ fn property_slots(rt: HostRuntime) {
 }
 
 #[test]
+fn slot_of_a_test(rt: HostRuntime) {
+    let mut bytes = [0; 64];
+    bytes[..9].copy_from_slice(b"\x02\x07size>=9");
+    let Some(slot) = read_prop(&bytes) else {
+        assert!(rt; false, "no slot");
+        return;
+    };
+    assert!(rt; matches!(slot, PropSlot::Declared(_)));
+    let mut back = [0xff; 64];
+    write_prop(&slot, &mut back);
+    assert!(rt; back == bytes);
+    bytes[0] = 1;
+    assert!(rt; read_prop(&bytes).is_none(), "a test that is not declared");
+    bytes[..9].copy_from_slice(b"\x02\x07size>=?");
+    assert!(rt; read_prop(&bytes).is_none(), "no number");
+}
+
+#[test]
 fn axiom_slots(rt: HostRuntime) {
     let table = [
         ([0, 0, 0, 0, 0, 0, 0, 0], Some(AxiomSlot::Free)),

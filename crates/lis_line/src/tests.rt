@@ -9,7 +9,7 @@ use std::test::Fail;
 
 /// An input, its limit, and its items: `add` or `write` with its payload's size and bytes, another command, the number of a refusal,
 /// `end` or `limit`.
-static INPUTS: [(&str, u64, &str); 26] = [
+static INPUTS: [(&str, u64, &str); 28] = [
     ("add a 3;a;b;rm a;", 99, "add 3 a;b,other,end,"),
     ("add a 3 x y;^^^;cat a", 99, "add 3 ^^^,other,end,"),
     ("add a 0;;ls;", 99, "add 0 ,other,end,"),
@@ -52,6 +52,17 @@ static INPUTS: [(&str, u64, &str); 26] = [
     ("ls;add a 0", 10, "other,add 0 ,end,"),
     ("ls;add a 0;", 10, "other,limit,"),
     ("add a 999999999999;a", 99, "3,end,"),
+    // Tests are words of a line; a zero in front makes no test.
+    (
+        "mkdir size>=0;rmdir size<12;axiom size>=1 b;mkdir size>=01;",
+        99,
+        "other,other,other,1,end,",
+    ),
+    (
+        "create a size<1;add a 0 size>=1;;mkdir size>1;mkdir size>=;",
+        99,
+        "other,add 0 ,1,1,end,",
+    ),
 ];
 
 fn bytes_of(alloc: Global, row: &str) -> Result<Vec<u8>, AllocError> {
