@@ -37,8 +37,8 @@ module _ (k : Kept) (sound : AreSound k) (in_use : KeepsInUse k) (closed : (slot
   -- no valued word is declared
   not_declared : (n : ℕ) (v : List ℕ) → word_of k.dict n ≡ Some v → is_valued v ≡ true → is_taken k.declared n ≡ true → ⊥
   not_declared n v is valued bit =
-      let fits : (is_property v && is_declarable v) ≡ true = sym (ap is_prop (ap₂ property_by is bit)) ∙ sound.properties n in
-      both_ways (is_valued v) (declarable_not_valued v (and_parts (is_property v) (is_declarable v) fits).1) valued
+      let fits : is_declarable v ≡ true = sym (ap is_prop (ap₂ property_by is bit)) ∙ sound.properties n in
+      both_ways (is_valued v) (declarable_not_valued v fits) valued
 
   not_tag : (slot : ℕ) (rec : FileRecord) → rec_at k.catalog slot ≡ Some rec → has_number rec.tags number ≡ false
   not_tag slot rec is = false_from_ne_true (has_number rec.tags number) (λ tag. both_ways (is_had k.ext number) had (had_from k.ext number slot (in_use.tags slot rec is number tag)))

@@ -81,7 +81,7 @@ declares k p t word number dict bits marks is held form kept new room below free
       free = free;
       room = room;
       form = kept;
-      fits = and_from (is_property word) (is_declarable word) kept form;
+      fits = form;
       headed = λ valued. absurd (let no : true ≡ false = sym valued ∙ declarable_not_valued word form in cc);
       long = length-set p.declared number true;
       here = get_or-set_same p.declared number true false lt;

@@ -68,8 +68,8 @@ module _ (p : Kept) (t : Taxonomy) (held : AreHeld p t) {number : ℕ} (may : Ma
   -- it is no valued word, as no declared word is
   not_valued : is_valued word ≡ false
   not_valued =
-      let fits : (is_property word && is_declarable word) ≡ true = sym (ap is_prop (ap₂ property_by there may.declared)) ∙ held.sound.properties number in
-      declarable_not_valued word (and_parts (is_property word) (is_declarable word) fits).1
+      let fits : is_declarable word ≡ true = sym (ap is_prop (ap₂ property_by there may.declared)) ∙ held.sound.properties number in
+      declarable_not_valued word fits
 
   -- ---- why nothing else needs it
   not_left : (slot left right : ℕ) → slice_get p.axioms slot ≡ Some (Pair left right) → left ≡ number → ⊥
