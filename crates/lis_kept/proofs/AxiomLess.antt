@@ -35,7 +35,7 @@ use Rattle.lis_kept.specs.Linking.{are_both, MayUnlink, Unlinks}
 use Rattle.lis_kept.specs.Changes.{Marks}
 use Rattle.lis_kept.proofs.InArea.{among_slots}
 use Rattle.lis_kept.proofs.Marking.{block_marked}
-use Rattle.lis_kept.proofs.OwnLinks.{own_link_is, slot_at}
+use Rattle.lis_kept.proofs.OwnLinks.{own_to_plain, slot_at}
 use Rattle.lis_kept.proofs.Known.{one_number, axiom_among, among_axiom}
 use Rattle.lis_kept.proofs.AxiomSlots.{set_cases, set_there, any_unset, axiom_within, same_sides}
 use Rattle.lis_kept.proofs.PlainWords.{not_head}
@@ -194,8 +194,8 @@ module _ (p : Kept) (t : Taxonomy) (held : AreHeld p t) {left right : ℕ} (may 
     where
       none : are_both left right x y ≡ true → is_own_link (declared_of p) (word_of p.dict x) (word_of p.dict y) ≡ false
       none is =
-          own_link_is p held.sound.dict x y
-          ∙ not_head (word_of p.dict x) (word_of p.dict y) (λ to at. may.plain to (ap (word_of p.dict) (both_sides left right x y is).1 ∙ at))
+          own_to_plain (declared_of p) (word_of p.dict x) (word_of p.dict y)
+          (λ to at. may.plain to (ap (word_of p.dict) (both_sides left right x y is).1 ∙ at))
 
   edges_then : (x y : ℕ) → has_edge (without_edge t left right) x y ≡ is_linked unlinked x y
   edges_then x y =

@@ -30,7 +30,7 @@ use Rattle.lis_kept.proofs.InArea.{among_slots}
 use Rattle.lis_kept.proofs.Marking.{block_marked}
 use Rattle.lis_kept.proofs.HeadEdges.{has_edge-with_edge}
 use Rattle.lis_kept.proofs.Known.{axiom_among, among_axiom}
-use Rattle.lis_kept.proofs.OwnLinks.{own_link_is}
+use Rattle.lis_kept.proofs.OwnLinks.{own_to_plain}
 use Rattle.lis_kept.proofs.PlainWords.{not_head}
 use Rattle.lis_kept.proofs.Entailed.{up_from_leads}
 use Rattle.lis_kept.proofs.AxiomSlots.{set_here, set_cases, set_there, any_set, axiom_within, same_sides}
@@ -219,7 +219,7 @@ link_refused p t held left right may x y fault r is present cycle absent lefts r
     plain to at = subst (λ (w : List ℕ). is_plain_word w ≡ true) (same_Some may.to to (sym may.is_right ∙ at)) may.plain
 
     not_linked : is_linked p left right ≡ false
-    not_linked = ap₂ (λ a b. a || b) (own_link_is p held.sound.dict left right ∙ not_head (word_of p.dict left) (word_of p.dict right) plain) may.new
+    not_linked = ap₂ (λ a b. a || b) (own_to_plain (declared_of p) (word_of p.dict left) (word_of p.dict right) plain) may.new
 
     by : (fault : EdgeFault) → r ≡ Err fault → ⊥
     by Present said =

@@ -25,7 +25,7 @@ use Rattle.lis_kept.specs.Telling.{declared_of, is_left_of, is_head_by, is_left_
 use Rattle.lis_kept.specs.Forgetting.{MayForget, KeepsInUse}
 use Rattle.lis_kept.specs.Changes.{Drops, Describes}
 use Rattle.lis_kept.proofs.Dropped.{file_slot_below}
-use Rattle.lis_kept.proofs.OwnLinks.{own_link_is}
+use Rattle.lis_kept.proofs.OwnLinks.{own_head}
 use Rattle.lis_kept.proofs.Used.{had_at}
 use Rattle.lis_kept.proofs.WordLess.{had_from}
 
@@ -111,7 +111,7 @@ module _ (slot : ℕ) (rec : FileRecord) (p dropped q : Kept) (sound : AreSound 
     had_head h =
         let at = had_at mid.ext n h in
         let before = had_before n at.0 at.2 in
-        let linked = or_left (is_own_link (declared_of p) (word_of p.dict n) (word_of p.dict head)) (has_pair p.axioms n head) (own_link_is p sound.dict n head ∙ is_head) in
+        let linked = or_left (is_own_link (declared_of p) (word_of p.dict n) (word_of p.dict head)) (has_pair p.axioms n head) (own_head (declared_of p) (word_of p.dict n) (word_of p.dict head) is_head) in
         used_had head at.0 (had_stays head at.0 before.0 (closed at.0 n head before.1 linked))
 
     left_head : list_any (is_left_of n) p.axioms ≡ true → is_used mid head ≡ true

@@ -20,11 +20,11 @@ use Rattle.lis_laws.proofs.Members.{same_word_decides}
 use Rattle.lis_fields.specs.Layouts.{is_prop}
 use Rattle.lis_kept.specs.Kept.{Kept, property_by}
 use Rattle.lis_kept.specs.Sound.{AreSound}
-use Rattle.lis_kept.specs.Links.{has_pair, is_linked}
-use Rattle.lis_kept.specs.Telling.{is_left_of, is_head_by, is_left_head_of, is_had, is_named_left}
+use Rattle.lis_kept.specs.Links.{has_pair, is_linked, is_own_link}
+use Rattle.lis_kept.specs.Telling.{declared_of, is_left_of, is_head_by, is_left_head_of, is_had, is_named_left}
 use Rattle.lis_kept.specs.Forgetting.{KeepsInUse}
 use Rattle.lis_kept.specs.Undeclaring.{MayUndeclare}
-use Rattle.lis_kept.proofs.OwnLinks.{own_link_is}
+use Rattle.lis_kept.proofs.OwnLinks.{own_head}
 use Rattle.lis_kept.proofs.Used.{had_at}
 use Rattle.lis_kept.proofs.WordLess.{had_from}
 
@@ -60,8 +60,8 @@ module _ (k : Kept) (sound : AreSound k) (in_use : KeepsInUse k) (closed : (slot
 
           linked : is_linked k n number ≡ true
           linked =
-              subst (λ b. (b || has_pair k.axioms n number) ≡ true) (sym (own_link_is k sound.dict n number))
-              (or_left (is_head_by (word_of k.dict n) (word_of k.dict number)) (has_pair k.axioms n number) heads)
+              or_left (is_own_link (declared_of k) (word_of k.dict n) (word_of k.dict number)) (has_pair k.axioms n number)
+              (own_head (declared_of k) (word_of k.dict n) (word_of k.dict number) heads)
 
           first : (is_taken k.declared n ≡ true) ⊎ (is_had k.ext n ≡ true) → ⊥
           first (inl bit) = not_declared n v is_n valued bit

@@ -10,7 +10,7 @@ use Rattle.lis_dict.proofs.Laws.{among_from_number, word_from_number, number_bel
 use Rattle.lis_fields.specs.Layouts.{is_undeclared}
 use Rattle.lis_fields.proofs.Parts.{undeclared_word}
 use Rattle.lis_taxonomy.specs.Taxonomy.{Taxonomy, has_edge}
-use Rattle.lis_words.specs.Words.{word_cmp, same_word, is_valued, head_bytes}
+use Rattle.lis_words.specs.Words.{word_cmp, same_word, is_valued, head_bytes, is_test}
 use Rattle.lis_model.specs.Sets.{with_word}
 use Rattle.lis_laws.proofs.Members.{word_order, same_word_decides, same_words}
 use Rattle.lis_kept.specs.Kept.{Kept}
@@ -19,9 +19,9 @@ use Rattle.lis_kept.specs.Areas.Area.{Properties}
 use Rattle.lis_kept.specs.Edges.{head_number, with_edge_to}
 use Rattle.lis_kept.specs.Telling.{bit_of, declared_of, is_declared, state_of}
 use Rattle.lis_kept.specs.Sound.{AreSound}
-use Rattle.lis_kept.specs.Links.{AreHeld, is_linked}
+use Rattle.lis_kept.specs.Links.{AreHeld, is_own_link, is_linked}
 use Rattle.lis_kept.specs.Changes.{Learns}
-use Rattle.lis_kept.proofs.OwnLinks.{unnamed_to, unnamed_from}
+use Rattle.lis_kept.proofs.OwnLinks.{undeclared_not_test, unnamed_to, unnamed_from}
 use Rattle.lis_kept.proofs.Filing.{map_insert_key}
 use Rattle.lis_kept.proofs.HeadEdges.{has_edge-with_edge}
 use Rattle.lis_kept.proofs.WordMore.{NewWord, learnt, sound_then, marks_then, declared_then, state_then, no_new_link, head_linked, word_here, word_other, word_stays, declared_there, there_declared, sorted_declared, dict_kept}
@@ -32,16 +32,6 @@ module _ (p : Kept) (t : Taxonomy) (held : AreHeld p t) {word : List ℕ} {numbe
 
   abbrev linked : Taxonomy
   linked = with_edge_to t number (head_number p.dict word)
-
-  links_then : (x y : ℕ) → has_edge linked x y ≡ is_linked q x y
-  links_then x y = by (is_valued word) refl (number_of p.dict (head_bytes word)) refl
-    where
-      by : (b : Bool) → is_valued word ≡ b → (o : Option ℕ) → number_of p.dict (head_bytes word) ≡ o → has_edge (with_edge_to t number (if b then o else None)) x y ≡ is_linked q x y
-      by false plain o e = held.links.edges x y ∙ sym (no_new_link p t held w plain x y)
-      by true valued None e = let some = w.headed valued in absurd (both_ways (is_some (number_of p.dict (head_bytes word))) (ap is_some e) some)
-      by true valued (Some h) e =
-          has_edge-with_edge t number h x y
-          ∙ (ap (λ b. ((x == number) && (y == h)) || b) (held.links.edges x y) ∙ sym (head_linked p t held w h valued e x y))
 
   same_props : (o : Option ℕ) → (with_edge_to t number o).props ≡ t.props
   same_props None = refl
@@ -63,6 +53,23 @@ module _ (p : Kept) (t : Taxonomy) (held : AreHeld p t) {word : List ℕ} {numbe
           let same = (same_word_decides word v).0 e in
           let none : is_declared p v ≡ false = ap (bit_of p.declared) (ap (number_of p.dict) (sym same) ∙ w.new) in
           absurd (both_ways (is_declared p v) none is)
+
+  -- it is no test, and the same words are declared
+  tested : is_test word ≡ false
+  tested = undeclared_not_test word w.fits
+
+  stays : (o r : Option (List ℕ)) → is_own_link (declared_of q) o r ≡ is_own_link (declared_of p) o r
+  stays o r = ap (λ ds. is_own_link ds o r) declared_same
+
+  links_then : (x y : ℕ) → has_edge linked x y ≡ is_linked q x y
+  links_then x y = by (is_valued word) refl (number_of p.dict (head_bytes word)) refl
+    where
+      by : (b : Bool) → is_valued word ≡ b → (o : Option ℕ) → number_of p.dict (head_bytes word) ≡ o → has_edge (with_edge_to t number (if b then o else None)) x y ≡ is_linked q x y
+      by false plain o e = held.links.edges x y ∙ sym (no_new_link p t held w tested stays plain x y)
+      by true valued None e = let some = w.headed valued in absurd (both_ways (is_some (number_of p.dict (head_bytes word))) (ap is_some e) some)
+      by true valued (Some h) e =
+          has_edge-with_edge t number h x y
+          ∙ (ap (λ b. ((x == number) && (y == h)) || b) (held.links.edges x y) ∙ sym (head_linked p t held w tested stays h valued e x y))
 
   only_then : (n : ℕ) (v : List ℕ) → word_of q.dict n ≡ Some v → (word_of p.dict n ≡ Some v) ⊎ ((n ≡ number) × (v ≡ word))
   only_then n v is = by (cases_eq n number)

@@ -19,7 +19,7 @@ use Rattle.lis_fields.specs.Layouts.{prop_bytes, is_prop, is_record}
 use Rattle.lis_fields.specs.declared.slots.AxiomSlot.{AxiomSlot}
 use Rattle.lis_fields.specs.declared.slots.AxiomSlot.TheVariants.{Free as FreeAxiom, Pair}
 use Rattle.lis_taxonomy.specs.Taxonomy.{Taxonomy, has_edge}
-use Rattle.lis_words.specs.Words.{same_word, is_valued, head_bytes}
+use Rattle.lis_words.specs.Words.{same_word, is_valued, is_test, head_bytes}
 use Rattle.lis_model.specs.Sets.{set_of}
 use Rattle.lis_model.specs.State.{File, pair_cmp}
 use Rattle.lis_laws.proofs.Members.{same_word_decides, same_words}
@@ -29,7 +29,7 @@ use Rattle.lis_kept.specs.Areas.{Area, slots_of, block_of, spelled}
 use Rattle.lis_kept.specs.Areas.Area.{Properties, Axioms, Files, Rows, Bitmap}
 use Rattle.lis_kept.specs.Telling.{bit_of, is_declared, declared_of, pair_by, pair_told, axioms_of, file_told, state_of, is_left_of, is_head_by, is_left_head_of, is_named_left, is_had}
 use Rattle.lis_kept.specs.Sound.{AreSound, is_sound_record}
-use Rattle.lis_kept.specs.Links.{AreHeld, is_pair, has_pair, is_linked}
+use Rattle.lis_kept.specs.Links.{AreHeld, is_pair, has_pair, is_own_link, is_linked}
 use Rattle.lis_kept.specs.Edges.{head_number, without_edge_to}
 use Rattle.lis_kept.specs.Forgetting.{MayGo}
 use Rattle.lis_kept.specs.Changes.{Marks}
@@ -39,7 +39,7 @@ use Rattle.lis_kept.proofs.Formed.{named_below}
 use Rattle.lis_kept.proofs.Marking.{block_marked}
 use Rattle.lis_kept.proofs.Filing.{map_all, filed_rec, number_from_among}
 use Rattle.lis_kept.proofs.HeadEdges.{no_more_edges, other_edges, none_left}
-use Rattle.lis_kept.proofs.OwnLinks.{own_link_is, slot_at, among_slot, unnamed_to, unnamed_from}
+use Rattle.lis_kept.proofs.OwnLinks.{own_from, own_to, undeclared_not_test, slot_at, among_slot, unnamed_to, unnamed_from}
 use Rattle.lis_kept.proofs.WordMore.{flat_all, sorted_declared, declared_there, there_declared}
 
 any_same : {X : Type 0} (f g : X → Bool) (xs : List X) → ((x : X) → Among xs x → f x ≡ g x) → list_any f xs ≡ list_any g xs
@@ -225,10 +225,14 @@ module _ (p : Kept) (t : Taxonomy) (held : AreHeld p t) {word : List ℕ} {numbe
           let found = slot_at p.axioms (Pair left right) m in
           go.rights found.0 left right found.1 (eqb-true right number (and_parts (left == x) (right == number) is).1)
 
+  -- it is not declared, and so no test
+  not_test : is_test word ≡ false
+  not_test = undeclared_not_test word (sym (ap is_prop (ap₂ property_by there go.flagged)) ∙ held.sound.properties number)
+
   edge_is : (y : ℕ) → has_edge t number y ≡ is_head_by (Some word) (word_of p.dict y)
   edge_is y =
       held.links.edges number y
-      ∙ (ap₂ (λ a b. a || b) (own_link_is p held.sound.dict number y ∙ ap (λ o. is_head_by o (word_of p.dict y)) there) (no_pair_from y)
+      ∙ (ap₂ (λ a b. a || b) (ap (λ o. is_own_link (declared_of p) o (word_of p.dict y)) there ∙ own_from (declared_of p) word (word_of p.dict y) not_test) (no_pair_from y)
       ∙ whole (is_head_by (Some word) (word_of p.dict y)))
     where
       whole : (b : Bool) → (b || false) ≡ b
@@ -260,6 +264,11 @@ module _ (p : Kept) (t : Taxonomy) (held : AreHeld p t) {word : List ℕ} {numbe
   abbrev unlinked : Taxonomy
   unlinked = without_edge_to t number (head_number p.dict word)
 
+  own_to_it : (x : ℕ) → is_own_link (declared_of p) (word_of p.dict x) (word_of p.dict number) ≡ false
+  own_to_it x =
+      ap (is_own_link (declared_of p) (word_of p.dict x)) there
+      ∙ (own_to (declared_of p) (word_of p.dict x) word not_test ∙ (sym (ap (is_head_by (word_of p.dict x)) there) ∙ go.heads x))
+
   links_then : (x y : ℕ) → has_edge unlinked x y ≡ is_linked forgotten x y
   links_then x y = by (cases_eq x number) (cases_eq y number)
     where
@@ -268,14 +277,15 @@ module _ (p : Kept) (t : Taxonomy) (held : AreHeld p t) {word : List ℕ} {numbe
           subst (λ n. has_edge unlinked n y ≡ is_linked forgotten n y) (sym same)
           (none_left t number (head_number p.dict word) y (head_edge y) ∙ sym (unnamed_from forgotten sound_then number word_gone y))
       by (inr differ) (inl same) =
-          let none : has_edge t x number ≡ false = held.links.edges x number ∙ ap₂ (λ a b. a || b) (own_link_is p held.sound.dict x number ∙ go.heads x) (no_pair_to x) in
+          let none : has_edge t x number ≡ false = held.links.edges x number ∙ ap₂ (λ a b. a || b) (own_to_it x) (no_pair_to x) in
           subst (λ n. has_edge unlinked x n ≡ is_linked forgotten x n) (sym same)
           (no_more_edges t number (head_number p.dict word) x number none ∙ sym (unnamed_to forgotten sound_then number word_gone x))
       by (inr differ) (inr apart) =
           other_edges t number (head_number p.dict word) x y differ
           ∙ (held.links.edges x y
           ∙ ap (λ b. b || has_pair p.axioms x y)
-          (own_link_is p held.sound.dict x y ∙ (sym (ap₂ is_head_by (word_other x differ) (word_other y apart)) ∙ sym (own_link_is forgotten dict_kept x y))))
+          (sym (ap₂ (is_own_link (declared_of p)) (word_other x differ) (word_other y apart))
+          ∙ sym (ap (λ ds. is_own_link ds (word_of less x) (word_of less y)) declared_same)))
 
   same_props : (o : Option ℕ) → (without_edge_to t number o).props ≡ t.props
   same_props None = refl

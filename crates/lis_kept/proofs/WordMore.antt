@@ -18,7 +18,7 @@ use Rattle.lis_fields.specs.Layouts.{prop_bytes, is_prop, is_record}
 use Rattle.lis_fields.specs.declared.slots.AxiomSlot.{AxiomSlot}
 use Rattle.lis_fields.specs.declared.slots.AxiomSlot.TheVariants.{Free as FreeAxiom, Pair}
 use Rattle.lis_taxonomy.specs.Taxonomy.{Taxonomy}
-use Rattle.lis_words.specs.Words.{word_cmp, same_word, is_property, is_valued, head_bytes}
+use Rattle.lis_words.specs.Words.{word_cmp, same_word, is_property, is_valued, is_test, head_bytes}
 use Rattle.lis_model.specs.Sets.{set_of}
 use Rattle.lis_model.specs.State.{File, pair_cmp}
 use Rattle.lis_laws.proofs.Members.{word_order, same_word_decides}
@@ -29,13 +29,13 @@ use Rattle.lis_kept.specs.Areas.{Area, slots_of, block_of, spelled}
 use Rattle.lis_kept.specs.Areas.Area.{Properties, Axioms, Files, Rows, Bitmap}
 use Rattle.lis_kept.specs.Telling.{bit_of, is_declared, declared_of, words_told, pair_by, pair_told, axioms_of, file_told, state_of, is_left_of, is_head_by, is_left_head_of, is_named_left, is_had, is_used}
 use Rattle.lis_kept.specs.Sound.{AreSound, is_sound_record}
-use Rattle.lis_kept.specs.Links.{AreHeld, has_pair, is_linked}
+use Rattle.lis_kept.specs.Links.{AreHeld, has_pair, is_own_link, is_linked}
 use Rattle.lis_kept.specs.Changes.{Marks}
 use Rattle.lis_kept.proofs.InArea.{among_slots}
 use Rattle.lis_kept.proofs.Formed.{some_word}
 use Rattle.lis_kept.proofs.Marking.{block_marked}
 use Rattle.lis_kept.proofs.Filing.{map_all, filed_rec}
-use Rattle.lis_kept.proofs.OwnLinks.{own_link_is, slot_at, none_before}
+use Rattle.lis_kept.proofs.OwnLinks.{own_to_none, own_from, own_to, slot_at}
 
 -- ---- lists
 pub flat_all : {X Y : Type 0} (f g : X → List Y) (xs : List X) → ((x : X) → Among xs x → f x ≡ g x) → flat_map f xs ≡ flat_map g xs
@@ -257,70 +257,72 @@ module _ (p : Kept) (t : Taxonomy) (held : AreHeld p t) {word : List ℕ} {numbe
           let none : is_some (number_of p.dict word) ≡ false = ap is_some w.new in
           absurd (both_ways (is_some (number_of p.dict word)) none some)
 
-  -- other numbers have the links that they had
-  links_elsewhere : (x y : ℕ) → (x ≡ number → ⊥) → is_linked learnt x y ≡ is_linked p x y
-  links_elsewhere x y differ =
-      ap (λ b. b || has_pair p.axioms x y)
-      (own_link_is learnt dict_kept x y ∙ (by (cases_eq y number) ∙ sym (own_link_is p held.sound.dict x y)))
-    where
-      by : (y ≡ number) ⊎ (y ≡ number → ⊥) → is_head_by (word_of d x) (word_of d y) ≡ is_head_by (word_of p.dict x) (word_of p.dict y)
-      by (inl same) =
-          ap₂ is_head_by (word_other x differ) (ap (word_of d) same ∙ word_here)
-          ∙ (no_head_there (word_of p.dict x) x refl ∙ sym (ap (λ o. is_head_by (word_of p.dict x) o) (ap (word_of p.dict) same ∙ w.free) ∙ none_before (word_of p.dict x)))
-      by (inr apart) = ap₂ is_head_by (word_other x differ) (word_other y apart)
+  -- The word is no test, and the links of other words stay.
+  module _ (tested : is_test word ≡ false) (stays : (o r : Option (List ℕ)) → is_own_link (declared_of learnt) o r ≡ is_own_link (declared_of p) o r) where
+    -- other numbers have the links that they had
+    links_elsewhere : (x y : ℕ) → (x ≡ number → ⊥) → is_linked learnt x y ≡ is_linked p x y
+    links_elsewhere x y differ =
+        ap (λ b. b || has_pair p.axioms x y) (stays (word_of d x) (word_of d y) ∙ by (cases_eq y number))
+      where
+        by : (y ≡ number) ⊎ (y ≡ number → ⊥) → is_own_link (declared_of p) (word_of d x) (word_of d y) ≡ is_own_link (declared_of p) (word_of p.dict x) (word_of p.dict y)
+        by (inl same) =
+            ap₂ (is_own_link (declared_of p)) (word_other x differ) (ap (word_of d) same ∙ word_here)
+            ∙ (own_to (declared_of p) (word_of p.dict x) word tested
+            ∙ (no_head_there (word_of p.dict x) x refl ∙ sym (ap (is_own_link (declared_of p) (word_of p.dict x)) (ap (word_of p.dict) same ∙ w.free) ∙ own_to_none (declared_of p) (word_of p.dict x))))
+        by (inr apart) = ap₂ (is_own_link (declared_of p)) (word_other x differ) (word_other y apart)
 
-  -- the number had none
-  own_here : (y : ℕ) → is_linked learnt number y ≡ (is_head_by (Some word) (word_of d y) || has_pair p.axioms number y)
-  own_here y = ap (λ b. b || has_pair p.axioms number y) (own_link_is learnt dict_kept number y ∙ ap (λ o. is_head_by o (word_of d y)) word_here)
+    -- the number had none
+    own_here : (y : ℕ) → is_linked learnt number y ≡ (is_head_by (Some word) (word_of d y) || has_pair p.axioms number y)
+    own_here y = ap (λ b. b || has_pair p.axioms number y) (ap (λ o. is_own_link (declared_of learnt) o (word_of d y)) word_here ∙ own_from (declared_of learnt) word (word_of d y) tested)
 
-  own_before : (y : ℕ) → is_linked p number y ≡ has_pair p.axioms number y
-  own_before y = ap (λ b. b || has_pair p.axioms number y) (own_link_is p held.sound.dict number y ∙ ap (λ o. is_head_by o (word_of p.dict y)) w.free)
+    own_before : (y : ℕ) → is_linked p number y ≡ has_pair p.axioms number y
+    own_before y = ap (λ b. b || has_pair p.axioms number y) (ap (λ o. is_own_link (declared_of p) o (word_of p.dict y)) w.free)
 
-  -- where the word is no valued one, no link is new
-  pub no_new_link : is_valued word ≡ false → (x y : ℕ) → is_linked learnt x y ≡ is_linked p x y
-  no_new_link plain x y = by (cases_eq x number)
-    where
-      none_behind : (o : Option (List ℕ)) → is_head_by (Some word) o ≡ false
-      none_behind None = refl
-      none_behind (Some v) = ap (λ b. b && same_word (head_bytes word) v) plain
+    -- where the word is no valued one, no link is new
+    pub no_new_link : is_valued word ≡ false → (x y : ℕ) → is_linked learnt x y ≡ is_linked p x y
+    no_new_link plain x y = by (cases_eq x number)
+      where
+        none_behind : (o : Option (List ℕ)) → is_head_by (Some word) o ≡ false
+        none_behind None = refl
+        none_behind (Some v) = ap (λ b. b && same_word (head_bytes word) v) plain
 
-      by : (x ≡ number) ⊎ (x ≡ number → ⊥) → is_linked learnt x y ≡ is_linked p x y
-      by (inl same) =
-          subst (λ n. is_linked learnt n y ≡ is_linked p n y) (sym same)
-          (own_here y ∙ (ap (λ b. b || has_pair p.axioms number y) (none_behind (word_of d y)) ∙ sym (own_before y)))
-      by (inr differ) = links_elsewhere x y differ
+        by : (x ≡ number) ⊎ (x ≡ number → ⊥) → is_linked learnt x y ≡ is_linked p x y
+        by (inl same) =
+            subst (λ n. is_linked learnt n y ≡ is_linked p n y) (sym same)
+            (own_here y ∙ (ap (λ b. b || has_pair p.axioms number y) (none_behind (word_of d y)) ∙ sym (own_before y)))
+        by (inr differ) = links_elsewhere x y differ
 
-  -- a valued word has a link to its head
-  pub head_linked : (h : ℕ) → is_valued word ≡ true → number_of p.dict (head_bytes word) ≡ Some h → (x y : ℕ) → is_linked learnt x y ≡ (((x == number) && (y == h)) || is_linked p x y)
-  head_linked h valued at x y = by (cases_eq x number)
-    where
-      there : number_of d (head_bytes word) ≡ Some h
-      there = number_then (head_bytes word) ∙ other (same_word word (head_bytes word)) refl
-        where
-          other : (b : Bool) → same_word word (head_bytes word) ≡ b → (if b then Some number else number_of p.dict (head_bytes word)) ≡ Some h
-          other false e = at
-          other true e =
-              let same = (same_word_decides word (head_bytes word)).0 e in
-              let none : is_valued word ≡ false = ap is_valued same ∙ head_not_valued word in
-              absurd (both_ways (is_valued word) none valued)
+    -- a valued word has a link to its head
+    pub head_linked : (h : ℕ) → is_valued word ≡ true → number_of p.dict (head_bytes word) ≡ Some h → (x y : ℕ) → is_linked learnt x y ≡ (((x == number) && (y == h)) || is_linked p x y)
+    head_linked h valued at x y = by (cases_eq x number)
+      where
+        there : number_of d (head_bytes word) ≡ Some h
+        there = number_then (head_bytes word) ∙ other (same_word word (head_bytes word)) refl
+          where
+            other : (b : Bool) → same_word word (head_bytes word) ≡ b → (if b then Some number else number_of p.dict (head_bytes word)) ≡ Some h
+            other false e = at
+            other true e =
+                let same = (same_word_decides word (head_bytes word)).0 e in
+                let none : is_valued word ≡ false = ap is_valued same ∙ head_not_valued word in
+                absurd (both_ways (is_valued word) none valued)
 
-      at_head : (o : Option (List ℕ)) → word_of d y ≡ o → (y ≡ h) ⊎ (y ≡ h → ⊥) → is_head_by (Some word) o ≡ (y == h)
-      at_head o is (inl same) =
-          let here : o ≡ Some (head_bytes word) = sym is ∙ (ap (word_of d) same ∙ word_from_number d dict_kept (head_bytes word) h there) in
-          ap (is_head_by (Some word)) here
-          ∙ (and_from (is_valued word) (same_word (head_bytes word) (head_bytes word)) valued ((same_word_decides (head_bytes word) (head_bytes word)).1 refl) ∙ sym (eq-eqb y h same))
-      at_head None is (inr differ) = sym (ne_eqb y h differ)
-      at_head (Some v) is (inr differ) = false_from_ne_true (is_valued word && same_word (head_bytes word) v) (λ both.
-          let head = (same_word_decides (head_bytes word) v).0 (and_parts (is_valued word) (same_word (head_bytes word) v) both).1 in
-          differ (same_Some y h (sym (number_from_word d dict_kept v y is) ∙ (ap (number_of d) (sym head) ∙ there)))) ∙ sym (ne_eqb y h differ)
+        at_head : (o : Option (List ℕ)) → word_of d y ≡ o → (y ≡ h) ⊎ (y ≡ h → ⊥) → is_head_by (Some word) o ≡ (y == h)
+        at_head o is (inl same) =
+            let here : o ≡ Some (head_bytes word) = sym is ∙ (ap (word_of d) same ∙ word_from_number d dict_kept (head_bytes word) h there) in
+            ap (is_head_by (Some word)) here
+            ∙ (and_from (is_valued word) (same_word (head_bytes word) (head_bytes word)) valued ((same_word_decides (head_bytes word) (head_bytes word)).1 refl) ∙ sym (eq-eqb y h same))
+        at_head None is (inr differ) = sym (ne_eqb y h differ)
+        at_head (Some v) is (inr differ) = false_from_ne_true (is_valued word && same_word (head_bytes word) v) (λ both.
+            let head = (same_word_decides (head_bytes word) v).0 (and_parts (is_valued word) (same_word (head_bytes word) v) both).1 in
+            differ (same_Some y h (sym (number_from_word d dict_kept v y is) ∙ (ap (number_of d) (sym head) ∙ there)))) ∙ sym (ne_eqb y h differ)
 
-      by : (x ≡ number) ⊎ (x ≡ number → ⊥) → is_linked learnt x y ≡ (((x == number) && (y == h)) || is_linked p x y)
-      by (inl same) =
-          subst (λ n. is_linked learnt n y ≡ (((n == number) && (y == h)) || is_linked p n y)) (sym same)
-          (own_here y
-          ∙ (ap₂ (λ a b. a || b) (at_head (word_of d y) refl (cases_eq y h)) (sym (own_before y))
-          ∙ sym (ap (λ b. (b && (y == h)) || is_linked p number y) (eq-eqb number number refl))))
-      by (inr differ) = links_elsewhere x y differ ∙ sym (ap (λ b. (b && (y == h)) || is_linked p x y) (ne_eqb x number differ))
+        by : (x ≡ number) ⊎ (x ≡ number → ⊥) → is_linked learnt x y ≡ (((x == number) && (y == h)) || is_linked p x y)
+        by (inl same) =
+            subst (λ n. is_linked learnt n y ≡ (((n == number) && (y == h)) || is_linked p n y)) (sym same)
+            (own_here y
+            ∙ (ap₂ (λ a b. a || b) (at_head (word_of d y) refl (cases_eq y h)) (sym (own_before y))
+            ∙ sym (ap (λ b. (b && (y == h)) || is_linked p number y) (eq-eqb number number refl))))
+        by (inr differ) = links_elsewhere x y differ ∙ sym (ap (λ b. (b && (y == h)) || is_linked p x y) (ne_eqb x number differ))
 
 -- what a call of the dictionary says of a new word
 pub added_word : (d new : Dict) (word : List ℕ) (n : ℕ)
