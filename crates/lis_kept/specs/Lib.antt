@@ -12,6 +12,7 @@ pub mod Forgetting
 pub mod Passes
 pub mod Linking
 pub mod Undeclaring
+pub mod TestEdges
 pub mod Widening
 pub mod Refiling
 pub mod Under

@@ -9,7 +9,7 @@ use Rattle.lis_ext.specs.Ext.{has}
 use Rattle.lis_fields.specs.Records.{FileRecord}
 use Rattle.lis_fields.specs.declared.slots.AxiomSlot.TheVariants.{Pair}
 use Rattle.lis_fields.specs.Layouts.{is_prop, is_record}
-use Rattle.lis_words.specs.Words.{is_valued, head_bytes}
+use Rattle.lis_words.specs.Words.{is_plain_word, is_valued, head_bytes}
 use Rattle.lis_model.specs.Ranges.{are_in_range}
 use Rattle.lis_model.specs.Image.{data_start}
 use Rattle.lis_kept.specs.Kept.{Kept, property_at}
@@ -20,11 +20,12 @@ abbrev pub is_sound_record : Dict → ℕ → FileRecord → Bool
 is_sound_record dict blocks rec =
     is_record rec && list_all (λ n. is_some (word_of dict n)) rec.tags && list_all (λ n. nat_lt n blocks) rec.blocks
 
--- the numbers of an axiom slot have words; slots past the last number are free
+-- the numbers of an axiom slot have words, the right one a plain one; slots past the last number are free
 pub record IsSoundAxiom (k : Kept) (slot p q : ℕ) : Type 0 where
   pub below : slot < k.limits.props
   pub left : IsSome (word_of k.dict p)
   pub right : IsSome (word_of k.dict q)
+  pub plain : (word : List ℕ) → word_of k.dict q ≡ Some word → IsTrue (is_plain_word word)
 
 pub record AreSound (k : Kept) : Type 0 where
   pub range : IsTrue (are_in_range k.limits)

@@ -1,5 +1,5 @@
 -- A declared word that goes.
-use Rattle.std.specs.Prelude.{◌≡◌, ◌≢◌, ℕ, ◌==◌, ◌||◌, true, false, Bool, if◌then◌else◌, Some, None, is_some, List, slice_get, slice_set}
+use Rattle.std.specs.Prelude.{◌≡◌, ◌≢◌, ℕ, ◌==◌, ◌||◌, ◌&&◌, not, true, false, Bool, if◌then◌else◌, Some, None, is_some, List, slice_get, slice_set}
 use Rattle.std.specs.List.{list_any}
 use Rattle.lis_blockmap.specs.Bitmap.{is_taken}
 use Rattle.lis_content.specs.Content.{has_number}
@@ -15,6 +15,7 @@ use Rattle.lis_kept.specs.Areas.Area.{Properties}
 use Rattle.lis_kept.specs.Telling.{state_of, is_left_of, is_head_by, is_left_head_of, is_had, is_named_left, is_used}
 use Rattle.lis_kept.specs.Links.{is_linked}
 use Rattle.lis_kept.specs.Changes.{Marks}
+use Rattle.lis_kept.specs.TestEdges.{test_by}
 
 -- It is declared and in use for nothing else: no description has it, no axiom names it, no file was given it, and it is no known word's
 -- head.
@@ -39,7 +40,8 @@ pub record Undeclares (number : ℕ) (p q : Kept) : Type 0 where
   pub words : (n : ℕ) → word_of q.dict n ≡ (if number == n then None else word_of p.dict n)
   pub state : (at : ℕ → List ℕ) → state_of q at ≡ undeclared (state_of p at) word
   pub used : (n : ℕ) → is_some (word_of q.dict n) ≡ true → is_used q n ≡ is_used p n
-  pub linked : (x y : ℕ) → is_linked q x y ≡ is_linked p x y
+  -- other words have the links that they had
+  pub linked : (x y : ℕ) → x ≢ number → y ≢ number → is_linked q x y ≡ is_linked p x y
 
 -- ---- what is needed
 abbrev pub is_right_of : ℕ → AxiomSlot → Bool
@@ -50,6 +52,6 @@ is_right_of n (Pair left right) = right == n
 abbrev pub is_named_by : Dict → ℕ → AxiomSlot → Bool
 is_named_by dict n slot = is_left_of n slot || is_left_head_of dict n slot || is_right_of n slot
 
--- some description has it, or an axiom names it
+-- Some description has it, or an axiom names it. A test is in descriptions by sizes alone, and goes with its declaration.
 abbrev pub is_needed : Kept → ℕ → Bool
-is_needed k n = is_had k.ext n || list_any (is_named_by k.dict n) k.axioms
+is_needed k n = (not (is_some {T = Bool × ℕ} (test_by (word_of k.dict n))) && is_had k.ext n) || list_any (is_named_by k.dict n) k.axioms

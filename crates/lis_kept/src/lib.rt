@@ -11,6 +11,7 @@ mod places;
 mod reading;
 mod rows;
 mod spelling;
+mod test_edges;
 mod under;
 mod words;
 
@@ -19,3 +20,4 @@ pub use parts::Parts;
 pub use places::{
     PROPERTIES_START, axioms_start, bitmap_start, data_start, files_start, rows_start,
 };
+pub use test_edges::link_weaker;

@@ -23,6 +23,7 @@ mod without;
 use crate::parts::Parts;
 use crate::places::PROPERTIES_START;
 use crate::spelling::PROPERTIES_PER_BLOCK;
+use crate::test_edges::{link_stronger, link_weaker};
 use lis_bits::Flags;
 use lis_dict::Dict;
 use lis_ext::Ext;
@@ -145,6 +146,9 @@ impl Parts {
             unreachable!()
         };
         self.declared.put(u32::from(number), true);
+        let props = self.limits.props;
+        link_weaker(&self.dict, &self.declared, &mut self.taxonomy, props, number);
+        link_stronger(&self.dict, &self.declared, &mut self.taxonomy, props, number);
         mark_property(&mut self.marks, &self.limits, number);
     }
 

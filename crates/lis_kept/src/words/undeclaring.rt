@@ -1,14 +1,17 @@
 //! A declared word that goes.
 
-ghost use Rattle.std.specs.Prelude.{◌≡◌, ℕ, ◌<◌, IsSome};
+ghost use Rattle.std.specs.Prelude.{◌≡◌, ℕ, ◌<◌, Bool, is_some, IsSome};
 ghost use Rattle.std.specs.List.{list_any};
 ghost use Rattle.lis_dict.specs.Dict.{word_of};
+ghost use Rattle.lis_kept.specs.TestEdges.{test_by};
 ghost use Rattle.lis_kept.specs.Undeclaring.{is_right_of, is_named_by, is_needed, MayUndeclare, Undeclares};
 
 use crate::parts::Parts;
+use crate::test_edges::unlink_all;
 use crate::words::{is_had, is_on_left, mark_property};
 use lis_dict::Dict;
 use lis_fields::AxiomSlot;
+use lis_words::test_of;
 
 // Whether a number is that of an axiom's right side.
 fn is_right_of(slot: AxiomSlot, number: u16) -> bool
@@ -36,13 +39,26 @@ fn is_named(dict: &Dict, axioms: &[AxiomSlot], number: u16) -> bool
     axioms.iter().any(|slot| is_named_by(dict, *slot, number))
 }
 
+// Whether the word of a number is a test.
+fn is_test(dict: &Dict, number: u16) -> bool
+    ensures { result ≡ is_some {T = Bool × ℕ} (test_by (word_of dict.now number)) }
+{
+    match dict.word_of(number) {
+        None => false,
+        Some(word) => test_of(&word).is_some(),
+    }
+}
+
 impl Parts {
-    /// Whether a number's word may not go, if it is declared: some description has it, or an axiom names it.
+    /// Whether a number's word may not go, if it is declared: it is no test and some description has it, or an axiom names it.
     pub fn is_needed(&self, number: u16) -> bool
         requires { IsSome (word_of self.now.dict number) }
         ensures { result ≡ is_needed self.now number }
     {
-        is_had(&self.ext, number) || is_named(&self.dict, self.axioms.as_slice(), number)
+        if !is_test(&self.dict, number) && is_had(&self.ext, number) {
+            return true;
+        }
+        is_named(&self.dict, self.axioms.as_slice(), number)
     }
 
     /// Takes the declaration of a word back, and with it its number.
@@ -55,6 +71,7 @@ impl Parts {
         };
         self.dict.remove(&word);
         self.declared.put(u32::from(number), false);
+        unlink_all(&mut self.taxonomy, self.limits.props, number);
         mark_property(&mut self.marks, &self.limits, number);
     }
 }

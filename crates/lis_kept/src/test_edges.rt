@@ -1,0 +1,134 @@
+//! The edges between tests: one leads from each declared test to each that is weaker.
+
+ghost use Rattle.std.specs.Prelude.{◌≡◌, ◌≤◌, ◌<◌, ℕ, Bool, false, Some, is_some, length, IsSome};
+ghost use Rattle.lis_dict.specs.Dict.{IsDict};
+ghost use Rattle.lis_model.specs.Tests.{is_weaker, are_weaker};
+ghost use Rattle.lis_taxonomy.specs.Taxonomy.{has_edge};
+ghost use Rattle.lis_kept.specs.TestEdges.{declared_test, TestsAreOrdered, LinksWeaker, LinksStronger, UnlinksAll};
+
+use lis_bits::Flags;
+use lis_dict::Dict;
+use lis_taxonomy::Taxonomy;
+use lis_words::test_of;
+
+fn is_weaker(q: (bool, u64), p: (bool, u64)) -> bool
+    ensures { result ≡ is_weaker q p }
+{
+    if q.0 {
+        return p.0 && q.1 < p.1;
+    }
+    !p.0 && p.1 < q.1
+}
+
+// The test that the word of a number is, where this is declared.
+fn declared_test(dict: &Dict, declared: &Flags, number: u32) -> Option<(bool, u64)>
+    requires long { number < length declared.now }
+    requires small { number < 65536 }
+    ensures { result ≡ declared_test dict.now declared.now number }
+{
+    if !declared.get(number) {
+        return None;
+    }
+    let word = dict.word_of(number as u16)?;
+    test_of(&word)
+}
+
+// Whether a number has a declared test that is weaker than this one.
+fn has_weaker(dict: &Dict, declared: &Flags, number: u32, test: (bool, u64)) -> bool
+    requires long { number < length declared.now }
+    requires small { number < 65536 }
+    ensures { result ≡ are_weaker (declared_test dict.now declared.now number) (Some test) }
+{
+    match declared_test(dict, declared, number) {
+        None => false,
+        Some(other) => is_weaker(other, test),
+    }
+}
+
+// Whether a number has a declared test that is stronger than this one.
+fn has_stronger(dict: &Dict, declared: &Flags, number: u32, test: (bool, u64)) -> bool
+    requires long { number < length declared.now }
+    requires small { number < 65536 }
+    ensures { result ≡ are_weaker (Some test) (declared_test dict.now declared.now number) }
+{
+    match declared_test(dict, declared, number) {
+        None => false,
+        Some(other) => is_weaker(test, other),
+    }
+}
+
+/// Adds the edges from a number without edges to those of weaker tests, where its word is a declared test. The number of a word
+/// that is none keeps its edges.
+pub fn link_weaker(
+    dict: &Dict,
+    declared: &Flags,
+    taxonomy: &mut Taxonomy,
+    props: u32,
+    number: u16,
+)
+    requires props { props ≡ taxonomy.old.props }
+    requires number { number < props }
+    requires dict { IsDict dict.now }
+    requires names { dict.now.props ≡ props }
+    requires bits { length declared.now ≡ props }
+    requires ordered { TestsAreOrdered dict.now taxonomy.old }
+    requires new { is_some {T = Bool × ℕ} (declared_test dict.now declared.now number) ≡ true → (q : ℕ) → has_edge taxonomy.old number q ≡ false }
+    ensures { LinksWeaker dict.now declared.now number taxonomy.old taxonomy.new }
+{
+    let Some(test) = declared_test(dict, declared, u32::from(number)) else {
+        return;
+    };
+    // Only its rows tell that there are few words.
+    let _rows = taxonomy.rows();
+    for other in 0..props {
+        if has_weaker(dict, declared, other, test) {
+            let Ok(()) = taxonomy.add(u32::from(number), other) else {
+                unreachable!()
+            };
+        }
+    }
+}
+
+/// Adds the edges to a number without edges from those of stronger tests, where its word is a declared test.
+pub(crate) fn link_stronger(
+    dict: &Dict,
+    declared: &Flags,
+    taxonomy: &mut Taxonomy,
+    props: u32,
+    number: u16,
+)
+    requires props { props ≡ taxonomy.old.props }
+    requires number { number < props }
+    requires dict { IsDict dict.now }
+    requires names { dict.now.props ≡ props }
+    requires bits { length declared.now ≡ props }
+    requires ordered { TestsAreOrdered dict.now taxonomy.old }
+    requires new { (p : ℕ) → has_edge taxonomy.old p number ≡ false }
+    ensures { LinksStronger dict.now declared.now number taxonomy.old taxonomy.new }
+{
+    let Some(test) = declared_test(dict, declared, u32::from(number)) else {
+        return;
+    };
+    // Only its rows tell that there are few words.
+    let _rows = taxonomy.rows();
+    for other in 0..props {
+        if has_stronger(dict, declared, other, test) {
+            let Ok(()) = taxonomy.add(other, u32::from(number)) else {
+                unreachable!()
+            };
+        }
+    }
+}
+
+/// Takes all edges from and to a number away.
+pub(crate) fn unlink_all(taxonomy: &mut Taxonomy, props: u32, number: u16)
+    requires props { props ≡ taxonomy.old.props }
+    requires number { number < props }
+    ensures { UnlinksAll number taxonomy.old taxonomy.new }
+{
+    for other in 0..props {
+        // Most are not there.
+        let _from = taxonomy.remove(u32::from(number), other);
+        let _to = taxonomy.remove(other, u32::from(number));
+    }
+}
