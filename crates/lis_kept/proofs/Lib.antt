@@ -12,6 +12,7 @@ pub mod Added
 pub mod Refiled
 pub mod OwnLinks
 pub mod WordMore
+pub mod TestLinks
 pub mod WordDeclared
 pub mod HeadEdges
 pub mod WordLearnt

@@ -49,13 +49,13 @@ weaker_trans_by false true c k m n h g = absurd cc
 weaker_trans_by false false true k m n h g = absurd cc
 weaker_trans_by false false false k m n h g = lt-ltb n k (omega (arith, ltb-true m k h, ltb-true n m g))
 
-weaker_trans : (r q p : Option (Bool × ℕ)) → are_weaker r q ≡ true → are_weaker q p ≡ true → are_weaker r p ≡ true
+pub weaker_trans : (r q p : Option (Bool × ℕ)) → are_weaker r q ≡ true → are_weaker q p ≡ true → are_weaker r p ≡ true
 weaker_trans None q p h g = absurd cc
 weaker_trans (Some r) None p h g = absurd cc
 weaker_trans (Some r) (Some q) None h g = absurd cc
 weaker_trans (Some r) (Some q) (Some p) h g = weaker_trans_by r.0 q.0 p.0 r.1 q.1 p.1 h g
 
-weaker_apart : (p : Option (Bool × ℕ)) → are_weaker p p ≡ true → ⊥
+pub weaker_apart : (p : Option (Bool × ℕ)) → are_weaker p p ≡ true → ⊥
 weaker_apart None h = absurd cc
 weaker_apart (Some p) h = by p.0 h
   where
