@@ -21,7 +21,7 @@ use Rattle.lis_grow.specs.Summary.{summary_text}
 use Rattle.lis_grow.specs.declared.summary.Sum.{Sum}
 
 -- the items of the session
-abbrev pub grow_items : ℕ → List Item
+unfoldable pub grow_items : ℕ → List Item
 grow_items n = all_items (grow_bytes n)
 
 -- how many of these items are refused

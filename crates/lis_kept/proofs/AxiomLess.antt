@@ -84,7 +84,7 @@ module _ (p : Kept) (t : Taxonomy) (held : AreHeld p t) {left right : ℕ} (may 
 
   -- ---- soundness
   axiom_then : (at x y : ℕ) → slice_get unlinked.axioms at ≡ Some (Pair x y) → IsSoundAxiom unlinked at x y
-  axiom_then at x y is = let one = held.sound.axioms at x y (was_there at x y is).1 in record { below = one.below; left = one.left; right = one.right }
+  axiom_then at x y is = let one = held.sound.axioms at x y (was_there at x y is).1 in record { below = one.below; left = one.left; right = one.right; plain = one.plain }
 
   pub sound_then : AreSound unlinked
   sound_then = record {

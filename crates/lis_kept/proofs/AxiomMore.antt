@@ -78,8 +78,11 @@ module _ (p : Kept) (t : Taxonomy) (held : AreHeld p t) {left right : ℕ} (may 
             below = omega (arith, below, new.0);
             left = subst (λ n. IsSome (word_of p.dict n)) lefts (ap is_some may.is_left);
             right = subst (λ n. IsSome (word_of p.dict n)) rights (ap is_some may.is_right);
+            plain = λ word is_y.
+                let same = same_Some may.to word (sym may.is_right ∙ (ap (word_of p.dict) rights ∙ is_y)) in
+                subst (λ w. is_plain_word w ≡ true) same may.plain;
           }
-      by (inr old) = let one = held.sound.axioms at x y old.1 in record { below = one.below; left = one.left; right = one.right }
+      by (inr old) = let one = held.sound.axioms at x y old.1 in record { below = one.below; left = one.left; right = one.right; plain = one.plain }
 
   pub sound_then : AreSound linked
   sound_then = record {

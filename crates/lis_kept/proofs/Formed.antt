@@ -115,7 +115,7 @@ held_files p t catalog taken ext marks held hold = record {
     flagged = held.sound.flagged;
     properties = held.sound.properties;
     axiom_count = held.sound.axiom_count;
-    axioms = λ slot left right is. let one = held.sound.axioms slot left right is in record { below = one.below; left = one.left; right = one.right };
+    axioms = λ slot left right is. let one = held.sound.axioms slot left right is in record { below = one.below; left = one.left; right = one.right; plain = one.plain };
     slots = hold.slots ∙ held.sound.slots;
     catalog = hold.catalog_is;
     records = hold.records;

@@ -31,7 +31,7 @@ same_edge x y n h = both_equal (nat_cmp x n) (nat_cmp y h) ∙ ap₂ (λ a b. a 
 pub has_edge-with_edge : (t : Taxonomy) (n h x y : ℕ) → has_edge (with_edge t n h) x y ≡ (((x == n) && (y == h)) || has_edge t x y)
 has_edge-with_edge t n h x y = set.contains-insert pair_order t.edges (n, h) (x, y) ∙ ap (λ b. b || has_edge t x y) (same_edge x y n h)
 
-edge_there : (t : Taxonomy) (x y : ℕ) → Contains (set.items t.edges) (x, y) → has_edge t x y ≡ true
+pub edge_there : (t : Taxonomy) (x y : ℕ) → Contains (set.items t.edges) (x, y) → has_edge t x y ≡ true
 edge_there t x y m =
     set.contains-items t.edges (x, y)
     ∙ any_from_among (eq_by_cmp pair_cmp (x, y)) (set.items t.edges) (x, y) (among_from_contains (set.items t.edges) (x, y) m)
@@ -60,7 +60,7 @@ not_refused t n h x y Cycle r is present cycle absent left right to from apart =
 not_refused t n h x y Absent r is present cycle absent left right to from apart = absent is
 
 -- ---- an edge fewer
-has_edge-without_edge : (t : Taxonomy) (n h x y : ℕ) → has_edge (without_edge t n h) x y ≡ (not ((x == n) && (y == h)) && has_edge t x y)
+pub has_edge-without_edge : (t : Taxonomy) (n h x y : ℕ) → has_edge (without_edge t n h) x y ≡ (not ((x == n) && (y == h)) && has_edge t x y)
 has_edge-without_edge t n h x y = set.contains-remove pair_order t.edges (n, h) (x, y) ∙ ap (λ b. not b && has_edge t x y) (same_edge x y n h)
 
 pub no_more_edges : (t : Taxonomy) (n : ℕ) (o : Option ℕ) (x y : ℕ) → has_edge t x y ≡ false → has_edge (without_edge_to t n o) x y ≡ false

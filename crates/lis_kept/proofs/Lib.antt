@@ -13,6 +13,7 @@ pub mod Refiled
 pub mod OwnLinks
 pub mod WordMore
 pub mod TestLinks
+pub mod TestChains
 pub mod WordDeclared
 pub mod HeadEdges
 pub mod WordLearnt

@@ -28,8 +28,9 @@ use Rattle.lis_kept.proofs.OwnLinks.{own_head}
 use Rattle.lis_kept.proofs.Used.{had_at}
 use Rattle.lis_kept.proofs.WordLess.{had_from}
 
-module _ (k : Kept) (sound : AreSound k) (in_use : KeepsInUse k) (closed : (slot x y : ℕ) → has k.ext x slot ≡ true → is_linked k x y ≡ true → has k.ext y slot ≡ true)
-    (number : ℕ) (declared : is_taken k.declared number ≡ true) (had : is_had k.ext number ≡ false) (lefts : is_named_left k number ≡ false)
+module _ (k : Kept) (sound : AreSound k) (in_use : KeepsInUse k) (number : ℕ)
+    (headed : (slot x : ℕ) → has k.ext x slot ≡ true → is_head_by (word_of k.dict x) (word_of k.dict number) ≡ true → has k.ext number slot ≡ true)
+    (declared : is_taken k.declared number ≡ true) (had : is_had k.ext number ≡ false) (lefts : is_named_left k number ≡ false)
     (rights : (slot left right : ℕ) → slice_get k.axioms slot ≡ Some (Pair left right) → right ≡ number → ⊥) where
   left_heads : list_any (is_left_head_of k.dict number) k.axioms ≡ false
   left_heads = (neither (list_any (is_left_of number) k.axioms) (list_any (is_left_head_of k.dict number) k.axioms) lefts).1
@@ -58,14 +59,9 @@ module _ (k : Kept) (sound : AreSound k) (in_use : KeepsInUse k) (closed : (slot
           heads : is_head_by (word_of k.dict n) (word_of k.dict number) ≡ true
           heads = ap₂ is_head_by is_n is_w ∙ said
 
-          linked : is_linked k n number ≡ true
-          linked =
-              or_left (is_own_link (declared_of k) (word_of k.dict n) (word_of k.dict number)) (has_pair k.axioms n number)
-              (own_head (declared_of k) (word_of k.dict n) (word_of k.dict number) heads)
-
           first : (is_taken k.declared n ≡ true) ⊎ (is_had k.ext n ≡ true) → ⊥
           first (inl bit) = not_declared n v is_n valued bit
-          first (inr some) = let at = had_at k.ext n some in both_ways (is_had k.ext number) had (had_from k.ext number at.0 (closed at.0 n number at.2 linked))
+          first (inr some) = let at = had_at k.ext n some in both_ways (is_had k.ext number) had (had_from k.ext number at.0 (headed at.0 n at.2 heads))
 
           of_left : (a : AxiomSlot) → Among k.axioms a → is_left_of n a ≡ true → ⊥
           of_left FreeAxiom m is = both_ways false refl is

@@ -12,25 +12,25 @@ use Rattle.lis_dict.specs.Dict.{Dict, number_of, word_of}
 use Rattle.lis_dict.proofs.Laws.{word_of-with_entry, number_of-with_entry}
 use Rattle.lis_fields.specs.declared.slots.AxiomSlot.{AxiomSlot}
 use Rattle.lis_fields.specs.declared.slots.AxiomSlot.TheVariants.{Free as FreeAxiom, Pair}
-use Rattle.lis_words.specs.Words.{same_word, is_plain_word, is_valued, head_bytes}
+use Rattle.lis_words.specs.Words.{same_word, has_word, is_plain_word, is_valued, is_test, head_bytes}
 use Rattle.lis_model.specs.declared.limits.Limits.{Limits}
-use Rattle.lis_model.specs.State.{is_declarable}
+use Rattle.lis_model.specs.State.{is_declarable, up}
 use Rattle.lis_laws.proofs.Apart.{declarable_not_valued}
 use Rattle.lis_laws.proofs.Counts.{all_among}
 use Rattle.lis_laws.proofs.Members.{same_word_decides}
 use Rattle.lis_kept.specs.Kept.{Kept}
 use Rattle.lis_kept.specs.Sound.{AreSound}
 use Rattle.lis_kept.specs.Changes.{Declares}
-use Rattle.lis_kept.specs.Telling.{is_head_by}
-use Rattle.lis_kept.specs.Links.{is_pair, has_pair, is_linked}
+use Rattle.lis_kept.specs.Telling.{declared_of, axioms_of, is_head_by}
+use Rattle.lis_kept.specs.Links.{is_pair, has_pair, is_own_link, is_linked}
 use Rattle.lis_kept.specs.Linking.{is_filled, MayLink, Links}
 use Rattle.lis_kept.specs.Under.{LinksEach, is_plain_by, MayStandUnder}
 use Rattle.lis_kept.proofs.Filing.{among_from_number, number_from_among}
-use Rattle.lis_kept.proofs.OwnLinks.{among_slot, own_link_is, unnamed_to, unnamed_from}
+use Rattle.lis_kept.proofs.OwnLinks.{among_slot, own_to, unnamed_to, unnamed_from}
 use Rattle.lis_kept.proofs.AxiomSlots.{InSlot}
 use Rattle.lis_kept.proofs.AxiomDescribed.{apart_linked}
 use Rattle.lis_kept.proofs.AxiomsTold.{slot_free}
-use Rattle.lis_kept.proofs.UnderOthers.{each_dict, each_more, not_entailed}
+use Rattle.lis_kept.proofs.UnderOthers.{each_dict, each_more, not_entailed, plain_no_test}
 
 -- ---- lists
 among_take : (i : ℕ) (ns : List ℕ) (n : ℕ) → Among (take i ns) n → Among ns n
@@ -199,8 +199,17 @@ module _ (p mid now : Kept) (sound : AreSound p) (after : AreSound now) (word : 
         by true = ap (λ b. b && same_word (head_bytes word) word) (declarable_not_valued word form)
         by false = old (word_of p.dict x) refl
 
-    nothing : (x : ℕ) → is_linked now x number ≡ false
-    nothing x = ap₂ (λ a b. a || b) (own_link_is now after.dict x number ∙ no_head x) (no_pair_to x)
+    -- where it is no test
+    nothing : is_test word ≡ false → (x : ℕ) → is_linked now x number ≡ false
+    nothing tested x =
+        ap₂ (λ a b. a || b)
+        (ap (is_own_link (declared_of now) (word_of now.dict x)) named
+        ∙ (own_to (declared_of now) (word_of now.dict x) word tested ∙ (sym (ap (is_head_by (word_of now.dict x)) named) ∙ no_head x)))
+        (no_pair_to x)
+
+    no_circle : (b : Bool) → is_test word ≡ b → has_word (up (declared_of now) (axioms_of now) to.0) word ≡ false
+    no_circle false e = not_entailed now after number word named (nothing e) right to.0 named_right (other right (among_at rights i lt))
+    no_circle true e = plain_no_test now after to.0 word to.2 e
 
     -- ---- a slot is free
     enough : count_by is_filled now.axioms < now.limits.props
@@ -230,7 +239,7 @@ module _ (p mid now : Kept) (sound : AreSound p) (after : AreSound now) (word : 
           is_right = named_right;
           plain = to.2;
           new = no_pair;
-          no_circle = not_entailed now after number word named nothing right to.0 named_right (other right (among_at rights i lt));
+          no_circle = no_circle (is_test word) refl;
           slot = slot.0;
           below = slot.1;
           free = slot.2;

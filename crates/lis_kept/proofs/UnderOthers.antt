@@ -3,13 +3,15 @@ use Rattle.std.proofs.Common.{◌≡◌, ℕ, zero, suc, ◌+◌, ◌==◌, ◌&
 use Rattle.std.specs.List.{fold}
 use Rattle.std.proofs.lemmas.Bool.{both_ways, false_from_ne_true, ne_eqb, or_right}
 use Rattle.lis_graph.specs.Graph.{Chain}
+use Rattle.lis_graph.proofs.Members.{Among}
 use Rattle.lis_dict.specs.Dict.{Dict, word_of}
-use Rattle.lis_words.specs.Words.{has_word}
+use Rattle.lis_words.specs.Words.{has_word, is_plain_word, is_test}
+use Rattle.lis_words.proofs.Tests.{test_not_plain}
 use Rattle.lis_model.specs.State.{State, links, up}
 use Rattle.lis_model.specs.Sets.{with_word}
 use Rattle.lis_model.specs.Changes.{with_axiom, declared_under, axiom_added}
 use Rattle.lis_laws.proofs.Chains.{entails_from_up}
-use Rattle.lis_laws.proofs.Leads.{chain_last}
+use Rattle.lis_laws.proofs.Leads.{chain_last, right_leads}
 use Rattle.lis_laws.proofs.Members.{among_from_has_word}
 use Rattle.lis_kept.specs.Kept.{Kept}
 use Rattle.lis_kept.specs.Areas.{IsSaved, marked_count}
@@ -19,7 +21,7 @@ use Rattle.lis_kept.specs.Linking.{Links}
 use Rattle.lis_kept.specs.Under.{LinksEach}
 use Rattle.lis_kept.specs.Changes.{Marks, Declares}
 use Rattle.lis_kept.specs.Telling.{declared_of, axioms_of, state_of, is_head_by, is_used, AreUsed}
-use Rattle.lis_kept.proofs.Known.{one_number}
+use Rattle.lis_kept.proofs.Known.{one_number, among_axiom}
 use Rattle.lis_kept.proofs.Entailed.{link_numbered}
 
 -- ---- states
@@ -99,6 +101,16 @@ module _ (k : Kept) (sound : AreSound k) (number : ℕ) (word : List ℕ) (named
           let link = link_numbered k sound from.0 last.0 word from.1 last.2 in
           let same = one_number k sound link.number number word link.named named in
           both_ways (is_linked k from.0 number) (nothing from.0) (subst (λ m. is_linked k from.0 m ≡ true) same link.linked)
+
+-- a plain word entails no test
+pub plain_no_test : (k : Kept) (sound : AreSound k) (p word : List ℕ) → is_plain_word p ≡ true → is_test word ≡ true → has_word (up (declared_of k) (axioms_of k) p) word ≡ false
+plain_no_test k sound p word plain test =
+    false_from_ne_true (has_word (up (declared_of k) (axioms_of k) p) word)
+    (λ has. let chain = entails_from_up (declared_of k) (axioms_of k) p word (among_from_has_word (up (declared_of k) (axioms_of k) p) word has) in
+    both_ways (is_plain_word word) (test_not_plain word test) (right_leads is_plain_word (λ w h. h) (axioms_of k) rights (declared_of k) chain.0 p word plain chain.1))
+  where
+    rights : (e : List ℕ × List ℕ) → Among (axioms_of k) e → is_plain_word e.1 ≡ true
+    rights e m = let found = among_axiom k sound e m in (sound.axioms found.0 found.1 found.2 found.3).plain e.1 found.5
 
 -- an axiom to another word leads nothing to it
 pub still_nothing : (left right number : ℕ) (p q : Kept) → Links left right p q → (right ≡ number → ⊥) → ((x : ℕ) → is_linked p x number ≡ false) → (x : ℕ) → is_linked q x number ≡ false

@@ -138,6 +138,7 @@ module _ (p : Kept) (t : Taxonomy) (held : AreHeld p t) {word : List ℕ} {numbe
           below = one.below;
           left = some_stays left (not_left slot left right is (among_slot p.axioms slot (Pair left right) is)) one.left;
           right = some_stays right (go.rights slot left right is) one.right;
+          plain = λ v is_v. one.plain v (sym (word_other right (go.rights slot left right is)) ∙ is_v);
         };
     slots = held.sound.slots;
     catalog = held.sound.catalog;

@@ -149,7 +149,12 @@ module _ (p : Kept) (t : Taxonomy) (held : AreHeld p t) {word : List ℕ} {numbe
     axiom_count = held.sound.axiom_count;
     axioms = λ slot left right is.
         let one = held.sound.axioms slot left right is in
-        record { below = one.below; left = some_stays left one.left; right = some_stays right one.right };
+        record {
+          below = one.below;
+          left = some_stays left one.left;
+          right = some_stays right one.right;
+          plain = λ v is_v. one.plain v (sym (same_there right one.right) ∙ is_v);
+        };
     slots = held.sound.slots;
     catalog = held.sound.catalog;
     records = λ slot rec is. record_then rec (held.sound.records slot rec is);
@@ -244,7 +249,7 @@ module _ (p : Kept) (t : Taxonomy) (held : AreHeld p t) {word : List ℕ} {numbe
   ]
 
   -- ---- links
-  no_head_there : (o : Option (List ℕ)) (n : ℕ) → word_of p.dict n ≡ o → is_head_by o (Some word) ≡ false
+  pub no_head_there : (o : Option (List ℕ)) (n : ℕ) → word_of p.dict n ≡ o → is_head_by o (Some word) ≡ false
   no_head_there None n is = refl
   no_head_there (Some v) n is = by (is_valued v && same_word (head_bytes v) word) refl
     where

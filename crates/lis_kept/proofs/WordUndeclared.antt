@@ -17,7 +17,8 @@ use Rattle.lis_fields.specs.Records.{FileRecord}
 use Rattle.lis_fields.specs.Layouts.{prop_bytes, is_prop, is_record}
 use Rattle.lis_fields.specs.declared.slots.AxiomSlot.{AxiomSlot}
 use Rattle.lis_fields.specs.declared.slots.AxiomSlot.TheVariants.{Free as FreeAxiom, Pair}
-use Rattle.lis_taxonomy.specs.Taxonomy.{Taxonomy}
+use Rattle.lis_taxonomy.specs.Taxonomy.{Taxonomy, has_edge}
+use Rattle.lis_model.specs.Tests.{are_weaker}
 use Rattle.lis_words.specs.Words.{word_cmp, same_word, is_property, is_valued, head_bytes}
 use Rattle.lis_model.specs.Sets.{set_of}
 use Rattle.lis_model.specs.State.{File, pair_cmp, is_declarable}
@@ -32,12 +33,14 @@ use Rattle.lis_kept.specs.Telling.{bit_of, is_declared, declared_of, pair_by, pa
 use Rattle.lis_kept.specs.Sound.{AreSound, is_sound_record}
 use Rattle.lis_kept.specs.Links.{AreHeld, has_pair, is_linked}
 use Rattle.lis_kept.specs.Changes.{Marks}
+use Rattle.lis_kept.specs.TestEdges.{test_by, declared_test, UnlinksAll}
 use Rattle.lis_kept.specs.Undeclaring.{MayUndeclare, Undeclares}
 use Rattle.lis_kept.proofs.InArea.{among_slots}
 use Rattle.lis_kept.proofs.Formed.{named_below}
 use Rattle.lis_kept.proofs.Marking.{block_marked}
 use Rattle.lis_kept.proofs.Filing.{map_all, filed_rec, number_from_among}
-use Rattle.lis_kept.proofs.OwnLinks.{own_link_is, slot_at, among_slot, none_before}
+use Rattle.lis_kept.proofs.OwnLinks.{slot_at, among_slot, none_before, unnamed_to, unnamed_from}
+use Rattle.lis_kept.proofs.TestLinks.{linked_by}
 use Rattle.lis_kept.proofs.WordMore.{flat_all, sorted_declared, declared_there, there_declared}
 use Rattle.lis_kept.proofs.WordLess.{had_from}
 
@@ -153,6 +156,7 @@ module _ (p : Kept) (t : Taxonomy) (held : AreHeld p t) {number : ℕ} (may : Ma
           below = one.below;
           left = some_stays left (not_left slot left right is) one.left;
           right = some_stays right (may.rights slot left right is) one.right;
+          plain = λ v is_v. one.plain v (sym (word_other right (may.rights slot left right is)) ∙ is_v);
         };
     slots = held.sound.slots;
     catalog = held.sound.catalog;
@@ -244,7 +248,8 @@ module _ (p : Kept) (t : Taxonomy) (held : AreHeld p t) {number : ℕ} (may : Ma
       ∙ ap (λ (fs : List File). record (undeclared (state_of p blocks) word) { files = fs })
       (map_all (file_told p.limits less blocks) (file_told p.limits p.dict blocks) p.catalog.entries (file_same blocks)))
 
-  -- ---- links: it had none
+  -- ---- links
+  -- it was no head, and had none
   heads_then : (x y : ℕ) → is_head_by (word_of less x) (word_of less y) ≡ is_head_by (word_of p.dict x) (word_of p.dict y)
   heads_then x y = by (cases_eq x number) (cases_eq y number)
     where
@@ -261,10 +266,33 @@ module _ (p : Kept) (t : Taxonomy) (held : AreHeld p t) {number : ℕ} (may : Ma
           ∙ (none_before (word_of less x) ∙ sym (ap (λ n. is_head_by (word_of p.dict x) (word_of p.dict n)) same ∙ may.heads x))
       by (inr differ) (inr apart) = ap₂ is_head_by (word_other x differ) (word_other y apart)
 
-  links_then : (x y : ℕ) → is_linked undeclared_parts x y ≡ is_linked p x y
-  links_then x y =
-      ap (λ b. b || has_pair p.axioms x y)
-      (own_link_is undeclared_parts dict_kept x y ∙ (heads_then x y ∙ sym (own_link_is p held.sound.dict x y)))
+  -- another number has the test that it had
+  test_elsewhere : (n : ℕ) → (n ≡ number → ⊥) → declared_test less bits n ≡ declared_test p.dict p.declared n
+  test_elsewhere n differ = ap₂ (λ b o. if b then test_by o else None) (bit_other n differ) (word_other n differ)
+
+  linked_elsewhere : (x y : ℕ) → (x ≡ number → ⊥) → (y ≡ number → ⊥) → is_linked undeclared_parts x y ≡ is_linked p x y
+  linked_elsewhere x y differ apart =
+      linked_by undeclared_parts dict_kept x y
+      ∙ (ap₂ (λ a b. (a || b) || has_pair p.axioms x y) (heads_then x y) (ap₂ are_weaker (test_elsewhere y apart) (test_elsewhere x differ))
+      ∙ sym (linked_by p held.sound.dict x y))
+
+  links_then : (u : Taxonomy) → UnlinksAll number t u → (x y : ℕ) → has_edge u x y ≡ is_linked undeclared_parts x y
+  links_then u links x y = links.edges x y ∙ by (cases_eq x number) (cases_eq y number)
+    where
+      none : (b : Bool) → (b && false) ≡ false
+      none true = refl
+      none false = refl
+
+      by : (x ≡ number) ⊎ (x ≡ number → ⊥) → (y ≡ number) ⊎ (y ≡ number → ⊥) → (not (x == number) && (not (y == number) && has_edge t x y)) ≡ is_linked undeclared_parts x y
+      by (inl same) e =
+          ap (λ b. not b && (not (y == number) && has_edge t x y)) (eq-eqb x number same)
+          ∙ sym (ap (λ n. is_linked undeclared_parts n y) same ∙ unnamed_from undeclared_parts sound_then number word_gone y)
+      by (inr differ) (inl same) =
+          ap (λ b. not (x == number) && (not b && has_edge t x y)) (eq-eqb y number same)
+          ∙ (none (not (x == number)) ∙ sym (ap (is_linked undeclared_parts x) same ∙ unnamed_to undeclared_parts sound_then number word_gone x))
+      by (inr differ) (inr apart) =
+          ap₂ (λ a b. not a && (not b && has_edge t x y)) (ne_eqb x number differ) (ne_eqb y number apart)
+          ∙ (held.links.edges x y ∙ sym (linked_elsewhere x y differ apart))
 
   -- ---- what is used
   used_then : (n : ℕ) → is_some (word_of less n) ≡ true → is_used undeclared_parts n ≡ is_used p n
@@ -279,11 +307,11 @@ module _ (p : Kept) (t : Taxonomy) (held : AreHeld p t) {number : ℕ} (may : Ma
       alike FreeAxiom m = refl
       alike (Pair left right) m = heads_then left n
 
-  pub undeclared_made : AreHeld undeclared_parts t × Undeclares number p undeclared_parts
-  undeclared_made = (
+  pub undeclared_made : (u : Taxonomy) → UnlinksAll number t u → AreHeld undeclared_parts u × Undeclares number p undeclared_parts
+  undeclared_made u links = (
     record {
       sound = sound_then;
-      links = record { props = held.links.props; edges = λ x y. held.links.edges x y ∙ sym (links_then x y) };
+      links = record { props = links.props ∙ held.links.props; edges = links_then u links };
     },
     record {
       word = word;
@@ -293,21 +321,21 @@ module _ (p : Kept) (t : Taxonomy) (held : AreHeld p t) {number : ℕ} (may : Ma
       words = word_then;
       state = state_then;
       used = used_then;
-      linked = links_then;
+      linked = linked_elsewhere;
     },
   )
 
 -- the same, over what memory kept
-pub undeclares : (k p : Kept) (t : Taxonomy) (number : ℕ) (word : List ℕ) (dict : Dict) (bits marks : List Bool) → p ≡ k → AreHeld p t → MayUndeclare number p
+pub undeclares : (k p : Kept) (t u : Taxonomy) (number : ℕ) (word : List ℕ) (dict : Dict) (bits marks : List Bool) → p ≡ k → AreHeld p t → MayUndeclare number p
     → word_of p.dict number ≡ Some word → dict ≡ without_word p.dict word → bits ≡ set p.declared number false
-    → marks ≡ set p.marks (block_of p.limits Properties number) true
-    → AreHeld (record p { dict = dict; declared = bits; marks = marks }) t × Undeclares number k (record p { dict = dict; declared = bits; marks = marks })
-undeclares k p t number word dict bits marks is held may there dict_is bits_are marks_are =
+    → UnlinksAll number t u → marks ≡ set p.marks (block_of p.limits Properties number) true
+    → AreHeld (record p { dict = dict; declared = bits; marks = marks }) u × Undeclares number k (record p { dict = dict; declared = bits; marks = marks })
+undeclares k p t u number word dict bits marks is held may there dict_is bits_are links marks_are =
     let q : Kept = undeclared_parts p t held may there in
-    let P : Kept → Type 0 = λ x. AreHeld x t × Undeclares number k x in
-    let Q : Kept → Type 0 = λ x. AreHeld q t × Undeclares number x q in
+    let P : Kept → Type 0 = λ x. AreHeld x u × Undeclares number k x in
+    let Q : Kept → Type 0 = λ x. AreHeld q u × Undeclares number x q in
     let same : q ≡ record p { dict = dict; declared = bits; marks = marks } =
     ap (λ (d : Dict). record p { dict = d; declared = set p.declared number false; marks = set p.marks (block_of p.limits Properties number) true }) (sym dict_is)
     ∙ (ap (λ (bs : List Bool). record p { dict = dict; declared = bs; marks = set p.marks (block_of p.limits Properties number) true }) (sym bits_are)
     ∙ ap (λ (ms : List Bool). record p { dict = dict; declared = bits; marks = ms }) (sym marks_are)) in
-    subst P same (subst Q is (undeclared_made p t held may there))
+    subst P same (subst Q is (undeclared_made p t held may there u links))

@@ -126,6 +126,8 @@ pub(crate) fn unlink_all(taxonomy: &mut Taxonomy, props: u32, number: u16)
     requires number { number < props }
     ensures { UnlinksAll number taxonomy.old taxonomy.new }
 {
+    // Only its rows tell that edges lead from and to numbers below the limit.
+    let _rows = taxonomy.rows();
     for other in 0..props {
         // Most are not there.
         let _from = taxonomy.remove(u32::from(number), other);

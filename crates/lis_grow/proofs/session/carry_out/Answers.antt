@@ -8,6 +8,7 @@ use Rattle.lis_store.specs.Stored.{StoreFits}
 use Rattle.lis_session.proofs.Fitting.{store_fits_at}
 use Rattle.lis_grow.specs.declared.summary.Sum.{Sum}
 use Rattle.lis_grow.specs.Grow.{grow_bytes}
+use Rattle.lis_grow.specs.Session.{grow_items}
 use Rattle.lis_grow.proofs.Short.{grow_short}
 use Rattle.lis_grow.proofs.Going.{so_far_none, so_far_more, item_read, ends_all, ends_disk, takes_some, asks_some, one_at_most}
 use Rattle.lis_grow.proofs.session.carry_out.Goals as goal
@@ -27,11 +28,13 @@ loop-item-init g c = record {
 }
 
 pub returns-then-not-is_asked-clause-carries : goal.returns-then-not-is_asked-clause-carries
+unfolding grow_items
 returns-then-not-is_asked-clause-carries g c = λ state fits.
     ends_all (grow_bytes c.args.n) c.in-Ok.item state c.loop-item.invariant.so_far refl c.next.ensures.says c.in-Ok.is (c.is_asked.ensures c.next.new.payload ∙ c.if-not-is_asked.true)
     (grow_short c.args.n) (store_fits_at c.requires.sound fits)
 
 pub returns-in_err-tally-clause-carries : goal.returns-in_err-tally-clause-carries
+unfolding grow_items
 returns-in_err-tally-clause-carries g c = λ state fits.
     let some = asks_some c.in-Ok.item c.next.new.payload (c.is_asked.ensures c.next.new.payload ∙ c.if-not-is_asked.false) in
     let read = item_read c.loop-item.invariant.so_far c.next.ensures.says c.in-Ok.is c.next.ensures.few some in

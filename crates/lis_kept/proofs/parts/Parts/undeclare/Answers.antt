@@ -7,13 +7,13 @@ use Rattle.lis_kept.proofs.parts.Parts.undeclare.Goals as goal
 pub invariant_of-self : goal.invariant_of-self
 invariant_of-self c =
     let may = subst (MayUndeclare c.args.number) (sym c.self.view_is) c.requires in
-    (undeclares c.args.self.now (the_view c.self.inside) c.self.inside.taxonomy c.args.number c.in-Some.word c.remove.new.self c.put.new.self c.mark_property.new.marks
+    (undeclares c.args.self.now (the_view c.self.inside) c.self.inside.taxonomy c.unlink_all.new.taxonomy c.args.number c.in-Some.word c.remove.new.self c.put.new.self c.mark_property.new.marks
     c.self.view_is c.self.invariant may (sym c.word_of.ensures ∙ c.in-Some.is) c.remove.ensures.gone
-    (c.put.ensures ∙ ap (λ n. set c.self.inside.declared n false) c.from.ensures) c.mark_property.ensures).0
+    (c.put.ensures ∙ ap (λ n. set c.self.inside.declared n false) c.from.ensures) c.unlink_all.ensures c.mark_property.ensures).0
 
 pub returns : goal.returns
 returns c =
     let may = subst (MayUndeclare c.args.number) (sym c.self.view_is) c.requires in
-    (undeclares c.args.self.now (the_view c.self.inside) c.self.inside.taxonomy c.args.number c.in-Some.word c.remove.new.self c.put.new.self c.mark_property.new.marks
+    (undeclares c.args.self.now (the_view c.self.inside) c.self.inside.taxonomy c.unlink_all.new.taxonomy c.args.number c.in-Some.word c.remove.new.self c.put.new.self c.mark_property.new.marks
     c.self.view_is c.self.invariant may (sym c.word_of.ensures ∙ c.in-Some.is) c.remove.ensures.gone
-    (c.put.ensures ∙ ap (λ n. set c.self.inside.declared n false) c.from.ensures) c.mark_property.ensures).1
+    (c.put.ensures ∙ ap (λ n. set c.self.inside.declared n false) c.from.ensures) c.unlink_all.ensures c.mark_property.ensures).1
