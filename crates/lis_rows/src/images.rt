@@ -4,7 +4,7 @@ ghost use Rattle.std.specs.Prelude.{◌≡◌};
 ghost use Rattle.lis_memdisk.specs.MemStation.{meaning_of};
 
 use crate::tests::tables::{IMAGE_WORDS, ROWS, SESSIONS};
-use crate::tests::{SOUND, call, crowded_row, row_of, sized_row};
+use crate::tests::{SOUND, call, crowded_row, row_of, sized_row, tested_row};
 use lis_memdisk::MemStation;
 use lis_ports::Disk;
 use lis_shell::status::Status;
@@ -74,6 +74,9 @@ fn words_by_size_and_by_name_come_and_go_in_an_image(rt: HostRuntime) -> Result<
     let alloc = rt.alloc();
     let image = fresh(alloc)?;
     let (row, wanted) = sized_row(alloc)?;
+    let (_, shown) = session(alloc, &image, row.as_str())?;
+    assert_eq!(rt; shown.as_str(), wanted);
+    let (row, wanted) = tested_row(alloc)?;
     let (_, shown) = session(alloc, &image, row.as_str())?;
     assert_eq!(rt; shown.as_str(), wanted);
     let (row, wanted) = crowded_row(alloc)?;

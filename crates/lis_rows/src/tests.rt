@@ -205,6 +205,19 @@ pub fn sized_row(alloc: Global) -> Result<(String, &'static str), AllocError> {
     Ok((row, "ok;ok;ok;f a;ok;ok;ok;ok;p size:;p size:empty;ok;"))
 }
 
+/// Two tests that are declared, files that meet none, one and both of them, and what is shown.
+pub fn tested_row(alloc: Global) -> Result<(String, &'static str), AllocError> {
+    let mut row = String::new(alloc);
+    row.push_str("mkdir size>=100;mkdir size>=1000;add a 0;;")?;
+    push_file(&mut row, "add b 500;", 500)?;
+    push_file(&mut row, "add c 5000;", 5_000)?;
+    row.push_str("ls;cd size>=100;ls;cd /;mkdir big;axiom size>=1000 big;props c;rmdir size>=1000;unaxiom size>=1000 big;rmdir size>=1000;create d size>=100;mkdir size>=0100;mkdir size>=100;")?;
+    Ok((
+        row,
+        "ok;ok;ok;ok;ok;d size:empty;d size:medium;d size:small;d size>=100;ok;ok;d size:medium;d size:small;d size>=1000;ok;ok;ok;ok;p big;p size:;p size:medium;p size>=100;p size>=1000;ok;no 13 in use;ok;ok;no 14 not assignable;no 01 bad line;no 11 already declared;",
+    ))
+}
+
 /// Files each with a suffix of its own, as many as there is room for their words and one more, and what is shown.
 pub fn crowded_row(alloc: Global) -> Result<(String, String), AllocError> {
     let mut row = String::new(alloc);
@@ -221,6 +234,9 @@ pub fn crowded_row(alloc: Global) -> Result<(String, String), AllocError> {
 #[test]
 fn words_by_size_and_by_name_come_and_go(rt: HostRuntime) -> Result<(), Fail> {
     let (row, wanted) = sized_row(rt.alloc())?;
+    let seen = run(rt.alloc(), &WORDS, row.as_str(), &SOUND)?;
+    assert_eq!(rt; seen.shown.as_str(), wanted);
+    let (row, wanted) = tested_row(rt.alloc())?;
     let seen = run(rt.alloc(), &WORDS, row.as_str(), &SOUND)?;
     assert_eq!(rt; seen.shown.as_str(), wanted);
     let (row, wanted) = crowded_row(rt.alloc())?;

@@ -3,7 +3,7 @@
 use lis_model::spot::Spot;
 use lis_shell::status::Status;
 
-pub static SESSIONS: [(&str, &str); 53] = [
+pub static SESSIONS: [(&str, &str); 54] = [
     ("", ""),
     (
         "mkdir music;create a;create b music;ls;",
@@ -180,6 +180,11 @@ pub static SESSIONS: [(&str, &str); 53] = [
     (
         "mkdir source;axiom ext:c source;axiom defines: source;add x.c 35;int f(int (*g)(void)) { return 1} ;;props x.c;unaxiom ext:c source;props x.c;rename x.c x.t;props x.t;",
         "ok;ok;ok;ok;p defines:;p defines:f;p ext:;p ext:c;p size:;p size:small;p source;ok;ok;p defines:;p defines:f;p ext:;p ext:c;p size:;p size:small;p source;ok;ok;p ext:;p ext:t;p size:;p size:small;ok;",
+    ),
+    // Declared tests: files have them by their sizes, and they are given to none.
+    (
+        "add f 3;xyz;create e;mkdir big;mkdir size<2;cd big;mkdir size>=2;cd size<2;mkdir a;cd /;ls;props f;write e 2;hi;props e;rmdir size<2;rmdir size>=2;unaxiom size>=2 big;rmdir size>=2;props f;axiom big size>=2;create g size>=2;stat;",
+        "ok;ok;ok;ok;ok;ok;ok;no 08 not a place;ok;d big;d size:empty;d size:small;d size<2;ok;p big;p size:;p size:small;p size>=2;ok;ok;p big;p size:;p size:small;p size>=2;ok;ok;no 13 in use;ok;ok;p size:;p size:small;ok;no 14 not assignable;no 14 not assignable;s files 2;s known 3;s axioms 0;s free 6;ok;",
     ),
     // Routes and counts.
     (
@@ -431,7 +436,7 @@ pub static LIMITED: [(&str, Status, &str, &str); 2] = [
 
 /// Sessions on an empty image, and how many bits of its extension rows they edit: a bit for each word that a file gains or loses, its
 /// two by its size among them.
-pub static EDITS: [(&str, u64); 9] = [
+pub static EDITS: [(&str, u64); 10] = [
     ("mkdir a;mkdir b;", 0),
     ("mkdir a;mkdir b;create f a;", 3),
     ("mkdir a;mkdir k:;add f 1 a k:1;x;", 5),
@@ -448,6 +453,11 @@ pub static EDITS: [(&str, u64); 9] = [
     // An axiom gives its word to all files at once.
     (
         "mkdir a;mkdir b;mkdir c;create f a;create g a c;axiom a b;axiom c b;unaxiom a b;unaxiom c b;",
+        10,
+    ),
+    // A declared test comes to the files that meet it, with the word of the place, and goes with its declaration alone.
+    (
+        "add f 3;xyz;create g;mkdir big;cd big;mkdir size>=2;rm g;cd /;unaxiom size>=2 big;rmdir size>=2;",
         10,
     ),
 ];
