@@ -38,7 +38,6 @@ use Rattle.lis_kept.proofs.Marking.{block_marked}
 use Rattle.lis_kept.proofs.OwnLinks.{own_to_plain, slot_at}
 use Rattle.lis_kept.proofs.Known.{one_number, axiom_among, among_axiom}
 use Rattle.lis_kept.proofs.AxiomSlots.{set_cases, set_there, any_unset, axiom_within, same_sides}
-use Rattle.lis_kept.proofs.PlainWords.{not_head}
 use Rattle.lis_kept.proofs.AxiomMore.{sorted_axioms, swapped, used_more}
 
 -- ---- an edge fewer

@@ -31,7 +31,6 @@ use Rattle.lis_kept.proofs.Marking.{block_marked}
 use Rattle.lis_kept.proofs.HeadEdges.{has_edge-with_edge}
 use Rattle.lis_kept.proofs.Known.{axiom_among, among_axiom}
 use Rattle.lis_kept.proofs.OwnLinks.{own_to_plain}
-use Rattle.lis_kept.proofs.PlainWords.{not_head}
 use Rattle.lis_kept.proofs.Entailed.{up_from_leads}
 use Rattle.lis_kept.proofs.AxiomSlots.{set_here, set_cases, set_there, any_set, axiom_within, same_sides}
 

@@ -1,5 +1,5 @@
 -- The numbers of a file that is gone: of their words those may go that are not in use.
-use Rattle.std.proofs.Common.{◌≡◌, ◌⊎◌, refl, sym, ap, ◌∙◌, subst, inl, inr, ℕ, ◌==◌, if◌then◌else◌, ◌&&◌, ◌||◌, true, false, List, [], set, get_or, Option, Some, None, arith, get_or-set_same, get_or-set_other}
+use Rattle.std.proofs.Common.{◌≡◌, ◌⊎◌, refl, sym, ap, ◌∙◌, subst, inl, inr, ℕ, ◌==◌, if◌then◌else◌, ◌||◌, true, false, List, [], set, get_or, Option, Some, None, arith, get_or-set_same, get_or-set_other}
 use Rattle.std.specs.List.{list_any}
 use Rattle.std.proofs.lemmas.Bool.{and_parts, both_ways, cases_eq, eq-eqb, ne_eqb, eqb-true, or_cases, or_left, or_right, true_from_ne_false}
 use Rattle.lis_graph.proofs.Members.{Among, among_from_any, any_from_among}
@@ -13,7 +13,7 @@ use Rattle.lis_fields.specs.Records.{FileRecord}
 use Rattle.lis_fields.specs.Layouts.{is_prop}
 use Rattle.lis_fields.specs.declared.slots.AxiomSlot.{AxiomSlot}
 use Rattle.lis_fields.specs.declared.slots.AxiomSlot.TheVariants.{Free as FreeAxiom, Pair}
-use Rattle.lis_words.specs.Words.{same_word, is_property, is_valued, head_bytes}
+use Rattle.lis_words.specs.Words.{same_word, is_valued, head_bytes}
 use Rattle.lis_model.specs.State.{is_declarable}
 use Rattle.lis_laws.proofs.Members.{same_word_decides}
 use Rattle.lis_laws.proofs.Chains.{head_not_valued}

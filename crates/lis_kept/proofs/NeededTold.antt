@@ -70,6 +70,7 @@ module _ (k : Kept) (sound : AreSound k) (free : FreeSlotsAreEmpty k) (at : ℕ 
       or_left (is_left_of n (Pair x y) || is_left_head_of k.dict n (Pair x y)) (is_right_of n (Pair x y))
       (or_right (is_left_of n (Pair x y)) (is_left_head_of k.dict n (Pair x y))
       (ap₂ is_head_by is_x is ∙ and_from (is_valued (e.0).0) (same_word (head_bytes (e.0).0) w) head.0 ((same_word_decides (head_bytes (e.0).0) w).1 head.1))))
+
   words_had : Among described_words w → is_had k.ext n ≡ true
   words_had m =
       let file = among_flat_map (description (state_of k at)) (map (file_told k.limits k.dict at) k.catalog.entries) w m in

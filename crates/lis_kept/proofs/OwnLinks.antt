@@ -1,24 +1,23 @@
 -- The links that words have by themselves.
-use Rattle.std.proofs.Common.{◌≡◌, ℕ, Bool, true, false, cond, not, ◌&&◌, ◌||◌, ◌==◌, Option, Some, None, is_some, IsSome, slice_get, List, [], ◌∷◌, ◌++◌, refl, inl, inr, sym, ap, ap₂, ◌∙◌, subst}
+use Rattle.std.proofs.Common.{◌≡◌, ℕ, true, false, ◌&&◌, ◌||◌, ◌==◌, Option, Some, None, is_some, IsSome, slice_get, List, refl, inl, inr, ap, ap₂, ◌∙◌, subst}
 use Rattle.std.specs.List.{Contains}
-use Rattle.std.proofs.lemmas.Bool.{not_from_false, and_parts, and_from, or_cases, both_ways, eqb-true, false_from_ne_true}
+use Rattle.std.proofs.lemmas.Bool.{and_parts, and_from, or_cases, both_ways, eqb-true, false_from_ne_true}
 use Rattle.std.proofs.lemmas.Option.{slice_get-get_or, slice_get_within, get_or_from_slice_get}
 use Rattle.std.proofs.lemmas.List.Elements.{Contains-get_or}
-use Rattle.lis_graph.proofs.Members.{Among, among_filter, among_from_any, among_from_contains, contains_from_among}
-use Rattle.lis_dict.specs.Dict.{IsDict, words, word_of}
+use Rattle.lis_graph.proofs.Members.{Among, among_from_any, among_from_contains, contains_from_among}
+use Rattle.lis_dict.specs.Dict.{word_of}
 use Rattle.lis_fields.specs.declared.slots.AxiomSlot.{AxiomSlot}
 use Rattle.lis_fields.specs.declared.slots.AxiomSlot.TheVariants.{Free as FreeAxiom, Pair}
-use Rattle.lis_words.specs.Words.{same_word, has_word, head_bytes, is_valued, is_property, is_test, is_plain_word, is_head, is_built_in}
+use Rattle.lis_words.specs.Words.{same_word, has_word, head_bytes, is_valued, is_test, is_plain_word, is_head, is_built_in}
 use Rattle.lis_words.proofs.Tests.{plain_not_test, head_not_test, valued_not_test}
 use Rattle.lis_fields.specs.Layouts.{is_undeclared}
-use Rattle.lis_model.specs.State.{heads, links}
-use Rattle.lis_laws.proofs.Counts.{all_among, all_from}
+use Rattle.lis_model.specs.State.{links}
 use Rattle.lis_laws.proofs.Members.{same_word_decides, among_from_has_word, has_word_from_among}
 use Rattle.lis_laws.proofs.Locals.{same_tests}
 use Rattle.lis_laws.proofs.Chains.{OwnLink, own_link, IsWeakerIn, weaker_tests_are, links_head}
 use Rattle.lis_laws.proofs.Chains.OwnLink.{Head, Weaker}
 use Rattle.lis_kept.specs.Kept.{Kept}
-use Rattle.lis_kept.specs.Telling.{is_declared, declared_of, is_head_by}
+use Rattle.lis_kept.specs.Telling.{declared_of, is_head_by}
 use Rattle.lis_kept.specs.Sound.{AreSound}
 use Rattle.lis_kept.proofs.PlainWords.{not_head}
 use Rattle.lis_kept.specs.Links.{is_own_link, is_linked, is_pair, has_pair}

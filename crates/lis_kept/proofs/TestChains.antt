@@ -1,5 +1,5 @@
 -- Edges between tests close no circle.
-use Rattle.std.proofs.Common.{◌≡◌, ◌⊎◌, ℕ, zero, suc, ◌+◌, ◌<◌, ◌≤◌, ◌==◌, ◌&&◌, ◌||◌, nat_lt, not, Bool, true, false, Option, Some, None, is_some, IsSome, List, [], ◌↔◌, Result, Ok, Err, OnOk, OnErr, IsTrue, refl, sym, ap, ap₂, ◌∙◌, subst, inl, inr, arith, eq-eqb}
+use Rattle.std.proofs.Common.{◌≡◌, ◌⊎◌, ℕ, zero, suc, ◌+◌, ◌<◌, ◌≤◌, ◌==◌, ◌&&◌, ◌||◌, nat_lt, not, Bool, true, false, Option, Some, None, is_some, List, [], ◌↔◌, Result, Ok, Err, OnOk, OnErr, IsTrue, refl, sym, ap, ap₂, ◌∙◌, subst, inl, inr, arith, eq-eqb}
 use Rattle.std.specs.List.{Contains}
 use Rattle.std.specs.FinSet as set
 use Rattle.std.proofs.lemmas.Bool.{and_parts, or_cases, both_ways, cases_eq, ne_eqb, false_from_ne_true, eqb-true, lt-ltb, ltb-true}
@@ -13,9 +13,8 @@ use Rattle.lis_taxonomy.specs.Taxonomy.{Taxonomy, no_links, has_edge, with_edge,
 use Rattle.lis_model.specs.Tests.{are_weaker}
 use Rattle.lis_laws.proofs.Chains.{weaker_trans, weaker_apart}
 use Rattle.lis_kept.specs.TestEdges.{test_by, declared_test, is_test_link, TestsAreOrdered, LinksWeaker, LinksStronger, UnlinksAll}
-use Rattle.lis_kept.proofs.Formed.{some_word}
 use Rattle.lis_kept.proofs.HeadEdges.{has_edge-with_edge, has_edge-without_edge, edge_there}
-use Rattle.lis_kept.proofs.TestLinks.{none_weaker, no_test, test_link, not_itself}
+use Rattle.lis_kept.proofs.TestLinks.{none_weaker, no_test, test_link}
 
 some_behind : (q p : Option (Bool × ℕ)) → are_weaker q p ≡ true → is_some {T = Bool × ℕ} p ≡ true
 some_behind q None w = absurd (both_ways (are_weaker q None) (none_weaker q) w)
@@ -322,14 +321,14 @@ unlinked_all number end t u range links = record { props = links.props; edges = 
     none true = refl
     none false = refl
 
-    parted : (a b : Bool) → (not ((a && true) || (b && true)) && true) ≡ (not a && (not b && true))
+    parted : (a b : Bool) → (not ((a && true) || (b && true)) && true) ≡ ((not a && not b) && true)
     parted true true = refl
     parted true false = refl
     parted false true = refl
     parted false false = refl
 
-    by : (p q : ℕ) (h : Bool) → has_edge t p q ≡ h → (not (((p == number) && nat_lt q end) || ((q == number) && nat_lt p end)) && h) ≡ (not (p == number) && (not (q == number) && h))
-    by p q false e = none (not (((p == number) && nat_lt q end) || ((q == number) && nat_lt p end))) ∙ sym (ap (λ b. not (p == number) && b) (none (not (q == number))) ∙ none (not (p == number)))
+    by : (p q : ℕ) (h : Bool) → has_edge t p q ≡ h → (not (((p == number) && nat_lt q end) || ((q == number) && nat_lt p end)) && h) ≡ ((not (p == number) && not (q == number)) && h)
+    by p q false e = none (not (((p == number) && nat_lt q end) || ((q == number) && nat_lt p end))) ∙ sym (none (not (p == number) && not (q == number)))
     by p q true e =
         let within = range p q e in
         ap₂ (λ a b. not (((p == number) && a) || ((q == number) && b)) && true) (lt-ltb q end within.1) (lt-ltb p end within.0) ∙ parted (p == number) (q == number)

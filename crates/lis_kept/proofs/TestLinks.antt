@@ -1,23 +1,22 @@
 -- The links between declared tests, by their numbers.
-use Rattle.std.proofs.Common.{◌≡◌, ◌⊎◌, ℕ, zero, suc, ◌==◌, if◌then◌else◌, ◌&&◌, ◌||◌, not, Bool, true, false, Option, Some, None, is_some, IsSome, List, refl, sym, ap, ap₂, ◌∙◌, subst, inl, inr, eq-eqb}
-use Rattle.std.proofs.lemmas.Bool.{and_parts, and_from, or_cases, or_left, or_right, both_ways, cases_eq, ne_eqb, false_from_ne_true, eqb-true}
+use Rattle.std.proofs.Common.{◌≡◌, ◌⊎◌, ℕ, ◌==◌, if◌then◌else◌, ◌||◌, Bool, true, false, Option, Some, None, is_some, List, refl, sym, ap, ap₂, ◌∙◌, subst, inl, inr}
+use Rattle.std.proofs.lemmas.Bool.{and_parts, and_from, or_cases, or_left, or_right, both_ways, false_from_ne_true, eqb-true}
 use Rattle.lis_graph.proofs.Members.{Among, among_from_any}
 use Rattle.lis_blockmap.specs.Bitmap.{is_taken}
-use Rattle.lis_dict.specs.Dict.{Dict, IsDict, number_of, word_of}
+use Rattle.lis_dict.specs.Dict.{Dict, IsDict, word_of}
 use Rattle.lis_dict.proofs.Laws.{number_from_word}
 use Rattle.lis_fields.specs.declared.slots.AxiomSlot.{AxiomSlot}
 use Rattle.lis_fields.specs.declared.slots.AxiomSlot.TheVariants.{Free as FreeAxiom, Pair}
-use Rattle.lis_taxonomy.specs.Taxonomy.{Taxonomy, has_edge}
-use Rattle.lis_words.specs.Words.{same_word, has_word, is_valued, head_bytes, is_test, is_plain_word, test_of}
+use Rattle.lis_taxonomy.specs.Taxonomy.{Taxonomy}
+use Rattle.lis_words.specs.Words.{same_word, has_word, is_valued, head_bytes, is_test, test_of}
 use Rattle.lis_words.proofs.Tests.{plain_not_test}
 use Rattle.lis_model.specs.State.{links}
 use Rattle.lis_model.specs.Tests.{are_weaker}
 use Rattle.lis_laws.proofs.Members.{same_word_decides, among_from_has_word, has_word_from_among}
-use Rattle.lis_laws.proofs.Chains.{OwnLink, own_link, IsWeakerIn, links_weaker, links_head, head_no_test, weaker_apart}
+use Rattle.lis_laws.proofs.Chains.{OwnLink, own_link, links_weaker, head_no_test, weaker_apart}
 use Rattle.lis_laws.proofs.Chains.OwnLink.{Head, Weaker}
 use Rattle.lis_kept.specs.Kept.{Kept}
 use Rattle.lis_kept.specs.Telling.{bit_of, is_declared, declared_of, is_head_by}
-use Rattle.lis_kept.specs.Sound.{AreSound}
 use Rattle.lis_kept.specs.Links.{is_own_link, is_linked, is_pair, has_pair, AreHeld}
 use Rattle.lis_kept.specs.TestEdges.{test_by, declared_test, is_test_link, TestsAreOrdered}
 use Rattle.lis_kept.proofs.Filing.{same_tests}

@@ -19,7 +19,7 @@ use Rattle.lis_fields.specs.declared.slots.AxiomSlot.{AxiomSlot}
 use Rattle.lis_fields.specs.declared.slots.AxiomSlot.TheVariants.{Free as FreeAxiom, Pair}
 use Rattle.lis_taxonomy.specs.Taxonomy.{Taxonomy, has_edge}
 use Rattle.lis_model.specs.Tests.{are_weaker}
-use Rattle.lis_words.specs.Words.{word_cmp, same_word, is_property, is_valued, head_bytes}
+use Rattle.lis_words.specs.Words.{word_cmp, same_word, is_valued, head_bytes}
 use Rattle.lis_model.specs.Sets.{set_of}
 use Rattle.lis_model.specs.State.{File, pair_cmp, is_declarable}
 use Rattle.lis_model.specs.Changes.{undeclared}
@@ -279,19 +279,19 @@ module _ (p : Kept) (t : Taxonomy) (held : AreHeld p t) {number : ℕ} (may : Ma
   links_then : (u : Taxonomy) → UnlinksAll number t u → (x y : ℕ) → has_edge u x y ≡ is_linked undeclared_parts x y
   links_then u links x y = links.edges x y ∙ by (cases_eq x number) (cases_eq y number)
     where
-      none : (b : Bool) → (b && false) ≡ false
-      none true = refl
-      none false = refl
+      none : (b c : Bool) → ((b && false) && c) ≡ false
+      none true c = refl
+      none false c = refl
 
-      by : (x ≡ number) ⊎ (x ≡ number → ⊥) → (y ≡ number) ⊎ (y ≡ number → ⊥) → (not (x == number) && (not (y == number) && has_edge t x y)) ≡ is_linked undeclared_parts x y
+      by : (x ≡ number) ⊎ (x ≡ number → ⊥) → (y ≡ number) ⊎ (y ≡ number → ⊥) → ((not (x == number) && not (y == number)) && has_edge t x y) ≡ is_linked undeclared_parts x y
       by (inl same) e =
-          ap (λ b. not b && (not (y == number) && has_edge t x y)) (eq-eqb x number same)
+          ap (λ b. (not b && not (y == number)) && has_edge t x y) (eq-eqb x number same)
           ∙ sym (ap (λ n. is_linked undeclared_parts n y) same ∙ unnamed_from undeclared_parts sound_then number word_gone y)
       by (inr differ) (inl same) =
-          ap (λ b. not (x == number) && (not b && has_edge t x y)) (eq-eqb y number same)
-          ∙ (none (not (x == number)) ∙ sym (ap (is_linked undeclared_parts x) same ∙ unnamed_to undeclared_parts sound_then number word_gone x))
+          ap (λ b. (not (x == number) && not b) && has_edge t x y) (eq-eqb y number same)
+          ∙ (none (not (x == number)) (has_edge t x y) ∙ sym (ap (is_linked undeclared_parts x) same ∙ unnamed_to undeclared_parts sound_then number word_gone x))
       by (inr differ) (inr apart) =
-          ap₂ (λ a b. not a && (not b && has_edge t x y)) (ne_eqb x number differ) (ne_eqb y number apart)
+          ap₂ (λ a b. (not a && not b) && has_edge t x y) (ne_eqb x number differ) (ne_eqb y number apart)
           ∙ (held.links.edges x y ∙ sym (linked_elsewhere x y differ apart))
 
   -- ---- what is used

@@ -1,6 +1,6 @@
 //! The edges between tests: one leads from each declared test to each that is weaker.
 
-ghost use Rattle.std.specs.Prelude.{◌≡◌, ◌≤◌, ◌<◌, ℕ, Bool, false, Some, is_some, length, IsSome};
+ghost use Rattle.std.specs.Prelude.{◌≡◌, ◌≤◌, ◌<◌, ℕ, Bool, true, false, Some, is_some, length};
 ghost use Rattle.lis_dict.specs.Dict.{IsDict};
 ghost use Rattle.lis_model.specs.Tests.{is_weaker, are_weaker};
 ghost use Rattle.lis_taxonomy.specs.Taxonomy.{has_edge};
@@ -59,13 +59,7 @@ fn has_stronger(dict: &Dict, declared: &Flags, number: u32, test: (bool, u64)) -
 
 /// Adds the edges from a number without edges to those of weaker tests, where its word is a declared test. The number of a word
 /// that is none keeps its edges.
-pub fn link_weaker(
-    dict: &Dict,
-    declared: &Flags,
-    taxonomy: &mut Taxonomy,
-    props: u32,
-    number: u16,
-)
+pub fn link_weaker(dict: &Dict, declared: &Flags, taxonomy: &mut Taxonomy, props: u32, number: u32)
     requires props { props ≡ taxonomy.old.props }
     requires number { number < props }
     requires dict { IsDict dict.now }
@@ -75,14 +69,14 @@ pub fn link_weaker(
     requires new { is_some {T = Bool × ℕ} (declared_test dict.now declared.now number) ≡ true → (q : ℕ) → has_edge taxonomy.old number q ≡ false }
     ensures { LinksWeaker dict.now declared.now number taxonomy.old taxonomy.new }
 {
-    let Some(test) = declared_test(dict, declared, u32::from(number)) else {
-        return;
-    };
     // Only its rows tell that there are few words.
     let _rows = taxonomy.rows();
+    let Some(test) = declared_test(dict, declared, number) else {
+        return;
+    };
     for other in 0..props {
         if has_weaker(dict, declared, other, test) {
-            let Ok(()) = taxonomy.add(u32::from(number), other) else {
+            let Ok(()) = taxonomy.add(number, other) else {
                 unreachable!()
             };
         }
@@ -95,7 +89,7 @@ pub(crate) fn link_stronger(
     declared: &Flags,
     taxonomy: &mut Taxonomy,
     props: u32,
-    number: u16,
+    number: u32,
 )
     requires props { props ≡ taxonomy.old.props }
     requires number { number < props }
@@ -106,14 +100,14 @@ pub(crate) fn link_stronger(
     requires new { (p : ℕ) → has_edge taxonomy.old p number ≡ false }
     ensures { LinksStronger dict.now declared.now number taxonomy.old taxonomy.new }
 {
-    let Some(test) = declared_test(dict, declared, u32::from(number)) else {
-        return;
-    };
     // Only its rows tell that there are few words.
     let _rows = taxonomy.rows();
+    let Some(test) = declared_test(dict, declared, number) else {
+        return;
+    };
     for other in 0..props {
         if has_stronger(dict, declared, other, test) {
-            let Ok(()) = taxonomy.add(other, u32::from(number)) else {
+            let Ok(()) = taxonomy.add(other, number) else {
                 unreachable!()
             };
         }
@@ -121,7 +115,7 @@ pub(crate) fn link_stronger(
 }
 
 /// Takes all edges from and to a number away.
-pub(crate) fn unlink_all(taxonomy: &mut Taxonomy, props: u32, number: u16)
+pub(crate) fn unlink_all(taxonomy: &mut Taxonomy, props: u32, number: u32)
     requires props { props ≡ taxonomy.old.props }
     requires number { number < props }
     ensures { UnlinksAll number taxonomy.old taxonomy.new }
@@ -130,7 +124,7 @@ pub(crate) fn unlink_all(taxonomy: &mut Taxonomy, props: u32, number: u16)
     let _rows = taxonomy.rows();
     for other in 0..props {
         // Most are not there.
-        let _from = taxonomy.remove(u32::from(number), other);
-        let _to = taxonomy.remove(other, u32::from(number));
+        let _from = taxonomy.remove(number, other);
+        let _to = taxonomy.remove(other, number);
     }
 }

@@ -1,6 +1,6 @@
 //! Changes of the words that memory keeps.
 
-ghost use Rattle.std.specs.Prelude.{◌≡◌, ◌≢◌, ℕ, ◌<◌, ◌≤◌, true, false, ◌||◌, ◌==◌, None, length, slice_set, IsTrue, IsSome, IfSome};
+ghost use Rattle.std.specs.Prelude.{◌≡◌, ◌≢◌, ℕ, ◌<◌, ◌≤◌, true, false, ◌||◌, ◌==◌, Some, None, length, slice_set, IsTrue, IsSome, IfSome};
 ghost use Rattle.std.specs.List.{list_any};
 ghost use Rattle.lis_dict.specs.Dict.{number_of, word_of};
 ghost use Rattle.lis_fields.specs.Layouts.{is_undeclared};
@@ -12,7 +12,7 @@ ghost use Rattle.lis_words.specs.Words.{is_valued, head_bytes};
 ghost use Rattle.lis_kept.specs.Areas.{block_of};
 ghost use Rattle.lis_kept.specs.Edges.{head_number, with_edge_to, without_edge_to};
 ghost use Rattle.lis_kept.specs.Forgetting.{MayGo, MayForget};
-ghost use Rattle.lis_kept.specs.Passes.{is_due, ForgetsWhere, ForgetsDue};
+ghost use Rattle.lis_kept.specs.Passes.{is_of_pass, is_due, ForgetsWhere, ForgetsDue};
 ghost use Rattle.lis_kept.specs.Areas.Area.{Properties};
 ghost use Rattle.lis_kept.specs.Changes.{Declares, Learns, Forgets};
 ghost use Rattle.lis_kept.specs.Telling.{is_left_of, is_head_by, is_left_head_of, is_had, is_used};
@@ -132,6 +132,17 @@ fn is_named_left(dict: &Dict, axioms: &[AxiomSlot], number: u16) -> bool
     axioms.iter().any(|slot| is_on_left(dict, *slot, number))
 }
 
+// Whether the word goes in the pass over valued words, or over the others.
+fn is_of_pass(word: &Word, valued: bool) -> bool
+    ensures { result ≡ is_of_pass valued (Some word.now) }
+{
+    if valued {
+        is_valued(word.bytes())
+    } else {
+        !is_valued(word.bytes())
+    }
+}
+
 impl Parts {
     /// Gives a new word a free number, and declares it.
     pub fn declare(&mut self, word: &Word)
@@ -145,10 +156,11 @@ impl Parts {
         let Ok(number) = self.dict.add(word) else {
             unreachable!()
         };
-        self.declared.put(u32::from(number), true);
         let props = self.limits.props;
-        link_weaker(&self.dict, &self.declared, &mut self.taxonomy, props, number);
-        link_stronger(&self.dict, &self.declared, &mut self.taxonomy, props, number);
+        let at = u32::from(number);
+        self.declared.put(at, true);
+        link_weaker(&self.dict, &self.declared, &mut self.taxonomy, props, at);
+        link_stronger(&self.dict, &self.declared, &mut self.taxonomy, props, at);
         mark_property(&mut self.marks, &self.limits, number);
     }
 
@@ -216,7 +228,7 @@ impl Parts {
         let Some(word) = self.dict.word_of(number) else {
             return false;
         };
-        if is_valued(word.bytes()) != valued {
+        if !is_of_pass(&word, valued) {
             return false;
         }
         match slot {

@@ -70,8 +70,9 @@ impl Parts {
             unreachable!()
         };
         self.dict.remove(&word);
-        self.declared.put(u32::from(number), false);
-        unlink_all(&mut self.taxonomy, self.limits.props, number);
+        let at = u32::from(number);
+        self.declared.put(at, false);
+        unlink_all(&mut self.taxonomy, self.limits.props, at);
         mark_property(&mut self.marks, &self.limits, number);
     }
 }

@@ -1,4 +1,4 @@
-use Rattle.std.proofs.Common.{◌≡◌, ◌∙◌, ◌<◌, true, None, length, set, sym, ap, subst, arith}
+use Rattle.std.proofs.Common.{◌≡◌, ◌∙◌, ◌<◌, true, None, length, set, sym, ap, subst}
 use Rattle.lis_dict.specs.Dict.{number_of}
 use Rattle.lis_kept.specs.Kept.{Kept}
 use Rattle.lis_kept.proofs.WordMore.{added_word}
@@ -12,7 +12,7 @@ link_weaker-requires-clause-dict c =
     let Q : Kept → Type 0 = λ k. (number_of k.dict c.args.word.now ≡ None) × (length k.dict.entries < k.limits.props) in
     let pre = subst Q (sym c.self.view_is) (c.requires.new, c.requires.room) in
     let added = added_word c.self.inside.dict c.add.new.self c.args.word.now c.in-Ok.number c.in-Ok.ensures pre.0 in
-    let bits = c.put.ensures ∙ ap (λ n. set c.self.inside.declared n true) c.from.ensures in
+    let bits = c.put.ensures ∙ ap (λ n. set c.self.inside.declared n true) c.from-at.ensures in
     dict_after v c.self.inside.taxonomy c.self.invariant c.args.word.now c.in-Ok.number c.requires.form c.bytes-bytes.ensures.word pre.0 pre.1 added.0 added.1 c.add.new.self c.put.new.self added.2 bits
 
 pub link_weaker-requires-clause-ordered : goal.link_weaker-requires-clause-ordered
@@ -21,7 +21,7 @@ link_weaker-requires-clause-ordered c =
     let Q : Kept → Type 0 = λ k. (number_of k.dict c.args.word.now ≡ None) × (length k.dict.entries < k.limits.props) in
     let pre = subst Q (sym c.self.view_is) (c.requires.new, c.requires.room) in
     let added = added_word c.self.inside.dict c.add.new.self c.args.word.now c.in-Ok.number c.in-Ok.ensures pre.0 in
-    let bits = c.put.ensures ∙ ap (λ n. set c.self.inside.declared n true) c.from.ensures in
+    let bits = c.put.ensures ∙ ap (λ n. set c.self.inside.declared n true) c.from-at.ensures in
     ordered_after v c.self.inside.taxonomy c.self.invariant c.args.word.now c.in-Ok.number c.requires.form c.bytes-bytes.ensures.word pre.0 pre.1 added.0 added.1 c.add.new.self c.put.new.self added.2 bits
 
 pub link_weaker-requires-clause-new : goal.link_weaker-requires-clause-new
@@ -30,8 +30,8 @@ link_weaker-requires-clause-new c =
     let Q : Kept → Type 0 = λ k. (number_of k.dict c.args.word.now ≡ None) × (length k.dict.entries < k.limits.props) in
     let pre = subst Q (sym c.self.view_is) (c.requires.new, c.requires.room) in
     let added = added_word c.self.inside.dict c.add.new.self c.args.word.now c.in-Ok.number c.in-Ok.ensures pre.0 in
-    let bits = c.put.ensures ∙ ap (λ n. set c.self.inside.declared n true) c.from.ensures in
-    λ _. none_from_it v c.self.inside.taxonomy c.self.invariant c.args.word.now c.in-Ok.number c.requires.form c.bytes-bytes.ensures.word pre.0 pre.1 added.0 added.1 c.add.new.self c.put.new.self added.2 bits
+    let bits = c.put.ensures ∙ ap (λ n. set c.self.inside.declared n true) c.from-at.ensures in
+    rw c.from-at.ensures (λ _. none_from_it v c.self.inside.taxonomy c.self.invariant c.args.word.now c.in-Ok.number c.requires.form c.bytes-bytes.ensures.word pre.0 pre.1 added.0 added.1 c.add.new.self c.put.new.self added.2 bits)
 
 pub link_stronger-requires-clause-dict : goal.link_stronger-requires-clause-dict
 link_stronger-requires-clause-dict c =
@@ -39,7 +39,7 @@ link_stronger-requires-clause-dict c =
     let Q : Kept → Type 0 = λ k. (number_of k.dict c.args.word.now ≡ None) × (length k.dict.entries < k.limits.props) in
     let pre = subst Q (sym c.self.view_is) (c.requires.new, c.requires.room) in
     let added = added_word c.self.inside.dict c.add.new.self c.args.word.now c.in-Ok.number c.in-Ok.ensures pre.0 in
-    let bits = c.put.ensures ∙ ap (λ n. set c.self.inside.declared n true) c.from.ensures in
+    let bits = c.put.ensures ∙ ap (λ n. set c.self.inside.declared n true) c.from-at.ensures in
     dict_after v c.self.inside.taxonomy c.self.invariant c.args.word.now c.in-Ok.number c.requires.form c.bytes-bytes.ensures.word pre.0 pre.1 added.0 added.1 c.add.new.self c.put.new.self added.2 bits
 
 pub link_stronger-requires-clause-ordered : goal.link_stronger-requires-clause-ordered
@@ -48,8 +48,8 @@ link_stronger-requires-clause-ordered c =
     let Q : Kept → Type 0 = λ k. (number_of k.dict c.args.word.now ≡ None) × (length k.dict.entries < k.limits.props) in
     let pre = subst Q (sym c.self.view_is) (c.requires.new, c.requires.room) in
     let added = added_word c.self.inside.dict c.add.new.self c.args.word.now c.in-Ok.number c.in-Ok.ensures pre.0 in
-    let bits = c.put.ensures ∙ ap (λ n. set c.self.inside.declared n true) c.from.ensures in
-    ordered_between v c.self.inside.taxonomy c.self.invariant c.args.word.now c.in-Ok.number c.requires.form c.bytes-bytes.ensures.word pre.0 pre.1 added.0 added.1 c.add.new.self c.put.new.self added.2 bits c.link_weaker.new.taxonomy c.link_weaker.ensures
+    let bits = c.put.ensures ∙ ap (λ n. set c.self.inside.declared n true) c.from-at.ensures in
+    ordered_between v c.self.inside.taxonomy c.self.invariant c.args.word.now c.in-Ok.number c.requires.form c.bytes-bytes.ensures.word pre.0 pre.1 added.0 added.1 c.add.new.self c.put.new.self added.2 bits c.link_weaker.new.taxonomy (rw c.from-at.ensures at c.link_weaker.ensures)
 
 pub link_stronger-requires-clause-new : goal.link_stronger-requires-clause-new
 link_stronger-requires-clause-new c =
@@ -57,8 +57,8 @@ link_stronger-requires-clause-new c =
     let Q : Kept → Type 0 = λ k. (number_of k.dict c.args.word.now ≡ None) × (length k.dict.entries < k.limits.props) in
     let pre = subst Q (sym c.self.view_is) (c.requires.new, c.requires.room) in
     let added = added_word c.self.inside.dict c.add.new.self c.args.word.now c.in-Ok.number c.in-Ok.ensures pre.0 in
-    let bits = c.put.ensures ∙ ap (λ n. set c.self.inside.declared n true) c.from.ensures in
-    none_to_it v c.self.inside.taxonomy c.self.invariant c.args.word.now c.in-Ok.number c.requires.form c.bytes-bytes.ensures.word pre.0 pre.1 added.0 added.1 c.add.new.self c.put.new.self added.2 bits c.link_weaker.new.taxonomy c.link_weaker.ensures
+    let bits = c.put.ensures ∙ ap (λ n. set c.self.inside.declared n true) c.from-at.ensures in
+    rw c.from-at.ensures (none_to_it v c.self.inside.taxonomy c.self.invariant c.args.word.now c.in-Ok.number c.requires.form c.bytes-bytes.ensures.word pre.0 pre.1 added.0 added.1 c.add.new.self c.put.new.self added.2 bits c.link_weaker.new.taxonomy (rw c.from-at.ensures at c.link_weaker.ensures))
 
 pub invariant_of-self : goal.invariant_of-self
 invariant_of-self c =
@@ -66,8 +66,8 @@ invariant_of-self c =
     let Q : Kept → Type 0 = λ k. (number_of k.dict c.args.word.now ≡ None) × (length k.dict.entries < k.limits.props) in
     let pre = subst Q (sym c.self.view_is) (c.requires.new, c.requires.room) in
     let added = added_word c.self.inside.dict c.add.new.self c.args.word.now c.in-Ok.number c.in-Ok.ensures pre.0 in
-    let bits = c.put.ensures ∙ ap (λ n. set c.self.inside.declared n true) c.from.ensures in
-    (declares v c.self.inside.taxonomy c.self.invariant c.args.word.now c.in-Ok.number c.requires.form c.bytes-bytes.ensures.word pre.0 pre.1 added.0 added.1 c.add.new.self c.put.new.self added.2 bits c.args.self.now c.link_weaker.new.taxonomy c.link_stronger.new.taxonomy c.mark_property.new.marks c.self.view_is c.link_weaker.ensures c.link_stronger.ensures c.mark_property.ensures).0
+    let bits = c.put.ensures ∙ ap (λ n. set c.self.inside.declared n true) c.from-at.ensures in
+    (declares v c.self.inside.taxonomy c.self.invariant c.args.word.now c.in-Ok.number c.requires.form c.bytes-bytes.ensures.word pre.0 pre.1 added.0 added.1 c.add.new.self c.put.new.self added.2 bits c.args.self.now c.link_weaker.new.taxonomy c.link_stronger.new.taxonomy c.mark_property.new.marks c.self.view_is (rw c.from-at.ensures at c.link_weaker.ensures) (rw c.from-at.ensures at c.link_stronger.ensures) c.mark_property.ensures).0
 
 pub returns : goal.returns
 returns c =
@@ -75,5 +75,5 @@ returns c =
     let Q : Kept → Type 0 = λ k. (number_of k.dict c.args.word.now ≡ None) × (length k.dict.entries < k.limits.props) in
     let pre = subst Q (sym c.self.view_is) (c.requires.new, c.requires.room) in
     let added = added_word c.self.inside.dict c.add.new.self c.args.word.now c.in-Ok.number c.in-Ok.ensures pre.0 in
-    let bits = c.put.ensures ∙ ap (λ n. set c.self.inside.declared n true) c.from.ensures in
-    (declares v c.self.inside.taxonomy c.self.invariant c.args.word.now c.in-Ok.number c.requires.form c.bytes-bytes.ensures.word pre.0 pre.1 added.0 added.1 c.add.new.self c.put.new.self added.2 bits c.args.self.now c.link_weaker.new.taxonomy c.link_stronger.new.taxonomy c.mark_property.new.marks c.self.view_is c.link_weaker.ensures c.link_stronger.ensures c.mark_property.ensures).1
+    let bits = c.put.ensures ∙ ap (λ n. set c.self.inside.declared n true) c.from-at.ensures in
+    (declares v c.self.inside.taxonomy c.self.invariant c.args.word.now c.in-Ok.number c.requires.form c.bytes-bytes.ensures.word pre.0 pre.1 added.0 added.1 c.add.new.self c.put.new.self added.2 bits c.args.self.now c.link_weaker.new.taxonomy c.link_stronger.new.taxonomy c.mark_property.new.marks c.self.view_is (rw c.from-at.ensures at c.link_weaker.ensures) (rw c.from-at.ensures at c.link_stronger.ensures) c.mark_property.ensures).1

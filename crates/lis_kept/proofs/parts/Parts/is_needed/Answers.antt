@@ -1,12 +1,15 @@
-use Rattle.std.proofs.Common.{◌∙◌, ◌||◌, IsSome, sym, ap, subst, arith}
+use Rattle.std.proofs.Common.{◌≡◌, ◌∙◌, ℕ, ◌&&◌, ◌||◌, not, Bool, false, is_some, IsSome, sym, ap, ap₂, subst, arith}
 use Rattle.std.specs.List.{list_any}
 use Rattle.lis_dict.specs.Dict.{word_of}
 use Rattle.lis_kept.specs.Kept.{Kept}
+use Rattle.lis_kept.specs.TestEdges.{test_by}
+use Rattle.lis_kept.specs.Telling.{is_had}
 use Rattle.lis_kept.specs.Undeclaring.{is_named_by, is_needed}
 use Rattle.lis_kept.proofs.InArea.{few_properties}
 use Rattle.lis_kept.proofs.Formed.{named_below}
 use Rattle.lis_kept.specs.contracts.parts.Parts.{the_view}
 use Rattle.lis_kept.proofs.parts.Parts.is_needed.Goals as goal
+use Rattle.lis_kept.proofs.parts.Parts.is_needed.Goals.{else-not-is_test-via-then-not-is_test+else-is_had, else-not-is_test-via-else-not-is_test}
 
 pub is_had-requires : goal.is_had-requires
 is_had-requires c =
@@ -19,10 +22,24 @@ is_named-requires c = λ n there.
     let sound = c.self.invariant.sound in
     omega (arith, named_below (the_view c.self.inside) sound n there, few_properties c.self.inside.limits sound.range)
 
-pub returns-else-is_had : goal.returns-else-is_had
-returns-else-is_had c =
+pub returns-then-is_had : goal.returns-then-is_had
+returns-then-is_had c =
     let k = the_view c.self.inside in
     let n = c.args.number in
+    sym
+    (ap (λ (x : Kept). is_needed x n) (sym c.self.view_is)
+    ∙ ap₂ (λ a b. (not a && b) || list_any (is_named_by k.dict n) k.axioms) (sym c.is_test.ensures ∙ c.if-not-is_test.true) (sym c.is_had.ensures ∙ c.if-is_had.true))
+
+pub returns : goal.returns
+returns c =
+    let k = the_view c.self.inside in
+    let n = c.args.number in
+    let tested : Bool = is_some {T = Bool × ℕ} (test_by (word_of k.dict n)) in
+    let none : (not tested && is_had k.ext n) ≡ false =
+    elim c.else-not-is_test.branch [
+      | else-not-is_test-via-then-not-is_test+else-is_had w ↦ ap₂ (λ a b. not a && b) (sym c.is_test.ensures ∙ w.if-not-is_test.true) (sym w.is_had.ensures ∙ w.if-is_had.false)
+      | else-not-is_test-via-else-not-is_test w ↦ ap (λ a. not a && is_had k.ext n) (sym c.is_test.ensures ∙ w.if-not-is_test.false)
+    ] in
     c.is_named.ensures
     ∙ (ap (list_any (is_named_by k.dict n)) c.as_slice.ensures.value
-    ∙ (sym (ap (λ b. b || list_any (is_named_by k.dict n) k.axioms) (sym c.is_had.ensures ∙ c.if-is_had.false)) ∙ ap (λ (x : Kept). is_needed x n) c.self.view_is))
+    ∙ (sym (ap (λ b. b || list_any (is_named_by k.dict n) k.axioms) none) ∙ ap (λ (x : Kept). is_needed x n) c.self.view_is))
