@@ -93,33 +93,39 @@ module _ (k : Kept) (sound : AreSound k) (t : Taxonomy) (tells : TellsLinks k t)
     }
 
 -- ---- what is left over is entailed by none
-left_over : (x y : Bool) → not ((true && not x) && not y) ≡ (x || y)
-left_over true y = refl
-left_over false true = refl
-left_over false false = refl
+left_over : (x y z : Bool) → not (((true && not x) && not y) && not z) ≡ ((x || y) || z)
+left_over true true z = refl
+left_over true false z = refl
+left_over false true z = refl
+left_over false false true = refl
+left_over false false false = refl
 
--- the rows in turn: full, without what the first words entail, without what the others do, and turned over
-module _ (k : Kept) (sound : AreSound k) (some more : List (List ℕ)) (start full left rest done : Rows)
+-- the rows in turn: full, without what the first words entail, without what the others do, without what the tests do, and turned over
+module _ (k : Kept) (sound : AreSound k) (some more met : List (List ℕ)) (start full left rest last done : Rows)
     (shape : HasShape start 1 k.limits.props) (is_full : full ≡ with_row start 0 (λ _. true))
     (first : (n : ℕ) → n < k.limits.props → get left 0 n ≡ (get full 0 n && not (is_one_of (all_up (declared_of k) (axioms_of k) some) (word_of k.dict n))))
-    (rest_shape : HasShape rest 1 k.limits.props)
     (second : (n : ℕ) → n < k.limits.props → get rest 0 n ≡ (get left 0 n && not (is_one_of (all_up (declared_of k) (axioms_of k) more) (word_of k.dict n))))
-    (turned : done ≡ with_row rest 0 (λ bit. not (get rest 0 bit))) where
+    (last_shape : HasShape last 1 k.limits.props)
+    (third : (n : ℕ) → n < k.limits.props → get last 0 n ≡ (get rest 0 n && not (is_one_of (all_up (declared_of k) (axioms_of k) met) (word_of k.dict n))))
+    (turned : done ≡ with_row last 0 (λ bit. not (get last 0 bit))) where
   abbrev entailed_by : List (List ℕ) → ℕ → Bool
   entailed_by words n = is_one_of (all_up (declared_of k) (axioms_of k) words) (word_of k.dict n)
 
-  bits_then : (n : ℕ) → n < k.limits.props → get done 0 n ≡ entailed_by (some ++ more) n
+  bits_then : (n : ℕ) → n < k.limits.props → get done 0 n ≡ entailed_by (some ++ more ++ met) n
   bits_then n lt =
       let whole = value_at start full k.limits.props n (λ _. true) shape is_full lt in
-      value_at rest done k.limits.props n (λ bit. not (get rest 0 bit)) rest_shape turned lt
-      ∙ (ap not (second n lt ∙ ap (λ b. b && not (entailed_by more n)) (first n lt ∙ ap (λ b. b && not (entailed_by some n)) whole))
-      ∙ (left_over (entailed_by some n) (entailed_by more n) ∙ sym (ups_both (declared_of k) (axioms_of k) (word_of k.dict n) some more)))
+      let two = second n lt ∙ ap (λ b. b && not (entailed_by more n)) (first n lt ∙ ap (λ b. b && not (entailed_by some n)) whole) in
+      value_at last done k.limits.props n (λ bit. not (get last 0 bit)) last_shape turned lt
+      ∙ (ap not (third n lt ∙ ap (λ b. b && not (entailed_by met n)) two)
+      ∙ (left_over (entailed_by some n) (entailed_by more n) (entailed_by met n)
+      ∙ sym (ups_both (declared_of k) (axioms_of k) (word_of k.dict n) (some ++ more) met
+      ∙ ap (λ b. b || entailed_by met n) (ups_both (declared_of k) (axioms_of k) (word_of k.dict n) some more))))
 
   pub entailed_shape : HasShape done 1 k.limits.props
-  entailed_shape = same_shape rest done 1 k.limits.props 0 (λ bit. not (get rest 0 bit)) rest_shape turned
+  entailed_shape = same_shape last done 1 k.limits.props 0 (λ bit. not (get last 0 bit)) last_shape turned
 
-  pub entailed_numbers : numbers_where k.limits.props (get done 0) ≡ numbers_named k.dict (all_up (declared_of k) (axioms_of k) (some ++ more))
-  entailed_numbers = shown_numbers k.dict k.limits.props (all_up (declared_of k) (axioms_of k) (some ++ more)) done sound.numbers bits_then
+  pub entailed_numbers : numbers_where k.limits.props (get done 0) ≡ numbers_named k.dict (all_up (declared_of k) (axioms_of k) (some ++ more ++ met))
+  entailed_numbers = shown_numbers k.dict k.limits.props (all_up (declared_of k) (axioms_of k) (some ++ more ++ met)) done sound.numbers bits_then
 
-  pub entailed_few : length (all_up (declared_of k) (axioms_of k) (some ++ more)) ≤ 128 → length (numbers_where k.limits.props (get done 0)) ≤ 128
-  entailed_few few = omega (arith, few, ap length entailed_numbers, named_few k.dict sound.dict (all_up (declared_of k) (axioms_of k) (some ++ more)))
+  pub entailed_few : length (all_up (declared_of k) (axioms_of k) (some ++ more ++ met)) ≤ 128 → length (numbers_where k.limits.props (get done 0)) ≤ 128
+  entailed_few few = omega (arith, few, ap length entailed_numbers, named_few k.dict sound.dict (all_up (declared_of k) (axioms_of k) (some ++ more ++ met)))

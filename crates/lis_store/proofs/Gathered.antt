@@ -22,7 +22,7 @@ use Rattle.lis_store.specs.Describing.{with_heads, leads, IsEntailed, AreGathere
 use Rattle.lis_store.proofs.Assigned.{flat_next}
 use Rattle.lis_store.proofs.Entailment.{leads_from_up, chain_named}
 
-or_nothing : (b : Bool) → (b || false) ≡ b
+pub or_nothing : (b : Bool) → (b || false) ≡ b
 or_nothing true = refl
 or_nothing false = refl
 
@@ -32,7 +32,7 @@ has_last words word w = list_any-append (λ v. same_word v w) words (word ∷ []
 has_first : (words more : List (List ℕ)) (w : List ℕ) → has_word words w ≡ true → has_word (words ++ more) w ≡ true
 has_first words more w has = list_any-append (λ v. same_word v w) words more ∙ ap (λ b. b || has_word more w) has
 
-wider : (k : Kept) (words more : List (List ℕ)) (n : ℕ) → IsEntailed k words n → IsEntailed k (words ++ more) n
+pub wider : (k : Kept) (words more : List (List ℕ)) (n : ℕ) → IsEntailed k words n → IsEntailed k (words ++ more) n
 wider k words more n e = record {
   given = e.given;
   among = has_first words more e.given e.among;

@@ -34,6 +34,7 @@ pub mod Assigned
 pub mod PlaceNumbers
 pub mod Under
 pub mod Gathered
+pub mod MetTests
 pub mod Measured
 pub mod Admitted
 pub mod AddFile

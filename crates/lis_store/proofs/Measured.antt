@@ -1,5 +1,5 @@
 -- How many words the description of a new file has, and how many of them are not known yet.
-use Rattle.std.proofs.Common.{◌≡◌, ◌⊎◌, refl, sym, ap, ap₂, ◌∙◌, subst, inl, inr, ℕ, zero, suc, ◌+◌, ◌<◌, ◌≤◌, Bool, true, false, not, ◌&&◌, cond, is_some, is_none, Option, Some, None, option_to_list, IsSome, List, [], ◌∷◌, ◌++◌, length, map, filter, arith, append-nil}
+use Rattle.std.proofs.Common.{◌≡◌, ◌⊎◌, refl, sym, ap, ap₂, ◌∙◌, subst, inl, inr, ℕ, zero, suc, ◌+◌, ◌<◌, ◌≤◌, Bool, true, false, not, ◌&&◌, cond, is_some, is_none, Option, Some, None, option_to_list, IsSome, List, [], ◌∷◌, ◌++◌, length, map, filter, arith}
 use Rattle.std.specs.Prelude.{count_by}
 use Rattle.std.specs.List.{flat_map, range_with_len}
 use Rattle.std.specs.Ordering.{nat_cmp}
@@ -24,8 +24,8 @@ use Rattle.lis_words.specs.Words.{word_cmp, has_word, is_valued, head_bytes}
 use Rattle.lis_model.specs.Noted.{are_distinct}
 use Rattle.lis_model.specs.Sets.{with_words}
 use Rattle.lis_model.specs.Derived.{derived_words}
-use Rattle.lis_model.specs.State.{File, heads, links, up, own_words, all_up}
-use Rattle.lis_model.proofs.NoTests.{no_met}
+use Rattle.lis_model.specs.State.{File, heads, links, up, all_up}
+use Rattle.lis_model.specs.Tests.{met_tests}
 use Rattle.lis_laws.proofs.Members.{word_exact, word_order, among_from_has_word, has_word_from_among, among_with_words, with_words_old, with_words_new, sorted_with_words, sorted_set_of, same_words}
 use Rattle.lis_laws.proofs.Chains.{head_not_valued, among_heads, heads_of_valued, OwnLink, own_link, links_head, up_self, up_own, up_trans, entails_from_up, up_from_entails}
 use Rattle.lis_laws.proofs.Chains.OwnLink.{Head, Weaker}
@@ -37,13 +37,13 @@ use Rattle.lis_kept.proofs.Described.{among_where, where_among, few_where}
 use Rattle.lis_kept.proofs.Filing.{same_tests, among_from_number, number_from_among}
 use Rattle.lis_kept.proofs.Known.{among_axiom, declared_has_number, word_among, among_word, word_known, known_word, one_number, only_word}
 use Rattle.lis_kept.proofs.Formed.{some_word}
-use Rattle.lis_kept.proofs.OwnLinks.{declared_no_tests}
 use Rattle.lis_store.specs.Admitting.{described_by, known_with}
 use Rattle.lis_store.specs.Adding.{is_one_of}
 use Rattle.lis_store.specs.Describing.{with_heads, AreGathered}
 use Rattle.lis_store.specs.Instead.{HasNumbers}
 use Rattle.lis_store.proofs.Entailment.{up_has_number}
 use Rattle.lis_store.proofs.Gathered.{numbered_below}
+use Rattle.lis_store.proofs.MetTests.{met_numbered}
 use Rattle.lis_store.proofs.Points.{AllApart, no_tie, length-with_more}
 
 -- ---- lists in which nothing stands twice
@@ -71,12 +71,6 @@ row_counted bits f = count_map f (range_with_len 0 bits) ∙ sym (length-filter 
 pub numbers_apart : (props : ℕ) (test : ℕ → Bool) → AllApart (numbers_where props test)
 unfolding numbers_where
 numbers_apart props test = sorted_apart nat_cmp nat_cmp_total (filter test (range_with_len 0 props)) (IsStrictlySortedBy-filter nat_cmp test (range_with_len 0 props) (sorted_range 0 props))
-
--- Until lines name tests none is declared, so a file meets none. Then those that it meets are gathered with its other words.
-pub own_given : (k : Kept) → AreSound k → (file : File) → own_words (declared_of k) file ≡ file.assigned ++ derived_words file.name file.bytes
-own_given k sound file =
-    ap (λ ws. (file.assigned ++ derived_words file.name file.bytes) ++ ws) (no_met (declared_of k) (length file.bytes) (declared_no_tests k sound.dict))
-    ∙ append-nil (file.assigned ++ derived_words file.name file.bytes)
 
 module _ (k : Kept) (sound : AreSound k) where
   -- ---- what words lead to
@@ -123,13 +117,17 @@ module _ (k : Kept) (sound : AreSound k) where
       let once = told_once ns apart some in
       omega (arith, length-with_more word_cmp word_exact [] (flat_map word_list ns) once.0 (λ w m none. none), once.1)
 
-  -- ---- words that are gathered with their heads
-  module _ (given more : List (List ℕ)) (lacked : Rows) (fresh : List (List ℕ)) (are : AreGathered k (with_heads given ++ with_heads more) lacked fresh) where
+  -- ---- words that are gathered with their heads, and words that have numbers
+  module _ (given more met : List (List ℕ)) (numbered : (w : List ℕ) → Among met w → (n : ℕ) × (word_of k.dict n ≡ Some w))
+      (lacked : Rows) (fresh : List (List ℕ)) (are : AreGathered k (with_heads given ++ with_heads more ++ met) lacked fresh) where
     abbrev own : List (List ℕ)
-    own = given ++ more
+    own = given ++ more ++ met
+
+    abbrev headed : List (List ℕ)
+    headed = with_heads given ++ with_heads more
 
     abbrev all : List (List ℕ)
-    all = with_heads given ++ with_heads more
+    all = headed ++ met
 
     abbrev numbers : List ℕ
     numbers = numbers_where k.limits.props (λ n. not (get lacked 0 n))
@@ -144,16 +142,31 @@ module _ (k : Kept) (sound : AreSound k) where
     headed_in : (ws : List (List ℕ)) (w v : List ℕ) → Among ws w → Among (w ∷ heads w) v → Among (with_heads ws) v
     headed_in ws w v m of = flat_map_among (λ (x : List ℕ). x ∷ heads x) ws w v m of
 
-    in_all : (w v : List ℕ) → Among own w → Among (w ∷ heads w) v → Among all v
-    in_all w v m of = by (among_append given more w m)
+    in_headed : (w v : List ℕ) → Among (given ++ more) w → Among (w ∷ heads w) v → Among all v
+    in_headed w v m of = among_left headed met v (by (among_append given more w m))
       where
-        by : Among given w ⊎ Among more w → Among all v
+        by : Among given w ⊎ Among more w → Among headed v
         by (inl here) = among_left (with_heads given) (with_heads more) v (headed_in given w v here of)
         by (inr here) = among_right (with_heads given) (with_heads more) v (headed_in more w v here of)
 
+    itself : (w : List ℕ) → Among own w → Among all w
+    itself w m = by (among_append (given ++ more) met w m)
+      where
+        by : Among (given ++ more) w ⊎ Among met w → Among all w
+        by (inl here) = in_headed w w here (inl refl)
+        by (inr here) = among_right headed met w here
+
+    -- a word that has no number is none of those that have
+    with_head : (w v : List ℕ) → Among own w → number_of k.dict w ≡ None → Among (heads w) v → Among all v
+    with_head w v m none head = by (among_append (given ++ more) met w m)
+      where
+        by : Among (given ++ more) w ⊎ Among met w → Among all v
+        by (inl here) = in_headed w v here (inr head)
+        by (inr here) = absurd (let found = numbered w here in none-some found.0 (sym none ∙ number_from_word k.dict sound.dict w found.0 found.1))
+
     -- what is gathered is entailed by one of the words
     of_own : (v : List ℕ) → Among all v → (w : List ℕ) × Among own w × Among (Up w) v
-    of_own v m = by (among_append (with_heads given) (with_heads more) v m)
+    of_own v m = by (among_append headed met v m)
       where
         at : (w : List ℕ) → Among (w ∷ heads w) v → Among (Up w) v
         at w (inl same) = subst (λ x. Among (Up w) x) same (up_self (declared_of k) (axioms_of k) w)
@@ -161,9 +174,17 @@ module _ (k : Kept) (sound : AreSound k) where
             let parts = among_heads w v head in
             subst (λ x. Among (Up w) x) parts.1 (up_own (declared_of k) (axioms_of k) w (head_bytes w) (links_head (declared_of k) w parts.0))
 
-        by : Among (with_heads given) v ⊎ Among (with_heads more) v → (w : List ℕ) × Among own w × Among (Up w) v
-        by (inl here) = let found = among_flat_map (λ (x : List ℕ). x ∷ heads x) given v here in (found.0, among_left given more found.0 found.1, at found.0 found.2)
-        by (inr here) = let found = among_flat_map (λ (x : List ℕ). x ∷ heads x) more v here in (found.0, among_right given more found.0 found.1, at found.0 found.2)
+        front : Among (with_heads given) v ⊎ Among (with_heads more) v → (w : List ℕ) × Among own w × Among (Up w) v
+        front (inl here) =
+            let found = among_flat_map (λ (x : List ℕ). x ∷ heads x) given v here in
+            (found.0, among_left (given ++ more) met found.0 (among_left given more found.0 found.1), at found.0 found.2)
+        front (inr here) =
+            let found = among_flat_map (λ (x : List ℕ). x ∷ heads x) more v here in
+            (found.0, among_left (given ++ more) met found.0 (among_right given more found.0 found.1), at found.0 found.2)
+
+        by : Among headed v ⊎ Among met v → (w : List ℕ) × Among own w × Among (Up w) v
+        by (inl here) = front (among_append (with_heads given) (with_heads more) v here)
+        by (inr here) = (v, among_right (given ++ more) met v here, up_self (declared_of k) (axioms_of k) v)
 
     -- ---- the description
     is_fresh : (w : List ℕ) → Among all w → number_of k.dict w ≡ None → Among fresh w
@@ -196,13 +217,13 @@ module _ (k : Kept) (sound : AreSound k) where
         by (inr further) = absurd (both_ways (is_valued h) not_valued further.0)
 
     by_word : (p q : List ℕ) → Among own p → (o : Option ℕ) → number_of k.dict p ≡ o → Among (Up p) q → Among (with_words told fresh) q
-    by_word p q m (Some n) is there = by_number p q n (in_all p p m (inl refl)) is there
+    by_word p q m (Some n) is there = by_number p q n (itself p m) is there
     by_word p q m None none there = by (first_link p q none there)
       where
         by : (p ≡ q) ⊎ ((is_valued p ≡ true) × Among (Up (head_bytes p)) q) → Among (with_words told fresh) q
-        by (inl same) = subst (λ v. Among (with_words told fresh) v) same (with_words_new told fresh p (is_fresh p (in_all p p m (inl refl)) none))
+        by (inl same) = subst (λ v. Among (with_words told fresh) v) same (with_words_new told fresh p (is_fresh p (itself p m) none))
         by (inr further) =
-            by_head (head_bytes p) q (head_not_valued p) (in_all p (head_bytes p) m (inr (heads_of_valued p further.0))) (number_of k.dict (head_bytes p)) refl further.1
+            by_head (head_bytes p) q (head_not_valued p) (with_head p (head_bytes p) m none (heads_of_valued p further.0)) (number_of k.dict (head_bytes p)) refl further.1
 
     told_in : (w : List ℕ) → Among told w → Among described w
     told_in w m =
@@ -296,8 +317,15 @@ module _ (k : Kept) (sound : AreSound k) where
     new = λ w. refl;
   }
 
-  module _ (file : File) (lacked : Rows) (fresh : List (List ℕ)) (are : AreGathered k (with_heads file.assigned ++ with_heads (derived_words file.name file.bytes)) lacked fresh)
+  module _ (file : File) (lacked : Rows) (fresh : List (List ℕ))
+      (are : AreGathered k (with_heads file.assigned ++ with_heads (derived_words file.name file.bytes) ++ met_tests (declared_of k) (length file.bytes)) lacked fresh)
       (shape : HasShape lacked 1 k.limits.props) (had : Rows) (is : had ≡ with_row lacked 0 (λ bit. not (get lacked 0 bit))) where
+    abbrev tests : List (List ℕ)
+    tests = met_tests (declared_of k) (length file.bytes)
+
+    tests_numbered : (w : List ℕ) → Among tests w → (n : ℕ) × (word_of k.dict n ≡ Some w)
+    tests_numbered = met_numbered k sound (length file.bytes)
+
     had_counted : true_count had 0 ≡ length (numbers_where k.limits.props (λ n. not (get lacked 0 n)))
     had_counted =
         ap (λ (r : Rows). true_count r 0) is
@@ -306,16 +334,10 @@ module _ (k : Kept) (sound : AreSound k) where
         ∙ row_counted k.limits.props (λ bit. not (get lacked 0 bit))))
 
     pub file_measured : true_count had 0 + length fresh ≡ length (described_by k file)
-    file_measured =
-        omega (arith, had_counted, described_counted file.assigned (derived_words file.name file.bytes) lacked fresh are, ap (λ ws. length (all_up (declared_of k) (axioms_of k) ws)) (own_given k sound file))
+    file_measured = omega (arith, had_counted, described_counted file.assigned (derived_words file.name file.bytes) tests tests_numbered lacked fresh are)
 
     pub file_known : length k.dict.entries + length fresh ≡ length (known_with k file)
-    file_known =
-        omega (
-          arith,
-          known_counted file.assigned (derived_words file.name file.bytes) lacked fresh are,
-          ap (λ ws. length (with_words (known_words k.dict) (all_up (declared_of k) (axioms_of k) ws))) (own_given k sound file),
-        )
+    file_known = omega (arith, known_counted file.assigned (derived_words file.name file.bytes) tests tests_numbered lacked fresh are)
 
     pub few_had : true_count had 0 ≤ k.limits.props
     few_had = omega (arith, had_counted, few_where k.limits.props (λ n. not (get lacked 0 n)) (numbers_where k.limits.props (λ n. not (get lacked 0 n))) refl)
@@ -325,5 +347,4 @@ module _ (k : Kept) (sound : AreSound k) where
     file_has_numbers n lt =
         ap (λ (r : Rows). get r 0 n) is
         ∙ (get-with_row_same lacked 0 n (λ bit. not (get lacked 0 bit)) (omega (arith, shape.tall)) (omega (arith, lt, shape.wide))
-        ∙ (numbered_in file.assigned (derived_words file.name file.bytes) lacked fresh are n lt
-        ∙ ap (λ ws. is_one_of (all_up (declared_of k) (axioms_of k) ws) (word_of k.dict n)) (sym (own_given k sound file))))
+        ∙ numbered_in file.assigned (derived_words file.name file.bytes) tests tests_numbered lacked fresh are n lt)

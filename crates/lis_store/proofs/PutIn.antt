@@ -9,7 +9,7 @@ use Rattle.std.proofs.lemmas.List.Sums.{fold-append}
 use Rattle.std.proofs.lemmas.Grind.{flat_map-append}
 use Rattle.std.proofs.lemmas.Map.Keys.{IsStrictlyIncreasing-from_sorted}
 use Rattle.lis_graph.specs.Graph.{is_rising}
-use Rattle.lis_graph.proofs.Members.{Among, among_filter, among_append, among_flat_map, flat_map_among}
+use Rattle.lis_graph.proofs.Members.{Among, among_filter, among_append, among_left, among_flat_map, flat_map_among}
 use Rattle.lis_graph.proofs.Sets.{members_le, sorted_from_rising}
 use Rattle.lis_journal.specs.Journal.{Held}
 use Rattle.lis_catalog.specs.Catalog.{rec_at}
@@ -20,7 +20,8 @@ use Rattle.lis_fields.specs.Layouts.{are_short, are_tags}
 use Rattle.lis_words.specs.Words.{word_cmp, has_word, is_plain_word, is_valued, is_head, is_built_in, built_in_heads, head_bytes}
 use Rattle.lis_model.specs.Sets.{with_word, with_words}
 use Rattle.lis_model.specs.Derived.{derived_words}
-use Rattle.lis_model.specs.State.{State, File, heads, up, all_up, is_assignable}
+use Rattle.lis_model.specs.State.{State, File, heads, up, all_up, own_words, file_words, is_assignable}
+use Rattle.lis_model.specs.Tests.{met_tests}
 use Rattle.lis_model.specs.Changes.{new_file}
 use Rattle.lis_laws.proofs.Apart.{plain_not_valued, head_built_in}
 use Rattle.lis_laws.proofs.Chains.{among_heads, up_self, up_own, links_head}
@@ -38,7 +39,6 @@ use Rattle.lis_store.specs.Admitting.{described_by, known_with, IsAdmitted}
 use Rattle.lis_store.specs.Adding.{is_one_of, numbers_named, AreNumbered, behind_head, with_heads, may_learn, HasWordRoom, LearnsAll, learnt_words}
 use Rattle.lis_store.specs.ReplacingIn.{MayComeIn}
 use Rattle.lis_store.proofs.Learning.{number_there, learns_more, number_learnt, room_left}
-use Rattle.lis_store.proofs.Measured.{own_given}
 use Rattle.lis_store.proofs.Naming.{one_of, named_one, named_few}
 use Rattle.lis_store.proofs.Numbers.{sorted_where}
 use Rattle.lis_store.proofs.Told.{words_grow}
@@ -116,8 +116,14 @@ module _ (p : Kept) (sound : AreSound p) (name : List ℕ) (assigned : List (Lis
   abbrev file : File
   file = new_file name assigned bytes
 
-  pub described_is : described_by p file ≡ all_up (declared_of p) (axioms_of p) (learnt_words file)
-  described_is = ap (all_up (declared_of p) (axioms_of p)) (own_given p sound file)
+  abbrev tests : Kept → List (List ℕ)
+  tests k = met_tests (declared_of k) (length bytes)
+
+  -- its words and their heads are words of its description
+  pub learnt_described : (word : List ℕ) → Among (with_heads (learnt_words file)) word → Among (described_by p file) word
+  learnt_described word m =
+      head_entailed (declared_of p) (axioms_of p) (own_words (declared_of p) file) word
+      (subst (λ ws. Among ws word) (sym (flat_map-append behind_head (learnt_words file) (tests p))) (among_left (with_heads (learnt_words file)) (with_heads (tests p)) word m))
 
   pub assigned_may : list_all (may_learn p) assigned ≡ true
   assigned_may = may.learnable
@@ -133,9 +139,7 @@ module _ (p : Kept) (sound : AreSound p) (name : List ℕ) (assigned : List (Lis
     where
       by : (word : List ℕ) → Among (words p.dict) word ⊎ Among (with_heads (learnt_words file)) word → Among (known_with p file) word
       by word (inl m) = with_words_old (words p.dict) (described_by p file) word m
-      by word (inr m) =
-          with_words_new (words p.dict) (described_by p file) word
-          (subst (λ ws. Among ws word) (sym described_is) (head_entailed (declared_of p) (axioms_of p) (learnt_words file) word m))
+      by word (inr m) = with_words_new (words p.dict) (described_by p file) word (learnt_described word m)
 
   heads_split : with_heads (learnt_words file) ≡ with_heads assigned ++ with_heads (derived_words name bytes)
   heads_split = flat_map-append behind_head assigned (derived_words name bytes)
@@ -164,11 +168,10 @@ module _ (p : Kept) (sound : AreSound p) (name : List ℕ) (assigned : List (Lis
     pub axioms_same : axioms_of r ≡ axioms_of p
     axioms_same = ap (λ (s : State). s.axioms) (learns.state (λ n. []))
 
-    pub entailed_is : all_up (declared_of r) (axioms_of r) (learnt_words file) ≡ described_by p file
-    entailed_is =
-        ap₂ (λ (declared : List (List ℕ)) (axioms : List (List ℕ × List ℕ)). all_up declared axioms (learnt_words file)) declared_same axioms_same ∙ sym described_is
+    pub entailed_is : all_up (declared_of r) (axioms_of r) (learnt_words file ++ tests r) ≡ described_by p file
+    entailed_is = ap₂ (λ (declared : List (List ℕ)) (axioms : List (List ℕ × List ℕ)). file_words declared axioms file) declared_same axioms_same
 
-    pub entailed_short : length (all_up (declared_of r) (axioms_of r) (learnt_words file)) ≤ 128
+    pub entailed_short : length (all_up (declared_of r) (axioms_of r) (learnt_words file ++ tests r)) ≤ 128
     entailed_short = omega (arith, ap length entailed_is, may.short)
 
 -- ---- numbers in form

@@ -7,6 +7,7 @@ ghost use Rattle.lis_dict.specs.Dict.{word_of};
 ghost use Rattle.lis_ext.specs.Numbers.{numbers_where};
 ghost use Rattle.lis_model.specs.Image.{image_blocks};
 ghost use Rattle.lis_model.specs.State.{heads, all_up};
+ghost use Rattle.lis_model.specs.Tests.{met_tests};
 ghost use Rattle.lis_model.specs.Changes.{new_file};
 ghost use Rattle.lis_eval.specs.Room.{HasRoom};
 ghost use Rattle.lis_kept.specs.Sound.{AreSound, FreeSlotsAreEmpty, BlocksAreTaken};
@@ -15,6 +16,7 @@ ghost use Rattle.lis_store.specs.Admitting.{IsAdmitted};
 ghost use Rattle.lis_store.specs.Adding.{is_one_of, numbers_named, AreNumbered, behind_head, with_heads, may_learn, HasWordRoom, LearnsAll, PutsIn};
 
 use crate::derived::derived;
+use crate::meeting::leave_out_met;
 use arrayvec::ArrayVec;
 use lis_bits::{Rows, and_not_row};
 use lis_eval::Scratch;
@@ -107,24 +109,26 @@ fn leave_out(parts: &Parts, words: &[Word], row: &mut Rows)
     }
 }
 
-// The numbers of all words that these entail.
+// The numbers of all words that these entail, and the declared tests that so many bytes meet.
 pub(crate) fn numbers_entailed(
     parts: &Parts,
     assigned: &[Word],
     derived: &[Word],
+    size: u64,
     row: &mut Rows,
 ) -> ArrayVec<u16, 128>
     requires shape { HasShape row.old 1 parts.now.limits.props }
     requires numbered { AreNumbered parts.now.dict (assigned.now ++ derived.now) }
-    requires few { length (all_up (declared_of parts.now) (axioms_of parts.now) (assigned.now ++ derived.now)) ≤ 128 }
+    requires few { length (all_up (declared_of parts.now) (axioms_of parts.now) (assigned.now ++ derived.now ++ met_tests (declared_of parts.now) size)) ≤ 128 }
     ensures numbers { result.items
-        ≡ numbers_named parts.now.dict (all_up (declared_of parts.now) (axioms_of parts.now) (assigned.now ++ derived.now)) }
+        ≡ numbers_named parts.now.dict (all_up (declared_of parts.now) (axioms_of parts.now) (assigned.now ++ derived.now ++ met_tests (declared_of parts.now) size)) }
     ensures shape { HasShape row.new 1 parts.now.limits.props }
 {
     let props = parts.limits().props;
     row.fill(0, true);
     leave_out(parts, assigned, row);
     leave_out(parts, derived, row);
+    leave_out_met(parts, size, row);
     row.negate(0);
     numbers_in(row, props)
 }
@@ -157,7 +161,13 @@ pub(crate) fn put_in<D: Disk>(
     learn_words(parts, assigned);
     learn_words(parts, derived.as_slice());
     let tags = numbers_of(parts, assigned, &mut scratch.candidates);
-    let numbers = numbers_entailed(parts, assigned, derived.as_slice(), &mut scratch.candidates);
+    let numbers = numbers_entailed(
+        parts,
+        assigned,
+        derived.as_slice(),
+        payload.len() as u64,
+        &mut scratch.candidates,
+    );
     let slot = parts.add_file(journal, disk, name, tags, payload);
     parts.describe(slot, &[], numbers.as_slice());
 }

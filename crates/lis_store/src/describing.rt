@@ -11,6 +11,7 @@ ghost use Rattle.lis_store.specs.Describing.{with_heads, Gathers};
 ghost use Rattle.lis_store.specs.Instead.{HasNumbers};
 
 use crate::derived::derived;
+use crate::meeting::leave_out_met;
 use arrayvec::ArrayVec;
 use lis_bits::{Rows, and_not_row};
 use lis_kept::Parts;
@@ -98,6 +99,7 @@ pub(crate) fn measure(
     row.fill(0, true);
     gather_all(parts, row, &mut fresh, words);
     gather_all(parts, row, &mut fresh, derived(name, payload).as_slice());
+    leave_out_met(parts, payload.len() as u64, row);
     row.negate(0);
     let fresh = fresh.len() as u32;
     Extent {

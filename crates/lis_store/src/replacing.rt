@@ -83,7 +83,13 @@ fn learn_own(
     learn_words(parts, assigned);
     learn_words(parts, derived.as_slice());
     let tags = numbers_of(parts, assigned, &mut scratch.candidates);
-    let all = numbers_entailed(parts, assigned, derived.as_slice(), &mut scratch.candidates);
+    let all = numbers_entailed(
+        parts,
+        assigned,
+        derived.as_slice(),
+        payload.len() as u64,
+        &mut scratch.candidates,
+    );
     Numbers { tags, all }
 }
 

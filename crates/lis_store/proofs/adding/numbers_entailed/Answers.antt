@@ -3,6 +3,8 @@ use Rattle.lis_bits.specs.Rows.{HasShape, get}
 use Rattle.lis_ext.specs.Numbers.{numbers_where}
 use Rattle.lis_kept.proofs.InArea.{few_properties}
 use Rattle.lis_model.specs.declared.limits.Limits.{Limits}
+use Rattle.lis_model.specs.Tests.{met_tests}
+use Rattle.lis_kept.specs.Telling.{declared_of}
 use Rattle.lis_store.proofs.Entailed.{entailed_shape, entailed_numbers, entailed_few}
 use Rattle.lis_store.proofs.adding.numbers_entailed.Goals as goal
 
@@ -12,10 +14,12 @@ numbers_in-requires c =
     let sound = c.limits.ensures.sound in
     let props = ap (λ (l : Limits). l.props) c.limits.ensures.value in
     let P : ℕ → Type 0 = λ n. HasShape c.negate.new.self 1 n in
-    let shape = entailed_shape k sound c.args.assigned.now c.args.derived.now c.args.row.now c.fill.new.self c.leave_out.new.row c.leave_out-2.new.row c.negate.new.self
-    c.requires.shape c.fill.ensures c.leave_out.ensures.bits c.leave_out-2.ensures.shape c.leave_out-2.ensures.bits c.negate.ensures in
-    let few = entailed_few k sound c.args.assigned.now c.args.derived.now c.args.row.now c.fill.new.self c.leave_out.new.row c.leave_out-2.new.row c.negate.new.self
-    c.requires.shape c.fill.ensures c.leave_out.ensures.bits c.leave_out-2.ensures.shape c.leave_out-2.ensures.bits c.negate.ensures c.requires.few in (
+    let shape = entailed_shape k sound c.args.assigned.now c.args.derived.now (met_tests (declared_of k) c.args.size) c.args.row.now c.fill.new.self
+    c.leave_out.new.row c.leave_out-2.new.row c.leave_out_met.new.row c.negate.new.self
+    c.requires.shape c.fill.ensures c.leave_out.ensures.bits c.leave_out-2.ensures.bits c.leave_out_met.ensures.shape c.leave_out_met.ensures.bits c.negate.ensures in
+    let few = entailed_few k sound c.args.assigned.now c.args.derived.now (met_tests (declared_of k) c.args.size) c.args.row.now c.fill.new.self
+    c.leave_out.new.row c.leave_out-2.new.row c.leave_out_met.new.row c.negate.new.self
+    c.requires.shape c.fill.ensures c.leave_out.ensures.bits c.leave_out-2.ensures.bits c.leave_out_met.ensures.shape c.leave_out_met.ensures.bits c.negate.ensures c.requires.few in (
       omega arith,
       (
         subst P (sym props) shape,
@@ -30,5 +34,6 @@ returns-clause-numbers c =
     let props = ap (λ (l : Limits). l.props) c.limits.ensures.value in
     c.numbers_in.ensures
     ∙ (ap (λ n. numbers_where n (get c.negate.new.self 0)) props
-    ∙ entailed_numbers k sound c.args.assigned.now c.args.derived.now c.args.row.now c.fill.new.self c.leave_out.new.row c.leave_out-2.new.row c.negate.new.self
-    c.requires.shape c.fill.ensures c.leave_out.ensures.bits c.leave_out-2.ensures.shape c.leave_out-2.ensures.bits c.negate.ensures)
+    ∙ entailed_numbers k sound c.args.assigned.now c.args.derived.now (met_tests (declared_of k) c.args.size) c.args.row.now c.fill.new.self
+    c.leave_out.new.row c.leave_out-2.new.row c.leave_out_met.new.row c.negate.new.self
+    c.requires.shape c.fill.ensures c.leave_out.ensures.bits c.leave_out-2.ensures.bits c.leave_out_met.ensures.shape c.leave_out_met.ensures.bits c.negate.ensures)

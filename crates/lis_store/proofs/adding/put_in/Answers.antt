@@ -5,6 +5,7 @@ use Rattle.lis_dict.specs.Dict.{word_of}
 use Rattle.lis_fields.specs.Layouts.{are_tags}
 use Rattle.lis_model.specs.Changes.{new_file}
 use Rattle.lis_model.specs.State.{all_up}
+use Rattle.lis_model.specs.Tests.{met_tests}
 use Rattle.lis_kept.specs.Kept.{Kept}
 use Rattle.lis_kept.specs.Changes.{Adds, Describes}
 use Rattle.lis_kept.specs.Telling.{declared_of, axioms_of}
@@ -55,7 +56,7 @@ numbers_entailed-numbers-requires-clause-few g c =
     let learns = both_learnt p c.requires.sound c.args.name.now c.args.assigned.now c.args.payload.now
     (may_come c.args.parts.now (new_file c.args.name.now c.args.assigned.now c.args.payload.now) c.requires.admitted)
     c.learn_words.new.parts r c.as_slice.result.now c.learn_words.ensures (c.as_slice.ensures.words ∙ c.derived-derived.ensures) c.learn_words-2.ensures in
-    let P : List (List ℕ) → Type 0 = λ ws. length (all_up (declared_of r) (axioms_of r) (c.args.assigned.now ++ ws)) ≤ 128 in
+    let P : List (List ℕ) → Type 0 = λ ws. length (all_up (declared_of r) (axioms_of r) (c.args.assigned.now ++ ws ++ met_tests (declared_of r) (length c.args.payload.now))) ≤ 128 in
     subst P (sym (c.as_slice-2.ensures.words ∙ c.derived-derived.ensures))
     (entailed_short p c.requires.sound c.args.name.now c.args.assigned.now c.args.payload.now
     (may_come c.args.parts.now (new_file c.args.name.now c.args.assigned.now c.args.payload.now) c.requires.admitted) r learns)
@@ -93,14 +94,14 @@ describe-requires-clause-rising g c =
     let P : List ℕ → Type 0 = λ ns. IsStrictlyIncreasing ns in
     subst P (sym (c.as_slice-3.ensures.value ∙ c.numbers_entailed-numbers.ensures.numbers))
     (named_rising c.learn_words-2.new.parts c.numbers_of-tags.ensures.sound
-    (all_up (declared_of c.learn_words-2.new.parts) (axioms_of c.learn_words-2.new.parts) (c.args.assigned.now ++ c.as_slice-2.result.now)))
+    (all_up (declared_of c.learn_words-2.new.parts) (axioms_of c.learn_words-2.new.parts) (c.args.assigned.now ++ c.as_slice-2.result.now ++ met_tests (declared_of c.learn_words-2.new.parts) (length c.args.payload.now))))
 
 pub describe-requires-clause-named : goal.describe-requires-clause-named
 describe-requires-clause-named g c =
     let r = c.learn_words-2.new.parts in
     ap (list_all (λ n. is_some (word_of c.add_file-slot.new.self.dict n))) (c.as_slice-3.ensures.value ∙ c.numbers_entailed-numbers.ensures.numbers)
-    ∙ (ap (λ (k : Kept). list_all (λ n. is_some (word_of k.dict n)) (numbers_named r.dict (all_up (declared_of r) (axioms_of r) (c.args.assigned.now ++ c.as_slice-2.result.now)))) c.add_file-slot.ensures.added.parts
-    ∙ named_worded r c.numbers_of-tags.ensures.sound (all_up (declared_of r) (axioms_of r) (c.args.assigned.now ++ c.as_slice-2.result.now)))
+    ∙ (ap (λ (k : Kept). list_all (λ n. is_some (word_of k.dict n)) (numbers_named r.dict (all_up (declared_of r) (axioms_of r) (c.args.assigned.now ++ c.as_slice-2.result.now ++ met_tests (declared_of c.learn_words-2.new.parts) (length c.args.payload.now))))) c.add_file-slot.ensures.added.parts
+    ∙ named_worded r c.numbers_of-tags.ensures.sound (all_up (declared_of r) (axioms_of r) (c.args.assigned.now ++ c.as_slice-2.result.now ++ met_tests (declared_of c.learn_words-2.new.parts) (length c.args.payload.now))))
 
 pub returns-clause-put : goal.returns-clause-put
 returns-clause-put g c =
@@ -114,7 +115,7 @@ returns-clause-put g c =
     c.as_slice-3.ensures.value
     ∙ (c.numbers_entailed-numbers.ensures.numbers
     ∙ ap (λ (ws : List (List ℕ)). numbers_named r.dict ws)
-    (ap (λ ws. all_up (declared_of r) (axioms_of r) (c.args.assigned.now ++ ws)) derived
+    (ap (λ ws. all_up (declared_of r) (axioms_of r) (c.args.assigned.now ++ ws ++ met_tests (declared_of r) (length c.args.payload.now))) derived
     ∙ entailed_is p c.requires.sound c.args.name.now c.args.assigned.now c.args.payload.now
     (may_come c.args.parts.now (new_file c.args.name.now c.args.assigned.now c.args.payload.now) c.requires.admitted) r learns)) in
     let A : List ℕ → Type 0 = λ ns. Adds c.args.name.now ns c.args.payload.now c.add_file-slot.result r c.add_file-slot.new.self c.args.journal.now c.add_file-slot.new.journal in

@@ -2,6 +2,7 @@ use Rattle.std.proofs.Common.{◌≡◌, ◌∙◌, ◌++◌, ◌≤◌, ℕ, Li
 use Rattle.std.specs.List.{list_all}
 use Rattle.lis_model.specs.Changes.{new_file}
 use Rattle.lis_model.specs.State.{all_up}
+use Rattle.lis_model.specs.Tests.{met_tests}
 use Rattle.lis_kept.specs.Telling.{declared_of, axioms_of}
 use Rattle.lis_store.specs.Admitting.{described_by}
 use Rattle.lis_store.specs.Adding.{numbers_named, AreNumbered, with_heads, may_learn, HasWordRoom}
@@ -43,7 +44,7 @@ numbers_entailed-all-requires-clause-few c =
     let r = c.learn_words-2.new.parts in
     let learns = both_learnt p c.requires.sound c.args.name.now c.args.assigned.now c.args.payload.now c.requires.may
     c.learn_words.new.parts r c.as_slice.result.now c.learn_words.ensures (c.as_slice.ensures.words ∙ c.derived-derived.ensures) c.learn_words-2.ensures in
-    let P : List (List ℕ) → Type 0 = λ ws. length (all_up (declared_of r) (axioms_of r) (c.args.assigned.now ++ ws)) ≤ 128 in
+    let P : List (List ℕ) → Type 0 = λ ws. length (all_up (declared_of r) (axioms_of r) (c.args.assigned.now ++ ws ++ met_tests (declared_of r) (length c.args.payload.now))) ≤ 128 in
     subst P (sym (c.as_slice-2.ensures.words ∙ c.derived-derived.ensures))
     (entailed_short p c.requires.sound c.args.name.now c.args.assigned.now c.args.payload.now c.requires.may r learns)
 
@@ -58,7 +59,7 @@ returns-clause-learnt c =
     let numbers =
     c.numbers_entailed-all.ensures.numbers
     ∙ ap (λ (ws : List (List ℕ)). numbers_named r.dict ws)
-    (ap (λ ws. all_up (declared_of r) (axioms_of r) (c.args.assigned.now ++ ws)) derived
+    (ap (λ ws. all_up (declared_of r) (axioms_of r) (c.args.assigned.now ++ ws ++ met_tests (declared_of r) (length c.args.payload.now))) derived
     ∙ entailed_is p c.requires.sound c.args.name.now c.args.assigned.now c.args.payload.now c.requires.may r learns) in
     record {
       learns = learns;

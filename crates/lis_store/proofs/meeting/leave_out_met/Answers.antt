@@ -1,0 +1,62 @@
+use Rattle.std.proofs.Common.{◌≡◌, ◌∙◌, ℕ, ◌+◌, ◌≤◌, not, ◌&&◌, Some, List, ◌∷◌, [], ◌++◌, is_some, length, sym, ap, subst, arith}
+use Rattle.std.specs.List.{slice_get}
+use Rattle.std.proofs.lemmas.Bool.{both_ways}
+use Rattle.lis_bits.specs.Rows.{get, with_row}
+use Rattle.lis_dict.proofs.Laws.{number_from_among, number_below}
+use Rattle.lis_eval.proofs.Members.{past_end}
+use Rattle.lis_kept.proofs.Known.{among_place}
+use Rattle.lis_store.proofs.Entailed.{LeavesOut, leaves_none, leaves_one}
+use Rattle.lis_store.proofs.MetTests.{met_first, met_next, unmet_next, met_all}
+use Rattle.lis_store.proofs.meeting.leave_out_met.Goals as goal
+use Rattle.lis_store.proofs.meeting.leave_out_met.Goals.{then-is_met_word, else-is_met_word}
+
+pub loop-k-init : goal.loop-k-init
+loop-k-init c = leaves_none c.args.parts.now c.args.row.now c.requires.shape
+
+pub unreachable-requires : goal.unreachable-requires
+unreachable-requires c =
+    let k = c.args.parts.now in
+    let past = past_end k.dict.entries c.loop-k.k (sym c.word_at.ensures ∙ c.in_default.is) in
+    omega (arith, past, c.loop-k-test.true, c.word_count.ensures)
+
+pub and_not_row-requires-clause-row : goal.and_not_row-requires-clause-row
+and_not_row-requires-clause-row c =
+    let k = c.args.parts.now in
+    let sound = c.requires.sound in
+    let e : List ℕ × ℕ = (c.in-Some.word, c.in-Some.number) in
+    let at : slice_get k.dict.entries c.loop-k.k ≡ Some e = sym c.word_at.ensures ∙ c.in-Some.is in
+    let there = number_from_among k.dict sound.dict e.0 e.1 (among_place k.dict.entries c.loop-k.k e at) in
+    let below = number_below k.dict sound.dict e.0 e.1 there in
+    omega (arith, below, sound.numbers, c.taxonomy.ensures.props, c.rows-entailed.ensures.shape.tall, c.from.ensures)
+
+pub loop-k-preserved : goal.loop-k-preserved
+loop-k-preserved c =
+    let k = c.args.parts.now in
+    let sound = c.requires.sound in
+    let i = c.loop-k.k in
+    let row = c.loop-k.row in
+    let size = c.args.size in
+    let entailed = c.rows-entailed.result.now in
+    let e : List ℕ × ℕ = (c.in-Some.word, c.in-Some.number) in
+    let at : slice_get k.dict.entries i ≡ Some e = sym c.word_at.ensures ∙ c.in-Some.is in
+    let there = number_from_among k.dict sound.dict e.0 e.1 (among_place k.dict.entries i e at) in
+    elim c.if-is_met_word.branch [
+      | then-is_met_word w ↦
+          let Q : List (List ℕ) → Type 0 = λ ws. LeavesOut k ws c.args.row.now w.and_not_row.new.to in
+          let next = subst Q (sym (met_next k size i e at (sym c.is_met_word.ensures ∙ w.if-is_met_word.true)))
+          (leaves_one k sound c.taxonomy.result.now c.taxonomy.ensures entailed c.rows-entailed.ensures.values (met_first k size i) e.0 c.args.row.now row w.and_not_row.new.to e.1
+          c.loop-k.invariant there
+          (w.and_not_row.ensures ∙ ap (λ n. with_row row 0 (λ bit. get row 0 bit && not (get entailed n bit))) w.from.ensures)) in
+          subst (λ r. LeavesOut k (met_first k size (i + 1)) c.args.row.now r) (sym w.row-is) next
+      | else-is_met_word w ↦
+          let Q : List (List ℕ) → Type 0 = λ ws. LeavesOut k ws c.args.row.now row in
+          let next = subst Q (sym (unmet_next k size i e at (sym c.is_met_word.ensures ∙ w.if-is_met_word.false))) c.loop-k.invariant in
+          subst (λ r. LeavesOut k (met_first k size (i + 1)) c.args.row.now r) (sym w.row-is) next
+    ]
+
+pub returns-clause-bits : goal.returns-clause-bits
+returns-clause-bits c =
+    let k = c.args.parts.now in
+    let all = met_all k c.args.size c.loop-k.k (omega (arith, c.loop-k-test.false, c.word_count.ensures)) in
+    let Q : List (List ℕ) → Type 0 = λ ws. LeavesOut k ws c.args.row.now c.loop-k.row in
+    (subst Q all c.loop-k.invariant).bits

@@ -1,0 +1,52 @@
+//! The declared tests that so many bytes meet.
+
+ghost use Rattle.std.specs.Prelude.{◌≡◌, ℕ, ◌<◌, not, ◌&&◌};
+ghost use Rattle.lis_bits.specs.Rows.{HasShape, get};
+ghost use Rattle.lis_dict.specs.Dict.{word_of};
+ghost use Rattle.lis_words.specs.Words.{test_of};
+ghost use Rattle.lis_model.specs.State.{all_up};
+ghost use Rattle.lis_model.specs.Tests.{is_met, met_tests};
+ghost use Rattle.lis_kept.specs.Sound.{AreSound};
+ghost use Rattle.lis_kept.specs.Telling.{is_declared, declared_of, axioms_of};
+ghost use Rattle.lis_store.specs.Adding.{is_one_of};
+
+use lis_bits::{Rows, and_not_row};
+use lis_kept::Parts;
+use lis_words::{Word, test_of};
+
+// Whether a test holds of so many bytes.
+fn is_met(test: Option<(bool, u64)>, size: u64) -> bool
+    ensures { result ≡ is_met test size }
+{
+    match test {
+        None => false,
+        Some((true, least)) => least <= size,
+        Some((false, bound)) => size < bound,
+    }
+}
+
+// Whether a word is a declared test that so many bytes meet. Few words are tests, so that is asked first.
+fn is_met_word(parts: &Parts, word: &Word, size: u64) -> bool
+    ensures { result ≡ (is_met (test_of word.now) size && is_declared parts.now word.now) }
+{
+    is_met(test_of(word), size) && parts.is_declared(word)
+}
+
+/// Takes from a row the numbers of all that the declared tests entail that so many bytes meet.
+pub(crate) fn leave_out_met(parts: &Parts, size: u64, row: &mut Rows)
+    requires sound { AreSound parts.now }
+    requires shape { HasShape row.old 1 parts.now.limits.props }
+    ensures shape { HasShape row.new 1 parts.now.limits.props }
+    ensures bits { (n : ℕ) → n < parts.now.limits.props → get row.new 0 n
+        ≡ (get row.old 0 n && not (is_one_of (all_up (declared_of parts.now) (axioms_of parts.now) (met_tests (declared_of parts.now) size)) (word_of parts.now.dict n))) }
+{
+    let entailed = parts.taxonomy().rows();
+    for k in 0..parts.word_count() {
+        let Some((word, number)) = parts.word_at(k) else {
+            unreachable!()
+        };
+        if is_met_word(parts, &word, size) {
+            and_not_row(entailed, u32::from(number), row, 0);
+        }
+    }
+}
