@@ -1,10 +1,10 @@
 -- What a file that is put in comes to.
 use Rattle.std.proofs.Common.{◌≡◌, ◌⊎◌, refl, sym, ap, ap₂, ◌∙◌, subst, inl, inr, ℕ, zero, suc, ◌<◌, ◌≤◌, nat_lt, not, ◌&&◌, ◌||◌, if◌then◌else◌, Bool, true, false, List, [], length, get_or, set, Option, Some, None, is_some, IsSome, arith, get_or-set_same, get_or-set_other}
-use Rattle.std.specs.List.{list_any, flat_map}
+use Rattle.std.specs.List.{list_any}
 use Rattle.std.proofs.lemmas.Bool.{and_parts, or_cases, or_left, or_right, both_ways, cases_eq, eq-eqb, ne_eqb, not-true, ltb-true}
 use Rattle.std.proofs.lemmas.List.{get_or_default}
 use Rattle.std.proofs.lemmas.Option.{same_Some}
-use Rattle.lis_graph.proofs.Members.{Among, contains_from_among, among_from_any, any_from_among, among_left, among_flat_map, flat_map_among}
+use Rattle.lis_graph.proofs.Members.{Among, contains_from_among, among_from_any, any_from_among, among_append, among_left}
 use Rattle.lis_journal.specs.Journal.{Held}
 use Rattle.lis_blockmap.specs.Bitmap.{is_taken}
 use Rattle.lis_content.specs.Content.{marked, has_number, are_taken, are_free}
@@ -17,22 +17,22 @@ use Rattle.lis_ext.specs.Ext.{has, set_of as numbers_at}
 use Rattle.lis_fields.specs.Records.{FileRecord}
 use Rattle.lis_fields.specs.declared.slots.AxiomSlot.{AxiomSlot}
 use Rattle.lis_fields.specs.declared.slots.AxiomSlot.TheVariants.{Free as FreeAxiom, Pair}
-use Rattle.lis_words.specs.Words.{same_word, is_valued, head_bytes}
 use Rattle.lis_model.specs.Derived.{derived_words}
-use Rattle.lis_model.specs.State.{File, up, all_up}
+use Rattle.lis_model.specs.State.{File, all_up, own_words, file_words}
+use Rattle.lis_model.specs.Tests.{met_tests}
 use Rattle.lis_model.specs.Changes.{new_file}
 use Rattle.lis_laws.proofs.Chains.{up_trans, up_from_entails}
+use Rattle.lis_laws.proofs.Closures.{entailing, entailed_in}
 use Rattle.lis_laws.proofs.Counts.{all_among}
-use Rattle.lis_laws.proofs.Members.{same_word_decides, among_from_has_word, has_word_from_among, among_with_words, among_set_of, set_of_among}
+use Rattle.lis_laws.proofs.Members.{among_from_has_word, has_word_from_among, among_with_words}
 use Rattle.lis_kept.specs.Kept.{Kept}
-use Rattle.lis_kept.specs.Links.{is_linked, has_pair}
+use Rattle.lis_kept.specs.Links.{is_linked, is_own_link, has_pair}
 use Rattle.lis_kept.specs.Sound.{AreSound, FreeSlotsAreEmpty, BlocksAreTaken}
 use Rattle.lis_kept.specs.Forgetting.{KeepsInUse}
 use Rattle.lis_kept.specs.Telling.{declared_of, axioms_of, is_left_of, is_left_head_of, is_head_by, is_had, is_named_left, is_used, AreUsed}
 use Rattle.lis_kept.proofs.Filing.{among_from_number}
 use Rattle.lis_kept.proofs.Formed.{some_word, named_all}
 use Rattle.lis_kept.proofs.Known.{some_number, one_number, word_known, known_word}
-use Rattle.lis_kept.proofs.OwnLinks.{own_link_is}
 use Rattle.lis_store.specs.Stored.{AreClosed, DescriptionsAreShort, BlocksAreApart, IsSound}
 use Rattle.lis_store.specs.Saving.{settled}
 use Rattle.lis_store.specs.Admitting.{described_by, IsAdmitted}
@@ -42,7 +42,9 @@ use Rattle.lis_store.proofs.Coming.{ComesIn, comes_in}
 use Rattle.lis_store.proofs.Cleaned.{clean_is, sound_clean, in_use_clean}
 use Rattle.lis_store.proofs.Entailment.{link_named, up_has_number}
 use Rattle.lis_store.proofs.Naming.{one_of, of_one, named_has, named_few}
-use Rattle.lis_store.proofs.PutIn.{may_come, described_is, entailed_is, own_numbered, head_entailed, behind_itself}
+use Rattle.lis_store.proofs.PutIn.{may_come, heads_described, entailed_is, declared_same, own_numbered, behind_itself}
+use Rattle.lis_store.proofs.MetTests.{met_numbered}
+use Rattle.lis_store.proofs.OwnStay.{own_back}
 use Rattle.lis_store.proofs.Removed.{had_there}
 
 has_number_of : (d : Dict) → IsDict d → (word : List ℕ) → (n : ℕ) × (word_of d n ≡ Some word) → IsSome (number_of d word)
@@ -117,8 +119,7 @@ module _ (p q : Kept) (name : List ℕ) (assigned : List (List ℕ)) (bytes : Li
 
   -- each word that is learnt is one of the description
   learnt_described : (word : List ℕ) → Among (with_heads (learnt_words file)) word → Among described word
-  learnt_described word m =
-      subst (λ ws. Among ws word) (sym (described_is p sound name assigned bytes may)) (head_entailed (declared_of p) (axioms_of p) (learnt_words file) word m)
+  learnt_described = heads_described p sound name assigned bytes may
 
   module _ (after : AreSound q) where
     pub sound_end : AreSound end
@@ -233,42 +234,41 @@ module _ (p q : Kept) (name : List ℕ) (assigned : List (List ℕ)) (bytes : Li
         by (inr differ) = has_other n at differ ∙ free at differ (sym (rec_other at differ) ∙ none) n
 
     -- ---- links
-    pub entailed_end : all_up (declared_of end) (axioms_of end) (learnt_words file) ≡ described
-    entailed_end =
-        ap (λ (k : Kept). all_up (declared_of k) (axioms_of k) (learnt_words file)) (sym comes.learns.parts) ∙ entailed_is p sound name assigned bytes may comes.learnt comes.learns
+    abbrev own : List (List ℕ)
+    own = own_words (declared_of end) file
+
+    pub entailed_end : all_up (declared_of end) (axioms_of end) own ≡ described
+    entailed_end = ap (λ (k : Kept). file_words (declared_of k) (axioms_of k) file) (sym comes.learns.parts) ∙ entailed_is p sound name assigned bytes may comes.learnt comes.learns
+
+    -- of its own words the tests are declared, and the others are learnt
+    own_has_number : (w : List ℕ) → Among own w → (n : ℕ) × (word_of dict n ≡ Some w)
+    own_has_number w m = by (among_append (learnt_words file) (met_tests (declared_of end) (length bytes)) w m)
+      where
+        by : Among (learnt_words file) w ⊎ Among (met_tests (declared_of end) (length bytes)) w → (n : ℕ) × (word_of dict n ≡ Some w)
+        by (inl learnt) =
+            let number = some_number (number_of dict w) (own_numbered p sound name assigned bytes may comes.learnt comes.learns w (has_word_from_among (learnt_words file) w learnt)) in
+            (number.0, word_from_number dict sound_end.dict w number.0 number.1)
+        by (inr met) = met_numbered end sound_end (length bytes) w met
+
+    declared_end : declared_of end ≡ declared_of p
+    declared_end = ap declared_of (sym comes.learns.parts) ∙ declared_same p sound name assigned bytes may comes.learnt comes.learns
 
     pub link_back : (a b : ℕ) → IsSome (word_of p.dict a) → is_linked end a b ≡ true → is_linked p a b ≡ true
-    link_back a b some linked = by (or_cases _ (has_pair p.axioms a b) (subst (λ t. (t || has_pair p.axioms a b) ≡ true) (own_link_is end sound_end.dict a b) linked))
+    link_back a b some linked = by (or_cases (is_own_link (declared_of end) (word_of dict a) (word_of dict b)) (has_pair p.axioms a b) linked)
       where
-        head_back : (w v : List ℕ) → word_of p.dict a ≡ Some w → word_of dict b ≡ Some v → is_head_by (Some w) (Some v) ≡ true → is_head_by (word_of p.dict a) (word_of p.dict b) ≡ true
-        head_back w v is_w is_v head =
-            let both = and_parts (is_valued w) (same_word (head_bytes w) v) head in
-            let same = (same_word_decides (head_bytes w) v).0 both.1 in
-            let number = some_number (number_of p.dict (head_bytes w)) (sound.heads a w is_w both.0) in
-            let was : word_of p.dict number.0 ≡ Some v = word_from_number p.dict sound.dict (head_bytes w) number.0 number.1 ∙ ap Some same in
-            let here = one_number end sound_end number.0 b v (comes.learns.keeps number.0 v was) is_v in
-            ap₂ is_head_by is_w (subst (λ k. word_of p.dict k ≡ Some v) here was) ∙ head
-
-        heads_back : (x y : Option (List ℕ)) → word_of p.dict a ≡ x → word_of dict b ≡ y → is_head_by x y ≡ true → is_head_by (word_of p.dict a) (word_of p.dict b) ≡ true
-        heads_back None y is_x is_y h = absurd cc
-        heads_back (Some w) None is_x is_y h = absurd cc
-        heads_back (Some w) (Some v) is_x is_y h = head_back w v is_x is_y h
-
-        by : (is_head_by (word_of dict a) (word_of dict b) ≡ true) ⊎ (has_pair p.axioms a b ≡ true) → is_linked p a b ≡ true
-        by (inl head) =
-            subst (λ t. (t || has_pair p.axioms a b) ≡ true) (sym (own_link_is p sound.dict a b))
-            (or_left (is_head_by (word_of p.dict a) (word_of p.dict b)) (has_pair p.axioms a b)
-            (heads_back (word_of p.dict a) (word_of dict b) refl refl (subst (λ o. is_head_by o (word_of dict b) ≡ true) (word_stays a some) head)))
-        by (inr pair) = or_right _ (has_pair p.axioms a b) pair
+        by : (is_own_link (declared_of end) (word_of dict a) (word_of dict b) ≡ true) ⊎ (has_pair p.axioms a b ≡ true) → is_linked p a b ≡ true
+        by (inl linked_by) =
+            or_left (is_own_link (declared_of p) (word_of p.dict a) (word_of p.dict b)) (has_pair p.axioms a b)
+            (own_back p sound dict sound_end.dict comes.learns.keeps a b some (subst (λ ws. is_own_link ws (word_of dict a) (word_of dict b) ≡ true) declared_end linked_by))
+        by (inr pair) = or_right (is_own_link (declared_of p) (word_of p.dict a) (word_of p.dict b)) (has_pair p.axioms a b) pair
 
     pub described_numbered : AreNumbered dict described
     described_numbered word h =
         let D = declared_of end in
         let A = axioms_of end in
-        let source = among_flat_map (up D A) (learnt_words file) word
-        (among_set_of (flat_map (up D A) (learnt_words file)) word (subst (λ ws. Among ws word) (sym entailed_end) (among_from_has_word described word h))) in
-        let number = some_number (number_of dict source.0) (own_numbered p sound name assigned bytes may comes.learnt comes.learns source.0 (has_word_from_among (learnt_words file) source.0 source.1)) in
-        has_number_of dict sound_end.dict word (up_has_number end sound_end number.0 source.0 word (word_from_number dict sound_end.dict source.0 number.0 number.1) source.2)
+        let source = entailing D A own word (subst (λ ws. Among ws word) (sym entailed_end) (among_from_has_word described word h)) in
+        let number = own_has_number source.0 source.1 in
+        has_number_of dict sound_end.dict word (up_has_number end sound_end number.0 source.0 word number.1 source.2)
 
     -- the description has all to which its words are linked
     link_described : (a b : ℕ) → is_one_of described (word_of dict a) ≡ true → is_linked end a b ≡ true → is_one_of described (word_of dict b) ≡ true
@@ -277,11 +277,10 @@ module _ (p q : Kept) (name : List ℕ) (assigned : List (List ℕ)) (bytes : Li
         let A = axioms_of end in
         let word = one_of described (word_of dict a) h in
         let to = link_named end sound_end a b word.0 word.1 linked in
-        let source = among_flat_map (up D A) (learnt_words file) word.0
-        (among_set_of (flat_map (up D A) (learnt_words file)) word.0 (subst (λ ws. Among ws word.0) (sym entailed_end) word.2)) in
+        let source = entailing D A own word.0 (subst (λ ws. Among ws word.0) (sym entailed_end) word.2) in
         let step = up_from_entails D A word.0 to.0 (suc zero, (to.0, to.2, refl)) in
-        let there = flat_map_among (up D A) (learnt_words file) source.0 to.0 source.1 (up_trans D A source.0 word.0 to.0 source.2 step) in
-        of_one described (word_of dict b) to.0 to.1 (subst (λ ws. Among ws to.0) entailed_end (set_of_among (flat_map (up D A) (learnt_words file)) to.0 there))
+        let there = entailed_in D A own source.0 to.0 source.1 (up_trans D A source.0 word.0 to.0 source.2 step) in
+        of_one described (word_of dict b) to.0 to.1 (subst (λ ws. Among ws to.0) entailed_end there)
 
     -- of other slots: their numbers have words, and they have what those are linked to
     pub closed_then : ((n at : ℕ) → (at ≡ slot → ⊥) → has p.ext n at ≡ true → IsSome (word_of p.dict n))

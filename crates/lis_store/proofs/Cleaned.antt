@@ -21,7 +21,7 @@ sound_clean k sound = record {
   flagged = sound.flagged;
   properties = sound.properties;
   axiom_count = sound.axiom_count;
-  axioms = λ slot left right is. let one = sound.axioms slot left right is in record { below = one.below; left = one.left; right = one.right };
+  axioms = λ slot left right is. let one = sound.axioms slot left right is in record { below = one.below; left = one.left; right = one.right; plain = one.plain };
   slots = sound.slots;
   catalog = sound.catalog;
   records = sound.records;

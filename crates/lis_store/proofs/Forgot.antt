@@ -1,15 +1,16 @@
 -- What memory comes to when words are forgotten that nothing uses but what a slot is described by.
-use Rattle.std.proofs.Common.{◌≡◌, ◌⊎◌, refl, sym, ap, ap₂, ◌∙◌, subst, inl, inr, ℕ, not, ◌&&◌, ◌||◌, Bool, true, false, if◌then◌else◌, List, Option, Some, None, is_some}
+use Rattle.std.proofs.Common.{◌≡◌, ◌⊎◌, refl, sym, ap, ap₂, ◌∙◌, subst, inl, inr, ℕ, not, ◌&&◌, ◌||◌, Bool, true, false, if◌then◌else◌, List, [], Option, Some, None, is_some}
 use Rattle.std.proofs.lemmas.Bool.{both_ways, or_cases, or_left, or_right}
 use Rattle.lis_content.specs.Content.{has_number}
 use Rattle.lis_dict.specs.Dict.{word_of}
 use Rattle.lis_kept.specs.Kept.{Kept}
-use Rattle.lis_kept.specs.Links.{is_linked, has_pair}
+use Rattle.lis_model.specs.State.{State}
+use Rattle.lis_kept.specs.Links.{is_linked, is_own_link, has_pair}
 use Rattle.lis_kept.specs.Sound.{AreSound}
-use Rattle.lis_kept.specs.Telling.{is_head_by, is_used}
+use Rattle.lis_kept.specs.Telling.{declared_of, is_used}
 use Rattle.lis_kept.specs.Forgetting.{emptied, ForgetsWithout}
-use Rattle.lis_kept.proofs.OwnLinks.{own_link_is}
 use Rattle.lis_store.specs.Stored.{AreClosed}
+use Rattle.lis_store.proofs.OwnStay.{own_before}
 
 module _ (slot : ℕ) (numbers : List ℕ) (k q : Kept) (went : ForgetsWithout slot numbers k q) where
   pub word_before : (n : ℕ) (w : List ℕ) → word_of q.dict n ≡ Some w → word_of k.dict n ≡ Some w
@@ -54,19 +55,18 @@ module _ (slot : ℕ) (numbers : List ℕ) (k q : Kept) (went : ForgetsWithout s
   abbrev pub rest : Kept
   rest = record k { dict = q.dict; marks = q.marks }
 
-  link_before : AreSound k → AreSound rest → (a b : ℕ) → is_linked rest a b ≡ true → is_linked k a b ≡ true
-  link_before sound after a b linked = by (or_cases _ (has_pair k.axioms a b) (subst (λ t. (t || has_pair k.axioms a b) ≡ true) (own_link_is rest after.dict a b) linked))
+  declared_same : declared_of rest ≡ declared_of k
+  declared_same = ap declared_of (sym went.parts) ∙ ap (λ (s : State). s.declared) (went.state (λ n. []))
+
+  link_before : (a b : ℕ) → is_linked rest a b ≡ true → is_linked k a b ≡ true
+  link_before a b linked = by (or_cases (is_own_link (declared_of rest) (word_of q.dict a) (word_of q.dict b)) (has_pair k.axioms a b) linked)
     where
-      heads_before : (x y : Option (List ℕ)) → word_of q.dict a ≡ x → word_of q.dict b ≡ y → is_head_by x y ≡ true → is_head_by (word_of k.dict a) (word_of k.dict b) ≡ true
-      heads_before None y is_x is_y h = absurd cc
-      heads_before (Some w) None is_x is_y h = absurd cc
-      heads_before (Some w) (Some v) is_x is_y h = ap₂ is_head_by (word_before a w is_x) (word_before b v is_y) ∙ h
+      by : (is_own_link (declared_of rest) (word_of q.dict a) (word_of q.dict b) ≡ true) ⊎ (has_pair k.axioms a b ≡ true) → is_linked k a b ≡ true
+      by (inl own) =
+          or_left (is_own_link (declared_of k) (word_of k.dict a) (word_of k.dict b)) (has_pair k.axioms a b)
+          (own_before (declared_of k) (word_of q.dict a) (word_of q.dict b) (word_of k.dict a) (word_of k.dict b) (word_before a) (word_before b)
+          (subst (λ ws. is_own_link ws (word_of q.dict a) (word_of q.dict b) ≡ true) declared_same own))
+      by (inr pair) = or_right (is_own_link (declared_of k) (word_of k.dict a) (word_of k.dict b)) (has_pair k.axioms a b) pair
 
-      by : (is_head_by (word_of q.dict a) (word_of q.dict b) ≡ true) ⊎ (has_pair k.axioms a b ≡ true) → is_linked k a b ≡ true
-      by (inl head) =
-          subst (λ t. (t || has_pair k.axioms a b) ≡ true) (sym (own_link_is k sound.dict a b))
-          (or_left (is_head_by (word_of k.dict a) (word_of k.dict b)) (has_pair k.axioms a b) (heads_before (word_of q.dict a) (word_of q.dict b) refl refl head))
-      by (inr pair) = or_right _ (has_pair k.axioms a b) pair
-
-  pub closed_still : AreSound k → AreSound rest → AreClosed k → AreClosed rest
-  closed_still sound after closed at a b h linked = closed at a b h (link_before sound after a b linked)
+  pub closed_still : AreClosed k → AreClosed rest
+  closed_still closed at a b h linked = closed at a b h (link_before a b linked)

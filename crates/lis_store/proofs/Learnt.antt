@@ -1,5 +1,5 @@
 -- What is kept once words are learnt.
-use Rattle.std.proofs.Common.{◌≡◌, ◌⊎◌, refl, sym, ap, ap₂, ◌∙◌, subst, inl, inr, ℕ, ◌||◌, Bool, true, List, Option, Some, None, is_some, IsSome}
+use Rattle.std.proofs.Common.{◌≡◌, ◌⊎◌, refl, sym, ap, ap₂, ◌∙◌, subst, inl, inr, ℕ, ◌||◌, Bool, true, List, [], Option, Some, None, is_some, IsSome}
 use Rattle.std.specs.List.{list_any, Contains}
 use Rattle.std.proofs.lemmas.Bool.{and_parts, or_cases, or_left, or_right}
 use Rattle.lis_graph.proofs.Members.{Among, among_from_contains, among_from_any, any_from_among}
@@ -14,17 +14,17 @@ use Rattle.lis_words.specs.Words.{same_word, is_valued, head_bytes}
 use Rattle.lis_model.specs.State.{State, description}
 use Rattle.lis_laws.proofs.Members.{same_word_decides, among_with_words}
 use Rattle.lis_kept.specs.Kept.{Kept}
-use Rattle.lis_kept.specs.Links.{is_linked, has_pair}
+use Rattle.lis_kept.specs.Links.{is_linked, is_own_link, has_pair}
 use Rattle.lis_kept.specs.Sound.{AreSound, FreeSlotsAreEmpty}
-use Rattle.lis_kept.specs.Telling.{words_told, file_told, state_of, is_left_of, is_left_head_of, is_head_by, is_had, is_named_left, is_used}
+use Rattle.lis_kept.specs.Telling.{declared_of, words_told, file_told, state_of, is_left_of, is_left_head_of, is_head_by, is_had, is_named_left, is_used}
 use Rattle.lis_kept.proofs.Filing.{number_from_among, filed_rec}
 use Rattle.lis_kept.proofs.Formed.{some_word, named_all}
 use Rattle.lis_kept.proofs.Known.{some_number, one_number, word_known, known_word}
-use Rattle.lis_kept.proofs.OwnLinks.{own_link_is}
 use Rattle.lis_store.specs.Stored.{AreClosed}
 use Rattle.lis_store.specs.Adding.{LearnsAll}
 use Rattle.lis_store.proofs.Removed.{same_map}
 use Rattle.lis_store.proofs.Told.{words_same}
+use Rattle.lis_store.proofs.OwnStay.{own_back}
 
 module _ (p q : Kept) (more : List (List ℕ)) (learns : LearnsAll more p q) (sound : AreSound p) where
   abbrev made : Kept
@@ -95,33 +95,19 @@ module _ (p q : Kept) (more : List (List ℕ)) (learns : LearnsAll more p q) (so
         by (inr m) = inr m
 
     -- ---- links
+    declared_same : declared_of q ≡ declared_of p
+    declared_same = ap (λ (s : State). s.declared) (learns.state (λ n. []))
+
     link_before : (a b : ℕ) → IsSome (word_of p.dict a) → is_linked q a b ≡ true → is_linked p a b ≡ true
-    link_before a b some linked = by (or_cases (is_head_by (word_of q.dict a) (word_of q.dict b)) (has_pair p.axioms a b) in_made)
+    link_before a b some linked = by (or_cases (is_own_link (declared_of q) (word_of q.dict a) (word_of q.dict b)) (has_pair q.axioms a b) linked)
       where
-        in_made : (is_head_by (word_of q.dict a) (word_of q.dict b) || has_pair p.axioms a b) ≡ true
-        in_made =
-            ap₂ (λ (t : Bool) (xs : List AxiomSlot). t || has_pair xs a b) (sym (own_link_is q after.dict a b)) (ap (λ (k : Kept). k.axioms) (sym learns.parts)) ∙ linked
-
-        head_before : (w v : List ℕ) → word_of p.dict a ≡ Some w → word_of q.dict b ≡ Some v → is_head_by (Some w) (Some v) ≡ true → is_head_by (word_of p.dict a) (word_of p.dict b) ≡ true
-        head_before w v is_w is_v head =
-            let both = and_parts (is_valued w) (same_word (head_bytes w) v) head in
-            let same = (same_word_decides (head_bytes w) v).0 both.1 in
-            let number = some_number (number_of p.dict (head_bytes w)) (sound.heads a w is_w both.0) in
-            let was : word_of p.dict number.0 ≡ Some v = word_from_number p.dict sound.dict (head_bytes w) number.0 number.1 ∙ ap Some same in
-            let here = one_number q after number.0 b v (learns.keeps number.0 v was) is_v in
-            ap₂ is_head_by is_w (subst (λ k. word_of p.dict k ≡ Some v) here was) ∙ head
-
-        heads_before : (x y : Option (List ℕ)) → word_of p.dict a ≡ x → word_of q.dict b ≡ y → is_head_by x y ≡ true → is_head_by (word_of p.dict a) (word_of p.dict b) ≡ true
-        heads_before None y is_x is_y h = absurd cc
-        heads_before (Some w) None is_x is_y h = absurd cc
-        heads_before (Some w) (Some v) is_x is_y h = head_before w v is_x is_y h
-
-        by : (is_head_by (word_of q.dict a) (word_of q.dict b) ≡ true) ⊎ (has_pair p.axioms a b ≡ true) → is_linked p a b ≡ true
-        by (inl head) =
-            subst (λ t. (t || has_pair p.axioms a b) ≡ true) (sym (own_link_is p sound.dict a b))
-            (or_left (is_head_by (word_of p.dict a) (word_of p.dict b)) (has_pair p.axioms a b)
-            (heads_before (word_of p.dict a) (word_of q.dict b) refl refl (subst (λ o. is_head_by o (word_of q.dict b) ≡ true) (word_stays a some) head)))
-        by (inr pair) = or_right _ (has_pair p.axioms a b) pair
+        by : (is_own_link (declared_of q) (word_of q.dict a) (word_of q.dict b) ≡ true) ⊎ (has_pair q.axioms a b ≡ true) → is_linked p a b ≡ true
+        by (inl own) =
+            or_left (is_own_link (declared_of p) (word_of p.dict a) (word_of p.dict b)) (has_pair p.axioms a b)
+            (own_back p sound q.dict after.dict learns.keeps a b some (subst (λ ws. is_own_link ws (word_of q.dict a) (word_of q.dict b) ≡ true) declared_same own))
+        by (inr pair) =
+            or_right (is_own_link (declared_of p) (word_of p.dict a) (word_of p.dict b)) (has_pair p.axioms a b)
+            (ap (λ (k : Kept). has_pair k.axioms a b) (sym learns.parts) ∙ pair)
 
     pub closed_learnt : FreeSlotsAreEmpty p → AreClosed p → AreClosed q
     closed_learnt free closed slot a b h linked =

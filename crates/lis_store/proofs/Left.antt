@@ -44,7 +44,7 @@ module _ (p v : Kept) (slot : ℕ) (rec : FileRecord) (form : AreInForm p) (out 
   sound_left = subst (λ (k : Kept). AreSound k) left_is out.form
 
   pub closed_left : AreClosed left
-  closed_left = closed_still slot (numbers_at p.ext slot) d v went sound_d sound_left form.closed
+  closed_left = closed_still slot (numbers_at p.ext slot) d v went form.closed
 
   -- ---- words
   -- a word that is still known was known, with this number, and is in use without the slot

@@ -14,6 +14,7 @@ pub mod Saved
 pub mod Judged
 pub mod Cleaned
 pub mod Told
+pub mod OwnStay
 pub mod Declared
 pub mod Undeclared
 pub mod Here

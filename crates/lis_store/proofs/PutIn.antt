@@ -120,8 +120,8 @@ module _ (p : Kept) (sound : AreSound p) (name : List ℕ) (assigned : List (Lis
   tests k = met_tests (declared_of k) (length bytes)
 
   -- its words and their heads are words of its description
-  pub learnt_described : (word : List ℕ) → Among (with_heads (learnt_words file)) word → Among (described_by p file) word
-  learnt_described word m =
+  pub heads_described : (word : List ℕ) → Among (with_heads (learnt_words file)) word → Among (described_by p file) word
+  heads_described word m =
       head_entailed (declared_of p) (axioms_of p) (own_words (declared_of p) file) word
       (subst (λ ws. Among ws word) (sym (flat_map-append behind_head (learnt_words file) (tests p))) (among_left (with_heads (learnt_words file)) (with_heads (tests p)) word m))
 
@@ -139,7 +139,7 @@ module _ (p : Kept) (sound : AreSound p) (name : List ℕ) (assigned : List (Lis
     where
       by : (word : List ℕ) → Among (words p.dict) word ⊎ Among (with_heads (learnt_words file)) word → Among (known_with p file) word
       by word (inl m) = with_words_old (words p.dict) (described_by p file) word m
-      by word (inr m) = with_words_new (words p.dict) (described_by p file) word (learnt_described word m)
+      by word (inr m) = with_words_new (words p.dict) (described_by p file) word (heads_described word m)
 
   heads_split : with_heads (learnt_words file) ≡ with_heads assigned ++ with_heads (derived_words name bytes)
   heads_split = flat_map-append behind_head assigned (derived_words name bytes)

@@ -32,14 +32,13 @@ use Rattle.lis_laws.proofs.Counts.{all_from}
 use Rattle.lis_laws.proofs.Forms as forms
 use Rattle.lis_kept.specs.Kept.{Kept}
 use Rattle.lis_kept.specs.Areas.{IsSaved, marked_count}
-use Rattle.lis_kept.specs.Links.{is_linked, has_pair}
+use Rattle.lis_kept.specs.Links.{is_linked, is_own_link, has_pair}
 use Rattle.lis_kept.specs.Sound.{AreSound, FreeSlotsAreEmpty, BlocksAreTaken}
 use Rattle.lis_kept.specs.Forgetting.{KeepsInUse}
-use Rattle.lis_kept.specs.Telling.{words_told, file_told, state_of, is_head_by, is_had, is_named_left, is_used, AreUsed, IsFileBlock, Tells}
+use Rattle.lis_kept.specs.Telling.{declared_of, words_told, file_told, state_of, is_had, is_named_left, is_used, AreUsed, IsFileBlock, Tells}
 use Rattle.lis_kept.proofs.Filing.{number_from_among, filed_rec, filed_at_slot}
 use Rattle.lis_kept.proofs.Dropped.{file_slot_below}
 use Rattle.lis_kept.proofs.Formed.{each_below}
-use Rattle.lis_kept.proofs.OwnLinks.{own_link_is}
 use Rattle.lis_store.specs.declared.change.Change.{Change}
 use Rattle.lis_store.specs.declared.change.Change.TheVariants.{Refused}
 use Rattle.lis_store.specs.Stored.{Stored, AreClosed, DescriptionsAreShort, BlocksAreApart, IsSound, StoreFits}
@@ -52,6 +51,7 @@ use Rattle.lis_store.proofs.Facts.{filed_named, table_told}
 use Rattle.lis_store.proofs.Judged.{change_refused}
 use Rattle.lis_store.proofs.Cleaned.{clean_is, sound_clean, in_use_clean, none_marked}
 use Rattle.lis_store.proofs.Told.{words_same}
+use Rattle.lis_store.proofs.OwnStay.{own_before}
 use Rattle.lis_store.proofs.Given.{given_taken}
 
 -- a set that has a number is one of the sets
@@ -194,19 +194,20 @@ module _ (slot : ℕ) (p q : Kept) (out : TakesOut slot p q) (sound : AreSound p
       by (inr differ) e = (differ, sym (ap (λ b. if b then None else rec_at p.catalog at) (ne_eqb at slot differ)) ∙ e)
 
   -- ---- the store is in form again
-  link_back : AreSound end → (a b : ℕ) → is_linked end a b ≡ true → is_linked p a b ≡ true
-  link_back after a b linked = by (or_cases _ (has_pair p.axioms a b) (subst (λ t. (t || has_pair p.axioms a b) ≡ true) (own_link_is end after.dict a b) linked))
-    where
-      heads_back : (x y : Option (List ℕ)) → word_of q.dict a ≡ x → word_of q.dict b ≡ y → is_head_by x y ≡ true → is_head_by (word_of p.dict a) (word_of p.dict b) ≡ true
-      heads_back None y is_x is_y h = absurd cc
-      heads_back (Some w) None is_x is_y h = absurd cc
-      heads_back (Some w) (Some v) is_x is_y h = ap₂ is_head_by (word_before a w is_x) (word_before b v is_y) ∙ h
+  declared_same : declared_of end ≡ declared_of p
+  declared_same =
+      ap declared_of (sym end_is)
+      ∙ ap (λ (s : State). s.declared) (out.forgets.state (λ n. []) ∙ ap (λ (k : Kept). state_of k (λ n. [])) mid_is)
 
-      by : (is_head_by (word_of q.dict a) (word_of q.dict b) ≡ true) ⊎ (has_pair p.axioms a b ≡ true) → is_linked p a b ≡ true
-      by (inl head) =
-          subst (λ t. (t || has_pair p.axioms a b) ≡ true) (sym (own_link_is p sound.dict a b))
-          (or_left (is_head_by (word_of p.dict a) (word_of p.dict b)) (has_pair p.axioms a b) (heads_back (word_of q.dict a) (word_of q.dict b) refl refl head))
-      by (inr pair) = or_right _ (has_pair p.axioms a b) pair
+  link_back : (a b : ℕ) → is_linked end a b ≡ true → is_linked p a b ≡ true
+  link_back a b linked = by (or_cases (is_own_link (declared_of end) (word_of q.dict a) (word_of q.dict b)) (has_pair p.axioms a b) linked)
+    where
+      by : (is_own_link (declared_of end) (word_of q.dict a) (word_of q.dict b) ≡ true) ⊎ (has_pair p.axioms a b ≡ true) → is_linked p a b ≡ true
+      by (inl own) =
+          or_left (is_own_link (declared_of p) (word_of p.dict a) (word_of p.dict b)) (has_pair p.axioms a b)
+          (own_before (declared_of p) (word_of q.dict a) (word_of q.dict b) (word_of p.dict a) (word_of p.dict b) (word_before a) (word_before b)
+          (subst (λ ws. is_own_link ws (word_of q.dict a) (word_of q.dict b) ≡ true) declared_same own))
+      by (inr pair) = or_right (is_own_link (declared_of p) (word_of p.dict a) (word_of p.dict b)) (has_pair p.axioms a b) pair
 
   module _ (j : Held) (b : Bool) (whole : b ≡ false) (was : IsSound (record { parts = p; journal = j; is_broken = b })) (after : AreSound q) where
     sound_end : AreSound end
@@ -222,7 +223,7 @@ module _ (slot : ℕ) (p q : Kept) (out : TakesOut slot p q) (sound : AreSound p
             ∙ was.free at (sym (rec_at-without_slot p.catalog slot at ∙ ap (λ c. if c then None else rec_at p.catalog at) (ne_eqb at slot differ)) ∙ none) n
 
     closed_then : AreClosed end
-    closed_then at a c h linked = let before = had_before a at h in had_stays c at before.0 (was.closed at a c before.1 (link_back sound_end a c linked))
+    closed_then at a c h linked = let before = had_before a at h in had_stays c at before.0 (was.closed at a c before.1 (link_back a c linked))
 
     short_then : DescriptionsAreShort end
     short_then at = by (cases_eq at slot)

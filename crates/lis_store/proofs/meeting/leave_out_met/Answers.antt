@@ -17,7 +17,7 @@ pub unreachable-requires : goal.unreachable-requires
 unreachable-requires c =
     let k = c.args.parts.now in
     let past = past_end k.dict.entries c.loop-k.k (sym c.word_at.ensures ∙ c.in_default.is) in
-    omega (arith, past, c.loop-k-test.true, c.word_count.ensures)
+    omega (arith, past, c.loop-k-test.true, c.word_count-k-end.ensures)
 
 pub and_not_row-requires-clause-row : goal.and_not_row-requires-clause-row
 and_not_row-requires-clause-row c =
@@ -57,6 +57,6 @@ loop-k-preserved c =
 pub returns-clause-bits : goal.returns-clause-bits
 returns-clause-bits c =
     let k = c.args.parts.now in
-    let all = met_all k c.args.size c.loop-k.k (omega (arith, c.loop-k-test.false, c.word_count.ensures)) in
+    let all = met_all k c.args.size c.loop-k.k (omega (arith, c.loop-k-test.false, c.word_count-k-end.ensures)) in
     let Q : List (List ℕ) → Type 0 = λ ws. LeavesOut k ws c.args.row.now c.loop-k.row in
     (subst Q all c.loop-k.invariant).bits
