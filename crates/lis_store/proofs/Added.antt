@@ -19,7 +19,8 @@ use Rattle.lis_fields.specs.declared.slots.AxiomSlot.{AxiomSlot}
 use Rattle.lis_fields.specs.declared.slots.AxiomSlot.TheVariants.{Free as FreeAxiom, Pair}
 use Rattle.lis_model.specs.Derived.{derived_words}
 use Rattle.lis_model.specs.State.{File, all_up, own_words, file_words}
-use Rattle.lis_model.specs.Tests.{met_tests}
+use Rattle.lis_words.specs.Words.{is_test, test_of}
+use Rattle.lis_model.specs.Tests.{is_met, met_tests}
 use Rattle.lis_model.specs.Changes.{new_file}
 use Rattle.lis_laws.proofs.Chains.{up_trans, up_from_entails}
 use Rattle.lis_laws.proofs.Closures.{entailing, entailed_in}
@@ -33,7 +34,7 @@ use Rattle.lis_kept.specs.Telling.{declared_of, axioms_of, is_left_of, is_left_h
 use Rattle.lis_kept.proofs.Filing.{among_from_number}
 use Rattle.lis_kept.proofs.Formed.{some_word, named_all}
 use Rattle.lis_kept.proofs.Known.{some_number, one_number, word_known, known_word}
-use Rattle.lis_store.specs.Stored.{AreClosed, DescriptionsAreShort, BlocksAreApart, IsSound}
+use Rattle.lis_store.specs.Stored.{AreClosed, DescriptionsAreShort, BlocksAreApart, TestsAreMet, IsSound}
 use Rattle.lis_store.specs.Saving.{settled}
 use Rattle.lis_store.specs.Admitting.{described_by, IsAdmitted}
 use Rattle.lis_store.specs.ReplacingIn.{MayComeIn}
@@ -44,6 +45,7 @@ use Rattle.lis_store.proofs.Entailment.{link_named, up_has_number}
 use Rattle.lis_store.proofs.Naming.{one_of, of_one, named_has, named_few}
 use Rattle.lis_store.proofs.PutIn.{may_come, heads_described, entailed_is, declared_same, own_numbered, behind_itself}
 use Rattle.lis_store.proofs.MetTests.{met_numbered}
+use Rattle.lis_store.proofs.FileTests.{test_flagged, test_described, flagged_before}
 use Rattle.lis_store.proofs.OwnStay.{own_back}
 use Rattle.lis_store.proofs.Removed.{had_there}
 
@@ -223,6 +225,24 @@ module _ (p q : Kept) (name : List ℕ) (assigned : List (List ℕ)) (bytes : Li
             ap (has end.ext n) same ∙ tags_described n (subst (λ (x : FileRecord). has_number x.tags n ≡ true) (sym this) tag)
         by (inr differ) = has_other n at differ ∙ tags at r (sym (rec_other at differ) ∙ is) n tag
 
+    -- each file has the tests that its size meets: no new word is a test
+    pub tests_then : rec.size ≡ length bytes
+        → ((at n : ℕ) (r : FileRecord) (word : List ℕ) → (at ≡ slot → ⊥) → rec_at p.catalog at ≡ Some r → word_of p.dict n ≡ Some word → is_test word ≡ true → has p.ext n at ≡ is_met (test_of word) r.size)
+        → TestsAreMet end
+    tests_then sized others at n r word there is test = by (cases_eq at slot)
+      where
+        was : word_of p.dict n ≡ Some word
+        was = flagged_before p sound dict comes.learns.keeps n word (test_flagged end sound_end n word is test) is
+
+        by : (at ≡ slot) ⊎ (at ≡ slot → ⊥) → has end.ext n at ≡ is_met (test_of word) r.size
+        by (inl same) =
+            let this : rec ≡ r = same_Some rec r (sym rec_here ∙ (ap (rec_at end.catalog) (sym same) ∙ there)) in
+            ap (has end.ext n) same
+            ∙ (has_here n
+            ∙ (ap (is_one_of described) is
+            ∙ (test_described p sound file may.assignable n word was test ∙ ap (is_met (test_of word)) (sym sized ∙ ap (λ (x : FileRecord). x.size) this))))
+        by (inr differ) = has_other n at differ ∙ others at n r word differ (sym (rec_other at differ) ∙ there) was test
+
     in_use_then : FreeSlotsAreEmpty p → KeepsInUse p → KeepsInUse end
     in_use_then free keeps = record { used = used_then free keeps.used; tags = tags_then keeps.tags; rights = keeps.rights }
 
@@ -364,6 +384,7 @@ module _ (p q : Kept) (old new : Held) (name : List ℕ) (assigned : List (List 
     taken = taken_then p q name assigned bytes sound (may_come p (new_file name assigned bytes) admitted) comes was.taken;
     apart = apart_then p q name assigned bytes sound (may_come p (new_file name assigned bytes) admitted) comes was.taken was.apart;
     in_use = in_use_clean k (in_use_then p q name assigned bytes sound (may_come p (new_file name assigned bytes) admitted) comes after was.free was.in_use);
+    tests = tests_then p q name assigned bytes sound (may_come p (new_file name assigned bytes) admitted) comes after puts.adds.sized (λ at n r word differ. was.tests at n r word);
     image = puts.adds.image ∙ was.image;
     journal = λ _. puts.adds.broken ∙ was.journal whole;
     staged = λ _. refl;

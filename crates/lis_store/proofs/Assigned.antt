@@ -337,3 +337,6 @@ plain_assignable k word plain =
 pub valued_assignable : (k : Kept) (word : List ℕ) → is_plain_word word ≡ false → is_valued word ≡ true → is_declared k (head_bytes word) ≡ is_assignable (declared_of k) word
 valued_assignable k word plain valued =
     sym (ap₂ (λ p v. (p && has_word (declared_of k) word) || (v && has_word (declared_of k) (head_bytes word))) plain valued ∙ has_declared k (head_bytes word))
+
+pub not_assignable : (k : Kept) (word : List ℕ) → is_plain_word word ≡ false → is_valued word ≡ false → false ≡ is_assignable (declared_of k) word
+not_assignable k word plain bare = sym (ap₂ (λ p v. (p && has_word (declared_of k) word) || (v && has_word (declared_of k) (head_bytes word))) plain bare)

@@ -21,7 +21,6 @@ use Rattle.lis_store.specs.Replacing.{words_without, known_instead, MayReplace}
 use Rattle.lis_store.specs.ReplacingIn.{AreInForm, MayComeIn, Vacates}
 use Rattle.lis_store.proofs.Forgot.{rest, word_before, used_word_stays, known_used, closed_still}
 use Rattle.lis_store.proofs.InsteadKnown.{sorted_without, word_without}
-use Rattle.lis_store.proofs.PutIn.{learnable_from}
 use Rattle.lis_store.proofs.Vacated.{vacated, name_vacant, used_or_here, used_elsewhere}
 
 module _ (p v : Kept) (slot : ℕ) (rec : FileRecord) (form : AreInForm p) (out : Vacates slot rec p v) where
@@ -98,9 +97,7 @@ module _ (p v : Kept) (slot : ℕ) (rec : FileRecord) (form : AreInForm p) (out 
     pub coming : MayComeIn left file
     coming = record {
       new = name_vacant p slot rec form out.drops.there file may;
-      learnable =
-          learnable_from left file.assigned
-          (subst (λ (ds : List (List ℕ)). list_all (is_assignable ds) file.assigned ≡ true) (sym declared_left) may.assignable);
+      assignable = subst (λ (ds : List (List ℕ)). list_all (is_assignable ds) file.assigned ≡ true) (sym declared_left) may.assignable;
       few = may.few;
       short = omega (arith, ap length described_is, may.short);
       room = room_then;

@@ -9,6 +9,7 @@ pub mod Empty
 pub mod EmptyStore
 pub mod Facts
 pub mod Entailment
+pub mod FileTests
 pub mod Viewing
 pub mod Saved
 pub mod Judged

@@ -105,7 +105,7 @@ behind_itself own word m = flat_map_among behind_head own word word m (by (is_va
 pub may_come : (p : Kept) (file : File) → IsAdmitted p file → MayComeIn p file
 may_come p file admitted = record {
   new = admitted.new;
-  learnable = learnable_from p file.assigned admitted.assignable;
+  assignable = admitted.assignable;
   few = admitted.few;
   short = admitted.short;
   room = admitted.room;
@@ -126,7 +126,7 @@ module _ (p : Kept) (sound : AreSound p) (name : List ℕ) (assigned : List (Lis
       (subst (λ ws. Among ws word) (sym (flat_map-append behind_head (learnt_words file) (tests p))) (among_left (with_heads (learnt_words file)) (with_heads (tests p)) word m))
 
   pub assigned_may : list_all (may_learn p) assigned ≡ true
-  assigned_may = may.learnable
+  assigned_may = learnable_from p assigned may.assignable
 
   -- the words and their heads are words of the description
   words_fit : HasWordRoom p (with_heads (learnt_words file))

@@ -40,7 +40,7 @@ use Rattle.lis_kept.proofs.Formed.{some_word, named_below, named_all}
 use Rattle.lis_kept.proofs.Known.{some_number, one_number}
 use Rattle.lis_kept.proofs.Numbered.{Numbers}
 use Rattle.lis_kept.proofs.OwnLinks.{among_slot}
-use Rattle.lis_store.specs.Stored.{PairsAreApart, AreClosed, DescriptionsAreShort, IsSound}
+use Rattle.lis_store.specs.Stored.{PairsAreApart, AreClosed, DescriptionsAreShort, TestsAreMet, IsSound}
 use Rattle.lis_store.specs.Saving.{settled, IsReady}
 use Rattle.lis_store.specs.Adding.{is_one_of, behind_head}
 use Rattle.lis_store.specs.Relating.{entails_number, widened_numbers, MayRelate}
@@ -52,6 +52,7 @@ use Rattle.lis_store.proofs.Entailment.{up_has_number}
 use Rattle.lis_store.proofs.Learnt.{used_learnt, file_learnt, described_learnt, word_before, closed_learnt}
 use Rattle.lis_store.proofs.Naming.{one_of, of_one}
 use Rattle.lis_store.proofs.Numbers.{numbers_same}
+use Rattle.lis_store.proofs.FileTests.{plain_leads, test_flagged, flagged_before, tests_stay}
 use Rattle.lis_store.proofs.RelatingIn.{declared_same, axioms_same, left_named, right_named, new_pair}
 
 -- no more words are told than there are numbers
@@ -254,6 +255,20 @@ module _ (p q : Kept) (left right : List ℕ) (relates : RelatesIn left right p 
       by slot x y (inl new) = subst (λ n. is_taken p.declared n ≡ true) (same_sides new.1).1 right_declared
       by slot x y (inr old) = keeps.rights slot x y old.1
 
+  -- what a plain word entails is no test
+  tests_then : AreSound end → TestsAreMet p → TestsAreMet end
+  tests_then after = tests_stay p end refl (λ n slot rec w there is test.
+      let was = flagged_before p sound learnt.dict relates.learns.keeps n w (test_flagged end after n w is test) is in
+      let none = false_from_ne_true (ups n) (λ on.
+      let found = one_of entailed_words (word_of p.dict n) (sym (ups_are n (named_below p sound n (ap is_some was))) ∙ on) in
+      both_ways (is_test w) (ap is_test (same_Some w found.0 (sym was ∙ found.1)) ∙ plain_leads p sound right found.0 may.plain found.2) test) in
+      (was, rows n slot (named_below p sound n (ap is_some was)) ∙ (ap (λ b. has p.ext n slot || (has p.ext from slot && b)) none ∙ left_alone (has p.ext n slot) (has p.ext from slot))))
+    where
+      left_alone : (a b : Bool) → (a || (b && false)) ≡ a
+      left_alone true b = refl
+      left_alone false true = refl
+      left_alone false false = refl
+
   -- ---- the store is in form again
   module _ (after : AreSound q) where
     pub sound_end : AreSound end
@@ -281,6 +296,7 @@ module _ (p q : Kept) (left right : List ℕ) (relates : RelatesIn left right p 
       taken = was.taken;
       apart = was.apart;
       in_use = in_use_clean end (in_use_then was.in_use);
+      tests = tests_then sound_end was.tests;
       image = was.image;
       journal = λ _. was.journal whole;
       staged = λ _. refl;

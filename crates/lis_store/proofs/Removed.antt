@@ -249,6 +249,11 @@ module _ (slot : ℕ) (p q : Kept) (out : TakesOut slot p q) (sound : AreSound p
       rights = was.in_use.rights;
     }
 
+    tests_then : TestsAreMet end
+    tests_then at n r w is word test =
+        let before = rec_before at r is in
+        ap (λ ns. has_number ns n) (set_other at before.0) ∙ was.tests at n r w before.1 (word_before n w word) test
+
     pub sound_removed : IsSound (settled q j)
     sound_removed = subst (λ (k : Kept). IsSound (settled k j)) (sym end_is) (record {
       parts = sound_clean end sound_end;
@@ -260,6 +265,7 @@ module _ (slot : ℕ) (p q : Kept) (out : TakesOut slot p q) (sound : AreSound p
       taken = taken_then;
       apart = apart_then;
       in_use = in_use_clean end in_use_then;
+      tests = tests_then;
       image = was.image;
       journal = λ _. was.journal whole;
       staged = λ _. refl;

@@ -53,7 +53,7 @@ module _ (old : Stored) (q : Kept) (j : Held) (slot : ℕ) (name : List ℕ) (as
 
   pub overwritten_sound : AreSound q → IsSound (settled q j)
   overwritten_sound after =
-      sound_replaced p q slot name assigned bytes (in_form old sound) overwritten after j sound.range sound.pairs
+      sound_replaced p q slot name assigned bytes (in_form old sound) overwritten after over.adds.sized j sound.range sound.pairs
       (over.adds.image ∙ sound.image) (over.adds.broken ∙ sound.journal unbroken) (over.adds.placed ∙ sound.placed unbroken)
 
   pub overwritten_marks : length j.staged + marked_count q ≤ 531
@@ -112,9 +112,9 @@ module _ (old : Stored) (q : Kept) (slot : ℕ) (name : List ℕ) (assigned : Li
     tagged = refl;
   }
 
-  pub refiled_sound : AreSound q → IsSound (settled q old.journal)
-  refiled_sound after =
-      sound_replaced parts q slot name assigned bytes (in_form old sound) refiled after old.journal sound.range sound.pairs sound.image (sound.journal unbroken) (sound.placed unbroken)
+  pub refiled_sound : ((rec : FileRecord) → rec_at parts.catalog slot ≡ Some rec → length bytes ≡ rec.size) → AreSound q → IsSound (settled q old.journal)
+  refiled_sound size after =
+      sound_replaced parts q slot name assigned bytes (in_form old sound) refiled after (sym (size again.rec again.way.vacates.drops.there)) old.journal sound.range sound.pairs sound.image (sound.journal unbroken) (sound.placed unbroken)
 
   pub refiled_marks : length old.journal.staged + marked_count q ≤ 531
   refiled_marks =

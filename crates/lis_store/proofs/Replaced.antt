@@ -28,7 +28,7 @@ use Rattle.lis_store.proofs.HeadsUsed.{IsUsedFor, used_flagged, used_left, used_
 use Rattle.lis_store.proofs.HeadsUsed.IsUsedFor.{Flagged, HadAt, NamedLeft}
 use Rattle.lis_store.proofs.Left as gone
 use Rattle.lis_store.proofs.Naming.{of_one}
-use Rattle.lis_store.proofs.Vacated.{free_others, tags_others, taken_others, apart_others}
+use Rattle.lis_store.proofs.Vacated.{free_others, tags_others, tests_others, taken_others, apart_others}
 
 -- ---- stores in form
 pub in_form : (k : Stored) → IsSound k → AreInForm k.parts
@@ -40,6 +40,7 @@ in_form k sound = record {
   taken = sound.taken;
   apart = sound.apart;
   in_use = sound.in_use;
+  tests = sound.tests;
 }
 
 pub settled_sound : (q : Kept) (j : Held) → AreInForm q → IsTrue (is_super q.limits) → PairsAreApart q → j.blocks ≡ image_blocks q.limits → j.is_broken ≡ false → j.placed ≡ [] → IsSound (settled q j)
@@ -53,6 +54,7 @@ settled_sound q j form range pairs image unbroken unplaced = record {
   taken = form.taken;
   apart = form.apart;
   in_use = in_use_clean q form.in_use;
+  tests = form.tests;
   image = image;
   journal = λ _. unbroken;
   staged = λ _. refl;
@@ -123,10 +125,13 @@ module _ (p q : Kept) (slot : ℕ) (name : List ℕ) (assigned : List (List ℕ)
             used_had left q name assigned bytes sound_left coming comes after n slot
             (has_here left q name assigned bytes sound_left coming comes after n ∙ of_one (described_by left file) (word_of last.dict n) word is m)
 
-    pub form_last : AreInForm last
-    form_last = record {
+    pub free_last : FreeSlotsAreEmpty last
+    free_last = free_then left q name assigned bytes sound_left coming comes after (free_others p slot r.rec form r.may.there)
+
+    form_last : r.filed.size ≡ length bytes → AreInForm last
+    form_last sized = record {
       sound = sound_last;
-      free = free_then left q name assigned bytes sound_left coming comes after (free_others p slot r.rec form r.may.there);
+      free = free_last;
       closed = closed_then left q name assigned bytes sound_left coming comes after
           (λ n at differ h. ap is_some (gone.word_is_still p r.way.vacated slot r.rec form r.way.vacates n at differ h) ∙ named_all p form.sound form.free n at h)
           (λ at a b differ. gone.closed_left p r.way.vacated slot r.rec form r.way.vacates at a b);
@@ -138,8 +143,10 @@ module _ (p q : Kept) (slot : ℕ) (name : List ℕ) (assigned : List (List ℕ)
         tags = tags_then left q name assigned bytes sound_left coming comes after (tags_others p slot r.rec form r.may.there);
         rights = form.in_use.rights;
       };
+      tests = tests_then left q name assigned bytes sound_left coming comes after sized (λ at n x w differ is word test.
+          tests_others p slot r.rec form r.may.there at n x w is (gone.word_was p r.way.vacated slot r.rec form r.way.vacates n w word) test);
     }
 
-    pub sound_replaced : (j : Held) → IsTrue (is_super p.limits) → PairsAreApart p → j.blocks ≡ image_blocks p.limits → j.is_broken ≡ false → j.placed ≡ [] → IsSound (settled q j)
-    sound_replaced j range pairs image unbroken unplaced =
-        subst (λ (x : Kept). IsSound (settled x j)) (sym last_is) (settled_sound last j form_last range pairs image unbroken unplaced)
+    pub sound_replaced : r.filed.size ≡ length bytes → (j : Held) → IsTrue (is_super p.limits) → PairsAreApart p → j.blocks ≡ image_blocks p.limits → j.is_broken ≡ false → j.placed ≡ [] → IsSound (settled q j)
+    sound_replaced sized j range pairs image unbroken unplaced =
+        subst (λ (x : Kept). IsSound (settled x j)) (sym last_is) (settled_sound last j (form_last sized) range pairs image unbroken unplaced)

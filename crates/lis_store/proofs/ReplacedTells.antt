@@ -38,7 +38,7 @@ use Rattle.lis_store.proofs.Marks.{taken_after}
 use Rattle.lis_store.proofs.Naming.{named_told}
 use Rattle.lis_store.proofs.PutIn.{own_numbered}
 use Rattle.lis_store.proofs.Left.{described_is, word_is_still}
-use Rattle.lis_store.proofs.Replaced.{Replaced, left, sound_left, coming, comes, last, last_is, sound_last, used_last, form_last}
+use Rattle.lis_store.proofs.Replaced.{Replaced, left, sound_left, coming, comes, last, last_is, sound_last, used_last, free_last}
 use Rattle.lis_store.proofs.ReplacedMarks.{was}
 use Rattle.lis_store.proofs.Told.{words_same}
 use Rattle.lis_store.proofs.Vacated.{name_vacant}
@@ -282,7 +282,7 @@ module _ (p q : Kept) (slot : ℕ) (name : List ℕ) (assigned : List (List ℕ)
     known_then : length (known t) ≤ s.limits.props
     known_then =
         let D : State → Type 0 = λ x. (f : Filed) → Contains l.catalog.entries f → words_told l.dict (numbers_at l.ext f.slot) ≡ description x (told_then f) in
-        let words_are = words_known l sound (form_last p q slot name assigned bytes form r after).free there (used_last p q slot name assigned bytes form r after)
+        let words_are = words_known l sound (free_last p q slot name assigned bytes form r after) there (used_last p q slot name assigned bytes form r after)
         (subst D (sym state_then) described_then) in
         omega (
           arith,

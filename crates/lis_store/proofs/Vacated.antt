@@ -78,6 +78,9 @@ module _ (p : Kept) (slot : ℕ) (rec : FileRecord) (form : AreInForm p) (there 
   pub tags_others : (at : ℕ) (r : FileRecord) → rec_at d.catalog at ≡ Some r → (n : ℕ) → has_number r.tags n ≡ true → has p.ext n at ≡ true
   tags_others at r is = form.in_use.tags at r (rec_before at r is).1
 
+  pub tests_others : (at n : ℕ) (r : FileRecord) (w : List ℕ) → rec_at d.catalog at ≡ Some r → word_of p.dict n ≡ Some w → is_test w ≡ true → has p.ext n at ≡ is_met (test_of w) r.size
+  tests_others at n r w is = form.tests at n r w (rec_before at r is).1
+
   pub taken_others : BlocksAreTaken d
   taken_others at r is =
       let before = rec_before at r is in
@@ -121,7 +124,7 @@ module _ (p : Kept) (slot : ℕ) (rec : FileRecord) (form : AreInForm p) (there 
       flagged = sound.flagged;
       properties = sound.properties;
       axiom_count = sound.axiom_count;
-      axioms = λ at left right is. let held = sound.axioms at left right is in record { below = held.below; left = held.left; right = held.right };
+      axioms = λ at left right is. let held = sound.axioms at left right is in record { below = held.below; left = held.left; right = held.right; plain = held.plain };
       slots = sound.slots;
       catalog = sound.catalog;
       records = sound.records;

@@ -1,5 +1,5 @@
 -- What memory keeps is a view, and its rows and its taxonomy tell of it.
-use Rattle.std.proofs.Common.{◌≡◌, ℕ, ◌==◌, ◌&&◌, nat_lt, Bool, true, false, List, map, is_some, Option, Some, None, refl, sym, ap, ap₂, ◌∙◌, subst, eq-eqb, arith}
+use Rattle.std.proofs.Common.{◌≡◌, ℕ, ◌==◌, ◌&&◌, nat_lt, nat_le, if◌then◌else◌, Bool, true, false, List, map, is_some, Option, Some, None, refl, sym, ap, ap₂, ◌∙◌, subst, eq-eqb, arith}
 use Rattle.std.specs.List.{list_any, Contains}
 use Rattle.std.proofs.lemmas.Bool.{and_parts, and_from, both_ways, eqb-true, ltb-true}
 use Rattle.std.proofs.lemmas.List.{length-map}
@@ -14,10 +14,10 @@ use Rattle.lis_taxonomy.proofs.Laws.{entails_decides}
 use Rattle.lis_fields.specs.Records.{FileRecord}
 use Rattle.lis_words.specs.Words.{same_word, has_word, test_of}
 use Rattle.lis_model.specs.State.{up}
-use Rattle.lis_model.specs.Tests.{step_by}
+use Rattle.lis_grammar.specs.Formula.Formula.{SizeAtLeast, SizeBelow}
+use Rattle.lis_model.specs.Tests.{is_met, step_by}
 use Rattle.lis_model.specs.Table.{Entry, entails}
 use Rattle.lis_model.specs.Listing.{holds}
-use Rattle.lis_model.proofs.NoTests.{word_not_test}
 use Rattle.lis_laws.proofs.Members.{same_word_decides, among_from_has_word, has_word_from_among}
 use Rattle.lis_laws.proofs.Counts.{all_among}
 use Rattle.lis_eval.specs.View.{Placed, file_in, IsView, TellsFiles, TellsEntailment}
@@ -27,15 +27,18 @@ use Rattle.lis_kept.specs.Telling.{words_told, declared_of, axioms_of}
 use Rattle.lis_kept.specs.Links.{TellsLinks}
 use Rattle.lis_kept.proofs.Filing.{same_tests, filed_rec, filed_slot, filed_at_slot}
 use Rattle.lis_kept.proofs.Known.{among_word, number_told}
-use Rattle.lis_store.specs.Stored.{AreClosed}
+use Rattle.lis_store.specs.Stored.{AreClosed, TestsAreMet}
 use Rattle.lis_store.specs.Seen.{placed, seen_of, table_of}
 use Rattle.lis_store.proofs.Entailment.{leads_from_up, up_from_leads, closed_up}
 use Rattle.lis_store.proofs.Facts.{any_is_found}
 
--- the step of a word that is no test asks for the word
-asks_for : (word : List ℕ) (file : Entry) (test : Option (Bool × ℕ)) → is_some test ≡ false → holds (step_by test word) file ≡ has_word file.words word
-asks_for word file None none = refl
-asks_for word file (Some test) none = absurd cc
+-- the step of a test asks for the size
+size_asked : (word : List ℕ) (test : Bool × ℕ) (file : Entry) → holds (step_by (Some test) word) file ≡ is_met (Some test) file.size
+size_asked word test file = by test.0
+  where
+    by : (at_least : Bool) → holds (if at_least then SizeAtLeast test.1 else SizeBelow test.1) file ≡ (if at_least then nat_le test.1 file.size else nat_lt file.size test.1)
+    by true = refl
+    by false = refl
 
 module _ (k : Kept) (sound : AreSound k) where
   abbrev Numbered : Type 0
@@ -89,8 +92,21 @@ module _ (k : Kept) (sound : AreSound k) where
       let g = filed f there_f in
       subst (λ (x : Placed). has k.ext w.1 x.slot ≡ has_word x.entry.words w.0) g.2 (number_told k sound (numbers_at k.ext (g.0).slot) w.1 w.0 (named w there_w))
 
-  pub is_view : AreClosed k → IsView (seen_of k)
-  is_view closed = record {
+  -- a step that asks for a test finds the files that have it
+  asked : TestsAreMet k → (w : Numbered) (f : Placed) → Contains k.dict.entries w → Contains (map (placed k) k.catalog.entries) f → (test : Option (Bool × ℕ)) → test_of w.0 ≡ test
+      → holds (step_by test w.0) f.entry ≡ has_word f.entry.words w.0
+  asked met w f there_w there_f None e = refl
+  asked met w f there_w there_f (Some test) e =
+      let g = filed f there_f in
+      let here : has k.ext w.1 (g.0).slot ≡ is_met (test_of w.0) (g.0).rec.size =
+      met (g.0).slot w.1 (g.0).rec w.0 (filed_rec k.catalog sound.catalog g.0 g.1) (named w there_w) (ap (λ (o : Option (Bool × ℕ)). is_some o) e) in
+      size_asked w.0 test f.entry
+      ∙ (ap (λ (x : Placed). is_met (Some test) x.entry.size) (sym g.2)
+      ∙ (ap (λ o. is_met o (g.0).rec.size) (sym e)
+      ∙ (sym here ∙ (ap (λ (x : Placed). has k.ext w.1 x.slot) g.2 ∙ told_by_rows w f there_w there_f))))
+
+  pub is_view : AreClosed k → TestsAreMet k → IsView (seen_of k)
+  is_view closed met = record {
     few_words = omega (arith, sound.dict.few, sound.numbers);
     few_files = omega (arith, length-map k.catalog.entries (placed k), sound.catalog.few, sound.slots);
     numbers = λ w there. omega (arith, number_below k.dict sound.dict w.0 w.1 (numbered w there), sound.numbers);
@@ -120,7 +136,7 @@ module _ (k : Kept) (sound : AreSound k) where
     closed = λ f w x there_f there_w there_x has_it entailed.
         sym (told_by_rows x f there_x there_f)
         ∙ closed_up k sound closed f.slot w.1 x.1 w.0 x.0 (named w there_w) (named x there_x) (told_by_rows w f there_w there_f ∙ has_it) (table_apart w.0 x.0 entailed);
-    steps = λ f w there_f there_w. asks_for w.0 f.entry (test_of w.0) (word_not_test w.0 (word_is_formed k.dict sound.dict w.0 w.1 (numbered w there_w)));
+    steps = λ f w there_f there_w. asked met w f there_w there_f (test_of w.0) refl;
   }
 
   pub tells_files : FreeSlotsAreEmpty k → TellsFiles (seen_of k) k.ext

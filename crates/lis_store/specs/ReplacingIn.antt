@@ -7,15 +7,16 @@ use Rattle.lis_journal.specs.Journal.{Held}
 use Rattle.lis_catalog.specs.Catalog.{slot_of}
 use Rattle.lis_ext.specs.Ext.{set_of}
 use Rattle.lis_fields.specs.Records.{FileRecord}
-use Rattle.lis_model.specs.State.{File}
+use Rattle.lis_model.specs.State.{File, is_assignable}
 use Rattle.lis_kept.specs.Kept.{Kept}
+use Rattle.lis_kept.specs.Telling.{declared_of}
 use Rattle.lis_kept.specs.Sound.{AreSound, FreeSlotsAreEmpty, BlocksAreTaken}
 use Rattle.lis_kept.specs.Forgetting.{KeepsInUse, ForgetsWithout}
 use Rattle.lis_kept.specs.Changes.{Drops, Describes, Adds}
 use Rattle.lis_kept.specs.Refiling.{Refiles}
-use Rattle.lis_store.specs.Stored.{AreClosed, DescriptionsAreShort, BlocksAreApart}
+use Rattle.lis_store.specs.Stored.{AreClosed, DescriptionsAreShort, BlocksAreApart, TestsAreMet}
 use Rattle.lis_store.specs.Admitting.{described_by, known_with}
-use Rattle.lis_store.specs.Adding.{numbers_named, with_heads, may_learn, LearnsAll, learnt_words}
+use Rattle.lis_store.specs.Adding.{numbers_named, with_heads, LearnsAll, learnt_words}
 
 -- what holds of what every store keeps, whatever is marked
 pub record AreInForm (k : Kept) : Type 0 where
@@ -26,11 +27,12 @@ pub record AreInForm (k : Kept) : Type 0 where
   pub taken : BlocksAreTaken k
   pub apart : BlocksAreApart k
   pub in_use : KeepsInUse k
+  pub tests : TestsAreMet k
 
--- A file whose words may be learnt, and that has a new name.
+-- A file whose words may be given, and that has a new name.
 pub record MayComeIn (k : Kept) (file : File) : Type 0 where
   pub new : slot_of k.catalog file.name ≡ None
-  pub learnable : IsTrue (list_all (may_learn k) file.assigned)
+  pub assignable : IsTrue (list_all (is_assignable (declared_of k)) file.assigned)
   pub few : length file.assigned ≤ 16
   pub short : length (described_by k file) ≤ 128
   pub room : length (known_with k file) ≤ k.limits.props

@@ -11,6 +11,9 @@ use Rattle.lis_fields.specs.Layouts.{is_super}
 use Rattle.lis_fields.specs.declared.slots.AxiomSlot.TheVariants.{Free as FreeAxiom, Pair}
 use Rattle.lis_model.specs.declared.limits.Limits.{Limits}
 use Rattle.lis_model.specs.Image.{image_blocks}
+use Rattle.lis_words.specs.Words.{is_test, test_of}
+use Rattle.lis_dict.specs.Dict.{word_of}
+use Rattle.lis_model.specs.Tests.{is_met}
 use Rattle.lis_model.specs.State.{State}
 use Rattle.lis_kept.specs.Kept.{Kept}
 use Rattle.lis_kept.specs.Areas.{IsWritten, axiom_slots}
@@ -44,6 +47,12 @@ BlocksAreApart k =
     (slot other : ℕ) (rec more : FileRecord) (n : ℕ) → rec_at k.catalog slot ≡ Some rec → rec_at k.catalog other ≡ Some more
     → has_number rec.blocks n ≡ true → has_number more.blocks n ≡ true → slot ≡ other
 
+-- A test that has a number is in the descriptions of the files whose size meets it, and in no others.
+abbrev pub TestsAreMet : Kept → Type 0
+TestsAreMet k =
+    (slot n : ℕ) (rec : FileRecord) (word : List ℕ) → rec_at k.catalog slot ≡ Some rec → word_of k.dict n ≡ Some word → is_test word ≡ true
+    → has k.ext n slot ≡ is_met (test_of word) rec.size
+
 -- What holds of every store. Where it is not broken nothing is staged, placed or marked between calls.
 pub record IsSound (k : Stored) : Type 0 where
   pub parts : AreSound k.parts
@@ -55,6 +64,7 @@ pub record IsSound (k : Stored) : Type 0 where
   pub taken : BlocksAreTaken k.parts
   pub apart : BlocksAreApart k.parts
   pub in_use : KeepsInUse k.parts
+  pub tests : TestsAreMet k.parts
   pub image : k.journal.blocks ≡ image_blocks k.parts.limits
   pub journal : k.is_broken ≡ false → k.journal.is_broken ≡ false
   pub staged : k.is_broken ≡ false → k.journal.staged ≡ []

@@ -1,12 +1,19 @@
 use Rattle.std.proofs.Common.{◌∙◌, refl, sym, ap}
-use Rattle.lis_words.specs.Words.{is_plain_word}
+use Rattle.std.proofs.lemmas.Bool.{false_from_ne_true}
+use Rattle.lis_words.specs.Words.{is_plain_word, is_valued}
 use Rattle.lis_kept.specs.Telling.{is_declared}
-use Rattle.lis_store.proofs.Assigned.{plain_assignable, valued_assignable}
+use Rattle.lis_store.proofs.Assigned.{plain_assignable, valued_assignable, not_assignable}
 use Rattle.lis_store.proofs.assigning.is_assignable.Goals as goal
 
 pub returns-then-is_plain_word : goal.returns-then-is_plain_word
 returns-then-is_plain_word c =
     c.is_declared.ensures ∙ plain_assignable c.args.parts.now c.args.word.now (ap is_plain_word (sym c.bytes.ensures.bytes) ∙ (sym c.is_plain_word.ensures ∙ c.if-is_plain_word.true))
+
+pub returns-in-None : goal.returns-in-None
+returns-in-None c =
+    let word = c.args.word.now in
+    let bare = false_from_ne_true (is_valued word) (λ valued. let some = c.in-None.ensures.valued.1 valued in cc) in
+    not_assignable c.args.parts.now word (ap is_plain_word (sym c.bytes.ensures.bytes) ∙ (sym c.is_plain_word.ensures ∙ c.if-is_plain_word.false)) bare
 
 pub returns-in-Some : goal.returns-in-Some
 returns-in-Some c =

@@ -135,6 +135,7 @@ save-requires-clause-sound g c =
     (subst W (sym words) may) in
     let unbroken = ap (λ (k : Stored). k.is_broken) c.self.view_is ∙ c.requires.unbroken in
     refiled_sound old c.refile.new.parts c.in-Some.slot c.args.name.now c.as_slice-2.result.now c.bytes-2.result.now c.self.invariant unbroken first c.refile.ensures.refiled
+    (λ rec is. ap length c.bytes-2.ensures.bytes ∙ c.in_default-read_file.ensures.size rec is)
 
 pub save-requires-clause-room : goal.save-requires-clause-room
 save-requires-clause-room g c =

@@ -17,4 +17,4 @@ pub returns-clause-kept : goal.returns-clause-kept
 returns-clause-kept c =
     let P : Stored → Type 0 = λ k. IsSound k in
     let sound = subst P c.self.view_is c.self.invariant in
-    is_view c.args.self.now.parts sound.parts sound.closed
+    is_view c.args.self.now.parts sound.parts sound.closed sound.tests

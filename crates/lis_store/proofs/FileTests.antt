@@ -1,0 +1,117 @@
+-- Tests in the descriptions of files: a file has those that its size meets, and no others.
+use Rattle.std.proofs.Common.{◌≡◌, ◌⊎◌, ℕ, Bool, true, false, not, ◌&&◌, ◌||◌, nat_lt, nat_le, cond, Option, Some, None, List, length, refl, sym, ap, subst, ◌∙◌, inl, inr, arith}
+use Rattle.std.specs.List.{list_all}
+use Rattle.std.proofs.lemmas.Bool.{both_ways, ltb-true, lt-ltb, leb-true, le-leb}
+use Rattle.lis_graph.proofs.Members.{Among}
+use Rattle.lis_blockmap.specs.Bitmap.{is_taken}
+use Rattle.lis_catalog.specs.Catalog.{rec_at}
+use Rattle.lis_dict.specs.Dict.{Dict, word_of}
+use Rattle.lis_ext.specs.Ext.{has}
+use Rattle.lis_fields.specs.Layouts.{is_prop, is_undeclared}
+use Rattle.lis_fields.specs.Records.{FileRecord}
+use Rattle.lis_words.specs.Words.{has_word, is_plain_word, is_test, test_of}
+use Rattle.lis_words.proofs.Tests.{plain_not_test, valued_not_test}
+use Rattle.lis_model.specs.State.{File, up, own_words, is_assignable}
+use Rattle.lis_model.specs.Tests.{are_weaker, is_met}
+use Rattle.lis_laws.proofs.Apart.{built_in_not_test}
+use Rattle.lis_laws.proofs.Chains.{IsWeakerIn, weaker_tests_are, up_self, entails_from_up}
+use Rattle.lis_laws.proofs.Closures.{entailing, entailed_in}
+use Rattle.lis_laws.proofs.Counts.{all_among}
+use Rattle.lis_laws.proofs.Derived.{derived_built_in}
+use Rattle.lis_laws.proofs.Leads.{right_leads, test_leads}
+use Rattle.lis_laws.proofs.Members.{among_from_has_word, has_word_from_among}
+use Rattle.lis_laws.proofs.Sources.{OwnWord, own_word, own_from, Assignable, assignable_cases}
+use Rattle.lis_laws.proofs.Sources.OwnWord.{Assigned, Derived, Met}
+use Rattle.lis_laws.proofs.Sources.Assignable.{Plain, Valued}
+use Rattle.lis_kept.specs.Kept.{Kept, property_by}
+use Rattle.lis_kept.specs.Sound.{AreSound}
+use Rattle.lis_kept.specs.Telling.{declared_of, axioms_of}
+use Rattle.lis_kept.proofs.Filing.{same_tests}
+use Rattle.lis_kept.proofs.Formed.{some_word}
+use Rattle.lis_kept.proofs.Known.{declared_word, among_axiom}
+use Rattle.lis_kept.proofs.OwnLinks.{undeclared_not_test}
+use Rattle.lis_store.specs.Admitting.{described_by}
+use Rattle.lis_store.specs.Stored.{TestsAreMet}
+
+-- what meets a test meets a weaker one
+met_by : (a b : Bool) (m n size : ℕ) → cond a (b && nat_lt m n) (not b && nat_lt n m) ≡ true → cond b (nat_le n size) (nat_lt size n) ≡ true → cond a (nat_le m size) (nat_lt size m) ≡ true
+met_by true true m n size h met = le-leb m size (omega (arith, ltb-true m n h, leb-true n size met))
+met_by true false m n size h met = absurd cc
+met_by false true m n size h met = absurd cc
+met_by false false m n size h met = lt-ltb size m (omega (arith, ltb-true n m h, ltb-true size n met))
+
+met_weaker : (q p : Option (Bool × ℕ)) (size : ℕ) → are_weaker q p ≡ true → is_met p size ≡ true → is_met q size ≡ true
+met_weaker None p size h met = absurd cc
+met_weaker (Some q) None size h met = absurd cc
+met_weaker (Some q) (Some p) size h met = met_by q.0 p.0 q.1 p.1 size h met
+
+module _ (k : Kept) (sound : AreSound k) where
+  abbrev D : List (List ℕ)
+  D = declared_of k
+
+  abbrev A : List (List ℕ × List ℕ)
+  A = axioms_of k
+
+  rights_plain : (e : List ℕ × List ℕ) → Among A e → is_plain_word e.1 ≡ true
+  rights_plain e m = let found = among_axiom k sound e m in (sound.axioms found.0 found.1 found.2 found.3).plain e.1 found.5
+
+  -- a plain word entails no test
+  pub plain_leads : (p w : List ℕ) → is_plain_word p ≡ true → Among (up D A p) w → is_test w ≡ false
+  plain_leads p w plain m =
+      let chain = entails_from_up D A p w m in
+      plain_not_test w (right_leads is_plain_word (λ v h. h) A rights_plain D chain.0 p w plain chain.1)
+
+  -- a test that has a number is declared
+  pub test_flagged : (n : ℕ) (w : List ℕ) → word_of k.dict n ≡ Some w → is_test w ≡ true → is_taken k.declared n ≡ true
+  test_flagged n w is test = by (is_taken k.declared n) refl
+    where
+      formed : is_taken k.declared n ≡ false → is_undeclared w ≡ true
+      formed e = sym (ap (λ b. is_prop (property_by (Some w) b)) e) ∙ (sym (ap (λ o. is_prop (property_by o (is_taken k.declared n))) is) ∙ sound.properties n)
+
+      by : (b : Bool) → is_taken k.declared n ≡ b → is_taken k.declared n ≡ true
+      by true e = e
+      by false e = absurd (both_ways (is_test w) (undeclared_not_test w (formed e)) test)
+
+  module _ (file : File) (given : list_all (is_assignable D) file.assigned ≡ true) where
+    own_met : (w : List ℕ) → is_test w ≡ true → OwnWord D file w → is_met (test_of w) (length file.bytes) ≡ true
+    own_met w test (Assigned m) = by (assignable_cases D w (all_among (is_assignable D) file.assigned w given m))
+      where
+        by : Assignable D w → is_met (test_of w) (length file.bytes) ≡ true
+        by (Plain plain there) = absurd (both_ways (is_test w) (plain_not_test w plain) test)
+        by (Valued valued there) = absurd (both_ways (is_test w) (valued_not_test w valued) test)
+    own_met w test (Derived m) = absurd (both_ways (is_test w) (built_in_not_test w (derived_built_in file.name file.bytes w m)) test)
+    own_met w test (Met there met) = met
+
+    had_met : (w : List ℕ) → is_test w ≡ true → Among (described_by k file) w → is_met (test_of w) (length file.bytes) ≡ true
+    had_met w test m = at (entailing D A (own_words D file) w m)
+      where
+        by : (source : List ℕ) → OwnWord D file source → (source ≡ w) ⊎ IsWeakerIn D source w → is_met (test_of w) (length file.bytes) ≡ true
+        by source own (inl same) = own_met w test (subst (λ (v : List ℕ). OwnWord D file v) same own)
+        by source own (inr less) = met_weaker (test_of w) (test_of source) (length file.bytes) less.weaker (own_met source (weaker_tests_are D source w less).0 own)
+
+        at : (source : List ℕ) × Among (own_words D file) source × Among (up D A source) w → is_met (test_of w) (length file.bytes) ≡ true
+        at found =
+            let chain = entails_from_up D A found.0 w found.2 in
+            by found.0 (own_word D file found.0 found.1) (test_leads is_plain_word (λ v h. h) A rights_plain D chain.0 found.0 w test chain.1)
+
+    -- a description has the tests that the size meets
+    pub test_described : (n : ℕ) (w : List ℕ) → word_of k.dict n ≡ Some w → is_test w ≡ true → has_word (described_by k file) w ≡ is_met (test_of w) (length file.bytes)
+    test_described n w is test =
+        same_tests (has_word (described_by k file) w) (is_met (test_of w) (length file.bytes))
+        (λ h. had_met w test (among_from_has_word (described_by k file) w h))
+        (λ met. has_word_from_among (described_by k file) w
+        (entailed_in D A (own_words D file) w w (own_from D file w (Met (declared_word k sound n w is (test_flagged n w is test)) met)) (up_self D A w)))
+
+-- what is declared has the word that it had, with more words
+pub flagged_before : (p : Kept) → AreSound p → (d : Dict) → ((n : ℕ) (w : List ℕ) → word_of p.dict n ≡ Some w → word_of d n ≡ Some w)
+    → (n : ℕ) (w : List ℕ) → is_taken p.declared n ≡ true → word_of d n ≡ Some w → word_of p.dict n ≡ Some w
+flagged_before p sound d keeps n w bit is = let word = some_word (word_of p.dict n) (sound.flagged n bit) in word.1 ∙ (sym (keeps n word.0 word.1) ∙ is)
+
+-- where files stay, and descriptions have the tests that they had
+pub tests_stay : (p q : Kept) → q.catalog ≡ p.catalog
+    → ((n at : ℕ) (rec : FileRecord) (w : List ℕ) → rec_at p.catalog at ≡ Some rec → word_of q.dict n ≡ Some w → is_test w ≡ true → (word_of p.dict n ≡ Some w) × (has q.ext n at ≡ has p.ext n at))
+    → TestsAreMet p → TestsAreMet q
+tests_stay p q same stays met at n rec w there is test =
+    let was = ap (λ c. rec_at c at) (sym same) ∙ there in
+    let here = stays n at rec w was is test in
+    here.1 ∙ met at n rec w was here.0 test
