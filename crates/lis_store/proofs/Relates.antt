@@ -1,7 +1,7 @@
 -- What an axiom that is added comes to.
 use Rattle.std.proofs.Common.{◌≡◌, ◌⊎◌, refl, sym, ap, ap₂, ◌∙◌, subst, inl, inr, ℕ, ◌+◌, ◌<◌, ◌≤◌, ◌==◌, ◌&&◌, ◌||◌, if◌then◌else◌, Bool, true, false, List, [], ◌∷◌, length, get_or, slice_get, slice_set, nat_le, Option, Some, None, option_to_list, is_some, IsSome, arith, length-append, eq-eqb}
 use Rattle.std.specs.List.{list_all, flat_map, Contains}
-use Rattle.std.proofs.lemmas.Bool.{cases_lt, and_from, or_left, or_right, both_ways, not_from_false, le-leb}
+use Rattle.std.proofs.lemmas.Bool.{cases_lt, and_from, or_left, or_right, both_ways, not_from_false, le-leb, false_from_ne_true}
 use Rattle.std.proofs.lemmas.List.{length-map, get_or-map, get_or_past}
 use Rattle.std.proofs.lemmas.Option.{same_Some}
 use Rattle.lis_graph.proofs.Sets.{members_le, sorted_from_rising}
@@ -15,7 +15,7 @@ use Rattle.lis_ext.specs.Ext.{Ext, has, set_of as numbers_at, widened}
 use Rattle.lis_ext.specs.Numbers.{has_number, numbers_where}
 use Rattle.lis_fields.specs.declared.slots.AxiomSlot.{AxiomSlot}
 use Rattle.lis_fields.specs.declared.slots.AxiomSlot.TheVariants.{Free as FreeAxiom, Pair}
-use Rattle.lis_words.specs.Words.{word_cmp, same_word, has_word, is_plain_word, is_valued, head_bytes}
+use Rattle.lis_words.specs.Words.{word_cmp, same_word, has_word, is_plain_word, is_valued, head_bytes, is_test}
 use Rattle.lis_model.specs.declared.limits.Limits.{Limits}
 use Rattle.lis_model.specs.Sets.{with_word, with_words}
 use Rattle.lis_model.specs.State.{State, File, pair_cmp, heads, up, is_nameable, description, known}

@@ -41,7 +41,7 @@ use Rattle.lis_kept.proofs.Dropped.{file_slot_below}
 use Rattle.lis_kept.proofs.Formed.{each_below}
 use Rattle.lis_store.specs.declared.change.Change.{Change}
 use Rattle.lis_store.specs.declared.change.Change.TheVariants.{Refused}
-use Rattle.lis_store.specs.Stored.{Stored, AreClosed, DescriptionsAreShort, BlocksAreApart, IsSound, StoreFits}
+use Rattle.lis_store.specs.Stored.{Stored, AreClosed, DescriptionsAreShort, BlocksAreApart, IsSound, StoreFits, TestsAreMet}
 use Rattle.lis_store.specs.Changes.{Changes, differing_bits}
 use Rattle.lis_store.specs.Judging.{is_among}
 use Rattle.lis_store.specs.Saving.{settled, IsReady, Saves}

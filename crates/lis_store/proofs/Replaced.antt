@@ -1,5 +1,5 @@
 -- What memory comes to when another file takes the place of one.
-use Rattle.std.proofs.Common.{◌≡◌, ◌⊎◌, refl, sym, ap, ◌∙◌, subst, inl, inr, ℕ, true, false, List, [], Some, is_some, IsTrue}
+use Rattle.std.proofs.Common.{◌≡◌, ◌⊎◌, refl, sym, ap, ◌∙◌, subst, inl, inr, ℕ, true, false, List, [], Some, is_some, IsTrue, length}
 use Rattle.std.proofs.lemmas.Bool.{both_ways, cases_eq}
 use Rattle.lis_graph.proofs.Members.{Among}
 use Rattle.lis_journal.specs.Journal.{Held}
@@ -11,7 +11,7 @@ use Rattle.lis_model.specs.Image.{image_blocks}
 use Rattle.lis_model.specs.State.{File}
 use Rattle.lis_model.specs.Changes.{new_file}
 use Rattle.lis_kept.specs.Kept.{Kept}
-use Rattle.lis_kept.specs.Sound.{AreSound}
+use Rattle.lis_kept.specs.Sound.{AreSound, FreeSlotsAreEmpty}
 use Rattle.lis_kept.specs.Telling.{is_used, AreUsed}
 use Rattle.lis_kept.specs.Forgetting.{emptied}
 use Rattle.lis_kept.proofs.Formed.{some_word, named_all}
@@ -21,7 +21,7 @@ use Rattle.lis_store.specs.Saving.{settled}
 use Rattle.lis_store.specs.Replacing.{MayReplace}
 use Rattle.lis_store.specs.ReplacingIn.{AreInForm, MayComeIn, MakesWay}
 use Rattle.lis_store.specs.Admitting.{described_by}
-use Rattle.lis_store.proofs.Added.{end, end_is, sound_end, used_had, word_from, has_here, has_other, left_stays, tags_then, free_then, closed_then, short_then, taken_then, apart_then}
+use Rattle.lis_store.proofs.Added.{end, end_is, sound_end, used_had, word_from, has_here, has_other, left_stays, tags_then, free_then, closed_then, short_then, taken_then, apart_then, tests_then}
 use Rattle.lis_store.proofs.Cleaned.{clean_is, sound_clean, in_use_clean}
 use Rattle.lis_store.proofs.Coming.{ComesIn, ComesInto, comes_described, comes_over}
 use Rattle.lis_store.proofs.HeadsUsed.{IsUsedFor, used_flagged, used_left, used_for}
