@@ -1,7 +1,7 @@
 -- What a file that is put in comes to.
 use Rattle.std.proofs.Common.{◌≡◌, ◌⊎◌, refl, sym, ap, ap₂, ◌∙◌, subst, inl, inr, ℕ, zero, suc, ◌<◌, ◌≤◌, nat_lt, not, ◌&&◌, ◌||◌, if◌then◌else◌, Bool, true, false, List, [], length, get_or, set, Option, Some, None, is_some, IsSome, arith, get_or-set_same, get_or-set_other}
 use Rattle.std.specs.List.{list_any}
-use Rattle.std.proofs.lemmas.Bool.{and_parts, or_cases, or_left, or_right, both_ways, cases_eq, eq-eqb, ne_eqb, not-true, ltb-true}
+use Rattle.std.proofs.lemmas.Bool.{and_parts, false_from_ne_true, or_cases, or_left, or_right, both_ways, cases_eq, eq-eqb, ne_eqb, not-true, ltb-true}
 use Rattle.std.proofs.lemmas.List.{get_or_default}
 use Rattle.std.proofs.lemmas.Option.{same_Some}
 use Rattle.lis_graph.proofs.Members.{Among, contains_from_among, among_from_any, any_from_among, among_append, among_left}
@@ -31,6 +31,7 @@ use Rattle.lis_kept.specs.Links.{is_linked, is_own_link, has_pair}
 use Rattle.lis_kept.specs.Sound.{AreSound, FreeSlotsAreEmpty, BlocksAreTaken}
 use Rattle.lis_kept.specs.Forgetting.{KeepsInUse}
 use Rattle.lis_kept.specs.Telling.{declared_of, axioms_of, is_left_of, is_left_head_of, is_head_by, is_had, is_named_left, is_used, AreUsed}
+use Rattle.lis_kept.specs.TestEdges.{test_by}
 use Rattle.lis_kept.proofs.Filing.{among_from_number}
 use Rattle.lis_kept.proofs.Formed.{some_word, named_all}
 use Rattle.lis_kept.proofs.Known.{some_number, one_number, word_known, known_word}
@@ -40,12 +41,12 @@ use Rattle.lis_store.specs.Admitting.{described_by, IsAdmitted}
 use Rattle.lis_store.specs.ReplacingIn.{MayComeIn}
 use Rattle.lis_store.specs.Adding.{is_one_of, AreNumbered, numbers_named, with_heads, learnt_words, PutsIn}
 use Rattle.lis_store.proofs.Coming.{ComesIn, comes_in}
-use Rattle.lis_store.proofs.Cleaned.{clean_is, sound_clean, in_use_clean}
+use Rattle.lis_store.proofs.Cleaned.{clean_is, sound_clean, in_use_clean, tests_clean}
 use Rattle.lis_store.proofs.Entailment.{link_named, up_has_number}
 use Rattle.lis_store.proofs.Naming.{one_of, of_one, named_has, named_few}
 use Rattle.lis_store.proofs.PutIn.{may_come, heads_described, entailed_is, declared_same, own_numbered, behind_itself}
 use Rattle.lis_store.proofs.MetTests.{met_numbered}
-use Rattle.lis_store.proofs.FileTests.{test_flagged, test_described, flagged_before}
+use Rattle.lis_store.proofs.FileTests.{test_flagged, assigned_no_test, test_described, flagged_before, tested_word}
 use Rattle.lis_store.proofs.OwnStay.{own_back}
 use Rattle.lis_store.proofs.Removed.{had_there}
 
@@ -225,23 +226,46 @@ module _ (p q : Kept) (name : List ℕ) (assigned : List (List ℕ)) (bytes : Li
             ap (has end.ext n) same ∙ tags_described n (subst (λ (x : FileRecord). has_number x.tags n ≡ true) (sym this) tag)
         by (inr differ) = has_other n at differ ∙ tags at r (sym (rec_other at differ) ∙ is) n tag
 
-    -- each file has the tests that its size meets: no new word is a test
-    pub tests_then : rec.size ≡ length bytes
-        → ((at n : ℕ) (r : FileRecord) (word : List ℕ) → (at ≡ slot → ⊥) → rec_at p.catalog at ≡ Some r → word_of p.dict n ≡ Some word → is_test word ≡ true → has p.ext n at ≡ is_met (test_of word) r.size)
-        → TestsAreMet end
-    tests_then sized others at n r word there is test = by (cases_eq at slot)
-      where
-        was : word_of p.dict n ≡ Some word
-        was = flagged_before p sound dict comes.learns.keeps n word (test_flagged end sound_end n word is test) is
+    -- each file has the tests that its size meets, and no new word is a test
+    test_was : (n : ℕ) (word : List ℕ) → word_of dict n ≡ Some word → is_test word ≡ true → word_of p.dict n ≡ Some word
+    test_was n word is test = flagged_before p sound dict comes.learns.keeps n word (test_flagged end sound_end n word is test) is
 
-        by : (at ≡ slot) ⊎ (at ≡ slot → ⊥) → has end.ext n at ≡ is_met (test_of word) r.size
-        by (inl same) =
-            let this : rec ≡ r = same_Some rec r (sym rec_here ∙ (ap (rec_at end.catalog) (sym same) ∙ there)) in
-            ap (has end.ext n) same
-            ∙ (has_here n
-            ∙ (ap (is_one_of described) is
-            ∙ (test_described p sound file may.assignable n word was test ∙ ap (is_met (test_of word)) (sym sized ∙ ap (λ (x : FileRecord). x.size) this))))
-        by (inr differ) = has_other n at differ ∙ others at n r word differ (sym (rec_other at differ) ∙ there) was test
+    tag_no_test : (n : ℕ) → has_number rec.tags n ≡ true → is_some {T = Bool × ℕ} (test_by (word_of dict n)) ≡ false
+    tag_no_test n tag =
+        let found = one_of assigned (word_of dict n) (sym (named_has dict sound_end.dict assigned n) ∙ (ap (λ ns. has_number ns n) (sym comes.tagged) ∙ tag)) in
+        ap (λ o. is_some {T = Bool × ℕ} (test_by o)) found.1 ∙ assigned_no_test p sound assigned may.assignable found.0 found.2
+
+    has_tests : rec.size ≡ length bytes → (n : ℕ) (word : List ℕ) → word_of dict n ≡ Some word → is_test word ≡ true → has end.ext n slot ≡ is_met (test_of word) rec.size
+    has_tests sized n word is test =
+        has_here n
+        ∙ (ap (is_one_of described) is
+        ∙ (test_described p sound file may.assignable n word (test_was n word is test) test ∙ ap (is_met (test_of word)) (sym sized)))
+
+    pub tests_then : rec.size ≡ length bytes → TestsAreMet p → TestsAreMet end
+    tests_then sized tests = record {
+      given = λ at r there n tag. elim (cases_eq at slot) [
+        | inl same ↦ tag_no_test n (subst (λ (x : FileRecord). has_number x.tags n ≡ true) (sym (this at r same there)) tag)
+        | inr differ ↦ false_from_ne_true (is_some {T = Bool × ℕ} (test_by (word_of dict n))) (λ test.
+            let w = tested_word (word_of dict n) test in
+            both_ways (is_some {T = Bool × ℕ} (test_by (word_of p.dict n))) (tests.given at r (sym (rec_other at differ) ∙ there) n tag)
+            (ap (λ o. is_some {T = Bool × ℕ} (test_by o)) (test_was n w.0 w.1 w.2) ∙ w.2))
+      ];
+      met = λ at r there n test.
+          let w = tested_word (word_of dict n) test in
+          let was = test_was n w.0 w.1 w.2 in
+          let here : is_met (test_of w.0) r.size ≡ is_met (test_by (word_of dict n)) r.size = ap (λ o. is_met (test_by o) r.size) (sym w.1) in
+          elim (cases_eq at slot) [
+            | inl same ↦
+                ap (has end.ext n) same ∙ (has_tests sized n w.0 w.1 w.2 ∙ (ap (λ (x : FileRecord). is_met (test_of w.0) x.size) (this at r same there) ∙ here))
+            | inr differ ↦
+                has_other n at differ
+                ∙ (tests.met at r (sym (rec_other at differ) ∙ there) n (ap (λ o. is_some {T = Bool × ℕ} (test_by o)) was ∙ w.2)
+                ∙ (ap (λ o. is_met (test_by o) r.size) was ∙ here))
+          ];
+    }
+      where
+        this : (at : ℕ) (r : FileRecord) → at ≡ slot → rec_at end.catalog at ≡ Some r → rec ≡ r
+        this at r same there = same_Some rec r (sym rec_here ∙ (ap (rec_at end.catalog) (sym same) ∙ there))
 
     in_use_then : FreeSlotsAreEmpty p → KeepsInUse p → KeepsInUse end
     in_use_then free keeps = record { used = used_then free keeps.used; tags = tags_then keeps.tags; rights = keeps.rights }
@@ -384,7 +408,7 @@ module _ (p q : Kept) (old new : Held) (name : List ℕ) (assigned : List (List 
     taken = taken_then p q name assigned bytes sound (may_come p (new_file name assigned bytes) admitted) comes was.taken;
     apart = apart_then p q name assigned bytes sound (may_come p (new_file name assigned bytes) admitted) comes was.taken was.apart;
     in_use = in_use_clean k (in_use_then p q name assigned bytes sound (may_come p (new_file name assigned bytes) admitted) comes after was.free was.in_use);
-    tests = tests_then p q name assigned bytes sound (may_come p (new_file name assigned bytes) admitted) comes after puts.adds.sized (λ at n r word differ. was.tests at n r word);
+    tests = tests_clean k (tests_then p q name assigned bytes sound (may_come p (new_file name assigned bytes) admitted) comes after puts.adds.sized was.tests);
     image = puts.adds.image ∙ was.image;
     journal = λ _. puts.adds.broken ∙ was.journal whole;
     staged = λ _. refl;

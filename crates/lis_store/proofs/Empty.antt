@@ -103,7 +103,7 @@ module _ (limits : Limits) (blocks : ℕ) where
     taken = λ at rec is. absurd cc;
     apart = λ at other rec more n is _ _ _. absurd cc;
     in_use = record { used = λ n is. absurd cc; tags = λ at rec is n _. absurd cc; rights = λ at left right is. absurd (no_axiom at left right is) };
-    tests = λ at n rec w is _ _. absurd cc;
+    tests = record { given = λ at rec is n _. absurd cc; met = λ at rec is n _. absurd cc };
     image = refl;
     journal = λ unbroken. refl;
     staged = λ unbroken. refl;

@@ -1,7 +1,7 @@
 -- Tests in the descriptions of files: a file has those that its size meets, and no others.
-use Rattle.std.proofs.Common.{◌≡◌, ◌⊎◌, ℕ, Bool, true, false, not, ◌&&◌, ◌||◌, nat_lt, nat_le, cond, Option, Some, None, List, length, refl, sym, ap, subst, ◌∙◌, inl, inr, arith}
+use Rattle.std.proofs.Common.{◌≡◌, ◌⊎◌, ℕ, Bool, true, false, not, ◌&&◌, ◌||◌, nat_lt, nat_le, cond, Option, Some, None, is_some, List, length, refl, sym, ap, subst, ◌∙◌, inl, inr, arith}
 use Rattle.std.specs.List.{list_all}
-use Rattle.std.proofs.lemmas.Bool.{both_ways, ltb-true, lt-ltb, leb-true, le-leb}
+use Rattle.std.proofs.lemmas.Bool.{both_ways, false_from_ne_true, ltb-true, lt-ltb, leb-true, le-leb}
 use Rattle.lis_graph.proofs.Members.{Among}
 use Rattle.lis_blockmap.specs.Bitmap.{is_taken}
 use Rattle.lis_catalog.specs.Catalog.{rec_at}
@@ -26,6 +26,7 @@ use Rattle.lis_laws.proofs.Sources.Assignable.{Plain, Valued}
 use Rattle.lis_kept.specs.Kept.{Kept, property_by}
 use Rattle.lis_kept.specs.Sound.{AreSound}
 use Rattle.lis_kept.specs.Telling.{declared_of, axioms_of}
+use Rattle.lis_kept.specs.TestEdges.{test_by}
 use Rattle.lis_kept.proofs.Filing.{same_tests}
 use Rattle.lis_kept.proofs.Formed.{some_word}
 use Rattle.lis_kept.proofs.Known.{declared_word, among_axiom}
@@ -72,13 +73,17 @@ module _ (k : Kept) (sound : AreSound k) where
       by true e = e
       by false e = absurd (both_ways (is_test w) (undeclared_not_test w (formed e)) test)
 
+  -- no file is given a test
+  pub assigned_no_test : (words : List (List ℕ)) → list_all (is_assignable D) words ≡ true → (w : List ℕ) → Among words w → is_test w ≡ false
+  assigned_no_test words given w m = by (assignable_cases D w (all_among (is_assignable D) words w given m))
+    where
+      by : Assignable D w → is_test w ≡ false
+      by (Plain plain there) = plain_not_test w plain
+      by (Valued valued there) = valued_not_test w valued
+
   module _ (file : File) (given : list_all (is_assignable D) file.assigned ≡ true) where
     own_met : (w : List ℕ) → is_test w ≡ true → OwnWord D file w → is_met (test_of w) (length file.bytes) ≡ true
-    own_met w test (Assigned m) = by (assignable_cases D w (all_among (is_assignable D) file.assigned w given m))
-      where
-        by : Assignable D w → is_met (test_of w) (length file.bytes) ≡ true
-        by (Plain plain there) = absurd (both_ways (is_test w) (plain_not_test w plain) test)
-        by (Valued valued there) = absurd (both_ways (is_test w) (valued_not_test w valued) test)
+    own_met w test (Assigned m) = absurd (both_ways (is_test w) (assigned_no_test file.assigned given w m) test)
     own_met w test (Derived m) = absurd (both_ways (is_test w) (built_in_not_test w (derived_built_in file.name file.bytes w m)) test)
     own_met w test (Met there met) = met
 
@@ -107,11 +112,25 @@ pub flagged_before : (p : Kept) → AreSound p → (d : Dict) → ((n : ℕ) (w 
     → (n : ℕ) (w : List ℕ) → is_taken p.declared n ≡ true → word_of d n ≡ Some w → word_of p.dict n ≡ Some w
 flagged_before p sound d keeps n w bit is = let word = some_word (word_of p.dict n) (sound.flagged n bit) in word.1 ∙ (sym (keeps n word.0 word.1) ∙ is)
 
--- where files stay, and descriptions have the tests that they had
-pub tests_stay : (p q : Kept) → q.catalog ≡ p.catalog
-    → ((n at : ℕ) (rec : FileRecord) (w : List ℕ) → rec_at p.catalog at ≡ Some rec → word_of q.dict n ≡ Some w → is_test w ≡ true → (word_of p.dict n ≡ Some w) × (has q.ext n at ≡ has p.ext n at))
+-- ---- tests that have numbers
+-- a test is the word of its number
+pub tested_word : (o : Option (List ℕ)) → is_some {T = Bool × ℕ} (test_by o) ≡ true → (w : List ℕ) × (o ≡ Some w) × (is_test w ≡ true)
+tested_word None test = absurd (both_ways false refl test)
+tested_word (Some w) test = (w, refl, test)
+
+-- where the files of a slot and the words of tests are those that were there, and descriptions have the tests that they had
+pub tests_stay : (p q : Kept) → ((at : ℕ) (rec : FileRecord) → rec_at q.catalog at ≡ Some rec → rec_at p.catalog at ≡ Some rec)
+    → ((n : ℕ) (w : List ℕ) → word_of q.dict n ≡ Some w → is_test w ≡ true → word_of p.dict n ≡ Some w)
+    → ((n at : ℕ) (rec : FileRecord) (w : List ℕ) → rec_at q.catalog at ≡ Some rec → word_of p.dict n ≡ Some w → is_test w ≡ true → has q.ext n at ≡ has p.ext n at)
     → TestsAreMet p → TestsAreMet q
-tests_stay p q same stays met at n rec w there is test =
-    let was = ap (λ c. rec_at c at) (sym same) ∙ there in
-    let here = stays n at rec w was is test in
-    here.1 ∙ met at n rec w was here.0 test
+tests_stay p q files words rows tests = record {
+  given = λ at rec there n tag. false_from_ne_true (is_some {T = Bool × ℕ} (test_by (word_of q.dict n))) (λ test.
+      let w = tested_word (word_of q.dict n) test in
+      both_ways (is_some {T = Bool × ℕ} (test_by (word_of p.dict n))) (tests.given at rec (files at rec there) n tag) (ap (λ o. is_some {T = Bool × ℕ} (test_by o)) (words n w.0 w.1 w.2) ∙ w.2));
+  met = λ at rec there n test.
+      let w = tested_word (word_of q.dict n) test in
+      let was = words n w.0 w.1 w.2 in
+      rows n at rec w.0 there was w.2
+      ∙ (tests.met at rec (files at rec there) n (ap (λ o. is_some {T = Bool × ℕ} (test_by o)) was ∙ w.2)
+      ∙ ap (λ o. is_met (test_by o) rec.size) (was ∙ sym w.1));
+}

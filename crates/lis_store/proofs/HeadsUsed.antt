@@ -26,8 +26,7 @@ use Rattle.lis_store.specs.Stored.{AreClosed}
 -- the word of a number that is declared is not valued
 pub flagged_not_valued : (k : Kept) → AreSound k → (n : ℕ) (w : List ℕ) → word_of k.dict n ≡ Some w → is_taken k.declared n ≡ true → is_valued w ≡ false
 flagged_not_valued k sound n w is bit =
-    let formed : is_declarable w ≡ true =
-    sym (ap (λ b. is_prop (property_by (Some w) b)) bit) ∙ (sym (ap (λ o. is_prop (property_by o (is_taken k.declared n))) is) ∙ sound.properties n) in
+    let formed : is_declarable w ≡ true = sym (ap (λ b. is_prop (property_by (Some w) b)) bit) ∙ (sym (ap (λ o. is_prop (property_by o (is_taken k.declared n))) is) ∙ sound.properties n) in
     declarable_not_valued w formed
 
 module _ (k : Kept) where

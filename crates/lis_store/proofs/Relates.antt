@@ -47,7 +47,7 @@ use Rattle.lis_store.specs.Relating.{entails_number, widened_numbers, MayRelate}
 use Rattle.lis_store.specs.RelatingIn.{RelatesIn}
 use Rattle.lis_store.proofs.Declared.{declared_told}
 use Rattle.lis_store.proofs.Facts.{limits_told, known_told, filed_of_file}
-use Rattle.lis_store.proofs.Cleaned.{clean_is, sound_clean, in_use_clean}
+use Rattle.lis_store.proofs.Cleaned.{clean_is, sound_clean, in_use_clean, tests_clean}
 use Rattle.lis_store.proofs.Entailment.{up_has_number}
 use Rattle.lis_store.proofs.Learnt.{used_learnt, file_learnt, described_learnt, word_before, closed_learnt}
 use Rattle.lis_store.proofs.Naming.{one_of, of_one}
@@ -257,12 +257,13 @@ module _ (p q : Kept) (left right : List ℕ) (relates : RelatesIn left right p 
 
   -- what a plain word entails is no test
   tests_then : AreSound end → TestsAreMet p → TestsAreMet end
-  tests_then after = tests_stay p end refl (λ n slot rec w there is test.
-      let was = flagged_before p sound learnt.dict relates.learns.keeps n w (test_flagged end after n w is test) is in
+  tests_then after = tests_stay p end (λ at rec there. there) (λ n w is test. flagged_before p sound learnt.dict relates.learns.keeps n w (test_flagged end after n w is test) is)
+      (λ n slot rec w there was test.
+      let lt = named_below p sound n (ap is_some was) in
       let none = false_from_ne_true (ups n) (λ on.
-      let found = one_of entailed_words (word_of p.dict n) (sym (ups_are n (named_below p sound n (ap is_some was))) ∙ on) in
+      let found = one_of entailed_words (word_of p.dict n) (sym (ups_are n lt) ∙ on) in
       both_ways (is_test w) (ap is_test (same_Some w found.0 (sym was ∙ found.1)) ∙ plain_leads p sound right found.0 may.plain found.2) test) in
-      (was, rows n slot (named_below p sound n (ap is_some was)) ∙ (ap (λ b. has p.ext n slot || (has p.ext from slot && b)) none ∙ left_alone (has p.ext n slot) (has p.ext from slot))))
+      rows n slot lt ∙ (ap (λ b. has p.ext n slot || (has p.ext from slot && b)) none ∙ left_alone (has p.ext n slot) (has p.ext from slot)))
     where
       left_alone : (a b : Bool) → (a || (b && false)) ≡ a
       left_alone true b = refl
@@ -296,7 +297,7 @@ module _ (p q : Kept) (left right : List ℕ) (relates : RelatesIn left right p 
       taken = was.taken;
       apart = was.apart;
       in_use = in_use_clean end (in_use_then was.in_use);
-      tests = tests_then sound_end was.tests;
+      tests = tests_clean end (tests_then sound_end was.tests);
       image = was.image;
       journal = λ _. was.journal whole;
       staged = λ _. refl;

@@ -49,9 +49,10 @@ use Rattle.lis_store.specs.Removing.{TakesOut}
 use Rattle.lis_store.proofs.Numbers.{numbers_same, numbers_of}
 use Rattle.lis_store.proofs.Facts.{filed_named, table_told}
 use Rattle.lis_store.proofs.Judged.{change_refused}
-use Rattle.lis_store.proofs.Cleaned.{clean_is, sound_clean, in_use_clean, none_marked}
+use Rattle.lis_store.proofs.Cleaned.{clean_is, sound_clean, in_use_clean, none_marked, tests_clean}
 use Rattle.lis_store.proofs.Told.{words_same}
 use Rattle.lis_store.proofs.OwnStay.{own_before}
+use Rattle.lis_store.proofs.FileTests.{tests_stay}
 use Rattle.lis_store.proofs.Given.{given_taken}
 
 -- a set that has a number is one of the sets
@@ -250,9 +251,8 @@ module _ (slot : ℕ) (p q : Kept) (out : TakesOut slot p q) (sound : AreSound p
     }
 
     tests_then : TestsAreMet end
-    tests_then at n r w is word test =
-        let before = rec_before at r is in
-        ap (λ ns. has_number ns n) (set_other at before.0) ∙ was.tests at n r w before.1 (word_before n w word) test
+    tests_then = tests_stay p end (λ at r is. (rec_before at r is).1) (λ n w is test. word_before n w is)
+        (λ n at r w is was test. ap (λ ns. has_number ns n) (set_other at (rec_before at r is).0)) was.tests
 
     pub sound_removed : IsSound (settled q j)
     sound_removed = subst (λ (k : Kept). IsSound (settled k j)) (sym end_is) (record {
@@ -265,7 +265,7 @@ module _ (slot : ℕ) (p q : Kept) (out : TakesOut slot p q) (sound : AreSound p
       taken = taken_then;
       apart = apart_then;
       in_use = in_use_clean end in_use_then;
-      tests = tests_then;
+      tests = tests_clean end tests_then;
       image = was.image;
       journal = λ _. was.journal whole;
       staged = λ _. refl;

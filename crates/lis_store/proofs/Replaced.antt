@@ -16,19 +16,20 @@ use Rattle.lis_kept.specs.Telling.{is_used, AreUsed}
 use Rattle.lis_kept.specs.Forgetting.{emptied}
 use Rattle.lis_kept.proofs.Formed.{some_word, named_all}
 use Rattle.lis_kept.proofs.Without.{none_here, same_elsewhere}
-use Rattle.lis_store.specs.Stored.{Stored, PairsAreApart, IsSound}
+use Rattle.lis_store.specs.Stored.{Stored, PairsAreApart, IsSound, TestsAreMet}
 use Rattle.lis_store.specs.Saving.{settled}
 use Rattle.lis_store.specs.Replacing.{MayReplace}
 use Rattle.lis_store.specs.ReplacingIn.{AreInForm, MayComeIn, MakesWay}
 use Rattle.lis_store.specs.Admitting.{described_by}
 use Rattle.lis_store.proofs.Added.{end, end_is, sound_end, used_had, word_from, has_here, has_other, left_stays, tags_then, free_then, closed_then, short_then, taken_then, apart_then, tests_then}
-use Rattle.lis_store.proofs.Cleaned.{clean_is, sound_clean, in_use_clean}
+use Rattle.lis_store.proofs.Cleaned.{clean_is, sound_clean, in_use_clean, tests_clean}
 use Rattle.lis_store.proofs.Coming.{ComesIn, ComesInto, comes_described, comes_over}
+use Rattle.lis_store.proofs.FileTests.{tests_stay}
 use Rattle.lis_store.proofs.HeadsUsed.{IsUsedFor, used_flagged, used_left, used_for}
 use Rattle.lis_store.proofs.HeadsUsed.IsUsedFor.{Flagged, HadAt, NamedLeft}
 use Rattle.lis_store.proofs.Left as gone
 use Rattle.lis_store.proofs.Naming.{of_one}
-use Rattle.lis_store.proofs.Vacated.{free_others, tags_others, tests_others, taken_others, apart_others}
+use Rattle.lis_store.proofs.Vacated.{vacated, free_others, tags_others, tests_others, taken_others, apart_others}
 
 -- ---- stores in form
 pub in_form : (k : Stored) → IsSound k → AreInForm k.parts
@@ -54,7 +55,7 @@ settled_sound q j form range pairs image unbroken unplaced = record {
   taken = form.taken;
   apart = form.apart;
   in_use = in_use_clean q form.in_use;
-  tests = form.tests;
+  tests = tests_clean q form.tests;
   image = image;
   journal = λ _. unbroken;
   staged = λ _. refl;
@@ -128,6 +129,11 @@ module _ (p q : Kept) (slot : ℕ) (name : List ℕ) (assigned : List (List ℕ)
     pub free_last : FreeSlotsAreEmpty last
     free_last = free_then left q name assigned bytes sound_left coming comes after (free_others p slot r.rec form r.may.there)
 
+    tests_left : TestsAreMet left
+    tests_left =
+        tests_stay (vacated p slot r.rec) left (λ at x is. is) (λ n w is test. gone.word_was p r.way.vacated slot r.rec form r.way.vacates n w is) (λ n at x w is was test. refl)
+        (tests_others p slot r.rec form r.may.there)
+
     form_last : r.filed.size ≡ length bytes → AreInForm last
     form_last sized = record {
       sound = sound_last;
@@ -143,8 +149,7 @@ module _ (p q : Kept) (slot : ℕ) (name : List ℕ) (assigned : List (List ℕ)
         tags = tags_then left q name assigned bytes sound_left coming comes after (tags_others p slot r.rec form r.may.there);
         rights = form.in_use.rights;
       };
-      tests = tests_then left q name assigned bytes sound_left coming comes after sized (λ at n x w differ is word test.
-          tests_others p slot r.rec form r.may.there at n x w is (gone.word_was p r.way.vacated slot r.rec form r.way.vacates n w word) test);
+      tests = tests_then left q name assigned bytes sound_left coming comes after sized tests_left;
     }
 
     pub sound_replaced : r.filed.size ≡ length bytes → (j : Held) → IsTrue (is_super p.limits) → PairsAreApart p → j.blocks ≡ image_blocks p.limits → j.is_broken ≡ false → j.placed ≡ [] → IsSound (settled q j)

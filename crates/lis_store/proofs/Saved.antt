@@ -37,10 +37,10 @@ module _ (p : Kept) (j x : Held) (whole : IsSound (settled p j)) (image : x.bloc
         pairs = whole.pairs;
         closed = whole.closed;
         short = whole.short;
+        tests = whole.tests;
         taken = whole.taken;
         apart = whole.apart;
         in_use = whole.in_use;
-        tests = whole.tests;
         image = image ∙ whole.image;
         journal = λ _. unbroken;
         staged = λ _. staged;
@@ -56,10 +56,10 @@ module _ (p : Kept) (j x : Held) (whole : IsSound (settled p j)) (image : x.bloc
     pairs = whole.pairs;
     closed = whole.closed;
     short = whole.short;
+    tests = record { given = whole.tests.given; met = whole.tests.met };
     taken = whole.taken;
     apart = whole.apart;
     in_use = record { used = whole.in_use.used; tags = whole.in_use.tags; rights = whole.in_use.rights };
-    tests = whole.tests;
     image = image ∙ whole.image;
     journal = λ e. absurd cc;
     staged = λ e. absurd cc;

@@ -26,7 +26,7 @@ use Rattle.lis_kept.specs.Forgetting.{MayForget, emptied}
 use Rattle.lis_kept.proofs.Dropped.{blocks_apart, file_slot_below}
 use Rattle.lis_kept.proofs.Filing.{number_from_among}
 use Rattle.lis_kept.proofs.Without.{left_out, none_here, same_elsewhere}
-use Rattle.lis_store.specs.Stored.{AreClosed, BlocksAreApart}
+use Rattle.lis_store.specs.Stored.{AreClosed, BlocksAreApart, TestsAreMet}
 use Rattle.lis_store.specs.Replacing.{MayReplace}
 use Rattle.lis_store.specs.ReplacingIn.{AreInForm}
 use Rattle.lis_store.proofs.HeadsUsed.{IsUsedFor, used_flagged, used_had, used_left, used_for, head_used}
@@ -80,8 +80,8 @@ module _ (p : Kept) (slot : ℕ) (rec : FileRecord) (form : AreInForm p) (there 
   pub tags_others : (at : ℕ) (r : FileRecord) → rec_at d.catalog at ≡ Some r → (n : ℕ) → has_number r.tags n ≡ true → has p.ext n at ≡ true
   tags_others at r is = form.in_use.tags at r (rec_before at r is).1
 
-  pub tests_others : (at n : ℕ) (r : FileRecord) (w : List ℕ) → rec_at d.catalog at ≡ Some r → word_of p.dict n ≡ Some w → is_test w ≡ true → has p.ext n at ≡ is_met (test_of w) r.size
-  tests_others at n r w is = form.tests at n r w (rec_before at r is).1
+  pub tests_others : TestsAreMet d
+  tests_others = record { given = λ at r is. form.tests.given at r (rec_before at r is).1; met = λ at r is. form.tests.met at r (rec_before at r is).1 }
 
   pub taken_others : BlocksAreTaken d
   taken_others at r is =

@@ -24,6 +24,7 @@ use Rattle.lis_eval.specs.View.{Placed, file_in, IsView, TellsFiles, TellsEntail
 use Rattle.lis_kept.specs.Kept.{Kept}
 use Rattle.lis_kept.specs.Sound.{AreSound, FreeSlotsAreEmpty}
 use Rattle.lis_kept.specs.Telling.{words_told, declared_of, axioms_of}
+use Rattle.lis_kept.specs.TestEdges.{test_by}
 use Rattle.lis_kept.specs.Links.{TellsLinks}
 use Rattle.lis_kept.proofs.Filing.{same_tests, filed_rec, filed_slot, filed_at_slot}
 use Rattle.lis_kept.proofs.Known.{among_word, number_told}
@@ -98,8 +99,10 @@ module _ (k : Kept) (sound : AreSound k) where
   asked met w f there_w there_f None e = refl
   asked met w f there_w there_f (Some test) e =
       let g = filed f there_f in
+      let tested = ap test_by (named w there_w) in
       let here : has k.ext w.1 (g.0).slot ≡ is_met (test_of w.0) (g.0).rec.size =
-      met (g.0).slot w.1 (g.0).rec w.0 (filed_rec k.catalog sound.catalog g.0 g.1) (named w there_w) (ap (λ (o : Option (Bool × ℕ)). is_some o) e) in
+      met.met (g.0).slot (g.0).rec (filed_rec k.catalog sound.catalog g.0 g.1) w.1 (ap (λ (o : Option (Bool × ℕ)). is_some o) (tested ∙ e))
+      ∙ ap (λ (o : Option (Bool × ℕ)). is_met o (g.0).rec.size) tested in
       size_asked w.0 test f.entry
       ∙ (ap (λ (x : Placed). is_met (Some test) x.entry.size) (sym g.2)
       ∙ (ap (λ o. is_met o (g.0).rec.size) (sym e)
