@@ -1,12 +1,11 @@
 -- What memory comes to when words are forgotten that nothing uses but what a slot is described by.
-use Rattle.std.proofs.Common.{◌≡◌, ◌⊎◌, refl, sym, ap, ap₂, ◌∙◌, subst, inl, inr, ℕ, not, ◌&&◌, ◌||◌, Bool, true, false, if◌then◌else◌, List, [], Option, Some, None, is_some}
+use Rattle.std.proofs.Common.{◌≡◌, ◌⊎◌, refl, sym, ap, ap₂, ◌∙◌, subst, inl, inr, ℕ, not, ◌&&◌, Bool, true, false, if◌then◌else◌, List, [], Option, Some, None, is_some}
 use Rattle.std.proofs.lemmas.Bool.{both_ways, or_cases, or_left, or_right}
 use Rattle.lis_content.specs.Content.{has_number}
 use Rattle.lis_dict.specs.Dict.{word_of}
 use Rattle.lis_kept.specs.Kept.{Kept}
 use Rattle.lis_model.specs.State.{State}
 use Rattle.lis_kept.specs.Links.{is_linked, is_own_link, has_pair}
-use Rattle.lis_kept.specs.Sound.{AreSound}
 use Rattle.lis_kept.specs.Telling.{declared_of, is_used}
 use Rattle.lis_kept.specs.Forgetting.{emptied, ForgetsWithout}
 use Rattle.lis_store.specs.Stored.{AreClosed}

@@ -1,25 +1,23 @@
 -- What is kept once words are learnt.
-use Rattle.std.proofs.Common.{◌≡◌, ◌⊎◌, refl, sym, ap, ap₂, ◌∙◌, subst, inl, inr, ℕ, ◌||◌, Bool, true, List, [], Option, Some, None, is_some, IsSome}
+use Rattle.std.proofs.Common.{◌≡◌, ◌⊎◌, refl, sym, ap, ap₂, ◌∙◌, subst, inl, inr, ℕ, ◌||◌, true, List, [], Option, Some, None, is_some, IsSome}
 use Rattle.std.specs.List.{list_any, Contains}
-use Rattle.std.proofs.lemmas.Bool.{and_parts, or_cases, or_left, or_right}
+use Rattle.std.proofs.lemmas.Bool.{or_cases, or_left, or_right}
 use Rattle.lis_graph.proofs.Members.{Among, among_from_contains, among_from_any, any_from_among}
 use Rattle.lis_blockmap.specs.Bitmap.{is_taken}
-use Rattle.lis_dict.specs.Dict.{words, number_of, word_of}
-use Rattle.lis_dict.proofs.Laws.{word_from_number}
+use Rattle.lis_dict.specs.Dict.{words, word_of}
 use Rattle.lis_catalog.specs.Catalog.{Filed}
 use Rattle.lis_ext.specs.Ext.{has as number_has, set_of as numbers_at}
 use Rattle.lis_fields.specs.declared.slots.AxiomSlot.{AxiomSlot}
 use Rattle.lis_fields.specs.declared.slots.AxiomSlot.TheVariants.{Free as FreeAxiom, Pair}
-use Rattle.lis_words.specs.Words.{same_word, is_valued, head_bytes}
 use Rattle.lis_model.specs.State.{State, description}
-use Rattle.lis_laws.proofs.Members.{same_word_decides, among_with_words}
+use Rattle.lis_laws.proofs.Members.{among_with_words}
 use Rattle.lis_kept.specs.Kept.{Kept}
 use Rattle.lis_kept.specs.Links.{is_linked, is_own_link, has_pair}
 use Rattle.lis_kept.specs.Sound.{AreSound, FreeSlotsAreEmpty}
 use Rattle.lis_kept.specs.Telling.{declared_of, words_told, file_told, state_of, is_left_of, is_left_head_of, is_head_by, is_had, is_named_left, is_used}
 use Rattle.lis_kept.proofs.Filing.{number_from_among, filed_rec}
 use Rattle.lis_kept.proofs.Formed.{some_word, named_all}
-use Rattle.lis_kept.proofs.Known.{some_number, one_number, word_known, known_word}
+use Rattle.lis_kept.proofs.Known.{one_number, word_known, known_word}
 use Rattle.lis_store.specs.Stored.{AreClosed}
 use Rattle.lis_store.specs.Adding.{LearnsAll}
 use Rattle.lis_store.proofs.Removed.{same_map}

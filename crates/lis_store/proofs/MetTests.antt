@@ -1,5 +1,5 @@
 -- The declared tests that so many bytes meet: what they entail is left out of a row, and is gathered so.
-use Rattle.std.proofs.Common.{◌≡◌, ◌⊎◌, refl, sym, ap, ap₂, ◌∙◌, subst, inl, inr, ℕ, ◌+◌, ◌<◌, ◌≤◌, Bool, true, false, not, ◌&&◌, ◌||◌, cond, is_none, Option, Some, None, List, [], ◌∷◌, ◌++◌, length, map, filter, take, arith, append-nil}
+use Rattle.std.proofs.Common.{◌≡◌, ◌⊎◌, refl, sym, ap, ◌∙◌, inl, inr, ℕ, ◌+◌, ◌<◌, ◌≤◌, Bool, true, false, not, ◌&&◌, ◌||◌, cond, is_none, Option, Some, List, [], ◌∷◌, ◌++◌, length, map, filter, take, arith, append-nil}
 use Rattle.std.specs.List.{slice_get}
 use Rattle.std.proofs.lemmas.Bool.{and_parts, or_cases}
 use Rattle.std.proofs.lemmas.List.{map-append, take_more, take_all}
@@ -21,7 +21,7 @@ use Rattle.lis_kept.specs.Telling.{is_declared, declared_of, axioms_of}
 use Rattle.lis_kept.proofs.Known.{declared_has_number}
 use Rattle.lis_store.specs.Adding.{is_one_of}
 use Rattle.lis_store.specs.Describing.{leads, IsEntailed, AreGathered, Gathers}
-use Rattle.lis_store.proofs.Gathered.{or_nothing, wider, numbered_below}
+use Rattle.lis_store.proofs.Gathered.{wider, numbered_below}
 use Rattle.lis_store.proofs.Naming.{one_of, of_one}
 
 -- ---- word by word

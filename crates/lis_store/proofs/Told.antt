@@ -1,20 +1,14 @@
 -- What memory tells under other words.
-use Rattle.std.proofs.Common.{◌≡◌, ℕ, ◌+◌, ◌≤◌, true, List, [], ◌∷◌, ◌++◌, length, refl, sym, ap, ap₂, ◌∙◌, inl, inr, arith}
-use Rattle.std.proofs.Math.Path.{fun_ext}
+use Rattle.std.proofs.Common.{◌≡◌, ℕ, ◌+◌, ◌≤◌, List, [], ◌∷◌, ◌++◌, length, refl, ap, ap₂, inl, inr, arith}
 use Rattle.std.specs.declared.cmp.Ordering.{Ordering}
 use Rattle.std.specs.declared.cmp.Ordering.TheVariants.{Less, Equal, Greater}
 use Rattle.std.specs.Ordering.{match_ordering}
 use Rattle.std.specs.List.{flat_map}
 use Rattle.std.specs.Option.{option_to_list}
-use Rattle.lis_graph.specs.Graph as graph
 use Rattle.lis_graph.proofs.Members.{Among}
 use Rattle.lis_dict.specs.Dict.{Dict, word_of}
-use Rattle.lis_words.specs.Words.{word_cmp, same_word}
+use Rattle.lis_words.specs.Words.{word_cmp}
 use Rattle.lis_model.specs.Sets.{set_of, with_word, with_words}
-use Rattle.lis_model.specs.Derived.{derived_words}
-use Rattle.lis_model.specs.State.{File, heads, links, file_words}
-use Rattle.lis_model.specs.Tests.{has_no_tests}
-use Rattle.lis_model.proofs.NoTests.{no_weaker, no_met}
 use Rattle.lis_laws.proofs.Counts.{le_insert_key}
 use Rattle.lis_kept.specs.Telling.{words_told}
 
@@ -25,14 +19,6 @@ flat_same f g (x ∷ xs) same = ap₂ (λ ys zs. ys ++ zs) (same x (inl refl)) (
 -- numbers whose words are the same in both dictionaries
 pub words_same : (d e : Dict) (ns : List ℕ) → ((n : ℕ) → Among ns n → word_of e n ≡ word_of d n) → words_told e ns ≡ words_told d ns
 words_same d e ns same = ap set_of (flat_same (λ n. option_to_list (word_of e n)) (λ n. option_to_list (word_of d n)) ns (λ n m. ap option_to_list (same n m)))
-
--- declared words that are no tests add nothing to what a file has
-pub no_tests_more : (some more : List (List ℕ)) (axioms : List (List ℕ × List ℕ)) (file : File) → has_no_tests some ≡ true → has_no_tests more ≡ true
-    → file_words more axioms file ≡ file_words some axioms file
-no_tests_more some more axioms file none none_more =
-    let own : links more ≡ links some = fun_ext (λ word. ap (λ ws. heads word ++ ws) (no_weaker more word none_more ∙ sym (no_weaker some word none))) in
-    ap₂ (λ (own : List ℕ → List (List ℕ)) (tests : List (List ℕ)). set_of (flat_map (graph.up same_word word_cmp own axioms) (file.assigned ++ derived_words file.name file.bytes ++ tests)))
-    own (no_met more (length file.bytes) none_more ∙ sym (no_met some (length file.bytes) none))
 
 -- a new word makes a set longer by one
 pub length-with_word : (words : List (List ℕ)) (word : List ℕ) → ((w : List ℕ) → Among words w → word_cmp word w ≡ Equal → ⊥) → length (with_word words word) ≡ length words + 1

@@ -10,13 +10,11 @@ use Rattle.lis_catalog.specs.Catalog.{slot_of, rec_at, without_slot}
 use Rattle.lis_catalog.proofs.Laws.{rec_at-without_slot, slot_of-without_slot, slot_of-rec_at, filtered_none, filtered_one}
 use Rattle.lis_ext.specs.Ext.{has, set_of as numbers_at}
 use Rattle.lis_fields.specs.Records.{FileRecord}
-use Rattle.lis_words.specs.Words.{same_word, is_test, test_of}
+use Rattle.lis_words.specs.Words.{same_word}
 use Rattle.lis_model.specs.Image.{bitmap_start}
 use Rattle.lis_model.specs.State.{File, blocks_needed}
 use Rattle.lis_laws.proofs.Counts.{all_from}
 use Rattle.lis_laws.proofs.Members.{same_word_decides}
-use Rattle.lis_dict.specs.Dict.{word_of}
-use Rattle.lis_model.specs.Tests.{is_met}
 use Rattle.lis_kept.specs.Kept.{Kept}
 use Rattle.lis_kept.specs.Areas.{block_of}
 use Rattle.lis_kept.specs.Areas.Area.{Files}

@@ -6,7 +6,7 @@ use Rattle.std.proofs.lemmas.List.{length-map}
 use Rattle.std.proofs.lemmas.Option.{same_Some}
 use Rattle.lis_graph.proofs.Members.{Among, among_from_contains, contains_from_among, among_from_any, any_from_among, among_map, map_among}
 use Rattle.lis_dict.specs.Dict.{words, number_of, word_of}
-use Rattle.lis_dict.proofs.Laws.{among_from_word, number_from_among, word_from_among, number_below, word_is_formed}
+use Rattle.lis_dict.proofs.Laws.{among_from_word, number_from_among, word_from_among, number_below}
 use Rattle.lis_catalog.specs.Catalog.{Filed, slot_of, rec_at}
 use Rattle.lis_ext.specs.Ext.{has, set_of as numbers_at}
 use Rattle.lis_taxonomy.specs.Taxonomy.{Taxonomy, entails as leads}

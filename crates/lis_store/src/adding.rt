@@ -15,10 +15,10 @@ ghost use Rattle.lis_kept.specs.Telling.{declared_of, axioms_of};
 ghost use Rattle.lis_store.specs.Admitting.{IsAdmitted};
 ghost use Rattle.lis_store.specs.Adding.{is_one_of, numbers_named, AreNumbered, behind_head, with_heads, may_learn, HasWordRoom, LearnsAll, PutsIn};
 
-use crate::derived::derived;
 use crate::meeting::leave_out_met;
 use arrayvec::ArrayVec;
 use lis_bits::{Rows, and_not_row};
+use lis_derive::derive_words;
 use lis_eval::Scratch;
 use lis_journal::Journal;
 use lis_kept::Parts;
@@ -157,7 +157,7 @@ pub(crate) fn put_in<D: Disk>(
     ensures put { PutsIn (new_file name.now assigned.now payload.now) parts.old parts.new journal.old journal.new }
     ensures disk { disk.new ≡ disk.old }
 {
-    let derived = derived(name, payload);
+    let derived = derive_words(name, payload);
     learn_words(parts, assigned);
     learn_words(parts, derived.as_slice());
     let tags = numbers_of(parts, assigned, &mut scratch.candidates);

@@ -10,10 +10,10 @@ ghost use Rattle.lis_store.specs.Admitting.{described_by, known_with};
 ghost use Rattle.lis_store.specs.Describing.{with_heads, Gathers};
 ghost use Rattle.lis_store.specs.Instead.{HasNumbers};
 
-use crate::derived::derived;
 use crate::meeting::leave_out_met;
 use arrayvec::ArrayVec;
 use lis_bits::{Rows, and_not_row};
+use lis_derive::derive_words;
 use lis_kept::Parts;
 use lis_words::{Name, Word, head_of};
 
@@ -98,7 +98,12 @@ pub(crate) fn measure(
     let mut fresh = ArrayVec::new();
     row.fill(0, true);
     gather_all(parts, row, &mut fresh, words);
-    gather_all(parts, row, &mut fresh, derived(name, payload).as_slice());
+    gather_all(
+        parts,
+        row,
+        &mut fresh,
+        derive_words(name, payload).as_slice(),
+    );
     leave_out_met(parts, payload.len() as u64, row);
     row.negate(0);
     let fresh = fresh.len() as u32;

@@ -8,7 +8,6 @@ mod admitting;
 mod assigning;
 mod change;
 mod counting;
-mod derived;
 mod describing;
 mod file_bytes;
 mod instead;

@@ -12,9 +12,9 @@ ghost use Rattle.lis_store.specs.Replacing.{MayReplace};
 ghost use Rattle.lis_store.specs.ReplacingIn.{AreInForm, MayComeIn, LearnsOwn, Vacates, MakesWay, Overwrites, RefilesIn};
 
 use crate::adding::{learn_words, numbers_entailed, numbers_of};
-use crate::derived::derived;
 use crate::removing::numbers_at;
 use arrayvec::ArrayVec;
+use lis_derive::derive_words;
 use lis_eval::Scratch;
 use lis_fields::FileRec;
 use lis_journal::Journal;
@@ -79,7 +79,7 @@ fn learn_own(
     ensures scratch { HasRoom scratch.new parts.old.limits }
     ensures learnt { LearnsOwn (new_file name.now assigned.now payload.now) result.tags.items result.all.items parts.old parts.new }
 {
-    let derived = derived(name, payload);
+    let derived = derive_words(name, payload);
     learn_words(parts, assigned);
     learn_words(parts, derived.as_slice());
     let tags = numbers_of(parts, assigned, &mut scratch.candidates);

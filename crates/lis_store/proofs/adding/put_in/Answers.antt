@@ -26,13 +26,13 @@ learn_words-requires-clause-room g c = assigned_room c.args.parts.now c.requires
 
 pub learn_words-requires-2-clause-form : goal.learn_words-requires-2-clause-form
 learn_words-requires-2-clause-form g c =
-    let derived = c.as_slice.ensures.words ∙ c.derived-derived.ensures in
+    let derived = c.as_slice.ensures.words ∙ c.derive_words-derived.ensures in
     let P : List (List ℕ) → Type 0 = λ ws. list_all (may_learn c.learn_words.new.parts) ws ≡ true in
     subst P (sym derived) (derived_may c.learn_words.new.parts c.args.name.now c.args.payload.now)
 
 pub learn_words-requires-2-clause-room : goal.learn_words-requires-2-clause-room
 learn_words-requires-2-clause-room g c =
-    let derived = c.as_slice.ensures.words ∙ c.derived-derived.ensures in
+    let derived = c.as_slice.ensures.words ∙ c.derive_words-derived.ensures in
     let P : List (List ℕ) → Type 0 = λ ws. HasWordRoom c.learn_words.new.parts (with_heads ws) in
     subst P (sym derived) (derived_room c.args.parts.now c.requires.sound c.args.name.now c.args.assigned.now c.args.payload.now
     (may_come c.args.parts.now (new_file c.args.name.now c.args.assigned.now c.args.payload.now) c.requires.admitted) c.learn_words.new.parts c.learn_words.ensures)
@@ -43,9 +43,9 @@ numbers_entailed-numbers-requires-clause-numbered g c =
     let r = c.learn_words-2.new.parts in
     let learns = both_learnt p c.requires.sound c.args.name.now c.args.assigned.now c.args.payload.now
     (may_come c.args.parts.now (new_file c.args.name.now c.args.assigned.now c.args.payload.now) c.requires.admitted)
-    c.learn_words.new.parts r c.as_slice.result.now c.learn_words.ensures (c.as_slice.ensures.words ∙ c.derived-derived.ensures) c.learn_words-2.ensures in
+    c.learn_words.new.parts r c.as_slice.result.now c.learn_words.ensures (c.as_slice.ensures.words ∙ c.derive_words-derived.ensures) c.learn_words-2.ensures in
     let P : List (List ℕ) → Type 0 = λ ws. AreNumbered r.dict (c.args.assigned.now ++ ws) in
-    subst P (sym (c.as_slice-2.ensures.words ∙ c.derived-derived.ensures))
+    subst P (sym (c.as_slice-2.ensures.words ∙ c.derive_words-derived.ensures))
     (own_numbered p c.requires.sound c.args.name.now c.args.assigned.now c.args.payload.now
     (may_come c.args.parts.now (new_file c.args.name.now c.args.assigned.now c.args.payload.now) c.requires.admitted) r learns)
 
@@ -55,9 +55,9 @@ numbers_entailed-numbers-requires-clause-few g c =
     let r = c.learn_words-2.new.parts in
     let learns = both_learnt p c.requires.sound c.args.name.now c.args.assigned.now c.args.payload.now
     (may_come c.args.parts.now (new_file c.args.name.now c.args.assigned.now c.args.payload.now) c.requires.admitted)
-    c.learn_words.new.parts r c.as_slice.result.now c.learn_words.ensures (c.as_slice.ensures.words ∙ c.derived-derived.ensures) c.learn_words-2.ensures in
+    c.learn_words.new.parts r c.as_slice.result.now c.learn_words.ensures (c.as_slice.ensures.words ∙ c.derive_words-derived.ensures) c.learn_words-2.ensures in
     let P : List (List ℕ) → Type 0 = λ ws. length (all_up (declared_of r) (axioms_of r) (c.args.assigned.now ++ ws ++ met_tests (declared_of r) (length c.args.payload.now))) ≤ 128 in
-    subst P (sym (c.as_slice-2.ensures.words ∙ c.derived-derived.ensures))
+    subst P (sym (c.as_slice-2.ensures.words ∙ c.derive_words-derived.ensures))
     (entailed_short p c.requires.sound c.args.name.now c.args.assigned.now c.args.payload.now
     (may_come c.args.parts.now (new_file c.args.name.now c.args.assigned.now c.args.payload.now) c.requires.admitted) r learns)
 
@@ -76,7 +76,7 @@ add_file-slot-requires-clause-empty g c =
     let r = c.learn_words-2.new.parts in
     let learns = both_learnt p c.requires.sound c.args.name.now c.args.assigned.now c.args.payload.now
     (may_come c.args.parts.now (new_file c.args.name.now c.args.assigned.now c.args.payload.now) c.requires.admitted)
-    c.learn_words.new.parts r c.as_slice.result.now c.learn_words.ensures (c.as_slice.ensures.words ∙ c.derived-derived.ensures) c.learn_words-2.ensures in
+    c.learn_words.new.parts r c.as_slice.result.now c.learn_words.ensures (c.as_slice.ensures.words ∙ c.derive_words-derived.ensures) c.learn_words-2.ensures in
     free_learnt p r _ learns c.requires.sound c.requires.free
 
 pub describe-requires-clause-was : goal.describe-requires-clause-was
@@ -85,7 +85,7 @@ describe-requires-clause-was g c =
     let r = c.learn_words-2.new.parts in
     let learns = both_learnt p c.requires.sound c.args.name.now c.args.assigned.now c.args.payload.now
     (may_come c.args.parts.now (new_file c.args.name.now c.args.assigned.now c.args.payload.now) c.requires.admitted)
-    c.learn_words.new.parts r c.as_slice.result.now c.learn_words.ensures (c.as_slice.ensures.words ∙ c.derived-derived.ensures) c.learn_words-2.ensures in
+    c.learn_words.new.parts r c.as_slice.result.now c.learn_words.ensures (c.as_slice.ensures.words ∙ c.derive_words-derived.ensures) c.learn_words-2.ensures in
     slot_was_empty p r c.add_file-slot.new.self _ c.args.name.now c.numbers_of-tags.result.items c.args.payload.now c.add_file-slot.result c.args.journal.now c.add_file-slot.new.journal
     c.requires.free learns c.add_file-slot.ensures.added
 
@@ -107,10 +107,10 @@ pub returns-clause-put : goal.returns-clause-put
 returns-clause-put g c =
     let p = c.args.parts.now in
     let r = c.learn_words-2.new.parts in
-    let derived = c.as_slice-2.ensures.words ∙ c.derived-derived.ensures in
+    let derived = c.as_slice-2.ensures.words ∙ c.derive_words-derived.ensures in
     let learns = both_learnt p c.requires.sound c.args.name.now c.args.assigned.now c.args.payload.now
     (may_come c.args.parts.now (new_file c.args.name.now c.args.assigned.now c.args.payload.now) c.requires.admitted)
-    c.learn_words.new.parts r c.as_slice.result.now c.learn_words.ensures (c.as_slice.ensures.words ∙ c.derived-derived.ensures) c.learn_words-2.ensures in
+    c.learn_words.new.parts r c.as_slice.result.now c.learn_words.ensures (c.as_slice.ensures.words ∙ c.derive_words-derived.ensures) c.learn_words-2.ensures in
     let numbers =
     c.as_slice-3.ensures.value
     ∙ (c.numbers_entailed-numbers.ensures.numbers

@@ -23,7 +23,7 @@ all_gathered c =
     let words = with_heads c.args.words.now in
     let none = subst (λ (ws : List (List ℕ)). AreGathered k [] c.fill.new.self ws) (sym c.new-fresh.ensures) (none_gathered k c.requires.sound c.args.row.now c.fill.new.self c.requires.shape c.fill.ensures) in
     let both = c.gather_all-2.ensures.gathered words (c.gather_all.ensures.gathered [] none) in
-    let headed = subst (λ ws. AreGathered k (words ++ with_heads ws) c.gather_all-2.new.lacked fresh) (c.as_slice.ensures.words ∙ c.derived.ensures) both in
+    let headed = subst (λ ws. AreGathered k (words ++ with_heads ws) c.gather_all-2.new.lacked fresh) (c.as_slice.ensures.words ∙ c.derive_words.ensures) both in
     let tests = met_tests (declared_of k) (length c.args.payload.now) in
     (gathers_out k c.requires.sound tests (met_numbered k c.requires.sound (length c.args.payload.now)) c.gather_all-2.new.lacked c.leave_out_met.new.row c.leave_out_met.ensures.shape c.leave_out_met.ensures.bits fresh).gathered
     (words ++ with_heads (derived_words c.args.name.now c.args.payload.now)) headed

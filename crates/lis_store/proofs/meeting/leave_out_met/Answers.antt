@@ -1,6 +1,5 @@
-use Rattle.std.proofs.Common.{◌≡◌, ◌∙◌, ℕ, ◌+◌, ◌≤◌, not, ◌&&◌, Some, List, ◌∷◌, [], ◌++◌, is_some, length, sym, ap, subst, arith}
+use Rattle.std.proofs.Common.{◌≡◌, ◌∙◌, ℕ, ◌+◌, not, ◌&&◌, Some, List, sym, ap, subst, arith}
 use Rattle.std.specs.List.{slice_get}
-use Rattle.std.proofs.lemmas.Bool.{both_ways}
 use Rattle.lis_bits.specs.Rows.{get, with_row}
 use Rattle.lis_dict.proofs.Laws.{number_from_among, number_below}
 use Rattle.lis_eval.proofs.Members.{past_end}

@@ -18,13 +18,13 @@ learn_words-requires-clause-room c = assigned_room c.args.parts.now c.requires.s
 
 pub learn_words-requires-2-clause-form : goal.learn_words-requires-2-clause-form
 learn_words-requires-2-clause-form c =
-    let derived = c.as_slice.ensures.words ∙ c.derived-derived.ensures in
+    let derived = c.as_slice.ensures.words ∙ c.derive_words-derived.ensures in
     let P : List (List ℕ) → Type 0 = λ ws. list_all (may_learn c.learn_words.new.parts) ws ≡ true in
     subst P (sym derived) (derived_may c.learn_words.new.parts c.args.name.now c.args.payload.now)
 
 pub learn_words-requires-2-clause-room : goal.learn_words-requires-2-clause-room
 learn_words-requires-2-clause-room c =
-    let derived = c.as_slice.ensures.words ∙ c.derived-derived.ensures in
+    let derived = c.as_slice.ensures.words ∙ c.derive_words-derived.ensures in
     let P : List (List ℕ) → Type 0 = λ ws. HasWordRoom c.learn_words.new.parts (with_heads ws) in
     subst P (sym derived) (derived_room c.args.parts.now c.requires.sound c.args.name.now c.args.assigned.now c.args.payload.now c.requires.may c.learn_words.new.parts c.learn_words.ensures)
 
@@ -33,9 +33,9 @@ numbers_entailed-all-requires-clause-numbered c =
     let p = c.args.parts.now in
     let r = c.learn_words-2.new.parts in
     let learns = both_learnt p c.requires.sound c.args.name.now c.args.assigned.now c.args.payload.now c.requires.may
-    c.learn_words.new.parts r c.as_slice.result.now c.learn_words.ensures (c.as_slice.ensures.words ∙ c.derived-derived.ensures) c.learn_words-2.ensures in
+    c.learn_words.new.parts r c.as_slice.result.now c.learn_words.ensures (c.as_slice.ensures.words ∙ c.derive_words-derived.ensures) c.learn_words-2.ensures in
     let P : List (List ℕ) → Type 0 = λ ws. AreNumbered r.dict (c.args.assigned.now ++ ws) in
-    subst P (sym (c.as_slice-2.ensures.words ∙ c.derived-derived.ensures))
+    subst P (sym (c.as_slice-2.ensures.words ∙ c.derive_words-derived.ensures))
     (own_numbered p c.requires.sound c.args.name.now c.args.assigned.now c.args.payload.now c.requires.may r learns)
 
 pub numbers_entailed-all-requires-clause-few : goal.numbers_entailed-all-requires-clause-few
@@ -43,9 +43,9 @@ numbers_entailed-all-requires-clause-few c =
     let p = c.args.parts.now in
     let r = c.learn_words-2.new.parts in
     let learns = both_learnt p c.requires.sound c.args.name.now c.args.assigned.now c.args.payload.now c.requires.may
-    c.learn_words.new.parts r c.as_slice.result.now c.learn_words.ensures (c.as_slice.ensures.words ∙ c.derived-derived.ensures) c.learn_words-2.ensures in
+    c.learn_words.new.parts r c.as_slice.result.now c.learn_words.ensures (c.as_slice.ensures.words ∙ c.derive_words-derived.ensures) c.learn_words-2.ensures in
     let P : List (List ℕ) → Type 0 = λ ws. length (all_up (declared_of r) (axioms_of r) (c.args.assigned.now ++ ws ++ met_tests (declared_of r) (length c.args.payload.now))) ≤ 128 in
-    subst P (sym (c.as_slice-2.ensures.words ∙ c.derived-derived.ensures))
+    subst P (sym (c.as_slice-2.ensures.words ∙ c.derive_words-derived.ensures))
     (entailed_short p c.requires.sound c.args.name.now c.args.assigned.now c.args.payload.now c.requires.may r learns)
 
 pub returns-clause-learnt : goal.returns-clause-learnt
@@ -53,9 +53,9 @@ returns-clause-learnt c =
     let p = c.args.parts.now in
     let r = c.learn_words-2.new.parts in
     let file = new_file c.args.name.now c.args.assigned.now c.args.payload.now in
-    let derived = c.as_slice-2.ensures.words ∙ c.derived-derived.ensures in
+    let derived = c.as_slice-2.ensures.words ∙ c.derive_words-derived.ensures in
     let learns = both_learnt p c.requires.sound c.args.name.now c.args.assigned.now c.args.payload.now c.requires.may
-    c.learn_words.new.parts r c.as_slice.result.now c.learn_words.ensures (c.as_slice.ensures.words ∙ c.derived-derived.ensures) c.learn_words-2.ensures in
+    c.learn_words.new.parts r c.as_slice.result.now c.learn_words.ensures (c.as_slice.ensures.words ∙ c.derive_words-derived.ensures) c.learn_words-2.ensures in
     let numbers =
     c.numbers_entailed-all.ensures.numbers
     ∙ ap (λ (ws : List (List ℕ)). numbers_named r.dict ws)
