@@ -6,6 +6,7 @@ use Rattle.lis_kept.specs.Kept.{Kept}
 use Rattle.lis_kept.specs.Areas.{marked_count}
 use Rattle.lis_kept.specs.Sound.{AreSound}
 use Rattle.lis_kept.specs.Forgetting.{KeepsInUse}
+use Rattle.lis_store.specs.Stored.{TestsAreMet}
 use Rattle.lis_store.specs.Saving.{clean}
 
 pub clean_is : (k : Kept) → (clean k).marks ≡ replicate (length (clean k).marks) false
@@ -21,7 +22,7 @@ sound_clean k sound = record {
   flagged = sound.flagged;
   properties = sound.properties;
   axiom_count = sound.axiom_count;
-  axioms = λ slot left right is. let one = sound.axioms slot left right is in record { below = one.below; left = one.left; right = one.right };
+  axioms = λ slot left right is. let one = sound.axioms slot left right is in record { below = one.below; left = one.left; right = one.right; plain = one.plain };
   slots = sound.slots;
   catalog = sound.catalog;
   records = sound.records;
@@ -40,3 +41,6 @@ in_use_clean k keeps = record { used = keeps.used; tags = keeps.tags; rights = k
 pub none_marked : (k : Kept) → k.marks ≡ replicate (length k.marks) false → marked_count k ≡ 0
 none_marked k is =
     ap (count_by (λ (b : Bool). b)) is ∙ (sum_by-replicate (λ (b : Bool). cond b 1 0) (length k.marks) false ∙ omega arith)
+
+pub tests_clean : (k : Kept) → TestsAreMet k → TestsAreMet (clean k)
+tests_clean k tests = record { given = tests.given; met = tests.met }

@@ -33,6 +33,7 @@ pub mod AddedMarks
 pub mod Assigned
 pub mod PlaceNumbers
 pub mod Under
+pub mod TestUnder
 pub mod Gathered
 pub mod Measured
 pub mod Admitted
@@ -52,7 +53,7 @@ pub mod Related
 pub mod Remaining
 pub mod HeadsUsed
 pub mod RemainingRows
-pub mod LessSlots
+pub mod Redescribed
 pub mod AxiomGone
 pub mod Unaxiomed
 pub mod AxiomFound

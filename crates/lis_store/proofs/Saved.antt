@@ -37,6 +37,7 @@ module _ (p : Kept) (j x : Held) (whole : IsSound (settled p j)) (image : x.bloc
         pairs = whole.pairs;
         closed = whole.closed;
         short = whole.short;
+        tests = whole.tests;
         taken = whole.taken;
         apart = whole.apart;
         in_use = whole.in_use;
@@ -55,6 +56,7 @@ module _ (p : Kept) (j x : Held) (whole : IsSound (settled p j)) (image : x.bloc
     pairs = whole.pairs;
     closed = whole.closed;
     short = whole.short;
+    tests = record { given = whole.tests.given; met = whole.tests.met };
     taken = whole.taken;
     apart = whole.apart;
     in_use = record { used = whole.in_use.used; tags = whole.in_use.tags; rights = whole.in_use.rights };

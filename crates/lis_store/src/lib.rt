@@ -16,6 +16,7 @@ mod judging;
 pub mod laws;
 mod lessening;
 mod looking;
+mod meeting;
 mod placing;
 mod relating;
 mod relating_in;
@@ -25,6 +26,7 @@ mod retagging;
 mod saving;
 mod store;
 mod tags;
+mod testing;
 
 pub use change::Change;
 pub use counting::Counts;
