@@ -32,12 +32,15 @@ use Rattle.lis_kept.proofs.Formed.{named_all, named_below}
 use Rattle.lis_kept.proofs.Known.{some_number, among_word, word_among}
 use Rattle.lis_kept.proofs.Numbered.{Numbers, numbers_are}
 use Rattle.lis_store.specs.Adding.{is_one_of}
+use Rattle.lis_store.specs.Placing.{AreNumbersOf}
 use Rattle.lis_store.specs.Relating.{entails_number}
-use Rattle.lis_store.specs.Testing.{is_met_by, is_met_at, is_gained_by, wider, is_crowded, has_crowded}
+use Rattle.lis_store.specs.Testing.{is_met_by, is_met_at, is_gained, is_gained_by, wider, is_crowded, has_crowded}
+use Rattle.lis_store.specs.Unlinking.{is_entailed}
 use Rattle.lis_store.proofs.Entailment.{up_has_number}
 use Rattle.lis_store.proofs.Facts.{file_of_filed, filed_of_file}
 use Rattle.lis_store.proofs.Measured.{numbers_apart, told_counted}
 use Rattle.lis_store.proofs.Naming.{one_of, of_one}
+use Rattle.lis_store.proofs.Remaining.{led, led_from}
 use Rattle.lis_store.proofs.Told.{length-with_word}
 use Rattle.lis_store.proofs.TestUnder.{unmet_same, met_gains}
 
@@ -59,12 +62,33 @@ pub by_gained : (k : Kept) (words : List (List ℕ)) (n : ℕ) → IsGainedBy k 
 by_gained k words n from =
     any_from_among (λ word. entails_number k word n) words from.source from.among (of_one (up (declared_of k) (axioms_of k) from.source) (word_of k.dict n) from.word from.named from.entailed)
 
+-- the same of the numbers of the words
+module _ (k : Kept) (sound : AreSound k) (words : List (List ℕ)) (rights : List ℕ) (numbers : AreNumbersOf k words rights) where
+  pub gained_told : (n : ℕ) → is_gained k rights n ≡ is_gained_by k words n
+  gained_told n = same_tests (is_gained k rights n) (is_gained_by k words n) forth back
+    where
+      forth : is_gained k rights n ≡ true → is_gained_by k words n ≡ true
+      forth h =
+          let found = among_from_any (λ m. is_entailed k m n) rights h in
+          let l = led k found.0 n found.2 in
+          let among = subst (λ ws. Among ws l.from) numbers.told (word_among k sound rights found.0 l.from l.is_from (number_from_among rights found.0 found.1)) in
+          by_gained k words n (record { source = l.from; among = among; word = l.to; named = l.is_to; entailed = l.entailed })
+
+      back : is_gained_by k words n ≡ true → is_gained k rights n ≡ true
+      back h =
+          let from = gained_by k words n h in
+          let m = among_word k sound rights from.source (subst (λ ws. Among ws from.source) (sym numbers.told) from.among) in
+          any_from_among (λ i. is_entailed k i n) rights m.0 (among_from_number rights m.0 m.2) (led_from k m.0 n from.source from.word m.1 from.named from.entailed)
+
+  pub gains_same : is_gained k rights ≡ is_gained_by k words
+  gains_same = fun_ext gained_told
+
 -- ---- descriptions with all that they entail
 module _ (k : Kept) (sound : AreSound k) (at : ℕ → List ℕ) (s : State) (free : FreeSlotsAreEmpty k) (tells : Tells k at s) (words : List (List ℕ)) (declared : list_all (is_declared k) words ≡ true) where
   abbrev gains : ℕ → Bool
   gains = is_gained_by k words
 
-  declared_number : (v : List ℕ) → Among words v → (n : ℕ) × (word_of k.dict n ≡ Some v)
+  pub declared_number : (v : List ℕ) → Among words v → (n : ℕ) × (word_of k.dict n ≡ Some v)
   declared_number v m = by (number_of k.dict v) refl
     where
       by : (o : Option ℕ) → number_of k.dict v ≡ o → (n : ℕ) × (word_of k.dict n ≡ Some v)

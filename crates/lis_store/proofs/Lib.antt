@@ -34,6 +34,8 @@ pub mod Assigned
 pub mod PlaceNumbers
 pub mod Under
 pub mod TestUnder
+pub mod Crowded
+pub mod Tested
 pub mod Gathered
 pub mod Measured
 pub mod Admitted
