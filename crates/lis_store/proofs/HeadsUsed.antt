@@ -18,7 +18,7 @@ use Rattle.lis_kept.specs.Kept.{Kept, property_by}
 use Rattle.lis_kept.specs.Sound.{AreSound}
 use Rattle.lis_kept.specs.Links.{has_pair, is_own_link}
 use Rattle.lis_kept.specs.Telling.{declared_of, is_left_of, is_head_by, is_left_head_of, is_had, is_named_left, is_used}
-use Rattle.lis_kept.proofs.OwnLinks.{own_link_is}
+use Rattle.lis_kept.proofs.OwnLinks.{own_head}
 use Rattle.lis_kept.proofs.Used.{had_at}
 use Rattle.lis_kept.proofs.WordLess.{had_from}
 use Rattle.lis_store.specs.Stored.{AreClosed}
@@ -26,9 +26,8 @@ use Rattle.lis_store.specs.Stored.{AreClosed}
 -- the word of a number that is declared is not valued
 pub flagged_not_valued : (k : Kept) → AreSound k → (n : ℕ) (w : List ℕ) → word_of k.dict n ≡ Some w → is_taken k.declared n ≡ true → is_valued w ≡ false
 flagged_not_valued k sound n w is bit =
-    let formed : (is_property w && is_declarable w) ≡ true =
-    sym (ap (λ b. is_prop (property_by (Some w) b)) bit) ∙ (sym (ap (λ o. is_prop (property_by o (is_taken k.declared n))) is) ∙ sound.properties n) in
-    declarable_not_valued w (and_parts (is_property w) (is_declarable w) formed).1
+    let formed : is_declarable w ≡ true = sym (ap (λ b. is_prop (property_by (Some w) b)) bit) ∙ (sym (ap (λ o. is_prop (property_by o (is_taken k.declared n))) is) ∙ sound.properties n) in
+    declarable_not_valued w formed
 
 module _ (k : Kept) where
   pub used_flagged : (n : ℕ) → is_taken k.declared n ≡ true → is_used k n ≡ true
@@ -71,7 +70,7 @@ module _ (k : Kept) (sound : AreSound k) (closed : AreClosed k) (n head : ℕ) (
 
   had_head : (slot : ℕ) → has k.ext n slot ≡ true → is_used k head ≡ true
   had_head slot h =
-      let linked = or_left (is_own_link (declared_of k) (word_of k.dict n) (word_of k.dict head)) (has_pair k.axioms n head) (own_link_is k sound.dict n head ∙ is_head) in
+      let linked = or_left (is_own_link (declared_of k) (word_of k.dict n) (word_of k.dict head)) (has_pair k.axioms n head) (own_head (declared_of k) (word_of k.dict n) (word_of k.dict head) is_head) in
       used_had k head slot (closed slot n head h linked)
 
   left_head : list_any (is_left_of n) k.axioms ≡ true → is_used k head ≡ true

@@ -9,7 +9,7 @@ ghost use Rattle.lis_store.specs.Changes.{Judges};
 ghost use Rattle.lis_store.specs.Judging.{word_checks, undeclare_checks};
 ghost use Rattle.lis_store.specs.Placing.{AreNumbersOf};
 
-use crate::meeting::has_crowded;
+use crate::crowding::has_crowded;
 use crate::placing::{has_plain_words, place_numbers};
 use arrayvec::ArrayVec;
 use lis_kept::Parts;

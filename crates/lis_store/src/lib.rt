@@ -16,7 +16,7 @@ mod judging;
 pub mod laws;
 mod lessening;
 mod looking;
-mod meeting;
+mod crowding;
 mod placing;
 mod relating;
 mod relating_in;

@@ -14,7 +14,7 @@ ghost use Rattle.lis_store.specs.Redescribing.{Gives, Redescribes};
 ghost use Rattle.lis_store.specs.Stored.{DescriptionsAreShort};
 ghost use Rattle.lis_store.specs.Testing.{is_gained, has_crowded, tested, DeclaresTested, without_number, undescribed, UndeclaresUnmet};
 
-use crate::meeting::{is_met_at, would_gain};
+use crate::crowding::{is_met_at, would_gain};
 use crate::removing::numbers_at;
 use arrayvec::ArrayVec;
 use lis_kept::Parts;
