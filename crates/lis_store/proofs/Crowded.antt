@@ -1,11 +1,14 @@
 -- How many words files would have with a test that is declared.
-use Rattle.std.proofs.Common.{◌≡◌, ◌⊎◌, refl, sym, ap, ap₂, ◌∙◌, subst, inl, inr, ℕ, ◌+◌, ◌<◌, ◌≤◌, nat_lt, nat_le, ◌&&◌, ◌||◌, Bool, true, false, List, [], length, Option, Some, None, is_some, IsSome, arith}
+use Rattle.std.proofs.Common.{◌≡◌, ◌⊎◌, refl, sym, ap, ap₂, ◌∙◌, subst, inl, inr, ℕ, ◌+◌, ◌<◌, ◌≤◌, nat_lt, nat_le, ◌&&◌, ◌||◌, Bool, true, false, List, [], ◌∷◌, length, take, get_or, Option, Some, None, is_some, IsSome, arith}
 use Rattle.std.proofs.Math.Path.{fun_ext}
 use Rattle.std.specs.declared.cmp.Ordering.TheVariants.{Equal}
 use Rattle.std.specs.List.{list_any, list_all, range_with_len}
 use Rattle.std.proofs.lemmas.Bool.{and_parts, and_from, or_cases, or_left, or_right, both_ways, false_from_ne_true, ltb-true, lt-ltb, leb-true}
+use Rattle.std.proofs.lemmas.List.{take_more}
+use Rattle.std.proofs.lemmas.List.Elements.{Contains-get_or}
+use Rattle.std.proofs.lemmas.List.Folds.{list_any-append}
 use Rattle.std.proofs.lemmas.Option.{same_Some}
-use Rattle.lis_graph.proofs.Members.{Among, among_from_any, any_from_among, contains_from_among}
+use Rattle.lis_graph.proofs.Members.{Among, among_from_any, any_from_among, among_from_contains, contains_from_among}
 use Rattle.lis_graph.proofs.Ranges.{among_range, range_among}
 use Rattle.lis_content.specs.Content.{has_number}
 use Rattle.lis_dict.specs.Dict.{number_of, word_of}
@@ -14,6 +17,7 @@ use Rattle.lis_catalog.specs.Catalog.{Filed, rec_at}
 use Rattle.lis_catalog.proofs.Laws.{slot_is_below}
 use Rattle.lis_ext.specs.Ext.{has, set_of as numbers_at}
 use Rattle.lis_fields.specs.Records.{FileRecord}
+use Rattle.lis_taxonomy.specs.Taxonomy.{Taxonomy, entails as leads}
 use Rattle.lis_words.specs.Words.{word_cmp, has_word, is_test, is_property, test_of}
 use Rattle.lis_model.specs.Sets.{with_word, with_words}
 use Rattle.lis_model.specs.Tests.{is_met}
@@ -24,18 +28,20 @@ use Rattle.lis_laws.proofs.Closures.{entailing, entailed_in, sorted_all_up}
 use Rattle.lis_laws.proofs.Counts.{all_among}
 use Rattle.lis_laws.proofs.Members.{word_exact, among_with_words, with_words_old, with_words_new, sorted_with_words}
 use Rattle.lis_kept.specs.Kept.{Kept}
+use Rattle.lis_kept.specs.Links.{TellsLinks}
 use Rattle.lis_kept.specs.Sound.{AreSound, FreeSlotsAreEmpty}
 use Rattle.lis_kept.specs.Telling.{bit_of, is_declared, declared_of, axioms_of, bytes_told, words_told, file_told, state_of, Tells}
 use Rattle.lis_kept.proofs.Described.{among_where, where_among}
 use Rattle.lis_kept.proofs.Filing.{same_tests, among_from_number, number_from_among, filed_rec, filed_at_slot}
-use Rattle.lis_kept.proofs.Formed.{named_all, named_below}
+use Rattle.lis_kept.proofs.Formed.{named_all, named_below, some_word}
 use Rattle.lis_kept.proofs.Known.{some_number, among_word, word_among}
 use Rattle.lis_kept.proofs.Numbered.{Numbers, numbers_are}
 use Rattle.lis_store.specs.Adding.{is_one_of}
 use Rattle.lis_store.specs.Placing.{AreNumbersOf}
 use Rattle.lis_store.specs.Relating.{entails_number}
 use Rattle.lis_store.specs.Testing.{is_met_by, is_met_at, is_gained, is_gained_by, wider, is_crowded, has_crowded}
-use Rattle.lis_store.specs.Unlinking.{is_entailed}
+use Rattle.lis_store.specs.Unlinking.{entails_by, is_entailed}
+use Rattle.lis_store.proofs.Entailed.{entails_told}
 use Rattle.lis_store.proofs.Entailment.{up_has_number}
 use Rattle.lis_store.proofs.Facts.{file_of_filed, filed_of_file}
 use Rattle.lis_store.proofs.Measured.{numbers_apart, told_counted}
@@ -61,6 +67,45 @@ gained_by k words n h =
 pub by_gained : (k : Kept) (words : List (List ℕ)) (n : ℕ) → IsGainedBy k words n → is_gained_by k words n ≡ true
 by_gained k words n from =
     any_from_among (λ word. entails_number k word n) words from.source from.among (of_one (up (declared_of k) (axioms_of k) from.source) (word_of k.dict n) from.word from.named from.entailed)
+
+-- ---- one slot after another
+pub crowded_at : (k : Kept) (t : Option (Bool × ℕ)) (gains : ℕ → Bool) (slot : ℕ) → slot < k.limits.files → is_crowded k t gains slot ≡ true → has_crowded k t gains ≡ true
+crowded_at k t gains slot lt is = any_from_among (is_crowded k t gains) (range_with_len 0 k.limits.files) slot (range_among 0 k.limits.files slot (omega arith) (omega (arith, lt))) is
+
+pub crowded_nowhere : (k : Kept) (t : Option (Bool × ℕ)) (gains : ℕ → Bool) → ((slot : ℕ) → slot < k.limits.files → is_crowded k t gains slot ≡ false) → has_crowded k t gains ≡ false
+crowded_nowhere k t gains none = false_from_ne_true (has_crowded k t gains) (λ h.
+    let found = among_from_any (is_crowded k t gains) (range_with_len 0 k.limits.files) h in
+    let range = among_range 0 k.limits.files found.0 found.1 in
+    both_ways (is_crowded k t gains found.0) (none found.0 (omega (arith, range.1))) found.2)
+
+-- ---- one number after another
+-- a taxonomy tells what numbers entail
+pub number_led : (k : Kept) → AreSound k → (t : Taxonomy) → TellsLinks k t → (m n : ℕ) → is_some (word_of k.dict m) ≡ true → leads t m n ≡ is_entailed k m n
+number_led k sound t tells m n some =
+    let w = some_word (word_of k.dict m) some in
+    entails_told k sound t tells m w.0 w.1 n ∙ sym (ap (λ o. entails_by k o (word_of k.dict n)) w.1)
+
+module _ (k : Kept) (sound : AreSound k) (numbers : List ℕ) (named : list_all (λ n. is_some (word_of k.dict n)) numbers ≡ true) (i : ℕ) (lt : i < length numbers) where
+  abbrev pub number_at : ℕ
+  number_at = get_or numbers i 0
+
+  among_at : Among numbers number_at
+  among_at = among_from_contains numbers number_at (Contains-get_or numbers i 0 lt)
+
+  pub named_at : is_some (word_of k.dict number_at) ≡ true
+  named_at = all_among (λ n. is_some (word_of k.dict n)) numbers number_at named among_at
+
+  pub below_at : number_at < k.limits.props
+  below_at = named_below k sound number_at named_at
+
+  pub gained_at : (other : ℕ) → is_entailed k number_at other ≡ true → is_gained k numbers other ≡ true
+  gained_at other is = any_from_among (λ m. is_entailed k m other) numbers number_at among_at is
+
+  pub not_gained_at : (other : ℕ) → is_gained k (take i numbers) other ≡ false → is_entailed k number_at other ≡ false → is_gained k (take (i + 1) numbers) other ≡ false
+  not_gained_at other none not_led =
+      ap (λ ns. is_gained k ns other) (take_more numbers i 0 lt)
+      ∙ (list_any-append (λ m. is_entailed k m other) (take i numbers) (number_at ∷ [])
+      ∙ ap₂ (λ a b. a || (b || false)) none not_led)
 
 -- the same of the numbers of the words
 module _ (k : Kept) (sound : AreSound k) (words : List (List ℕ)) (rights : List ℕ) (numbers : AreNumbersOf k words rights) where

@@ -503,7 +503,7 @@ module _ (k : Kept) (sound : AreSound k) (pairs : PairsAreApart k) (at : ℕ →
   by_row done false false false false over is_own is_valued is_there is_plain is_over = refl
   by_row done false false false true false is_own is_valued is_there is_plain is_over = refl
   by_row done false false false true true is_own is_valued is_there is_plain is_over =
-      let form = declarable_from word (or_left (is_word word) (is_test word) kept) is_valued is_own in
+      let form = declarable_from word kept is_valued is_own in
       let new = new_word k word sound form is_there in
       let axioms : exceeds_axioms made ≡ many_axioms = ap₂ (λ a b. nat_lt a b) most (axioms_more k sound pairs at s free tells word kept new words (apart_at place)) in
       let room : exceeds_known made ≡ many_words = ap₂ (λ a b. nat_lt a b) most (known_more k sound pairs at s free tells word kept new words form (plain_at place is_plain) is_over) in
