@@ -22,7 +22,7 @@ use Rattle.lis_model.specs.Tests.{are_weaker, is_met}
 use Rattle.lis_model.specs.State.{State, up}
 use Rattle.lis_laws.proofs.Apart.{test_not_valued}
 use Rattle.lis_laws.proofs.Chains.{up_wider}
-use Rattle.lis_laws.proofs.Counts.{all_among}
+use Rattle.lis_laws.proofs.Counts.{all_among, all_from}
 use Rattle.lis_laws.proofs.Forms.{under, under_old}
 use Rattle.lis_laws.proofs.Members.{same_word_decides}
 use Rattle.lis_kept.specs.Kept.{Kept}
@@ -31,13 +31,13 @@ use Rattle.lis_kept.specs.Areas.Area.{Rows}
 use Rattle.lis_kept.specs.Sound.{AreSound, FreeSlotsAreEmpty}
 use Rattle.lis_kept.specs.Forgetting.{KeepsInUse}
 use Rattle.lis_kept.specs.Links.{is_own_link, is_linked, has_pair}
-use Rattle.lis_kept.specs.Telling.{declared_of, axioms_of, is_head_by, is_used}
+use Rattle.lis_kept.specs.Telling.{words_told, declared_of, axioms_of, is_head_by, is_used}
 use Rattle.lis_kept.specs.TestEdges.{test_by, is_test_link}
-use Rattle.lis_kept.specs.Under.{DeclaresUnder}
+use Rattle.lis_kept.specs.Under.{is_plain_by, MayStandUnder, DeclaresUnder}
 use Rattle.lis_kept.proofs.Described.{among_where, where_among}
 use Rattle.lis_kept.proofs.Filing.{same_tests, among_from_number, number_from_among}
 use Rattle.lis_kept.proofs.Formed.{named_all, named_below, some_word}
-use Rattle.lis_kept.proofs.Known.{among_axiom}
+use Rattle.lis_kept.proofs.Known.{among_axiom, among_word}
 use Rattle.lis_kept.proofs.MarkedWithin.{marked_within}
 use Rattle.lis_kept.proofs.OwnLinks.{unnamed_to, unnamed_from}
 use Rattle.lis_kept.proofs.StandsUnder.{each_pairs}
@@ -52,12 +52,12 @@ use Rattle.lis_store.proofs.Declared.{parts_are, dict_is, ext_is, word_other, wo
 use Rattle.lis_store.proofs.HeadsUsed.{used_flagged, used_had, used_left, IsUsedFor, used_for}
 use Rattle.lis_store.proofs.HeadsUsed.IsUsedFor.{Flagged, HadAt, NamedLeft}
 use Rattle.lis_store.proofs.Numbers.{sorted_where}
-use Rattle.lis_store.proofs.Redescribed.{given_then, redescribed_edits}
+use Rattle.lis_store.proofs.Redescribed.{same_here, given_then, redescribed_edits}
 use Rattle.lis_store.proofs.Remaining.{led, led_from, led_itself, led_on, few_within}
 use Rattle.lis_store.proofs.TestUnder.{meets_weaker, plain_entails}
 
 -- ---- the blocks that are marked
-taken_from : List Bool → ℕ → List ℕ
+abbrev taken_from : List Bool → ℕ → List ℕ
 taken_from [] i = []
 taken_from (true ∷ bits) i = i ∷ taken_from bits (suc i)
 taken_from (false ∷ bits) i = taken_from bits (suc i)
@@ -106,6 +106,58 @@ had_rec k free n slot had = by (rec_at k.catalog slot) refl
     by None none = absurd (both_ways (has k.ext n slot) (free slot none n) had)
     by (Some rec) is = (rec, is)
 
+-- a slot that is not reached yet gets what it gets at first
+module _ (t : Option (Bool × ℕ)) (number : ℕ) (rights : List ℕ) (n : ℕ) (p q : Kept) (so_far : Redescribes (tested p t number rights) n p q) where
+  pub tested_same : tested q t number rights n ≡ tested p t number rights n
+  tested_same =
+      ap (λ (k : Kept). if is_met_at k t n then numbers_where q.ext.props (λ i. (number == i) || (has q.ext i n || is_gained k rights i)) else numbers_at q.ext n) so_far.parts
+      ∙ ap₂ (λ (m : ℕ) (ns : List ℕ). if is_met_at p t n then numbers_where m (λ i. (number == i) || (has_number ns i || is_gained p rights i)) else ns) so_far.props
+      (same_here (tested p t number rights) n p q so_far)
+
+-- numbers with what they gain have words
+pub gets_named : (k : Kept) (number : ℕ) (rights : List ℕ) (slot : ℕ) → IsSome (word_of k.dict number) → ((n : ℕ) → has k.ext n slot ≡ true → IsSome (word_of k.dict n))
+    → list_all (λ n. is_some (word_of k.dict n)) (numbers_where k.ext.props (λ n. (number == n) || (has k.ext n slot || is_gained k rights n))) ≡ true
+gets_named k number rights slot some had =
+    all_from (λ n. is_some (word_of k.dict n)) (numbers_where k.ext.props (λ n. (number == n) || (has k.ext n slot || is_gained k rights n))) (λ n m.
+    let passes = among_where k.ext.props (λ i. (number == i) || (has k.ext i slot || is_gained k rights i)) n m in one n (or_cases (number == n) (has k.ext n slot || is_gained k rights n) passes.1))
+  where
+    rest : (n : ℕ) → (has k.ext n slot ≡ true) ⊎ (is_gained k rights n ≡ true) → is_some (word_of k.dict n) ≡ true
+    rest n (inl h) = had n h
+    rest n (inr gained) = let found = among_from_any (λ m. is_entailed k m n) rights gained in ap is_some (led k found.0 n found.2).is_to
+
+    one : (n : ℕ) → ((number == n) ≡ true) ⊎ ((has k.ext n slot || is_gained k rights n) ≡ true) → is_some (word_of k.dict n) ≡ true
+    one n (inl same) = subst (λ i. is_some (word_of k.dict i) ≡ true) (eqb-true number n same) some
+    one n (inr h) = rest n (or_cases (has k.ext n slot) (is_gained k rights n) h)
+
+-- the words of numbers that may stand under are plain
+pub plain_words : (k : Kept) → AreSound k → (rights : List ℕ) → MayStandUnder rights k → list_all is_plain_word (words_told k.dict rights) ≡ true
+plain_words k sound rights may =
+    all_from is_plain_word (words_told k.dict rights) (λ w m.
+    let n = among_word k sound rights w m in
+    sym (ap is_plain_by n.1) ∙ all_among (λ i. is_plain_by (word_of k.dict i)) rights n.0 may.plain (among_from_number rights n.0 n.2))
+
+-- a word that is no test changes nothing
+pub untested_same : (k : Kept) (word : List ℕ) (number : ℕ) (rights : List ℕ) → test_of word ≡ None → Redescribes (tested k (test_of word) number rights) k.limits.files k k
+untested_same k word number rights no_test = record {
+  parts = refl;
+  props = refl;
+  slots = refl;
+  done = λ slot lt. sym (same slot);
+  others = λ slot le. refl;
+  saved = λ at saved. saved;
+  within = λ block is. inl is;
+  edits = omega arith;
+}
+  where
+    never : (o : Option FileRecord) → is_met_by None o ≡ false
+    never None = refl
+    never (Some rec) = refl
+
+    same : (slot : ℕ) → tested k (test_of word) number rights slot ≡ numbers_at k.ext slot
+    same slot =
+        ap (λ b. if b then numbers_where k.ext.props (λ i. (number == i) || (has k.ext i slot || is_gained k rights i)) else numbers_at k.ext slot)
+        (ap (λ o. is_met_by o (rec_at k.catalog slot)) no_test ∙ never (rec_at k.catalog slot))
+
 -- ---- memory with the word
 module _ (p made : Kept) (word : List ℕ) (rights : List ℕ) (words : List (List ℕ)) (sound : AreSound p) (new : number_of p.dict word ≡ None) (numbers : AreNumbersOf p words rights)
     (stands : DeclaresUnder word rights p made) (sound_made : AreSound made) (plain : list_all is_plain_word words ≡ true) where
@@ -115,28 +167,28 @@ module _ (p made : Kept) (word : List ℕ) (rights : List ℕ) (words : List (Li
   abbrev t : Option (Bool × ℕ)
   t = test_of word
 
-  other : (n : ℕ) → (n ≡ number → ⊥) → word_of made.dict n ≡ word_of p.dict n
+  pub other : (n : ℕ) → (n ≡ number → ⊥) → word_of made.dict n ≡ word_of p.dict n
   other n differ = word_other p made word rights words sound new numbers stands n differ
 
-  named_other : (n : ℕ) → IsSome (word_of p.dict n) → n ≡ number → ⊥
+  pub named_other : (n : ℕ) → IsSome (word_of p.dict n) → n ≡ number → ⊥
   named_other n some same = both_ways (is_some (word_of p.dict n)) (ap (λ i. is_some (word_of p.dict i)) same ∙ ap is_some stands.declares.free) some
 
-  named_then : (n : ℕ) → IsSome (word_of p.dict n) → IsSome (word_of made.dict n)
+  pub named_then : (n : ℕ) → IsSome (word_of p.dict n) → IsSome (word_of made.dict n)
   named_then n some = ap is_some (other n (named_other n some)) ∙ some
 
-  is_word : word_of made.dict number ≡ Some word
+  pub is_word : word_of made.dict number ≡ Some word
   is_word = word_new p made word rights words sound new numbers stands
 
-  ext_same : made.ext ≡ p.ext
+  pub ext_same : made.ext ≡ p.ext
   ext_same = ext_is p made word rights words sound new numbers stands
 
-  dict_mid : IsDict stands.mid.dict
+  pub dict_mid : IsDict stands.mid.dict
   dict_mid = subst (λ (d : Dict). IsDict d) (dict_is p made word rights words sound new numbers stands) sound_made.dict
 
   rec_same : (slot : ℕ) → rec_at made.catalog slot ≡ rec_at p.catalog slot
   rec_same slot = ap (λ (k : Kept). rec_at k.catalog slot) (parts_are p made word rights words sound new numbers stands)
 
-  met_same : (slot : ℕ) → is_met_at made t slot ≡ is_met_at p t slot
+  pub met_same : (slot : ℕ) → is_met_at made t slot ≡ is_met_at p t slot
   met_same slot = ap (is_met_by t) (rec_same slot)
 
   declared_made : declared_of made ≡ with_word (declared_of p) word
@@ -149,12 +201,12 @@ module _ (p made : Kept) (word : List ℕ) (rights : List ℕ) (words : List (Li
   rights_plain e m = let at = among_axiom p sound e m in (sound.axioms at.0 at.1 at.2 at.3).plain e.1 at.5
 
   -- what the words of the place entail is what they did, and plain
-  record WasLed (r n : ℕ) : Type 0 where
+  pub record WasLed (r n : ℕ) : Type 0 where
     led : is_entailed p r n ≡ true
-    apart : n ≡ number → ⊥
-    word : List ℕ
-    named : word_of made.dict n ≡ Some word
-    is_plain : is_plain_word word ≡ true
+    pub apart : n ≡ number → ⊥
+    reached : List ℕ
+    named : word_of made.dict n ≡ Some reached
+    is_plain : is_plain_word reached ≡ true
 
   module _ (test : is_test word ≡ true) where
     led_back : (r n : ℕ) → Among rights r → is_entailed made r n ≡ true → WasLed r n
@@ -171,7 +223,7 @@ module _ (p made : Kept) (word : List ℕ) (rights : List ℕ) (words : List (Li
         record {
           led = led_from p r n found.0 l.to found.1 (sym (other n differ) ∙ l.is_to) back.0;
           apart = differ;
-          word = l.to;
+          reached = l.to;
           named = l.is_to;
           is_plain = back.1;
         }
@@ -185,7 +237,7 @@ module _ (p made : Kept) (word : List ℕ) (rights : List ℕ) (words : List (Li
         let wide = up_wider (declared_of p) more (axioms_of p) axioms (insert_key_old word_cmp (declared_of p) word) (under_old word (axioms_of p) words) l.from l.to l.entailed in
         led_from made r n l.from l.to (other r (named_other r (ap is_some l.is_from)) ∙ l.is_from) (other n (named_other n (ap is_some l.is_to)) ∙ l.is_to) (subst (λ ws. Among ws l.to) (sym same_up) wide)
 
-    gained_source : (n : ℕ) → is_gained made rights n ≡ true → (r : ℕ) × Among rights r × WasLed r n
+    pub gained_source : (n : ℕ) → is_gained made rights n ≡ true → (r : ℕ) × Among rights r × WasLed r n
     gained_source n h = let found = among_from_any (λ m. is_entailed made m n) rights h in (found.0, found.1, led_back found.0 n found.1 found.2)
 
     pub gained_back : (n : ℕ) → is_gained made rights n ≡ true → is_gained p rights n ≡ true
@@ -198,7 +250,7 @@ module _ (p made : Kept) (word : List ℕ) (rights : List ℕ) (words : List (Li
     gained_named n h = ap is_some (gained_source n h).2.named
 
     gained_untested : (n : ℕ) → is_gained made rights n ≡ true → is_some {T = Bool × ℕ} (test_by (word_of made.dict n)) ≡ false
-    gained_untested n h = let from = gained_source n h in ap (λ o. is_some {T = Bool × ℕ} (test_by o)) from.2.named ∙ plain_not_test from.2.word from.2.is_plain
+    gained_untested n h = let from = gained_source n h in ap (λ o. is_some {T = Bool × ℕ} (test_by o)) from.2.named ∙ plain_not_test from.2.reached from.2.is_plain
 
   -- ---- how many words there are
   abbrev sets : ℕ → List ℕ
@@ -207,7 +259,7 @@ module _ (p made : Kept) (word : List ℕ) (rights : List ℕ) (words : List (Li
   abbrev gets : ℕ → ℕ → Bool
   gets slot n = (number == n) || (has made.ext n slot || is_gained made rights n)
 
-  test_there : (slot : ℕ) → is_met_at made t slot ≡ true → is_test word ≡ true
+  pub test_there : (slot : ℕ) → is_met_at made t slot ≡ true → is_test word ≡ true
   test_there slot met = met_is_test word (rec_at made.catalog slot) met
 
   slot_below : (slot : ℕ) → is_met_at made t slot ≡ true → slot < made.limits.files

@@ -7,9 +7,11 @@ ghost use Rattle.lis_ext.specs.Ext.{has, set_of};
 ghost use Rattle.lis_ext.specs.Numbers.{numbers_where};
 ghost use Rattle.lis_words.specs.Words.{test_of};
 ghost use Rattle.lis_model.specs.State.{is_declarable};
-ghost use Rattle.lis_kept.specs.Sound.{FreeSlotsAreEmpty};
+ghost use Rattle.lis_kept.specs.Sound.{AreSound, FreeSlotsAreEmpty};
+ghost use Rattle.lis_kept.specs.Telling.{words_told};
 ghost use Rattle.lis_kept.specs.Under.{MayStandUnder};
 ghost use Rattle.lis_kept.specs.Undeclaring.{MayUndeclare};
+ghost use Rattle.lis_store.specs.Placing.{AreNumbersOf};
 ghost use Rattle.lis_store.specs.Redescribing.{Gives, Redescribes};
 ghost use Rattle.lis_store.specs.Stored.{DescriptionsAreShort};
 ghost use Rattle.lis_store.specs.Testing.{is_gained, has_crowded, tested, DeclaresTested, without_number, undescribed, UndeclaresUnmet};
@@ -19,6 +21,20 @@ use crate::removing::numbers_at;
 use arrayvec::ArrayVec;
 use lis_kept::Parts;
 use lis_words::{Word, test_of};
+
+// Whether the description in a slot has a number then: it is the one that comes, or would be gained.
+fn would_have(parts: &Parts, number: u16, numbers: &[u16], slot: u16, other: u32) -> bool
+    requires sound { AreSound parts.now }
+    requires named { IsTrue (list_all (λ n. is_some (word_of parts.now.dict n)) numbers.now) }
+    requires slot { slot < parts.now.limits.files }
+    requires other { other < parts.now.limits.props }
+    ensures { result ≡ ((number == other) || (has parts.now.ext other slot || is_gained parts.now numbers.now other)) }
+{
+    if u32::from(number) == other {
+        return true;
+    }
+    would_gain(parts, numbers, slot, other)
+}
 
 // The numbers of the description in a slot, with one number and with all that the words of others entail.
 fn numbers_with(parts: &Parts, number: u16, numbers: &[u16], slot: u16) -> ArrayVec<u16, 128>
@@ -30,7 +46,7 @@ fn numbers_with(parts: &Parts, number: u16, numbers: &[u16], slot: u16) -> Array
     let props = parts.limits().props;
     let mut gained = ArrayVec::new();
     for other in 0..props {
-        if u32::from(number) == other || would_gain(parts, numbers, slot, other) {
+        if would_have(parts, number, numbers, slot, other) {
             gained.push(other as u16);
         }
     }
@@ -78,7 +94,7 @@ pub(crate) fn declare_tested(parts: &mut Parts, word: &Word, places: &[u16])
     requires new { number_of parts.old.dict word.now ≡ None }
     requires room { length parts.old.dict.entries < parts.old.limits.props }
     requires places { MayStandUnder places.now parts.old }
-    requires named { IsTrue (list_all (λ n. is_some (word_of parts.old.dict n)) places.now) }
+    requires numbers { AreNumbersOf parts.old (words_told parts.old.dict places.now) places.now }
     requires free { FreeSlotsAreEmpty parts.old }
     requires short { DescriptionsAreShort parts.old }
     requires few { has_crowded parts.old (test_of word.now) (is_gained parts.old places.now) ≡ false }
