@@ -170,14 +170,14 @@ module _ (k : Kept) (place : List Formula) (word : List ℕ) (own : is_built_in 
   all_room few some short = by_room false false false (not_above axioms_then few) (not_above words_then some) short
 
 -- ---- the words of a place
-plain_at : (place : List Formula) → is_plain_place (place_words place) ≡ true → list_all is_plain_word (words_at place) ≡ true
+pub plain_at : (place : List Formula) → is_plain_place (place_words place) ≡ true → list_all is_plain_word (words_at place) ≡ true
 plain_at place = by (place_words place)
   where
     by : (o : Option (List (List ℕ))) → is_plain_place o ≡ true → list_all is_plain_word (unwrap_or o []) ≡ true
     by None plain = refl
     by (Some words) plain = plain
 
-apart_at : (place : List Formula) → AllApart (words_at place)
+pub apart_at : (place : List Formula) → AllApart (words_at place)
 apart_at place = by (all_conjuncts place)
   where
     by : (o : Option (List (List ℕ))) → AllApart (unwrap_or (option_map set_of o) [])
@@ -208,7 +208,7 @@ module _ (k : Kept) (sound : AreSound k) (pairs : PairsAreApart k) (at : ℕ →
   unsided q m = unknown (known_from s word (Left (word, q) m refl))
 
   -- where it is no test files have the same words
-  described_alike : is_test word ≡ false → (file : File) → Among s.files file → description under_them file ≡ description s file
+  pub described_alike : is_test word ≡ false → (file : File) → Among s.files file → description under_them file ≡ description s file
   described_alike no_test file m = described_under s word words no_test file (λ has. unknown (known_from s word (Described file m has)))
 
   words_fit : is_test word ≡ false → exceeds_words under_them ≡ false
@@ -299,7 +299,7 @@ module _ (p : Kept) (sound : AreSound p) (words : List (List ℕ)) (rights : Lis
   pub rights_counted : length rights ≡ length words
   rights_counted = sym (told_counted p sound rights (apart_numbers rights numbers.apart) right_some) ∙ ap length numbers.told
 
-  may_stand : list_all is_plain_word words ≡ true → count_by is_filled p.axioms + length words ≤ p.limits.props → MayStandUnder rights p
+  pub may_stand : list_all is_plain_word words ≡ true → count_by is_filled p.axioms + length words ≤ p.limits.props → MayStandUnder rights p
   may_stand plain room = record {
     plain = all_from (λ n. is_plain_by (word_of p.dict n)) rights (λ n m.
         let found = right_word n (number_from_among rights n m) in

@@ -75,7 +75,7 @@ taken_among (true ∷ bits) i (suc n) is = let next : suc i + n ≡ i + suc n = 
 taken_among (false ∷ bits) i (suc n) is = let next : suc i + n ≡ i + suc n = omega arith in subst (λ m. Among (taken_from bits (suc i)) m) next (taken_among bits (suc i) n is)
 
 -- marks that were there, or are of these blocks
-marked_more : (p q : Kept) (blocks : List ℕ) → ((block : ℕ) → is_marked q block ≡ true → (is_marked p block ≡ true) ⊎ Among blocks block) → marked_count q ≤ marked_count p + length blocks
+pub marked_more : (p q : Kept) (blocks : List ℕ) → ((block : ℕ) → is_marked q block ≡ true → (is_marked p block ≡ true) ⊎ Among blocks block) → marked_count q ≤ marked_count p + length blocks
 marked_more p q blocks within =
     let few = marked_within q.marks (taken_from p.marks 0 ++ blocks) (λ block is. by block (within block is)) in
     omega (arith, few, length-append (taken_from p.marks 0) blocks, taken_count p.marks 0)

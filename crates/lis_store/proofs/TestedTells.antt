@@ -53,7 +53,7 @@ use Rattle.lis_store.proofs.Crowded.{gained_told, gains_same, wide_told, met_des
 use Rattle.lis_store.proofs.Declared.{IsPlaceable, is_placeable, new_word, plain_at, apart_at, limits_are, parts_are, entries_are, file_then, in_use_then, apart_then, few_marked, saved_then, told_then, may_stand, described_alike, unlisted, unsided, not_wide, large_told, formed_then, outcome_is}
 use Rattle.lis_store.proofs.Facts.{file_of_filed, size_of_filed}
 use Rattle.lis_store.proofs.Judged.{judged_refused, judged_done, change_refused}
-use Rattle.lis_store.proofs.Tested.{other, named_other, named_then, is_word, ext_same, met_same, test_there, gained_back, gained_then, gained_source, few_tested, set_then, tested_edges, had_then, old_had, new_had, free_then, closed_then, tests_then, used_then, few_more}
+use Rattle.lis_store.proofs.Tested.{other, named_other, named_then, is_word, ext_same, met_same, test_there, gained_back, gained_then, gained_source, few_tested, set_then, tested_edits, had_then, old_had, new_had, free_then, closed_then, tests_then, used_then, few_more}
 use Rattle.lis_store.proofs.Told.{words_same}
 
 module _ (p made q : Kept) (word : List ℕ) (rights : List ℕ) (words : List (List ℕ)) (sound : AreSound p) (new : number_of p.dict word ≡ None) (numbers : AreNumbersOf p words rights)
@@ -217,7 +217,7 @@ module _ (p made q : Kept) (word : List ℕ) (rights : List ℕ) (words : List (
           by true met = met_told met
           by false unmet = unmet_told unmet
 
-    tells_tested : Tells q t
+    tells_tested : Tells q at t
     tells_tested = record {
       super = tells.super;
       state = ap (λ (k : Kept). state_of k at) gives.parts ∙ (told_then p made word rights words sound new numbers stands at ∙ ap (λ (x : State). declared_under x word words) tells.state);
@@ -281,7 +281,7 @@ module _ (old : Stored) (place : List Formula) (word : List ℕ) (rights : List 
     declared_changes new before after result saves s fits =
         let now : Situation = record { state = s; place = place } in
         let made : State = declared_under s word (words_at place) in
-        let sizes = λ f m. size_of_filed old before s sound fits f m in
+        let sizes : (f : Filed) → Among old.parts.catalog.entries f → length (bytes_told old.parts.limits fits.kept f.rec) ≡ f.rec.size = λ f m. size_of_filed old before s sound fits f m in
         let short = large_told old.parts sound.parts sound.pairs fits.kept s sound.free fits.tells word kept declared_new (words_at place) numbers.declared sizes ∙ passes.few in
         let formed = formed_then old.parts sound.parts sound.pairs fits.kept s sound.free fits.tells word kept declared_new (words_at place) form (plain_at place passes.plain) passes.declared
         short passes.new (apart_at place) passes.axioms passes.room in
