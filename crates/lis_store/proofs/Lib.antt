@@ -36,6 +36,7 @@ pub mod Under
 pub mod TestUnder
 pub mod Crowded
 pub mod Tested
+pub mod Without
 pub mod TestedTells
 pub mod Gathered
 pub mod Measured

@@ -1,7 +1,7 @@
 -- What a declaration that is taken back comes to.
 use Rattle.std.proofs.Common.{◌≡◌, ◌⊎◌, refl, sym, ap, ap₂, ◌∙◌, subst, inl, inr, ℕ, ◌+◌, ◌<◌, ◌≤◌, ◌==◌, not, ◌&&◌, ◌||◌, Bool, true, false, if◌then◌else◌, List, [], ◌∷◌, ◌++◌, length, map, filter, slice_get, Option, Some, None, is_some, IsSome, IsTrue, Result, Err, arith, eq-eqb, get_or-set_other}
 use Rattle.std.specs.List.{list_any, flat_map, Contains}
-use Rattle.std.proofs.lemmas.Bool.{and_parts, or_cases, both_ways, cases_eq, ne_eqb, not_from_false, not-false, not-true, false_from_ne_true}
+use Rattle.std.proofs.lemmas.Bool.{and_parts, or_cases, or_left, both_ways, cases_eq, ne_eqb, not_from_false, not-false, not-true, false_from_ne_true}
 use Rattle.std.proofs.lemmas.List.{get_or_past}
 use Rattle.std.proofs.lemmas.Option.{same_Some}
 use Rattle.lis_graph.proofs.Members.{Among, among_from_contains, contains_from_among, any_from_among, among_filter, filter_among, among_insert_key, insert_key_old, insert_key_new, among_left, among_right, map_among, flat_map_among}
@@ -40,16 +40,16 @@ use Rattle.lis_laws.proofs.Sources.{test_had}
 use Rattle.lis_kept.specs.Kept.{Kept, property_by}
 use Rattle.lis_kept.specs.Areas.{IsSaved, block_of, is_marked, marked_count}
 use Rattle.lis_kept.specs.Areas.Area.{Rows}
-use Rattle.lis_kept.specs.Links.{is_linked}
+use Rattle.lis_kept.specs.Links.{is_own_link, has_pair, is_linked}
 use Rattle.lis_kept.specs.Sound.{AreSound, FreeSlotsAreEmpty, BlocksAreTaken}
 use Rattle.lis_kept.specs.Forgetting.{KeepsInUse}
-use Rattle.lis_kept.specs.Telling.{bit_of, is_declared, words_told, file_told, state_of, is_head_by, is_left_of, is_left_head_of, is_had, is_named_left, is_used, Tells}
+use Rattle.lis_kept.specs.Telling.{bit_of, is_declared, declared_of, words_told, file_told, state_of, is_head_by, is_left_of, is_left_head_of, is_had, is_named_left, is_used, Tells}
 use Rattle.lis_kept.specs.TestEdges.{test_by}
 use Rattle.lis_kept.specs.Undeclaring.{is_right_of, is_named_by, is_needed, MayUndeclare, Undeclares}
 use Rattle.lis_kept.proofs.Filing.{same_tests, among_from_number, number_from_among, filed_rec}
 use Rattle.lis_kept.proofs.Known.{one_number, among_word, word_among}
 use Rattle.lis_kept.proofs.Numbered.{Numbers, numbers_are}
-use Rattle.lis_kept.proofs.OwnLinks.{among_slot, unnamed_to}
+use Rattle.lis_kept.proofs.OwnLinks.{own_head, among_slot, unnamed_to}
 use Rattle.lis_kept.proofs.Used.{any_or}
 use Rattle.lis_kept.proofs.Needed.{may_undeclare}
 use Rattle.lis_kept.proofs.NeededTold.{needed_told}
@@ -130,7 +130,9 @@ module _ (k : Kept) (sound : AreSound k) (word : List ℕ) (n : ℕ) (numbered :
         }
         by false plain =
             let had : is_had k.ext n ≡ false = sym (ap (λ b. not b && is_had k.ext n) plain) ∙ neither_had in
-            let may = may_undeclare k sound in_use closed n bit had lefts not_right in
+            let headed : (slot x : ℕ) → has k.ext x slot ≡ true → is_head_by (word_of k.dict x) (word_of k.dict n) ≡ true → has k.ext n slot ≡ true = λ slot x h is.
+            closed slot x n h (or_left (is_own_link (declared_of k) (word_of k.dict x) (word_of k.dict n)) (has_pair k.axioms x n) (own_head (declared_of k) (word_of k.dict x) (word_of k.dict n) is)) in
+            let may = may_undeclare k sound in_use n headed bit had lefts not_right in
             record { declared = may.declared; had = refl; lefts = may.lefts; rights = may.rights; tags = may.tags; heads = may.heads }
 
   -- it is in use in the state exactly where memory needs its number

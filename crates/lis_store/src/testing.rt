@@ -165,8 +165,9 @@ pub(crate) fn undeclare_unmet(parts: &mut Parts, number: u16)
     requires short { DescriptionsAreShort parts.old }
     ensures { UndeclaresUnmet number parts.old parts.new }
 {
+    // Only the limits tell that memory is in form, before and then without the number.
+    let _before = parts.limits();
     describe_all_without(parts, number);
-    // Only the limits tell that memory is in form.
     let _unmet = parts.limits();
     parts.undeclare(number);
 }
