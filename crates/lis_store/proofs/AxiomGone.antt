@@ -1,5 +1,5 @@
 -- An axiom that is gone, and descriptions without it: what holds of memory then.
-use Rattle.std.proofs.Common.{◌≡◌, ◌⊎◌, refl, sym, ap, ◌∙◌, subst, inl, inr, ℕ, ◌<◌, ◌≤◌, ◌==◌, not, ◌||◌, Bool, true, false, if◌then◌else◌, List, [], length, set, slice_get, Option, Some, None, is_some, IsSome, option_to_list, arith}
+use Rattle.std.proofs.Common.{◌≡◌, ◌⊎◌, refl, sym, ap, ap₂, ◌∙◌, subst, inl, inr, ℕ, ◌<◌, ◌≤◌, ◌==◌, not, ◌||◌, Bool, true, false, if◌then◌else◌, List, [], length, set, slice_get, Option, Some, None, is_some, IsSome, option_to_list, arith}
 use Rattle.std.proofs.lemmas.Bool.{and_parts, or_cases, or_left, or_right, both_ways, cases_lt, false_from_ne_true}
 use Rattle.std.proofs.lemmas.List.{get_or_past}
 use Rattle.lis_graph.proofs.Members.{Among, among_filter}
@@ -24,10 +24,12 @@ use Rattle.lis_kept.specs.Forgetting.{MayForget}
 use Rattle.lis_kept.proofs.AxiomSlots.{set_cases}
 use Rattle.lis_kept.proofs.Known.{among_axiom, declared_word, declared_has_number}
 use Rattle.lis_kept.proofs.Used.{is_at, head_by_number}
+use Rattle.lis_store.specs.Redescribing.{Redescribes}
 use Rattle.lis_store.specs.Stored.{AreClosed, PairsAreApart, DescriptionsAreShort}
-use Rattle.lis_store.specs.Unlinking.{is_entailed, tags_by, tags_at, stays, remaining_at, lessened, Lessens, heads_by, with_head}
+use Rattle.lis_store.specs.Unlinking.{is_entailed, tags_by, tags_at, stays, remaining, remaining_at, lessened, heads_by, with_head}
 use Rattle.lis_store.proofs.HeadsUsed.{flagged_not_valued, used_flagged, used_had, used_left, IsUsedFor, used_for, head_used}
 use Rattle.lis_store.proofs.HeadsUsed.IsUsedFor.{Flagged, HadAt, NamedLeft}
+use Rattle.lis_store.proofs.Redescribed.{same_here, given_then}
 use Rattle.lis_store.proofs.Remaining.{led, remaining_had, remaining_few, stays_remaining, lost_led, remaining_closed}
 
 -- axioms lead to declared words
@@ -70,23 +72,31 @@ module _ (left right : ℕ) (p k : Kept) (unlinks : Unlinks left right p k) wher
   right_flagged rights = ap (λ (u : Kept). is_taken u.declared right) unlinks.parts ∙ rights unlinks.slot left right unlinks.there
 
 -- ---- descriptions
-module _ (k m : Kept) (sound : AreSound k) (closed : AreClosed k) (left right : ℕ) (lessens : Lessens left right k.limits.files k m) where
+-- what is left of a slot that is not reached yet is as it was at first
+module _ (left right n : ℕ) (p q : Kept) (so_far : Redescribes (lessened p left right) n p q) where
+  pub left_same : remaining_at q right n ≡ remaining_at p right n
+  left_same =
+      ap (λ (k : Kept). remaining k right (tags_at k n) (numbers_at q.ext n)) so_far.parts
+      ∙ ap (remaining p right (tags_at p n)) (same_here (lessened p left right) n p q so_far)
+
+  pub lessened_same : lessened q left right n ≡ lessened p left right n
+  lessened_same = ap₂ (λ (ns rest : List ℕ). if has_number ns left then rest else ns) (same_here (lessened p left right) n p q so_far) left_same
+
+module _ (k m : Kept) (sound : AreSound k) (closed : AreClosed k) (left right : ℕ) (lessens : Redescribes (lessened k left right) k.limits.files k m) where
   abbrev pub less : Kept
   less = record k { ext = m.ext; marks = m.marks }
 
   pub less_is : m ≡ less
   less_is = lessens.parts
 
+  pub none_past : (slot : ℕ) → k.limits.files ≤ slot → lessened k left right slot ≡ numbers_at k.ext slot
+  none_past slot le =
+      let none : numbers_at k.ext slot ≡ [] = get_or_past k.ext.sets slot [] (omega (arith, le, sound.files)) in
+      ap (λ b. if b then remaining_at k right slot else numbers_at k.ext slot) (ap (λ ns. has_number ns left) none)
+
   -- every slot has what is left of its description
   pub set_then : (slot : ℕ) → numbers_at m.ext slot ≡ lessened k left right slot
-  set_then slot = by (cases_lt slot k.limits.files)
-    where
-      by : (slot < k.limits.files) ⊎ (k.limits.files ≤ slot) → numbers_at m.ext slot ≡ lessened k left right slot
-      by (inl lt) = lessens.done slot lt
-      by (inr le) =
-          let none : numbers_at k.ext slot ≡ [] = get_or_past k.ext.sets slot [] (omega (arith, le, sound.files)) in
-          let not_had : has k.ext left slot ≡ false = ap (λ ns. has_number ns left) none in
-          lessens.others slot le ∙ sym (ap (λ b. if b then remaining_at k right slot else numbers_at k.ext slot) not_had)
+  set_then = given_then (lessened k left right) k.limits.files k m lessens sound.files none_past
 
   -- one that had the left number has what is left, and each other one is as before
   abbrev pub SetCases : ℕ → Type 0
@@ -184,7 +194,7 @@ head_has d dict None n is = absurd (both_ways false refl is)
 head_has d dict (Some w) n is = at_has _ n (head_by_number d dict w n ∙ is)
 
 module _ (left right : ℕ) (p k m : Kept) (sound_before : AreSound p) (used : AreUsed p) (unlinks : Unlinks left right p k) (sound : AreSound k) (closed : AreClosed k)
-    (lessens : Lessens left right k.limits.files k m) (rights : RightsAreDeclared p) where
+    (lessens : Redescribes (lessened k left right) k.limits.files k m) (rights : RightsAreDeclared p) where
   abbrev made : Kept
   made = less k m sound closed left right lessens
 

@@ -2,7 +2,7 @@
 use Rattle.std.proofs.Common.{◌≡◌, ◌⊎◌, refl, sym, ap, ap₂, ◌∙◌, subst, inl, inr, ℕ, ◌+◌, ◌<◌, ◌≤◌, ◌==◌, nat_lt, nat_le, not, ◌&&◌, ◌||◌, Bool, true, false, if◌then◌else◌, List, [], ◌∷◌, ◌++◌, length, count_by, set, slice_get, Option, Some, None, option_to_list, is_some, IsSome, IsTrue, Result, Err, arith, eq-eqb, get_or-set_same, get_or-set_other}
 use Rattle.std.specs.List.{list_all, flat_map, Contains}
 use Rattle.std.specs.Prelude.{unwrap_or, option_map}
-use Rattle.std.proofs.lemmas.Bool.{and_parts, and_from, or_cases, or_left, or_right, both_ways, cases_eq, ne_eqb, eqb-true, false_from_ne_true, not_from_false, not-true, not-false, ltb-true, ltb-false, leb-true}
+use Rattle.std.proofs.lemmas.Bool.{and_parts, and_from, or_cases, or_left, or_right, both_ways, cases_eq, ne_eqb, eqb-true, false_from_ne_true, not_from_false, not-true, not-false, ltb-true, ltb-false, leb-true, le-leb}
 use Rattle.lis_graph.proofs.Members.{Among, among_from_contains, contains_from_among, among_from_any, any_from_among}
 use Rattle.lis_ports.specs.Meaning.{Meaning}
 use Rattle.lis_journal.specs.Journal.{Held}
@@ -21,25 +21,26 @@ use Rattle.lis_fields.specs.declared.slots.AxiomSlot.TheVariants.{Free as FreeAx
 use Rattle.lis_fields.specs.declared.slots.PropSlot.{PropSlot}
 use Rattle.lis_fields.specs.declared.slots.PropSlot.TheVariants.{Known}
 use Rattle.lis_fields.specs.Layouts.{is_super, is_prop, is_record}
-use Rattle.lis_words.specs.Words.{word_cmp, same_word, has_word, head_bytes, is_head, is_plain_word, is_valued, is_built_in, is_word, is_test, is_property}
+use Rattle.lis_words.specs.Words.{word_cmp, same_word, has_word, head_bytes, is_head, is_plain_word, is_valued, is_built_in, is_word, is_test, is_property, test_of}
 use Rattle.lis_model.specs.declared.refusal.Refusal.{Refusal}
 use Rattle.lis_model.specs.declared.refusal.Refusal.TheVariants.{BuiltIn, NotAssignable, AlreadyDeclared, NotAPlace, UnknownProperty, NoAxiomRoom, NoPropertyRoom, LargeDescription}
 use Rattle.lis_model.specs.declared.limits.Limits.{Limits}
 use Rattle.lis_model.specs.Image.{image_blocks}
 use Rattle.lis_model.specs.Places.{all_conjuncts, place_words}
-use Rattle.lis_model.specs.Sets.{with_word, set_of}
-use Rattle.lis_model.specs.State.{State, File, description, known, is_declarable, WellFormed}
+use Rattle.lis_model.specs.Sets.{with_word, with_words, set_of}
+use Rattle.lis_model.specs.Tests.{are_weaker}
+use Rattle.lis_model.specs.State.{State, File, up, all_up, description, known, is_declarable, WellFormed}
 use Rattle.lis_model.specs.Changes.{declared_under}
 use Rattle.lis_model.specs.Step.{Situation, Outcome, changed, judged, exceeds_axioms, exceeds_known, exceeds_words, is_plain_place, words_at, mkdir}
-use Rattle.lis_model.proofs.NoTests.{word_not_test}
 use Rattle.lis_laws.proofs.Apart.{declarable_from, declarable_not_valued, declarable_not_built_in}
 use Rattle.lis_laws.proofs.Counts.{all_among, all_from}
 use Rattle.lis_laws.proofs.Forms as forms
 use Rattle.lis_laws.proofs.Forms.{under}
 use Rattle.lis_laws.proofs.Growth.{known_declares}
-use Rattle.lis_laws.proofs.Members.{word_exact, word_order, same_word_decides, sorted_set_of, among_from_has_word, has_word_from_among}
+use Rattle.lis_laws.proofs.Members.{among_with_words, word_exact, word_order, same_word_decides, sorted_set_of, among_from_has_word, has_word_from_among}
 use Rattle.lis_laws.proofs.Sources.{known_from}
-use Rattle.lis_laws.proofs.Sources.Source.{Left, Described}
+use Rattle.lis_laws.proofs.Sources.Source.{Declared, Left, Described}
+use Rattle.lis_laws.proofs.Closures.{entailing}
 use Rattle.lis_kept.specs.Kept.{Kept, property_by, property_at}
 use Rattle.lis_kept.specs.Areas.{IsSaved, marked_count}
 use Rattle.lis_kept.specs.Links.{is_pair, is_linked, has_pair}
@@ -48,11 +49,13 @@ use Rattle.lis_kept.specs.Sound.{AreSound, FreeSlotsAreEmpty, BlocksAreTaken}
 use Rattle.lis_kept.specs.Forgetting.{KeepsInUse}
 use Rattle.lis_kept.specs.Changes.{Declares}
 use Rattle.lis_kept.specs.Under.{is_plain_by, MayStandUnder, DeclaresUnder}
-use Rattle.lis_kept.specs.Telling.{bit_of, is_declared, declared_of, words_told, axioms_of, file_told, state_of, is_head_by, Tells}
+use Rattle.lis_kept.specs.TestEdges.{test_by, declared_test}
+use Rattle.lis_kept.specs.Telling.{bytes_told, bit_of, is_declared, declared_of, words_told, axioms_of, file_told, state_of, is_head_by, Tells}
 use Rattle.lis_kept.proofs.Filing.{same_tests, among_from_number, number_from_among, filed_rec}
 use Rattle.lis_kept.proofs.Formed.{some_word, named_all}
 use Rattle.lis_kept.proofs.Known.{word_among}
-use Rattle.lis_kept.proofs.OwnLinks.{own_link_is, slot_at, among_slot}
+use Rattle.lis_kept.proofs.OwnLinks.{slot_at, among_slot}
+use Rattle.lis_kept.proofs.TestLinks.{linked_by}
 use Rattle.lis_kept.proofs.AxiomMore.{sorted_axioms}
 use Rattle.lis_kept.proofs.AxiomsTold.{axioms_counted}
 use Rattle.lis_kept.proofs.UnderOthers.{AreWordsOf, declared_then_linked, declared_then_marked, each_parts, under_used}
@@ -62,6 +65,9 @@ use Rattle.lis_store.specs.Stored.{Stored, PairsAreApart, AreClosed, Description
 use Rattle.lis_store.specs.Saving.{settled, IsReady, Saves}
 use Rattle.lis_store.specs.Judging.{word_checks}
 use Rattle.lis_store.specs.Placing.{AreNumbersOf}
+use Rattle.lis_store.specs.Testing.{is_gained_by, has_crowded}
+use Rattle.lis_store.proofs.Crowded.{declared_number, crowded_told, never_crowded}
+use Rattle.lis_store.proofs.Entailment.{up_has_number}
 use Rattle.lis_store.specs.Changes.{Changes, first_refusal, differing_bits}
 use Rattle.lis_store.specs.declared.change.Change.{Change}
 use Rattle.lis_store.specs.declared.change.Change.TheVariants.{Refused}
@@ -92,14 +98,15 @@ new_word k word sound form undeclared = by (number_of k.dict word) refl
         absurd (none_fits (subst (λ (p : PropSlot). is_prop p ≡ true) slot (sound.properties n)))
 
 -- what the row of `mkdir` says where it refuses nothing
-record IsPlaceable (k : Kept) (place : List Formula) (word : List ℕ) : Type 0 where
-  new : is_declared k word ≡ false
-  plain : is_plain_place (place_words place) ≡ true
-  declared : list_all (is_declared k) (words_at place) ≡ true
-  axioms : count_by is_filled k.axioms + length (words_at place) ≤ k.limits.props
-  room : length k.dict.entries < k.limits.props
+pub record IsPlaceable (k : Kept) (place : List Formula) (word : List ℕ) : Type 0 where
+  pub new : is_declared k word ≡ false
+  pub plain : is_plain_place (place_words place) ≡ true
+  pub declared : list_all (is_declared k) (words_at place) ≡ true
+  pub axioms : count_by is_filled k.axioms + length (words_at place) ≤ k.limits.props
+  pub room : length k.dict.entries < k.limits.props
+  pub few : has_crowded k (test_of word) (is_gained_by k (words_at place)) ≡ false
 
-is_placeable : (k : Kept) (place : List Formula) (word : List ℕ) → first_refusal (word_checks k place word) ≡ None → IsPlaceable k place word
+pub is_placeable : (k : Kept) (place : List Formula) (word : List ℕ) → first_refusal (word_checks k place word) ≡ None → IsPlaceable k place word
 is_placeable k place word none =
     let all = all_pass (word_checks k place word) none in
     record {
@@ -108,6 +115,7 @@ is_placeable k place word none =
       declared = not-false (list_all (is_declared k) (words_at place)) all.1.1.1.1.0;
       axioms = omega (arith, ltb-false k.limits.props (count_by is_filled k.axioms + length (words_at place)) all.1.1.1.1.1.0);
       room = omega (arith, ltb-false k.limits.props (length k.dict.entries + 1) all.1.1.1.1.1.1.0);
+      few = all.1.1.1.1.1.1.1.0;
     }
 
 true_from_ne_false : (b : Bool) → (b ≡ false → ⊥) → b ≡ true
@@ -132,12 +140,16 @@ module _ (k : Kept) (place : List Formula) (word : List ℕ) (own : is_built_in 
   abbrev words_then : ℕ
   words_then = length k.dict.entries + 1
 
-  by_room : (axioms room : Bool) → nat_lt k.limits.props axioms_then ≡ axioms → nat_lt k.limits.props words_then ≡ room
-      → first_refusal (word_checks k place word) ≡ first_refusal ((axioms, NoAxiomRoom) ∷ (room, NoPropertyRoom) ∷ [])
-  by_room axioms room is_axioms is_room =
+  abbrev crowd : Bool
+  crowd = has_crowded k (test_of word) (is_gained_by k (words_at place))
+
+  by_room : (axioms room large : Bool) → nat_lt k.limits.props axioms_then ≡ axioms → nat_lt k.limits.props words_then ≡ room → crowd ≡ large
+      → first_refusal (word_checks k place word) ≡ first_refusal ((axioms, NoAxiomRoom) ∷ (room, NoPropertyRoom) ∷ (large, LargeDescription) ∷ [])
+  by_room axioms room large is_axioms is_room is_large =
       row_rest (is_built_in word) (is_valued word) (is_declared k word) (is_plain_place (place_words place)) (list_all (is_declared k) (words_at place))
-      ((nat_lt k.limits.props axioms_then, NoAxiomRoom) ∷ (nat_lt k.limits.props words_then, NoPropertyRoom) ∷ []) own valued there plain over
-      ∙ ap₂ (λ (a b : Bool). first_refusal ((a, NoAxiomRoom) ∷ (b, NoPropertyRoom) ∷ [])) is_axioms is_room
+      ((nat_lt k.limits.props axioms_then, NoAxiomRoom) ∷ (nat_lt k.limits.props words_then, NoPropertyRoom) ∷ (crowd, LargeDescription) ∷ []) own valued there plain over
+      ∙ (ap₂ (λ (a b : Bool). first_refusal ((a, NoAxiomRoom) ∷ (b, NoPropertyRoom) ∷ (crowd, LargeDescription) ∷ [])) is_axioms is_room
+      ∙ ap (λ (c : Bool). first_refusal ((axioms, NoAxiomRoom) ∷ (room, NoPropertyRoom) ∷ (c, LargeDescription) ∷ [])) is_large)
 
   above : (n : ℕ) → k.limits.props < n → nat_lt k.limits.props n ≡ true
   above n more = true_from_ne_false (nat_lt k.limits.props n) (λ e. omega (arith, ltb-false k.limits.props n e, more))
@@ -146,23 +158,26 @@ module _ (k : Kept) (place : List Formula) (word : List ℕ) (own : is_built_in 
   not_above n few = false_from_ne_true (nat_lt k.limits.props n) (λ e. omega (arith, ltb-true k.limits.props n e, few))
 
   pub no_axiom_room : k.limits.props < axioms_then → first_refusal (word_checks k place word) ≡ Some NoAxiomRoom
-  no_axiom_room more = by_room true (nat_lt k.limits.props words_then) (above axioms_then more) refl
+  no_axiom_room more = by_room true (nat_lt k.limits.props words_then) crowd (above axioms_then more) refl refl
 
   pub no_word_room : axioms_then ≤ k.limits.props → k.limits.props < words_then → first_refusal (word_checks k place word) ≡ Some NoPropertyRoom
-  no_word_room few more = by_room false true (not_above axioms_then few) (above words_then more)
+  no_word_room few more = by_room false true crowd (not_above axioms_then few) (above words_then more) refl
 
-  pub all_room : axioms_then ≤ k.limits.props → words_then ≤ k.limits.props → first_refusal (word_checks k place word) ≡ None
-  all_room few some = by_room false false (not_above axioms_then few) (not_above words_then some)
+  pub too_many_words : axioms_then ≤ k.limits.props → words_then ≤ k.limits.props → crowd ≡ true → first_refusal (word_checks k place word) ≡ Some LargeDescription
+  too_many_words few some large = by_room false false true (not_above axioms_then few) (not_above words_then some) large
+
+  pub all_room : axioms_then ≤ k.limits.props → words_then ≤ k.limits.props → crowd ≡ false → first_refusal (word_checks k place word) ≡ None
+  all_room few some short = by_room false false false (not_above axioms_then few) (not_above words_then some) short
 
 -- ---- the words of a place
-plain_at : (place : List Formula) → is_plain_place (place_words place) ≡ true → list_all is_plain_word (words_at place) ≡ true
+pub plain_at : (place : List Formula) → is_plain_place (place_words place) ≡ true → list_all is_plain_word (words_at place) ≡ true
 plain_at place = by (place_words place)
   where
     by : (o : Option (List (List ℕ))) → is_plain_place o ≡ true → list_all is_plain_word (unwrap_or o []) ≡ true
     by None plain = refl
     by (Some words) plain = plain
 
-apart_at : (place : List Formula) → AllApart (words_at place)
+pub apart_at : (place : List Formula) → AllApart (words_at place)
 apart_at place = by (all_conjuncts place)
   where
     by : (o : Option (List (List ℕ))) → AllApart (unwrap_or (option_map set_of o) [])
@@ -186,16 +201,45 @@ module _ (k : Kept) (sound : AreSound k) (pairs : PairsAreApart k) (at : ℕ →
       let found = number_of_known k at s sound free tells word m in
       both_ways (is_some (number_of k.dict word)) (ap is_some new) (ap is_some found.1)
 
-  -- files have the same words
-  described_alike : (file : File) → Among s.files file → description under_them file ≡ description s file
-  described_alike file m = described_under s word words (word_not_test word kept) file (λ has. unknown (known_from s word (Described file m has)))
+  pub unlisted : Among s.declared word → ⊥
+  unlisted m = unknown (known_from s word (Declared m))
 
-  words_fit : exceeds_words under_them ≡ false
-  words_fit = false_from_ne_true (exceeds_words under_them) (λ some.
+  pub unsided : (q : List ℕ) → Among s.axioms (word, q) → ⊥
+  unsided q m = unknown (known_from s word (Left (word, q) m refl))
+
+  -- where it is no test files have the same words
+  pub described_alike : is_test word ≡ false → (file : File) → Among s.files file → description under_them file ≡ description s file
+  described_alike no_test file m = described_under s word words no_test file (λ has. unknown (known_from s word (Described file m has)))
+
+  words_fit : is_test word ≡ false → exceeds_words under_them ≡ false
+  words_fit no_test = false_from_ne_true (exceeds_words under_them) (λ some.
       let found = among_from_any (λ (file : File). nat_lt 128 (length (description under_them file))) s.files some in
       let few = all_among (λ (f : File). nat_le (length (description s f)) 128) s.files found.0 tells.formed.files.few_words found.1 in
-      let long : nat_lt 128 (length (description s found.0)) ≡ true = ap (λ ws. nat_lt 128 (length ws)) (sym (described_alike found.0 found.1)) ∙ found.2 in
+      let long : nat_lt 128 (length (description s found.0)) ≡ true = ap (λ ws. nat_lt 128 (length ws)) (sym (described_alike no_test found.0 found.1)) ∙ found.2 in
       omega (arith, leb-true (length (description s found.0)) 128 few, ltb-true 128 (length (description s found.0)) long))
+
+  module _ (declared : list_all (is_declared k) words ≡ true) where
+    not_entailed : Among (all_up s.declared s.axioms words) word → ⊥
+    not_entailed m =
+        let source = entailing s.declared s.axioms words word m in
+        let from = declared_number k sound at s free tells words declared source.0 source.1 in
+        let n = up_has_number k sound from.0 source.0 word from.1 (subst (λ (x : State). Among (up x.declared x.axioms source.0) word) (sym tells.state) source.2) in
+        both_ways (is_some (number_of k.dict word)) (ap is_some new) (ap is_some (number_from_word k.dict sound.dict word n.0 n.1))
+
+    pub not_wide : (f : Filed) → Among k.catalog.entries f → Among (with_words (description s (file_told k.limits k.dict at f)) (all_up s.declared s.axioms words)) word → ⊥
+    not_wide f m both = by (among_with_words (description s (file_told k.limits k.dict at f)) (all_up s.declared s.axioms words) word both)
+      where
+        by : Among (description s (file_told k.limits k.dict at f)) word ⊎ Among (all_up s.declared s.axioms words) word → ⊥
+        by (inl old) = unknown (known_from s word (Described (file_told k.limits k.dict at f) (file_of_filed k at s sound free tells f m) old))
+        by (inr up_word) = not_entailed up_word
+
+    -- some description is too large then exactly where a file is crowded
+    pub large_told : ((f : Filed) → Among k.catalog.entries f → length (bytes_told k.limits at f.rec) ≡ f.rec.size) → exceeds_words under_them ≡ has_crowded k (test_of word) (is_gained_by k words)
+    large_told sizes = by (is_test word) refl
+      where
+        by : (b : Bool) → is_test word ≡ b → exceeds_words under_them ≡ has_crowded k (test_of word) (is_gained_by k words)
+        by true test = crowded_told k sound at s free tells words declared word test unlisted unsided not_wide sizes
+        by false no_test = words_fit no_test ∙ sym (never_crowded k word (is_gained_by k words) no_test)
 
   axioms_more : AllApart words → length under_them.axioms ≡ count_by is_filled k.axioms + length words
   axioms_more apart =
@@ -214,8 +258,8 @@ module _ (k : Kept) (sound : AreSound k) (pairs : PairsAreApart k) (at : ℕ →
         let one = length-with_word (known s) word (λ w m tie. unknown (subst (λ v. Among (known s) v) (sym (word_exact word w tie)) m)) in
         omega (arith, more, one, known_counted k at s sound free tells)
 
-    formed_then : is_declared k word ≡ false → AllApart words → count_by is_filled k.axioms + length words ≤ k.limits.props → length k.dict.entries < k.limits.props → WellFormed under_them
-    formed_then undeclared apart axioms room =
+    pub formed_then : exceeds_words under_them ≡ false → is_declared k word ≡ false → AllApart words → count_by is_filled k.axioms + length words ≤ k.limits.props → length k.dict.entries < k.limits.props → WellFormed under_them
+    formed_then short undeclared apart axioms room =
         let most = ap (λ (l : Limits). l.props) (limits_told k at s sound free tells) in
         forms.declares s tells.formed word words (record {
           form = form;
@@ -224,15 +268,19 @@ module _ (k : Kept) (sound : AreSound k) (pairs : PairsAreApart k) (at : ℕ →
           few_axioms = omega (arith, axioms_more apart, axioms, most);
           few_known = omega (arith, known_more, room, most);
           few_words = all_from (λ (file : File). nat_le (length (description under_them file)) 128) s.files (λ file m.
-              ap (λ ws. nat_le (length ws) 128) (described_alike file m) ∙ all_among (λ (f : File). nat_le (length (description s f)) 128) s.files file tells.formed.files.few_words m);
+              le-leb (length (description under_them file)) 128
+              (by file (false_from_ne_true (nat_lt 128 (length (description under_them file))) (λ h. both_ways (exceeds_words under_them) short (any_from_among (λ (f : File). nat_lt 128 (length (description under_them f))) s.files file m h)))));
         })
+      where
+        by : (file : File) → nat_lt 128 (length (description under_them file)) ≡ false → length (description under_them file) ≤ 128
+        by file h = omega (arith, ltb-false 128 (length (description under_them file)) h)
 
 -- ---- the numbers of the words under which it is declared
 module _ (p : Kept) (sound : AreSound p) (words : List (List ℕ)) (rights : List ℕ) (numbers : AreNumbersOf p words rights) where
-  right_some : (n : ℕ) → Among rights n → IsSome (word_of p.dict n)
+  pub right_some : (n : ℕ) → Among rights n → IsSome (word_of p.dict n)
   right_some n m = all_among (λ i. is_some (word_of p.dict i)) rights n numbers.named m
 
-  right_word : (n : ℕ) → has_number rights n ≡ true → (w : List ℕ) × (word_of p.dict n ≡ Some w) × Among words w
+  pub right_word : (n : ℕ) → has_number rights n ≡ true → (w : List ℕ) × (word_of p.dict n ≡ Some w) × Among words w
   right_word n has_it =
       let found = some_word (word_of p.dict n) (right_some n (among_from_number rights n has_it)) in
       (found.0, found.1, subst (λ ws. Among ws found.0) numbers.told (word_among p sound rights n found.0 found.1 has_it))
@@ -251,7 +299,7 @@ module _ (p : Kept) (sound : AreSound p) (words : List (List ℕ)) (rights : Lis
   pub rights_counted : length rights ≡ length words
   rights_counted = sym (told_counted p sound rights (apart_numbers rights numbers.apart) right_some) ∙ ap length numbers.told
 
-  may_stand : list_all is_plain_word words ≡ true → count_by is_filled p.axioms + length words ≤ p.limits.props → MayStandUnder rights p
+  pub may_stand : list_all is_plain_word words ≡ true → count_by is_filled p.axioms + length words ≤ p.limits.props → MayStandUnder rights p
   may_stand plain room = record {
     plain = all_from (λ n. is_plain_by (word_of p.dict n)) rights (λ n m.
         let found = right_word n (number_from_among rights n m) in
@@ -269,7 +317,7 @@ words_each d (n ∷ ns) some =
 
 -- ---- a declared word, before axioms lead from it
 module _ (p mid : Kept) (word : List ℕ) (sound : AreSound p) (new : number_of p.dict word ≡ None) (declares : Declares word p mid) where
-  word_then : (m : ℕ) → word_of mid.dict m ≡ (if declares.number == m then Some word else word_of p.dict m)
+  pub word_then : (m : ℕ) → word_of mid.dict m ≡ (if declares.number == m then Some word else word_of p.dict m)
   word_then m = ap (λ (k : Kept). word_of k.dict m) declares.parts ∙ word_of-with_entry p.dict word declares.number new declares.free m
 
   stays : (m : ℕ) → IsSome (word_of p.dict m) → word_of mid.dict m ≡ word_of p.dict m
@@ -286,25 +334,21 @@ module _ (p mid : Kept) (word : List ℕ) (sound : AreSound p) (new : number_of 
       ∙ ap (λ (ws : List (List ℕ)). record (file_told p.limits p.dict at f) { assigned = ws })
       (words_same p.dict mid.dict f.rec.tags (λ n of. stays n (all_among (λ i. is_some (word_of p.dict i)) f.rec.tags n named of)))
 
-  link_back : IsDict mid.dict → (a b : ℕ) → IsSome (word_of p.dict a) → is_linked mid a b ≡ true → is_linked p a b ≡ true
-  link_back dict a b some linked = by (or_cases _ (has_pair mid.axioms a b) (subst (λ t. (t || has_pair mid.axioms a b) ≡ true) (own_link_is mid dict a b) linked))
-    where
-      none_headed : (o : Option (List ℕ)) → word_of p.dict a ≡ o → is_head_by o (Some word) ≡ true → ⊥
-      none_headed None is head = absurd cc
-      none_headed (Some w) is head =
-          let both = and_parts (is_valued w) (same_word (head_bytes w) word) head in
-          let same = (same_word_decides (head_bytes w) word).0 both.1 in
-          let known : is_some (number_of p.dict word) ≡ true = subst (λ v. is_some (number_of p.dict v) ≡ true) same (sound.heads a w is both.0) in
-          both_ways (is_some (number_of p.dict word)) (ap is_some new) known
+  pub word_same : (n : ℕ) → (n ≡ declares.number → ⊥) → word_of mid.dict n ≡ word_of p.dict n
+  word_same n differ = word_then n ∙ ap (λ b. if b then Some word else word_of p.dict n) (ne_eqb declares.number n (λ same. differ (sym same)))
 
-      at : (c : Bool) → declares.number == b ≡ c → is_head_by (word_of p.dict a) (if c then Some word else word_of p.dict b) ≡ true → is_linked p a b ≡ true
-      at true e head = absurd (none_headed (word_of p.dict a) refl head)
-      at false e head =
-          subst (λ t. (t || has_pair p.axioms a b) ≡ true) (sym (own_link_is p sound.dict a b)) (or_left (is_head_by (word_of p.dict a) (word_of p.dict b)) (has_pair p.axioms a b) head)
+  test_same : (n : ℕ) → (n ≡ declares.number → ⊥) → declared_test mid.dict mid.declared n ≡ declared_test p.dict p.declared n
+  test_same n differ =
+      ap₂ (λ b o. if b then test_by o else None) (ap (λ (k : Kept). is_taken k.declared n) declares.parts ∙ get_or-set_other p.declared declares.number n true false differ) (word_same n differ)
 
-      by : (is_head_by (word_of mid.dict a) (word_of mid.dict b) ≡ true) ⊎ (has_pair mid.axioms a b ≡ true) → is_linked p a b ≡ true
-      by (inl own) = at (declares.number == b) refl (subst (λ o. is_head_by (word_of p.dict a) o ≡ true) (word_then b) (subst (λ o. is_head_by o (word_of mid.dict b) ≡ true) (stays a some) own))
-      by (inr pair) = or_right _ (has_pair p.axioms a b) (subst (λ (k : Kept). has_pair k.axioms a b ≡ true) declares.parts pair)
+  -- other words have the links that they had
+  link_same : IsDict mid.dict → (a b : ℕ) → (a ≡ declares.number → ⊥) → (b ≡ declares.number → ⊥) → is_linked mid a b ≡ is_linked p a b
+  link_same dict a b other_a other_b =
+      linked_by mid dict a b
+      ∙ (ap₂ (λ own pair. own || pair)
+      (ap₂ (λ head link. head || link) (ap₂ is_head_by (word_same a other_a) (word_same b other_b)) (ap₂ are_weaker (test_same b other_b) (test_same a other_a)))
+      (ap (λ (k : Kept). has_pair k.axioms a b) declares.parts)
+      ∙ sym (linked_by p sound.dict a b))
 
   flagged_stays : (n : ℕ) → is_taken p.declared n ≡ true → is_taken mid.declared n ≡ true
   flagged_stays n bit = ap (λ (k : Kept). is_taken k.declared n) declares.parts ∙ by (cases_eq n declares.number)
@@ -325,42 +369,42 @@ module _ (p q : Kept) (word : List ℕ) (rights : List ℕ) (words : List (List 
   abbrev number : ℕ
   number = declares.number
 
-  mid_is : q ≡ record mid { axioms = q.axioms; marks = q.marks }
+  pub mid_is : q ≡ record mid { axioms = q.axioms; marks = q.marks }
   mid_is = each_parts number rights mid q stands.links
 
-  parts_are : q ≡ record p { dict = mid.dict; declared = mid.declared; axioms = q.axioms; marks = q.marks }
+  pub parts_are : q ≡ record p { dict = mid.dict; declared = mid.declared; axioms = q.axioms; marks = q.marks }
   parts_are = mid_is ∙ ap (λ (k : Kept). record k { dict = mid.dict; declared = mid.declared; axioms = q.axioms; marks = q.marks }) declares.parts
 
   pub limits_are : q.limits ≡ p.limits
   limits_are = ap (λ (k : Kept). k.limits) parts_are
 
-  dict_is : q.dict ≡ mid.dict
+  pub dict_is : q.dict ≡ mid.dict
   dict_is = ap (λ (k : Kept). k.dict) mid_is
 
-  ext_is : q.ext ≡ p.ext
+  pub ext_is : q.ext ≡ p.ext
   ext_is = ap (λ (k : Kept). k.ext) parts_are
 
-  entries_are : q.catalog.entries ≡ p.catalog.entries
+  pub entries_are : q.catalog.entries ≡ p.catalog.entries
   entries_are = ap (λ (k : Kept). k.catalog.entries) parts_are
 
-  stays_then : (m : ℕ) → IsSome (word_of p.dict m) → word_of q.dict m ≡ word_of p.dict m
+  pub stays_then : (m : ℕ) → IsSome (word_of p.dict m) → word_of q.dict m ≡ word_of p.dict m
   stays_then m some = ap (λ (d : Dict). word_of d m) dict_is ∙ stays p mid word sound new declares m some
 
-  file_then : (at : ℕ → List ℕ) (f : Filed) → Among p.catalog.entries f → file_told q.limits q.dict at f ≡ file_told p.limits p.dict at f
+  pub file_then : (at : ℕ → List ℕ) (f : Filed) → Among p.catalog.entries f → file_told q.limits q.dict at f ≡ file_told p.limits p.dict at f
   file_then at f m = ap (λ (k : Kept). file_told k.limits k.dict at f) mid_is ∙ file_declared p mid word sound new declares at f m
 
-  -- links between the words that were known
-  link_then : IsDict mid.dict → (a b : ℕ) → IsSome (word_of p.dict a) → is_linked q a b ≡ true → is_linked p a b ≡ true
-  link_then dict a b some linked =
-      let other : (number == a) ≡ false = ne_eqb number a (λ same.
-      both_ways (is_some (word_of p.dict a)) (ap (λ i. is_some (word_of p.dict i)) (sym same) ∙ ap is_some declares.free) some) in
-      link_back p mid word sound new declares dict a b some
-      (sym (each_linked number rights mid q stands.links a b ∙ ap (λ c. (c && has_number rights b) || is_linked mid a b) other) ∙ linked)
+  -- links between other words
+  pub link_then : IsDict mid.dict → (a b : ℕ) → (a ≡ number → ⊥) → (b ≡ number → ⊥) → is_linked q a b ≡ is_linked p a b
+  link_then dict a b other_a other_b =
+      each_linked number rights mid q stands.links a b
+      ∙ (ap (λ c. (c && has_number rights b) || is_linked mid a b) (ne_eqb number a (λ same. other_a (sym same)))
+      ∙ link_same p mid word sound new declares dict a b other_a other_b)
 
-  closed_then : AreSound q → FreeSlotsAreEmpty p → AreClosed p → AreClosed q
-  closed_then after free closed =
-      subst (λ (e : Ext). (slot a b : ℕ) → has e a slot ≡ true → is_linked q a b ≡ true → has e b slot ≡ true) (sym ext_is)
-      (λ slot a b h l. closed slot a b h (link_then (subst (λ (d : Dict). IsDict d) dict_is after.dict) a b (named_all p sound free a slot h) l))
+  pub word_other : (n : ℕ) → (n ≡ number → ⊥) → word_of q.dict n ≡ word_of p.dict n
+  word_other n differ = ap (λ (d : Dict). word_of d n) dict_is ∙ word_same p mid word sound new declares n differ
+
+  pub word_new : word_of q.dict number ≡ Some word
+  word_new = ap (λ (d : Dict). word_of d number) dict_is ∙ (word_then p mid word sound new declares number ∙ ap (λ b. if b then Some word else word_of p.dict number) (eq-eqb number number refl))
 
   flagged_then : (n : ℕ) → is_taken p.declared n ≡ true → is_taken q.declared n ≡ true
   flagged_then n bit = ap (λ (k : Kept). is_taken k.declared n) mid_is ∙ flagged_stays p mid word sound new declares n bit
@@ -386,92 +430,36 @@ module _ (p q : Kept) (word : List ℕ) (rights : List ℕ) (words : List (List 
           let found = among_from_any (is_pair left right) p.axioms (subst (λ (k : Kept). has_pair k.axioms left right ≡ true) declares.parts pair) in
           old found.0 found.1 found.2
 
-  in_use_then : KeepsInUse p → KeepsInUse q
+  pub in_use_then : KeepsInUse p → KeepsInUse q
   in_use_then keeps = record {
     used = under_used word p mid q declares rights stands.links keeps.used;
     tags = subst (λ (k : Kept). (slot : ℕ) (rec : FileRecord) → rec_at k.catalog slot ≡ Some rec → (n : ℕ) → has_number rec.tags n ≡ true → has k.ext n slot ≡ true) (sym parts_are) keeps.tags;
     rights = right_then keeps;
   }
 
-  -- the store is in form again
-  sound_declared : (j : Held) (b : Bool) → b ≡ false → IsSound (record { parts = p; journal = j; is_broken = b }) → AreSound q → IsSound (settled q j)
-  sound_declared j b whole was after =
-      record {
-        parts = sound_clean q after;
-        range = subst (λ (k : Kept). IsTrue (is_super k.limits)) (sym parts_are) was.range;
-        free = subst (λ (k : Kept). FreeSlotsAreEmpty k) (sym parts_are) was.free;
-        pairs = under_apart p mid q sound word declares rights numbers.apart stands.links was.pairs;
-        closed = closed_then after was.free was.closed;
-        short = subst (λ (k : Kept). DescriptionsAreShort k) (sym parts_are) was.short;
-        taken = subst (λ (k : Kept). BlocksAreTaken k) (sym parts_are) was.taken;
-        apart = subst (λ (k : Kept). BlocksAreApart k) (sym parts_are) was.apart;
-        in_use = in_use_clean q (in_use_then was.in_use);
-        image = subst (λ (k : Kept). j.blocks ≡ image_blocks k.limits) (sym parts_are) was.image;
-        journal = λ _. was.journal whole;
-        staged = λ _. refl;
-        placed = λ _. was.placed whole;
-        clean = λ _. clean_is q;
-      }
+  pub apart_then : PairsAreApart p → PairsAreApart q
+  apart_then pairs = under_apart p mid q sound word declares rights numbers.apart stands.links pairs
 
-  few_marked : length rights ≤ 64 → marked_count p ≡ 0 → marked_count q ≤ 65
+  pub few_marked : length rights ≤ 64 → marked_count p ≡ 0 → marked_count q ≤ 65
   few_marked few none = omega (arith, (declared_then_marked word p mid q declares rights stands.links).few, few, none)
 
-  pub few_edits : q.ext.edits ≤ p.ext.edits + differing_bits p.ext q.ext
-  few_edits = omega (arith, ap (λ (e : Ext). e.edits) ext_is)
+  pub saved_then : (at : ℕ → List ℕ) → IsSaved p at → IsSaved q at
+  saved_then at saved = (declared_then_marked word p mid q declares rights stands.links).saved at saved
 
-  -- ---- the state that it tells
-  module _ (at : ℕ → List ℕ) (s : State) (free : FreeSlotsAreEmpty p) (tells : Tells p at s) (kept : is_property word ≡ true) (formed : WellFormed (declared_under s word words)) (pairs : PairsAreApart p) where
-    abbrev t : State
-    t = declared_under s word words
-
-    state_then : state_of q at ≡ t
-    state_then =
-        let some : (n : ℕ) → Among rights n → IsSome (word_of p.dict n) = right_some p sound words rights numbers in
-        let same : (n : ℕ) → Among rights n → word_of mid.dict n ≡ word_of p.dict n = λ n m. stays p mid word sound new declares n (some n m) in
-        let ws = flat_map (λ n. option_to_list (word_of mid.dict n)) rights in
-        let named : word_of mid.dict number ≡ Some word = word_then p mid word sound new declares number ∙ ap (λ b. if b then Some word else word_of p.dict number) (eq-eqb number number refl) in
-        declared_then_linked word p mid q declares rights ws stands.links named (words_each mid.dict rights (λ n m. ap is_some (same n m) ∙ some n m)) at
-        ∙ (ap (λ (axioms : List (List ℕ × List ℕ)). record (state_of p at) { declared = with_word (declared_of p) word; axioms = axioms })
-        (under_set word (axioms_of p) (sorted_axioms p) ws ∙ ap (under word (axioms_of p)) (words_same p.dict mid.dict rights same ∙ numbers.told))
-        ∙ ap (λ (x : State). declared_under x word words) tells.state)
-
-    there : (f : Filed) → Contains q.catalog.entries f → Among p.catalog.entries f
-    there f m = subst (λ (fs : List Filed). Among fs f) entries_are (among_from_contains q.catalog.entries f m)
-
-    words_now : (f : Filed) → Among p.catalog.entries f → words_told q.dict (numbers_at q.ext f.slot) ≡ words_told p.dict (numbers_at p.ext f.slot)
-    words_now f m =
-        ap (λ (e : Ext). words_told q.dict (numbers_at e f.slot)) ext_is
-        ∙ words_same p.dict q.dict (numbers_at p.ext f.slot) (λ n of. stays_then n (sound.named n f.slot (ap is_some (filed_rec p.catalog sound.catalog f m)) (number_from_among (numbers_at p.ext f.slot) n of)))
-
-    described_then : (f : Filed) → Among p.catalog.entries f → description t (file_told q.limits q.dict at f) ≡ description s (file_told p.limits p.dict at f)
-    described_then f m =
-        ap (description t) (file_then at f m)
-        ∙ described_alike p sound pairs at s free tells word kept new words (file_told p.limits p.dict at f) (file_of_filed p at s sound free tells f m)
-
-    tells_declared : Tells q at t
-    tells_declared = record {
-      super = tells.super;
-      state = state_then;
-      formed = formed;
-      used = under_used word p mid q declares rights stands.links tells.used;
-      described = λ f m.
-          let of_p = there f m in
-          words_now f of_p ∙ (tells.described f (contains_from_among p.catalog.entries f of_p) ∙ sym (described_then f of_p));
-      taken = λ n lt is.
-          let b = tells.taken n (subst (λ (k : Kept). n < k.limits.blocks) parts_are lt) (subst (λ (k : Kept). is_taken k.taken n ≡ true) parts_are is) in
-          record { file = b.file; kept = subst (λ (fs : List Filed). Contains fs b.file) (sym entries_are) b.kept; has = b.has };
-      given = λ f m n has_it.
-          let g = tells.given f (contains_from_among p.catalog.entries f (there f m)) n has_it in
-          subst (λ (k : Kept). (n < k.limits.blocks) × (is_taken k.taken n ≡ true)) (sym parts_are) g;
-      one_use = λ f g mf mg n has_f has_g. tells.one_use f g (contains_from_among p.catalog.entries f (there f mf)) (contains_from_among p.catalog.entries g (there g mg)) n has_f has_g;
-    }
-
-    ready_declared : IsSaved p at → IsReady q at t
-    ready_declared saved = record { tells = tells_declared; saved = (declared_then_marked word p mid q declares rights stands.links).saved at saved }
+  -- what it tells
+  pub told_then : (at : ℕ → List ℕ) → state_of q at ≡ declared_under (state_of p at) word words
+  told_then at =
+      let some : (n : ℕ) → Among rights n → IsSome (word_of p.dict n) = right_some p sound words rights numbers in
+      let same : (n : ℕ) → Among rights n → word_of mid.dict n ≡ word_of p.dict n = λ n m. stays p mid word sound new declares n (some n m) in
+      let ws = flat_map (λ n. option_to_list (word_of mid.dict n)) rights in
+      let named : word_of mid.dict number ≡ Some word = word_then p mid word sound new declares number ∙ ap (λ b. if b then Some word else word_of p.dict number) (eq-eqb number number refl) in
+      declared_then_linked word p mid q declares rights ws stands.links named (words_each mid.dict rights (λ n m. ap is_some (same n m) ∙ some n m)) at
+      ∙ ap (λ (axioms : List (List ℕ × List ℕ)). record (state_of p at) { declared = with_word (declared_of p) word; axioms = axioms })
+      (under_set word (axioms_of p) (sorted_axioms p) ws ∙ ap (under word (axioms_of p)) (words_same p.dict mid.dict rights same ∙ numbers.told))
 
 -- ---- the row of `mkdir`, asked of what memory keeps
 module _ (k : Kept) (sound : AreSound k) (pairs : PairsAreApart k) (at : ℕ → List ℕ) (s : State) (free : FreeSlotsAreEmpty k) (tells : Tells k at s) (place : List Formula)
-    (word : List ℕ) (kept : is_property word ≡ true) where
+    (word : List ℕ) (kept : is_property word ≡ true) (sizes : (f : Filed) → Among k.catalog.entries f → length (bytes_told k.limits at f.rec) ≡ f.rec.size) where
   abbrev now : Situation
   now = record { state = s; place = place }
 
@@ -481,12 +469,17 @@ module _ (k : Kept) (sound : AreSound k) (pairs : PairsAreApart k) (at : ℕ →
   abbrev made : State
   made = declared_under s word words
 
-  abbrev few_checks : Bool → Bool → Bool → Bool → Bool → Bool → Bool → List (Bool × Refusal) → List (Bool × Refusal)
-  few_checks own valued there plain over axioms room rest =
-      (own, BuiltIn) ∷ (valued, NotAssignable) ∷ (there, AlreadyDeclared) ∷ (not plain, NotAPlace) ∷ (not over, UnknownProperty) ∷ (axioms, NoAxiomRoom) ∷ (room, NoPropertyRoom) ∷ rest
-
   abbrev all_checks : Bool → Bool → Bool → Bool → Bool → Bool → Bool → Bool → List (Bool × Refusal)
-  all_checks own valued there plain over axioms room large = few_checks own valued there plain over axioms room ((large, LargeDescription) ∷ [])
+  all_checks own valued there plain over axioms room large =
+      (own, BuiltIn)
+      ∷ (valued, NotAssignable)
+      ∷ (there, AlreadyDeclared)
+      ∷ (not plain, NotAPlace)
+      ∷ (not over, UnknownProperty)
+      ∷ (axioms, NoAxiomRoom)
+      ∷ (room, NoPropertyRoom)
+      ∷ (large, LargeDescription)
+      ∷ []
 
   abbrev many_axioms : Bool
   many_axioms = nat_lt k.limits.props (count_by is_filled k.axioms + length words)
@@ -494,32 +487,30 @@ module _ (k : Kept) (sound : AreSound k) (pairs : PairsAreApart k) (at : ℕ →
   abbrev many_words : Bool
   many_words = nat_lt k.limits.props (length k.dict.entries + 1)
 
+  abbrev crowded : Bool
+  crowded = has_crowded k (test_of word) (is_gained_by k words)
+
   most : s.limits.props ≡ k.limits.props
   most = ap (λ (l : Limits). l.props) (sym (limits_told k at s sound free tells))
 
   -- what is asked of the new state is asked of a new word alone, under plain declared words
   by_row : (done : Outcome) (own valued there plain over : Bool) → is_built_in word ≡ own → is_valued word ≡ valued → is_declared k word ≡ there → is_plain_place (place_words place) ≡ plain
       → list_all (is_declared k) words ≡ over
-      → judged now (all_checks own valued there plain over (exceeds_axioms made) (exceeds_known made) (exceeds_words made)) done ≡ judged now (few_checks own valued there plain over many_axioms many_words []) done
+      → judged now (all_checks own valued there plain over (exceeds_axioms made) (exceeds_known made) (exceeds_words made)) done ≡ judged now (all_checks own valued there plain over many_axioms many_words crowded) done
   by_row done true valued there plain over is_own is_valued is_there is_plain is_over = refl
   by_row done false true there plain over is_own is_valued is_there is_plain is_over = refl
   by_row done false false true plain over is_own is_valued is_there is_plain is_over = refl
   by_row done false false false false over is_own is_valued is_there is_plain is_over = refl
   by_row done false false false true false is_own is_valued is_there is_plain is_over = refl
   by_row done false false false true true is_own is_valued is_there is_plain is_over =
-      let form = declarable_from word (or_left (is_word word) (is_test word) kept) is_valued is_own in
+      let form = declarable_from word kept is_valued is_own in
       let new = new_word k word sound form is_there in
       let axioms : exceeds_axioms made ≡ many_axioms = ap₂ (λ a b. nat_lt a b) most (axioms_more k sound pairs at s free tells word kept new words (apart_at place)) in
       let room : exceeds_known made ≡ many_words = ap₂ (λ a b. nat_lt a b) most (known_more k sound pairs at s free tells word kept new words form (plain_at place is_plain) is_over) in
+      let large : exceeds_words made ≡ crowded = large_told k sound pairs at s free tells word kept new words is_over sizes in
       ap (λ b. judged now (all_checks false false false true true b (exceeds_known made) (exceeds_words made)) done) axioms
       ∙ (ap (λ b. judged now (all_checks false false false true true many_axioms b (exceeds_words made)) done) room
-      ∙ (ap (λ b. judged now (all_checks false false false true true many_axioms many_words b) done) (words_fit k sound pairs at s free tells word kept new words)
-      ∙ last many_axioms many_words))
-    where
-      last : (a b : Bool) → judged now (all_checks false false false true true a b false) done ≡ judged now (few_checks false false false true true a b []) done
-      last true b = refl
-      last false true = refl
-      last false false = refl
+      ∙ ap (λ b. judged now (all_checks false false false true true many_axioms many_words b) done) large)
 
   all_told : list_all (has_word s.declared) words ≡ list_all (is_declared k) words
   all_told = same_tests (list_all (has_word s.declared) words) (list_all (is_declared k) words)
@@ -531,56 +522,3 @@ module _ (k : Kept) (sound : AreSound k) (pairs : PairsAreApart k) (at : ℕ →
       ap₂ (λ there over. judged now (all_checks (is_built_in word) (is_valued word) there (is_plain_place (place_words place)) over (exceeds_axioms made) (exceeds_known made) (exceeds_words made)) (changed now made))
       (declared_told k at s tells word) all_told
       ∙ by_row (changed now made) (is_built_in word) (is_valued word) (is_declared k word) (is_plain_place (place_words place)) (list_all (is_declared k) words) refl refl refl refl refl
-
--- ---- a call that declares a word
-module _ (old : Stored) (place : List Formula) (word : List ℕ) (rights : List ℕ) (sound : IsSound old) (kept : is_property word ≡ true) (form : is_declarable word ≡ true)
-    (none : first_refusal (word_checks old.parts place word) ≡ None) (numbers : AreNumbersOf old.parts (words_at place) rights) where
-  passes : IsPlaceable old.parts place word
-  passes = is_placeable old.parts place word none
-
-  pub declared_new : number_of old.parts.dict word ≡ None
-  declared_new = new_word old.parts word sound.parts form passes.new
-
-  pub declared_room : length old.parts.dict.entries < old.parts.limits.props
-  declared_room = passes.room
-
-  pub declared_may : MayStandUnder rights old.parts
-  declared_may = may_stand old.parts sound.parts (words_at place) rights numbers (plain_at place passes.plain) passes.axioms
-
-  module _ (unbroken : old.is_broken ≡ false) (q : Kept) (stands : DeclaresUnder word rights old.parts q) where
-    pub declared_sound : AreSound q → IsSound (settled q old.journal)
-    declared_sound = sound_declared old.parts q word rights (words_at place) sound.parts declared_new numbers stands old.journal old.is_broken unbroken sound
-
-    pub declared_limits : q.limits ≡ old.parts.limits
-    declared_limits = limits_are old.parts q word rights (words_at place) sound.parts declared_new numbers stands
-
-    pub declared_edits : q.ext.edits ≤ old.parts.ext.edits + differing_bits old.parts.ext q.ext
-    declared_edits = few_edits old.parts q word rights (words_at place) sound.parts declared_new numbers stands
-
-    pub declared_marks : length rights ≤ 64 → length old.journal.staged + marked_count q ≤ 531
-    declared_marks few =
-        let marked = few_marked old.parts q word rights (words_at place) sound.parts declared_new numbers stands few (none_marked old.parts (sound.clean unbroken)) in
-        omega (arith, marked, ap length (sound.staged unbroken))
-
-    pub declared_changes : {T : Type 0} (new : Stored) (before after : Meaning) (result : Result T Change) → Saves q old.journal new before after result
-        → (s : State) → StoreFits old before s → Changes (record { state = s; place = place }) (mkdir (record { state = s; place = place }) word) new before after result
-    declared_changes new before after result saves s fits =
-        let now : Situation = record { state = s; place = place } in
-        let made : State = declared_under s word (words_at place) in
-        let formed = formed_then old.parts sound.parts sound.pairs fits.kept s sound.free fits.tells word kept declared_new (words_at place) form (plain_at place passes.plain) passes.declared
-        passes.new (apart_at place) passes.axioms passes.room in
-        let ready : IsReady q fits.kept made =
-        ready_declared old.parts q word rights (words_at place) sound.parts declared_new numbers stands fits.kept s sound.free fits.tells kept formed sound.pairs (λ area n lt unmarked. fits.written area n lt) in
-        saves old now (mkdir now word) made fits sound refl refl refl declared_limits
-        (λ _. subst (λ (es : List Entry). IsReady q (looked es fits.kept) made) (sym (sound.staged unbroken)) ready)
-        (outcome_is old.parts sound.parts sound.pairs fits.kept s sound.free fits.tells place word kept ∙ judged_done now (word_checks old.parts place word) (changed now made) none)
-
--- one that is refused
-pub declared_refused : {T : Type 0} (old : Stored) (m : Meaning) (place : List Formula) (word : List ℕ) (refusal : Refusal) (result : Result T Change) → IsSound old → is_property word ≡ true
-    → first_refusal (word_checks old.parts place word) ≡ Some refusal → result ≡ Err (Refused refusal)
-    → (s : State) → StoreFits old m s → Changes (record { state = s; place = place }) (mkdir (record { state = s; place = place }) word) old m m result
-declared_refused old m place word refusal result sound kept first ends s fits =
-    let now : Situation = record { state = s; place = place } in
-    change_refused old m now (mkdir now word) refusal result fits
-    (outcome_is old.parts sound.parts sound.pairs fits.kept s sound.free fits.tells place word kept
-    ∙ judged_refused now (word_checks old.parts place word) (changed now (declared_under s word (words_at place))) refusal first) ends

@@ -35,6 +35,11 @@ pub mod AddedMarks
 pub mod Assigned
 pub mod PlaceNumbers
 pub mod Under
+pub mod TestUnder
+pub mod Crowded
+pub mod Tested
+pub mod Without
+pub mod TestedTells
 pub mod Gathered
 pub mod MetTests
 pub mod Measured
@@ -55,7 +60,7 @@ pub mod Related
 pub mod Remaining
 pub mod HeadsUsed
 pub mod RemainingRows
-pub mod LessSlots
+pub mod Redescribed
 pub mod AxiomGone
 pub mod Unaxiomed
 pub mod AxiomFound

@@ -40,9 +40,11 @@ use Rattle.lis_kept.proofs.Used.{had_at}
 use Rattle.lis_kept.proofs.WordLess.{had_from}
 use Rattle.lis_store.specs.Stored.{AreClosed, DescriptionsAreShort, BlocksAreApart, IsSound}
 use Rattle.lis_store.specs.Changes.{differing_bits}
+use Rattle.lis_store.specs.Redescribing.{IsTurnedRow}
 use Rattle.lis_store.specs.Saving.{settled, IsReady}
-use Rattle.lis_store.specs.Unlinking.{is_entailed, tags_by, remaining_at, lessened, lost_at, IsLostRow, heads_by, with_head, TakesAxiom}
-use Rattle.lis_store.proofs.AxiomGone.{rights_unlinked, pairs_unlinked, closed_unlinked, tags_unlinked, SetCases, set_then, set_by, had_back, lost, closed_less, tags_less, short_less, free_less, unused_is}
+use Rattle.lis_store.specs.Unlinking.{is_entailed, tags_by, remaining_at, lessened, heads_by, with_head, TakesAxiom}
+use Rattle.lis_store.proofs.Redescribed.{redescribed_edits}
+use Rattle.lis_store.proofs.AxiomGone.{none_past, rights_unlinked, pairs_unlinked, closed_unlinked, tags_unlinked, SetCases, set_then, set_by, had_back, lost, closed_less, tags_less, short_less, free_less, unused_is}
 use Rattle.lis_store.proofs.Cleaned.{clean_is, sound_clean, in_use_clean}
 use Rattle.lis_store.proofs.HeadsUsed.{used_had}
 use Rattle.lis_store.proofs.Remaining.{led, led_had, few_within, remaining_told}
@@ -266,12 +268,12 @@ module _ (left right : ℕ) (p q : Kept) (takes : TakesAxiom left right p q) (j 
   abbrev ups : List ℕ
   ups = numbers_where k.limits.props (is_entailed k right)
 
-  lost_up : (block : ℕ) (row : IsLostRow k left right block) → Among ups row.number
+  lost_up : (block : ℕ) (row : IsTurnedRow k (lessened k left right) block) → Among ups row.number
   lost_up block row =
       let n = row.number in
       let slot = row.slot in
       let new = set_then k m takes.sound closed_k left right takes.lessens slot in
-      let differ : differs (numbers_at k.ext slot) (numbers_at m.ext slot) n ≡ true = ap (λ ns. differs (numbers_at k.ext slot) ns n) new ∙ row.lost in
+      let differ : differs (numbers_at k.ext slot) (numbers_at m.ext slot) n ≡ true = ap (λ ns. differs (numbers_at k.ext slot) ns n) new ∙ row.turned in
       by n slot (or_cases (has m.ext n slot && not (has k.ext n slot)) (has k.ext n slot && not (has m.ext n slot)) differ)
     where
       by : (n slot : ℕ) → ((has m.ext n slot && not (has k.ext n slot)) ≡ true) ⊎ ((has k.ext n slot && not (has m.ext n slot)) ≡ true) → Among ups n
@@ -305,12 +307,12 @@ module _ (left right : ℕ) (p q : Kept) (takes : TakesAxiom left right p q) (j 
           ∙ was.closed slot left right (ap (λ (u : Kept). has u.ext left slot) (sym takes.unlinks.parts) ∙ had) linked
 
   -- so the rows that change are few
-  lost_few : (rows : List ℕ) × (length rows ≤ 128) × ((block : ℕ) (row : IsLostRow k left right block) → Among rows row.number)
+  lost_few : (rows : List ℕ) × (length rows ≤ 128) × ((block : ℕ) (row : IsTurnedRow k (lessened k left right) block) → Among rows row.number)
   lost_few = by (is_had k.ext left) refl
     where
-      by : (c : Bool) → is_had k.ext left ≡ c → (rows : List ℕ) × (length rows ≤ 128) × ((block : ℕ) (row : IsLostRow k left right block) → Among rows row.number)
+      by : (c : Bool) → is_had k.ext left ≡ c → (rows : List ℕ) × (length rows ≤ 128) × ((block : ℕ) (row : IsTurnedRow k (lessened k left right) block) → Among rows row.number)
       by true some = let place = had_at k.ext left some in (ups, ups_had place.0 place.2, lost_up)
-      by false none = ([], omega arith, λ block row. absurd (never row.slot row.number row.lost))
+      by false none = ([], omega arith, λ block row. absurd (never row.slot row.number row.turned))
         where
           same : (c : Bool) → ((c && not c) || (c && not c)) ≡ false
           same true = refl
@@ -336,7 +338,7 @@ module _ (left right : ℕ) (p q : Kept) (takes : TakesAxiom left right p q) (j 
       none : (block : ℕ) → is_taken p.marks block ≡ true → ⊥
       none block is = both_ways (is_taken p.marks block) (ap (λ ms. is_taken ms block) clean ∙ none_set (length p.marks) block) is
 
-      by : (block : ℕ) → (is_marked k block ≡ true) ⊎ IsLostRow k left right block → Among (axiom_block ∷ map (block_of k.limits Rows) lost_few.0) block
+      by : (block : ℕ) → (is_marked k block ≡ true) ⊎ IsTurnedRow k (lessened k left right) block → Among (axiom_block ∷ map (block_of k.limits Rows) lost_few.0) block
       by block (inl before) = side (marked_only (axiom_block ∷ []) p.marks block (ap (λ (u : Kept). is_marked u block) (sym takes.unlinks.parts) ∙ before))
         where
           side : (is_taken p.marks block ≡ true) ⊎ Among (axiom_block ∷ []) block → Among (axiom_block ∷ map (block_of k.limits Rows) lost_few.0) block
@@ -353,13 +355,5 @@ module _ (left right : ℕ) (p q : Kept) (takes : TakesAxiom left right p q) (j 
       let Q : Ext → Type 0 = λ c. E k.ext c in
       subst P (ap (λ (u : Kept). u.ext) takes.unlinks.parts) (subst Q (sym (ap (λ (u : Kept). u.ext) end_is)) here)
     where
-      bits : (slot : ℕ) → length (lost_at k left right slot) ≡ length (numbers_where k.ext.props (differs (numbers_at k.ext slot) (numbers_at m.ext slot)))
-      bits slot = ap (λ ns. length (numbers_where k.ext.props (differs (numbers_at k.ext slot) ns))) (sym (set_then k m takes.sound closed_k left right takes.lessens slot))
-
       here : m.ext.edits ≤ k.ext.edits + differing_bits k.ext m.ext
-      here =
-          let f : ℕ → ℕ = λ slot. length (lost_at k left right slot) in
-          let g : ℕ → ℕ = λ slot. length (numbers_where k.ext.props (differs (numbers_at k.ext slot) (numbers_at m.ext slot))) in
-          let all : sum (map f (range_with_len 0 k.limits.files)) ≡ differing_bits k.ext m.ext =
-          ap (λ n. sum (map f (range_with_len 0 n))) (sym takes.sound.files) ∙ ap sum (map_all f g (range_with_len 0 (length k.ext.sets)) (λ slot of. bits slot)) in
-          omega (arith, takes.lessens.edits, all)
+      here = redescribed_edits (lessened k left right) k.limits.files k m takes.lessens takes.sound.files (none_past k m takes.sound closed_k left right takes.lessens)

@@ -3,9 +3,9 @@ use Rattle.std.specs.Prelude.{ℕ, ◌+◌, nat_lt, Bool, false, not, Option, So
 use Rattle.std.specs.List.{list_any, list_all}
 use Rattle.lis_grammar.specs.Formula.{Formula}
 use Rattle.lis_dict.specs.Dict.{number_of}
-use Rattle.lis_words.specs.Words.{same_word, is_built_in, is_valued}
+use Rattle.lis_words.specs.Words.{same_word, is_built_in, is_valued, test_of}
 use Rattle.lis_model.specs.declared.refusal.Refusal.{Refusal}
-use Rattle.lis_model.specs.declared.refusal.Refusal.TheVariants.{BuiltIn, NotAssignable, AlreadyDeclared, NotDeclared, InUse, NotAPlace, UnknownProperty, NoAxiomRoom, NoPropertyRoom}
+use Rattle.lis_model.specs.declared.refusal.Refusal.TheVariants.{BuiltIn, NotAssignable, AlreadyDeclared, NotDeclared, InUse, NotAPlace, UnknownProperty, NoAxiomRoom, NoPropertyRoom, LargeDescription}
 use Rattle.lis_model.specs.Places.{place_words}
 use Rattle.lis_model.specs.Step.{is_plain_place, words_at}
 use Rattle.lis_model.specs.Table.{Entry}
@@ -15,6 +15,7 @@ use Rattle.lis_kept.specs.Telling.{is_declared}
 use Rattle.lis_kept.specs.Linking.{is_filled}
 use Rattle.lis_kept.specs.Undeclaring.{is_needed}
 use Rattle.lis_store.specs.Seen.{table_of}
+use Rattle.lis_store.specs.Testing.{is_gained_by, has_crowded}
 
 -- a file of that name is in the extension of the place
 abbrev pub is_among : Kept → List Formula → List ℕ → Bool
@@ -30,6 +31,7 @@ word_checks k place word =
     ∷ (not (list_all (is_declared k) (words_at place)), UnknownProperty)
     ∷ (nat_lt k.limits.props (count_by is_filled k.axioms + length (words_at place)), NoAxiomRoom)
     ∷ (nat_lt k.limits.props (length k.dict.entries + 1), NoPropertyRoom)
+    ∷ (has_crowded k (test_of word) (is_gained_by k (words_at place)), LargeDescription)
     ∷ []
 
 -- the word has a number, and is needed

@@ -16,7 +16,9 @@ pub mod Adding
 pub mod Counting
 pub mod Relating
 pub mod RelatingIn
+pub mod Redescribing
 pub mod Unlinking
+pub mod Testing
 pub mod ReplacingIn
 pub mod Instead
 pub mod Retagging

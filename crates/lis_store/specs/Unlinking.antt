@@ -1,26 +1,25 @@
 -- An axiom that is taken away, and what is left of the descriptions that have its left word.
-use Rattle.std.specs.Prelude.{◌≡◌, ◌⊎◌, ℕ, ◌+◌, ◌<◌, ◌≤◌, true, false, Bool, not, ◌&&◌, ◌||◌, if◌then◌else◌, Option, Some, None, List, [], ◌∷◌, length, map, sum}
+use Rattle.std.specs.Prelude.{◌≡◌, ℕ, true, false, Bool, not, ◌&&◌, ◌||◌, if◌then◌else◌, Option, Some, None, List, [], ◌∷◌}
 use Rattle.std.specs.Option.{option_to_list}
-use Rattle.std.specs.List.{list_any, range_with_len}
+use Rattle.std.specs.List.{list_any}
 use Rattle.lis_content.specs.Content.{has_number}
 use Rattle.lis_dict.specs.Dict.{Dict, word_of}
 use Rattle.lis_catalog.specs.Catalog.{rec_at}
 use Rattle.lis_ext.specs.Ext.{has, set_of as numbers_at}
-use Rattle.lis_ext.specs.Numbers.{differs, numbers_where}
+use Rattle.lis_ext.specs.Numbers.{numbers_where}
 use Rattle.lis_fields.specs.Records.{FileRecord}
 use Rattle.lis_words.specs.Words.{is_plain_word}
 use Rattle.lis_model.specs.State.{up}
 use Rattle.lis_model.specs.Changes.{has_axiom}
 use Rattle.lis_kept.specs.Kept.{Kept}
-use Rattle.lis_kept.specs.Areas.{IsSaved, is_marked, block_of}
-use Rattle.lis_kept.specs.Areas.Area.{Rows}
 use Rattle.lis_kept.specs.Edges.{head_number}
 use Rattle.lis_kept.specs.Sound.{AreSound}
 use Rattle.lis_kept.specs.Telling.{declared_of, axioms_of}
 use Rattle.lis_kept.specs.Links.{has_pair}
 use Rattle.lis_kept.specs.Linking.{Unlinks}
-use Rattle.lis_kept.specs.Changes.{Describes, Forgets}
+use Rattle.lis_kept.specs.Changes.{Forgets}
 use Rattle.lis_store.specs.Adding.{is_one_of}
+use Rattle.lis_store.specs.Redescribing.{Redescribes}
 
 -- ---- the axiom
 -- it is kept; only plain words are right sides
@@ -71,34 +70,6 @@ remaining_at k right slot = remaining k right (tags_at k slot) (numbers_at k.ext
 abbrev pub lessened : Kept → ℕ → ℕ → ℕ → List ℕ
 lessened k left right slot = if has k.ext left slot then remaining_at k right slot else numbers_at k.ext slot
 
--- which numbers differ then
-abbrev pub lost_at : Kept → ℕ → ℕ → ℕ → List ℕ
-lost_at k left right slot = numbers_where k.ext.props (differs (numbers_at k.ext slot) (lessened k left right slot))
-
--- the description in one slot
-abbrev pub LessensAt : ℕ → ℕ → ℕ → Kept → Kept → Type 0
-LessensAt left right slot p q =
-    ((has p.ext left slot ≡ true) × Describes slot (remaining_at p right slot) p q) ⊎ ((has p.ext left slot ≡ false) × (q ≡ p))
-
--- the block is that of the row of a number that some slot loses
-pub record IsLostRow (k : Kept) (left right block : ℕ) : Type 0 where
-  pub slot : ℕ
-  pub number : ℕ
-  pub below : number < k.ext.props
-  pub lost : differs (numbers_at k.ext slot) (lessened k left right slot) number ≡ true
-  pub is : block ≡ block_of k.limits Rows number
-
--- The slots below the count have what is left of their descriptions, and the others what they had.
-pub record Lessens (left right count : ℕ) (p q : Kept) : Type 0 where
-  pub parts : q ≡ record p { ext = q.ext; marks = q.marks }
-  pub props : q.ext.props ≡ p.ext.props
-  pub slots : length q.ext.sets ≡ length p.ext.sets
-  pub done : (slot : ℕ) → slot < count → numbers_at q.ext slot ≡ lessened p left right slot
-  pub others : (slot : ℕ) → count ≤ slot → numbers_at q.ext slot ≡ numbers_at p.ext slot
-  pub saved : (at : ℕ → List ℕ) → IsSaved p at → IsSaved q at
-  pub within : (block : ℕ) → is_marked q block ≡ true → (is_marked p block ≡ true) ⊎ IsLostRow p left right block
-  pub edits : q.ext.edits ≤ p.ext.edits + sum (map (λ slot. length (lost_at p left right slot)) (range_with_len 0 count))
-
 -- ---- words
 abbrev pub heads_by : Dict → Option (List ℕ) → List ℕ
 heads_by dict None = []
@@ -114,5 +85,5 @@ pub record TakesAxiom (left right : ℕ) (p q : Kept) : Type 0 where
   pub unlinks : Unlinks left right p unlinked
   pub sound : AreSound unlinked
   pub made : Kept
-  pub lessens : Lessens left right unlinked.limits.files unlinked made
+  pub lessens : Redescribes (lessened unlinked left right) unlinked.limits.files unlinked made
   pub forgets : Forgets (with_head p.dict left) made q

@@ -9,6 +9,7 @@ ghost use Rattle.lis_store.specs.Changes.{Judges};
 ghost use Rattle.lis_store.specs.Judging.{word_checks, undeclare_checks};
 ghost use Rattle.lis_store.specs.Placing.{AreNumbersOf};
 
+use crate::crowding::has_crowded;
 use crate::placing::{has_plain_words, place_numbers};
 use arrayvec::ArrayVec;
 use lis_kept::Parts;
@@ -50,6 +51,9 @@ pub(crate) fn may_declare(
     }
     if parts.word_count() >= props {
         return Err(Refusal::NoPropertyRoom);
+    }
+    if has_crowded(parts, word, numbers.as_slice()) {
+        return Err(Refusal::LargeDescription);
     }
     Ok(numbers)
 }

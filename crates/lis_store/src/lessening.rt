@@ -10,8 +10,9 @@ ghost use Rattle.lis_eval.specs.Room.{HasRoom};
 ghost use Rattle.lis_kept.specs.Forgetting.{KeepsInUse};
 ghost use Rattle.lis_kept.specs.Linking.{MayUnlink};
 ghost use Rattle.lis_kept.specs.Sound.{AreSound, FreeSlotsAreEmpty};
+ghost use Rattle.lis_store.specs.Redescribing.{Gives, Redescribes};
 ghost use Rattle.lis_store.specs.Stored.{AreClosed, DescriptionsAreShort};
-ghost use Rattle.lis_store.specs.Unlinking.{is_axiom, IsAxiomAt, tags_at, remains, remaining, remaining_at, LessensAt, Lessens, with_head, TakesAxiom};
+ghost use Rattle.lis_store.specs.Unlinking.{is_axiom, IsAxiomAt, tags_at, remains, remaining, remaining_at, lessened, with_head, TakesAxiom};
 
 use crate::adding::numbers_in;
 use crate::removing::numbers_at;
@@ -130,7 +131,7 @@ fn lessen(parts: &mut Parts, row: &mut Rows, left: u16, right: u16, slot: u16)
     requires short { length (set_of parts.old.ext slot) ≤ 128 }
     requires few { length (remaining_at parts.old right slot) ≤ 128 }
     ensures shape { HasShape row.new 1 parts.old.limits.props }
-    ensures lessened { LessensAt left right slot parts.old parts.new }
+    ensures lessened { Gives slot (lessened parts.old left right slot) parts.old parts.new }
 {
     let props = parts.limits().props;
     if !parts.ext().rows().get(u32::from(left), u32::from(slot)) {
@@ -150,7 +151,7 @@ fn lessen_all(parts: &mut Parts, row: &mut Rows, left: u16, right: u16)
     requires short { DescriptionsAreShort parts.old }
     requires few { (slot : ℕ) → length (remaining_at parts.old right slot) ≤ 128 }
     ensures shape { HasShape row.new 1 parts.old.limits.props }
-    ensures lessened { Lessens left right parts.old.limits.files parts.old parts.new }
+    ensures lessened { Redescribes (lessened parts.old left right) parts.old.limits.files parts.old parts.new }
 {
     let files = parts.limits().files;
     for slot in 0..files {

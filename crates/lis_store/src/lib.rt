@@ -16,6 +16,7 @@ pub mod laws;
 mod lessening;
 mod looking;
 mod meeting;
+mod crowding;
 mod placing;
 mod relating;
 mod relating_in;
@@ -25,6 +26,7 @@ mod retagging;
 mod saving;
 mod store;
 mod tags;
+mod testing;
 
 pub use change::Change;
 pub use counting::Counts;

@@ -13,6 +13,7 @@ use crate::change::Change;
 use crate::judging::may_declare;
 use crate::saving::save;
 use crate::store::Store;
+use crate::testing::declare_tested;
 use lis_place::Place;
 use lis_ports::Disk;
 use lis_words::Word;
@@ -39,7 +40,7 @@ impl Store {
         ensures cause { HasChangeCause (D.meaning disk.old).disk_faults (D.meaning disk.new).disk_faults result }
     {
         let places = may_declare(&self.parts, place, word)?;
-        self.parts.declare_under(word, places.as_slice());
+        declare_tested(&mut self.parts, word, places.as_slice());
         save(
             &mut self.parts,
             &mut self.journal,

@@ -12,6 +12,7 @@ use crate::change::Change;
 use crate::judging::may_undeclare;
 use crate::saving::save;
 use crate::store::Store;
+use crate::testing::undeclare_unmet;
 use lis_ports::Disk;
 use lis_words::Word;
 
@@ -31,7 +32,7 @@ impl Store {
         ensures cause { HasChangeCause (D.meaning disk.old).disk_faults (D.meaning disk.new).disk_faults result }
     {
         let number = may_undeclare(&self.parts, word)?;
-        self.parts.undeclare(number);
+        undeclare_unmet(&mut self.parts, number);
         save(
             &mut self.parts,
             &mut self.journal,

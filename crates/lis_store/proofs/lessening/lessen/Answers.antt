@@ -1,4 +1,4 @@
-use Rattle.std.proofs.Common.{◌≡◌, ◌∙◌, ℕ, ◌<◌, List, is_some, length, refl, sym, ap, ap₂, subst, inl, inr, arith}
+use Rattle.std.proofs.Common.{◌≡◌, ◌∙◌, ℕ, ◌<◌, if◌then◌else◌, List, is_some, length, refl, sym, ap, ap₂, subst, inl, inr, arith}
 use Rattle.std.specs.List.{list_all}
 use Rattle.std.specs.List.Sorted.{IsStrictlyIncreasing}
 use Rattle.std.proofs.lemmas.Map.Keys.{IsStrictlyIncreasing-from_sorted}
@@ -9,7 +9,7 @@ use Rattle.lis_kept.specs.Changes.{Describes}
 use Rattle.lis_kept.proofs.Filing.{number_from_among}
 use Rattle.lis_kept.proofs.Formed.{named_below}
 use Rattle.lis_laws.proofs.Counts.{all_from}
-use Rattle.lis_store.specs.Unlinking.{tags_at, remains, remaining}
+use Rattle.lis_store.specs.Unlinking.{tags_at, remains, remaining, remaining_at}
 use Rattle.lis_store.proofs.Remaining.{remaining_named}
 use Rattle.lis_store.proofs.Numbers.{sorted_where}
 use Rattle.lis_store.proofs.lessening.lessen.Goals as goal
@@ -38,7 +38,7 @@ returns-then-not-get-clause-lessened c =
     let had : has p.ext left slot ≡ c.get.result =
     ap (λ (x : Ext). has x left slot) (sym c.ext.ensures)
     ∙ (sym (c.rows.ensures.values left slot lt within) ∙ (ap₂ (λ (a b : ℕ). get c.rows.result.now a b) (sym c.from.ensures) (sym c.from-2.ensures) ∙ sym c.get.ensures)) in
-    inr (had ∙ c.if-not-get.true, refl)
+    inr (ap (λ b. if b then remaining_at p c.args.right slot else set_of p.ext slot) (had ∙ c.if-not-get.true), refl)
 
 pub remaining_at-rest-requires-clause-named : goal.remaining_at-rest-requires-clause-named
 remaining_at-rest-requires-clause-named c =
@@ -78,4 +78,5 @@ returns-clause-lessened c =
     let are = c.as_slice.ensures.value ∙ (c.numbers_at-numbers.ensures.numbers ∙ ap (λ (x : Ext). set_of x slot) c.ext-2.ensures) in
     let new = c.as_slice-3.ensures.value ∙ (c.remaining_at-rest.ensures.numbers ∙ ap (remaining p c.args.right (tags_at p slot)) are) in
     let P : List ℕ → Type 0 = λ ns. Describes slot ns p c.describe.new.self in
-    inl (had ∙ c.if-not-get.false, subst P new c.describe.ensures)
+    let whole = ap (λ b. if b then remaining_at p c.args.right slot else set_of p.ext slot) (had ∙ c.if-not-get.false) in
+    inl (subst P (new ∙ sym whole) c.describe.ensures)

@@ -7,7 +7,7 @@ use Rattle.lis_kept.specs.Kept.{Kept}
 use Rattle.lis_store.specs.Stored.{Stored, StoreFits}
 use Rattle.lis_store.specs.Placing.{AreNumbersOf}
 use Rattle.lis_store.specs.Changes.{Changes, differing_bits}
-use Rattle.lis_store.proofs.Declared.{declared_new, declared_may, declared_room, declared_limits, declared_edits, declared_marks, declared_sound, declared_changes, declared_refused}
+use Rattle.lis_store.proofs.TestedTells.{declared_numbers, declared_few, declared_new, declared_may, declared_room, declared_limits, declared_edits, declared_marks, declared_sound, declared_changes, declared_refused}
 use Rattle.lis_store.proofs.store.Store.declare.Goals as goal
 
 pub returns-in_err-places-clause-changes : goal.returns-in_err-places-clause-changes
@@ -22,23 +22,35 @@ returns-in_err-places-clause-changes g c = λ s fits.
     (declared_refused old m c.args.place.now c.args.word.now c.in_err-places.field-0.0 c.from_residual.result c.self.invariant c.may_declare.ensures.word
     c.in_err-places.ensures.row (p.1 ∙ ap Err p.2) s (subst P (sym c.self.view_is) fits))
 
-pub declare_under-requires-clause-new : goal.declare_under-requires-clause-new
-declare_under-requires-clause-new g c =
+pub declare_tested-requires-clause-new : goal.declare_tested-requires-clause-new
+declare_tested-requires-clause-new g c =
     let old : Stored = record { parts = c.self.inside.parts; journal = c.self.inside.journal; is_broken = c.self.inside.is_broken } in
     let numbers = subst (λ (ns : List ℕ). AreNumbersOf c.self.inside.parts (words_at c.args.place.now) ns) (sym c.as_slice.ensures.value) c.in_ok-places.ensures.numbers in
     declared_new old c.args.place.now c.args.word.now c.as_slice.result.now c.self.invariant c.may_declare.ensures.word c.in_ok-places.ensures.form c.in_ok-places.ensures.row numbers
 
-pub declare_under-requires-clause-room : goal.declare_under-requires-clause-room
-declare_under-requires-clause-room g c =
+pub declare_tested-requires-clause-room : goal.declare_tested-requires-clause-room
+declare_tested-requires-clause-room g c =
     let old : Stored = record { parts = c.self.inside.parts; journal = c.self.inside.journal; is_broken = c.self.inside.is_broken } in
     let numbers = subst (λ (ns : List ℕ). AreNumbersOf c.self.inside.parts (words_at c.args.place.now) ns) (sym c.as_slice.ensures.value) c.in_ok-places.ensures.numbers in
     declared_room old c.args.place.now c.args.word.now c.as_slice.result.now c.self.invariant c.may_declare.ensures.word c.in_ok-places.ensures.form c.in_ok-places.ensures.row numbers
 
-pub declare_under-requires-clause-places : goal.declare_under-requires-clause-places
-declare_under-requires-clause-places g c =
+pub declare_tested-requires-clause-places : goal.declare_tested-requires-clause-places
+declare_tested-requires-clause-places g c =
     let old : Stored = record { parts = c.self.inside.parts; journal = c.self.inside.journal; is_broken = c.self.inside.is_broken } in
     let numbers = subst (λ (ns : List ℕ). AreNumbersOf c.self.inside.parts (words_at c.args.place.now) ns) (sym c.as_slice.ensures.value) c.in_ok-places.ensures.numbers in
     declared_may old c.args.place.now c.args.word.now c.as_slice.result.now c.self.invariant c.may_declare.ensures.word c.in_ok-places.ensures.form c.in_ok-places.ensures.row numbers
+
+pub declare_tested-requires-clause-numbers : goal.declare_tested-requires-clause-numbers
+declare_tested-requires-clause-numbers g c =
+    let old : Stored = record { parts = c.self.inside.parts; journal = c.self.inside.journal; is_broken = c.self.inside.is_broken } in
+    let numbers = subst (λ (ns : List ℕ). AreNumbersOf c.self.inside.parts (words_at c.args.place.now) ns) (sym c.as_slice.ensures.value) c.in_ok-places.ensures.numbers in
+    declared_numbers old c.args.place.now c.args.word.now c.as_slice.result.now c.self.invariant c.may_declare.ensures.word c.in_ok-places.ensures.form c.in_ok-places.ensures.row numbers
+
+pub declare_tested-requires-clause-few : goal.declare_tested-requires-clause-few
+declare_tested-requires-clause-few g c =
+    let old : Stored = record { parts = c.self.inside.parts; journal = c.self.inside.journal; is_broken = c.self.inside.is_broken } in
+    let numbers = subst (λ (ns : List ℕ). AreNumbersOf c.self.inside.parts (words_at c.args.place.now) ns) (sym c.as_slice.ensures.value) c.in_ok-places.ensures.numbers in
+    declared_few old c.args.place.now c.args.word.now c.as_slice.result.now c.self.invariant c.may_declare.ensures.word c.in_ok-places.ensures.form c.in_ok-places.ensures.row numbers
 
 pub save-requires-clause-sound : goal.save-requires-clause-sound
 save-requires-clause-sound g c =
@@ -46,7 +58,7 @@ save-requires-clause-sound g c =
     let numbers = subst (λ (ns : List ℕ). AreNumbersOf c.self.inside.parts (words_at c.args.place.now) ns) (sym c.as_slice.ensures.value) c.in_ok-places.ensures.numbers in
     let unbroken = ap (λ (k : Stored). k.is_broken) c.self.view_is ∙ c.requires.unbroken in
     declared_sound old c.args.place.now c.args.word.now c.as_slice.result.now c.self.invariant c.may_declare.ensures.word c.in_ok-places.ensures.form c.in_ok-places.ensures.row numbers
-    unbroken c.declare_under.new.self c.declare_under.ensures
+    unbroken c.declare_tested.new.parts c.declare_tested.ensures
 
 pub save-requires-clause-image : goal.save-requires-clause-image
 save-requires-clause-image g c =
@@ -54,7 +66,7 @@ save-requires-clause-image g c =
     let numbers = subst (λ (ns : List ℕ). AreNumbersOf c.self.inside.parts (words_at c.args.place.now) ns) (sym c.as_slice.ensures.value) c.in_ok-places.ensures.numbers in
     let unbroken = ap (λ (k : Stored). k.is_broken) c.self.view_is ∙ c.requires.unbroken in
     c.self.invariant.image ∙ sym (ap image_blocks (declared_limits old c.args.place.now c.args.word.now c.as_slice.result.now c.self.invariant c.may_declare.ensures.word c.in_ok-places.ensures.form c.in_ok-places.ensures.row numbers
-    unbroken c.declare_under.new.self c.declare_under.ensures))
+    unbroken c.declare_tested.new.parts c.declare_tested.ensures))
 
 pub save-requires-clause-room : goal.save-requires-clause-room
 save-requires-clause-room g c =
@@ -62,7 +74,7 @@ save-requires-clause-room g c =
     let numbers = subst (λ (ns : List ℕ). AreNumbersOf c.self.inside.parts (words_at c.args.place.now) ns) (sym c.as_slice.ensures.value) c.in_ok-places.ensures.numbers in
     let unbroken = ap (λ (k : Stored). k.is_broken) c.self.view_is ∙ c.requires.unbroken in
     declared_marks old c.args.place.now c.args.word.now c.as_slice.result.now c.self.invariant c.may_declare.ensures.word c.in_ok-places.ensures.form c.in_ok-places.ensures.row numbers
-    unbroken c.declare_under.new.self c.declare_under.ensures (omega (arith, ap length c.as_slice.ensures.value, c.in_ok-places.ensures.few))
+    unbroken c.declare_tested.new.parts c.declare_tested.ensures (omega (arith, ap length c.as_slice.ensures.value, c.in_ok-places.ensures.few))
 
 pub returns-clause-changes : goal.returns-clause-changes
 returns-clause-changes g c = λ s fits.
@@ -73,7 +85,7 @@ returns-clause-changes g c = λ s fits.
     let unbroken = ap (λ (k : Stored). k.is_broken) c.self.view_is ∙ c.requires.unbroken in
     let P : Stored → Type 0 = λ k. StoreFits k m s in
     declared_changes old c.args.place.now c.args.word.now c.as_slice.result.now c.self.invariant c.may_declare.ensures.word c.in_ok-places.ensures.form c.in_ok-places.ensures.row numbers
-    unbroken c.declare_under.new.self c.declare_under.ensures new m (g.D.Disk.meaning c.save.new.disk) c.save.result c.save.ensures.saves s (subst P (sym c.self.view_is) fits)
+    unbroken c.declare_tested.new.parts c.declare_tested.ensures new m (g.D.Disk.meaning c.save.new.disk) c.save.result c.save.ensures.saves s (subst P (sym c.self.view_is) fits)
 
 pub returns-clause-edits : goal.returns-clause-edits
 returns-clause-edits g c =
@@ -81,9 +93,9 @@ returns-clause-edits g c =
     let numbers = subst (λ (ns : List ℕ). AreNumbersOf c.self.inside.parts (words_at c.args.place.now) ns) (sym c.as_slice.ensures.value) c.in_ok-places.ensures.numbers in
     let unbroken = ap (λ (k : Stored). k.is_broken) c.self.view_is ∙ c.requires.unbroken in
     let E : Ext → Ext → Type 0 = λ a b. b.edits ≤ a.edits + differing_bits a b in
-    let few = declared_edits old c.args.place.now c.args.word.now c.as_slice.result.now c.self.invariant c.may_declare.ensures.word c.in_ok-places.ensures.form c.in_ok-places.ensures.row numbers unbroken c.declare_under.new.self c.declare_under.ensures in
+    let few = declared_edits old c.args.place.now c.args.word.now c.as_slice.result.now c.self.invariant c.may_declare.ensures.word c.in_ok-places.ensures.form c.in_ok-places.ensures.row numbers unbroken c.declare_tested.new.parts c.declare_tested.ensures in
     let P : Ext → Type 0 = λ b. E c.args.self.now.parts.ext b in
-    let Q : Ext → Type 0 = λ a. E a c.declare_under.new.self.ext in
+    let Q : Ext → Type 0 = λ a. E a c.declare_tested.new.parts.ext in
     subst P (sym (ap (λ (k : Kept). k.ext) c.save.ensures.parts)) (subst Q (ap (λ (k : Stored). k.parts.ext) c.self.view_is) few)
 
 pub returns-clause-limits : goal.returns-clause-limits
@@ -92,4 +104,4 @@ returns-clause-limits g c =
     let numbers = subst (λ (ns : List ℕ). AreNumbersOf c.self.inside.parts (words_at c.args.place.now) ns) (sym c.as_slice.ensures.value) c.in_ok-places.ensures.numbers in
     let unbroken = ap (λ (k : Stored). k.is_broken) c.self.view_is ∙ c.requires.unbroken in
     ap (λ (k : Kept). k.limits) c.save.ensures.parts
-    ∙ (declared_limits old c.args.place.now c.args.word.now c.as_slice.result.now c.self.invariant c.may_declare.ensures.word c.in_ok-places.ensures.form c.in_ok-places.ensures.row numbers unbroken c.declare_under.new.self c.declare_under.ensures ∙ ap (λ (k : Stored). k.parts.limits) c.self.view_is)
+    ∙ (declared_limits old c.args.place.now c.args.word.now c.as_slice.result.now c.self.invariant c.may_declare.ensures.word c.in_ok-places.ensures.form c.in_ok-places.ensures.row numbers unbroken c.declare_tested.new.parts c.declare_tested.ensures ∙ ap (λ (k : Stored). k.parts.limits) c.self.view_is)

@@ -1,9 +1,12 @@
-use Rattle.std.proofs.Common.{◌∙◌, sym, ap, subst, Err}
+use Rattle.std.proofs.Common.{◌∙◌, ◌+◌, ◌≤◌, sym, ap, subst, Err}
 use Rattle.std.proofs.lemmas.Result.{err_from_is_err_and}
+use Rattle.lis_ext.specs.Ext.{Ext}
+use Rattle.lis_model.specs.Image.{image_blocks}
 use Rattle.lis_model.specs.Step.{rmdir}
+use Rattle.lis_kept.specs.Kept.{Kept}
 use Rattle.lis_store.specs.Stored.{Stored, StoreFits}
-use Rattle.lis_store.specs.Changes.{Changes}
-use Rattle.lis_store.proofs.Undeclared.{undeclared_may, undeclared_sound, undeclared_changes, undeclared_refused}
+use Rattle.lis_store.specs.Changes.{Changes, differing_bits}
+use Rattle.lis_store.proofs.Undeclared.{undeclared_may, undeclared_named, undeclared_limits, undeclared_edits, undeclared_marks, undeclared_sound, undeclared_changes, undeclared_refused}
 use Rattle.lis_store.proofs.store.Store.undeclare.Goals as goal
 
 pub returns-in_err-number-clause-changes : goal.returns-in_err-number-clause-changes
@@ -17,18 +20,53 @@ returns-in_err-number-clause-changes g c = λ now fits.
     (undeclared_refused old m c.args.word.now c.in_err-number.field-0.0 c.from_residual.result c.self.invariant
     c.in_err-number.ensures.row (p.1 ∙ ap Err p.2) now (subst P (sym c.self.view_is) fits))
 
-pub undeclare-requires : goal.undeclare-requires
-undeclare-requires g c =
+pub undeclare_unmet-requires-clause-may : goal.undeclare_unmet-requires-clause-may
+undeclare_unmet-requires-clause-may g c =
     let old : Stored = record { parts = c.self.inside.parts; journal = c.self.inside.journal; is_broken = c.self.inside.is_broken } in
     let unbroken = ap (λ (k : Stored). k.is_broken) c.self.view_is ∙ c.requires.unbroken in
     undeclared_may old c.args.word.now c.in_ok-number.number c.self.invariant unbroken c.in_ok-number.ensures.row c.in_ok-number.ensures.number
+
+pub undeclare_unmet-requires-clause-number : goal.undeclare_unmet-requires-clause-number
+undeclare_unmet-requires-clause-number g c =
+    let old : Stored = record { parts = c.self.inside.parts; journal = c.self.inside.journal; is_broken = c.self.inside.is_broken } in
+    let unbroken = ap (λ (k : Stored). k.is_broken) c.self.view_is ∙ c.requires.unbroken in
+    undeclared_named old c.args.word.now c.in_ok-number.number c.self.invariant unbroken c.in_ok-number.ensures.row c.in_ok-number.ensures.number
+
+pub save-requires-clause-image : goal.save-requires-clause-image
+save-requires-clause-image g c =
+    let old : Stored = record { parts = c.self.inside.parts; journal = c.self.inside.journal; is_broken = c.self.inside.is_broken } in
+    let unbroken = ap (λ (k : Stored). k.is_broken) c.self.view_is ∙ c.requires.unbroken in
+    c.self.invariant.image ∙ sym (ap image_blocks (undeclared_limits old c.args.word.now c.in_ok-number.number c.self.invariant unbroken c.in_ok-number.ensures.row c.in_ok-number.ensures.number c.undeclare_unmet.new.parts c.undeclare_unmet.ensures))
+
+pub save-requires-clause-room : goal.save-requires-clause-room
+save-requires-clause-room g c =
+    let old : Stored = record { parts = c.self.inside.parts; journal = c.self.inside.journal; is_broken = c.self.inside.is_broken } in
+    let unbroken = ap (λ (k : Stored). k.is_broken) c.self.view_is ∙ c.requires.unbroken in
+    undeclared_marks old c.args.word.now c.in_ok-number.number c.self.invariant unbroken c.in_ok-number.ensures.row c.in_ok-number.ensures.number c.undeclare_unmet.new.parts c.undeclare_unmet.ensures
+
+pub returns-clause-edits : goal.returns-clause-edits
+returns-clause-edits g c =
+    let old : Stored = record { parts = c.self.inside.parts; journal = c.self.inside.journal; is_broken = c.self.inside.is_broken } in
+    let unbroken = ap (λ (k : Stored). k.is_broken) c.self.view_is ∙ c.requires.unbroken in
+    let E : Ext → Ext → Type 0 = λ a b. b.edits ≤ a.edits + differing_bits a b in
+    let few = undeclared_edits old c.args.word.now c.in_ok-number.number c.self.invariant unbroken c.in_ok-number.ensures.row c.in_ok-number.ensures.number c.undeclare_unmet.new.parts c.undeclare_unmet.ensures in
+    let P : Ext → Type 0 = λ b. E c.args.self.now.parts.ext b in
+    let Q : Ext → Type 0 = λ a. E a c.undeclare_unmet.new.parts.ext in
+    subst P (sym (ap (λ (k : Kept). k.ext) c.save.ensures.parts)) (subst Q (ap (λ (k : Stored). k.parts.ext) c.self.view_is) few)
+
+pub returns-clause-limits : goal.returns-clause-limits
+returns-clause-limits g c =
+    let old : Stored = record { parts = c.self.inside.parts; journal = c.self.inside.journal; is_broken = c.self.inside.is_broken } in
+    let unbroken = ap (λ (k : Stored). k.is_broken) c.self.view_is ∙ c.requires.unbroken in
+    ap (λ (k : Kept). k.limits) c.save.ensures.parts
+    ∙ (undeclared_limits old c.args.word.now c.in_ok-number.number c.self.invariant unbroken c.in_ok-number.ensures.row c.in_ok-number.ensures.number c.undeclare_unmet.new.parts c.undeclare_unmet.ensures ∙ ap (λ (k : Stored). k.parts.limits) c.self.view_is)
 
 pub save-requires-clause-sound : goal.save-requires-clause-sound
 save-requires-clause-sound g c =
     let old : Stored = record { parts = c.self.inside.parts; journal = c.self.inside.journal; is_broken = c.self.inside.is_broken } in
     let unbroken = ap (λ (k : Stored). k.is_broken) c.self.view_is ∙ c.requires.unbroken in
     undeclared_sound old c.args.word.now c.in_ok-number.number c.self.invariant unbroken c.in_ok-number.ensures.row c.in_ok-number.ensures.number
-    c.undeclare.new.self c.undeclare.ensures
+    c.undeclare_unmet.new.parts c.undeclare_unmet.ensures
 
 pub returns-clause-changes : goal.returns-clause-changes
 returns-clause-changes g c = λ now fits.
@@ -38,4 +76,4 @@ returns-clause-changes g c = λ now fits.
     let unbroken = ap (λ (k : Stored). k.is_broken) c.self.view_is ∙ c.requires.unbroken in
     let P : Stored → Type 0 = λ k. StoreFits k m now.state in
     undeclared_changes old c.args.word.now c.in_ok-number.number c.self.invariant unbroken c.in_ok-number.ensures.row c.in_ok-number.ensures.number
-    c.undeclare.new.self c.undeclare.ensures new m (g.D.Disk.meaning c.save.new.disk) c.save.result c.save.ensures.saves now (subst P (sym c.self.view_is) fits)
+    c.undeclare_unmet.new.parts c.undeclare_unmet.ensures new m (g.D.Disk.meaning c.save.new.disk) c.save.result c.save.ensures.saves now (subst P (sym c.self.view_is) fits)

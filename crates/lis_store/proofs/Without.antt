@@ -1,0 +1,72 @@
+-- Descriptions without one number.
+use Rattle.std.proofs.Common.{◌≡◌, refl, sym, ap, ◌∙◌, subst, ℕ, ◌≤◌, ◌==◌, ◌||◌, not, cond, Bool, true, false, List, [], ◌∷◌, filter, slice_get, Some, is_some, IsSome, arith}
+use Rattle.std.specs.List.{list_all}
+use Rattle.std.specs.List.Sorted.{IsStrictlyIncreasing}
+use Rattle.std.specs.Ordering.{nat_cmp}
+use Rattle.std.proofs.lemmas.Bool.{both_ways, false_from_ne_true, not-true, eq-eqb}
+use Rattle.std.proofs.lemmas.List.{get_or_past}
+use Rattle.std.proofs.lemmas.List.Kept.{IsStrictlySortedBy-filter}
+use Rattle.std.proofs.lemmas.Map.Keys.{sorted_from_strictly_increasing, IsStrictlyIncreasing-from_sorted}
+use Rattle.lis_graph.proofs.Members.{Among, among_filter}
+use Rattle.lis_blockmap.specs.Bitmap.{is_taken}
+use Rattle.lis_content.specs.Content.{has_number}
+use Rattle.lis_content.proofs.Numbers.{neither}
+use Rattle.lis_dict.specs.Dict.{word_of}
+use Rattle.lis_catalog.specs.Catalog.{rec_at}
+use Rattle.lis_ext.specs.Ext.{has, set_of as numbers_at}
+use Rattle.lis_fields.specs.Records.{FileRecord}
+use Rattle.lis_fields.specs.declared.slots.AxiomSlot.TheVariants.{Pair}
+use Rattle.lis_laws.proofs.Counts.{all_from}
+use Rattle.lis_kept.specs.Kept.{Kept}
+use Rattle.lis_kept.specs.Sound.{AreSound}
+use Rattle.lis_kept.specs.Telling.{is_head_by, is_had, is_named_left}
+use Rattle.lis_kept.specs.Undeclaring.{MayUndeclare}
+use Rattle.lis_kept.proofs.Filing.{among_from_number, number_from_among}
+use Rattle.lis_kept.proofs.Used.{had_at}
+use Rattle.lis_store.specs.Redescribing.{Redescribes}
+use Rattle.lis_store.specs.Testing.{without_number, undescribed}
+use Rattle.lis_store.proofs.Redescribed.{same_here, given_then}
+
+abbrev pub is_other : ℕ → ℕ → Bool
+is_other number n = not (n == number)
+
+-- numbers that lack it stay
+pub without_none : (number : ℕ) (ns : List ℕ) → has_number ns number ≡ false → filter (is_other number) ns ≡ ns
+without_none number [] none = refl
+without_none number (n ∷ ns) none =
+    let both = neither (n == number) (has_number ns number) none in
+    ap (λ b. cond (not b) (n ∷ filter (is_other number) ns) (filter (is_other number) ns)) both.0 ∙ ap (λ ms. n ∷ ms) (without_none number ns both.1)
+
+pub without_rising : (number : ℕ) (ns : List ℕ) → IsStrictlyIncreasing ns → IsStrictlyIncreasing (filter (is_other number) ns)
+without_rising number ns rising =
+    IsStrictlyIncreasing-from_sorted (filter (is_other number) ns) (IsStrictlySortedBy-filter nat_cmp (is_other number) ns (sorted_from_strictly_increasing ns rising))
+
+pub without_named : (k : Kept) (number : ℕ) (ns : List ℕ) → ((n : ℕ) → has_number ns n ≡ true → IsSome (word_of k.dict n)) → list_all (λ n. is_some (word_of k.dict n)) (filter (is_other number) ns) ≡ true
+without_named k number ns named =
+    all_from (λ n. is_some (word_of k.dict n)) (filter (is_other number) ns) (λ n m. named n (number_from_among ns n (among_filter (is_other number) ns n m).0))
+
+-- a slot that is not reached yet gets what it gets at first
+pub without_same : (number n : ℕ) (p q : Kept) → Redescribes (without_number p number) n p q → without_number q number n ≡ without_number p number n
+without_same number n p q so_far = ap (filter (is_other number)) (same_here (without_number p number) n p q so_far)
+
+-- a word may be undeclared once no description has it
+pub may_then : (p made : Kept) (number : ℕ) → AreSound p → Redescribes (without_number p number) p.limits.files p made → MayUndeclare number (undescribed p) → MayUndeclare number made
+may_then p made number sound takes may = record {
+  declared = ap (λ (k : Kept). is_taken k.declared number) takes.parts ∙ may.declared;
+  had = false_from_ne_true (is_had made.ext number) (λ h. let place = had_at made.ext number h in never place.0 place.2);
+  lefts = ap (λ (k : Kept). is_named_left k number) takes.parts ∙ may.lefts;
+  rights = λ slot left right is. may.rights slot left right (subst (λ (k : Kept). slice_get k.axioms slot ≡ Some (Pair left right)) takes.parts is);
+  tags = λ slot rec is. may.tags slot rec (subst (λ (k : Kept). rec_at k.catalog slot ≡ Some rec) takes.parts is);
+  heads = λ m. ap (λ (k : Kept). is_head_by (word_of k.dict m) (word_of k.dict number)) takes.parts ∙ may.heads m;
+}
+  where
+    past : (slot : ℕ) → p.limits.files ≤ slot → without_number p number slot ≡ numbers_at p.ext slot
+    past slot le =
+        let none : numbers_at p.ext slot ≡ [] = get_or_past p.ext.sets slot [] (omega (arith, le, sound.files)) in
+        ap (filter (is_other number)) none ∙ sym none
+
+    never : (slot : ℕ) → has made.ext number slot ≡ true → ⊥
+    never slot had =
+        let then = given_then (without_number p number) p.limits.files p made takes sound.files past slot in
+        let found = among_filter (is_other number) (numbers_at p.ext slot) number (subst (λ ns. Among ns number) then (among_from_number (numbers_at made.ext slot) number had)) in
+        both_ways (number == number) (not-true (number == number) found.1) (eq-eqb number number refl)

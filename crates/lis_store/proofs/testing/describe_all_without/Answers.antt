@@ -1,0 +1,23 @@
+use Rattle.std.proofs.Common.{◌≡◌, ◌∙◌, ℕ, ◌<◌, List, length, ap, subst, arith}
+use Rattle.lis_model.specs.declared.limits.Limits.{Limits}
+use Rattle.lis_store.specs.Redescribing.{Gives, Redescribes}
+use Rattle.lis_store.specs.Testing.{without_number}
+use Rattle.lis_store.proofs.Redescribed.{redescribed_more}
+use Rattle.lis_store.proofs.Without.{without_same}
+use Rattle.lis_store.proofs.testing.describe_all_without.Goals as goal
+
+pub loop-slot-preserved : goal.loop-slot-preserved
+loop-slot-preserved c =
+    let n = c.loop-slot.slot in
+    let p = c.args.parts.now in
+    let q = c.loop-slot.parts in
+    let inside : n < length p.ext.sets = omega (arith, c.loop-slot-test.true, c.limits.ensures.sound.files, ap (λ (l : Limits). l.files) c.limits.ensures.value) in
+    let Q : List ℕ → Type 0 = λ ns. Gives n ns q c.describe_without.new.parts in
+    redescribed_more (without_number p c.args.number) n p q c.loop-slot.invariant c.describe_without.new.parts inside
+    (subst Q (without_same c.args.number n p q c.loop-slot.invariant) c.describe_without.ensures)
+
+pub returns : goal.returns
+returns c =
+    let p = c.args.parts.now in
+    let all : c.loop-slot.slot ≡ p.limits.files = omega (arith, c.loop-slot.auto.slot-end, c.loop-slot-test.false, ap (λ (l : Limits). l.files) c.limits.ensures.value) in
+    subst (λ (n : ℕ). Redescribes (without_number p c.args.number) n p c.loop-slot.parts) all c.loop-slot.invariant

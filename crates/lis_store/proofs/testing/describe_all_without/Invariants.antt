@@ -1,0 +1,7 @@
+use Rattle.lis_store.specs.Redescribing.{Redescribes}
+use Rattle.lis_store.specs.Testing.{without_number}
+use Rattle.lis_store.proofs.testing.describe_all_without.Given as goal
+
+-- the slots so far have the number no more
+abbrev pub invariant-loop-slot : goal.invariant-loop-slot
+invariant-loop-slot l = Redescribes (without_number l.initial.parts l.number) l.slot l.initial.parts l.parts
