@@ -1,23 +1,29 @@
 -- What a store comes to when an axiom is taken away.
-use Rattle.std.proofs.Common.{◌≡◌, ◌⊎◌, refl, sym, ap, ap₂, ◌∙◌, subst, inl, inr, ℕ, ◌+◌, ◌<◌, ◌≤◌, ◌==◌, not, ◌&&◌, ◌||◌, if◌then◌else◌, Bool, true, false, List, [], ◌∷◌, length, map, filter, sum, Option, Some, None, is_some, option_to_list, slice_set, replicate, arith, eq-eqb}
+use Rattle.std.proofs.Common.{◌≡◌, ◌⊎◌, refl, sym, ap, ap₂, ◌∙◌, subst, inl, inr, ℕ, ◌+◌, ◌<◌, ◌≤◌, ◌==◌, not, ◌&&◌, ◌||◌, if◌then◌else◌, Bool, true, false, List, [], ◌∷◌, length, map, filter, sum, Option, Some, None, is_some, IsSome, option_to_list, slice_set, replicate, arith, eq-eqb}
 use Rattle.std.specs.List.{range_with_len, Contains}
 use Rattle.std.specs.List.Sorted.{IsStrictlySortedBy}
-use Rattle.std.proofs.lemmas.Bool.{and_parts, and_from, or_cases, or_left, or_right, both_ways, cases_lt, not-true}
+use Rattle.std.proofs.lemmas.Bool.{and_parts, and_from, or_cases, or_left, or_right, both_ways, cases_lt, not-true, false_from_ne_true}
 use Rattle.std.proofs.lemmas.List.{length-map, length-replicate, get_or-replicate, get_or_past}
+use Rattle.std.proofs.lemmas.Option.{same_Some}
 use Rattle.lis_graph.proofs.Members.{Among, among_from_contains, contains_from_among, among_filter, any_from_among, map_among}
 use Rattle.lis_graph.proofs.Sets.{sorted_from_rising}
 use Rattle.lis_journal.specs.Journal.{Held}
 use Rattle.lis_blockmap.specs.Bitmap.{is_taken}
 use Rattle.lis_content.specs.Content.{has_number}
 use Rattle.lis_dict.specs.Dict.{Dict, word_of}
-use Rattle.lis_catalog.specs.Catalog.{Filed}
+use Rattle.lis_catalog.specs.Catalog.{Filed, rec_at}
+use Rattle.lis_fields.specs.Records.{FileRecord}
 use Rattle.lis_ext.specs.Ext.{Ext, has, set_of as numbers_at}
 use Rattle.lis_ext.specs.Numbers.{differs, numbers_where}
-use Rattle.lis_words.specs.Words.{has_word}
+use Rattle.lis_words.specs.Words.{has_word, is_plain_word, is_test, test_of}
+use Rattle.lis_words.proofs.Tests.{plain_not_test}
 use Rattle.lis_fields.specs.declared.slots.AxiomSlot.TheVariants.{Free as FreeAxiom, Pair}
 use Rattle.lis_model.specs.State.{State, File, pair_cmp, description, file_words}
 use Rattle.lis_model.specs.Changes.{with_axiom, same_pair, axiom_removed}
+use Rattle.lis_laws.proofs.Chains.{entails_from_up}
 use Rattle.lis_laws.proofs.Forms as forms
+use Rattle.lis_laws.proofs.Leads.{right_leads}
+use Rattle.lis_model.specs.Tests.{are_weaker, is_met}
 use Rattle.lis_laws.proofs.Members.{pair_order}
 use Rattle.lis_laws.proofs.Sources.{rights_are, right_plain}
 use Rattle.lis_fields.specs.Layouts.{is_super}
@@ -28,24 +34,25 @@ use Rattle.lis_kept.specs.Areas.{IsSaved, block_of, is_marked, marked_count}
 use Rattle.lis_kept.specs.Areas.Area.{Axioms, Rows}
 use Rattle.lis_kept.specs.Links.{is_pair, has_pair, is_own_link, is_linked}
 use Rattle.lis_kept.specs.Sound.{AreSound, FreeSlotsAreEmpty, BlocksAreTaken}
+use Rattle.lis_kept.specs.TestEdges.{test_by, is_test_link}
 use Rattle.lis_kept.specs.Telling.{words_told, declared_of, axioms_of, file_told, blocks_told, state_of, is_head_by, is_had, is_used, AreUsed, IsFileBlock, Tells}
 use Rattle.lis_kept.proofs.AxiomTaken.{axiom_back, taken_unfelt}
 use Rattle.lis_kept.proofs.Described.{among_where, where_among}
-use Rattle.lis_kept.proofs.Filing.{among_from_number, number_from_among, filed_rec, map_all}
+use Rattle.lis_kept.proofs.Filing.{same_tests, among_from_number, number_from_among, filed_rec}
 use Rattle.lis_kept.proofs.Formed.{some_word, named_below, named_all}
-use Rattle.lis_kept.proofs.Known.{among_place, number_told, axiom_among}
+use Rattle.lis_kept.proofs.Known.{among_place, number_told, axiom_among, among_axiom}
 use Rattle.lis_kept.proofs.MarkedWithin.{marked_only, marked_within}
-use Rattle.lis_kept.proofs.OwnLinks.{own_link_is}
+use Rattle.lis_kept.proofs.TestLinks.{none_weaker, test_link, test_linked, linked_by}
 use Rattle.lis_kept.proofs.Used.{had_at}
 use Rattle.lis_kept.proofs.WordLess.{had_from}
-use Rattle.lis_store.specs.Stored.{AreClosed, DescriptionsAreShort, BlocksAreApart, IsSound}
+use Rattle.lis_store.specs.Stored.{AreClosed, DescriptionsAreShort, BlocksAreApart, TestsAreMet, IsSound}
 use Rattle.lis_store.specs.Changes.{differing_bits}
 use Rattle.lis_store.specs.Redescribing.{IsTurnedRow}
 use Rattle.lis_store.specs.Saving.{settled, IsReady}
 use Rattle.lis_store.specs.Unlinking.{is_entailed, tags_by, remaining_at, lessened, heads_by, with_head, TakesAxiom}
 use Rattle.lis_store.proofs.Redescribed.{redescribed_edits}
 use Rattle.lis_store.proofs.AxiomGone.{none_past, rights_unlinked, pairs_unlinked, closed_unlinked, tags_unlinked, SetCases, set_then, set_by, had_back, lost, closed_less, tags_less, short_less, free_less, unused_is}
-use Rattle.lis_store.proofs.Cleaned.{clean_is, sound_clean, in_use_clean}
+use Rattle.lis_store.proofs.Cleaned.{clean_is, sound_clean, in_use_clean, tests_clean}
 use Rattle.lis_store.proofs.HeadsUsed.{used_had}
 use Rattle.lis_store.proofs.Remaining.{led, led_had, few_within, remaining_told}
 use Rattle.lis_store.proofs.Numbers.{sorted_where}
@@ -132,18 +139,73 @@ module _ (left right : ℕ) (p q : Kept) (takes : TakesAxiom left right p q) (j 
 
   -- ---- the store is in form again
   link_back : AreSound end → (x y : ℕ) → is_linked end x y ≡ true → is_linked k x y ≡ true
-  link_back after x y linked = by (or_cases _ (has_pair k.axioms x y) (subst (λ t. (t || has_pair k.axioms x y) ≡ true) (own_link_is end after.dict x y) linked))
+  link_back after x y linked = by (or_cases (is_head_by (word_of q.dict x) (word_of q.dict y) || is_test_link q.dict k.declared x y) (has_pair k.axioms x y) (sym (linked_by end after.dict x y) ∙ linked))
     where
       heads_back : (o v : Option (List ℕ)) → word_of q.dict x ≡ o → word_of q.dict y ≡ v → is_head_by o v ≡ true → is_head_by (word_of k.dict x) (word_of k.dict y) ≡ true
       heads_back None v is_x is_y h = absurd cc
       heads_back (Some w) None is_x is_y h = absurd cc
       heads_back (Some w) (Some v) is_x is_y h = ap₂ is_head_by (word_before x w is_x) (word_before y v is_y) ∙ h
 
-      by : (is_head_by (word_of q.dict x) (word_of q.dict y) ≡ true) ⊎ (has_pair k.axioms x y ≡ true) → is_linked k x y ≡ true
-      by (inl head) =
-          subst (λ t. (t || has_pair k.axioms x y) ≡ true) (sym (own_link_is k takes.sound.dict x y))
-          (or_left (is_head_by (word_of k.dict x) (word_of k.dict y)) (has_pair k.axioms x y) (heads_back (word_of q.dict x) (word_of q.dict y) refl refl head))
-      by (inr pair) = or_right _ (has_pair k.axioms x y) pair
+      tests_back : (o v : Option (List ℕ)) → word_of q.dict x ≡ o → word_of q.dict y ≡ v → are_weaker (test_by v) (test_by o) ≡ true → are_weaker (test_by (word_of k.dict y)) (test_by (word_of k.dict x)) ≡ true
+      tests_back o None is_x is_y h = absurd (both_ways false refl h)
+      tests_back None (Some v) is_x is_y h = absurd (both_ways (are_weaker (test_of v) None) (none_weaker (test_of v)) h)
+      tests_back (Some w) (Some v) is_x is_y h = ap₂ are_weaker (ap test_by (word_before y v is_y)) (ap test_by (word_before x w is_x)) ∙ h
+
+      own : (is_head_by (word_of q.dict x) (word_of q.dict y) ≡ true) ⊎ (is_test_link q.dict k.declared x y ≡ true) → (is_head_by (word_of k.dict x) (word_of k.dict y) || is_test_link k.dict k.declared x y) ≡ true
+      own (inl head) = or_left (is_head_by (word_of k.dict x) (word_of k.dict y)) (is_test_link k.dict k.declared x y) (heads_back (word_of q.dict x) (word_of q.dict y) refl refl head)
+      own (inr link) =
+          let between = test_link q.dict k.declared x y link in
+          or_right (is_head_by (word_of k.dict x) (word_of k.dict y)) (is_test_link k.dict k.declared x y)
+          (test_linked k.dict k.declared x y between.from between.to (tests_back (word_of q.dict x) (word_of q.dict y) refl refl between.weaker))
+
+      by : ((is_head_by (word_of q.dict x) (word_of q.dict y) || is_test_link q.dict k.declared x y) ≡ true) ⊎ (has_pair k.axioms x y ≡ true) → is_linked k x y ≡ true
+      by (inl h) =
+          linked_by k takes.sound.dict x y
+          ∙ or_left (is_head_by (word_of k.dict x) (word_of k.dict y) || is_test_link k.dict k.declared x y) (has_pair k.axioms x y)
+          (own (or_cases (is_head_by (word_of q.dict x) (word_of q.dict y)) (is_test_link q.dict k.declared x y) h))
+      by (inr pair) = or_right (is_own_link (declared_of k) (word_of k.dict x) (word_of k.dict y)) (has_pair k.axioms x y) pair
+
+  -- ---- tests
+  -- what the right word entails is plain
+  plain_led : (n : ℕ) (w : List ℕ) → word_of k.dict n ≡ Some w → is_entailed k right n ≡ true → is_plain_word w ≡ true
+  plain_led n w is entailed =
+      let l = led k right n entailed in
+      let right_is : word_of p.dict right ≡ Some l.from = ap (λ d. word_of d right) (sym dict_is) ∙ l.is_from in
+      let plain = (was.parts.axioms takes.unlinks.slot left right takes.unlinks.there).plain l.from right_is in
+      let rights : (e : List ℕ × List ℕ) → Among (axioms_of k) e → is_plain_word e.1 ≡ true = λ e m. let at = among_axiom k takes.sound e m in (takes.sound.axioms at.0 at.1 at.2 at.3).plain e.1 at.5 in
+      let chain = entails_from_up (declared_of k) (axioms_of k) l.from l.to l.entailed in
+      subst (λ u. is_plain_word u ≡ true) (same_Some l.to w (sym l.is_to ∙ is))
+      (right_leads is_plain_word (λ u h. h) (axioms_of k) rights (declared_of k) chain.0 l.from l.to plain chain.1)
+
+  rec_p : (slot : ℕ) → rec_at k.catalog slot ≡ rec_at p.catalog slot
+  rec_p slot = ap (λ (u : Kept). rec_at u.catalog slot) takes.unlinks.parts
+
+  tests_end : TestsAreMet end
+  tests_end = record { given = given; met = met }
+    where
+      given : (slot : ℕ) (rec : FileRecord) → rec_at k.catalog slot ≡ Some rec → (n : ℕ) → has_number rec.tags n ≡ true → is_some {T = Bool × ℕ} (test_by (word_of q.dict n)) ≡ false
+      given slot rec is n tag =
+          let tags = tags_less k m takes.sound closed_k left right takes.lessens (tags_unlinked left right p k takes.unlinks was.in_use.tags) in
+          let same = used_stays n (used_had less n slot (tags slot rec is n tag)) ∙ ap (λ d. word_of d n) dict_is in
+          ap (λ o. is_some {T = Bool × ℕ} (test_by o)) same ∙ was.tests.given slot rec (sym (rec_p slot) ∙ is) n tag
+
+      met : (slot : ℕ) (rec : FileRecord) → rec_at k.catalog slot ≡ Some rec → (n : ℕ) → is_some {T = Bool × ℕ} (test_by (word_of q.dict n)) ≡ true → has m.ext n slot ≡ is_met (test_by (word_of q.dict n)) rec.size
+      met slot rec is n tested = by (word_of q.dict n) refl tested
+        where
+          by : (o : Option (List ℕ)) → word_of q.dict n ≡ o → is_some {T = Bool × ℕ} (test_by o) ≡ true → has m.ext n slot ≡ is_met (test_by (word_of q.dict n)) rec.size
+          by None none h = absurd (both_ways false refl h)
+          by (Some w) word h =
+              let in_k = word_before n w word in
+              let in_p : word_of p.dict n ≡ Some w = ap (λ d. word_of d n) (sym dict_is) ∙ in_k in
+              let not_led : is_entailed k right n ≡ false = false_from_ne_true (is_entailed k right n) (λ e. both_ways (is_test w) (plain_not_test w (plain_led n w in_k e)) h) in
+              let told = was.tests.met slot rec (sym (rec_p slot) ∙ is) n (ap (λ o. is_some {T = Bool × ℕ} (test_by o)) in_p ∙ h) in
+              same_tests (has m.ext n slot) (has k.ext n slot) (had_back k m takes.sound closed_k left right takes.lessens n slot)
+              (λ had. side had (has m.ext n slot) refl not_led (ap is_some in_k))
+              ∙ (ap (λ (u : Kept). has u.ext n slot) takes.unlinks.parts ∙ (told ∙ ap (λ o. is_met (test_by o) rec.size) (in_p ∙ sym word)))
+            where
+              side : has k.ext n slot ≡ true → (b : Bool) → has m.ext n slot ≡ b → is_entailed k right n ≡ false → IsSome (word_of k.dict n) → has m.ext n slot ≡ true
+              side had true now not_led some = now
+              side had false gone not_led some = absurd (both_ways (is_entailed k right n) not_led (lost k m takes.sound closed_k left right takes.lessens n slot some had gone))
 
   pub sound_gone : b ≡ false → AreSound q → IsSound (settled q j)
   sound_gone whole after = subst (λ (u : Kept). IsSound (settled u j)) (sym end_is) (record {
@@ -152,6 +214,7 @@ module _ (left right : ℕ) (p q : Kept) (takes : TakesAxiom left right p q) (j 
     free = free_less k m takes.sound closed_k left right takes.lessens free_k;
     pairs = pairs_unlinked left right p k takes.unlinks was.pairs;
     closed = λ slot x y had linked. closed_less k m takes.sound closed_k left right takes.lessens slot x y had (link_back sound_end x y linked);
+    tests = tests_clean end tests_end;
     short = short_less k m takes.sound closed_k left right takes.lessens (subst (λ (u : Kept). DescriptionsAreShort u) (sym takes.unlinks.parts) was.short);
     taken = subst (λ (u : Kept). BlocksAreTaken u) (sym takes.unlinks.parts) was.taken;
     apart = subst (λ (u : Kept). BlocksAreApart u) (sym takes.unlinks.parts) was.apart;
