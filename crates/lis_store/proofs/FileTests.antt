@@ -1,7 +1,7 @@
 -- Tests in the descriptions of files: a file has those that its size meets, and no others.
-use Rattle.std.proofs.Common.{◌≡◌, ◌⊎◌, ℕ, Bool, true, false, not, ◌&&◌, nat_lt, nat_le, cond, Option, Some, None, is_some, List, length, refl, sym, ap, subst, ◌∙◌, inl, inr, arith}
+use Rattle.std.proofs.Common.{◌≡◌, ◌⊎◌, ℕ, Bool, true, false, Option, Some, None, is_some, List, length, refl, sym, ap, subst, ◌∙◌, inl, inr}
 use Rattle.std.specs.List.{list_all}
-use Rattle.std.proofs.lemmas.Bool.{both_ways, false_from_ne_true, ltb-true, lt-ltb, leb-true, le-leb}
+use Rattle.std.proofs.lemmas.Bool.{both_ways, false_from_ne_true}
 use Rattle.lis_graph.proofs.Members.{Among}
 use Rattle.lis_blockmap.specs.Bitmap.{is_taken}
 use Rattle.lis_catalog.specs.Catalog.{rec_at}
@@ -12,7 +12,7 @@ use Rattle.lis_fields.specs.Records.{FileRecord}
 use Rattle.lis_words.specs.Words.{has_word, is_plain_word, is_test, test_of}
 use Rattle.lis_words.proofs.Tests.{plain_not_test, valued_not_test}
 use Rattle.lis_model.specs.State.{File, up, own_words, is_assignable}
-use Rattle.lis_model.specs.Tests.{are_weaker, is_met}
+use Rattle.lis_model.specs.Tests.{is_met}
 use Rattle.lis_laws.proofs.Apart.{built_in_not_test}
 use Rattle.lis_laws.proofs.Chains.{IsWeakerIn, weaker_tests_are, up_self, entails_from_up}
 use Rattle.lis_laws.proofs.Closures.{entailing, entailed_in}
@@ -33,18 +33,7 @@ use Rattle.lis_kept.proofs.Known.{declared_word, among_axiom}
 use Rattle.lis_kept.proofs.OwnLinks.{undeclared_not_test}
 use Rattle.lis_store.specs.Admitting.{described_by}
 use Rattle.lis_store.specs.Stored.{TestsAreMet}
-
--- what meets a test meets a weaker one
-met_by : (a b : Bool) (m n size : ℕ) → cond a (b && nat_lt m n) (not b && nat_lt n m) ≡ true → cond b (nat_le n size) (nat_lt size n) ≡ true → cond a (nat_le m size) (nat_lt size m) ≡ true
-met_by true true m n size h met = le-leb m size (omega (arith, ltb-true m n h, leb-true n size met))
-met_by true false m n size h met = absurd cc
-met_by false true m n size h met = absurd cc
-met_by false false m n size h met = lt-ltb size m (omega (arith, ltb-true n m h, ltb-true size n met))
-
-met_weaker : (q p : Option (Bool × ℕ)) (size : ℕ) → are_weaker q p ≡ true → is_met p size ≡ true → is_met q size ≡ true
-met_weaker None p size h met = absurd cc
-met_weaker (Some q) None size h met = absurd cc
-met_weaker (Some q) (Some p) size h met = met_by q.0 p.0 q.1 p.1 size h met
+use Rattle.lis_store.proofs.TestUnder.{meets_weaker}
 
 module _ (k : Kept) (sound : AreSound k) where
   abbrev D : List (List ℕ)
@@ -92,7 +81,7 @@ module _ (k : Kept) (sound : AreSound k) where
       where
         by : (source : List ℕ) → OwnWord D file source → (source ≡ w) ⊎ IsWeakerIn D source w → is_met (test_of w) (length file.bytes) ≡ true
         by source own (inl same) = own_met w test (subst (λ (v : List ℕ). OwnWord D file v) same own)
-        by source own (inr less) = met_weaker (test_of w) (test_of source) (length file.bytes) less.weaker (own_met source (weaker_tests_are D source w less).0 own)
+        by source own (inr less) = meets_weaker (test_of w) (test_of source) (length file.bytes) less.weaker (own_met source (weaker_tests_are D source w less).0 own)
 
         at : (source : List ℕ) × Among (own_words D file) source × Among (up D A source) w → is_met (test_of w) (length file.bytes) ≡ true
         at found =
