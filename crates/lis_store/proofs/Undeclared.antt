@@ -2,7 +2,6 @@
 use Rattle.std.proofs.Common.{◌≡◌, ◌⊎◌, refl, sym, ap, ap₂, ◌∙◌, subst, inl, inr, ℕ, ◌+◌, ◌<◌, ◌≤◌, ◌==◌, not, ◌&&◌, ◌||◌, Bool, true, false, if◌then◌else◌, List, [], ◌∷◌, ◌++◌, length, map, filter, slice_get, Option, Some, None, is_some, IsSome, IsTrue, Result, Err, arith, eq-eqb, get_or-set_other}
 use Rattle.std.specs.List.{list_any, flat_map, Contains}
 use Rattle.std.proofs.lemmas.Bool.{and_parts, or_cases, or_left, both_ways, cases_eq, ne_eqb, not_from_false, not-false, not-true, false_from_ne_true}
-use Rattle.std.proofs.lemmas.List.{get_or_past}
 use Rattle.std.proofs.lemmas.Option.{same_Some}
 use Rattle.lis_graph.proofs.Members.{Among, among_from_contains, contains_from_among, any_from_among, among_filter, filter_among, among_insert_key, insert_key_old, insert_key_new, among_left, among_right, map_among, flat_map_among}
 use Rattle.lis_graph.proofs.Sets.{sorted_from_rising, sorted_insert_key}
@@ -72,6 +71,7 @@ use Rattle.lis_store.proofs.Declared.{declared_told}
 use Rattle.lis_store.proofs.Tested.{marked_more}
 use Rattle.lis_store.proofs.TestUnder.{test_gained}
 use Rattle.lis_store.proofs.Under.{described_under}
+use Rattle.lis_store.proofs.Without.{without_past}
 
 -- ---- a declared word
 module _ (k : Kept) (sound : AreSound k) (word : List ℕ) (n : ℕ) (numbered : number_of k.dict word ≡ Some n) (declared : is_declared k word ≡ true) where
@@ -221,13 +221,8 @@ module _ (p q : Kept) (number : ℕ) (sound : AreSound p) (may : MayUndeclare nu
   abbrev word : List ℕ
   word = undeclares.word
 
-  past : (slot : ℕ) → p.limits.files ≤ slot → without_number p number slot ≡ numbers_at p.ext slot
-  past slot le =
-      let none : numbers_at p.ext slot ≡ [] = get_or_past p.ext.sets slot [] (omega (arith, le, sound.files)) in
-      ap (filter (λ n. not (n == number))) none ∙ sym none
-
   set_then : (slot : ℕ) → numbers_at made.ext slot ≡ without_number p number slot
-  set_then = given_then (without_number p number) p.limits.files p made gone.takes sound.files past
+  set_then = given_then (without_number p number) p.limits.files p made gone.takes sound.files (without_past p sound number)
 
   had_then : (n slot : ℕ) → has made.ext n slot ≡ true → (has p.ext n slot ≡ true) × (n ≡ number → ⊥)
   had_then n slot had =
@@ -360,7 +355,7 @@ module _ (p q : Kept) (number : ℕ) (sound : AreSound p) (may : MayUndeclare nu
       }
 
   pub few_edits : q.ext.edits ≤ p.ext.edits + differing_bits p.ext q.ext
-  few_edits = subst (λ (e : Ext). e.edits ≤ p.ext.edits + differing_bits p.ext e) (sym ext_is) (redescribed_edits (without_number p number) p.limits.files p made gone.takes sound.files past)
+  few_edits = subst (λ (e : Ext). e.edits ≤ p.ext.edits + differing_bits p.ext e) (sym ext_is) (redescribed_edits (without_number p number) p.limits.files p made gone.takes sound.files (without_past p sound number))
 
   -- the rows that change are that of the number
   pub few_marked : marked_count p ≡ 0 → marked_count q ≤ 2

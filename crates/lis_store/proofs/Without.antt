@@ -49,6 +49,11 @@ without_named k number ns named =
 pub without_same : (number n : ℕ) (p q : Kept) → Redescribes (without_number p number) n p q → without_number q number n ≡ without_number p number n
 without_same number n p q so_far = ap (filter (is_other number)) (same_here (without_number p number) n p q so_far)
 
+pub without_past : (p : Kept) → AreSound p → (number slot : ℕ) → p.limits.files ≤ slot → without_number p number slot ≡ numbers_at p.ext slot
+without_past p sound number slot le =
+    let none : numbers_at p.ext slot ≡ [] = get_or_past p.ext.sets slot [] (omega (arith, le, sound.files)) in
+    ap (filter (is_other number)) none ∙ sym none
+
 -- a word may be undeclared once no description has it
 pub may_then : (p made : Kept) (number : ℕ) → AreSound p → Redescribes (without_number p number) p.limits.files p made → MayUndeclare number (undescribed p) → MayUndeclare number made
 may_then p made number sound takes may = record {
@@ -60,13 +65,8 @@ may_then p made number sound takes may = record {
   heads = λ m. ap (λ (k : Kept). is_head_by (word_of k.dict m) (word_of k.dict number)) takes.parts ∙ may.heads m;
 }
   where
-    past : (slot : ℕ) → p.limits.files ≤ slot → without_number p number slot ≡ numbers_at p.ext slot
-    past slot le =
-        let none : numbers_at p.ext slot ≡ [] = get_or_past p.ext.sets slot [] (omega (arith, le, sound.files)) in
-        ap (filter (is_other number)) none ∙ sym none
-
     never : (slot : ℕ) → has made.ext number slot ≡ true → ⊥
     never slot had =
-        let then = given_then (without_number p number) p.limits.files p made takes sound.files past slot in
+        let then = given_then (without_number p number) p.limits.files p made takes sound.files (without_past p sound number) slot in
         let found = among_filter (is_other number) (numbers_at p.ext slot) number (subst (λ ns. Among ns number) then (among_from_number (numbers_at made.ext slot) number had)) in
         both_ways (number == number) (not-true (number == number) found.1) (eq-eqb number number refl)

@@ -1,7 +1,6 @@
-use Rattle.std.proofs.Common.{◌≡◌, ◌⊎◌, ◌∙◌, ℕ, ◌<◌, ◌≤◌, Bool, false, Some, is_some, sym, ap, subst, inl, inr, arith}
+use Rattle.std.proofs.Common.{◌≡◌, ◌∙◌, ℕ, ◌<◌, Bool, false, Some, is_some, sym, ap, subst, inl, inr, arith}
 use Rattle.std.proofs.lemmas.Bool.{cases_lt}
 use Rattle.lis_model.specs.declared.limits.Limits.{Limits}
-use Rattle.lis_words.specs.Words.{test_of}
 use Rattle.lis_store.specs.Testing.{is_gained, is_crowded, has_crowded}
 use Rattle.lis_store.proofs.Crowded.{crowded_at, crowded_nowhere, never_crowded}
 use Rattle.lis_store.proofs.crowding.has_crowded.Goals as goal

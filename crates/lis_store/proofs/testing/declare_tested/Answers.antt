@@ -1,9 +1,7 @@
-use Rattle.std.proofs.Common.{◌≡◌, ◌∙◌, ℕ, ◌≤◌, List, Some, is_some, IsSome, length, sym, ap, subst, arith}
-use Rattle.std.specs.List.{list_all}
+use Rattle.std.proofs.Common.{◌≡◌, ◌∙◌, ℕ, ◌≤◌, Some, is_some, length, sym, ap, subst, arith}
 use Rattle.std.proofs.lemmas.Option.{none-some, same_Some}
 use Rattle.lis_dict.specs.Dict.{word_of}
 use Rattle.lis_dict.proofs.Laws.{number_from_word, word_from_number}
-use Rattle.lis_ext.specs.Ext.{Ext}
 use Rattle.lis_kept.specs.Kept.{Kept}
 use Rattle.lis_kept.specs.Sound.{FreeSlotsAreEmpty}
 use Rattle.lis_kept.specs.Telling.{words_told}
@@ -12,7 +10,7 @@ use Rattle.lis_store.specs.Redescribing.{Redescribes}
 use Rattle.lis_store.specs.Stored.{DescriptionsAreShort}
 use Rattle.lis_store.specs.Testing.{tested}
 use Rattle.lis_store.proofs.Declared.{parts_are}
-use Rattle.lis_store.proofs.Tested.{plain_words, untested_same, is_word, named_then, ext_same, few_tested}
+use Rattle.lis_store.proofs.Tested.{plain_words, untested_same, is_word, named_then, few_tested}
 use Rattle.lis_store.proofs.testing.declare_tested.Goals as goal
 
 pub returns-in_default : goal.returns-in_default

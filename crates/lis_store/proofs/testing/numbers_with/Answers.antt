@@ -1,4 +1,4 @@
-use Rattle.std.proofs.Common.{◌≡◌, ◌==◌, ◌||◌, ◌∙◌, ◌<◌, ◌≤◌, ℕ, Bool, [], ◌∷◌, ◌++◌, length, refl, sym, ap, arith}
+use Rattle.std.proofs.Common.{◌≡◌, ◌==◌, ◌||◌, ◌∙◌, ◌<◌, ℕ, Bool, [], ◌∷◌, ◌++◌, length, refl, sym, ap, arith}
 use Rattle.lis_model.specs.declared.limits.Limits.{Limits}
 use Rattle.lis_ext.specs.Ext.{has}
 use Rattle.lis_store.specs.Testing.{is_gained}
