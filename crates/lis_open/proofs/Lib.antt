@@ -20,6 +20,8 @@ mod Owned
 mod Joined
 mod Told
 mod HeadLinks
+mod LinkedTests
+mod Met
 mod WordsTold
 mod WordChains
 mod AxiomsRead

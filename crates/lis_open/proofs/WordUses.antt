@@ -15,7 +15,7 @@ use Rattle.lis_open.specs.declared.words.Words.{Words}
 use Rattle.lis_open.specs.ReadWords.{declared_words, kept_words}
 
 -- limits at which no fact below looks
-abbrev no_limits : Limits
+abbrev pub no_limits : Limits
 no_limits = record { files = 0; props = 0; blocks = 0; version = 0 }
 
 -- a word is declared where its number's bit says so
