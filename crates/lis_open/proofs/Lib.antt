@@ -21,7 +21,7 @@ mod Joined
 mod Told
 mod HeadLinks
 mod LinkedTests
-mod Met
+mod MetTests
 mod WordsTold
 mod WordChains
 mod AxiomsRead

@@ -9,7 +9,7 @@ use Rattle.lis_open.specs.ReadWords.{declared_words}
 use Rattle.lis_open.specs.ReadFiles.{is_described, met_numbers, own_numbers, may_describe, AreDescribed}
 use Rattle.lis_open.proofs.OwnNumbers.{undescribed, listed_described, own_below}
 use Rattle.lis_open.proofs.Gathering.{listed_are}
-use Rattle.lis_open.proofs.Met.{described_found, found_numbered}
+use Rattle.lis_open.proofs.MetTests.{described_found, found_numbered}
 use Rattle.lis_open.proofs.files.describe.Goals as goal
 
 pub own_numbers-requires-clause-few : goal.own_numbers-requires-clause-few

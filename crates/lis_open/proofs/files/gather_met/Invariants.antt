@@ -1,4 +1,4 @@
-use Rattle.lis_open.proofs.Met.{MetSoFar}
+use Rattle.lis_open.proofs.MetTests.{MetSoFar}
 use Rattle.lis_open.proofs.files.gather_met.Given as goal
 
 abbrev pub invariant-loop-number : goal.invariant-loop-number
