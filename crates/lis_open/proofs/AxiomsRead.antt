@@ -305,16 +305,12 @@ module _ (limits : Limits) (words : Words) (first : AreFirstWords limits words l
 
   own_edges : (p q : ℕ) → has_edge t p q ≡ is_linked (kept_words limits words slots) p q
   own_edges p q =
+      let head = is_head_by (word_of words.dict p) (word_of words.dict q) in
+      let test = is_test_link words.dict words.declared p q in
       linked.edges p q
       ∙ (ap (λ b. head || b) (tests_below words first.are.dict p q limits.props first.props)
       ∙ (sym (or_nothing (head || test))
       ∙ (ap (λ b. (head || test) || b) (sym (no_pair p q)) ∙ sym (linked_by (kept_words limits words slots) first.are.dict p q))))
-    where
-      abbrev head : Bool
-      head = is_head_by (word_of words.dict p) (word_of words.dict q)
-
-      abbrev test : Bool
-      test = is_test_link words.dict words.declared p q
 
   pub no_axioms_yet : (axioms : Axioms) → axioms.slots.items ≡ slots → axioms.taxonomy ≡ t → AreFirstAxioms limits words axioms 0
   no_axioms_yet axioms same_slots same_links = record {

@@ -1,9 +1,9 @@
 -- The declared tests that a file meets, by their numbers.
-use Rattle.std.proofs.Common.{◌≡◌, ◌∙◌, refl, sym, ap, ap₂, subst, inl, inr, ℕ, zero, suc, ◌+◌, ◌<◌, ◌≤◌, if◌then◌else◌, Bool, true, false, not, ◌&&◌, ◌||◌, nat_lt, Option, Some, None, is_some, option_to_list, List, [], ◌∷◌, ◌++◌, length, filter, append-nil, arith}
+use Rattle.std.proofs.Common.{◌≡◌, ◌∙◌, refl, sym, ap, ap₂, subst, inl, inr, ℕ, ◌+◌, ◌<◌, ◌≤◌, if◌then◌else◌, Bool, true, false, not, ◌&&◌, ◌||◌, nat_lt, Option, Some, None, is_some, option_to_list, List, [], ◌∷◌, ◌++◌, length, filter, append-nil, map-id, arith}
 use Rattle.std.specs.List.{list_all, list_any, range_with_len}
 use Rattle.std.proofs.lemmas.Bool.{and_from, both_ways, or_left}
 use Rattle.std.proofs.lemmas.Grind.{flat_map-append}
-use Rattle.std.proofs.lemmas.List.Elements.{filter-append}
+use Rattle.std.proofs.lemmas.List.FromFn.{filter_of_map_range_with_len_more}
 use Rattle.std.proofs.lemmas.List.Folds.{list_any-append, list_all-append}
 use Rattle.lis_graph.proofs.Members.{Among, among_from_any, any_from_among, among_filter, filter_among, among_flat_map, flat_map_among}
 use Rattle.lis_bits.specs.Rows.{Rows, HasShape, get, with_row, SetsRow, SetsBits}
@@ -13,7 +13,7 @@ use Rattle.lis_dict.specs.Dict.{Dict, IsDict, number_of, word_of}
 use Rattle.lis_dict.proofs.Laws.{number_from_word, word_from_number, number_below}
 use Rattle.lis_taxonomy.specs.Taxonomy.{Taxonomy, entails}
 use Rattle.lis_ext.specs.Numbers.{numbers_where}
-use Rattle.lis_ext.proofs.Numbers.{among_where, where_among, numbers_none}
+use Rattle.lis_ext.proofs.Numbers.{among_where, where_among}
 use Rattle.lis_words.specs.Words.{has_word, is_valued, head_bytes, is_test, test_of}
 use Rattle.lis_laws.proofs.Apart.{test_not_valued}
 use Rattle.lis_laws.proofs.Counts.{all_from}
@@ -36,17 +36,15 @@ met_is_test None size met = absurd (both_ways false refl met)
 met_is_test (Some test) size met = refl
 
 -- ---- one number more
+where_none : (test : ℕ → Bool) → numbers_where 0 test ≡ []
+unfolding numbers_where
+where_none test = refl
+
 where_more : (k : ℕ) (test : ℕ → Bool) → numbers_where (k + 1) test ≡ numbers_where k test ++ (if test k then k ∷ [] else [])
 unfolding numbers_where
-where_more k test = ap (filter test) (range_more 0 k) ∙ (filter-append test (range_with_len 0 k) (k ∷ []) ∙ ap (λ ns. filter test (range_with_len 0 k) ++ ns) (one (test k) refl))
-  where
-    range_more : (a n : ℕ) → range_with_len a (n + 1) ≡ range_with_len a n ++ (a + n) ∷ []
-    range_more a zero = let same : a + 0 ≡ a = omega arith in ap (λ m. m ∷ []) (sym same)
-    range_more a (suc n) = let same : a + 1 + n ≡ a + suc n = omega arith in ap (λ ms. a ∷ ms) (range_more (a + 1) n ∙ ap (λ m. range_with_len (a + 1) n ++ m ∷ []) same)
-
-    one : (b : Bool) → test k ≡ b → filter test (k ∷ []) ≡ (if b then k ∷ [] else [])
-    one true is = ap (λ t. if t then k ∷ [] else []) is
-    one false is = ap (λ t. if t then k ∷ [] else []) is
+where_more k test =
+    ap (filter test) (sym (map-id (range_with_len 0 (k + 1))))
+    ∙ (filter_of_map_range_with_len_more test (λ n. n) 0 k k (omega arith) ∙ ap (λ ns. filter test ns ++ (if test k then k ∷ [] else [])) (map-id (range_with_len 0 k)))
 
 -- the row has what it had, and what the tests of the numbers below k entail that are met
 pub record MetSoFar (words : Words) (t : Taxonomy) (size : ℕ) (old row : Rows) (k : ℕ) : Type 0 where
@@ -61,12 +59,8 @@ module _ (words : Words) (t : Taxonomy) (size : ℕ) where
   pub met_none : (row : Rows) → HasShape row 2 t.props → MetSoFar words t size row row 0
   met_none row shape = record {
     shape = shape;
-    bits = λ n lt. sym (ap (λ ns. get row 0 n || is_described t ns n) (none (is_met_number words size)) ∙ or_nothing (get row 0 n));
+    bits = λ n lt. sym (ap (λ ns. get row 0 n || is_described t ns n) (where_none (is_met_number words size)) ∙ or_nothing (get row 0 n));
   }
-    where
-      none : (test : ℕ → Bool) → numbers_where 0 test ≡ []
-      unfolding numbers_where
-      none test = refl
 
   pub met_not : (old row : Rows) (k : ℕ) → MetSoFar words t size old row k → is_met_number words size k ≡ false → MetSoFar words t size old row (k + 1)
   met_not old row k was unmet = record { shape = was.shape; bits = λ n lt. was.bits n lt ∙ ap (λ ns. get old 0 n || is_described t ns n) (sym same) }
@@ -80,7 +74,7 @@ module _ (words : Words) (t : Taxonomy) (size : ℕ) where
       → MetSoFar words t size old new (k + 1)
   met_more old row mid new k was met ups joined = subst (λ (r : Rows). MetSoFar words t size old r (k + 1)) (sym joined) (record { shape = second.shape; bits = bits })
     where
-      abbrev below : List ℕ
+      below : List ℕ
       below = numbers_where k (is_met_number words size)
 
       first : SetsBits row mid 2 t.props 1 (entails t k)
@@ -99,6 +93,9 @@ module _ (words : Words) (t : Taxonomy) (size : ℕ) where
           second.at n lt
           ∙ (ap₂ (λ a b. a || b) (first.others 0 n (λ e. omega (arith, e)) ∙ was.bits n lt) (first.at n lt)
           ∙ (or_more (get old 0 n) (is_described t below n) (entails t k n) ∙ ap (λ b. get old 0 n || b) (sym (described_more n))))
+
+  pub met_all : (old row : Rows) (k : ℕ) → MetSoFar words t size old row k → k ≡ words.dict.props → (n : ℕ) → n < t.props → get row 0 n ≡ (get old 0 n || is_described t (met_numbers words size) n)
+  met_all old row k was all n lt = was.bits n lt ∙ ap (λ end. get old 0 n || is_described t (numbers_where end (is_met_number words size)) n) all
 
 -- ---- the numbers of the tests that are met
 module _ (words : Words) (dict : IsDict words.dict) (size : ℕ) where

@@ -107,7 +107,7 @@ fn link_tests(limits: &Limits, words: &Words, taxonomy: &mut Taxonomy)
             &words.declared,
             taxonomy,
             limits.props,
-            number as u16,
+            number,
         );
     }
 }
