@@ -1,8 +1,9 @@
 -- The axioms of axiom slots, read one after another.
-use Rattle.std.proofs.Common.{◌≡◌, ◌⊎◌, ◌∙◌, ◌↔◌, refl, sym, ap, ap₂, subst, inl, inr, ℕ, ◌+◌, ◌<◌, ◌≤◌, ◌==◌, nat_lt, Bool, true, false, ◌&&◌, ◌||◌, Option, Some, None, Result, Ok, Err, OnOk, List, [], ◌∷◌, length, set, replicate, slice_get, get_or, IsTrue, arith, eq-eqb}
+use Rattle.std.proofs.Common.{◌≡◌, ◌⊎◌, ◌∙◌, ◌↔◌, refl, sym, ap, ap₂, subst, inl, inr, ℕ, ◌+◌, ◌<◌, ◌≤◌, ◌==◌, Bool, true, false, ◌&&◌, ◌||◌, Option, Some, None, Result, Ok, Err, OnOk, List, [], ◌∷◌, length, set, replicate, slice_get, get_or, IsTrue, arith, eq-eqb}
 use Rattle.std.specs.Result.{is_err}
 use Rattle.std.specs.FinSet as finite
-use Rattle.std.proofs.lemmas.Bool.{and_parts, and_from, or_cases, or_left, or_right, both_ways, cases_eq, cases_lt, eqb-true, false_from_ne_true, lt-ltb}
+use Rattle.std.proofs.Math.Bool.{or-false}
+use Rattle.std.proofs.lemmas.Bool.{and_parts, and_from, or_cases, or_left, or_right, both_ways, cases_eq, cases_lt, eqb-true, false_from_ne_true}
 use Rattle.std.proofs.lemmas.List.{length-set, length-replicate, get_or-replicate, get_or_past, get_or-set_same, get_or-set_other}
 use Rattle.std.proofs.lemmas.Option.{slice_get_within, slice_get-get_or, get_or_from_slice_get, same_Some}
 use Rattle.lis_graph.specs.Graph.{Chain}
@@ -40,7 +41,7 @@ use Rattle.lis_open.specs.Reading.{OnlyReads, Recalls, IsReadAs}
 use Rattle.lis_open.specs.ReadWords.{declared_words, kept_words, AreWords, AreFirstWords, LinksTests, is_left, is_right, are_sides, TakesPair, TakesAxiom, IsGoodPair, AreFirstAxioms, AxiomsAreSpelled}
 use Rattle.lis_open.proofs.Joined.{Sides, sides}
 use Rattle.lis_open.proofs.WordPlaces.{left_word, right_word}
-use Rattle.lis_open.proofs.LinkedTests.{tests_below, or_nothing}
+use Rattle.lis_open.proofs.LinkedTests.{tests_below}
 use Rattle.lis_open.proofs.Owned.{bare_numbered}
 use Rattle.lis_open.proofs.WordChains.{one_number, among_pair, pair_among, chain_numbered}
 
@@ -309,7 +310,7 @@ module _ (limits : Limits) (words : Words) (first : AreFirstWords limits words l
       let test = is_test_link words.dict words.declared p q in
       linked.edges p q
       ∙ (ap (λ b. head || b) (tests_below words first.are.dict p q limits.props first.props)
-      ∙ (sym (or_nothing (head || test))
+      ∙ (sym (or-false (head || test))
       ∙ (ap (λ b. (head || test) || b) (sym (no_pair p q)) ∙ sym (linked_by (kept_words limits words slots) first.are.dict p q))))
 
   pub no_axioms_yet : (axioms : Axioms) → axioms.slots.items ≡ slots → axioms.taxonomy ≡ t → AreFirstAxioms limits words axioms 0

@@ -1,10 +1,11 @@
 -- The links of declared tests to weaker ones, one number after another.
 use Rattle.std.proofs.Common.{◌≡◌, ◌⊎◌, ◌∙◌, refl, sym, ap, ap₂, subst, inl, inr, ℕ, ◌+◌, ◌<◌, ◌≤◌, ◌==◌, nat_lt, if◌then◌else◌, Bool, true, false, ◌&&◌, ◌||◌, Option, Some, None, is_some, List, arith, eq-eqb}
+use Rattle.std.proofs.Math.Bool.{or-false, and-false}
 use Rattle.std.proofs.lemmas.Bool.{and_parts, or_cases, or_left, or_right, both_ways, cases_lt, eqb-true, lt-ltb, ltb-true, false_from_ne_true}
 use Rattle.lis_blockmap.specs.Bitmap.{is_taken}
 use Rattle.lis_dict.specs.Dict.{Dict, IsDict, word_of}
 use Rattle.lis_taxonomy.specs.Taxonomy.{Taxonomy, has_edge}
-use Rattle.lis_words.specs.Words.{same_word, is_valued, head_bytes, is_test, test_of}
+use Rattle.lis_words.specs.Words.{same_word, is_valued, head_bytes, is_test}
 use Rattle.lis_laws.proofs.Apart.{test_not_valued}
 use Rattle.lis_laws.proofs.Chains.{head_no_test}
 use Rattle.lis_laws.proofs.Members.{same_word_decides}
@@ -16,7 +17,6 @@ use Rattle.lis_kept.proofs.TestLinks.{none_weaker, no_test, test_link}
 use Rattle.lis_open.specs.declared.words.Words.{Words}
 use Rattle.lis_open.specs.ReadWords.{LinksHeads, LinksTests}
 use Rattle.lis_open.proofs.WordUses.{no_word_past}
-use Rattle.lis_open.proofs.HeadLinks.{last_false}
 
 -- ---- tests of numbers
 -- a word that is a test
@@ -68,10 +68,6 @@ tested_not_headed (Some w) (Some v) head tested =
     both_ways (is_valued w) (subst (λ u. is_valued u ≡ false) (sym is) (test_not_valued tested.word tested.test)) (and_parts (is_valued w) (same_word (head_bytes w) v) head).0
 
 -- ---- the links so far
-pub or_nothing : (b : Bool) → (b || false) ≡ b
-or_nothing true = refl
-or_nothing false = refl
-
 not_below : (n : ℕ) → nat_lt n n ≡ false
 not_below n = false_from_ne_true (nat_lt n n) (λ h. let lt = ltb-true n n h in omega (arith, lt))
 
@@ -90,7 +86,7 @@ module _ (words : Words) (kept : IsDict words.dict) where
       by (inl lt) = ap (λ b. b && is_head_edge p q) (lt-ltb p props lt)
       by (inr past) =
           let none = no_word_past words.dict kept p (omega (arith, past, same)) in
-          ap (λ o. nat_lt p props && is_head_by o (word_of words.dict q)) none ∙ (last_false (nat_lt p props) ∙ sym (ap (λ o. is_head_by o (word_of words.dict q)) none))
+          ap (λ o. nat_lt p props && is_head_by o (word_of words.dict q)) none ∙ (and-false (nat_lt p props) ∙ sym (ap (λ o. is_head_by o (word_of words.dict q)) none))
 
   pub tests_below : (p q props : ℕ) → words.dict.props ≡ props → (nat_lt p props && is_test_link words.dict words.declared p q) ≡ is_test_link words.dict words.declared p q
   tests_below p q props same = by (cases_lt p props)
@@ -100,7 +96,7 @@ module _ (words : Words) (kept : IsDict words.dict) where
       by (inr past) =
           let untested = no_test words.dict words.declared p (no_word_past words.dict kept p (omega (arith, past, same))) in
           let none : is_test_edge p q ≡ false = ap (are_weaker (declared_test words.dict words.declared q)) untested ∙ none_weaker (declared_test words.dict words.declared q) in
-          ap (λ b. nat_lt p props && b) none ∙ (last_false (nat_lt p props) ∙ sym none)
+          ap (λ b. nat_lt p props && b) none ∙ (and-false (nat_lt p props) ∙ sym none)
 
   pub tests_none : (t : Taxonomy) (props : ℕ) → words.dict.props ≡ props → LinksHeads words props t → LinksTests words 0 t
   tests_none t props same heads = record { props = heads.props; edges = edges }
@@ -111,7 +107,7 @@ module _ (words : Words) (kept : IsDict words.dict) where
       edges : (p q : ℕ) → has_edge t p q ≡ (is_head_by (word_of words.dict p) (word_of words.dict q) || (nat_lt p 0 && is_test_link words.dict words.declared p q))
       edges p q =
           heads.edges p q ∙ (heads_below p q props same
-          ∙ (sym (or_nothing (is_head_edge p q)) ∙ sym (ap (λ b. is_head_edge p q || (b && is_test_edge p q)) (no_number p))))
+          ∙ (sym (or-false (is_head_edge p q)) ∙ sym (ap (λ b. is_head_edge p q || (b && is_test_edge p q)) (no_number p))))
 
   module _ (end : ℕ) (t : Taxonomy) (linked : LinksTests words end t) where
     pub ordered_so_far : TestsAreOrdered words.dict t

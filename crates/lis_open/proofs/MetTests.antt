@@ -1,6 +1,7 @@
 -- The declared tests that a file meets, by their numbers.
-use Rattle.std.proofs.Common.{◌≡◌, ◌∙◌, refl, sym, ap, ap₂, subst, inl, inr, ℕ, ◌+◌, ◌<◌, ◌≤◌, if◌then◌else◌, Bool, true, false, not, ◌&&◌, ◌||◌, nat_lt, Option, Some, None, is_some, option_to_list, List, [], ◌∷◌, ◌++◌, length, filter, append-nil, map-id, arith}
-use Rattle.std.specs.List.{list_all, list_any, range_with_len}
+use Rattle.std.proofs.Common.{◌≡◌, ◌∙◌, refl, sym, ap, ap₂, subst, inl, inr, ℕ, ◌+◌, ◌<◌, if◌then◌else◌, Bool, true, false, not, ◌&&◌, ◌||◌, Option, Some, None, is_some, option_to_list, List, [], ◌∷◌, ◌++◌, filter, append-nil, map-id, arith}
+use Rattle.std.specs.List.{list_all, range_with_len}
+use Rattle.std.proofs.Math.Bool.{or-false, or_assoc, and-true}
 use Rattle.std.proofs.lemmas.Bool.{and_from, both_ways, or_left}
 use Rattle.std.proofs.lemmas.Grind.{flat_map-append}
 use Rattle.std.proofs.lemmas.List.FromFn.{filter_of_map_range_with_len_more}
@@ -9,12 +10,12 @@ use Rattle.lis_graph.proofs.Members.{Among, among_from_any, any_from_among, amon
 use Rattle.lis_bits.specs.Rows.{Rows, HasShape, get, with_row, SetsRow, SetsBits}
 use Rattle.lis_bits.proofs.Laws.{bits_set, row_sets}
 use Rattle.lis_blockmap.specs.Bitmap.{is_taken}
-use Rattle.lis_dict.specs.Dict.{Dict, IsDict, number_of, word_of}
+use Rattle.lis_dict.specs.Dict.{IsDict, number_of, word_of}
 use Rattle.lis_dict.proofs.Laws.{number_from_word, word_from_number, number_below}
 use Rattle.lis_taxonomy.specs.Taxonomy.{Taxonomy, entails}
 use Rattle.lis_ext.specs.Numbers.{numbers_where}
 use Rattle.lis_ext.proofs.Numbers.{among_where, where_among}
-use Rattle.lis_words.specs.Words.{has_word, is_valued, head_bytes, is_test, test_of}
+use Rattle.lis_words.specs.Words.{is_valued, head_bytes, test_of}
 use Rattle.lis_laws.proofs.Apart.{test_not_valued}
 use Rattle.lis_laws.proofs.Counts.{all_from}
 use Rattle.lis_laws.proofs.Members.{among_from_has_word, has_word_from_among}
@@ -22,13 +23,12 @@ use Rattle.lis_model.specs.Tests.{is_met, met_tests}
 use Rattle.lis_kept.specs.Telling.{bit_of}
 use Rattle.lis_kept.specs.TestEdges.{test_by, declared_test}
 use Rattle.lis_kept.proofs.Filing.{same_tests}
-use Rattle.lis_kept.proofs.Known.{some_number}
 use Rattle.lis_open.specs.declared.words.Words.{Words}
 use Rattle.lis_open.specs.ReadWords.{declared_words, is_met_number}
-use Rattle.lis_open.specs.ReadFiles.{is_described, described, is_numbered, numbers_of, met_numbers, own_numbers}
+use Rattle.lis_open.specs.ReadFiles.{is_described, is_numbered, numbers_of, met_numbers, own_numbers}
 use Rattle.lis_open.proofs.WordUses.{declared_bit, no_limits}
 use Rattle.lis_open.proofs.WordPlaces.{declared_numbered, declared_flagged}
-use Rattle.lis_open.proofs.LinkedTests.{declared_test_is, or_nothing}
+use Rattle.lis_open.proofs.LinkedTests.{declared_test_is}
 
 -- only a test is met
 met_is_test : (test : Option (Bool × ℕ)) (size : ℕ) → is_met test size ≡ true → is_some test ≡ true
@@ -51,15 +51,11 @@ pub record MetSoFar (words : Words) (t : Taxonomy) (size : ℕ) (old row : Rows)
   pub shape : HasShape row 2 t.props
   pub bits : (n : ℕ) → n < t.props → get row 0 n ≡ (get old 0 n || is_described t (numbers_where k (is_met_number words size)) n)
 
-or_more : (a b c : Bool) → ((a || b) || c) ≡ (a || (b || c))
-or_more true b c = refl
-or_more false b c = refl
-
 module _ (words : Words) (t : Taxonomy) (size : ℕ) where
   pub met_none : (row : Rows) → HasShape row 2 t.props → MetSoFar words t size row row 0
   met_none row shape = record {
     shape = shape;
-    bits = λ n lt. sym (ap (λ ns. get row 0 n || is_described t ns n) (where_none (is_met_number words size)) ∙ or_nothing (get row 0 n));
+    bits = λ n lt. sym (ap (λ ns. get row 0 n || is_described t ns n) (where_none (is_met_number words size)) ∙ or-false (get row 0 n));
   }
 
   pub met_not : (old row : Rows) (k : ℕ) → MetSoFar words t size old row k → is_met_number words size k ≡ false → MetSoFar words t size old row (k + 1)
@@ -86,13 +82,13 @@ module _ (words : Words) (t : Taxonomy) (size : ℕ) where
       described_more : (n : ℕ) → is_described t (numbers_where (k + 1) (is_met_number words size)) n ≡ (is_described t below n || entails t k n)
       described_more n =
           ap (λ ns. is_described t ns n) (where_more k (is_met_number words size) ∙ ap (λ b. below ++ (if b then k ∷ [] else [])) met)
-          ∙ (list_any-append (λ m. entails t m n) below (k ∷ []) ∙ ap (λ b. is_described t below n || b) (or_nothing (entails t k n)))
+          ∙ (list_any-append (λ m. entails t m n) below (k ∷ []) ∙ ap (λ b. is_described t below n || b) (or-false (entails t k n)))
 
       bits : (n : ℕ) → n < t.props → get (with_row mid 0 (λ bit. get mid 0 bit || get mid 1 bit)) 0 n ≡ (get old 0 n || is_described t (numbers_where (k + 1) (is_met_number words size)) n)
       bits n lt =
           second.at n lt
           ∙ (ap₂ (λ a b. a || b) (first.others 0 n (λ e. omega (arith, e)) ∙ was.bits n lt) (first.at n lt)
-          ∙ (or_more (get old 0 n) (is_described t below n) (entails t k n) ∙ ap (λ b. get old 0 n || b) (sym (described_more n))))
+          ∙ (or_assoc (get old 0 n) (is_described t below n) (entails t k n) ∙ ap (λ b. get old 0 n || b) (sym (described_more n))))
 
   pub met_all : (old row : Rows) (k : ℕ) → MetSoFar words t size old row k → k ≡ words.dict.props → (n : ℕ) → n < t.props → get row 0 n ≡ (get old 0 n || is_described t (met_numbers words size) n)
   met_all old row k was all n lt = was.bits n lt ∙ ap (λ end. get old 0 n || is_described t (numbers_where end (is_met_number words size)) n) all
@@ -157,7 +153,7 @@ module _ (words : Words) (dict : IsDict words.dict) (size : ℕ) where
       list_any-append (λ m. entails t m n) tags (numbers_of words.dict (derived ++ met))
       ∙ (ap (λ ns. is_described t tags n || is_described t ns n) (flat_map-append (λ word. option_to_list (number_of words.dict word)) derived met)
       ∙ (ap (λ b. is_described t tags n || b) (list_any-append (λ m. entails t m n) (numbers_of words.dict derived) (numbers_of words.dict met))
-      ∙ (sym (or_more (is_described t tags n) (is_described t (numbers_of words.dict derived) n) (is_described t (numbers_of words.dict met) n))
+      ∙ (sym (or_assoc (is_described t tags n) (is_described t (numbers_of words.dict derived) n) (is_described t (numbers_of words.dict met) n))
       ∙ ap₂ (λ a b. a || b) (sym (list_any-append (λ m. entails t m n) tags (numbers_of words.dict derived))) same)))
     where
       same : is_described t (numbers_of words.dict met) n ≡ is_described t (met_numbers words size) n
@@ -168,8 +164,4 @@ module _ (words : Words) (dict : IsDict words.dict) (size : ℕ) where
 
   -- where the derived words have numbers, all that are found have them
   pub found_numbered : (derived : List (List ℕ)) → list_all (is_numbered words.dict) (derived ++ met_tests (declared_words words) size) ≡ list_all (is_numbered words.dict) derived
-  found_numbered derived = list_all-append (is_numbered words.dict) derived met ∙ (ap (λ b. list_all (is_numbered words.dict) derived && b) met_numbered ∙ whole (list_all (is_numbered words.dict) derived))
-    where
-      whole : (b : Bool) → (b && true) ≡ b
-      whole true = refl
-      whole false = refl
+  found_numbered derived = list_all-append (is_numbered words.dict) derived met ∙ (ap (λ b. list_all (is_numbered words.dict) derived && b) met_numbered ∙ and-true (list_all (is_numbered words.dict) derived))

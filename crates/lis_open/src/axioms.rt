@@ -102,13 +102,7 @@ fn link_tests(limits: &Limits, words: &Words, taxonomy: &mut Taxonomy)
     ensures { LinksTests words.now limits.now.props taxonomy.new }
 {
     for number in 0..limits.props {
-        link_weaker(
-            &words.dict,
-            &words.declared,
-            taxonomy,
-            limits.props,
-            number,
-        );
+        link_weaker(&words.dict, &words.declared, taxonomy, limits.props, number);
     }
 }
 

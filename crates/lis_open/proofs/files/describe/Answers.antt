@@ -1,4 +1,4 @@
-use Rattle.std.proofs.Common.{◌≡◌, nat_lt, ℕ, List, ◌++◌, ◌||◌, length, ap, ap₂, sym, subst, ◌∙◌, arith}
+use Rattle.std.proofs.Common.{◌≡◌, nat_lt, ℕ, List, ◌++◌, ◌||◌, length, ap, sym, subst, ◌∙◌, arith}
 use Rattle.std.specs.List.{list_all}
 use Rattle.std.specs.Option.{option_map}
 use Rattle.lis_fields.specs.Records.{FileRecord}
@@ -54,5 +54,5 @@ returns-clause-described c =
     (listed_described words t rec found _ (found_numbered words dict size derived ∙ c.in-Some.ensures.0)
     (listed_are t (own_numbers words.dict rec.tags found) c.gather_met.new.row _ c.gather_met.ensures.shape (λ n lt.
     c.gather_met.ensures.bits n lt
-    ∙ (ap₂ (λ b m. b || is_described t (met_numbers words m) n) (c.gather.ensures.bits n lt ∙ ap (λ ns. is_described t ns n) own) c.len.ensures
+    ∙ (ap (λ b. b || is_described t (met_numbers words size) n) (c.gather.ensures.bits n lt ∙ ap (λ ns. is_described t ns n) own)
     ∙ sym (described_found words dict size t rec.tags derived n))) c.list_numbers.ensures))
