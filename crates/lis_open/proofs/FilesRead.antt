@@ -40,7 +40,7 @@ use Rattle.lis_open.specs.declared.files.Files.{Files}
 use Rattle.lis_open.specs.declared.blocks.LastBlock.{LastBlock}
 use Rattle.lis_open.specs.Reading.{OnlyReads, Recalls, IsReadAs}
 use Rattle.lis_open.specs.ReadWords.{AreWords}
-use Rattle.lis_open.specs.ReadFiles.{no_files, described, found_words, is_numbered, own_numbers, may_describe, HasNumbers, AreNumbers, is_assignable_by, is_assignable_number, may_file, may_take_record, may_take_file, AreItsBytes, TakesRecord, TakesFile, AreFirstFiles, FilesAreSpelled, FilesAreNumbered}
+use Rattle.lis_open.specs.ReadFiles.{no_files, described, found_words, is_numbered, own_numbers, may_describe, HasNumbers, AreNumbers, is_assignable_by, is_assignable_number, may_file, may_take_record, may_take_file, AreItsBytes, TakesNumbers, TakesRecord, TakesFile, AreFirstFiles, FilesAreSpelled, FilesAreNumbered}
 use Rattle.lis_kept.proofs.Filing.{among_from_number, same_distinct}
 use Rattle.lis_open.proofs.Numbers.{is_taken-marked}
 
@@ -133,10 +133,17 @@ absent : (o : Option ℕ) → not (is_some o) ≡ true → o ≡ None
 absent None new = refl
 absent (Some n) new = absurd cc
 
-module _ (limits : Limits) (words : Words) (axioms : Axioms) (files next : Files) (number : ℕ) (rec : FileRecord) (in_file : List (List ℕ)) (first : AreFirstFiles limits words axioms files number) (lt : number < limits.files)
-    (form : is_record rec ≡ true) (may : may_take_record words axioms.taxonomy files rec in_file ≡ true) (takes : TakesRecord words axioms.taxonomy number rec in_file files next) where
+module _ (limits : Limits) (words : Words) (axioms : Axioms) (files next : Files) (number : ℕ) (rec : FileRecord) (bytes : List ℕ) (first : AreFirstFiles limits words axioms files number) (lt : number < limits.files)
+    (form : is_record rec ≡ true) (may : may_take_record words axioms.taxonomy files rec (found_words words rec.name bytes) ≡ true) (taken : TakesRecord words axioms.taxonomy number rec bytes files next) where
+  -- the words that are found in the file
+  abbrev in_file : List (List ℕ)
+  in_file = found_words words rec.name bytes
+
   abbrev numbers : List ℕ
   numbers = described axioms.taxonomy (own_numbers words.dict rec.tags in_file)
+
+  takes : TakesNumbers number rec (described axioms.taxonomy (own_numbers words.dict rec.tags in_file)) files next
+  takes = taken.takes
 
   parts : (may_file words files rec ≡ true) × (may_describe words axioms.taxonomy rec in_file ≡ true)
   parts = and_parts (may_file words files rec) (may_describe words axioms.taxonomy rec in_file) may
@@ -206,13 +213,13 @@ module _ (limits : Limits) (words : Words) (axioms : Axioms) (files next : Files
   sets_are : (n : ℕ) → (n ≡ number) ⊎ (n ≡ number → ⊥) → AreNumbers words axioms.taxonomy (rec_at next.catalog n) (set_of next.ext n)
   sets_are n (inl same) =
       subst (λ k. AreNumbers words axioms.taxonomy (rec_at next.catalog k) (set_of next.ext k)) (sym same)
-      (subst (λ o. AreNumbers words axioms.taxonomy o (set_of next.ext number)) (sym found_new) (in_file, has_new))
+      (subst (λ o. AreNumbers words axioms.taxonomy o (set_of next.ext number)) (sym found_new) (record { bytes = bytes; sized = taken.sized; has = has_new }))
   sets_are n (inr differ) =
       subst (λ o. AreNumbers words axioms.taxonomy o (set_of next.ext n)) (sym (found_old n differ))
       (subst (λ ns. AreNumbers words axioms.taxonomy (rec_at files.catalog n) ns) (sym (set_old n differ)) (first.sets n))
 
   -- and by the words that are found in them
-  pub numbered_more : (at : ℕ → List ℕ) → FilesAreNumbered limits at words axioms files → in_file ≡ found_words words rec.name (bytes_told limits at rec) → FilesAreNumbered limits at words axioms next
+  pub numbered_more : (at : ℕ → List ℕ) → FilesAreNumbered limits at words axioms files → bytes ≡ bytes_told limits at rec → FilesAreNumbered limits at words axioms next
   numbered_more at old is n r there = by (cases_eq n number)
     where
       by : (n ≡ number) ⊎ (n ≡ number → ⊥) → HasNumbers words axioms.taxonomy r (found_words words r.name (bytes_told limits at r)) (set_of next.ext n)
@@ -220,7 +227,7 @@ module _ (limits : Limits) (words : Words) (axioms : Axioms) (files next : Files
           let one = same_Some rec r (sym found_new ∙ (ap (rec_at next.catalog) (sym same) ∙ there)) in
           subst (λ (x : FileRecord). HasNumbers words axioms.taxonomy x (found_words words x.name (bytes_told limits at x)) (set_of next.ext n)) one
           (subst (λ k. HasNumbers words axioms.taxonomy rec (found_words words rec.name (bytes_told limits at rec)) (set_of next.ext k)) (sym same)
-          (subst (λ ws. HasNumbers words axioms.taxonomy rec ws (set_of next.ext number)) is has_new))
+          (subst (λ bs. HasNumbers words axioms.taxonomy rec (found_words words rec.name bs) (set_of next.ext number)) is has_new))
       by (inr differ) =
           subst (λ ns. HasNumbers words axioms.taxonomy r (found_words words r.name (bytes_told limits at r)) ns) (sym (set_old n differ)) (old n r (sym (found_old n differ) ∙ there))
 
@@ -286,7 +293,7 @@ module _ (limits : Limits) (words : Words) (axioms : Axioms) (files : Files) (nu
     short = first.short;
     settled = first.settled;
   })
-  files_on (Some (Used rec)) bytes next form may takes = files_more limits words axioms files next number rec (found_words words rec.name bytes) first lt form may takes
+  files_on (Some (Used rec)) bytes next form may takes = files_more limits words axioms files next number rec bytes first lt form may takes
 
   -- the numbers are those of the descriptions, where the bytes were those of the files
   pub numbered_on : (at : ℕ → List ℕ) → FilesAreNumbered limits at words axioms files → (found : Option FileSlot) (bytes : List ℕ) (next : Files) → IfSome found (λ file. IsTrue (is_file file))
@@ -296,7 +303,7 @@ module _ (limits : Limits) (words : Words) (axioms : Axioms) (files : Files) (nu
   numbered_on at old (Some (Used rec)) bytes next form may takes are =
       let in_file = found_words words rec.name bytes in
       let told = are (and_parts (may_file words files rec) (may_describe words axioms.taxonomy rec in_file) may).0 in
-      numbered_more limits words axioms files next number rec in_file first lt form may takes at old (ap (found_words words rec.name) told)
+      numbered_more limits words axioms files next number rec bytes first lt form may takes at old told
 
   pub spelled_on : (at : ℕ → List ℕ) → FilesAreSpelled limits at files number → (found : Option FileSlot) (bytes : List ℕ) (next : Files) → IfSome found (λ file. IsTrue (is_file file))
       → may_take_file words axioms.taxonomy files found bytes ≡ true → TakesFile words axioms.taxonomy number found bytes files next → IsReadAs file_bytes is_file (file_slots limits) at number found → FilesAreSpelled limits at next (number + 1)
@@ -309,7 +316,7 @@ module _ (limits : Limits) (words : Words) (axioms : Axioms) (files : Files) (nu
       by : (n : ℕ) → n < number + 1 → (n ≡ number) ⊎ (n ≡ number → ⊥) → slot (file_slots limits) at n ≡ file_bytes (record_at files.catalog n)
       by n less (inl same) = subst (λ k. slot (file_slots limits) at k ≡ file_bytes (record_at files.catalog k)) (sym same) here
       by n less (inr differ) = spelled n (omega arith)
-  spelled_on at spelled (Some (Used rec)) bytes next form may takes read = spelled_more limits words axioms files next number rec (found_words words rec.name bytes) first lt form may takes at spelled read.bytes
+  spelled_on at spelled (Some (Used rec)) bytes next form may takes read = spelled_more limits words axioms files next number rec bytes first lt form may takes at spelled read.bytes
 
 -- ---- the loop
 -- the slots below the end were read, by runs that only read

@@ -44,7 +44,7 @@ use Rattle.lis_open.specs.declared.words.Words.{Words}
 use Rattle.lis_open.specs.declared.axioms.Axioms.{Axioms}
 use Rattle.lis_open.specs.declared.files.Files.{Files}
 use Rattle.lis_open.specs.ReadWords.{declared_words, kept_words, is_left, is_right, AreFirstAxioms}
-use Rattle.lis_open.specs.ReadFiles.{is_described, described, own_numbers, HasNumbers, AreNumbers, is_assignable_number, AreFirstFiles}
+use Rattle.lis_open.specs.ReadFiles.{is_described, described, found_words, own_numbers, HasSomeNumbers, AreNumbers, is_assignable_number, AreFirstFiles}
 use Rattle.lis_open.specs.ReadAll.{AreNoMarks, kept_in, AreRead}
 use Rattle.lis_open.proofs.Edges.{edge_of, leads_on}
 use Rattle.lis_open.proofs.LinkedTests.{linked_test}
@@ -112,22 +112,14 @@ module _ (limits : Limits) (words : Words) (axioms : Axioms) (dict : IsDict word
 pub record IsOwnFrom (words : Words) (axioms : Axioms) (files : Files) (slot n : ℕ) : Type 0 where
   pub rec : FileRecord
   pub there : rec_at files.catalog slot ≡ Some rec
-  pub in_file : List (List ℕ)
-  pub numbers : HasNumbers words axioms.taxonomy rec in_file (numbers_at files.ext slot)
+  pub some : HasSomeNumbers words axioms.taxonomy rec (numbers_at files.ext slot)
   pub own : ℕ
-  pub has : Among (own_numbers words.dict rec.tags in_file) own
+  pub has : Among (own_numbers words.dict rec.tags (found_words words rec.name some.bytes)) own
   pub leads : Leads axioms.taxonomy own n
 
 module _ (limits : Limits) (words : Words) (axioms : Axioms) (files : Files) (end : ℕ) (first : AreFirstFiles limits words axioms files end) where
-  -- what holds of the numbers of a slot's file
-  pub record SlotNumbers (slot : ℕ) (rec : FileRecord) : Type 0 where
-    pub in_file : List (List ℕ)
-    pub numbers : HasNumbers words axioms.taxonomy rec in_file (numbers_at files.ext slot)
-
-  pub slot_numbers : (slot : ℕ) (rec : FileRecord) → rec_at files.catalog slot ≡ Some rec → SlotNumbers slot rec
-  slot_numbers slot rec is =
-      let found = subst (λ o. AreNumbers words axioms.taxonomy o (numbers_at files.ext slot)) is (first.sets slot) in
-      record { in_file = found.0; numbers = found.1 }
+  pub slot_numbers : (slot : ℕ) (rec : FileRecord) → rec_at files.catalog slot ≡ Some rec → HasSomeNumbers words axioms.taxonomy rec (numbers_at files.ext slot)
+  slot_numbers slot rec is = subst (λ o. AreNumbers words axioms.taxonomy o (numbers_at files.ext slot)) is (first.sets slot)
 
   pub own_from : (slot n : ℕ) → has files.ext n slot ≡ true → IsOwnFrom words axioms files slot n
   own_from slot n h = by (rec_at files.catalog slot) refl (first.sets slot)
@@ -135,17 +127,17 @@ module _ (limits : Limits) (words : Words) (axioms : Axioms) (files : Files) (en
       by : (o : Option FileRecord) → rec_at files.catalog slot ≡ o → AreNumbers words axioms.taxonomy o (numbers_at files.ext slot) → IsOwnFrom words axioms files slot n
       by None is none = absurd (both_ways (has files.ext n slot) (ap (λ ns. has_number ns n) none) h)
       by (Some rec) is found =
-          let own = own_numbers words.dict rec.tags found.0 in
-          let m = among_from_number (described axioms.taxonomy own) n (subst (λ ns. has_number ns n ≡ true) (found.1).are h) in
+          let own = own_numbers words.dict rec.tags (found_words words rec.name found.bytes) in
+          let m = among_from_number (described axioms.taxonomy own) n (subst (λ ns. has_number ns n ≡ true) found.has.are h) in
           let inside = among_where axioms.taxonomy.props (is_described axioms.taxonomy own) n m in
           let from = among_from_any (λ k. entails axioms.taxonomy k n) own inside.1 in
-          record { rec = rec; there = is; in_file = found.0; numbers = found.1; own = from.0; has = from.1; leads = (entails_decides axioms.taxonomy from.0 n).0 from.2 }
+          record { rec = rec; there = is; some = found; own = from.0; has = from.1; leads = (entails_decides axioms.taxonomy from.0 n).0 from.2 }
 
-  pub slot_has : (slot n own : ℕ) (rec : FileRecord) (of : SlotNumbers slot rec) → Among (own_numbers words.dict rec.tags of.in_file) own → Leads axioms.taxonomy own n → n < axioms.taxonomy.props → has files.ext n slot ≡ true
+  pub slot_has : (slot n own : ℕ) (rec : FileRecord) (of : HasSomeNumbers words axioms.taxonomy rec (numbers_at files.ext slot)) → Among (own_numbers words.dict rec.tags (found_words words rec.name of.bytes)) own → Leads axioms.taxonomy own n → n < axioms.taxonomy.props → has files.ext n slot ≡ true
   slot_has slot n own rec of m leads below =
-      let all = own_numbers words.dict rec.tags of.in_file in
+      let all = own_numbers words.dict rec.tags (found_words words rec.name of.bytes) in
       let test = any_from_among (λ k. entails axioms.taxonomy k n) all own m ((entails_decides axioms.taxonomy own n).1 leads) in
-      ap (λ ns. has_number ns n) of.numbers.are
+      ap (λ ns. has_number ns n) of.has.are
       ∙ has_from_among (described axioms.taxonomy all) n (where_among axioms.taxonomy.props (is_described axioms.taxonomy all) n below test)
 
   pub given_word : (slot tag : ℕ) (rec : FileRecord) → rec_at files.catalog slot ≡ Some rec → Among rec.tags tag → (w : List ℕ) × (word_of words.dict tag ≡ Some w) × (is_assignable (declared_words words) w ≡ true)
@@ -175,7 +167,7 @@ module _ (limits : Limits) (words : Words) (axioms : Axioms) (files : Files) (ma
 
   -- a number of what a file has by itself has a word, and its head has one too
   own_word : (slot n : ℕ) (from : IsOwnFrom words axioms files slot n) → (w : List ℕ) × IsNumbered words from.own w
-  own_word slot n from = own_numbered limits words dict from.rec.tags from.in_file (read.files_are.given slot from.rec from.there) from.numbers.numbered from.own from.has
+  own_word slot n from = own_numbered limits words dict from.rec.tags (found_words words from.rec.name from.some.bytes) (read.files_are.given slot from.rec from.there) from.some.has.numbered from.own from.has
 
   -- a number of a description has a word
   pub named : (n slot : ℕ) → has files.ext n slot ≡ true → IsSome (word_of words.dict n)
@@ -297,10 +289,9 @@ module _ (limits : Limits) (words : Words) (axioms : Axioms) (files : Files) (ma
     parts_closed : AreClosed k
     parts_closed slot p q h linked =
         let from = own_from limits words axioms files limits.files read.files_are slot p h in
-        let of : SlotNumbers limits words axioms files limits.files read.files_are slot from.rec = record { in_file = from.in_file; numbers = from.numbers } in
         let edge = read.axioms_are.links.edges p q ∙ linked in
         let bare = edge_end limits words axioms dict _ read.axioms_are p q edge in
-        slot_has limits words axioms files limits.files read.files_are slot q from.own from.rec of from.has (leads_on axioms.taxonomy from.own p q from.leads edge) (below q bare.word bare.is)
+        slot_has limits words axioms files limits.files read.files_are slot q from.own from.rec from.some from.has (leads_on axioms.taxonomy from.own p q from.leads edge) (below q bare.word bare.is)
 
     parts_taken : BlocksAreTaken k
     parts_taken slot rec is = all_from (is_taken files.map) rec.blocks (λ n m. read.files_are.taken slot rec n is (has_from_among rec.blocks n m))
@@ -312,7 +303,7 @@ module _ (limits : Limits) (words : Words) (axioms : Axioms) (files : Files) (ma
           let m = among_from_number rec.tags n tag in
           let w = given_word limits words axioms files limits.files read.files_are slot n rec is m in
           let of = slot_numbers limits words axioms files limits.files read.files_are slot rec is in
-          let own = tag_owned limits words dict rec.tags of.in_file (read.files_are.given slot rec is) of.numbers.numbered n m in
+          let own = tag_owned limits words dict rec.tags (found_words words rec.name of.bytes) (read.files_are.given slot rec is) of.has.numbered n m in
           slot_has limits words axioms files limits.files read.files_are slot n n rec of own (zero, refl) (below n w.0 w.1);
       rights = λ slot left right is.
           let to = (sides limits words axioms dict _ read.axioms_are slot left right is).to in

@@ -78,10 +78,15 @@ pub record HasNumbers (words : Words) (t : Taxonomy) (rec : FileRecord) (found :
   pub numbered : IsTrue (list_all (is_numbered words.dict) found)
   pub are : numbers ≡ described t (own_numbers words.dict rec.tags found)
 
--- whatever words those are
+-- whatever its bytes are, of which there are as many as its record says
+pub record HasSomeNumbers (words : Words) (t : Taxonomy) (rec : FileRecord) (numbers : List ℕ) : Type 0 where
+  pub bytes : List ℕ
+  pub sized : length bytes ≡ rec.size
+  pub has : HasNumbers words t rec (found_words words rec.name bytes) numbers
+
 abbrev pub AreNumbers : Words → Taxonomy → Option FileRecord → List ℕ → Type 0
 AreNumbers words t None numbers = numbers ≡ []
-AreNumbers words t (Some rec) numbers = (found : List (List ℕ)) × HasNumbers words t rec found numbers
+AreNumbers words t (Some rec) numbers = HasSomeNumbers words t rec numbers
 
 -- the numbers that were listed, or that there are more than a description may have
 abbrev pub AreListed : List ℕ → Option (List ℕ) → Type 0
@@ -127,14 +132,15 @@ pub record TakesNumbers (slot : ℕ) (rec : FileRecord) (numbers : List ℕ) (ol
   pub sets : new.ext.sets ≡ slice_set old.ext.sets slot numbers
   pub settled : new.ext.marks ≡ []
 
--- and they are those of its description
-abbrev pub TakesRecord : Words → Taxonomy → ℕ → FileRecord → List (List ℕ) → Files → Files → Type 0
-TakesRecord words t slot rec found old new = TakesNumbers slot rec (described t (own_numbers words.dict rec.tags found)) old new
+-- they are those of its description, and there are as many bytes as the record says
+pub record TakesRecord (words : Words) (t : Taxonomy) (slot : ℕ) (rec : FileRecord) (bytes : List ℕ) (old new : Files) : Type 0 where
+  pub sized : length bytes ≡ rec.size
+  pub takes : TakesNumbers slot rec (described t (own_numbers words.dict rec.tags (found_words words rec.name bytes))) old new
 
 abbrev pub TakesFile : Words → Taxonomy → ℕ → Option FileSlot → List ℕ → Files → Files → Type 0
 TakesFile words t slot None bytes old new = ⊥
 TakesFile words t slot (Some FreeFile) bytes old new = new ≡ old
-TakesFile words t slot (Some (Used rec)) bytes old new = TakesRecord words t slot rec (found_words words rec.name bytes) old new
+TakesFile words t slot (Some (Used rec)) bytes old new = TakesRecord words t slot rec bytes old new
 
 -- ---- files
 -- Files of the slots below the end, which may be given their words; no data block is used twice, and those in use are taken; and the slots

@@ -294,7 +294,7 @@ fn take_record<D: Disk>(
         → bytes.new ≡ bytes_told limits.now kept rec) }
     ensures answer { IfOk result (λ taken. taken ≡ may_take_record words.now axioms.now.taxonomy files.old rec (found_words words.now rec.name bytes.new)) }
     ensures taken { IfOk result (λ taken. OnTrue taken
-        (TakesRecord words.now axioms.now.taxonomy slot rec (found_words words.now rec.name bytes.new) files.old files.new)) }
+        (TakesRecord words.now axioms.now.taxonomy slot rec bytes.new files.old files.new)) }
     ensures refused { IfOk result (λ taken. OnFalse taken (files.new ≡ files.old)) }
 {
     if !may_file(words, files, &rec) {
