@@ -39,7 +39,7 @@ use Rattle.lis_kept.proofs.Filing.{among_from_number, number_from_among as has_f
 use Rattle.lis_kept.proofs.Known.{placed_at}
 use Rattle.lis_kept.proofs.TestLinks.{own_link_by}
 use Rattle.lis_kept.proofs.Used.{had_at}
-use Rattle.lis_store.specs.Stored.{AreClosed, IsSound}
+use Rattle.lis_store.specs.Stored.{AreClosed, TestsAreMet, IsSound}
 use Rattle.lis_open.specs.declared.words.Words.{Words}
 use Rattle.lis_open.specs.declared.axioms.Axioms.{Axioms}
 use Rattle.lis_open.specs.declared.files.Files.{Files}
@@ -310,9 +310,9 @@ module _ (limits : Limits) (words : Words) (axioms : Axioms) (files : Files) (ma
           declared_flagged limits words dict right to.word to.is to.declared;
     }
 
-    pub store_sound : (journal : Held) → IsTrue (is_super limits) → journal.blocks ≡ image_blocks limits → journal.is_broken ≡ false → journal.staged ≡ [] → journal.placed ≡ []
+    pub store_sound : TestsAreMet (kept_in limits words axioms files marks) → (journal : Held) → IsTrue (is_super limits) → journal.blocks ≡ image_blocks limits → journal.is_broken ≡ false → journal.staged ≡ [] → journal.placed ≡ []
         → IsSound (record { parts = k; journal = journal; is_broken = false })
-    store_sound journal super image unbroken staged placed = record {
+    store_sound tests journal super image unbroken staged placed = record {
       parts = parts_sound;
       range = super;
       free = parts_free;
@@ -322,6 +322,7 @@ module _ (limits : Limits) (words : Words) (axioms : Axioms) (files : Files) (ma
       taken = parts_taken;
       apart = read.files_are.apart;
       in_use = parts_in_use;
+      tests = tests;
       image = image;
       journal = λ whole. unbroken;
       staged = λ whole. staged;

@@ -27,6 +27,7 @@ mod WordChains
 mod AxiomsRead
 mod AxiomChecks
 mod Descriptions
+mod TestsMet
 mod FileFaults
 mod OneList
 mod Damage
