@@ -1,5 +1,5 @@
 -- Tests in the descriptions that were read: a file has those that its size meets, and no others.
-use Rattle.std.proofs.Common.{◌≡◌, ◌∙◌, refl, sym, ap, subst, ℕ, Bool, true, Some, List, IsTrue}
+use Rattle.std.proofs.Common.{◌≡◌, ◌∙◌, refl, sym, ap, subst, ℕ, Bool, true, false, Some, is_some, List, IsTrue}
 use Rattle.std.specs.List.{list_all}
 use Rattle.std.proofs.lemmas.Option.{same_Some}
 use Rattle.lis_content.specs.Content.{has_number}
@@ -18,9 +18,10 @@ use Rattle.lis_model.specs.Tests.{is_met}
 use Rattle.lis_kept.specs.Kept.{Kept}
 use Rattle.lis_kept.specs.Sound.{AreSound}
 use Rattle.lis_kept.specs.Telling.{words_told, axioms_of}
+use Rattle.lis_kept.specs.TestEdges.{test_by}
 use Rattle.lis_kept.proofs.Filing.{same_tests, among_from_number, number_from_among as has_from_among}
 use Rattle.lis_store.specs.Stored.{TestsAreMet}
-use Rattle.lis_store.proofs.FileTests.{test_described}
+use Rattle.lis_store.proofs.FileTests.{assigned_no_test, test_described}
 use Rattle.lis_open.specs.declared.words.Words.{Words}
 use Rattle.lis_open.specs.declared.axioms.Axioms.{Axioms}
 use Rattle.lis_open.specs.declared.files.Files.{Files}
@@ -28,6 +29,7 @@ use Rattle.lis_open.specs.ReadWords.{declared_words, kept_words}
 use Rattle.lis_open.specs.ReadFiles.{HasSomeNumbers}
 use Rattle.lis_open.specs.ReadAll.{AreNoMarks, kept_in, AreRead}
 use Rattle.lis_open.proofs.Joined.{slot_numbers, given_word, parts_sound}
+use Rattle.lis_open.proofs.LinkedTests.{test_word}
 use Rattle.lis_open.proofs.Descriptions.{told_among, among_told, described_words}
 
 module _ (limits : Limits) (words : Words) (axioms : Axioms) (files : Files) (marks : List Bool) (read : AreRead limits words axioms files marks) (range : IsTrue (are_in_range limits)) (clean : AreNoMarks limits marks) where
@@ -74,5 +76,17 @@ module _ (limits : Limits) (words : Words) (axioms : Axioms) (files : Files) (ma
     test_met : (n : ℕ) (w : List ℕ) → word_of words.dict n ≡ Some w → is_test w ≡ true → has files.ext n slot ≡ is_met (test_of w) rec.size
     test_met n w is test = has_told n w is ∙ (ap (λ ws. has_word ws w) described ∙ (test_described k sound file given n w is test ∙ ap (is_met (test_of w)) numbers.sized))
 
+    -- it was given none
+    untested : (n : ℕ) → has_number rec.tags n ≡ true → is_some {T = Bool × ℕ} (test_by (word_of words.dict n)) ≡ false
+    untested n tag =
+        let m = among_from_number rec.tags n tag in
+        let word = given_word limits words axioms files limits.files read.files_are slot n rec there m in
+        ap (λ o. is_some {T = Bool × ℕ} (test_by o)) word.1 ∙ assigned_no_test k sound file.assigned given word.0 (told_among words.dict rec.tags n word.0 word.1 m)
+
+    met_by_number : (n : ℕ) → is_some {T = Bool × ℕ} (test_by (word_of words.dict n)) ≡ true → has files.ext n slot ≡ is_met (test_by (word_of words.dict n)) rec.size
+    met_by_number n test =
+        let found = test_word (word_of words.dict n) test in
+        test_met n found.word found.is found.test ∙ sym (ap (λ o. is_met (test_by o) rec.size) found.is)
+
   pub parts_tests : TestsAreMet (kept_in limits words axioms files marks)
-  parts_tests slot n rec w there is test = test_met slot rec there n w is test
+  parts_tests = record { given = untested; met = met_by_number }
