@@ -1,10 +1,9 @@
 -- Which axiom slots fail their checks, by what was read of the slots before.
-use Rattle.std.proofs.Common.{◌≡◌, ◌⊎◌, ◌∙◌, refl, sym, ap, subst, inl, inr, ℕ, ◌^◌, ◌-◌, ◌<◌, ◌≤◌, nat_lt, nat_le, Bool, true, false, not, ◌&&◌, ◌||◌, is_some, Option, Some, None, List, [], ◌∷◌, length, take, slice_get, arith}
-use Rattle.std.specs.List.{list_all}
-use Rattle.std.proofs.lemmas.Bool.{and_parts, and_from, or_cases, both_ways, cases_lt, false_from_ne_true, lt-ltb}
+use Rattle.std.proofs.Common.{◌≡◌, ◌⊎◌, ◌∙◌, refl, sym, ap, subst, inl, inr, ℕ, ◌^◌, ◌-◌, ◌<◌, ◌≤◌, nat_lt, Bool, true, false, not, ◌&&◌, ◌||◌, is_some, Option, Some, None, List, length, take, slice_get, arith}
+use Rattle.std.proofs.lemmas.Bool.{and_from, or_cases, both_ways, cases_lt, false_from_ne_true, lt-ltb}
 use Rattle.std.proofs.lemmas.List.{length-take-le, get_or-take, get_or_past}
 use Rattle.std.proofs.lemmas.Option.{slice_get-get_or, get_or_from_slice_get, same_Some}
-use Rattle.lis_graph.proofs.Members.{Among, among_from_contains, contains_from_among, among_from_any, among_right}
+use Rattle.lis_graph.proofs.Members.{Among, among_from_contains, contains_from_among, among_from_any}
 use Rattle.lis_dict.specs.Dict.{IsDict, number_of, word_of}
 use Rattle.lis_dict.proofs.Laws.{number_from_word, number_below, word_from_number}
 use Rattle.lis_taxonomy.specs.Taxonomy.{has_edge, Entails as Leads}
@@ -13,20 +12,18 @@ use Rattle.lis_fields.specs.declared.slots.PropSlot.{PropSlot}
 use Rattle.lis_fields.specs.declared.slots.AxiomSlot.{AxiomSlot}
 use Rattle.lis_fields.specs.declared.slots.AxiomSlot.TheVariants.{Free as FreeAxiom, Pair}
 use Rattle.lis_fields.proofs.OneSpelling.{axiom_once}
-use Rattle.lis_words.specs.Words.{same_word, has_word, head_bytes, stem, begins_with_stop, is_plain_byte, is_plain_word, is_valued}
-use Rattle.lis_laws.proofs.Counts.{all_among}
+use Rattle.lis_words.specs.Words.{has_word, head_bytes, is_plain_word, is_valued}
 use Rattle.lis_laws.proofs.Chains.{entails_within}
-use Rattle.lis_laws.proofs.Members.{same_word_decides}
 use Rattle.lis_model.specs.declared.limits.Limits.{Limits}
 use Rattle.lis_model.specs.declared.spot.Spot.{Spot}
 use Rattle.lis_model.specs.declared.spot.Spot.TheVariants.{Super, BadRecord, Property, Axiom, File, Word, Bitmap, Row}
 use Rattle.lis_model.specs.State.{Entails, is_nameable}
 use Rattle.lis_kept.specs.Kept.{axiom_at}
 use Rattle.lis_kept.specs.Areas.{axiom_slots}
-use Rattle.lis_kept.specs.Telling.{is_head_by, axioms_of}
+use Rattle.lis_kept.specs.Telling.{axioms_of}
 use Rattle.lis_kept.specs.Links.{is_pair, has_pair, is_own_link}
 use Rattle.lis_kept.proofs.Known.{some_number, placed_at, among_place}
-use Rattle.lis_kept.proofs.OwnLinks.{own_link_is}
+use Rattle.lis_kept.proofs.OwnLinks.{own_to_plain}
 use Rattle.lis_store.specs.Stands.{word_at, words_in}
 use Rattle.lis_open.specs.declared.words.Words.{Words}
 use Rattle.lis_open.specs.declared.axioms.Axioms.{Axioms}
@@ -51,14 +48,6 @@ among_front n xs j x lt le is =
     (slice_get-get_or (take n xs) j x (omega (arith, lt, length-take-le n xs le)) ∙ ap Some (get_or-take n xs j x lt ∙ get_or_from_slice_get xs j x x is))
 
 -- ---- words
--- a head ends with a colon, which no plain word has
-head_not_plain : (word : List ℕ) → is_plain_word (head_bytes word) ≡ true → ⊥
-head_not_plain word plain =
-    let front = nat_lt 0 (length (head_bytes word)) && nat_le (length (head_bytes word)) 60 && not (begins_with_stop (head_bytes word)) in
-    let bytes = (and_parts front (list_all is_plain_byte (head_bytes word)) plain).1 in
-    let colon : is_plain_byte 58 ≡ true = all_among is_plain_byte (head_bytes word) 58 bytes (among_right (stem word) (58 ∷ []) 58 (inl refl)) in
-    both_ways false refl colon
-
 second_false : (a b : Bool) → (a && b) ≡ false → a ≡ true → b ≡ false
 second_false true b bad good = bad
 second_false false b bad good = absurd cc
@@ -254,16 +243,13 @@ module _ (limits : Limits) (at : ℕ → List ℕ) (words : Words) (first : AreF
     edge_fault : Sides words left right → has_edge axioms.taxonomy left right ≡ true → Faulty
     edge_fault both h = by (or_cases (is_own_link (declared_words words) (word_of words.dict left) (word_of words.dict right)) (has_pair slots left right) (sym (are.links.edges left right) ∙ h))
       where
-        plain_end : (o : Option (List ℕ)) → is_head_by o (Some both.to.word) ≡ true → ⊥
-        plain_end None head = both_ways false refl head
-        plain_end (Some v) head =
-            let same = (same_word_decides (head_bytes v) both.to.word).0 (and_parts (is_valued v) (same_word (head_bytes v) both.to.word) head).1 in
-            head_not_plain v (subst (λ w. is_plain_word w ≡ true) (sym same) both.to.plain)
+        plain_end : (w : List ℕ) → word_of words.dict right ≡ Some w → is_plain_word w ≡ true
+        plain_end w is = subst (λ v. is_plain_word v ≡ true) (same_Some both.to.word w (sym both.to.is ∙ is)) both.to.plain
 
         by : (is_own_link (declared_words words) (word_of words.dict left) (word_of words.dict right) ≡ true) ⊎ (has_pair slots left right ≡ true) → Faulty
         by (inl own) =
-            absurd (plain_end (word_of words.dict left) (sym (ap (is_head_by (word_of words.dict left)) both.to.is)
-            ∙ (sym (own_link_is (kept_words limits words slots) dict left right) ∙ own)))
+            absurd (both_ways (is_own_link (declared_words words) (word_of words.dict left) (word_of words.dict right))
+            (own_to_plain (declared_words words) (word_of words.dict left) (word_of words.dict right) plain_end) own)
         by (inr has) =
             let found = among_from_any (is_pair left right) slots has in
             let at = placed_at slots found.0 found.1 in

@@ -1,8 +1,9 @@
 -- The axioms of axiom slots, read one after another.
-use Rattle.std.proofs.Common.{◌≡◌, ◌⊎◌, ◌∙◌, ◌↔◌, refl, sym, ap, ap₂, subst, inl, inr, ℕ, ◌+◌, ◌<◌, ◌≤◌, ◌==◌, nat_lt, Bool, true, false, ◌&&◌, ◌||◌, Option, Some, None, Result, Ok, Err, OnOk, List, [], ◌∷◌, length, set, replicate, slice_get, get_or, IsTrue, arith, eq-eqb}
+use Rattle.std.proofs.Common.{◌≡◌, ◌⊎◌, ◌∙◌, ◌↔◌, refl, sym, ap, ap₂, subst, inl, inr, ℕ, ◌+◌, ◌<◌, ◌≤◌, ◌==◌, Bool, true, false, ◌&&◌, ◌||◌, Option, Some, None, Result, Ok, Err, OnOk, List, [], ◌∷◌, length, set, replicate, slice_get, get_or, IsTrue, arith, eq-eqb}
 use Rattle.std.specs.Result.{is_err}
 use Rattle.std.specs.FinSet as finite
-use Rattle.std.proofs.lemmas.Bool.{and_parts, and_from, or_cases, or_left, or_right, both_ways, cases_eq, cases_lt, eqb-true, false_from_ne_true, lt-ltb}
+use Rattle.std.proofs.Math.Bool.{or-false}
+use Rattle.std.proofs.lemmas.Bool.{and_parts, and_from, or_cases, or_left, or_right, both_ways, cases_eq, cases_lt, eqb-true, false_from_ne_true}
 use Rattle.std.proofs.lemmas.List.{length-set, length-replicate, get_or-replicate, get_or_past, get_or-set_same, get_or-set_other}
 use Rattle.std.proofs.lemmas.Option.{slice_get_within, slice_get-get_or, get_or_from_slice_get, same_Some}
 use Rattle.lis_graph.specs.Graph.{Chain}
@@ -27,20 +28,20 @@ use Rattle.lis_model.specs.State.{Entails, Acyclic, pair_cmp}
 use Rattle.lis_kept.specs.Kept.{axiom_at}
 use Rattle.lis_kept.specs.Areas.{axiom_slots}
 use Rattle.lis_kept.specs.Telling.{is_head_by, pair_told, pairs_told, axioms_of}
+use Rattle.lis_kept.specs.TestEdges.{is_test_link}
 use Rattle.lis_kept.specs.Links.{is_pair, has_pair, is_own_link, is_linked, TellsLinks}
 use Rattle.lis_kept.proofs.Filing.{same_tests}
 use Rattle.lis_kept.proofs.HeadEdges.{has_edge-with_edge}
 use Rattle.lis_kept.proofs.Known.{placed_at, among_place}
-use Rattle.lis_kept.proofs.OwnLinks.{own_link_is}
+use Rattle.lis_kept.proofs.TestLinks.{linked_by}
 use Rattle.lis_open.specs.declared.blocks.LastBlock.{LastBlock}
 use Rattle.lis_open.specs.declared.words.Words.{Words}
 use Rattle.lis_open.specs.declared.axioms.Axioms.{Axioms}
 use Rattle.lis_open.specs.Reading.{OnlyReads, Recalls, IsReadAs}
-use Rattle.lis_open.specs.ReadWords.{declared_words, kept_words, AreWords, AreFirstWords, LinksHeads, is_left, is_right, are_sides, TakesPair, TakesAxiom, IsGoodPair, AreFirstAxioms, AxiomsAreSpelled}
+use Rattle.lis_open.specs.ReadWords.{declared_words, kept_words, AreWords, AreFirstWords, LinksTests, is_left, is_right, are_sides, TakesPair, TakesAxiom, IsGoodPair, AreFirstAxioms, AxiomsAreSpelled}
 use Rattle.lis_open.proofs.Joined.{Sides, sides}
 use Rattle.lis_open.proofs.WordPlaces.{left_word, right_word}
-use Rattle.lis_open.proofs.WordUses.{no_word_past}
-use Rattle.lis_open.proofs.HeadLinks.{last_false}
+use Rattle.lis_open.proofs.LinkedTests.{tests_below}
 use Rattle.lis_open.proofs.Owned.{bare_numbered}
 use Rattle.lis_open.proofs.WordChains.{one_number, among_pair, pair_among, chain_numbered}
 
@@ -282,7 +283,7 @@ module _ (limits : Limits) (words : Words) (first : AreFirstWords limits words l
   axiom_spelled_on at spelled (Some (Pair left right)) next below taken read = pair_spelled left right next taken below at spelled read.bytes
 
 -- ---- no slot yet
-module _ (limits : Limits) (words : Words) (first : AreFirstWords limits words limits.props) (slots : List AxiomSlot) (t : Taxonomy) (free : slots ≡ replicate (axiom_slots limits).count FreeAxiom) (linked : LinksHeads words limits.props t) where
+module _ (limits : Limits) (words : Words) (first : AreFirstWords limits words limits.props) (slots : List AxiomSlot) (t : Taxonomy) (free : slots ≡ replicate (axiom_slots limits).count FreeAxiom) (linked : LinksTests words limits.props t) where
   all_free : (n : ℕ) → axiom_at slots n ≡ FreeAxiom
   all_free n = ap (λ ys. axiom_at ys n) free ∙ by (cases_lt n (axiom_slots limits).count)
     where
@@ -303,22 +304,14 @@ module _ (limits : Limits) (words : Words) (first : AreFirstWords limits words l
   none_told e m =
       pairs_within limits words slots [] (λ left right there. absurd (let place = placed_at slots (Pair left right) there in no_axiom place.0 left right place.1)) e m
 
-  head_edges : (p q : ℕ) → has_edge t p q ≡ is_linked (kept_words limits words slots) p q
-  head_edges p q =
+  own_edges : (p q : ℕ) → has_edge t p q ≡ is_linked (kept_words limits words slots) p q
+  own_edges p q =
+      let head = is_head_by (word_of words.dict p) (word_of words.dict q) in
+      let test = is_test_link words.dict words.declared p q in
       linked.edges p q
-      ∙ (by (cases_lt p limits.props)
-      ∙ (sym (whole (is_head_by (word_of words.dict p) (word_of words.dict q)))
-      ∙ ap₂ (λ a b. a || b) (sym (own_link_is (kept_words limits words slots) first.are.dict p q)) (sym (no_pair p q))))
-    where
-      whole : (b : Bool) → (b || false) ≡ b
-      whole true = refl
-      whole false = refl
-
-      by : (p < limits.props) ⊎ (limits.props ≤ p) → (nat_lt p limits.props && is_head_by (word_of words.dict p) (word_of words.dict q)) ≡ is_head_by (word_of words.dict p) (word_of words.dict q)
-      by (inl lt) = ap (λ b. b && is_head_by (word_of words.dict p) (word_of words.dict q)) (lt-ltb p limits.props lt)
-      by (inr past) =
-          let none = no_word_past words.dict first.are.dict p (omega (arith, past, first.props)) in
-          ap (λ o. nat_lt p limits.props && is_head_by o (word_of words.dict q)) none ∙ (last_false (nat_lt p limits.props) ∙ sym (ap (λ o. is_head_by o (word_of words.dict q)) none))
+      ∙ (ap (λ b. head || b) (tests_below words first.are.dict p q limits.props first.props)
+      ∙ (sym (or-false (head || test))
+      ∙ (ap (λ b. (head || test) || b) (sym (no_pair p q)) ∙ sym (linked_by (kept_words limits words slots) first.are.dict p q))))
 
   pub no_axioms_yet : (axioms : Axioms) → axioms.slots.items ≡ slots → axioms.taxonomy ≡ t → AreFirstAxioms limits words axioms 0
   no_axioms_yet axioms same_slots same_links = record {
@@ -327,7 +320,7 @@ module _ (limits : Limits) (words : Words) (first : AreFirstWords limits words l
     good = λ n left right is. absurd (no_axiom n left right (ap (λ ys. slice_get ys n) (sym same_slots) ∙ is));
     apart = λ n m left right is_n is_m. absurd (no_axiom n left right (ap (λ ys. slice_get ys n) (sym same_slots) ∙ is_n));
     links = subst (λ ys. TellsLinks (kept_words limits words ys) axioms.taxonomy) (sym same_slots) (subst (λ (u : Taxonomy). TellsLinks (kept_words limits words slots) u) (sym same_links)
-        (record { props = linked.props ∙ first.props; edges = head_edges }));
+        (record { props = linked.props ∙ first.props; edges = own_edges }));
     acyclic = subst (λ ys. Acyclic (declared_words words) (axioms_of (kept_words limits words ys))) (sym same_slots)
         (acyclic_within (declared_words words) (axioms_of (kept_words limits words slots)) [] none_told ((acyclic_decides (declared_words words) []).0 refl));
   }

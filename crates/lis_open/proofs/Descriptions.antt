@@ -19,18 +19,16 @@ use Rattle.lis_model.specs.declared.limits.Limits.{Limits}
 use Rattle.lis_model.specs.Derived.{derived_words}
 use Rattle.lis_model.specs.Tests.{met_tests}
 use Rattle.lis_model.specs.State.{File, up, own_words, file_words}
-use Rattle.lis_model.proofs.NoTests.{no_met}
 use Rattle.lis_kept.specs.Kept.{Kept}
 use Rattle.lis_kept.specs.Telling.{words_told, axioms_of}
 use Rattle.lis_kept.proofs.Known.{only_word}
-use Rattle.lis_kept.proofs.OwnLinks.{declared_no_tests}
 use Rattle.lis_store.proofs.Points.{AllApart, length-with_more}
 use Rattle.lis_open.specs.declared.words.Words.{Words}
 use Rattle.lis_open.specs.declared.axioms.Axioms.{Axioms}
 use Rattle.lis_open.specs.ReadWords.{AreFirstWords, AreFirstAxioms, declared_words, kept_words}
-use Rattle.lis_open.specs.ReadFiles.{is_described, described, is_numbered, numbers_of, own_numbers, is_assignable_number}
+use Rattle.lis_open.specs.ReadFiles.{is_described, described, found_words, is_numbered, numbers_of, own_numbers, is_assignable_number}
 use Rattle.lis_open.proofs.Counts.{few_words, with_words_le}
-use Rattle.lis_open.proofs.Owned.{IsNumbered, derived_number, number_derived, own_cases, own_numbered, tag_owned, derived_owned}
+use Rattle.lis_open.proofs.Owned.{IsNumbered, found_word, number_in_file, own_cases, own_numbered, tag_owned, found_owned}
 use Rattle.lis_open.proofs.Joined.{sides}
 use Rattle.lis_open.proofs.WordsTold.{one_of}
 use Rattle.lis_open.proofs.WordChains.{up_numbered, up_named}
@@ -169,53 +167,60 @@ module _ (limits : Limits) (words : Words) (axioms : Axioms) (end : ℕ) (are : 
     abbrev met : List (List ℕ)
     met = met_tests (declared_words words) (length file.bytes)
 
-    -- no declared word is a test
-    own_parts : (w : List ℕ) → Among (own_words (declared_words words) file) w → Among (words_told words.dict tags) w ⊎ Among (derived_words file.name file.bytes) w
+    abbrev found : List (List ℕ)
+    found = found_words words file.name file.bytes
+
+    -- a file has what it was given, and what is found in it
+    own_parts : (w : List ℕ) → Among (own_words (declared_words words) file) w → Among (words_told words.dict tags) w ⊎ Among (found_words words file.name file.bytes) w
     own_parts w m = by (among_append (file.assigned ++ derived) met w m)
       where
-        front : Among file.assigned w ⊎ Among derived w → Among (words_told words.dict tags) w ⊎ Among derived w
+        front : Among file.assigned w ⊎ Among derived w → Among (words_told words.dict tags) w ⊎ Among found w
         front (inl here) = inl (subst (λ ws. Among ws w) assigned here)
-        front (inr more) = inr more
+        front (inr more) = inr (among_left derived met w more)
 
-        by : Among (file.assigned ++ derived) w ⊎ Among met w → Among (words_told words.dict tags) w ⊎ Among derived w
+        by : Among (file.assigned ++ derived) w ⊎ Among met w → Among (words_told words.dict tags) w ⊎ Among found w
         by (inl here) = front (among_append file.assigned derived w here)
-        by (inr test) = absurd (subst (λ ws. Among ws w) (no_met (declared_words words) (length file.bytes) (declared_no_tests k dict)) test)
+        by (inr test) = inr (among_right derived met w test)
 
-    pub derived_own : (w : List ℕ) → Among (derived_words file.name file.bytes) w → Among (own_words (declared_words words) file) w
-    derived_own w m = among_left (file.assigned ++ derived) met w (among_right file.assigned derived w m)
+    pub found_own : (w : List ℕ) → Among (found_words words file.name file.bytes) w → Among (own_words (declared_words words) file) w
+    found_own w m = by (among_append derived met w m)
+      where
+        by : Among derived w ⊎ Among met w → Among (own_words (declared_words words) file) w
+        by (inl more) = among_left (file.assigned ++ derived) met w (among_right file.assigned derived w more)
+        by (inr test) = among_right (file.assigned ++ derived) met w test
 
     tag_own : (w : List ℕ) → Among (words_told words.dict tags) w → Among (own_words (declared_words words) file) w
     tag_own w m = among_left (file.assigned ++ derived) met w (among_left file.assigned derived w (subst (λ ws. Among ws w) (sym assigned) m))
 
-    module _ (numbered : list_all (is_numbered words.dict) (derived_words file.name file.bytes) ≡ true) where
-      own_has : (w : List ℕ) → Among (own_words (declared_words words) file) w → Among (words_told words.dict (own_numbers words.dict tags (derived_words file.name file.bytes))) w
+    module _ (numbered : list_all (is_numbered words.dict) (found_words words file.name file.bytes) ≡ true) where
+      own_has : (w : List ℕ) → Among (own_words (declared_words words) file) w → Among (words_told words.dict (own_numbers words.dict tags (found_words words file.name file.bytes))) w
       own_has w m = by (own_parts w m)
         where
-          by : Among (words_told words.dict tags) w ⊎ Among derived w → Among (words_told words.dict (own_numbers words.dict tags derived)) w
+          by : Among (words_told words.dict tags) w ⊎ Among found w → Among (words_told words.dict (own_numbers words.dict tags found)) w
           by (inl here) =
               let number = among_told words.dict tags w here in
-              told_among words.dict (own_numbers words.dict tags derived) number.0 w number.2 (tag_owned limits words dict tags derived given numbered number.0 number.1)
+              told_among words.dict (own_numbers words.dict tags found) number.0 w number.2 (tag_owned limits words dict tags found given numbered number.0 number.1)
           by (inr more) =
-              let number = number_derived limits words dict tags derived given numbered w more in
-              told_among words.dict (own_numbers words.dict tags derived) number.0 w number.2.named (derived_owned limits words dict tags derived given numbered number.0 number.1)
+              let number = number_in_file limits words dict tags found given numbered w more in
+              told_among words.dict (own_numbers words.dict tags found) number.0 w number.2.named (found_owned limits words dict tags found given numbered number.0 number.1)
 
-      own_told : (w : List ℕ) → Among (words_told words.dict (own_numbers words.dict tags (derived_words file.name file.bytes))) w → Among (own_words (declared_words words) file) w
-      own_told w m = by number.0 number.2 (own_cases limits words dict tags derived given numbered number.0 number.1)
+      own_told : (w : List ℕ) → Among (words_told words.dict (own_numbers words.dict tags (found_words words file.name file.bytes))) w → Among (own_words (declared_words words) file) w
+      own_told w m = by number.0 number.2 (own_cases limits words dict tags found given numbered number.0 number.1)
         where
-          number : (n : ℕ) × Among (own_numbers words.dict tags derived) n × (word_of words.dict n ≡ Some w)
-          number = among_told words.dict (own_numbers words.dict tags derived) w m
+          number : (n : ℕ) × Among (own_numbers words.dict tags found) n × (word_of words.dict n ≡ Some w)
+          number = among_told words.dict (own_numbers words.dict tags found) w m
 
-          by : (n : ℕ) → word_of words.dict n ≡ Some w → Among tags n ⊎ Among (numbers_of words.dict derived) n → Among (own_words (declared_words words) file) w
+          by : (n : ℕ) → word_of words.dict n ≡ Some w → Among tags n ⊎ Among (numbers_of words.dict found) n → Among (own_words (declared_words words) file) w
           by n is (inl here) = tag_own w (told_among words.dict tags n w is here)
           by n is (inr more) =
-              let found = derived_number limits words dict tags derived given numbered n more in
-              derived_own w (subst (λ v. Among derived v) (same_Some found.0 w (sym found.2.named ∙ is)) found.1)
+              let known = found_word limits words dict tags found given numbered n more in
+              found_own w (subst (λ v. Among found v) (same_Some known.0 w (sym known.2.named ∙ is)) known.1)
 
       -- the words of its numbers are its description, and they are as many
-      pub described_words : words_told words.dict (described axioms.taxonomy (own_numbers words.dict tags (derived_words file.name file.bytes)))
+      pub described_words : words_told words.dict (described axioms.taxonomy (own_numbers words.dict tags (found_words words file.name file.bytes)))
           ≡ file_words (declared_words words) (axioms_of (kept_words limits words axioms.slots.items)) file
-      described_words = words_are (own_numbers words.dict tags derived) (own_numbered limits words dict tags derived given numbered) file own_has own_told
+      described_words = words_are (own_numbers words.dict tags found) (own_numbered limits words dict tags found given numbered) file own_has own_told
 
-      pub description_long : length (words_told words.dict (described axioms.taxonomy (own_numbers words.dict tags (derived_words file.name file.bytes))))
-          ≡ length (described axioms.taxonomy (own_numbers words.dict tags (derived_words file.name file.bytes)))
-      description_long = described_long (own_numbers words.dict tags derived) (own_numbered limits words dict tags derived given numbered)
+      pub description_long : length (words_told words.dict (described axioms.taxonomy (own_numbers words.dict tags (found_words words file.name file.bytes))))
+          ≡ length (described axioms.taxonomy (own_numbers words.dict tags (found_words words file.name file.bytes)))
+      description_long = described_long (own_numbers words.dict tags found) (own_numbered limits words dict tags found given numbered)

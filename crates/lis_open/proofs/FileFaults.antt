@@ -27,7 +27,6 @@ use Rattle.lis_model.specs.declared.limits.Limits.{Limits}
 use Rattle.lis_model.specs.declared.spot.Spot.{Spot}
 use Rattle.lis_model.specs.declared.spot.Spot.TheVariants.{Super, BadRecord, Property, Axiom, File as FileSpot, Word, Bitmap, Row}
 use Rattle.lis_model.specs.State.{file_words, own_words, up, is_assignable}
-use Rattle.lis_model.specs.Derived.{derived_words}
 use Rattle.lis_kept.specs.Kept.{axiom_at, file_by, record_at}
 use Rattle.lis_kept.specs.Areas.{axiom_slots, file_slots}
 use Rattle.lis_kept.specs.Telling.{words_told, bytes_told, file_told, axioms_of}
@@ -40,13 +39,13 @@ use Rattle.lis_open.specs.Checks.{IsFile, AreAxioms, declared_by, axioms_by, des
 use Rattle.lis_open.specs.Checks.FileFault.{NameTaken, TagUnnumbered, TagUnassignable, BlockMissing, BlockTaken, WordUnnumbered, TooManyWords}
 use Rattle.lis_open.specs.Reading.{IsReadAs, IsFirst}
 use Rattle.lis_open.specs.ReadWords.{AreFirstWords, AreFirstAxioms, WordsAreSpelled, AxiomsAreSpelled, declared_words, kept_words}
-use Rattle.lis_open.specs.ReadFiles.{described, is_numbered, own_numbers, may_describe, is_assignable_by, is_assignable_number, may_file, may_take_record, may_take_file, AreItsBytes, AreFirstFiles, FilesAreSpelled, FilesAreNumbered}
+use Rattle.lis_open.specs.ReadFiles.{described, found_words, is_numbered, own_numbers, may_describe, is_assignable_by, is_assignable_number, may_file, may_take_record, may_take_file, AreItsBytes, AreFirstFiles, FilesAreSpelled, FilesAreNumbered}
 use Rattle.lis_open.proofs.Slots.{one_file}
 use Rattle.lis_open.proofs.OneList.{one_list}
 use Rattle.lis_open.proofs.WordPlaces.{assignable_word}
 use Rattle.lis_open.proofs.Joined.{sides}
 use Rattle.lis_open.proofs.WordsTold.{told_properties, number_within, word_at_told, declared_told, told_word, word_told, axioms_told, file_is_told, are_told, only_told}
-use Rattle.lis_open.proofs.Descriptions.{among_told, told_le, derived_own, described_words, description_long}
+use Rattle.lis_open.proofs.Descriptions.{among_told, told_le, found_own, described_words, description_long}
 
 -- a test that some member does not pass
 failing : {X : Type 0} (test : X → Bool) (xs : List X) → list_all test xs ≡ false → (x : X) × Among xs x × (test x ≡ false)
@@ -119,12 +118,12 @@ module _ (limits : Limits) (words : Words) (axioms : Axioms) (files : Files) (en
       ∙ described_words limits words axioms (axiom_slots limits).count are links f.rec.tags (file_told limits words.dict at f) refl (first.given f.slot f.rec is) has.numbered
 
   module _ (at : ℕ → List ℕ) (told : WordsAreSpelled limits at words limits.props) (pairs : AxiomsAreSpelled limits at axioms (axiom_slots limits).count) (spelled : FilesAreSpelled limits at files end) where
-    -- the words that are derived from a record's file, and the numbers of what it has by itself
-    abbrev derived : FileRecord → List (List ℕ)
-    derived rec = derived_words rec.name (bytes_told limits at rec)
+    -- the words that are found in a record's file, and the numbers of what it has by itself
+    abbrev in_file : FileRecord → List (List ℕ)
+    in_file rec = found_words words rec.name (bytes_told limits at rec)
 
     abbrev own : FileRecord → List ℕ
-    own rec = own_numbers words.dict rec.tags (derived rec)
+    own rec = own_numbers words.dict rec.tags (in_file rec)
 
     abbrev properties : List PropSlot
     properties = told_properties limits words
@@ -154,8 +153,8 @@ module _ (limits : Limits) (words : Words) (axioms : Axioms) (files : Files) (en
         ∙ (ap (λ pairs. file_words (declared_by properties) pairs (file_told limits words.dict at f)) (sym (axioms_told limits words are.are are.props items))
         ∙ ap (file_words (declared_by properties) (axioms_by properties items)) (sym (file_is_told limits words are.are are.props at f)))
 
-    -- and so are the words of its numbers, where it may be given its words and the derived ones have numbers
-    description_is : (rec : FileRecord) → list_all (is_assignable_number words) rec.tags ≡ true → list_all (is_numbered words.dict) (derived rec) ≡ true
+    -- and so are the words of its numbers, where it may be given its words and those that are found in it have numbers
+    description_is : (rec : FileRecord) → list_all (is_assignable_number words) rec.tags ≡ true → list_all (is_numbered words.dict) (in_file rec) ≡ true
         → words_told words.dict (described axioms.taxonomy (own rec)) ≡ description_by limits properties items at rec
     description_is rec given numbered =
         described_words limits words axioms (axiom_slots limits).count are links rec.tags (file_told limits words.dict at (record { slot = 0; rec = rec })) refl given numbered ∙ file_words_are rec
@@ -262,12 +261,12 @@ module _ (limits : Limits) (words : Words) (axioms : Axioms) (files : Files) (en
         by n has not_free (inr past) = BlockMissing n has past
 
     -- a word that the file has by itself is in its description, and so is the head of a valued one
-    derived_there : (rec : FileRecord) → list_all (is_assignable_number words) rec.tags ≡ true → (w q : List ℕ) → Among (derived rec) w → Among (up (declared_words words) (axioms_of (kept_words limits words items)) w) q
+    found_there : (rec : FileRecord) → list_all (is_assignable_number words) rec.tags ≡ true → (w q : List ℕ) → Among (in_file rec) w → Among (up (declared_words words) (axioms_of (kept_words limits words items)) w) q
         → has_word (description_by limits properties items at rec) q ≡ true
-    derived_there rec given w q m entails =
+    found_there rec given w q m entails =
         let f : Filed = record { slot = 0; rec = rec } in
         let file = file_told limits words.dict at f in
-        let here = derived_own limits words axioms (axiom_slots limits).count are links rec.tags file refl given w m in
+        let here = found_own limits words axioms (axiom_slots limits).count are links rec.tags file refl given w m in
         let entailed = flat_map (up (declared_words words) (axioms_of (kept_words limits words items))) (own_words (declared_words words) file) in
         has_word_from_among (description_by limits properties items at rec) q
         (subst (λ ws. Among ws q) (file_words_are rec)
@@ -283,66 +282,66 @@ module _ (limits : Limits) (words : Words) (axioms : Axioms) (files : Files) (en
             absurd (let e = sym none ∙ number_from_word words.dict are.are.dict w found.0 found.1 in cc)
         by false h = refl
 
-    number_fault : (rec : FileRecord) → list_all (is_assignable_number words) rec.tags ≡ true → list_all (is_numbered words.dict) (derived rec) ≡ false → FileFault limits at properties items end rec
+    number_fault : (rec : FileRecord) → list_all (is_assignable_number words) rec.tags ≡ true → list_all (is_numbered words.dict) (in_file rec) ≡ false → FileFault limits at properties items end rec
     number_fault rec given fails =
-        let word = failing (is_numbered words.dict) (derived rec) fails in
+        let word = failing (is_numbered words.dict) (in_file rec) fails in
         by word.0 word.1 word.2 (number_of words.dict word.0) refl (is_valued word.0) refl (number_of words.dict (head_bytes word.0)) refl
       where
         numbered : (w : List ℕ) (n : ℕ) → number_of words.dict w ≡ Some n → (not (is_valued w) || is_some (number_of words.dict (head_bytes w))) ≡ true → is_numbered words.dict w ≡ true
         numbered w n is head = and_from (is_some (number_of words.dict w)) (not (is_valued w) || is_some (number_of words.dict (head_bytes w))) (ap is_some is) head
 
-        by : (w : List ℕ) → Among (derived rec) w → is_numbered words.dict w ≡ false → (o : Option ℕ) → number_of words.dict w ≡ o → (v : Bool) → is_valued w ≡ v
+        by : (w : List ℕ) → Among (in_file rec) w → is_numbered words.dict w ≡ false → (o : Option ℕ) → number_of words.dict w ≡ o → (v : Bool) → is_valued w ≡ v
             → (h : Option ℕ) → number_of words.dict (head_bytes w) ≡ h → FileFault limits at properties items end rec
         by w m fails None is v is_v h is_h =
-            WordUnnumbered w (derived_there rec given w w m (up_self (declared_words words) (axioms_of (kept_words limits words items)) w)) (no_slot w is)
+            WordUnnumbered w (found_there rec given w w m (up_self (declared_words words) (axioms_of (kept_words limits words items)) w)) (no_slot w is)
         by w m fails (Some n) is true is_v None is_h =
             WordUnnumbered (head_bytes w)
-            (derived_there rec given w (head_bytes w) m (up_own (declared_words words) (axioms_of (kept_words limits words items)) w (head_bytes w) (links_head (declared_words words) w is_v))) (no_slot (head_bytes w) is_h)
+            (found_there rec given w (head_bytes w) m (up_own (declared_words words) (axioms_of (kept_words limits words items)) w (head_bytes w) (links_head (declared_words words) w is_v))) (no_slot (head_bytes w) is_h)
         by w m fails (Some n) is true is_v (Some h) is_h = absurd (both_ways (is_numbered words.dict w) fails (numbered w n is (or_right (not (is_valued w)) (is_some (number_of words.dict (head_bytes w))) (ap is_some is_h))))
         by w m fails (Some n) is false is_v h is_h = absurd (both_ways (is_numbered words.dict w) fails (numbered w n is (or_left (not (is_valued w)) (is_some (number_of words.dict (head_bytes w))) (ap not is_v))))
 
-    long_fault : (rec : FileRecord) → list_all (is_assignable_number words) rec.tags ≡ true → list_all (is_numbered words.dict) (derived rec) ≡ true → nat_le (length (described axioms.taxonomy (own rec))) 128 ≡ false
+    long_fault : (rec : FileRecord) → list_all (is_assignable_number words) rec.tags ≡ true → list_all (is_numbered words.dict) (in_file rec) ≡ true → nat_le (length (described axioms.taxonomy (own rec))) 128 ≡ false
         → FileFault limits at properties items end rec
     long_fault rec given numbered many =
         let more = leb-false (length (described axioms.taxonomy (own rec))) 128 many in
         let long = description_long limits words axioms (axiom_slots limits).count are links rec.tags (file_told limits words.dict at (record { slot = 0; rec = rec })) refl given numbered in
         TooManyWords (omega (arith, more, long, ap (length {A = List ℕ}) (description_is rec given numbered)))
 
-    words_fault : (rec : FileRecord) → list_all (is_assignable_number words) rec.tags ≡ true → may_describe words axioms.taxonomy rec (derived rec) ≡ false → FileFault limits at properties items end rec
-    words_fault rec given fails = by (cases_Bool (list_all (is_numbered words.dict) (derived rec))) (cases_Bool (nat_le (length (described axioms.taxonomy (own rec))) 128))
+    words_fault : (rec : FileRecord) → list_all (is_assignable_number words) rec.tags ≡ true → may_describe words axioms.taxonomy rec (in_file rec) ≡ false → FileFault limits at properties items end rec
+    words_fault rec given fails = by (cases_Bool (list_all (is_numbered words.dict) (in_file rec))) (cases_Bool (nat_le (length (described axioms.taxonomy (own rec))) 128))
       where
-        by : (list_all (is_numbered words.dict) (derived rec) ≡ true) ⊎ (list_all (is_numbered words.dict) (derived rec) ≡ false)
+        by : (list_all (is_numbered words.dict) (in_file rec) ≡ true) ⊎ (list_all (is_numbered words.dict) (in_file rec) ≡ false)
             → (nat_le (length (described axioms.taxonomy (own rec))) 128 ≡ true) ⊎ (nat_le (length (described axioms.taxonomy (own rec))) 128 ≡ false) → FileFault limits at properties items end rec
         by (inr none) few = number_fault rec given none
         by (inl all) (inr many) = long_fault rec given all many
-        by (inl all) (inl few) = absurd (both_ways (may_describe words axioms.taxonomy rec (derived rec)) fails
-            (and_from (list_all (is_numbered words.dict) (derived rec)) (nat_le (length (described axioms.taxonomy (own rec))) 128) all few))
+        by (inl all) (inl few) = absurd (both_ways (may_describe words axioms.taxonomy rec (in_file rec)) fails
+            (and_from (list_all (is_numbered words.dict) (in_file rec)) (nat_le (length (described axioms.taxonomy (own rec))) 128) all few))
 
     may_from : (rec : FileRecord) → not (is_some (slot_of files.catalog rec.name)) ≡ true → list_all (is_assignable_number words) rec.tags ≡ true → are_free files.map rec.blocks ≡ true → may_file words files rec ≡ true
     may_from rec name tags free =
         and_from (not (is_some (slot_of files.catalog rec.name)) && list_all (is_assignable_number words) rec.tags) (are_free files.map rec.blocks)
         (and_from (not (is_some (slot_of files.catalog rec.name))) (list_all (is_assignable_number words) rec.tags) name tags) free
 
-    record_fault : (rec : FileRecord) (bytes : List ℕ) → end < limits.files → may_take_record words axioms.taxonomy files rec (derived_words rec.name bytes) ≡ false
+    record_fault : (rec : FileRecord) (bytes : List ℕ) → end < limits.files → may_take_record words axioms.taxonomy files rec (found_words words rec.name bytes) ≡ false
         → (may_file words files rec ≡ true → bytes ≡ bytes_told limits at rec) → FileFault limits at properties items end rec
     record_fault rec bytes below fails read =
         by (cases_Bool (not (is_some (slot_of files.catalog rec.name)))) (cases_Bool (list_all (is_assignable_number words) rec.tags)) (cases_Bool (are_free files.map rec.blocks))
-        (cases_Bool (may_describe words axioms.taxonomy rec (derived rec)))
+        (cases_Bool (may_describe words axioms.taxonomy rec (in_file rec)))
       where
         by : (not (is_some (slot_of files.catalog rec.name)) ≡ true) ⊎ (not (is_some (slot_of files.catalog rec.name)) ≡ false)
             → (list_all (is_assignable_number words) rec.tags ≡ true) ⊎ (list_all (is_assignable_number words) rec.tags ≡ false)
             → (are_free files.map rec.blocks ≡ true) ⊎ (are_free files.map rec.blocks ≡ false)
-            → (may_describe words axioms.taxonomy rec (derived rec) ≡ true) ⊎ (may_describe words axioms.taxonomy rec (derived rec) ≡ false) → FileFault limits at properties items end rec
+            → (may_describe words axioms.taxonomy rec (in_file rec) ≡ true) ⊎ (may_describe words axioms.taxonomy rec (in_file rec) ≡ false) → FileFault limits at properties items end rec
         by (inr name) tags free described = name_fault rec below name
         by (inl name) (inr tags) free described = tag_fault rec tags
         by (inl name) (inl tags) (inr free) described = block_fault rec below free
         by (inl name) (inl tags) (inl free) (inr none) = words_fault rec tags none
         by (inl name) (inl tags) (inl free) (inl described) =
             let may = may_from rec name tags free in
-            let same = ap (derived_words rec.name) (read may) in
-            absurd (both_ways (may_take_record words axioms.taxonomy files rec (derived_words rec.name bytes)) fails
+            let same = ap (found_words words rec.name) (read may) in
+            absurd (both_ways (may_take_record words axioms.taxonomy files rec (found_words words rec.name bytes)) fails
             (subst (λ ws. may_take_record words axioms.taxonomy files rec ws ≡ true) (sym same)
-            (and_from (may_file words files rec) (may_describe words axioms.taxonomy rec (derived rec)) may described)))
+            (and_from (may_file words files rec) (may_describe words axioms.taxonomy rec (in_file rec)) may described)))
 
     file_fault : (found : Option FileSlot) (bytes : List ℕ) → end < limits.files → may_take_file words axioms.taxonomy files found bytes ≡ false → AreItsBytes limits at words files found bytes
         → IsReadAs file_bytes is_file (file_slots limits) at end found → (file : FileSlot) → IsFile limits at end file → HasFileFault limits at properties items end file

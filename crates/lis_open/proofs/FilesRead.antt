@@ -30,7 +30,6 @@ use Rattle.lis_laws.proofs.Counts.{all_among, all_weaker}
 use Rattle.lis_model.specs.declared.limits.Limits.{Limits}
 use Rattle.lis_model.specs.State.{blocks_needed}
 use Rattle.lis_model.specs.Image.{data_start, image_blocks}
-use Rattle.lis_model.specs.Derived.{derived_words}
 use Rattle.lis_kept.specs.Telling.{bytes_told}
 use Rattle.lis_kept.specs.Kept.{file_by, record_at}
 use Rattle.lis_kept.specs.Areas.{file_slots}
@@ -41,7 +40,7 @@ use Rattle.lis_open.specs.declared.files.Files.{Files}
 use Rattle.lis_open.specs.declared.blocks.LastBlock.{LastBlock}
 use Rattle.lis_open.specs.Reading.{OnlyReads, Recalls, IsReadAs}
 use Rattle.lis_open.specs.ReadWords.{AreWords}
-use Rattle.lis_open.specs.ReadFiles.{no_files, described, is_numbered, own_numbers, may_describe, HasNumbers, AreNumbers, is_assignable_by, is_assignable_number, may_file, may_take_record, may_take_file, AreItsBytes, TakesRecord, TakesFile, AreFirstFiles, FilesAreSpelled, FilesAreNumbered}
+use Rattle.lis_open.specs.ReadFiles.{no_files, described, found_words, is_numbered, own_numbers, may_describe, HasNumbers, AreNumbers, is_assignable_by, is_assignable_number, may_file, may_take_record, may_take_file, AreItsBytes, TakesNumbers, TakesRecord, TakesFile, AreFirstFiles, FilesAreSpelled, FilesAreNumbered}
 use Rattle.lis_kept.proofs.Filing.{among_from_number, same_distinct}
 use Rattle.lis_open.proofs.Numbers.{is_taken-marked}
 
@@ -134,16 +133,23 @@ absent : (o : Option ℕ) → not (is_some o) ≡ true → o ≡ None
 absent None new = refl
 absent (Some n) new = absurd cc
 
-module _ (limits : Limits) (words : Words) (axioms : Axioms) (files next : Files) (number : ℕ) (rec : FileRecord) (derived : List (List ℕ)) (first : AreFirstFiles limits words axioms files number) (lt : number < limits.files)
-    (form : is_record rec ≡ true) (may : may_take_record words axioms.taxonomy files rec derived ≡ true) (takes : TakesRecord words axioms.taxonomy number rec derived files next) where
+module _ (limits : Limits) (words : Words) (axioms : Axioms) (files next : Files) (number : ℕ) (rec : FileRecord) (bytes : List ℕ) (first : AreFirstFiles limits words axioms files number) (lt : number < limits.files)
+    (form : is_record rec ≡ true) (may : may_take_record words axioms.taxonomy files rec (found_words words rec.name bytes) ≡ true) (taken : TakesRecord words axioms.taxonomy number rec bytes files next) where
+  -- the words that are found in the file
+  abbrev in_file : List (List ℕ)
+  in_file = found_words words rec.name bytes
+
   abbrev numbers : List ℕ
-  numbers = described axioms.taxonomy (own_numbers words.dict rec.tags derived)
+  numbers = described axioms.taxonomy (own_numbers words.dict rec.tags in_file)
 
-  parts : (may_file words files rec ≡ true) × (may_describe words axioms.taxonomy rec derived ≡ true)
-  parts = and_parts (may_file words files rec) (may_describe words axioms.taxonomy rec derived) may
+  takes : TakesNumbers number rec (described axioms.taxonomy (own_numbers words.dict rec.tags in_file)) files next
+  takes = taken.takes
 
-  described_parts : (list_all (is_numbered words.dict) derived ≡ true) × (nat_le (length numbers) 128 ≡ true)
-  described_parts = and_parts (list_all (is_numbered words.dict) derived) (nat_le (length numbers) 128) parts.1
+  parts : (may_file words files rec ≡ true) × (may_describe words axioms.taxonomy rec in_file ≡ true)
+  parts = and_parts (may_file words files rec) (may_describe words axioms.taxonomy rec in_file) may
+
+  described_parts : (list_all (is_numbered words.dict) in_file ≡ true) × (nat_le (length numbers) 128 ≡ true)
+  described_parts = and_parts (list_all (is_numbered words.dict) in_file) (nat_le (length numbers) 128) parts.1
 
   tests : MayFile words files rec
   tests = tests_of words files rec parts.0
@@ -198,7 +204,7 @@ module _ (limits : Limits) (words : Words) (axioms : Axioms) (files next : Files
   set_new : set_of next.ext number ≡ numbers
   set_new = ap (λ (sets : List (List ℕ)). get_or sets number []) takes.sets ∙ get_or-set_same files.ext.sets number numbers [] (omega (arith, lt, first.count))
 
-  has_new : HasNumbers words axioms.taxonomy rec derived (set_of next.ext number)
+  has_new : HasNumbers words axioms.taxonomy rec in_file (set_of next.ext number)
   has_new = record { numbered = described_parts.0; are = set_new }
 
   set_old : (n : ℕ) → (n ≡ number → ⊥) → set_of next.ext n ≡ set_of files.ext n
@@ -207,23 +213,23 @@ module _ (limits : Limits) (words : Words) (axioms : Axioms) (files next : Files
   sets_are : (n : ℕ) → (n ≡ number) ⊎ (n ≡ number → ⊥) → AreNumbers words axioms.taxonomy (rec_at next.catalog n) (set_of next.ext n)
   sets_are n (inl same) =
       subst (λ k. AreNumbers words axioms.taxonomy (rec_at next.catalog k) (set_of next.ext k)) (sym same)
-      (subst (λ o. AreNumbers words axioms.taxonomy o (set_of next.ext number)) (sym found_new) (derived, has_new))
+      (subst (λ o. AreNumbers words axioms.taxonomy o (set_of next.ext number)) (sym found_new) (record { bytes = bytes; sized = taken.sized; has = has_new }))
   sets_are n (inr differ) =
       subst (λ o. AreNumbers words axioms.taxonomy o (set_of next.ext n)) (sym (found_old n differ))
       (subst (λ ns. AreNumbers words axioms.taxonomy (rec_at files.catalog n) ns) (sym (set_old n differ)) (first.sets n))
 
-  -- and by the words that are derived from their bytes
-  pub numbered_more : (at : ℕ → List ℕ) → FilesAreNumbered limits at words axioms files → derived ≡ derived_words rec.name (bytes_told limits at rec) → FilesAreNumbered limits at words axioms next
+  -- and by the words that are found in them
+  pub numbered_more : (at : ℕ → List ℕ) → FilesAreNumbered limits at words axioms files → bytes ≡ bytes_told limits at rec → FilesAreNumbered limits at words axioms next
   numbered_more at old is n r there = by (cases_eq n number)
     where
-      by : (n ≡ number) ⊎ (n ≡ number → ⊥) → HasNumbers words axioms.taxonomy r (derived_words r.name (bytes_told limits at r)) (set_of next.ext n)
+      by : (n ≡ number) ⊎ (n ≡ number → ⊥) → HasNumbers words axioms.taxonomy r (found_words words r.name (bytes_told limits at r)) (set_of next.ext n)
       by (inl same) =
           let one = same_Some rec r (sym found_new ∙ (ap (rec_at next.catalog) (sym same) ∙ there)) in
-          subst (λ (x : FileRecord). HasNumbers words axioms.taxonomy x (derived_words x.name (bytes_told limits at x)) (set_of next.ext n)) one
-          (subst (λ k. HasNumbers words axioms.taxonomy rec (derived_words rec.name (bytes_told limits at rec)) (set_of next.ext k)) (sym same)
-          (subst (λ ws. HasNumbers words axioms.taxonomy rec ws (set_of next.ext number)) is has_new))
+          subst (λ (x : FileRecord). HasNumbers words axioms.taxonomy x (found_words words x.name (bytes_told limits at x)) (set_of next.ext n)) one
+          (subst (λ k. HasNumbers words axioms.taxonomy rec (found_words words rec.name (bytes_told limits at rec)) (set_of next.ext k)) (sym same)
+          (subst (λ bs. HasNumbers words axioms.taxonomy rec (found_words words rec.name bs) (set_of next.ext number)) is has_new))
       by (inr differ) =
-          subst (λ ns. HasNumbers words axioms.taxonomy r (derived_words r.name (bytes_told limits at r)) ns) (sym (set_old n differ)) (old n r (sym (found_old n differ) ∙ there))
+          subst (λ ns. HasNumbers words axioms.taxonomy r (found_words words r.name (bytes_told limits at r)) ns) (sym (set_old n differ)) (old n r (sym (found_old n differ) ∙ there))
 
   short_at : (n : ℕ) → (n ≡ number) ⊎ (n ≡ number → ⊥) → length (set_of next.ext n) ≤ 128
   short_at n (inl same) =
@@ -287,7 +293,7 @@ module _ (limits : Limits) (words : Words) (axioms : Axioms) (files : Files) (nu
     short = first.short;
     settled = first.settled;
   })
-  files_on (Some (Used rec)) bytes next form may takes = files_more limits words axioms files next number rec (derived_words rec.name bytes) first lt form may takes
+  files_on (Some (Used rec)) bytes next form may takes = files_more limits words axioms files next number rec bytes first lt form may takes
 
   -- the numbers are those of the descriptions, where the bytes were those of the files
   pub numbered_on : (at : ℕ → List ℕ) → FilesAreNumbered limits at words axioms files → (found : Option FileSlot) (bytes : List ℕ) (next : Files) → IfSome found (λ file. IsTrue (is_file file))
@@ -295,9 +301,9 @@ module _ (limits : Limits) (words : Words) (axioms : Axioms) (files : Files) (nu
   numbered_on at old None bytes next form may takes are = absurd takes
   numbered_on at old (Some FreeFile) bytes next form may takes are = subst (λ (f : Files). FilesAreNumbered limits at words axioms f) (sym takes) old
   numbered_on at old (Some (Used rec)) bytes next form may takes are =
-      let derived = derived_words rec.name bytes in
-      let told = are (and_parts (may_file words files rec) (may_describe words axioms.taxonomy rec derived) may).0 in
-      numbered_more limits words axioms files next number rec derived first lt form may takes at old (ap (derived_words rec.name) told)
+      let in_file = found_words words rec.name bytes in
+      let told = are (and_parts (may_file words files rec) (may_describe words axioms.taxonomy rec in_file) may).0 in
+      numbered_more limits words axioms files next number rec bytes first lt form may takes at old told
 
   pub spelled_on : (at : ℕ → List ℕ) → FilesAreSpelled limits at files number → (found : Option FileSlot) (bytes : List ℕ) (next : Files) → IfSome found (λ file. IsTrue (is_file file))
       → may_take_file words axioms.taxonomy files found bytes ≡ true → TakesFile words axioms.taxonomy number found bytes files next → IsReadAs file_bytes is_file (file_slots limits) at number found → FilesAreSpelled limits at next (number + 1)
@@ -310,7 +316,7 @@ module _ (limits : Limits) (words : Words) (axioms : Axioms) (files : Files) (nu
       by : (n : ℕ) → n < number + 1 → (n ≡ number) ⊎ (n ≡ number → ⊥) → slot (file_slots limits) at n ≡ file_bytes (record_at files.catalog n)
       by n less (inl same) = subst (λ k. slot (file_slots limits) at k ≡ file_bytes (record_at files.catalog k)) (sym same) here
       by n less (inr differ) = spelled n (omega arith)
-  spelled_on at spelled (Some (Used rec)) bytes next form may takes read = spelled_more limits words axioms files next number rec (derived_words rec.name bytes) first lt form may takes at spelled read.bytes
+  spelled_on at spelled (Some (Used rec)) bytes next form may takes read = spelled_more limits words axioms files next number rec bytes first lt form may takes at spelled read.bytes
 
 -- ---- the loop
 -- the slots below the end were read, by runs that only read

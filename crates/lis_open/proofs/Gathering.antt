@@ -53,14 +53,12 @@ gathered_more t tags row mid new k tag was lt is ups joined =
         ∙ (ap₂ (λ a b. a || b) (first.others 0 n (λ e. omega (arith, e)) ∙ was.bits n below) (first.at n below) ∙ sym (described_more n))
 
 -- the numbers of the row are those of the description
-pub listed_are : (t : Taxonomy) (tags given : List ℕ) (row : Rows) (listed : Option (List ℕ)) → HasShape row 2 t.props → ((n : ℕ) → n < t.props → get row 0 n ≡ is_described t given n) → given ≡ tags
-    → AreListed (numbers_where row.bits (get row 0)) listed → AreListed (described t tags) listed
-listed_are t tags given row listed shape bits same = subst (λ numbers. AreListed numbers listed) all
+pub listed_are : (t : Taxonomy) (own : List ℕ) (row : Rows) (listed : Option (List ℕ)) → HasShape row 2 t.props → ((n : ℕ) → n < t.props → get row 0 n ≡ is_described t own n)
+    → AreListed (numbers_where row.bits (get row 0)) listed → AreListed (described t own) listed
+listed_are t own row listed shape bits = subst (λ numbers. AreListed numbers listed) all
   where
-    all : numbers_where row.bits (get row 0) ≡ described t tags
-    all =
-        ap (λ n. numbers_where n (get row 0)) shape.wide
-        ∙ (numbers_same t.props (get row 0) (is_described t given) bits ∙ ap (described t) same)
+    all : numbers_where row.bits (get row 0) ≡ described t own
+    all = ap (λ n. numbers_where n (get row 0)) shape.wide ∙ numbers_same t.props (get row 0) (is_described t own) bits
 
 pub described_rise : (t : Taxonomy) (tags numbers : List ℕ) → numbers ≡ described t tags → IsStrictlyIncreasing numbers
 described_rise t tags numbers is =

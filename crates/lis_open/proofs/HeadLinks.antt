@@ -2,6 +2,7 @@
 use Rattle.std.proofs.Common.{◌≡◌, ◌⊎◌, ◌∙◌, refl, sym, ap, ap₂, subst, inl, inr, ℕ, ◌+◌, ◌<◌, ◌==◌, nat_lt, if◌then◌else◌, Bool, true, false, ◌&&◌, ◌||◌, Option, Some, None, List, arith, eq-eqb}
 use Rattle.std.specs.Option.{IfSome}
 use Rattle.std.specs.FinSet as set
+use Rattle.std.proofs.Math.Bool.{and-false}
 use Rattle.std.proofs.lemmas.Bool.{and_parts, and_from, both_ways, cases_eq, ne_eqb, eqb-true, lt-ltb, ltb-true, false_from_ne_true}
 use Rattle.lis_dict.specs.Dict.{Dict, IsDict, number_of, word_of}
 use Rattle.lis_dict.proofs.Laws.{word_from_number, number_from_word, number_below}
@@ -100,17 +101,13 @@ module _ (d : Dict) (kept : IsDict d) where
           let same = (same_word_decides (head_bytes u) v).0 (and_parts (is_valued u) (same_word (head_bytes u) v) h).1 in
           both_ways (is_valued v) (subst (λ w. is_valued w ≡ false) same (head_not_valued u)) valued
 
-pub last_false : (a : Bool) → (a && false) ≡ false
-last_false true = refl
-last_false false = refl
-
 module _ (words : Words) (kept : IsDict words.dict) (end : ℕ) (t : Taxonomy) (linked : LinksHeads words end t) where
   pub none_to : (o : Option ℕ) → o ≡ head_by words.dict (word_of words.dict end) → IfSome o (λ h. (x : ℕ) → has_edge t x end ≡ false)
   none_to None is = tt
   none_to (Some h) is = λ x.
       let found = head_by_is words.dict kept end h (sym is) in
       linked.edges x end
-      ∙ (ap (λ b. nat_lt x end && b) (ap (is_head_by (word_of words.dict x)) found.is ∙ valued_no_head words.dict kept x found.word found.valued) ∙ last_false (nat_lt x end))
+      ∙ (ap (λ b. nat_lt x end && b) (ap (is_head_by (word_of words.dict x)) found.is ∙ valued_no_head words.dict kept x found.word found.valued) ∙ and-false (nat_lt x end))
 
   pub none_from : (x : ℕ) → has_edge t end x ≡ false
   none_from x =

@@ -1,5 +1,5 @@
 -- What was read and checked is what a store may keep.
-use Rattle.std.proofs.Common.{◌≡◌, ◌⊎◌, ◌∙◌, refl, sym, ap, ap₂, subst, inl, inr, ℕ, zero, suc, ◌<◌, ◌≤◌, ◌==◌, ◌&&◌, ◌||◌, not, Bool, true, false, List, [], Option, Some, None, is_some, IsSome, slice_get, IsTrue, arith}
+use Rattle.std.proofs.Common.{◌≡◌, ◌⊎◌, ◌∙◌, refl, sym, ap, ap₂, subst, inl, inr, ℕ, zero, suc, ◌<◌, ◌≤◌, ◌==◌, ◌||◌, not, Bool, true, false, List, [], Option, Some, None, is_some, IsSome, slice_get, IsTrue, arith}
 use Rattle.std.specs.FinSet as set
 use Rattle.std.specs.List.{list_any}
 use Rattle.std.proofs.lemmas.Bool.{and_parts, or_cases, both_ways, eqb-true, false_from_ne_true}
@@ -20,8 +20,8 @@ use Rattle.lis_fields.specs.Records.{FileRecord}
 use Rattle.lis_fields.specs.Layouts.{is_prop, is_super}
 use Rattle.lis_fields.specs.declared.slots.AxiomSlot.{AxiomSlot}
 use Rattle.lis_fields.specs.declared.slots.AxiomSlot.TheVariants.{Free as FreeAxiom, Pair}
-use Rattle.lis_words.specs.Words.{is_valued, is_property, same_word, head_bytes}
-use Rattle.lis_laws.proofs.Apart.{plain_not_valued, declarable_not_valued}
+use Rattle.lis_words.specs.Words.{is_plain_word, is_valued, same_word, head_bytes}
+use Rattle.lis_laws.proofs.Apart.{plain_not_valued, test_not_valued, declarable_not_valued}
 use Rattle.lis_laws.proofs.Chains.{head_not_valued}
 use Rattle.lis_laws.proofs.Counts.{all_among, all_from}
 use Rattle.lis_laws.proofs.Members.{same_word_decides}
@@ -33,19 +33,21 @@ use Rattle.lis_kept.specs.Kept.{Kept, property_by}
 use Rattle.lis_kept.specs.Sound.{IsSoundAxiom, AreSound, FreeSlotsAreEmpty, BlocksAreTaken}
 use Rattle.lis_kept.specs.Links.{is_pair, has_pair, is_own_link, TellsLinks, AreHeld}
 use Rattle.lis_kept.specs.Telling.{is_left_of, is_left_head_of, is_head_by, is_had, is_named_left, is_used, AreUsed}
+use Rattle.lis_kept.specs.TestEdges.{is_test_link}
 use Rattle.lis_kept.specs.Forgetting.{KeepsInUse}
 use Rattle.lis_kept.proofs.Filing.{among_from_number, number_from_among as has_from_among}
 use Rattle.lis_kept.proofs.Known.{placed_at}
-use Rattle.lis_kept.proofs.OwnLinks.{own_link_is}
+use Rattle.lis_kept.proofs.TestLinks.{own_link_by}
 use Rattle.lis_kept.proofs.Used.{had_at}
-use Rattle.lis_store.specs.Stored.{AreClosed, IsSound}
+use Rattle.lis_store.specs.Stored.{AreClosed, TestsAreMet, IsSound}
 use Rattle.lis_open.specs.declared.words.Words.{Words}
 use Rattle.lis_open.specs.declared.axioms.Axioms.{Axioms}
 use Rattle.lis_open.specs.declared.files.Files.{Files}
 use Rattle.lis_open.specs.ReadWords.{declared_words, kept_words, is_left, is_right, AreFirstAxioms}
-use Rattle.lis_open.specs.ReadFiles.{is_described, described, own_numbers, HasNumbers, AreNumbers, is_assignable_number, AreFirstFiles}
+use Rattle.lis_open.specs.ReadFiles.{is_described, described, found_words, own_numbers, HasSomeNumbers, AreNumbers, is_assignable_number, AreFirstFiles}
 use Rattle.lis_open.specs.ReadAll.{AreNoMarks, kept_in, AreRead}
 use Rattle.lis_open.proofs.Edges.{edge_of, leads_on}
+use Rattle.lis_open.proofs.LinkedTests.{linked_test}
 use Rattle.lis_open.proofs.WordPlaces.{LeftWord, RightWord, left_word, right_word, assignable_word, some_from, used_from, valued_headed, declared_flagged}
 use Rattle.lis_open.proofs.Owned.{IsNumbered, own_numbered, tag_owned}
 
@@ -86,8 +88,14 @@ module _ (limits : Limits) (words : Words) (axioms : Axioms) (dict : IsDict word
           let same = eqb-true right q (and_parts (left == p) (right == q) h).1 in
           record { word = to.word; is = ap (word_of words.dict) (sym same) ∙ to.is; bare = plain_not_valued to.word to.plain }
 
+      either : (is_head_by (word_of words.dict p) (word_of words.dict q) ≡ true) ⊎ (is_test_link words.dict words.declared p q ≡ true) → EndsBare words q
+      either (inl to_head) = head (word_of words.dict p) (word_of words.dict q) refl to_head
+      either (inr to_test) =
+          let test = linked_test words.dict words.declared p q to_test in
+          record { word = test.word; is = test.is; bare = test_not_valued test.word test.test }
+
       by : (is_own_link (declared_words words) (word_of words.dict p) (word_of words.dict q) ≡ true) ⊎ (has_pair axioms.slots.items p q ≡ true) → EndsBare words q
-      by (inl own) = head (word_of words.dict p) (word_of words.dict q) refl (sym (own_link_is (kept_words limits words axioms.slots.items) dict p q) ∙ own)
+      by (inl own) = either (or_cases (is_head_by (word_of words.dict p) (word_of words.dict q)) (is_test_link words.dict words.declared p q) (sym (own_link_by (kept_words limits words axioms.slots.items) dict p q) ∙ own))
       by (inr has_it) = let found = among_from_any (is_pair p q) axioms.slots.items has_it in pair found.0 found.1 found.2
 
   -- and so does a chain of at least one
@@ -104,22 +112,14 @@ module _ (limits : Limits) (words : Words) (axioms : Axioms) (dict : IsDict word
 pub record IsOwnFrom (words : Words) (axioms : Axioms) (files : Files) (slot n : ℕ) : Type 0 where
   pub rec : FileRecord
   pub there : rec_at files.catalog slot ≡ Some rec
-  pub derived : List (List ℕ)
-  pub numbers : HasNumbers words axioms.taxonomy rec derived (numbers_at files.ext slot)
+  pub some : HasSomeNumbers words axioms.taxonomy rec (numbers_at files.ext slot)
   pub own : ℕ
-  pub has : Among (own_numbers words.dict rec.tags derived) own
+  pub has : Among (own_numbers words.dict rec.tags (found_words words rec.name some.bytes)) own
   pub leads : Leads axioms.taxonomy own n
 
 module _ (limits : Limits) (words : Words) (axioms : Axioms) (files : Files) (end : ℕ) (first : AreFirstFiles limits words axioms files end) where
-  -- what holds of the numbers of a slot's file
-  pub record SlotNumbers (slot : ℕ) (rec : FileRecord) : Type 0 where
-    pub derived : List (List ℕ)
-    pub numbers : HasNumbers words axioms.taxonomy rec derived (numbers_at files.ext slot)
-
-  pub slot_numbers : (slot : ℕ) (rec : FileRecord) → rec_at files.catalog slot ≡ Some rec → SlotNumbers slot rec
-  slot_numbers slot rec is =
-      let found = subst (λ o. AreNumbers words axioms.taxonomy o (numbers_at files.ext slot)) is (first.sets slot) in
-      record { derived = found.0; numbers = found.1 }
+  pub slot_numbers : (slot : ℕ) (rec : FileRecord) → rec_at files.catalog slot ≡ Some rec → HasSomeNumbers words axioms.taxonomy rec (numbers_at files.ext slot)
+  slot_numbers slot rec is = subst (λ o. AreNumbers words axioms.taxonomy o (numbers_at files.ext slot)) is (first.sets slot)
 
   pub own_from : (slot n : ℕ) → has files.ext n slot ≡ true → IsOwnFrom words axioms files slot n
   own_from slot n h = by (rec_at files.catalog slot) refl (first.sets slot)
@@ -127,17 +127,17 @@ module _ (limits : Limits) (words : Words) (axioms : Axioms) (files : Files) (en
       by : (o : Option FileRecord) → rec_at files.catalog slot ≡ o → AreNumbers words axioms.taxonomy o (numbers_at files.ext slot) → IsOwnFrom words axioms files slot n
       by None is none = absurd (both_ways (has files.ext n slot) (ap (λ ns. has_number ns n) none) h)
       by (Some rec) is found =
-          let own = own_numbers words.dict rec.tags found.0 in
-          let m = among_from_number (described axioms.taxonomy own) n (subst (λ ns. has_number ns n ≡ true) (found.1).are h) in
+          let own = own_numbers words.dict rec.tags (found_words words rec.name found.bytes) in
+          let m = among_from_number (described axioms.taxonomy own) n (subst (λ ns. has_number ns n ≡ true) found.has.are h) in
           let inside = among_where axioms.taxonomy.props (is_described axioms.taxonomy own) n m in
           let from = among_from_any (λ k. entails axioms.taxonomy k n) own inside.1 in
-          record { rec = rec; there = is; derived = found.0; numbers = found.1; own = from.0; has = from.1; leads = (entails_decides axioms.taxonomy from.0 n).0 from.2 }
+          record { rec = rec; there = is; some = found; own = from.0; has = from.1; leads = (entails_decides axioms.taxonomy from.0 n).0 from.2 }
 
-  pub slot_has : (slot n own : ℕ) (rec : FileRecord) (of : SlotNumbers slot rec) → Among (own_numbers words.dict rec.tags of.derived) own → Leads axioms.taxonomy own n → n < axioms.taxonomy.props → has files.ext n slot ≡ true
+  pub slot_has : (slot n own : ℕ) (rec : FileRecord) (of : HasSomeNumbers words axioms.taxonomy rec (numbers_at files.ext slot)) → Among (own_numbers words.dict rec.tags (found_words words rec.name of.bytes)) own → Leads axioms.taxonomy own n → n < axioms.taxonomy.props → has files.ext n slot ≡ true
   slot_has slot n own rec of m leads below =
-      let all = own_numbers words.dict rec.tags of.derived in
+      let all = own_numbers words.dict rec.tags (found_words words rec.name of.bytes) in
       let test = any_from_among (λ k. entails axioms.taxonomy k n) all own m ((entails_decides axioms.taxonomy own n).1 leads) in
-      ap (λ ns. has_number ns n) of.numbers.are
+      ap (λ ns. has_number ns n) of.has.are
       ∙ has_from_among (described axioms.taxonomy all) n (where_among axioms.taxonomy.props (is_described axioms.taxonomy all) n below test)
 
   pub given_word : (slot tag : ℕ) (rec : FileRecord) → rec_at files.catalog slot ≡ Some rec → Among rec.tags tag → (w : List ℕ) × (word_of words.dict tag ≡ Some w) × (is_assignable (declared_words words) w ≡ true)
@@ -167,7 +167,7 @@ module _ (limits : Limits) (words : Words) (axioms : Axioms) (files : Files) (ma
 
   -- a number of what a file has by itself has a word, and its head has one too
   own_word : (slot n : ℕ) (from : IsOwnFrom words axioms files slot n) → (w : List ℕ) × IsNumbered words from.own w
-  own_word slot n from = own_numbered limits words dict from.rec.tags from.derived (read.files_are.given slot from.rec from.there) from.numbers.numbered from.own from.has
+  own_word slot n from = own_numbered limits words dict from.rec.tags (found_words words from.rec.name from.some.bytes) (read.files_are.given slot from.rec from.there) from.some.has.numbered from.own from.has
 
   -- a number of a description has a word
   pub named : (n slot : ℕ) → has files.ext n slot ≡ true → IsSome (word_of words.dict n)
@@ -197,8 +197,8 @@ module _ (limits : Limits) (words : Words) (axioms : Axioms) (files : Files) (ma
 
     if_declared : is_taken words.declared n ≡ true → Headed
     if_declared bit =
-        let form : (is_property word && is_declarable word) ≡ true = ap₂ (λ o b. is_prop (property_by o b)) (sym is) (sym bit) ∙ read.words_are.are.forms n in
-        absurd (both_ways (is_valued word) (declarable_not_valued word (and_parts (is_property word) (is_declarable word) form).1) valued)
+        let form : is_declarable word ≡ true = ap₂ (λ o b. is_prop (property_by o b)) (sym is) (sym bit) ∙ read.words_are.are.forms n in
+        absurd (both_ways (is_valued word) (declarable_not_valued word form) valued)
 
     if_had : is_had files.ext n ≡ true → Headed
     if_had had =
@@ -254,6 +254,7 @@ module _ (limits : Limits) (words : Words) (axioms : Axioms) (files : Files) (ma
         below = (read.axioms_are.good slot left right is).below;
         left = some_from (word_of words.dict left) both.from.word both.from.is;
         right = some_from (word_of words.dict right) both.to.word both.to.is;
+        plain = λ word there. subst (λ w. is_plain_word w ≡ true) (same_Some both.to.word word (sym both.to.is ∙ there)) both.to.plain;
       }
 
   module _ (range : IsTrue (are_in_range limits)) (clean : AreNoMarks limits marks) where
@@ -288,10 +289,9 @@ module _ (limits : Limits) (words : Words) (axioms : Axioms) (files : Files) (ma
     parts_closed : AreClosed k
     parts_closed slot p q h linked =
         let from = own_from limits words axioms files limits.files read.files_are slot p h in
-        let of : SlotNumbers limits words axioms files limits.files read.files_are slot from.rec = record { derived = from.derived; numbers = from.numbers } in
         let edge = read.axioms_are.links.edges p q ∙ linked in
         let bare = edge_end limits words axioms dict _ read.axioms_are p q edge in
-        slot_has limits words axioms files limits.files read.files_are slot q from.own from.rec of from.has (leads_on axioms.taxonomy from.own p q from.leads edge) (below q bare.word bare.is)
+        slot_has limits words axioms files limits.files read.files_are slot q from.own from.rec from.some from.has (leads_on axioms.taxonomy from.own p q from.leads edge) (below q bare.word bare.is)
 
     parts_taken : BlocksAreTaken k
     parts_taken slot rec is = all_from (is_taken files.map) rec.blocks (λ n m. read.files_are.taken slot rec n is (has_from_among rec.blocks n m))
@@ -303,16 +303,16 @@ module _ (limits : Limits) (words : Words) (axioms : Axioms) (files : Files) (ma
           let m = among_from_number rec.tags n tag in
           let w = given_word limits words axioms files limits.files read.files_are slot n rec is m in
           let of = slot_numbers limits words axioms files limits.files read.files_are slot rec is in
-          let own = tag_owned limits words dict rec.tags of.derived (read.files_are.given slot rec is) of.numbers.numbered n m in
+          let own = tag_owned limits words dict rec.tags (found_words words rec.name of.bytes) (read.files_are.given slot rec is) of.has.numbered n m in
           slot_has limits words axioms files limits.files read.files_are slot n n rec of own (zero, refl) (below n w.0 w.1);
       rights = λ slot left right is.
           let to = (sides limits words axioms dict _ read.axioms_are slot left right is).to in
           declared_flagged limits words dict right to.word to.is to.declared;
     }
 
-    pub store_sound : (journal : Held) → IsTrue (is_super limits) → journal.blocks ≡ image_blocks limits → journal.is_broken ≡ false → journal.staged ≡ [] → journal.placed ≡ []
+    pub store_sound : TestsAreMet (kept_in limits words axioms files marks) → (journal : Held) → IsTrue (is_super limits) → journal.blocks ≡ image_blocks limits → journal.is_broken ≡ false → journal.staged ≡ [] → journal.placed ≡ []
         → IsSound (record { parts = k; journal = journal; is_broken = false })
-    store_sound journal super image unbroken staged placed = record {
+    store_sound tests journal super image unbroken staged placed = record {
       parts = parts_sound;
       range = super;
       free = parts_free;
@@ -322,6 +322,7 @@ module _ (limits : Limits) (words : Words) (axioms : Axioms) (files : Files) (ma
       taken = parts_taken;
       apart = read.files_are.apart;
       in_use = parts_in_use;
+      tests = tests;
       image = image;
       journal = λ whole. unbroken;
       staged = λ whole. staged;

@@ -20,11 +20,14 @@ mod Owned
 mod Joined
 mod Told
 mod HeadLinks
+mod LinkedTests
+mod MetTests
 mod WordsTold
 mod WordChains
 mod AxiomsRead
 mod AxiomChecks
 mod Descriptions
+mod TestsMet
 mod FileFaults
 mod OneList
 mod Damage

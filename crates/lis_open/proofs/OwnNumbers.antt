@@ -76,21 +76,21 @@ module _ (dict : Dict) (tags : List ℕ) (derived : List (List ℕ)) where
           lt-ltb n props (omega (arith, under, same))
 
 -- ---- the description
-module _ (words : Words) (t : Taxonomy) (rec : FileRecord) (derived : List (List ℕ)) where
-  -- it is not had where a derived word has no number
-  pub undescribed : list_all (is_numbered words.dict) derived ≡ false → may_describe words t rec derived ≡ false
-  undescribed none = ap (λ b. b && nat_le (length (described t (own_numbers words.dict rec.tags derived))) 128) none
+module _ (words : Words) (t : Taxonomy) (rec : FileRecord) (in_file : List (List ℕ)) where
+  -- it is not had where a word that is found in the file has no number
+  pub undescribed : list_all (is_numbered words.dict) in_file ≡ false → may_describe words t rec in_file ≡ false
+  undescribed none = ap (λ b. b && nat_le (length (described t (own_numbers words.dict rec.tags in_file))) 128) none
 
   -- and else it depends on how many numbers it has
-  pub listed_described : (listed : Option (List ℕ)) → list_all (is_numbered words.dict) derived ≡ true → AreListed (described t (own_numbers words.dict rec.tags derived)) listed
-      → AreDescribed words t rec derived listed
+  pub listed_described : (listed : Option (List ℕ)) → list_all (is_numbered words.dict) in_file ≡ true → AreListed (described t (own_numbers words.dict rec.tags in_file)) listed
+      → AreDescribed words t rec in_file listed
   listed_described None all many =
-      let numbers = described t (own_numbers words.dict rec.tags derived) in
+      let numbers = described t (own_numbers words.dict rec.tags in_file) in
       ap (λ b. b && nat_le (length numbers) 128) all ∙ short (nat_le (length numbers) 128) refl
     where
-      short : (b : Bool) → nat_le (length (described t (own_numbers words.dict rec.tags derived))) 128 ≡ b → b ≡ false
-      short true few = absurd (omega (arith, many, leb-true (length (described t (own_numbers words.dict rec.tags derived))) 128 few))
+      short : (b : Bool) → nat_le (length (described t (own_numbers words.dict rec.tags in_file))) 128 ≡ b → b ≡ false
+      short true few = absurd (omega (arith, many, leb-true (length (described t (own_numbers words.dict rec.tags in_file))) 128 few))
       short false none = refl
   listed_described (Some listed) all are =
-      let numbers = described t (own_numbers words.dict rec.tags derived) in
-      (and_from (list_all (is_numbered words.dict) derived) (nat_le (length numbers) 128) all (le-leb (length numbers) 128 are.1), are.0)
+      let numbers = described t (own_numbers words.dict rec.tags in_file) in
+      (and_from (list_all (is_numbered words.dict) in_file) (nat_le (length numbers) 128) all (le-leb (length numbers) 128 are.1), are.0)

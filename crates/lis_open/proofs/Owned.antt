@@ -54,12 +54,12 @@ module _ (limits : Limits) (words : Words) (dict : IsDict words.dict) where
         };
       }
 
-  module _ (tags : List ℕ) (derived : List (List ℕ)) (given : list_all (is_assignable_number words) tags ≡ true) (numbered : list_all (is_numbered words.dict) derived ≡ true) where
-    -- a number of a derived word
-    pub derived_number : (n : ℕ) → Among (numbers_of words.dict derived) n → (w : List ℕ) × Among derived w × IsNumbered words n w
-    derived_number n m =
-        let found = among_flat_map (λ word. option_to_list (number_of words.dict word)) derived n m in
-        let number = number_found found.0 (all_among (is_numbered words.dict) derived found.0 numbered found.1) in
+  module _ (tags : List ℕ) (in_file : List (List ℕ)) (given : list_all (is_assignable_number words) tags ≡ true) (numbered : list_all (is_numbered words.dict) in_file ≡ true) where
+    -- a number of a word that is found in the file
+    pub found_word : (n : ℕ) → Among (numbers_of words.dict in_file) n → (w : List ℕ) × Among in_file w × IsNumbered words n w
+    found_word n m =
+        let found = among_flat_map (λ word. option_to_list (number_of words.dict word)) in_file n m in
+        let number = number_found found.0 (all_among (is_numbered words.dict) in_file found.0 numbered found.1) in
         let same : number.number ≡ n = one (number_of words.dict found.0) number.number number.is found.2 in
         (found.0, found.1, subst (λ k. IsNumbered words k found.0) same number.numbered)
       where
@@ -69,32 +69,32 @@ module _ (limits : Limits) (words : Words) (dict : IsDict words.dict) where
         one (Some j) k is (inr none) = absurd none
 
     -- and the other way round
-    pub number_derived : (w : List ℕ) → Among derived w → (n : ℕ) × Among (numbers_of words.dict derived) n × IsNumbered words n w
-    number_derived w m =
-        let number = number_found w (all_among (is_numbered words.dict) derived w numbered m) in
+    pub number_in_file : (w : List ℕ) → Among in_file w → (n : ℕ) × Among (numbers_of words.dict in_file) n × IsNumbered words n w
+    number_in_file w m =
+        let number = number_found w (all_among (is_numbered words.dict) in_file w numbered m) in
         let here : Among (option_to_list (number_of words.dict w)) number.number = subst (λ o. Among (option_to_list o) number.number) (sym number.is) (inl refl) in
-        (number.number, flat_map_among (λ word. option_to_list (number_of words.dict word)) derived w number.number m here, number.numbered)
+        (number.number, flat_map_among (λ word. option_to_list (number_of words.dict word)) in_file w number.number m here, number.numbered)
 
     pub tag_numbered : (tag : ℕ) → Among tags tag → (w : List ℕ) × IsNumbered words tag w
     tag_numbered tag m =
         let word = assignable_word words (word_of words.dict tag) (all_among (is_assignable_number words) tags tag given m) in
         (word.0, given_numbered tag word.0 word.1 word.2)
 
-    pub own_cases : (n : ℕ) → Among (own_numbers words.dict tags derived) n → Among tags n ⊎ Among (numbers_of words.dict derived) n
+    pub own_cases : (n : ℕ) → Among (own_numbers words.dict tags in_file) n → Among tags n ⊎ Among (numbers_of words.dict in_file) n
     unfolding own_numbers
-    own_cases n m = among_append tags (numbers_of words.dict derived) n m
+    own_cases n m = among_append tags (numbers_of words.dict in_file) n m
 
-    pub own_numbered : (n : ℕ) → Among (own_numbers words.dict tags derived) n → (w : List ℕ) × IsNumbered words n w
+    pub own_numbered : (n : ℕ) → Among (own_numbers words.dict tags in_file) n → (w : List ℕ) × IsNumbered words n w
     own_numbered n m = by (own_cases n m)
       where
-        by : Among tags n ⊎ Among (numbers_of words.dict derived) n → (w : List ℕ) × IsNumbered words n w
+        by : Among tags n ⊎ Among (numbers_of words.dict in_file) n → (w : List ℕ) × IsNumbered words n w
         by (inl here) = tag_numbered n here
-        by (inr there) = let found = derived_number n there in (found.0, found.2)
+        by (inr there) = let found = found_word n there in (found.0, found.2)
 
-    pub tag_owned : (n : ℕ) → Among tags n → Among (own_numbers words.dict tags derived) n
+    pub tag_owned : (n : ℕ) → Among tags n → Among (own_numbers words.dict tags in_file) n
     unfolding own_numbers
-    tag_owned n m = among_left tags (numbers_of words.dict derived) n m
+    tag_owned n m = among_left tags (numbers_of words.dict in_file) n m
 
-    pub derived_owned : (n : ℕ) → Among (numbers_of words.dict derived) n → Among (own_numbers words.dict tags derived) n
+    pub found_owned : (n : ℕ) → Among (numbers_of words.dict in_file) n → Among (own_numbers words.dict tags in_file) n
     unfolding own_numbers
-    derived_owned n m = among_right tags (numbers_of words.dict derived) n m
+    found_owned n m = among_right tags (numbers_of words.dict in_file) n m

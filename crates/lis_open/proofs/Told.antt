@@ -18,7 +18,7 @@ use Rattle.lis_fields.specs.Layouts.{super_bytes, is_super, is_prop, is_record}
 use Rattle.lis_fields.specs.declared.slots.AxiomSlot.{AxiomSlot}
 use Rattle.lis_fields.specs.declared.slots.AxiomSlot.TheVariants.{Free as FreeAxiom, Pair}
 use Rattle.lis_fields.proofs.Parts.{IsFileRecord, record_tests, few_tags, few_blocks}
-use Rattle.lis_words.specs.Words.{word_cmp, has_word, is_plain_word, is_property, is_file_name}
+use Rattle.lis_words.specs.Words.{word_cmp, has_word, is_plain_word, is_file_name}
 use Rattle.lis_laws.proofs.Members.{word_order, pair_order, sorted_set_of, has_word_from_among}
 use Rattle.lis_laws.proofs.Counts.{all_among, all_from, rising_from_sorted}
 use Rattle.lis_model.specs.declared.limits.Limits.{Limits}
@@ -93,7 +93,7 @@ module _ (limits : Limits) (words : Words) (axioms : Axioms) (files : Files) (ma
   declared_form w m =
       let number = declared_has_number k sound w m in
       let bit = declared_flagged limits words read.words_are.are.dict number.0 w number.1 (has_word_from_among (declared_words words) w m) in
-      (and_parts (is_property w) (is_declarable w) (ap₂ (λ o b. is_prop (property_by o b)) (sym number.1) (sym bit) ∙ read.words_are.are.forms number.0)).1
+      ap₂ (λ o b. is_prop (property_by o b)) (sym number.1) (sym bit) ∙ read.words_are.are.forms number.0
 
   -- ---- axioms
   axioms_formed : AxiomsAreFormed s

@@ -12,22 +12,20 @@ use Rattle.lis_taxonomy.specs.Taxonomy.{Taxonomy, no_links, Entails as Leads}
 use Rattle.lis_fields.specs.declared.slots.AxiomSlot.{AxiomSlot}
 use Rattle.lis_fields.specs.declared.slots.AxiomSlot.TheVariants.{Free as FreeAxiom, Pair}
 use Rattle.lis_words.specs.Words.{is_valued, head_bytes}
-use Rattle.lis_laws.proofs.Apart.{plain_not_valued}
-use Rattle.lis_laws.proofs.Chains.{OwnLink, own_link, weaker_among, head_not_valued, up_from_entails, entails_from_up}
+use Rattle.lis_laws.proofs.Apart.{plain_not_valued, test_not_valued}
+use Rattle.lis_laws.proofs.Chains.{OwnLink, own_link, weaker_tests_are, head_not_valued, up_from_entails, entails_from_up}
 use Rattle.lis_laws.proofs.Chains.OwnLink.{Head, Weaker}
 use Rattle.lis_laws.proofs.Members.{pair_exact, among_from_has_word, has_word_from_among}
 use Rattle.lis_model.specs.declared.limits.Limits.{Limits}
 use Rattle.lis_model.specs.State.{pair_cmp, links, up}
-use Rattle.lis_model.proofs.NoTests.{no_weaker}
 use Rattle.lis_kept.specs.Kept.{Kept}
 use Rattle.lis_kept.specs.Telling.{pair_by, pair_told, pairs_told, axioms_of}
 use Rattle.lis_kept.specs.Links.{is_pair, has_pair, is_own_link, is_linked, TellsLinks}
 use Rattle.lis_kept.proofs.Known.{some_number, only_pair, placed_at, among_place}
-use Rattle.lis_kept.proofs.OwnLinks.{declared_no_tests}
 use Rattle.lis_open.specs.declared.words.Words.{Words}
 use Rattle.lis_open.specs.ReadWords.{declared_words, kept_words}
 use Rattle.lis_open.proofs.Edges.{edge_among, edge_of}
-use Rattle.lis_open.proofs.WordPlaces.{valued_headed}
+use Rattle.lis_open.proofs.WordPlaces.{valued_headed, declared_numbered}
 use Rattle.lis_open.proofs.Owned.{IsNumbered, bare_numbered}
 use Rattle.lis_open.proofs.Joined.{Sides}
 
@@ -84,14 +82,18 @@ module _ (limits : Limits) (words : Words) (dict : IsDict words.dict) (axioms : 
       bare_numbered words q r is (subst (λ w. is_valued w ≡ false) (same_Some to.word r (sym to.is ∙ is)) (plain_not_valued to.word to.plain))
 
   -- ---- links
-  -- an own link leads to the head
-  pub to_head : (p r : List ℕ) → Among (links (declared_words words) p) r → (is_valued p ≡ true) × (head_bytes p ≡ r)
-  to_head p r m = by (own_link (declared_words words) p r m)
+  -- an own link leads to a head or to a declared test, which has a number
+  own_numbered : (n : ℕ) (p r : List ℕ) → IsNumbered words n p → Among (links (declared_words words) p) r → (m : ℕ) × IsNumbered words m r
+  own_numbered n p r is m = by (own_link (declared_words words) p r m)
     where
-      by : OwnLink (declared_words words) p r → (is_valued p ≡ true) × (head_bytes p ≡ r)
-      by (Head valued same) = (valued, same)
+      by : OwnLink (declared_words words) p r → (m : ℕ) × IsNumbered words m r
+      by (Head valued same) =
+          let number = some_number (number_of words.dict (head_bytes p)) (is.headed valued) in
+          let named = word_from_number words.dict dict (head_bytes p) number.0 number.1 ∙ ap Some same in
+          (number.0, bare_numbered words number.0 r named (subst (λ w. is_valued w ≡ false) same (head_not_valued p)))
       by (Weaker weaker) =
-          absurd (subst (λ ws. Among ws r) (no_weaker (declared_words words) p (declared_no_tests k dict)) (weaker_among (declared_words words) p r weaker))
+          let number = some_number (number_of words.dict r) (declared_numbered limits words dict r weaker.to) in
+          (number.0, bare_numbered words number.0 r (word_from_number words.dict dict r number.0 number.1) (test_not_valued r (weaker_tests_are (declared_words words) p r weaker).1))
 
   -- a number whose word the number before it links to
   pub record NumberedLink (n : ℕ) (r : List ℕ) : Type 0 where
@@ -102,14 +104,12 @@ module _ (limits : Limits) (words : Words) (dict : IsDict words.dict) (axioms : 
   link_numbered : (n : ℕ) (p r : List ℕ) → IsNumbered words n p → WordLink p r → NumberedLink n r
   link_numbered n p r is (inl own) =
       let m = among_from_contains (links (declared_words words) p) r own in
-      let head = to_head p r m in
-      let number = some_number (number_of words.dict (head_bytes p)) (is.headed head.0) in
-      let named = word_from_number words.dict dict (head_bytes p) number.0 number.1 ∙ ap Some head.1 in
+      let number = own_numbered n p r is m in
       record {
         number = number.0;
-        is = bare_numbered words number.0 r named (subst (λ w. is_valued w ≡ false) head.1 (head_not_valued p));
+        is = number.1;
         linked = or_left (is_own_link (declared_words words) (word_of words.dict n) (word_of words.dict number.0)) (has_pair axioms n number.0)
-            (ap₂ (is_own_link (declared_words words)) is.named named ∙ has_word_from_among (links (declared_words words) p) r m);
+            (ap₂ (is_own_link (declared_words words)) is.named number.1.named ∙ has_word_from_among (links (declared_words words) p) r m);
       }
   link_numbered n p r is (inr edge) =
       let found = among_pair (p, r) (among_from_contains (axioms_of k) (p, r) edge) in

@@ -2,7 +2,7 @@
 use Rattle.std.proofs.Common.{◌≡◌, ◌∙◌, sym, ap, refl, ℕ, ◌≤◌, Bool, true, false, ◌&&◌, ◌||◌, Option, Some, None, List, [], arith}
 use Rattle.lis_dict.specs.Dict.{Dict, IsDict, number_of, word_of}
 use Rattle.lis_dict.proofs.Laws.{number_below, number_from_word}
-use Rattle.lis_words.specs.Words.{has_word, is_plain_word, is_head, is_valued, is_test, is_word, is_built_in, head_bytes}
+use Rattle.lis_words.specs.Words.{has_word, is_plain_word, is_head, is_valued, is_test, is_property, is_built_in, head_bytes}
 use Rattle.lis_model.specs.declared.limits.Limits.{Limits}
 use Rattle.lis_model.specs.State.{is_assignable, is_nameable, is_known_head}
 use Rattle.lis_kept.specs.Telling.{bit_of, declared_of, is_declared}
@@ -15,7 +15,7 @@ use Rattle.lis_open.specs.declared.words.Words.{Words}
 use Rattle.lis_open.specs.ReadWords.{declared_words, kept_words}
 
 -- limits at which no fact below looks
-abbrev no_limits : Limits
+abbrev pub no_limits : Limits
 no_limits = record { files = 0; props = 0; blocks = 0; version = 0 }
 
 -- a word is declared where its number's bit says so
@@ -48,6 +48,16 @@ second false false x y none is = cc
 pub assignable_by_head : (declared : List (List ℕ)) (word head : List ℕ) (b : Bool) → is_valued word ≡ true → head ≡ head_bytes word → b ≡ has_word declared head → b ≡ is_assignable declared word
 assignable_by_head declared word head b valued is told =
     told ∙ (ap (has_word declared) is ∙ second (is_plain_word word) (is_valued word) (has_word declared word) (has_word declared (head_bytes word)) (valued_not_plain word valued) valued)
+
+other_case : (p d v y : Bool) → v ≡ false → (p && d) ≡ ((p && d) || (v && y))
+other_case true true false y bare = refl
+other_case true false false y bare = refl
+other_case false d false y bare = refl
+other_case p d true y bare = cc
+
+-- and any other word where it is plain and declared
+pub assignable_plain : (declared : List (List ℕ)) (word : List ℕ) (b : Bool) → is_valued word ≡ false → b ≡ (is_plain_word word && has_word declared word) → b ≡ is_assignable declared word
+assignable_plain declared word b bare told = told ∙ other_case (is_plain_word word) (has_word declared word) (is_valued word) (has_word declared (head_bytes word)) bare
 
 valued_case : (p t d h k v kh : Bool) → p ≡ false → t ≡ false → h ≡ false → v ≡ true → kh ≡ (((p || t) && d) || (h && k) || (v && kh))
 valued_case false false d false k true kh a b c e = refl
@@ -103,15 +113,16 @@ nameable_head declared word b head told =
     ∙ head_case (is_plain_word word) (is_test word) (has_word declared word) (is_head word) (has_word declared word || is_built_in word) (is_valued word) (is_known_head declared (head_bytes word))
     (head_not_plain word head) (head_not_test word head) (bare_head_not_valued word head)
 
--- of the words of formulas, the others are plain
-plain_else : (p t h v : Bool) → (p || h || v) ≡ true → h ≡ false → v ≡ false → (p || t) ≡ true
-plain_else true t h v word head valued = refl
-plain_else false t true v word head valued = cc
-plain_else false t false true word head valued = cc
-plain_else false t false false word head valued = cc
+-- the other words are plain, or tests
+plain_else : (p t h v : Bool) → ((p || h || v) || t) ≡ true → h ≡ false → v ≡ false → (p || t) ≡ true
+plain_else true t h v form head valued = refl
+plain_else false true h v form head valued = refl
+plain_else false false true v form head valued = cc
+plain_else false false false true form head valued = cc
+plain_else false false false false form head valued = cc
 
 -- and any other word where it is declared
-pub nameable_declared : (declared : List (List ℕ)) (word : List ℕ) (b : Bool) → is_word word ≡ true → is_head word ≡ false → is_valued word ≡ false → b ≡ has_word declared word → b ≡ is_nameable declared word
+pub nameable_declared : (declared : List (List ℕ)) (word : List ℕ) (b : Bool) → is_property word ≡ true → is_head word ≡ false → is_valued word ≡ false → b ≡ has_word declared word → b ≡ is_nameable declared word
 nameable_declared declared word b form head valued told =
     told
     ∙ plain_case (is_plain_word word) (is_test word) (has_word declared word) (is_head word) (has_word declared word || is_built_in word) (is_valued word) (is_known_head declared (head_bytes word))

@@ -18,6 +18,7 @@ use Rattle.lis_words.specs.Words.{is_valued, head_bytes}
 use Rattle.lis_model.specs.declared.limits.Limits.{Limits}
 use Rattle.lis_model.specs.Derived.{derived_words}
 use Rattle.lis_model.specs.State.{file_words, is_assignable}
+use Rattle.lis_model.specs.Tests.{met_tests}
 use Rattle.lis_kept.specs.Kept.{record_at}
 use Rattle.lis_kept.specs.Areas.{file_slots}
 use Rattle.lis_kept.specs.Sound.{is_sound_record}
@@ -25,7 +26,7 @@ use Rattle.lis_kept.specs.Telling.{words_told, bytes_told, file_told, axioms_of}
 use Rattle.lis_open.specs.declared.words.Words.{Words}
 use Rattle.lis_open.specs.declared.axioms.Axioms.{Axioms}
 use Rattle.lis_open.specs.declared.files.Files.{Files}
-use Rattle.lis_open.specs.ReadWords.{declared_words, kept_words}
+use Rattle.lis_open.specs.ReadWords.{declared_words, kept_words, is_met_number}
 
 unfoldable pub no_files : Limits → Files
 no_files limits = record {
@@ -49,30 +50,43 @@ is_numbered dict word = is_some (number_of dict word) && (not (is_valued word) |
 abbrev pub numbers_of : Dict → List (List ℕ) → List ℕ
 numbers_of dict words = flat_map (λ word. option_to_list (number_of dict word)) words
 
--- The numbers of what a file has by itself: those that it was given, and those of the words that are derived from it.
-unfoldable pub own_numbers : Dict → List ℕ → List (List ℕ) → List ℕ
-own_numbers dict tags derived = tags ++ numbers_of dict derived
+-- the words that are found in a file of this name and these bytes: those that are derived from it, and the declared tests that it meets
+abbrev pub found_words : Words → List ℕ → List ℕ → List (List ℕ)
+found_words words name bytes = derived_words name bytes ++ met_tests (declared_words words) (length bytes)
 
--- the words that are derived from a file have numbers, and its description is not too long
+-- the numbers of the declared tests that so many bytes meet
+abbrev pub met_numbers : Words → ℕ → List ℕ
+met_numbers words size = numbers_where words.dict.props (is_met_number words size)
+
+-- The numbers of what a file has by itself: those that it was given, and those of the words that are found in it.
+unfoldable pub own_numbers : Dict → List ℕ → List (List ℕ) → List ℕ
+own_numbers dict tags found = tags ++ numbers_of dict found
+
+-- the words that are found in a file have numbers, and its description is not too long
 abbrev pub may_describe : Words → Taxonomy → FileRecord → List (List ℕ) → Bool
-may_describe words t rec derived =
-    list_all (is_numbered words.dict) derived && nat_le (length (described t (own_numbers words.dict rec.tags derived))) 128
+may_describe words t rec found =
+    list_all (is_numbered words.dict) found && nat_le (length (described t (own_numbers words.dict rec.tags found))) 128
 
 -- the numbers of a description where a file may have it
 abbrev pub AreDescribed : Words → Taxonomy → FileRecord → List (List ℕ) → Option (List ℕ) → Type 0
-AreDescribed words t rec derived None = may_describe words t rec derived ≡ false
-AreDescribed words t rec derived (Some numbers) =
-    (may_describe words t rec derived ≡ true) × (numbers ≡ described t (own_numbers words.dict rec.tags derived))
+AreDescribed words t rec found None = may_describe words t rec found ≡ false
+AreDescribed words t rec found (Some numbers) =
+    (may_describe words t rec found ≡ true) × (numbers ≡ described t (own_numbers words.dict rec.tags found))
 
--- a slot has these numbers, where these words are derived from its file
-pub record HasNumbers (words : Words) (t : Taxonomy) (rec : FileRecord) (derived : List (List ℕ)) (numbers : List ℕ) : Type 0 where
-  pub numbered : IsTrue (list_all (is_numbered words.dict) derived)
-  pub are : numbers ≡ described t (own_numbers words.dict rec.tags derived)
+-- a slot has these numbers, where these words are found in its file
+pub record HasNumbers (words : Words) (t : Taxonomy) (rec : FileRecord) (found : List (List ℕ)) (numbers : List ℕ) : Type 0 where
+  pub numbered : IsTrue (list_all (is_numbered words.dict) found)
+  pub are : numbers ≡ described t (own_numbers words.dict rec.tags found)
 
--- whatever words those are
+-- whatever its bytes are, of which there are as many as its record says
+pub record HasSomeNumbers (words : Words) (t : Taxonomy) (rec : FileRecord) (numbers : List ℕ) : Type 0 where
+  pub bytes : List ℕ
+  pub sized : length bytes ≡ rec.size
+  pub has : HasNumbers words t rec (found_words words rec.name bytes) numbers
+
 abbrev pub AreNumbers : Words → Taxonomy → Option FileRecord → List ℕ → Type 0
 AreNumbers words t None numbers = numbers ≡ []
-AreNumbers words t (Some rec) numbers = (derived : List (List ℕ)) × HasNumbers words t rec derived numbers
+AreNumbers words t (Some rec) numbers = HasSomeNumbers words t rec numbers
 
 -- the numbers that were listed, or that there are more than a description may have
 abbrev pub AreListed : List ℕ → Option (List ℕ) → Type 0
@@ -93,15 +107,15 @@ abbrev pub may_file : Words → Files → FileRecord → Bool
 may_file words files rec =
     not (is_some (slot_of files.catalog rec.name)) && list_all (is_assignable_number words) rec.tags && are_free files.map rec.blocks
 
--- and its description may be had, where these words are derived from it
+-- and its description may be had, where these words are found in it
 abbrev pub may_take_record : Words → Taxonomy → Files → FileRecord → List (List ℕ) → Bool
-may_take_record words t files rec derived = may_file words files rec && may_describe words t rec derived
+may_take_record words t files rec found = may_file words files rec && may_describe words t rec found
 
 -- where its bytes are these
 abbrev pub may_take_file : Words → Taxonomy → Files → Option FileSlot → List ℕ → Bool
 may_take_file words t files None bytes = false
 may_take_file words t files (Some FreeFile) bytes = true
-may_take_file words t files (Some (Used rec)) bytes = may_take_record words t files rec (derived_words rec.name bytes)
+may_take_file words t files (Some (Used rec)) bytes = may_take_record words t files rec (found_words words rec.name bytes)
 
 -- The bytes are those of the slot's file. They are not looked at where the file may not be taken, whatever they are.
 abbrev pub AreItsBytes : Limits → (ℕ → List ℕ) → Words → Files → Option FileSlot → List ℕ → Type 0
@@ -118,14 +132,15 @@ pub record TakesNumbers (slot : ℕ) (rec : FileRecord) (numbers : List ℕ) (ol
   pub sets : new.ext.sets ≡ slice_set old.ext.sets slot numbers
   pub settled : new.ext.marks ≡ []
 
--- and they are those of its description
-abbrev pub TakesRecord : Words → Taxonomy → ℕ → FileRecord → List (List ℕ) → Files → Files → Type 0
-TakesRecord words t slot rec derived old new = TakesNumbers slot rec (described t (own_numbers words.dict rec.tags derived)) old new
+-- they are those of its description, and there are as many bytes as the record says
+pub record TakesRecord (words : Words) (t : Taxonomy) (slot : ℕ) (rec : FileRecord) (bytes : List ℕ) (old new : Files) : Type 0 where
+  pub sized : length bytes ≡ rec.size
+  pub takes : TakesNumbers slot rec (described t (own_numbers words.dict rec.tags (found_words words rec.name bytes))) old new
 
 abbrev pub TakesFile : Words → Taxonomy → ℕ → Option FileSlot → List ℕ → Files → Files → Type 0
 TakesFile words t slot None bytes old new = ⊥
 TakesFile words t slot (Some FreeFile) bytes old new = new ≡ old
-TakesFile words t slot (Some (Used rec)) bytes old new = TakesRecord words t slot rec (derived_words rec.name bytes) old new
+TakesFile words t slot (Some (Used rec)) bytes old new = TakesRecord words t slot rec bytes old new
 
 -- ---- files
 -- Files of the slots below the end, which may be given their words; no data block is used twice, and those in use are taken; and the slots
@@ -152,11 +167,11 @@ abbrev pub FilesAreSpelled : Limits → (ℕ → List ℕ) → Files → ℕ →
 FilesAreSpelled limits at files end =
     (n : ℕ) → n < end → slot (file_slots limits) at n ≡ file_bytes (record_at files.catalog n)
 
--- the numbers of each file are by the words that are derived from its bytes
+-- the numbers of each file are by the words that are found in it
 abbrev pub FilesAreNumbered : Limits → (ℕ → List ℕ) → Words → Axioms → Files → Type 0
 FilesAreNumbered limits at words axioms files =
     (slot : ℕ) (rec : FileRecord) → rec_at files.catalog slot ≡ Some rec
-    → HasNumbers words axioms.taxonomy rec (derived_words rec.name (bytes_told limits at rec)) (set_of files.ext slot)
+    → HasNumbers words axioms.taxonomy rec (found_words words rec.name (bytes_told limits at rec)) (set_of files.ext slot)
 
 -- the words of their numbers are their descriptions
 abbrev pub FilesAreDescribed : Limits → (ℕ → List ℕ) → Words → Axioms → Files → Type 0

@@ -13,11 +13,13 @@ use Rattle.lis_fields.specs.Layouts.{prop_bytes, is_prop, axiom_bytes}
 use Rattle.lis_words.specs.Words.{is_plain_word, is_valued, head_bytes, has_word}
 use Rattle.lis_model.specs.declared.limits.Limits.{Limits}
 use Rattle.lis_model.specs.State.{Acyclic, is_nameable}
+use Rattle.lis_model.specs.Tests.{is_met}
 use Rattle.lis_kept.specs.Kept.{Kept, kept_of, property_at, axiom_at}
 use Rattle.lis_kept.specs.Areas.{property_slots, axiom_slots}
 use Rattle.lis_kept.specs.Edges.{head_number}
 use Rattle.lis_kept.specs.Telling.{bit_of, axioms_of, is_head_by}
 use Rattle.lis_kept.specs.Links.{TellsLinks}
+use Rattle.lis_kept.specs.TestEdges.{declared_test, is_test_link}
 use Rattle.lis_open.specs.declared.words.Words.{Words}
 use Rattle.lis_open.specs.declared.axioms.Axioms.{Axioms}
 
@@ -80,7 +82,7 @@ kept_words limits words axioms =
     kept_of limits words.dict words.declared axioms (record { files = limits.files; entries = [] }) (replicate limits.blocks false)
     (empty_ext limits.props limits.files) []
 
--- ---- links to heads
+-- ---- links to heads and between tests
 -- the number of the head of a valued word, if there is a word
 abbrev pub head_by : Dict → Option (List ℕ) → Option ℕ
 head_by dict None = None
@@ -90,6 +92,16 @@ head_by dict (Some word) = head_number dict word
 pub record LinksHeads (words : Words) (end : ℕ) (t : Taxonomy) : Type 0 where
   pub props : t.props ≡ words.dict.props
   pub edges : (p q : ℕ) → has_edge t p q ≡ (nat_lt p end && is_head_by (word_of words.dict p) (word_of words.dict q))
+
+-- the edges are all those to heads, and those from the declared tests of the numbers below the end to weaker ones
+pub record LinksTests (words : Words) (end : ℕ) (t : Taxonomy) : Type 0 where
+  pub props : t.props ≡ words.dict.props
+  pub edges : (p q : ℕ) → has_edge t p q ≡ (is_head_by (word_of words.dict p) (word_of words.dict q) || (nat_lt p end && is_test_link words.dict words.declared p q))
+
+-- ---- tests
+-- the number has a declared test that so many bytes meet
+abbrev pub is_met_number : Words → ℕ → ℕ → Bool
+is_met_number words size n = is_met (declared_test words.dict words.declared n) size
 
 -- ---- axioms
 -- Axiom slots that are free, and no links yet.

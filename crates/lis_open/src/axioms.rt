@@ -12,7 +12,7 @@ ghost use Rattle.lis_model.specs.Image.{image_blocks};
 ghost use Rattle.lis_kept.specs.Areas.{axiom_slots};
 ghost use Rattle.lis_kept.specs.Edges.{with_edge_to};
 ghost use Rattle.lis_open.specs.Reading.{OnlyReads, HasPartCause, Recalls, IsReadAs, Ends};
-ghost use Rattle.lis_open.specs.ReadWords.{AreNoAxioms, AreWords, AreFirstWords, WordsAreSpelled, head_by, LinksHeads, are_sides, TakesPair, TakesAxiom, RefusesPair, RefusesAxiom, AreFirstAxioms, AxiomsAreSpelled};
+ghost use Rattle.lis_open.specs.ReadWords.{AreNoAxioms, AreWords, AreFirstWords, WordsAreSpelled, head_by, LinksHeads, LinksTests, are_sides, TakesPair, TakesAxiom, RefusesPair, RefusesAxiom, AreFirstAxioms, AxiomsAreSpelled};
 
 use crate::blocks::LastBlock;
 use crate::mounting::OpenFault;
@@ -20,7 +20,7 @@ use crate::naming::{is_left, is_right};
 use crate::words::Words;
 use lis_fields::{AXIOM_LEN, AxiomSlot, read_axiom};
 use lis_journal::Journal;
-use lis_kept::axioms_start;
+use lis_kept::{axioms_start, link_weaker};
 use lis_model::limits::Limits;
 use lis_model::spot::Spot;
 use lis_ports::{Disk, Failed};
@@ -91,6 +91,18 @@ fn link_heads(limits: &Limits, words: &Words, taxonomy: &mut Taxonomy)
     for number in 0..limits.props {
         let number = number as u16;
         link_head(taxonomy, number, head_number(words, number));
+    }
+}
+
+// Links each declared test to those that are weaker.
+fn link_tests(limits: &Limits, words: &Words, taxonomy: &mut Taxonomy)
+    requires range { IsTrue (are_in_range limits.now) }
+    requires words { AreFirstWords limits.now words.now limits.now.props }
+    requires heads { LinksHeads words.now limits.now.props taxonomy.old }
+    ensures { LinksTests words.now limits.now.props taxonomy.new }
+{
+    for number in 0..limits.props {
+        link_weaker(&words.dict, &words.declared, taxonomy, limits.props, number);
     }
 }
 
@@ -179,7 +191,7 @@ fn take_axiom(
     }
 }
 
-/// Links heads, and reads the axiom slots in the order of their numbers.
+/// Links heads and declared tests, and reads the axiom slots in the order of their numbers.
 pub fn read_axioms<D: Disk>(
     last: &mut LastBlock,
     disk: &mut D,
@@ -204,6 +216,7 @@ pub fn read_axioms<D: Disk>(
         → Ends limits.now kept 3 (AxiomsAreSpelled limits.now kept axioms.new (axiom_slots limits.now).count) result }
 {
     link_heads(limits, words, &mut axioms.taxonomy);
+    link_tests(limits, words, &mut axioms.taxonomy);
     for k in 0..slot_count(limits) {
         let found = read_axiom_slot(last, disk, journal, limits, k)?;
         if !take_axiom(limits, words, axioms, k, found) {

@@ -1,6 +1,6 @@
 //! The files of an image: its file slots, and the descriptions that they have.
 
-ghost use Rattle.std.specs.Prelude.{◌≡◌, ◌*◌, ◌<◌, ◌≤◌, ◌&&◌, not, nat_lt, ℕ, List, [], length, All, true, false, Some, None, IsTrue, IfOk, IfSome, OnOk, MatchOption};
+ghost use Rattle.std.specs.Prelude.{◌≡◌, ◌*◌, ◌<◌, ◌≤◌, ◌&&◌, ◌||◌, not, nat_lt, ℕ, List, [], length, All, true, false, Some, None, IsTrue, IfOk, IfSome, OnOk, MatchOption};
 ghost use Rattle.std.specs.Bool.{OnTrue, OnFalse};
 ghost use Rattle.std.specs.List.{list_all};
 ghost use Rattle.std.specs.List.Sorted.{IsStrictlyIncreasing};
@@ -16,17 +16,16 @@ ghost use Rattle.lis_ext.specs.Numbers.{numbers_where};
 ghost use Rattle.lis_fields.specs.Layouts.{file_bytes, is_file, is_record};
 ghost use Rattle.lis_model.specs.Ranges.{are_in_range};
 ghost use Rattle.lis_model.specs.Image.{image_blocks};
-ghost use Rattle.lis_model.specs.Derived.{derived_words};
 ghost use Rattle.lis_kept.specs.Telling.{bytes_told};
 ghost use Rattle.lis_kept.specs.Areas.{file_slots, axiom_slots};
 ghost use Rattle.lis_open.specs.Reading.{OnlyReads, HasPartCause, Recalls, IsReadAs, Ends};
 ghost use Rattle.lis_open.specs.ReadWords.{AreWords, AreFirstWords, AreFirstAxioms, WordsAreSpelled, AxiomsAreSpelled};
-ghost use Rattle.lis_open.specs.ReadFiles.{no_files, is_described, AreListed, is_numbered, own_numbers, AreDescribed, may_file, may_take_record, may_take_file, AreItsBytes, TakesNumbers, TakesRecord, TakesFile, AreFirstFiles, FilesAreTold};
+ghost use Rattle.lis_open.specs.ReadFiles.{no_files, is_described, AreListed, found_words, met_numbers, is_numbered, own_numbers, AreDescribed, may_file, may_take_record, may_take_file, AreItsBytes, TakesNumbers, TakesRecord, TakesFile, AreFirstFiles, FilesAreTold};
 
 use crate::axioms::Axioms;
 use crate::blocks::LastBlock;
 use crate::mounting::OpenFault;
-use crate::naming::{are_assignable, numbered};
+use crate::naming::{are_assignable, is_met, numbered};
 use crate::words::Words;
 use arrayvec::ArrayVec;
 use lis_bits::Rows;
@@ -134,6 +133,22 @@ fn gather(taxonomy: &Taxonomy, tags: &[u16], row: &mut Rows)
     }
 }
 
+// Adds to the row all that the declared tests that so many bytes meet entail. The row behind it is for what one of them entails.
+fn gather_met(words: &Words, taxonomy: &Taxonomy, size: u64, row: &mut Rows)
+    requires are { AreWords words.now }
+    requires props { taxonomy.now.props ≡ words.now.dict.props }
+    requires shape { HasShape row.old 2 taxonomy.now.props }
+    ensures shape { HasShape row.new 2 taxonomy.now.props }
+    ensures bits { (n : ℕ) → n < taxonomy.now.props → get row.new 0 n ≡ (get row.old 0 n || is_described taxonomy.now (met_numbers words.now size) n) }
+{
+    for number in 0..words.declared.len() {
+        if is_met(words, number, size) {
+            taxonomy.ups(number, row, 1);
+            row.or(0, 1);
+        }
+    }
+}
+
 // The numbers of the row, as they rise. None comes where there are more than a description may have.
 fn list_numbers(row: &Rows) -> Option<ArrayVec<u16, MAX_WORDS>>
     requires shape { HasShape row.now 2 row.now.bits }
@@ -162,8 +177,8 @@ fn copy_tags(tags: &[u16]) -> ArrayVec<u16, 64>
     numbers
 }
 
-// The numbers of what a file has by itself: of the words that it was given, and of those that are derived from it. None comes where
-// a derived word, or its head, has no number.
+// The numbers of the words that a file was given, and of those that are derived from it. None comes where a derived word, or its head,
+// has no number.
 fn own_numbers(words: &Words, tags: &[u16], derived: &Derived) -> Option<ArrayVec<u16, 64>>
     requires are { AreWords words.now }
     requires few { length tags.now ≤ 16 }
@@ -196,7 +211,7 @@ fn describe(
     requires shape { HasShape row.old 2 taxonomy.now.props }
     requires below { IsTrue (list_all (λ n. nat_lt n taxonomy.now.props) rec.now.tags) }
     ensures shape { HasShape row.new 2 taxonomy.now.props }
-    ensures described { AreDescribed words.now taxonomy.now rec.now (derived_words rec.now.name bytes.now)
+    ensures described { AreDescribed words.now taxonomy.now rec.now (found_words words.now rec.now.name bytes.now)
         (option_map (λ listed. listed.items) result) }
 {
     let derived = derive_words(&rec.name, bytes);
@@ -204,6 +219,7 @@ fn describe(
         return None;
     };
     gather(taxonomy, own.as_slice(), row);
+    gather_met(words, taxonomy, bytes.len() as u64, row);
     list_numbers(row)
 }
 
@@ -276,9 +292,9 @@ fn take_record<D: Disk>(
     ensures shape { HasShape row.new 2 words.now.dict.props }
     ensures bytes { OnOk result ((kept : ℕ → List ℕ) → Fits journal.now (D.meaning disk.old) kept → may_file words.now files.old rec ≡ true
         → bytes.new ≡ bytes_told limits.now kept rec) }
-    ensures answer { IfOk result (λ taken. taken ≡ may_take_record words.now axioms.now.taxonomy files.old rec (derived_words rec.name bytes.new)) }
+    ensures answer { IfOk result (λ taken. taken ≡ may_take_record words.now axioms.now.taxonomy files.old rec (found_words words.now rec.name bytes.new)) }
     ensures taken { IfOk result (λ taken. OnTrue taken
-        (TakesRecord words.now axioms.now.taxonomy slot rec (derived_words rec.name bytes.new) files.old files.new)) }
+        (TakesRecord words.now axioms.now.taxonomy slot rec bytes.new files.old files.new)) }
     ensures refused { IfOk result (λ taken. OnFalse taken (files.new ≡ files.old)) }
 {
     if !may_file(words, files, &rec) {

@@ -1,15 +1,15 @@
 //! What the words of an image may be used for.
 
-ghost use Rattle.std.specs.Prelude.{◌≡◌, ◌||◌, not, is_some, true, false, Some, MatchOption};
+ghost use Rattle.std.specs.Prelude.{◌≡◌, ◌<◌, ◌||◌, not, is_some, true, false, Some, MatchOption};
 ghost use Rattle.std.specs.List.{list_all};
 ghost use Rattle.lis_dict.specs.Dict.{number_of, word_of};
 ghost use Rattle.lis_words.specs.Words.{has_word, is_valued, head_bytes};
 ghost use Rattle.lis_model.specs.State.{is_assignable, is_nameable, is_known_head};
-ghost use Rattle.lis_open.specs.ReadWords.{AreWords, declared_words, is_left, is_right};
+ghost use Rattle.lis_open.specs.ReadWords.{AreWords, declared_words, is_met_number, is_left, is_right};
 ghost use Rattle.lis_open.specs.ReadFiles.{is_assignable_number, is_numbered};
 
 use crate::words::Words;
-use lis_words::{Word, head_of, is_builtin, is_head, is_plain_word};
+use lis_words::{Word, head_of, is_builtin, is_head, is_plain_word, test_of};
 
 // Whether the word is declared.
 fn is_declared(words: &Words, word: &Word) -> bool
@@ -117,6 +117,25 @@ pub fn is_left(words: &Words, number: u32) -> bool
     match word_at(words, number) {
         None => false,
         Some(word) => is_nameable(words, &word) && has_its_head(words, &word),
+    }
+}
+
+/// Whether a number has a declared test that so many bytes meet.
+pub fn is_met(words: &Words, number: u32, size: u64) -> bool
+    requires are { AreWords words.now }
+    requires number { number < words.now.dict.props }
+    ensures { result ≡ is_met_number words.now size number }
+{
+    if !words.declared.get(number) {
+        return false;
+    }
+    let Some(word) = word_at(words, number) else {
+        return false;
+    };
+    match test_of(&word) {
+        None => false,
+        Some((true, least)) => least <= size,
+        Some((false, end)) => size < end,
     }
 }
 

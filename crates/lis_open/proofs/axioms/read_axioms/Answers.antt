@@ -10,7 +10,7 @@ pub loop-k-init : goal.loop-k-init
 loop-k-init g c = record {
   reads = reads_none (g.D.Disk.meaning c.args.disk.now);
   faults = refl;
-  first = no_axioms_yet c.args.limits.now c.args.words.now c.requires.words c.args.axioms.now.slots.items c.link_heads.new.taxonomy c.requires.none.slots c.link_heads.ensures _ refl refl;
+  first = no_axioms_yet c.args.limits.now c.args.words.now c.requires.words c.args.axioms.now.slots.items c.link_tests.new.taxonomy c.requires.none.slots c.link_tests.ensures _ refl refl;
   recalls = λ kept fits recalled. recalled;
   spelled = λ kept fits recalled n lt. absurd (omega (arith, lt));
 }

@@ -1,12 +1,15 @@
-use Rattle.std.proofs.Common.{◌≡◌, nat_lt, ℕ, length, ap, sym, subst, ◌∙◌, arith}
+use Rattle.std.proofs.Common.{◌≡◌, nat_lt, ℕ, List, ◌++◌, ◌||◌, length, ap, sym, subst, ◌∙◌, arith}
 use Rattle.std.specs.List.{list_all}
 use Rattle.std.specs.Option.{option_map}
 use Rattle.lis_fields.specs.Records.{FileRecord}
 use Rattle.lis_fields.proofs.Parts.{record_tests, few_tags}
 use Rattle.lis_model.specs.Derived.{derived_words}
-use Rattle.lis_open.specs.ReadFiles.{own_numbers, may_describe, AreDescribed}
+use Rattle.lis_model.specs.Tests.{met_tests}
+use Rattle.lis_open.specs.ReadWords.{declared_words}
+use Rattle.lis_open.specs.ReadFiles.{is_described, met_numbers, own_numbers, may_describe, AreDescribed}
 use Rattle.lis_open.proofs.OwnNumbers.{undescribed, listed_described, own_below}
 use Rattle.lis_open.proofs.Gathering.{listed_are}
+use Rattle.lis_open.proofs.MetTests.{described_found, found_numbered}
 use Rattle.lis_open.proofs.files.describe.Goals as goal
 
 pub own_numbers-requires-clause-few : goal.own_numbers-requires-clause-few
@@ -18,8 +21,11 @@ pub returns-in_default-clause-described : goal.returns-in_default-clause-describ
 returns-in_default-clause-described c =
     let words = c.args.words.now in
     let rec = c.args.rec.now in
-    let derived = c.derive_words-derived.ensures ∙ ap (λ (r : FileRecord). derived_words r.name c.args.bytes.now) c.rec.view_is in
-    subst (λ ws. may_describe words c.args.taxonomy.now rec ws ≡ _) derived (undescribed words c.args.taxonomy.now rec c.derive_words-derived.result c.in_default.ensures)
+    let bytes = c.args.bytes.now in
+    let derived = c.derive_words-derived.result in
+    let is = c.derive_words-derived.ensures ∙ ap (λ (r : FileRecord). derived_words r.name bytes) c.rec.view_is in
+    subst (λ ws. may_describe words c.args.taxonomy.now rec (ws ++ met_tests (declared_words words) (length bytes)) ≡ _) is
+    (undescribed words c.args.taxonomy.now rec (derived ++ met_tests (declared_words words) (length bytes)) (found_numbered words c.requires.are.dict (length bytes) derived ∙ c.in_default.ensures))
 
 pub gather-requires-clause-below : goal.gather-requires-clause-below
 gather-requires-clause-below c =
@@ -39,7 +45,14 @@ returns-clause-described c =
     let derived = c.derive_words-derived.result in
     let tags = c.as_slice.ensures.value ∙ ap (λ (r : FileRecord). r.tags) c.rec.view_is in
     let own = c.as_slice-2.ensures.value ∙ (c.in-Some.ensures.1 ∙ ap (λ ts. own_numbers words.dict ts derived) tags) in
-    subst (λ ws. AreDescribed words t rec ws (option_map (λ listed. listed.items) c.list_numbers.result))
-    (c.derive_words-derived.ensures ∙ ap (λ (r : FileRecord). derived_words r.name c.args.bytes.now) c.rec.view_is)
-    (listed_described words t rec derived _ c.in-Some.ensures.0
-    (listed_are t (own_numbers words.dict rec.tags derived) c.as_slice-2.result.now c.gather.new.row _ c.gather.ensures.shape c.gather.ensures.bits own c.list_numbers.ensures))
+    let bytes = c.args.bytes.now in
+    let dict = c.requires.are.dict in
+    let size : ℕ = length bytes in
+    let found : List (List ℕ) = derived ++ met_tests (declared_words words) size in
+    subst (λ ws. AreDescribed words t rec (ws ++ met_tests (declared_words words) size) (option_map (λ listed. listed.items) c.list_numbers.result))
+    (c.derive_words-derived.ensures ∙ ap (λ (r : FileRecord). derived_words r.name bytes) c.rec.view_is)
+    (listed_described words t rec found _ (found_numbered words dict size derived ∙ c.in-Some.ensures.0)
+    (listed_are t (own_numbers words.dict rec.tags found) c.gather_met.new.row _ c.gather_met.ensures.shape (λ n lt.
+    c.gather_met.ensures.bits n lt
+    ∙ (ap (λ b. b || is_described t (met_numbers words size) n) (c.gather.ensures.bits n lt ∙ ap (λ ns. is_described t ns n) own)
+    ∙ sym (described_found words dict size t rec.tags derived n))) c.list_numbers.ensures))

@@ -1,6 +1,5 @@
 use Rattle.std.proofs.Common.{sym, ◌∙◌}
-use Rattle.lis_model.specs.Derived.{derived_words}
-use Rattle.lis_open.specs.ReadFiles.{own_numbers}
+use Rattle.lis_open.specs.ReadFiles.{found_words, own_numbers}
 use Rattle.lis_open.proofs.FilesRead.{tags_below, blocks_within, bytes_are}
 use Rattle.lis_open.proofs.Gathering.{described_rise, described_in}
 use Rattle.lis_open.proofs.files.take_record.Goals as goal
@@ -16,12 +15,12 @@ describe-requires-clause-below g c =
 
 pub file-requires-clause-rise : goal.file-requires-clause-rise
 file-requires-clause-rise g c =
-    described_rise c.args.axioms.now.taxonomy (own_numbers c.args.words.now.dict c.args.rec.tags (derived_words c.args.rec.name c.bytes.result.now)) c.as_slice-in-Some.result.now
+    described_rise c.args.axioms.now.taxonomy (own_numbers c.args.words.now.dict c.args.rec.tags (found_words c.args.words.now c.args.rec.name c.bytes.result.now)) c.as_slice-in-Some.result.now
     (c.as_slice-in-Some.ensures.value ∙ c.in-Some.ensures.described.1)
 
 pub file-requires-clause-in_range : goal.file-requires-clause-in_range
 file-requires-clause-in_range g c =
-    described_in c.args.axioms.now.taxonomy (own_numbers c.args.words.now.dict c.args.rec.tags (derived_words c.args.rec.name c.bytes.result.now)) c.as_slice-in-Some.result.now c.args.files.now.ext.props
+    described_in c.args.axioms.now.taxonomy (own_numbers c.args.words.now.dict c.args.rec.tags (found_words c.args.words.now c.args.rec.name c.bytes.result.now)) c.as_slice-in-Some.result.now c.args.files.now.ext.props
     (c.requires.rows ∙ sym c.requires.props) (c.as_slice-in-Some.ensures.value ∙ c.in-Some.ensures.described.1)
 
 pub returns-in-None-clause-bytes : goal.returns-in-None-clause-bytes

@@ -5,6 +5,7 @@ use Rattle.lis_model.specs.Ranges.{are_in_range}
 use Rattle.lis_kept.specs.Kept.{Kept}
 use Rattle.lis_store.specs.Stored.{Stored, IsSound}
 use Rattle.lis_open.proofs.Joined.{parts_held, store_sound}
+use Rattle.lis_open.proofs.TestsMet.{parts_tests}
 use Rattle.lis_open.proofs.Told.{store_told}
 use Rattle.lis_open.proofs.reading.read_store.Goals as goal
 
@@ -24,6 +25,7 @@ join-requires g c =
     let limits = c.args.limits in
     let range = (and_parts (limits.version == 1) (are_in_range limits) c.requires.range).1 in
     let sound = store_sound limits c.read_parts.new.words c.read_parts.new.axioms c.read_parts.new.files c.args.room.marks (c.in_ok-read_parts.ensures.read c.args.room.marks) range c.requires.room.marks
+    (parts_tests limits c.read_parts.new.words c.read_parts.new.axioms c.read_parts.new.files c.args.room.marks (c.in_ok-read_parts.ensures.read c.args.room.marks) range c.requires.room.marks)
     c.args.journal c.requires.range c.requires.image c.requires.unbroken c.requires.clean c.requires.unplaced in
     subst (λ (k : Kept). IsSound (record { parts = k; journal = c.args.journal; is_broken = false })) (sym c.join-parts.ensures) sound
 
@@ -32,6 +34,7 @@ returns-clause-sound g c =
     let limits = c.args.limits in
     let range = (and_parts (limits.version == 1) (are_in_range limits) c.requires.range).1 in
     let sound = store_sound limits c.read_parts.new.words c.read_parts.new.axioms c.read_parts.new.files c.args.room.marks (c.in_ok-read_parts.ensures.read c.args.room.marks) range c.requires.room.marks
+    (parts_tests limits c.read_parts.new.words c.read_parts.new.axioms c.read_parts.new.files c.args.room.marks (c.in_ok-read_parts.ensures.read c.args.room.marks) range c.requires.room.marks)
     c.args.journal c.requires.range c.requires.image c.requires.unbroken c.requires.clean c.requires.unplaced in
     subst IsSound (sym c.join.ensures) (subst (λ (k : Kept). IsSound (record { parts = k; journal = c.args.journal; is_broken = false })) (sym c.join-parts.ensures) sound)
 

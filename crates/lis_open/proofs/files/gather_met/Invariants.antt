@@ -1,0 +1,5 @@
+use Rattle.lis_open.proofs.MetTests.{MetSoFar}
+use Rattle.lis_open.proofs.files.gather_met.Given as goal
+
+abbrev pub invariant-loop-number : goal.invariant-loop-number
+invariant-loop-number l = MetSoFar l.words l.taxonomy l.size l.fn.row l.row l.number
