@@ -211,7 +211,9 @@ pub fn tested_row(alloc: Global) -> Result<(String, &'static str), AllocError> {
     row.push_str("mkdir size>=100;mkdir size>=1000;add a 0;;")?;
     push_file(&mut row, "add b 500;", 500)?;
     push_file(&mut row, "add c 5000;", 5_000)?;
-    row.push_str("ls;cd size>=100;ls;cd /;mkdir big;axiom size>=1000 big;props c;rmdir size>=1000;unaxiom size>=1000 big;rmdir size>=1000;create d size>=100;mkdir size>=0100;mkdir size>=100;")?;
+    row.push_str(
+        "ls;cd size>=100;ls;cd /;mkdir big;axiom size>=1000 big;props c;rmdir size>=1000;unaxiom size>=1000 big;rmdir size>=1000;create d size>=100;mkdir size>=0100;mkdir size>=100;",
+    )?;
     Ok((
         row,
         "ok;ok;ok;ok;ok;d size:empty;d size:medium;d size:small;d size>=100;ok;ok;d size:medium;d size:small;d size>=1000;ok;ok;ok;ok;p big;p size:;p size:medium;p size>=100;p size>=1000;ok;no 13 in use;ok;ok;no 14 not assignable;no 01 bad line;no 11 already declared;",
