@@ -457,7 +457,7 @@ pub static EDITS: [(&str, u64); 10] = [
     ),
     // A declared test comes to the files that meet it, with the word of the place, and goes with its declaration alone.
     (
-        "add f 3;xyz;create g;mkdir big;cd big;mkdir size>=2;rm g;cd /;unaxiom size>=2 big;rmdir size>=2;",
+        "add f 3;xyz;create g;mkdir big;cd big;mkdir size>=2;cd /;rm g;unaxiom size>=2 big;rmdir size>=2;",
         10,
     ),
 ];
