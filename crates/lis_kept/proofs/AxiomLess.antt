@@ -1,21 +1,14 @@
 -- An axiom that leaves its slot.
 use Rattle.std.proofs.Common.{◌≡◌, ◌⊎◌, ◌↔◌, refl, sym, ap, ap₂, ◌∙◌, subst, inl, inr, ℕ, ◌<◌, ◌==◌, ◌&&◌, ◌||◌, not, Bool, true, false, List, set, slice_get, Some, Result, Err, arith, length-set, get_or-set_other}
-use Rattle.std.specs.declared.cmp.Ordering.{Ordering}
-use Rattle.std.specs.declared.cmp.Ordering.TheVariants.{Less, Equal, Greater}
-use Rattle.std.specs.Ordering.{nat_cmp, ordering_then, is_eq, eq_by_cmp}
-use Rattle.std.specs.Cmp.{IsTotalOrder, nat_cmp_total, unsigned_tied}
-use Rattle.std.specs.FinSet as set_of_edges
 use Rattle.std.specs.List.{list_any, filter}
 use Rattle.std.proofs.lemmas.Bool.{and_parts, and_from, both_ways, eqb-true, false_from_ne_true, not_from_false, not-true}
 use Rattle.std.proofs.lemmas.Option.{same_Some}
 use Rattle.std.proofs.lemmas.List.Kept.{IsStrictlySortedBy-filter}
-use Rattle.std.proofs.lemmas.Map.Lookups.{exact_unsigned}
 use Rattle.lis_graph.proofs.Members.{Among, among_filter, filter_among, among_from_any}
-use Rattle.lis_graph.proofs.Pairs.{pairs_total}
 use Rattle.lis_graph.proofs.Sets.{same_sets}
 use Rattle.lis_blockmap.specs.Bitmap.{is_taken}
 use Rattle.lis_dict.specs.Dict.{word_of}
-use Rattle.lis_taxonomy.specs.Taxonomy.{Taxonomy, has_edge, without_edge, pair_cmp as edge_cmp}
+use Rattle.lis_taxonomy.specs.Taxonomy.{Taxonomy, has_edge, without_edge}
 use Rattle.lis_taxonomy.specs.declared.taxonomy.EdgeFault.{EdgeFault}
 use Rattle.lis_taxonomy.specs.declared.taxonomy.EdgeFault.TheVariants.{Absent}
 use Rattle.lis_fields.specs.Layouts.{axiom_bytes}
@@ -38,22 +31,8 @@ use Rattle.lis_kept.proofs.Marking.{block_marked}
 use Rattle.lis_kept.proofs.OwnLinks.{own_to_plain, slot_at}
 use Rattle.lis_kept.proofs.Known.{one_number, axiom_among, among_axiom}
 use Rattle.lis_kept.proofs.AxiomSlots.{set_cases, set_there, any_unset, axiom_within, same_sides}
+use Rattle.lis_kept.proofs.HeadEdges.{has_edge-without_edge}
 use Rattle.lis_kept.proofs.AxiomMore.{sorted_axioms, swapped, used_more}
-
--- ---- an edge fewer
-edge_order : IsTotalOrder edge_cmp
-edge_order = pairs_total nat_cmp nat_cmp nat_cmp_total nat_cmp_total exact_unsigned exact_unsigned
-
-both_equal : (a b : Ordering) → is_eq (ordering_then a b) ≡ (is_eq a && is_eq b)
-both_equal Less b = refl
-both_equal Equal b = refl
-both_equal Greater b = refl
-
-same_edge : (x y n h : ℕ) → eq_by_cmp edge_cmp (x, y) (n, h) ≡ ((x == n) && (y == h))
-same_edge x y n h = both_equal (nat_cmp x n) (nat_cmp y h) ∙ ap₂ (λ a b. a && b) (unsigned_tied x n) (unsigned_tied y h)
-
-edge_gone : (t : Taxonomy) (n h x y : ℕ) → has_edge (without_edge t n h) x y ≡ (not ((x == n) && (y == h)) && has_edge t x y)
-edge_gone t n h x y = set_of_edges.contains-remove edge_order t.edges (n, h) (x, y) ∙ ap (λ b. not b && has_edge t x y) (same_edge x y n h)
 
 pub both_sides : (left right x y : ℕ) → are_both left right x y ≡ true → (left ≡ x) × (right ≡ y)
 both_sides left right x y is = let parts = and_parts (left == x) (right == y) is in (eqb-true left x parts.0, eqb-true right y parts.1)
@@ -198,7 +177,7 @@ module _ (p : Kept) (t : Taxonomy) (held : AreHeld p t) {left right : ℕ} (may 
 
   edges_then : (x y : ℕ) → has_edge (without_edge t left right) x y ≡ is_linked unlinked x y
   edges_then x y =
-      edge_gone t left right x y
+      has_edge-without_edge t left right x y
       ∙ (ap₂ (λ a b. not (a && b) && has_edge t x y) (swapped x left) (swapped y right)
       ∙ (ap (λ b. not (are_both left right x y) && b) (held.links.edges x y) ∙ sym (links_then x y)))
 

@@ -5,8 +5,7 @@ use Rattle.std.proofs.lemmas.List.Elements.{Contains-get_or}
 use Rattle.std.proofs.lemmas.Bool.{cases_eq, lt-ltb, eqb-true, false_from_ne_true, and_parts, or_cases}
 use Rattle.std.proofs.lemmas.List.{length-map}
 use Rattle.std.proofs.lemmas.List.FromFn.{length-range_with_len}
-use Rattle.lis_graph.proofs.Members.{Among, among_filter, filter_among, among_map, map_among, among_from_any, among_from_contains}
-use Rattle.lis_graph.proofs.Ranges.{among_range, range_among}
+use Rattle.lis_graph.proofs.Members.{Among, among_map, map_among, among_from_any, among_from_contains}
 use Rattle.lis_content.specs.Content.{marked}
 use Rattle.lis_content.proofs.Numbers.{length-marked}
 use Rattle.lis_dict.specs.Dict.{word_of}
@@ -22,21 +21,12 @@ use Rattle.lis_kept.specs.Sound.{AreSound}
 use Rattle.lis_kept.specs.Links.{AreHeld}
 use Rattle.lis_kept.specs.Changes.{Marks, Describes}
 use Rattle.lis_kept.proofs.InArea.{rows_counted, among_slots}
+use Rattle.lis_ext.proofs.Numbers.{among_where, where_among}
 use Rattle.lis_kept.proofs.RowBytes.{row_bytes_same}
 use Rattle.lis_kept.proofs.Formed.{held_files, named_below, AreWithin, had_within}
 use Rattle.lis_kept.proofs.Marking.{AreBelow, blocks_marked}
 
 -- ---- numbers
-pub among_where : (props : ℕ) (test : ℕ → Bool) (n : ℕ) → Among (numbers_where props test) n → (n < props) × (test n ≡ true)
-unfolding numbers_where
-among_where props test n m =
-    let found = among_filter test (range_with_len 0 props) n m in
-    (omega (arith, (among_range 0 props n found.0).1), found.1)
-
-pub where_among : (props : ℕ) (test : ℕ → Bool) (n : ℕ) → n < props → test n ≡ true → Among (numbers_where props test) n
-unfolding numbers_where
-where_among props test n lt is = filter_among test (range_with_len 0 props) n (range_among 0 props n (omega arith) (omega arith)) is
-
 same_numbers : (old new : List ℕ) (n : ℕ) → differs old new n ≡ false → has_number new n ≡ has_number old n
 same_numbers old new n same = by (has_number old n) (has_number new n) same
   where

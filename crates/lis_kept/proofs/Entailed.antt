@@ -42,7 +42,7 @@ edge_decides a b = (
   λ same. (Equal-is (pair_cmp a b)).1 (ap (λ k. pair_cmp a k) (sym same) ∙ tied_itself edge_total a),
 )
 
-edge_among : (t : Taxonomy) (p q : ℕ) → has_edge t p q ≡ true → Among (set.items t.edges) (p, q)
+pub edge_among : (t : Taxonomy) (p q : ℕ) → has_edge t p q ≡ true → Among (set.items t.edges) (p, q)
 edge_among t p q h =
     let found = among_from_any (eq_by_cmp pair_cmp (p, q)) (set.items t.edges) (sym (set.contains-items t.edges (p, q)) ∙ h) in
     subst (λ (e : ℕ × ℕ). Among (set.items t.edges) e) (sym ((edge_decides (p, q) found.0).0 found.2)) found.1
@@ -50,7 +50,7 @@ edge_among t p q h =
 among_edge : (t : Taxonomy) (p q : ℕ) → Among (set.items t.edges) (p, q) → has_edge t p q ≡ true
 among_edge t p q m = set.contains-items t.edges (p, q) ∙ any_from_among (eq_by_cmp pair_cmp (p, q)) (set.items t.edges) (p, q) m ((edge_decides (p, q) (p, q)).1 refl)
 
-edge_of : (t : Taxonomy) (p q : ℕ) → Linked no_links (set.items t.edges) p q → has_edge t p q ≡ true
+pub edge_of : (t : Taxonomy) (p q : ℕ) → Linked no_links (set.items t.edges) p q → has_edge t p q ≡ true
 edge_of t p q (inl none) = absurd (among_from_contains (no_links p) q none)
 edge_of t p q (inr edge) = among_edge t p q (among_from_contains (set.items t.edges) (p, q) edge)
 
@@ -118,9 +118,14 @@ module _ (k : Kept) (sound : AreSound k) where
       by (inl h) = own (word_of k.dict m) refl (ap (λ o. is_own_link (declared_of k) o (word_of k.dict m)) (sym is) ∙ h)
       by (inr h) = let found = among_from_any (is_pair n m) k.axioms h in pair found.0 found.1 found.2
 
+  -- the end of a chain from a word with a number has one
+  pub chain_has_number : (len n : ℕ) (p q : List ℕ) → word_of k.dict n ≡ Some p → Chain (links (declared_of k)) (axioms_of k) len p q → (m : ℕ) × (word_of k.dict m ≡ Some q)
+  chain_has_number zero n p q is same = (n, is ∙ ap Some same)
+  chain_has_number (suc len) n p q is c = let link = link_numbered n p c.0 is c.1 in chain_has_number len link.number c.0 q link.named c.2
+
   -- ---- chains
   module _ (t : Taxonomy) (tells : TellsLinks k t) where
-    chain_numbered : (len n : ℕ) (p q : List ℕ) → word_of k.dict n ≡ Some p → Chain (links (declared_of k)) (axioms_of k) len p q
+    pub chain_numbered : (len n : ℕ) (p q : List ℕ) → word_of k.dict n ≡ Some p → Chain (links (declared_of k)) (axioms_of k) len p q
         → (m : ℕ) × (word_of k.dict m ≡ Some q) × Chain no_links (set.items t.edges) len n m
     chain_numbered zero n p q is same = (n, is ∙ ap Some same, refl)
     chain_numbered (suc len) n p q is c =
@@ -129,7 +134,7 @@ module _ (k : Kept) (sound : AreSound k) where
         let edge = edge_among t n link.number (tells.edges n link.number ∙ link.linked) in
         (rest.0, rest.1, (link.number, inr (contains_from_among (set.items t.edges) (n, link.number) edge), rest.2))
 
-    chain_named : (len n m : ℕ) (p : List ℕ) → word_of k.dict n ≡ Some p → Chain no_links (set.items t.edges) len n m
+    pub chain_named : (len n m : ℕ) (p : List ℕ) → word_of k.dict n ≡ Some p → Chain no_links (set.items t.edges) len n m
         → (q : List ℕ) × (word_of k.dict m ≡ Some q) × Chain (links (declared_of k)) (axioms_of k) len p q
     chain_named zero n m p is same = (p, ap (word_of k.dict) (sym same) ∙ is, refl)
     chain_named (suc len) n m p is c =

@@ -22,7 +22,7 @@ use Rattle.lis_kept.specs.Under.{LinksEach}
 use Rattle.lis_kept.specs.Changes.{Marks, Declares}
 use Rattle.lis_kept.specs.Telling.{declared_of, axioms_of, state_of, is_head_by, is_used, AreUsed}
 use Rattle.lis_kept.proofs.Known.{one_number, among_axiom}
-use Rattle.lis_kept.proofs.Entailed.{link_numbered}
+use Rattle.lis_kept.proofs.Entailed.{link_numbered, chain_has_number}
 
 -- ---- states
 under_step : (word : List ℕ) (axioms : List (List ℕ × List ℕ)) (ws : List (List ℕ)) (w : List ℕ)
@@ -83,11 +83,6 @@ declared_then_marked word p mid q declares rights each =
 
 -- ---- a word to which nothing leads is entailed by itself alone
 module _ (k : Kept) (sound : AreSound k) (number : ℕ) (word : List ℕ) (named : word_of k.dict number ≡ Some word) (nothing : (x : ℕ) → is_linked k x number ≡ false) where
-  -- the end of a chain from a word with a number has one
-  ends : (len n : ℕ) (p q : List ℕ) → word_of k.dict n ≡ Some p → Chain (links (declared_of k)) (axioms_of k) len p q → (m : ℕ) × (word_of k.dict m ≡ Some q)
-  ends zero n p q is same = (n, is ∙ ap Some same)
-  ends (suc len) n p q is c = let link = link_numbered k sound n p c.0 is c.1 in ends len link.number c.0 q link.named c.2
-
   pub not_entailed : (n : ℕ) (p : List ℕ) → word_of k.dict n ≡ Some p → (n ≡ number → ⊥) → has_word (up (declared_of k) (axioms_of k) p) word ≡ false
   not_entailed n p is differ =
       false_from_ne_true (has_word (up (declared_of k) (axioms_of k) p) word)
@@ -97,7 +92,7 @@ module _ (k : Kept) (sound : AreSound k) (number : ℕ) (word : List ℕ) (named
       by zero same = differ (one_number k sound n number word (is ∙ ap Some same) named)
       by (suc len) c =
           let last = chain_last (declared_of k) (axioms_of k) len p word c in
-          let from = ends len n p last.0 is last.1 in
+          let from = chain_has_number k sound len n p last.0 is last.1 in
           let link = link_numbered k sound from.0 last.0 word from.1 last.2 in
           let same = one_number k sound link.number number word link.named named in
           both_ways (is_linked k from.0 number) (nothing from.0) (subst (λ m. is_linked k from.0 m ≡ true) same link.linked)

@@ -23,7 +23,7 @@ use Rattle.lis_kept.proofs.RowBytes.{row_bytes_same}
 use Rattle.lis_kept.proofs.Formed.{held_files, AreWithin, none_past}
 use Rattle.lis_kept.proofs.Filing.{same_tests, among_from_number, number_from_among}
 use Rattle.lis_kept.proofs.Marking.{AreBelow, blocks_marked}
-use Rattle.lis_kept.proofs.Described.{among_where, where_among}
+use Rattle.lis_ext.proofs.Numbers.{among_where, where_among}
 use Rattle.lis_kept.proofs.MarkedWithin.{marked_only}
 
 -- ---- rows

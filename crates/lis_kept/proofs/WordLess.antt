@@ -42,7 +42,7 @@ use Rattle.lis_kept.proofs.HeadEdges.{no_more_edges, other_edges, none_left}
 use Rattle.lis_kept.proofs.OwnLinks.{own_from, own_to, undeclared_not_test, slot_at, among_slot, unnamed_to, unnamed_from}
 use Rattle.lis_kept.proofs.WordMore.{flat_all, sorted_declared, declared_there, there_declared}
 
-any_same : {X : Type 0} (f g : X → Bool) (xs : List X) → ((x : X) → Among xs x → f x ≡ g x) → list_any f xs ≡ list_any g xs
+pub any_same : {X : Type 0} (f g : X → Bool) (xs : List X) → ((x : X) → Among xs x → f x ≡ g x) → list_any f xs ≡ list_any g xs
 any_same f g [] same = refl
 any_same f g (x ∷ xs) same = ap₂ (λ a b. a || b) (same x (inl refl)) (any_same f g xs (λ z m. same z (inr m)))
 

@@ -1,5 +1,5 @@
 -- A declared word that loses its number.
-use Rattle.std.proofs.Common.{◌≡◌, ◌⊎◌, refl, sym, ap, ap₂, ◌∙◌, subst, inl, inr, ℕ, ◌<◌, ◌==◌, if◌then◌else◌, ◌&&◌, ◌||◌, not, nat_lt, Bool, true, false, List, [], ◌∷◌, map, set, Option, Some, None, is_some, IsSome, slice_get, arith, length-set, get_or-set_same, get_or-set_other}
+use Rattle.std.proofs.Common.{◌≡◌, ◌⊎◌, refl, sym, ap, ap₂, ◌∙◌, subst, inl, inr, ℕ, ◌<◌, ◌==◌, if◌then◌else◌, ◌&&◌, ◌||◌, not, nat_lt, Bool, true, false, List, [], map, set, Option, Some, None, is_some, IsSome, slice_get, arith, length-set, get_or-set_same, get_or-set_other}
 use Rattle.std.specs.Option.{option_to_list}
 use Rattle.std.specs.BTreeSet.{insert_key}
 use Rattle.std.specs.List.{list_all, list_any, fold, filter}
@@ -42,11 +42,7 @@ use Rattle.lis_kept.proofs.Filing.{map_all, filed_rec, number_from_among}
 use Rattle.lis_kept.proofs.OwnLinks.{slot_at, among_slot, none_before, unnamed_to, unnamed_from}
 use Rattle.lis_kept.proofs.TestLinks.{linked_by}
 use Rattle.lis_kept.proofs.WordMore.{flat_all, sorted_declared, declared_there, there_declared}
-use Rattle.lis_kept.proofs.WordLess.{had_from}
-
-any_alike : {X : Type 0} (f g : X → Bool) (xs : List X) → ((x : X) → Among xs x → f x ≡ g x) → list_any f xs ≡ list_any g xs
-any_alike f g [] same = refl
-any_alike f g (x ∷ xs) same = ap₂ (λ a b. a || b) (same x (inl refl)) (any_alike f g xs (λ z m. same z (inr m)))
+use Rattle.lis_kept.proofs.WordLess.{any_same, had_from}
 
 module _ (p : Kept) (t : Taxonomy) (held : AreHeld p t) {number : ℕ} (may : MayUndeclare number p) {word : List ℕ} (there : word_of p.dict number ≡ Some word) where
   abbrev less : Dict
@@ -298,7 +294,7 @@ module _ (p : Kept) (t : Taxonomy) (held : AreHeld p t) {number : ℕ} (may : Ma
   used_then : (n : ℕ) → is_some (word_of less n) ≡ true → is_used undeclared_parts n ≡ is_used p n
   used_then n some =
       ap₂ (λ a b. a || is_had p.ext n || (list_any (is_left_of n) p.axioms || b)) (bit_other n still)
-      (any_alike (is_left_head_of less n) (is_left_head_of p.dict n) p.axioms alike)
+      (any_same (is_left_head_of less n) (is_left_head_of p.dict n) p.axioms alike)
     where
       still : n ≡ number → ⊥
       still same = both_ways (is_some (word_of less n)) (ap is_some (ap (word_of less) same ∙ word_gone)) some

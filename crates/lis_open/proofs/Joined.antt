@@ -13,7 +13,7 @@ use Rattle.lis_dict.specs.Dict.{IsDict, number_of, word_of}
 use Rattle.lis_dict.proofs.Laws.{number_from_word, number_below}
 use Rattle.lis_catalog.specs.Catalog.{rec_at}
 use Rattle.lis_ext.specs.Ext.{has, set_of as numbers_at}
-use Rattle.lis_kept.proofs.Described.{among_where, where_among}
+use Rattle.lis_ext.proofs.Numbers.{among_where, where_among}
 use Rattle.lis_taxonomy.specs.Taxonomy.{no_links, has_edge, entails, Entails as Leads}
 use Rattle.lis_taxonomy.proofs.Laws.{entails_decides}
 use Rattle.lis_fields.specs.Records.{FileRecord}
@@ -46,7 +46,8 @@ use Rattle.lis_open.specs.declared.files.Files.{Files}
 use Rattle.lis_open.specs.ReadWords.{declared_words, kept_words, is_left, is_right, AreFirstAxioms}
 use Rattle.lis_open.specs.ReadFiles.{is_described, described, found_words, own_numbers, HasSomeNumbers, AreNumbers, is_assignable_number, AreFirstFiles}
 use Rattle.lis_open.specs.ReadAll.{AreNoMarks, kept_in, AreRead}
-use Rattle.lis_open.proofs.Edges.{edge_of, leads_on}
+use Rattle.lis_kept.proofs.Entailed.{edge_of}
+use Rattle.lis_open.proofs.Edges.{leads_on}
 use Rattle.lis_open.proofs.LinkedTests.{linked_test}
 use Rattle.lis_open.proofs.WordPlaces.{LeftWord, RightWord, left_word, right_word, assignable_word, some_from, used_from, valued_headed, declared_flagged}
 use Rattle.lis_open.proofs.Owned.{IsNumbered, own_numbered, tag_owned}

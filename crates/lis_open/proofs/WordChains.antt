@@ -24,7 +24,7 @@ use Rattle.lis_kept.specs.Links.{is_pair, has_pair, is_own_link, is_linked, Tell
 use Rattle.lis_kept.proofs.Known.{some_number, only_pair, placed_at, among_place}
 use Rattle.lis_open.specs.declared.words.Words.{Words}
 use Rattle.lis_open.specs.ReadWords.{declared_words, kept_words}
-use Rattle.lis_open.proofs.Edges.{edge_among, edge_of}
+use Rattle.lis_kept.proofs.Entailed.{edge_among, edge_of}
 use Rattle.lis_open.proofs.WordPlaces.{valued_headed, declared_numbered}
 use Rattle.lis_open.proofs.Owned.{IsNumbered, bare_numbered}
 use Rattle.lis_open.proofs.Joined.{Sides}

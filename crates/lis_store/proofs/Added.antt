@@ -42,7 +42,8 @@ use Rattle.lis_store.specs.ReplacingIn.{MayComeIn}
 use Rattle.lis_store.specs.Adding.{is_one_of, AreNumbered, numbers_named, with_heads, learnt_words, PutsIn}
 use Rattle.lis_store.proofs.Coming.{ComesIn, comes_in}
 use Rattle.lis_store.proofs.Cleaned.{clean_is, sound_clean, in_use_clean, tests_clean}
-use Rattle.lis_store.proofs.Entailment.{link_named, up_has_number}
+use Rattle.lis_kept.proofs.Entailed.{link_named}
+use Rattle.lis_store.proofs.Entailment.{up_has_number}
 use Rattle.lis_store.proofs.Naming.{one_of, of_one, named_has, named_few}
 use Rattle.lis_store.proofs.PutIn.{may_come, heads_described, entailed_is, declared_same, own_numbered, behind_itself}
 use Rattle.lis_store.proofs.MetTests.{met_numbered}

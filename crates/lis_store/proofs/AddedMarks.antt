@@ -16,14 +16,13 @@ use Rattle.lis_laws.proofs.Derived.{derived_few}
 use Rattle.lis_kept.specs.Kept.{Kept}
 use Rattle.lis_kept.specs.Areas.{marked_count}
 use Rattle.lis_kept.specs.Sound.{AreSound, FreeSlotsAreEmpty}
-use Rattle.lis_kept.proofs.Described.{among_where}
+use Rattle.lis_ext.proofs.Numbers.{among_where, sorted_where}
 use Rattle.lis_kept.proofs.Filing.{among_from_number}
 use Rattle.lis_store.specs.Changes.{differing_bits}
 use Rattle.lis_store.specs.Admitting.{described_by, IsAdmitted}
 use Rattle.lis_store.specs.Adding.{is_one_of, numbers_named, behind_head, with_heads, learnt_words, PutsIn}
 use Rattle.lis_store.proofs.Added.{free_slot, below_files, set_here}
 use Rattle.lis_store.proofs.Coming.{comes_in}
-use Rattle.lis_store.proofs.Numbers.{sorted_where}
 use Rattle.lis_store.proofs.PutIn.{may_come, none_has, slot_was_empty}
 use Rattle.lis_store.proofs.Removed.{sum_has}
 

@@ -31,7 +31,7 @@ use Rattle.lis_kept.specs.Kept.{Kept}
 use Rattle.lis_kept.specs.Links.{TellsLinks}
 use Rattle.lis_kept.specs.Sound.{AreSound, FreeSlotsAreEmpty}
 use Rattle.lis_kept.specs.Telling.{bit_of, is_declared, declared_of, axioms_of, bytes_told, words_told, file_told, state_of, Tells}
-use Rattle.lis_kept.proofs.Described.{among_where, where_among}
+use Rattle.lis_ext.proofs.Numbers.{among_where, where_among}
 use Rattle.lis_kept.proofs.Filing.{same_tests, among_from_number, number_from_among, filed_rec, filed_at_slot}
 use Rattle.lis_kept.proofs.Formed.{named_all, named_below, some_word}
 use Rattle.lis_kept.proofs.Known.{some_number, among_word, word_among}

@@ -18,7 +18,7 @@ use Rattle.lis_kept.specs.Telling.{declared_of, axioms_of}
 use Rattle.lis_kept.proofs.Filing.{same_tests}
 use Rattle.lis_ext.specs.Numbers.{numbers_where}
 use Rattle.lis_store.specs.Adding.{is_one_of, numbers_named}
-use Rattle.lis_store.proofs.Entailment.{chain_named, leads_from_up}
+use Rattle.lis_kept.proofs.Entailed.{chain_named, leads_from_up}
 use Rattle.lis_store.proofs.Naming.{one_of, of_one, one_of_none, one_of_both, named_few, same_shape, value_at, shown_numbers}
 
 one_of_set : (words : List (List ℕ)) (o : Option (List ℕ)) → is_one_of (set_of words) o ≡ is_one_of words o

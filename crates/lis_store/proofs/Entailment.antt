@@ -1,168 +1,28 @@
--- Chains of links between words that have numbers are chains of edges between their numbers.
-use Rattle.std.proofs.Common.{◌≡◌, ◌⊎◌, ℕ, zero, suc, ◌==◌, true, List, Option, Some, None, Decides, refl, sym, ap, ap₂, ◌∙◌, subst, inl, inr, eq-eqb}
-use Rattle.std.specs.Ordering.{nat_cmp, eq_by_cmp}
-use Rattle.std.specs.Cmp.{IsTotalOrder, nat_cmp_total, Equal-is, tied_itself}
-use Rattle.std.specs.FinSet as set
-use Rattle.std.proofs.lemmas.Bool.{and_parts, and_from, or_cases, or_left, or_right, eqb-true}
-use Rattle.std.proofs.lemmas.Option.{same_Some}
-use Rattle.std.proofs.lemmas.Map.Lookups.{CmpEqualImpliesEq, exact_unsigned}
-use Rattle.lis_graph.specs.Graph.{Linked, Chain}
-use Rattle.lis_graph.proofs.Members.{Among, among_from_contains, contains_from_among, among_from_any, any_from_among}
-use Rattle.lis_graph.proofs.Pairs.{pairs_total, pairs_exact}
-use Rattle.lis_dict.specs.Dict.{word_of, number_of}
-use Rattle.lis_dict.proofs.Laws.{word_from_number}
-use Rattle.lis_taxonomy.specs.Taxonomy.{Taxonomy, pair_cmp, no_links, has_edge, Entails as Leads}
+-- What a word with a number entails has a number, and the files that have the one have the other.
+use Rattle.std.proofs.Common.{◌≡◌, ℕ, zero, suc, true, List, Some, ap, ◌∙◌, subst}
+use Rattle.lis_graph.specs.Graph.{Chain}
+use Rattle.lis_graph.proofs.Members.{Among}
+use Rattle.lis_dict.specs.Dict.{word_of}
 use Rattle.lis_ext.specs.Ext.{has}
-use Rattle.lis_fields.specs.declared.slots.AxiomSlot.{AxiomSlot}
-use Rattle.lis_fields.specs.declared.slots.AxiomSlot.TheVariants.{Free as FreeAxiom, Pair}
-use Rattle.lis_words.specs.Words.{head_bytes}
 use Rattle.lis_model.specs.State.{links, up}
-use Rattle.lis_laws.proofs.Members.{among_from_has_word, has_word_from_among}
-use Rattle.lis_laws.proofs.Chains.{OwnLink, own_link, up_from_entails, entails_from_up}
-use Rattle.lis_laws.proofs.Chains.OwnLink.{Head, Weaker}
+use Rattle.lis_laws.proofs.Chains.{entails_from_up}
 use Rattle.lis_kept.specs.Kept.{Kept}
 use Rattle.lis_kept.specs.Sound.{AreSound}
 use Rattle.lis_kept.specs.Telling.{declared_of, axioms_of}
-use Rattle.lis_kept.specs.Links.{is_pair, has_pair, is_own_link, is_linked, TellsLinks}
-use Rattle.lis_kept.proofs.Formed.{some_word}
-use Rattle.lis_kept.proofs.Known.{some_number, placed_at, among_place, one_number, declared_has_number, axiom_among, among_axiom}
+use Rattle.lis_kept.proofs.Known.{one_number}
+use Rattle.lis_kept.proofs.Entailed.{link_numbered, chain_has_number}
 use Rattle.lis_store.specs.Stored.{AreClosed}
 
--- ---- the edges of a taxonomy
-edge_total : IsTotalOrder pair_cmp
-edge_total = pairs_total nat_cmp nat_cmp nat_cmp_total nat_cmp_total exact_unsigned exact_unsigned
-
-edge_exact : CmpEqualImpliesEq pair_cmp
-edge_exact = pairs_exact nat_cmp nat_cmp nat_cmp_total nat_cmp_total exact_unsigned exact_unsigned
-
-edge_decides : (a b : ℕ × ℕ) → Decides (eq_by_cmp pair_cmp a b) (a ≡ b)
-edge_decides a b = (
-  λ h. edge_exact a b ((Equal-is (pair_cmp a b)).0 h),
-  λ same. (Equal-is (pair_cmp a b)).1 (ap (λ k. pair_cmp a k) (sym same) ∙ tied_itself edge_total a),
-)
-
-edge_among : (t : Taxonomy) (p q : ℕ) → has_edge t p q ≡ true → Among (set.items t.edges) (p, q)
-edge_among t p q h =
-    let found = among_from_any (eq_by_cmp pair_cmp (p, q)) (set.items t.edges) (sym (set.contains-items t.edges (p, q)) ∙ h) in
-    subst (λ (e : ℕ × ℕ). Among (set.items t.edges) e) (sym ((edge_decides (p, q) found.0).0 found.2)) found.1
-
-among_edge : (t : Taxonomy) (p q : ℕ) → Among (set.items t.edges) (p, q) → has_edge t p q ≡ true
-among_edge t p q m = set.contains-items t.edges (p, q) ∙ any_from_among (eq_by_cmp pair_cmp (p, q)) (set.items t.edges) (p, q) m ((edge_decides (p, q) (p, q)).1 refl)
-
-edge_of : (t : Taxonomy) (p q : ℕ) → Linked no_links (set.items t.edges) p q → has_edge t p q ≡ true
-edge_of t p q (inl none) = absurd (among_from_contains (no_links p) q none)
-edge_of t p q (inr edge) = among_edge t p q (among_from_contains (set.items t.edges) (p, q) edge)
-
--- ---- links between words, and links between their numbers
--- a number whose word the number before it links to
-pub record NumberedLink (k : Kept) (n : ℕ) (r : List ℕ) : Type 0 where
-  pub number : ℕ
-  pub named : word_of k.dict number ≡ Some r
-  pub linked : is_linked k n number ≡ true
-
 module _ (k : Kept) (sound : AreSound k) where
-  -- a link between words, by its definition
-  abbrev WordLink : List ℕ → List ℕ → Type 0
-  WordLink p r = Linked (links (declared_of k)) (axioms_of k) p r
-
-  pub link_numbered : (n : ℕ) (p r : List ℕ) → word_of k.dict n ≡ Some p → WordLink p r → NumberedLink k n r
-  link_numbered n p r is (inl own) = by (own_link (declared_of k) p r m)
-    where
-      m : Among (links (declared_of k) p) r
-      m = among_from_contains (links (declared_of k) p) r own
-
-      at : (number : ℕ) → word_of k.dict number ≡ Some r → NumberedLink k n r
-      at number named = record {
-        number = number;
-        named = named;
-        linked = or_left (is_own_link (declared_of k) (word_of k.dict n) (word_of k.dict number)) (has_pair k.axioms n number)
-            (ap₂ (is_own_link (declared_of k)) is named ∙ has_word_from_among (links (declared_of k) p) r m);
-      }
-
-      by : OwnLink (declared_of k) p r → NumberedLink k n r
-      by (Head valued same) =
-          let number = some_number (number_of k.dict (head_bytes p)) (sound.heads n p is valued) in
-          at number.0 (word_from_number k.dict sound.dict (head_bytes p) number.0 number.1 ∙ ap Some same)
-      by (Weaker weaker) = let number = declared_has_number k sound r weaker.to in at number.0 number.1
-  link_numbered n p r is (inr edge) =
-      let found = among_axiom k sound (p, r) (among_from_contains (axioms_of k) (p, r) edge) in
-      record {
-        number = found.2;
-        named = found.5;
-        linked = or_right (is_own_link (declared_of k) (word_of k.dict n) (word_of k.dict found.2)) (has_pair k.axioms n found.2)
-            (any_from_among (is_pair n found.2) k.axioms (Pair found.1 found.2) (among_place k.axioms found.0 (Pair found.1 found.2) found.3)
-            (and_from (found.1 == n) (found.2 == found.2) (eq-eqb found.1 n (one_number k sound found.1 n p found.4 is)) (eq-eqb found.2 found.2 refl)));
-      }
-
-  pub link_named : (n m : ℕ) (p : List ℕ) → word_of k.dict n ≡ Some p → is_linked k n m ≡ true → (r : List ℕ) × (word_of k.dict m ≡ Some r) × WordLink p r
-  link_named n m p is linked = by (or_cases (is_own_link (declared_of k) (word_of k.dict n) (word_of k.dict m)) (has_pair k.axioms n m) linked)
-    where
-      own : (o : Option (List ℕ)) → word_of k.dict m ≡ o → is_own_link (declared_of k) (Some p) o ≡ true → (r : List ℕ) × (word_of k.dict m ≡ Some r) × WordLink p r
-      own None named h = absurd cc
-      own (Some r) named h = (r, named, inl (contains_from_among (links (declared_of k) p) r (among_from_has_word (links (declared_of k) p) r h)))
-
-      pair : (a : AxiomSlot) → Among k.axioms a → is_pair n m a ≡ true → (r : List ℕ) × (word_of k.dict m ≡ Some r) × WordLink p r
-      pair FreeAxiom there h = absurd cc
-      pair (Pair a b) there h =
-          let sides = and_parts (a == n) (b == m) h in
-          let place = placed_at k.axioms (Pair a b) there in
-          let right = some_word (word_of k.dict b) (sound.axioms place.0 a b place.1).right in
-          let left : word_of k.dict a ≡ Some p = ap (word_of k.dict) (eqb-true a n sides.0) ∙ is in (
-            right.0,
-            ap (word_of k.dict) (sym (eqb-true b m sides.1)) ∙ right.1,
-            inr (contains_from_among (axioms_of k) (p, right.0) (axiom_among k sound place.0 a b p right.0 place.1 left right.1)),
-          )
-
-      by : (is_own_link (declared_of k) (word_of k.dict n) (word_of k.dict m) ≡ true) ⊎ (has_pair k.axioms n m ≡ true) → (r : List ℕ) × (word_of k.dict m ≡ Some r) × WordLink p r
-      by (inl h) = own (word_of k.dict m) refl (ap (λ o. is_own_link (declared_of k) o (word_of k.dict m)) (sym is) ∙ h)
-      by (inr h) = let found = among_from_any (is_pair n m) k.axioms h in pair found.0 found.1 found.2
-
-  -- ---- chains
-  module _ (t : Taxonomy) (tells : TellsLinks k t) where
-    pub chain_numbered : (len n : ℕ) (p q : List ℕ) → word_of k.dict n ≡ Some p → Chain (links (declared_of k)) (axioms_of k) len p q
-        → (m : ℕ) × (word_of k.dict m ≡ Some q) × Chain no_links (set.items t.edges) len n m
-    chain_numbered zero n p q is same = (n, is ∙ ap Some same, refl)
-    chain_numbered (suc len) n p q is c =
-        let link = link_numbered n p c.0 is c.1 in
-        let rest = chain_numbered len link.number c.0 q link.named c.2 in
-        let edge = edge_among t n link.number (tells.edges n link.number ∙ link.linked) in
-        (rest.0, rest.1, (link.number, inr (contains_from_among (set.items t.edges) (n, link.number) edge), rest.2))
-
-    pub chain_named : (len n m : ℕ) (p : List ℕ) → word_of k.dict n ≡ Some p → Chain no_links (set.items t.edges) len n m
-        → (q : List ℕ) × (word_of k.dict m ≡ Some q) × Chain (links (declared_of k)) (axioms_of k) len p q
-    chain_named zero n m p is same = (p, ap (word_of k.dict) (sym same) ∙ is, refl)
-    chain_named (suc len) n m p is c =
-        let link = link_named n c.0 p is (sym (tells.edges n c.0) ∙ edge_of t n c.0 c.1) in
-        let rest = chain_named len c.0 m link.0 link.1 c.2 in
-        (rest.0, rest.1, (link.0, link.2, rest.2))
-
-    -- a number leads to a number where the word of the one entails the word of the other
-    pub leads_from_up : (n m : ℕ) (p q : List ℕ) → word_of k.dict n ≡ Some p → word_of k.dict m ≡ Some q → Among (up (declared_of k) (axioms_of k) p) q → Leads t n m
-    leads_from_up n m p q is_p is_q h =
-        let chain = entails_from_up (declared_of k) (axioms_of k) p q h in
-        let numbered = chain_numbered chain.0 n p q is_p chain.1 in
-        (chain.0, subst (λ j. Chain no_links (set.items t.edges) chain.0 n j) (one_number k sound numbered.0 m q numbered.1 is_q) numbered.2)
-
-    pub up_from_leads : (n m : ℕ) (p q : List ℕ) → word_of k.dict n ≡ Some p → word_of k.dict m ≡ Some q → Leads t n m → Among (up (declared_of k) (axioms_of k) p) q
-    up_from_leads n m p q is_p is_q leads =
-        let named = chain_named leads.0 n m p is_p leads.1 in
-        let same : named.0 ≡ q = same_Some named.0 q (sym named.1 ∙ is_q) in
-        subst (λ w. Among (up (declared_of k) (axioms_of k) p) w) same (up_from_entails (declared_of k) (axioms_of k) p named.0 (leads.0, named.2))
-
-  -- what a word with a number entails has one
-  chain_has_number : (len n : ℕ) (p q : List ℕ) → word_of k.dict n ≡ Some p → Chain (links (declared_of k)) (axioms_of k) len p q → (m : ℕ) × (word_of k.dict m ≡ Some q)
-  chain_has_number zero n p q is same = (n, is ∙ ap Some same)
-  chain_has_number (suc len) n p q is c = let link = link_numbered n p c.0 is c.1 in chain_has_number len link.number c.0 q link.named c.2
-
   pub up_has_number : (n : ℕ) (p q : List ℕ) → word_of k.dict n ≡ Some p → Among (up (declared_of k) (axioms_of k) p) q → (m : ℕ) × (word_of k.dict m ≡ Some q)
-  up_has_number n p q is entailed = let chain = entails_from_up (declared_of k) (axioms_of k) p q entailed in chain_has_number chain.0 n p q is chain.1
+  up_has_number n p q is entailed = let chain = entails_from_up (declared_of k) (axioms_of k) p q entailed in chain_has_number k sound chain.0 n p q is chain.1
 
   -- a file that has a number has those of all words that its word entails
   closed_chain : AreClosed k → (slot len n : ℕ) (p q : List ℕ) → word_of k.dict n ≡ Some p → has k.ext n slot ≡ true → Chain (links (declared_of k)) (axioms_of k) len p q
       → (m : ℕ) × (word_of k.dict m ≡ Some q) × (has k.ext m slot ≡ true)
   closed_chain closed slot zero n p q is h same = (n, is ∙ ap Some same, h)
   closed_chain closed slot (suc len) n p q is h c =
-      let link = link_numbered n p c.0 is c.1 in
+      let link = link_numbered k sound n p c.0 is c.1 in
       closed_chain closed slot len link.number c.0 q link.named (closed slot n link.number h link.linked) c.2
 
   pub closed_up : AreClosed k → (slot n m : ℕ) (p q : List ℕ) → word_of k.dict n ≡ Some p → word_of k.dict m ≡ Some q → has k.ext n slot ≡ true

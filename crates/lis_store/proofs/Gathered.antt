@@ -20,7 +20,7 @@ use Rattle.lis_kept.specs.Links.{TellsLinks}
 use Rattle.lis_kept.specs.Telling.{declared_of, axioms_of}
 use Rattle.lis_store.specs.Describing.{with_heads, leads, IsEntailed, AreGathered, Gathers}
 use Rattle.lis_store.proofs.Assigned.{flat_next}
-use Rattle.lis_store.proofs.Entailment.{leads_from_up, chain_named}
+use Rattle.lis_kept.proofs.Entailed.{leads_from_up, chain_named}
 
 pub or_nothing : (b : Bool) → (b || false) ≡ b
 or_nothing true = refl

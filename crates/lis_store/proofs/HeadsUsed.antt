@@ -21,13 +21,8 @@ use Rattle.lis_kept.specs.Telling.{declared_of, is_left_of, is_head_by, is_left_
 use Rattle.lis_kept.proofs.OwnLinks.{own_head}
 use Rattle.lis_kept.proofs.Used.{had_at}
 use Rattle.lis_kept.proofs.WordLess.{had_from}
+use Rattle.lis_kept.proofs.Emptied.{flagged_not_valued}
 use Rattle.lis_store.specs.Stored.{AreClosed}
-
--- the word of a number that is declared is not valued
-pub flagged_not_valued : (k : Kept) → AreSound k → (n : ℕ) (w : List ℕ) → word_of k.dict n ≡ Some w → is_taken k.declared n ≡ true → is_valued w ≡ false
-flagged_not_valued k sound n w is bit =
-    let formed : is_declarable w ≡ true = sym (ap (λ b. is_prop (property_by (Some w) b)) bit) ∙ (sym (ap (λ o. is_prop (property_by o (is_taken k.declared n))) is) ∙ sound.properties n) in
-    declarable_not_valued w formed
 
 module _ (k : Kept) where
   pub used_flagged : (n : ℕ) → is_taken k.declared n ≡ true → is_used k n ≡ true

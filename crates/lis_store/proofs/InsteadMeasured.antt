@@ -19,7 +19,7 @@ use Rattle.lis_laws.proofs.Members.{word_order, among_from_has_word, has_word_fr
 use Rattle.lis_kept.specs.Kept.{Kept}
 use Rattle.lis_kept.specs.Sound.{AreSound}
 use Rattle.lis_kept.specs.Telling.{words_told, is_had, is_named_left, is_used, AreUsed}
-use Rattle.lis_kept.proofs.Described.{among_where, where_among}
+use Rattle.lis_ext.proofs.Numbers.{among_where, where_among}
 use Rattle.lis_kept.proofs.Filing.{among_from_number, number_from_among}
 use Rattle.lis_kept.proofs.Known.{word_among, among_word, word_known, known_word}
 use Rattle.lis_kept.proofs.Used.{had_at}

@@ -1,4 +1,3 @@
-pub mod Numbers
 pub mod SlotOrder
 pub mod Points
 pub mod Marks

@@ -33,7 +33,8 @@ use Rattle.lis_laws.proofs.Closures.{entailing, entailed_in, sorted_all_up}
 use Rattle.lis_kept.specs.Kept.{Kept}
 use Rattle.lis_kept.specs.Sound.{AreSound}
 use Rattle.lis_kept.specs.Telling.{declared_of, axioms_of, words_told}
-use Rattle.lis_kept.proofs.Described.{among_where, where_among, few_where}
+use Rattle.lis_ext.proofs.Numbers.{among_where, where_among}
+use Rattle.lis_kept.proofs.Described.{few_where}
 use Rattle.lis_kept.proofs.Filing.{same_tests, among_from_number, number_from_among}
 use Rattle.lis_kept.proofs.Known.{among_axiom, declared_has_number, word_among, among_word, word_known, known_word, one_number, only_word}
 use Rattle.lis_kept.proofs.Formed.{some_word}

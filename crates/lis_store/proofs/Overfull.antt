@@ -21,7 +21,7 @@ use Rattle.lis_kept.specs.Kept.{Kept}
 use Rattle.lis_kept.specs.Sound.{AreSound, FreeSlotsAreEmpty}
 use Rattle.lis_kept.specs.Telling.{declared_of, axioms_of, file_told, Tells}
 use Rattle.lis_kept.proofs.AxiomTaken.{one_unfelt}
-use Rattle.lis_kept.proofs.Described.{among_where, where_among}
+use Rattle.lis_ext.proofs.Numbers.{among_where, where_among}
 use Rattle.lis_kept.proofs.Filing.{same_tests, among_from_number, number_from_among, filed_rec, filed_at_slot}
 use Rattle.lis_kept.proofs.Formed.{named_below}
 use Rattle.lis_kept.proofs.Known.{among_word}

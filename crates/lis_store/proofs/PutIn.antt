@@ -33,14 +33,13 @@ use Rattle.lis_kept.specs.Changes.{Adds}
 use Rattle.lis_kept.specs.Sound.{AreSound, FreeSlotsAreEmpty}
 use Rattle.lis_kept.specs.Telling.{is_declared, declared_of, axioms_of}
 use Rattle.lis_kept.proofs.Filing.{number_from_among}
-use Rattle.lis_kept.proofs.Described.{among_where}
+use Rattle.lis_ext.proofs.Numbers.{among_where, sorted_where}
 use Rattle.lis_kept.proofs.InArea.{few_properties}
 use Rattle.lis_store.specs.Admitting.{described_by, known_with, IsAdmitted}
 use Rattle.lis_store.specs.Adding.{is_one_of, numbers_named, AreNumbered, behind_head, with_heads, may_learn, HasWordRoom, LearnsAll, learnt_words}
 use Rattle.lis_store.specs.ReplacingIn.{MayComeIn}
 use Rattle.lis_store.proofs.Learning.{number_there, learns_more, number_learnt, room_left}
 use Rattle.lis_store.proofs.Naming.{one_of, named_one, named_few}
-use Rattle.lis_store.proofs.Numbers.{sorted_where}
 use Rattle.lis_store.proofs.Told.{words_grow}
 
 -- ---- words that may be learnt

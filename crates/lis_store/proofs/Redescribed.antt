@@ -11,7 +11,7 @@ use Rattle.lis_kept.specs.Kept.{Kept}
 use Rattle.lis_kept.specs.Areas.{IsSaved, is_marked, block_of}
 use Rattle.lis_kept.specs.Areas.Area.{Rows}
 use Rattle.lis_kept.specs.Changes.{Describes}
-use Rattle.lis_kept.proofs.Described.{among_where}
+use Rattle.lis_ext.proofs.Numbers.{among_where}
 use Rattle.lis_kept.proofs.Filing.{map_all}
 use Rattle.lis_kept.proofs.MarkedWithin.{marked_only}
 use Rattle.lis_store.specs.Changes.{differing_bits}

@@ -51,7 +51,7 @@ use Rattle.lis_store.proofs.Cleaned.{clean_is, sound_clean, in_use_clean, tests_
 use Rattle.lis_store.proofs.Entailment.{up_has_number}
 use Rattle.lis_store.proofs.Learnt.{used_learnt, file_learnt, described_learnt, word_before, closed_learnt}
 use Rattle.lis_store.proofs.Naming.{one_of, of_one}
-use Rattle.lis_store.proofs.Numbers.{numbers_same}
+use Rattle.lis_ext.proofs.Numbers.{numbers_same}
 use Rattle.lis_store.proofs.FileTests.{plain_leads, test_flagged, flagged_before, tests_stay}
 use Rattle.lis_store.proofs.RelatingIn.{declared_same, axioms_same, left_named, right_named, new_pair}
 

@@ -34,16 +34,16 @@ use Rattle.lis_kept.specs.Kept.{Kept}
 use Rattle.lis_kept.specs.Sound.{AreSound}
 use Rattle.lis_kept.specs.Links.{is_linked}
 use Rattle.lis_kept.specs.Telling.{words_told, declared_of, axioms_of}
-use Rattle.lis_kept.proofs.Described.{among_where, where_among}
+use Rattle.lis_ext.proofs.Numbers.{among_where, where_among, sorted_where}
 use Rattle.lis_kept.proofs.Filing.{among_from_number, number_from_among}
 use Rattle.lis_kept.proofs.Formed.{named_below}
 use Rattle.lis_kept.proofs.Known.{one_number, among_word, word_among}
 use Rattle.lis_kept.proofs.Numbered.{Numbers, numbers_are}
 use Rattle.lis_store.specs.Stored.{AreClosed}
 use Rattle.lis_store.specs.Unlinking.{entails_by, is_entailed, tags_at, stays, remains, remaining, remaining_at}
-use Rattle.lis_store.proofs.Entailment.{link_named, up_has_number, closed_up}
+use Rattle.lis_kept.proofs.Entailed.{link_named}
+use Rattle.lis_store.proofs.Entailment.{up_has_number, closed_up}
 use Rattle.lis_store.proofs.Naming.{one_of, of_one}
-use Rattle.lis_store.proofs.Numbers.{sorted_where}
 
 -- ---- what numbers entail
 -- the words of the two, of which the one entails the other

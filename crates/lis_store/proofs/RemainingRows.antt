@@ -18,7 +18,7 @@ use Rattle.lis_kept.proofs.Formed.{some_word, named_below}
 use Rattle.lis_store.specs.Unlinking.{entails_by, is_entailed, stays, remains, remaining}
 use Rattle.lis_store.proofs.Entailed.{entails_told, out_none, out_more}
 use Rattle.lis_store.proofs.Naming.{same_shape, value_at}
-use Rattle.lis_store.proofs.Numbers.{numbers_same}
+use Rattle.lis_ext.proofs.Numbers.{numbers_same}
 
 -- the rows of a taxonomy tell what numbers entail
 pub row_led : (k : Kept) → AreSound k → (t : Taxonomy) → TellsLinks k t → (entailed : Rows) → ((p q : ℕ) → p < t.props → q < t.props → get entailed p q ≡ entails t p q)

@@ -46,7 +46,7 @@ use Rattle.lis_store.specs.Changes.{Changes, differing_bits}
 use Rattle.lis_store.specs.Judging.{is_among}
 use Rattle.lis_store.specs.Saving.{settled, IsReady, Saves}
 use Rattle.lis_store.specs.Removing.{TakesOut}
-use Rattle.lis_store.proofs.Numbers.{numbers_same, numbers_of}
+use Rattle.lis_ext.proofs.Numbers.{numbers_same, numbers_of}
 use Rattle.lis_store.proofs.Facts.{filed_named, table_told}
 use Rattle.lis_store.proofs.Judged.{change_refused}
 use Rattle.lis_store.proofs.Cleaned.{clean_is, sound_clean, in_use_clean, none_marked, tests_clean}

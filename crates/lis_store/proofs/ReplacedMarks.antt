@@ -20,7 +20,7 @@ use Rattle.lis_model.specs.Changes.{new_file}
 use Rattle.lis_kept.specs.Kept.{Kept}
 use Rattle.lis_kept.specs.Areas.{block_of, marked_count}
 use Rattle.lis_kept.specs.Areas.Area.{Files, Rows}
-use Rattle.lis_kept.proofs.Described.{among_where}
+use Rattle.lis_ext.proofs.Numbers.{among_where, sorted_where}
 use Rattle.lis_kept.proofs.Filing.{among_from_number}
 use Rattle.lis_kept.proofs.InArea.{among_slots}
 use Rattle.lis_store.specs.Changes.{differing_bits}
@@ -29,7 +29,6 @@ use Rattle.lis_store.specs.Adding.{is_one_of, numbers_named, learnt_words}
 use Rattle.lis_store.specs.ReplacingIn.{AreInForm}
 use Rattle.lis_store.proofs.AddedMarks.{heads_few}
 use Rattle.lis_laws.proofs.Derived.{derived_few}
-use Rattle.lis_store.proofs.Numbers.{sorted_where}
 use Rattle.lis_store.proofs.Removed.{sum_has}
 use Rattle.lis_store.proofs.Left.{left_is}
 use Rattle.lis_store.proofs.Replaced.{Replaced, left}

@@ -11,6 +11,7 @@ use Rattle.std.proofs.lemmas.Option.{slice_get_within, get_or_from_slice_get}
 use Rattle.lis_graph.proofs.Members.{Among, among_from_contains, contains_from_among}
 use Rattle.lis_graph.proofs.Ranges.{among_range}
 use Rattle.lis_content.specs.Content.{has_number, are_distinct}
+use Rattle.lis_kept.proofs.WordMore.{flat_all}
 
 -- the k-th slot, where each is given by its number
 pub given_at : {X : Type 0} (f : ℕ → X) (n k : ℕ) (x : X) → slice_get (map f (range_with_len 0 n)) k ≡ Some x → (k < n) × (f k ≡ x)
@@ -19,10 +20,6 @@ given_at f n k x is =
     (within, sym (get_or-map-range_with_len f 0 n k k x within (omega arith)) ∙ get_or_from_slice_get (map f (range_with_len 0 n)) k x x is)
 
 -- ---- lists with the same parts
-pub flat_map_same : {A B : Type 0} (f g : A → List B) (xs : List A) → ((x : A) → Among xs x → f x ≡ g x) → flat_map f xs ≡ flat_map g xs
-flat_map_same f g [] same = refl
-flat_map_same f g (x ∷ xs) same = ap₂ (λ ys zs. ys ++ zs) (same x (inl refl)) (flat_map_same f g xs (λ y m. same y (inr m)))
-
 pub flat_map-flat_map : {A B C : Type 0} (g : B → List C) (f : A → List B) (xs : List A) → flat_map g (flat_map f xs) ≡ flat_map (λ x. flat_map g (f x)) xs
 flat_map-flat_map g f [] = refl
 flat_map-flat_map g f (x ∷ xs) = flat_map-append g (f x) (flat_map f xs) ∙ ap (λ ys. flat_map g (f x) ++ ys) (flat_map-flat_map g f xs)
@@ -99,7 +96,7 @@ slot_more g h k none same a (suc m) low high = by (cases_eq k a) (slot_more g h 
         → IsPermutation (h k ++ (g a ++ flat_map g (range_with_len (a + 1) m))) (h a ++ flat_map h (range_with_len (a + 1) m))
     by (inl here) more =
         let rest = range_with_len (a + 1) m in
-        let others : flat_map g rest ≡ flat_map h rest = flat_map_same g h rest (λ n there. sym (same n (behind n here there))) in
+        let others : flat_map g rest ≡ flat_map h rest = flat_all g h rest (λ n there. sym (same n (behind n here there))) in
         IsPermutation-same (h k ++ (g a ++ flat_map g rest)) (h a ++ flat_map h rest)
         (ap (λ n. h n ++ (g a ++ flat_map g rest)) here
         ∙ (ap (λ xs. h a ++ (xs ++ flat_map g rest)) (ap g (sym here) ∙ none)

@@ -47,7 +47,8 @@ use Rattle.lis_kept.proofs.Filing.{same_tests, filed_rec, filed_at_slot, among_f
 use Rattle.lis_kept.proofs.Known.{placed_at, only_pair, one_number, number_told, declared_word, declared_has_number, declared_set, words_known}
 use Rattle.lis_store.specs.Stands.{Contents, AreSlots, word_in, declared_in, words_in, all_declared, word_at, pair_in, pairs_in, is_named_axiom, is_free_axiom, records_in, all_records, all_blocks, file_by as file_of_record, are_named, spelled_state, is_had_by, row_bit, Spells}
 use Rattle.lis_store.specs.Stored.{PairsAreApart}
-use Rattle.lis_store.proofs.SlotOrder.{given_at, flat_map_same, flat_map-flat_map, permuted_among, distinct_permuted, held, held_at, slot_order}
+use Rattle.lis_kept.proofs.WordMore.{flat_all}
+use Rattle.lis_store.proofs.SlotOrder.{given_at, flat_map-flat_map, permuted_among, distinct_permuted, held, held_at, slot_order}
 use Rattle.lis_store.proofs.Points.{set_of_points, AllApart, length-with_more}
 use Rattle.lis_store.proofs.Marks.{marks_are, distinct_pieces}
 
@@ -127,7 +128,7 @@ module _ (k : Kept) (sound : AreSound k) where
       let parts : List ℕ × ℕ → List (List ℕ) = λ (e : List ℕ × ℕ). e.0 ∷ [] in
       let here : words_in (map property numbers) ≡ flat_map (held_at (λ (e : List ℕ × ℕ). e.1) parts k.dict.entries) numbers =
       flat_map-map (λ p. option_to_list (word_in p)) property numbers
-      ∙ flat_map_same (λ n. option_to_list (word_in (property n))) (held_at (λ (e : List ℕ × ℕ). e.1) parts k.dict.entries) numbers (λ n m. word_once (entry_at n) (is_taken k.declared n)) in
+      ∙ flat_all (λ n. option_to_list (word_in (property n))) (held_at (λ (e : List ℕ × ℕ). e.1) parts k.dict.entries) numbers (λ n m. word_once (entry_at n) (is_taken k.declared n)) in
       subst (λ xs. IsPermutation xs (words_in (map property numbers))) (flat_map_single (λ (e : List ℕ × ℕ). e.0) k.dict.entries)
       (subst (λ xs. IsPermutation (flat_map parts k.dict.entries) xs) (sym here) (slot_order (λ (e : List ℕ × ℕ). e.1) parts k.limits.props k.dict.entries sound.dict.apart entry_in))
 
@@ -182,7 +183,7 @@ module _ (k : Kept) (sound : AreSound k) where
   pair_is (Pair p q) = ap₂ pair_by (word_at_told p) (word_at_told q)
 
   pairs_are : pairs_in (properties_told k) k.axioms ≡ pairs_told k.dict k.axioms
-  pairs_are = flat_map_same (pair_in (properties_told k)) (pair_told k.dict) k.axioms (λ a m. pair_is a)
+  pairs_are = flat_all (pair_in (properties_told k)) (pair_told k.dict) k.axioms (λ a m. pair_is a)
 
   all_axioms_named : IsTrue (list_all (is_named_axiom (properties_told k)) k.axioms)
   all_axioms_named = all_from (is_named_axiom (properties_told k)) k.axioms named
@@ -224,7 +225,7 @@ module _ (k : Kept) (sound : AreSound k) where
       let parts : Filed → List FileRecord = λ (f : Filed). f.rec ∷ [] in
       let here : all_records (files_told k) ≡ flat_map (held_at (λ (f : Filed). f.slot) parts k.catalog.entries) slots =
       flat_map-map records_in (record_at k.catalog) slots
-      ∙ flat_map_same (λ n. records_in (record_at k.catalog n)) (held_at (λ (f : Filed). f.slot) parts k.catalog.entries) slots (λ n m. record_once (filed_at n)) in
+      ∙ flat_all (λ n. records_in (record_at k.catalog n)) (held_at (λ (f : Filed). f.slot) parts k.catalog.entries) slots (λ n m. record_once (filed_at n)) in
       subst (λ xs. IsPermutation xs (all_records (files_told k))) (flat_map_single (λ (f : Filed). f.rec) k.catalog.entries)
       (subst (λ xs. IsPermutation (flat_map parts k.catalog.entries) xs) (sym here) (slot_order (λ (f : Filed). f.slot) parts k.limits.files k.catalog.entries sound.catalog.apart filed_in))
 
@@ -254,7 +255,7 @@ module _ (k : Kept) (sound : AreSound k) where
   pub same_file : (at : ℕ → List ℕ) (rec : FileRecord) → file_of_record k.limits (properties_told k) at rec ≡ file_by_record at rec
   same_file at rec =
       let with_words : List (List ℕ) → File = λ ws. record (file_by_record at rec) { assigned = set_of ws } in
-      ap with_words (flat_map_same (λ n. option_to_list (word_at (properties_told k) n)) (λ n. option_to_list (word_of k.dict n)) rec.tags (λ n m. ap option_to_list (word_at_told n)))
+      ap with_words (flat_all (λ n. option_to_list (word_at (properties_told k) n)) (λ n. option_to_list (word_of k.dict n)) rec.tags (λ n m. ap option_to_list (word_at_told n)))
 
   file_from_slot : (at : ℕ → List ℕ) (file : File) → Among (map (file_of_record k.limits (properties_told k) at) (all_records (files_told k))) file → Among (map (file_told k.limits k.dict at) k.catalog.entries) file
   file_from_slot at file m =
@@ -283,7 +284,7 @@ module _ (k : Kept) (sound : AreSound k) where
       let here : all_blocks k.limits at (all_records (files_told k)) ≡ flat_map (held_at (λ (f : Filed). f.slot) parts k.catalog.entries) slots =
       flat_map-flat_map (blocks_told k.limits at) records_in (files_told k)
       ∙ (flat_map-map (λ s. all_blocks k.limits at (records_in s)) (record_at k.catalog) slots
-      ∙ flat_map_same (λ n. all_blocks k.limits at (records_in (record_at k.catalog n))) (held_at (λ (f : Filed). f.slot) parts k.catalog.entries) slots (λ n m. blocks_once at (filed_at n))) in
+      ∙ flat_all (λ n. all_blocks k.limits at (records_in (record_at k.catalog n))) (held_at (λ (f : Filed). f.slot) parts k.catalog.entries) slots (λ n m. blocks_once at (filed_at n))) in
       subst (λ xs. IsPermutation used xs) (sym here) (slot_order (λ (f : Filed). f.slot) parts k.limits.files k.catalog.entries sound.catalog.apart filed_in)
 
 -- ---- what is told is spelled

@@ -34,7 +34,7 @@ use Rattle.lis_kept.specs.Links.{is_own_link, is_linked, has_pair}
 use Rattle.lis_kept.specs.Telling.{words_told, declared_of, axioms_of, is_head_by, is_used}
 use Rattle.lis_kept.specs.TestEdges.{test_by, is_test_link}
 use Rattle.lis_kept.specs.Under.{is_plain_by, MayStandUnder, DeclaresUnder}
-use Rattle.lis_kept.proofs.Described.{among_where, where_among}
+use Rattle.lis_ext.proofs.Numbers.{among_where, where_among, sorted_where}
 use Rattle.lis_kept.proofs.Filing.{same_tests, among_from_number, number_from_among}
 use Rattle.lis_kept.proofs.Formed.{named_all, named_below, some_word}
 use Rattle.lis_kept.proofs.Known.{among_axiom, among_word}
@@ -51,7 +51,6 @@ use Rattle.lis_store.specs.Unlinking.{is_entailed}
 use Rattle.lis_store.proofs.Declared.{parts_are, dict_is, ext_is, word_other, word_new, told_then, right_word, link_then}
 use Rattle.lis_store.proofs.HeadsUsed.{used_flagged, used_had, used_left, IsUsedFor, used_for}
 use Rattle.lis_store.proofs.HeadsUsed.IsUsedFor.{Flagged, HadAt, NamedLeft}
-use Rattle.lis_store.proofs.Numbers.{sorted_where}
 use Rattle.lis_store.proofs.Redescribed.{same_here, given_then, redescribed_edits}
 use Rattle.lis_store.proofs.Remaining.{led, led_from, led_itself, led_on, few_within}
 use Rattle.lis_store.proofs.TestUnder.{meets_weaker, plain_entails}

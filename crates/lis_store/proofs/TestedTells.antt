@@ -34,7 +34,7 @@ use Rattle.lis_kept.specs.Forgetting.{KeepsInUse}
 use Rattle.lis_kept.specs.Sound.{AreSound, FreeSlotsAreEmpty, BlocksAreTaken}
 use Rattle.lis_kept.specs.Telling.{is_declared, words_told, bytes_told, file_told, state_of, AreUsed, Tells}
 use Rattle.lis_kept.specs.Under.{MayStandUnder, DeclaresUnder}
-use Rattle.lis_kept.proofs.Described.{among_where, where_among}
+use Rattle.lis_ext.proofs.Numbers.{among_where, where_among}
 use Rattle.lis_kept.proofs.Filing.{among_from_number, number_from_among, filed_rec}
 use Rattle.lis_kept.proofs.Formed.{named_all, named_below}
 use Rattle.lis_kept.proofs.Known.{among_word, word_among}

@@ -11,14 +11,11 @@ use Rattle.lis_words.specs.Words.{word_cmp}
 use Rattle.lis_model.specs.Sets.{set_of, with_word, with_words}
 use Rattle.lis_laws.proofs.Counts.{le_insert_key}
 use Rattle.lis_kept.specs.Telling.{words_told}
-
-flat_same : {X Y : Type 0} (f g : X → List Y) (xs : List X) → ((x : X) → Among xs x → f x ≡ g x) → flat_map f xs ≡ flat_map g xs
-flat_same f g [] same = refl
-flat_same f g (x ∷ xs) same = ap₂ (λ ys zs. ys ++ zs) (same x (inl refl)) (flat_same f g xs (λ z m. same z (inr m)))
+use Rattle.lis_kept.proofs.WordMore.{flat_all}
 
 -- numbers whose words are the same in both dictionaries
 pub words_same : (d e : Dict) (ns : List ℕ) → ((n : ℕ) → Among ns n → word_of e n ≡ word_of d n) → words_told e ns ≡ words_told d ns
-words_same d e ns same = ap set_of (flat_same (λ n. option_to_list (word_of e n)) (λ n. option_to_list (word_of d n)) ns (λ n m. ap option_to_list (same n m)))
+words_same d e ns same = ap set_of (flat_all (λ n. option_to_list (word_of e n)) (λ n. option_to_list (word_of d n)) ns (λ n m. ap option_to_list (same n m)))
 
 -- a new word makes a set longer by one
 pub length-with_word : (words : List (List ℕ)) (word : List ℕ) → ((w : List ℕ) → Among words w → word_cmp word w ≡ Equal → ⊥) → length (with_word words word) ≡ length words + 1

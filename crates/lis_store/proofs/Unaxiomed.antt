@@ -37,7 +37,7 @@ use Rattle.lis_kept.specs.Sound.{AreSound, FreeSlotsAreEmpty, BlocksAreTaken}
 use Rattle.lis_kept.specs.TestEdges.{test_by, is_test_link}
 use Rattle.lis_kept.specs.Telling.{words_told, declared_of, axioms_of, file_told, blocks_told, state_of, is_head_by, is_had, is_used, AreUsed, IsFileBlock, Tells}
 use Rattle.lis_kept.proofs.AxiomTaken.{axiom_back, taken_unfelt}
-use Rattle.lis_kept.proofs.Described.{among_where, where_among}
+use Rattle.lis_ext.proofs.Numbers.{among_where, where_among, sorted_where}
 use Rattle.lis_kept.proofs.Filing.{same_tests, among_from_number, number_from_among, filed_rec}
 use Rattle.lis_kept.proofs.Formed.{some_word, named_below, named_all}
 use Rattle.lis_kept.proofs.Known.{among_place, number_told, axiom_among, among_axiom}
@@ -55,7 +55,6 @@ use Rattle.lis_store.proofs.AxiomGone.{none_past, rights_unlinked, pairs_unlinke
 use Rattle.lis_store.proofs.Cleaned.{clean_is, sound_clean, in_use_clean, tests_clean}
 use Rattle.lis_store.proofs.HeadsUsed.{used_had}
 use Rattle.lis_store.proofs.Remaining.{led, led_had, few_within, remaining_told}
-use Rattle.lis_store.proofs.Numbers.{sorted_where}
 use Rattle.lis_store.proofs.Removed.{same_map}
 use Rattle.lis_store.proofs.Told.{words_same}
 

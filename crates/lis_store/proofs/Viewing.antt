@@ -30,7 +30,8 @@ use Rattle.lis_kept.proofs.Filing.{same_tests, filed_rec, filed_slot, filed_at_s
 use Rattle.lis_kept.proofs.Known.{among_word, number_told}
 use Rattle.lis_store.specs.Stored.{AreClosed, TestsAreMet}
 use Rattle.lis_store.specs.Seen.{placed, seen_of, table_of}
-use Rattle.lis_store.proofs.Entailment.{leads_from_up, up_from_leads, closed_up}
+use Rattle.lis_kept.proofs.Entailed.{leads_from_up, up_from_leads}
+use Rattle.lis_store.proofs.Entailment.{closed_up}
 use Rattle.lis_store.proofs.Facts.{any_is_found}
 
 -- the step of a test asks for the size

@@ -5,24 +5,15 @@ ghost use Rattle.std.specs.List.{list_all};
 ghost use Rattle.lis_dict.specs.Dict.{word_of};
 ghost use Rattle.lis_ext.specs.Ext.{has};
 ghost use Rattle.lis_words.specs.Words.{test_of};
-ghost use Rattle.lis_model.specs.Tests.{is_met};
 ghost use Rattle.lis_kept.specs.Sound.{AreSound};
 ghost use Rattle.lis_store.specs.Testing.{is_met_at, is_gained, wider, is_crowded, has_crowded};
 
+use crate::meeting::is_met;
 use lis_kept::Parts;
 use lis_words::{Word, test_of};
 
 /// The most words that a file may have before it gets one more.
 const MOST: u32 = 127;
-
-fn is_met(test: (bool, u64), size: u64) -> bool
-    ensures { result ≡ is_met (Some test) size }
-{
-    if test.0 {
-        return test.1 <= size;
-    }
-    size < test.1
-}
 
 /// Whether there is a file in the slot, and its size meets the test.
 pub(crate) fn is_met_at(parts: &Parts, test: (bool, u64), slot: u16) -> bool
@@ -30,7 +21,7 @@ pub(crate) fn is_met_at(parts: &Parts, test: (bool, u64), slot: u16) -> bool
 {
     match parts.rec(slot) {
         None => false,
-        Some(rec) => is_met(test, u64::from(rec.size)),
+        Some(rec) => is_met(Some(test), u64::from(rec.size)),
     }
 }
 

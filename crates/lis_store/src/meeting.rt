@@ -14,8 +14,8 @@ use lis_bits::{Rows, and_not_row};
 use lis_kept::Parts;
 use lis_words::{Word, test_of};
 
-// Whether a test holds of so many bytes.
-fn is_met(test: Option<(bool, u64)>, size: u64) -> bool
+/// Whether a test holds of so many bytes.
+pub(crate) fn is_met(test: Option<(bool, u64)>, size: u64) -> bool
     ensures { result ≡ is_met test size }
 {
     match test {

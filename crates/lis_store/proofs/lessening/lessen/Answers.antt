@@ -11,7 +11,7 @@ use Rattle.lis_kept.proofs.Formed.{named_below}
 use Rattle.lis_laws.proofs.Counts.{all_from}
 use Rattle.lis_store.specs.Unlinking.{tags_at, remains, remaining, remaining_at}
 use Rattle.lis_store.proofs.Remaining.{remaining_named}
-use Rattle.lis_store.proofs.Numbers.{sorted_where}
+use Rattle.lis_ext.proofs.Numbers.{sorted_where}
 use Rattle.lis_store.proofs.lessening.lessen.Goals as goal
 
 pub get-requires-clause-row : goal.get-requires-clause-row

@@ -6,7 +6,7 @@ use Rattle.lis_dict.specs.Dict.{word_of}
 use Rattle.lis_ext.specs.Ext.{has}
 use Rattle.lis_ext.specs.Numbers.{numbers_where}
 use Rattle.lis_store.specs.Testing.{is_gained}
-use Rattle.lis_store.proofs.Numbers.{sorted_where}
+use Rattle.lis_ext.proofs.Numbers.{sorted_where}
 use Rattle.lis_store.proofs.Tested.{gets_named}
 use Rattle.lis_store.proofs.testing.describe_tested.Goals as goal
 
