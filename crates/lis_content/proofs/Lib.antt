@@ -1,4 +1,5 @@
 pub mod Numbers
+pub mod Indexes
 mod Taking
 mod Reading
 pub mod Buffers

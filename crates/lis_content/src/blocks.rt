@@ -53,8 +53,8 @@ pub fn read_front<D: Disk>(
     Ok(())
 }
 
-// Writes the bytes into a block, and zeros behind them.
-fn fill(block: &mut [u8], bytes: &[u8])
+/// Writes the bytes into a block, and zeros behind them.
+pub fn fill(block: &mut [u8], bytes: &[u8])
     requires whole { length block.old ≡ 4096 }
     requires few { length bytes.now ≤ 4096 }
     ensures { block.new ≡ padded bytes.now }

@@ -5,9 +5,11 @@ mod blocks;
 mod buffer;
 mod content;
 mod fault;
+mod large;
 #[cfg(test)]
 mod tests;
 
 pub use buffer::Buffer;
 pub use content::{drop_file, put, read};
 pub use fault::PutFault;
+pub use large::{drop_large, read_block};

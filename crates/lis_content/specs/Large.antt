@@ -1,0 +1,54 @@
+-- Files with up to 256 blocks of content. Where there are more than 16, a block of its own has their numbers, and the slot has the number
+-- of that index block alone.
+use Rattle.std.specs.Prelude.{◌≡◌, ℕ, ◌+◌, ◌*◌, nat_lt, Bool, true, if◌then◌else◌, List, ◌++◌, map, drop, replicate, slice_index}
+use Rattle.std.specs.List.{flat_map, range_with_len}
+use Rattle.byteorder.specs.Endian.{little_bytes, little_number}
+use Rattle.lis_model.specs.State.{blocks_needed}
+use Rattle.lis_content.specs.Content.{content, padded}
+
+-- so many bytes take more blocks than a slot numbers
+abbrev pub is_large : ℕ → Bool
+is_large size = nat_lt 16 (blocks_needed size)
+
+-- how many numbers a slot has for so many bytes
+abbrev pub slot_count : ℕ → ℕ
+slot_count size = if is_large size then 1 else blocks_needed size
+
+-- an index block: the numbers in order, two bytes each with the lowest first, and zeros
+abbrev pub index_bytes : List ℕ → List ℕ
+index_bytes ns = padded (flat_map (little_bytes 2) ns)
+
+-- the number at a place of a block, counted by numbers
+abbrev pub number_at : List ℕ → ℕ → ℕ
+number_at bytes k = little_number 2 (drop (2 * k) bytes)
+
+-- so many numbers from a block's front
+unfoldable pub numbers_in : ℕ → List ℕ → List ℕ
+numbers_in count bytes = map (number_at bytes) (range_with_len 0 count)
+
+-- the home of the index block, by the numbers of a slot
+abbrev pub index_home : ℕ → List ℕ → ℕ
+index_home base slot = base + slice_index slot 0
+
+-- the numbers of the blocks that have the content, by those of the slot and by what each block holds
+abbrev pub content_blocks : ℕ → List ℕ → ℕ → (ℕ → List ℕ) → List ℕ
+content_blocks base slot size at =
+    if is_large size then numbers_in (blocks_needed size) (at (index_home base slot)) else slot
+
+-- the bytes of a file, by the numbers of its slot and by what each block holds
+abbrev pub file_content : ℕ → List ℕ → ℕ → (ℕ → List ℕ) → List ℕ
+file_content base slot size at = content base (content_blocks base slot size at) size at
+
+-- all blocks of a file: those with the content, and then the index block where it has one
+abbrev pub file_blocks : ℕ → List ℕ → ℕ → (ℕ → List ℕ) → List ℕ
+file_blocks base slot size at =
+    if is_large size then content_blocks base slot size at ++ slot else slot
+
+-- the index block, where the file has one, is in form: it spells the numbers that are read from it
+abbrev pub IsIndexed : ℕ → List ℕ → ℕ → (ℕ → List ℕ) → Type 0
+IsIndexed base slot size at =
+    is_large size ≡ true → at (index_home base slot) ≡ index_bytes (numbers_in (blocks_needed size) (at (index_home base slot)))
+
+-- what is read of a block with this number; zeros where it is none of the image's
+abbrev pub block_within : ℕ → ℕ → (ℕ → List ℕ) → ℕ → List ℕ
+block_within base blocks at n = if nat_lt (base + n) blocks then at (base + n) else replicate 4096 0

@@ -1,0 +1,78 @@
+-- How a placing of a file's bytes ends.
+use Rattle.std.specs.Prelude.{◌≡◌, ℕ, ◌+◌, ◌<◌, ◌≤◌, Bool, true, false, List, length, map, IsTrue, Result, Ok, Err}
+use Rattle.lis_ports.specs.Meaning.{Meaning}
+use Rattle.lis_ports.specs.Runs.{IsDiskRun, Leaves}
+use Rattle.lis_ports.specs.Calls.{Rose, IsUnchanged}
+use Rattle.lis_model.specs.State.{blocks_taken}
+use Rattle.lis_journal.specs.Record.{Entry}
+use Rattle.lis_journal.specs.Journal.{Held}
+use Rattle.lis_journal.specs.Images.{StandsBut, Fits, KeepsPast}
+use Rattle.lis_journal.specs.Staging.{has_entry}
+use Rattle.lis_blockmap.specs.Bitmap.{free_count, is_taken}
+use Rattle.lis_content.specs.Content.{marked, are_free, are_distinct, has_home}
+use Rattle.lis_content.specs.Large.{slot_count, file_content, file_blocks, IsIndexed}
+use Rattle.lis_content.specs.declared.fault.PutFault.{PutFault}
+use Rattle.lis_content.specs.declared.fault.PutFault.TheVariants.{NoSpace, Disk}
+
+-- no free block is staged
+abbrev pub AreUnstaged : ℕ → List Bool → List Entry → Type 0
+AreUnstaged base taken staged = (n : ℕ) → n < length taken → is_taken taken n ≡ false → has_entry staged (base + n) ≡ false
+
+-- the homes of data blocks
+abbrev pub homes_of : ℕ → List ℕ → List ℕ
+homes_of base blocks = map (λ b. base + b) blocks
+
+-- These blocks were free, and are taken and written, the last perhaps in part. A crash at any moment leaves an image that stands for all
+-- others as before, and what lies past the image reads as before.
+pub record Places (base : ℕ) (taken now_taken : List Bool) (before : Held) (old new : Meaning) (blocks : List ℕ) : Type 0 where
+  pub distinct : IsTrue (are_distinct blocks)
+  pub were_free : IsTrue (are_free taken blocks)
+  pub marks : now_taken ≡ marked taken blocks
+  pub len : length now_taken ≡ length taken
+  pub counted : free_count now_taken + length blocks ≡ free_count taken
+  pub moments : (kept : ℕ → List ℕ) → Fits before old kept → Leaves old new (StandsBut before.blocks (homes_of base blocks) kept)
+  pub past : (kept : ℕ → List ℕ) → Fits before old kept → KeepsPast before.blocks old new
+
+-- What is kept then: the file has these bytes and these blocks by its slot, and every other block is as before.
+pub record HasFile (base : ℕ) (bytes slot blocks : List ℕ) (now : Held) (new : Meaning) (kept : ℕ → List ℕ) : Type 0 where
+  pub now_kept : ℕ → List ℕ
+  pub fits : Fits now new now_kept
+  pub others : (n : ℕ) → has_home base blocks n ≡ false → now_kept n ≡ kept n
+  pub reads : file_content base slot (length bytes) now_kept ≡ bytes
+  pub index : IsIndexed base slot (length bytes) now_kept
+  pub all : file_blocks base slot (length bytes) now_kept ≡ blocks
+
+-- The bytes stand in blocks that were free, and these are placed.
+pub record IsPlaced (base : ℕ) (bytes : List ℕ) (taken now_taken : List Bool) (before now : Held) (old new : Meaning) (slot : List ℕ) : Type 0 where
+  pub blocks : List ℕ
+  pub places : Places base taken now_taken before old new blocks
+  pub count : length blocks ≡ blocks_taken 2 (length bytes)
+  pub slot_len : length slot ≡ slot_count (length bytes)
+  pub journal : now ≡ record before { records = now.records; placed = homes_of base blocks }
+  pub file : (kept : ℕ → List ℕ) → Fits before old kept → HasFile base bytes slot blocks now new kept
+
+-- The disk failed: some blocks are taken, and only what is on the disk counts.
+pub record IsTornOff (base : ℕ) (taken now_taken : List Bool) (before now : Held) (old new : Meaning) : Type 0 where
+  pub blocks : List ℕ
+  pub places : Places base taken now_taken before old new blocks
+  pub journal : now ≡ record before { records = now.records; placed = now.placed; is_broken = true }
+
+-- Nothing is placed: too few blocks are free. Or the disk failed.
+abbrev pub IsUnplaced : ℕ → List ℕ → List Bool → List Bool → Held → Held → Meaning → Meaning → PutFault → Type 0
+IsUnplaced base bytes taken now_taken before now old new NoSpace =
+    (now_taken ≡ taken) × (now ≡ before) × (free_count taken < blocks_taken 2 (length bytes))
+IsUnplaced base bytes taken now_taken before now old new Disk =
+    (blocks_taken 2 (length bytes) ≤ free_count taken) × IsTornOff base taken now_taken before now old new
+
+-- A disk fault comes only where the count rose, and at each other answer the count stays.
+abbrev pub HasPlaceCause : {T : Type 0} → ℕ → ℕ → Result T PutFault → Type 0
+HasPlaceCause before now (Ok slot) = now ≡ before
+HasPlaceCause before now (Err NoSpace) = now ≡ before
+HasPlaceCause before now (Err Disk) = Rose before now
+
+-- A run that asks the disk alone: the bytes and the images stay, and so does what a journal fits.
+pub record Asks (journal : Held) (old new : Meaning) : Type 0 where
+  pub run : IsDiskRun old new
+  pub same : IsTrue old.is_honest → IsUnchanged old new
+  pub moments : IsTrue old.is_honest → Leaves old new old.images
+  pub fits : (kept : ℕ → List ℕ) → Fits journal old kept → Fits journal new kept

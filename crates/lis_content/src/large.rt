@@ -1,0 +1,244 @@
+//! The bytes of a file with an index block where a slot has too few numbers: read, and dropped.
+
+ghost use Rattle.std.specs.Prelude.{◌≡◌, ◌+◌, ◌*◌, ◌<◌, ◌≤◌, ℕ, List, false, length, slice_index, slice_set, IsTrue, IfOk, OnOk, OnErr};
+ghost use Rattle.lis_ports.specs.Runs.{IsDiskRun, Leaves};
+ghost use Rattle.lis_ports.specs.Calls.{HasCause, IsUnchanged};
+ghost use Rattle.lis_model.specs.State.{blocks_needed};
+ghost use Rattle.lis_journal.specs.Images.{Fits, look};
+ghost use Rattle.lis_journal.specs.Phases.{looked};
+ghost use Rattle.lis_content.specs.Content.{given, are_within};
+ghost use Rattle.lis_content.specs.Large.{is_large, slot_count, number_at, numbers_in, content_blocks, file_blocks, block_within};
+ghost use Rattle.lis_content.specs.Placing.{Asks};
+
+use crate::blocks::{fill, home};
+use arrayvec::ArrayVec;
+use byteorder::{ByteOrder, LittleEndian};
+use lis_blockmap::BlockMap;
+use lis_journal::{BLOCK_LEN, Journal};
+use lis_ports::{Disk, Failed};
+
+/// The most blocks that the content of a file has.
+pub const MOST_BLOCKS: usize = 256;
+
+/// How many numbers of blocks a slot has.
+const SLOT_BLOCKS: u32 = 16;
+
+/// Whether so many bytes take more blocks than a slot numbers.
+pub fn is_large(size: u32) -> bool
+    requires { size ≤ 1048576 }
+    ensures { result ≡ is_large size }
+{
+    size.div_ceil(BLOCK_LEN as u32) > SLOT_BLOCKS
+}
+
+// Reads a block.
+fn read_home<D: Disk>(journal: &Journal, disk: &mut D, n: u32, buf: &mut [u8]) -> Result<(), Failed>
+    requires home { 578 ≤ n }
+    requires within { n < journal.now.blocks }
+    requires whole { length buf.old ≡ 4096 }
+    requires unbroken { journal.now.is_broken ≡ false }
+    requires long { 4096 * journal.now.blocks ≤ (D.meaning disk.old).len }
+    ensures read { OnOk result ((kept : ℕ → List ℕ) → Fits journal.now (D.meaning disk.old) kept
+        → buf.new ≡ look journal.now.staged n (kept n)) }
+    ensures asks { Asks journal.now (D.meaning disk.old) (D.meaning disk.new) }
+    ensures cause { HasCause (D.meaning disk.old).disk_faults (D.meaning disk.new).disk_faults result }
+{
+    journal.read(disk, n, buf)
+}
+
+// The number at a place of the index block.
+fn read_number<D: Disk>(journal: &Journal, disk: &mut D, n: u32, k: usize) -> Result<u16, Failed>
+    requires home { 578 ≤ n }
+    requires within { n < journal.now.blocks }
+    requires place { k < 256 }
+    requires unbroken { journal.now.is_broken ≡ false }
+    requires long { 4096 * journal.now.blocks ≤ (D.meaning disk.old).len }
+    ensures number { IfOk result (λ number. (kept : ℕ → List ℕ) → Fits journal.now (D.meaning disk.old) kept
+        → number ≡ number_at (look journal.now.staged n (kept n)) k) }
+    ensures asks { Asks journal.now (D.meaning disk.old) (D.meaning disk.new) }
+    ensures cause { HasCause (D.meaning disk.old).disk_faults (D.meaning disk.new).disk_faults result }
+{
+    let mut block = [0; BLOCK_LEN];
+    read_home(journal, disk, n, &mut block)?;
+    Ok(LittleEndian::read_u16(&block[2 * k..]))
+}
+
+// The number of the n-th block of the content.
+fn number_of<D: Disk>(
+    journal: &Journal,
+    disk: &mut D,
+    base: u32,
+    blocks: &[u16],
+    size: u32,
+    n: u32,
+) -> Result<u16, Failed>
+    requires few { size ≤ 1048576 }
+    requires count { length blocks.now ≡ slot_count size }
+    requires home { 578 ≤ base }
+    requires within { IsTrue (are_within base journal.now.blocks blocks.now) }
+    requires inside { n < blocks_needed size }
+    requires unbroken { journal.now.is_broken ≡ false }
+    requires long { 4096 * journal.now.blocks ≤ (D.meaning disk.old).len }
+    ensures number { IfOk result (λ number. (kept : ℕ → List ℕ) → Fits journal.now (D.meaning disk.old) kept
+        → number ≡ slice_index (content_blocks base blocks.now size (looked journal.now.staged kept)) n) }
+    ensures asks { Asks journal.now (D.meaning disk.old) (D.meaning disk.new) }
+    ensures cause { HasCause (D.meaning disk.old).disk_faults (D.meaning disk.new).disk_faults result }
+{
+    if is_large(size) {
+        return read_number(journal, disk, home(journal, base, blocks[0]), n as usize);
+    }
+    Ok(blocks[n as usize])
+}
+
+// Reads the block with this number, and zeros where the image has none.
+fn read_within<D: Disk>(
+    journal: &Journal,
+    disk: &mut D,
+    base: u32,
+    number: u16,
+    buf: &mut [u8],
+) -> Result<(), Failed>
+    requires whole { length buf.old ≡ 4096 }
+    requires home { 578 ≤ base }
+    requires within { base ≤ journal.now.blocks }
+    requires unbroken { journal.now.is_broken ≡ false }
+    requires long { 4096 * journal.now.blocks ≤ (D.meaning disk.old).len }
+    ensures read { OnOk result ((kept : ℕ → List ℕ) → Fits journal.now (D.meaning disk.old) kept
+        → buf.new ≡ block_within base journal.now.blocks (looked journal.now.staged kept) number) }
+    ensures asks { Asks journal.now (D.meaning disk.old) (D.meaning disk.new) }
+    ensures cause { HasCause (D.meaning disk.old).disk_faults (D.meaning disk.new).disk_faults result }
+{
+    if u32::from(number) >= journal.blocks() - base {
+        fill(buf, &[]);
+        return Ok(());
+    }
+    read_home(journal, disk, base + u32::from(number), buf)
+}
+
+/// Reads the n-th block of a file's content. Behind the content's end it has any bytes. Where the index block gives a
+/// number that is none of the image's it gives zeros; no image that is in form has such a number.
+pub fn read_block<D: Disk>(
+    journal: &Journal,
+    disk: &mut D,
+    base: u32,
+    blocks: &[u16],
+    size: u32,
+    n: u32,
+    buf: &mut [u8],
+) -> Result<(), Failed>
+    requires few { size ≤ 1048576 }
+    requires count { length blocks.now ≡ slot_count size }
+    requires home { 578 ≤ base }
+    requires within { IsTrue (are_within base journal.now.blocks blocks.now) }
+    requires inside { n < blocks_needed size }
+    requires whole { length buf.old ≡ 4096 }
+    requires unbroken { journal.now.is_broken ≡ false }
+    requires long { 4096 * journal.now.blocks ≤ (D.meaning disk.old).len }
+    ensures read { OnOk result ((kept : ℕ → List ℕ) → Fits journal.now (D.meaning disk.old) kept
+        → buf.new ≡ block_within base journal.now.blocks (looked journal.now.staged kept)
+        (slice_index (content_blocks base blocks.now size (looked journal.now.staged kept)) n)) }
+    ensures run { IsDiskRun (D.meaning disk.old) (D.meaning disk.new) }
+    ensures cause { HasCause (D.meaning disk.old).disk_faults (D.meaning disk.new).disk_faults result }
+    ensures same { IsTrue (D.meaning disk.old).is_honest → IsUnchanged (D.meaning disk.old) (D.meaning disk.new) }
+    ensures any_moment { IsTrue (D.meaning disk.old).is_honest
+        → Leaves (D.meaning disk.old) (D.meaning disk.new) (D.meaning disk.old).images }
+    ensures fits { (kept : ℕ → List ℕ) → Fits journal.now (D.meaning disk.old) kept
+        → Fits journal.now (D.meaning disk.new) kept }
+{
+    let number = number_of(journal, disk, base, blocks, size, n)?;
+    read_within(journal, disk, base, number, buf)
+}
+
+// Gives a block back, where it is taken.
+fn give_taken(map: &mut BlockMap, n: u16)
+    ensures { map.new ≡ slice_set map.old n false }
+{
+    if usize::from(n) < map.len() && map.is_taken(n) {
+        map.give(n);
+    }
+}
+
+// Gives those of these blocks back that are taken.
+fn give_all(map: &mut BlockMap, blocks: &[u16])
+    ensures { map.new ≡ given map.old blocks.now }
+{
+    for n in blocks {
+        give_taken(map, *n);
+    }
+}
+
+// So many numbers from the front of a block.
+fn numbers_in(block: &[u8], count: usize) -> ArrayVec<u16, 256>
+    requires whole { length block.now ≡ 4096 }
+    requires few { count ≤ 256 }
+    ensures { result.items ≡ numbers_in count block.now }
+{
+    let mut held = [0; MOST_BLOCKS];
+    let (used, _) = held.split_at_mut(count);
+    LittleEndian::read_u16_into(&block[..2 * count], used);
+    let mut numbers = ArrayVec::new();
+    numbers.try_extend_from_slice(used).unwrap();
+    numbers
+}
+
+// The numbers of the blocks that have the content, where the index block has them.
+fn read_index<D: Disk>(
+    journal: &Journal,
+    disk: &mut D,
+    n: u32,
+    count: usize,
+) -> Result<ArrayVec<u16, 256>, Failed>
+    requires home { 578 ≤ n }
+    requires within { n < journal.now.blocks }
+    requires few { count ≤ 256 }
+    requires unbroken { journal.now.is_broken ≡ false }
+    requires long { 4096 * journal.now.blocks ≤ (D.meaning disk.old).len }
+    ensures numbers { IfOk result (λ numbers. (kept : ℕ → List ℕ) → Fits journal.now (D.meaning disk.old) kept
+        → numbers.items ≡ numbers_in count (look journal.now.staged n (kept n))) }
+    ensures asks { Asks journal.now (D.meaning disk.old) (D.meaning disk.new) }
+    ensures cause { HasCause (D.meaning disk.old).disk_faults (D.meaning disk.new).disk_faults result }
+{
+    let mut block = [0; BLOCK_LEN];
+    read_home(journal, disk, n, &mut block)?;
+    Ok(numbers_in(&block, count))
+}
+
+/// Gives all blocks of a file back, the index block among them. A number that is not taken is passed over; on an image
+/// in form there is none.
+pub fn drop_large<D: Disk>(
+    map: &mut BlockMap,
+    journal: &Journal,
+    disk: &mut D,
+    base: u32,
+    blocks: &[u16],
+    size: u32,
+) -> Result<(), Failed>
+    requires few { size ≤ 1048576 }
+    requires count { length blocks.now ≡ slot_count size }
+    requires home { 578 ≤ base }
+    requires within { IsTrue (are_within base journal.now.blocks blocks.now) }
+    requires unbroken { journal.now.is_broken ≡ false }
+    requires long { 4096 * journal.now.blocks ≤ (D.meaning disk.old).len }
+    ensures given { OnOk result ((kept : ℕ → List ℕ) → Fits journal.now (D.meaning disk.old) kept
+        → map.new ≡ given map.old (file_blocks base blocks.now size (looked journal.now.staged kept))) }
+    ensures small { OnOk result (is_large size ≡ false → map.new ≡ given map.old blocks.now) }
+    ensures len { length map.new ≡ length map.old }
+    ensures stays { OnErr result (map.new ≡ map.old) }
+    ensures run { IsDiskRun (D.meaning disk.old) (D.meaning disk.new) }
+    ensures cause { HasCause (D.meaning disk.old).disk_faults (D.meaning disk.new).disk_faults result }
+    ensures same { IsTrue (D.meaning disk.old).is_honest → IsUnchanged (D.meaning disk.old) (D.meaning disk.new) }
+    ensures any_moment { IsTrue (D.meaning disk.old).is_honest
+        → Leaves (D.meaning disk.old) (D.meaning disk.new) (D.meaning disk.old).images }
+    ensures fits { (kept : ℕ → List ℕ) → Fits journal.now (D.meaning disk.old) kept
+        → Fits journal.now (D.meaning disk.new) kept }
+{
+    if !is_large(size) {
+        give_all(map, blocks);
+        return Ok(());
+    }
+    let count = size.div_ceil(BLOCK_LEN as u32) as usize;
+    let numbers = read_index(journal, disk, home(journal, base, blocks[0]), count)?;
+    give_all(map, &numbers);
+    give_all(map, blocks);
+    Ok(())
+}
