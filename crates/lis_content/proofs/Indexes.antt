@@ -1,7 +1,7 @@
 -- Numbers in an index block.
 use Rattle.std.proofs.Common.{◌≡◌, ℕ, zero, suc, ◌+◌, ◌*◌, ◌<◌, nat_lt, true, false, List, [], ◌∷◌, ◌++◌, length, take, drop, get_or, refl, sym, ◌∙◌, ap, ap₂, arith, append_assoc, get_or-take, get_or-drop}
 use Rattle.std.specs.List.{flat_map}
-use Rattle.std.proofs.lemmas.Bool.{and_parts, ltb-true, cond-true, cond-false}
+use Rattle.std.proofs.lemmas.Bool.{and_parts, and_from, lt-ltb, ltb-true, cond-true, cond-false}
 use Rattle.std.proofs.lemmas.List.FromFn.{length-map-range_with_len, get_or-map-range_with_len, fill_by_all}
 use Rattle.byteorder.specs.Endian.{little_bytes, little_number, IsRead}
 use Rattle.byteorder.specs.Numbers.{little_number-reads_back}
@@ -51,6 +51,10 @@ index_reads_back ns below = sym (numbers_from (length ns) (index_bytes ns) ns re
 pub length-spelled : (ns : List ℕ) → length (flat_map (little_bytes 2) ns) ≡ 2 * length ns
 length-spelled [] = refl
 length-spelled (n ∷ ns) = omega (arith, length-spelled ns)
+
+pub below_from_each : (m : ℕ) (ns : List ℕ) → ((k : ℕ) → get_or ns k 0 < m) → are_below m ns ≡ true
+below_from_each m [] each = refl
+below_from_each m (n ∷ ns) each = and_from (nat_lt n m) (are_below m ns) (lt-ltb n m (each 0)) (below_from_each m ns (λ k. each (suc k)))
 
 -- ---- the two forms of a file
 pub large_numbers : (base : ℕ) (slot : List ℕ) (size : ℕ) (at : ℕ → List ℕ) → is_large size ≡ true → content_blocks base slot size at ≡ numbers_in (blocks_needed size) (at (index_home base slot))

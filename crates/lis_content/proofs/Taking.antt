@@ -104,7 +104,7 @@ filling_done base bytes rest start now_taken before now blocks none was = record
     empty [] is = refl
     empty (x ∷ xs) is = absurd (omega arith)
 
-length-padded : (bytes : List ℕ) → length bytes ≤ 4096 → length (padded bytes) ≡ 4096
+pub length-padded : (bytes : List ℕ) → length bytes ≤ 4096 → length (padded bytes) ≡ 4096
 length-padded bytes few =
     length-append bytes (replicate (4096 - length bytes) 0)
     ∙ (ap (λ k. length bytes + k) (length-replicate (4096 - length bytes) 0) ∙ omega (arith, few))

@@ -1,15 +1,15 @@
 -- How a placing of a file's bytes ends.
-use Rattle.std.specs.Prelude.{◌≡◌, ℕ, ◌+◌, ◌<◌, ◌≤◌, Bool, true, false, List, length, map, IsTrue, Result, Ok, Err}
+use Rattle.std.specs.Prelude.{◌≡◌, ℕ, ◌+◌, ◌<◌, ◌≤◌, Bool, true, false, List, ◌∷◌, length, map, slice_set, IsTrue, Result, Ok, Err}
 use Rattle.lis_ports.specs.Meaning.{Meaning}
 use Rattle.lis_ports.specs.Runs.{IsDiskRun, Leaves}
 use Rattle.lis_ports.specs.Calls.{Rose, IsUnchanged}
-use Rattle.lis_model.specs.State.{blocks_taken}
+use Rattle.lis_model.specs.State.{blocks_needed, blocks_taken}
 use Rattle.lis_journal.specs.Record.{Entry}
 use Rattle.lis_journal.specs.Journal.{Held}
-use Rattle.lis_journal.specs.Images.{StandsBut, Fits, KeepsPast}
+use Rattle.lis_journal.specs.Images.{StandsBut, Fits, KeepsPast, with_placed, with_kept}
 use Rattle.lis_journal.specs.Staging.{has_entry}
 use Rattle.lis_blockmap.specs.Bitmap.{free_count, is_taken}
-use Rattle.lis_content.specs.Content.{marked, are_free, are_distinct, has_home}
+use Rattle.lis_content.specs.Content.{content, padded, marked, are_free, are_distinct, has_home}
 use Rattle.lis_content.specs.Large.{slot_count, file_content, file_blocks, IsIndexed}
 use Rattle.lis_content.specs.declared.fault.PutFault.{PutFault}
 use Rattle.lis_content.specs.declared.fault.PutFault.TheVariants.{NoSpace, Disk}
@@ -33,23 +33,24 @@ pub record Places (base : ℕ) (taken now_taken : List Bool) (before : Held) (ol
   pub moments : (kept : ℕ → List ℕ) → Fits before old kept → Leaves old new (StandsBut before.blocks (homes_of base blocks) kept)
   pub past : (kept : ℕ → List ℕ) → Fits before old kept → KeepsPast before.blocks old new
 
--- What is kept then: the file has these bytes and these blocks by its slot, and every other block is as before.
-pub record HasFile (base : ℕ) (bytes slot blocks : List ℕ) (now : Held) (new : Meaning) (kept : ℕ → List ℕ) : Type 0 where
-  pub now_kept : ℕ → List ℕ
-  pub fits : Fits now new now_kept
-  pub others : (n : ℕ) → has_home base blocks n ≡ false → now_kept n ≡ kept n
-  pub reads : file_content base slot (length bytes) now_kept ≡ bytes
-  pub index : IsIndexed base slot (length bytes) now_kept
-  pub all : file_blocks base slot (length bytes) now_kept ≡ blocks
+-- They are placed, and what is kept then has P and is as before but for them.
+pub record Lays (base : ℕ) (taken now_taken : List Bool) (before now : Held) (old new : Meaning) (blocks : List ℕ) (P : (ℕ → List ℕ) → Type 0) : Type 0 where
+  pub places : Places base taken now_taken before old new blocks
+  pub journal : now ≡ record before { records = now.records; placed = homes_of base blocks }
+  pub fits : (kept : ℕ → List ℕ) → Fits before old kept → (now_kept : ℕ → List ℕ) × Fits now new now_kept × ((n : ℕ) → has_home base blocks n ≡ false → now_kept n ≡ kept n) × P now_kept
+
+-- A file has these bytes and these blocks by its slot, and an index block in form where it has one.
+pub record HasFile (base : ℕ) (bytes slot blocks : List ℕ) (at : ℕ → List ℕ) : Type 0 where
+  pub reads : file_content base slot (length bytes) at ≡ bytes
+  pub index : IsIndexed base slot (length bytes) at
+  pub all : file_blocks base slot (length bytes) at ≡ blocks
 
 -- The bytes stand in blocks that were free, and these are placed.
 pub record IsPlaced (base : ℕ) (bytes : List ℕ) (taken now_taken : List Bool) (before now : Held) (old new : Meaning) (slot : List ℕ) : Type 0 where
   pub blocks : List ℕ
-  pub places : Places base taken now_taken before old new blocks
+  pub lays : Lays base taken now_taken before now old new blocks (HasFile base bytes slot blocks)
   pub count : length blocks ≡ blocks_taken 2 (length bytes)
   pub slot_len : length slot ≡ slot_count (length bytes)
-  pub journal : now ≡ record before { records = now.records; placed = homes_of base blocks }
-  pub file : (kept : ℕ → List ℕ) → Fits before old kept → HasFile base bytes slot blocks now new kept
 
 -- The disk failed: some blocks are taken, and only what is on the disk counts.
 pub record IsTornOff (base : ℕ) (taken now_taken : List Bool) (before now : Held) (old new : Meaning) : Type 0 where
@@ -69,6 +70,32 @@ abbrev pub HasPlaceCause : {T : Type 0} → ℕ → ℕ → Result T PutFault �
 HasPlaceCause before now (Ok slot) = now ≡ before
 HasPlaceCause before now (Err NoSpace) = now ≡ before
 HasPlaceCause before now (Err Disk) = Rose before now
+
+-- A free block is taken and written, or was begun to be.
+pub record TakesOne (base : ℕ) (taken now_taken : List Bool) (before : Held) (old new : Meaning) (n : ℕ) : Type 0 where
+  pub within : n < length taken
+  pub was_free : is_taken taken n ≡ false
+  pub marks : now_taken ≡ slice_set taken n true
+  pub fewer : free_count now_taken + 1 ≡ free_count taken
+  pub moments : (kept : ℕ → List ℕ) → Fits before old kept → Leaves old new (StandsBut before.blocks ((base + n) ∷ before.placed) kept)
+  pub past : (kept : ℕ → List ℕ) → Fits before old kept → KeepsPast before.blocks old new
+
+-- It has these bytes and zeros behind them.
+pub record OnePlaced (base : ℕ) (bytes : List ℕ) (taken now_taken : List Bool) (before now : Held) (old new : Meaning) (n : ℕ) : Type 0 where
+  pub takes : TakesOne base taken now_taken before old new n
+  pub journal : now ≡ record before { records = now.records; placed = with_placed before.placed (base + n) }
+  pub fits : (kept : ℕ → List ℕ) → Fits before old kept → Fits now new (with_kept (base + n) (padded bytes) kept)
+
+-- The disk failed.
+pub record OneTorn (base : ℕ) (taken now_taken : List Bool) (before now : Held) (old new : Meaning) : Type 0 where
+  pub n : ℕ
+  pub takes : TakesOne base taken now_taken before old new n
+  pub journal : now ≡ record before { records = now.records; is_broken = true }
+
+-- The bytes stand in these blocks in order.
+pub record IsLaid (base : ℕ) (bytes : List ℕ) (taken now_taken : List Bool) (before now : Held) (old new : Meaning) (blocks : List ℕ) : Type 0 where
+  pub lays : Lays base taken now_taken before now old new blocks (λ at. content base blocks (length bytes) at ≡ bytes)
+  pub count : length blocks ≡ blocks_needed (length bytes)
 
 -- A run that asks the disk alone: the bytes and the images stay, and so does what a journal fits.
 pub record Asks (journal : Held) (old new : Meaning) : Type 0 where

@@ -3,7 +3,7 @@
 ghost use Rattle.std.specs.Prelude.{◌≡◌, ◌+◌, ◌*◌, ◌<◌, ◌≤◌, ℕ, List, false, length, slice_index, slice_set, IsTrue, IfOk, OnOk, OnErr};
 ghost use Rattle.lis_ports.specs.Runs.{IsDiskRun, Leaves};
 ghost use Rattle.lis_ports.specs.Calls.{HasCause, IsUnchanged};
-ghost use Rattle.lis_model.specs.State.{blocks_needed};
+ghost use Rattle.lis_model.specs.State.{blocks_needed, blocks_taken};
 ghost use Rattle.lis_journal.specs.Images.{Fits, look};
 ghost use Rattle.lis_journal.specs.Phases.{looked};
 ghost use Rattle.lis_content.specs.Content.{given, are_within};
@@ -29,6 +29,15 @@ pub fn is_large(size: u32) -> bool
     ensures { result ≡ is_large size }
 {
     size.div_ceil(BLOCK_LEN as u32) > SLOT_BLOCKS
+}
+
+/// How many blocks so many bytes take, the index block among them.
+pub fn blocks_taken(size: u32) -> u32
+    requires { size ≤ 1048576 }
+    ensures { result ≡ blocks_taken 2 size }
+{
+    let needed = size.div_ceil(BLOCK_LEN as u32);
+    if is_large(size) { needed + 1 } else { needed }
 }
 
 // Reads a block.

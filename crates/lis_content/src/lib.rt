@@ -6,6 +6,7 @@ mod buffer;
 mod content;
 mod fault;
 mod large;
+mod placing;
 #[cfg(test)]
 mod tests;
 
@@ -13,3 +14,4 @@ pub use buffer::Buffer;
 pub use content::{drop_file, put, read};
 pub use fault::PutFault;
 pub use large::{drop_large, read_block};
+pub use placing::place_file;
