@@ -1,9 +1,9 @@
 -- Blocks that are placed one after another.
-use Rattle.std.proofs.Common.{◌≡◌, ◌⊎◌, ℕ, ◌+◌, ◌-◌, ◌*◌, ◌<◌, ◌≤◌, min, ◌==◌, Bool, true, false, ◌||◌, List, [], ◌∷◌, ◌++◌, length, take, replicate, set, Option, Some, None, IsSomeAnd, Result, Ok, Err, IsErr, MatchResult, refl, sym, ◌∙◌, ap, subst, inl, inr, arith, length-append, length-set, eqb}
+use Rattle.std.proofs.Common.{drop, ◌≡◌, ◌⊎◌, ℕ, ◌+◌, ◌-◌, ◌*◌, ◌<◌, ◌≤◌, min, ◌==◌, Bool, true, false, ◌||◌, List, [], ◌∷◌, ◌++◌, length, take, replicate, set, Option, Some, None, IsSomeAnd, Result, Ok, Err, IsErr, MatchResult, refl, sym, ◌∙◌, ap, subst, inl, inr, arith, length-append, length-set, eqb}
 use Rattle.std.specs.List.{flat_map}
 use Rattle.std.proofs.lemmas.Bool.{eqb-false, eq-eqb, ne_eqb, cond-true, cond-false, cases_lt, false≢true}
 use Rattle.std.proofs.lemmas.Grind.{flat_map-append}
-use Rattle.std.proofs.lemmas.List.{append-nil, take_all}
+use Rattle.std.proofs.lemmas.List.{append-nil, take_all, drop_at}
 use Rattle.std.proofs.lemmas.List.Folds.{list_any-append}
 use Rattle.byteorder.specs.Endian.{little_bytes}
 use Rattle.lis_ports.specs.Meaning.{Meaning}
@@ -253,6 +253,7 @@ placed_small base bytes start now_taken before now blocks small was = record {
   }) was.lays;
   count = was.count ∙ sym (cond-false (is_large (length bytes)) (blocks_needed (length bytes) + 1) (blocks_needed (length bytes)) small);
   slot_len = was.count ∙ sym (cond-false (is_large (length bytes)) 1 (blocks_needed (length bytes)) small);
+  slot_is = sym (cond-false (is_large (length bytes)) (drop (blocks_needed (length bytes)) blocks) blocks small);
 }
 
 pub placed_large : (base : ℕ) (bytes : List ℕ) (start now_taken next_taken : List Bool) (before now next : Held) {old mid new : Meaning} (blocks : List ℕ) (n : ℕ) → is_large (length bytes) ≡ true → are_below 65536 blocks ≡ true → IsLaid base bytes start now_taken before now old mid blocks → OnePlaced base (flat_map (little_bytes 2) blocks) now_taken next_taken now next mid new n → IsPlaced base bytes start next_taken before next old new (n ∷ [])
@@ -267,6 +268,7 @@ placed_large base bytes start now_taken next_taken before now next blocks n larg
   });
   count = length-append blocks (n ∷ []) ∙ (ap (λ k. k + 1) was.count ∙ sym (cond-true (is_large size) (blocks_needed size + 1) (blocks_needed size) large));
   slot_len = sym (cond-true (is_large size) 1 (blocks_needed size) large);
+  slot_is = sym (cond-true (is_large size) (drop (blocks_needed size) (blocks ++ n ∷ [])) (blocks ++ n ∷ []) large ∙ drop_at blocks (n ∷ []) (blocks_needed size) was.count);
 }
   where
     size : ℕ

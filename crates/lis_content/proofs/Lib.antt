@@ -1,5 +1,6 @@
 pub mod Numbers
 pub mod Indexes
+pub mod Files
 mod Taking
 mod Laying
 mod Reading

@@ -1,5 +1,5 @@
 -- How a placing of a file's bytes ends.
-use Rattle.std.specs.Prelude.{◌≡◌, ℕ, ◌+◌, ◌<◌, ◌≤◌, Bool, true, false, List, ◌∷◌, length, map, slice_set, IsTrue, Result, Ok, Err}
+use Rattle.std.specs.Prelude.{◌≡◌, ℕ, ◌+◌, ◌<◌, ◌≤◌, Bool, true, false, if◌then◌else◌, List, ◌∷◌, length, drop, map, slice_set, IsTrue, Result, Ok, Err}
 use Rattle.lis_ports.specs.Meaning.{Meaning}
 use Rattle.lis_ports.specs.Runs.{IsDiskRun, Leaves}
 use Rattle.lis_ports.specs.Calls.{Rose, IsUnchanged}
@@ -10,7 +10,7 @@ use Rattle.lis_journal.specs.Images.{StandsBut, Fits, KeepsPast, with_placed, wi
 use Rattle.lis_journal.specs.Staging.{has_entry}
 use Rattle.lis_blockmap.specs.Bitmap.{free_count, is_taken}
 use Rattle.lis_content.specs.Content.{content, padded, marked, are_free, are_distinct, has_home}
-use Rattle.lis_content.specs.Large.{slot_count, file_content, file_blocks, IsIndexed}
+use Rattle.lis_content.specs.Large.{is_large, slot_count, file_content, file_blocks, IsIndexed}
 use Rattle.lis_content.specs.declared.fault.PutFault.{PutFault}
 use Rattle.lis_content.specs.declared.fault.PutFault.TheVariants.{NoSpace, Disk}
 
@@ -51,6 +51,7 @@ pub record IsPlaced (base : ℕ) (bytes : List ℕ) (taken now_taken : List Bool
   pub lays : Lays base taken now_taken before now old new blocks (HasFile base bytes slot blocks)
   pub count : length blocks ≡ blocks_taken 2 (length bytes)
   pub slot_len : length slot ≡ slot_count (length bytes)
+  pub slot_is : slot ≡ (if is_large (length bytes) then drop (blocks_needed (length bytes)) blocks else blocks)
 
 -- The disk failed: some blocks are taken, and only what is on the disk counts.
 pub record IsTornOff (base : ℕ) (taken now_taken : List Bool) (before now : Held) (old new : Meaning) : Type 0 where
