@@ -18,7 +18,7 @@ use lis_journal::{BLOCK_LEN, Journal};
 use lis_ports::{Disk, Failed};
 
 /// The most blocks that the content of a file has.
-pub const MOST_BLOCKS: usize = 256;
+const MOST_BLOCKS: usize = 256;
 
 /// How many numbers of blocks a slot has.
 const SLOT_BLOCKS: u32 = 16;

@@ -1,14 +1,14 @@
 //! The bytes of a file, placed in free blocks without a record.
 
-ghost use Rattle.std.specs.Prelude.{◌≡◌, ◌+◌, ◌*◌, ◌<◌, ◌≤◌, ◌∷◌, ℕ, List, [], false, true, length, slice_set, IsTrue, IfOk, OnOk, OnErr, Err, MatchResult};
+ghost use Rattle.std.specs.Prelude.{◌≡◌, ◌+◌, ◌*◌, ◌<◌, ◌≤◌, ◌∷◌, ℕ, List, [], false, true, length, IsTrue, OnOk, OnErr, Err, MatchResult};
 ghost use Rattle.std.specs.List.{flat_map};
 ghost use Rattle.byteorder.specs.Endian.{little_bytes};
 ghost use Rattle.lis_ports.specs.Runs.{IsDiskRun, Leaves};
 ghost use Rattle.lis_ports.specs.Calls.{HasCause};
 ghost use Rattle.lis_model.specs.State.{blocks_needed, blocks_taken};
-ghost use Rattle.lis_journal.specs.Images.{StandsBut, Fits, KeepsPast, is_among, with_placed, with_kept};
+ghost use Rattle.lis_journal.specs.Images.{StandsBut, Fits, KeepsPast, with_placed, with_kept};
 ghost use Rattle.lis_journal.specs.Staging.{has_entry};
-ghost use Rattle.lis_blockmap.specs.Bitmap.{free_count, is_taken};
+ghost use Rattle.lis_blockmap.specs.Bitmap.{free_count};
 ghost use Rattle.lis_content.specs.Content.{padded};
 ghost use Rattle.lis_content.specs.Large.{are_short};
 ghost use Rattle.lis_content.specs.Placing.{AreUnstaged, IsLaid, IsPlaced, IsTornOff, IsUnplaced, HasPlaceCause, OnePlaced, OneTorn};

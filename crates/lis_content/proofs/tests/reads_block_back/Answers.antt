@@ -1,0 +1,19 @@
+use Rattle.std.proofs.Common.{◌≡◌, ◌+◌, ◌≤◌, false, length, ap, arith}
+use Rattle.std.proofs.lemmas.List.{length-replicate}
+use Rattle.lis_journal.specs.Journal.{Held}
+use Rattle.lis_content.proofs.Files.{slot_within}
+use Rattle.lis_content.proofs.tests.reads_block_back.Goals as goal
+
+pub read_block-requires-clause-within : goal.read_block-requires-clause-within
+read_block-requires-clause-within c =
+    let placed = c.in_ok-blocks.ensures.ended in
+    let last : 578 + length c.in_ok-map.map ≤ c.place_file.new.journal.blocks = omega (arith, ap length c.in_ok-map.ensures, length-replicate 22 false, ap (λ (h : Held). h.blocks) c.in_ok-journal.ensures.held, ap (λ (h : Held). h.blocks) placed.lays.journal) in
+    let is : c.deref-2.result.now ≡ c.in_ok-blocks.blocks.items = c.deref-2.ensures.0 in
+    rw is (slot_within 578 c.place_file.new.journal.blocks c.deref.result.now c.in_ok-map.map c.place_file.new.map c.in_ok-journal.journal c.place_file.new.journal c.in_ok-blocks.blocks.items last placed)
+
+pub drop_large-requires-clause-within : goal.drop_large-requires-clause-within
+drop_large-requires-clause-within c =
+    let placed = c.in_ok-blocks.ensures.ended in
+    let last : 578 + length c.in_ok-map.map ≤ c.place_file.new.journal.blocks = omega (arith, ap length c.in_ok-map.ensures, length-replicate 22 false, ap (λ (h : Held). h.blocks) c.in_ok-journal.ensures.held, ap (λ (h : Held). h.blocks) placed.lays.journal) in
+    let is : c.deref-3.result.now ≡ c.in_ok-blocks.blocks.items = c.deref-3.ensures.0 in
+    rw is (slot_within 578 c.place_file.new.journal.blocks c.deref.result.now c.in_ok-map.map c.place_file.new.map c.in_ok-journal.journal c.place_file.new.journal c.in_ok-blocks.blocks.items last placed)
