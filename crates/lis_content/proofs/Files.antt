@@ -2,17 +2,22 @@
 use Rattle.std.proofs.Common.{◌≡◌, ◌⊎◌, ℕ, zero, suc, ◌+◌, ◌-◌, ◌*◌, ◌<◌, ◌≤◌, ◌==◌, nat_lt, Bool, true, false, not, ◌&&◌, ◌||◌, cond, List, [], ◌∷◌, ◌++◌, length, take, drop, get_or, IsTrue, refl, sym, ◌∙◌, ap, subst, inl, inr, arith, length-append, take-append-drop}
 use Rattle.std.specs.List.{flat_map}
 use Rattle.std.proofs.Math.Seq.{take-append-add}
-use Rattle.std.proofs.lemmas.Bool.{and_parts, cases_lt, eqb-true, cond-true, cond-false, eq-eqb}
+use Rattle.std.proofs.lemmas.Bool.{and_parts, cases_lt, ltb-true, eqb-true, cond-true, cond-false, eq-eqb}
 use Rattle.std.proofs.lemmas.List.{take_all, take_at, drop_at, drop-drop, take-append-le, length-take-le}
 use Rattle.std.proofs.lemmas.List.Folds.{list_all-append, list_any-append}
 use Rattle.lis_ports.specs.Meaning.{Meaning}
 use Rattle.lis_model.specs.State.{blocks_needed, blocks_taken}
+use Rattle.lis_journal.specs.Record.{Entry}
 use Rattle.lis_journal.specs.Journal.{Held}
+use Rattle.lis_journal.specs.Images.{look}
+use Rattle.lis_journal.specs.Phases.{looked}
+use Rattle.lis_journal.specs.Staging.{has_entry}
+use Rattle.lis_journal.proofs.Entries.{look-absent}
 use Rattle.lis_blockmap.specs.Bitmap.{is_taken}
 use Rattle.lis_content.specs.Content.{content, are_free, are_taken, are_within, has_home}
 use Rattle.lis_content.specs.Large.{is_large, slot_count, are_short, index_bytes, numbers_in, index_home, content_blocks, file_content, file_blocks, IsIndexed}
-use Rattle.lis_content.specs.Placing.{IsPlaced}
-use Rattle.lis_content.proofs.Numbers.{below_from_free, within_if_below}
+use Rattle.lis_content.specs.Placing.{AreUnstaged, IsPlaced}
+use Rattle.lis_content.proofs.Numbers.{not_true, below_from_free, within_if_below}
 use Rattle.lis_content.proofs.Indexes.{length-numbers_in, index_reads_back, large_numbers, large_blocks, small_numbers, small_blocks}
 
 by_size : (size : ℕ) → (is_large size ≡ true) ⊎ (is_large size ≡ false)
@@ -153,6 +158,18 @@ free_behind : (taken : List Bool) (blocks : List ℕ) (k : ℕ) → are_free tak
 free_behind taken blocks k free =
     (and_parts (are_free taken (take k blocks)) (are_free taken (drop k blocks))
     (sym (list_all-append (λ n. nat_lt n (length taken) && not (is_taken taken n)) (take k blocks) (drop k blocks)) ∙ (ap (are_free taken) (take-append-drop k blocks) ∙ free))).1
+
+-- where no free block is staged, what stands in them is what is kept
+pub unstaged_same : (base : ℕ) (taken : List Bool) (staged : List Entry) (blocks : List ℕ) (kept : ℕ → List ℕ) → AreUnstaged base taken staged → are_free taken blocks ≡ true → AreSame base blocks kept (looked staged kept)
+unstaged_same base taken staged [] kept unstaged free n has = absurd (let e : false ≡ true = has in cc)
+unstaged_same base taken staged (b ∷ blocks) kept unstaged free n has =
+    let parts = and_parts (nat_lt b (length taken) && not (is_taken taken b)) (are_free taken blocks) free in
+    let first = and_parts (nat_lt b (length taken)) (not (is_taken taken b)) parts.0 in
+    by (base + b == n) refl has (unstaged b (ltb-true b (length taken) first.0) (not_true (is_taken taken b) first.1)) (λ more. unstaged_same base taken staged blocks kept unstaged parts.1 n more)
+  where
+    by : (here : Bool) → (base + b == n) ≡ here → (here || has_home base blocks n) ≡ true → has_entry staged (base + b) ≡ false → (has_home base blocks n ≡ true → look staged n (kept n) ≡ kept n) → look staged n (kept n) ≡ kept n
+    by true here has absent more = look-absent staged n (kept n) (ap (has_entry staged) (sym (eqb-true (base + b) n here)) ∙ absent)
+    by false here has absent more = more has
 
 -- the numbers of the slot were free
 pub slot_were_free : (base : ℕ) (bytes : List ℕ) (taken now_taken : List Bool) (before now : Held) {old new : Meaning} (slot : List ℕ) → IsPlaced base bytes taken now_taken before now old new slot → IsTrue (are_free taken slot)

@@ -1,12 +1,13 @@
 -- Numbers in an index block.
-use Rattle.std.proofs.Common.{◌≡◌, ℕ, zero, suc, ◌+◌, ◌*◌, ◌<◌, nat_lt, true, false, List, [], ◌∷◌, ◌++◌, length, take, drop, get_or, refl, sym, ◌∙◌, ap, ap₂, arith, append_assoc, get_or-take, get_or-drop}
+use Rattle.std.proofs.Common.{◌≡◌, ℕ, zero, suc, ◌+◌, ◌*◌, ◌<◌, ◌≤◌, nat_lt, true, false, List, [], ◌∷◌, ◌++◌, length, take, drop, get_or, refl, sym, ◌∙◌, ap, ap₂, arith, append_assoc, get_or-take, get_or-drop}
 use Rattle.std.specs.List.{flat_map}
-use Rattle.std.proofs.lemmas.Bool.{and_parts, and_from, lt-ltb, ltb-true, cond-true, cond-false}
+use Rattle.std.proofs.lemmas.Bool.{and_parts, and_from, lt-ltb, le-ltb, ltb-true, cond-true, cond-false}
 use Rattle.std.proofs.lemmas.List.FromFn.{length-map-range_with_len, get_or-map-range_with_len, fill_by_all}
 use Rattle.byteorder.specs.Endian.{little_bytes, little_number, IsRead}
 use Rattle.byteorder.specs.Numbers.{little_number-reads_back}
 use Rattle.lis_model.specs.State.{blocks_needed}
-use Rattle.lis_content.specs.Large.{is_large, index_bytes, number_at, numbers_in, index_home, content_blocks, file_blocks}
+use Rattle.lis_content.specs.Content.{content}
+use Rattle.lis_content.specs.Large.{is_large, index_bytes, number_at, numbers_in, index_home, content_blocks, file_content, file_blocks}
 use Rattle.lis_content.proofs.Numbers.{are_below}
 
 pub length-numbers_in : (count : ℕ) (bytes : List ℕ) → length (numbers_in count bytes) ≡ count
@@ -68,3 +69,10 @@ small_blocks base slot size at is = cond-false (is_large size) _ slot is
 
 pub small_numbers : (base : ℕ) (slot : List ℕ) (size : ℕ) (at : ℕ → List ℕ) → is_large size ≡ false → content_blocks base slot size at ≡ slot
 small_numbers base slot size at is = cond-false (is_large size) _ slot is
+
+-- at most 65,536 bytes need no index block
+pub small_size : (size : ℕ) → size ≤ 65536 → is_large size ≡ false
+small_size size few = le-ltb 16 (blocks_needed size) (omega (arith, few))
+
+pub small_content : (base : ℕ) (slot : List ℕ) (size : ℕ) (at : ℕ → List ℕ) → is_large size ≡ false → file_content base slot size at ≡ content base slot size at
+small_content base slot size at is = ap (λ ns. content base ns size at) (small_numbers base slot size at is)
