@@ -49,10 +49,6 @@ spelled_at (n ∷ ns) rest (suc k) below lt =
 pub index_reads_back : (ns : List ℕ) → are_below 65536 ns ≡ true → numbers_in (length ns) (index_bytes ns) ≡ ns
 index_reads_back ns below = sym (numbers_from (length ns) (index_bytes ns) ns refl (λ k lt. sym (spelled_at ns _ k below lt)))
 
-pub length-spelled : (ns : List ℕ) → length (flat_map (little_bytes 2) ns) ≡ 2 * length ns
-length-spelled [] = refl
-length-spelled (n ∷ ns) = omega (arith, length-spelled ns)
-
 pub below_from_each : (m : ℕ) (ns : List ℕ) → ((k : ℕ) → get_or ns k 0 < m) → are_below m ns ≡ true
 below_from_each m [] each = refl
 below_from_each m (n ∷ ns) each = and_from (nat_lt n m) (are_below m ns) (lt-ltb n m (each 0)) (below_from_each m ns (λ k. each (suc k)))

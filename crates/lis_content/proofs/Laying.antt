@@ -36,10 +36,6 @@ pub homes_more : (base : ℕ) (blocks : List ℕ) (n : ℕ) → homes_of base (b
 homes_more base [] n = refl
 homes_more base (b ∷ blocks) n = ap (λ hs. (base + b) ∷ hs) (homes_more base blocks n)
 
-pub length-homes_of : (base : ℕ) (blocks : List ℕ) → length (homes_of base blocks) ≡ length blocks
-length-homes_of base [] = refl
-length-homes_of base (b ∷ blocks) = omega (arith, length-homes_of base blocks)
-
 home_new : (base : ℕ) (blocks : List ℕ) (n : ℕ) → has_number blocks n ≡ false → has_home base blocks (base + n) ≡ false
 home_new base [] n new = refl
 home_new base (b ∷ blocks) n new =
