@@ -3,9 +3,9 @@ use Rattle.std.proofs.Common.{◌≡◌, refl, sym, ap, ap₂, ◌∙◌, ℕ, �
 use Rattle.std.proofs.lemmas.Bool.{and_parts}
 use Rattle.byteorder.specs.Endian.{little_bytes}
 use Rattle.lis_graph.specs.Graph.{is_rising}
-use Rattle.lis_model.specs.State.{blocks_needed}
+use Rattle.lis_model.specs.Ranges.{are_in_range}
 use Rattle.lis_fields.specs.Records.{FileRecord}
-use Rattle.lis_fields.specs.Layouts.{zeros, padded, text_bytes, numbers, super_bytes, is_super, prop_bytes, is_prop, axiom_bytes, is_axiom, file_start, record_bytes, is_record, file_bytes, is_file, are_short, are_distinct, are_tags, are_blocks}
+use Rattle.lis_fields.specs.Layouts.{zeros, padded, text_bytes, numbers, gate_version, super_with, SpellsSuper, prop_bytes, is_prop, axiom_bytes, is_axiom, file_start, record_bytes, is_record, file_bytes, is_file, are_short, are_distinct, are_tags, slot_blocks, are_blocks}
 use Rattle.lis_model.specs.declared.limits.Limits.{Limits}
 use Rattle.lis_fields.specs.declared.slots.PropSlot.{PropSlot}
 use Rattle.lis_fields.specs.declared.slots.PropSlot.TheVariants.{Free as FreeProp, Known, Declared}
@@ -18,8 +18,8 @@ use Rattle.lis_fields.proofs.Shorts.{shorts, length_shorts, same_shorts}
 use Rattle.lis_words.proofs.Tests.{property_short}
 use Rattle.lis_fields.proofs.Texts.{name_short}
 use Rattle.lis_fields.proofs.Pairs.{left_number, right_number, axiom_spelled, axiom_fits}
-use Rattle.lis_fields.proofs.Parts.{text_parts, length_start, length_numbers, few_tags, few_blocks, record_tests, file_parts, same_record, undeclared_word, declarable_word}
-use Rattle.lis_fields.proofs.Supers.{super_fits, same_super}
+use Rattle.lis_fields.proofs.Parts.{text_parts, length_start, length_numbers, few_tags, few_blocks, few_numbers, size_fits, record_tests, file_parts, same_record, undeclared_word, declarable_word}
+use Rattle.lis_fields.proofs.Supers.{super_fits, super_parts, same_super}
 
 same_text : (a b : List ℕ) → length a ≤ 60 → text_bytes a ≡ text_bytes b → a ≡ b
 same_text a b short e =
@@ -42,9 +42,13 @@ same_framed k j a b end more sa sb e =
     let right = text_parts k (text_bytes a ++ end) j b more sb e in
     (same_text a b sa (sym left.is_text ∙ right.is_text), sym left.is_end ∙ right.is_end)
 
-pub super_once : (a b : Limits) → IsTrue (is_super a) → IsTrue (is_super b) → super_bytes a ≡ super_bytes b → a ≡ b
-unfolding super_bytes
-super_once a b is_a is_b e = same_super a b (super_fits a is_a) (super_fits b is_b) (ap (λ xs. take 16 (drop 8 xs)) e)
+-- limits that one super block spells, whatever its gate
+pub super_once : (a b : Limits) (bytes : List ℕ) → IsTrue (are_in_range a) → IsTrue (are_in_range b) → SpellsSuper a bytes → SpellsSuper b bytes → a ≡ b
+super_once a b bytes is_a is_b of_a of_b =
+    let left = super_parts bytes of_a.gate a of_a.spelled in
+    let right = super_parts bytes of_b.gate b of_b.spelled in
+    let gate : of_a.gate ≡ of_b.gate = ap (λ xs. get_or xs 0 0) (sym left.end ∙ right.end) in
+    same_super a b (super_fits a is_a) (super_fits b is_b) (sym of_a.tells ∙ (ap gate_version gate ∙ of_b.tells)) (sym left.spelled ∙ right.spelled)
 
 pub axiom_once : (a b : AxiomSlot) → IsTrue (is_axiom a) → IsTrue (is_axiom b) → axiom_bytes a ≡ axiom_bytes b → a ≡ b
 axiom_once a b is_a is_b e =
@@ -79,27 +83,28 @@ prop_once (Declared v) (Declared w) is_a is_b e =
 short_tags : (tags : List ℕ) → IsTrue (are_tags tags) → are_short tags ≡ true
 short_tags tags h = (and_parts (nat_le (length tags) 16) (are_short tags) (and_parts (nat_le (length tags) 16 && are_short tags) (is_rising nat_cmp tags) h).0).1
 
-short_blocks : (size : ℕ) (blocks : List ℕ) → IsTrue (are_blocks size blocks) → are_short blocks ≡ true
-short_blocks size blocks h = (and_parts (length blocks == blocks_needed size) (are_short blocks) (and_parts ((length blocks == blocks_needed size) && are_short blocks) (are_distinct blocks) h).0).1
+short_blocks : (version size : ℕ) (blocks : List ℕ) → IsTrue (are_blocks version size blocks) → are_short blocks ≡ true
+short_blocks version size blocks h = (and_parts (length blocks == slot_blocks version size) (are_short blocks) (and_parts ((length blocks == slot_blocks version size) && are_short blocks) (are_distinct blocks) h).0).1
 
-record_once : (a b : FileRecord) → IsTrue (is_record a) → IsTrue (is_record b) → record_bytes a ≡ record_bytes b → a ≡ b
-record_once a b is_a is_b e =
-    let of_a = record_tests a is_a in
-    let of_b = record_tests b is_b in
-    let needed = few_blocks a.size a.blocks of_a.blocks in
-    let few : length a.blocks ≤ 16 = omega (arith, needed, of_a.small) in
-    let parts = file_parts (file_start a.name (length a.tags)) (little_bytes 4 a.size) (numbers a.tags) (numbers a.blocks) (zeros 124) b is_b e
+record_once : (version : ℕ) (a b : FileRecord) → IsTrue (is_record version a) → IsTrue (is_record version b) → record_bytes a ≡ record_bytes b → a ≡ b
+record_once version a b is_a is_b e =
+    let of_a = record_tests version a is_a in
+    let of_b = record_tests version b is_b in
+    let few = few_numbers version a of_a in
+    let parts = file_parts (file_start a.name (length a.tags)) (little_bytes 4 a.size) (numbers a.tags) (numbers a.blocks) (zeros 124) version b is_b e
     (length_start a.name (length a.tags) (name_short a.name of_a.name)) refl (length_numbers a.tags (few_tags a.tags of_a.tags)) (length_numbers a.blocks few) in
     let start = same_framed 1 1 a.name b.name (length a.tags ∷ 0 ∷ []) (length b.tags ∷ 0 ∷ []) (name_short a.name of_a.name) (name_short b.name of_b.name) parts.is_start in
     let count : length a.tags ≡ length b.tags = ap (λ xs. get_or xs 0 0) start.1 in
-    let size = same_number 4 a.size b.size (omega (arith, of_a.small)) (omega (arith, of_b.small)) parts.is_size in
-    let blocks : length a.blocks ≡ length b.blocks = needed ∙ (ap blocks_needed size ∙ sym (few_blocks b.size b.blocks of_b.blocks)) in
+    let fits_a = size_fits version a.size of_a.small in
+    let fits_b = size_fits version b.size of_b.small in
+    let size = same_number 4 a.size b.size (omega (arith, fits_a)) (omega (arith, fits_b)) parts.is_size in
+    let blocks : length a.blocks ≡ length b.blocks = few_blocks version a.size a.blocks of_a.blocks ∙ (ap (slot_blocks version) size ∙ sym (few_blocks version b.size b.blocks of_b.blocks)) in
     same_record a b start.0 size (same_numbers a.tags b.tags count (short_tags a.tags of_a.tags) (short_tags b.tags of_b.tags) parts.is_tags)
-    (same_numbers a.blocks b.blocks blocks (short_blocks a.size a.blocks of_a.blocks) (short_blocks b.size b.blocks of_b.blocks) parts.is_blocks)
+    (same_numbers a.blocks b.blocks blocks (short_blocks version a.size a.blocks of_a.blocks) (short_blocks version b.size b.blocks of_b.blocks) parts.is_blocks)
 
-pub file_once : (a b : FileSlot) → IsTrue (is_file a) → IsTrue (is_file b) → file_bytes a ≡ file_bytes b → a ≡ b
+pub file_once : (version : ℕ) (a b : FileSlot) → IsTrue (is_file version a) → IsTrue (is_file version b) → file_bytes a ≡ file_bytes b → a ≡ b
 unfolding file_bytes zeros
-file_once FreeFile FreeFile is_a is_b e = refl
-file_once FreeFile (Used rec) is_a is_b e = let first : 0 ≡ 1 = ap (λ xs. get_or xs 0 0) e in absurd (omega (arith, first))
-file_once (Used rec) FreeFile is_a is_b e = let first : 1 ≡ 0 = ap (λ xs. get_or xs 0 0) e in absurd (omega (arith, first))
-file_once (Used rec) (Used other) is_a is_b e = ap Used (record_once rec other is_a is_b e)
+file_once version FreeFile FreeFile is_a is_b e = refl
+file_once version FreeFile (Used rec) is_a is_b e = let first : 0 ≡ 1 = ap (λ xs. get_or xs 0 0) e in absurd (omega (arith, first))
+file_once version (Used rec) FreeFile is_a is_b e = let first : 1 ≡ 0 = ap (λ xs. get_or xs 0 0) e in absurd (omega (arith, first))
+file_once version (Used rec) (Used other) is_a is_b e = ap Used (record_once version rec other is_a is_b e)

@@ -1,12 +1,12 @@
 -- The parts of a slot that has a word, of a super block and of a slot that has a file, read back from their spelling.
-use Rattle.std.proofs.Common.{◌≡◌, refl, sym, ap, ap₂, ◌∙◌, ℕ, ◌≤◌, nat_le, not, ◌&&◌, ◌||◌, inl, inr, take_at, drop_at, List, [], ◌∷◌, ◌++◌, length, get_or, take, drop, IsTrue, Option, Some, arith, length-append}
-use Rattle.std.proofs.lemmas.Bool.{and_parts, and_from, or_cases, or_left, or_right, leb-true, le-leb, eqb-true}
+use Rattle.std.proofs.Common.{◌≡◌, refl, sym, ap, ap₂, ◌∙◌, subst, ℕ, ◌≤◌, ◌==◌, nat_le, nat_lt, Bool, true, false, not, ◌&&◌, ◌||◌, if◌then◌else◌, inl, inr, take_at, drop_at, List, [], ◌∷◌, ◌++◌, length, get_or, take, drop, IsTrue, Option, Some, arith, length-append}
+use Rattle.std.proofs.lemmas.Bool.{and_parts, and_from, or_cases, or_left, or_right, leb-true, le-leb, eqb-true, ltb-true, ltb-false}
 use Rattle.byteorder.specs.Endian.{little_bytes}
 use Rattle.lis_words.specs.Words.{is_word, is_plain_word, is_head, is_valued, is_test, is_property, is_built_in, is_file_name}
 use Rattle.lis_words.proofs.Tests.{word_is_property, property_short}
-use Rattle.lis_model.specs.State.{is_declarable, blocks_needed}
+use Rattle.lis_model.specs.State.{is_declarable, file_limit, blocks_needed}
 use Rattle.lis_fields.specs.Records.{FileRecord}
-use Rattle.lis_fields.specs.Layouts.{zeros, text_bytes, named, prop_bytes, is_prop, is_undeclared, file_start, numbers, record_bytes, file_bytes, are_tags, are_blocks, is_record, is_file}
+use Rattle.lis_fields.specs.Layouts.{zeros, text_bytes, named, prop_bytes, is_prop, is_undeclared, file_start, numbers, record_bytes, file_bytes, are_short, are_distinct, are_tags, slot_blocks, are_blocks, is_record, is_file}
 use Rattle.lis_fields.specs.declared.slots.PropSlot.{PropSlot}
 use Rattle.lis_fields.specs.declared.slots.PropSlot.TheVariants.{Free as FreeProp, Known, Declared}
 use Rattle.lis_fields.specs.declared.slots.FileSlot.{FileSlot}
@@ -54,36 +54,58 @@ pub record FileParts (start size tags blocks end : List ℕ) (rec : FileRecord) 
   pub is_end : end ≡ zeros 124
 
 -- what the test of a file slot's value says
-pub record IsFileRecord (rec : FileRecord) : Type 0 where
+pub record IsFileRecord (version : ℕ) (rec : FileRecord) : Type 0 where
   pub name : IsTrue (is_file_name rec.name)
-  pub small : rec.size ≤ 65536
+  pub small : rec.size ≤ file_limit version
   pub tags : IsTrue (are_tags rec.tags)
-  pub blocks : IsTrue (are_blocks rec.size rec.blocks)
+  pub blocks : IsTrue (are_blocks version rec.size rec.blocks)
 
-pub record_tests : (rec : FileRecord) → IsTrue (is_record rec) → IsFileRecord rec
-record_tests rec h =
-    let most = and_parts (is_file_name rec.name && nat_le rec.size 65536 && are_tags rec.tags) (are_blocks rec.size rec.blocks) h in
-    let more = and_parts (is_file_name rec.name && nat_le rec.size 65536) (are_tags rec.tags) most.0 in
-    let two = and_parts (is_file_name rec.name) (nat_le rec.size 65536) more.0 in
-    record { name = two.0; small = leb-true rec.size 65536 two.1; tags = more.1; blocks = most.1 }
+pub record_tests : (version : ℕ) (rec : FileRecord) → IsTrue (is_record version rec) → IsFileRecord version rec
+record_tests version rec h =
+    let most = and_parts (is_file_name rec.name && nat_le rec.size (file_limit version) && are_tags rec.tags) (are_blocks version rec.size rec.blocks) h in
+    let more = and_parts (is_file_name rec.name && nat_le rec.size (file_limit version)) (are_tags rec.tags) most.0 in
+    let two = and_parts (is_file_name rec.name) (nat_le rec.size (file_limit version)) more.0 in
+    record { name = two.0; small = leb-true rec.size (file_limit version) two.1; tags = more.1; blocks = most.1 }
 
 pub few_tags : (tags : List ℕ) → IsTrue (are_tags tags) → length tags ≤ 16
 few_tags tags h = leb-true (length tags) 16 (and_parts _ _ (and_parts _ _ h).0).0
 
-pub few_blocks : (size : ℕ) (blocks : List ℕ) → IsTrue (are_blocks size blocks) → length blocks ≡ blocks_needed size
-few_blocks size blocks h = eqb-true (length blocks) (blocks_needed size) (and_parts _ _ (and_parts _ _ h).0).0
+pub few_blocks : (version size : ℕ) (blocks : List ℕ) → IsTrue (are_blocks version size blocks) → length blocks ≡ slot_blocks version size
+few_blocks version size blocks h = eqb-true (length blocks) (slot_blocks version size) (and_parts _ _ (and_parts _ _ h).0).0
+
+-- in each version a slot has room for the block numbers
+pub slot_room : (version size : ℕ) → size ≤ file_limit version → slot_blocks version size ≤ 16
+slot_room version size small = by (version == 2) (nat_lt 16 (blocks_needed size)) refl small
+  where
+    by : (two many : Bool) → nat_lt 16 (blocks_needed size) ≡ many → size ≤ (if two then 1048576 else 65536) → (if two && many then 1 else blocks_needed size) ≤ 16
+    by true true e le = omega arith
+    by true false e le = ltb-false 16 (blocks_needed size) e
+    by false many e le = omega (arith, le)
+
+-- the size is a number of four bytes
+pub size_fits : (version size : ℕ) → size ≤ file_limit version → size ≤ 1048576
+size_fits version size small = by (version == 2) small
+  where
+    by : (two : Bool) → size ≤ (if two then 1048576 else 65536) → size ≤ 1048576
+    by true le = le
+    by false le = omega (arith, le)
+
+-- a file has at most 16 block numbers in its slot
+pub few_numbers : (version : ℕ) (rec : FileRecord) → IsFileRecord version rec → length rec.blocks ≤ 16
+few_numbers version rec tests =
+    let room = slot_room version rec.size tests.small in
+    omega (arith, few_blocks version rec.size rec.blocks tests.blocks, room)
 
 -- two spellings of two parts each, the first of one width
 same_parts : (a b c d : List ℕ) → a ++ b ≡ c ++ d → length a ≡ length c → (a ≡ c) × (b ≡ d)
 same_parts a b c d e len =
     (sym (take_at a b (length a) refl) ∙ front_is (length a) (a ++ b) c d e (sym len), sym (drop_at a b (length a) refl) ∙ behind_is (length a) (a ++ b) c d e (sym len))
 
-pub file_parts : (start size tags blocks end : List ℕ) (rec : FileRecord) → IsTrue (is_record rec) → start ++ (size ++ (tags ++ (blocks ++ end))) ≡ record_bytes rec
+pub file_parts : (start size tags blocks end : List ℕ) (version : ℕ) (rec : FileRecord) → IsTrue (is_record version rec) → start ++ (size ++ (tags ++ (blocks ++ end))) ≡ record_bytes rec
     → length start ≡ 64 → length size ≡ 4 → length tags ≡ 32 → length blocks ≡ 32 → FileParts start size tags blocks end rec
-file_parts start size tags blocks end rec is e start_len size_len tags_len blocks_len =
-    let tests = record_tests rec is in
-    let needed = few_blocks rec.size rec.blocks tests.blocks in
-    let few : length rec.blocks ≤ 16 = omega (arith, needed, tests.small) in
+file_parts start size tags blocks end version rec is e start_len size_len tags_len blocks_len =
+    let tests = record_tests version rec is in
+    let few = few_numbers version rec tests in
     let one = same_parts start (size ++ (tags ++ (blocks ++ end))) (file_start rec.name (length rec.tags)) (little_bytes 4 rec.size ++ (numbers rec.tags ++ (numbers rec.blocks ++ zeros 124))) e
     (start_len ∙ sym (length_start rec.name (length rec.tags) (name_short rec.name tests.name))) in
     let two = same_parts size (tags ++ (blocks ++ end)) (little_bytes 4 rec.size) (numbers rec.tags ++ (numbers rec.blocks ++ zeros 124)) one.1 size_len in
@@ -96,21 +118,20 @@ pub file_joined : (start size tags blocks end : List ℕ) (rec : FileRecord) →
 file_joined start size tags blocks end rec parts =
     ap₂ (λ x y. x ++ y) parts.is_start (ap₂ (λ x y. x ++ y) parts.is_size (ap₂ (λ x y. x ++ y) parts.is_tags (ap₂ (λ x y. x ++ y) parts.is_blocks parts.is_end)))
 
-pub length_record : (rec : FileRecord) → IsTrue (is_record rec) → length (record_bytes rec) ≡ 256
-length_record rec is =
-    let tests = record_tests rec is in
-    let needed = few_blocks rec.size rec.blocks tests.blocks in
-    let few : length rec.blocks ≤ 16 = omega (arith, needed, tests.small) in
+pub length_record : (version : ℕ) (rec : FileRecord) → IsTrue (is_record version rec) → length (record_bytes rec) ≡ 256
+length_record version rec is =
+    let tests = record_tests version rec is in
+    let few = few_numbers version rec tests in
     let start_len = length_start rec.name (length rec.tags) (name_short rec.name tests.name) in
     let tags_len = length_numbers rec.tags (few_tags rec.tags tests.tags) in
     let blocks_len = length_numbers rec.blocks few in
     length-append (file_start rec.name (length rec.tags)) (little_bytes 4 rec.size ++ (numbers rec.tags ++ (numbers rec.blocks ++ zeros 124)))
     ∙ omega (arith, start_len, tags_len, blocks_len, length-append (numbers rec.tags) (numbers rec.blocks ++ zeros 124), length-append (numbers rec.blocks) (zeros 124), length_zeros 124)
 
-pub length_file : (slot : FileSlot) → IsTrue (is_file slot) → length (file_bytes slot) ≡ 256
+pub length_file : (version : ℕ) (slot : FileSlot) → IsTrue (is_file version slot) → length (file_bytes slot) ≡ 256
 unfolding file_bytes
-length_file FreeFile is = length_zeros 256
-length_file (Used rec) is = length_record rec is
+length_file version FreeFile is = length_zeros 256
+length_file version (Used rec) is = length_record version rec is
 
 pub undeclared_word : (word : List ℕ) → IsTrue (is_undeclared word) → IsTrue (is_property word)
 undeclared_word word h =
@@ -145,7 +166,22 @@ same_record a b name size tags blocks =
     ap (λ x. record_of x a.size a.tags a.blocks) name ∙ (ap (λ x. record_of b.name x a.tags a.blocks) size
     ∙ (ap (λ x. record_of b.name b.size x a.blocks) tags ∙ ap (λ x. record_of b.name b.size b.tags x) blocks))
 
-pub record_from : (rec : FileRecord) → IsTrue (is_file_name rec.name) → rec.size ≤ 65536 → IsTrue (are_tags rec.tags) → IsTrue (are_blocks rec.size rec.blocks) → IsTrue (is_record rec)
-record_from rec name small tags blocks =
-    and_from (is_file_name rec.name && nat_le rec.size 65536 && are_tags rec.tags) (are_blocks rec.size rec.blocks)
-    (and_from (is_file_name rec.name && nat_le rec.size 65536) (are_tags rec.tags) (and_from (is_file_name rec.name) (nat_le rec.size 65536) name (le-leb rec.size 65536 small)) tags) blocks
+pub record_from : (version : ℕ) (rec : FileRecord) → IsTrue (is_file_name rec.name) → rec.size ≤ file_limit version → IsTrue (are_tags rec.tags) → IsTrue (are_blocks version rec.size rec.blocks)
+    → IsTrue (is_record version rec)
+record_from version rec name small tags blocks =
+    and_from (is_file_name rec.name && nat_le rec.size (file_limit version) && are_tags rec.tags) (are_blocks version rec.size rec.blocks)
+    (and_from (is_file_name rec.name && nat_le rec.size (file_limit version)) (are_tags rec.tags)
+        (and_from (is_file_name rec.name) (nat_le rec.size (file_limit version)) name (le-leb rec.size (file_limit version) small)) tags)
+    blocks
+
+-- what a slot of version 1 may tell, one of version 2 may
+pub file_upgraded : (slot : FileSlot) → IsTrue (is_file 1 slot) → IsTrue (is_file 2 slot)
+file_upgraded FreeFile is = refl
+file_upgraded (Used rec) is =
+    let tests = record_tests 1 rec is in
+    record_from 2 rec tests.name (omega (arith, tests.small)) tests.tags (as_many (nat_lt 16 (blocks_needed rec.size)) refl tests.blocks)
+  where
+    as_many : (many : Bool) → nat_lt 16 (blocks_needed rec.size) ≡ many → IsTrue (are_blocks 1 rec.size rec.blocks)
+        → IsTrue ((length rec.blocks == (if many then 1 else blocks_needed rec.size)) && are_short rec.blocks && are_distinct rec.blocks)
+    as_many true e same = let over = ltb-true 16 (blocks_needed rec.size) e in absurd (omega (arith, over, (record_tests 1 rec is).small))
+    as_many false e same = same

@@ -1,13 +1,12 @@
 -- The parts of an image as they are spelled, each whole, and which values they may have. The lowest byte of a number comes first.
-use Rattle.std.specs.Prelude.{ℕ, ◌+◌, ◌-◌, ◌^◌, ◌==◌, nat_lt, nat_le, Bool, true, not, ◌&&◌, ◌||◌, List, [], ◌∷◌, ◌++◌, length, replicate, codes}
+use Rattle.std.specs.Prelude.{◌≡◌, ℕ, ◌+◌, ◌-◌, ◌^◌, ◌<◌, ◌==◌, nat_lt, nat_le, Bool, true, not, ◌&&◌, ◌||◌, if◌then◌else◌, List, [], ◌∷◌, ◌++◌, length, replicate, codes}
 use Rattle.std.specs.List.{list_any, list_all, flat_map}
 use Rattle.std.specs.Ordering.{nat_cmp}
 use Rattle.byteorder.specs.Endian.{little_bytes}
 use Rattle.lis_graph.specs.Graph.{is_rising}
 use Rattle.lis_words.specs.Words.{is_head, is_valued, is_built_in, is_file_name}
 use Rattle.lis_model.specs.declared.limits.Limits.{Limits}
-use Rattle.lis_model.specs.Ranges.{are_in_range}
-use Rattle.lis_model.specs.State.{is_declarable, blocks_needed}
+use Rattle.lis_model.specs.State.{is_declarable, file_limit, blocks_needed}
 use Rattle.lis_fields.specs.Records.{FileRecord}
 use Rattle.lis_fields.specs.declared.slots.PropSlot.{PropSlot}
 use Rattle.lis_fields.specs.declared.slots.PropSlot.TheVariants.{Free as FreeProp, Known, Declared}
@@ -28,18 +27,37 @@ padded n bytes = bytes ++ zeros (n - length bytes)
 abbrev pub text_bytes : List ℕ → List ℕ
 text_bytes text = length text ∷ padded 60 text
 
--- the version and the limits of a super block
+-- how a super block begins: its name, and a 1 in both versions
+abbrev pub super_start : List ℕ
+super_start = codes "LISFS-IM" ++ little_bytes 4 1
+
+-- the three limits of a super block
 abbrev pub super_numbers : Limits → List ℕ
-super_numbers limits =
-    little_bytes 4 limits.version ++ (little_bytes 4 limits.files ++ (little_bytes 4 limits.props ++ little_bytes 4 limits.blocks))
+super_numbers limits = little_bytes 4 limits.files ++ (little_bytes 4 limits.props ++ little_bytes 4 limits.blocks)
 
--- the super block: how it begins, its numbers, and zeros
-unfoldable pub super_bytes : Limits → List ℕ
-super_bytes limits = codes "LISFS-IM" ++ (super_numbers limits ++ zeros 4072)
+-- the version that a gate tells: 2 is version 2, and every other byte is version 1
+abbrev pub gate_version : ℕ → ℕ
+gate_version gate = if gate == 2 then 2 else 1
 
--- Limits of an image. There are no images of version 2 yet; then this is `are_in_range limits`.
-abbrev pub is_super : Limits → Bool
-is_super limits = (limits.version == 1) && are_in_range limits
+-- the gate that is written for a version
+abbrev pub version_gate : ℕ → ℕ
+version_gate version = if version == 2 then 2 else 0
+
+-- a super block with that gate: how it begins, its limits, the gate of its version, and zeros
+unfoldable pub super_with : ℕ → Limits → List ℕ
+super_with gate limits = super_start ++ (super_numbers limits ++ gate ∷ zeros 4071)
+
+-- the super block that is written
+abbrev pub super_bytes : Limits → List ℕ
+super_bytes limits = super_with (version_gate limits.version) limits
+
+-- The bytes are a super block of these limits: their gate, whichever byte it is, tells the version. So limits of version 1 have many
+-- spellings, and those of version 2 have one.
+pub record SpellsSuper (limits : Limits) (bytes : List ℕ) : Type 0 where
+  pub gate : ℕ
+  pub byte : gate < 256
+  pub tells : gate_version gate ≡ limits.version
+  pub spelled : bytes ≡ super_with gate limits
 
 -- a property slot that has a word: the kind, the word, and zeros
 abbrev pub named : ℕ → List ℕ → List ℕ
@@ -79,7 +97,7 @@ numbers ns = padded 32 (flat_map (little_bytes 2) ns)
 abbrev pub file_start : List ℕ → ℕ → List ℕ
 file_start name count = 1 ∷ text_bytes name ++ count ∷ 0 ∷ []
 
--- a file slot that is used: the name, how many words, the size, the words' slots, the data blocks, and zeros
+-- a file slot that is used: the name, how many words, the size, the words' slots, the block numbers, and zeros
 abbrev pub record_bytes : FileRecord → List ℕ
 record_bytes rec =
     file_start rec.name (length rec.tags) ++ (little_bytes 4 rec.size ++ (numbers rec.tags ++ (numbers rec.blocks ++ zeros 124)))
@@ -102,16 +120,21 @@ are_distinct (n ∷ ns) = not (list_any (λ m. m == n) ns) && are_distinct ns
 abbrev pub are_tags : List ℕ → Bool
 are_tags tags = nat_le (length tags) 16 && are_short tags && is_rising nat_cmp tags
 
--- as many block numbers as the size takes, none of them twice
-abbrev pub are_blocks : ℕ → List ℕ → Bool
-are_blocks size blocks = (length blocks == blocks_needed size) && are_short blocks && are_distinct blocks
+-- How many block numbers the slot of a file of that version and size has: as many as the content has blocks. Where these are more than 16,
+-- which version 2 alone has, it is one, that of the block that numbers them.
+abbrev pub slot_blocks : ℕ → ℕ → ℕ
+slot_blocks version size = if (version == 2) && nat_lt 16 (blocks_needed size) then 1 else blocks_needed size
 
--- what a file slot may tell of a file
-abbrev pub is_record : FileRecord → Bool
-is_record rec =
-    is_file_name rec.name && nat_le rec.size 65536 && are_tags rec.tags && are_blocks rec.size rec.blocks
+-- as many block numbers as a slot has, none of them twice
+abbrev pub are_blocks : ℕ → ℕ → List ℕ → Bool
+are_blocks version size blocks = (length blocks == slot_blocks version size) && are_short blocks && are_distinct blocks
 
--- the values of a file slot
-abbrev pub is_file : FileSlot → Bool
-is_file FreeFile = true
-is_file (Used rec) = is_record rec
+-- what a file slot of that version may tell of a file
+abbrev pub is_record : ℕ → FileRecord → Bool
+is_record version rec =
+    is_file_name rec.name && nat_le rec.size (file_limit version) && are_tags rec.tags && are_blocks version rec.size rec.blocks
+
+-- the values of a file slot of that version; they are spelled alike in both
+abbrev pub is_file : ℕ → FileSlot → Bool
+is_file version FreeFile = true
+is_file version (Used rec) = is_record version rec

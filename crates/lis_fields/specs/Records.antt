@@ -7,5 +7,5 @@ pub record FileRecord : Type 0 where
   pub size : ℕ
   -- the slot numbers of the words that it was given
   pub tags : List ℕ
-  -- the numbers of the data blocks of its bytes, in order
+  -- the numbers of the data blocks of its bytes, in order; where they are more than 16, that of the block that numbers them, alone
   pub blocks : List ℕ

@@ -5,9 +5,9 @@ ghost use Rattle.std.specs.List.{list_any};
 ghost use Rattle.std.specs.Ordering.{nat_cmp};
 ghost use Rattle.lis_graph.specs.Graph.{is_rising};
 ghost use Rattle.lis_words.specs.Words.{is_file_name};
-ghost use Rattle.lis_model.specs.State.{blocks_needed};
+ghost use Rattle.lis_model.specs.State.{file_limit};
 ghost use Rattle.lis_fields.specs.Records.{FileRecord};
-ghost use Rattle.lis_fields.specs.Layouts.{file_start, numbers, record_bytes, file_bytes, are_distinct, are_tags, are_blocks, is_record, is_file};
+ghost use Rattle.lis_fields.specs.Layouts.{file_start, numbers, record_bytes, file_bytes, are_distinct, are_tags, slot_blocks, are_blocks, is_record, is_file};
 ghost use Rattle.lis_fields.specs.declared.slots.FileSlot.{FileSlot};
 
 use crate::fields::{
@@ -24,8 +24,29 @@ pub const FILE_LEN: usize = 256;
 /// How many bytes stand before the size.
 const START_LEN: usize = 64;
 
-/// The most bytes of a file.
-const MAX_SIZE: u32 = 65_536;
+/// How many bytes a data block has.
+const BLOCK_LEN: u32 = 4_096;
+
+/// The most block numbers of a slot.
+const MAX_BLOCKS: u32 = 16;
+
+/// How many bytes a file of the version may have.
+fn file_limit(version: u32) -> u32
+    ensures { result ≡ file_limit version }
+{
+    if version == 2 { 1_048_576 } else { 65_536 }
+}
+
+/// How many block numbers the slot of a file has.
+fn slot_blocks(version: u32, size: u32) -> u32
+    ensures { result ≡ slot_blocks version size }
+{
+    let needed = size.div_ceil(BLOCK_LEN);
+    if version == 2 && needed > MAX_BLOCKS {
+        return 1;
+    }
+    needed
+}
 
 fn rise(numbers: &[u16]) -> bool
     ensures { result ≡ is_rising nat_cmp numbers.now }
@@ -93,15 +114,15 @@ fn read_tags(field: &[u8], count: usize) -> Option<ArrayVec<u16, 16>>
     Some(tags)
 }
 
-/// The data blocks of a file of that size.
-fn read_blocks(field: &[u8], size: u32) -> Option<ArrayVec<u16, 16>>
+/// The block numbers of a file of that version and size.
+fn read_blocks(field: &[u8], version: u32, size: u32) -> Option<ArrayVec<u16, 16>>
     requires len { length field.now ≡ 32 }
-    requires short { size ≤ 65536 }
-    ensures spelled { IfSome result (λ found. IsTrue (are_blocks size found.items) × (field.now ≡ numbers found.items)) }
-    ensures same { (blocks : List ℕ) → IsTrue (are_blocks size blocks) → field.now ≡ numbers blocks
+    requires short { size ≤ file_limit version }
+    ensures spelled { IfSome result (λ found. IsTrue (are_blocks version size found.items) × (field.now ≡ numbers found.items)) }
+    ensures same { (blocks : List ℕ) → IsTrue (are_blocks version size blocks) → field.now ≡ numbers blocks
         → IsSomeAnd result (λ found. found.items ≡ blocks) }
 {
-    let blocks = read_numbers(field, size.div_ceil(4_096) as usize)?;
+    let blocks = read_numbers(field, slot_blocks(version, size) as usize)?;
     if !are_distinct(blocks.as_slice()) {
         return None;
     }
@@ -141,22 +162,23 @@ fn cut(bytes: &[u8]) -> FileFields<'_>
     }
 }
 
-fn read_record(bytes: &[u8]) -> Option<FileRec>
+fn read_record(bytes: &[u8], version: u32) -> Option<FileRec>
     requires { length bytes.now ≡ 256 }
-    ensures spelled { IfSome result (λ rec. IsTrue (is_record rec) × (bytes.now ≡ record_bytes rec)) }
-    ensures same { (rec : FileRecord) → IsTrue (is_record rec) → bytes.now ≡ record_bytes rec → result ≡ Some rec }
+    ensures spelled { IfSome result (λ rec. IsTrue (is_record version rec) × (bytes.now ≡ record_bytes rec)) }
+    ensures same { (rec : FileRecord) → IsTrue (is_record version rec) → bytes.now ≡ record_bytes rec → result ≡ Some rec }
 {
     let fields = cut(bytes);
     if !are_zeros(fields.end) {
         return None;
     }
     let size = read_number(fields.size);
-    if size > MAX_SIZE {
+    let most = file_limit(version);
+    if size > most {
         return None;
     }
     let (name, count) = read_start(fields.start)?;
     let tags = read_tags(fields.tags, usize::from(count))?;
-    let numbers = read_blocks(fields.block_numbers, size)?;
+    let numbers = read_blocks(fields.block_numbers, version, size)?;
     Some(FileRec {
         name,
         size,
@@ -165,11 +187,11 @@ fn read_record(bytes: &[u8]) -> Option<FileRec>
     })
 }
 
-/// Reads a file slot. None comes exactly where the bytes are no spelling of one.
+/// Reads a file slot of an image of that version. None comes exactly where the bytes are no spelling of one.
 #[tactic(auto, unfolding(crate::specs::Layouts::file_bytes))]
-pub fn read_file(bytes: &[u8]) -> Option<FileSlot>
-    ensures spelled { IfSome result (λ slot. IsTrue (is_file slot) × (bytes.now ≡ file_bytes slot)) }
-    ensures same { (slot : FileSlot) → IsTrue (is_file slot) → bytes.now ≡ file_bytes slot → result ≡ Some slot }
+pub fn read_file(bytes: &[u8], version: u32) -> Option<FileSlot>
+    ensures spelled { IfSome result (λ slot. IsTrue (is_file version slot) × (bytes.now ≡ file_bytes slot)) }
+    ensures same { (slot : FileSlot) → IsTrue (is_file version slot) → bytes.now ≡ file_bytes slot → result ≡ Some slot }
 {
     if bytes.len() != FILE_LEN {
         return None;
@@ -177,7 +199,7 @@ pub fn read_file(bytes: &[u8]) -> Option<FileSlot>
     if are_zeros(bytes) {
         return Some(FileSlot::Free);
     }
-    let rec = read_record(bytes)?;
+    let rec = read_record(bytes, version)?;
     Some(FileSlot::Used(rec))
 }
 
@@ -193,8 +215,7 @@ fn write_start(name: &Name, count: u8, bytes: &mut [u8])
 }
 
 fn write_record(rec: &FileRec, bytes: &mut [u8])
-    requires len { length bytes.old ≡ 256 }
-    requires range { IsTrue (is_record rec.now) }
+    requires { length bytes.old ≡ 256 }
     ensures { bytes.new ≡ record_bytes rec.now }
 {
     let (start, rest) = bytes.split_at_mut(START_LEN);
@@ -208,11 +229,11 @@ fn write_record(rec: &FileRec, bytes: &mut [u8])
     write_zeros(end);
 }
 
-/// Writes a file slot.
+/// Writes a file slot of an image of that version.
 #[tactic(auto, unfolding(crate::specs::Layouts::file_bytes))]
-pub fn write_file(slot: &FileSlot, bytes: &mut [u8])
+pub fn write_file(slot: &FileSlot, bytes: &mut [u8], version: u32)
     requires len { length bytes.old ≡ 256 }
-    requires range { IsTrue (is_file slot.now) }
+    requires range { IsTrue (is_file version slot.now) }
     ensures { bytes.new ≡ file_bytes slot.now }
 {
     match slot {

@@ -41,7 +41,8 @@ pub struct FileRec {
     pub size: u32,
     /// The slot numbers of the words that the file was given.
     pub tags: ArrayVec<u16, 16>,
-    /// The numbers of the data blocks of its bytes, in order.
+    /// The numbers of the data blocks of its bytes, in order. Where they are more than 16, which version 2 alone
+    /// has, this is the number of the index block alone, which has theirs.
     pub blocks: ArrayVec<u16, 16>,
 }
 

@@ -1,97 +1,116 @@
 //! The super block.
 
 ghost use Rattle.std.specs.Prelude.{◌≡◌, length, Option, Some, IfSome, IsTrue};
-ghost use Rattle.lis_fields.specs.Layouts.{super_bytes, super_numbers, is_super};
 ghost use Rattle.lis_model.specs.declared.limits.Limits.{Limits};
+ghost use Rattle.lis_model.specs.Ranges.{are_in_range};
+ghost use Rattle.lis_fields.specs.Layouts.{SpellsSuper, gate_version, super_bytes, super_numbers, version_gate};
 
 use crate::fields::{are_zeros, read_number, write_number, write_zeros};
-use lis_model::limits::{Limits, is_blocks_limit, is_files_limit, is_props_limit};
+use lis_model::limits::{Limits, is_blocks_limit, is_files_limit, is_props_limit, is_version};
 
 /// How many bytes the super block has.
 pub const SUPER_LEN: usize = 4_096;
 
-/// How a super block begins.
-const MAGIC: [u8; 8] = *b"LISFS-IM";
+/// How a super block begins, in both versions.
+const START: [u8; 12] = *b"LISFS-IM\x01\0\0\0";
 
-/// Whether a super block may tell these limits.
-fn is_super(limits: &Limits) -> bool
-    ensures { result ≡ is_super limits.now }
+/// How many bytes stand before the limits, and how many the limits take.
+const START_LEN: usize = 12;
+const LIMITS_LEN: usize = 12;
+
+/// Whether an image may have these limits.
+fn are_in_range(limits: &Limits) -> bool
+    ensures { result ≡ are_in_range limits.now }
 {
-    if limits.version != 1 {
-        return false;
-    }
     if !is_files_limit(u64::from(limits.files)) {
         return false;
     }
     if !is_props_limit(u64::from(limits.props)) {
         return false;
     }
-    is_blocks_limit(u64::from(limits.blocks))
+    if !is_blocks_limit(u64::from(limits.blocks)) {
+        return false;
+    }
+    is_version(u64::from(limits.version))
 }
 
-/// The four numbers of a super block.
-fn read_limits(bytes: &[u8]) -> Limits
-    requires { length bytes.now ≡ 16 }
-    ensures { bytes.now ≡ super_numbers result }
+/// The version that a gate tells. A stopped write may leave any byte there, so all but one are version 1.
+fn gate_version(gate: u8) -> u32
+    ensures { result ≡ gate_version gate }
 {
-    let (version, rest) = bytes.split_at(4);
-    let (files, rest) = rest.split_at(4);
+    if gate == 2 { 2 } else { 1 }
+}
+
+fn version_gate(version: u32) -> u8
+    ensures { result ≡ version_gate version }
+{
+    if version == 2 { 2 } else { 0 }
+}
+
+/// The limits of that version that the three numbers tell.
+fn read_limits(bytes: &[u8], version: u32) -> Limits
+    requires { length bytes.now ≡ 12 }
+    ensures numbers { bytes.now ≡ super_numbers result }
+    ensures version { result.version ≡ version }
+{
+    let (files, rest) = bytes.split_at(4);
     let (props, blocks) = rest.split_at(4);
     Limits {
         files: read_number(files),
         props: read_number(props),
         blocks: read_number(blocks),
-        version: read_number(version),
+        version,
     }
 }
 
 /// Reads a super block. None comes exactly where the bytes are no spelling of one.
-#[tactic(auto, unfolding(crate::specs::Layouts::super_bytes))]
+#[tactic(auto, unfolding(crate::specs::Layouts::super_with))]
 pub fn read_super(bytes: &[u8]) -> Option<Limits>
-    ensures spelled { IfSome result (λ limits. IsTrue (is_super limits) × (bytes.now ≡ super_bytes limits)) }
-    ensures same { (limits : Limits) → IsTrue (is_super limits) → bytes.now ≡ super_bytes limits → result ≡ Some limits }
+    ensures spelled { IfSome result (λ limits. IsTrue (are_in_range limits) × SpellsSuper limits bytes.now) }
+    ensures same { (limits : Limits) → IsTrue (are_in_range limits) → SpellsSuper limits bytes.now → result ≡ Some limits }
 {
     if bytes.len() != SUPER_LEN {
         return None;
     }
-    let (magic, rest) = bytes.split_at(8);
-    let (numbers, end) = rest.split_at(16);
-    if magic != MAGIC.as_slice() {
+    let (start, rest) = bytes.split_at(START_LEN);
+    let (numbers, rest) = rest.split_at(LIMITS_LEN);
+    let (gate, end) = rest.split_first()?;
+    if start != START.as_slice() {
         return None;
     }
     if !are_zeros(end) {
         return None;
     }
-    let limits = read_limits(numbers);
-    if !is_super(&limits) {
+    let limits = read_limits(numbers, gate_version(*gate));
+    if !are_in_range(&limits) {
         return None;
     }
     Some(limits)
 }
 
 fn write_limits(limits: &Limits, bytes: &mut [u8])
-    requires { length bytes.old ≡ 16 }
+    requires { length bytes.old ≡ 12 }
     ensures { bytes.new ≡ super_numbers limits.now }
 {
-    let (version, rest) = bytes.split_at_mut(4);
-    let (files, rest) = rest.split_at_mut(4);
+    let (files, rest) = bytes.split_at_mut(4);
     let (props, blocks) = rest.split_at_mut(4);
-    write_number(limits.version, version);
     write_number(limits.files, files);
     write_number(limits.props, props);
     write_number(limits.blocks, blocks);
 }
 
-/// Writes a super block.
-#[tactic(auto, unfolding(crate::specs::Layouts::super_bytes))]
+/// Writes a super block: of its spellings the one whose gate is 2 or 0.
+#[tactic(auto, unfolding(crate::specs::Layouts::super_with))]
 pub fn write_super(limits: &Limits, bytes: &mut [u8])
     requires len { length bytes.old ≡ 4096 }
-    requires range { IsTrue (is_super limits.now) }
+    requires range { IsTrue (are_in_range limits.now) }
     ensures { bytes.new ≡ super_bytes limits.now }
 {
-    let (magic, rest) = bytes.split_at_mut(8);
-    let (numbers, end) = rest.split_at_mut(16);
-    magic.copy_from_slice(&MAGIC);
+    let (start, rest) = bytes.split_at_mut(START_LEN);
+    let (numbers, rest) = rest.split_at_mut(LIMITS_LEN);
+    let (gate, end) = rest.split_at_mut(1);
+    start.copy_from_slice(&START);
     write_limits(limits, numbers);
+    gate[0] = version_gate(limits.version);
     write_zeros(end);
 }

@@ -22,8 +22,35 @@ fn super_block_of_64_64_8(rt: HostRuntime) {
     let mut bytes = [0xff; 4_096];
     write_super(&limits, &mut bytes);
     assert!(rt; bytes[..24] == SUPER_START[..]);
+    assert!(rt; bytes[24] == 0);
     assert!(rt; read_super(&bytes) == Some(limits));
     bytes[4_095] = 1;
+    assert!(rt; read_super(&bytes) == None);
+}
+
+#[test]
+fn gates_of_a_super_block(rt: HostRuntime) {
+    let limits = Limits {
+        files: 64,
+        props: 64,
+        blocks: 8,
+        version: 2,
+    };
+    let mut bytes = [0xff; 4_096];
+    write_super(&limits, &mut bytes);
+    assert!(rt; bytes[..24] == SUPER_START[..]);
+    assert!(rt; bytes[24] == 2);
+    for (gate, version) in [(0, 1), (1, 1), (2, 2), (3, 1), (255, 1)] {
+        bytes[24] = gate;
+        let want = Limits {
+            files: 64,
+            props: 64,
+            blocks: 8,
+            version,
+        };
+        assert!(rt; read_super(&bytes) == Some(want), "gate {gate}");
+    }
+    bytes[8] = 2;
     assert!(rt; read_super(&bytes) == None);
 }
 
@@ -92,7 +119,7 @@ fn file_slots(rt: HostRuntime) {
     bytes[64..68].copy_from_slice(&[0x88, 0x13, 0, 0]);
     bytes[68..72].copy_from_slice(&[3, 0, 2, 1]);
     bytes[100..104].copy_from_slice(&[7, 0, 5, 0]);
-    match read_file(&bytes) {
+    match read_file(&bytes, 1) {
         Some(FileSlot::Used(rec)) => {
             assert!(rt; rec.name.bytes() == b"song".as_slice());
             assert!(rt; rec.size == 5_000);
@@ -101,13 +128,40 @@ fn file_slots(rt: HostRuntime) {
         }
         _ => assert!(rt; false),
     }
-    if let Some(slot) = read_file(&bytes) {
+    if let Some(slot) = read_file(&bytes, 1) {
         let mut back = [0xff; 256];
-        write_file(&slot, &mut back);
+        write_file(&slot, &mut back, 1);
         assert!(rt; back == bytes);
     }
     bytes[101] = 1;
     bytes[102] = 7;
     bytes[103] = 1;
-    assert!(rt; matches!(read_file(&bytes), None));
+    assert!(rt; matches!(read_file(&bytes, 1), None));
+}
+
+#[test]
+fn large_files(rt: HostRuntime) {
+    let mut bytes = [0; 256];
+    bytes[..6].copy_from_slice(b"\x01\x04song");
+    bytes[100] = 7;
+    let table = [
+        ([0, 0x10, 0, 0], true, true),
+        ([1, 0x10, 0, 0], false, false),
+        ([1, 0, 1, 0], false, true),
+        ([0, 0, 0x10, 0], false, true),
+        ([1, 0, 0x10, 0], false, false),
+    ];
+    for (size, in_1, in_2) in table {
+        bytes[64..68].copy_from_slice(&size);
+        for (version, want) in [(1, in_1), (2, in_2)] {
+            let Some(slot) = read_file(&bytes, version) else {
+                assert!(rt; !want, "version {version}");
+                continue;
+            };
+            assert!(rt; want, "version {version}");
+            let mut back = [0xff; 256];
+            write_file(&slot, &mut back, version);
+            assert!(rt; back == bytes, "version {version}");
+        }
+    }
 }
