@@ -82,6 +82,15 @@ slot_room version size small = by (version == 2) (nat_lt 16 (blocks_needed size)
     by true false e le = ltb-false 16 (blocks_needed size) e
     by false many e le = omega (arith, le)
 
+-- where the content has few blocks, the slot numbers them itself, in both versions
+pub slot_small : (version size : ℕ) → blocks_needed size ≤ 16 → slot_blocks version size ≡ blocks_needed size
+slot_small version size few = by (version == 2) (nat_lt 16 (blocks_needed size)) refl
+  where
+    by : (two many : Bool) → nat_lt 16 (blocks_needed size) ≡ many → (if two && many then 1 else blocks_needed size) ≡ blocks_needed size
+    by true true e = let over = ltb-true 16 (blocks_needed size) e in absurd (omega (arith, over, few))
+    by true false e = refl
+    by false many e = refl
+
 -- the size is a number of four bytes
 pub size_fits : (version size : ℕ) → size ≤ file_limit version → size ≤ 1048576
 size_fits version size small = by (version == 2) small
@@ -171,7 +180,7 @@ pub record_from : (version : ℕ) (rec : FileRecord) → IsTrue (is_file_name re
 record_from version rec name small tags blocks =
     and_from (is_file_name rec.name && nat_le rec.size (file_limit version) && are_tags rec.tags) (are_blocks version rec.size rec.blocks)
     (and_from (is_file_name rec.name && nat_le rec.size (file_limit version)) (are_tags rec.tags)
-        (and_from (is_file_name rec.name) (nat_le rec.size (file_limit version)) name (le-leb rec.size (file_limit version) small)) tags)
+    (and_from (is_file_name rec.name) (nat_le rec.size (file_limit version)) name (le-leb rec.size (file_limit version) small)) tags)
     blocks
 
 -- what a slot of version 1 may tell, one of version 2 may
@@ -179,9 +188,6 @@ pub file_upgraded : (slot : FileSlot) → IsTrue (is_file 1 slot) → IsTrue (is
 file_upgraded FreeFile is = refl
 file_upgraded (Used rec) is =
     let tests = record_tests 1 rec is in
-    record_from 2 rec tests.name (omega (arith, tests.small)) tests.tags (as_many (nat_lt 16 (blocks_needed rec.size)) refl tests.blocks)
-  where
-    as_many : (many : Bool) → nat_lt 16 (blocks_needed rec.size) ≡ many → IsTrue (are_blocks 1 rec.size rec.blocks)
-        → IsTrue ((length rec.blocks == (if many then 1 else blocks_needed rec.size)) && are_short rec.blocks && are_distinct rec.blocks)
-    as_many true e same = let over = ltb-true 16 (blocks_needed rec.size) e in absurd (omega (arith, over, (record_tests 1 rec is).small))
-    as_many false e same = same
+    let few : blocks_needed rec.size ≤ 16 = omega (arith, tests.small) in
+    record_from 2 rec tests.name (omega (arith, tests.small)) tests.tags
+    (subst (λ n. IsTrue ((length rec.blocks == n) && are_short rec.blocks && are_distinct rec.blocks)) (sym (slot_small 2 rec.size few)) tests.blocks)

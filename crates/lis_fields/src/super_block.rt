@@ -14,8 +14,10 @@ pub const SUPER_LEN: usize = 4_096;
 /// How a super block begins, in both versions.
 const START: [u8; 12] = *b"LISFS-IM\x01\0\0\0";
 
-/// How many bytes stand before the limits, and how many the limits take.
+/// How many bytes stand before the limits.
 const START_LEN: usize = 12;
+
+/// How many bytes the limits take.
 const LIMITS_LEN: usize = 12;
 
 /// Whether an image may have these limits.

@@ -144,9 +144,11 @@ fn large_files(rt: HostRuntime) {
     let mut bytes = [0; 256];
     bytes[..6].copy_from_slice(b"\x01\x04song");
     bytes[100] = 7;
+    // The numbers are 7 and zeros: one number, two that differ, or three of which two are the same.
     let table = [
         ([0, 0x10, 0, 0], true, true),
-        ([1, 0x10, 0, 0], false, false),
+        ([1, 0x10, 0, 0], true, true),
+        ([1, 0x20, 0, 0], false, false),
         ([1, 0, 1, 0], false, true),
         ([0, 0, 0x10, 0], false, true),
         ([1, 0, 0x10, 0], false, false),
