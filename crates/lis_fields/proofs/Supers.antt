@@ -1,5 +1,5 @@
 -- The parts of a super block, read back from their spelling, and what another gate makes of one.
-use Rattle.std.proofs.Common.{◌≡◌, refl, sym, ap, ◌∙◌, subst, ℕ, ◌^◌, ◌%◌, ◌<◌, ◌≤◌, ◌==◌, nat_le, true, ◌&&◌, inl, inr, List, ◌∷◌, ◌++◌, length, take, drop, IsTrue, arith}
+use Rattle.std.proofs.Common.{◌≡◌, refl, sym, ap, ◌∙◌, subst, ℕ, ◌^◌, ◌%◌, ◌<◌, ◌≤◌, ◌==◌, nat_le, Bool, true, false, if◌then◌else◌, ◌&&◌, inl, inr, List, ◌∷◌, ◌++◌, length, take, drop, IsTrue, arith}
 use Rattle.std.proofs.lemmas.Bool.{and_parts, and_from, or_cases, eqb-true, leb-true}
 use Rattle.std.proofs.lemmas.Bool.Decides.{nat_tests}
 use Rattle.lis_model.specs.declared.limits.Limits.{Limits}
@@ -74,6 +74,14 @@ super_spells limits h =
     let three = and_parts (is_files_limit limits.files && is_props_limit limits.props && is_blocks_limit limits.blocks) (is_version limits.version) h in
     let tells = gate_tells limits.version three.1 in
     record { gate = version_gate limits.version; byte = tells.0; tells = tells.1; spelled = refl }
+
+-- limits of version 2 have no other spelling
+pub super_of_version_2 : (limits : Limits) (bytes : List ℕ) → limits.version ≡ 2 → SpellsSuper limits bytes → bytes ≡ super_bytes limits
+super_of_version_2 limits bytes two is = is.spelled ∙ ap (λ gate. super_with gate limits) (gate_is (is.gate == 2) refl (is.tells ∙ two) ∙ sym (ap version_gate two))
+  where
+    gate_is : (b : Bool) → (is.gate == 2) ≡ b → ◌≡◌ {A = ℕ} (if b then 2 else 1) 2 → is.gate ≡ 2
+    gate_is true e told = eqb-true is.gate 2 e
+    gate_is false e told = absurd (omega (arith, told))
 
 -- every spelling has the width of the super block
 pub spelling_length : (limits : Limits) (bytes : List ℕ) → SpellsSuper limits bytes → length bytes ≡ 4096
