@@ -1,7 +1,8 @@
 -- The parts of a super block, read back from their spelling, and what another gate makes of one.
-use Rattle.std.proofs.Common.{◌≡◌, refl, sym, ap, ◌∙◌, subst, ℕ, ◌^◌, ◌%◌, ◌<◌, ◌≤◌, ◌==◌, nat_le, Bool, true, false, if◌then◌else◌, ◌&&◌, inl, inr, List, ◌∷◌, ◌++◌, length, take, drop, IsTrue, arith}
+use Rattle.std.proofs.Common.{◌≡◌, refl, sym, ap, ◌∙◌, subst, ℕ, ◌^◌, ◌%◌, ◌<◌, ◌≤◌, ◌==◌, nat_le, Bool, true, false, if◌then◌else◌, ◌&&◌, inl, inr, ◌⊎◌, List, ◌∷◌, ◌++◌, length, get_or, take, drop, IsTrue, arith}
 use Rattle.std.proofs.lemmas.Bool.{and_parts, and_from, or_cases, eqb-true, leb-true}
 use Rattle.std.proofs.lemmas.Bool.Decides.{nat_tests}
+use Rattle.std.proofs.lemmas.List.{drop_more}
 use Rattle.lis_model.specs.declared.limits.Limits.{Limits}
 use Rattle.lis_model.specs.Ranges.{is_files_limit, is_props_limit, is_blocks_limit, is_version, are_in_range}
 use Rattle.lis_fields.specs.Layouts.{zeros, super_start, super_numbers, gate_version, version_gate, super_with, super_bytes, SpellsSuper}
@@ -61,19 +62,18 @@ super_joined bytes gate limits parts =
     joined 12 bytes super_start (super_numbers limits ++ gate ∷ zeros 4071) parts.start (joined 12 (drop 12 bytes) (super_numbers limits) (gate ∷ zeros 4071) parts.spelled parts.end)
 
 -- the gate that is written tells the version
-gate_tells : (version : ℕ) → IsTrue (is_version version) → (version_gate version < 256) × (gate_version (version_gate version) ≡ version)
+gate_tells : (version : ℕ) → IsTrue (is_version version) → gate_version (version_gate version) ≡ version
 gate_tells version h =
     elim (or_cases (version == 1) (version == 2) h) [
-      | inl one ↦ subst (λ v. (version_gate v < 256) × (gate_version (version_gate v) ≡ v)) (sym (eqb-true version 1 one)) (omega arith, refl)
-      | inr two ↦ subst (λ v. (version_gate v < 256) × (gate_version (version_gate v) ≡ v)) (sym (eqb-true version 2 two)) (omega arith, refl)
+      | inl one ↦ subst (λ v. gate_version (version_gate v) ≡ v) (sym (eqb-true version 1 one)) refl
+      | inr two ↦ subst (λ v. gate_version (version_gate v) ≡ v) (sym (eqb-true version 2 two)) refl
     ]
 
 -- what is written is a spelling
 pub super_spells : (limits : Limits) → IsTrue (are_in_range limits) → SpellsSuper limits (super_bytes limits)
 super_spells limits h =
     let three = and_parts (is_files_limit limits.files && is_props_limit limits.props && is_blocks_limit limits.blocks) (is_version limits.version) h in
-    let tells = gate_tells limits.version three.1 in
-    record { gate = version_gate limits.version; byte = tells.0; tells = tells.1; spelled = refl }
+    record { gate = version_gate limits.version; tells = gate_tells limits.version three.1; spelled = refl }
 
 -- limits of version 2 have no other spelling
 pub super_of_version_2 : (limits : Limits) (bytes : List ℕ) → limits.version ≡ 2 → SpellsSuper limits bytes → bytes ≡ super_bytes limits
@@ -91,22 +91,31 @@ spelling_length limits bytes is = ap length is.spelled ∙ length_super is.gate 
 abbrev pub with_version : ℕ → Limits → Limits
 with_version version limits = limits_of version limits.files limits.props limits.blocks
 
--- with byte 24 another byte, a spelling is one of the same limits in the version that this byte tells
-pub super_regated : (gate : ℕ) (limits : Limits) (bytes : List ℕ) → gate < 256 → SpellsSuper limits bytes
-    → SpellsSuper (with_version (gate_version gate) limits) (take 24 bytes ++ (gate ∷ drop 25 bytes))
+-- with another byte 24, a spelling is one of the same limits in the version that this byte tells
+pub super_regated : (gate : ℕ) (limits : Limits) (bytes : List ℕ) → SpellsSuper limits bytes → SpellsSuper (with_version (gate_version gate) limits) (take 24 bytes ++ (gate ∷ drop 25 bytes))
 unfolding super_with
-super_regated gate limits bytes byte is =
-    record { gate = gate; byte = byte; tells = refl; spelled = ap (λ xs. take 24 xs ++ (gate ∷ drop 25 xs)) is.spelled }
-
--- where this byte tells the version that they have, they stay
-pub super_kept : (gate : ℕ) (limits : Limits) (bytes : List ℕ) → gate < 256 → gate_version gate ≡ limits.version → SpellsSuper limits bytes
-    → SpellsSuper limits (take 24 bytes ++ (gate ∷ drop 25 bytes))
-super_kept gate limits bytes byte tells is =
-    subst (λ l. SpellsSuper l (take 24 bytes ++ (gate ∷ drop 25 bytes))) (ap (λ version. with_version version limits) tells) (super_regated gate limits bytes byte is)
+super_regated gate limits bytes is = record { gate = gate; tells = refl; spelled = ap (λ xs. take 24 xs ++ (gate ∷ drop 25 xs)) is.spelled }
 
 -- with 2 there it is one of version 2
 pub super_upgraded : (limits : Limits) (bytes : List ℕ) → SpellsSuper limits bytes → SpellsSuper (with_version 2 limits) (take 24 bytes ++ (2 ∷ drop 25 bytes))
-super_upgraded limits bytes is = super_regated 2 limits bytes (omega arith) is
+super_upgraded limits bytes is = super_regated 2 limits bytes is
+
+-- what differs from a spelling of version 1 in byte 24 alone, which may be anything, is a spelling of the same limits, or of these in version 2
+pub super_torn : (limits : Limits) (old new : List ℕ) → limits.version ≡ 1 → SpellsSuper limits old → length new ≡ length old → take 24 new ≡ take 24 old → drop 25 new ≡ drop 25 old
+    → SpellsSuper limits new ⊎ SpellsSuper (with_version 2 limits) new
+super_torn limits old new one is len front behind = by (gate == 2) (subst (λ xs. SpellsSuper (with_version (gate_version gate) limits) xs) (sym whole) (super_regated gate limits old is))
+  where
+    gate : ℕ
+    gate = get_or new 24 0
+
+    whole : new ≡ take 24 old ++ (gate ∷ drop 25 old)
+    whole =
+        let long = spelling_length limits old is in
+        joined 24 new (take 24 old) (gate ∷ drop 25 old) front (drop_more new 24 0 (omega (arith, len, long)) ∙ ap (λ xs. gate ∷ xs) behind)
+
+    by : (two : Bool) → SpellsSuper (with_version (if two then 2 else 1) limits) new → SpellsSuper limits new ⊎ SpellsSuper (with_version 2 limits) new
+    by true spells = inr spells
+    by false spells = inl (subst (λ l. SpellsSuper l new) (ap (λ version. with_version version limits) (sym one)) spells)
 
 -- limits in range are so in version 2
 pub upgraded_in_range : (limits : Limits) → IsTrue (are_in_range limits) → IsTrue (are_in_range (with_version 2 limits))

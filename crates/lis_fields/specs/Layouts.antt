@@ -1,5 +1,5 @@
 -- The parts of an image as they are spelled, each whole, and which values they may have. The lowest byte of a number comes first.
-use Rattle.std.specs.Prelude.{◌≡◌, ℕ, ◌+◌, ◌-◌, ◌^◌, ◌<◌, ◌==◌, nat_lt, nat_le, Bool, true, not, ◌&&◌, ◌||◌, if◌then◌else◌, List, [], ◌∷◌, ◌++◌, length, replicate, codes}
+use Rattle.std.specs.Prelude.{◌≡◌, ℕ, ◌+◌, ◌-◌, ◌^◌, ◌==◌, nat_lt, nat_le, Bool, true, not, ◌&&◌, ◌||◌, if◌then◌else◌, List, [], ◌∷◌, ◌++◌, length, replicate, codes}
 use Rattle.std.specs.List.{list_any, list_all, flat_map}
 use Rattle.std.specs.Ordering.{nat_cmp}
 use Rattle.byteorder.specs.Endian.{little_bytes}
@@ -35,7 +35,7 @@ super_start = codes "LISFS-IM" ++ little_bytes 4 1
 abbrev pub super_numbers : Limits → List ℕ
 super_numbers limits = little_bytes 4 limits.files ++ (little_bytes 4 limits.props ++ little_bytes 4 limits.blocks)
 
--- the version that a gate tells: 2 is version 2, and every other byte is version 1
+-- the version that a gate tells: 2 is version 2, and every other value is version 1
 abbrev pub gate_version : ℕ → ℕ
 gate_version gate = if gate == 2 then 2 else 1
 
@@ -51,11 +51,10 @@ super_with gate limits = super_start ++ (super_numbers limits ++ gate ∷ zeros 
 abbrev pub super_bytes : Limits → List ℕ
 super_bytes limits = super_with (version_gate limits.version) limits
 
--- The bytes are a super block of these limits: their gate, whichever byte it is, tells the version. So limits of version 1 have many
--- spellings, and those of version 2 have one.
+-- The bytes are a super block of these limits: their gate, whatever it is, tells the version. So limits of version 1 have many spellings,
+-- and those of version 2 have one. It is not asked that the gate be below 256, since that of an image that a stop left may be any number.
 pub record SpellsSuper (limits : Limits) (bytes : List ℕ) : Type 0 where
   pub gate : ℕ
-  pub byte : gate < 256
   pub tells : gate_version gate ≡ limits.version
   pub spelled : bytes ≡ super_with gate limits
 

@@ -36,7 +36,6 @@ returns-clause-spelled c =
       sym c.are_in_range.ensures ∙ c.if-not-are_in_range.false,
       record {
         gate = c.in_ok-gate.gate.now;
-        byte = omega arith;
         tells = sym (c.read_limits-limits.ensures.version ∙ c.gate_version.ensures);
         spelled = super_joined c.args.bytes.now c.in_ok-gate.gate.now c.read_limits-limits.result (record {
           start = sym c.split_at.ensures.front ∙ start;
