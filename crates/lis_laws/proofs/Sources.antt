@@ -102,7 +102,7 @@ met_weaker_by false true m n size h met = absurd cc
 met_weaker_by false false m n size h met = lt-ltb size m (omega (arith, ltb-true n m h, ltb-true size n met))
 
 -- what meets a test meets a weaker one
-met_weaker : (q p : Option (Bool × ℕ)) (size : ℕ) → are_weaker q p ≡ true → is_met p size ≡ true → is_met q size ≡ true
+pub met_weaker : (q p : Option (Bool × ℕ)) (size : ℕ) → are_weaker q p ≡ true → is_met p size ≡ true → is_met q size ≡ true
 met_weaker None p size h met = absurd cc
 met_weaker (Some q) None size h met = absurd cc
 met_weaker (Some q) (Some p) size h met = met_weaker_by q.0 p.0 q.1 p.1 size h met

@@ -171,9 +171,9 @@ size_of_words (first ∷ second ∷ size ∷ words) =
 abbrev pub payload_size : List ℕ → Option ℕ
 payload_size text = if is_long text then None else size_of_words (line_words text)
 
--- The most bytes of a payload that are kept. Until version 2 comes they are those that a file may have.
+-- the most bytes of a payload that are kept: as many as a file of version 2 may have
 abbrev pub payload_limit : ℕ
-payload_limit = 65536
+payload_limit = 1048576
 
 -- of a larger payload its size alone is kept
 abbrev pub payload_of : ℕ → List ℕ → Payload

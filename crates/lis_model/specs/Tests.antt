@@ -1,7 +1,6 @@
 -- Tests among the declared words: which is weaker than which, and which hold of a size.
 use Rattle.std.specs.Prelude.{ℕ, nat_lt, nat_le, Bool, false, not, ◌&&◌, if◌then◌else◌, Option, Some, None, List, [], filter}
-use Rattle.std.specs.List.{list_all}
-use Rattle.lis_words.specs.Words.{has_word, test_of, is_test}
+use Rattle.lis_words.specs.Words.{has_word, test_of}
 use Rattle.lis_grammar.specs.Formula.{Formula}
 use Rattle.lis_grammar.specs.Formula.Formula.{Has, SizeAtLeast, SizeBelow}
 
@@ -34,7 +33,3 @@ step_by (Some test) word = if test.0 then SizeAtLeast test.1 else SizeBelow test
 -- the step of a place that a word stands for: of a test the test with its number, and of every other word that word
 abbrev pub step_of : List ℕ → Formula
 step_of word = step_by (test_of word) word
-
--- none of the words is a test
-abbrev pub has_no_tests : List (List ℕ) → Bool
-has_no_tests words = list_all (λ word. not (is_test word)) words

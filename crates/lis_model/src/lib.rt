@@ -4,6 +4,7 @@
 pub mod command;
 pub mod derived;
 pub mod limits;
+pub mod met;
 pub mod refusal;
 pub mod spot;
 

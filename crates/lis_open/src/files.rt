@@ -25,7 +25,7 @@ ghost use Rattle.lis_open.specs.ReadFiles.{no_files, is_described, AreListed, fo
 use crate::axioms::Axioms;
 use crate::blocks::LastBlock;
 use crate::mounting::OpenFault;
-use crate::naming::{are_assignable, is_met, numbered};
+use crate::naming::{are_assignable, is_met_number, numbered};
 use crate::words::Words;
 use arrayvec::ArrayVec;
 use lis_bits::Rows;
@@ -142,7 +142,7 @@ fn gather_met(words: &Words, taxonomy: &Taxonomy, size: u64, row: &mut Rows)
     ensures bits { (n : ℕ) → n < taxonomy.now.props → get row.new 0 n ≡ (get row.old 0 n || is_described taxonomy.now (met_numbers words.now size) n) }
 {
     for number in 0..words.declared.len() {
-        if is_met(words, number, size) {
+        if is_met_number(words, number, size) {
             taxonomy.ups(number, row, 1);
             row.or(0, 1);
         }

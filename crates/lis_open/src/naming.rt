@@ -9,6 +9,7 @@ ghost use Rattle.lis_open.specs.ReadWords.{AreWords, declared_words, is_met_numb
 ghost use Rattle.lis_open.specs.ReadFiles.{is_assignable_number, is_numbered};
 
 use crate::words::Words;
+use lis_model::met::is_met;
 use lis_words::{Word, head_of, is_builtin, is_head, is_plain_word, test_of};
 
 // Whether the word is declared.
@@ -121,7 +122,7 @@ pub fn is_left(words: &Words, number: u32) -> bool
 }
 
 /// Whether a number has a declared test that so many bytes meet.
-pub fn is_met(words: &Words, number: u32, size: u64) -> bool
+pub fn is_met_number(words: &Words, number: u32, size: u64) -> bool
     requires are { AreWords words.now }
     requires number { number < words.now.dict.props }
     ensures { result ≡ is_met_number words.now size number }
@@ -132,11 +133,7 @@ pub fn is_met(words: &Words, number: u32, size: u64) -> bool
     let Some(word) = word_at(words, number) else {
         return false;
     };
-    match test_of(&word) {
-        None => false,
-        Some((true, least)) => least <= size,
-        Some((false, end)) => size < end,
-    }
+    is_met(test_of(&word), size)
 }
 
 // Whether the number is that of a word that files may be given.

@@ -20,7 +20,7 @@ use Rattle.lis_laws.proofs.Counts.{all_among}
 use Rattle.lis_laws.proofs.Derived.{derived_built_in}
 use Rattle.lis_laws.proofs.Leads.{right_leads, test_leads}
 use Rattle.lis_laws.proofs.Members.{among_from_has_word, has_word_from_among}
-use Rattle.lis_laws.proofs.Sources.{OwnWord, own_word, own_from, Assignable, assignable_cases}
+use Rattle.lis_laws.proofs.Sources.{OwnWord, own_word, own_from, Assignable, assignable_cases, met_weaker}
 use Rattle.lis_laws.proofs.Sources.OwnWord.{Assigned, Derived, Met}
 use Rattle.lis_laws.proofs.Sources.Assignable.{Plain, Valued}
 use Rattle.lis_kept.specs.Kept.{Kept, property_by}
@@ -33,7 +33,6 @@ use Rattle.lis_kept.proofs.Known.{declared_word, among_axiom}
 use Rattle.lis_kept.proofs.OwnLinks.{undeclared_not_test}
 use Rattle.lis_store.specs.Admitting.{described_by}
 use Rattle.lis_store.specs.Stored.{TestsAreMet}
-use Rattle.lis_store.proofs.TestUnder.{meets_weaker}
 
 module _ (k : Kept) (sound : AreSound k) where
   abbrev D : List (List ℕ)
@@ -81,7 +80,7 @@ module _ (k : Kept) (sound : AreSound k) where
       where
         by : (source : List ℕ) → OwnWord D file source → (source ≡ w) ⊎ IsWeakerIn D source w → is_met (test_of w) (length file.bytes) ≡ true
         by source own (inl same) = own_met w test (subst (λ (v : List ℕ). OwnWord D file v) same own)
-        by source own (inr less) = meets_weaker (test_of w) (test_of source) (length file.bytes) less.weaker (own_met source (weaker_tests_are D source w less).0 own)
+        by source own (inr less) = met_weaker (test_of w) (test_of source) (length file.bytes) less.weaker (own_met source (weaker_tests_are D source w less).0 own)
 
         at : (source : List ℕ) × Among (own_words D file) source × Among (up D A source) w → is_met (test_of w) (length file.bytes) ≡ true
         at found =

@@ -17,24 +17,12 @@ use Rattle.lis_laws.proofs.Chains.OwnLink.{Head, Weaker}
 use Rattle.lis_laws.proofs.Apart.{test_not_valued}
 use Rattle.lis_laws.proofs.Leads.{link_cases, plain_ends}
 use Rattle.lis_laws.proofs.Closures.{entailing, all_up_has, all_up_closed, sorted_all_up}
-use Rattle.lis_laws.proofs.Sources.{OwnWord, own_from, test_had}
+use Rattle.lis_laws.proofs.Sources.{OwnWord, own_from, test_had, met_weaker}
 use Rattle.lis_laws.proofs.Sources.OwnWord.{Assigned, Derived, Met}
 use Rattle.lis_laws.proofs.Reached.{OneLink, linked_up, described_link, described_keeps}
 use Rattle.lis_laws.proofs.Known.{described_within}
 use Rattle.lis_laws.proofs.Forms.{under, under_old, among_under}
 use Rattle.lis_laws.proofs.Growth.{IsUnder, under_within}
-
--- ---- what meets a test meets a weaker one
-weaker_by : (a b : Bool) (m n size : ℕ) → cond a (b && nat_lt m n) (not b && nat_lt n m) ≡ true → cond b (nat_le n size) (nat_lt size n) ≡ true → cond a (nat_le m size) (nat_lt size m) ≡ true
-weaker_by true true m n size h met = le-leb m size (omega (arith, ltb-true m n h, leb-true n size met))
-weaker_by true false m n size h met = absurd cc
-weaker_by false true m n size h met = absurd cc
-weaker_by false false m n size h met = lt-ltb size m (omega (arith, ltb-true n m h, ltb-true size n met))
-
-pub meets_weaker : (q p : Option (Bool × ℕ)) (size : ℕ) → are_weaker q p ≡ true → is_met p size ≡ true → is_met q size ≡ true
-meets_weaker None p size h met = absurd cc
-meets_weaker (Some q) None size h met = absurd cc
-meets_weaker (Some q) (Some p) size h met = weaker_by q.0 p.0 q.1 p.1 size h met
 
 -- ---- axioms from the word to others
 pub under_new : (word : List ℕ) (axioms : Pairs) (words : List (List ℕ)) (q : List ℕ) → Among words q → Among (under word axioms words) (word, q)
@@ -105,7 +93,7 @@ module _ (s : State) (formed : WellFormed s) (word : List ℕ) (test : is_test w
       met_then : Gained p → word ≡ r → is_met (test_of word) size ≡ true
       met_then (inl at) same =
           let source = test_had s formed file there p (weaker_tests_are t.declared p r v).0 at in
-          subst (λ u. is_met (test_of u) size ≡ true) (sym same) (meets_weaker (test_of r) (test_of p) size v.weaker source.met)
+          subst (λ u. is_met (test_of u) size ≡ true) (sym same) (met_weaker (test_of r) (test_of p) size v.weaker source.met)
       met_then (inr new) same = new.0
 
       old_link : Among s.declared p → Among s.declared r → Gained p → Gained r
@@ -116,7 +104,7 @@ module _ (s : State) (formed : WellFormed s) (word : List ℕ) (test : is_test w
 
       of_test : word ≡ p → Among s.declared r → Gained p → Gained r
       of_test same into (inl at) = absurd (not_had (subst (λ u. Among (description s file) u) (sym same) at))
-      of_test same into (inr new) = had r (Met into (meets_weaker (test_of r) (test_of p) size v.weaker (subst (λ u. is_met (test_of u) size ≡ true) same new.0)))
+      of_test same into (inr new) = had r (Met into (met_weaker (test_of r) (test_of p) size v.weaker (subst (λ u. is_met (test_of u) size ≡ true) same new.0)))
 
       from : Among s.declared r → (word ≡ p) ⊎ Among s.declared p → Gained r
       from into (inl same) = of_test same into at

@@ -53,7 +53,8 @@ use Rattle.lis_store.proofs.HeadsUsed.{used_flagged, used_had, used_left, IsUsed
 use Rattle.lis_store.proofs.HeadsUsed.IsUsedFor.{Flagged, HadAt, NamedLeft}
 use Rattle.lis_store.proofs.Redescribed.{same_here, given_then, redescribed_edits}
 use Rattle.lis_store.proofs.Remaining.{led, led_from, led_itself, led_on, few_within}
-use Rattle.lis_store.proofs.TestUnder.{meets_weaker, plain_entails}
+use Rattle.lis_store.proofs.TestUnder.{plain_entails}
+use Rattle.lis_laws.proofs.Sources.{met_weaker}
 
 -- ---- the blocks that are marked
 abbrev taken_from : List Bool → ℕ → List ℕ
@@ -437,7 +438,7 @@ module _ (p made : Kept) (word : List ℕ) (rights : List ℕ) (words : List (Li
             let weaker : are_weaker t (test_by (word_of p.dict a)) ≡ true = ap₂ are_weaker (sym (ap test_by is_word)) (sym (ap test_by (other a differ))) ∙ between.weaker in
             let rec = had_rec p free a slot had in
             let meets : is_met (test_by (word_of p.dict a)) rec.0.size ≡ true = sym (tests.met slot rec.0 rec.1 a (stronger_is_test t (test_by (word_of p.dict a)) weaker)) ∙ had in
-            ap (is_met_by t) (rec_same slot ∙ rec.1) ∙ meets_weaker t (test_by (word_of p.dict a)) rec.0.size weaker meets
+            ap (is_met_by t) (rec_same slot ∙ rec.1) ∙ met_weaker t (test_by (word_of p.dict a)) rec.0.size weaker meets
           where
             stronger_is_test : (q p : Option (Bool × ℕ)) → are_weaker q p ≡ true → is_some {T = Bool × ℕ} p ≡ true
             stronger_is_test None p h = absurd (both_ways false refl h)
@@ -452,7 +453,7 @@ module _ (p made : Kept) (word : List ℕ) (rights : List ℕ) (words : List (Li
             let weaker : are_weaker (test_by (word_of p.dict b)) t ≡ true = ap₂ are_weaker (sym (ap test_by (other b differ))) (sym (ap test_by is_word)) ∙ between.weaker in
             let rec = met_rec t (rec_at made.catalog slot) met in
             let is = weaker_is_test (test_by (word_of p.dict b)) t weaker in
-            let had = tests.met slot rec.0 (sym (rec_same slot) ∙ rec.1) b is ∙ meets_weaker (test_by (word_of p.dict b)) t rec.0.size weaker rec.2 in
+            let had = tests.met slot rec.0 (sym (rec_same slot) ∙ rec.1) b is ∙ met_weaker (test_by (word_of p.dict b)) t rec.0.size weaker rec.2 in
             old_on b slot had
           where
             weaker_is_test : (q p : Option (Bool × ℕ)) → are_weaker q p ≡ true → is_some {T = Bool × ℕ} q ≡ true

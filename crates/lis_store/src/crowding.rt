@@ -8,8 +8,8 @@ ghost use Rattle.lis_words.specs.Words.{test_of};
 ghost use Rattle.lis_kept.specs.Sound.{AreSound};
 ghost use Rattle.lis_store.specs.Testing.{is_met_at, is_gained, wider, is_crowded, has_crowded};
 
-use crate::meeting::is_met;
 use lis_kept::Parts;
+use lis_model::met::is_met;
 use lis_words::{Word, test_of};
 
 /// The most words that a file may have before it gets one more.

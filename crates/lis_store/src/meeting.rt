@@ -12,18 +12,8 @@ ghost use Rattle.lis_store.specs.Adding.{is_one_of};
 
 use lis_bits::{Rows, and_not_row};
 use lis_kept::Parts;
+use lis_model::met::is_met;
 use lis_words::{Word, test_of};
-
-/// Whether a test holds of so many bytes.
-pub(crate) fn is_met(test: Option<(bool, u64)>, size: u64) -> bool
-    ensures { result ≡ is_met test size }
-{
-    match test {
-        None => false,
-        Some((true, least)) => least <= size,
-        Some((false, bound)) => size < bound,
-    }
-}
 
 // Whether a word is a declared test that so many bytes meet. Few words are tests, so that is asked first.
 fn is_met_word(parts: &Parts, word: &Word, size: u64) -> bool

@@ -5,10 +5,11 @@ ghost use Rattle.std.specs.List.{flat_map};
 ghost use Rattle.lis_words.specs.Words.{test_of};
 ghost use Rattle.lis_model.specs.Sets.{with_words, set_of};
 ghost use Rattle.lis_model.specs.State.{heads};
-ghost use Rattle.lis_model.specs.Tests.{is_weaker, are_weaker, weaker_tests, is_met, met_tests};
+ghost use Rattle.lis_model.specs.Tests.{is_weaker, are_weaker, weaker_tests, met_tests};
 ghost use Rattle.lis_table.specs.Links.{with_links, all_linked};
 
 use crate::words::{has_word, insert_word};
+use lis_model::met::is_met;
 use lis_words::{Word, head_of, test_of};
 use std::alloc::{AllocError, Global};
 
@@ -95,24 +96,13 @@ pub fn linked(alloc: Global, declared: &[Word], words: &[Word]) -> Result<Vec<Wo
     Ok(all)
 }
 
-/// Whether the word is a test that holds of so many bytes.
-fn is_met(word: &Word, size: u64) -> bool
-    ensures { result ≡ is_met (test_of word.now) size }
-{
-    match test_of(word) {
-        None => false,
-        Some((true, number)) => number <= size,
-        Some((false, number)) => size < number,
-    }
-}
-
 /// The declared tests that hold of so many bytes, in their order.
 pub fn met_tests(alloc: Global, declared: &[Word], size: u64) -> Result<Vec<Word>, AllocError>
     ensures { IfOk result (λ words. words.items ≡ met_tests declared.now size) }
 {
     let mut met = Vec::new(alloc);
     for word in declared {
-        if is_met(word, size) {
+        if is_met(test_of(word), size) {
             met.push(word.copied())?;
         }
     }
