@@ -17,12 +17,12 @@ use Rattle.lis_catalog.specs.Catalog.{Catalog, Filed, filed_cmp, rec_at, slot_of
 use Rattle.lis_catalog.proofs.Laws.{rec_at-with_filed}
 use Rattle.lis_ext.specs.Ext.{has}
 use Rattle.lis_fields.specs.Records.{FileRecord}
-use Rattle.lis_fields.specs.Layouts.{file_bytes, are_short, are_tags, are_blocks, is_record, are_distinct as slots_distinct}
-use Rattle.lis_fields.proofs.Parts.{record_from}
+use Rattle.lis_fields.specs.Layouts.{file_bytes, are_short, are_tags, are_blocks, slot_blocks, is_record, are_distinct as slots_distinct}
+use Rattle.lis_fields.proofs.Parts.{record_from, slot_small}
 use Rattle.lis_taxonomy.specs.Taxonomy.{Taxonomy}
 use Rattle.lis_words.specs.Words.{is_file_name}
 use Rattle.lis_model.specs.Image.{bitmap_start, data_start}
-use Rattle.lis_model.specs.State.{File, file_cmp, blocks_needed}
+use Rattle.lis_model.specs.State.{File, file_cmp, file_limit, blocks_needed}
 use Rattle.lis_model.specs.Changes.{new_file, file_added}
 use Rattle.lis_laws.proofs.Counts.{all_among, all_from}
 use Rattle.lis_kept.specs.Kept.{Kept, file_by}
@@ -93,22 +93,34 @@ module _ (p : Kept) (t : Taxonomy) (held : AreHeld p t) {old new : Held} {name t
   short_blocks = all_from (λ n. nat_lt n (2 ^ 16)) blocks (λ n m.
       lt-ltb n (2 ^ 16) (omega (arith, ltb-true n p.limits.blocks (all_among (λ i. nat_lt i p.limits.blocks) blocks n below_blocks m), few_blocks p.limits held.sound.range)))
 
-  blocks_in_form : are_blocks (length bytes) blocks ≡ true
+  few_needed : blocks_needed (length bytes) ≤ 16
+  few_needed = omega (arith, file.short)
+
+  -- a file that is small in both versions is spelled alike in both
+  blocks_in_form : are_blocks p.limits.version (length bytes) blocks ≡ true
   blocks_in_form =
-      and_from ((length blocks == blocks_needed (length bytes)) && are_short blocks) (slots_distinct blocks)
-      (and_from (length blocks == blocks_needed (length bytes)) (are_short blocks) (eq-eqb (length blocks) (blocks_needed (length bytes)) file.put.count) short_blocks)
+      let counted = file.put.count ∙ sym (slot_small p.limits.version (length bytes) few_needed) in
+      and_from ((length blocks == slot_blocks p.limits.version (length bytes)) && are_short blocks) (slots_distinct blocks)
+      (and_from (length blocks == slot_blocks p.limits.version (length bytes)) (are_short blocks) (eq-eqb (length blocks) (slot_blocks p.limits.version (length bytes)) counted) short_blocks)
       (same_distinct blocks ∙ file.put.distinct)
 
-  sound_new : is_sound_record p.dict p.limits.blocks new_record ≡ true
-  sound_new =
-      and_from (is_record new_record && list_all (λ n. is_some (word_of p.dict n)) tags) (list_all (λ n. nat_lt n p.limits.blocks) blocks)
-      (and_from (is_record new_record) (list_all (λ n. is_some (word_of p.dict n)) tags) (record_from new_record file.form file.short file.tagged blocks_in_form) file.worded) below_blocks
+  size_in_range : length bytes ≤ file_limit p.limits.version
+  size_in_range = by (p.limits.version == 2)
+    where
+      by : (two : Bool) → length bytes ≤ (if two then 1048576 else 65536)
+      by true = omega (arith, file.short)
+      by false = file.short
 
-  records_then : (n : ℕ) (r : FileRecord) → rec_at (with_filed p.catalog slot new_record) n ≡ Some r → is_sound_record p.dict p.limits.blocks r ≡ true
+  sound_new : is_sound_record p.limits.version p.dict p.limits.blocks new_record ≡ true
+  sound_new =
+      and_from (is_record p.limits.version new_record && list_all (λ n. is_some (word_of p.dict n)) tags) (list_all (λ n. nat_lt n p.limits.blocks) blocks)
+      (and_from (is_record p.limits.version new_record) (list_all (λ n. is_some (word_of p.dict n)) tags) (record_from p.limits.version new_record file.form size_in_range file.tagged blocks_in_form) file.worded) below_blocks
+
+  records_then : (n : ℕ) (r : FileRecord) → rec_at (with_filed p.catalog slot new_record) n ≡ Some r → is_sound_record p.limits.version p.dict p.limits.blocks r ≡ true
   records_then n r is = by (slot == n) (sym (rec_at-with_filed p.catalog slot new_record n file.absent file.free) ∙ is)
     where
-      by : (b : Bool) → (if b then Some new_record else rec_at p.catalog n) ≡ Some r → is_sound_record p.dict p.limits.blocks r ≡ true
-      by true same = subst (λ (q : FileRecord). is_sound_record p.dict p.limits.blocks q ≡ true) (same_Some new_record r same) sound_new
+      by : (b : Bool) → (if b then Some new_record else rec_at p.catalog n) ≡ Some r → is_sound_record p.limits.version p.dict p.limits.blocks r ≡ true
+      by true same = subst (λ (q : FileRecord). is_sound_record p.limits.version p.dict p.limits.blocks q ≡ true) (same_Some new_record r same) sound_new
       by false some = held.sound.records n r some
 
   named_then : (n s : ℕ) → IsSome (rec_at (with_filed p.catalog slot new_record) s) → has p.ext n s ≡ true → IsSome (word_of p.dict n)

@@ -9,12 +9,13 @@ use Rattle.lis_content.proofs.Numbers.{length-given}
 use Rattle.lis_catalog.specs.Catalog.{Catalog, Filed, rec_at, slot_of, without_slot}
 use Rattle.lis_catalog.proofs.Laws.{rec_at-without_slot, slot_is_below, slot_of-rec_at}
 use Rattle.lis_fields.specs.Records.{FileRecord}
-use Rattle.lis_fields.specs.Layouts.{file_bytes, is_record, are_tags, are_short, are_blocks, are_distinct as slots_distinct}
-use Rattle.lis_dict.specs.Dict.{word_of}
+use Rattle.lis_fields.specs.Layouts.{file_bytes, is_record, are_short, slot_blocks, are_distinct as slots_distinct}
+use Rattle.lis_fields.proofs.Parts.{IsFileRecord, record_tests}
+use Rattle.lis_dict.specs.Dict.{Dict, word_of}
 use Rattle.lis_taxonomy.specs.Taxonomy.{Taxonomy}
-use Rattle.lis_words.specs.Words.{same_word, is_file_name}
+use Rattle.lis_words.specs.Words.{same_word}
 use Rattle.lis_model.specs.Image.{bitmap_start}
-use Rattle.lis_model.specs.State.{File, blocks_needed}
+use Rattle.lis_model.specs.State.{File}
 use Rattle.lis_model.specs.Changes.{file_removed}
 use Rattle.lis_laws.proofs.Members.{same_word_decides}
 use Rattle.lis_kept.specs.Kept.{Kept, file_by}
@@ -38,13 +39,21 @@ file_homes_below k t slot held lt n (inl same) = omega (arith, same, (among_slot
 file_homes_below k t slot held lt n (inr (inl same)) = omega (arith, same, held.sound.marks)
 file_homes_below k t slot held lt n (inr (inr none)) = absurd none
 
--- the blocks of a file are different ones
+-- a sound record is in the ranges of its layout
+pub record_in_form : (version : ℕ) (dict : Dict) (blocks : ℕ) (rec : FileRecord) → is_sound_record version dict blocks rec ≡ true → IsFileRecord version rec
+record_in_form version dict blocks rec sound =
+    let most = and_parts (is_record version rec && list_all (λ n. is_some (word_of dict n)) rec.tags) (list_all (λ n. nat_lt n blocks) rec.blocks) sound in
+    record_tests version rec (and_parts (is_record version rec) (list_all (λ n. is_some (word_of dict n)) rec.tags) most.0).0
+
+-- the blocks of a record are different ones
+pub record_apart : (version : ℕ) (dict : Dict) (blocks : ℕ) (rec : FileRecord) → is_sound_record version dict blocks rec ≡ true → are_distinct rec.blocks ≡ true
+record_apart version dict blocks rec sound =
+    sym (same_distinct rec.blocks) ∙ (and_parts ((length rec.blocks == slot_blocks version rec.size) && are_short rec.blocks) (slots_distinct rec.blocks) (record_in_form version dict blocks rec sound).blocks).1
+
+-- and so are those of a file
 pub blocks_apart : (k : Kept) → AreSound k → (slot : ℕ) (rec : FileRecord) → rec_at k.catalog slot ≡ Some rec → are_distinct rec.blocks ≡ true
 blocks_apart k sound slot rec there =
-    let most = and_parts (is_record rec && list_all (λ n. is_some (word_of k.dict n)) rec.tags) (list_all (λ n. nat_lt n k.limits.blocks) rec.blocks) (sound.records slot rec there) in
-    let form = and_parts (is_record rec) (list_all (λ n. is_some (word_of k.dict n)) rec.tags) most.0 in
-    let both = and_parts (is_file_name rec.name && nat_le rec.size 65536 && are_tags rec.tags) (are_blocks rec.size rec.blocks) form.0 in
-    sym (same_distinct rec.blocks) ∙ (and_parts ((length rec.blocks == blocks_needed rec.size) && are_short rec.blocks) (slots_distinct rec.blocks) both.1).1
+    record_apart k.limits.version k.dict k.limits.blocks rec (sound.records slot rec there)
 
 pub file_slot_below : (k : Kept) → AreSound k → (slot : ℕ) (rec : FileRecord) → rec_at k.catalog slot ≡ Some rec → slot < k.limits.files
 file_slot_below k sound slot rec there = omega (arith, slot_is_below k.catalog slot sound.catalog (ap is_some there), sound.slots)
@@ -68,10 +77,10 @@ module _ (p : Kept) (t : Taxonomy) (held : AreHeld p t) (slot : ℕ) (rec : File
   spelled_before Rows n lt apart = refl
   spelled_before Bitmap n lt apart = absurd (apart (inr (inl (omega (arith, lt)))))
 
-  records_left : (n : ℕ) (r : FileRecord) → rec_at (without_slot p.catalog slot) n ≡ Some r → is_sound_record p.dict p.limits.blocks r ≡ true
+  records_left : (n : ℕ) (r : FileRecord) → rec_at (without_slot p.catalog slot) n ≡ Some r → is_sound_record p.limits.version p.dict p.limits.blocks r ≡ true
   records_left n r is = by (n == slot) (sym (rec_at-without_slot p.catalog slot n) ∙ is)
     where
-      by : (b : Bool) → (if b then None else rec_at p.catalog n) ≡ Some r → is_sound_record p.dict p.limits.blocks r ≡ true
+      by : (b : Bool) → (if b then None else rec_at p.catalog n) ≡ Some r → is_sound_record p.limits.version p.dict p.limits.blocks r ≡ true
       by true none = absurd cc
       by false some = held.sound.records n r some
 

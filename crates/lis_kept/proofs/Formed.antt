@@ -49,14 +49,14 @@ module _ (k : Kept) (sound : AreSound k) where
       by None is = ap is_axiom (sym (unwrap_or-slice_get k.axioms n FreeAxiom) ∙ ap (λ o. unwrap_or o FreeAxiom) is)
       by (Some a) is = ap is_axiom (get_or_from_slice_get k.axioms n a FreeAxiom is) ∙ slot a is
 
-  pub records_formed : (n : ℕ) → is_file (record_at k.catalog n) ≡ true
+  pub records_formed : (n : ℕ) → is_file k.limits.version (record_at k.catalog n) ≡ true
   records_formed n = by (rec_at k.catalog n) refl
     where
-      by : (o : Option FileRecord) → rec_at k.catalog n ≡ o → is_file (file_by o) ≡ true
+      by : (o : Option FileRecord) → rec_at k.catalog n ≡ o → is_file k.limits.version (file_by o) ≡ true
       by None is = refl
       by (Some rec) is =
-          let most = and_parts (is_record rec && list_all (λ m. is_some (word_of k.dict m)) rec.tags) (list_all (λ m. nat_lt m k.limits.blocks) rec.blocks) (sound.records n rec is) in
-          (and_parts (is_record rec) (list_all (λ m. is_some (word_of k.dict m)) rec.tags) most.0).0
+          let most = and_parts (is_record k.limits.version rec && list_all (λ m. is_some (word_of k.dict m)) rec.tags) (list_all (λ m. nat_lt m k.limits.blocks) rec.blocks) (sound.records n rec is) in
+          (and_parts (is_record k.limits.version rec) (list_all (λ m. is_some (word_of k.dict m)) rec.tags) most.0).0
 
   -- where free slots are empty, each number of any slot has a word
   pub named_all : FreeSlotsAreEmpty k → (n slot : ℕ) → has k.ext n slot ≡ true → IsSome (word_of k.dict n)
@@ -95,7 +95,7 @@ links_stay p catalog taken ext marks t links = record { props = links.props; edg
 pub record FilesHold (p : Kept) (catalog : Catalog) (taken : List Bool) (ext : Ext) (marks : List Bool) : Type 0 where
   pub slots : catalog.files ≡ p.catalog.files
   pub catalog_is : IsCatalog catalog
-  pub records : (slot : ℕ) (rec : FileRecord) → rec_at catalog slot ≡ Some rec → is_sound_record p.dict p.limits.blocks rec ≡ true
+  pub records : (slot : ℕ) (rec : FileRecord) → rec_at catalog slot ≡ Some rec → is_sound_record p.limits.version p.dict p.limits.blocks rec ≡ true
   pub blocks : length taken ≡ length p.taken
   pub rows : ext.props ≡ p.ext.props
   pub files : length ext.sets ≡ length p.ext.sets

@@ -31,24 +31,11 @@ use Rattle.lis_kept.specs.Refiling.{Refiles}
 use Rattle.lis_kept.proofs.Formed.{held_files}
 use Rattle.lis_kept.proofs.Marking.{blocks_marked}
 use Rattle.lis_kept.proofs.Filing.{number_from_among, map_insert_key, same_distinct, slot_is_free, catalog_then}
-use Rattle.lis_kept.proofs.Dropped.{file_homes, file_homes_below}
+use Rattle.lis_kept.proofs.Dropped.{file_homes, file_homes_below, record_in_form}
 
 -- ---- a sound record
--- the blocks of a record are different ones
-pub record_apart : (dict : Dict) (blocks : ℕ) (rec : FileRecord) → is_sound_record dict blocks rec ≡ true → are_distinct rec.blocks ≡ true
-record_apart dict blocks rec sound =
-    let most = and_parts (is_record rec && list_all (λ n. is_some (word_of dict n)) rec.tags) (list_all (λ n. nat_lt n blocks) rec.blocks) sound in
-    let form = and_parts (is_record rec) (list_all (λ n. is_some (word_of dict n)) rec.tags) most.0 in
-    let both = and_parts (is_file_name rec.name && nat_le rec.size 65536 && are_tags rec.tags) (are_blocks rec.size rec.blocks) form.0 in
-    sym (same_distinct rec.blocks) ∙ (and_parts ((length rec.blocks == blocks_needed rec.size) && are_short rec.blocks) (slots_distinct rec.blocks) both.1).1
-
-pub record_named : (dict : Dict) (blocks : ℕ) (rec : FileRecord) → is_sound_record dict blocks rec ≡ true → is_file_name rec.name ≡ true
-record_named dict blocks rec sound =
-    let most = and_parts (is_record rec && list_all (λ n. is_some (word_of dict n)) rec.tags) (list_all (λ n. nat_lt n blocks) rec.blocks) sound in
-    let form = and_parts (is_record rec) (list_all (λ n. is_some (word_of dict n)) rec.tags) most.0 in
-    let both = and_parts (is_file_name rec.name && nat_le rec.size 65536 && are_tags rec.tags) (are_blocks rec.size rec.blocks) form.0 in
-    let front = and_parts (is_file_name rec.name && nat_le rec.size 65536) (are_tags rec.tags) both.0 in
-    (and_parts (is_file_name rec.name) (nat_le rec.size 65536) front.0).0
+pub record_named : (version : ℕ) (dict : Dict) (blocks : ℕ) (rec : FileRecord) → is_sound_record version dict blocks rec ≡ true → is_file_name rec.name ≡ true
+record_named version dict blocks rec sound = (record_in_form version dict blocks rec sound).name
 
 -- ---- blocks that are taken one by one
 -- those of `left` are still to be taken
@@ -125,7 +112,7 @@ pub record MayRefile (p : Kept) (slot : ℕ) (rec : FileRecord) : Type 0 where
   pub below : slot < p.limits.files
   pub free : rec_at p.catalog slot ≡ None
   pub absent : slot_of p.catalog rec.name ≡ None
-  pub sound : is_sound_record p.dict p.limits.blocks rec ≡ true
+  pub sound : is_sound_record p.limits.version p.dict p.limits.blocks rec ≡ true
   pub described : (n : ℕ) → has p.ext n slot ≡ true → IsSome (word_of p.dict n)
 
 module _ (p : Kept) (t : Taxonomy) (held : AreHeld p t) (slot : ℕ) (rec : FileRecord) (may : MayRefile p slot rec) where
@@ -135,11 +122,11 @@ module _ (p : Kept) (t : Taxonomy) (held : AreHeld p t) (slot : ℕ) (rec : File
   abbrev pub refiled : Kept
   refiled = record p { catalog = with_filed p.catalog slot rec; taken = marked p.taken rec.blocks; marks = refiled_marks }
 
-  records_then : (n : ℕ) (r : FileRecord) → rec_at (with_filed p.catalog slot rec) n ≡ Some r → is_sound_record p.dict p.limits.blocks r ≡ true
+  records_then : (n : ℕ) (r : FileRecord) → rec_at (with_filed p.catalog slot rec) n ≡ Some r → is_sound_record p.limits.version p.dict p.limits.blocks r ≡ true
   records_then n r is = by (slot == n) (sym (rec_at-with_filed p.catalog slot rec n may.absent may.free) ∙ is)
     where
-      by : (b : Bool) → (if b then Some rec else rec_at p.catalog n) ≡ Some r → is_sound_record p.dict p.limits.blocks r ≡ true
-      by true same = subst (λ (q : FileRecord). is_sound_record p.dict p.limits.blocks q ≡ true) (same_Some rec r same) may.sound
+      by : (b : Bool) → (if b then Some rec else rec_at p.catalog n) ≡ Some r → is_sound_record p.limits.version p.dict p.limits.blocks r ≡ true
+      by true same = subst (λ (q : FileRecord). is_sound_record p.limits.version p.dict p.limits.blocks q ≡ true) (same_Some rec r same) may.sound
       by false some = held.sound.records n r some
 
   below_files : slot < p.catalog.files
@@ -155,7 +142,7 @@ module _ (p : Kept) (t : Taxonomy) (held : AreHeld p t) (slot : ℕ) (rec : File
   held_refiled : AreHeld refiled t
   held_refiled = held_files p t (with_filed p.catalog slot rec) (marked p.taken rec.blocks) p.ext refiled_marks held (record {
     slots = refl;
-    catalog_is = catalog_then p.catalog held.sound.catalog slot rec may.absent (record_named p.dict p.limits.blocks rec may.sound) below_files may.free
+    catalog_is = catalog_then p.catalog held.sound.catalog slot rec may.absent (record_named p.limits.version p.dict p.limits.blocks rec may.sound) below_files may.free
         (room_for_file p.catalog held.sound.catalog slot rec may.absent below_files may.free);
     records = records_then;
     blocks = length-marked p.taken rec.blocks;

@@ -129,12 +129,12 @@ module _ (p : Kept) (t : Taxonomy) (held : AreHeld p t) {word : List ℕ} {numbe
   flagged_then n bit (inl same) = ap (λ m. is_some (word_of d m)) same ∙ ap is_some word_here
   flagged_then n bit (inr differ) = some_stays n (held.sound.flagged n (sym (w.others n differ) ∙ bit))
 
-  record_then : (rec : FileRecord) → is_sound_record p.dict p.limits.blocks rec ≡ true → is_sound_record d p.limits.blocks rec ≡ true
+  record_then : (rec : FileRecord) → is_sound_record p.limits.version p.dict p.limits.blocks rec ≡ true → is_sound_record p.limits.version d p.limits.blocks rec ≡ true
   record_then rec sound =
-      let most = and_parts (is_record rec && list_all (λ n. is_some (word_of p.dict n)) rec.tags) (list_all (λ n. nat_lt n p.limits.blocks) rec.blocks) sound in
-      let both = and_parts (is_record rec) (list_all (λ n. is_some (word_of p.dict n)) rec.tags) most.0 in
-      and_from (is_record rec && list_all (λ n. is_some (word_of d n)) rec.tags) (list_all (λ n. nat_lt n p.limits.blocks) rec.blocks)
-      (and_from (is_record rec) (list_all (λ n. is_some (word_of d n)) rec.tags) both.0
+      let most = and_parts (is_record p.limits.version rec && list_all (λ n. is_some (word_of p.dict n)) rec.tags) (list_all (λ n. nat_lt n p.limits.blocks) rec.blocks) sound in
+      let both = and_parts (is_record p.limits.version rec) (list_all (λ n. is_some (word_of p.dict n)) rec.tags) most.0 in
+      and_from (is_record p.limits.version rec && list_all (λ n. is_some (word_of d n)) rec.tags) (list_all (λ n. nat_lt n p.limits.blocks) rec.blocks)
+      (and_from (is_record p.limits.version rec) (list_all (λ n. is_some (word_of d n)) rec.tags) both.0
       (all_weaker (λ n. is_some (word_of p.dict n)) (λ n. is_some (word_of d n)) rec.tags (λ n m some. some_stays n some) both.1)) most.1
 
   pub sound_then : AreSound learnt
@@ -200,8 +200,8 @@ module _ (p : Kept) (t : Taxonomy) (held : AreHeld p t) {word : List ℕ} {numbe
   file_same : (at : ℕ → List ℕ) (f : Filed) → Among p.catalog.entries f → file_told p.limits d at f ≡ file_told p.limits p.dict at f
   file_same at f m =
       let sound = held.sound.records f.slot f.rec (filed_rec p.catalog held.sound.catalog f m) in
-      let most = and_parts (is_record f.rec && list_all (λ n. is_some (word_of p.dict n)) f.rec.tags) (list_all (λ n. nat_lt n p.limits.blocks) f.rec.blocks) sound in
-      let named = (and_parts (is_record f.rec) (list_all (λ n. is_some (word_of p.dict n)) f.rec.tags) most.0).1 in
+      let most = and_parts (is_record p.limits.version f.rec && list_all (λ n. is_some (word_of p.dict n)) f.rec.tags) (list_all (λ n. nat_lt n p.limits.blocks) f.rec.blocks) sound in
+      let named = (and_parts (is_record p.limits.version f.rec) (list_all (λ n. is_some (word_of p.dict n)) f.rec.tags) most.0).1 in
       ap (λ (ws : List (List ℕ)). record (file_told p.limits p.dict at f) { assigned = ws }) (words_same f.rec.tags named)
 
   -- a word's bit is as before, but for the new word

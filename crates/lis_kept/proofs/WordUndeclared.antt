@@ -128,12 +128,12 @@ module _ (p : Kept) (t : Taxonomy) (held : AreHeld p t) {number : ℕ} (may : Ma
   flagged_then n bit (inl same) = absurd (both_ways (is_taken bits number) bit_here (subst (λ m. is_taken bits m ≡ true) same bit))
   flagged_then n bit (inr differ) = some_stays n differ (held.sound.flagged n (sym (bit_other n differ) ∙ bit))
 
-  record_then : (slot : ℕ) (rec : FileRecord) → rec_at p.catalog slot ≡ Some rec → is_sound_record less p.limits.blocks rec ≡ true
+  record_then : (slot : ℕ) (rec : FileRecord) → rec_at p.catalog slot ≡ Some rec → is_sound_record p.limits.version less p.limits.blocks rec ≡ true
   record_then slot rec is =
-      let most = and_parts (is_record rec && list_all (λ n. is_some (word_of p.dict n)) rec.tags) (list_all (λ n. nat_lt n p.limits.blocks) rec.blocks) (held.sound.records slot rec is) in
-      let both = and_parts (is_record rec) (list_all (λ n. is_some (word_of p.dict n)) rec.tags) most.0 in
-      and_from (is_record rec && list_all (λ n. is_some (word_of less n)) rec.tags) (list_all (λ n. nat_lt n p.limits.blocks) rec.blocks)
-      (and_from (is_record rec) (list_all (λ n. is_some (word_of less n)) rec.tags) both.0
+      let most = and_parts (is_record p.limits.version rec && list_all (λ n. is_some (word_of p.dict n)) rec.tags) (list_all (λ n. nat_lt n p.limits.blocks) rec.blocks) (held.sound.records slot rec is) in
+      let both = and_parts (is_record p.limits.version rec) (list_all (λ n. is_some (word_of p.dict n)) rec.tags) most.0 in
+      and_from (is_record p.limits.version rec && list_all (λ n. is_some (word_of less n)) rec.tags) (list_all (λ n. nat_lt n p.limits.blocks) rec.blocks)
+      (and_from (is_record p.limits.version rec) (list_all (λ n. is_some (word_of less n)) rec.tags) both.0
       (all_weaker (λ n. is_some (word_of p.dict n)) (λ n. is_some (word_of less n)) rec.tags (λ n m some. some_stays n (not_tag slot rec is n m) some) both.1)) most.1
 
   pub sound_then : AreSound undeclared_parts

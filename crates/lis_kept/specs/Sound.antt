@@ -15,10 +15,10 @@ use Rattle.lis_model.specs.Image.{data_start}
 use Rattle.lis_kept.specs.Kept.{Kept, property_at}
 use Rattle.lis_kept.specs.Areas.{axiom_slots}
 
--- a record in the ranges of its layout, whose words have numbers and whose blocks there are
-abbrev pub is_sound_record : Dict → ℕ → FileRecord → Bool
-is_sound_record dict blocks rec =
-    is_record rec && list_all (λ n. is_some (word_of dict n)) rec.tags && list_all (λ n. nat_lt n blocks) rec.blocks
+-- a record in the ranges of the layout of that version, whose words have numbers and whose blocks there are
+abbrev pub is_sound_record : ℕ → Dict → ℕ → FileRecord → Bool
+is_sound_record version dict blocks rec =
+    is_record version rec && list_all (λ n. is_some (word_of dict n)) rec.tags && list_all (λ n. nat_lt n blocks) rec.blocks
 
 -- the numbers of an axiom slot have words, the right one a plain one; slots past the last number are free
 pub record IsSoundAxiom (k : Kept) (slot p q : ℕ) : Type 0 where
@@ -41,7 +41,7 @@ pub record AreSound (k : Kept) : Type 0 where
   pub axioms : (slot left right : ℕ) → slice_get k.axioms slot ≡ Some (Pair left right) → IsSoundAxiom k slot left right
   pub slots : k.catalog.files ≡ k.limits.files
   pub catalog : IsCatalog k.catalog
-  pub records : (slot : ℕ) (rec : FileRecord) → rec_at k.catalog slot ≡ Some rec → IsTrue (is_sound_record k.dict k.limits.blocks rec)
+  pub records : (slot : ℕ) (rec : FileRecord) → rec_at k.catalog slot ≡ Some rec → IsTrue (is_sound_record k.limits.version k.dict k.limits.blocks rec)
   pub blocks : length k.taken ≡ k.limits.blocks
   pub rows : k.ext.props ≡ k.limits.props
   pub files : length k.ext.sets ≡ k.limits.files

@@ -11,7 +11,7 @@ use Rattle.lis_ext.specs.Ext.{Ext, set_of as numbers_at}
 use Rattle.lis_fields.specs.Records.{FileRecord}
 use Rattle.lis_fields.specs.declared.slots.AxiomSlot.{AxiomSlot}
 use Rattle.lis_fields.specs.declared.slots.AxiomSlot.TheVariants.{Free as FreeAxiom, Pair}
-use Rattle.lis_fields.specs.Layouts.{super_bytes}
+use Rattle.lis_fields.specs.Layouts.{SpellsSuper}
 use Rattle.lis_words.specs.Words.{same_word, is_valued, head_bytes}
 use Rattle.lis_model.specs.declared.limits.Limits.{Limits}
 use Rattle.lis_model.specs.Image.{data_start}
@@ -119,7 +119,7 @@ pub record IsFileBlock (k : Kept) (at : ℕ → List ℕ) (data_block : ℕ) : T
 -- Where blocks hold these bytes, what is kept tells the state: its words, axioms and files are those of the state, the numbers of each
 -- file are those of its description, and the taken blocks are those of the files, none of them used by two.
 pub record Tells (k : Kept) (at : ℕ → List ℕ) (s : State) : Type 0 where
-  pub super : at 0 ≡ super_bytes s.limits
+  pub super : SpellsSuper s.limits (at 0)
   pub state : state_of k at ≡ s
   pub formed : WellFormed s
   pub used : AreUsed k

@@ -140,7 +140,7 @@ impl Parts {
         let rows = rows_start(&self.limits);
         if n < rows {
             let first = FILES_PER_BLOCK * (n - files) as u16;
-            write_files(&self.catalog, first, block);
+            write_files(&self.catalog, self.limits.version, first, block);
             return;
         }
         // Only its rows tell that each file's numbers are below the limit.

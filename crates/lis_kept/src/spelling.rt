@@ -107,8 +107,8 @@ fn file_slot(catalog: &Catalog, number: u16) -> FileSlot
 }
 
 /// Writes the file slots from a number on, as many as a block has.
-pub fn write_files(catalog: &Catalog, first: u16, block: &mut [u8])
-    requires records { (n : ℕ) → IsTrue (is_file (record_at catalog.now n)) }
+pub fn write_files(catalog: &Catalog, version: u32, first: u16, block: &mut [u8])
+    requires records { (n : ℕ) → IsTrue (is_file version (record_at catalog.now n)) }
     requires few { first ≤ 4096 }
     requires whole { length block.old ≡ 4096 }
     ensures { (k : ℕ) → k < 16 → part (256 * k) 256 block.new ≡ file_bytes (record_at catalog.now (first + k)) }
@@ -116,6 +116,6 @@ pub fn write_files(catalog: &Catalog, first: u16, block: &mut [u8])
     for k in 0..FILES_PER_BLOCK {
         let at = FILE_LEN * usize::from(k);
         let slot = file_slot(catalog, first + k);
-        write_file(&slot, &mut block[at..at + FILE_LEN]);
+        write_file(&slot, &mut block[at..at + FILE_LEN], version);
     }
 }

@@ -44,7 +44,7 @@ impl Parts {
         requires free { rec_at self.old.catalog slot ≡ None }
         requires described { (n : ℕ) → has self.old.ext n slot ≡ true → IsSome (word_of self.old.dict n) }
         requires new { slot_of self.old.catalog rec.name ≡ None }
-        requires sound { IsTrue (is_sound_record self.old.dict self.old.limits.blocks rec) }
+        requires sound { IsTrue (is_sound_record self.old.limits.version self.old.dict self.old.limits.blocks rec) }
         requires blocks { IsTrue (are_free self.old.taken rec.blocks) }
         ensures { Refiles slot rec self.old self.new }
     {

@@ -2,7 +2,8 @@ use Rattle.std.proofs.Common.{◌≡◌, ◌∙◌, true, List, ℕ, sym, ap, su
 use Rattle.lis_content.specs.Content.{are_distinct, marked}
 use Rattle.lis_fields.specs.Records.{FileRecord}
 use Rattle.lis_kept.specs.Kept.{Kept}
-use Rattle.lis_kept.proofs.Refiled.{MayRefile, record_apart, refiles}
+use Rattle.lis_kept.proofs.Dropped.{record_apart}
+use Rattle.lis_kept.proofs.Refiled.{MayRefile, refiles}
 use Rattle.lis_kept.specs.contracts.parts.Parts.{the_view}
 use Rattle.lis_kept.proofs.parts.Parts.refile.Goals as goal
 
@@ -10,7 +11,7 @@ pub take_all-requires-clause-distinct : goal.take_all-requires-clause-distinct
 take_all-requires-clause-distinct c =
     let P : List ℕ → Type 0 = λ ns. are_distinct ns ≡ true in
     subst P (sym (c.as_slice.ensures.value ∙ ap (λ (r : FileRecord). r.blocks) c.rec.view_is))
-    (record_apart c.args.self.now.dict c.args.self.now.limits.blocks c.args.rec c.requires.sound)
+    (record_apart c.args.self.now.limits.version c.args.self.now.dict c.args.self.now.limits.blocks c.args.rec c.requires.sound)
 
 pub invariant_of-self : goal.invariant_of-self
 invariant_of-self c =
