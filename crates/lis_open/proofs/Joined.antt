@@ -17,7 +17,8 @@ use Rattle.lis_ext.proofs.Numbers.{among_where, where_among}
 use Rattle.lis_taxonomy.specs.Taxonomy.{no_links, has_edge, entails, Entails as Leads}
 use Rattle.lis_taxonomy.proofs.Laws.{entails_decides}
 use Rattle.lis_fields.specs.Records.{FileRecord}
-use Rattle.lis_fields.specs.Layouts.{is_prop, is_super}
+use Rattle.lis_fields.specs.Layouts.{is_prop}
+use Rattle.lis_store.specs.Stands.{is_super}
 use Rattle.lis_fields.specs.declared.slots.AxiomSlot.{AxiomSlot}
 use Rattle.lis_fields.specs.declared.slots.AxiomSlot.TheVariants.{Free as FreeAxiom, Pair}
 use Rattle.lis_words.specs.Words.{is_plain_word, is_valued, same_word, head_bytes}

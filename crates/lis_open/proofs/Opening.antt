@@ -12,13 +12,13 @@ use Rattle.lis_journal.specs.Recovery.{HasMountCause, StandsForReplayed, InRecov
 use Rattle.lis_journal.specs.declared.journal.JournalFault.{JournalFault}
 use Rattle.lis_journal.specs.declared.journal.JournalFault.TheVariants.{DiskFault as JournalDisk, BadRecord as JournalRecord, NoMemory as JournalMemory}
 use Rattle.lis_journal.proofs.Fitting.{replayed-front}
-use Rattle.lis_fields.specs.Layouts.{super_bytes, is_super}
+use Rattle.lis_fields.specs.Layouts.{super_bytes}
 use Rattle.lis_model.specs.declared.limits.Limits.{Limits}
 use Rattle.lis_model.specs.declared.spot.Spot.{Spot}
 use Rattle.lis_model.specs.declared.spot.Spot.TheVariants.{Super, BadRecord, Property, Axiom, File, Word, Bitmap, Row}
 use Rattle.lis_model.specs.Image.{image_blocks}
 use Rattle.lis_model.specs.State.{State}
-use Rattle.lis_store.specs.Stands.{Stands}
+use Rattle.lis_store.specs.Stands.{is_super, Stands}
 use Rattle.lis_kept.specs.Areas.{IsWritten}
 use Rattle.lis_kept.specs.Telling.{Tells}
 use Rattle.lis_store.specs.Stored.{Stored, IsSound}

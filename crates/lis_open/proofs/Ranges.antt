@@ -3,7 +3,7 @@ use Rattle.std.proofs.Common.{◌≡◌, ℕ, ◌+◌, ◌-◌, ◌≤◌, ◌==
 use Rattle.std.proofs.lemmas.Bool.{and_parts}
 use Rattle.std.proofs.lemmas.List.{take-take, drop-drop}
 use Rattle.lis_ports.specs.Bytes.{Torn}
-use Rattle.lis_fields.specs.Layouts.{is_super}
+use Rattle.lis_store.specs.Stands.{is_super}
 use Rattle.lis_model.specs.declared.limits.Limits.{Limits}
 use Rattle.lis_model.specs.Ranges.{are_in_range}
 

@@ -14,7 +14,8 @@ use Rattle.lis_content.specs.Content.{content, are_distinct}
 use Rattle.lis_dict.specs.Dict.{Dict, words as words_of, word_of}
 use Rattle.lis_catalog.specs.Catalog.{Filed, rec_at}
 use Rattle.lis_ext.specs.Ext.{set_of as numbers_at}
-use Rattle.lis_fields.specs.Layouts.{super_bytes, is_super, is_prop, is_record}
+use Rattle.lis_fields.specs.Layouts.{super_bytes, is_prop, is_record}
+use Rattle.lis_store.specs.Stands.{is_super}
 use Rattle.lis_fields.specs.declared.slots.AxiomSlot.{AxiomSlot}
 use Rattle.lis_fields.specs.declared.slots.AxiomSlot.TheVariants.{Free as FreeAxiom, Pair}
 use Rattle.lis_fields.proofs.Parts.{IsFileRecord, record_tests, few_tags, few_blocks}

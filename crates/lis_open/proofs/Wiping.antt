@@ -10,12 +10,12 @@ use Rattle.lis_ports.proofs.Parts.{part-put, part-part, part-torn, torn-put, len
 use Rattle.lis_journal.specs.Record.{block}
 use Rattle.lis_journal.specs.Spreads.{Spreads}
 use Rattle.lis_journal.proofs.Spreading.{leaves_spread}
-use Rattle.lis_fields.specs.Layouts.{zeros, super_bytes, is_super}
+use Rattle.lis_fields.specs.Layouts.{zeros, super_bytes}
 use Rattle.lis_fields.proofs.Supers.{length_super}
 use Rattle.lis_model.specs.declared.limits.Limits.{Limits}
 use Rattle.lis_model.specs.Image.{data_start, image_blocks}
 use Rattle.lis_model.specs.State.{empty_state}
-use Rattle.lis_store.specs.Stands.{Stands}
+use Rattle.lis_store.specs.Stands.{is_super, Stands}
 use Rattle.lis_store.specs.Stored.{empty_stored}
 use Rattle.lis_store.proofs.Empty.{zeros-part, empty_sound, no_state}
 use Rattle.lis_store.proofs.EmptyStore.{empty_fits}

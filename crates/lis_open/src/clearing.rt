@@ -5,7 +5,7 @@ ghost use Rattle.lis_ports.specs.Bytes.{put, Torn};
 ghost use Rattle.lis_ports.specs.Runs.{IsDiskRun, Leaves, Always, IsSettled};
 ghost use Rattle.lis_ports.specs.Calls.{HasCause};
 ghost use Rattle.lis_journal.specs.Spreads.{Spreads};
-ghost use Rattle.lis_fields.specs.Layouts.{is_super};
+ghost use Rattle.lis_store.specs.Stands.{is_super};
 ghost use Rattle.lis_model.specs.Image.{image_blocks};
 ghost use Rattle.lis_open.specs.Makes.{Same, first_byte, IsNameless, IsSpared, AreZeros, IsWiped, IsWiping, rest_of_super};
 

@@ -4,10 +4,9 @@ ghost use Rattle.std.specs.Prelude.{◌≡◌, ◌*◌, ◌≤◌, ℕ, IsTrue, 
 ghost use Rattle.lis_ports.specs.Runs.{IsDiskRun, Leaves, Always, IsSettled};
 ghost use Rattle.lis_ports.specs.Calls.{HasCause};
 ghost use Rattle.lis_journal.specs.Record.{block};
-ghost use Rattle.lis_fields.specs.Layouts.{is_super};
 ghost use Rattle.lis_model.specs.Image.{image_blocks};
 ghost use Rattle.lis_model.specs.State.{empty_state};
-ghost use Rattle.lis_store.specs.Stands.{Stands};
+ghost use Rattle.lis_store.specs.Stands.{is_super, Stands};
 ghost use Rattle.lis_open.specs.Makes.{InMaking, IsMade, IsSettledAt, IsSpare};
 ghost use Rattle.lis_open.specs.Faults.{IsShortWhere, HasMakeCause};
 ghost use Rattle.lis_open.specs.declared.making.MakeFault.TheVariants.{TooShort, DiskFault as DiskFailed};

@@ -3,7 +3,8 @@
 ghost use Rattle.std.specs.Prelude.{◌≡◌, ◌*◌, ◌≤◌, ℕ, List, Bool, [], None, false, IsTrue, IfOk, OnOk};
 ghost use Rattle.lis_bits.specs.Rows.{HasShape};
 ghost use Rattle.lis_journal.specs.Images.{Fits};
-ghost use Rattle.lis_fields.specs.Layouts.{super_bytes, is_super};
+ghost use Rattle.lis_fields.specs.Layouts.{SpellsSuper};
+ghost use Rattle.lis_store.specs.Stands.{is_super};
 ghost use Rattle.lis_model.specs.Image.{image_blocks};
 ghost use Rattle.lis_store.specs.Stored.{IsSound};
 ghost use Rattle.lis_open.specs.Reading.{OnlyReads, HasPartCause};
@@ -83,7 +84,7 @@ pub fn read_store<D: Disk>(
     ensures journal { IfOk result (λ store. store.journal ≡ journal) }
     ensures unbroken { IfOk result (λ store. store.is_broken ≡ false) }
     ensures ended { (kept : ℕ → List ℕ) → Fits journal (D.meaning disk.old) kept
-        → kept 0 ≡ super_bytes limits → StoreEnded limits kept result }
+        → SpellsSuper limits (kept 0) → StoreEnded limits kept result }
 {
     let mut room = room;
     read_parts(

@@ -6,7 +6,7 @@ use Rattle.std.proofs.lemmas.Bool.{and_parts, le-ltb, ltb-true, ltb-false, leb-t
 use Rattle.lis_ports.specs.Meaning.{Meaning}
 use Rattle.lis_blockmap.specs.Bitmap.{free_count}
 use Rattle.lis_catalog.specs.Catalog.{slot_of}
-use Rattle.lis_fields.specs.Layouts.{is_super}
+use Rattle.lis_store.specs.Stands.{is_super}
 use Rattle.lis_graph.proofs.Members.{Among, among_from_any, any_from_among, among_insert_key}
 use Rattle.lis_grammar.specs.Formula.{Formula}
 use Rattle.lis_words.specs.Words.{word_cmp, is_file_name}

@@ -20,7 +20,8 @@ use Rattle.lis_fields.specs.declared.slots.AxiomSlot.{AxiomSlot}
 use Rattle.lis_fields.specs.declared.slots.AxiomSlot.TheVariants.{Free as FreeAxiom, Pair}
 use Rattle.lis_fields.specs.declared.slots.PropSlot.{PropSlot}
 use Rattle.lis_fields.specs.declared.slots.PropSlot.TheVariants.{Known}
-use Rattle.lis_fields.specs.Layouts.{is_super, is_prop, is_record}
+use Rattle.lis_fields.specs.Layouts.{is_prop, is_record}
+use Rattle.lis_store.specs.Stands.{is_super}
 use Rattle.lis_words.specs.Words.{word_cmp, same_word, has_word, head_bytes, is_head, is_plain_word, is_valued, is_built_in, is_word, is_test, is_property, test_of}
 use Rattle.lis_model.specs.declared.refusal.Refusal.{Refusal}
 use Rattle.lis_model.specs.declared.refusal.Refusal.TheVariants.{BuiltIn, NotAssignable, AlreadyDeclared, NotAPlace, UnknownProperty, NoAxiomRoom, NoPropertyRoom, LargeDescription}

@@ -14,7 +14,7 @@ use Rattle.lis_dict.specs.Dict.{Dict, IsDict}
 use Rattle.lis_catalog.specs.Catalog.{IsCatalog}
 use Rattle.lis_ext.specs.Ext.{has, set_of}
 use Rattle.lis_ext.specs.Numbers.{has_number as has_in}
-use Rattle.lis_fields.specs.Layouts.{zeros, super_bytes, is_super, prop_bytes, axiom_bytes, file_bytes}
+use Rattle.lis_fields.specs.Layouts.{zeros, super_bytes, prop_bytes, axiom_bytes, file_bytes}
 use Rattle.lis_fields.specs.declared.slots.AxiomSlot.{AxiomSlot}
 use Rattle.lis_fields.specs.declared.slots.AxiomSlot.TheVariants.{Free as FreeAxiom, Pair}
 use Rattle.lis_model.specs.declared.limits.Limits.{Limits}
@@ -30,7 +30,7 @@ use Rattle.lis_kept.specs.Telling.{pairs_told, Tells}
 use Rattle.lis_kept.proofs.InArea.{among_slots, whole_files, files_range, each_files_limit}
 use Rattle.lis_kept.proofs.RowBytes.{row_bytes_none}
 use Rattle.lis_store.specs.Blank.{IsBlank}
-use Rattle.lis_store.specs.Stands.{Stands}
+use Rattle.lis_store.specs.Stands.{is_super, Stands}
 use Rattle.lis_store.specs.Stored.{IsSound, empty_parts, empty_stored}
 
 in_range : (limits : Limits) → IsTrue (is_super limits) → IsTrue (are_in_range limits)

@@ -7,7 +7,8 @@ use Rattle.lis_ports.specs.Bytes.{part}
 use Rattle.lis_ports.specs.Runs.{IsSettled}
 use Rattle.lis_journal.specs.Record.{block}
 use Rattle.lis_journal.proofs.Fitting.{settled_fits}
-use Rattle.lis_fields.specs.Layouts.{super_bytes, is_super}
+use Rattle.lis_fields.specs.Layouts.{super_bytes}
+use Rattle.lis_store.specs.Stands.{is_super}
 use Rattle.lis_model.specs.declared.limits.Limits.{Limits}
 use Rattle.lis_model.specs.Ranges.{are_in_range}
 use Rattle.lis_model.specs.Image.{data_start}

@@ -6,7 +6,7 @@ use Rattle.lis_journal.specs.Journal.{Held}
 use Rattle.lis_dict.specs.Dict.{word_of}
 use Rattle.lis_ext.specs.Ext.{has}
 use Rattle.lis_fields.specs.Records.{FileRecord}
-use Rattle.lis_fields.specs.Layouts.{is_super}
+use Rattle.lis_store.specs.Stands.{is_super}
 use Rattle.lis_model.specs.Image.{image_blocks}
 use Rattle.lis_model.specs.State.{File}
 use Rattle.lis_model.specs.Changes.{new_file}

@@ -13,7 +13,7 @@ use Rattle.lis_journal.proofs.Fitting.{fits_stand, replayed-front}
 use Rattle.lis_slots.specs.Slots.{Slots, home, place}
 use Rattle.lis_content.specs.Content.{content}
 use Rattle.lis_fields.specs.Records.{FileRecord}
-use Rattle.lis_fields.specs.Layouts.{super_bytes, is_super, prop_bytes, is_prop, axiom_bytes, is_axiom, file_bytes, is_file}
+use Rattle.lis_fields.specs.Layouts.{super_bytes, prop_bytes, is_prop, axiom_bytes, is_axiom, file_bytes, is_file}
 use Rattle.lis_fields.specs.declared.slots.FileSlot.{FileSlot}
 use Rattle.lis_fields.specs.declared.slots.FileSlot.TheVariants.{Free as FreeFile, Used}
 use Rattle.lis_fields.specs.declared.slots.PropSlot.{PropSlot}
@@ -25,7 +25,7 @@ use Rattle.lis_model.specs.State.{State, File, file_cmp, description}
 use Rattle.lis_kept.specs.Areas.{IsWritten, property_slots, axiom_slots, file_slots, row_slots}
 use Rattle.lis_kept.specs.Sound.{AreSound, FreeSlotsAreEmpty}
 use Rattle.lis_kept.specs.Telling.{Tells}
-use Rattle.lis_store.specs.Stands.{Contents, AreSlots, all_records, file_by, spelled_state, is_had_by, word_at, row_bit, Spells, Stands}
+use Rattle.lis_store.specs.Stands.{is_super, Contents, AreSlots, all_records, file_by, spelled_state, is_had_by, word_at, row_bit, Spells, Stands}
 use Rattle.lis_store.specs.Stored.{Stored, PairsAreApart, IsSound, StoreFits}
 use Rattle.lis_store.proofs.Spelled.{contents_of, tells_spells}
 

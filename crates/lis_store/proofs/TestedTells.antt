@@ -17,7 +17,7 @@ use Rattle.lis_catalog.specs.Catalog.{Filed}
 use Rattle.lis_ext.specs.Ext.{Ext, has, set_of as numbers_at}
 use Rattle.lis_ext.specs.Numbers.{numbers_where}
 use Rattle.lis_grammar.specs.Formula.{Formula}
-use Rattle.lis_fields.specs.Layouts.{is_super}
+use Rattle.lis_store.specs.Stands.{is_super}
 use Rattle.lis_words.specs.Words.{word_cmp, is_test, is_plain_word, is_property, test_of}
 use Rattle.lis_model.specs.declared.refusal.Refusal.{Refusal}
 use Rattle.lis_model.specs.declared.limits.Limits.{Limits}

@@ -26,7 +26,7 @@ use Rattle.lis_laws.proofs.Leads.{right_leads}
 use Rattle.lis_model.specs.Tests.{are_weaker, is_met}
 use Rattle.lis_laws.proofs.Members.{pair_order}
 use Rattle.lis_laws.proofs.Sources.{rights_are, right_plain}
-use Rattle.lis_fields.specs.Layouts.{is_super}
+use Rattle.lis_store.specs.Stands.{is_super}
 use Rattle.lis_model.specs.Image.{image_blocks}
 use Rattle.lis_kept.specs.Kept.{Kept}
 use Rattle.lis_kept.specs.Edges.{head_number}

@@ -18,7 +18,8 @@ use Rattle.lis_catalog.specs.Catalog.{Filed, rec_at}
 use Rattle.lis_ext.specs.Ext.{Ext, has, set_of as numbers_at}
 use Rattle.lis_fields.specs.Records.{FileRecord}
 use Rattle.lis_fields.specs.declared.slots.AxiomSlot.TheVariants.{Pair}
-use Rattle.lis_fields.specs.Layouts.{is_super, is_prop}
+use Rattle.lis_fields.specs.Layouts.{is_prop}
+use Rattle.lis_store.specs.Stands.{is_super}
 use Rattle.lis_words.specs.Words.{word_cmp, same_word, head_bytes, is_valued, is_built_in, is_test, test_of}
 use Rattle.lis_model.specs.declared.refusal.Refusal.{Refusal}
 use Rattle.lis_model.specs.declared.refusal.Refusal.TheVariants.{BuiltIn, NotAssignable, NotDeclared, InUse}

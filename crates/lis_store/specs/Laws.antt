@@ -8,7 +8,7 @@ use Rattle.lis_journal.specs.Images.{StandsForAllOrNone}
 use Rattle.lis_journal.specs.Phases.{looked}
 use Rattle.lis_catalog.specs.Catalog.{slot_of, rec_at}
 use Rattle.lis_fields.specs.Records.{FileRecord}
-use Rattle.lis_fields.specs.Layouts.{super_bytes, is_super}
+use Rattle.lis_fields.specs.Layouts.{SpellsSuper}
 use Rattle.lis_model.specs.declared.limits.Limits.{Limits}
 use Rattle.lis_model.specs.Image.{data_start}
 use Rattle.lis_model.specs.State.{State, empty_state}
@@ -19,7 +19,7 @@ use Rattle.lis_kept.specs.Areas.{IsWritten}
 use Rattle.lis_kept.specs.Sound.{AreSound, FreeSlotsAreEmpty}
 use Rattle.lis_kept.specs.Telling.{words_told, axioms_of, Tells}
 use Rattle.lis_store.specs.Blank.{IsBlank}
-use Rattle.lis_store.specs.Stands.{Stands}
+use Rattle.lis_store.specs.Stands.{is_super, Stands}
 use Rattle.lis_store.specs.Stored.{Stored, PairsAreApart, IsSound, StoreFits, empty_stored}
 use Rattle.lis_store.specs.Seen.{table_of}
 use Rattle.lis_store.specs.Counting.{CountsState}
@@ -64,7 +64,7 @@ EmptyStoresAreSound = (limits : Limits) (blocks : ℕ) → IsTrue (is_super limi
 abbrev pub EmptyStoresFit : Meaning → Type 0
 EmptyStoresFit m =
     (limits : Limits) (blocks : ℕ) (image : List ℕ) → IsTrue (is_super limits) → data_start limits ≤ blocks → IsTrue m.is_honest → IsSettled m image
-    → part 0 4096 image ≡ super_bytes limits → IsBlank limits image → StoreFits (empty_stored limits blocks) m (empty_state limits)
+    → SpellsSuper limits (part 0 4096 image) → IsBlank limits image → StoreFits (empty_stored limits blocks) m (empty_state limits)
 
 -- What is staged over blocks that tell s makes blocks that tell t: then each image that stands for the one or the other blocks stands for
 -- s or for t.

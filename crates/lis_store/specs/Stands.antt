@@ -1,5 +1,5 @@
 -- When an image stands for a state.
-use Rattle.std.specs.Prelude.{◌≡◌, ℕ, ◌*◌, ◌/◌, ◌<◌, ◌≤◌, nat_lt, Bool, true, false, ◌&&◌, Option, Some, None, is_some, List, [], ◌∷◌, length, map, drop, replicate, slice_get, slice_index_or, IsTrue}
+use Rattle.std.specs.Prelude.{◌≡◌, ℕ, ◌*◌, ◌/◌, ◌<◌, ◌≤◌, ◌==◌, nat_lt, Bool, true, false, ◌&&◌, Option, Some, None, is_some, List, [], ◌∷◌, length, map, drop, replicate, slice_get, slice_index_or, IsTrue}
 use Rattle.std.specs.Option.{option_to_list}
 use Rattle.std.specs.BTreeSet.{insert_key}
 use Rattle.std.specs.List.{fold, flat_map, list_all}
@@ -16,14 +16,19 @@ use Rattle.lis_fields.specs.declared.slots.AxiomSlot.{AxiomSlot}
 use Rattle.lis_fields.specs.declared.slots.AxiomSlot.TheVariants.{Free as FreeAxiom, Pair}
 use Rattle.lis_fields.specs.declared.slots.FileSlot.{FileSlot}
 use Rattle.lis_fields.specs.declared.slots.FileSlot.TheVariants.{Free as FreeFile, Used}
-use Rattle.lis_fields.specs.Layouts.{super_bytes, is_super, prop_bytes, is_prop, axiom_bytes, is_axiom, file_bytes, is_file}
+use Rattle.lis_fields.specs.Layouts.{SpellsSuper, prop_bytes, is_prop, axiom_bytes, is_axiom, file_bytes, is_file}
 use Rattle.lis_words.specs.Words.{has_word}
 use Rattle.lis_model.specs.declared.limits.Limits.{Limits}
 use Rattle.lis_model.specs.Image.{bitmap_start, image_blocks}
+use Rattle.lis_model.specs.Ranges.{are_in_range}
 use Rattle.lis_model.specs.Sets.{set_of}
 use Rattle.lis_model.specs.State.{State, File, pair_cmp, file_cmp, known, description, WellFormed}
 use Rattle.lis_kept.specs.Areas.{property_slots, axiom_slots, file_slots, row_slots}
 use Rattle.lis_kept.specs.Telling.{pair_by, bytes_told, blocks_told}
+
+-- Limits of an image. None of version 2 is made or opened yet; once they are, this is `are_in_range limits`.
+abbrev pub is_super : Limits → Bool
+is_super limits = (limits.version == 1) && are_in_range limits
 
 -- what the slots of an image are, each array in the order of its numbers
 pub record Contents : Type 0 where
@@ -128,7 +133,7 @@ row_bit s limits contents at p i =
 pub record Spells (limits : Limits) (contents : Contents) (at : ℕ → List ℕ) (s : State) : Type 0 where
   pub properties : AreSlots prop_bytes is_prop (property_slots limits) at contents.properties
   pub axioms : AreSlots axiom_bytes is_axiom (axiom_slots limits) at contents.axioms
-  pub files : AreSlots file_bytes is_file (file_slots limits) at contents.files
+  pub files : AreSlots file_bytes (is_file limits.version) (file_slots limits) at contents.files
   pub named_axioms : IsTrue (list_all (is_named_axiom contents.properties) contents.axioms)
   pub free_axioms : IsTrue (list_all is_free_axiom (drop limits.props contents.axioms))
   pub named : IsTrue (are_named contents.properties (all_records contents.files))
@@ -147,7 +152,7 @@ pub record Spells (limits : Limits) (contents : Contents) (at : ℕ → List ℕ
 -- past the image is not looked at.
 pub record StandsFor (image : List ℕ) (s : State) : Type 0 where
   pub range : IsTrue (is_super s.limits)
-  pub super : part 0 4096 image ≡ super_bytes s.limits
+  pub super : SpellsSuper s.limits (part 0 4096 image)
   pub long : 4096 * image_blocks s.limits ≤ length image
   pub replay : List ℕ
   pub replays : replayed (image_blocks s.limits) image ≡ Some replay

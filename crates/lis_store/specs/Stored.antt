@@ -8,7 +8,7 @@ use Rattle.lis_ext.specs.Ext.{has, set_of as numbers_at, empty_ext}
 use Rattle.lis_catalog.specs.Catalog.{rec_at}
 use Rattle.lis_content.specs.Content.{has_number}
 use Rattle.lis_fields.specs.Records.{FileRecord}
-use Rattle.lis_fields.specs.Layouts.{is_super}
+use Rattle.lis_store.specs.Stands.{is_super}
 use Rattle.lis_fields.specs.declared.slots.AxiomSlot.TheVariants.{Free as FreeAxiom, Pair}
 use Rattle.lis_model.specs.declared.limits.Limits.{Limits}
 use Rattle.lis_model.specs.Image.{image_blocks}
