@@ -14,6 +14,7 @@ use Rattle.lis_catalog.specs.Catalog.{Filed, filed_cmp, slot_of, rec_at}
 use Rattle.lis_ext.specs.Ext.{set_of as numbers_at}
 use Rattle.lis_fields.specs.Records.{FileRecord}
 use Rattle.lis_words.specs.Words.{word_cmp, same_word}
+use Rattle.lis_fields.specs.Layouts.{SpellsSuper}
 use Rattle.lis_model.specs.declared.limits.Limits.{Limits}
 use Rattle.lis_model.specs.Sets.{with_words}
 use Rattle.lis_model.specs.State.{State, File, file_cmp, up, own_words, description, known, is_assignable, file_limit, blocks_taken, used_blocks}
@@ -233,7 +234,7 @@ module _ (p q : Kept) (old new : Held) (name : List ℕ) (assigned : List (List 
 
     tells_end : Tells k there t
     tells_end = record {
-      super = puts.adds.front 0 (kept 0) (omega arith) ∙ tells.super;
+      super = subst (λ (bytes : List ℕ). SpellsSuper s.limits bytes) (sym (puts.adds.front 0 (kept 0) (omega arith))) tells.super;
       state = state_then;
       formed = forms.adds_file s tells.formed file fits;
       used = used_then p q name assigned bytes sound (may_come p (new_file name assigned bytes) admitted) (comes_in (new_file name assigned bytes) p q old new puts) after free tells.used;

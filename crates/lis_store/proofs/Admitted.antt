@@ -2,7 +2,7 @@
 use Rattle.std.proofs.Common.{◌≡◌, ◌⊎◌, refl, sym, ap, ap₂, ◌∙◌, inl, inr, ℕ, ◌<◌, ◌≤◌, ◌==◌, nat_lt, nat_le, Bool, true, false, not, cond, is_some, Option, Some, None, List, ◌++◌, length, Result, Err, arith, eqb-true}
 use Rattle.std.specs.Prelude.{IsTrue}
 use Rattle.std.specs.List.{list_any, list_all}
-use Rattle.std.proofs.lemmas.Bool.{and_parts, le-ltb, ltb-true, ltb-false, leb-true, leb-false, not-false}
+use Rattle.std.proofs.lemmas.Bool.{le-ltb, ltb-true, ltb-false, leb-true, leb-false, not-false}
 use Rattle.lis_ports.specs.Meaning.{Meaning}
 use Rattle.lis_blockmap.specs.Bitmap.{free_count}
 use Rattle.lis_catalog.specs.Catalog.{slot_of}
@@ -13,7 +13,6 @@ use Rattle.lis_words.specs.Words.{word_cmp, is_file_name}
 use Rattle.lis_model.specs.declared.limits.Limits.{Limits}
 use Rattle.lis_model.specs.declared.refusal.Refusal.{Refusal}
 use Rattle.lis_model.specs.declared.refusal.Refusal.TheVariants.{LargeFile}
-use Rattle.lis_model.specs.Ranges.{are_in_range}
 use Rattle.lis_model.specs.Sets.{with_words}
 use Rattle.lis_model.specs.State.{State, File, file_words, description, known, is_assignable, file_cmp, file_limit, blocks_needed, blocks_taken}
 use Rattle.lis_model.specs.Changes.{has_name, new_file, file_added}
@@ -34,6 +33,7 @@ use Rattle.lis_store.proofs.Assigned.{sorted_assigned}
 use Rattle.lis_store.proofs.Facts.{limits_told, known_told, name_filed, files_counted}
 use Rattle.lis_store.proofs.FreeBlocks.{used_told}
 use Rattle.lis_store.proofs.Judged.{refused_first, refused_then, same_first, all_pass, judged_refused, judged_done, change_refused}
+use Rattle.lis_store.proofs.Limits.{limits_of_version_1}
 
 -- ---- the row, part by part
 module _ (k : Kept) (place : List Formula) (name : List ℕ) (words : List (List ℕ)) (bytes : List ℕ) (size : ℕ) (small : size ≤ file_limit k.limits.version) where
@@ -99,7 +99,7 @@ pub admitted : (k : Kept) → IsTrue (is_super k.limits) → (place : List Formu
 admitted k range place name words bytes size form whole none =
     let file = new_file name (assigned_at place words) bytes in
     let row = passes k place words file size none in
-    let version : k.limits.version ≡ 1 = eqb-true k.limits.version 1 (and_parts (k.limits.version == 1) (are_in_range k.limits) range).0 in
+    let version : k.limits.version ≡ 1 = limits_of_version_1 k.limits range in
     let small : size ≤ 65536 = omega (arith, row.small, ap file_limit version) in
     let long = whole small in
     record {

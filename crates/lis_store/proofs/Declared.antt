@@ -329,8 +329,8 @@ module _ (p mid : Kept) (word : List ℕ) (sound : AreSound p) (new : number_of 
   file_declared : (at : ℕ → List ℕ) (f : Filed) → Among p.catalog.entries f → file_told mid.limits mid.dict at f ≡ file_told p.limits p.dict at f
   file_declared at f m =
       let fit = sound.records f.slot f.rec (filed_rec p.catalog sound.catalog f m) in
-      let most = and_parts (is_record f.rec && list_all (λ n. is_some (word_of p.dict n)) f.rec.tags) (list_all (λ n. nat_lt n p.limits.blocks) f.rec.blocks) fit in
-      let named = (and_parts (is_record f.rec) (list_all (λ n. is_some (word_of p.dict n)) f.rec.tags) most.0).1 in
+      let most = and_parts (is_record p.limits.version f.rec && list_all (λ n. is_some (word_of p.dict n)) f.rec.tags) (list_all (λ n. nat_lt n p.limits.blocks) f.rec.blocks) fit in
+      let named = (and_parts (is_record p.limits.version f.rec) (list_all (λ n. is_some (word_of p.dict n)) f.rec.tags) most.0).1 in
       ap (λ (l : Limits). file_told l mid.dict at f) (ap (λ (k : Kept). k.limits) declares.parts)
       ∙ ap (λ (ws : List (List ℕ)). record (file_told p.limits p.dict at f) { assigned = ws })
       (words_same p.dict mid.dict f.rec.tags (λ n of. stays n (all_among (λ i. is_some (word_of p.dict i)) f.rec.tags n named of)))

@@ -2,7 +2,7 @@
 use Rattle.std.proofs.Common.{◌≡◌, refl, sym, ap, ap₂, ◌∙◌, ℕ, zero, suc, ◌+◌, ◌-◌, ◌*◌, ◌/◌, ◌%◌, ◌<◌, ◌≤◌, ◌==◌, ◌≢◌, false, List, [], ◌∷◌, length, get_or, map, take, drop, replicate, slice_get, slice_index, Some, IsTrue, arith}
 use Rattle.std.specs.BTreeSet.{insert_key}
 use Rattle.std.specs.List.{fold, range_with_len, Contains}
-use Rattle.std.proofs.lemmas.Bool.{and_parts, both_ways}
+use Rattle.std.proofs.lemmas.Bool.{both_ways}
 use Rattle.std.proofs.lemmas.List.{length-replicate, drop-replicate, take-replicate, get_or-replicate, take-take}
 use Rattle.std.proofs.lemmas.Option.{slice_get_within, get_or_from_slice_get}
 use Rattle.lis_graph.proofs.Members.{among_from_contains}
@@ -14,7 +14,7 @@ use Rattle.lis_dict.specs.Dict.{Dict, IsDict}
 use Rattle.lis_catalog.specs.Catalog.{IsCatalog}
 use Rattle.lis_ext.specs.Ext.{has, set_of}
 use Rattle.lis_ext.specs.Numbers.{has_number as has_in}
-use Rattle.lis_fields.specs.Layouts.{zeros, super_bytes, prop_bytes, axiom_bytes, file_bytes}
+use Rattle.lis_fields.specs.Layouts.{zeros, SpellsSuper, super_with, prop_bytes, axiom_bytes, file_bytes}
 use Rattle.lis_fields.specs.declared.slots.AxiomSlot.{AxiomSlot}
 use Rattle.lis_fields.specs.declared.slots.AxiomSlot.TheVariants.{Free as FreeAxiom, Pair}
 use Rattle.lis_model.specs.declared.limits.Limits.{Limits}
@@ -32,9 +32,7 @@ use Rattle.lis_kept.proofs.RowBytes.{row_bytes_none}
 use Rattle.lis_store.specs.Blank.{IsBlank}
 use Rattle.lis_store.specs.Stands.{is_super, Stands}
 use Rattle.lis_store.specs.Stored.{IsSound, empty_parts, empty_stored}
-
-in_range : (limits : Limits) → IsTrue (is_super limits) → IsTrue (are_in_range limits)
-in_range limits range = (and_parts (limits.version == 1) (are_in_range limits) range).1
+use Rattle.lis_store.proofs.Limits.{limits_in_range}
 
 -- ---- no words and no files
 module _ (limits : Limits) (blocks : ℕ) where
@@ -94,7 +92,7 @@ module _ (limits : Limits) (blocks : ℕ) where
 
   pub empty_are_told : IsTrue (is_super limits) → data_start limits ≤ blocks → IsSound (empty_stored limits blocks)
   empty_are_told range room = record {
-    parts = empty_are_sound (in_range limits range) room;
+    parts = empty_are_sound (limits_in_range limits range) room;
     range = range;
     free = λ at none n. no_set n at;
     pairs = λ at other left right is _. absurd (no_axiom at left right is);
@@ -169,7 +167,7 @@ module _ (limits : Limits) (blocks : ℕ) (image : List ℕ) (range : IsTrue (ar
       ∙ row_bytes_none (empty_parts limits blocks).ext n (limits.files / 8) (omega (arith, length-replicate {A = List ℕ} limits.files [], whole_files limits range)) (λ file. no_set limits blocks n file)
   written_empty Bitmap n lt = blank.homes (bitmap_start limits) (omega arith) (omega arith) ∙ sym (bitmap-none limits.blocks)
 
-  pub tells_empty : part 0 4096 image ≡ super_bytes limits → Tells (empty_parts limits blocks) at (empty_state limits)
+  pub tells_empty : SpellsSuper limits (part 0 4096 image) → Tells (empty_parts limits blocks) at (empty_state limits)
   tells_empty super = record {
     super = super;
     state = ap (λ es. record (empty_state limits) { axioms = fold (insert_key pair_cmp) [] es }) (no_pairs (axiom_slots limits).count (empty_parts limits blocks).dict);
@@ -183,8 +181,8 @@ module _ (limits : Limits) (blocks : ℕ) (image : List ℕ) (range : IsTrue (ar
 
 -- an image that does not begin with an L stands for no state
 pub no_state : (image : List ℕ) (s : State) → slice_index (part 0 1 image) 0 ≢ 76 → Stands image s → ⊥
-unfolding Stands super_bytes
+unfolding Stands super_with
 no_state image s no_name stands =
     let front : take 1 (part 0 4096 image) ≡ part 0 1 image = take-take 1 4096 (drop 0 image) (omega arith) in
-    let first : slice_index (take 1 (part 0 4096 image)) 0 ≡ 76 = ap (λ xs. slice_index (take 1 xs) 0) stands.super in
+    let first : slice_index (take 1 (part 0 4096 image)) 0 ≡ 76 = ap (λ xs. slice_index (take 1 xs) 0) stands.super.spelled in
     no_name (ap (λ xs. slice_index xs 0) (sym front) ∙ first)

@@ -7,7 +7,7 @@ use Rattle.lis_ports.specs.Bytes.{part}
 use Rattle.lis_ports.specs.Runs.{IsSettled}
 use Rattle.lis_journal.specs.Record.{block}
 use Rattle.lis_journal.proofs.Fitting.{settled_fits}
-use Rattle.lis_fields.specs.Layouts.{super_bytes}
+use Rattle.lis_fields.specs.Layouts.{SpellsSuper}
 use Rattle.lis_store.specs.Stands.{is_super}
 use Rattle.lis_model.specs.declared.limits.Limits.{Limits}
 use Rattle.lis_model.specs.Ranges.{are_in_range}
@@ -18,7 +18,7 @@ use Rattle.lis_store.specs.Stored.{StoreFits, empty_stored}
 use Rattle.lis_store.proofs.Empty.{written_empty, tells_empty}
 
 pub empty_fits : (m : Meaning) (limits : Limits) (blocks : ℕ) (image : List ℕ) → IsTrue (is_super limits) → data_start limits ≤ blocks → IsTrue m.is_honest → IsSettled m image
-    → part 0 4096 image ≡ super_bytes limits → IsBlank limits image → StoreFits (empty_stored limits blocks) m (empty_state limits)
+    → SpellsSuper limits (part 0 4096 image) → IsBlank limits image → StoreFits (empty_stored limits blocks) m (empty_state limits)
 empty_fits m limits blocks image range room honest settled super blank =
     let within = (and_parts (limits.version == 1) (are_in_range limits) range).1 in
     record {

@@ -93,7 +93,7 @@ module _ (old : Stored) (place : List Formula) (name : List ℕ) (slot : ℕ) (r
       → first_refusal (instead_checks p slot (moved_from p rec place next name bytes)) ≡ None → MayReplace p slot rec (moved_from p rec place next name bytes)
   moved_first next words bytes size moving none =
       mv_may old sound slot rec there place next name bytes words same_name
-      (subst (λ n. is_file_name n ≡ true) same_name (record_named p.dict p.limits.blocks rec (sound.parts.records slot rec there))) (omega (arith, size))
+      (subst (λ n. is_file_name n ≡ true) same_name (record_named p.limits.version p.dict p.limits.blocks rec (sound.parts.records slot rec there))) (omega (arith, size))
       (refused_then (moving_checks p place next words rec) (instead_checks p slot (moved_from p rec place next name bytes)) moving ∙ none)
 
   module _ (m : Meaning) (s : State) (fits : StoreFits old m s) where

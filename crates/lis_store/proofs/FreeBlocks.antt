@@ -1,7 +1,7 @@
 -- The blocks that no file takes are those that are free.
 use Rattle.std.proofs.Common.{◌≡◌, refl, sym, ap, ◌∙◌, subst, inl, inr, ℕ, ◌+◌, ◌<◌, ◌==◌, nat_lt, not, ◌&&◌, Bool, true, false, cond, List, [], ◌∷◌, length, map, sum, set, replicate, arith, length-append, length-set, get_or-set_other}
 use Rattle.std.specs.List.{flat_map, list_all}
-use Rattle.std.proofs.lemmas.Bool.{and_parts, and_from, both_ways, eqb-true, lt-ltb, ltb-true, not-true, not_from_false}
+use Rattle.std.proofs.lemmas.Bool.{and_parts, and_from, both_ways, lt-ltb, ltb-true, not-true, not_from_false}
 use Rattle.std.proofs.lemmas.List.{length-replicate, get_or-replicate}
 use Rattle.std.proofs.lemmas.List.Folds.{sum_by-replicate}
 use Rattle.std.proofs.lemmas.List.Sums.{sum_by-cons, sum_by-set}
@@ -11,7 +11,6 @@ use Rattle.lis_blockmap.specs.Bitmap.{is_taken, free_count}
 use Rattle.lis_content.specs.Content.{marked, has_number, are_distinct, are_free}
 use Rattle.lis_catalog.specs.Catalog.{Filed}
 use Rattle.lis_model.specs.declared.limits.Limits.{Limits}
-use Rattle.lis_model.specs.Ranges.{are_in_range}
 use Rattle.lis_model.specs.State.{State, File, blocks_needed, blocks_taken, used_blocks}
 use Rattle.lis_laws.proofs.Counts.{all_among, all_from}
 use Rattle.lis_kept.specs.Telling.{file_told, state_of, Tells}
@@ -20,6 +19,7 @@ use Rattle.lis_store.specs.Stored.{Stored, IsSound, StoreFits}
 use Rattle.lis_store.proofs.Facts.{limits_told, files_told, blocks_counted, size_of_filed}
 use Rattle.lis_store.proofs.Marks.{marks_are}
 use Rattle.lis_store.proofs.Spelled.{used, used_once, told_below}
+use Rattle.lis_store.proofs.Limits.{limits_of_version_1}
 
 -- ---- blocks that are taken are free no more
 one_fewer : (taken : List Bool) (n : ℕ) → n < length taken → is_taken taken n ≡ false → free_count (set taken n true) + 1 ≡ free_count taken
@@ -65,12 +65,12 @@ module _ (k : Stored) (m : Meaning) (s : State) (sound : IsSound k) (fits : Stor
   pub version_told : s.limits.version ≡ 1
   version_told =
       ap (λ (l : Limits). l.version) (sym (limits_told k.parts fits.kept s sound.parts sound.free fits.tells))
-      ∙ eqb-true k.parts.limits.version 1 (and_parts (k.parts.limits.version == 1) (are_in_range k.parts.limits) sound.range).0
+      ∙ limits_of_version_1 k.parts.limits sound.range
 
   one_takes : (f : Filed) → Among k.parts.catalog.entries f → blocks_taken s.limits.version (length (told f).bytes) ≡ length f.rec.blocks
   one_takes f there =
       ap (λ v. blocks_taken v (length (told f).bytes)) version_told
-      ∙ (ap blocks_needed (size_of_filed k m s sound fits f there) ∙ sym (blocks_counted k.parts sound.parts f there))
+      ∙ (ap blocks_needed (size_of_filed k m s sound fits f there) ∙ sym (blocks_counted k.parts sound.parts (limits_of_version_1 k.parts.limits sound.range) f there))
 
   all_take : (fs : List Filed) → ((f : Filed) → Among fs f → Among k.parts.catalog.entries f)
       → sum (map (λ (file : File). blocks_taken s.limits.version (length file.bytes)) (map told fs)) ≡ length (flat_map (λ (f : Filed). f.rec.blocks) fs)

@@ -1,18 +1,15 @@
 -- Where a row refuses nothing, a file may come into the place of another.
 use Rattle.std.proofs.Common.{◌≡◌, sym, ap, subst, ℕ, ◌+◌, ◌≤◌, ◌==◌, nat_lt, nat_le, true, ◌&&◌, is_some, option_to_list, Some, None, List, length, arith, eqb-true}
 use Rattle.std.specs.List.{flat_map, list_all}
-use Rattle.std.proofs.lemmas.Bool.{and_parts, leb-true, ltb-false, not-false}
+use Rattle.std.proofs.lemmas.Bool.{ltb-false, not-false}
 use Rattle.lis_graph.specs.Graph.{is_rising}
 use Rattle.lis_graph.proofs.Members.{Among}
-use Rattle.std.specs.Ordering.{nat_cmp}
 use Rattle.lis_blockmap.specs.Bitmap.{free_count}
 use Rattle.lis_catalog.specs.Catalog.{Filed, slot_of, rec_at}
 use Rattle.lis_dict.specs.Dict.{word_of}
 use Rattle.lis_fields.specs.Records.{FileRecord}
-use Rattle.lis_fields.specs.Layouts.{is_record, are_short, are_tags, are_blocks}
 use Rattle.lis_grammar.specs.Formula.{Formula}
 use Rattle.lis_words.specs.Words.{word_cmp, is_file_name}
-use Rattle.lis_model.specs.Ranges.{are_in_range}
 use Rattle.lis_model.specs.State.{State, File, is_assignable, file_limit, blocks_needed, blocks_taken}
 use Rattle.lis_laws.proofs.Members.{word_order, sorted_set_of}
 use Rattle.lis_laws.proofs.Counts.{all_among, rising_from_sorted}
@@ -28,6 +25,9 @@ use Rattle.lis_store.proofs.Admitted.{none_there}
 use Rattle.lis_store.proofs.Facts.{file_of_filed, blocks_counted, size_is_short}
 use Rattle.lis_store.proofs.InsteadGiven.{told_few}
 use Rattle.lis_store.proofs.Judged.{all_pass}
+use Rattle.lis_store.proofs.Limits.{limits_of_version_1}
+use Rattle.lis_fields.proofs.Parts.{few_tags}
+use Rattle.lis_kept.proofs.Dropped.{record_in_form}
 
 module _ (k : Stored) (sound : IsSound k) (slot : ℕ) (rec : FileRecord) (is_rec : rec_at k.parts.catalog slot ≡ Some rec) where
   abbrev p : Kept
@@ -48,12 +48,7 @@ module _ (k : Stored) (sound : IsSound k) (slot : ℕ) (rec : FileRecord) (is_re
 
   given_few : length given ≤ 16
   given_few =
-      let most = and_parts (is_record rec && list_all (λ n. is_some (word_of p.dict n)) rec.tags) (list_all (λ n. nat_lt n p.limits.blocks) rec.blocks) (sound.parts.records slot rec is_rec) in
-      let both = and_parts (is_record rec) (list_all (λ n. is_some (word_of p.dict n)) rec.tags) most.0 in
-      let form = and_parts (is_file_name rec.name && nat_le rec.size 65536 && are_tags rec.tags) (are_blocks rec.size rec.blocks) both.0 in
-      let front = and_parts (is_file_name rec.name && nat_le rec.size 65536) (are_tags rec.tags) form.0 in
-      let tags = and_parts (nat_le (length rec.tags) 16 && are_short rec.tags) (is_rising nat_cmp rec.tags) front.1 in
-      let few = leb-true (length rec.tags) 16 (and_parts (nat_le (length rec.tags) 16) (are_short rec.tags) tags.0).0 in
+      let few = few_tags rec.tags (record_in_form p.limits.version p.dict p.limits.blocks rec (sound.parts.records slot rec is_rec)).tags in
       omega (arith, few, told_few p.dict rec.tags)
 
   -- A state that is told says that they may be given.
@@ -75,7 +70,7 @@ module _ (k : Stored) (sound : IsSound k) (slot : ℕ) (rec : FileRecord) (is_re
         let short = words.1 in
         let room = short.1 in
         let blocks = room.1 in
-        let version : p.limits.version ≡ 1 = eqb-true p.limits.version 1 (and_parts (p.limits.version == 1) (are_in_range p.limits) sound.range).0 in
+        let version : p.limits.version ≡ 1 = limits_of_version_1 p.limits sound.range in
         let limit = ltb-false (file_limit p.limits.version) size row.0 in
         let small : size ≤ 65536 = omega (arith, limit, ap file_limit version) in
         let long = whole small in
@@ -112,6 +107,6 @@ module _ (k : Stored) (sound : IsSound k) (slot : ℕ) (rec : FileRecord) (is_re
           few = given_few;
           short = ltb-false 128 (length (described_by p file)) short.0;
           room = ltb-false p.limits.props (length (known_instead p slot file)) room.0;
-          small = omega (arith, sized, size_is_short p sound.parts filed there);
-          blocks = omega (arith, sized, blocks_counted p sound.parts filed there);
+          small = omega (arith, sized, size_is_short p sound.parts (limits_of_version_1 p.limits sound.range) filed there);
+          blocks = omega (arith, sized, blocks_counted p sound.parts (limits_of_version_1 p.limits sound.range) filed there);
         }

@@ -33,6 +33,7 @@ use Rattle.lis_store.proofs.FreeBlocks.{used_told, version_told}
 use Rattle.lis_store.proofs.InsteadMay.{given_assignable}
 use Rattle.lis_store.proofs.InsteadKnown.{described_are, known_replaced}
 use Rattle.lis_store.proofs.Judged.{same_first, judged_refused, judged_done}
+use Rattle.lis_store.proofs.Limits.{limits_of_version_1}
 
 -- ---- a file in the place of another
 module _ (k : Stored) (m : Meaning) (s : State) (sound : IsSound k) (fits : StoreFits k m s) (name : List ℕ) (slot : ℕ) (rec : FileRecord)
@@ -94,7 +95,7 @@ module _ (k : Stored) (m : Meaning) (s : State) (sound : IsSound k) (fits : Stor
 
       taken : length rec.blocks ≡ blocks_needed (length (file_of s.files name).bytes)
       taken =
-          blocks_counted p sound.parts f there
+          blocks_counted p sound.parts (limits_of_version_1 p.limits sound.range) f there
           ∙ ap blocks_needed (sym (ap (λ (x : File). length x.bytes) old_is ∙ size_of_filed k m s sound fits f there))
 
       sum : free_count p.taken + length rec.blocks ≡ free_blocks s + blocks_needed (length (file_of s.files name).bytes)

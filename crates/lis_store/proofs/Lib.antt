@@ -1,3 +1,4 @@
+pub mod Limits
 pub mod SlotOrder
 pub mod Points
 pub mod Marks

@@ -1,5 +1,6 @@
 -- What an image spells is one state.
 use Rattle.std.proofs.Common.{◌≡◌, refl, sym, ap, ap₂, ◌∙◌, subst, ℕ, suc, Bool, List, [], ◌∷◌, length, slice_get, Option, Some, IsTrue, arith}
+use Rattle.lis_ports.specs.Bytes.{part}
 use Rattle.lis_journal.specs.Record.{block, replayed}
 use Rattle.lis_slots.specs.Slots.{Slots}
 use Rattle.lis_fields.specs.Layouts.{prop_bytes, is_prop, axiom_bytes, is_axiom, file_bytes, is_file}
@@ -9,6 +10,7 @@ use Rattle.lis_model.specs.Image.{image_blocks}
 use Rattle.lis_model.specs.State.{State}
 use Rattle.lis_kept.specs.Areas.{property_slots, axiom_slots, file_slots}
 use Rattle.lis_store.specs.Stands.{Contents, AreSlots, spelled_state, Spells, Stands}
+use Rattle.lis_store.proofs.Limits.{limits_in_range}
 
 -- two lists of one length with the same value in each place
 same_lists : {X : Type 0} (xs ys : List X) → length xs ≡ length ys → ((k : ℕ) (x y : X) → slice_get xs k ≡ Some x → slice_get ys k ≡ Some y → x ≡ y) → xs ≡ ys
@@ -32,7 +34,7 @@ one_spelled : (limits : Limits) (a b : Contents) (at : ℕ → List ℕ) (s t : 
 one_spelled limits a b at s t spells_s spells_t =
     let properties = one_array prop_bytes is_prop (property_slots limits) at a.properties b.properties prop_once spells_s.properties spells_t.properties in
     let axioms = one_array axiom_bytes is_axiom (axiom_slots limits) at a.axioms b.axioms axiom_once spells_s.axioms spells_t.axioms in
-    let files = one_array file_bytes is_file (file_slots limits) at a.files b.files file_once spells_s.files spells_t.files in
+    let files = one_array file_bytes (is_file limits.version) (file_slots limits) at a.files b.files (file_once limits.version) spells_s.files spells_t.files in
     let first = ap (λ ps. spelled_state limits (record { properties = ps; axioms = a.axioms; files = a.files }) at) properties in
     let next = ap₂ (λ xs fs. spelled_state limits (record { properties = b.properties; axioms = xs; files = fs }) at) axioms files in
     let same : spelled_state limits a at ≡ spelled_state limits b at = first ∙ next in
@@ -44,7 +46,7 @@ one_replay a b e = cc
 pub one_state : (image : List ℕ) (s t : State) → Stands image s → Stands image t → s ≡ t
 unfolding Stands
 one_state image s t stands_s stands_t =
-    let limits = super_once s.limits t.limits stands_s.range stands_t.range (sym stands_s.super ∙ stands_t.super) in
+    let limits = super_once s.limits t.limits (part 0 4096 image) (limits_in_range s.limits stands_s.range) (limits_in_range t.limits stands_t.range) stands_s.super stands_t.super in
     let replay = one_replay stands_s.replay stands_t.replay (sym stands_s.replays ∙ (ap (λ (l : Limits). replayed (image_blocks l) image) limits ∙ stands_t.replays)) in
     let moved = subst (λ (r : List ℕ). Spells t.limits stands_t.contents (λ n. block n r) t) (sym replay) stands_t.spells in
     let there = subst (λ (l : Limits). Spells l stands_t.contents (λ n. block n stands_s.replay) t) (sym limits) moved in

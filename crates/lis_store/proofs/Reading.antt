@@ -16,6 +16,7 @@ use Rattle.lis_kept.specs.Telling.{bytes_told}
 use Rattle.lis_kept.proofs.Filing.{filed_at_slot}
 use Rattle.lis_store.specs.Stored.{Stored, IsSound, StoreFits}
 use Rattle.lis_store.proofs.Facts.{blocks_counted, block_below, file_in_slot, block_is_whole}
+use Rattle.lis_store.proofs.Limits.{limits_of_version_1}
 
 among_get : {X : Type 0} (xs : List X) (n : ℕ) (d : X) → n < length xs → Among xs (get_or xs n d)
 among_get [] n d lt = absurd (omega arith)
@@ -79,7 +80,7 @@ module _ (k : Stored) (slot n : ℕ) (rec : FileRecord) (ns : List ℕ) (has : H
   there = filed_at_slot k.parts.catalog has.sound.parts.catalog slot rec has.is_rec
 
   in_record : n < length rec.blocks
-  in_record = let counted = blocks_counted k.parts has.sound.parts (record { slot = slot; rec = rec }) there in let within = has.within in omega (arith, counted)
+  in_record = let counted = blocks_counted k.parts has.sound.parts (limits_of_version_1 k.parts.limits has.sound.range) (record { slot = slot; rec = rec }) there in let within = has.within in omega (arith, counted)
 
   number_is : (number : ℕ) → number ≡ get_or ns n 0 → number ≡ get_or rec.blocks n 0
   number_is number is = is ∙ ap (λ ms. get_or ms n 0) has.numbers

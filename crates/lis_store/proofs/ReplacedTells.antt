@@ -13,6 +13,7 @@ use Rattle.lis_catalog.specs.Catalog.{Filed, filed_cmp, slot_of, rec_at}
 use Rattle.lis_ext.specs.Ext.{has, set_of as numbers_at}
 use Rattle.lis_fields.specs.Records.{FileRecord}
 use Rattle.lis_words.specs.Words.{word_cmp, same_word}
+use Rattle.lis_fields.specs.Layouts.{SpellsSuper}
 use Rattle.lis_model.specs.declared.limits.Limits.{Limits}
 use Rattle.lis_model.specs.State.{State, File, file_cmp, up, own_words, description, known, is_assignable, file_limit, blocks_taken, used_blocks}
 use Rattle.lis_model.specs.Changes.{new_file, file_added, file_removed, file_replaced}
@@ -310,13 +311,13 @@ module _ (p q : Kept) (slot : ℕ) (name : List ℕ) (assigned : List (List ℕ)
         ap (λ v. blocks_taken v (length bytes)) version,
         ap (λ v. blocks_taken v (length (bytes_told p.limits at r.rec))) version,
         ap (blocks_taken 1) size,
-        blocks_counted p form.sound old old_filed,
+        blocks_counted p form.sound (ap (λ (x : Limits). x.version) limits_are ∙ version) old old_filed,
       );
     }
 
     tells_last : Tells l there t
     tells_last = record {
-      super = looks.super ∙ tells.super;
+      super = subst (λ (block : List ℕ). SpellsSuper s.limits block) (sym looks.super) tells.super;
       state = state_then;
       formed = forms.replaces_file s tells.formed (told old) file (file_of_filed p at s form.sound form.free tells old old_filed) fits;
       used = used_last p q slot name assigned bytes form r after;

@@ -1,7 +1,7 @@
 -- What each step needs where another file takes the place of one.
 use Rattle.std.proofs.Common.{◌≡◌, refl, sym, ap, ◌∙◌, subst, ℕ, ◌<◌, ◌≤◌, nat_lt, nat_le, not, ◌&&◌, true, List, [], length, Option, Some, None, is_some, IsSome, IsSomeAnd, arith, get_or, get_or-set_same}
 use Rattle.std.specs.List.{list_all}
-use Rattle.std.proofs.lemmas.Bool.{and_parts, and_from, and_right, lt-ltb, ltb-true, leb-true}
+use Rattle.std.proofs.lemmas.Bool.{and_parts, and_from, and_right, lt-ltb, ltb-true}
 use Rattle.std.specs.List.Sorted.{IsStrictlyIncreasing}
 use Rattle.lis_blockmap.specs.Bitmap.{free_count, is_taken}
 use Rattle.lis_content.specs.Content.{given, are_free, has_number}
@@ -10,9 +10,8 @@ use Rattle.lis_catalog.specs.Catalog.{slot_of, rec_at}
 use Rattle.lis_dict.specs.Dict.{word_of}
 use Rattle.lis_ext.specs.Ext.{has, set_of as numbers_at}
 use Rattle.lis_fields.specs.Records.{FileRecord}
-use Rattle.lis_fields.specs.Layouts.{are_tags, are_blocks, is_record}
+use Rattle.lis_fields.specs.Layouts.{are_tags, is_record}
 use Rattle.lis_fields.proofs.Parts.{record_from}
-use Rattle.lis_words.specs.Words.{is_file_name}
 use Rattle.lis_model.specs.State.{File, blocks_needed}
 use Rattle.lis_model.specs.Changes.{new_file}
 use Rattle.lis_kept.specs.Kept.{Kept}
@@ -29,6 +28,7 @@ use Rattle.lis_store.proofs.Given.{given_taken}
 use Rattle.lis_store.proofs.Left.{left, left_is, coming}
 use Rattle.lis_store.proofs.PutIn.{named_tags, named_rising, named_worded}
 use Rattle.lis_store.proofs.Vacated.{slot_below, slot_vacant, name_vacant, taken_others, blocks_vacated, may_forget}
+use Rattle.lis_kept.proofs.Dropped.{record_in_form}
 
 -- a file is in the slot
 pub may_some : (p : Kept) (slot : ℕ) (file : File) → IsSomeAnd (rec_at p.catalog slot) (λ (x : FileRecord). MayReplace p slot x file) → IsSome (rec_at p.catalog slot)
@@ -159,14 +159,13 @@ module _ (p q : Kept) (slot : ℕ) (name : List ℕ) (assigned : List (List ℕ)
       (ap not (given_taken p.taken rec.blocks n ∙ and_right (is_taken p.taken n) (not (has_number rec.blocks n)) (ap not (number_from_among rec.blocks n m)))))
 
   -- the record with the other name and words
-  pub record_sound : is_sound_record q.dict q.limits.blocks (record rec { name = name; tags = tags }) ≡ true
+  pub record_sound : is_sound_record q.limits.version q.dict q.limits.blocks (record rec { name = name; tags = tags }) ≡ true
   record_sound =
-      let most = and_parts (is_record rec && list_all (λ n. is_some (word_of p.dict n)) rec.tags) (list_all (λ n. nat_lt n p.limits.blocks) rec.blocks) (form.sound.records slot rec there) in
-      let formed = and_parts (is_record rec) (list_all (λ n. is_some (word_of p.dict n)) rec.tags) most.0 in
-      let both = and_parts (is_file_name rec.name && nat_le rec.size 65536 && are_tags rec.tags) (are_blocks rec.size rec.blocks) formed.0 in
-      let front = and_parts (is_file_name rec.name && nat_le rec.size 65536) (are_tags rec.tags) both.0 in
-      let size = (and_parts (is_file_name rec.name) (nat_le rec.size 65536) front.0).1 in
-      let now = record_from (record rec { name = name; tags = tags }) may_way.name (leb-true rec.size 65536 size) tags_formed both.1 in
-      and_from (is_record (record rec { name = name; tags = tags }) && list_all (λ n. is_some (word_of q.dict n)) tags) (list_all (λ n. nat_lt n q.limits.blocks) rec.blocks)
-      (and_from (is_record (record rec { name = name; tags = tags })) (list_all (λ n. is_some (word_of q.dict n)) tags) now tags_worded)
-      (ap (λ (x : Kept). list_all (λ n. nat_lt n x.limits.blocks) rec.blocks) end_is ∙ most.1)
+      let sound = form.sound.records slot rec there in
+      let was = record_in_form p.limits.version p.dict p.limits.blocks rec sound in
+      let below = (and_parts (is_record p.limits.version rec && list_all (λ n. is_some (word_of p.dict n)) rec.tags) (list_all (λ n. nat_lt n p.limits.blocks) rec.blocks) sound).1 in
+      let now = record_from p.limits.version (record rec { name = name; tags = tags }) may_way.name was.small tags_formed was.blocks in
+      and_from (is_record q.limits.version (record rec { name = name; tags = tags }) && list_all (λ n. is_some (word_of q.dict n)) tags) (list_all (λ n. nat_lt n q.limits.blocks) rec.blocks)
+      (and_from (is_record q.limits.version (record rec { name = name; tags = tags })) (list_all (λ n. is_some (word_of q.dict n)) tags)
+      (ap (λ (x : Kept). is_record x.limits.version (record rec { name = name; tags = tags })) end_is ∙ now) tags_worded)
+      (ap (λ (x : Kept). list_all (λ n. nat_lt n x.limits.blocks) rec.blocks) end_is ∙ below)

@@ -39,6 +39,7 @@ use Rattle.lis_store.proofs.Facts.{table_told, blocks_counted, size_is_short}
 use Rattle.lis_store.proofs.InsteadMay.{given_assignable}
 use Rattle.lis_store.proofs.InsteadTold.{old_given, large_told, room_told}
 use Rattle.lis_store.proofs.Judged.{same_first, judged_refused, judged_done, all_pass}
+use Rattle.lis_store.proofs.Limits.{limits_of_version_1}
 
 -- ---- the words that the file is given
 module _ (test : List ℕ → Bool) (given here next : List (List ℕ)) where
@@ -230,6 +231,6 @@ module _ (k : Stored) (sound : IsSound k) (slot : ℕ) (rec : FileRecord) (is_re
         few = ltb-false 16 (length file.assigned) few.0;
         short = ltb-false 128 (length (described_by p file)) short.0;
         room = ltb-false p.limits.props (length (known_instead p slot file)) room.0;
-        small = omega (arith, sized, size_is_short p sound.parts filed there);
-        blocks = omega (arith, sized, blocks_counted p sound.parts filed there);
+        small = omega (arith, sized, size_is_short p sound.parts (limits_of_version_1 p.limits sound.range) filed there);
+        blocks = omega (arith, sized, blocks_counted p sound.parts (limits_of_version_1 p.limits sound.range) filed there);
       }

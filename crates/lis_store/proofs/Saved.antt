@@ -7,6 +7,7 @@ use Rattle.lis_journal.specs.Journal.{Held, OpenRecords}
 use Rattle.lis_journal.specs.Images.{StandsForAllOrNone, Fits, FitsAt, KeepsPast, look}
 use Rattle.lis_journal.specs.Phases.{looked}
 use Rattle.lis_catalog.specs.Catalog.{Filed}
+use Rattle.lis_fields.specs.Layouts.{SpellsSuper}
 use Rattle.lis_model.specs.Image.{data_start, image_blocks, properties_start}
 use Rattle.lis_model.specs.State.{State, File, description}
 use Rattle.lis_model.specs.Step.{Situation, Outcome, changed}
@@ -97,7 +98,7 @@ module _ (p : Kept) (at there : ℕ → List ℕ) (same : (n : ℕ) → (n < pro
 
   pub tells_clean : (s : State) → Tells p at s → Tells (clean p) there s
   tells_clean s tells = record {
-    super = same 0 (inl (omega arith)) ∙ tells.super;
+    super = subst (λ (bytes : List ℕ). SpellsSuper s.limits bytes) (sym (same 0 (inl (omega arith)))) tells.super;
     state = state_there ∙ tells.state;
     formed = tells.formed;
     used = tells.used;

@@ -8,6 +8,7 @@ use Rattle.lis_store.specs.Stored.{Stored, IsSound}
 use Rattle.lis_store.specs.Seen.{seen_of}
 use Rattle.lis_store.proofs.Facts.{size_is_short, filed_named}
 use Rattle.lis_store.proofs.Here.{size_seen}
+use Rattle.lis_store.proofs.Limits.{limits_of_version_1}
 
 some_is : (o : Option Placed) (size : ℕ) → IsSomeAnd o (λ (f : Placed). size ≡ f.entry.size) → IsSome o
 some_is None size is = absurd is
@@ -36,7 +37,7 @@ module _ (k : Stored) (name : List ℕ) (slot : ℕ) (sound : IsSound k) (is : s
     pub size_is_small : size ≤ 65536
     size_is_small =
         subst (λ n. n ≤ 65536) (sym is_size)
-        (size_is_short k.parts sound.parts (record { slot = slot; rec = has_rec.0 }) (filed_named k.parts sound.parts name slot has_rec.0 is has_rec.1).0)
+        (size_is_short k.parts sound.parts (limits_of_version_1 k.parts.limits sound.range) (record { slot = slot; rec = has_rec.0 }) (filed_named k.parts sound.parts name slot has_rec.0 is has_rec.1).0)
 
     pub size_of_rec : IsSomeAnd (rec_at k.parts.catalog slot) (λ (rec : FileRecord). size ≡ rec.size)
     size_of_rec = subst (λ (o : Option FileRecord). IsSomeAnd o (λ (rec : FileRecord). size ≡ rec.size)) (sym has_rec.1) is_size

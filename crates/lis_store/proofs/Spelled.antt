@@ -23,16 +23,17 @@ use Rattle.lis_dict.proofs.Laws.{number_from_among, number_from_word, number_bel
 use Rattle.lis_catalog.specs.Catalog.{Filed, rec_at}
 use Rattle.lis_ext.specs.Ext.{has, set_of as numbers_at}
 use Rattle.lis_fields.specs.Records.{FileRecord}
-use Rattle.lis_fields.specs.Layouts.{prop_bytes, is_prop, axiom_bytes, is_axiom, file_bytes, is_file, is_record, are_tags, are_blocks, are_short, are_distinct as distinct}
+use Rattle.lis_fields.specs.Layouts.{prop_bytes, is_prop, axiom_bytes, is_axiom, file_bytes, is_file, is_record, are_short, are_distinct as distinct, slot_blocks}
+use Rattle.lis_fields.proofs.Parts.{record_tests, few_blocks}
 use Rattle.lis_fields.specs.declared.slots.PropSlot.{PropSlot}
 use Rattle.lis_fields.specs.declared.slots.PropSlot.TheVariants.{Free as FreeProp, Declared}
 use Rattle.lis_fields.specs.declared.slots.AxiomSlot.{AxiomSlot}
 use Rattle.lis_fields.specs.declared.slots.AxiomSlot.TheVariants.{Free as FreeAxiom, Pair}
 use Rattle.lis_fields.specs.declared.slots.FileSlot.{FileSlot}
 use Rattle.lis_fields.specs.declared.slots.FileSlot.TheVariants.{Free as FreeFile}
-use Rattle.lis_words.specs.Words.{word_cmp, has_word, is_file_name}
+use Rattle.lis_words.specs.Words.{word_cmp, has_word}
 use Rattle.lis_model.specs.Sets.{set_of}
-use Rattle.lis_model.specs.State.{State, File, pair_cmp, file_cmp, known, description, blocks_needed}
+use Rattle.lis_model.specs.State.{State, File, pair_cmp, file_cmp, known, description, file_limit}
 use Rattle.lis_laws.proofs.Counts.{all_among, all_from, all_weaker}
 use Rattle.lis_laws.proofs.Forms.{file_order}
 use Rattle.lis_laws.proofs.Known.{sorted_known}
@@ -76,8 +77,8 @@ contents_of k = record { properties = properties_told k; axioms = k.axioms; file
 
 -- what a sound record is
 pub record SoundParts (k : Kept) (rec : FileRecord) : Type 0 where
-  pub short : nat_le rec.size 65536 ≡ true
-  pub count : (length rec.blocks == blocks_needed rec.size) ≡ true
+  pub short : rec.size ≤ file_limit k.limits.version
+  pub count : length rec.blocks ≡ slot_blocks k.limits.version rec.size
   pub apart : distinct rec.blocks ≡ true
   pub named : list_all (λ n. is_some (word_of k.dict n)) rec.tags ≡ true
   pub below : list_all (λ n. nat_lt n k.limits.blocks) rec.blocks ≡ true
@@ -85,14 +86,13 @@ pub record SoundParts (k : Kept) (rec : FileRecord) : Type 0 where
 pub sound_parts : (k : Kept) → AreSound k → (f : Filed) → Among k.catalog.entries f → SoundParts k f.rec
 sound_parts k sound f m =
     let rec = f.rec in
-    let most = and_parts (is_record rec && list_all (λ n. is_some (word_of k.dict n)) rec.tags) (list_all (λ n. nat_lt n k.limits.blocks) rec.blocks) (sound.records f.slot rec (filed_rec k.catalog sound.catalog f m)) in
-    let both = and_parts (is_record rec) (list_all (λ n. is_some (word_of k.dict n)) rec.tags) most.0 in
-    let form = and_parts (is_file_name rec.name && nat_le rec.size 65536 && are_tags rec.tags) (are_blocks rec.size rec.blocks) both.0 in
-    let front = and_parts (is_file_name rec.name && nat_le rec.size 65536) (are_tags rec.tags) form.0 in
-    let ns = and_parts ((length rec.blocks == blocks_needed rec.size) && are_short rec.blocks) (distinct rec.blocks) form.1 in
+    let most = and_parts (is_record k.limits.version rec && list_all (λ n. is_some (word_of k.dict n)) rec.tags) (list_all (λ n. nat_lt n k.limits.blocks) rec.blocks) (sound.records f.slot rec (filed_rec k.catalog sound.catalog f m)) in
+    let both = and_parts (is_record k.limits.version rec) (list_all (λ n. is_some (word_of k.dict n)) rec.tags) most.0 in
+    let form = record_tests k.limits.version rec both.0 in
+    let ns = and_parts ((length rec.blocks == slot_blocks k.limits.version rec.size) && are_short rec.blocks) (distinct rec.blocks) form.blocks in
     record {
-      short = (and_parts (is_file_name rec.name) (nat_le rec.size 65536) front.0).1;
-      count = (and_parts (length rec.blocks == blocks_needed rec.size) (are_short rec.blocks) ns.0).0;
+      short = form.small;
+      count = few_blocks k.limits.version rec.size rec.blocks form.blocks;
       apart = ns.1;
       named = both.1;
       below = most.1;
@@ -336,12 +336,12 @@ module _ (k : Kept) (at : ℕ → List ℕ) (sound : AreSound k) (free : FreeSlo
         (written Axioms n (omega (arith, slice_get_within k.axioms n value is, sound.axiom_count)) ∙ ap axiom_bytes given, subst (λ x. IsTrue (is_axiom x)) given (axioms_formed k sound n));
   }
 
-  file_slots_are : AreSlots file_bytes is_file (file_slots k.limits) at (files_told k)
+  file_slots_are : AreSlots file_bytes (is_file k.limits.version) (file_slots k.limits) at (files_told k)
   file_slots_are = record {
     count = length-map-range_with_len (record_at k.catalog) 0 k.limits.files;
     each = λ n value is.
         let given = given_at (record_at k.catalog) k.limits.files n value is in
-        (written Files n given.0 ∙ ap file_bytes given.1, subst (λ x. IsTrue (is_file x)) given.1 (records_formed k sound n));
+        (written Files n given.0 ∙ ap file_bytes given.1, subst (λ x. IsTrue (is_file k.limits.version x)) given.1 (records_formed k sound n));
   }
 
   -- ---- names and pairs once

@@ -13,7 +13,7 @@ use Rattle.lis_journal.proofs.Fitting.{fits_stand, replayed-front}
 use Rattle.lis_slots.specs.Slots.{Slots, home, place}
 use Rattle.lis_content.specs.Content.{content}
 use Rattle.lis_fields.specs.Records.{FileRecord}
-use Rattle.lis_fields.specs.Layouts.{super_bytes, prop_bytes, is_prop, axiom_bytes, is_axiom, file_bytes, is_file}
+use Rattle.lis_fields.specs.Layouts.{SpellsSuper, prop_bytes, is_prop, axiom_bytes, is_axiom, file_bytes, is_file}
 use Rattle.lis_fields.specs.declared.slots.FileSlot.{FileSlot}
 use Rattle.lis_fields.specs.declared.slots.FileSlot.TheVariants.{Free as FreeFile, Used}
 use Rattle.lis_fields.specs.declared.slots.PropSlot.{PropSlot}
@@ -82,7 +82,7 @@ module _ (at there : ℕ → List ℕ) (same : (n : ℕ) → 578 ≤ n → at n 
   same_spelled limits contents s spells = record {
     properties = same_slots 578 at there same prop_bytes is_prop (property_slots limits) contents.properties (omega arith) spells.properties;
     axioms = same_slots 578 at there same axiom_bytes is_axiom (axiom_slots limits) contents.axioms (omega arith) spells.axioms;
-    files = same_slots 578 at there same file_bytes is_file (file_slots limits) contents.files (omega arith) spells.files;
+    files = same_slots 578 at there same file_bytes (is_file limits.version) (file_slots limits) contents.files (omega arith) spells.files;
     named_axioms = spells.named_axioms;
     free_axioms = spells.free_axioms;
     named = spells.named;
@@ -102,7 +102,7 @@ module _ (at there : ℕ → List ℕ) (same : (n : ℕ) → 578 ≤ n → at n 
   }
 
 -- ---- images stand
-pub kept_stands : (s : State) (contents : Contents) (at : ℕ → List ℕ) (image : List ℕ) → IsTrue (is_super s.limits) → at 0 ≡ super_bytes s.limits → Spells s.limits contents at s
+pub kept_stands : (s : State) (contents : Contents) (at : ℕ → List ℕ) (image : List ℕ) → IsTrue (is_super s.limits) → SpellsSuper s.limits (at 0) → Spells s.limits contents at s
     → KeptBy (image_blocks s.limits) at image → Stands image s
 unfolding KeptBy Stands
 kept_stands s contents at image range super spells keeps = by (replayed (image_blocks s.limits) image) refl keeps.1
@@ -111,7 +111,7 @@ kept_stands s contents at image range super spells keeps = by (replayed (image_b
     by None is none = absurd none
     by (Some r) is keep = record {
       range = range;
-      super = sym (replayed-front (image_blocks s.limits) image r (omega arith) keeps.0 is) ∙ (keep.same 0 (inl refl) ∙ super);
+      super = subst (λ (bytes : List ℕ). SpellsSuper s.limits bytes) (sym (keep.same 0 (inl refl)) ∙ replayed-front (image_blocks s.limits) image r (omega arith) keeps.0 is) super;
       long = keeps.0;
       replay = r;
       replays = is;

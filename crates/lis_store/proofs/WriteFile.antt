@@ -52,7 +52,7 @@ module _ (k : Stored) (sound : IsSound k) (place : List Formula) (name : List �
       → first_refusal (overwriting_checks k.parts slot rec (given_before k.parts rec name bytes) size) ≡ None → MayReplace k.parts slot rec (given_before k.parts rec name bytes)
   write_first bytes size most whole none =
       write_may k sound slot rec there place name bytes size same_name
-      (subst (λ n. is_file_name n ≡ true) same_name (record_named k.parts.dict k.parts.limits.blocks rec (sound.parts.records slot rec there))) whole
+      (subst (λ n. is_file_name n ≡ true) same_name (record_named k.parts.limits.version k.parts.dict k.parts.limits.blocks rec (sound.parts.records slot rec there))) whole
       (rest_of_write k.parts place name slot rec (given_before k.parts rec name bytes) size most here ∙ none)
 
   pub rename_first : (other bytes : List ℕ) → is_file_name other ≡ true → length bytes ≡ rec.size

@@ -9,6 +9,7 @@ ghost use Rattle.lis_catalog.specs.Catalog.{rec_at};
 ghost use Rattle.lis_fields.specs.Records.{FileRecord};
 ghost use Rattle.lis_model.specs.Image.{image_blocks};
 ghost use Rattle.lis_kept.specs.Telling.{bytes_told};
+ghost use Rattle.lis_store.specs.Stands.{is_super};
 
 use lis_content::Buffer;
 use lis_journal::Journal;
@@ -24,6 +25,7 @@ pub(crate) fn read_file<D: Disk>(
     slot: u16,
 ) -> Result<(), Failed>
     requires there { IsSome (rec_at parts.now.catalog slot) }
+    requires range { IsTrue (is_super parts.now.limits) }
     requires image { journal.now.blocks ≡ image_blocks parts.now.limits }
     requires unbroken { journal.now.is_broken ≡ false }
     requires long { 4096 * journal.now.blocks ≤ (D.meaning disk.old).len }
