@@ -95,9 +95,12 @@ pub failed_opened : (old new : Meaning) → Opened old new (Err DiskFault)
 failed_opened old new = unspotted old new DiskFault tt tt (λ spot fault. cc)
 
 -- ---- the super block, as it was read
+pub limits_of_super : (limits : Limits) → limits.version ≡ 1 → IsTrue (are_in_range limits) → IsTrue (is_super limits)
+limits_of_super limits one range = and_from (limits.version == 1) (are_in_range limits) (eq-eqb limits.version 1 one) range
+
 pub super_read : (image read : List ℕ) (limits : Limits) → read ≡ part 0 4096 image → limits.version ≡ 1 → IsTrue (are_in_range limits) × SpellsSuper limits read → HasSuper limits image
 super_read image read limits is one told = record {
-  range = and_from (limits.version == 1) (are_in_range limits) (eq-eqb limits.version 1 one) told.0;
+  range = limits_of_super limits one told.0;
   spelled = subst (λ bytes. SpellsSuper limits bytes) is told.1;
 }
 
