@@ -12,7 +12,7 @@ pub returns-then-limits-ne1-clause-ended : goal.returns-then-limits-ne1-clause-e
 returns-then-limits-ne1-clause-ended g c = λ honest.
     let old = g.D.Disk.meaning c.args.disk.now in
     no_super_opened old (g.D.Disk.meaning c.read_at.new.self) (omega (arith, c.len-len.ensures, c.if-len.false))
-    (other_read old.bytes c.read_at.new.buf c.read_super.result c.in-Some.limits c.in-Some.was (λ one. absurd (omega (arith, one, c.if-limits-ne1.true))) (c.in_ok-read_at.ensures.read honest) c.read_super.ensures.same)
+    (other_read old.bytes c.read_at.new.buf c.read_super.result c.in-Some.limits c.in-Some.is (λ one. absurd (omega (arith, one, c.if-limits-ne1.true))) (c.in_ok-read_at.ensures.read honest) c.read_super.ensures.same)
     (c.read_at.ensures.same honest)
 
 pub returns-then-len-need-clause-ended : goal.returns-then-len-need-clause-ended
