@@ -19,6 +19,12 @@ returns-in-Err-Damaged-clause-judged g c = λ honest.
     let ended = rw c.in-Err-Damaged.field-0-is at (c.in-Err-Damaged.ensures.ended honest) in
     rw c.in-Err-Damaged.field-0-is (ended.0, ended.1, c.in-Err-Damaged.ensures.spot c.in-Err-Damaged.found (ap Err c.in-Err-Damaged.field-0-is) honest)
 
+pub returns-in-Err-NoMemory-clause-grows : goal.returns-in-Err-NoMemory-clause-grows
+returns-in-Err-NoMemory-clause-grows g c = λ state entry.
+    let ended = rw c.in-Err-NoMemory.field-0-is at (c.in-Err-NoMemory.ensures.ended entry.honest) in
+    grow_barred state (grow_items c.args.n) _ (c.in-Err-NoMemory.ensures.same_state state entry.honest entry.stands)
+    (c.in-Err-NoMemory.ensures.run.shown, ended.2 state entry.stands)
+
 pub returns-in-Err-NoMemory-clause-past : goal.returns-in-Err-NoMemory-clause-past
 returns-in-Err-NoMemory-clause-past g c = λ state entry settled.
     c.in-Err-NoMemory.ensures.past state.limits entry.honest (has_super (g.T.Disk.meaning c.args.station.now).bytes state entry.stands) (λ e. absurd (cc))

@@ -18,6 +18,12 @@ returns-in-Err-Damaged-clause-judged g c = λ honest.
     let ended = rw c.in-Err-Damaged.field-0-is at (c.in-Err-Damaged.ensures.ended honest) in
     rw c.in-Err-Damaged.field-0-is (ended.0, ended.1, c.in-Err-Damaged.ensures.spot c.in-Err-Damaged.spot (ap Err c.in-Err-Damaged.field-0-is) honest)
 
+pub returns-in-Err-NoMemory-clause-runs : goal.returns-in-Err-NoMemory-clause-runs
+returns-in-Err-NoMemory-clause-runs g c = λ state bytes entry.
+    let ended = rw c.in-Err-NoMemory.field-0-is at (c.in-Err-NoMemory.ensures.ended entry.honest) in
+    run_none state (script bytes 1099511627776) _ (c.in-Err-NoMemory.ensures.same_state state entry.honest entry.stands)
+    (c.in-Err-NoMemory.ensures.run.shown, entry.told, ended.2 state entry.stands)
+
 pub returns-in-Err-NoMemory-clause-past : goal.returns-in-Err-NoMemory-clause-past
 returns-in-Err-NoMemory-clause-past g c = λ state bytes entry settled.
     c.in-Err-NoMemory.ensures.past state.limits entry.honest (has_super (g.T.Disk.meaning c.args.station.now).bytes state entry.stands) (λ e. absurd (cc))
