@@ -31,9 +31,8 @@ fn mark_bitmap(marks: &mut Flags, limits: &Limits)
 }
 
 impl Parts {
-    /// Puts bytes into free blocks, which it takes, and answers the numbers that a slot has of them. In version 1 they are staged. In
-    /// version 2 they are placed before the commit, which the old blocks of no file allow otherwise, and many have an index block.
-    /// After a fault of the disk the journal is broken.
+    /// Puts bytes into free blocks, which it takes, and answers the numbers that a slot has of them. In version 1 they are staged; in
+    /// version 2 they are placed, with an index block where they are many. After a fault of the disk the journal is broken.
     pub fn put_content<D: Disk>(
         &mut self,
         journal: &mut Journal,
