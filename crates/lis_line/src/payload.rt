@@ -14,7 +14,7 @@ use std::alloc::{AllocError, Global};
 use std::marker::Model;
 
 /// The most bytes of a payload that are kept.
-const ROOM: u32 = 65_536;
+const ROOM: u32 = 1_048_576;
 
 /// The payload behind a line: how many bytes it has, and the bytes themselves, where so many are kept.
 #[derive(Drop)]

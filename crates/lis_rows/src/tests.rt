@@ -25,6 +25,16 @@ use tables::{
 /// The words of most sessions.
 static WORDS: [&str; 4] = ["try", "64", "64", "8"];
 
+/// The words of a session in each version, and the pieces in which its input comes.
+static PIECES: [(&[&str], usize); 6] = [
+    (&["try", "64", "64", "8"], 1),
+    (&["try", "64", "64", "8"], 2),
+    (&["try", "64", "64", "8"], 3),
+    (&["try", "64", "64", "8"], 7),
+    (&["try", "64", "64", "8"], 4_096),
+    (&["try", "64", "64", "8", "v2"], 4_096),
+];
+
 /// How the outside behaves: the bytes that one call of the source gives, the place at which it fails, the bytes that one call
 /// shows, and the number of the call that fails to show, 0 for none.
 #[derive(Clone, Copy)]
@@ -127,8 +137,12 @@ fn run(alloc: Global, words: &[&str], row: &str, outside: &Outside) -> Result<Se
 #[test]
 fn sessions_show_the_same_in_any_pieces(rt: HostRuntime) -> Result<(), Fail> {
     for (row, wanted) in &SESSIONS {
-        for step in [1, 2, 3, 7, 4_096] {
-            let seen = run(rt.alloc(), &WORDS, row, &Outside { step, ..SOUND })?;
+        for (words, step) in &PIECES {
+            let outside = Outside {
+                step: *step,
+                ..SOUND
+            };
+            let seen = run(rt.alloc(), words, row, &outside)?;
             assert_eq!(rt; seen.shown.as_str(), *wanted, "{row}");
             assert_eq!(rt; seen.status, Status::Done, "{row}");
             assert_eq!(rt; seen.taken, row.len(), "{row}");
@@ -177,21 +191,15 @@ fn blocks_are_given_back(rt: HostRuntime) -> Result<(), Fail> {
 
 #[test]
 fn files_are_as_large_as_there_are_blocks(rt: HostRuntime) -> Result<(), Fail> {
-    for (words, first, second, wanted) in &LARGE_FILES {
+    for (words, files, behind, wanted) in &LARGE_FILES {
         let mut row = String::new(rt.alloc());
-        push_file(
-            &mut row,
-            format!(in rt.alloc(); "add a {first};")?.as_str(),
-            *first,
-        )?;
-        push_file(
-            &mut row,
-            format!(in rt.alloc(); "add b {second};")?.as_str(),
-            *second,
-        )?;
-        row.push_str("ls;")?;
+        for (name, size) in *files {
+            let line = format!(in rt.alloc(); "add {name} {size};")?;
+            push_file(&mut row, line.as_str(), *size)?;
+        }
+        row.push_str(behind)?;
         let seen = run(rt.alloc(), words, row.as_str(), &SOUND)?;
-        assert_eq!(rt; seen.shown.as_str(), *wanted, "{first} and {second}");
+        assert_eq!(rt; seen.shown.as_str(), *wanted, "{words:?}");
     }
     Ok(())
 }

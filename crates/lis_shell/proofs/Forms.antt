@@ -8,7 +8,7 @@ use Rattle.lis_model.specs.declared.limits.Limits.{Limits}
 use Rattle.lis_model.specs.Ranges.{is_files_limit, is_props_limit, is_blocks_limit, is_version, are_in_range}
 use Rattle.lis_shell.specs.declared.words.Task.{Task}
 use Rattle.lis_shell.specs.declared.words.Task.TheVariants.{Try, Make, Run, Grow}
-use Rattle.lis_shell.specs.Words.{limits_of, grow_number_of, task_of}
+use Rattle.lis_shell.specs.Words.{limits_of, grow_number_of, task_of_five, task_of}
 
 -- as many words as no form has
 pub no_form : (words : List (List ℕ)) → (length words ≡ 2 → ⊥) → (length words ≡ 3 → ⊥) → (length words ≡ 4 → ⊥) → (length words ≡ 5 → ⊥) → task_of words ≡ None
@@ -34,29 +34,29 @@ module _ {W : Type 0} (bytes : W → List ℕ) where
       ap (λ t. cond t (Some Run) None) (ap (λ w. same_word (bytes w) (codes "run")) (sym is_word) ∙ is)
   two_words (a ∷ b ∷ c ∷ words) word is_run two is_word is = absurd (omega arith)
 
-  pub five_words : (words : List W) (word files props blocks : W) (found : Option Limits) → length words ≡ 5 → word ≡ slice_index_or words 0 word
-      → files ≡ slice_index_or words 2 files → props ≡ slice_index_or words 3 props → blocks ≡ slice_index_or words 4 blocks
-      → same_word (bytes word) (codes "make") ≡ true → limits_of (bytes files) (bytes props) (bytes blocks) ≡ found
-      → task_of (map bytes words) ≡ option_map Make found
-  five_words [] word files props blocks found five is_word is_files is_props is_blocks is limits = absurd (omega arith)
-  five_words (a ∷ []) word files props blocks found five is_word is_files is_props is_blocks is limits = absurd (omega arith)
-  five_words (a ∷ b ∷ []) word files props blocks found five is_word is_files is_props is_blocks is limits = absurd (omega arith)
-  five_words (a ∷ b ∷ c ∷ []) word files props blocks found five is_word is_files is_props is_blocks is limits = absurd (omega arith)
-  five_words (a ∷ b ∷ c ∷ d ∷ []) word files props blocks found five is_word is_files is_props is_blocks is limits = absurd (omega arith)
-  five_words (a ∷ b ∷ c ∷ d ∷ e ∷ []) word files props blocks found five is_word is_files is_props is_blocks is limits =
-      let same : limits_of (bytes c) (bytes d) (bytes e) ≡ found =
-      ap (λ x. limits_of (bytes x) (bytes d) (bytes e)) (sym is_files) ∙ (ap (λ x. limits_of (bytes files) (bytes x) (bytes e)) (sym is_props)
-      ∙ (ap (λ x. limits_of (bytes files) (bytes props) (bytes x)) (sym is_blocks) ∙ limits)) in
-      ap (λ t. cond t (option_map Make (limits_of (bytes c) (bytes d) (bytes e))) None) (ap (λ w. same_word (bytes w) (codes "make")) (sym is_word) ∙ is)
-      ∙ ap (option_map Make) same
-  five_words (a ∷ b ∷ c ∷ d ∷ e ∷ f ∷ words) word files props blocks found five is_word is_files is_props is_blocks is limits = absurd (omega arith)
+  pub five_words : (words : List W) (word second third fourth last : W) → length words ≡ 5 → word ≡ slice_index_or words 0 word
+      → second ≡ slice_index_or words 1 second → third ≡ slice_index_or words 2 third → fourth ≡ slice_index_or words 3 fourth
+      → last ≡ slice_index_or words 4 last
+      → task_of (map bytes words) ≡ task_of_five (bytes word) (bytes second) (bytes third) (bytes fourth) (bytes last)
+  five_words [] word second third fourth last five is_word is_second is_third is_fourth is_last = absurd (omega arith)
+  five_words (a ∷ []) word second third fourth last five is_word is_second is_third is_fourth is_last = absurd (omega arith)
+  five_words (a ∷ b ∷ []) word second third fourth last five is_word is_second is_third is_fourth is_last = absurd (omega arith)
+  five_words (a ∷ b ∷ c ∷ []) word second third fourth last five is_word is_second is_third is_fourth is_last = absurd (omega arith)
+  five_words (a ∷ b ∷ c ∷ d ∷ []) word second third fourth last five is_word is_second is_third is_fourth is_last = absurd (omega arith)
+  five_words (a ∷ b ∷ c ∷ d ∷ e ∷ []) word second third fourth last five is_word is_second is_third is_fourth is_last =
+      ap (λ x. task_of_five (bytes x) (bytes b) (bytes c) (bytes d) (bytes e)) (sym is_word)
+      ∙ (ap (λ x. task_of_five (bytes word) (bytes x) (bytes c) (bytes d) (bytes e)) (sym is_second)
+      ∙ (ap (λ x. task_of_five (bytes word) (bytes second) (bytes x) (bytes d) (bytes e)) (sym is_third)
+      ∙ (ap (λ x. task_of_five (bytes word) (bytes second) (bytes third) (bytes x) (bytes e)) (sym is_fourth)
+      ∙ ap (λ x. task_of_five (bytes word) (bytes second) (bytes third) (bytes fourth) (bytes x)) (sym is_last))))
+  five_words (a ∷ b ∷ c ∷ d ∷ e ∷ f ∷ words) word second third fourth last five is_word is_second is_third is_fourth is_last = absurd (omega arith)
 
 -- ---- limits are in range
 held : (t : Bool) (all limits : Limits) → cond t (Some all) None ≡ Some limits → (t ≡ true) × (all ≡ limits)
 held true all limits e = (refl, (cc))
 held false all limits e = absurd (cc)
 
-limits_in_range : (files props blocks : List ℕ) (limits : Limits) → limits_of files props blocks ≡ Some limits → IsTrue (are_in_range limits)
+limits_in_range : (files props blocks : List ℕ) (limits : Limits) → limits_of 1 files props blocks ≡ Some limits → IsTrue (are_in_range limits)
 limits_in_range files props blocks limits e =
     let all : Limits = record { files = count_of files; props = count_of props; blocks = count_of blocks; version = 1 } in
     let of_files : Bool = is_count files && is_files_limit (count_of files) in
@@ -73,21 +73,22 @@ limits_in_range files props blocks limits e =
     both : {a b c : Bool} → a ≡ true → b ≡ true → c ≡ true → IsTrue (a && b && c)
     both e f g = cc
 
-limits_version : (files props blocks : List ℕ) (limits : Limits) → limits_of files props blocks ≡ Some limits → limits.version ≡ 1
+limits_version : (files props blocks : List ℕ) (limits : Limits) → limits_of 1 files props blocks ≡ Some limits → limits.version ≡ 1
 limits_version files props blocks limits e =
     ap (λ (l : Limits). l.version)
     (sym (held (is_count files && is_files_limit (count_of files) && (is_count props && is_props_limit (count_of props)) && (is_count blocks && is_blocks_limit (count_of blocks)))
     (record { files = count_of files; props = count_of props; blocks = count_of blocks; version = 1 }) limits e).1)
 
-made_by : (t : Bool) (found : Option Limits) (limits : Limits) → cond t (option_map Make found) None ≡ Some (Make limits) → found ≡ Some limits
-made_by true (Some x) limits e = cc
-made_by true None limits e = absurd (cc)
-made_by false found limits e = absurd (cc)
-
 not_made : (t : Bool) (found : Option Limits) (limits : Limits) → cond t (option_map Try found) None ≡ Some (Make limits) → ⊥
 not_made true (Some x) limits e = cc
 not_made true None limits e = cc
 not_made false found limits e = cc
+
+made_by : (t u : Bool) (found tried : Option Limits) (limits : Limits)
+    → cond t (option_map Make found) (cond u (option_map Try tried) None) ≡ Some (Make limits) → found ≡ Some limits
+made_by true u (Some x) tried limits e = cc
+made_by true u None tried limits e = absurd (cc)
+made_by false u found tried limits e = absurd (not_made u tried limits e)
 
 not_run : (t : Bool) (limits : Limits) → cond t (Some Run) None ≡ Some (Make limits) → ⊥
 not_run true limits e = cc
@@ -98,20 +99,25 @@ not_grown true (Some x) limits e = cc
 not_grown true None limits e = cc
 not_grown false found limits e = cc
 
--- limits that three words tell
+-- limits of version 1 that three words tell
 record AreSaid (limits : Limits) : Type 0 where
   files : List ℕ
   props : List ℕ
   blocks : List ℕ
-  are : limits_of files props blocks ≡ Some limits
+  are : limits_of 1 files props blocks ≡ Some limits
 
 made_limits : (words : List (List ℕ)) (limits : Limits) → task_of words ≡ Some (Make limits) → AreSaid limits
 made_limits [] limits e = absurd (cc)
 made_limits (a ∷ []) limits e = absurd (cc)
 made_limits (a ∷ b ∷ []) limits e = absurd (not_run (same_word a (codes "run")) limits e)
 made_limits (a ∷ b ∷ c ∷ []) limits e = absurd (not_grown (same_word a (codes "grow")) (grow_number_of c) limits e)
-made_limits (a ∷ b ∷ c ∷ d ∷ []) limits e = absurd (not_made (same_word a (codes "try")) (limits_of b c d) limits e)
-made_limits (a ∷ b ∷ c ∷ d ∷ f ∷ []) limits e = record { files = c; props = d; blocks = f; are = made_by (same_word a (codes "make")) (limits_of c d f) limits e }
+made_limits (a ∷ b ∷ c ∷ d ∷ []) limits e = absurd (not_made (same_word a (codes "try")) (limits_of 1 b c d) limits e)
+made_limits (a ∷ b ∷ c ∷ d ∷ f ∷ []) limits e = record {
+  files = c;
+  props = d;
+  blocks = f;
+  are = made_by (same_word a (codes "make")) (same_word a (codes "try") && same_word f (codes "v2")) (limits_of 1 c d f) (limits_of 2 b c d) limits e;
+}
 made_limits (a ∷ b ∷ c ∷ d ∷ f ∷ g ∷ words) limits e = absurd (cc)
 
 pub made_in_range : (words : List (List ℕ)) (limits : Limits) → task_of words ≡ Some (Make limits) → IsTrue (are_in_range limits)

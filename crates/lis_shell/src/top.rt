@@ -213,8 +213,8 @@ fn grow_image<T: Station>(alloc: Global, station: &mut T, n: u32) -> Status
 
 /// Does what the words after the program's name ask for.
 ///
-/// `try FILES PROPS BLOCKS` carries out the commands of the input on a state that begins empty, and shows the replies. It makes
-/// no call of the disk. `make IMAGE FILES PROPS BLOCKS` makes an image of the empty state; it reads no input and shows nothing.
+/// `try FILES PROPS BLOCKS` carries out the commands of the input on a state that begins empty, and shows the replies. With `v2` behind
+/// it the state is of version 2, and else of version 1. It makes no call of the disk. `make IMAGE FILES PROPS BLOCKS` makes an image of the empty state; it reads no input and shows nothing.
 /// `run IMAGE` opens the image, carries out the commands of the input on it and shows the replies. `grow IMAGE N` opens the image and
 /// carries out the large session that is made of the number, below 2^31; it reads no input, and shows a summary in place of the replies.
 /// IMAGE is not looked at here: the station is the image. Any other words are `Usage`, which is judged before anything is read or taken.

@@ -3,7 +3,7 @@
 ghost use Rattle.std.specs.Prelude.{◌≡◌, map};
 ghost use Rattle.std.specs.String.{string_bytes};
 ghost use Rattle.lis_words.specs.Words.{same_word};
-ghost use Rattle.lis_shell.specs.Words.{limits_of, grow_number_of, task_of, length_for};
+ghost use Rattle.lis_shell.specs.Words.{limits_of, grow_number_of, task_of_five, task_of, length_for};
 
 use lis_model::limits::{Limits, image_blocks, is_blocks_limit, is_files_limit, is_props_limit};
 use lis_words::read_count;
@@ -17,7 +17,7 @@ const GROW_END: u64 = 1 << 31;
 /// What the words of the command line ask for.
 #[derive(Clone, Copy, Debug, PartialEq, Eq)]
 pub enum Task {
-    /// `try FILES PROPS BLOCKS`: a session over a state that begins empty.
+    /// `try FILES PROPS BLOCKS`, with `v2` behind it or not: a session over a state that begins empty, of version 2 or 1.
     Try(Limits),
     /// `make IMAGE FILES PROPS BLOCKS`: an empty image.
     Make(Limits),
@@ -33,8 +33,8 @@ fn is_word(word: &String, name: &[u8]) -> bool
     word.as_bytes() == name
 }
 
-fn limits_of(files: &[u8], props: &[u8], blocks: &[u8]) -> Option<Limits>
-    ensures { result ≡ limits_of files.now props.now blocks.now }
+fn limits_of(version: u32, files: &[u8], props: &[u8], blocks: &[u8]) -> Option<Limits>
+    ensures { result ≡ limits_of version files.now props.now blocks.now }
 {
     let files = read_count(files)?;
     let props = read_count(props)?;
@@ -52,7 +52,7 @@ fn limits_of(files: &[u8], props: &[u8], blocks: &[u8]) -> Option<Limits>
         files: files as u32,
         props: props as u32,
         blocks: blocks as u32,
-        version: 1,
+        version,
     })
 }
 
@@ -64,6 +64,29 @@ fn grow_number_of(digits: &[u8]) -> Option<u32>
         return None;
     }
     Some(number as u32)
+}
+
+fn task_of_five(
+    word: &String,
+    second: &String,
+    third: &String,
+    fourth: &String,
+    last: &String,
+) -> Option<Task>
+    ensures { result ≡ task_of_five (string_bytes word.now) (string_bytes second.now) (string_bytes third.now) (string_bytes fourth.now) (string_bytes last.now) }
+{
+    if is_word(word, b"make") {
+        let limits = limits_of(1, third.as_bytes(), fourth.as_bytes(), last.as_bytes())?;
+        return Some(Task::Make(limits));
+    }
+    if !is_word(word, b"try") {
+        return None;
+    }
+    if !is_word(last, b"v2") {
+        return None;
+    }
+    let limits = limits_of(2, second.as_bytes(), third.as_bytes(), fourth.as_bytes())?;
+    Some(Task::Try(limits))
 }
 
 /// What the words after the program's name ask for. None comes exactly where they are in none of the four forms, or a number is out
@@ -89,16 +112,10 @@ pub fn task_of(words: &[String]) -> Option<Task>
             if !is_word(word, b"try") {
                 return None;
             }
-            let limits = limits_of(files.as_bytes(), props.as_bytes(), blocks.as_bytes())?;
+            let limits = limits_of(1, files.as_bytes(), props.as_bytes(), blocks.as_bytes())?;
             Some(Task::Try(limits))
         }
-        [word, _, files, props, blocks] => {
-            if !is_word(word, b"make") {
-                return None;
-            }
-            let limits = limits_of(files.as_bytes(), props.as_bytes(), blocks.as_bytes())?;
-            Some(Task::Make(limits))
-        }
+        [word, second, third, fourth, last] => task_of_five(word, second, third, fourth, last),
         _ => None,
     }
 }

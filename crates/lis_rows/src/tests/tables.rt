@@ -211,31 +211,43 @@ pub static WORDED_SESSIONS: [([&str; 4], &str, &str); 2] = [
     ),
 ];
 
-/// The words, how many bytes the first and the second file are to have, and what is shown of both and of a listing.
-pub static LARGE_FILES: [([&str; 4], usize, usize, &str); 4] = [
+/// The words, files and how many bytes each is to have, what stands behind them, and what is shown.
+pub static LARGE_FILES: [(&[&str], &[(&str, usize)], &str, &str); 5] = [
     (
-        ["try", "64", "64", "16"],
-        65_536,
-        65_537,
+        &["try", "64", "64", "16"],
+        &[("a", 65_536), ("b", 65_537)],
+        "ls;",
         "ok;no 20 file too large;f a;ok;",
     ),
     (
-        ["try", "64", "64", "16"],
-        32_768,
-        32_768,
+        &["try", "64", "64", "16"],
+        &[("a", 32_768), ("b", 32_768)],
+        "ls;",
         "ok;ok;f a;f b;ok;",
     ),
     (
-        ["try", "64", "64", "16"],
-        32_769,
-        32_768,
+        &["try", "64", "64", "16"],
+        &[("a", 32_769), ("b", 32_768)],
+        "ls;",
         "ok;no 24 no space;f a;ok;",
     ),
     (
-        ["try", "64", "64", "1"],
-        1,
-        0,
+        &["try", "64", "64", "1"],
+        &[("a", 1), ("b", 0)],
+        "ls;",
         "ok;ok;d size:empty;d size:small;ok;",
+    ),
+    // In version 2 larger files take one block more, and `write` can't use the old ones.
+    (
+        &["try", "64", "64", "300", "v2"],
+        &[
+            ("big", 1_048_576),
+            ("b2", 1_048_577),
+            ("c", 176_128),
+            ("c", 172_032),
+        ],
+        "stat;write c 1;x;",
+        "ok;no 20 file too large;no 24 no space;ok;s files 2;s known 2;s axioms 0;s free 0;ok;no 24 no space;",
     ),
 ];
 
@@ -247,7 +259,7 @@ pub static LONG_LINES: [(usize, &str, &str); 4] = [
     (1_023, "^;", "no 01 bad line;"),
 ];
 
-pub static WRONG_WORDS: [&[&str]; 30] = [
+pub static WRONG_WORDS: [&[&str]; 34] = [
     &[],
     &["try"],
     &["try", "64", "64"],
@@ -278,13 +290,18 @@ pub static WRONG_WORDS: [&[&str]; 30] = [
     &["make", "x", "64", "65", "8"],
     &["make", "x", "64", "64", "8", "9"],
     &["try", "x", "64", "64", "8"],
+    &["try", "64", "64", "8", "V2"],
+    &["try", "64", "64", "8", "v1"],
+    &["try", "v2", "64", "64", "8"],
+    &["try", "64", "64", "8", "v2", "v2"],
 ];
 
-pub static RIGHT_WORDS: [&[&str]; 4] = [
+pub static RIGHT_WORDS: [&[&str]; 5] = [
     &["try", "64", "64", "1"],
     &["try", "128", "192", "32767"],
     &["try", "4096", "8192", "32768"],
     &["try", "0064", "064", "000000000008"],
+    &["try", "64", "64", "8", "v2"],
 ];
 
 /// The number of the failing call, what is shown at one byte a call, and how the session ends.
