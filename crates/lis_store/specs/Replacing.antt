@@ -31,5 +31,4 @@ pub record MayReplace (k : Kept) (slot : ℕ) (rec : FileRecord) (file : File) :
   pub few : length file.assigned ≤ 16
   pub short : length (described_by k file) ≤ 128
   pub room : length (known_instead k slot file) ≤ k.limits.props
-  pub small : length file.bytes ≤ 65536
-  pub blocks : blocks_needed (length file.bytes) ≤ free_count k.taken + length rec.blocks
+  pub small : length file.bytes ≤ file_limit k.limits.version

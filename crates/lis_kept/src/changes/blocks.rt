@@ -1,14 +1,15 @@
 //! Blocks that contents take, and give back.
 
-ghost use Rattle.std.specs.Prelude.{◌≡◌, ℕ, ◌*◌, ◌≤◌, false, [], List, length, slice_set, IsTrue, OnOk, OnErr, MatchResult};
+ghost use Rattle.std.specs.Prelude.{◌≡◌, ℕ, ◌*◌, ◌≤◌, false, [], List, Some, length, slice_set, IsSome, IsTrue, OnOk, OnErr, MatchResult};
 ghost use Rattle.lis_ports.specs.Runs.{IsDiskRun, Leaves};
 ghost use Rattle.lis_ports.specs.Calls.{HasCause, IsUnchanged};
 ghost use Rattle.lis_journal.specs.Images.{Fits};
 ghost use Rattle.lis_blockmap.specs.Bitmap.{free_count};
+ghost use Rattle.lis_catalog.specs.Catalog.{rec_at};
+ghost use Rattle.lis_fields.specs.Records.{FileRecord};
 ghost use Rattle.lis_model.specs.Image.{bitmap_start, data_start, image_blocks};
 ghost use Rattle.lis_model.specs.Ranges.{are_in_range};
 ghost use Rattle.lis_model.specs.State.{blocks_taken, file_limit};
-ghost use Rattle.lis_kept.specs.Sound.{is_sound_record};
 ghost use Rattle.lis_kept.specs.Changes.{Gives, Puts, PutTorn};
 
 use crate::parts::Parts;
@@ -16,7 +17,6 @@ use crate::places::{bitmap_start, data_start};
 use arrayvec::ArrayVec;
 use lis_bits::Flags;
 use lis_content::{PutFault, drop_large, place_file, put};
-use lis_fields::FileRec;
 use lis_journal::Journal;
 use lis_model::limits::Limits;
 use lis_ports::{Disk, Failed};
@@ -66,18 +66,18 @@ impl Parts {
         }
     }
 
-    /// Gives the blocks of a file back. Those that its index block numbers are read from the disk; where that fails, none is given back.
+    /// Gives the blocks of the file in a slot back. Those that its index block numbers are read from the disk; where that fails, none is given back.
     pub fn give_blocks<D: Disk>(
         &mut self,
         journal: &Journal,
         disk: &mut D,
-        rec: &FileRec,
+        slot: u16,
     ) -> Result<(), Failed>
-        requires sound { IsTrue (is_sound_record self.old.limits.version self.old.dict self.old.limits.blocks rec.now) }
+        requires there { IsSome (rec_at self.old.catalog slot) }
         requires image { journal.now.blocks ≡ image_blocks self.old.limits }
         requires unbroken { journal.now.is_broken ≡ false }
         requires long { 4096 * journal.now.blocks ≤ (D.meaning disk.old).len }
-        ensures gives { OnOk result (Gives rec.now self.old self.new journal.now (D.meaning disk.old)) }
+        ensures gives { OnOk result ((rec : FileRecord) → rec_at self.old.catalog slot ≡ Some rec → Gives rec self.old self.new journal.now (D.meaning disk.old)) }
         ensures stays { OnErr result (self.new ≡ self.old) }
         ensures run { IsDiskRun (D.meaning disk.old) (D.meaning disk.new) }
         ensures cause { HasCause (D.meaning disk.old).disk_faults (D.meaning disk.new).disk_faults result }
@@ -88,6 +88,9 @@ impl Parts {
             → Fits journal.now (D.meaning disk.new) kept }
     {
         let base = data_start(&self.limits);
+        let Some(rec) = self.catalog.rec(slot) else {
+            unreachable!()
+        };
         drop_large(
             &mut self.map,
             journal,
