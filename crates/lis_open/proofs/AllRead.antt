@@ -78,13 +78,13 @@ module _ (limits : Limits) (at : ℕ → List ℕ) (words : Words) (axioms : Axi
   abbrev slots : List ℕ
   slots = range_with_len 0 limits.files
 
-  files_told : AreSlots file_bytes is_file (file_slots limits) at contents.files
+  files_told : AreSlots file_bytes (is_file limits.version) (file_slots limits) at contents.files
   files_told = record {
     count = length-map-range_with_len (record_at files.catalog) 0 limits.files;
     each = λ n value is.
         let given = given_at (record_at files.catalog) limits.files n value is in
         let there = file_is limits words axioms files limits.files read.words_are read.axioms_are read.files_are at read.properties read.pairs read.records.spelled n given.0 given.0 in
-        (there.bytes ∙ ap file_bytes given.1, subst (λ x. IsTrue (is_file x)) given.1 there.range);
+        (there.bytes ∙ ap file_bytes given.1, subst (λ x. IsTrue (is_file limits.version x)) given.1 there.range);
   }
 
   pub contents_are : AreContents limits at (contents_of (kept_in limits words axioms files marks))

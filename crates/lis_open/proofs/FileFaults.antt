@@ -90,15 +90,15 @@ module _ (limits : Limits) (words : Words) (axioms : Axioms) (are : AreFirstWord
 
 -- ---- files by their slots
 module _ (limits : Limits) (words : Words) (axioms : Axioms) (files : Files) (end : ℕ) (are : AreFirstWords limits words limits.props) (links : AreFirstAxioms limits words axioms (axiom_slots limits).count) (first : AreFirstFiles limits words axioms files end) where
-  record_of : (n : ℕ) (rec : FileRecord) → rec_at files.catalog n ≡ Some rec → is_record rec ≡ true
+  record_of : (n : ℕ) (rec : FileRecord) → rec_at files.catalog n ≡ Some rec → is_record limits.version rec ≡ true
   record_of n rec is =
       let named = list_all (λ k. is_some (word_of words.dict k)) rec.tags in
-      (and_parts (is_record rec) named (and_parts (is_record rec && named) (list_all (λ k. nat_lt k limits.blocks) rec.blocks) (first.records n rec is)).0).0
+      (and_parts (is_record limits.version rec) named (and_parts (is_record limits.version rec && named) (list_all (λ k. nat_lt k limits.blocks) rec.blocks) (first.records n rec is)).0).0
 
   block_below : (n : ℕ) (rec : FileRecord) (data_block : ℕ) → rec_at files.catalog n ≡ Some rec → has_number rec.blocks data_block ≡ true → data_block < limits.blocks
   block_below n rec data_block is has =
       let named = list_all (λ k. is_some (word_of words.dict k)) rec.tags in
-      let all = (and_parts (is_record rec && named) (list_all (λ k. nat_lt k limits.blocks) rec.blocks) (first.records n rec is)).1 in
+      let all = (and_parts (is_record limits.version rec && named) (list_all (λ k. nat_lt k limits.blocks) rec.blocks) (first.records n rec is)).1 in
       ltb-true data_block limits.blocks (all_among (λ k. nat_lt k limits.blocks) rec.blocks data_block all (among_from_number rec.blocks data_block has))
 
   -- a slot that has a file is below the end
@@ -134,7 +134,7 @@ module _ (limits : Limits) (words : Words) (axioms : Axioms) (files : Files) (en
     pub file_is : (n : ℕ) → n < end → n < limits.files → IsFile limits at n (record_at files.catalog n)
     file_is n lt below = record { below = below; bytes = spelled n lt; range = by (rec_at files.catalog n) refl }
       where
-        by : (o : Option FileRecord) → rec_at files.catalog n ≡ o → is_file (file_by o) ≡ true
+        by : (o : Option FileRecord) → rec_at files.catalog n ≡ o → is_file limits.version (file_by o) ≡ true
         by None is = refl
         by (Some rec) is = record_of n rec is
 
@@ -344,14 +344,14 @@ module _ (limits : Limits) (words : Words) (axioms : Axioms) (files : Files) (en
             (and_from (may_file words files rec) (may_describe words axioms.taxonomy rec (in_file rec)) may described)))
 
     file_fault : (found : Option FileSlot) (bytes : List ℕ) → end < limits.files → may_take_file words axioms.taxonomy files found bytes ≡ false → AreItsBytes limits at words files found bytes
-        → IsReadAs file_bytes is_file (file_slots limits) at end found → (file : FileSlot) → IsFile limits at end file → HasFileFault limits at properties items end file
+        → IsReadAs file_bytes (is_file limits.version) (file_slots limits) at end found → (file : FileSlot) → IsFile limits at end file → HasFileFault limits at properties items end file
     file_fault None bytes below may its read file is = absurd (read file is)
     file_fault (Some FreeFile) bytes below may its read file is = absurd cc
     file_fault (Some (Used rec)) bytes below may its read file is =
         subst (λ (f : FileSlot). HasFileFault limits at properties items end f) (one_file limits at end (Used rec) file read is) (record_fault rec bytes below may its)
 
     pub file_fails : (numbers : FilesAreNumbered limits at words axioms files) (found : Option FileSlot) (bytes : List ℕ) → end < limits.files → may_take_file words axioms.taxonomy files found bytes ≡ false
-        → AreItsBytes limits at words files found bytes → IsReadAs file_bytes is_file (file_slots limits) at end found → IsFirst limits at 4 (FileSpot end)
+        → AreItsBytes limits at words files found bytes → IsReadAs file_bytes (is_file limits.version) (file_slots limits) at end found → IsFirst limits at 4 (FileSpot end)
     file_fails numbers found bytes below may its read = record {
       fails = record {
         below = below;

@@ -22,13 +22,13 @@ use Rattle.lis_catalog.proofs.Laws.{rec_at-with_filed}
 use Rattle.lis_ext.specs.Ext.{set_of}
 use Rattle.lis_fields.specs.Records.{FileRecord}
 use Rattle.lis_fields.specs.Layouts as layouts
-use Rattle.lis_fields.specs.Layouts.{file_bytes, is_file, is_record, are_short}
+use Rattle.lis_fields.specs.Layouts.{file_bytes, is_file, is_record, are_short, slot_blocks}
 use Rattle.lis_fields.specs.declared.slots.FileSlot.{FileSlot}
 use Rattle.lis_fields.specs.declared.slots.FileSlot.TheVariants.{Free as FreeFile, Used}
-use Rattle.lis_fields.proofs.Parts.{record_tests}
+use Rattle.lis_fields.proofs.Parts.{record_tests, few_blocks}
 use Rattle.lis_laws.proofs.Counts.{all_among, all_weaker}
 use Rattle.lis_model.specs.declared.limits.Limits.{Limits}
-use Rattle.lis_model.specs.State.{blocks_needed}
+use Rattle.lis_model.specs.State.{file_limit, blocks_needed}
 use Rattle.lis_model.specs.Image.{data_start, image_blocks}
 use Rattle.lis_kept.specs.Telling.{bytes_told}
 use Rattle.lis_kept.specs.Kept.{file_by, record_at}
@@ -45,13 +45,24 @@ use Rattle.lis_kept.proofs.Filing.{among_from_number, same_distinct}
 use Rattle.lis_open.proofs.Numbers.{is_taken-marked}
 
 -- ---- one record
-pub record_blocks : (rec : FileRecord) → IsTrue (is_record rec) → are_distinct rec.blocks ≡ true
-record_blocks rec is =
-    let blocks = (record_tests rec is).blocks in
-    sym (same_distinct rec.blocks) ∙ (and_parts ((length rec.blocks == blocks_needed rec.size) && are_short rec.blocks) (layouts.are_distinct rec.blocks) blocks).1
+pub record_blocks : (version : ℕ) (rec : FileRecord) → IsTrue (is_record version rec) → are_distinct rec.blocks ≡ true
+record_blocks version rec is =
+    let blocks = (record_tests version rec is).blocks in
+    sym (same_distinct rec.blocks) ∙ (and_parts ((length rec.blocks == slot_blocks version rec.size) && are_short rec.blocks) (layouts.are_distinct rec.blocks) blocks).1
 
-pub kept_blocks : {seen : FileRecord} (rec : FileRecord) (blocks : List ℕ) → IsTrue (is_record rec) → seen ≡ rec → blocks ≡ seen.blocks → are_distinct blocks ≡ true
-kept_blocks rec blocks form view same = ap are_distinct (same ∙ ap (λ (r : FileRecord). r.blocks) view) ∙ record_blocks rec form
+pub kept_blocks : {seen : FileRecord} (rec : FileRecord) (blocks : List ℕ) → are_distinct rec.blocks ≡ true → seen ≡ rec → blocks ≡ seen.blocks → are_distinct blocks ≡ true
+kept_blocks rec blocks apart view same = ap are_distinct (same ∙ ap (λ (r : FileRecord). r.blocks) view) ∙ apart
+
+-- a record of version 1 has few bytes, and its slot has the number of each block
+pub size_within : {seen : FileRecord} (version : ℕ) (rec : FileRecord) → version ≡ 1 → IsTrue (is_record version rec) → seen ≡ rec → seen.size ≤ 65536
+size_within version rec one is view = let small = (record_tests version rec is).small in omega (arith, small, ap file_limit one, ap (λ (r : FileRecord). r.size) view)
+
+pub blocks_counted : {seen : FileRecord} (version : ℕ) (rec : FileRecord) (blocks : List ℕ) → version ≡ 1 → IsTrue (is_record version rec) → seen ≡ rec → blocks ≡ seen.blocks → length blocks ≡ blocks_needed seen.size
+blocks_counted {seen} version rec blocks one is view same =
+    ap (length {A = ℕ}) same
+    ∙ (ap (λ (r : FileRecord). length r.blocks) view
+    ∙ (few_blocks version rec.size rec.blocks (record_tests version rec is).blocks
+    ∙ (ap (λ v. slot_blocks v rec.size) one ∙ sym (ap (λ (r : FileRecord). blocks_needed r.size) view))))
 
 -- ---- what may be filed
 -- each of three tests that hold together
@@ -134,7 +145,7 @@ absent None new = refl
 absent (Some n) new = absurd cc
 
 module _ (limits : Limits) (words : Words) (axioms : Axioms) (files next : Files) (number : ℕ) (rec : FileRecord) (bytes : List ℕ) (first : AreFirstFiles limits words axioms files number) (lt : number < limits.files)
-    (form : is_record rec ≡ true) (may : may_take_record words axioms.taxonomy files rec (found_words words rec.name bytes) ≡ true) (taken : TakesRecord words axioms.taxonomy number rec bytes files next) where
+    (form : is_record limits.version rec ≡ true) (may : may_take_record words axioms.taxonomy files rec (found_words words rec.name bytes) ≡ true) (taken : TakesRecord words axioms.taxonomy number rec bytes files next) where
   -- the words that are found in the file
   abbrev in_file : List (List ℕ)
   in_file = found_words words rec.name bytes
@@ -186,11 +197,11 @@ module _ (limits : Limits) (words : Words) (axioms : Axioms) (files next : Files
   below : are_below limits.blocks rec.blocks ≡ true
   below = ap (λ m. are_below m rec.blocks) (sym first.blocks) ∙ below_from_free files.map rec.blocks tests.free
 
-  sound : is_sound_record words.dict limits.blocks rec ≡ true
+  sound : is_sound_record limits.version words.dict limits.blocks rec ≡ true
   sound =
       let named = list_all (λ n. is_some (word_of words.dict n)) rec.tags in
-      and_from (is_record rec && named) (list_all (λ n. nat_lt n limits.blocks) rec.blocks)
-      (and_from (is_record rec) named form (all_weaker (is_assignable_number words) (λ n. is_some (word_of words.dict n)) rec.tags (λ n m is. assignable_some words (word_of words.dict n) is) tests.given)) below
+      and_from (is_record limits.version rec && named) (list_all (λ n. nat_lt n limits.blocks) rec.blocks)
+      (and_from (is_record limits.version rec) named form (all_weaker (is_assignable_number words) (λ n. is_some (word_of words.dict n)) rec.tags (λ n m is. assignable_some words (word_of words.dict n) is) tests.given)) below
 
   taken_is : (n : ℕ) → is_taken next.map n ≡ (has_number rec.blocks n || is_taken files.map n)
   taken_is n = ap (λ (m : List Bool). is_taken m n) takes.map ∙ is_taken-marked files.map rec.blocks n (below_from_free files.map rec.blocks tests.free)
@@ -241,7 +252,7 @@ module _ (limits : Limits) (words : Words) (axioms : Axioms) (files next : Files
   files_more = record {
     slots = ap (λ (c : Catalog). c.files) takes.catalog ∙ first.slots;
     catalog = takes.kept;
-    records = either (λ slot r. IsTrue (is_sound_record words.dict limits.blocks r)) sound first.records;
+    records = either (λ slot r. IsTrue (is_sound_record limits.version words.dict limits.blocks r)) sound first.records;
     given = either (λ slot r. IsTrue (list_all (is_assignable_number words) r.tags)) tests.given first.given;
     rest = λ n le. found_old n (λ e. omega arith) ∙ first.rest n (omega arith);
     blocks = ap (length {A = Bool}) takes.map ∙ (length-marked files.map rec.blocks ∙ first.blocks);
@@ -274,7 +285,7 @@ module _ (limits : Limits) (words : Words) (axioms : Axioms) (files next : Files
 
 -- ---- one slot more
 module _ (limits : Limits) (words : Words) (axioms : Axioms) (files : Files) (number : ℕ) (first : AreFirstFiles limits words axioms files number) (lt : number < limits.files) where
-  pub files_on : (found : Option FileSlot) (bytes : List ℕ) (next : Files) → IfSome found (λ file. IsTrue (is_file file)) → may_take_file words axioms.taxonomy files found bytes ≡ true
+  pub files_on : (found : Option FileSlot) (bytes : List ℕ) (next : Files) → IfSome found (λ file. IsTrue (is_file limits.version file)) → may_take_file words axioms.taxonomy files found bytes ≡ true
       → TakesFile words axioms.taxonomy number found bytes files next → AreFirstFiles limits words axioms next (number + 1)
   files_on None bytes next form may takes = absurd takes
   files_on (Some FreeFile) bytes next form may takes = subst (λ (f : Files). AreFirstFiles limits words axioms f (number + 1)) (sym takes) (record {
@@ -296,7 +307,7 @@ module _ (limits : Limits) (words : Words) (axioms : Axioms) (files : Files) (nu
   files_on (Some (Used rec)) bytes next form may takes = files_more limits words axioms files next number rec bytes first lt form may takes
 
   -- the numbers are those of the descriptions, where the bytes were those of the files
-  pub numbered_on : (at : ℕ → List ℕ) → FilesAreNumbered limits at words axioms files → (found : Option FileSlot) (bytes : List ℕ) (next : Files) → IfSome found (λ file. IsTrue (is_file file))
+  pub numbered_on : (at : ℕ → List ℕ) → FilesAreNumbered limits at words axioms files → (found : Option FileSlot) (bytes : List ℕ) (next : Files) → IfSome found (λ file. IsTrue (is_file limits.version file))
       → may_take_file words axioms.taxonomy files found bytes ≡ true → TakesFile words axioms.taxonomy number found bytes files next → AreItsBytes limits at words files found bytes → FilesAreNumbered limits at words axioms next
   numbered_on at old None bytes next form may takes are = absurd takes
   numbered_on at old (Some FreeFile) bytes next form may takes are = subst (λ (f : Files). FilesAreNumbered limits at words axioms f) (sym takes) old
@@ -305,8 +316,8 @@ module _ (limits : Limits) (words : Words) (axioms : Axioms) (files : Files) (nu
       let told = are (and_parts (may_file words files rec) (may_describe words axioms.taxonomy rec in_file) may).0 in
       numbered_more limits words axioms files next number rec bytes first lt form may takes at old told
 
-  pub spelled_on : (at : ℕ → List ℕ) → FilesAreSpelled limits at files number → (found : Option FileSlot) (bytes : List ℕ) (next : Files) → IfSome found (λ file. IsTrue (is_file file))
-      → may_take_file words axioms.taxonomy files found bytes ≡ true → TakesFile words axioms.taxonomy number found bytes files next → IsReadAs file_bytes is_file (file_slots limits) at number found → FilesAreSpelled limits at next (number + 1)
+  pub spelled_on : (at : ℕ → List ℕ) → FilesAreSpelled limits at files number → (found : Option FileSlot) (bytes : List ℕ) (next : Files) → IfSome found (λ file. IsTrue (is_file limits.version file))
+      → may_take_file words axioms.taxonomy files found bytes ≡ true → TakesFile words axioms.taxonomy number found bytes files next → IsReadAs file_bytes (is_file limits.version) (file_slots limits) at number found → FilesAreSpelled limits at next (number + 1)
   spelled_on at spelled None bytes next form may takes read = absurd takes
   spelled_on at spelled (Some FreeFile) bytes next form may takes read = subst (λ (f : Files). FilesAreSpelled limits at f (number + 1)) (sym takes) (λ n less. by n less (cases_eq n number))
     where

@@ -1,5 +1,7 @@
 -- How opening an image ends: the super block, the journal, and the parts behind it.
-use Rattle.std.proofs.Common.{◌≡◌, ◌⊎◌, ◌∙◌, refl, sym, ap, subst, inl, inr, ℕ, ◌*◌, ◌<◌, ◌≤◌, false, List, length, Option, Some, None, Result, Ok, Err, IsTrue, IsSomeAnd, arith, Bool, true, cond}
+use Rattle.std.proofs.Common.{◌≡◌, ◌⊎◌, ◌∙◌, refl, sym, ap, subst, inl, inr, ℕ, ◌*◌, ◌<◌, ◌≤◌, ◌==◌, false, List, length, Option, Some, None, Result, Ok, Err, IsTrue, IsSomeAnd, arith, Bool, true, cond, eq-eqb}
+use Rattle.std.proofs.lemmas.Bool.{and_from}
+use Rattle.std.proofs.lemmas.Option.{same_Some}
 use Rattle.lis_ports.specs.Meaning.{Meaning}
 use Rattle.lis_ports.specs.Bytes.{part}
 use Rattle.lis_ports.specs.Calls.{IsUnchanged}
@@ -12,16 +14,18 @@ use Rattle.lis_journal.specs.Recovery.{HasMountCause, StandsForReplayed, InRecov
 use Rattle.lis_journal.specs.declared.journal.JournalFault.{JournalFault}
 use Rattle.lis_journal.specs.declared.journal.JournalFault.TheVariants.{DiskFault as JournalDisk, BadRecord as JournalRecord, NoMemory as JournalMemory}
 use Rattle.lis_journal.proofs.Fitting.{replayed-front}
-use Rattle.lis_fields.specs.Layouts.{super_bytes}
+use Rattle.lis_fields.specs.Layouts.{SpellsSuper}
 use Rattle.lis_model.specs.declared.limits.Limits.{Limits}
 use Rattle.lis_model.specs.declared.spot.Spot.{Spot}
 use Rattle.lis_model.specs.declared.spot.Spot.TheVariants.{Super, BadRecord, Property, Axiom, File, Word, Bitmap, Row}
+use Rattle.lis_model.specs.Ranges.{are_in_range}
 use Rattle.lis_model.specs.Image.{image_blocks}
 use Rattle.lis_model.specs.State.{State}
 use Rattle.lis_store.specs.Stands.{is_super, Stands}
 use Rattle.lis_kept.specs.Areas.{IsWritten}
 use Rattle.lis_kept.specs.Telling.{Tells}
 use Rattle.lis_store.specs.Stored.{Stored, IsSound}
+use Rattle.lis_store.proofs.Limits.{limits_in_range, limits_of_version_1}
 use Rattle.lis_store.proofs.Spelled.{contents_of, tells_spells}
 use Rattle.lis_store.proofs.Standing.{kept_stands}
 use Rattle.lis_open.specs.declared.mounting.OpenFault.{OpenFault}
@@ -91,14 +95,32 @@ pub failed_opened : (old new : Meaning) → Opened old new (Err DiskFault)
 failed_opened old new = unspotted old new DiskFault tt tt (λ spot fault. cc)
 
 -- ---- the super block, as it was read
-pub super_read : (image read : List ℕ) (limits : Limits) → read ≡ part 0 4096 image → IsTrue (is_super limits) × (read ≡ super_bytes limits) → HasSuper limits image
-super_read image read limits is spelled = record { range = spelled.0; spelled = sym is ∙ spelled.1 }
+pub limits_of_super : (limits : Limits) → limits.version ≡ 1 → IsTrue (are_in_range limits) → IsTrue (is_super limits)
+limits_of_super limits one range = and_from (limits.version == 1) (are_in_range limits) (eq-eqb limits.version 1 one) range
 
-pub none_read : (image read : List ℕ) (found : Option Limits) → found ≡ None → read ≡ part 0 4096 image → ((told : Limits) → IsTrue (is_super told) → read ≡ super_bytes told → found ≡ Some told)
-    → (limits : Limits) → HasSuper limits image → ⊥
+pub super_read : (image read : List ℕ) (limits : Limits) → read ≡ part 0 4096 image → limits.version ≡ 1 → IsTrue (are_in_range limits) × SpellsSuper limits read → HasSuper limits image
+super_read image read limits is one told = record {
+  range = limits_of_super limits one told.0;
+  spelled = subst (λ bytes. SpellsSuper limits bytes) is told.1;
+}
+
+-- what was found, if anything was, are the limits of the super block
+found_limits : (image read : List ℕ) (found : Option Limits) (limits : Limits) → read ≡ part 0 4096 image
+    → ((told : Limits) → IsTrue (are_in_range told) → SpellsSuper told read → found ≡ Some told) → HasSuper limits image → found ≡ Some limits
+found_limits image read found limits is same super = same limits (limits_in_range limits super.range) (subst (λ bytes. SpellsSuper limits bytes) (sym is) super.spelled)
+
+pub none_read : (image read : List ℕ) (found : Option Limits) → found ≡ None → read ≡ part 0 4096 image
+    → ((told : Limits) → IsTrue (are_in_range told) → SpellsSuper told read → found ≡ Some told) → (limits : Limits) → HasSuper limits image → ⊥
 none_read image read found none is same limits super =
-    let some = same limits super.range (is ∙ super.spelled) in
+    let some = found_limits image read found limits is same super in
     cc
+
+-- and so none have, where those that were found are of another version
+pub other_read : (image read : List ℕ) (found : Option Limits) (other : Limits) → found ≡ Some other → (other.version ≡ 1 → ⊥) → read ≡ part 0 4096 image
+    → ((told : Limits) → IsTrue (are_in_range told) → SpellsSuper told read → found ≡ Some told) → (limits : Limits) → HasSuper limits image → ⊥
+other_read image read found other was differs is same limits super =
+    let one : other ≡ limits = same_Some other limits (sym was ∙ found_limits image read found limits is same super) in
+    differs (ap (λ (l : Limits). l.version) one ∙ limits_of_version_1 limits super.range)
 
 -- ---- no super block
 no_super_needs : (old : Meaning) → 4096 ≤ old.len → ((limits : Limits) → HasSuper limits old.bytes → ⊥) → IsLongEnough old
@@ -265,8 +287,9 @@ module _ (old : Meaning) (limits : Limits) (super : HasSuper limits old.bytes) (
     abbrev kept : ℕ → List ℕ
     kept n = block n r
 
-    super_kept : block 0 r ≡ super_bytes limits
-    super_kept = replayed-front (image_blocks limits) old.bytes r (omega arith) (omega (arith, whole, long)) replays ∙ super.spelled
+    super_kept : SpellsSuper limits (block 0 r)
+    super_kept =
+        subst (λ bytes. SpellsSuper limits bytes) (sym (replayed-front (image_blocks limits) old.bytes r (omega arith) (omega (arith, whole, long)) replays)) super.spelled
 
     fails_replayed : (spot : Spot) → Fails limits kept spot → FailsReplayed old.bytes spot
     fails_replayed spot fails = record { limits = limits; super = super; replay = r; replays = replays; fails = fails }
@@ -318,7 +341,7 @@ module _ (old : Meaning) (limits : Limits) (super : HasSuper limits old.bytes) (
           let limits_are : limits ≡ s.limits = sym same ∙ ap (λ (t : State). t.limits) tells.state in
           record {
             range = subst (λ (l : Limits). IsTrue (is_super l)) limits_are super.range;
-            super = super.spelled ∙ ap super_bytes limits_are;
+            super = subst (λ (l : Limits). SpellsSuper l (part 0 4096 old.bytes)) limits_are super.spelled;
             long = omega (arith, whole, long, ap image_blocks limits_are);
             replay = r;
             replays = ap (λ (l : Limits). replayed (image_blocks l) old.bytes) (sym limits_are) ∙ replays;
@@ -363,7 +386,7 @@ module _ (old : Meaning) (limits : Limits) (super : HasSuper limits old.bytes) (
   -- where it was mounted, and what it fits then was read
   pub store_opened : length old.bytes ≡ old.len → (journal : Held) (mid new : Meaning) (result : Result Stored OpenFault) → IsSomeAnd (replayed (image_blocks limits) old.bytes) (λ r. Fits journal mid (λ n. block n r))
       → IsSettled mid (recovered (image_blocks limits) old.bytes) → OnlyReads mid new → ((store : Stored) → result ≡ Ok store → IsOpened journal store)
-      → ((kept : ℕ → List ℕ) → Fits journal mid kept → kept 0 ≡ super_bytes limits → StoreEnded limits kept result) → Opened old new result
+      → ((kept : ℕ → List ℕ) → Fits journal mid kept → SpellsSuper limits (kept 0) → StoreEnded limits kept result) → Opened old new result
   store_opened whole journal mid new result mounted settled reads opened ended =
       let found = some_replay (replayed (image_blocks limits) old.bytes) (λ r. Fits journal mid (λ n. block n r)) mounted in
       let kept : ℕ → List ℕ = λ n. block n found.0 in

@@ -1,14 +1,7 @@
--- Limits of a super block, ranges that are torn, and results that are Ok.
-use Rattle.std.proofs.Common.{◌≡◌, ℕ, ◌+◌, ◌-◌, ◌≤◌, ◌==◌, IsTrue, List, take, drop, sym, ◌∙◌, ap, arith, OnOk, Result, Ok, Err}
-use Rattle.std.proofs.lemmas.Bool.{and_parts}
+-- Ranges that are torn, and results that are Ok.
+use Rattle.std.proofs.Common.{◌≡◌, ℕ, ◌+◌, ◌-◌, ◌≤◌, List, take, drop, sym, ◌∙◌, ap, arith, OnOk, Result, Ok, Err}
 use Rattle.std.proofs.lemmas.List.{take-take, drop-drop}
 use Rattle.lis_ports.specs.Bytes.{Torn}
-use Rattle.lis_store.specs.Stands.{is_super}
-use Rattle.lis_model.specs.declared.limits.Limits.{Limits}
-use Rattle.lis_model.specs.Ranges.{are_in_range}
-
-pub limits_in_range : (limits : Limits) → IsTrue (is_super limits) → IsTrue (are_in_range limits)
-limits_in_range limits range = (and_parts (limits.version == 1) (are_in_range limits) range).1
 
 -- a range within another
 pub torn_wider : (at n low most : ℕ) (from image : List ℕ) → low ≤ at → at + n ≤ low + most → Torn at n from image → Torn low most from image

@@ -26,4 +26,4 @@ pub one_property : (limits : Limits) (at : ℕ → List ℕ) (n : ℕ) (a b : Pr
 one_property limits at n a b is_a is_b = prop_once a b is_a.range is_b.range (sym is_a.bytes ∙ is_b.bytes)
 
 pub one_file : (limits : Limits) (at : ℕ → List ℕ) (n : ℕ) (a b : FileSlot) → IsFile limits at n a → IsFile limits at n b → a ≡ b
-one_file limits at n a b is_a is_b = file_once a b is_a.range is_b.range (sym is_a.bytes ∙ is_b.bytes)
+one_file limits at n a b is_a is_b = file_once limits.version a b is_a.range is_b.range (sym is_a.bytes ∙ is_b.bytes)

@@ -1,8 +1,8 @@
 -- What was read and checked tells a state.
-use Rattle.std.proofs.Common.{◌≡◌, ◌∙◌, refl, sym, ap, ap₂, subst, ℕ, zero, suc, ◌+◌, ◌-◌, ◌<◌, ◌≤◌, ◌==◌, nat_lt, nat_le, ◌&&◌, Bool, true, List, [], ◌∷◌, length, map, sum, Option, Some, None, is_some, slice_get, IsTrue, arith, length-append}
+use Rattle.std.proofs.Common.{◌≡◌, ◌∙◌, refl, sym, ap, ap₂, subst, ℕ, zero, suc, ◌+◌, ◌-◌, ◌<◌, ◌≤◌, nat_lt, nat_le, ◌&&◌, Bool, true, List, [], ◌∷◌, length, map, sum, Option, Some, None, is_some, slice_get, IsTrue, arith, length-append}
 use Rattle.std.specs.Option.{option_to_list}
 use Rattle.std.specs.List.{list_all, flat_map, Contains}
-use Rattle.std.proofs.lemmas.Bool.{and_parts, and_from, eqb-true, ltb-true, le-leb}
+use Rattle.std.proofs.lemmas.Bool.{and_from, ltb-true, le-leb}
 use Rattle.std.proofs.lemmas.List.{length-map}
 use Rattle.std.proofs.lemmas.List.Folds.{list_all-map}
 use Rattle.std.proofs.lemmas.Option.{same_Some}
@@ -14,11 +14,11 @@ use Rattle.lis_content.specs.Content.{content, are_distinct}
 use Rattle.lis_dict.specs.Dict.{Dict, words as words_of, word_of}
 use Rattle.lis_catalog.specs.Catalog.{Filed, rec_at}
 use Rattle.lis_ext.specs.Ext.{set_of as numbers_at}
-use Rattle.lis_fields.specs.Layouts.{super_bytes, is_prop, is_record}
+use Rattle.lis_fields.specs.Layouts.{SpellsSuper, is_prop}
 use Rattle.lis_store.specs.Stands.{is_super}
 use Rattle.lis_fields.specs.declared.slots.AxiomSlot.{AxiomSlot}
 use Rattle.lis_fields.specs.declared.slots.AxiomSlot.TheVariants.{Free as FreeAxiom, Pair}
-use Rattle.lis_fields.proofs.Parts.{IsFileRecord, record_tests, few_tags, few_blocks}
+use Rattle.lis_fields.proofs.Parts.{IsFileRecord, few_tags}
 use Rattle.lis_words.specs.Words.{word_cmp, has_word, is_plain_word, is_file_name}
 use Rattle.lis_laws.proofs.Members.{word_order, pair_order, sorted_set_of, has_word_from_among}
 use Rattle.lis_laws.proofs.Counts.{all_among, all_from, rising_from_sorted}
@@ -33,7 +33,10 @@ use Rattle.lis_kept.specs.Sound.{AreSound, FreeSlotsAreEmpty}
 use Rattle.lis_kept.specs.Telling.{words_told, pair_by, pairs_told, file_told, state_of, AreUsed, Tells}
 use Rattle.lis_kept.proofs.Filing.{among_from_number, number_from_among as has_from_among, same_distinct, filed_rec, filed_at_slot}
 use Rattle.lis_kept.proofs.Known.{declared_set, declared_has_number, among_axiom, words_known, among_word}
+use Rattle.lis_kept.proofs.Dropped.{record_in_form}
 use Rattle.lis_store.proofs.Spelled.{sound_parts}
+use Rattle.lis_store.proofs.Facts.{blocks_counted}
+use Rattle.lis_store.proofs.Limits.{limits_in_range, limits_of_version_1}
 use Rattle.lis_store.proofs.Marks.{distinct_pieces}
 use Rattle.lis_store.specs.Stored.{Stored}
 use Rattle.lis_open.specs.declared.words.Words.{Words}
@@ -69,10 +72,10 @@ module _ (limits : Limits) (words : Words) (axioms : Axioms) (files : Files) (ma
   s = state_of k at
 
   range : IsTrue (are_in_range limits)
-  range = (and_parts (limits.version == 1) (are_in_range limits) super).1
+  range = limits_in_range limits super
 
   version : limits.version ≡ 1
-  version = eqb-true limits.version 1 (and_parts (limits.version == 1) (are_in_range limits) super).0
+  version = limits_of_version_1 limits super
 
   sound : AreSound k
   sound = parts_sound limits words axioms files marks read range clean
@@ -136,11 +139,8 @@ module _ (limits : Limits) (words : Words) (axioms : Axioms) (files : Files) (ma
   few_told : (ns : List ℕ) → length (words_told words.dict ns) ≤ length ns
   few_told ns = omega (arith, few_words (word_of words.dict) ns, with_words_le [] (flat_map (λ n. option_to_list (word_of words.dict n)) ns))
 
-  entry_record : (f : Filed) → Among files.catalog.entries f → IsFileRecord f.rec
-  entry_record f m =
-      let named = list_all (λ n. is_some (word_of words.dict n)) f.rec.tags in
-      let most = and_parts (is_record f.rec && named) (list_all (λ n. nat_lt n limits.blocks) f.rec.blocks) (sound.records f.slot f.rec (filed_rec files.catalog sound.catalog f m)) in
-      record_tests f.rec (and_parts (is_record f.rec) named most.0).0
+  entry_record : (f : Filed) → Among files.catalog.entries f → IsFileRecord limits.version f.rec
+  entry_record f m = record_in_form limits.version words.dict limits.blocks f.rec (sound.records f.slot f.rec (filed_rec files.catalog sound.catalog f m))
 
   short_bytes : (f : Filed) → length (content (data_start limits) f.rec.blocks f.rec.size at) ≤ f.rec.size
   short_bytes f = take_few f.rec.size (flat_map (λ b. at (data_start limits + b)) f.rec.blocks)
@@ -163,7 +163,7 @@ module _ (limits : Limits) (words : Words) (axioms : Axioms) (files : Files) (ma
         omega (arith, is, few_told (numbers_at files.ext f.slot), read.files_are.short f.slot)));
     short = each_file (λ (file : File). nat_le (length file.bytes) (file_limit limits.version)) (λ f m.
         le-leb (length (content (data_start limits) f.rec.blocks f.rec.size at)) (file_limit limits.version)
-        (let small = (entry_record f m).small in omega (arith, short_bytes f, small, ap file_limit version)));
+        (let small = (entry_record f m).small in omega (arith, short_bytes f, small)));
   }
 
   -- ---- data blocks
@@ -183,7 +183,7 @@ module _ (limits : Limits) (words : Words) (axioms : Axioms) (files : Files) (ma
   few_used : used_blocks s ≤ limits.blocks
   few_used =
       let within = sum_within (λ (f : Filed). blocks_needed (length (file_told limits words.dict at f).bytes)) (λ (f : Filed). f.rec.blocks) files.catalog.entries (λ f m.
-      let count = few_blocks f.rec.size f.rec.blocks (entry_record f m).blocks in
+      let count = blocks_counted k sound version f m in
       omega (arith, count, short_bytes f)) in
       let few = few_below all_used limits.blocks used_once (λ n m. let found = among_flat_map (λ (f : Filed). f.rec.blocks) files.catalog.entries n m in block_below found.0 n found.1 found.2) in
       let same = ap sum (map-map (λ (file : File). blocks_needed (length file.bytes)) (file_told limits words.dict at) files.catalog.entries) in
@@ -213,7 +213,7 @@ module _ (limits : Limits) (words : Words) (axioms : Axioms) (files : Files) (ma
   is_written Rows n lt = spelled.rows n lt
   is_written Bitmap n lt = spelled.bitmap
 
-  tells : at 0 ≡ super_bytes limits → Tells k at s
+  tells : SpellsSuper limits (at 0) → Tells k at s
   tells begins = record {
     super = begins;
     state = refl;
@@ -231,7 +231,7 @@ module _ (limits : Limits) (words : Words) (axioms : Axioms) (files : Files) (ma
         one_owner f g (among_from_contains files.catalog.entries f in_f) (among_from_contains files.catalog.entries g in_g) n (among_from_number f.rec.blocks n has_f) (among_from_number g.rec.blocks n has_g);
   }
 
-  pub store_told : (store : Stored) → store.parts ≡ k → at 0 ≡ super_bytes limits → StoreTells at store
+  pub store_told : (store : Stored) → store.parts ≡ k → SpellsSuper limits (at 0) → StoreTells at store
   store_told store is begins = record {
     state = s;
     tells = subst (λ (p : Kept). Tells p at s) (sym is) (tells begins);

@@ -1,5 +1,5 @@
 -- All of an empty image but its first byte, and the image with it.
-use Rattle.std.proofs.Common.{◌≡◌, ◌⊎◌, inl, inr, ℕ, ◌+◌, ◌-◌, ◌*◌, ◌≤◌, true, false, None, List, [], ◌∷◌, ◌++◌, length, drop, slice_index, IsTrue, refl, sym, ◌∙◌, ap, ap₂, arith, length-drop}
+use Rattle.std.proofs.Common.{◌≡◌, ◌⊎◌, inl, inr, ℕ, ◌+◌, ◌-◌, ◌*◌, ◌≤◌, true, false, None, List, [], ◌∷◌, ◌++◌, length, drop, slice_index, IsTrue, refl, sym, ◌∙◌, ap, ap₂, subst, arith, length-drop}
 use Rattle.std.proofs.Math.Seq.{take-add}
 use Rattle.lis_ports.specs.Meaning.{Meaning}
 use Rattle.lis_ports.specs.Bytes.{part, put, Torn}
@@ -10,8 +10,8 @@ use Rattle.lis_ports.proofs.Parts.{part-put, part-part, part-torn, torn-put, len
 use Rattle.lis_journal.specs.Record.{block}
 use Rattle.lis_journal.specs.Spreads.{Spreads}
 use Rattle.lis_journal.proofs.Spreading.{leaves_spread}
-use Rattle.lis_fields.specs.Layouts.{zeros, super_bytes}
-use Rattle.lis_fields.proofs.Supers.{length_super}
+use Rattle.lis_fields.specs.Layouts.{zeros, version_gate, super_bytes, SpellsSuper}
+use Rattle.lis_fields.proofs.Supers.{length_super, super_spells}
 use Rattle.lis_model.specs.declared.limits.Limits.{Limits}
 use Rattle.lis_model.specs.Image.{data_start, image_blocks}
 use Rattle.lis_model.specs.State.{empty_state}
@@ -20,18 +20,19 @@ use Rattle.lis_store.specs.Stored.{empty_stored}
 use Rattle.lis_store.proofs.Empty.{zeros-part, empty_sound, no_state}
 use Rattle.lis_store.proofs.EmptyStore.{empty_fits}
 use Rattle.lis_store.proofs.Standing.{fitting_stands}
+use Rattle.lis_store.proofs.Limits.{limits_in_range}
 use Rattle.lis_open.specs.Makes.{first_byte, IsNameless, IsSpared, AreZeros, rest_of_super, IsWiped, IsWiping, IsMaking}
 use Rattle.lis_open.proofs.Names.{first_is, first-put, named_or_not}
 use Rattle.lis_open.proofs.Zeros.{zeros_are}
 
 pub rest_is : (limits : Limits) (bytes rest : List ℕ) → bytes ≡ super_bytes limits → rest ≡ drop 1 bytes → rest ≡ rest_of_super limits
-unfolding rest_of_super super_bytes
+unfolding rest_of_super
 rest_is limits bytes rest is_super is_rest = is_rest ∙ ap (λ xs. drop 1 xs) is_super
 
 pub length-rest : (limits : Limits) → length (rest_of_super limits) ≡ 4095
-unfolding rest_of_super super_bytes
+unfolding rest_of_super
 length-rest limits =
-    let whole : length (super_bytes limits) ≡ 4096 = length_super limits in
+    let whole : length (super_bytes limits) ≡ 4096 = length_super (version_gate limits.version) limits in
     length-drop 1 (super_bytes limits) ∙ ap (λ n. n - 1) whole
 
 -- what the writes of all but the first byte lead to, one after another
@@ -68,7 +69,7 @@ wiped_torn limits from image is torn = record {
 }
 
 whole_super : (limits : Limits) → (76 ∷ []) ++ rest_of_super limits ≡ super_bytes limits
-unfolding rest_of_super super_bytes
+unfolding rest_of_super
 whole_super limits = refl
 
 pub wiped_super : (limits : Limits) (image : List ℕ) → IsWiped limits image → first_byte image ≡ 76 → block 0 image ≡ super_bytes limits
@@ -94,7 +95,9 @@ holding image = record {
 pub wiped_stands : (limits : Limits) (image : List ℕ) → IsTrue (is_super limits) → IsWiped limits image → first_byte image ≡ 76 → Stands image (empty_state limits)
 wiped_stands limits image range is first =
     let room : data_start limits ≤ data_start limits = omega arith in
-    let fits = empty_fits (holding image) limits (data_start limits) image range room refl (record { reads = refl; only = λ other is. is }) (wiped_super limits image is first) is.blank in
+    let super : SpellsSuper limits (block 0 image) =
+    subst (λ bytes. SpellsSuper limits bytes) (sym (wiped_super limits image is first)) (super_spells limits (limits_in_range limits range)) in
+    let fits = empty_fits (holding image) limits (data_start limits) image range room refl (record { reads = refl; only = λ other is. is }) super is.blank in
     (fitting_stands (holding image) (empty_stored limits (data_start limits)) (empty_state limits) (empty_sound limits (data_start limits) range room) fits).reads
 
 -- ---- the moments of each part

@@ -148,7 +148,7 @@ TakesFile words t slot (Some (Used rec)) bytes old new = TakesRecord words t slo
 pub record AreFirstFiles (limits : Limits) (words : Words) (axioms : Axioms) (files : Files) (end : ℕ) : Type 0 where
   pub slots : files.catalog.files ≡ limits.files
   pub catalog : IsCatalog files.catalog
-  pub records : (slot : ℕ) (rec : FileRecord) → rec_at files.catalog slot ≡ Some rec → IsTrue (is_sound_record words.dict limits.blocks rec)
+  pub records : (slot : ℕ) (rec : FileRecord) → rec_at files.catalog slot ≡ Some rec → IsTrue (is_sound_record limits.version words.dict limits.blocks rec)
   pub given : (slot : ℕ) (rec : FileRecord) → rec_at files.catalog slot ≡ Some rec → IsTrue (list_all (is_assignable_number words) rec.tags)
   pub rest : (n : ℕ) → end ≤ n → rec_at files.catalog n ≡ None
   pub blocks : length files.map ≡ limits.blocks

@@ -18,6 +18,7 @@ ghost use Rattle.lis_model.specs.Ranges.{are_in_range};
 ghost use Rattle.lis_model.specs.Image.{image_blocks};
 ghost use Rattle.lis_kept.specs.Telling.{bytes_told};
 ghost use Rattle.lis_kept.specs.Areas.{file_slots, axiom_slots};
+ghost use Rattle.lis_store.specs.Stands.{is_super};
 ghost use Rattle.lis_open.specs.Reading.{OnlyReads, HasPartCause, Recalls, IsReadAs, Ends};
 ghost use Rattle.lis_open.specs.ReadWords.{AreWords, AreFirstWords, AreFirstAxioms, WordsAreSpelled, AxiomsAreSpelled};
 ghost use Rattle.lis_open.specs.ReadFiles.{no_files, is_described, AreListed, found_words, met_numbers, is_numbered, own_numbers, AreDescribed, may_file, may_take_record, may_take_file, AreItsBytes, TakesNumbers, TakesRecord, TakesFile, AreFirstFiles, FilesAreTold};
@@ -85,14 +86,14 @@ fn read_slot<D: Disk>(
     requires long { 4096 * journal.now.blocks ≤ (D.meaning disk.old).len }
     ensures reads { OnlyReads (D.meaning disk.old) (D.meaning disk.new) }
     ensures cause { HasCause (D.meaning disk.old).disk_faults (D.meaning disk.new).disk_faults result }
-    ensures form { IfOk result (λ found. IfSome found (λ file. IsTrue (is_file file))) }
+    ensures form { IfOk result (λ found. IfSome found (λ file. IsTrue (is_file limits.now.version file))) }
     ensures recalls { (kept : ℕ → List ℕ) → Fits journal.now (D.meaning disk.old) kept → Recalls last.old kept → Recalls last.new kept }
     ensures read { IfOk result (λ found. (kept : ℕ → List ℕ) → Fits journal.now (D.meaning disk.old) kept → Recalls last.old kept
-        → IsReadAs file_bytes is_file (file_slots limits.now) kept slot found) }
+        → IsReadAs file_bytes (is_file limits.now.version) (file_slots limits.now) kept slot found) }
 {
     let mut bytes = [0; FILE_LEN];
     last.read_slot(disk, journal, files_start(limits), slot, &mut bytes)?;
-    Ok(read_file(&bytes))
+    Ok(read_file(&bytes, limits.version))
 }
 
 // Whether there is such a data block, and it is free.
@@ -205,7 +206,7 @@ fn describe(
     row: &mut Rows,
 ) -> Option<ArrayVec<u16, MAX_WORDS>>
     requires are { AreWords words.now }
-    requires form { IsTrue (is_record rec.now) }
+    requires given { length rec.now.tags ≤ 16 }
     requires props { taxonomy.now.props ≡ words.now.dict.props }
     requires few { taxonomy.now.props ≤ 8192 }
     requires shape { HasShape row.old 2 taxonomy.now.props }
@@ -239,7 +240,7 @@ fn may_file(words: &Words, files: &Files, rec: &FileRec) -> bool
 
 // Files a record, and gives its slot the numbers of its description.
 fn file(files: &mut Files, slot: u16, rec: FileRec, numbers: &[u16])
-    requires form { IsTrue (is_record rec) }
+    requires distinct { IsTrue (are_distinct rec.blocks) }
     requires name { slot_of files.old.catalog rec.name ≡ None }
     requires free { IsTrue (are_free files.old.map rec.blocks) }
     requires below { slot < files.old.catalog.files }
@@ -272,13 +273,13 @@ fn take_record<D: Disk>(
     slot: u16,
     rec: FileRec,
 ) -> Result<bool, Failed>
-    requires range { IsTrue (are_in_range limits.now) }
+    requires range { IsTrue (is_super limits.now) }
     requires image { journal.now.blocks ≡ image_blocks limits.now }
     requires clean { journal.now.staged ≡ [] }
     requires unbroken { journal.now.is_broken ≡ false }
     requires long { 4096 * journal.now.blocks ≤ (D.meaning disk.old).len }
     requires are { AreWords words.now }
-    requires form { IsTrue (is_record rec) }
+    requires form { IsTrue (is_record limits.now.version rec) }
     requires props { axioms.now.taxonomy.props ≡ words.now.dict.props }
     requires rows { files.old.ext.props ≡ words.now.dict.props }
     requires map { length files.old.map ≡ limits.now.blocks }
@@ -329,13 +330,13 @@ fn take_file<D: Disk>(
     slot: u16,
     found: Option<FileSlot>,
 ) -> Result<bool, Failed>
-    requires range { IsTrue (are_in_range limits.now) }
+    requires range { IsTrue (is_super limits.now) }
     requires image { journal.now.blocks ≡ image_blocks limits.now }
     requires clean { journal.now.staged ≡ [] }
     requires unbroken { journal.now.is_broken ≡ false }
     requires long { 4096 * journal.now.blocks ≤ (D.meaning disk.old).len }
     requires are { AreWords words.now }
-    requires form { IfSome found (λ file. IsTrue (is_file file)) }
+    requires form { IfSome found (λ file. IsTrue (is_file limits.now.version file)) }
     requires props { axioms.now.taxonomy.props ≡ words.now.dict.props }
     requires rows { files.old.ext.props ≡ words.now.dict.props }
     requires map { length files.old.map ≡ limits.now.blocks }
@@ -374,7 +375,7 @@ pub fn read_files<D: Disk>(
     row: &mut Rows,
     bytes: &mut Buffer,
 ) -> Result<(), OpenFault>
-    requires range { IsTrue (are_in_range limits.now) }
+    requires range { IsTrue (is_super limits.now) }
     requires words { AreFirstWords limits.now words.now limits.now.props }
     requires axioms { AreFirstAxioms limits.now words.now axioms.now (axiom_slots limits.now).count }
     requires none { files.old ≡ no_files limits.now }

@@ -85,6 +85,7 @@ const SOURCE: &[Change] = &[
 const DAMAGES: &[(&[Change], Spot)] = &[
     (&[(8, b"\x09")], Spot::Super),
     (&[(12, b"\x3f")], Spot::Super),
+    (&[(24, b"\x02")], Spot::Super),
     (&[(4_095, b"\x01")], Spot::Super),
     (&[(GATES, b"\x01")], Spot::BadRecord(2)),
     // a whole record of one block, and none behind it
@@ -289,10 +290,16 @@ fn a_short_disk_is_refused(rt: HostRuntime) -> Result<(), Fail> {
     Ok(())
 }
 
-// A gate behind a closed one counts for nothing, and so does a gate that is not 1.
+// A gate behind a closed one counts for nothing, and so does a gate that is not 1. The version is 1 where its gate is not 2.
 #[test]
 fn whole_images_are_opened(rt: HostRuntime) -> Result<(), Fail> {
-    for changes in [SONG, SOURCE, &[(GATES + 1, b"\x01")], &[(GATES, b"\x02")]] {
+    for changes in [
+        SONG,
+        SOURCE,
+        &[(GATES + 1, b"\x01")],
+        &[(GATES, b"\x02")],
+        &[(24, b"\x05")],
+    ] {
         assert_eq!(rt; opening_with(rt.alloc(), changes, &[])?, Answer::Opened);
     }
     Ok(())

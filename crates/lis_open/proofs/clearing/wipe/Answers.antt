@@ -2,8 +2,9 @@ use Rattle.std.proofs.Common.{◌≡◌, inl, inr, ◌-◌, ◌*◌, ◌≤◌, 
 use Rattle.lis_ports.proofs.Always.{always_settled, settled_synced}
 use Rattle.lis_journal.proofs.Spreading.{spreads_then, spreads_sync}
 use Rattle.lis_model.specs.Image.{data_start, image_blocks}
+use Rattle.lis_store.proofs.Limits.{limits_in_range}
 use Rattle.lis_open.specs.Makes.{IsWiped, IsWiping}
-use Rattle.lis_open.proofs.Ranges.{limits_in_range, on_ok}
+use Rattle.lis_open.proofs.Ranges.{on_ok}
 use Rattle.lis_open.proofs.Wiping.{wiped}
 use Rattle.lis_open.proofs.Made.{wiping_refl, wiping_trans, spreads_wiping}
 use Rattle.lis_open.proofs.clearing.wipe.Goals as goal

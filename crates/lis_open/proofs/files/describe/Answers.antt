@@ -2,7 +2,6 @@ use Rattle.std.proofs.Common.{◌≡◌, nat_lt, ℕ, List, ◌++◌, ◌||◌, 
 use Rattle.std.specs.List.{list_all}
 use Rattle.std.specs.Option.{option_map}
 use Rattle.lis_fields.specs.Records.{FileRecord}
-use Rattle.lis_fields.proofs.Parts.{record_tests, few_tags}
 use Rattle.lis_model.specs.Derived.{derived_words}
 use Rattle.lis_model.specs.Tests.{met_tests}
 use Rattle.lis_open.specs.ReadWords.{declared_words}
@@ -15,7 +14,7 @@ use Rattle.lis_open.proofs.files.describe.Goals as goal
 pub own_numbers-requires-clause-few : goal.own_numbers-requires-clause-few
 own_numbers-requires-clause-few c =
     let tags = c.as_slice.ensures.value ∙ ap (λ (r : FileRecord). r.tags) c.rec.view_is in
-    omega (arith, few_tags c.args.rec.now.tags (record_tests c.args.rec.now c.requires.form).tags, ap (length {A = ℕ}) tags)
+    omega (arith, c.requires.given, ap (length {A = ℕ}) tags)
 
 pub returns-in_default-clause-described : goal.returns-in_default-clause-described
 returns-in_default-clause-described c =

@@ -1,6 +1,8 @@
 use Rattle.std.proofs.Common.{sym, ◌∙◌}
+use Rattle.lis_fields.proofs.Parts.{record_tests, few_tags}
+use Rattle.lis_store.proofs.Limits.{limits_of_version_1}
 use Rattle.lis_open.specs.ReadFiles.{found_words, own_numbers}
-use Rattle.lis_open.proofs.FilesRead.{tags_below, blocks_within, bytes_are}
+use Rattle.lis_open.proofs.FilesRead.{record_blocks, size_within, blocks_counted, tags_below, blocks_within, bytes_are}
 use Rattle.lis_open.proofs.Gathering.{described_rise, described_in}
 use Rattle.lis_open.proofs.files.take_record.Goals as goal
 
@@ -9,9 +11,25 @@ read-requires-clause-within g c =
     blocks_within c.args.limits.now c.args.words.now c.args.files.now c.args.rec c.as_slice.result.now c.data_start.result _ c.data_start.ensures.start c.requires.image c.requires.map c.rec.view_is
     c.as_slice.ensures.value (sym c.if-not-may_file.ensures)
 
+pub read-requires-clause-short : goal.read-requires-clause-short
+read-requires-clause-short g c =
+    let limits = c.args.limits.now in
+    size_within limits.version c.args.rec (limits_of_version_1 limits c.requires.range) c.requires.form c.rec.view_is
+
+pub read-requires-clause-count : goal.read-requires-clause-count
+read-requires-clause-count g c =
+    let limits = c.args.limits.now in
+    blocks_counted limits.version c.args.rec c.as_slice.result.now (limits_of_version_1 limits c.requires.range) c.requires.form c.rec.view_is c.as_slice.ensures.value
+
+pub describe-requires-clause-given : goal.describe-requires-clause-given
+describe-requires-clause-given g c = few_tags c.args.rec.tags (record_tests c.args.limits.now.version c.args.rec c.requires.form).tags
+
 pub describe-requires-clause-below : goal.describe-requires-clause-below
 describe-requires-clause-below g c =
     tags_below c.args.words.now c.args.files.now c.args.rec c.args.axioms.now.taxonomy.props c.requires.are c.requires.props (sym c.if-not-may_file.ensures)
+
+pub file-requires-clause-distinct : goal.file-requires-clause-distinct
+file-requires-clause-distinct g c = record_blocks c.args.limits.now.version c.args.rec c.requires.form
 
 pub file-requires-clause-rise : goal.file-requires-clause-rise
 file-requires-clause-rise g c =

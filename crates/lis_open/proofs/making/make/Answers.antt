@@ -1,6 +1,6 @@
 use Rattle.std.proofs.Common.{Err, ap, ◌∙◌}
 use Rattle.std.proofs.lemmas.Result.{err_from_is_err_and}
-use Rattle.lis_open.proofs.Ranges.{limits_in_range}
+use Rattle.lis_store.proofs.Limits.{limits_in_range}
 use Rattle.lis_open.proofs.making.make.Goals as goal
 
 pub image_blocks-requires : goal.image_blocks-requires
