@@ -218,7 +218,7 @@ fn read_index<D: Disk>(
 pub fn index_numbers(block: &[u8], size: u32) -> Option<ArrayVec<u16, 256>>
     requires whole { length block.now ≡ 4096 }
     requires few { size ≤ 1048576 }
-    ensures { IfSome result (λ numbers. (numbers.items ≡ numbers_in (blocks_needed size) block.now) × (block.now ≡ index_bytes numbers.items)) }
+    ensures form { IfSome result (λ numbers. (numbers.items ≡ numbers_in (blocks_needed size) block.now) × (block.now ≡ index_bytes numbers.items)) }
     ensures none { result ≡ None → block.now ≡ index_bytes (numbers_in (blocks_needed size) block.now) → ⊥ }
 {
     let count = size.div_ceil(BLOCK_LEN as u32) as usize;

@@ -18,11 +18,11 @@ use lis_kept::Parts;
 use lis_ports::{Disk, Failed};
 
 // What a call of the disk came to: a fault breaks the store.
-fn noted<T>(result: Result<T, Failed>, is_broken: &mut bool) -> Result<T, Change>
+fn noted<T>(called: Result<T, Failed>, is_broken: &mut bool) -> Result<T, Change>
     requires { is_broken.old ≡ false }
-    ensures ok { (value : T) → result.old ≡ Ok value → result.new ≡ Ok value }
+    ensures ok { (value : T) → called ≡ Ok value → result ≡ Ok value }
 {
-    match result {
+    match called {
         Ok(value) => Ok(value),
         Err(fault) => {
             *is_broken = true;
