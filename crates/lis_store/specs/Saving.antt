@@ -2,6 +2,7 @@
 use Rattle.std.specs.Prelude.{◌≡◌, ℕ, Bool, true, false, List, [], length, replicate, Result, Ok, Err}
 use Rattle.lis_ports.specs.Meaning.{Meaning}
 use Rattle.lis_journal.specs.Journal.{Held}
+use Rattle.lis_journal.specs.Images.{StandsBut, Fits}
 use Rattle.lis_journal.specs.Phases.{looked}
 use Rattle.lis_model.specs.State.{State}
 use Rattle.lis_model.specs.Step.{Situation, Outcome, changed}
@@ -11,7 +12,8 @@ use Rattle.lis_kept.specs.Sound.{AreSound}
 use Rattle.lis_kept.specs.Telling.{Tells}
 use Rattle.lis_store.specs.declared.change.Change.{Change}
 use Rattle.lis_store.specs.declared.change.Change.TheVariants.{Refused, Disk}
-use Rattle.lis_store.specs.Stored.{Stored, IsSound, StoreFits}
+use Rattle.lis_store.specs.Stands.{Stands}
+use Rattle.lis_store.specs.Stored.{Stored}
 use Rattle.lis_store.specs.Changes.{Changes}
 
 -- the parts without marks
@@ -27,12 +29,13 @@ pub record IsReady (k : Kept) (at : ℕ → List ℕ) (s : State) : Type 0 where
   pub tells : Tells k at s
   pub saved : IsSaved k at
 
--- From any store that fitted the disk, to any state for which the parts are ready, saving them is that change.
+-- From any state for which each image stands that keeps all but the placed blocks, to any for which the parts are ready, saving them is
+-- that change.
 abbrev pub Saves : {T : Type 0} → Kept → Held → Stored → Meaning → Meaning → Result T Change → Type 0
 Saves k j new before after result =
-    (old : Stored) (now : Situation) (outcome : Outcome) (t : State) (fits : StoreFits old before now.state) → IsSound old
-    → j.blocks ≡ old.journal.blocks → j.records ≡ old.journal.records → j.placed ≡ old.journal.placed → k.limits ≡ old.parts.limits
-    → (AreSound k → IsReady k (looked j.staged fits.kept) t) → outcome ≡ changed now t → Changes now outcome new before after result
+    (now : Situation) (outcome : Outcome) (t : State) (kept : ℕ → List ℕ) → Fits j before kept → k.limits ≡ now.state.limits
+    → ((image : List ℕ) → StandsBut j.blocks j.placed kept image → Stands image now.state)
+    → (AreSound k → IsReady k (looked j.staged kept) t) → outcome ≡ changed now t → Changes now outcome new before after result
 
 -- It breaks the store exactly at a fault of the disk, and refuses nothing.
 abbrev pub SaveEnded : {T : Type 0} → Bool → Result T Change → Type 0

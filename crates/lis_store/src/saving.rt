@@ -23,7 +23,6 @@ pub(crate) fn save<D: Disk>(
 ) -> Result<(), Change>
     requires sound { AreSound parts.old → IsSound (settled parts.old journal.old) }
     requires image { journal.old.blocks ≡ image_blocks parts.old.limits }
-    requires unplaced { journal.old.placed ≡ [] }
     requires unbroken { journal.old.is_broken ≡ false }
     requires whole { is_broken.old ≡ false }
     requires room { length journal.old.staged + marked_count parts.old ≤ 531 }
