@@ -1,16 +1,15 @@
 -- Blocks that are taken for a content, or given back.
-use Rattle.std.proofs.Common.{◌≡◌, refl, sym, ap, ◌∙◌, subst, inl, inr, ℕ, zero, suc, ◌+◌, ◌^◌, ◌<◌, ◌≤◌, ◌==◌, eqb, ◌&&◌, ◌||◌, if◌then◌else◌, cond, nat_lt, not, Bool, true, false, List, [], ◌∷◌, length, drop, map, set, Result, Ok, Err, MatchResult, is_some, arith, length-set}
+use Rattle.std.proofs.Common.{◌≡◌, refl, sym, ap, ◌∙◌, subst, ℕ, zero, suc, ◌+◌, ◌^◌, ◌<◌, ◌≤◌, ◌==◌, ◌&&◌, ◌||◌, if◌then◌else◌, cond, nat_lt, not, Bool, true, false, List, [], ◌∷◌, length, drop, set, Result, Ok, Err, MatchResult, is_some, arith, length-set}
 use Rattle.std.specs.List.{list_all}
 use Rattle.std.proofs.lemmas.Bool.{and_parts, and_from, cond-false, eq-eqb, ne_eqb, ltb-true, lt-ltb}
 use Rattle.lis_ports.specs.Meaning.{Meaning}
-use Rattle.lis_ports.specs.Runs.{Leaves}
 use Rattle.lis_ports.proofs.Moments.{leaves_none}
 use Rattle.lis_journal.specs.Journal.{OpenRecords, Held}
 use Rattle.lis_journal.specs.Record.{Entry}
-use Rattle.lis_journal.specs.Images.{look, is_among, StandsBut, FitsAt, Fits, KeepsPast}
+use Rattle.lis_journal.specs.Images.{look, is_among, FitsAt, Fits}
 use Rattle.lis_journal.specs.Phases.{looked}
 use Rattle.lis_blockmap.specs.Bitmap.{free_count}
-use Rattle.lis_content.specs.Content.{given, marked, are_free, are_distinct, are_within, has_number, has_home}
+use Rattle.lis_content.specs.Content.{given, are_free, are_distinct, are_within, has_number, has_home}
 use Rattle.lis_content.specs.Large.{is_large, slot_count, file_blocks}
 use Rattle.lis_content.specs.Placing.{homes_of, HasFile, Places, IsPlaced, IsTornOff, IsUnplaced}
 use Rattle.lis_content.specs.Putting.{IsPut, IsRefused}
@@ -23,7 +22,6 @@ use Rattle.lis_dict.specs.Dict.{word_of}
 use Rattle.lis_fields.specs.Records.{FileRecord}
 use Rattle.lis_fields.specs.Layouts.{is_record, are_short, are_blocks, slot_blocks, are_distinct as slots_distinct}
 use Rattle.lis_taxonomy.specs.Taxonomy.{Taxonomy}
-use Rattle.lis_model.specs.declared.limits.Limits.{Limits}
 use Rattle.lis_model.specs.Image.{bitmap_start, data_start, image_blocks}
 use Rattle.lis_model.specs.State.{file_limit, blocks_needed, blocks_taken}
 use Rattle.lis_laws.proofs.Counts.{all_among, all_from}

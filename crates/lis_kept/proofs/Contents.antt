@@ -1,8 +1,8 @@
 -- The bytes and the blocks of a file: where other blocks change, and where it has no index block.
-use Rattle.std.proofs.Common.{◌≡◌, ◌⊎◌, refl, sym, ap, ◌∙◌, subst, inl, inr, ℕ, ◌+◌, ◌<◌, ◌≤◌, ◌==◌, ◌&&◌, if◌then◌else◌, nat_lt, Bool, true, false, List, length, arith}
+use Rattle.std.proofs.Common.{◌≡◌, refl, sym, ◌∙◌, subst, ℕ, ◌+◌, ◌≤◌, ◌==◌, ◌&&◌, if◌then◌else◌, nat_lt, Bool, true, false, List, length}
 use Rattle.std.proofs.lemmas.Bool.{le-ltb, eqb-true, cond-false}
 use Rattle.lis_graph.proofs.Members.{Among, among_from_any, among_right}
-use Rattle.lis_content.specs.Content.{content, has_home}
+use Rattle.lis_content.specs.Content.{content}
 use Rattle.lis_content.specs.Large.{is_large, slot_count, numbers_in, index_home}
 use Rattle.lis_content.proofs.Indexes.{large_blocks, small_blocks, small_content, small_size}
 use Rattle.lis_content.proofs.Files.{AreSame, same_file as same_in_content}
@@ -49,8 +49,7 @@ same_file limits rec at there counted same =
 pub small_file : (limits : Limits) (at : ℕ → List ℕ) (rec : FileRecord) → blocks_needed rec.size ≤ 16
     → (blocks_told limits at rec ≡ rec.blocks) × (bytes_told limits at rec ≡ content (data_start limits) rec.blocks rec.size at) × HasIndex limits at rec
 small_file limits at rec few =
-    let small : is_large rec.size ≡ false = le-ltb 16 (blocks_needed rec.size) few in
-    (
+    let small : is_large rec.size ≡ false = le-ltb 16 (blocks_needed rec.size) few in (
       small_blocks (data_start limits) rec.blocks rec.size at small,
       small_content (data_start limits) rec.blocks rec.size at small,
       (λ large. absurd (let e : true ≡ false = sym large ∙ small in cc)),

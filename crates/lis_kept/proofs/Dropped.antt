@@ -1,11 +1,10 @@
 -- A file that goes.
-use Rattle.std.proofs.Common.{◌≡◌, refl, sym, ap, ◌∙◌, subst, inl, inr, ℕ, ◌<◌, ◌==◌, if◌then◌else◌, ◌&&◌, nat_lt, nat_le, not, Bool, true, false, List, [], ◌∷◌, length, map, set, Some, None, is_some, IsSome, arith, length-set}
+use Rattle.std.proofs.Common.{◌≡◌, refl, sym, ap, ◌∙◌, subst, ℕ, ◌<◌, ◌==◌, if◌then◌else◌, ◌&&◌, nat_lt, not, Bool, true, false, List, length, map, set, Some, None, is_some, IsSome, arith, length-set}
 use Rattle.std.specs.List.{list_all}
 use Rattle.std.proofs.lemmas.Bool.{eq-eqb, eqb-true, ne_eqb, and_parts}
 use Rattle.std.proofs.lemmas.Option.{same_Some}
 use Rattle.lis_graph.proofs.Members.{Among}
-use Rattle.lis_content.specs.Content.{given, are_distinct}
-use Rattle.lis_content.proofs.Numbers.{length-given}
+use Rattle.lis_content.specs.Content.{are_distinct}
 use Rattle.lis_catalog.specs.Catalog.{Catalog, Filed, rec_at, slot_of, without_slot}
 use Rattle.lis_catalog.proofs.Laws.{rec_at-without_slot, slot_is_below, slot_of-rec_at}
 use Rattle.lis_fields.specs.Records.{FileRecord}
@@ -14,7 +13,6 @@ use Rattle.lis_fields.proofs.Parts.{IsFileRecord, record_tests}
 use Rattle.lis_dict.specs.Dict.{Dict, word_of}
 use Rattle.lis_taxonomy.specs.Taxonomy.{Taxonomy}
 use Rattle.lis_words.specs.Words.{same_word}
-use Rattle.lis_model.specs.Image.{bitmap_start}
 use Rattle.lis_model.specs.State.{File}
 use Rattle.lis_model.specs.Changes.{file_removed}
 use Rattle.lis_laws.proofs.Members.{same_word_decides}

@@ -1,24 +1,22 @@
 -- A record that comes into a free slot.
-use Rattle.std.proofs.Common.{◌≡◌, refl, sym, ap, ◌∙◌, subst, inl, inr, ℕ, ◌+◌, ◌<◌, ◌==◌, eqb, if◌then◌else◌, ◌&&◌, nat_lt, nat_le, not, Bool, true, false, List, [], ◌∷◌, length, drop, get_or, set, Some, None, is_some, IsSome, arith, add-one, drop-cons, length-set, get_or-set_other}
-use Rattle.std.specs.List.{list_all, AllByRecursion, IsDistinct}
+use Rattle.std.proofs.Common.{◌≡◌, refl, sym, ap, ◌∙◌, subst, inl, inr, ℕ, ◌<◌, ◌==◌, eqb, if◌then◌else◌, nat_lt, not, Bool, true, false, List, [], ◌∷◌, length, set, Some, None, is_some, IsSome, arith, length-set}
+use Rattle.std.specs.List.{AllByRecursion, IsDistinct}
 use Rattle.std.proofs.lemmas.Bool.{and_parts, and_from, or_parts, both_ways, ne_eqb, eqb-true, ltb-true}
 use Rattle.std.proofs.lemmas.List.{length-map}
 use Rattle.std.proofs.lemmas.Map.Steps.{length-le_from_distinct_below}
 use Rattle.std.proofs.lemmas.Option.{same_Some}
 use Rattle.lis_graph.proofs.Members.{Among, among_from_any}
-use Rattle.lis_blockmap.specs.Bitmap.{is_taken}
-use Rattle.lis_content.specs.Content.{marked, are_free, are_distinct, has_number}
-use Rattle.lis_content.proofs.Numbers.{length-marked, not_true}
+use Rattle.lis_content.specs.Content.{are_distinct, has_number}
+use Rattle.lis_content.proofs.Numbers.{not_true}
 use Rattle.lis_catalog.specs.Catalog.{Catalog, Filed, IsCatalog, filed_cmp, rec_at, slot_of, slots, with_filed}
 use Rattle.lis_catalog.proofs.Laws.{rec_at-with_filed}
 use Rattle.lis_dict.specs.Dict.{Dict, word_of}
 use Rattle.lis_ext.specs.Ext.{has}
 use Rattle.lis_fields.specs.Records.{FileRecord}
-use Rattle.lis_fields.specs.Layouts.{file_bytes, is_record, are_tags, are_short, are_blocks, are_distinct as slots_distinct}
+use Rattle.lis_fields.specs.Layouts.{file_bytes}
 use Rattle.lis_taxonomy.specs.Taxonomy.{Taxonomy}
 use Rattle.lis_words.specs.Words.{is_file_name}
-use Rattle.lis_model.specs.Image.{bitmap_start}
-use Rattle.lis_model.specs.State.{File, file_cmp, blocks_needed}
+use Rattle.lis_model.specs.State.{File, file_cmp}
 use Rattle.lis_model.specs.Changes.{new_file, file_added}
 use Rattle.lis_laws.proofs.Counts.{all_among}
 use Rattle.lis_kept.specs.Kept.{Kept, file_by}
