@@ -18,7 +18,6 @@ ghost use Rattle.lis_model.specs.Ranges.{are_in_range};
 ghost use Rattle.lis_model.specs.Image.{image_blocks};
 ghost use Rattle.lis_kept.specs.Telling.{bytes_told};
 ghost use Rattle.lis_kept.specs.Areas.{file_slots, axiom_slots};
-ghost use Rattle.lis_store.specs.Stands.{is_super};
 ghost use Rattle.lis_open.specs.Reading.{OnlyReads, HasPartCause, Recalls, IsReadAs, Ends};
 ghost use Rattle.lis_open.specs.ReadWords.{AreWords, AreFirstWords, AreFirstAxioms, WordsAreSpelled, AxiomsAreSpelled};
 ghost use Rattle.lis_open.specs.ReadFiles.{no_files, is_described, AreListed, found_words, met_numbers, is_numbered, own_numbers, AreDescribed, may_file, may_take_record, may_take_file, AreItsBytes, TakesNumbers, TakesRecord, TakesFile, AreFirstFiles, FilesAreTold};
@@ -257,7 +256,7 @@ fn take_record<D: Disk>(
     slot: u16,
     rec: FileRec,
 ) -> Result<bool, Failed>
-    requires range { IsTrue (is_super limits.now) }
+    requires range { IsTrue (are_in_range limits.now) }
     requires image { journal.now.blocks ≡ image_blocks limits.now }
     requires clean { journal.now.staged ≡ [] }
     requires unbroken { journal.now.is_broken ≡ false }
@@ -317,7 +316,7 @@ fn take_file<D: Disk>(
     slot: u16,
     found: Option<FileSlot>,
 ) -> Result<bool, Failed>
-    requires range { IsTrue (is_super limits.now) }
+    requires range { IsTrue (are_in_range limits.now) }
     requires image { journal.now.blocks ≡ image_blocks limits.now }
     requires clean { journal.now.staged ≡ [] }
     requires unbroken { journal.now.is_broken ≡ false }
@@ -362,7 +361,7 @@ pub fn read_files<D: Disk>(
     row: &mut Rows,
     bytes: &mut Buffer,
 ) -> Result<(), OpenFault>
-    requires range { IsTrue (is_super limits.now) }
+    requires range { IsTrue (are_in_range limits.now) }
     requires words { AreFirstWords limits.now words.now limits.now.props }
     requires axioms { AreFirstAxioms limits.now words.now axioms.now (axiom_slots limits.now).count }
     requires none { files.old ≡ no_files limits.now }

@@ -1,14 +1,8 @@
 //! The blocks of files: those that a slot numbers, and those that an index block does.
 
-ghost use Rattle.std.specs.Prelude.{◌≡◌, ◌*◌, ◌≤◌, ℕ, List, false, [], length, IsTrue, IfOk};
-ghost use Rattle.lis_ports.specs.Calls.{HasCause};
-ghost use Rattle.lis_journal.specs.Images.{Fits};
-ghost use Rattle.lis_fields.specs.Layouts.{is_record};
-ghost use Rattle.lis_model.specs.Ranges.{are_in_range};
-ghost use Rattle.lis_model.specs.Image.{image_blocks};
+ghost use Rattle.std.specs.Prelude.{◌≡◌, ◌<◌, nat_lt, not, ◌&&◌, length};
+ghost use Rattle.lis_blockmap.specs.Bitmap.{is_taken};
 ghost use Rattle.lis_content.specs.Content.{are_free, are_distinct};
-ghost use Rattle.lis_open.specs.Reading.{OnlyReads};
-ghost use Rattle.lis_open.specs.Indexes.{are_file_blocks, AreItsBlocks};
 
 use arrayvec::ArrayVec;
 use lis_blockmap::BlockMap;
