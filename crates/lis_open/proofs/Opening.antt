@@ -227,7 +227,8 @@ module _ (old : Meaning) (limits : Limits) (super : HasSuper limits old.bytes) (
       by : (o : Option (List ℕ)) → o ≡ Some stands.replay → IsSomeAnd o (λ r. KeptBy (image_blocks s.limits) (λ n. block n r) image) → Stands image s
       by o is kept =
           kept_stands s stands.contents (λ n. block n stands.replay) image stands.range
-          (replayed-front (image_blocks s.limits) old.bytes stands.replay (omega arith) stands.long stands.replays ∙ stands.super) stands.spells (at_replay o is kept)
+          (subst (λ bytes. SpellsSuper s.limits bytes) (sym (replayed-front (image_blocks s.limits) old.bytes stands.replay (omega arith) stands.long stands.replays)) stands.super)
+          stands.spells (at_replay o is kept)
 
   -- ---- the journal
   record_fails : (b : ℕ) → replayed (image_blocks limits) old.bytes ≡ None → bad_record (image_blocks limits) old.bytes ≡ Some b → RecordFails old.bytes b

@@ -1,5 +1,5 @@
 -- What was read and checked tells a state.
-use Rattle.std.proofs.Common.{◌≡◌, ◌∙◌, refl, sym, ap, ap₂, subst, ℕ, zero, suc, ◌+◌, ◌-◌, ◌<◌, ◌≤◌, nat_lt, nat_le, ◌&&◌, Bool, true, List, [], ◌∷◌, length, map, sum, Option, Some, None, is_some, slice_get, IsTrue, arith, length-append}
+use Rattle.std.proofs.Common.{◌≡◌, ◌∙◌, refl, sym, ap, ap₂, subst, ℕ, zero, suc, ◌+◌, ◌-◌, ◌<◌, ◌≤◌, nat_lt, nat_le, ◌&&◌, Bool, true, List, [], ◌∷◌, length, map, sum, Option, Some, None, slice_get, IsTrue, arith, length-append}
 use Rattle.std.specs.Option.{option_to_list}
 use Rattle.std.specs.List.{list_all, flat_map, Contains}
 use Rattle.std.proofs.lemmas.Bool.{and_from, ltb-true, le-leb}

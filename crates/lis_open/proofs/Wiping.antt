@@ -10,7 +10,7 @@ use Rattle.lis_ports.proofs.Parts.{part-put, part-part, part-torn, torn-put, len
 use Rattle.lis_journal.specs.Record.{block}
 use Rattle.lis_journal.specs.Spreads.{Spreads}
 use Rattle.lis_journal.proofs.Spreading.{leaves_spread}
-use Rattle.lis_fields.specs.Layouts.{zeros, version_gate, super_bytes, SpellsSuper}
+use Rattle.lis_fields.specs.Layouts.{zeros, version_gate, super_with, super_bytes, SpellsSuper}
 use Rattle.lis_fields.proofs.Supers.{length_super, super_spells}
 use Rattle.lis_model.specs.declared.limits.Limits.{Limits}
 use Rattle.lis_model.specs.Image.{data_start, image_blocks}
@@ -69,7 +69,7 @@ wiped_torn limits from image is torn = record {
 }
 
 whole_super : (limits : Limits) → (76 ∷ []) ++ rest_of_super limits ≡ super_bytes limits
-unfolding rest_of_super
+unfolding rest_of_super super_with
 whole_super limits = refl
 
 pub wiped_super : (limits : Limits) (image : List ℕ) → IsWiped limits image → first_byte image ≡ 76 → block 0 image ≡ super_bytes limits

@@ -26,9 +26,9 @@ use Rattle.lis_kept.specs.Kept.{Kept, property_by, property_at}
 use Rattle.lis_kept.specs.Areas.{property_slots}
 use Rattle.lis_kept.specs.Telling.{bit_of, pair_by, pair_told, axioms_of, bytes_told, file_told}
 use Rattle.lis_kept.proofs.Known.{only_word}
-use Rattle.lis_kept.proofs.WordMore.{declared_there, there_declared, sorted_declared}
+use Rattle.lis_kept.proofs.WordMore.{declared_there, there_declared, sorted_declared, flat_all}
 use Rattle.lis_store.specs.Stands.{word_in, declared_in, words_in, all_declared, word_at, pair_in, file_by}
-use Rattle.lis_store.proofs.SlotOrder.{given_at, flat_map_same}
+use Rattle.lis_store.proofs.SlotOrder.{given_at}
 use Rattle.lis_open.specs.declared.words.Words.{Words}
 use Rattle.lis_open.specs.Checks.{AreProperties, declared_by, axioms_by}
 use Rattle.lis_open.specs.ReadWords.{AreWords, WordsAreSpelled, declared_words, kept_words}
@@ -126,13 +126,13 @@ module _ (limits : Limits) (words : Words) (are : AreWords words) (same : words.
   pair_is (Pair p q) = ap₂ pair_by (word_at_told p) (word_at_told q)
 
   pub axioms_told : (axioms : List AxiomSlot) → axioms_by (told_properties limits words) axioms ≡ axioms_of (kept_words limits words axioms)
-  axioms_told axioms = ap (fold (insert_key pair_cmp) []) (flat_map_same (pair_in told) (pair_told words.dict) axioms (λ a m. pair_is a))
+  axioms_told axioms = ap (fold (insert_key pair_cmp) []) (flat_all (pair_in told) (pair_told words.dict) axioms (λ a m. pair_is a))
 
   -- ---- files
   pub file_is_told : (at : ℕ → List ℕ) (f : Filed) → file_by limits (told_properties limits words) at f.rec ≡ file_told limits words.dict at f
   file_is_told at f =
       let make : List (List ℕ) → File = λ ws. record { name = f.rec.name; bytes = bytes_told limits at f.rec; assigned = set_of ws } in
-      ap make (flat_map_same (λ n. option_to_list (word_at told n)) (λ n. option_to_list (word_of words.dict n)) f.rec.tags (λ n m. ap (λ o. option_to_list o) (word_at_told n)))
+      ap make (flat_all (λ n. option_to_list (word_at told n)) (λ n. option_to_list (word_of words.dict n)) f.rec.tags (λ n m. ap (λ o. option_to_list o) (word_at_told n)))
 
   -- ---- slots
   module _ (at : ℕ → List ℕ) (spelled : WordsAreSpelled limits at words limits.props) where

@@ -23,7 +23,7 @@ pub refile-requires-clause-sound : goal.refile-requires-clause-sound
 refile-requires-clause-sound c =
     let l = c.make_way-way.new.parts in
     let make : List ℕ → FileRecord → FileRecord = λ name rec. record rec { name = name; tags = c.make_way-way.result.tags.items } in
-    ap (is_sound_record l.dict l.limits.blocks) (ap₂ make c.copied.ensures c.rec.view_is) ∙ record_sound c.args.parts.now c.make_way-way.new.parts c.args.slot c.args.name.now c.args.assigned.now c.args.payload.now c.make_way-way.result.rec c.make_way-way.result.tags.items c.requires.form c.requires.may c.make_way-way.ensures.way
+    ap (is_sound_record l.limits.version l.dict l.limits.blocks) (ap₂ make c.copied.ensures c.rec.view_is) ∙ record_sound c.args.parts.now c.make_way-way.new.parts c.args.slot c.args.name.now c.args.assigned.now c.args.payload.now c.make_way-way.result.rec c.make_way-way.result.tags.items c.requires.form c.requires.may c.make_way-way.ensures.way
 
 pub refile-requires-clause-blocks : goal.refile-requires-clause-blocks
 refile-requires-clause-blocks c = ap (λ (rec : FileRecord). are_free c.make_way-way.new.parts.taken rec.blocks) c.rec.view_is ∙ blocks_free c.args.parts.now c.make_way-way.new.parts c.args.slot c.args.name.now c.args.assigned.now c.args.payload.now c.make_way-way.result.rec c.make_way-way.result.tags.items c.requires.form c.requires.may c.make_way-way.ensures.way
