@@ -3,7 +3,7 @@
 ghost use Rattle.std.specs.Prelude.{◌≡◌, map};
 ghost use Rattle.std.specs.String.{string_bytes};
 ghost use Rattle.lis_words.specs.Words.{same_word};
-ghost use Rattle.lis_shell.specs.Words.{limits_of, grow_number_of, task_of_five, task_of, length_for};
+ghost use Rattle.lis_shell.specs.Words.{limits_of, grow_number_of, task_of_two, task_of_five, task_of, length_for};
 
 use lis_model::limits::{Limits, image_blocks, is_blocks_limit, is_files_limit, is_props_limit};
 use lis_words::read_count;
@@ -69,6 +69,7 @@ fn grow_number_of(digits: &[u8]) -> Option<u32>
 }
 
 fn task_of_two(word: &String) -> Option<Task>
+    ensures { result ≡ task_of_two (string_bytes word.now) }
 {
     if is_word(word, b"run") {
         return Some(Task::Run);
