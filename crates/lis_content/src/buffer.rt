@@ -48,6 +48,7 @@ fn read_front<D: Disk>(
     size: u32,
 ) -> Result<(), Failed>
     requires short { size ≤ length items.old }
+    requires few { size ≤ 1048576 }
     requires count { length blocks.now ≡ slot_count size }
     requires home { 578 ≤ base }
     requires within { IsTrue (are_within base journal.now.blocks blocks.now) }
@@ -146,7 +147,7 @@ impl Buffer {
         requires unbroken { journal.now.is_broken ≡ false }
         requires long { 4096 * journal.now.blocks ≤ (D.meaning disk.old).len }
         ensures read { OnOk result ((kept : ℕ → List ℕ) → Fits journal.now (D.meaning disk.old) kept
-        → IsTrue (are_within base journal.now.blocks (content_blocks base blocks.now size (looked journal.now.staged kept)))
+            → IsTrue (are_within base journal.now.blocks (content_blocks base blocks.now size (looked journal.now.staged kept)))
             → self.new ≡ file_content base blocks.now size (looked journal.now.staged kept)) }
         ensures size { OnOk result (length self.new ≡ size) }
         ensures run { IsDiskRun (D.meaning disk.old) (D.meaning disk.new) }

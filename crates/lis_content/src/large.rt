@@ -1,6 +1,7 @@
 //! The bytes of a file with an index block where a slot has too few numbers: read, and dropped.
 
-ghost use Rattle.std.specs.Prelude.{◌≡◌, ◌+◌, ◌*◌, ◌<◌, ◌≤◌, ℕ, List, None, ⊥, false, length, slice_index, slice_set, IsTrue, IfOk, IfSome, OnOk, OnErr};
+ghost use Rattle.std.specs.Prelude.{◌≡◌, ◌+◌, ◌*◌, ◌<◌, ◌≤◌, ◌==◌, ℕ, List, None, false, length, slice_index, slice_set, IsTrue, IfOk, IfSome, OnOk, OnErr};
+ghost use Rattle.std.specs.List.{list_all};
 ghost use Rattle.lis_ports.specs.Runs.{IsDiskRun, Leaves};
 ghost use Rattle.lis_ports.specs.Calls.{HasCause, IsUnchanged};
 ghost use Rattle.lis_model.specs.State.{blocks_needed, blocks_taken};
@@ -205,12 +206,20 @@ fn read_index<D: Disk>(
     requires long { 4096 * journal.now.blocks ≤ (D.meaning disk.old).len }
     ensures numbers { IfOk result (λ numbers. (kept : ℕ → List ℕ) → Fits journal.now (D.meaning disk.old) kept
         → numbers.items ≡ numbers_in count (look journal.now.staged n (kept n))) }
+    ensures count { IfOk result (λ numbers. length numbers.items ≡ count) }
     ensures asks { Asks journal.now (D.meaning disk.old) (D.meaning disk.new) }
     ensures cause { HasCause (D.meaning disk.old).disk_faults (D.meaning disk.new).disk_faults result }
 {
     let mut block = [0; BLOCK_LEN];
     read_home(journal, disk, n, &mut block)?;
     Ok(numbers_in(&block, count))
+}
+
+// Whether each of these bytes is zero.
+fn are_zeros(bytes: &[u8]) -> bool
+    ensures { result ≡ list_all (λ b. b == 0) bytes.now }
+{
+    bytes.iter().all(|byte| *byte == 0)
 }
 
 /// The numbers that an index block has, for a content of so many bytes. None comes exactly where the block is out of form: where something
@@ -223,7 +232,7 @@ pub fn index_numbers(block: &[u8], size: u32) -> Option<ArrayVec<u16, 256>>
 {
     let count = size.div_ceil(BLOCK_LEN as u32) as usize;
     let (_, rest) = block.split_at(2 * count);
-    if rest.iter().any(|byte| *byte != 0) {
+    if !are_zeros(rest) {
         return None;
     }
     Some(numbers_in(block, count))
@@ -253,7 +262,6 @@ pub fn read_content<D: Disk>(
     requires count { length slot.now ≡ slot_count size }
     requires home { 578 ≤ base }
     requires within { IsTrue (are_within base journal.now.blocks slot.now) }
-    requires room { base ≤ journal.now.blocks }
     requires unbroken { journal.now.is_broken ≡ false }
     requires long { 4096 * journal.now.blocks ≤ (D.meaning disk.old).len }
     ensures read { OnOk result ((kept : ℕ → List ℕ) → Fits journal.now (D.meaning disk.old) kept

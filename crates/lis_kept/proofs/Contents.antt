@@ -1,5 +1,5 @@
 -- The bytes and the blocks of a file: where other blocks change, and where it has no index block.
-use Rattle.std.proofs.Common.{◌≡◌, refl, sym, ◌∙◌, subst, ℕ, ◌+◌, ◌≤◌, ◌==◌, ◌&&◌, if◌then◌else◌, nat_lt, Bool, true, false, List, length}
+use Rattle.std.proofs.Common.{◌≡◌, refl, sym, ◌∙◌, subst, ℕ, ◌+◌, ◌≤◌, ◌==◌, ◌&&◌, if◌then◌else◌, nat_lt, Bool, true, false, List, length, arith}
 use Rattle.std.proofs.lemmas.Bool.{le-ltb, eqb-true, cond-false}
 use Rattle.lis_graph.proofs.Members.{Among, among_from_any, among_right}
 use Rattle.lis_content.specs.Content.{content}
@@ -30,6 +30,14 @@ pub slot_counted : (version : ℕ) (dict : Dict) (blocks : ℕ) (rec : FileRecor
 slot_counted version dict blocks rec sound =
     let form = record_in_form version dict blocks rec sound in
     few_blocks version rec.size rec.blocks form.blocks ∙ slot_blocks_counted version rec.size form.small
+
+-- in each version a file has at most a mebibyte
+pub size_bounded : (version : ℕ) (dict : Dict) (blocks : ℕ) (rec : FileRecord) → is_sound_record version dict blocks rec ≡ true → rec.size ≤ 1048576
+size_bounded version dict blocks rec sound = by (version == 2) (record_in_form version dict blocks rec sound).small
+  where
+    by : (two : Bool) → rec.size ≤ (if two then 1048576 else 65536) → rec.size ≤ 1048576
+    by true le = le
+    by false le = omega (arith, le)
 
 -- ---- a file where other blocks change
 -- A file stays where its blocks hold the same. Its index block is among them.
