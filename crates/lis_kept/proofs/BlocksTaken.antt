@@ -1,5 +1,5 @@
 -- Blocks that are taken for a content, or given back.
-use Rattle.std.proofs.Common.{◌≡◌, refl, sym, ap, ◌∙◌, subst, ℕ, zero, suc, ◌+◌, ◌^◌, ◌<◌, ◌≤◌, ◌==◌, ◌&&◌, ◌||◌, if◌then◌else◌, cond, nat_lt, not, Bool, true, false, List, [], ◌∷◌, length, drop, set, Result, Ok, Err, MatchResult, is_some, arith, length-set}
+use Rattle.std.proofs.Common.{◌≡◌, refl, sym, ap, ◌∙◌, subst, ℕ, zero, suc, ◌+◌, ◌^◌, ◌<◌, ◌≤◌, ◌==◌, ◌&&◌, ◌||◌, if◌then◌else◌, cond, nat_lt, not, Bool, true, false, List, [], ◌∷◌, length, drop, set, Result, Ok, Err, OnErr, MatchResult, is_some, arith, length-set}
 use Rattle.std.specs.List.{list_all}
 use Rattle.std.proofs.lemmas.Bool.{and_parts, and_from, cond-false, eq-eqb, ne_eqb, ltb-true, lt-ltb}
 use Rattle.lis_ports.specs.Meaning.{Meaning}
@@ -122,7 +122,7 @@ placed_fills p taken old before after blocks places = record {
 }
 
 module _ (p : Kept) (t : Taxonomy) (held : AreHeld p t) (bytes numbers : List ℕ) (taken : List Bool) (old new : Held) (before after : Meaning) (few : length bytes ≤ file_limit p.limits.version)
-    (unstaged : old.staged ≡ []) (placed : IsPlaced (data_start p.limits) bytes p.taken taken old new before after numbers) where
+    (unstaged : old.staged ≡ []) (two : p.limits.version ≡ 2) (placed : IsPlaced (data_start p.limits) bytes p.taken taken old new before after numbers) where
   slot_apart : are_distinct numbers ≡ true
   slot_apart =
       subst (λ ns. are_distinct ns ≡ true) (sym placed.slot_is)
@@ -158,6 +158,8 @@ module _ (p : Kept) (t : Taxonomy) (held : AreHeld p t) (bytes numbers : List �
     placed = λ n among. sym (home_among (data_start p.limits) placed.blocks n) ∙ (ap (λ (h : Held). is_among h.placed n) (sym placed.lays.journal) ∙ among);
     few_staged = omega (arith, ap length staged_then);
     lands = placed_lands;
+    stays = λ kept fits n none. (placed.lays.fits kept fits).2 n (sym (home_among (data_start p.limits) placed.blocks n) ∙ (ap (λ (h : Held). is_among h.placed n) (sym placed.lays.journal) ∙ none));
+    still = λ one. absurd (omega (arith, one, two));
   }
     where
       free : are_free p.taken numbers ≡ true
@@ -208,6 +210,8 @@ module _ (p : Kept) (t : Taxonomy) (held : AreHeld p t) (bytes numbers : List �
     placed = λ n among. absurd (let none : is_among new.placed n ≡ false = ap (λ ns. is_among ns n) (put.placed ∙ unplaced) in let e : true ≡ false = sym among ∙ none in cc);
     few_staged = omega (arith, put.few, put.count, short, ap length unstaged);
     lands = staged_lands;
+    stays = λ kept fits n none. refl;
+    still = λ one. (refl, put.placed ∙ unplaced);
   }
 
 -- ---- how a put ends
@@ -215,6 +219,7 @@ module _ (p : Kept) (t : Taxonomy) (held : AreHeld p t) (bytes numbers : List �
 pub record PutEnds {T : Type 0} (items : T → List ℕ) (bytes : List ℕ) (k q : Kept) (t : Taxonomy) (old new : Held) (before after : Meaning) (put : Result T PutFault) : Type 0 where
   pub held : AreHeld q t
   pub ended : MatchResult put (λ numbers. Puts bytes (items numbers) k q old new before after) (λ fault. PutTorn k q old new before after)
+  pub torn : OnErr put (k.limits.version ≡ 2)
 
 -- what is asked of a put
 pub record MayPut (k : Kept) (bytes : List ℕ) (old : Held) : Type 0 where
@@ -258,10 +263,10 @@ module _ {T : Type 0} (items : T → List ℕ) (k p : Kept) (t : Taxonomy) (is :
         let P : Kept → Type 0 = λ q. Puts bytes (items s) q after_put old new before after in
         record {
           held = held_put placed.lays.places.len;
-          ended = subst P is (placed_puts p t held bytes (items s) taken old new before after may.short may.unstaged placed after_put (takes_put placed.lays.places.len));
+          ended = subst P is (placed_puts p t held bytes (items s) taken old new before after may.short may.unstaged two placed after_put (takes_put placed.lays.places.len));          torn = tt;
         }
     ends_placed (Err NoSpace) refused = absurd (omega (arith, refused.2, needed_enough))
-    ends_placed (Err Disk) torn = record { held = held_put torn.1.places.len; ended = torn_off torn.1 }
+    ends_placed (Err Disk) torn = record { held = held_put torn.1.places.len; ended = torn_off torn.1; torn = ap (λ (q : Kept). q.limits.version) (sym is) ∙ two }
 
     pub placed_ends : (put : Result T PutFault) → MatchResult put (λ s. IsPlaced base bytes p.taken taken old new before after (items s)) (λ fault. IsUnplaced base bytes p.taken taken old new before after fault)
         → PutEnds items bytes k after_put t old new before after put
@@ -287,7 +292,7 @@ module _ {T : Type 0} (items : T → List ℕ) (k p : Kept) (t : Taxonomy) (is :
         let P : Kept → Type 0 = λ q. Puts bytes (items s) q after_put old new m m in
         record {
           held = held_put is_put.len;
-          ended = subst P is (staged_puts p t held bytes (items s) taken old new m may.short few_bytes may.unstaged may.unplaced is_put after_put (takes_put is_put.len));
+          ended = subst P is (staged_puts p t held bytes (items s) taken old new m may.short few_bytes may.unstaged may.unplaced is_put after_put (takes_put is_put.len));          torn = tt;
         }
     ends_staged (Err NoSpace) refused = absurd (omega (arith, refused.2, content_enough))
     ends_staged (Err Disk) never = absurd never
@@ -302,6 +307,9 @@ ended_ok P Q put x is ended = subst (λ r. MatchResult r P Q) is ended
 
 pub ended_err : {T : Type 0} (P : T → Type 0) (Q : PutFault → Type 0) (put : Result T PutFault) (fault : PutFault) → put ≡ Err fault → MatchResult put P Q → Q fault
 ended_err P Q put fault is ended = subst (λ r. MatchResult r P Q) is ended
+
+pub torn_err : {T : Type 0} (P : Type 0) (put : Result T PutFault) (fault : PutFault) → put ≡ Err fault → OnErr put P → P
+torn_err P put fault is torn = subst (λ r. OnErr r P) is torn
 
 -- ---- blocks that are given back
 -- the homes of the blocks that a slot numbers are blocks of the image

@@ -49,6 +49,7 @@ impl Parts {
         ensures ended { MatchResult result
             (λ numbers. Puts bytes.now numbers.items self.old self.new journal.old journal.new (D.meaning disk.old) (D.meaning disk.new))
             (λ _. PutTorn self.old self.new journal.old journal.new (D.meaning disk.old) (D.meaning disk.new)) }
+        ensures torn { OnErr result (self.old.limits.version ≡ 2) }
         ensures run { IsDiskRun (D.meaning disk.old) (D.meaning disk.new) }
         ensures cause { HasCause (D.meaning disk.old).disk_faults (D.meaning disk.new).disk_faults result }
     {
