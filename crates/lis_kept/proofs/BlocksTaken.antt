@@ -263,7 +263,8 @@ module _ {T : Type 0} (items : T → List ℕ) (k p : Kept) (t : Taxonomy) (is :
         let P : Kept → Type 0 = λ q. Puts bytes (items s) q after_put old new before after in
         record {
           held = held_put placed.lays.places.len;
-          ended = subst P is (placed_puts p t held bytes (items s) taken old new before after may.short may.unstaged two placed after_put (takes_put placed.lays.places.len));          torn = tt;
+          ended = subst P is (placed_puts p t held bytes (items s) taken old new before after may.short may.unstaged two placed after_put (takes_put placed.lays.places.len));
+          torn = tt;
         }
     ends_placed (Err NoSpace) refused = absurd (omega (arith, refused.2, needed_enough))
     ends_placed (Err Disk) torn = record { held = held_put torn.1.places.len; ended = torn_off torn.1; torn = ap (λ (q : Kept). q.limits.version) (sym is) ∙ two }
@@ -292,7 +293,8 @@ module _ {T : Type 0} (items : T → List ℕ) (k p : Kept) (t : Taxonomy) (is :
         let P : Kept → Type 0 = λ q. Puts bytes (items s) q after_put old new m m in
         record {
           held = held_put is_put.len;
-          ended = subst P is (staged_puts p t held bytes (items s) taken old new m may.short few_bytes may.unstaged may.unplaced is_put after_put (takes_put is_put.len));          torn = tt;
+          ended = subst P is (staged_puts p t held bytes (items s) taken old new m may.short few_bytes may.unstaged may.unplaced is_put after_put (takes_put is_put.len));
+          torn = tt;
         }
     ends_staged (Err NoSpace) refused = absurd (omega (arith, refused.2, content_enough))
     ends_staged (Err Disk) never = absurd never
@@ -322,11 +324,13 @@ slot_within k rec base blocks numbers sound from image are =
 pub gives : (k p : Kept) (t : Taxonomy) (rec : FileRecord) (journal : Held) (m : Meaning) (base size : ℕ) (numbers : List ℕ) (taken marks : List Bool) → p ≡ k → AreHeld p t → length taken ≡ length p.taken
     → marks ≡ set p.marks (bitmap_start p.limits) true → base ≡ data_start p.limits → numbers ≡ rec.blocks → size ≡ rec.size
     → ((kept : ℕ → List ℕ) → Fits journal m kept → taken ≡ given p.taken (file_blocks base numbers size (looked journal.staged kept)))
+    → (is_large size ≡ false → taken ≡ given p.taken numbers)
     → Gives rec k (record p { taken = taken; marks = marks }) journal m
-gives k p t rec journal m base size numbers taken marks is held len are_marks from are sized given_back =
+gives k p t rec journal m base size numbers taken marks is held len are_marks from are sized given_back small_back =
     let P : Kept → Type 0 = λ q. Gives rec q (record p { taken = taken; marks = marks }) journal m in
     subst P is (record {
       takes = (takes p p t taken marks refl held len are_marks).1;
+      small = λ small. small_back (ap is_large sized ∙ small) ∙ ap (given p.taken) are;
       given = λ kept fits.
           given_back kept fits
           ∙ (ap (λ b. given p.taken (file_blocks b numbers size (looked journal.staged kept))) from

@@ -7,6 +7,7 @@ use Rattle.lis_journal.specs.Images.{StandsBut, Fits, KeepsPast, is_among}
 use Rattle.lis_journal.specs.Phases.{looked}
 use Rattle.std.specs.List.{list_all}
 use Rattle.lis_content.specs.Content.{given, marked, are_free, are_distinct, has_home, has_number}
+use Rattle.lis_content.specs.Large.{is_large}
 use Rattle.lis_content.specs.Placing.{homes_of, HasFile}
 use Rattle.lis_dict.specs.Dict.{words, number_of, word_of, with_entry}
 use Rattle.lis_catalog.specs.Catalog.{rec_at, without_slot, with_filed}
@@ -105,9 +106,11 @@ pub record Takes (taken : List Bool) (p q : Kept) : Type 0 where
   pub len : length taken ≡ length p.taken
   pub marks : Marks 1 p q
 
--- The blocks of a file are given back: those that its slot and its index block number, by what the disk keeps under this journal.
+-- The blocks of a file are given back: those that its slot and its index block number, by what the disk keeps under this journal. Without
+-- an index block they are those of the slot, whatever the disk keeps.
 pub record Gives (rec : FileRecord) (p q : Kept) (journal : Held) (m : Meaning) : Type 0 where
   pub takes : Takes q.taken p q
+  pub small : is_large rec.size ≡ false → q.taken ≡ given p.taken rec.blocks
   pub given : (kept : ℕ → List ℕ) → Fits journal m kept → q.taken ≡ given p.taken (blocks_told p.limits (looked journal.staged kept) rec)
 
 -- Blocks hold a content: the disk keeps the same as before in all others, and in these the bytes, which the numbers tell.
