@@ -3,10 +3,11 @@ use Rattle.std.proofs.Common.{◌≡◌, refl, sym, ap, ◌∙◌, subst, ℕ, z
 use Rattle.std.specs.List.{list_all}
 use Rattle.std.proofs.lemmas.Bool.{and_parts, and_from, cond-false, eq-eqb, ne_eqb, ltb-true, lt-ltb}
 use Rattle.lis_ports.specs.Meaning.{Meaning}
+use Rattle.lis_ports.specs.Runs.{Leaves}
 use Rattle.lis_ports.proofs.Moments.{leaves_none}
 use Rattle.lis_journal.specs.Journal.{OpenRecords, Held}
 use Rattle.lis_journal.specs.Record.{Entry}
-use Rattle.lis_journal.specs.Images.{look, is_among, FitsAt, Fits}
+use Rattle.lis_journal.specs.Images.{look, is_among, StandsBut, FitsAt, Fits}
 use Rattle.lis_journal.specs.Phases.{looked}
 use Rattle.lis_blockmap.specs.Bitmap.{free_count}
 use Rattle.lis_content.specs.Content.{given, are_free, are_distinct, are_within, has_number, has_home}
@@ -159,7 +160,9 @@ module _ (p : Kept) (t : Taxonomy) (held : AreHeld p t) (bytes numbers : List �
     few_staged = omega (arith, ap length staged_then);
     lands = placed_lands;
     stays = λ kept fits n none. (placed.lays.fits kept fits).2 n (sym (home_among (data_start p.limits) placed.blocks n) ∙ (ap (λ (h : Held). is_among h.placed n) (sym placed.lays.journal) ∙ none));
-    still = λ one. absurd (omega (arith, one, two));
+    moments = λ kept fits.
+        subst (λ ns. Leaves before after (StandsBut old.blocks ns kept)) (sym (ap (λ (h : Held). h.placed) placed.lays.journal)) (placed.lays.places.moments kept fits);
+    unplaced = λ one. absurd (omega (arith, one, two));
   }
     where
       free : are_free p.taken numbers ≡ true
@@ -211,7 +214,8 @@ module _ (p : Kept) (t : Taxonomy) (held : AreHeld p t) (bytes numbers : List �
     few_staged = omega (arith, put.few, put.count, short, ap length unstaged);
     lands = staged_lands;
     stays = λ kept fits n none. refl;
-    still = λ one. (refl, put.placed ∙ unplaced);
+    moments = λ kept fits. leaves_none m _;
+    unplaced = λ one. put.placed ∙ unplaced;
   }
 
 -- ---- how a put ends

@@ -127,8 +127,8 @@ pub record Fills (blocks : List ℕ) (p : Kept) (old : Held) (before after : Mea
   pub moments : (kept : ℕ → List ℕ) → Fits old before kept → Leaves before after (StandsBut old.blocks (homes_of (data_start p.limits) blocks) kept)
   pub past : (kept : ℕ → List ℕ) → Fits old before kept → KeepsPast old.blocks before after
 
--- A content is put into free blocks, which are taken: staged in version 1, without a call of the disk, and placed in version 2, with an
--- index block where they are many. `old` and `new` are the journal before and after.
+-- A content is put into free blocks, which are taken: staged in version 1, and placed in version 2, with an index block where they are
+-- many. `old` and `new` are the journal before and after.
 pub record Puts (bytes numbers : List ℕ) (p q : Kept) (old new : Held) (before after : Meaning) : Type 0 where
   pub blocks : List ℕ
   pub fills : Fills blocks p old before after
@@ -141,7 +141,8 @@ pub record Puts (bytes numbers : List ℕ) (p q : Kept) (old new : Held) (before
   pub few_staged : length new.staged ≤ 16
   pub lands : (kept : ℕ → List ℕ) → Fits old before kept → Lands p.limits bytes numbers blocks (looked old.staged kept) new after
   pub stays : (kept : ℕ → List ℕ) (fits : Fits old before kept) (n : ℕ) → is_among new.placed n ≡ false → (lands kept fits).kept n ≡ kept n
-  pub still : p.limits.version ≡ 1 → (after ≡ before) × (new.placed ≡ [])
+  pub moments : (kept : ℕ → List ℕ) → Fits old before kept → Leaves before after (StandsBut old.blocks new.placed kept)
+  pub unplaced : p.limits.version ≡ 1 → new.placed ≡ []
 
 -- The disk failed: some blocks are taken, and only what is on the disk counts.
 pub record PutTorn (p q : Kept) (old new : Held) (before after : Meaning) : Type 0 where
