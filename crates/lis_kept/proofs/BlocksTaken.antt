@@ -158,6 +158,7 @@ module _ (p : Kept) (t : Taxonomy) (held : AreHeld p t) (bytes numbers : List �
     broken = ap (λ (h : Held). h.is_broken) placed.lays.journal;
     placed = λ n among. sym (home_among (data_start p.limits) placed.blocks n) ∙ (ap (λ (h : Held). is_among h.placed n) (sym placed.lays.journal) ∙ among);
     few_staged = omega (arith, ap length staged_then);
+    others = λ n was out. ap (λ (es : List Entry). look es n was) (staged_then ∙ sym unstaged);
     lands = placed_lands;
     stays = λ kept fits n none. (placed.lays.fits kept fits).2 n (sym (home_among (data_start p.limits) placed.blocks n) ∙ (ap (λ (h : Held). is_among h.placed n) (sym placed.lays.journal) ∙ none));
     moments = λ kept fits.
@@ -212,6 +213,7 @@ module _ (p : Kept) (t : Taxonomy) (held : AreHeld p t) (bytes numbers : List �
     broken = put.broken;
     placed = λ n among. absurd (let none : is_among new.placed n ≡ false = ap (λ ns. is_among ns n) (put.placed ∙ unplaced) in let e : true ≡ false = sym among ∙ none in cc);
     few_staged = omega (arith, put.few, put.count, short, ap length unstaged);
+    others = put.others;
     lands = staged_lands;
     stays = λ kept fits n none. refl;
     moments = λ kept fits. leaves_none m _;
