@@ -136,7 +136,7 @@ module _ (p : Kept) (t : Taxonomy) (held : AreHeld p t) (bytes numbers : List �
   staged_then : new.staged ≡ []
   staged_then = ap (λ (h : Held). h.staged) placed.lays.journal ∙ unstaged
 
-  placed_lands : (kept : ℕ → List ℕ) → Fits old before kept → Lands p.limits bytes numbers placed.blocks (looked old.staged kept) new after
+  abbrev placed_lands : (kept : ℕ → List ℕ) → Fits old before kept → Lands p.limits bytes numbers placed.blocks (looked old.staged kept) new after
   placed_lands kept fits =
       let end = placed.lays.fits kept fits in
       let H : List Entry → Type 0 = λ es. HasFile (data_start p.limits) bytes numbers placed.blocks (looked es end.0) in
@@ -185,7 +185,7 @@ module _ (p : Kept) (t : Taxonomy) (held : AreHeld p t) (bytes numbers : List �
       let P : List ℕ → Type 0 = λ ns. FitsAt new.blocks new.records ns m kept in
       subst P (sym put.placed) (subst R (sym put.records) (subst B (sym put.image) fits))
 
-  staged_lands : (kept : ℕ → List ℕ) → Fits old m kept → Lands p.limits bytes numbers numbers (looked old.staged kept) new m
+  abbrev staged_lands : (kept : ℕ → List ℕ) → Fits old m kept → Lands p.limits bytes numbers numbers (looked old.staged kept) new m
   staged_lands kept fits = record {
     kept = kept;
     fits = staged_fits kept fits;
