@@ -1,4 +1,4 @@
-pub mod Limits
+pub mod Elsewhere
 pub mod SlotOrder
 pub mod Points
 pub mod Marks

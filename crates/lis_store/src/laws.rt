@@ -1,6 +1,6 @@
 //! Laws on images that stand for a state, each the contract of an empty function.
 
-ghost use Rattle.lis_store.specs.Laws.{OneState, FittingStoresStand, FittingStoresTell, FittingStoresHold, FittingStoresCount, FittingStoresHaveAxioms, FittingStoresHaveTags, EmptyStoresAreSound, EmptyStoresFit, ChangesStand, CreateIsAdd};
+ghost use Rattle.lis_store.specs.Laws.{OneState, FittingStoresStand, FittingStoresTell, FittingStoresHold, FittingStoresCount, FittingStoresHaveAxioms, FittingStoresHaveTags, EmptyStoresAreSound, EmptyStoresFit, PlacedStand, ChangesStand, CreateIsAdd};
 
 use lis_ports::Disk;
 
@@ -47,6 +47,11 @@ pub fn empty_stores_are_sound()
 /// A store without words and files fits a disk of a blank image.
 pub fn empty_stores_fit<D: Disk>(disk: &D)
     ensures { EmptyStoresFit (D.meaning disk.now) }
+{}
+
+/// While contents are placed in free blocks, images stand for the state as before.
+pub fn placed_stand()
+    ensures { PlacedStand }
 {}
 
 /// A change of what is kept leads from images of one state to images of the next.
