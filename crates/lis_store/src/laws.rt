@@ -54,7 +54,7 @@ pub fn placed_stand()
     ensures { PlacedStand }
 {}
 
-/// A change of what is kept leads from images of one state to images of the next.
+/// Images that have the blocks by which memory tells a state stand for it.
 pub fn changes_stand()
     ensures { ChangesStand }
 {}
