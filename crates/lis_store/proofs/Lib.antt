@@ -3,6 +3,7 @@ pub mod SlotOrder
 pub mod Points
 pub mod Marks
 pub mod Spelled
+pub mod FileBlocks
 pub mod OneState
 pub mod Standing
 pub mod Empty
