@@ -110,7 +110,7 @@ module _ (p : Kept) (t : Taxonomy) (held : AreHeld p t) (numbers : List ℕ) (fr
 
 -- ---- a content that is placed
 -- what is among the homes of blocks is one of them
-home_among : (base : ℕ) (blocks : List ℕ) (n : ℕ) → is_among (homes_of base blocks) n ≡ has_home base blocks n
+pub home_among : (base : ℕ) (blocks : List ℕ) (n : ℕ) → is_among (homes_of base blocks) n ≡ has_home base blocks n
 home_among base [] n = refl
 home_among base (b ∷ blocks) n = ap (λ t. base + b == n || t) (home_among base blocks n)
 

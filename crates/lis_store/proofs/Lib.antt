@@ -1,8 +1,9 @@
-pub mod Limits
+pub mod Elsewhere
 pub mod SlotOrder
 pub mod Points
 pub mod Marks
 pub mod Spelled
+pub mod FileBlocks
 pub mod OneState
 pub mod Standing
 pub mod Empty
