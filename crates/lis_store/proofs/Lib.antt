@@ -69,6 +69,7 @@ pub mod Unaxiom
 pub mod Forgot
 pub mod Vacated
 pub mod Left
+pub mod Housed
 pub mod Replaced
 pub mod ReplacingIn
 pub mod ReplacedTells
