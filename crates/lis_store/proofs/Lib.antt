@@ -70,6 +70,7 @@ pub mod Forgot
 pub mod Vacated
 pub mod Left
 pub mod Housed
+pub mod Renewed
 pub mod Replaced
 pub mod ReplacingIn
 pub mod ReplacedTells
