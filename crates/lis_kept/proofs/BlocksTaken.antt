@@ -146,8 +146,8 @@ module _ (p : Kept) (t : Taxonomy) (held : AreHeld p t) (bytes numbers : List �
         holds = subst H (sym staged_then) end.3;
       }
 
-  placed_puts : (q : Kept) → Takes taken p q → Puts bytes numbers p q old new before after
-  placed_puts q takes = record {
+  placed_puts : (q : Kept) → p.limits.version ≡ 2 → Takes taken p q → Puts bytes numbers p q old new before after
+  placed_puts q two takes = record {
     blocks = placed.blocks;
     fills = placed_fills p taken old before after placed.blocks placed.lays.places;
     takes = subst (λ (ts : List Bool). Takes ts p q) placed.lays.places.marks takes;
@@ -157,6 +157,7 @@ module _ (p : Kept) (t : Taxonomy) (held : AreHeld p t) (bytes numbers : List �
     broken = ap (λ (h : Held). h.is_broken) placed.lays.journal;
     placed = λ n among. sym (home_among (data_start p.limits) placed.blocks n) ∙ (ap (λ (h : Held). is_among h.placed n) (sym placed.lays.journal) ∙ among);
     few_staged = omega (arith, ap length staged_then);
+    unwritten = λ one. absurd (omega (arith, one, two));
     others = λ n was out. ap (λ (es : List Entry). look es n was) (staged_then ∙ sym unstaged);
     lands = placed_lands;
   }
@@ -208,6 +209,7 @@ module _ (p : Kept) (t : Taxonomy) (held : AreHeld p t) (bytes numbers : List �
     broken = put.broken;
     placed = λ n among. absurd (let none : is_among new.placed n ≡ false = ap (λ ns. is_among ns n) (put.placed ∙ unplaced) in let e : true ≡ false = sym among ∙ none in cc);
     few_staged = omega (arith, put.few, put.count, short, ap length unstaged);
+    unwritten = λ one. (put.placed, λ honest. leaves_none m m.images);
     others = put.others;
     lands = staged_lands;
   }
@@ -217,6 +219,7 @@ module _ (p : Kept) (t : Taxonomy) (held : AreHeld p t) (bytes numbers : List �
 pub record PutEnds {T : Type 0} (items : T → List ℕ) (bytes : List ℕ) (k q : Kept) (t : Taxonomy) (old new : Held) (before after : Meaning) (put : Result T PutFault) : Type 0 where
   pub held : AreHeld q t
   pub ended : MatchResult put (λ numbers. Puts bytes (items numbers) k q old new before after) (λ fault. PutTorn k q old new before after)
+  pub version : MatchResult put (λ _. Unit {0}) (λ _. k.limits.version ≡ 2)
 
 -- what is asked of a put
 pub record MayPut (k : Kept) (bytes : List ℕ) (old : Held) : Type 0 where
@@ -260,10 +263,11 @@ module _ {T : Type 0} (items : T → List ℕ) (k p : Kept) (t : Taxonomy) (is :
         let P : Kept → Type 0 = λ q. Puts bytes (items s) q after_put old new before after in
         record {
           held = held_put placed.lays.places.len;
-          ended = subst P is (placed_puts p t held bytes (items s) taken old new before after may.short may.unstaged placed after_put (takes_put placed.lays.places.len));
+          version = tt;
+          ended = subst P is (placed_puts p t held bytes (items s) taken old new before after may.short may.unstaged placed after_put two (takes_put placed.lays.places.len));
         }
     ends_placed (Err NoSpace) refused = absurd (omega (arith, refused.2, needed_enough))
-    ends_placed (Err Disk) torn = record { held = held_put torn.1.places.len; ended = torn_off torn.1 }
+    ends_placed (Err Disk) torn = record { held = held_put torn.1.places.len; ended = torn_off torn.1; version = subst (λ (q : Kept). q.limits.version ≡ 2) is two }
 
     pub placed_ends : (put : Result T PutFault) → MatchResult put (λ s. IsPlaced base bytes p.taken taken old new before after (items s)) (λ fault. IsUnplaced base bytes p.taken taken old new before after fault)
         → PutEnds items bytes k after_put t old new before after put
@@ -289,6 +293,7 @@ module _ {T : Type 0} (items : T → List ℕ) (k p : Kept) (t : Taxonomy) (is :
         let P : Kept → Type 0 = λ q. Puts bytes (items s) q after_put old new m m in
         record {
           held = held_put is_put.len;
+          version = tt;
           ended = subst P is (staged_puts p t held bytes (items s) taken old new m may.short few_bytes may.unstaged may.unplaced is_put after_put (takes_put is_put.len));
         }
     ends_staged (Err NoSpace) refused = absurd (omega (arith, refused.2, content_enough))

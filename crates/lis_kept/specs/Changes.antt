@@ -125,7 +125,7 @@ pub record Fills (blocks : List ℕ) (p : Kept) (old : Held) (before after : Mea
   pub past : (kept : ℕ → List ℕ) → Fits old before kept → KeepsPast old.blocks before after
 
 -- A content is put into free blocks, which are taken: staged in version 1, and placed in version 2, with an index block where they are
--- many. `old` and `new` are the journal before and after.
+-- many. `old` and `new` are the journal before and after. Nothing else is staged or placed, and in version 1 nothing is written.
 pub record Puts (bytes numbers : List ℕ) (p q : Kept) (old new : Held) (before after : Meaning) : Type 0 where
   pub blocks : List ℕ
   pub fills : Fills blocks p old before after
@@ -136,6 +136,7 @@ pub record Puts (bytes numbers : List ℕ) (p q : Kept) (old new : Held) (before
   pub broken : new.is_broken ≡ old.is_broken
   pub placed : (n : ℕ) → is_among new.placed n ≡ true → has_home (data_start p.limits) blocks n ≡ true
   pub few_staged : length new.staged ≤ 16
+  pub unwritten : p.limits.version ≡ 1 → (new.placed ≡ old.placed) × (IsTrue before.is_honest → Leaves before after before.images)
   pub others : (n : ℕ) (was : List ℕ) → has_home (data_start p.limits) blocks n ≡ false → look new.staged n was ≡ look old.staged n was
   pub lands : (kept : ℕ → List ℕ) → Fits old before kept → Lands p.limits bytes numbers blocks (looked old.staged kept) new after
 
