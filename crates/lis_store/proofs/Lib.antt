@@ -69,6 +69,8 @@ pub mod Unaxiom
 pub mod Forgot
 pub mod Vacated
 pub mod Left
+pub mod Housed
+pub mod Renewed
 pub mod Replaced
 pub mod ReplacingIn
 pub mod ReplacedTells

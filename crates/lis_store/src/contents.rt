@@ -37,6 +37,7 @@ pub(crate) fn put_content<D: Disk>(
     ensures put { ContentPut payload.now parts.old parts.new journal.old journal.new (D.meaning disk.old) (D.meaning disk.new) result }
     ensures ended { ContentEnded is_broken.new result }
     ensures sound { AreSound parts.new }
+    ensures torn { OnErr result (parts.old.limits.version ≡ 2) }
     ensures run { IsDiskRun (D.meaning disk.old) (D.meaning disk.new) }
     ensures cause { HasChangeCause (D.meaning disk.old).disk_faults (D.meaning disk.new).disk_faults result }
 {
@@ -118,12 +119,15 @@ pub(crate) fn put_instead<D: Disk>(
     ensures renewed { (rec : FileRecord) → rec_at parts.old.catalog slot ≡ Some rec
         → ContentRenewed payload.now rec parts.old parts.new journal.old journal.new (D.meaning disk.old) (D.meaning disk.new) result }
     ensures ended { ContentEnded is_broken.new result }
+    ensures sound { AreSound parts.new }
     ensures run { IsDiskRun (D.meaning disk.old) (D.meaning disk.new) }
     ensures cause { HasChangeCause (D.meaning disk.old).disk_faults (D.meaning disk.new).disk_faults result }
 {
     if parts.limits().version == 2 {
         let numbers = put_content(parts, journal, is_broken, disk, payload)?;
         give_content(parts, journal, is_broken, disk, slot)?;
+        // Only its limits tell that memory is in form.
+        let _limits = parts.limits();
         return Ok(numbers);
     }
     give_content(parts, journal, is_broken, disk, slot)?;

@@ -32,7 +32,7 @@ fn mark_bitmap(marks: &mut Flags, limits: &Limits)
 
 impl Parts {
     /// Puts bytes into free blocks, which it takes, and answers the numbers that a slot has of them. In version 1 they are staged; in
-    /// version 2 they are placed, with an index block where they are many, and there alone the disk may fail. Then the journal is broken.
+    /// version 2 they are placed, with an index block where they are many. After a fault of the disk the journal is broken.
     pub fn put_content<D: Disk>(
         &mut self,
         journal: &mut Journal,
@@ -49,7 +49,7 @@ impl Parts {
         ensures ended { MatchResult result
             (λ numbers. Puts bytes.now numbers.items self.old self.new journal.old journal.new (D.meaning disk.old) (D.meaning disk.new))
             (λ _. PutTorn self.old self.new journal.old journal.new (D.meaning disk.old) (D.meaning disk.new)) }
-        ensures version { OnErr result (self.old.limits.version ≡ 2) }
+        ensures torn { OnErr result (self.old.limits.version ≡ 2) }
         ensures run { IsDiskRun (D.meaning disk.old) (D.meaning disk.new) }
         ensures cause { HasCause (D.meaning disk.old).disk_faults (D.meaning disk.new).disk_faults result }
     {

@@ -33,7 +33,7 @@ returns-clause-gives g c = λ rec is.
     let fields = c.rec-2.view_is ∙ same in
     gives c.args.self.now k c.self.inside.taxonomy rec c.args.journal.now (g.D.Disk.meaning c.args.disk.now) c.data_start-base.result c.rec-2.inside.size c.as_slice.result.now
     c.drop_large.new.map c.mark_bitmap.new.marks c.self.view_is c.self.invariant c.drop_large.ensures.len c.mark_bitmap.ensures c.data_start-base.ensures.start
-    (c.as_slice.ensures.value ∙ ap (λ (r : FileRecord). r.blocks) fields) (ap (λ (r : FileRecord). r.size) fields) c.in_ok-drop_large.ensures.given
+    (c.as_slice.ensures.value ∙ ap (λ (r : FileRecord). r.blocks) fields) (ap (λ (r : FileRecord). r.size) fields) c.in_ok-drop_large.ensures.given c.in_ok-drop_large.ensures.small
 
 pub drop_large-requires-clause-count : goal.drop_large-requires-clause-count
 drop_large-requires-clause-count g c =

@@ -1,7 +1,7 @@
 use Rattle.std.proofs.Common.{◌≡◌, ℕ, List}
 use Rattle.arrayvec.specs.ArrayVec.{ArrayVec}
 use Rattle.lis_kept.specs.Changes.{Puts, PutTorn}
-use Rattle.lis_kept.proofs.BlocksTaken.{MayPut, PutEnds, placed_ends, staged_ends, ended_ok, ended_err}
+use Rattle.lis_kept.proofs.BlocksTaken.{MayPut, PutEnds, placed_ends, staged_ends, ended_ok, ended_err, torn_err}
 use Rattle.lis_kept.specs.contracts.parts.Parts.{the_view}
 use Rattle.lis_kept.proofs.parts.Parts.put_content.Goals.{then-self-eq2, else-self-eq2, in-Ok, in-Err-Disk}
 use Rattle.lis_kept.proofs.parts.Parts.put_content.Goals as goal
@@ -57,8 +57,8 @@ returns-clause-ended g c =
       | in-Err-Disk w ↦ rw w.result-is (ended_err (λ ns. Puts c.args.bytes.now (items ns) k q old new before after) (λ _. PutTorn k q old new before after) c.if-self-eq2.put _ w.in-Err-Disk.is ends.ended)
     ]
 
-pub returns-clause-version : goal.returns-clause-version
-returns-clause-version g c =
+pub returns-clause-torn : goal.returns-clause-torn
+returns-clause-torn g c =
     let items : ArrayVec ℕ → List ℕ = λ ns. ns.items in
     let k = c.args.self.now in
     let v = the_view c.self.inside in
@@ -84,5 +84,5 @@ returns-clause-version g c =
     ] in
     elim c.match-put.branch [
       | in-Ok w ↦ rw w.result-is tt
-      | in-Err-Disk w ↦ rw w.result-is (ended_err (λ _. Unit {0}) (λ _. k.limits.version ≡ 2) c.if-self-eq2.put _ w.in-Err-Disk.is ends.version)
+      | in-Err-Disk w ↦ rw w.result-is (torn_err (k.limits.version ≡ 2) c.if-self-eq2.put _ w.in-Err-Disk.is ends.torn)
     ]
