@@ -128,8 +128,7 @@ pub record Fills (blocks : List ℕ) (p : Kept) (old : Held) (before after : Mea
   pub past : (kept : ℕ → List ℕ) → Fits old before kept → KeepsPast old.blocks before after
 
 -- A content is put into free blocks, which are taken: staged in version 1, and placed in version 2, with an index block where they are
--- many. `old` and `new` are the journal before and after.
--- Nothing else is staged or placed.
+-- many. `old` and `new` are the journal before and after. Nothing else is staged or placed.
 pub record Puts (bytes numbers : List ℕ) (p q : Kept) (old new : Held) (before after : Meaning) : Type 0 where
   pub blocks : List ℕ
   pub fills : Fills blocks p old before after
