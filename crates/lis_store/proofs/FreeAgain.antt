@@ -1,5 +1,5 @@
 -- How many blocks are free where some are given back.
-use Rattle.std.proofs.Common.{◌≡◌, ◌⊎◌, refl, sym, ap, ◌∙◌, subst, inl, inr, ℕ, ◌+◌, ◌<◌, ◌≤◌, ◌==◌, ◌&&◌, not, Bool, true, false, cond, if◌then◌else◌, List, [], ◌∷◌, length, filter, set, Some, arith, get_or-set_other}
+use Rattle.std.proofs.Common.{◌≡◌, ◌⊎◌, refl, sym, ap, ◌∙◌, subst, inl, inr, ℕ, ◌+◌, ◌<◌, ◌≤◌, ◌==◌, ◌&&◌, not, Bool, true, false, cond, if◌then◌else◌, List, [], ◌∷◌, length, filter, set, Option, Some, None, IsSome, arith, get_or-set_other}
 use Rattle.std.proofs.lemmas.Bool.{and_parts, both_ways, cases_lt, cond-false, eqb-true, ne_eqb, not-true, or_cases}
 use Rattle.std.proofs.lemmas.List.{set_past}
 use Rattle.std.proofs.lemmas.List.Sums.{sum_by-set}
@@ -54,6 +54,12 @@ free_given taken (b ∷ ns) apart =
     by true is rest same = omega (arith, rest, same, one_more_free taken b is)
     by false is rest same = omega (arith, rest, same, as_many_free taken b is)
 
+-- where each passes a test, all are left
+pub all_pass_filter : (test : ℕ → Bool) (ns : List ℕ) → ((n : ℕ) → Among ns n → test n ≡ true) → filter test ns ≡ ns
+all_pass_filter test [] each = refl
+all_pass_filter test (n ∷ ns) each =
+    ap (λ b. cond b (n ∷ filter test ns) (filter test ns)) (each n (inl refl)) ∙ ap (λ ms. n ∷ ms) (all_pass_filter test ns (λ m of. each m (inr of)))
+
 -- ---- versions
 -- a version that is not the second is the first
 pub first_version : (limits : Limits) → are_in_range limits ≡ true → (limits.version ≡ 2 → ⊥) → limits.version ≡ 1
@@ -66,6 +72,10 @@ first_version limits range not_two =
     by (inr two) = absurd (not_two (eqb-true limits.version 2 two))
 
 -- ---- a file whose blocks are given back
+pub rec_some : (o : Option FileRecord) → IsSome o → (rec : FileRecord) × (o ≡ Some rec)
+rec_some None some = absurd cc
+rec_some (Some rec) some = (rec, refl)
+
 module _ (p mid : Kept) (slot : ℕ) (rec : FileRecord) (there : rec_at p.catalog slot ≡ Some rec) (sound : AreSound p) (journal : Held) (m : Meaning) (gives : Gives rec p mid journal m) (size : ℕ)
     (not_two : p.limits.version ≡ 2 → ⊥) (enough : blocks_taken p.limits.version size ≤ free_instead p rec) where
   one : p.limits.version ≡ 1

@@ -79,8 +79,8 @@ module _ (p mid q : Kept) (sound : AreSound p) (ts us : List Bool) (one : Takes 
 -- ---- the blocks of the other file are given back first
 module _ (p q : Kept) (ts ms : List Bool) (rec : FileRecord) (bytes numbers : List ℕ) (old new : Held) (before asked after : Meaning) (sound : AreSound p) (unplaced : old.placed ≡ []) (one : p.limits.version ≡ 1)
     (gives : Gives rec p (record p { taken = ts; marks = ms }) old before) (asks : Asks old before asked) (puts : Puts bytes numbers (record p { taken = ts; marks = ms }) q old new asked after) where
-  abbrev mid : Kept
-  mid = record p { taken = ts; marks = ms }
+  abbrev freed : Kept
+  freed = record p { taken = ts; marks = ms }
 
   none_placed : new.placed ≡ []
   none_placed = puts.unplaced one
@@ -105,9 +105,9 @@ module _ (p q : Kept) (ts ms : List Bool) (rec : FileRecord) (bytes numbers : Li
 
   pub renews_first : Renews bytes numbers rec p q old new before after
   renews_first = record {
-    parts = twice_parts p mid q sound ts (marked ts puts.blocks) gives.takes puts.takes;
-    marks = twice_marks p mid q sound ts (marked ts puts.blocks) gives.takes puts.takes;
-    bitmap = twice_bitmap p mid q sound ts (marked ts puts.blocks) gives.takes puts.takes;
+    parts = twice_parts p freed q sound ts (marked ts puts.blocks) gives.takes puts.takes;
+    marks = twice_marks p freed q sound ts (marked ts puts.blocks) gives.takes puts.takes;
+    bitmap = twice_bitmap p freed q sound ts (marked ts puts.blocks) gives.takes puts.takes;
     in_form = puts.in_form;
     below = puts.below;
     image = puts.image;
