@@ -72,6 +72,7 @@ pub mod Left
 pub mod FreeAgain
 pub mod Housed
 pub mod Renewed
+pub mod ReadBack
 pub mod Replaced
 pub mod ReplacingIn
 pub mod ReplacedTells

@@ -1,6 +1,7 @@
 -- Bytes that come into blocks in the place of others, and what the disk keeps meanwhile.
-use Rattle.std.proofs.Common.{◌≡◌, refl, sym, ap, ap₂, ◌∙◌, subst, ℕ, true, false, Bool, List, [], ◌∷◌, Option, Some, None, IsSomeAnd, IsTrue, set, get_or-set_same, arith}
+use Rattle.std.proofs.Common.{◌≡◌, refl, sym, ap, ap₂, ◌∙◌, subst, ℕ, true, false, Bool, List, [], ◌∷◌, Option, Some, None, Result, Ok, Err, OnErr, IsSomeAnd, IsTrue, set, get_or-set_same, arith}
 use Rattle.std.proofs.lemmas.Bool.{both_ways, false_from_ne_true}
+use Rattle.arrayvec.specs.ArrayVec.{ArrayVec}
 use Rattle.lis_ports.specs.Meaning.{Meaning}
 use Rattle.lis_ports.specs.Runs.{Leaves}
 use Rattle.lis_ports.proofs.Moments.{leaves_weaken, leaves_then}
@@ -20,7 +21,9 @@ use Rattle.lis_kept.specs.Sound.{AreSound}
 use Rattle.lis_kept.specs.Telling.{blocks_told}
 use Rattle.lis_kept.specs.Changes.{Marks, Takes, Gives, Lands, Puts, PutTorn}
 use Rattle.lis_kept.proofs.BlocksTaken.{home_among}
-use Rattle.lis_store.specs.Contents.{Trades, IsRenewed, Renews}
+use Rattle.lis_store.specs.declared.change.Change.{Change}
+use Rattle.lis_store.specs.declared.change.Change.TheVariants.{Refused, Disk}
+use Rattle.lis_store.specs.Contents.{Trades, IsRenewed, Renews, ContentPut, ContentGiven, ContentRenewed}
 use Rattle.lis_store.specs.Contents.Trades.{First, Last}
 
 -- ---- images
@@ -226,3 +229,35 @@ torn_placed p mid q bytes numbers old new before placed after sound puts same as
     let P : Kept → Type 0 = λ x. Puts bytes numbers p x old new before placed → PutTorn p x old new before after in
     let T : Kept → Type 0 = λ x. PutTorn p x old new before after in
     subst T (sym same) (subst P (sym puts.takes.parts) (λ put. torn_last p (marked p.taken puts.blocks) (set p.marks (bitmap_start p.limits) true) bytes numbers old new before placed after sound put asks) puts)
+
+-- ---- how it ends
+pub lost_last : (T : Type 0) (p mid q : Kept) (rec : FileRecord) (bytes numbers : List ℕ) (old new : Held) (before placed after : Meaning) (change : Change) (result : Result (ArrayVec ℕ) Change) → AreSound p
+    → Puts bytes numbers p mid old new before placed → ContentGiven {T = T} rec mid q new placed after (Err change) → result ≡ Err change → ContentRenewed bytes rec p q old new before after result
+lost_last T p mid q rec bytes numbers old new before placed after change result sound puts gave ends =
+    subst (λ r. ContentRenewed bytes rec p q old new before after r) (sym ends) (by change gave)
+  where
+    by : (x : Change) → ContentGiven {T = T} rec mid q new placed after (Err x) → ContentRenewed bytes rec p q old new before after (Err x)
+    by (Refused refusal) never = never
+    by Disk lost = torn_placed p mid q bytes numbers old new before placed after sound puts lost.0 lost.1
+
+pub lost_first : (T : Type 0) (p q : Kept) (rec : FileRecord) (bytes : List ℕ) (old : Held) (before after : Meaning) (change : Change) (result : Result (ArrayVec ℕ) Change) → old.placed ≡ []
+    → ContentGiven {T = T} rec p q old before after (Err change) → result ≡ Err change → ContentRenewed bytes rec p q old old before after result
+lost_first T p q rec bytes old before after change result unplaced gave ends =
+    subst (λ r. ContentRenewed bytes rec p q old old before after r) (sym ends) (by change gave)
+  where
+    by : (x : Change) → ContentGiven {T = T} rec p q old before after (Err x) → ContentRenewed bytes rec p q old old before after (Err x)
+    by (Refused refusal) never = never
+    by Disk lost = let P : Kept → Type 0 = λ x. PutTorn p x old old before after in subst P (sym lost.0) (torn_first p old before after unplaced lost.1)
+
+-- in version 1 no put fails
+pub put_last : (p mid q : Kept) (rec : FileRecord) (bytes : List ℕ) (old new : Held) (before asked after : Meaning) (result : Result (ArrayVec ℕ) Change) → AreSound p → old.placed ≡ [] → p.limits.version ≡ 1
+    → Gives rec p mid old before → Asks old before asked → ContentPut bytes mid q old new asked after result → OnErr result (mid.limits.version ≡ 2) → ContentRenewed bytes rec p q old new before after result
+put_last p mid q rec bytes old new before asked after result sound unplaced one gives asks put torn = by result put torn
+  where
+    version : mid.limits.version ≡ 1
+    version = ap (λ (x : Kept). x.limits.version) gives.takes.parts ∙ one
+
+    by : (r : Result (ArrayVec ℕ) Change) → ContentPut bytes mid q old new asked after r → OnErr r (mid.limits.version ≡ 2) → ContentRenewed bytes rec p q old new before after r
+    by (Ok numbers) puts none = renews_given p mid q rec bytes numbers.items old new before asked after sound unplaced one gives asks puts
+    by (Err (Refused refusal)) never none = never
+    by (Err Disk) lost two = absurd (omega (arith, two, version))
