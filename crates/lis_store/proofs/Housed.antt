@@ -13,8 +13,13 @@ use Rattle.lis_model.specs.Image.{data_start}
 use Rattle.lis_model.specs.State.{State}
 use Rattle.lis_laws.proofs.Counts.{all_among}
 use Rattle.lis_kept.specs.Kept.{Kept}
+use Rattle.lis_kept.specs.Sound.{AreSound}
 use Rattle.lis_kept.specs.Telling.{bytes_told, blocks_told, Tells}
+use Rattle.lis_kept.proofs.Contents.{same_file}
 use Rattle.lis_kept.proofs.Filing.{among_from_number, number_from_among}
+use Rattle.lis_store.specs.Contents.{Trades}
+use Rattle.lis_store.specs.Contents.Trades.{First, Last}
+use Rattle.lis_store.proofs.Elsewhere.{numbers_counted}
 use Rattle.lis_store.proofs.Given.{given_taken}
 use Rattle.lis_store.proofs.Marks.{taken_after}
 
@@ -124,3 +129,25 @@ module _ (k : Kept) (at : ℕ → List ℕ) (s : State) (tells : Tells k at s) (
       by true false is = refl
       by false true is = absurd (both_ways false refl (is refl))
       by false false is = refl
+
+-- ---- blocks that are traded
+module _ (k : Kept) (sound : AreSound k) (at there : ℕ → List ℕ) (s : State) (tells : Tells k at s) (f : Filed) (m : Among k.catalog.entries f) (now : List Bool) (blocks bytes numbers : List ℕ) (distinct : are_distinct blocks ≡ true)
+    (holds : HasFile (data_start k.limits) bytes numbers blocks there) (same : (n : ℕ) → has_home (data_start k.limits) blocks n ≡ false → there n ≡ at n) where
+  abbrev old : List ℕ
+  old = blocks_told k.limits at f.rec
+
+  old_taken : (n : ℕ) → has_number old n ≡ true → is_taken k.taken n ≡ true
+  old_taken n has = (tells.given f (contains_from_among k.catalog.entries f m) n has).1
+
+  -- where the new blocks were free, the blocks of the file are what they were
+  old_stays : are_free k.taken blocks ≡ true → blocks_told k.limits there f.rec ≡ old
+  old_stays free =
+      (same_file k.limits f.rec at there (numbers_counted k sound f m) (λ b among.
+      same (data_start k.limits + b)
+      (home_elsewhere (data_start k.limits) blocks b
+      (false_from_ne_true (has_number blocks b) (λ has. both_ways (is_taken k.taken b) (free_number k.taken blocks b free has).1 (old_taken b (number_from_among old b among))))))).1
+
+  pub trades_housed : Trades k.limits f.rec k.taken now blocks at there → IsHoused k.limits k.taken now old blocks bytes numbers at there
+  trades_housed (First free marks) = given_first k.limits k.taken (given k.taken old) now old blocks bytes numbers at there sound.blocks distinct holds same refl free marks
+  trades_housed (Last free gave) =
+      given_last k.limits k.taken (marked k.taken blocks) now old blocks bytes numbers at there sound.blocks distinct holds same free old_taken refl (gave ∙ ap (given (marked k.taken blocks)) (old_stays free))

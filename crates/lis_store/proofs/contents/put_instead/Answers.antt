@@ -1,4 +1,4 @@
-use Rattle.std.proofs.Common.{◌≡◌, ◌∙◌, ◌+◌, ◌==◌, Err, length, filter, sym, ap, arith}
+use Rattle.std.proofs.Common.{◌≡◌, ◌∙◌, ℕ, ◌+◌, ◌==◌, Err, length, filter, sym, ap, arith}
 use Rattle.std.proofs.lemmas.Bool.{cond-true, eq-eqb}
 use Rattle.std.proofs.lemmas.Result.{err_from_is_err_and}
 use Rattle.lis_blockmap.specs.Bitmap.{is_taken, free_count}
@@ -22,7 +22,7 @@ pub returns-in_err-give_content-clause-renewed : goal.returns-in_err-give_conten
 returns-in_err-give_content-clause-renewed g c = λ rec there.
     let e = err_from_is_err_and c.from_residual-in_err-give_content.result c.from_residual-in_err-give_content.ensures.1 in
     let puts = c.in_ok-numbers.ensures.put in
-    lost_last _ c.args.parts.now c.put_content.new.parts c.give_content.new.parts rec c.args.payload.now c.in_ok-numbers.numbers.items c.args.journal.now c.put_content.new.journal
+    lost_last ℕ c.args.parts.now c.put_content.new.parts c.give_content.new.parts rec c.args.payload.now c.in_ok-numbers.numbers.items c.args.journal.now c.put_content.new.journal
     (g.D.Disk.meaning c.args.disk.now) (g.D.Disk.meaning c.put_content.new.disk) (g.D.Disk.meaning c.give_content.new.disk) c.in_err-give_content.field-0.0 c.from_residual-in_err-give_content.result
     c.limits.ensures.sound puts (c.in_err-give_content.ensures.given rec (ap (λ (x : Kept). rec_at x.catalog c.args.slot) puts.takes.parts ∙ there)) (e.1 ∙ ap Err e.2)
 
@@ -37,7 +37,7 @@ returns-then-limits-eq2-clause-renewed g c = λ rec there.
 pub returns-in_err-give_content-2-clause-renewed : goal.returns-in_err-give_content-2-clause-renewed
 returns-in_err-give_content-2-clause-renewed g c = λ rec there.
     let e = err_from_is_err_and c.from_residual-in_err-give_content-2.result c.from_residual-in_err-give_content-2.ensures.1 in
-    lost_first _ c.args.parts.now c.give_content-2.new.parts rec c.args.payload.now c.args.journal.now (g.D.Disk.meaning c.args.disk.now) (g.D.Disk.meaning c.give_content-2.new.disk)
+    lost_first ℕ c.args.parts.now c.give_content-2.new.parts rec c.args.payload.now c.args.journal.now (g.D.Disk.meaning c.args.disk.now) (g.D.Disk.meaning c.give_content-2.new.disk)
     c.in_err-give_content-2.field-0.0 c.from_residual-in_err-give_content-2.result c.requires.unplaced (c.in_err-give_content-2.ensures.given rec there) (e.1 ∙ ap Err e.2)
 
 pub put_content-requires-2-clause-enough : goal.put_content-requires-2-clause-enough
