@@ -3,6 +3,7 @@ use Rattle.std.proofs.Common.{◌≡◌, refl, sym, ap, ◌∙◌, subst, ℕ, �
 use Rattle.std.specs.List.{list_any}
 use Rattle.std.proofs.lemmas.Option.{same_Some}
 use Rattle.lis_ports.specs.Meaning.{Meaning}
+use Rattle.lis_journal.specs.Journal.{Held}
 use Rattle.lis_journal.specs.Record.{Entry as Staged}
 use Rattle.lis_journal.specs.Phases.{looked}
 use Rattle.lis_content.specs.Content.{given}
@@ -27,6 +28,7 @@ use Rattle.lis_kept.specs.Telling.{blocks_told}
 use Rattle.lis_store.specs.declared.change.Change.{Change}
 use Rattle.lis_store.specs.declared.change.Change.TheVariants.{Refused, Disk}
 use Rattle.lis_store.specs.Stored.{Stored, IsSound, StoreFits}
+use Rattle.lis_store.specs.Contents.{ContentGiven, ContentEnded}
 use Rattle.lis_store.specs.Changes.{Changes, differing_bits}
 use Rattle.lis_store.specs.Judging.{is_among}
 use Rattle.lis_store.specs.Saving.{settled, ArePlaced, IsReady, Saves}
@@ -51,6 +53,16 @@ removed_refused old m place name result sound none ends s fits =
     let now : Situation = record { state = s; place = place } in
     change_refused old m now (rm now name) NoFileHere result fits
     (ap (λ b. cond (not b) (refused now NoFileHere) (changed now (file_removed s name))) (here_told old m s sound fits place name ∙ none)) ends
+
+-- what is kept of a file that is given back
+pub given_err : {T : Type 0} (rec : FileRecord) (p q : Kept) (journal : Held) (before after : Meaning) (change : Change) → ContentGiven {T = T} rec p q journal before after (Err change)
+    → (change ≡ Disk) × (q ≡ p) × Asks journal before after
+given_err rec p q journal before after (Refused refusal) never = absurd cc
+given_err rec p q journal before after Disk given = (refl, given.0, given.1)
+
+pub ended_err : {T : Type 0} (b : Bool) (change : Change) → ContentEnded {T = T} b (Err change) → b ≡ true
+ended_err b (Refused refusal) never = absurd cc
+ended_err b Disk broken = broken
 
 module _ (old : Stored) (mid q : Kept) (slot : ℕ) (place : List Formula) (name : List ℕ) (rec : FileRecord) (before : Meaning) (gives : Gives rec old.parts mid old.journal before) (out : TakesOut slot mid q)
     (sound : IsSound old) (unbroken : old.is_broken ≡ false) (here : is_among old.parts place name ≡ true) (named : slot_of old.parts.catalog name ≡ Some slot) (filed : rec_at old.parts.catalog slot ≡ Some rec) where
