@@ -71,6 +71,7 @@ pub mod Unaxiom
 pub mod Forgot
 pub mod Vacated
 pub mod Left
+pub mod FreeAgain
 pub mod Housed
 pub mod Renewed
 pub mod Replaced

@@ -9,7 +9,6 @@ use Rattle.lis_journal.specs.Record.{block, replayed}
 use Rattle.lis_journal.specs.Phases.{looked}
 use Rattle.lis_journal.specs.Images.{KeepsBut, StandsBut, Fits, KeepsPast, is_among}
 use Rattle.lis_journal.proofs.Fitting.{fits_but}
-use Rattle.lis_journal.proofs.Phases.{stands_less}
 use Rattle.lis_content.specs.Content.{given, marked, are_free, has_home}
 use Rattle.lis_content.specs.Placing.{Asks, homes_of}
 use Rattle.lis_content.proofs.Numbers.{stays_marked}
@@ -34,6 +33,16 @@ stands_same blocks placed kept was image same but = (but.0, by (replayed blocks 
     by : (o : Option (List ℕ)) → IsSomeAnd o (KeepsBut blocks placed kept) → IsSomeAnd o (KeepsBut blocks placed was)
     by None h = h
     by (Some r) h = record { long = h.long; same = λ n out none. h.same n out none ∙ same n none }
+
+-- with more placed blocks
+stands_less : (blocks : ℕ) (placed more : List ℕ) (kept : ℕ → List ℕ) (image : List ℕ) → ((n : ℕ) → is_among more n ≡ false → is_among placed n ≡ false)
+    → StandsBut blocks placed kept image → StandsBut blocks more kept image
+unfolding StandsBut
+stands_less blocks placed more kept image fewer but = (but.0, by (replayed blocks image) but.1)
+  where
+    by : (o : Option (List ℕ)) → IsSomeAnd o (KeepsBut blocks placed kept) → IsSomeAnd o (KeepsBut blocks more kept)
+    by None h = h
+    by (Some r) h = record { long = h.long; same = λ n out none. h.same n out (fewer n none) }
 
 -- blocks that are placed among the homes of these
 pub stands_homes : (blocks base : ℕ) (placed some : List ℕ) (kept : ℕ → List ℕ) (image : List ℕ) → ((n : ℕ) → is_among placed n ≡ true → has_home base some n ≡ true)
@@ -70,8 +79,8 @@ module _ (p mid q : Kept) (sound : AreSound p) (ts us : List Bool) (one : Takes 
 -- ---- the blocks of the other file are given back first
 module _ (p q : Kept) (ts ms : List Bool) (rec : FileRecord) (bytes numbers : List ℕ) (old new : Held) (before asked after : Meaning) (sound : AreSound p) (unplaced : old.placed ≡ []) (one : p.limits.version ≡ 1)
     (gives : Gives rec p (record p { taken = ts; marks = ms }) old before) (asks : Asks old before asked) (puts : Puts bytes numbers (record p { taken = ts; marks = ms }) q old new asked after) where
-  abbrev mid : Kept
-  mid = record p { taken = ts; marks = ms }
+  abbrev freed : Kept
+  freed = record p { taken = ts; marks = ms }
 
   none_placed : new.placed ≡ []
   none_placed = puts.unplaced one
@@ -96,9 +105,9 @@ module _ (p q : Kept) (ts ms : List Bool) (rec : FileRecord) (bytes numbers : Li
 
   pub renews_first : Renews bytes numbers rec p q old new before after
   renews_first = record {
-    parts = twice_parts p mid q sound ts (marked ts puts.blocks) gives.takes puts.takes;
-    marks = twice_marks p mid q sound ts (marked ts puts.blocks) gives.takes puts.takes;
-    bitmap = twice_bitmap p mid q sound ts (marked ts puts.blocks) gives.takes puts.takes;
+    parts = twice_parts p freed q sound ts (marked ts puts.blocks) gives.takes puts.takes;
+    marks = twice_marks p freed q sound ts (marked ts puts.blocks) gives.takes puts.takes;
+    bitmap = twice_bitmap p freed q sound ts (marked ts puts.blocks) gives.takes puts.takes;
     in_form = puts.in_form;
     below = puts.below;
     image = puts.image;

@@ -16,7 +16,7 @@ use Rattle.lis_model.specs.Step.{Situation, Payload, changed, write, rename}
 use Rattle.lis_kept.specs.Kept.{Kept}
 use Rattle.lis_kept.specs.Sound.{AreSound}
 use Rattle.lis_kept.specs.Telling.{words_told, bytes_told}
-use Rattle.lis_kept.proofs.Refiled.{record_named}
+use Rattle.lis_kept.proofs.Filed.{record_named}
 use Rattle.lis_store.specs.declared.change.Change.{Change}
 use Rattle.lis_store.specs.declared.change.Change.TheVariants.{Refused}
 use Rattle.lis_store.specs.Stored.{Stored, IsSound, StoreFits}
@@ -48,7 +48,7 @@ module _ (k : Stored) (sound : IsSound k) (place : List Formula) (name : List �
   same_name : rec.name ≡ name
   same_name = (filed_named k.parts sound.parts name slot rec named there).1
 
-  pub write_first : (bytes : List ℕ) (size : ℕ) → size ≤ file_limit k.parts.limits.version → (size ≤ 65536 → length bytes ≡ size)
+  pub write_first : (bytes : List ℕ) (size : ℕ) → size ≤ file_limit k.parts.limits.version → (size ≤ 1048576 → length bytes ≡ size)
       → first_refusal (overwriting_checks k.parts slot rec (given_before k.parts rec name bytes) size) ≡ None → MayReplace k.parts slot rec (given_before k.parts rec name bytes)
   write_first bytes size most whole none =
       write_may k sound slot rec there place name bytes size same_name

@@ -1,4 +1,4 @@
-use Rattle.std.proofs.Common.{◌≡◌, ◌∙◌, ◌+◌, ◌≤◌, ◌×◌, refl, sym, ap, subst, is_some, Some, Err, true, arith}
+use Rattle.std.proofs.Common.{◌≡◌, ◌∙◌, ◌+◌, ◌≤◌, refl, sym, ap, subst, is_some, Some, Err, true, arith}
 use Rattle.std.proofs.lemmas.Result.{err_from_is_err_and}
 use Rattle.lis_ports.specs.Meaning.{Meaning}
 use Rattle.lis_catalog.specs.Catalog.{slot_of, rec_at}
