@@ -45,6 +45,8 @@ pub mod Gathered
 pub mod MetTests
 pub mod Measured
 pub mod Admitted
+pub mod Steps
+pub mod RemoveFile
 pub mod AddFile
 pub mod Sizes
 pub mod Counted
