@@ -26,11 +26,11 @@ use Rattle.lis_kept.specs.Changes.{PutTorn}
 use Rattle.lis_kept.specs.Telling.{declared_of, bytes_told, blocks_told, Tells}
 use Rattle.lis_kept.proofs.Filing.{filed_at_slot}
 use Rattle.lis_store.specs.declared.change.Change.{Change}
-use Rattle.lis_store.specs.declared.change.Change.TheVariants.{Disk}
+use Rattle.lis_store.specs.declared.change.Change.TheVariants.{Refused, Disk}
 use Rattle.lis_store.specs.Stands.{Stands}
 use Rattle.lis_store.specs.Stored.{Stored, IsSound, StoreFits}
 use Rattle.lis_store.specs.Changes.{Changes, differing_bits}
-use Rattle.lis_store.specs.Contents.{IsRenewed, Renews}
+use Rattle.lis_store.specs.Contents.{ContentEnded, ContentRenewed, IsRenewed, Renews}
 use Rattle.lis_store.specs.Saving.{settled, ArePlaced, Saves}
 use Rattle.lis_store.specs.Replacing.{MayReplace}
 use Rattle.lis_store.specs.ReplacingIn.{AreInForm, RefilesIn}
@@ -228,6 +228,15 @@ module _ (old : Stored) (q : Kept) (j : Held) (sound : IsSound old) (before afte
       → Changes now outcome new before after result
   torn_changes now outcome new result fits broken ends =
       changes_lost now outcome new before after result (fills_stand old now.state before sound fits torn.blocks after torn.fills) (fills_past old now.state before sound fits torn.blocks after torn.fills) broken ends
+
+-- the same of a put that failed
+module _ (old : Stored) (q : Kept) (j : Held) (rec : FileRecord) (bytes : List ℕ) (sound : IsSound old) (before after : Meaning) where
+  pub renewed_torn : (change : Change) → ContentRenewed bytes rec old.parts q old.journal j before after (Err change) → (change ≡ Disk) × PutTorn old.parts q old.journal j before after
+  renewed_torn (Refused refusal) never = absurd (let e : false ≡ true = never in cc)
+  renewed_torn Disk torn = (refl, torn)
+
+  pub renewed_broken : {T : Type 0} (change : Change) (result : Result T Change) (b : Bool) → ContentEnded b (Err {T = T} change) → change ≡ Disk → b ≡ true
+  renewed_broken {T = T} change result b ended is = let E : Change → Type 0 = λ x. ContentEnded b (Err {T = T} x) in subst E is ended
 
 -- ---- another name and other words, and the same bytes
 module _ (old : Stored) (q : Kept) (slot : ℕ) (name : List ℕ) (assigned : List (List ℕ)) (bytes : List ℕ) (rec : FileRecord) (sound : IsSound old) (unbroken : old.is_broken ≡ false) (there : rec_at old.parts.catalog slot ≡ Some rec)
