@@ -235,8 +235,9 @@ module _ (old : Stored) (q : Kept) (j : Held) (rec : FileRecord) (bytes : List �
   renewed_torn (Refused refusal) never = absurd (let e : false ≡ true = never in cc)
   renewed_torn Disk torn = (refl, torn)
 
-  pub renewed_broken : {T : Type 0} (change : Change) (result : Result T Change) (b : Bool) → ContentEnded b (Err {T = T} change) → change ≡ Disk → b ≡ true
-  renewed_broken {T = T} change result b ended is = let E : Change → Type 0 = λ x. ContentEnded b (Err {T = T} x) in subst E is ended
+-- and a fault breaks the store
+pub content_broken : (change : Change) (b : Bool) → ContentEnded {T = ℕ} b (Err change) → change ≡ Disk → b ≡ true
+content_broken change b ended is = let E : Change → Type 0 = λ x. ContentEnded {T = ℕ} b (Err x) in subst E is ended
 
 -- ---- another name and other words, and the same bytes
 module _ (old : Stored) (q : Kept) (slot : ℕ) (name : List ℕ) (assigned : List (List ℕ)) (bytes : List ℕ) (rec : FileRecord) (sound : IsSound old) (unbroken : old.is_broken ≡ false) (there : rec_at old.parts.catalog slot ≡ Some rec)

@@ -17,7 +17,7 @@ use Rattle.lis_store.specs.Changes.{Changes, differing_bits}
 use Rattle.lis_store.specs.Judging.{is_among}
 use Rattle.lis_store.specs.Instead.{given_before}
 use Rattle.lis_store.specs.Replacing.{MayReplace}
-use Rattle.lis_store.proofs.ReplaceFile.{mid_form, mid_first, mid_in_form, mid_below, written_sound, written_image, written_placed, written_room, written_changes, written_edits, renewed_torn, renewed_broken, torn_changes}
+use Rattle.lis_store.proofs.ReplaceFile.{mid_form, mid_first, mid_in_form, mid_below, written_sound, written_image, written_placed, written_room, written_changes, written_edits, renewed_torn, content_broken, torn_changes}
 use Rattle.lis_store.proofs.WriteFile.{write_first, write_enough, written_enough, rest_of_write, written_done, written_refused, written_nowhere}
 use Rattle.lis_store.proofs.store.Store.write.Goals as goal
 
@@ -87,7 +87,7 @@ returns-in_err-blocks-clause-changes g c = λ s fits.
     let new : Stored = record { parts = c.put_instead.new.parts; journal = c.put_instead.new.journal; is_broken = c.put_instead.new.is_broken } in
     let torn = renewed_torn old c.put_instead.new.parts c.put_instead.new.journal found.0 c.args.payload.now c.self.invariant m after c.in_err-blocks.field-0.0 (c.in_err-blocks.ensures.renewed found.0 found.1) in
     torn_changes old c.put_instead.new.parts c.put_instead.new.journal c.self.invariant m after torn.1 now (write now c.args.name.now payload) new c.from_residual-in_err-blocks.result
-    (subst P (sym c.self.view_is) fits) (renewed_broken old c.put_instead.new.parts c.put_instead.new.journal found.0 c.args.payload.now c.self.invariant m after c.in_err-blocks.field-0.0 _ c.put_instead.new.is_broken c.in_err-blocks.ensures.ended torn.0)
+    (subst P (sym c.self.view_is) fits) (content_broken c.in_err-blocks.field-0.0 c.put_instead.new.is_broken c.in_err-blocks.ensures.ended torn.0)
     (e.1 ∙ ap Err (e.2 ∙ torn.0))
 
 pub refile-requires-clause-form : goal.refile-requires-clause-form
