@@ -1,5 +1,5 @@
 -- A call that takes a file away.
-use Rattle.std.proofs.Common.{◌≡◌, refl, sym, ap, ◌∙◌, subst, ℕ, ◌+◌, ◌≤◌, not, Bool, true, false, cond, List, length, set, Some, Result, Err, arith}
+use Rattle.std.proofs.Common.{◌≡◌, refl, sym, ap, ◌∙◌, subst, ℕ, ◌+◌, ◌≤◌, not, Bool, true, false, cond, List, length, set, Some, is_some, Result, Err, arith}
 use Rattle.std.specs.List.{list_any}
 use Rattle.std.proofs.lemmas.Option.{same_Some}
 use Rattle.lis_ports.specs.Meaning.{Meaning}
@@ -9,6 +9,7 @@ use Rattle.lis_journal.specs.Phases.{looked}
 use Rattle.lis_content.specs.Content.{given}
 use Rattle.lis_content.specs.Placing.{Asks}
 use Rattle.lis_catalog.specs.Catalog.{slot_of, rec_at}
+use Rattle.lis_catalog.proofs.Laws.{rec_at-slot_of}
 use Rattle.lis_ext.specs.Ext.{Ext}
 use Rattle.lis_words.specs.Words.{same_word}
 use Rattle.lis_grammar.specs.Formula.{Formula}
@@ -40,7 +41,7 @@ use Rattle.lis_store.proofs.Cleaned.{none_marked}
 use Rattle.lis_store.proofs.Removed.{end_is, form_removed, few_marked, few_edits, ready_removed}
 use Rattle.lis_store.proofs.Replaced.{in_form, settled_sound}
 use Rattle.lis_store.proofs.Saved.{none_are_placed}
-use Rattle.lis_store.proofs.Steps.{form_taken, pairs_same, changes_behind, changes_lost, asks_stand, asks_past, unplaced_stands}
+use Rattle.lis_store.proofs.Steps.{form_taken, pairs_same, sound_lost, changes_behind, changes_lost, asks_stand, asks_past, unplaced_stands}
 
 here_told : (k : Stored) (m : Meaning) (s : State) → IsSound k → StoreFits k m s → (place : List Formula) (name : List ℕ) → is_here (record { state = s; place = place }) name ≡ is_among k.parts place name
 here_told k m s sound fits place name =
@@ -54,20 +55,53 @@ removed_refused old m place name result sound none ends s fits =
     change_refused old m now (rm now name) NoFileHere result fits
     (ap (λ b. cond (not b) (refused now NoFileHere) (changed now (file_removed s name))) (here_told old m s sound fits place name ∙ none)) ends
 
--- what is kept of a file that is given back
-pub given_err : {T : Type 0} (rec : FileRecord) (p q : Kept) (journal : Held) (before after : Meaning) (change : Change) → ContentGiven {T = T} rec p q journal before after (Err change)
+-- what is known where the disk fails while its blocks are asked for
+given_err : (T : Type 0) (rec : FileRecord) (p q : Kept) (journal : Held) (before after : Meaning) (change : Change) → ContentGiven {T = T} rec p q journal before after (Err change)
     → (change ≡ Disk) × (q ≡ p) × Asks journal before after
-given_err rec p q journal before after (Refused refusal) never = absurd cc
-given_err rec p q journal before after Disk given = (refl, given.0, given.1)
+given_err T rec p q journal before after (Refused refusal) never = absurd (let e : false ≡ true = never in cc)
+given_err T rec p q journal before after Disk stays = (refl, stays.0, stays.1)
 
-pub ended_err : {T : Type 0} (b : Bool) (change : Change) → ContentEnded {T = T} b (Err change) → b ≡ true
-ended_err b (Refused refusal) never = absurd cc
-ended_err b Disk broken = broken
+ended_err : (T : Type 0) (b : Bool) (change : Change) → ContentEnded {T = T} b (Err change) → b ≡ true
+ended_err T b (Refused refusal) never = absurd (let e : false ≡ true = never in cc)
+ended_err T b Disk broken = broken
+
+module _ (T : Type 0) (old : Stored) (slot : ℕ) (name : List ℕ) (sound : IsSound old) (named : slot_of old.parts.catalog name ≡ Some slot) (q : Kept) (b : Bool) (change : Change) (before after : Meaning)
+    (stays : (rec : FileRecord) → rec_at old.parts.catalog slot ≡ Some rec → ContentGiven {T = T} rec old.parts q old.journal before after (Err change)) (ended : ContentEnded {T = T} b (Err change)) where
+  lost : (change ≡ Disk) × (q ≡ old.parts) × Asks old.journal before after
+  lost =
+      let found = rec_at-slot_of old.parts.catalog name slot sound.parts.catalog named in
+      given_err T found.0 old.parts q old.journal before after change (stays found.0 found.1)
+
+  broken : b ≡ true
+  broken = ended_err T b change ended
+
+  pub lost_parts : q ≡ old.parts
+  lost_parts = lost.1
+
+  pub lost_sound : IsSound (record { parts = q; journal = old.journal; is_broken = b })
+  lost_sound =
+      subst (λ (k : Kept). IsSound (record { parts = k; journal = old.journal; is_broken = b })) (sym lost_parts)
+      (subst (λ c. IsSound (record { parts = old.parts; journal = old.journal; is_broken = c })) (sym broken) (sound_lost old.parts old.journal (in_form old sound) sound.pairs sound.image))
+
+  pub lost_changes : {U : Type 0} (place : List Formula) (result : Result U Change) → result ≡ Err change → (s : State) → StoreFits old before s
+      → Changes (record { state = s; place = place }) (rm (record { state = s; place = place }) name) (record { parts = q; journal = old.journal; is_broken = b }) before after result
+  lost_changes place result ends s fits =
+      let now : Situation = record { state = s; place = place } in
+      changes_lost now (rm now name) (record { parts = q; journal = old.journal; is_broken = b }) before after result (asks_stand old s before sound fits after lost.2) (asks_past old s before sound fits after lost.2)
+      broken (ends ∙ ap Err lost.0)
+
+-- ---- its blocks are given back, and then it is taken out
+module _ (old : Stored) (mid : Kept) (slot : ℕ) (rec : FileRecord) (before : Meaning) (gives : Gives rec old.parts mid old.journal before) (sound : IsSound old) (filed : rec_at old.parts.catalog slot ≡ Some rec) where
+  pub form_given : AreInForm mid
+  form_given = form_taken old.parts mid mid.taken gives.takes (in_form old sound)
+
+  pub there_given : is_some (rec_at mid.catalog slot) ≡ true
+  there_given = ap is_some (ap (λ (k : Kept). rec_at k.catalog slot) gives.takes.parts ∙ filed)
 
 module _ (old : Stored) (mid q : Kept) (slot : ℕ) (place : List Formula) (name : List ℕ) (rec : FileRecord) (before : Meaning) (gives : Gives rec old.parts mid old.journal before) (out : TakesOut slot mid q)
     (sound : IsSound old) (unbroken : old.is_broken ≡ false) (here : is_among old.parts place name ≡ true) (named : slot_of old.parts.catalog name ≡ Some slot) (filed : rec_at old.parts.catalog slot ≡ Some rec) where
   form_mid : AreInForm mid
-  form_mid = form_taken old.parts mid mid.taken gives.takes (in_form old sound)
+  form_mid = form_given old mid slot rec before gives sound filed
 
   abbrev after_marks : List Bool
   after_marks = set old.parts.marks (bitmap_start old.parts.limits) true
@@ -75,7 +109,7 @@ module _ (old : Stored) (mid q : Kept) (slot : ℕ) (place : List Formula) (name
   same_axioms : q.axioms ≡ old.parts.axioms
   same_axioms = ap (λ (k : Kept). k.axioms) (end_is slot mid q out form_mid.sound) ∙ ap (λ (k : Kept). k.axioms) gives.takes.parts
 
-  same_limits : q.limits ≡ old.parts.limits
+  pub same_limits : q.limits ≡ old.parts.limits
   same_limits = ap (λ (k : Kept). k.limits) (end_is slot mid q out form_mid.sound) ∙ ap (λ (k : Kept). k.limits) gives.takes.parts
 
   pub removed_sound : AreSound q → IsSound (settled q old.journal)
@@ -124,10 +158,3 @@ module _ (old : Stored) (mid q : Kept) (slot : ℕ) (place : List Formula) (name
         (saves now (rm now name) made fits.kept (asks.fits fits.kept fits.journal) limits (unplaced_stands old s before sound fits unbroken)
         (λ _. subst (λ (es : List Staged). IsReady q (looked es fits.kept) made) (sym (sound.staged unbroken)) ready)
         (ap (λ b. cond (not b) (refused now NoFileHere) (changed now made)) (here_told old before s sound fits place name ∙ here)))
-
--- one that the disk fails before it begins
-pub removed_lost : {T : Type 0} (old : Stored) (place : List Formula) (name : List ℕ) (new : Stored) (before after : Meaning) (result : Result T Change) → IsSound old → Asks old.journal before after
-    → new.is_broken ≡ true → result ≡ Err Disk → (s : State) → StoreFits old before s → Changes (record { state = s; place = place }) (rm (record { state = s; place = place }) name) new before after result
-removed_lost old place name new before after result sound asks broken ends s fits =
-    let now : Situation = record { state = s; place = place } in
-    changes_lost now (rm now name) new before after result (asks_stand old s before sound fits after asks) (asks_past old s before sound fits after asks) broken ends
