@@ -13,6 +13,7 @@ pub mod Entailment
 pub mod FileTests
 pub mod Viewing
 pub mod Saved
+pub mod SavedAlone
 pub mod Judged
 pub mod Cleaned
 pub mod Told

@@ -40,8 +40,8 @@ use Rattle.lis_store.proofs.Judged.{change_refused}
 use Rattle.lis_store.proofs.Cleaned.{none_marked}
 use Rattle.lis_store.proofs.Removed.{end_is, form_removed, few_marked, few_edits, ready_removed}
 use Rattle.lis_store.proofs.Replaced.{in_form, settled_sound}
-use Rattle.lis_store.proofs.Saved.{none_are_placed}
-use Rattle.lis_store.proofs.Steps.{form_taken, pairs_same, sound_lost, changes_behind, changes_lost, asks_stand, asks_past, unplaced_stands}
+use Rattle.lis_store.proofs.SavedAlone.{alone_placed, unplaced_stands}
+use Rattle.lis_store.proofs.Steps.{form_taken, pairs_same, sound_lost, changes_behind, changes_lost, asks_stand, asks_past}
 
 here_told : (k : Stored) (m : Meaning) (s : State) → IsSound k → StoreFits k m s → (place : List Formula) (name : List ℕ) → is_here (record { state = s; place = place }) name ≡ is_among k.parts place name
 here_told k m s sound fits place name =
@@ -123,7 +123,7 @@ module _ (old : Stored) (mid q : Kept) (slot : ℕ) (place : List Formula) (name
       omega (arith, few, gives.takes.marks.few, none, ap length (sound.staged unbroken))
 
   pub removed_placed : ArePlaced q old.journal
-  removed_placed = none_are_placed q old.journal (sound.placed unbroken)
+  removed_placed = alone_placed old sound unbroken q
 
   pub removed_edits : q.ext.edits ≤ old.parts.ext.edits + differing_bits old.parts.ext q.ext
   removed_edits =
@@ -155,6 +155,6 @@ module _ (old : Stored) (mid q : Kept) (slot : ℕ) (place : List Formula) (name
         let made : State = file_removed s name in
         let limits = same_limits ∙ limits_told old.parts fits.kept s sound.parts sound.free fits.tells in
         changes_behind now (rm now name) new before asked after result (asks_stand old s before sound fits asked asks) (asks_past old s before sound fits asked asks)
-        (saves now (rm now name) made fits.kept (asks.fits fits.kept fits.journal) limits (unplaced_stands old s before sound fits unbroken)
+        (saves now (rm now name) made fits.kept (asks.fits fits.kept fits.journal) limits (unplaced_stands old sound unbroken s before fits)
         (λ _. subst (λ (es : List Staged). IsReady q (looked es fits.kept) made) (sym (sound.staged unbroken)) ready)
         (ap (λ b. cond (not b) (refused now NoFileHere) (changed now made)) (here_told old before s sound fits place name ∙ here)))

@@ -128,8 +128,3 @@ module _ (old : Stored) (s : State) (before : Meaning) (sound : IsSound old) (fi
 
     pub asks_past : KeepsPast (image_blocks s.limits) before after
     asks_past n le = ap (block n) (asks.same fits.journal.honest).bytes
-
-  -- where nothing is placed
-  pub unplaced_stands : old.is_broken ≡ false → (image : List ℕ) → StandsBut old.journal.blocks old.journal.placed fits.kept image → Stands image s
-  unplaced_stands unbroken image but =
-      placed_stand old fits.kept [] s sound fits.tells fits.written refl image (subst (λ (ns : List ℕ). StandsBut old.journal.blocks ns fits.kept image) (sound.placed unbroken) but)
