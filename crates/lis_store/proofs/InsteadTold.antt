@@ -112,7 +112,7 @@ module _ (k : Stored) (m : Meaning) (s : State) (sound : IsSound k) (fits : Stor
       taken : (p.limits.version == 2) ≡ false → length (filter (is_taken p.taken) rec.blocks) ≡ blocks_taken p.limits.version (length old.bytes)
       taken one =
           let short = (record_in_form p.limits.version p.dict p.limits.blocks rec (sound.parts.records slot rec is_rec)).small in
-          let small = small_size rec.size (omega (arith, short, cond-false (p.limits.version == 2) 1048576 65536 one)) in
+          let small = small_size rec.size (omega (arith, short, cond-false {A = ℕ} (p.limits.version == 2) 1048576 65536 one)) in
           ap length (all_pass_filter (is_taken p.taken) rec.blocks (λ b of.
           (fits.tells.given f (contains_from_among p.catalog.entries f there) b (number_from_among (blocks_told p.limits fits.kept rec) b (slot_blocks_told p.limits fits.kept rec b of))).1))
           ∙ (ap length (sym (small_blocks (data_start p.limits) rec.blocks rec.size fits.kept small))

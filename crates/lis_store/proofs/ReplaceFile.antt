@@ -1,7 +1,7 @@
 -- Calls in which a file takes the place of another.
-use Rattle.std.proofs.Common.{◌≡◌, refl, sym, ap, ◌∙◌, subst, ℕ, ◌+◌, ◌≤◌, ◌==◌, nat_lt, true, false, Bool, IsSomeAnd, IsTrue, List, [], length, Result, Err, arith, Some}
+use Rattle.std.proofs.Common.{◌≡◌, refl, sym, ap, ◌∙◌, subst, ℕ, ◌+◌, ◌≤◌, ◌==◌, ◌&&◌, nat_lt, is_some, true, false, Bool, IsSomeAnd, IsTrue, List, [], length, Result, Err, arith, Some}
 use Rattle.std.specs.List.{list_all}
-use Rattle.std.proofs.lemmas.Bool.{eqb-true}
+use Rattle.std.proofs.lemmas.Bool.{and_parts, eqb-true}
 use Rattle.std.proofs.lemmas.Option.{same_Some}
 use Rattle.lis_graph.proofs.Members.{among_from_any}
 use Rattle.lis_ports.specs.Meaning.{Meaning}
@@ -11,8 +11,9 @@ use Rattle.lis_journal.specs.Record.{Entry}
 use Rattle.lis_journal.specs.Images.{StandsBut, Fits, KeepsPast}
 use Rattle.lis_journal.specs.Phases.{looked}
 use Rattle.lis_catalog.specs.Catalog.{Filed, rec_at}
+use Rattle.lis_dict.specs.Dict.{word_of}
 use Rattle.lis_fields.specs.Records.{FileRecord}
-use Rattle.lis_fields.specs.Layouts.{are_blocks}
+use Rattle.lis_fields.specs.Layouts.{are_blocks, is_record}
 use Rattle.lis_grammar.specs.Formula.{Formula}
 use Rattle.lis_model.specs.declared.limits.Limits.{Limits}
 use Rattle.lis_model.specs.Image.{bitmap_start, data_start, image_blocks}
@@ -21,9 +22,10 @@ use Rattle.lis_model.specs.Changes.{new_file, file_replaced}
 use Rattle.lis_model.specs.Step.{Situation, Outcome, changed}
 use Rattle.lis_kept.specs.Kept.{Kept}
 use Rattle.lis_kept.specs.Areas.{IsSaved, is_marked, marked_count}
-use Rattle.lis_kept.specs.Sound.{AreSound}
+use Rattle.lis_kept.specs.Sound.{is_sound_record, AreSound}
 use Rattle.lis_kept.specs.Changes.{PutTorn}
 use Rattle.lis_kept.specs.Telling.{declared_of, bytes_told, blocks_told, Tells}
+use Rattle.lis_kept.proofs.Dropped.{record_in_form}
 use Rattle.lis_kept.proofs.Filing.{filed_at_slot}
 use Rattle.lis_store.specs.declared.change.Change.{Change}
 use Rattle.lis_store.specs.declared.change.Change.TheVariants.{Refused, Disk}
@@ -42,9 +44,9 @@ use Rattle.lis_store.proofs.Replaced.{in_form, retaken, form_retaken, may_retake
 use Rattle.lis_store.proofs.ReplacedMarks.{few_marked, marked_last, few_edits}
 use Rattle.lis_store.proofs.ReplacedTells.{ready_replaced}
 use Rattle.lis_store.proofs.ReplacingIn.{may_there}
-use Rattle.lis_store.proofs.Saved.{none_are_placed}
+use Rattle.lis_store.proofs.SavedAlone.{alone_placed, unplaced_stands}
 use Rattle.lis_store.proofs.Standing.{placed_stand}
-use Rattle.lis_store.proofs.Steps.{sound_lost, changes_behind, changes_lost, fills_stand, fills_past, unplaced_stands}
+use Rattle.lis_store.proofs.Steps.{sound_lost, changes_behind, changes_lost, fills_stand, fills_past}
 
 -- ---- memory tells the next state, from wherever the bytes come
 module _ (old : Stored) (taken marks : List Bool) (q : Kept) (j : Held) (slot : ℕ) (name : List ℕ) (assigned : List (List ℕ)) (bytes numbers : List ℕ) (sound : IsSound old) (sound_p : AreSound (retaken old.parts taken marks))
@@ -224,6 +226,12 @@ module _ (old : Stored) (q : Kept) (j : Held) (sound : IsSound old) (before afte
       subst (λ (x : Kept). IsSound (record { parts = x; journal = j; is_broken = true })) (sym torn.parts)
       (sound_lost (retaken old.parts q.taken q.marks) j form sound.pairs (torn.image ∙ sound.image))
 
+  pub torn_limits : q.limits ≡ old.parts.limits
+  torn_limits = ap (λ (x : Kept). x.limits) torn.parts
+
+  pub torn_edits : q.ext.edits ≤ old.parts.ext.edits + differing_bits old.parts.ext q.ext
+  torn_edits = omega (arith, ap (λ (x : Kept). x.ext.edits) torn.parts)
+
   pub torn_changes : {T : Type 0} (now : Situation) (outcome : Outcome) (new : Stored) (result : Result T Change) → StoreFits old before now.state → new.is_broken ≡ true → result ≡ Err Disk
       → Changes now outcome new before after result
   torn_changes now outcome new result fits broken ends =
@@ -240,6 +248,19 @@ pub content_broken : (change : Change) (b : Bool) → ContentEnded {T = ℕ} b (
 content_broken change b ended is = let E : Change → Type 0 = λ x. ContentEnded {T = ℕ} b (Err x) in subst E is ended
 
 -- ---- another name and other words, and the same bytes
+-- the blocks of a file are those of a record that has its size
+module _ (old : Stored) (slot : ℕ) (bytes : List ℕ) (rec : FileRecord) (sound : IsSound old) (there : rec_at old.parts.catalog slot ≡ Some rec) (size : length bytes ≡ rec.size) where
+  sound_rec : is_sound_record old.parts.limits.version old.parts.dict old.parts.limits.blocks rec ≡ true
+  sound_rec = sound.parts.records slot rec there
+
+  pub still_in_form : are_blocks old.parts.limits.version (length bytes) rec.blocks ≡ true
+  still_in_form =
+      ap (λ n. are_blocks old.parts.limits.version n rec.blocks) size ∙ (record_in_form old.parts.limits.version old.parts.dict old.parts.limits.blocks rec sound_rec).blocks
+
+  pub still_below : list_all (λ n. nat_lt n old.parts.limits.blocks) rec.blocks ≡ true
+  still_below =
+      (and_parts (is_record old.parts.limits.version rec && list_all (λ n. is_some (word_of old.parts.dict n)) rec.tags) (list_all (λ n. nat_lt n old.parts.limits.blocks) rec.blocks) sound_rec).1
+
 module _ (old : Stored) (q : Kept) (slot : ℕ) (name : List ℕ) (assigned : List (List ℕ)) (bytes : List ℕ) (rec : FileRecord) (sound : IsSound old) (unbroken : old.is_broken ≡ false) (there : rec_at old.parts.catalog slot ≡ Some rec)
     (first : IsSomeAnd (rec_at old.parts.catalog slot) (λ (x : FileRecord). MayReplace old.parts slot x (new_file name assigned bytes))) (again : RefilesIn slot (new_file name assigned bytes) rec.blocks old.parts q) where
   abbrev parts : Kept
@@ -248,14 +269,17 @@ module _ (old : Stored) (q : Kept) (slot : ℕ) (name : List ℕ) (assigned : Li
   same_again : rec ≡ again.way.rec
   same_again = same_Some rec again.way.rec (sym there ∙ again.way.vacates.drops.there)
 
+  pub refiled_limits : q.limits ≡ parts.limits
+  refiled_limits = limits_then old parts.taken parts.marks q old.journal slot name assigned bytes rec.blocks sound sound.parts first again
+
   pub refiled_image : old.journal.blocks ≡ image_blocks q.limits
-  refiled_image = sound.image ∙ ap image_blocks (sym (limits_then old parts.taken parts.marks q old.journal slot name assigned bytes rec.blocks sound sound.parts first again))
+  refiled_image = sound.image ∙ ap image_blocks (sym refiled_limits)
 
   pub refiled_sound : AreSound q → IsSound (settled q old.journal)
   refiled_sound = replaced_sound old parts.taken parts.marks q old.journal slot name assigned bytes rec.blocks sound sound.parts first again refl (sound.journal unbroken)
 
   pub refiled_placed : ArePlaced q old.journal
-  refiled_placed = none_are_placed q old.journal (sound.placed unbroken)
+  refiled_placed = alone_placed old sound unbroken q
 
   pub refiled_room : length old.journal.staged + marked_count q ≤ 531
   refiled_room =
@@ -287,5 +311,5 @@ module _ (old : Stored) (q : Kept) (slot : ℕ) (name : List ℕ) (assigned : Li
       used_blocks s + blocks_taken s.limits.version (length bytes) ≤ s.limits.blocks + blocks_taken s.limits.version (length (bytes_told parts.limits at r)) in
       let room : E rec = omega (arith, fits.tells.formed.few_blocks, ap (λ bs. blocks_taken s.limits.version (length bs)) told_at) in
       replaced_changes old parts.taken parts.marks q old.journal slot name assigned bytes rec.blocks sound sound.parts first again place new before after result outcome s at fits.kept (blocks_told parts.limits at rec)
-      tells_at saved_at (subst H same_again (stay_housed parts at s tells_at filed of bytes size told_at)) fits.journal (unplaced_stands old s before sound fits unbroken) (subst E same_again room)
+      tells_at saved_at (subst H same_again (stay_housed parts at s tells_at filed of bytes size told_at)) fits.journal (unplaced_stands old sound unbroken s before fits) (subst E same_again room)
       (done ∙ ap (λ (r : FileRecord). changed now (file_replaced s r.name (new_file name assigned bytes))) same_again) assignable saves

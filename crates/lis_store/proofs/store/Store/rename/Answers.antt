@@ -1,9 +1,11 @@
-use Rattle.std.proofs.Common.{◌≡◌, ◌∙◌, ◌+◌, ◌≤◌, List, ℕ, length, None, Err, IsSomeAnd, is_some, refl, sym, ap, subst}
+use Rattle.std.proofs.Common.{◌≡◌, ◌∙◌, ◌+◌, ◌≤◌, nat_lt, List, ℕ, length, None, Err, IsSomeAnd, is_some, refl, sym, ap, subst}
 use Rattle.std.proofs.lemmas.Result.{err_from_is_err_and}
+use Rattle.std.specs.List.{list_all}
 use Rattle.lis_catalog.specs.Catalog.{slot_of}
 use Rattle.lis_catalog.proofs.Laws.{rec_at-slot_of}
 use Rattle.lis_ext.specs.Ext.{Ext}
 use Rattle.lis_fields.specs.Records.{FileRecord}
+use Rattle.lis_fields.specs.Layouts.{are_blocks}
 use Rattle.lis_model.specs.Changes.{new_file}
 use Rattle.lis_model.specs.Step.{Situation, rename}
 use Rattle.lis_kept.specs.Kept.{Kept}
@@ -20,7 +22,7 @@ use Rattle.lis_store.specs.Replacing.{MayReplace}
 use Rattle.lis_store.specs.ReplacingIn.{RefilesIn}
 use Rattle.lis_store.specs.Instead.{given_before, renaming_checks}
 use Rattle.lis_store.proofs.FileRead.{name_taken, lost_read, renaming_refused, renaming_changes}
-use Rattle.lis_store.proofs.ReplaceFile.{refiled_sound, refiled_image, refiled_placed, refiled_room, refiled_edits}
+use Rattle.lis_store.proofs.ReplaceFile.{still_in_form, still_below, refiled_limits, refiled_sound, refiled_image, refiled_placed, refiled_room, refiled_edits}
 use Rattle.lis_store.proofs.WriteFile.{rename_first, renamed_nowhere}
 use Rattle.lis_store.proofs.store.Store.rename.Goals as goal
 
@@ -242,3 +244,47 @@ returns-clause-changes g c = λ s fits.
     renaming_changes old c.args.place.now c.args.name.now c.in-Some.slot found.0 c.self.invariant named found.1 here m s fits_old mid c.read_file.ensures.same c.read_file.ensures.any_moment c.read_file.ensures.fits
     c.bytes-2.result.now (subst R (sym c.bytes-2.ensures.bytes) read_now) c.refile.new.parts c.args.new.now c.as_slice.result.now unbroken words first again
     (subst N same (c.in_ok-words.ensures.row found.0 found.1)) new (g.D.Disk.meaning c.save.new.disk) c.save.result c.save.ensures.saves
+
+pub returns-clause-limits : goal.returns-clause-limits
+returns-clause-limits g c =
+    let old : Stored = record { parts = c.self.inside.parts; journal = c.self.inside.journal; is_broken = c.self.inside.is_broken } in
+    let named = ap (λ (k : Stored). slot_of k.parts.catalog c.args.name.now) c.self.view_is ∙ c.in-Some.ensures.slot in
+    let found = rec_at-slot_of c.self.inside.parts.catalog c.args.name.now c.in-Some.slot c.self.invariant.parts.catalog named in
+    let here = ap (λ (k : Stored). is_among k.parts c.args.place.now c.args.name.now) c.self.view_is ∙ sym c.in-Some.ensures.here in
+    let words = c.as_slice.ensures.value ∙ c.in_ok-words.ensures.words found.0 found.1 in
+    let same = c.bytes.ensures.bytes ∙ sym c.bytes-2.ensures.bytes in
+    let F : List (List ℕ) → List ℕ → Type 0 = λ ws bs. MayReplace c.self.inside.parts c.in-Some.slot found.0 (new_file c.args.new.now ws bs) in
+    let W : List (List ℕ) → Type 0 = λ ws. F ws c.bytes.result.now in
+    let V : List ℕ → Type 0 = λ bs. F c.as_slice.result.now bs in
+    let size = ap length c.bytes.ensures.bytes ∙ c.in_default-read_file.ensures.size found.0 found.1 in
+    let may = rename_first old c.self.invariant c.args.place.now c.args.name.now c.in-Some.slot found.0 named found.1 here c.args.new.now c.bytes.result.now c.bytes-name.ensures.name size
+    (c.in_ok-words.ensures.row found.0 found.1) in
+    let first = subst (λ o. IsSomeAnd o (λ (x : FileRecord). MayReplace c.self.inside.parts c.in-Some.slot x (new_file c.args.new.now c.as_slice.result.now c.bytes-2.result.now))) (sym found.1)
+    (subst V same (subst W (sym words) may)) in
+    let unbroken = ap (λ (k : Stored). k.is_broken) c.self.view_is ∙ c.requires.unbroken in
+    let Again : List ℕ → Type 0 = λ ns. RefilesIn c.in-Some.slot (new_file c.args.new.now c.as_slice.result.now c.bytes-2.result.now) ns c.self.inside.parts c.refile.new.parts in
+    let again = subst Again (c.blocks_in-blocks.ensures found.0 found.1) c.refile.ensures.refiled in
+    ap (λ (k : Kept). k.limits) c.save.ensures.parts ∙ (refiled_limits old c.refile.new.parts c.in-Some.slot c.args.new.now c.as_slice.result.now c.bytes-2.result.now found.0 c.self.invariant unbroken found.1 first again ∙ ap (λ (k : Stored). k.parts.limits) c.self.view_is)
+
+pub blocks_in-blocks-requires : goal.blocks_in-blocks-requires
+blocks_in-blocks-requires g c =
+    let named = ap (λ (k : Stored). slot_of k.parts.catalog c.args.name.now) c.self.view_is ∙ c.in-Some.ensures.slot in
+    ap is_some (rec_at-slot_of c.self.inside.parts.catalog c.args.name.now c.in-Some.slot c.self.invariant.parts.catalog named).1
+
+pub refile-requires-clause-in_form : goal.refile-requires-clause-in_form
+refile-requires-clause-in_form g c =
+    let old : Stored = record { parts = c.self.inside.parts; journal = c.self.inside.journal; is_broken = c.self.inside.is_broken } in
+    let named = ap (λ (k : Stored). slot_of k.parts.catalog c.args.name.now) c.self.view_is ∙ c.in-Some.ensures.slot in
+    let found = rec_at-slot_of c.self.inside.parts.catalog c.args.name.now c.in-Some.slot c.self.invariant.parts.catalog named in
+    let size = ap length c.bytes-2.ensures.bytes ∙ c.in_default-read_file.ensures.size found.0 found.1 in
+    ap (are_blocks c.self.inside.parts.limits.version (length c.bytes-2.result.now)) (c.blocks_in-blocks.ensures found.0 found.1)
+    ∙ still_in_form old c.in-Some.slot c.bytes-2.result.now found.0 c.self.invariant found.1 size
+
+pub refile-requires-clause-below : goal.refile-requires-clause-below
+refile-requires-clause-below g c =
+    let old : Stored = record { parts = c.self.inside.parts; journal = c.self.inside.journal; is_broken = c.self.inside.is_broken } in
+    let named = ap (λ (k : Stored). slot_of k.parts.catalog c.args.name.now) c.self.view_is ∙ c.in-Some.ensures.slot in
+    let found = rec_at-slot_of c.self.inside.parts.catalog c.args.name.now c.in-Some.slot c.self.invariant.parts.catalog named in
+    let size = ap length c.bytes-2.ensures.bytes ∙ c.in_default-read_file.ensures.size found.0 found.1 in
+    ap (list_all (λ n. nat_lt n c.self.inside.parts.limits.blocks)) (c.blocks_in-blocks.ensures found.0 found.1)
+    ∙ still_below old c.in-Some.slot c.bytes-2.result.now found.0 c.self.invariant found.1 size
