@@ -1,12 +1,13 @@
 -- Blocks that are taken for a content, or given back.
-use Rattle.std.proofs.Common.{◌≡◌, refl, sym, ap, ◌∙◌, subst, ℕ, zero, suc, ◌+◌, ◌^◌, ◌<◌, ◌≤◌, ◌==◌, ◌&&◌, ◌||◌, if◌then◌else◌, cond, nat_lt, not, Bool, true, false, List, [], ◌∷◌, length, drop, set, Result, Ok, Err, MatchResult, is_some, arith, length-set}
+use Rattle.std.proofs.Common.{◌≡◌, refl, sym, ap, ◌∙◌, subst, ℕ, zero, suc, ◌+◌, ◌^◌, ◌<◌, ◌≤◌, ◌==◌, ◌&&◌, ◌||◌, if◌then◌else◌, cond, nat_lt, not, Bool, true, false, List, [], ◌∷◌, length, drop, set, Result, Ok, Err, OnErr, MatchResult, is_some, arith, length-set}
 use Rattle.std.specs.List.{list_all}
 use Rattle.std.proofs.lemmas.Bool.{and_parts, and_from, cond-false, eq-eqb, ne_eqb, ltb-true, lt-ltb}
 use Rattle.lis_ports.specs.Meaning.{Meaning}
+use Rattle.lis_ports.specs.Runs.{Leaves}
 use Rattle.lis_ports.proofs.Moments.{leaves_none}
 use Rattle.lis_journal.specs.Journal.{OpenRecords, Held}
 use Rattle.lis_journal.specs.Record.{Entry}
-use Rattle.lis_journal.specs.Images.{look, is_among, FitsAt, Fits}
+use Rattle.lis_journal.specs.Images.{look, is_among, StandsBut, FitsAt, Fits}
 use Rattle.lis_journal.specs.Phases.{looked}
 use Rattle.lis_blockmap.specs.Bitmap.{free_count}
 use Rattle.lis_content.specs.Content.{given, are_free, are_distinct, are_within, has_number, has_home}
@@ -109,7 +110,7 @@ module _ (p : Kept) (t : Taxonomy) (held : AreHeld p t) (numbers : List ℕ) (fr
 
 -- ---- a content that is placed
 -- what is among the homes of blocks is one of them
-home_among : (base : ℕ) (blocks : List ℕ) (n : ℕ) → is_among (homes_of base blocks) n ≡ has_home base blocks n
+pub home_among : (base : ℕ) (blocks : List ℕ) (n : ℕ) → is_among (homes_of base blocks) n ≡ has_home base blocks n
 home_among base [] n = refl
 home_among base (b ∷ blocks) n = ap (λ t. base + b == n || t) (home_among base blocks n)
 
@@ -122,7 +123,7 @@ placed_fills p taken old before after blocks places = record {
 }
 
 module _ (p : Kept) (t : Taxonomy) (held : AreHeld p t) (bytes numbers : List ℕ) (taken : List Bool) (old new : Held) (before after : Meaning) (few : length bytes ≤ file_limit p.limits.version)
-    (unstaged : old.staged ≡ []) (placed : IsPlaced (data_start p.limits) bytes p.taken taken old new before after numbers) where
+    (unstaged : old.staged ≡ []) (two : p.limits.version ≡ 2) (placed : IsPlaced (data_start p.limits) bytes p.taken taken old new before after numbers) where
   slot_apart : are_distinct numbers ≡ true
   slot_apart =
       subst (λ ns. are_distinct ns ≡ true) (sym placed.slot_is)
@@ -135,7 +136,7 @@ module _ (p : Kept) (t : Taxonomy) (held : AreHeld p t) (bytes numbers : List �
   staged_then : new.staged ≡ []
   staged_then = ap (λ (h : Held). h.staged) placed.lays.journal ∙ unstaged
 
-  placed_lands : (kept : ℕ → List ℕ) → Fits old before kept → Lands p.limits bytes numbers placed.blocks (looked old.staged kept) new after
+  abbrev placed_lands : (kept : ℕ → List ℕ) → Fits old before kept → Lands p.limits bytes numbers placed.blocks (looked old.staged kept) new after
   placed_lands kept fits =
       let end = placed.lays.fits kept fits in
       let H : List Entry → Type 0 = λ es. HasFile (data_start p.limits) bytes numbers placed.blocks (looked es end.0) in
@@ -157,7 +158,12 @@ module _ (p : Kept) (t : Taxonomy) (held : AreHeld p t) (bytes numbers : List �
     broken = ap (λ (h : Held). h.is_broken) placed.lays.journal;
     placed = λ n among. sym (home_among (data_start p.limits) placed.blocks n) ∙ (ap (λ (h : Held). is_among h.placed n) (sym placed.lays.journal) ∙ among);
     few_staged = omega (arith, ap length staged_then);
+    others = λ n was out. ap (λ (es : List Entry). look es n was) (staged_then ∙ sym unstaged);
     lands = placed_lands;
+    stays = λ kept fits n none. (placed.lays.fits kept fits).2 n (sym (home_among (data_start p.limits) placed.blocks n) ∙ (ap (λ (h : Held). is_among h.placed n) (sym placed.lays.journal) ∙ none));
+    moments = λ kept fits.
+        subst (λ ns. Leaves before after (StandsBut old.blocks ns kept)) (sym (ap (λ (h : Held). h.placed) placed.lays.journal)) (placed.lays.places.moments kept fits);
+    unplaced = λ one. absurd (omega (arith, one, two));
   }
     where
       free : are_free p.taken numbers ≡ true
@@ -179,7 +185,7 @@ module _ (p : Kept) (t : Taxonomy) (held : AreHeld p t) (bytes numbers : List �
       let P : List ℕ → Type 0 = λ ns. FitsAt new.blocks new.records ns m kept in
       subst P (sym put.placed) (subst R (sym put.records) (subst B (sym put.image) fits))
 
-  staged_lands : (kept : ℕ → List ℕ) → Fits old m kept → Lands p.limits bytes numbers numbers (looked old.staged kept) new m
+  abbrev staged_lands : (kept : ℕ → List ℕ) → Fits old m kept → Lands p.limits bytes numbers numbers (looked old.staged kept) new m
   staged_lands kept fits = record {
     kept = kept;
     fits = staged_fits kept fits;
@@ -207,7 +213,11 @@ module _ (p : Kept) (t : Taxonomy) (held : AreHeld p t) (bytes numbers : List �
     broken = put.broken;
     placed = λ n among. absurd (let none : is_among new.placed n ≡ false = ap (λ ns. is_among ns n) (put.placed ∙ unplaced) in let e : true ≡ false = sym among ∙ none in cc);
     few_staged = omega (arith, put.few, put.count, short, ap length unstaged);
+    others = put.others;
     lands = staged_lands;
+    stays = λ kept fits n none. refl;
+    moments = λ kept fits. leaves_none m _;
+    unplaced = λ one. put.placed ∙ unplaced;
   }
 
 -- ---- how a put ends
@@ -215,6 +225,7 @@ module _ (p : Kept) (t : Taxonomy) (held : AreHeld p t) (bytes numbers : List �
 pub record PutEnds {T : Type 0} (items : T → List ℕ) (bytes : List ℕ) (k q : Kept) (t : Taxonomy) (old new : Held) (before after : Meaning) (put : Result T PutFault) : Type 0 where
   pub held : AreHeld q t
   pub ended : MatchResult put (λ numbers. Puts bytes (items numbers) k q old new before after) (λ fault. PutTorn k q old new before after)
+  pub torn : OnErr put (k.limits.version ≡ 2)
 
 -- what is asked of a put
 pub record MayPut (k : Kept) (bytes : List ℕ) (old : Held) : Type 0 where
@@ -258,10 +269,11 @@ module _ {T : Type 0} (items : T → List ℕ) (k p : Kept) (t : Taxonomy) (is :
         let P : Kept → Type 0 = λ q. Puts bytes (items s) q after_put old new before after in
         record {
           held = held_put placed.lays.places.len;
-          ended = subst P is (placed_puts p t held bytes (items s) taken old new before after may.short may.unstaged placed after_put (takes_put placed.lays.places.len));
+          ended = subst P is (placed_puts p t held bytes (items s) taken old new before after may.short may.unstaged two placed after_put (takes_put placed.lays.places.len));
+          torn = tt;
         }
     ends_placed (Err NoSpace) refused = absurd (omega (arith, refused.2, needed_enough))
-    ends_placed (Err Disk) torn = record { held = held_put torn.1.places.len; ended = torn_off torn.1 }
+    ends_placed (Err Disk) torn = record { held = held_put torn.1.places.len; ended = torn_off torn.1; torn = ap (λ (q : Kept). q.limits.version) (sym is) ∙ two }
 
     pub placed_ends : (put : Result T PutFault) → MatchResult put (λ s. IsPlaced base bytes p.taken taken old new before after (items s)) (λ fault. IsUnplaced base bytes p.taken taken old new before after fault)
         → PutEnds items bytes k after_put t old new before after put
@@ -288,6 +300,7 @@ module _ {T : Type 0} (items : T → List ℕ) (k p : Kept) (t : Taxonomy) (is :
         record {
           held = held_put is_put.len;
           ended = subst P is (staged_puts p t held bytes (items s) taken old new m may.short few_bytes may.unstaged may.unplaced is_put after_put (takes_put is_put.len));
+          torn = tt;
         }
     ends_staged (Err NoSpace) refused = absurd (omega (arith, refused.2, content_enough))
     ends_staged (Err Disk) never = absurd never
@@ -303,6 +316,9 @@ ended_ok P Q put x is ended = subst (λ r. MatchResult r P Q) is ended
 pub ended_err : {T : Type 0} (P : T → Type 0) (Q : PutFault → Type 0) (put : Result T PutFault) (fault : PutFault) → put ≡ Err fault → MatchResult put P Q → Q fault
 ended_err P Q put fault is ended = subst (λ r. MatchResult r P Q) is ended
 
+pub torn_err : {T : Type 0} (P : Type 0) (put : Result T PutFault) (fault : PutFault) → put ≡ Err fault → OnErr put P → P
+torn_err P put fault is torn = subst (λ r. OnErr r P) is torn
+
 -- ---- blocks that are given back
 -- the homes of the blocks that a slot numbers are blocks of the image
 pub slot_within : (k : Kept) (rec : FileRecord) (base blocks : ℕ) (numbers : List ℕ) → is_sound_record k.limits.version k.dict k.limits.blocks rec ≡ true → base ≡ data_start k.limits
@@ -314,11 +330,13 @@ slot_within k rec base blocks numbers sound from image are =
 pub gives : (k p : Kept) (t : Taxonomy) (rec : FileRecord) (journal : Held) (m : Meaning) (base size : ℕ) (numbers : List ℕ) (taken marks : List Bool) → p ≡ k → AreHeld p t → length taken ≡ length p.taken
     → marks ≡ set p.marks (bitmap_start p.limits) true → base ≡ data_start p.limits → numbers ≡ rec.blocks → size ≡ rec.size
     → ((kept : ℕ → List ℕ) → Fits journal m kept → taken ≡ given p.taken (file_blocks base numbers size (looked journal.staged kept)))
+    → (is_large size ≡ false → taken ≡ given p.taken numbers)
     → Gives rec k (record p { taken = taken; marks = marks }) journal m
-gives k p t rec journal m base size numbers taken marks is held len are_marks from are sized given_back =
+gives k p t rec journal m base size numbers taken marks is held len are_marks from are sized given_back small_back =
     let P : Kept → Type 0 = λ q. Gives rec q (record p { taken = taken; marks = marks }) journal m in
     subst P is (record {
       takes = (takes p p t taken marks refl held len are_marks).1;
+      small = λ small. small_back (ap is_large sized ∙ small) ∙ ap (given p.taken) are;
       given = λ kept fits.
           given_back kept fits
           ∙ (ap (λ b. given p.taken (file_blocks b numbers size (looked journal.staged kept))) from

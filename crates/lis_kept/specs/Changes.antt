@@ -3,10 +3,11 @@ use Rattle.std.specs.Prelude.{◌≡◌, ◌⊎◌, ℕ, ◌+◌, ◌<◌, ◌�
 use Rattle.lis_journal.specs.Journal.{Held}
 use Rattle.lis_ports.specs.Meaning.{Meaning}
 use Rattle.lis_ports.specs.Runs.{Leaves}
-use Rattle.lis_journal.specs.Images.{StandsBut, Fits, KeepsPast, is_among}
+use Rattle.lis_journal.specs.Images.{StandsBut, Fits, KeepsPast, is_among, look}
 use Rattle.lis_journal.specs.Phases.{looked}
 use Rattle.std.specs.List.{list_all}
 use Rattle.lis_content.specs.Content.{given, marked, are_free, are_distinct, has_home, has_number}
+use Rattle.lis_content.specs.Large.{is_large}
 use Rattle.lis_content.specs.Placing.{homes_of, HasFile}
 use Rattle.lis_dict.specs.Dict.{words, number_of, word_of, with_entry}
 use Rattle.lis_catalog.specs.Catalog.{rec_at, without_slot, with_filed}
@@ -105,9 +106,11 @@ pub record Takes (taken : List Bool) (p q : Kept) : Type 0 where
   pub len : length taken ≡ length p.taken
   pub marks : Marks 1 p q
 
--- The blocks of a file are given back: those that its slot and its index block number, by what the disk keeps under this journal.
+-- The blocks of a file are given back: those that its slot and its index block number, by what the disk keeps under this journal. Without
+-- an index block they are those of the slot, whatever the disk keeps.
 pub record Gives (rec : FileRecord) (p q : Kept) (journal : Held) (m : Meaning) : Type 0 where
   pub takes : Takes q.taken p q
+  pub small : is_large rec.size ≡ false → q.taken ≡ given p.taken rec.blocks
   pub given : (kept : ℕ → List ℕ) → Fits journal m kept → q.taken ≡ given p.taken (blocks_told p.limits (looked journal.staged kept) rec)
 
 -- Blocks hold a content: the disk keeps the same as before in all others, and in these the bytes, which the numbers tell.
@@ -125,7 +128,7 @@ pub record Fills (blocks : List ℕ) (p : Kept) (old : Held) (before after : Mea
   pub past : (kept : ℕ → List ℕ) → Fits old before kept → KeepsPast old.blocks before after
 
 -- A content is put into free blocks, which are taken: staged in version 1, and placed in version 2, with an index block where they are
--- many. `old` and `new` are the journal before and after.
+-- many. `old` and `new` are the journal before and after. Nothing else is staged or placed.
 pub record Puts (bytes numbers : List ℕ) (p q : Kept) (old new : Held) (before after : Meaning) : Type 0 where
   pub blocks : List ℕ
   pub fills : Fills blocks p old before after
@@ -136,7 +139,11 @@ pub record Puts (bytes numbers : List ℕ) (p q : Kept) (old new : Held) (before
   pub broken : new.is_broken ≡ old.is_broken
   pub placed : (n : ℕ) → is_among new.placed n ≡ true → has_home (data_start p.limits) blocks n ≡ true
   pub few_staged : length new.staged ≤ 16
+  pub others : (n : ℕ) (was : List ℕ) → has_home (data_start p.limits) blocks n ≡ false → look new.staged n was ≡ look old.staged n was
   pub lands : (kept : ℕ → List ℕ) → Fits old before kept → Lands p.limits bytes numbers blocks (looked old.staged kept) new after
+  pub stays : (kept : ℕ → List ℕ) (fits : Fits old before kept) (n : ℕ) → is_among new.placed n ≡ false → (lands kept fits).kept n ≡ kept n
+  pub moments : (kept : ℕ → List ℕ) → Fits old before kept → Leaves before after (StandsBut old.blocks new.placed kept)
+  pub unplaced : p.limits.version ≡ 1 → new.placed ≡ []
 
 -- The disk failed: some blocks are taken, and only what is on the disk counts.
 pub record PutTorn (p q : Kept) (old new : Held) (before after : Meaning) : Type 0 where

@@ -1,13 +1,14 @@
 -- How a command ends: what is marked is staged, and all that is staged is committed.
-use Rattle.std.specs.Prelude.{◌≡◌, ℕ, Bool, true, false, List, [], length, replicate, Result, Ok, Err}
+use Rattle.std.specs.Prelude.{◌≡◌, ℕ, ◌≤◌, Bool, true, false, List, [], length, replicate, Result, Ok, Err}
 use Rattle.lis_ports.specs.Meaning.{Meaning}
 use Rattle.lis_journal.specs.Journal.{Held}
-use Rattle.lis_journal.specs.Images.{StandsBut, Fits}
+use Rattle.lis_journal.specs.Images.{StandsBut, Fits, is_among}
 use Rattle.lis_journal.specs.Phases.{looked}
+use Rattle.lis_model.specs.Image.{bitmap_start, data_start}
 use Rattle.lis_model.specs.State.{State}
 use Rattle.lis_model.specs.Step.{Situation, Outcome, changed}
 use Rattle.lis_kept.specs.Kept.{Kept}
-use Rattle.lis_kept.specs.Areas.{IsSaved}
+use Rattle.lis_kept.specs.Areas.{IsSaved, is_marked}
 use Rattle.lis_kept.specs.Sound.{AreSound}
 use Rattle.lis_kept.specs.Telling.{Tells}
 use Rattle.lis_store.specs.declared.change.Change.{Change}
@@ -22,7 +23,11 @@ clean k = record k { marks = replicate (length k.marks) false }
 
 -- the store that these parts and this journal are once they are saved
 abbrev pub settled : Kept → Held → Stored
-settled k j = record { parts = clean k; journal = record j { staged = [] }; is_broken = false }
+settled k j = record { parts = clean k; journal = record j { staged = []; placed = [] }; is_broken = false }
+
+-- Placed blocks are data blocks, and where there are any the block of the bitmap is marked.
+abbrev pub ArePlaced : Kept → Held → Type 0
+ArePlaced k j = (n : ℕ) → is_among j.placed n ≡ true → (data_start k.limits ≤ n) × (is_marked k (bitmap_start k.limits) ≡ true)
 
 -- By these blocks memory tells a state, and what is not marked is written.
 pub record IsReady (k : Kept) (at : ℕ → List ℕ) (s : State) : Type 0 where

@@ -7,6 +7,7 @@ ghost use Rattle.lis_catalog.specs.Catalog.{rec_at};
 ghost use Rattle.lis_fields.specs.Records.{FileRecord};
 ghost use Rattle.lis_model.specs.Image.{image_blocks};
 ghost use Rattle.lis_model.specs.State.{blocks_taken, file_limit};
+ghost use Rattle.lis_kept.specs.Sound.{AreSound};
 ghost use Rattle.lis_store.specs.Instead.{free_instead};
 ghost use Rattle.lis_store.specs.Changes.{HasChangeCause};
 ghost use Rattle.lis_store.specs.Contents.{ContentPut, ContentGiven, ContentRenewed, ContentEnded};
@@ -15,21 +16,7 @@ use crate::change::Change;
 use arrayvec::ArrayVec;
 use lis_journal::Journal;
 use lis_kept::Parts;
-use lis_ports::{Disk, Failed};
-
-// What a call of the disk came to: a fault breaks the store.
-fn noted<T>(called: Result<T, Failed>, is_broken: &mut bool) -> Result<T, Change>
-    requires { is_broken.old ≡ false }
-    ensures ok { (value : T) → called ≡ Ok value → result ≡ Ok value }
-{
-    match called {
-        Ok(value) => Ok(value),
-        Err(fault) => {
-            *is_broken = true;
-            Err(Change::from(fault))
-        }
-    }
-}
+use lis_ports::Disk;
 
 /// Puts bytes into free blocks, and answers the numbers that a slot has of them.
 pub(crate) fn put_content<D: Disk>(
@@ -49,11 +36,21 @@ pub(crate) fn put_content<D: Disk>(
     requires long { 4096 * journal.old.blocks ≤ (D.meaning disk.old).len }
     ensures put { ContentPut payload.now parts.old parts.new journal.old journal.new (D.meaning disk.old) (D.meaning disk.new) result }
     ensures ended { ContentEnded is_broken.new result }
+    ensures sound { AreSound parts.new }
+    ensures torn { OnErr result (parts.old.limits.version ≡ 2) }
     ensures run { IsDiskRun (D.meaning disk.old) (D.meaning disk.new) }
     ensures cause { HasChangeCause (D.meaning disk.old).disk_faults (D.meaning disk.new).disk_faults result }
 {
     let put = parts.put_content(journal, disk, payload);
-    noted(put, is_broken)
+    // Only its limits tell that memory is in form.
+    let _limits = parts.limits();
+    match put {
+        Ok(numbers) => Ok(numbers),
+        Err(fault) => {
+            *is_broken = true;
+            Err(Change::from(fault))
+        }
+    }
 }
 
 /// Gives the blocks of the file in a slot back.
@@ -75,8 +72,13 @@ pub(crate) fn give_content<D: Disk>(
     ensures run { IsDiskRun (D.meaning disk.old) (D.meaning disk.new) }
     ensures cause { HasChangeCause (D.meaning disk.old).disk_faults (D.meaning disk.new).disk_faults result }
 {
-    let given = parts.give_blocks(journal, disk, slot);
-    noted(given, is_broken)
+    match parts.give_blocks(journal, disk, slot) {
+        Ok(()) => Ok(()),
+        Err(fault) => {
+            *is_broken = true;
+            Err(Change::from(fault))
+        }
+    }
 }
 
 /// The numbers of blocks that the slot of a file has.
@@ -117,12 +119,15 @@ pub(crate) fn put_instead<D: Disk>(
     ensures renewed { (rec : FileRecord) → rec_at parts.old.catalog slot ≡ Some rec
         → ContentRenewed payload.now rec parts.old parts.new journal.old journal.new (D.meaning disk.old) (D.meaning disk.new) result }
     ensures ended { ContentEnded is_broken.new result }
+    ensures sound { AreSound parts.new }
     ensures run { IsDiskRun (D.meaning disk.old) (D.meaning disk.new) }
     ensures cause { HasChangeCause (D.meaning disk.old).disk_faults (D.meaning disk.new).disk_faults result }
 {
     if parts.limits().version == 2 {
         let numbers = put_content(parts, journal, is_broken, disk, payload)?;
         give_content(parts, journal, is_broken, disk, slot)?;
+        // Only its limits tell that memory is in form.
+        let _limits = parts.limits();
         return Ok(numbers);
     }
     give_content(parts, journal, is_broken, disk, slot)?;

@@ -77,14 +77,11 @@ fn free_instead(parts: &Parts, slot: u16) -> u64
     requires { IsSome (rec_at parts.now.catalog slot) }
     ensures { (rec : FileRecord) → rec_at parts.now.catalog slot ≡ Some rec → result ≡ free_instead parts.now rec }
 {
-    let Some(rec) = parts.rec(slot) else {
-        unreachable!()
-    };
     let free = u64::from(parts.free_blocks());
     if parts.limits().version == 2 {
         return free;
     }
-    free + rec.blocks.len() as u64
+    free + parts.taken_blocks(slot) as u64
 }
 
 // Whether the description in a slot has a number which is not in the row, and which nothing else uses.

@@ -1,6 +1,6 @@
 //! Blocks that contents take, and give back.
 
-ghost use Rattle.std.specs.Prelude.{◌≡◌, ℕ, ◌*◌, ◌≤◌, false, true, [], List, Some, length, slice_set, IsSome, IsTrue, OnOk, OnErr, MatchResult};
+ghost use Rattle.std.specs.Prelude.{◌≡◌, ℕ, ◌*◌, ◌≤◌, true, false, [], List, Some, length, slice_set, IsSome, IsTrue, OnOk, OnErr, MatchResult};
 ghost use Rattle.lis_ports.specs.Runs.{IsDiskRun, Leaves};
 ghost use Rattle.lis_ports.specs.Calls.{HasCause, IsUnchanged};
 ghost use Rattle.lis_journal.specs.Images.{Fits};
@@ -49,6 +49,7 @@ impl Parts {
         ensures ended { MatchResult result
             (λ numbers. Puts bytes.now numbers.items self.old self.new journal.old journal.new (D.meaning disk.old) (D.meaning disk.new))
             (λ _. PutTorn self.old self.new journal.old journal.new (D.meaning disk.old) (D.meaning disk.new)) }
+        ensures torn { OnErr result (self.old.limits.version ≡ 2) }
         ensures run { IsDiskRun (D.meaning disk.old) (D.meaning disk.new) }
         ensures cause { HasCause (D.meaning disk.old).disk_faults (D.meaning disk.new).disk_faults result }
     {
