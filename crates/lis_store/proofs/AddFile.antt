@@ -6,7 +6,7 @@ use Rattle.lis_journal.specs.Journal.{Held}
 use Rattle.lis_journal.specs.Record.{Entry}
 use Rattle.lis_journal.specs.Images.{look}
 use Rattle.lis_journal.specs.Phases.{looked}
-use Rattle.lis_blockmap.specs.Bitmap.{is_taken, free_count}
+use Rattle.lis_blockmap.specs.Bitmap.{free_count}
 use Rattle.lis_content.specs.Content.{has_home, marked}
 use Rattle.lis_ext.specs.Ext.{Ext}
 use Rattle.lis_grammar.specs.Formula.{Formula}
@@ -17,7 +17,7 @@ use Rattle.lis_model.specs.Changes.{new_file, file_added}
 use Rattle.lis_model.specs.Step.{Situation, Outcome, changed}
 use Rattle.lis_kept.specs.Kept.{Kept}
 use Rattle.lis_kept.specs.Areas.{IsSaved, is_marked, marked_count}
-use Rattle.lis_kept.specs.Sound.{AreSound, FreeSlotsAreEmpty}
+use Rattle.lis_kept.specs.Sound.{AreSound}
 use Rattle.lis_kept.specs.Changes.{Puts, PutTorn}
 use Rattle.lis_store.specs.declared.change.Change.{Change}
 use Rattle.lis_store.specs.declared.change.Change.TheVariants.{Refused, Disk}
@@ -32,7 +32,7 @@ use Rattle.lis_store.proofs.Added.{form_added, same_axioms, same_limits}
 use Rattle.lis_store.proofs.AddedMarks.{few_marked, stay_marked, few_edits}
 use Rattle.lis_store.proofs.AddedTells.{ArePut, ready_added}
 use Rattle.lis_store.proofs.Cleaned.{none_marked}
-use Rattle.lis_store.proofs.Elsewhere.{AreSameBut, saved_elsewhere, no_home_before}
+use Rattle.lis_store.proofs.Elsewhere.{saved_elsewhere, no_home_before}
 use Rattle.lis_store.proofs.Facts.{limits_told}
 use Rattle.lis_store.proofs.FreeBlocks.{used_told}
 use Rattle.lis_store.proofs.Replaced.{form_retaken, in_form, settled_sound}

@@ -5,7 +5,7 @@ use Rattle.std.proofs.lemmas.Bool.{both_ways, or_cases, or_left}
 use Rattle.std.proofs.lemmas.Option.{same_Some}
 use Rattle.lis_graph.proofs.Members.{Among, among_from_contains, contains_from_among, any_from_among, among_left, among_insert_key, insert_key_old, map_among}
 use Rattle.lis_graph.proofs.Sets.{sorted_from_rising}
-use Rattle.lis_blockmap.specs.Bitmap.{is_taken, free_count}
+use Rattle.lis_blockmap.specs.Bitmap.{is_taken}
 use Rattle.lis_content.specs.Content.{has_number, has_home, are_free, are_distinct, marked}
 use Rattle.lis_content.specs.Placing.{HasFile}
 use Rattle.lis_content.proofs.Numbers.{stays_marked}

@@ -1,6 +1,5 @@
 -- The row of a new file, told by what a store keeps, is the row of the state; and what holds where it refuses nothing.
-use Rattle.std.proofs.Common.{◌≡◌, ◌⊎◌, refl, sym, ap, ap₂, ◌∙◌, inl, inr, ℕ, ◌<◌, ◌≤◌, ◌==◌, nat_lt, nat_le, Bool, true, false, not, cond, is_some, Option, Some, None, List, ◌++◌, length, Result, Err, arith, eqb-true}
-use Rattle.std.specs.Prelude.{IsTrue}
+use Rattle.std.proofs.Common.{◌≡◌, ◌⊎◌, refl, sym, ap, ap₂, ◌∙◌, inl, inr, ℕ, ◌<◌, ◌≤◌, nat_lt, nat_le, Bool, true, false, not, cond, is_some, Option, Some, None, List, ◌++◌, length, Result, Err, arith}
 use Rattle.std.specs.List.{list_any, list_all}
 use Rattle.std.proofs.lemmas.Bool.{le-ltb, ltb-true, ltb-false, leb-true, leb-false, not-false}
 use Rattle.lis_ports.specs.Meaning.{Meaning}
@@ -13,7 +12,7 @@ use Rattle.lis_model.specs.declared.limits.Limits.{Limits}
 use Rattle.lis_model.specs.declared.refusal.Refusal.{Refusal}
 use Rattle.lis_model.specs.declared.refusal.Refusal.TheVariants.{LargeFile}
 use Rattle.lis_model.specs.Sets.{with_words}
-use Rattle.lis_model.specs.State.{State, File, file_words, description, known, is_assignable, file_cmp, file_limit, blocks_needed, blocks_taken}
+use Rattle.lis_model.specs.State.{State, File, file_words, description, known, is_assignable, file_cmp, file_limit, blocks_taken}
 use Rattle.lis_model.specs.Changes.{has_name, new_file, file_added}
 use Rattle.lis_model.specs.Step.{Situation, Payload, refused, changed, exceeds_words, assigned_at, free_blocks, add_checks, add}
 use Rattle.lis_fields.proofs.Parts.{size_fits}

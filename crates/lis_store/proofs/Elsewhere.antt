@@ -1,5 +1,5 @@
 -- Blocks that no file has may hold anything: what memory tells of a state and what it has written stay as they are.
-use Rattle.std.proofs.Common.{◌≡◌, refl, sym, ap, ◌∙◌, subst, inl, inr, ℕ, ◌+◌, ◌<◌, ◌≤◌, ◌==◌, ◌&&◌, not, nat_lt, true, false, List, length, map, IsTrue, arith}
+use Rattle.std.proofs.Common.{◌≡◌, refl, sym, ap, ◌∙◌, subst, inl, inr, ℕ, ◌+◌, ◌<◌, ◌≤◌, ◌==◌, ◌&&◌, not, nat_lt, true, false, List, length, IsTrue, arith}
 use Rattle.std.specs.List.{Contains}
 use Rattle.std.proofs.lemmas.Bool.{and_parts, both_ways, eqb-true, false_from_ne_true, not-true}
 use Rattle.lis_graph.proofs.Members.{Among, among_from_contains, contains_from_among, among_from_any}
@@ -14,7 +14,7 @@ use Rattle.lis_model.specs.Image.{data_start}
 use Rattle.lis_model.specs.State.{State, File, description}
 use Rattle.lis_laws.proofs.Counts.{all_among}
 use Rattle.lis_kept.specs.Kept.{Kept}
-use Rattle.lis_kept.specs.Areas.{Area, slots_of, block_of, IsWritten, IsSaved}
+use Rattle.lis_kept.specs.Areas.{block_of, IsWritten, IsSaved}
 use Rattle.lis_kept.specs.Inside.{bytes_in}
 use Rattle.lis_kept.specs.Sound.{AreSound}
 use Rattle.lis_kept.specs.Telling.{bytes_told, blocks_told, file_told, state_of, HasIndex, Tells}

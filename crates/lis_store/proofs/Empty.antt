@@ -1,5 +1,5 @@
 -- A blank image tells of no words and no files: it stands for the empty state.
-use Rattle.std.proofs.Common.{◌≡◌, refl, sym, ap, ap₂, ◌∙◌, ℕ, zero, suc, ◌+◌, ◌-◌, ◌*◌, ◌/◌, ◌%◌, ◌<◌, ◌≤◌, ◌==◌, ◌≢◌, false, List, [], ◌∷◌, length, get_or, map, take, drop, replicate, slice_get, slice_index, Some, IsTrue, arith}
+use Rattle.std.proofs.Common.{◌≡◌, refl, sym, ap, ap₂, ◌∙◌, ℕ, zero, suc, ◌+◌, ◌-◌, ◌*◌, ◌/◌, ◌%◌, ◌<◌, ◌≤◌, ◌≢◌, false, List, [], ◌∷◌, length, get_or, map, take, drop, replicate, slice_get, slice_index, Some, IsTrue, arith}
 use Rattle.std.specs.BTreeSet.{insert_key}
 use Rattle.std.specs.List.{fold, range_with_len, Contains}
 use Rattle.std.proofs.lemmas.Bool.{both_ways}

@@ -1,5 +1,5 @@
 -- A store without words and files fits a blank image.
-use Rattle.std.proofs.Common.{◌≡◌, refl, ap, ℕ, ◌≤◌, ◌==◌, List, IsTrue, arith}
+use Rattle.std.proofs.Common.{refl, ap, ℕ, ◌≤◌, ◌==◌, List, IsTrue, arith}
 use Rattle.std.specs.List.{list_any}
 use Rattle.lis_ports.specs.Meaning.{Meaning}
 use Rattle.lis_ports.specs.Bytes.{part}

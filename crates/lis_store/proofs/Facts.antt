@@ -1,5 +1,5 @@
 -- What a store says of the state that it tells, in other words.
-use Rattle.std.proofs.Common.{◌≡◌, refl, sym, ap, ap₂, ◌∙◌, subst, inl, inr, ℕ, ◌+◌, ◌*◌, ◌<◌, ◌≤◌, ◌||◌, nat_lt, Bool, true, false, cond, is_some, Option, Some, None, option_map, List, [], ◌∷◌, length, map, IsSomeAnd, arith, length-append}
+use Rattle.std.proofs.Common.{◌≡◌, refl, sym, ap, ap₂, ◌∙◌, subst, inl, inr, ℕ, ◌+◌, ◌*◌, ◌<◌, ◌||◌, nat_lt, Bool, true, false, cond, is_some, Option, Some, None, option_map, List, [], ◌∷◌, length, map, IsSomeAnd, arith, length-append}
 use Rattle.std.specs.List.{find, flat_map, list_any, Contains}
 use Rattle.std.proofs.lemmas.Bool.{ltb-true}
 use Rattle.std.proofs.lemmas.List.{length-map, length-take-le}

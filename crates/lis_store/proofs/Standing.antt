@@ -1,5 +1,5 @@
 -- What home blocks spell, the images with these blocks stand for.
-use Rattle.std.proofs.Common.{◌≡◌, refl, sym, ap, ◌∙◌, subst, inl, inr, ℕ, List, [], Option, Some, None, IsTrue, IsSomeAnd, arith}
+use Rattle.std.proofs.Common.{◌≡◌, refl, ap, ◌∙◌, subst, ℕ, List, [], Option, Some, None, IsTrue, IsSomeAnd, arith}
 use Rattle.lis_ports.specs.Meaning.{Meaning}
 use Rattle.lis_ports.specs.Runs.{Always}
 use Rattle.lis_ports.proofs.Always.{always_weaken}
@@ -9,7 +9,6 @@ use Rattle.lis_journal.proofs.Fitting.{fits_stand, replayed-front}
 use Rattle.lis_content.specs.Content.{are_free}
 use Rattle.lis_content.specs.Placing.{homes_of}
 use Rattle.lis_fields.specs.Layouts.{SpellsSuper}
-use Rattle.lis_model.specs.declared.limits.Limits.{Limits}
 use Rattle.lis_model.specs.Image.{data_start, image_blocks}
 use Rattle.lis_model.specs.State.{State}
 use Rattle.lis_kept.specs.Kept.{Kept}

@@ -1,5 +1,5 @@
 -- Contents that are put or given back before a change is saved: what is kept then, and what images stand for meanwhile.
-use Rattle.std.proofs.Common.{◌≡◌, ◌⊎◌, refl, sym, ap, ◌∙◌, subst, inl, ℕ, true, false, Bool, List, [], length, set, slice_get, Result, Err, arith, length-set}
+use Rattle.std.proofs.Common.{◌≡◌, ◌⊎◌, sym, ap, ◌∙◌, subst, inl, ℕ, true, Bool, List, length, set, slice_get, Result, Err, arith, length-set}
 use Rattle.lis_ports.specs.Meaning.{Meaning}
 use Rattle.lis_ports.specs.Runs.{Leaves}
 use Rattle.lis_ports.proofs.Moments.{leaves_weaken, leaves_then}

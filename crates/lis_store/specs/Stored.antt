@@ -1,5 +1,5 @@
 -- A store: what memory keeps of an image, with its journal, and when it fits a disk.
-use Rattle.std.specs.Prelude.{◌≡◌, ℕ, ◌≤◌, Bool, true, false, Some, is_some, List, [], length, replicate, slice_get, IsTrue}
+use Rattle.std.specs.Prelude.{◌≡◌, ℕ, ◌≤◌, Bool, true, false, Some, is_some, List, [], length, replicate, slice_get}
 use Rattle.lis_ports.specs.Meaning.{Meaning}
 use Rattle.lis_journal.specs.Journal.{Held, no_records}
 use Rattle.lis_journal.specs.Images.{Fits}

@@ -1,6 +1,6 @@
-use Rattle.std.proofs.Common.{◌≡◌, ◌∙◌, ◌+◌, ◌≤◌, refl, sym, ap, subst, is_some, Some, Err, true, arith}
+use Rattle.std.proofs.Common.{◌≡◌, ◌∙◌, ◌+◌, ◌≤◌, refl, sym, ap, subst, is_some, Err, arith}
 use Rattle.std.proofs.lemmas.Result.{err_from_is_err_and}
-use Rattle.lis_catalog.specs.Catalog.{slot_of, rec_at}
+use Rattle.lis_catalog.specs.Catalog.{slot_of}
 use Rattle.lis_catalog.proofs.Laws.{rec_at-slot_of}
 use Rattle.lis_store.specs.Stored.{Stored, IsSound, StoreFits}
 use Rattle.lis_store.specs.Changes.{differing_bits}
