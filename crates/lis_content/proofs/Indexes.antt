@@ -1,7 +1,8 @@
 -- Numbers in an index block.
-use Rattle.std.proofs.Common.{◌≡◌, ℕ, zero, suc, ◌+◌, ◌*◌, ◌<◌, ◌≤◌, nat_lt, true, false, List, [], ◌∷◌, ◌++◌, length, take, drop, get_or, refl, sym, ◌∙◌, ap, ap₂, arith, append_assoc, get_or-take, get_or-drop}
-use Rattle.std.specs.List.{flat_map}
-use Rattle.std.proofs.lemmas.Bool.{and_parts, and_from, lt-ltb, le-ltb, ltb-true, cond-true, cond-false}
+use Rattle.std.proofs.Common.{◌≡◌, ℕ, zero, suc, ◌+◌, ◌-◌, ◌*◌, ◌/◌, ◌%◌, ◌<◌, ◌≤◌, ◌==◌, nat_lt, true, false, List, [], ◌∷◌, ◌++◌, length, take, drop, replicate, get_or, refl, sym, ◌∙◌, ap, ap₂, arith, append_assoc, get_or-take, get_or-drop, length-drop, take-append-drop}
+use Rattle.std.specs.List.{flat_map, list_all}
+use Rattle.std.proofs.lemmas.Bool.{and_parts, and_from, lt-ltb, le-ltb, ltb-true, eqb-true, cond-true, cond-false}
+use Rattle.std.proofs.lemmas.List.{drop_at}
 use Rattle.std.proofs.lemmas.List.FromFn.{length-map-range_with_len, get_or-map-range_with_len, fill_by_all}
 use Rattle.byteorder.specs.Endian.{little_bytes, little_number, IsRead}
 use Rattle.byteorder.specs.Numbers.{little_number-reads_back}
@@ -72,3 +73,62 @@ small_size size few = le-ltb 16 (blocks_needed size) (omega (arith, few))
 
 pub small_content : (base : ℕ) (slot : List ℕ) (size : ℕ) (at : ℕ → List ℕ) → is_large size ≡ false → file_content base slot size at ≡ content base slot size at
 small_content base slot size at is = ap (λ ns. content base ns size at) (small_numbers base slot size at is)
+
+-- ---- an index block spells the numbers that are read from it, where zeros stand behind them
+two_bytes : (a b : ℕ) → a < 256 → b < 256 → little_bytes 2 (a + 256 * (b + 0)) ≡ a ∷ b ∷ []
+two_bytes a b small_a small_b =
+    ap₂ (λ x y. x ∷ y ∷ []) (let e : (a + 256 * (b + 0)) % 256 ≡ a = omega (arith, small_a, small_b) in e) (let e : (a + 256 * (b + 0)) / 256 % 256 ≡ b = omega (arith, small_a, small_b) in e)
+
+-- the first number, and those behind it
+first_number : (count a b : ℕ) (rest : List ℕ) → numbers_in (suc count) (a ∷ b ∷ rest) ≡ (a + 256 * (b + 0)) ∷ numbers_in count rest
+first_number count a b rest =
+    sym (numbers_from (suc count) (a ∷ b ∷ rest) ((a + 256 * (b + 0)) ∷ numbers_in count rest) (ap suc (length-numbers_in count rest)) each)
+  where
+    each : (k : ℕ) → k < suc count → get_or ((a + 256 * (b + 0)) ∷ numbers_in count rest) k 0 ≡ number_at (a ∷ b ∷ rest) k
+    each zero lt = refl
+    each (suc k) lt =
+        number-numbers_in count k rest (omega (arith, lt))
+        ∙ ap (λ j. little_number 2 (drop j (a ∷ b ∷ rest))) (let next : suc (suc (2 * k)) ≡ 2 * suc k = omega arith in next)
+
+pub numbers_spelled : (count : ℕ) (bytes : List ℕ) → 2 * count ≤ length bytes → ((k : ℕ) → get_or bytes k 0 < 256) → flat_map (little_bytes 2) (numbers_in count bytes) ≡ take (2 * count) bytes
+unfolding numbers_in
+numbers_spelled zero bytes long small = refl
+numbers_spelled (suc count) [] long small = absurd (omega arith)
+numbers_spelled (suc count) (a ∷ []) long small = absurd (omega arith)
+numbers_spelled (suc count) (a ∷ b ∷ rest) long small =
+    ap (flat_map (little_bytes 2)) (first_number count a b rest)
+    ∙ (ap₂ (λ xs ys. xs ++ ys) (two_bytes a b (small 0) (small 1)) (numbers_spelled count rest (omega (arith, long)) (λ k. small (suc (suc k))))
+    ∙ ap (λ i. take i (a ∷ b ∷ rest)) (let next : suc (suc (2 * count)) ≡ 2 * suc count = omega arith in next))
+
+length-spelled : (ns : List ℕ) → length (flat_map (little_bytes 2) ns) ≡ 2 * length ns
+length-spelled [] = refl
+length-spelled (n ∷ ns) = ap (λ k. suc (suc k)) (length-spelled ns) ∙ omega arith
+
+zeros_are : (xs : List ℕ) → list_all (λ b. b == 0) xs ≡ true → xs ≡ replicate (length xs) 0
+zeros_are [] zeros = refl
+zeros_are (x ∷ xs) zeros =
+    let parts = and_parts (x == 0) (list_all (λ b. b == 0) xs) zeros in
+    ap₂ (λ y ys. y ∷ ys) (eqb-true x 0 parts.0) (zeros_are xs parts.1)
+
+are_zeros : (n : ℕ) → list_all (λ b. b == 0) (replicate n 0) ≡ true
+are_zeros zero = refl
+are_zeros (suc n) = are_zeros n
+
+pub index_spelled : (count : ℕ) (block : List ℕ) → length block ≡ 4096 → 2 * count ≤ 4096 → ((k : ℕ) → get_or block k 0 < 256) → list_all (λ b. b == 0) (drop (2 * count) block) ≡ true → block ≡ index_bytes (numbers_in count block)
+index_spelled count block len few small zeros =
+    sym (take-append-drop (2 * count) block)
+    ∙ ap₂ (λ xs ys. xs ++ ys) (sym spelled) (zeros_are (drop (2 * count) block) zeros ∙ ap (λ n. replicate n 0) (length-drop (2 * count) block ∙ omega (arith, len, wide)))
+  where
+    spelled : flat_map (little_bytes 2) (numbers_in count block) ≡ take (2 * count) block
+    spelled = numbers_spelled count block (omega (arith, len, few)) small
+
+    wide : length (flat_map (little_bytes 2) (numbers_in count block)) ≡ 2 * count
+    wide = length-spelled (numbers_in count block) ∙ ap (λ n. 2 * n) (length-numbers_in count block)
+
+pub index_zeros : (count : ℕ) (block : List ℕ) → block ≡ index_bytes (numbers_in count block) → list_all (λ b. b == 0) (drop (2 * count) block) ≡ true
+index_zeros count block is =
+    let ns = numbers_in count block in
+    let zeros = 4096 - length (flat_map (little_bytes 2) ns) in
+    ap (λ xs. list_all (λ b. b == 0) (drop (2 * count) xs)) is
+    ∙ (ap (list_all (λ b. b == 0)) (drop_at (flat_map (little_bytes 2) ns) (replicate zeros 0) (2 * count) (length-spelled ns ∙ ap (λ n. 2 * n) (length-numbers_in count block)))
+    ∙ are_zeros zeros)

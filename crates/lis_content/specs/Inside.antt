@@ -13,5 +13,5 @@ kept_bytes region frame size = take size (frame_bytes region frame)
 -- the frame is taken, and has room for the bytes of any file
 pub record IsKept (region : Region ℕ) (frame size : ℕ) : Type 0 where
   pub taken : HasFrame region frame
-  pub wide : length (frame_bytes region frame) ≡ 65536
-  pub within : size ≤ 65536
+  pub wide : length (frame_bytes region frame) ≡ 1048576
+  pub within : size ≤ 1048576

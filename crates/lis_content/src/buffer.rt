@@ -3,13 +3,13 @@
 ghost use Rattle.std.specs.Prelude.{◌≡◌, ◌*◌, ◌≤◌, ℕ, List, [], false, length, take, IsTrue, IfOk, OnOk};
 ghost use Rattle.lis_ports.specs.Runs.{IsDiskRun, Leaves};
 ghost use Rattle.lis_ports.specs.Calls.{HasCause, IsUnchanged};
-ghost use Rattle.lis_model.specs.State.{blocks_needed};
 ghost use Rattle.lis_journal.specs.Images.{Fits};
 ghost use Rattle.lis_journal.specs.Phases.{looked};
-ghost use Rattle.lis_content.specs.Content.{content, are_within};
+ghost use Rattle.lis_content.specs.Content.{are_within};
+ghost use Rattle.lis_content.specs.Large.{slot_count, content_blocks, file_content};
 ghost use Rattle.lis_content.specs.Inside.{kept_bytes, IsKept};
 
-use crate::content::read;
+use crate::large::read_content;
 use lis_journal::Journal;
 use lis_ports::{Disk, Failed};
 use lis_region::{Frame, Region};
@@ -17,7 +17,7 @@ use std::alloc::{AllocError, Global};
 use std::marker::Model;
 
 /// The most bytes that a file has.
-const MOST_BYTES: u32 = 65_536;
+const MOST_BYTES: u32 = 1_048_576;
 
 /// The bytes of a file, in memory that is taken once.
 #[derive(Drop)]
@@ -48,13 +48,15 @@ fn read_front<D: Disk>(
     size: u32,
 ) -> Result<(), Failed>
     requires short { size ≤ length items.old }
-    requires count { length blocks.now ≡ blocks_needed size }
+    requires few { size ≤ 1048576 }
+    requires count { length blocks.now ≡ slot_count size }
     requires home { 578 ≤ base }
     requires within { IsTrue (are_within base journal.now.blocks blocks.now) }
     requires unbroken { journal.now.is_broken ≡ false }
     requires long { 4096 * journal.now.blocks ≤ (D.meaning disk.old).len }
     ensures read { OnOk result ((kept : ℕ → List ℕ) → Fits journal.now (D.meaning disk.old) kept
-        → take size items.new ≡ content base blocks.now size (looked journal.now.staged kept)) }
+        → IsTrue (are_within base journal.now.blocks (content_blocks base blocks.now size (looked journal.now.staged kept)))
+        → take size items.new ≡ file_content base blocks.now size (looked journal.now.staged kept)) }
     ensures run { IsDiskRun (D.meaning disk.old) (D.meaning disk.new) }
     ensures cause { HasCause (D.meaning disk.old).disk_faults (D.meaning disk.new).disk_faults result }
     ensures same { IsTrue (D.meaning disk.old).is_honest → IsUnchanged (D.meaning disk.old) (D.meaning disk.new) }
@@ -63,7 +65,7 @@ fn read_front<D: Disk>(
     ensures fits { (kept : ℕ → List ℕ) → Fits journal.now (D.meaning disk.old) kept
         → Fits journal.now (D.meaning disk.new) kept }
 {
-    read(
+    read_content(
         journal,
         disk,
         base,
@@ -84,14 +86,15 @@ fn read_frame<D: Disk>(
     size: u32,
 ) -> Result<(), Failed>
     requires kept { IsKept region.old frame.now size }
-    requires count { length blocks.now ≡ blocks_needed size }
+    requires count { length blocks.now ≡ slot_count size }
     requires home { 578 ≤ base }
     requires within { IsTrue (are_within base journal.now.blocks blocks.now) }
     requires unbroken { journal.now.is_broken ≡ false }
     requires long { 4096 * journal.now.blocks ≤ (D.meaning disk.old).len }
     ensures kept { IsKept region.new frame.now size }
     ensures read { OnOk result ((kept : ℕ → List ℕ) → Fits journal.now (D.meaning disk.old) kept
-        → kept_bytes region.new frame.now size ≡ content base blocks.now size (looked journal.now.staged kept)) }
+        → IsTrue (are_within base journal.now.blocks (content_blocks base blocks.now size (looked journal.now.staged kept)))
+        → kept_bytes region.new frame.now size ≡ file_content base blocks.now size (looked journal.now.staged kept)) }
     ensures run { IsDiskRun (D.meaning disk.old) (D.meaning disk.new) }
     ensures cause { HasCause (D.meaning disk.old).disk_faults (D.meaning disk.new).disk_faults result }
     ensures same { IsTrue (D.meaning disk.old).is_honest → IsUnchanged (D.meaning disk.old) (D.meaning disk.new) }
@@ -123,7 +126,7 @@ impl Buffer {
     /// The bytes that were read last.
     pub fn bytes(&self) -> &[u8]
         ensures bytes { result.now ≡ self.now }
-        ensures few { length result.now ≤ 65536 }
+        ensures few { length result.now ≤ 1048576 }
     {
         &self.region.items(&self.frame)[..self.size as usize]
     }
@@ -137,14 +140,15 @@ impl Buffer {
         blocks: &[u16],
         size: u32,
     ) -> Result<(), Failed>
-        requires short { size ≤ 65536 }
-        requires count { length blocks.now ≡ blocks_needed size }
+        requires short { size ≤ 1048576 }
+        requires count { length blocks.now ≡ slot_count size }
         requires home { 578 ≤ base }
         requires within { IsTrue (are_within base journal.now.blocks blocks.now) }
         requires unbroken { journal.now.is_broken ≡ false }
         requires long { 4096 * journal.now.blocks ≤ (D.meaning disk.old).len }
         ensures read { OnOk result ((kept : ℕ → List ℕ) → Fits journal.now (D.meaning disk.old) kept
-            → self.new ≡ content base blocks.now size (looked journal.now.staged kept)) }
+            → IsTrue (are_within base journal.now.blocks (content_blocks base blocks.now size (looked journal.now.staged kept)))
+            → self.new ≡ file_content base blocks.now size (looked journal.now.staged kept)) }
         ensures size { OnOk result (length self.new ≡ size) }
         ensures run { IsDiskRun (D.meaning disk.old) (D.meaning disk.new) }
         ensures cause { HasCause (D.meaning disk.old).disk_faults (D.meaning disk.new).disk_faults result }

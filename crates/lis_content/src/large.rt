@@ -1,16 +1,18 @@
 //! The bytes of a file with an index block where a slot has too few numbers: read, and dropped.
 
-ghost use Rattle.std.specs.Prelude.{◌≡◌, ◌+◌, ◌*◌, ◌<◌, ◌≤◌, ℕ, List, false, length, slice_index, slice_set, IsTrue, IfOk, OnOk, OnErr};
+ghost use Rattle.std.specs.Prelude.{◌≡◌, ◌+◌, ◌*◌, ◌<◌, ◌≤◌, ◌==◌, ℕ, List, None, false, length, slice_index, slice_set, IsTrue, IfOk, IfSome, OnOk, OnErr};
+ghost use Rattle.std.specs.List.{list_all};
 ghost use Rattle.lis_ports.specs.Runs.{IsDiskRun, Leaves};
 ghost use Rattle.lis_ports.specs.Calls.{HasCause, IsUnchanged};
 ghost use Rattle.lis_model.specs.State.{blocks_needed, blocks_taken};
 ghost use Rattle.lis_journal.specs.Images.{Fits, look};
 ghost use Rattle.lis_journal.specs.Phases.{looked};
 ghost use Rattle.lis_content.specs.Content.{given, are_within};
-ghost use Rattle.lis_content.specs.Large.{is_large, slot_count, number_at, numbers_in, content_blocks, file_blocks, block_within};
+ghost use Rattle.lis_content.specs.Large.{index_bytes, is_large, slot_count, number_at, numbers_in, content_blocks, file_blocks, file_content, block_within};
 ghost use Rattle.lis_content.specs.Placing.{Asks};
 
 use crate::blocks::{fill, home};
+use crate::content::read;
 use arrayvec::ArrayVec;
 use byteorder::{ByteOrder, LittleEndian};
 use lis_blockmap::BlockMap;
@@ -204,12 +206,85 @@ fn read_index<D: Disk>(
     requires long { 4096 * journal.now.blocks ≤ (D.meaning disk.old).len }
     ensures numbers { IfOk result (λ numbers. (kept : ℕ → List ℕ) → Fits journal.now (D.meaning disk.old) kept
         → numbers.items ≡ numbers_in count (look journal.now.staged n (kept n))) }
+    ensures count { IfOk result (λ numbers. length numbers.items ≡ count) }
     ensures asks { Asks journal.now (D.meaning disk.old) (D.meaning disk.new) }
     ensures cause { HasCause (D.meaning disk.old).disk_faults (D.meaning disk.new).disk_faults result }
 {
     let mut block = [0; BLOCK_LEN];
     read_home(journal, disk, n, &mut block)?;
     Ok(numbers_in(&block, count))
+}
+
+// Whether each of these bytes is zero.
+fn are_zeros(bytes: &[u8]) -> bool
+    ensures { result ≡ list_all (λ b. b == 0) bytes.now }
+{
+    bytes.iter().all(|byte| *byte == 0)
+}
+
+/// The numbers that an index block has, for a content of so many bytes. None comes exactly where the block is out of form: where something
+/// else than zeros stands behind them.
+pub fn index_numbers(block: &[u8], size: u32) -> Option<ArrayVec<u16, 256>>
+    requires whole { length block.now ≡ 4096 }
+    requires few { size ≤ 1048576 }
+    ensures form { IfSome result (λ numbers. (numbers.items ≡ numbers_in (blocks_needed size) block.now) × (block.now ≡ index_bytes numbers.items)) }
+    ensures none { result ≡ None → block.now ≡ index_bytes (numbers_in (blocks_needed size) block.now) → ⊥ }
+{
+    let count = size.div_ceil(BLOCK_LEN as u32) as usize;
+    let (_, rest) = block.split_at(2 * count);
+    if !are_zeros(rest) {
+        return None;
+    }
+    Some(numbers_in(block, count))
+}
+
+// Whether the home of each of these blocks is one of the image's.
+fn are_within(journal: &Journal, base: u32, blocks: &[u16]) -> bool
+    requires { base ≤ journal.now.blocks }
+    ensures { result ≡ are_within base journal.now.blocks blocks.now }
+{
+    let end = journal.blocks() - base;
+    blocks.iter().all(|n| u32::from(*n) < end)
+}
+
+/// Reads the bytes of a file, by the numbers of its slot. Where the index block gives a number that is none of the image's it gives
+/// zeros; no image that is in form has such a number.
+pub fn read_content<D: Disk>(
+    journal: &Journal,
+    disk: &mut D,
+    base: u32,
+    slot: &[u16],
+    size: u32,
+    buf: &mut [u8],
+) -> Result<(), Failed>
+    requires few { size ≤ 1048576 }
+    requires whole { length buf.old ≡ size }
+    requires count { length slot.now ≡ slot_count size }
+    requires home { 578 ≤ base }
+    requires within { IsTrue (are_within base journal.now.blocks slot.now) }
+    requires unbroken { journal.now.is_broken ≡ false }
+    requires long { 4096 * journal.now.blocks ≤ (D.meaning disk.old).len }
+    ensures read { OnOk result ((kept : ℕ → List ℕ) → Fits journal.now (D.meaning disk.old) kept
+        → IsTrue (are_within base journal.now.blocks (content_blocks base slot.now size (looked journal.now.staged kept)))
+        → buf.new ≡ file_content base slot.now size (looked journal.now.staged kept)) }
+    ensures run { IsDiskRun (D.meaning disk.old) (D.meaning disk.new) }
+    ensures cause { HasCause (D.meaning disk.old).disk_faults (D.meaning disk.new).disk_faults result }
+    ensures same { IsTrue (D.meaning disk.old).is_honest → IsUnchanged (D.meaning disk.old) (D.meaning disk.new) }
+    ensures any_moment { IsTrue (D.meaning disk.old).is_honest
+        → Leaves (D.meaning disk.old) (D.meaning disk.new) (D.meaning disk.old).images }
+    ensures fits { (kept : ℕ → List ℕ) → Fits journal.now (D.meaning disk.old) kept
+        → Fits journal.now (D.meaning disk.new) kept }
+{
+    if !is_large(size) {
+        return read(journal, disk, base, slot, size, buf);
+    }
+    let count = size.div_ceil(BLOCK_LEN as u32) as usize;
+    let numbers = read_index(journal, disk, home(journal, base, slot[0]), count)?;
+    if !are_within(journal, base, &numbers) {
+        buf.fill(0);
+        return Ok(());
+    }
+    read(journal, disk, base, &numbers, size, buf)
 }
 
 /// Gives all blocks of a file back, the index block among them. A number that is not taken is passed over; on an image

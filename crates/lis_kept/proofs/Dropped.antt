@@ -1,11 +1,10 @@
 -- A file that goes.
-use Rattle.std.proofs.Common.{◌≡◌, refl, sym, ap, ◌∙◌, subst, inl, inr, ℕ, ◌<◌, ◌==◌, if◌then◌else◌, ◌&&◌, nat_lt, nat_le, not, Bool, true, false, List, [], ◌∷◌, length, map, set, Some, None, is_some, IsSome, arith, length-set}
+use Rattle.std.proofs.Common.{◌≡◌, refl, sym, ap, ◌∙◌, subst, ℕ, ◌<◌, ◌==◌, if◌then◌else◌, ◌&&◌, nat_lt, not, Bool, true, false, List, length, map, set, Some, None, is_some, IsSome, arith, length-set}
 use Rattle.std.specs.List.{list_all}
 use Rattle.std.proofs.lemmas.Bool.{eq-eqb, eqb-true, ne_eqb, and_parts}
 use Rattle.std.proofs.lemmas.Option.{same_Some}
 use Rattle.lis_graph.proofs.Members.{Among}
-use Rattle.lis_content.specs.Content.{given, are_distinct}
-use Rattle.lis_content.proofs.Numbers.{length-given}
+use Rattle.lis_content.specs.Content.{are_distinct}
 use Rattle.lis_catalog.specs.Catalog.{Catalog, Filed, rec_at, slot_of, without_slot}
 use Rattle.lis_catalog.proofs.Laws.{rec_at-without_slot, slot_is_below, slot_of-rec_at}
 use Rattle.lis_fields.specs.Records.{FileRecord}
@@ -14,7 +13,6 @@ use Rattle.lis_fields.proofs.Parts.{IsFileRecord, record_tests}
 use Rattle.lis_dict.specs.Dict.{Dict, word_of}
 use Rattle.lis_taxonomy.specs.Taxonomy.{Taxonomy}
 use Rattle.lis_words.specs.Words.{same_word}
-use Rattle.lis_model.specs.Image.{bitmap_start}
 use Rattle.lis_model.specs.State.{File}
 use Rattle.lis_model.specs.Changes.{file_removed}
 use Rattle.lis_laws.proofs.Members.{same_word_decides}
@@ -27,17 +25,12 @@ use Rattle.lis_kept.specs.Links.{AreHeld}
 use Rattle.lis_kept.specs.Changes.{Drops}
 use Rattle.lis_kept.proofs.InArea.{among_slots}
 use Rattle.lis_kept.proofs.Formed.{held_files}
-use Rattle.lis_kept.proofs.Marking.{AreBelow, blocks_marked}
+use Rattle.lis_kept.proofs.Marking.{block_marked}
 use Rattle.lis_kept.proofs.Filing.{same_tests, filter-map, filter_same, catalog_without, filed_rec, filed_slot, same_distinct}
 
--- the blocks of a file slot and of the bitmap
-abbrev pub file_homes : Kept → ℕ → List ℕ
-file_homes k slot = block_of k.limits Files slot ∷ bitmap_start k.limits ∷ []
-
-pub file_homes_below : (k : Kept) (t : Taxonomy) (slot : ℕ) → AreHeld k t → slot < k.limits.files → AreBelow (length k.marks) (file_homes k slot)
-file_homes_below k t slot held lt n (inl same) = omega (arith, same, (among_slots k.limits held.sound.range Files slot lt).1, held.sound.marks)
-file_homes_below k t slot held lt n (inr (inl same)) = omega (arith, same, held.sound.marks)
-file_homes_below k t slot held lt n (inr (inr none)) = absurd none
+-- the block of a file slot has a mark
+pub file_home_below : (k : Kept) (t : Taxonomy) (slot : ℕ) → AreHeld k t → slot < k.limits.files → block_of k.limits Files slot < length k.marks
+file_home_below k t slot held lt = omega (arith, (among_slots k.limits held.sound.range Files slot lt).1, held.sound.marks)
 
 -- a sound record is in the ranges of its layout
 pub record_in_form : (version : ℕ) (dict : Dict) (blocks : ℕ) (rec : FileRecord) → is_sound_record version dict blocks rec ≡ true → IsFileRecord version rec
@@ -60,22 +53,19 @@ file_slot_below k sound slot rec there = omega (arith, slot_is_below k.catalog s
 
 module _ (p : Kept) (t : Taxonomy) (held : AreHeld p t) (slot : ℕ) (rec : FileRecord) (there : rec_at p.catalog slot ≡ Some rec) where
   abbrev dropped_marks : List Bool
-  dropped_marks = set (set p.marks (block_of p.limits Files slot) true) (bitmap_start p.limits) true
+  dropped_marks = set p.marks (block_of p.limits Files slot) true
 
   abbrev pub dropped : Kept
-  dropped = record p { catalog = without_slot p.catalog slot; taken = given p.taken rec.blocks; marks = dropped_marks }
+  dropped = record p { catalog = without_slot p.catalog slot; marks = dropped_marks }
 
-  slot_below : slot < p.limits.files
-  slot_below = file_slot_below p held.sound slot rec there
-
-  spelled_before : (area : Area) (n : ℕ) → n < (slots_of p.limits area).count → (Among (file_homes p slot) (block_of p.limits area n) → ⊥) → spelled dropped area n ≡ spelled p area n
+  spelled_before : (area : Area) (n : ℕ) → n < (slots_of p.limits area).count → (block_of p.limits area n ≡ block_of p.limits Files slot → ⊥) → spelled dropped area n ≡ spelled p area n
   spelled_before Properties n lt apart = refl
   spelled_before Axioms n lt apart = refl
   spelled_before Files n lt apart =
-      let other : n ≡ slot → ⊥ = λ e. apart (inl (ap (block_of p.limits Files) (sym e))) in
+      let other : n ≡ slot → ⊥ = λ e. apart (ap (block_of p.limits Files) e) in
       ap (λ o. file_bytes (file_by o)) (rec_at-without_slot p.catalog slot n ∙ ap (λ b. if b then None else rec_at p.catalog n) (ne_eqb n slot other))
   spelled_before Rows n lt apart = refl
-  spelled_before Bitmap n lt apart = absurd (apart (inr (inl (omega (arith, lt)))))
+  spelled_before Bitmap n lt apart = refl
 
   records_left : (n : ℕ) (r : FileRecord) → rec_at (without_slot p.catalog slot) n ≡ Some r → is_sound_record p.limits.version p.dict p.limits.blocks r ≡ true
   records_left n r is = by (n == slot) (sym (rec_at-without_slot p.catalog slot n) ∙ is)
@@ -92,16 +82,16 @@ module _ (p : Kept) (t : Taxonomy) (held : AreHeld p t) (slot : ℕ) (rec : File
       by false there = there
 
   held_dropped : AreHeld dropped t
-  held_dropped = held_files p t (without_slot p.catalog slot) (given p.taken rec.blocks) p.ext dropped_marks held (record {
+  held_dropped = held_files p t (without_slot p.catalog slot) p.taken p.ext dropped_marks held (record {
     slots = refl;
     catalog_is = catalog_without p.catalog slot held.sound.catalog;
     records = records_left;
-    blocks = length-given p.taken rec.blocks;
+    blocks = refl;
     rows = refl;
     files = refl;
     named = λ n s there has_it. held.sound.named n s (was_there s there) has_it;
     settled = held.sound.settled;
-    as_many = length-set (set p.marks (block_of p.limits Files slot) true) (bitmap_start p.limits) true ∙ length-set p.marks (block_of p.limits Files slot) true;
+    as_many = length-set p.marks (block_of p.limits Files slot) true;
   })
 
   -- the slot's file is the file of its name
@@ -134,20 +124,19 @@ module _ (p : Kept) (t : Taxonomy) (held : AreHeld p t) (slot : ℕ) (rec : File
     record {
       there = there;
       parts = refl;
-      marks = blocks_marked p dropped (file_homes p slot) refl refl (file_homes_below p t slot held slot_below) spelled_before;
+      marks = block_marked p dropped (block_of p.limits Files slot) refl refl (file_home_below p t slot held (file_slot_below p held.sound slot rec there)) spelled_before;
       state = state_dropped;
     },
   )
 
 -- the same, over what memory kept
-pub drops : (k p : Kept) (t : Taxonomy) (slot : ℕ) (rec : FileRecord) (catalog : Catalog) (taken marks : List Bool) → p ≡ k → AreHeld p t → rec_at p.catalog slot ≡ Some rec
-    → catalog ≡ without_slot p.catalog slot → taken ≡ given p.taken rec.blocks → marks ≡ set (set p.marks (block_of p.limits Files slot) true) (bitmap_start p.limits) true
-    → AreHeld (record p { catalog = catalog; taken = taken; marks = marks }) t × Drops slot rec k (record p { catalog = catalog; taken = taken; marks = marks })
-drops k p t slot rec catalog taken marks is held there filed blocks are_marks =
+pub drops : (k p : Kept) (t : Taxonomy) (slot : ℕ) (rec : FileRecord) (catalog : Catalog) (marks : List Bool) → p ≡ k → AreHeld p t → rec_at p.catalog slot ≡ Some rec
+    → catalog ≡ without_slot p.catalog slot → marks ≡ set p.marks (block_of p.limits Files slot) true
+    → AreHeld (record p { catalog = catalog; marks = marks }) t × Drops slot rec k (record p { catalog = catalog; marks = marks })
+drops k p t slot rec catalog marks is held there gone are_marks =
     let P : Kept → Type 0 = λ q. AreHeld q t × Drops slot rec k q in
-    let same : dropped p t held slot rec there ≡ record p { catalog = catalog; taken = taken; marks = marks } =
-    ap (λ (c : Catalog). record p { catalog = c; taken = given p.taken rec.blocks; marks = dropped_marks p t held slot rec there }) (sym filed)
-    ∙ (ap (λ (ts : List Bool). record p { catalog = catalog; taken = ts; marks = dropped_marks p t held slot rec there }) (sym blocks)
-    ∙ ap (λ (ms : List Bool). record p { catalog = catalog; taken = taken; marks = ms }) (sym are_marks)) in
+    let same : dropped p t held slot rec there ≡ record p { catalog = catalog; marks = marks } =
+    ap (λ (c : Catalog). record p { catalog = c; marks = dropped_marks p t held slot rec there }) (sym gone)
+    ∙ ap (λ (ms : List Bool). record p { catalog = catalog; marks = ms }) (sym are_marks) in
     let Q : Kept → Type 0 = λ q. AreHeld (dropped p t held slot rec there) t × Drops slot rec q (dropped p t held slot rec there) in
     subst P same (subst Q is (dropped_made p t held slot rec there))

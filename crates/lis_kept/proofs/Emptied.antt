@@ -4,7 +4,7 @@ use Rattle.std.specs.List.{list_any}
 use Rattle.std.proofs.lemmas.Bool.{and_parts, both_ways, cases_eq, eq-eqb, ne_eqb, eqb-true, or_cases, or_left, or_right, true_from_ne_false}
 use Rattle.lis_graph.proofs.Members.{Among, among_from_any, any_from_among}
 use Rattle.lis_blockmap.specs.Bitmap.{is_taken}
-use Rattle.lis_content.specs.Content.{given, has_number}
+use Rattle.lis_content.specs.Content.{has_number}
 use Rattle.lis_dict.specs.Dict.{word_of}
 use Rattle.lis_catalog.specs.Catalog.{rec_at, without_slot}
 use Rattle.lis_catalog.proofs.Laws.{rec_at-without_slot}
@@ -40,7 +40,7 @@ module _ (slot : ℕ) (rec : FileRecord) (p dropped q : Kept) (sound : AreSound 
     (closed : (at m n : ℕ) → has p.ext m at ≡ true → is_linked p m n ≡ true → has p.ext n at ≡ true)
     (drops : Drops slot rec p dropped) (empties : Describes slot [] dropped q) where
   abbrev mid : Kept
-  mid = record p { catalog = without_slot p.catalog slot; taken = given p.taken rec.blocks; ext = q.ext; marks = q.marks }
+  mid = record p { catalog = without_slot p.catalog slot; ext = q.ext; marks = q.marks }
 
   mid_is : q ≡ mid
   mid_is = empties.parts ∙ ap (λ (k : Kept). record k { ext = q.ext; marks = q.marks }) drops.parts

@@ -8,8 +8,9 @@ pub mod Marking
 pub mod Described
 pub mod Filing
 pub mod Dropped
-pub mod Added
-pub mod Refiled
+pub mod Filed
+pub mod Contents
+pub mod BlocksTaken
 pub mod OwnLinks
 pub mod WordMore
 pub mod TestLinks

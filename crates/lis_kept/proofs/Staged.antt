@@ -39,6 +39,11 @@ stages_block k n old new block is looks spells = record {
   others = λ other was differ. looks other was ∙ ap (λ b. cond b block (look old.staged other was)) (ne_eqb other n differ);
 }
 
+-- whatever was there, a block looks as what is staged for it, so something is staged
+staged_some : (es : List Entry) (n : ℕ) (bytes : List ℕ) → ((was : List ℕ) → look es n was ≡ bytes) → 0 < length es
+staged_some [] n bytes here = absurd (let e : ◌≡◌ {A = List ℕ} [] (0 ∷ []) = here [] ∙ sym (here (0 ∷ [])) in cc)
+staged_some (e ∷ es) n bytes here = omega arith
+
 -- nothing yet
 pub staged_none : (k : Kept) (old : Held) → IsTrue (are_in_range k.limits) → StagedBelow k 578 old old
 staged_none k old range = record {
@@ -47,6 +52,7 @@ staged_none k old range = record {
   placed = refl;
   broken = refl;
   few = omega arith;
+  some = λ m low lt marked. absurd (omega (arith, low, lt));
   written = λ kept saved area m lt. by kept saved area m lt;
   others = λ other was out. refl;
 }
@@ -65,10 +71,15 @@ module _ (k : Kept) (n : ℕ) (old now : Held) (within : n < length k.marks) (fr
     placed = so_far.placed;
     broken = so_far.broken;
     few = omega (arith, so_far.few, count_by_more_no (λ (b : Bool). b) k.marks n false within unmarked);
+    some = λ m low lt marked. earlier m low lt marked (cases_eq m n);
     written = λ kept saved area m lt either. so_far.written kept saved area m lt (by area m either (cases_lt (block_of k.limits area m) n));
     others = λ other was out. so_far.others other was (further other out);
   }
     where
+      earlier : (m : ℕ) → 578 ≤ m → m < n + 1 → is_marked k m ≡ true → (m ≡ n) ⊎ (m ≡ n → ⊥) → 0 < length now.staged
+      earlier m low lt marked (inl same) = absurd (let e : true ≡ false = sym marked ∙ (ap (is_marked k) same ∙ unmarked) in cc)
+      earlier m low lt marked (inr differ) = so_far.some m low (omega (arith, lt, differ)) marked
+
       by : (area : Area) (m : ℕ) → (block_of k.limits area m < n + 1) ⊎ (is_marked k (block_of k.limits area m) ≡ false) → (block_of k.limits area m < n) ⊎ (n ≤ block_of k.limits area m)
           → (block_of k.limits area m < n) ⊎ (is_marked k (block_of k.limits area m) ≡ false)
       by area m either (inl below) = inl below
@@ -87,6 +98,7 @@ module _ (k : Kept) (n : ℕ) (old now : Held) (within : n < length k.marks) (fr
     placed = one.placed ∙ so_far.placed;
     broken = one.broken ∙ so_far.broken;
     few = omega (arith, so_far.few, one.few, count_by_more_yes (λ (b : Bool). b) k.marks n false within marked);
+    some = λ m low lt is. staged_some new.staged n one.bytes one.here;
     written = λ kept saved area m lt either. by kept saved area m lt either (cases_eq (block_of k.limits area m) n);
     others = λ other was out. apart other was out;
   }
@@ -123,6 +135,7 @@ staged_all k end old new range is all = record {
   placed = all.placed;
   broken = all.broken;
   few = omega (arith, all.few, count_front k.marks end);
+  some = λ n low lt marked. all.some n low (omega (arith, is, lt)) marked;
   written = λ kept saved area m lt. all.written kept saved area m lt (inl (omega (arith, is, (among_slots k.limits range area m lt).1)));
   others = λ n was out. all.others n was (by n out);
 }

@@ -1,21 +1,28 @@
 -- The changes of memory. Each marks the blocks that it touches, and tells what becomes of the state.
-use Rattle.std.specs.Prelude.{◌≡◌, ◌⊎◌, ℕ, ◌+◌, ◌<◌, ◌≤◌, true, ◌&&◌, not, if◌then◌else◌, is_some, Some, None, List, [], length, map, slice_set, IsTrue}
+use Rattle.std.specs.Prelude.{◌≡◌, ◌⊎◌, ℕ, ◌+◌, ◌<◌, ◌≤◌, nat_lt, Bool, true, false, ◌&&◌, not, if◌then◌else◌, is_some, Some, None, List, [], length, map, slice_set, IsTrue}
 use Rattle.lis_journal.specs.Journal.{Held}
-use Rattle.lis_journal.specs.Images.{look}
+use Rattle.lis_ports.specs.Meaning.{Meaning}
+use Rattle.lis_ports.specs.Runs.{Leaves}
+use Rattle.lis_journal.specs.Images.{StandsBut, Fits, KeepsPast, is_among, look}
 use Rattle.lis_journal.specs.Phases.{looked}
-use Rattle.lis_content.specs.Content.{given, marked, are_free, has_number}
+use Rattle.std.specs.List.{list_all}
+use Rattle.lis_content.specs.Content.{given, marked, are_free, are_distinct, has_home, has_number}
+use Rattle.lis_content.specs.Large.{is_large}
+use Rattle.lis_content.specs.Placing.{homes_of, HasFile}
 use Rattle.lis_dict.specs.Dict.{words, number_of, word_of, with_entry}
 use Rattle.lis_catalog.specs.Catalog.{rec_at, without_slot, with_filed}
 use Rattle.lis_ext.specs.Ext.{set_of}
 use Rattle.lis_ext.specs.Numbers.{differs, numbers_where}
 use Rattle.lis_fields.specs.Records.{FileRecord}
+use Rattle.lis_fields.specs.Layouts.{are_blocks}
+use Rattle.lis_model.specs.declared.limits.Limits.{Limits}
 use Rattle.lis_model.specs.Image.{bitmap_start, data_start}
 use Rattle.lis_model.specs.Sets.{with_word}
 use Rattle.lis_model.specs.Changes.{declared_under, new_file, file_added, file_removed}
 use Rattle.lis_kept.specs.Kept.{Kept}
 use Rattle.lis_kept.specs.Areas.{IsSaved, block_of, marked_count}
-use Rattle.lis_kept.specs.Areas.Area.{Properties, Files, Rows}
-use Rattle.lis_kept.specs.Telling.{state_of, words_told, is_used, AreUsed}
+use Rattle.lis_kept.specs.Areas.Area.{Properties, Files as FileArea, Rows}
+use Rattle.lis_kept.specs.Telling.{state_of, words_told, bytes_told, blocks_told, is_used, AreUsed}
 
 -- what every change owes: slots in blocks that are not marked are spelled as before, and few blocks more are marked
 pub record Marks (most : ℕ) (p q : Kept) : Type 0 where
@@ -71,40 +78,76 @@ pub record Describes (slot : ℕ) (numbers : List ℕ) (p q : Kept) : Type 0 whe
   pub marks : (old : List ℕ) → old ≡ set_of p.ext slot → Marks (length (numbers_where p.ext.props (differs old numbers))) p q
 
 -- ---- files
--- The file in the slot goes, and its blocks are given back.
+-- The file in the slot goes. Its blocks stay taken.
 pub record Drops (slot : ℕ) (rec : FileRecord) (p q : Kept) : Type 0 where
   pub there : rec_at p.catalog slot ≡ Some rec
   pub parts : q ≡ record p {
     catalog = without_slot p.catalog slot;
-    taken = given p.taken rec.blocks;
-    marks = slice_set (slice_set p.marks (block_of p.limits Files slot) true) (bitmap_start p.limits) true;
+    marks = slice_set p.marks (block_of p.limits FileArea slot) true;
   }
-  pub marks : Marks 2 p q
+  pub marks : Marks 1 p q
   pub state : (at : ℕ → List ℕ) → state_of q at ≡ file_removed (state_of p at) rec.name
 
--- A file comes into a free slot, and its bytes are staged in free data blocks. `old` and `new` are the journal before and after.
-pub record Adds (name tags bytes : List ℕ) (slot : ℕ) (p q : Kept) (old new : Held) : Type 0 where
+-- A record comes into a free slot. Its file has the bytes that its blocks hold.
+pub record Files (slot : ℕ) (rec : FileRecord) (p q : Kept) : Type 0 where
   pub below : slot < p.limits.files
   pub free : rec_at p.catalog slot ≡ None
-  pub rec : FileRecord
   pub parts : q ≡ record p {
     catalog = with_filed p.catalog slot rec;
-    taken = q.taken;
-    marks = slice_set (slice_set p.marks (block_of p.limits Files slot) true) (bitmap_start p.limits) true;
+    marks = slice_set p.marks (block_of p.limits FileArea slot) true;
   }
-  pub named : rec.name ≡ name
-  pub tagged : rec.tags ≡ tags
-  pub sized : rec.size ≡ length bytes
-  -- its data blocks were free, and are taken now
-  pub were_free : IsTrue (are_free p.taken rec.blocks)
-  pub taken : q.taken ≡ marked p.taken rec.blocks
+  pub marks : Marks 1 p q
+  pub state : (at : ℕ → List ℕ) → state_of q at ≡ file_added (state_of p at) (new_file rec.name (words_told p.dict rec.tags) (bytes_told p.limits at rec))
+
+-- ---- blocks
+-- Other blocks are taken than before, and the block of the bitmap is marked.
+pub record Takes (taken : List Bool) (p q : Kept) : Type 0 where
+  pub parts : q ≡ record p { taken = taken; marks = slice_set p.marks (bitmap_start p.limits) true }
+  pub len : length taken ≡ length p.taken
+  pub marks : Marks 1 p q
+
+-- The blocks of a file are given back: those that its slot and its index block number, by what the disk keeps under this journal. Without
+-- an index block they are those of the slot, whatever the disk keeps.
+pub record Gives (rec : FileRecord) (p q : Kept) (journal : Held) (m : Meaning) : Type 0 where
+  pub takes : Takes q.taken p q
+  pub small : is_large rec.size ≡ false → q.taken ≡ given p.taken rec.blocks
+  pub given : (kept : ℕ → List ℕ) → Fits journal m kept → q.taken ≡ given p.taken (blocks_told p.limits (looked journal.staged kept) rec)
+
+-- Blocks hold a content: the disk keeps the same as before in all others, and in these the bytes, which the numbers tell.
+pub record Lands (limits : Limits) (bytes numbers blocks : List ℕ) (at : ℕ → List ℕ) (new : Held) (after : Meaning) : Type 0 where
+  pub kept : ℕ → List ℕ
+  pub fits : Fits new after kept
+  pub same : (n : ℕ) → has_home (data_start limits) blocks n ≡ false → looked new.staged kept n ≡ at n
+  pub holds : HasFile (data_start limits) bytes numbers blocks (looked new.staged kept)
+
+-- A content is put into free blocks, or was begun to be: at any moment a crash leaves all other blocks as before.
+pub record Fills (blocks : List ℕ) (p : Kept) (old : Held) (before after : Meaning) : Type 0 where
+  pub distinct : IsTrue (are_distinct blocks)
+  pub were_free : IsTrue (are_free p.taken blocks)
+  pub moments : (kept : ℕ → List ℕ) → Fits old before kept → Leaves before after (StandsBut old.blocks (homes_of (data_start p.limits) blocks) kept)
+  pub past : (kept : ℕ → List ℕ) → Fits old before kept → KeepsPast old.blocks before after
+
+-- A content is put into free blocks, which are taken: staged in version 1, and placed in version 2, with an index block where they are
+-- many. `old` and `new` are the journal before and after. Nothing else is staged or placed.
+pub record Puts (bytes numbers : List ℕ) (p q : Kept) (old new : Held) (before after : Meaning) : Type 0 where
+  pub blocks : List ℕ
+  pub fills : Fills blocks p old before after
+  pub takes : Takes (marked p.taken blocks) p q
+  pub in_form : IsTrue (are_blocks p.limits.version (length bytes) numbers)
+  pub below : IsTrue (list_all (λ n. nat_lt n p.limits.blocks) numbers)
   pub image : new.blocks ≡ old.blocks
-  pub records : new.records ≡ old.records
-  pub placed : new.placed ≡ old.placed
   pub broken : new.is_broken ≡ old.is_broken
-  pub few_staged : length new.staged ≤ length old.staged + 16
-  pub few : marked_count q ≤ marked_count p + 2
-  pub saved : (kept : ℕ → List ℕ) → IsSaved p (looked old.staged kept) → IsSaved q (looked new.staged kept)
-  pub front : (n : ℕ) (was : List ℕ) → n < data_start p.limits → look new.staged n was ≡ look old.staged n was
-  pub state : (kept : ℕ → List ℕ) → state_of q (looked new.staged kept)
-      ≡ file_added (state_of p (looked old.staged kept)) (new_file name (words_told p.dict tags) bytes)
+  pub placed : (n : ℕ) → is_among new.placed n ≡ true → has_home (data_start p.limits) blocks n ≡ true
+  pub few_staged : length new.staged ≤ 16
+  pub others : (n : ℕ) (was : List ℕ) → has_home (data_start p.limits) blocks n ≡ false → look new.staged n was ≡ look old.staged n was
+  pub lands : (kept : ℕ → List ℕ) → Fits old before kept → Lands p.limits bytes numbers blocks (looked old.staged kept) new after
+  pub stays : (kept : ℕ → List ℕ) (fits : Fits old before kept) (n : ℕ) → is_among new.placed n ≡ false → (lands kept fits).kept n ≡ kept n
+  pub moments : (kept : ℕ → List ℕ) → Fits old before kept → Leaves before after (StandsBut old.blocks new.placed kept)
+  pub unplaced : p.limits.version ≡ 1 → new.placed ≡ []
+
+-- The disk failed: some blocks are taken, and only what is on the disk counts.
+pub record PutTorn (p q : Kept) (old new : Held) (before after : Meaning) : Type 0 where
+  pub blocks : List ℕ
+  pub fills : Fills blocks p old before after
+  pub parts : q ≡ record p { taken = q.taken; marks = q.marks }
+  pub image : new.blocks ≡ old.blocks

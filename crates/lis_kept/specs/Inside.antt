@@ -1,5 +1,5 @@
 -- How one block is spelled and staged. No public clause cites this module.
-use Rattle.std.specs.Prelude.{◌≡◌, ◌≢◌, ◌⊎◌, ℕ, ◌+◌, ◌<◌, ◌≤◌, Bool, false, List, length, take, count_by}
+use Rattle.std.specs.Prelude.{◌≡◌, ◌≢◌, ◌⊎◌, ℕ, ◌+◌, ◌<◌, ◌≤◌, Bool, true, false, List, length, take, count_by}
 use Rattle.lis_ports.specs.Bytes.{part}
 use Rattle.lis_journal.specs.Journal.{Held}
 use Rattle.lis_journal.specs.Images.{look}
@@ -42,6 +42,7 @@ pub record StagedBelow (k : Kept) (end : ℕ) (old new : Held) : Type 0 where
   pub placed : new.placed ≡ old.placed
   pub broken : new.is_broken ≡ old.is_broken
   pub few : length new.staged ≤ length old.staged + count_by (λ (b : Bool). b) (take end k.marks)
+  pub some : (n : ℕ) → properties_start ≤ n → n < end → is_marked k n ≡ true → 0 < length new.staged
   pub written : (kept : ℕ → List ℕ) → IsSaved k (looked old.staged kept) → (area : Area) (m : ℕ) → m < (slots_of k.limits area).count
       → (block_of k.limits area m < end) ⊎ (is_marked k (block_of k.limits area m) ≡ false) → held_in k.limits area (looked new.staged kept) m ≡ spelled k area m
   pub others : (other : ℕ) (was : List ℕ) → (other < properties_start) ⊎ (end ≤ other) → look new.staged other was ≡ look old.staged other was

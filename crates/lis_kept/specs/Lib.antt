@@ -14,5 +14,4 @@ pub mod Linking
 pub mod Undeclaring
 pub mod TestEdges
 pub mod Widening
-pub mod Refiling
 pub mod Under

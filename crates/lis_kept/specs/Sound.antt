@@ -2,7 +2,6 @@
 use Rattle.std.specs.Prelude.{◌≡◌, ℕ, ◌<◌, ◌≤◌, nat_lt, true, false, Bool, ◌&&◌, is_some, Some, None, List, [], length, IsTrue, IsSome, slice_get}
 use Rattle.std.specs.List.{list_all}
 use Rattle.lis_blockmap.specs.Bitmap.{is_taken}
-use Rattle.lis_content.specs.Content.{are_taken}
 use Rattle.lis_dict.specs.Dict.{Dict, IsDict, number_of, word_of}
 use Rattle.lis_catalog.specs.Catalog.{IsCatalog, rec_at}
 use Rattle.lis_ext.specs.Ext.{has}
@@ -54,7 +53,3 @@ pub record AreSound (k : Kept) : Type 0 where
 -- a slot without a file has no numbers
 abbrev pub FreeSlotsAreEmpty : Kept → Type 0
 FreeSlotsAreEmpty k = (slot : ℕ) → rec_at k.catalog slot ≡ None → (n : ℕ) → has k.ext n slot ≡ false
-
--- the blocks of each file are taken
-abbrev pub BlocksAreTaken : Kept → Type 0
-BlocksAreTaken k = (slot : ℕ) (rec : FileRecord) → rec_at k.catalog slot ≡ Some rec → IsTrue (are_taken k.taken rec.blocks)

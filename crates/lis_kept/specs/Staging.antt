@@ -1,11 +1,11 @@
 -- What writing the marked blocks into a journal does.
-use Rattle.std.specs.Prelude.{◌≡◌, ◌⊎◌, ℕ, ◌+◌, ◌<◌, ◌≤◌, List, length}
+use Rattle.std.specs.Prelude.{◌≡◌, ◌⊎◌, ℕ, ◌+◌, ◌<◌, ◌≤◌, true, List, length}
 use Rattle.lis_journal.specs.Journal.{Held}
 use Rattle.lis_journal.specs.Images.{look}
 use Rattle.lis_journal.specs.Phases.{looked}
 use Rattle.lis_model.specs.Image.{properties_start, data_start}
 use Rattle.lis_kept.specs.Kept.{Kept}
-use Rattle.lis_kept.specs.Areas.{IsSaved, IsWritten, marked_count}
+use Rattle.lis_kept.specs.Areas.{IsSaved, IsWritten, is_marked, marked_count}
 
 -- Every marked block is staged as memory spells it; blocks before the slots and data blocks look as before.
 pub record Stages (k : Kept) (old new : Held) : Type 0 where
@@ -14,5 +14,6 @@ pub record Stages (k : Kept) (old new : Held) : Type 0 where
   pub placed : new.placed ≡ old.placed
   pub broken : new.is_broken ≡ old.is_broken
   pub few : length new.staged ≤ length old.staged + marked_count k
+  pub some : (n : ℕ) → properties_start ≤ n → n < data_start k.limits → is_marked k n ≡ true → 0 < length new.staged
   pub written : (kept : ℕ → List ℕ) → IsSaved k (looked old.staged kept) → IsWritten k (looked new.staged kept)
   pub others : (n : ℕ) (was : List ℕ) → (n < properties_start) ⊎ (data_start k.limits ≤ n) → look new.staged n was ≡ look old.staged n was

@@ -1,10 +1,11 @@
 -- The state that memory and data blocks tell.
-use Rattle.std.specs.Prelude.{◌≡◌, ℕ, ◌<◌, Bool, true, false, ◌&&◌, ◌||◌, ◌==◌, is_some, Option, Some, None, List, [], ◌∷◌, map, filter}
+use Rattle.std.specs.Prelude.{◌≡◌, ℕ, ◌<◌, Bool, true, false, ◌&&◌, ◌||◌, ◌==◌, is_some, Option, Some, None, List, [], ◌∷◌, map, filter, IsTrue}
 use Rattle.std.specs.Option.{option_to_list}
 use Rattle.std.specs.BTreeSet.{insert_key}
 use Rattle.std.specs.List.{flat_map, list_any, fold, Contains}
 use Rattle.lis_blockmap.specs.Bitmap.{is_taken}
-use Rattle.lis_content.specs.Content.{content, has_number}
+use Rattle.lis_content.specs.Content.{are_distinct, has_number}
+use Rattle.lis_content.specs.Large.{file_content, file_blocks, IsIndexed}
 use Rattle.lis_dict.specs.Dict.{Dict, words, number_of, word_of}
 use Rattle.lis_catalog.specs.Catalog.{Filed}
 use Rattle.lis_ext.specs.Ext.{Ext, set_of as numbers_at}
@@ -58,7 +59,7 @@ axioms_of k = fold (insert_key pair_cmp) [] (pairs_told k.dict k.axioms)
 -- ---- files
 -- the bytes of a file, by its record and by what each block holds
 abbrev pub bytes_told : Limits → (ℕ → List ℕ) → FileRecord → List ℕ
-bytes_told limits at rec = content (data_start limits) rec.blocks rec.size at
+bytes_told limits at rec = file_content (data_start limits) rec.blocks rec.size at
 
 abbrev pub file_told : Limits → Dict → (ℕ → List ℕ) → Filed → File
 file_told limits dict at f = record {
@@ -67,9 +68,13 @@ file_told limits dict at f = record {
   assigned = words_told dict f.rec.tags;
 }
 
--- the data blocks of a file
+-- all data blocks of a file, and its index block where it has one
 abbrev pub blocks_told : Limits → (ℕ → List ℕ) → FileRecord → List ℕ
-blocks_told limits at rec = rec.blocks
+blocks_told limits at rec = file_blocks (data_start limits) rec.blocks rec.size at
+
+-- the index block, where the file has one, is in form
+abbrev pub HasIndex : Limits → (ℕ → List ℕ) → FileRecord → Type 0
+HasIndex limits at rec = IsIndexed (data_start limits) rec.blocks rec.size at
 
 -- ---- the state
 abbrev pub state_of : Kept → (ℕ → List ℕ) → State
@@ -116,8 +121,13 @@ pub record IsFileBlock (k : Kept) (at : ℕ → List ℕ) (data_block : ℕ) : T
   pub kept : Contains k.catalog.entries file
   pub has : has_number (blocks_told k.limits at file.rec) data_block ≡ true
 
+-- the blocks of each file are taken
+abbrev pub AreBlocksTaken : Kept → (ℕ → List ℕ) → Type 0
+AreBlocksTaken k at =
+    (f : Filed) → Contains k.catalog.entries f → (n : ℕ) → has_number (blocks_told k.limits at f.rec) n ≡ true → is_taken k.taken n ≡ true
+
 -- Where blocks hold these bytes, what is kept tells the state: its words, axioms and files are those of the state, the numbers of each
--- file are those of its description, and the taken blocks are those of the files, none of them used by two.
+-- file are those of its description, and the taken blocks are those of the files, none of them used twice, by one file or by two.
 pub record Tells (k : Kept) (at : ℕ → List ℕ) (s : State) : Type 0 where
   pub super : SpellsSuper s.limits (at 0)
   pub state : state_of k at ≡ s
@@ -128,5 +138,7 @@ pub record Tells (k : Kept) (at : ℕ → List ℕ) (s : State) : Type 0 where
   pub taken : (n : ℕ) → n < k.limits.blocks → is_taken k.taken n ≡ true → IsFileBlock k at n
   pub given : (f : Filed) → Contains k.catalog.entries f → (n : ℕ) → has_number (blocks_told k.limits at f.rec) n ≡ true
       → (n < k.limits.blocks) × (is_taken k.taken n ≡ true)
+  pub indexed : (f : Filed) → Contains k.catalog.entries f → HasIndex k.limits at f.rec
+  pub apart : (f : Filed) → Contains k.catalog.entries f → IsTrue (are_distinct (blocks_told k.limits at f.rec))
   pub one_use : (f g : Filed) → Contains k.catalog.entries f → Contains k.catalog.entries g → (n : ℕ)
       → has_number (blocks_told k.limits at f.rec) n ≡ true → has_number (blocks_told k.limits at g.rec) n ≡ true → f ≡ g

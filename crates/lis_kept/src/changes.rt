@@ -4,34 +4,27 @@ ghost use Rattle.std.specs.Prelude.{◌≡◌, ℕ, ◌+◌, ◌*◌, ◌<◌, �
 ghost use Rattle.std.specs.List.{list_all};
 ghost use Rattle.std.specs.List.Sorted.{IsStrictlyIncreasing};
 ghost use Rattle.lis_content.specs.Content.{marked};
-ghost use Rattle.lis_blockmap.specs.Bitmap.{free_count};
 ghost use Rattle.lis_catalog.specs.Catalog.{rec_at, slot_of};
-ghost use Rattle.lis_fields.specs.Layouts.{are_tags};
-ghost use Rattle.lis_model.specs.State.{blocks_needed};
 ghost use Rattle.lis_dict.specs.Dict.{word_of};
-ghost use Rattle.lis_ext.specs.Ext.{set_of};
-ghost use Rattle.lis_model.specs.Image.{bitmap_start, data_start, image_blocks};
+ghost use Rattle.lis_ext.specs.Ext.{set_of, has};
+ghost use Rattle.lis_model.specs.Image.{data_start};
 ghost use Rattle.lis_model.specs.Ranges.{are_in_range};
 ghost use Rattle.lis_kept.specs.Areas.{block_of};
-ghost use Rattle.lis_kept.specs.Areas.Area.{Files, Rows};
-ghost use Rattle.lis_kept.specs.Sound.{BlocksAreTaken, FreeSlotsAreEmpty};
-ghost use Rattle.lis_kept.specs.Changes.{Describes, Drops, Adds};
+ghost use Rattle.lis_kept.specs.Areas.Area.{Files as FileArea, Rows};
+ghost use Rattle.lis_kept.specs.Sound.{is_sound_record, FreeSlotsAreEmpty};
+ghost use Rattle.lis_kept.specs.Changes.{Describes, Drops, Files};
 
-mod refiling;
+mod blocks;
 mod widening;
 
 use crate::parts::Parts;
-use crate::places::{bitmap_start, data_start, files_start, rows_start};
+use crate::places::{files_start, rows_start};
 use crate::spelling::FILES_PER_BLOCK;
-use arrayvec::ArrayVec;
 use lis_bits::Flags;
-use lis_content::put;
 use lis_ext::Ext;
 use lis_fields::FileRec;
-use lis_journal::{BLOCK_LEN, Journal};
+use lis_journal::BLOCK_LEN;
 use lis_model::limits::Limits;
-use lis_ports::Disk;
-use lis_words::Name;
 
 // Marks the blocks of the rows that changed.
 fn mark_rows(ext: &Ext, limits: &Limits, marks: &mut Flags)
@@ -51,18 +44,17 @@ fn mark_rows(ext: &Ext, limits: &Limits, marks: &mut Flags)
     }
 }
 
-// Marks the blocks of a file slot and of the bitmap.
+// Marks the block of a file slot.
 fn mark_file(marks: &mut Flags, limits: &Limits, slot: u16)
     requires range { IsTrue (are_in_range limits.now) }
     requires slot { slot < limits.now.files }
     requires long { data_start limits.now ≤ length marks.old }
-    ensures { marks.new ≡ slice_set (slice_set marks.old (block_of limits.now Files slot) true) (bitmap_start limits.now) true }
+    ensures { marks.new ≡ slice_set marks.old (block_of limits.now FileArea slot) true }
 {
     marks.put(
         files_start(limits) + u32::from(slot / FILES_PER_BLOCK),
         true,
     );
-    marks.put(bitmap_start(limits), true);
 }
 
 impl Parts {
@@ -81,62 +73,44 @@ impl Parts {
         self.ext.settle();
     }
 
-    /// Takes the file out of its slot, and gives its blocks back. Answers its record.
-    pub fn drop_file(&mut self, slot: u16) -> FileRec
+    /// Takes the record out of its slot, and answers it. Its blocks stay taken.
+    pub fn drop_record(&mut self, slot: u16) -> FileRec
         requires there { IsSome (rec_at self.old.catalog slot) }
-        requires taken { BlocksAreTaken self.old }
         ensures { Drops slot result self.old self.new }
     {
         let Some(rec) = self.catalog.remove(slot) else {
             unreachable!()
         };
-        lis_content::drop_file(&mut self.map, rec.blocks.as_slice());
         mark_file(&mut self.marks, &self.limits, slot);
         rec
     }
 
-    /// Files bytes under a new name in a free slot, and stages them in free data blocks: the disk is not asked. Answers the
-    /// slot. Its numbers are to be described yet.
-    pub fn add_file<D: Disk>(
-        &mut self,
-        journal: &mut Journal,
-        disk: &mut D,
-        name: &Name,
-        tags: ArrayVec<u16, 16>,
-        bytes: &[u8],
-    ) -> u16
-        requires new { slot_of self.old.catalog name.now ≡ None }
+    /// Files a record under a new name in a free slot, and answers the slot. Its blocks are taken already, and its numbers are to be
+    /// described yet.
+    pub fn add_record(&mut self, rec: FileRec) -> u16
+        requires new { slot_of self.old.catalog rec.name ≡ None }
         requires room { length self.old.catalog.entries < self.old.limits.files }
-        requires tagged { IsTrue (are_tags tags.items) }
-        requires worded { IsTrue (list_all (λ n. is_some (word_of self.old.dict n)) tags.items) }
-        requires short { length bytes.now ≤ 65536 }
-        requires enough { blocks_needed (length bytes.now) ≤ free_count self.old.taken }
-        requires taken { BlocksAreTaken self.old }
+        requires sound { IsTrue (is_sound_record self.old.limits.version self.old.dict self.old.limits.blocks rec) }
         requires empty { FreeSlotsAreEmpty self.old }
-        requires image { journal.old.blocks ≡ image_blocks self.old.limits }
-        requires unbroken { journal.old.is_broken ≡ false }
-        requires unplaced { journal.old.placed ≡ [] }
-        requires staged { length journal.old.staged + 16 ≤ 575 }
-        requires long { 4096 * journal.old.blocks ≤ (D.meaning disk.old).len }
-        ensures added { Adds name.now tags.items bytes.now result self.old self.new journal.old journal.new }
-        ensures disk { disk.new ≡ disk.old }
+        ensures { Files result rec self.old self.new }
     {
-        // Only its bytes tell that a name has a name's form.
-        let _name = name.bytes();
-        let base = data_start(&self.limits);
-        let Ok(blocks) = put(&mut self.map, journal, disk, base, &[], bytes) else {
-            unreachable!()
-        };
-        let rec = FileRec {
-            name: name.copied(),
-            size: bytes.len() as u32,
-            tags,
-            blocks,
-        };
         let Ok(slot) = self.catalog.add(rec) else {
             unreachable!()
         };
         mark_file(&mut self.marks, &self.limits, slot);
         slot
+    }
+
+    /// Files a record under a new name in this free slot, as `add_record` does in any.
+    pub fn place_record(&mut self, slot: u16, rec: FileRec)
+        requires below { slot < self.old.limits.files }
+        requires free { rec_at self.old.catalog slot ≡ None }
+        requires described { (n : ℕ) → has self.old.ext n slot ≡ true → IsSome (word_of self.old.dict n) }
+        requires new { slot_of self.old.catalog rec.name ≡ None }
+        requires sound { IsTrue (is_sound_record self.old.limits.version self.old.dict self.old.limits.blocks rec) }
+        ensures { Files slot rec self.old self.new }
+    {
+        self.catalog.place(slot, rec);
+        mark_file(&mut self.marks, &self.limits, slot);
     }
 }

@@ -1,6 +1,7 @@
 //! What memory keeps, as one value.
 
-ghost use Rattle.std.specs.Prelude.{◌≡◌, ℕ, ◌+◌, ◌<◌, ◌≤◌, false, [], length, replicate, IsTrue};
+ghost use Rattle.std.specs.Prelude.{◌≡◌, ℕ, ◌+◌, ◌<◌, ◌≤◌, false, length, replicate, IsTrue};
+ghost use Rattle.lis_journal.specs.Images.{is_among};
 ghost use Rattle.lis_model.specs.Image.{bitmap_start, data_start, image_blocks};
 
 use crate::places::{
@@ -71,7 +72,7 @@ impl Parts {
     pub fn stage(&self, journal: &mut Journal)
         requires image { journal.old.blocks ≡ image_blocks self.now.limits }
         requires unbroken { journal.old.is_broken ≡ false }
-        requires unplaced { journal.old.placed ≡ [] }
+        requires unplaced { (n : ℕ) → n < data_start self.now.limits → is_among journal.old.placed n ≡ false }
         requires room { length journal.old.staged + marked_count self.now ≤ 575 }
         ensures staged { Stages self.now journal.old journal.new }
         ensures sound { AreSound self.now }
@@ -103,7 +104,7 @@ impl Parts {
     fn stage_block(&self, journal: &mut Journal, n: u32)
         requires image { journal.old.blocks ≡ image_blocks self.now.limits }
         requires unbroken { journal.old.is_broken ≡ false }
-        requires unplaced { journal.old.placed ≡ [] }
+        requires unplaced { is_among journal.old.placed n ≡ false }
         requires room { length journal.old.staged < 575 }
         requires from { 578 ≤ n }
         requires to { n < data_start self.now.limits }

@@ -1,18 +1,34 @@
 //! What memory keeps, as calls read it.
 
-ghost use Rattle.std.specs.Prelude.{◌≡◌, Some, None, MatchOption, length, slice_get};
+ghost use Rattle.std.specs.Prelude.{◌≡◌, ◌≤◌, Some, None, MatchOption, length, filter, slice_get, IsSome};
 ghost use Rattle.std.specs.Option.{option_map};
-ghost use Rattle.lis_blockmap.specs.Bitmap.{free_count};
+ghost use Rattle.lis_blockmap.specs.Bitmap.{free_count, is_taken};
 ghost use Rattle.lis_catalog.specs.Catalog.{Filed, slot_of, rec_at};
 ghost use Rattle.lis_dict.specs.Dict.{number_of, word_of};
+ghost use Rattle.lis_fields.specs.Records.{FileRecord};
 ghost use Rattle.lis_kept.specs.Links.{TellsLinks};
 ghost use Rattle.lis_kept.specs.Telling.{is_declared};
 
 use crate::parts::Parts;
+use lis_blockmap::BlockMap;
 use lis_ext::Ext;
 use lis_fields::FileRec;
 use lis_taxonomy::Taxonomy;
 use lis_words::{Name, Word};
+
+// Whether a block is taken. None is that there is not.
+fn is_taken(map: &BlockMap, n: u16) -> bool
+    ensures { result ≡ is_taken map.now n }
+{
+    usize::from(n) < map.len() && map.is_taken(n)
+}
+
+// How many of these blocks are taken.
+fn count_taken(map: &BlockMap, blocks: &[u16]) -> usize
+    ensures { result ≡ length (filter (is_taken map.now) blocks.now) }
+{
+    blocks.iter().filter(|n| is_taken(map, **n)).count()
+}
 
 impl Parts {
     /// How many words have numbers.
@@ -86,6 +102,18 @@ impl Parts {
         ensures { result ≡ free_count self.now.taken }
     {
         self.map.free()
+    }
+
+    /// How many of the blocks that the slot of a file numbers are taken: all of them, where the disk keeps the image that memory tells.
+    pub fn taken_blocks(&self, slot: u16) -> usize
+        requires { IsSome (rec_at self.now.catalog slot) }
+        ensures taken { (rec : FileRecord) → rec_at self.now.catalog slot ≡ Some rec → result ≡ length (filter (is_taken self.now.taken) rec.blocks) }
+        ensures few { result ≤ 16 }
+    {
+        let Some(rec) = self.catalog.rec(slot) else {
+            unreachable!()
+        };
+        count_taken(&self.map, rec.blocks.as_slice())
     }
 
     /// For each file slot the numbers of its file's description.

@@ -6,7 +6,7 @@ use Rattle.lis_bits.specs.Bytes.{bits_bytes}
 use Rattle.lis_journal.specs.Record.{block, bad_record, replayed}
 use Rattle.lis_slots.specs.Slots.{Slots, slot}
 use Rattle.lis_blockmap.specs.Bitmap.{has_bit}
-use Rattle.lis_content.specs.Content.{has_number}
+use Rattle.lis_content.specs.Content.{has_number, are_distinct}
 use Rattle.lis_fields.specs.Records.{FileRecord}
 use Rattle.lis_fields.specs.Layouts.{zeros, prop_bytes, is_prop, axiom_bytes, is_axiom, file_bytes, is_file}
 use Rattle.lis_fields.specs.declared.slots.PropSlot.{PropSlot}
@@ -22,6 +22,7 @@ use Rattle.lis_model.specs.Image.{bitmap_start, image_blocks}
 use Rattle.lis_model.specs.Sets.{set_of}
 use Rattle.lis_model.specs.State.{Entails, file_words, known, is_assignable, is_nameable, pair_cmp}
 use Rattle.lis_kept.specs.Areas.{property_slots, axiom_slots, file_slots, row_slots}
+use Rattle.lis_kept.specs.Telling.{blocks_told, HasIndex}
 use Rattle.lis_store.specs.Stands.{Contents, AreSlots, word_in, words_in, word_at, all_declared, pairs_in, file_by, spelled_state, row_bit}
 use Rattle.lis_open.specs.Opens.{HasSuper}
 
@@ -64,12 +65,12 @@ pub record HasWord (limits : Limits) (at : ℕ → List ℕ) (n : ℕ) (word : L
   pub is : IsProperty limits at n property
   pub has : word_in property ≡ Some word
 
--- some file uses the data block
+-- some file uses the block, for its bytes or as its index block
 pub record IsUsed (limits : Limits) (at : ℕ → List ℕ) (data_block : ℕ) : Type 0 where
   pub slot : ℕ
   pub rec : FileRecord
   pub is : IsFile limits at slot (Used rec)
-  pub has : IsTrue (has_number rec.blocks data_block)
+  pub has : IsTrue (has_number (blocks_told limits at rec) data_block)
 
 -- ---- what they tell
 -- the declared words, a set
@@ -143,11 +144,16 @@ pub data FileFault (limits : Limits) (at : ℕ → List ℕ) (properties : List 
   -- or one that files may not be given
   TagUnassignable : (tag : ℕ) (word : List ℕ) → IsTrue (has_number rec.tags tag) → word_at properties tag ≡ Some word
       → is_assignable (declared_by properties) word ≡ false → FileFault limits at properties axioms n rec
-  -- there is no such data block
-  BlockMissing : (data_block : ℕ) → IsTrue (has_number rec.blocks data_block) → limits.blocks ≤ data_block → FileFault limits at properties axioms n rec
-  -- a file in an earlier slot uses one of its data blocks
-  BlockTaken : (earlier : ℕ) (other : FileRecord) (data_block : ℕ) → earlier < n → IsFile limits at earlier (Used other) → IsTrue (has_number other.blocks data_block)
-      → IsTrue (has_number rec.blocks data_block) → FileFault limits at properties axioms n rec
+  -- there is no such block
+  BlockMissing : (data_block : ℕ) → IsTrue (has_number (blocks_told limits at rec) data_block) → limits.blocks ≤ data_block → FileFault limits at properties axioms n rec
+  -- its index block is out of form
+  IndexUnformed : (HasIndex limits at rec → ⊥) → FileFault limits at properties axioms n rec
+  -- it uses a block twice
+  BlockTwice : are_distinct (blocks_told limits at rec) ≡ false → FileFault limits at properties axioms n rec
+  -- a file in an earlier slot uses one of its blocks
+  BlockTaken : (earlier : ℕ) (other : FileRecord) (data_block : ℕ) → earlier < n → IsFile limits at earlier (Used other)
+      → IsTrue (has_number (blocks_told limits at other) data_block) → IsTrue (has_number (blocks_told limits at rec) data_block)
+      → FileFault limits at properties axioms n rec
   -- no slot has a word of its description
   WordUnnumbered : (word : List ℕ) → IsTrue (has_word (description_by limits properties axioms at rec) word) → has_word (words_in properties) word ≡ false
       → FileFault limits at properties axioms n rec
@@ -177,7 +183,7 @@ pub record WordFails (limits : Limits) (at : ℕ → List ℕ) (n : ℕ) : Type 
   pub has : word_at contents.properties n ≡ Some word
   pub unknown : has_word (known (spelled_state limits contents at)) word ≡ false
 
--- A bit of the bitmap is 1 and no file uses the data block, or it is 0 and some file does.
+-- A bit of the bitmap is 1 and no file uses the block, or it is 0 and some file does.
 pub record BitFails (limits : Limits) (at : ℕ → List ℕ) (n : ℕ) : Type 0 where
   pub below : n < 32768
   pub fault : (IsTrue (has_bit (at (bitmap_start limits)) n) × (IsUsed limits at n → ⊥)) ⊎ ((has_bit (at (bitmap_start limits)) n ≡ false) × IsUsed limits at n)

@@ -7,3 +7,4 @@ pub mod ReadWords
 pub mod ReadFiles
 pub mod ReadAll
 pub mod Laws
+pub mod Upgrades

@@ -12,8 +12,9 @@ use Rattle.lis_fields.specs.Layouts.{SpellsSuper}
 use Rattle.lis_model.specs.declared.limits.Limits.{Limits}
 use Rattle.lis_model.specs.declared.spot.Spot.TheVariants.{BadRecord}
 use Rattle.lis_model.specs.Image.{image_blocks}
+use Rattle.lis_model.specs.Ranges.{are_in_range}
 use Rattle.lis_model.specs.State.{State}
-use Rattle.lis_store.specs.Stands.{is_super, Stands}
+use Rattle.lis_store.specs.Stands.{Stands}
 use Rattle.lis_store.specs.Stored.{Stored, StoreFits}
 use Rattle.lis_open.specs.declared.mounting.OpenFault.{OpenFault}
 use Rattle.lis_open.specs.declared.mounting.OpenFault.TheVariants.{TooShort, Damaged, DiskFault, NoMemory}
@@ -28,7 +29,7 @@ HasOpenCause before now (Err NoMemory) = now ≡ before
 
 -- the image begins with a super block of these limits
 pub record HasSuper (limits : Limits) (image : List ℕ) : Type 0 where
-  pub range : IsTrue (is_super limits)
+  pub range : IsTrue (are_in_range limits)
   pub spelled : SpellsSuper limits (part 0 4096 image)
 
 -- how many bytes are needed: a super block, or the image that it tells

@@ -5,7 +5,7 @@ ghost use Rattle.lis_ports.specs.Bytes.{put, Torn};
 ghost use Rattle.lis_ports.specs.Runs.{IsDiskRun, Leaves, Always, IsSettled};
 ghost use Rattle.lis_ports.specs.Calls.{HasCause};
 ghost use Rattle.lis_journal.specs.Spreads.{Spreads};
-ghost use Rattle.lis_store.specs.Stands.{is_super};
+ghost use Rattle.lis_model.specs.Ranges.{are_in_range};
 ghost use Rattle.lis_model.specs.Image.{image_blocks};
 ghost use Rattle.lis_open.specs.Makes.{Same, first_byte, IsNameless, IsSpared, AreZeros, IsWiped, IsWiping, rest_of_super};
 
@@ -89,7 +89,7 @@ fn clear_blocks<D: Disk>(disk: &mut D, first: u32, end: u32) -> Result<(), Faile
 
 // Writes the super block, but for its first byte.
 fn write_rest<D: Disk>(disk: &mut D, limits: &Limits) -> Result<(), Failed>
-    requires range { IsTrue (is_super limits.now) }
+    requires range { IsTrue (are_in_range limits.now) }
     requires long { 4096 ≤ (D.meaning disk.old).len }
     ensures run { IsDiskRun (D.meaning disk.old) (D.meaning disk.new) }
     ensures cause { HasCause (D.meaning disk.old).disk_faults (D.meaning disk.new).disk_faults result }
@@ -106,7 +106,7 @@ fn write_rest<D: Disk>(disk: &mut D, limits: &Limits) -> Result<(), Failed>
 /// Writes all of an empty image but its first byte, and syncs: the super block, the gates, and the home blocks that are no
 /// data blocks.
 pub fn wipe<D: Disk>(disk: &mut D, limits: &Limits) -> Result<(), Failed>
-    requires range { IsTrue (is_super limits.now) }
+    requires range { IsTrue (are_in_range limits.now) }
     requires long { 4096 * image_blocks limits.now ≤ (D.meaning disk.old).len }
     ensures run { IsDiskRun (D.meaning disk.old) (D.meaning disk.new) }
     ensures cause { HasCause (D.meaning disk.old).disk_faults (D.meaning disk.new).disk_faults result }

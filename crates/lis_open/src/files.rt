@@ -18,13 +18,13 @@ ghost use Rattle.lis_model.specs.Ranges.{are_in_range};
 ghost use Rattle.lis_model.specs.Image.{image_blocks};
 ghost use Rattle.lis_kept.specs.Telling.{bytes_told};
 ghost use Rattle.lis_kept.specs.Areas.{file_slots, axiom_slots};
-ghost use Rattle.lis_store.specs.Stands.{is_super};
 ghost use Rattle.lis_open.specs.Reading.{OnlyReads, HasPartCause, Recalls, IsReadAs, Ends};
 ghost use Rattle.lis_open.specs.ReadWords.{AreWords, AreFirstWords, AreFirstAxioms, WordsAreSpelled, AxiomsAreSpelled};
 ghost use Rattle.lis_open.specs.ReadFiles.{no_files, is_described, AreListed, found_words, met_numbers, is_numbered, own_numbers, AreDescribed, may_file, may_take_record, may_take_file, AreItsBytes, TakesNumbers, TakesRecord, TakesFile, AreFirstFiles, FilesAreTold};
 
 use crate::axioms::Axioms;
 use crate::blocks::LastBlock;
+use crate::indexes::free_blocks;
 use crate::mounting::OpenFault;
 use crate::naming::{are_assignable, is_met_number, numbered};
 use crate::words::Words;
@@ -94,20 +94,6 @@ fn read_slot<D: Disk>(
     let mut bytes = [0; FILE_LEN];
     last.read_slot(disk, journal, files_start(limits), slot, &mut bytes)?;
     Ok(read_file(&bytes, limits.version))
-}
-
-// Whether there is such a data block, and it is free.
-fn is_free(map: &BlockMap, block: u16) -> bool
-    ensures { result ≡ (nat_lt block (length map.now) && not (is_taken map.now block)) }
-{
-    usize::from(block) < map.len() && !map.is_taken(block)
-}
-
-// Whether there are such data blocks, and they are free.
-fn are_free(map: &BlockMap, blocks: &[u16]) -> bool
-    ensures { result ≡ are_free map.now blocks.now }
-{
-    blocks.iter().all(|block| is_free(map, *block))
 }
 
 fn mark_all(map: &mut BlockMap, blocks: &[u16])
@@ -232,14 +218,11 @@ fn may_file(words: &Words, files: &Files, rec: &FileRec) -> bool
     if files.catalog.slot_of(&rec.name).is_some() {
         return false;
     }
-    if !are_assignable(words, rec.tags.as_slice()) {
-        return false;
-    }
-    are_free(&files.map, rec.blocks.as_slice())
+    are_assignable(words, rec.tags.as_slice())
 }
 
 // Files a record, and gives its slot the numbers of its description.
-fn file(files: &mut Files, slot: u16, rec: FileRec, numbers: &[u16])
+fn file(files: &mut Files, slot: u16, rec: FileRec, blocks: &[u16], numbers: &[u16])
     requires distinct { IsTrue (are_distinct rec.blocks) }
     requires name { slot_of files.old.catalog rec.name ≡ None }
     requires free { IsTrue (are_free files.old.map rec.blocks) }
@@ -251,7 +234,7 @@ fn file(files: &mut Files, slot: u16, rec: FileRec, numbers: &[u16])
     requires in_range { All (λ n. n < files.old.ext.props) numbers.now }
     ensures { TakesNumbers slot rec numbers.now files.old files.new }
 {
-    mark_all(&mut files.map, rec.blocks.as_slice());
+    mark_all(&mut files.map, blocks);
     files.catalog.place(slot, rec);
     // Its length tells what holds of every catalog.
     let _files = files.catalog.len();
@@ -273,7 +256,7 @@ fn take_record<D: Disk>(
     slot: u16,
     rec: FileRec,
 ) -> Result<bool, Failed>
-    requires range { IsTrue (is_super limits.now) }
+    requires range { IsTrue (are_in_range limits.now) }
     requires image { journal.now.blocks ≡ image_blocks limits.now }
     requires clean { journal.now.staged ≡ [] }
     requires unbroken { journal.now.is_broken ≡ false }
@@ -301,6 +284,9 @@ fn take_record<D: Disk>(
     if !may_file(words, files, &rec) {
         return Ok(false);
     }
+    let Some(blocks) = free_blocks(disk, journal, limits, &files.map, &rec)? else {
+        return Ok(false);
+    };
     bytes.read(
         journal,
         disk,
@@ -311,7 +297,7 @@ fn take_record<D: Disk>(
     match describe(words, &axioms.taxonomy, &rec, bytes.bytes(), row) {
         None => Ok(false),
         Some(numbers) => {
-            file(files, slot, rec, numbers.as_slice());
+            file(files, slot, rec, &blocks, numbers.as_slice());
             Ok(true)
         }
     }
@@ -330,7 +316,7 @@ fn take_file<D: Disk>(
     slot: u16,
     found: Option<FileSlot>,
 ) -> Result<bool, Failed>
-    requires range { IsTrue (is_super limits.now) }
+    requires range { IsTrue (are_in_range limits.now) }
     requires image { journal.now.blocks ≡ image_blocks limits.now }
     requires clean { journal.now.staged ≡ [] }
     requires unbroken { journal.now.is_broken ≡ false }
@@ -375,7 +361,7 @@ pub fn read_files<D: Disk>(
     row: &mut Rows,
     bytes: &mut Buffer,
 ) -> Result<(), OpenFault>
-    requires range { IsTrue (is_super limits.now) }
+    requires range { IsTrue (are_in_range limits.now) }
     requires words { AreFirstWords limits.now words.now limits.now.props }
     requires axioms { AreFirstAxioms limits.now words.now axioms.now (axiom_slots limits.now).count }
     requires none { files.old ≡ no_files limits.now }

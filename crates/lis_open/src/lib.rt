@@ -6,15 +6,18 @@ mod blocks;
 mod checks;
 mod clearing;
 mod files;
+mod indexes;
 pub mod laws;
 mod making;
 mod mounting;
 mod naming;
 mod reading;
 mod room;
+mod upgrading;
 #[cfg(test)]
 mod tests;
 mod words;
 
 pub use making::{MakeFault, make};
 pub use mounting::{OpenFault, mount};
+pub use upgrading::upgrade;

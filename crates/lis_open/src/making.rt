@@ -4,9 +4,10 @@ ghost use Rattle.std.specs.Prelude.{◌≡◌, ◌*◌, ◌≤◌, ℕ, IsTrue, 
 ghost use Rattle.lis_ports.specs.Runs.{IsDiskRun, Leaves, Always, IsSettled};
 ghost use Rattle.lis_ports.specs.Calls.{HasCause};
 ghost use Rattle.lis_journal.specs.Record.{block};
+ghost use Rattle.lis_model.specs.Ranges.{are_in_range};
 ghost use Rattle.lis_model.specs.Image.{image_blocks};
 ghost use Rattle.lis_model.specs.State.{empty_state};
-ghost use Rattle.lis_store.specs.Stands.{is_super, Stands};
+ghost use Rattle.lis_store.specs.Stands.{Stands};
 ghost use Rattle.lis_open.specs.Makes.{InMaking, IsMade, IsSettledAt, IsSpare};
 ghost use Rattle.lis_open.specs.Faults.{IsShortWhere, HasMakeCause};
 ghost use Rattle.lis_open.specs.declared.making.MakeFault.TheVariants.{TooShort, DiskFault as DiskFailed};
@@ -40,7 +41,7 @@ impl From<Failed> for MakeFault {
 
 // Makes an image on a disk that is long enough.
 fn write_image<D: Disk>(disk: &mut D, limits: &Limits) -> Result<(), Failed>
-    requires range { IsTrue (is_super limits.now) }
+    requires range { IsTrue (are_in_range limits.now) }
     requires long { 4096 * image_blocks limits.now ≤ (D.meaning disk.old).len }
     ensures run { IsDiskRun (D.meaning disk.old) (D.meaning disk.new) }
     ensures cause { HasCause (D.meaning disk.old).disk_faults (D.meaning disk.new).disk_faults result }
@@ -61,7 +62,7 @@ fn write_image<D: Disk>(disk: &mut D, limits: &Limits) -> Result<(), Failed>
 
 /// Makes an image of the empty state. It takes no memory.
 pub fn make<D: Disk>(disk: &mut D, limits: &Limits) -> Result<(), MakeFault>
-    requires range { IsTrue (is_super limits.now) }
+    requires range { IsTrue (are_in_range limits.now) }
     ensures run { IsDiskRun (D.meaning disk.old) (D.meaning disk.new) }
 
     // A disk is too short where it has fewer bytes than the image. It is left as it was.

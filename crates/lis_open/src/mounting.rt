@@ -4,10 +4,11 @@ ghost use Rattle.std.specs.Prelude.{◌≡◌, ◌⊎◌, ◌*◌, ◌≤◌, �
 ghost use Rattle.lis_ports.specs.Runs.{IsDiskRun, Leaves};
 ghost use Rattle.lis_journal.specs.Images.{KeepsPast};
 ghost use Rattle.lis_journal.specs.Recovery.{IsSettledPast};
+ghost use Rattle.lis_model.specs.Ranges.{are_in_range};
 ghost use Rattle.lis_model.specs.declared.limits.Limits.{Limits as LimitsOf};
 ghost use Rattle.lis_model.specs.Image.{image_blocks};
 ghost use Rattle.lis_model.specs.State.{State};
-ghost use Rattle.lis_store.specs.Stands.{is_super, Stands};
+ghost use Rattle.lis_store.specs.Stands.{Stands};
 ghost use Rattle.lis_open.specs.Opens.{HasOpenCause, HasSuper, OpenEnded, OpenLeft, InOpening};
 ghost use Rattle.lis_open.specs.Checks.{FailsFirst};
 ghost use Rattle.lis_open.specs.Reading.{OnlyReads, Opened, LimitsRead};
@@ -84,7 +85,7 @@ fn read_limits<D: Disk>(disk: &mut D) -> Result<Limits, OpenFault>
     ensures small { (D.meaning disk.old).len < 4096
         → (result ≡ Err (TooShort (D.meaning disk.old).len 4096)) × (disk.new ≡ disk.old) }
     ensures numbers { (len need : ℕ) → result ≡ Err (TooShort len need) → (len ≡ (D.meaning disk.old).len) × (len < need) }
-    ensures range { IfOk result (λ limits. IsTrue (is_super limits)) }
+    ensures range { IfOk result (λ limits. IsTrue (are_in_range limits)) }
     ensures long { IfOk result (λ limits. 4096 * image_blocks limits ≤ (D.meaning disk.new).len) }
     ensures ended { IsTrue (D.meaning disk.old).is_honest → LimitsRead (D.meaning disk.old) (D.meaning disk.new) result }
 {
@@ -97,10 +98,6 @@ fn read_limits<D: Disk>(disk: &mut D) -> Result<Limits, OpenFault>
     let Some(limits) = read_super(&block) else {
         return Err(OpenFault::Damaged(Spot::Super));
     };
-    // Images of version 2 are not opened yet.
-    if limits.version != 1 {
-        return Err(OpenFault::Damaged(Spot::Super));
-    }
     let need = u64::from(image_blocks(&limits)) * BLOCK_LEN as u64;
     if len < need {
         return Err(OpenFault::TooShort(len, need));
@@ -110,7 +107,7 @@ fn read_limits<D: Disk>(disk: &mut D) -> Result<Limits, OpenFault>
 
 // Opens the image behind a super block of these limits.
 fn mount_image<D: Disk>(alloc: Global, disk: &mut D, limits: Limits) -> Result<Store, OpenFault>
-    requires range { IsTrue (is_super limits) }
+    requires range { IsTrue (are_in_range limits) }
     requires long { 4096 * image_blocks limits ≤ (D.meaning disk.old).len }
     requires begins { IsTrue (D.meaning disk.old).is_honest → HasSuper limits (D.meaning disk.old).bytes }
     ensures run { IsDiskRun (D.meaning disk.old) (D.meaning disk.new) }

@@ -4,7 +4,7 @@ ghost use Rattle.std.specs.Prelude.{◌≡◌, ◌*◌, ◌≤◌, ℕ, List, Bo
 ghost use Rattle.lis_bits.specs.Rows.{HasShape};
 ghost use Rattle.lis_journal.specs.Images.{Fits};
 ghost use Rattle.lis_fields.specs.Layouts.{SpellsSuper};
-ghost use Rattle.lis_store.specs.Stands.{is_super};
+ghost use Rattle.lis_model.specs.Ranges.{are_in_range};
 ghost use Rattle.lis_model.specs.Image.{image_blocks};
 ghost use Rattle.lis_store.specs.Stored.{IsSound};
 ghost use Rattle.lis_open.specs.Reading.{OnlyReads, HasPartCause};
@@ -38,7 +38,7 @@ fn read_parts<D: Disk>(
     row: &mut Rows,
     bytes: &mut Buffer,
 ) -> Result<(), OpenFault>
-    requires range { IsTrue (is_super limits.now) }
+    requires range { IsTrue (are_in_range limits.now) }
     requires image { journal.now.blocks ≡ image_blocks limits.now }
     requires clean { journal.now.staged ≡ [] }
     requires unbroken { journal.now.is_broken ≡ false }
@@ -71,7 +71,7 @@ pub fn read_store<D: Disk>(
     journal: Journal,
     room: Room,
 ) -> Result<Store, OpenFault>
-    requires range { IsTrue (is_super limits) }
+    requires range { IsTrue (are_in_range limits) }
     requires room { IsEmptyRoom limits room }
     requires image { journal.blocks ≡ image_blocks limits }
     requires clean { journal.staged ≡ [] }

@@ -5,7 +5,7 @@ use Rattle.lis_model.specs.declared.limits.Limits.{Limits}
 use Rattle.lis_model.specs.Ranges.{is_files_limit, is_props_limit, is_blocks_limit}
 use Rattle.lis_model.specs.Image.{image_blocks}
 use Rattle.lis_shell.specs.declared.words.Task.{Task}
-use Rattle.lis_shell.specs.declared.words.Task.TheVariants.{Try, Make, Run, Grow}
+use Rattle.lis_shell.specs.declared.words.Task.TheVariants.{Try, Make, Run, Upgrade, Grow}
 use Rattle.std.specs.Option.{option_map}
 
 -- three counts that are limits in range, of the version
@@ -26,16 +26,22 @@ task_of_five word second third fourth last =
     else if same_word word (codes "try") && same_word last (codes "v2") then option_map Try (limits_of 2 second third fourth)
     else None
 
--- `try` and three limits, with `v2` behind them or not, `make` with an image and three limits, `run` and an image, or `grow` with an image
--- and a number. An image is any text. `try` begins with version 2 where `v2` stands, and else with version 1.
+-- `run` or `upgrade`
+abbrev pub task_of_two : List ℕ → Option Task
+task_of_two word = if same_word word (codes "run") then Some Run else if same_word word (codes "upgrade") then Some Upgrade else None
+
+-- `try` and three limits, or `make` with an image and three limits, with `v2` behind them or not; `run` or `upgrade` and an image; or `grow`
+-- with an image and a number. An image is any text. `try` and `make` begin with version 2 where `v2` stands, and else with version 1.
 abbrev pub task_of : List (List ℕ) → Option Task
 task_of [] = None
 task_of (word ∷ []) = None
-task_of (word ∷ image ∷ []) = if same_word word (codes "run") then Some Run else None
+task_of (word ∷ image ∷ []) = task_of_two word
 task_of (word ∷ image ∷ number ∷ []) = if same_word word (codes "grow") then option_map Grow (grow_number_of number) else None
 task_of (word ∷ files ∷ props ∷ blocks ∷ []) = if same_word word (codes "try") then option_map Try (limits_of 1 files props blocks) else None
 task_of (word ∷ second ∷ third ∷ fourth ∷ last ∷ []) = task_of_five word second third fourth last
-task_of (word ∷ second ∷ third ∷ fourth ∷ last ∷ more ∷ words) = None
+task_of (word ∷ image ∷ files ∷ props ∷ blocks ∷ last ∷ []) =
+    if same_word word (codes "make") && same_word last (codes "v2") then option_map Make (limits_of 2 files props blocks) else None
+task_of (word ∷ second ∷ third ∷ fourth ∷ last ∷ more ∷ one ∷ words) = None
 
 -- how many bytes an image takes that is to be made
 abbrev pub length_for : Option Task → Option ℕ
@@ -43,4 +49,5 @@ length_for None = None
 length_for (Some (Try limits)) = None
 length_for (Some (Make limits)) = Some (4096 * image_blocks limits)
 length_for (Some Run) = None
+length_for (Some Upgrade) = None
 length_for (Some (Grow n)) = None

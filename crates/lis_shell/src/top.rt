@@ -36,7 +36,7 @@ use crate::words::{Task, task_of};
 use lis_grow::session::grow_session;
 use lis_line::reader::Payload;
 use lis_model::limits::Limits;
-use lis_open::{MakeFault, OpenFault, make, mount};
+use lis_open::{MakeFault, OpenFault, make, mount, upgrade};
 use lis_plain::plain::Plain;
 use lis_ports::{Source, Station};
 use lis_session::end::End;
@@ -154,6 +154,18 @@ fn run_image<S: Source, T: Station>(alloc: Global, input: &mut S, station: &mut 
 {
     match mount(alloc, station) {
         Ok(store) => run_store(alloc, store, input, station),
+        Err(OpenFault::TooShort(len, need)) => Status::TooShort(len, need),
+        Err(OpenFault::Damaged(spot)) => Status::NotAnImage(spot),
+        Err(OpenFault::DiskFault) => Status::DiskFault,
+        Err(OpenFault::NoMemory) => Status::NoMemory,
+    }
+}
+
+// Makes the image one of version 2.
+fn upgrade_image<T: Station>(alloc: Global, station: &mut T) -> Status
+{
+    match upgrade(alloc, station) {
+        Ok(()) => Status::Done,
         Err(OpenFault::TooShort(len, need)) => Status::TooShort(len, need),
         Err(OpenFault::Damaged(spot)) => Status::NotAnImage(spot),
         Err(OpenFault::DiskFault) => Status::DiskFault,
@@ -334,6 +346,7 @@ pub fn lisfs<S: Source, T: Station>(
         Some(Task::Try(limits)) => try_from_empty(alloc, &limits, input, station),
         Some(Task::Make(limits)) => make_image(&limits, station),
         Some(Task::Run) => run_image(alloc, input, station),
+        Some(Task::Upgrade) => upgrade_image(alloc, station),
         Some(Task::Grow(n)) => grow_image(alloc, station, n),
     }
 }

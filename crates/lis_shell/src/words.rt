@@ -3,7 +3,7 @@
 ghost use Rattle.std.specs.Prelude.{◌≡◌, map};
 ghost use Rattle.std.specs.String.{string_bytes};
 ghost use Rattle.lis_words.specs.Words.{same_word};
-ghost use Rattle.lis_shell.specs.Words.{limits_of, grow_number_of, task_of_five, task_of, length_for};
+ghost use Rattle.lis_shell.specs.Words.{limits_of, grow_number_of, task_of_two, task_of_five, task_of, length_for};
 
 use lis_model::limits::{Limits, image_blocks, is_blocks_limit, is_files_limit, is_props_limit};
 use lis_words::read_count;
@@ -23,6 +23,8 @@ pub enum Task {
     Make(Limits),
     /// `run IMAGE`: a session over an image.
     Run,
+    /// `upgrade IMAGE`: an image of version 2.
+    Upgrade,
     /// `grow IMAGE N`: on an image, the large session that is made of the number.
     Grow(u32),
 }
@@ -66,6 +68,18 @@ fn grow_number_of(digits: &[u8]) -> Option<u32>
     Some(number as u32)
 }
 
+fn task_of_two(word: &String) -> Option<Task>
+    ensures { result ≡ task_of_two (string_bytes word.now) }
+{
+    if is_word(word, b"run") {
+        return Some(Task::Run);
+    }
+    if is_word(word, b"upgrade") {
+        return Some(Task::Upgrade);
+    }
+    None
+}
+
 fn task_of_five(
     word: &String,
     second: &String,
@@ -95,12 +109,7 @@ pub fn task_of(words: &[String]) -> Option<Task>
     ensures { result ≡ task_of (map string_bytes words.now) }
 {
     match words {
-        [word, _] => {
-            if !is_word(word, b"run") {
-                return None;
-            }
-            Some(Task::Run)
-        }
+        [word, _] => task_of_two(word),
         [word, _, number] => {
             if !is_word(word, b"grow") {
                 return None;
@@ -116,6 +125,16 @@ pub fn task_of(words: &[String]) -> Option<Task>
             Some(Task::Try(limits))
         }
         [word, second, third, fourth, last] => task_of_five(word, second, third, fourth, last),
+        [word, _, files, props, blocks, last] => {
+            if !is_word(word, b"make") {
+                return None;
+            }
+            if !is_word(last, b"v2") {
+                return None;
+            }
+            let limits = limits_of(2, files.as_bytes(), props.as_bytes(), blocks.as_bytes())?;
+            Some(Task::Make(limits))
+        }
         _ => None,
     }
 }

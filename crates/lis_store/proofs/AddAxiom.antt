@@ -2,7 +2,6 @@
 use Rattle.std.proofs.Common.{◌≡◌, refl, sym, ap, subst, ◌+◌, ◌≤◌, ℕ, false, List, length, Result, arith}
 use Rattle.lis_ports.specs.Meaning.{Meaning}
 use Rattle.lis_journal.specs.Record.{Entry}
-use Rattle.lis_journal.specs.Phases.{looked}
 use Rattle.lis_model.specs.State.{State}
 use Rattle.lis_model.specs.Changes.{axiom_added}
 use Rattle.lis_model.specs.Step.{Situation, Outcome, changed}
@@ -18,6 +17,7 @@ use Rattle.lis_store.specs.RelatingIn.{RelatesIn}
 use Rattle.lis_store.proofs.Cleaned.{none_marked}
 use Rattle.lis_store.proofs.Relates.{end_is, sound_related, ready_related}
 use Rattle.lis_store.proofs.RelatesMarks.{few_marked}
+use Rattle.lis_store.proofs.SavedAlone.{saves_alone}
 
 module _ (old : Stored) (q : Kept) (left right : List ℕ) (sound : IsSound old) (unbroken : old.is_broken ≡ false) (may : MayRelate old.parts left right) (relates : RelatesIn left right old.parts q) where
   pub axiom_sound : AreSound q → IsSound (settled q old.journal)
@@ -33,7 +33,6 @@ module _ (old : Stored) (q : Kept) (left right : List ℕ) (sound : IsSound old)
   axiom_changes new before after result saves now outcome fits done =
       let made : State = axiom_added now.state (left, right) in
       let limits = ap (λ (k : Kept). k.limits) (end_is old.parts q left right relates sound.parts may) in
-      saves old now outcome made fits sound refl refl refl limits
-      (λ after_then. subst (λ (es : List Entry). IsReady q (looked es fits.kept) made) (sym (sound.staged unbroken))
-      (ready_related old.parts q left right relates sound.parts may after_then fits.kept now.state sound.free sound.pairs sound.short fits.tells (λ area n lt unmarked. fits.written area n lt)))
+      saves_alone old sound unbroken q new before after result saves now outcome made fits limits
+      (λ after_then. ready_related old.parts q left right relates sound.parts may after_then fits.kept now.state sound.free sound.pairs sound.short fits.tells (λ area n lt unmarked. fits.written area n lt))
       done

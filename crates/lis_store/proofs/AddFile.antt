@@ -1,55 +1,213 @@
 -- A call that adds a file.
-use Rattle.std.proofs.Common.{◌≡◌, sym, ap, subst, ℕ, ◌+◌, ◌≤◌, false, List, length, Result, arith}
+use Rattle.std.proofs.Common.{◌≡◌, ◌⊎◌, refl, sym, ap, ◌∙◌, subst, inl, inr, ℕ, ◌+◌, ◌<◌, ◌≤◌, true, false, Bool, List, length, set, Result, Err, arith, get_or-set_same}
+use Rattle.std.proofs.lemmas.Bool.{both_ways, cases_lt}
 use Rattle.lis_ports.specs.Meaning.{Meaning}
 use Rattle.lis_journal.specs.Journal.{Held}
 use Rattle.lis_journal.specs.Record.{Entry}
+use Rattle.lis_journal.specs.Images.{look}
 use Rattle.lis_journal.specs.Phases.{looked}
+use Rattle.lis_blockmap.specs.Bitmap.{free_count}
+use Rattle.lis_content.specs.Content.{has_home, marked}
+use Rattle.lis_ext.specs.Ext.{Ext}
 use Rattle.lis_grammar.specs.Formula.{Formula}
-use Rattle.lis_model.specs.State.{State}
+use Rattle.lis_model.specs.declared.limits.Limits.{Limits}
+use Rattle.lis_model.specs.Image.{bitmap_start, data_start, image_blocks}
+use Rattle.lis_model.specs.State.{State, blocks_taken, used_blocks}
 use Rattle.lis_model.specs.Changes.{new_file, file_added}
 use Rattle.lis_model.specs.Step.{Situation, Outcome, changed}
 use Rattle.lis_kept.specs.Kept.{Kept}
-use Rattle.lis_kept.specs.Areas.{IsSaved, marked_count}
+use Rattle.lis_kept.specs.Areas.{IsSaved, is_marked, marked_count}
 use Rattle.lis_kept.specs.Sound.{AreSound}
-use Rattle.lis_kept.specs.Telling.{Tells}
+use Rattle.lis_kept.specs.Changes.{Puts, PutTorn}
 use Rattle.lis_store.specs.declared.change.Change.{Change}
+use Rattle.lis_store.specs.declared.change.Change.TheVariants.{Refused, Disk}
 use Rattle.lis_store.specs.Stored.{Stored, IsSound, StoreFits}
-use Rattle.lis_store.specs.Changes.{Changes}
-use Rattle.lis_store.specs.Saving.{settled, Saves}
+use Rattle.lis_store.specs.Contents.{ContentPut, ContentEnded}
+use Rattle.lis_store.specs.Changes.{Changes, differing_bits}
+use Rattle.lis_store.specs.Saving.{settled, ArePlaced, IsReady, Saves}
 use Rattle.lis_store.specs.Admitting.{IsAdmitted}
 use Rattle.lis_store.specs.Adding.{PutsIn}
-use Rattle.lis_store.proofs.Added.{end_is, sound_added}
-use Rattle.lis_store.proofs.AddedMarks.{few_marked, few_staged}
-use Rattle.lis_store.proofs.AddedTells.{ready_added}
+use Rattle.lis_store.specs.ReplacingIn.{AreInForm}
+use Rattle.lis_store.proofs.Added.{form_added, same_axioms, same_limits}
+use Rattle.lis_store.proofs.AddedMarks.{few_marked, stay_marked, few_edits}
+use Rattle.lis_store.proofs.AddedTells.{ArePut, ready_added}
 use Rattle.lis_store.proofs.Cleaned.{none_marked}
-use Rattle.lis_store.proofs.Coming.{comes_in}
-use Rattle.lis_store.proofs.PutIn.{may_come}
-use Rattle.lis_store.proofs.FreeBlocks.{used_told, version_told}
+use Rattle.lis_store.proofs.Elsewhere.{saved_elsewhere, no_home_before}
+use Rattle.lis_store.proofs.Facts.{limits_told}
+use Rattle.lis_store.proofs.FreeBlocks.{used_told}
+use Rattle.lis_store.proofs.Replaced.{form_retaken, in_form, settled_sound}
+use Rattle.lis_store.proofs.Steps.{form_taken, pairs_same, sound_lost, changes_behind, changes_lost, fills_stand, fills_past, put_stands}
 
-module _ (old : Stored) (q : Kept) (j : Held) (name : List ℕ) (assigned : List (List ℕ)) (bytes : List ℕ) (sound : IsSound old) (unbroken : old.is_broken ≡ false)
-    (admitted : IsAdmitted old.parts (new_file name assigned bytes)) (puts : PutsIn (new_file name assigned bytes) old.parts q old.journal j) where
-  pub added_sound : AreSound q → IsSound (settled q j)
-  added_sound = sound_added old.parts q old.journal j name assigned bytes sound.parts admitted puts old.is_broken unbroken sound
+-- a file that is admitted is so where other blocks are taken
+admitted_retaken : (o : Kept) (taken marks : List Bool) (name : List ℕ) (assigned : List (List ℕ)) (bytes : List ℕ) → IsAdmitted o (new_file name assigned bytes)
+    → IsAdmitted (record o { taken = taken; marks = marks }) (new_file name assigned bytes)
+admitted_retaken o taken marks name assigned bytes admitted = record {
+  name = admitted.name;
+  new = admitted.new;
+  set = admitted.set;
+  assignable = admitted.assignable;
+  few = admitted.few;
+  slots = admitted.slots;
+  short = admitted.short;
+  room = admitted.room;
+  small = admitted.small;
+}
 
-  pub added_marks : length j.staged + marked_count q ≤ 531
-  added_marks =
-      let marked = few_marked old.parts q old.journal j name assigned bytes sound.parts admitted puts sound.free (none_marked old.parts (sound.clean unbroken)) in
-      let staged = few_staged old.parts q old.journal j name assigned bytes sound.parts admitted puts sound.free (ap (λ (es : List Entry). length es) (sound.staged unbroken)) in
-      omega (arith, marked, staged)
+-- a home of data blocks is behind all other blocks
+home_behind : (base n : ℕ) (blocks : List ℕ) → has_home base blocks n ≡ true → base ≤ n
+home_behind base n blocks has = by (cases_lt n base)
+  where
+    by : (n < base) ⊎ (base ≤ n) → base ≤ n
+    by (inl lt) = absurd (both_ways (has_home base blocks n) (no_home_before base n blocks lt) has)
+    by (inr le) = le
 
-  pub added_changes : {T : Type 0} (place : List Formula) (new : Stored) (before after : Meaning) (result : Result T Change) (outcome : State → Outcome)
-      → ((s : State) → StoreFits old before s → outcome s ≡ changed (record { state = s; place = place }) (file_added s (new_file name assigned bytes)))
-      → Saves q j new before after result → (s : State) → StoreFits old before s → Changes (record { state = s; place = place }) (outcome s) new before after result
-  added_changes place new before after result outcome done saves s fits =
-      let now : Situation = record { state = s; place = place } in
-      let t : State = file_added s (new_file name assigned bytes) in
-      let T : List Entry → Type 0 = λ es. Tells old.parts (looked es fits.kept) s in
-      let W : List Entry → Type 0 = λ es. IsSaved old.parts (looked es fits.kept) in
-      let tells = subst T (sym (sound.staged unbroken)) fits.tells in
-      let written = subst W (sym (sound.staged unbroken)) (λ area n lt unmarked. fits.written area n lt) in
-      saves old now (outcome s) t fits sound puts.adds.image puts.adds.records puts.adds.placed
-      (ap (λ (k : Kept). k.limits) (end_is old.parts q name assigned bytes sound.parts (may_come old.parts (new_file name assigned bytes) admitted) (comes_in (new_file name assigned bytes) old.parts q old.journal j puts)))
-      (λ sound_then.
-      ready_added old.parts q old.journal j name assigned bytes sound.parts admitted puts sound_then fits.kept s sound.free tells
-      (version_told old before s sound fits) (used_told old before s sound fits) written)
-      (done s fits)
+-- ---- its bytes are put into blocks
+module _ (old : Stored) (mid : Kept) (j : Held) (bytes numbers : List ℕ) (before placed : Meaning) (put : Puts bytes numbers old.parts mid old.journal j before placed) (sound : IsSound old) where
+  pub form_put : AreInForm mid
+  form_put = form_taken old.parts mid (marked old.parts.taken put.blocks) put.takes (in_form old sound)
+
+  pub limits_put : mid.limits ≡ old.parts.limits
+  limits_put = ap (λ (k : Kept). k.limits) put.takes.parts
+
+  pub admitted_put : (name : List ℕ) (assigned : List (List ℕ)) → IsAdmitted old.parts (new_file name assigned bytes) → IsAdmitted mid (new_file name assigned bytes)
+  admitted_put name assigned admitted =
+      subst (λ (k : Kept). IsAdmitted k (new_file name assigned bytes)) (sym put.takes.parts) (admitted_retaken old.parts (marked old.parts.taken put.blocks) (set old.parts.marks (bitmap_start old.parts.limits) true) name assigned bytes admitted)
+
+  bitmap_marked : is_marked mid (bitmap_start old.parts.limits) ≡ true
+  bitmap_marked =
+      ap (λ (k : Kept). is_marked k (bitmap_start old.parts.limits)) put.takes.parts
+      ∙ get_or-set_same old.parts.marks (bitmap_start old.parts.limits) true false (omega (arith, sound.parts.marks))
+
+  -- ---- and it is put in
+  module _ (q : Kept) (name : List ℕ) (assigned : List (List ℕ)) (unbroken : old.is_broken ≡ false) (admitted : IsAdmitted old.parts (new_file name assigned bytes)) (puts : PutsIn (new_file name assigned bytes) numbers mid q) where
+    abbrev admitted_mid : IsAdmitted mid (new_file name assigned bytes)
+    admitted_mid = admitted_put name assigned admitted
+
+    pub limits_then : q.limits ≡ old.parts.limits
+    limits_then = same_limits mid q name assigned bytes numbers form_put admitted_mid puts ∙ limits_put
+
+    pub added_sound : AreSound q → IsSound (settled q j)
+    added_sound after =
+        settled_sound q j (form_added mid q name assigned bytes numbers form_put admitted_mid puts after)
+        (pairs_same old.parts q (same_axioms mid q name assigned bytes numbers form_put admitted_mid puts ∙ ap (λ (k : Kept). k.axioms) put.takes.parts) sound.pairs)
+        (put.image ∙ (sound.image ∙ ap image_blocks (sym limits_then))) (put.broken ∙ sound.journal unbroken)
+
+    pub added_image : j.blocks ≡ image_blocks q.limits
+    added_image = put.image ∙ (sound.image ∙ ap image_blocks (sym limits_then))
+
+    pub added_placed : ArePlaced q j
+    added_placed n among = (
+      subst (λ (l : Limits). data_start l ≤ n) (sym limits_then) (home_behind (data_start old.parts.limits) n put.blocks (put.placed n among)),
+      ap (λ (l : Limits). is_marked q (bitmap_start l)) limits_then
+      ∙ stay_marked mid q name assigned bytes numbers form_put.sound admitted_mid puts form_put.free (bitmap_start old.parts.limits) bitmap_marked,
+    )
+
+    pub added_marks : length j.staged + marked_count q ≤ 531
+    added_marks =
+        let few = few_marked mid q name assigned bytes numbers form_put.sound admitted_mid puts form_put.free in
+        omega (arith, few, put.takes.marks.few, none_marked old.parts (sound.clean unbroken), put.few_staged)
+
+    pub added_edits : q.ext.edits ≤ old.parts.ext.edits + differing_bits old.parts.ext q.ext
+    added_edits =
+        subst (λ (e : Ext). q.ext.edits ≤ e.edits + differing_bits e q.ext) (ap (λ (k : Kept). k.ext) put.takes.parts) (few_edits mid q name assigned bytes numbers form_put.sound admitted_mid puts form_put.free)
+
+    module _ (s : State) (fits : StoreFits old before s) (enough : blocks_taken old.parts.limits.version (length bytes) ≤ free_count old.parts.taken) where
+      abbrev kept : ℕ → List ℕ
+      kept = (put.lands fits.kept fits.journal).kept
+
+      abbrev there : ℕ → List ℕ
+      there = looked j.staged kept
+
+      same : (n : ℕ) → has_home (data_start old.parts.limits) put.blocks n ≡ false → there n ≡ fits.kept n
+      same n none = (put.lands fits.kept fits.journal).same n none ∙ ap (λ (es : List Entry). look es n (fits.kept n)) (sound.staged unbroken)
+
+      are_put : ArePut old.parts (marked old.parts.taken put.blocks) bytes numbers put.blocks fits.kept there
+      are_put = record {
+        were_free = put.fills.were_free;
+        distinct = put.fills.distinct;
+        marks = refl;
+        same = same;
+        holds = (put.lands fits.kept fits.journal).holds;
+      }
+
+      limits_are : old.parts.limits ≡ s.limits
+      limits_are = limits_told old.parts fits.kept s sound.parts sound.free fits.tells
+
+      room : used_blocks s + blocks_taken s.limits.version (length bytes) ≤ s.limits.blocks
+      room = omega (arith, used_told old before s sound fits, enough, ap (λ (l : Limits). blocks_taken l.version (length bytes)) limits_are)
+
+      saved : IsSaved mid there
+      saved =
+          put.takes.marks.saved there
+          (saved_elsewhere old.parts put.blocks fits.kept there sound.parts put.fills.were_free (λ n out none. same n none) (λ area n lt unmarked. fits.written area n lt))
+
+      ready : AreSound q → IsReady q there (file_added s (new_file name assigned bytes))
+      ready after =
+          let R : Kept → Type 0 = λ k.
+          AreSound k → IsAdmitted k (new_file name assigned bytes) → PutsIn (new_file name assigned bytes) numbers k q → IsSaved k there → IsReady q there (file_added s (new_file name assigned bytes)) in
+          subst R (sym put.takes.parts)
+          (λ sound_then admitted_then puts_then saved_then.
+          ready_added old.parts (marked old.parts.taken put.blocks) (set old.parts.marks (bitmap_start old.parts.limits) true) q name assigned bytes numbers sound.parts sound_then admitted_then puts_then after fits.kept there s sound.free fits.tells put.blocks are_put room saved_then)
+          form_put.sound admitted_mid puts saved
+
+      pub added_changes : {T : Type 0} (place : List Formula) (new : Stored) (after : Meaning) (result : Result T Change) (outcome : Outcome)
+          → outcome ≡ changed (record { state = s; place = place }) (file_added s (new_file name assigned bytes)) → Saves q j new placed after result
+          → Changes (record { state = s; place = place }) outcome new before after result
+      added_changes place new after result outcome is saves =
+          let now : Situation = record { state = s; place = place } in
+          changes_behind now outcome new before placed after result (fills_stand old s before sound fits put.blocks placed put.fills) (fills_past old s before sound fits put.blocks placed put.fills)
+          (saves now outcome (file_added s (new_file name assigned bytes)) kept (put.lands fits.kept fits.journal).fits (limits_then ∙ limits_are)
+          (put_stands old s before sound fits bytes numbers mid j placed put) ready is)
+
+-- ---- the disk fails while they are put
+module _ (old : Stored) (mid : Kept) (j : Held) (before after : Meaning) (torn : PutTorn old.parts mid old.journal j before after) (sound : IsSound old) where
+  pub torn_limits : mid.limits ≡ old.parts.limits
+  torn_limits = ap (λ (k : Kept). k.limits) torn.parts
+
+  pub torn_ext : mid.ext ≡ old.parts.ext
+  torn_ext = ap (λ (k : Kept). k.ext) torn.parts
+
+  pub torn_sound : AreSound mid → IsSound (record { parts = mid; journal = j; is_broken = true })
+  torn_sound sound_mid =
+      let F : Kept → Type 0 = λ k. AreSound k → AreInForm k in
+      let form : AreInForm mid = subst F (sym torn.parts) (λ sound_then. form_retaken old.parts mid.taken mid.marks sound_then (in_form old sound)) sound_mid in
+      sound_lost mid j form (pairs_same old.parts mid (ap (λ (k : Kept). k.axioms) torn.parts) sound.pairs) (torn.image ∙ (sound.image ∙ ap image_blocks (sym torn_limits)))
+
+  pub torn_changes : {T : Type 0} (now : Situation) (outcome : Outcome) (new : Stored) (result : Result T Change) → StoreFits old before now.state → new.is_broken ≡ true → result ≡ Err Disk
+      → Changes now outcome new before after result
+  torn_changes now outcome new result fits broken ends =
+      changes_lost now outcome new before after result (fills_stand old now.state before sound fits torn.blocks after torn.fills) (fills_past old now.state before sound fits torn.blocks after torn.fills) broken ends
+
+put_err : (bytes : List ℕ) (p q : Kept) (old new : Held) (before after : Meaning) (change : Change) → ContentPut bytes p q old new before after (Err change) → (change ≡ Disk) × PutTorn p q old new before after
+put_err bytes p q old new before after (Refused refusal) never = absurd (let e : false ≡ true = never in cc)
+put_err bytes p q old new before after Disk torn = (refl, torn)
+
+put_ended : (T : Type 0) (b : Bool) (change : Change) → ContentEnded {T = T} b (Err change) → b ≡ true
+put_ended T b (Refused refusal) never = absurd (let e : false ≡ true = never in cc)
+put_ended T b Disk broken = broken
+
+module _ (T : Type 0) (old : Stored) (sound : IsSound old) (bytes : List ℕ) (q : Kept) (j : Held) (b : Bool) (change : Change) (before after : Meaning)
+    (put : ContentPut bytes old.parts q old.journal j before after (Err change)) (ended : ContentEnded {T = T} b (Err change)) where
+  lost : (change ≡ Disk) × PutTorn old.parts q old.journal j before after
+  lost = put_err bytes old.parts q old.journal j before after change put
+
+  broken : b ≡ true
+  broken = put_ended T b change ended
+
+  pub lost_sound : AreSound q → IsSound (record { parts = q; journal = j; is_broken = b })
+  lost_sound after_sound =
+      subst (λ c. IsSound (record { parts = q; journal = j; is_broken = c })) (sym broken) (torn_sound old q j before after lost.1 sound after_sound)
+
+  pub lost_limits : q.limits ≡ old.parts.limits
+  lost_limits = torn_limits old q j before after lost.1 sound
+
+  pub lost_ext : q.ext ≡ old.parts.ext
+  lost_ext = torn_ext old q j before after lost.1 sound
+
+  pub lost_image : j.blocks ≡ old.journal.blocks
+  lost_image = lost.1.image
+
+  pub lost_changes : {U : Type 0} (now : Situation) (outcome : Outcome) (result : Result U Change) → result ≡ Err change → StoreFits old before now.state
+      → Changes now outcome (record { parts = q; journal = j; is_broken = b }) before after result
+  lost_changes now outcome result ends fits =
+      torn_changes old q j before after lost.1 sound now outcome (record { parts = q; journal = j; is_broken = b }) result fits broken (ends ∙ ap Err lost.0)

@@ -1,14 +1,12 @@
 -- What a file that is put in comes to.
-use Rattle.std.proofs.Common.{◌≡◌, ◌⊎◌, refl, sym, ap, ap₂, ◌∙◌, subst, inl, inr, ℕ, zero, suc, ◌<◌, ◌≤◌, nat_lt, not, ◌&&◌, ◌||◌, if◌then◌else◌, Bool, true, false, List, [], length, get_or, set, Option, Some, None, is_some, IsSome, arith, get_or-set_same, get_or-set_other}
+use Rattle.std.proofs.Common.{◌≡◌, ◌⊎◌, refl, sym, ap, ap₂, ◌∙◌, subst, inl, inr, ℕ, zero, suc, ◌<◌, ◌≤◌, ◌||◌, if◌then◌else◌, Bool, true, false, List, [], length, get_or, set, Option, Some, None, is_some, IsSome, arith, get_or-set_same, get_or-set_other}
 use Rattle.std.specs.List.{list_any}
-use Rattle.std.proofs.lemmas.Bool.{and_parts, false_from_ne_true, or_cases, or_left, or_right, both_ways, cases_eq, eq-eqb, ne_eqb, not-true, ltb-true}
+use Rattle.std.proofs.lemmas.Bool.{false_from_ne_true, or_cases, or_left, or_right, both_ways, cases_eq, eq-eqb, ne_eqb}
 use Rattle.std.proofs.lemmas.List.{get_or_default}
 use Rattle.std.proofs.lemmas.Option.{same_Some}
 use Rattle.lis_graph.proofs.Members.{Among, contains_from_among, among_from_any, any_from_among, among_append, among_left}
-use Rattle.lis_journal.specs.Journal.{Held}
 use Rattle.lis_blockmap.specs.Bitmap.{is_taken}
-use Rattle.lis_content.specs.Content.{marked, has_number, are_taken, are_free}
-use Rattle.lis_content.proofs.Numbers.{below_from_free, stay_marked, marked_are_taken}
+use Rattle.lis_content.specs.Content.{has_number}
 use Rattle.lis_dict.specs.Dict.{Dict, IsDict, words, number_of, word_of}
 use Rattle.lis_dict.proofs.Laws.{word_from_number, number_from_word}
 use Rattle.lis_catalog.specs.Catalog.{slot_of, rec_at, with_filed}
@@ -24,24 +22,20 @@ use Rattle.lis_model.specs.Tests.{is_met, met_tests}
 use Rattle.lis_model.specs.Changes.{new_file}
 use Rattle.lis_laws.proofs.Chains.{up_trans, up_from_entails}
 use Rattle.lis_laws.proofs.Closures.{entailing, entailed_in}
-use Rattle.lis_laws.proofs.Counts.{all_among}
 use Rattle.lis_laws.proofs.Members.{among_from_has_word, has_word_from_among, among_with_words}
 use Rattle.lis_kept.specs.Kept.{Kept}
 use Rattle.lis_kept.specs.Links.{is_linked, is_own_link, has_pair}
-use Rattle.lis_kept.specs.Sound.{AreSound, FreeSlotsAreEmpty, BlocksAreTaken}
+use Rattle.lis_kept.specs.Sound.{AreSound, FreeSlotsAreEmpty}
 use Rattle.lis_kept.specs.Forgetting.{KeepsInUse}
 use Rattle.lis_kept.specs.Telling.{declared_of, axioms_of, is_left_of, is_left_head_of, is_head_by, is_had, is_named_left, is_used, AreUsed}
 use Rattle.lis_kept.specs.TestEdges.{test_by}
-use Rattle.lis_kept.proofs.Filing.{among_from_number}
 use Rattle.lis_kept.proofs.Formed.{some_word, named_all}
 use Rattle.lis_kept.proofs.Known.{some_number, one_number, word_known, known_word}
-use Rattle.lis_store.specs.Stored.{AreClosed, DescriptionsAreShort, BlocksAreApart, TestsAreMet, IsSound}
-use Rattle.lis_store.specs.Saving.{settled}
+use Rattle.lis_store.specs.Stored.{AreClosed, DescriptionsAreShort, TestsAreMet}
 use Rattle.lis_store.specs.Admitting.{described_by, IsAdmitted}
-use Rattle.lis_store.specs.ReplacingIn.{MayComeIn}
+use Rattle.lis_store.specs.ReplacingIn.{AreInForm, MayComeIn}
 use Rattle.lis_store.specs.Adding.{is_one_of, AreNumbered, numbers_named, with_heads, learnt_words, PutsIn}
 use Rattle.lis_store.proofs.Coming.{ComesIn, comes_in}
-use Rattle.lis_store.proofs.Cleaned.{clean_is, sound_clean, in_use_clean, tests_clean}
 use Rattle.lis_kept.proofs.Entailed.{link_named}
 use Rattle.lis_store.proofs.Entailment.{up_has_number}
 use Rattle.lis_store.proofs.Naming.{one_of, of_one, named_has, named_few}
@@ -76,13 +70,12 @@ module _ (p q : Kept) (name : List ℕ) (assigned : List (List ℕ)) (bytes : Li
 
   -- what is kept at the end
   abbrev pub end : Kept
-  end = record p { dict = dict; catalog = with_filed p.catalog slot rec; taken = marked p.taken rec.blocks; ext = q.ext; marks = q.marks }
+  end = record p { dict = dict; catalog = with_filed p.catalog slot rec; ext = q.ext; marks = q.marks }
 
   pub end_is : q ≡ end
   end_is = comes.parts ∙ ap (λ (k : Kept). record k {
     dict = dict;
     catalog = with_filed k.catalog slot rec;
-    taken = marked k.taken rec.blocks;
     ext = q.ext;
     marks = q.marks;
   }) comes.learns.parts
@@ -348,71 +341,30 @@ module _ (p q : Kept) (name : List ℕ) (assigned : List (List ℕ)) (bytes : Li
             omega (arith, ap length (ap (numbers_at end.ext) same ∙ set_here), named_few dict sound_end.dict described, may.short)
         by (inr differ) = omega (arith, ap length (set_other at differ), short at)
 
-  -- ---- data blocks
-  were_free : are_free p.taken rec.blocks ≡ true
-  were_free = ap (λ (k : Kept). are_free k.taken rec.blocks) (sym comes.learns.parts) ∙ comes.were_free
+-- ---- memory is in form again
+module _ (p q : Kept) (name : List ℕ) (assigned : List (List ℕ)) (bytes blocks : List ℕ) (form : AreInForm p) (admitted : IsAdmitted p (new_file name assigned bytes))
+    (puts : PutsIn (new_file name assigned bytes) blocks p q) where
+  abbrev may : MayComeIn p (new_file name assigned bytes)
+  may = may_come p (new_file name assigned bytes) admitted
 
-  pub new_not_taken : (n : ℕ) → has_number rec.blocks n ≡ true → (n < length p.taken) × (is_taken p.taken n ≡ false)
-  new_not_taken n has_it =
-      let free = and_parts (nat_lt n (length p.taken)) (not (is_taken p.taken n))
-      (all_among (λ i. nat_lt i (length p.taken) && not (is_taken p.taken i)) rec.blocks n were_free (among_from_number rec.blocks n has_it)) in
-      (ltb-true n (length p.taken) free.0, not-true (is_taken p.taken n) free.1)
-
-  pub new_taken : are_taken end.taken rec.blocks ≡ true
-  new_taken = marked_are_taken (length p.taken) p.taken rec.blocks refl (below_from_free p.taken rec.blocks were_free)
-
-  pub taken_then : BlocksAreTaken p → BlocksAreTaken end
-  taken_then taken at r is = by (cases_eq at slot)
-    where
-      by : (at ≡ slot) ⊎ (at ≡ slot → ⊥) → are_taken end.taken r.blocks ≡ true
-      by (inl same) =
-          let this : rec ≡ r = same_Some rec r (sym rec_here ∙ (ap (rec_at end.catalog) (sym same) ∙ is)) in
-          subst (λ (x : FileRecord). are_taken end.taken x.blocks ≡ true) this new_taken
-      by (inr differ) = stay_marked p.taken rec.blocks r.blocks (taken at r (sym (rec_other at differ) ∙ is))
-
-  -- no file had one of the new blocks
-  none_of_new : BlocksAreTaken p → (at : ℕ) (r : FileRecord) (n : ℕ) → rec_at p.catalog at ≡ Some r → has_number r.blocks n ≡ true → has_number rec.blocks n ≡ true → ⊥
-  none_of_new taken at r n is has_it here =
-      both_ways (is_taken p.taken n) (new_not_taken n here).1 (all_among (is_taken p.taken) r.blocks n (taken at r is) (among_from_number r.blocks n has_it))
-
-  pub apart_then : BlocksAreTaken p → BlocksAreApart p → BlocksAreApart end
-  apart_then taken apart at other r more n is_r is_more has_r has_more = by (cases_eq at slot) (cases_eq other slot)
-    where
-      this : (i : ℕ) (x : FileRecord) → i ≡ slot → rec_at end.catalog i ≡ Some x → has_number x.blocks n ≡ true → has_number rec.blocks n ≡ true
-      this i x same is has_it =
-          subst (λ (y : FileRecord). has_number y.blocks n ≡ true) (sym (same_Some rec x (sym rec_here ∙ (ap (rec_at end.catalog) (sym same) ∙ is)))) has_it
-
-      by : (at ≡ slot) ⊎ (at ≡ slot → ⊥) → (other ≡ slot) ⊎ (other ≡ slot → ⊥) → at ≡ other
-      by (inl a) (inl b) = a ∙ sym b
-      by (inl a) (inr b) = absurd (none_of_new taken other more n (sym (rec_other other b) ∙ is_more) has_more (this at r a is_r has_r))
-      by (inr a) (inl b) = absurd (none_of_new taken at r n (sym (rec_other at a) ∙ is_r) has_r (this other more b is_more has_more))
-      by (inr a) (inr b) = apart at other r more n (sym (rec_other at a) ∙ is_r) (sym (rec_other other b) ∙ is_more) has_r has_more
-
--- ---- the store is in form again
-module _ (p q : Kept) (old new : Held) (name : List ℕ) (assigned : List (List ℕ)) (bytes : List ℕ) (sound : AreSound p) (admitted : IsAdmitted p (new_file name assigned bytes))
-    (puts : PutsIn (new_file name assigned bytes) p q old new) where
   abbrev comes : ComesIn (new_file name assigned bytes) p q
-  comes = comes_in (new_file name assigned bytes) p q old new puts
+  comes = comes_in (new_file name assigned bytes) blocks p q puts
 
   abbrev k : Kept
-  k = end p q name assigned bytes sound (may_come p (new_file name assigned bytes) admitted) comes
+  k = end p q name assigned bytes form.sound may comes
 
-  pub sound_added : (b : Bool) → b ≡ false → IsSound (record { parts = p; journal = old; is_broken = b }) → AreSound q → IsSound (settled q new)
-  sound_added b whole was after = subst (λ (k : Kept). IsSound (settled k new)) (sym (end_is p q name assigned bytes sound (may_come p (new_file name assigned bytes) admitted) comes)) (record {
-    parts = sound_clean k (sound_end p q name assigned bytes sound (may_come p (new_file name assigned bytes) admitted) comes after);
-    range = was.range;
-    free = free_then p q name assigned bytes sound (may_come p (new_file name assigned bytes) admitted) comes after (λ at differ. was.free at);
-    pairs = was.pairs;
-    closed = closed_then p q name assigned bytes sound (may_come p (new_file name assigned bytes) admitted) comes after
-        (λ n at differ. named_all p sound was.free n at) (λ at a b differ. was.closed at a b);
-    short = short_then p q name assigned bytes sound (may_come p (new_file name assigned bytes) admitted) comes after was.short;
-    taken = taken_then p q name assigned bytes sound (may_come p (new_file name assigned bytes) admitted) comes was.taken;
-    apart = apart_then p q name assigned bytes sound (may_come p (new_file name assigned bytes) admitted) comes was.taken was.apart;
-    in_use = in_use_clean k (in_use_then p q name assigned bytes sound (may_come p (new_file name assigned bytes) admitted) comes after was.free was.in_use);
-    tests = tests_clean k (tests_then p q name assigned bytes sound (may_come p (new_file name assigned bytes) admitted) comes after puts.adds.sized was.tests);
-    image = puts.adds.image ∙ was.image;
-    journal = λ _. puts.adds.broken ∙ was.journal whole;
-    staged = λ _. refl;
-    placed = λ _. puts.adds.placed ∙ was.placed whole;
-    clean = λ _. clean_is k;
+  pub form_added : AreSound q → AreInForm q
+  form_added after = subst (λ (x : Kept). AreInForm x) (sym (end_is p q name assigned bytes form.sound may comes)) (record {
+    sound = sound_end p q name assigned bytes form.sound may comes after;
+    free = free_then p q name assigned bytes form.sound may comes after (λ at differ. form.free at);
+    closed = closed_then p q name assigned bytes form.sound may comes after (λ n at differ. named_all p form.sound form.free n at) (λ at a b differ. form.closed at a b);
+    short = short_then p q name assigned bytes form.sound may comes after form.short;
+    in_use = in_use_then p q name assigned bytes form.sound may comes after form.free form.in_use;
+    tests = tests_then p q name assigned bytes form.sound may comes after refl form.tests;
   })
+
+  pub same_axioms : q.axioms ≡ p.axioms
+  same_axioms = ap (λ (x : Kept). x.axioms) (end_is p q name assigned bytes form.sound may comes)
+
+  pub same_limits : q.limits ≡ p.limits
+  same_limits = ap (λ (x : Kept). x.limits) (end_is p q name assigned bytes form.sound may comes)

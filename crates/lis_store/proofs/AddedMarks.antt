@@ -1,11 +1,12 @@
 -- How much is marked when a file is put in, and how often rows are edited.
-use Rattle.std.proofs.Common.{◌≡◌, refl, sym, ap, ap₂, ◌∙◌, subst, ℕ, ◌+◌, ◌*◌, ◌<◌, ◌≤◌, ◌&&◌, ◌||◌, not, Bool, true, false, cond, List, [], ◌∷◌, ◌++◌, length, length-append, arith}
+use Rattle.std.proofs.Common.{◌≡◌, refl, sym, ap, ap₂, ◌∙◌, subst, ℕ, ◌+◌, ◌*◌, ◌<◌, ◌≤◌, ◌&&◌, ◌||◌, not, Bool, true, false, cond, List, [], ◌∷◌, ◌++◌, length, map, length-append, arith}
 use Rattle.std.specs.List.{range_with_len}
 use Rattle.std.specs.Ordering.{nat_cmp}
 use Rattle.std.specs.Cmp.{nat_cmp_total}
 use Rattle.lis_graph.proofs.Sets.{members_le}
 use Rattle.lis_graph.proofs.Ranges.{range_among}
-use Rattle.lis_journal.specs.Journal.{Held}
+use Rattle.lis_blockmap.specs.Bitmap.{is_taken}
+use Rattle.lis_content.proofs.Numbers.{stays_marked}
 use Rattle.lis_dict.specs.Dict.{word_of}
 use Rattle.lis_ext.specs.Ext.{Ext, set_of as numbers_at}
 use Rattle.lis_ext.specs.Numbers.{has_number, differs, numbers_where}
@@ -14,7 +15,8 @@ use Rattle.lis_model.specs.Derived.{derived_words}
 use Rattle.lis_model.specs.Changes.{new_file}
 use Rattle.lis_laws.proofs.Derived.{derived_few}
 use Rattle.lis_kept.specs.Kept.{Kept}
-use Rattle.lis_kept.specs.Areas.{marked_count}
+use Rattle.lis_kept.specs.Areas.{block_of, is_marked, marked_count}
+use Rattle.lis_kept.specs.Areas.Area.{Files, Rows}
 use Rattle.lis_kept.specs.Sound.{AreSound, FreeSlotsAreEmpty}
 use Rattle.lis_ext.proofs.Numbers.{among_where, sorted_where}
 use Rattle.lis_kept.proofs.Filing.{among_from_number}
@@ -22,7 +24,8 @@ use Rattle.lis_store.specs.Changes.{differing_bits}
 use Rattle.lis_store.specs.Admitting.{described_by, IsAdmitted}
 use Rattle.lis_store.specs.Adding.{is_one_of, numbers_named, behind_head, with_heads, learnt_words, PutsIn}
 use Rattle.lis_store.proofs.Added.{free_slot, below_files, set_here}
-use Rattle.lis_store.proofs.Coming.{comes_in}
+use Rattle.lis_store.specs.ReplacingIn.{MayComeIn}
+use Rattle.lis_store.proofs.Coming.{ComesIn, comes_in}
 use Rattle.lis_store.proofs.PutIn.{may_come, none_has, slot_was_empty}
 use Rattle.lis_store.proofs.Removed.{sum_has}
 
@@ -40,8 +43,14 @@ only_new : (b : Bool) → ((b && not false) || (false && not b)) ≡ b
 only_new true = refl
 only_new false = refl
 
-module _ (p q : Kept) (old new : Held) (name : List ℕ) (assigned : List (List ℕ)) (bytes : List ℕ) (sound : AreSound p) (admitted : IsAdmitted p (new_file name assigned bytes))
-    (puts : PutsIn (new_file name assigned bytes) p q old new) (free : FreeSlotsAreEmpty p) where
+module _ (p q : Kept) (name : List ℕ) (assigned : List (List ℕ)) (bytes blocks : List ℕ) (sound : AreSound p) (admitted : IsAdmitted p (new_file name assigned bytes))
+    (puts : PutsIn (new_file name assigned bytes) blocks p q) (free : FreeSlotsAreEmpty p) where
+  abbrev may : MayComeIn p (new_file name assigned bytes)
+  may = may_come p (new_file name assigned bytes) admitted
+
+  abbrev comes : ComesIn (new_file name assigned bytes) p q
+  comes = comes_in (new_file name assigned bytes) blocks p q puts
+
   abbrev slot : ℕ
   slot = puts.slot
 
@@ -51,12 +60,11 @@ module _ (p q : Kept) (old new : Held) (name : List ℕ) (assigned : List (List 
   abbrev gained : ℕ
   gained = length (numbers_where p.ext.props (differs [] numbers))
 
-  was_empty : numbers_at puts.filed.ext slot ≡ []
-  was_empty =
-      slot_was_empty p puts.learnt puts.filed (with_heads (learnt_words (new_file name assigned bytes))) name (numbers_named puts.learnt.dict assigned) bytes slot old new free puts.learns puts.adds
+  pub was_empty : numbers_at puts.filed.ext slot ≡ []
+  was_empty = slot_was_empty p puts.learnt puts.filed (with_heads (learnt_words (new_file name assigned bytes))) slot comes.rec free puts.learns puts.files
 
   ext_before : puts.filed.ext ≡ p.ext
-  ext_before = ap (λ (k : Kept). k.ext) puts.adds.parts ∙ ap (λ (k : Kept). k.ext) puts.learns.parts
+  ext_before = ap (λ (k : Kept). k.ext) puts.files.parts ∙ ap (λ (k : Kept). k.ext) puts.learns.parts
 
   gained_few : gained ≤ 128
   gained_few =
@@ -65,25 +73,31 @@ module _ (p q : Kept) (old new : Held) (name : List ℕ) (assigned : List (List 
       among_from_number numbers n (sym (only_new (has_number numbers n)) ∙ (among_where p.ext.props (differs [] numbers) n m).1)) in
       omega (arith, le, puts.few)
 
-  pub few_marked : marked_count p ≡ 0 → marked_count q ≤ 300
-  few_marked none =
+  pub few_marked : marked_count q ≤ marked_count p + 300
+  few_marked =
       let one = puts.learns.marks.few in
       let heads_of = heads_few (learnt_words (new_file name assigned bytes)) in
       let own = length-append assigned (derived_words name bytes) in
-      let two = puts.adds.few in
+      let two = puts.files.marks.few in
       let three = subst (λ (e : Ext). marked_count q ≤ marked_count puts.filed + length (numbers_where e.props (differs [] numbers))) ext_before (puts.describes.marks [] (sym was_empty)).few in
-      omega (arith, none, one, heads_of, own, admitted.few, derived_few name bytes, two, three, gained_few)
+      omega (arith, one, heads_of, own, admitted.few, derived_few name bytes, two, three, gained_few)
 
-  pub few_staged : length old.staged ≡ 0 → length new.staged ≤ 16
-  few_staged none = omega (arith, puts.adds.few_staged, none)
+  -- what is marked stays marked
+  pub stay_marked : (block : ℕ) → is_marked p block ≡ true → is_marked q block ≡ true
+  stay_marked block marked =
+      let filed : is_marked puts.filed block ≡ true =
+      ap (λ (k : Kept). is_marked k block) puts.files.parts
+      ∙ stays_marked puts.learnt.marks (block_of puts.learnt.limits Files slot ∷ []) block (puts.learns.marked block marked) in
+      ap (λ ms. is_taken ms block) (puts.describes.touched [] (sym was_empty))
+      ∙ stays_marked puts.filed.marks (map (block_of puts.filed.limits Rows) (numbers_where puts.filed.ext.props (differs [] numbers))) block filed
 
   pub few_edits : q.ext.edits ≤ p.ext.edits + differing_bits p.ext q.ext
   few_edits =
       let made = subst (λ (e : Ext). q.ext.edits ≤ e.edits + length (numbers_where e.props (differs [] numbers))) ext_before (puts.describes.edits [] (sym was_empty)) in
-      let slot_in : slot < length p.ext.sets = omega (arith, below_files p q name assigned bytes sound (may_come p (new_file name assigned bytes) admitted) (comes_in (new_file name assigned bytes) p q old new puts), sound.files) in
+      let slot_in : slot < length p.ext.sets = omega (arith, below_files p q name assigned bytes sound may comes, sound.files) in
       let f : ℕ → ℕ = λ at. length (numbers_where p.ext.props (differs (numbers_at p.ext at) (numbers_at q.ext at))) in
       let one = sum_has f (range_with_len 0 (length p.ext.sets)) slot (range_among 0 (length p.ext.sets) slot (omega arith) (omega (arith, slot_in))) in
-      let before : numbers_at p.ext slot ≡ [] = none_has (numbers_at p.ext slot) (free slot (free_slot p q name assigned bytes sound (may_come p (new_file name assigned bytes) admitted) (comes_in (new_file name assigned bytes) p q old new puts))) in
-      let now : numbers_at q.ext slot ≡ numbers = set_here p q name assigned bytes sound (may_come p (new_file name assigned bytes) admitted) (comes_in (new_file name assigned bytes) p q old new puts) in
+      let before : numbers_at p.ext slot ≡ [] = none_has (numbers_at p.ext slot) (free slot (free_slot p q name assigned bytes sound may comes)) in
+      let now : numbers_at q.ext slot ≡ numbers = set_here p q name assigned bytes sound may comes in
       let bits : f slot ≡ gained = ap₂ (λ a b. length (numbers_where p.ext.props (differs a b))) before now in
       omega (arith, made, one, bits)

@@ -1,12 +1,10 @@
 -- The row of a new file, told by what a store keeps, is the row of the state; and what holds where it refuses nothing.
-use Rattle.std.proofs.Common.{◌≡◌, ◌⊎◌, refl, sym, ap, ap₂, ◌∙◌, inl, inr, ℕ, ◌<◌, ◌≤◌, ◌==◌, nat_lt, nat_le, Bool, true, false, not, cond, is_some, Option, Some, None, List, ◌++◌, length, Result, Err, arith, eqb-true}
-use Rattle.std.specs.Prelude.{IsTrue}
+use Rattle.std.proofs.Common.{◌≡◌, ◌⊎◌, refl, sym, ap, ap₂, ◌∙◌, inl, inr, ℕ, ◌<◌, ◌≤◌, nat_lt, nat_le, Bool, true, false, not, cond, is_some, Option, Some, None, List, ◌++◌, length, Result, Err, arith}
 use Rattle.std.specs.List.{list_any, list_all}
 use Rattle.std.proofs.lemmas.Bool.{le-ltb, ltb-true, ltb-false, leb-true, leb-false, not-false}
 use Rattle.lis_ports.specs.Meaning.{Meaning}
 use Rattle.lis_blockmap.specs.Bitmap.{free_count}
 use Rattle.lis_catalog.specs.Catalog.{slot_of}
-use Rattle.lis_store.specs.Stands.{is_super}
 use Rattle.lis_graph.proofs.Members.{Among, among_from_any, any_from_among, among_insert_key}
 use Rattle.lis_grammar.specs.Formula.{Formula}
 use Rattle.lis_words.specs.Words.{word_cmp, is_file_name}
@@ -14,9 +12,10 @@ use Rattle.lis_model.specs.declared.limits.Limits.{Limits}
 use Rattle.lis_model.specs.declared.refusal.Refusal.{Refusal}
 use Rattle.lis_model.specs.declared.refusal.Refusal.TheVariants.{LargeFile}
 use Rattle.lis_model.specs.Sets.{with_words}
-use Rattle.lis_model.specs.State.{State, File, file_words, description, known, is_assignable, file_cmp, file_limit, blocks_needed, blocks_taken}
+use Rattle.lis_model.specs.State.{State, File, file_words, description, known, is_assignable, file_cmp, file_limit, blocks_taken}
 use Rattle.lis_model.specs.Changes.{has_name, new_file, file_added}
 use Rattle.lis_model.specs.Step.{Situation, Payload, refused, changed, exceeds_words, assigned_at, free_blocks, add_checks, add}
+use Rattle.lis_fields.proofs.Parts.{size_fits}
 use Rattle.lis_laws.proofs.Members.{word_order}
 use Rattle.lis_laws.proofs.Counts.{all_among, rising_from_sorted}
 use Rattle.lis_laws.proofs.Growth.{known_adds_file}
@@ -33,7 +32,6 @@ use Rattle.lis_store.proofs.Assigned.{sorted_assigned}
 use Rattle.lis_store.proofs.Facts.{limits_told, known_told, name_filed, files_counted}
 use Rattle.lis_store.proofs.FreeBlocks.{used_told}
 use Rattle.lis_store.proofs.Judged.{refused_first, refused_then, same_first, all_pass, judged_refused, judged_done, change_refused}
-use Rattle.lis_store.proofs.Limits.{limits_of_version_1}
 
 -- ---- the row, part by part
 module _ (k : Kept) (place : List Formula) (name : List ℕ) (words : List (List ℕ)) (bytes : List ℕ) (size : ℕ) (small : size ≤ file_limit k.limits.version) where
@@ -93,27 +91,32 @@ passes k place words file size none =
     }
 
 -- A file of a name, with the words of a place and words that were named, is let in.
-pub admitted : (k : Kept) → IsTrue (is_super k.limits) → (place : List Formula) (name : List ℕ) (words : List (List ℕ)) (bytes : List ℕ) (size : ℕ)
-    → is_file_name name ≡ true → (size ≤ 65536 → length bytes ≡ size)
-    → first_refusal (add_checks_of k place name words bytes size) ≡ None → IsAdmitted k (new_file name (assigned_at place words) bytes)
-admitted k range place name words bytes size form whole none =
-    let file = new_file name (assigned_at place words) bytes in
-    let row = passes k place words file size none in
-    let version : k.limits.version ≡ 1 = limits_of_version_1 k.limits range in
-    let small : size ≤ 65536 = omega (arith, row.small, ap file_limit version) in
-    let long = whole small in
-    record {
-      name = form;
-      new = row.new;
-      set = rising_from_sorted word_cmp word_order file.assigned (sorted_assigned place words);
-      assignable = row.assignable;
-      few = row.few;
-      slots = row.slots;
-      short = row.short;
-      room = row.room;
-      small = omega (arith, long, small);
-      blocks = omega (arith, row.blocks, ap blocks_needed long, ap (λ v. blocks_taken v size) version);
-    }
+module _ (k : Kept) (place : List Formula) (name : List ℕ) (words : List (List ℕ)) (bytes : List ℕ) (size : ℕ) (form : is_file_name name ≡ true) (whole : size ≤ 1048576 → length bytes ≡ size)
+    (none : first_refusal (add_checks_of k place name words bytes size) ≡ None) where
+  abbrev let_in : File
+  let_in = new_file name (assigned_at place words) bytes
+
+  row : Passes k place words let_in size
+  row = passes k place words let_in size none
+
+  long : length bytes ≡ size
+  long = whole (size_fits k.limits.version size row.small)
+
+  pub admitted : IsAdmitted k let_in
+  admitted = record {
+    name = form;
+    new = row.new;
+    set = rising_from_sorted word_cmp word_order let_in.assigned (sorted_assigned place words);
+    assignable = row.assignable;
+    few = row.few;
+    slots = row.slots;
+    short = row.short;
+    room = row.room;
+    small = omega (arith, long, row.small);
+  }
+
+  pub enough_free : blocks_taken k.limits.version (length bytes) ≤ free_count k.taken
+  enough_free = omega (arith, row.blocks, ap (blocks_taken k.limits.version) long)
 
 -- ---- the row of the state
 module _ (k : Stored) (m : Meaning) (s : State) (sound : IsSound k) (fits : StoreFits k m s) (place : List Formula) (words : List (List ℕ)) where

@@ -21,7 +21,6 @@ use Rattle.lis_fields.specs.declared.slots.AxiomSlot.TheVariants.{Free as FreeAx
 use Rattle.lis_fields.specs.declared.slots.PropSlot.{PropSlot}
 use Rattle.lis_fields.specs.declared.slots.PropSlot.TheVariants.{Known}
 use Rattle.lis_fields.specs.Layouts.{is_prop, is_record}
-use Rattle.lis_store.specs.Stands.{is_super}
 use Rattle.lis_words.specs.Words.{word_cmp, same_word, has_word, head_bytes, is_head, is_plain_word, is_valued, is_built_in, is_word, is_test, is_property, test_of}
 use Rattle.lis_model.specs.declared.refusal.Refusal.{Refusal}
 use Rattle.lis_model.specs.declared.refusal.Refusal.TheVariants.{BuiltIn, NotAssignable, AlreadyDeclared, NotAPlace, UnknownProperty, NoAxiomRoom, NoPropertyRoom, LargeDescription}
@@ -46,7 +45,7 @@ use Rattle.lis_kept.specs.Kept.{Kept, property_by, property_at}
 use Rattle.lis_kept.specs.Areas.{IsSaved, marked_count}
 use Rattle.lis_kept.specs.Links.{is_pair, is_linked, has_pair}
 use Rattle.lis_kept.specs.Linking.{is_filled}
-use Rattle.lis_kept.specs.Sound.{AreSound, FreeSlotsAreEmpty, BlocksAreTaken}
+use Rattle.lis_kept.specs.Sound.{AreSound, FreeSlotsAreEmpty}
 use Rattle.lis_kept.specs.Forgetting.{KeepsInUse}
 use Rattle.lis_kept.specs.Changes.{Declares}
 use Rattle.lis_kept.specs.Under.{is_plain_by, MayStandUnder, DeclaresUnder}
@@ -62,7 +61,7 @@ use Rattle.lis_kept.proofs.AxiomsTold.{axioms_counted}
 use Rattle.lis_kept.proofs.UnderOthers.{AreWordsOf, declared_then_linked, declared_then_marked, each_parts, under_used}
 use Rattle.lis_kept.proofs.StandsUnder.{each_pairs, each_linked, under_apart}
 use Rattle.lis_kept.proofs.WordMore.{declared_there, there_declared}
-use Rattle.lis_store.specs.Stored.{Stored, PairsAreApart, AreClosed, DescriptionsAreShort, BlocksAreApart, IsSound, StoreFits}
+use Rattle.lis_store.specs.Stored.{Stored, PairsAreApart, AreClosed, DescriptionsAreShort, IsSound, StoreFits}
 use Rattle.lis_store.specs.Saving.{settled, IsReady, Saves}
 use Rattle.lis_store.specs.Judging.{word_checks}
 use Rattle.lis_store.specs.Placing.{AreNumbersOf}

@@ -1,5 +1,5 @@
 -- A blank image tells of no words and no files: it stands for the empty state.
-use Rattle.std.proofs.Common.{◌≡◌, refl, sym, ap, ap₂, ◌∙◌, ℕ, zero, suc, ◌+◌, ◌-◌, ◌*◌, ◌/◌, ◌%◌, ◌<◌, ◌≤◌, ◌==◌, ◌≢◌, false, List, [], ◌∷◌, length, get_or, map, take, drop, replicate, slice_get, slice_index, Some, IsTrue, arith}
+use Rattle.std.proofs.Common.{◌≡◌, refl, sym, ap, ap₂, ◌∙◌, ℕ, zero, suc, ◌+◌, ◌-◌, ◌*◌, ◌/◌, ◌%◌, ◌<◌, ◌≤◌, ◌≢◌, false, List, [], ◌∷◌, length, get_or, map, take, drop, replicate, slice_get, slice_index, Some, IsTrue, arith}
 use Rattle.std.specs.BTreeSet.{insert_key}
 use Rattle.std.specs.List.{fold, range_with_len, Contains}
 use Rattle.std.proofs.lemmas.Bool.{both_ways}
@@ -30,9 +30,8 @@ use Rattle.lis_kept.specs.Telling.{pairs_told, Tells}
 use Rattle.lis_kept.proofs.InArea.{among_slots, whole_files, files_range, each_files_limit}
 use Rattle.lis_kept.proofs.RowBytes.{row_bytes_none}
 use Rattle.lis_store.specs.Blank.{IsBlank}
-use Rattle.lis_store.specs.Stands.{is_super, Stands}
+use Rattle.lis_store.specs.Stands.{Stands}
 use Rattle.lis_store.specs.Stored.{IsSound, empty_parts, empty_stored}
-use Rattle.lis_store.proofs.Limits.{limits_in_range}
 
 -- ---- no words and no files
 module _ (limits : Limits) (blocks : ℕ) where
@@ -90,16 +89,13 @@ module _ (limits : Limits) (blocks : ℕ) where
     marks = omega (arith, room, length-replicate blocks false);
   }
 
-  pub empty_are_told : IsTrue (is_super limits) → data_start limits ≤ blocks → IsSound (empty_stored limits blocks)
+  pub empty_are_told : IsTrue (are_in_range limits) → data_start limits ≤ blocks → IsSound (empty_stored limits blocks)
   empty_are_told range room = record {
-    parts = empty_are_sound (limits_in_range limits range) room;
-    range = range;
+    parts = empty_are_sound range room;
     free = λ at none n. no_set n at;
     pairs = λ at other left right is _. absurd (no_axiom at left right is);
     closed = λ at p q is _. absurd (both_ways (has parts.ext p at) (no_set p at) is);
     short = λ at. omega (arith, ap length (empty_set at));
-    taken = λ at rec is. absurd cc;
-    apart = λ at other rec more n is _ _ _. absurd cc;
     in_use = record { used = λ n is. absurd cc; tags = λ at rec is n _. absurd cc; rights = λ at left right is. absurd (no_axiom at left right is) };
     tests = record { given = λ at rec is n _. absurd cc; met = λ at rec is n _. absurd cc };
     image = refl;
@@ -109,7 +105,7 @@ module _ (limits : Limits) (blocks : ℕ) where
     clean = λ unbroken. ap (λ n. replicate n false) (sym (length-replicate blocks false));
   }
 
-pub empty_sound : (limits : Limits) (blocks : ℕ) → IsTrue (is_super limits) → data_start limits ≤ blocks → IsSound (empty_stored limits blocks)
+pub empty_sound : (limits : Limits) (blocks : ℕ) → IsTrue (are_in_range limits) → data_start limits ≤ blocks → IsSound (empty_stored limits blocks)
 empty_sound limits blocks range room = empty_are_told limits blocks range room
 
 -- ---- blocks of zeros
@@ -176,6 +172,8 @@ module _ (limits : Limits) (blocks : ℕ) (image : List ℕ) (range : IsTrue (ar
     described = λ f m. absurd (none_contained f m);
     taken = λ n lt is. absurd (both_ways (is_taken (replicate limits.blocks false) n) (not_taken limits blocks limits.blocks n) is);
     given = λ f m. absurd (none_contained f m);
+    indexed = λ f m. absurd (none_contained f m);
+    apart = λ f m. absurd (none_contained f m);
     one_use = λ f g m. absurd (none_contained f m);
   }
 

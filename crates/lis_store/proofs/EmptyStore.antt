@@ -1,14 +1,12 @@
 -- A store without words and files fits a blank image.
-use Rattle.std.proofs.Common.{◌≡◌, refl, ap, ℕ, ◌≤◌, ◌==◌, List, IsTrue, arith}
+use Rattle.std.proofs.Common.{refl, ap, ℕ, ◌≤◌, ◌==◌, List, IsTrue, arith}
 use Rattle.std.specs.List.{list_any}
-use Rattle.std.proofs.lemmas.Bool.{and_parts}
 use Rattle.lis_ports.specs.Meaning.{Meaning}
 use Rattle.lis_ports.specs.Bytes.{part}
 use Rattle.lis_ports.specs.Runs.{IsSettled}
 use Rattle.lis_journal.specs.Record.{block}
 use Rattle.lis_journal.proofs.Fitting.{settled_fits}
 use Rattle.lis_fields.specs.Layouts.{SpellsSuper}
-use Rattle.lis_store.specs.Stands.{is_super}
 use Rattle.lis_model.specs.declared.limits.Limits.{Limits}
 use Rattle.lis_model.specs.Ranges.{are_in_range}
 use Rattle.lis_model.specs.Image.{data_start}
@@ -17,14 +15,13 @@ use Rattle.lis_store.specs.Blank.{IsBlank}
 use Rattle.lis_store.specs.Stored.{StoreFits, empty_stored}
 use Rattle.lis_store.proofs.Empty.{written_empty, tells_empty}
 
-pub empty_fits : (m : Meaning) (limits : Limits) (blocks : ℕ) (image : List ℕ) → IsTrue (is_super limits) → data_start limits ≤ blocks → IsTrue m.is_honest → IsSettled m image
+pub empty_fits : (m : Meaning) (limits : Limits) (blocks : ℕ) (image : List ℕ) → IsTrue (are_in_range limits) → data_start limits ≤ blocks → IsTrue m.is_honest → IsSettled m image
     → SpellsSuper limits (part 0 4096 image) → IsBlank limits image → StoreFits (empty_stored limits blocks) m (empty_state limits)
 empty_fits m limits blocks image range room honest settled super blank =
-    let within = (and_parts (limits.version == 1) (are_in_range limits) range).1 in
     record {
       kept = λ n. block n image;
       journal = settled_fits (empty_stored limits blocks).journal image refl honest settled (omega arith) blank.long (ap (list_any (λ gate. gate == 1)) blank.gates);
       unbroken = refl;
-      tells = tells_empty limits blocks image within blank super;
-      written = written_empty limits blocks image within blank;
+      tells = tells_empty limits blocks image range blank super;
+      written = written_empty limits blocks image range blank;
     }

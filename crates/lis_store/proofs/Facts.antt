@@ -1,5 +1,5 @@
 -- What a store says of the state that it tells, in other words.
-use Rattle.std.proofs.Common.{◌≡◌, refl, sym, ap, ap₂, ◌∙◌, subst, inl, inr, ℕ, ◌+◌, ◌*◌, ◌<◌, ◌≤◌, ◌||◌, nat_lt, Bool, true, false, cond, is_some, Option, Some, None, option_map, List, [], ◌∷◌, length, map, IsSomeAnd, arith, length-append}
+use Rattle.std.proofs.Common.{◌≡◌, refl, sym, ap, ap₂, ◌∙◌, subst, inl, inr, ℕ, ◌+◌, ◌*◌, ◌<◌, ◌||◌, nat_lt, Bool, true, false, cond, is_some, Option, Some, None, option_map, List, [], ◌∷◌, length, map, IsSomeAnd, arith, length-append}
 use Rattle.std.specs.List.{find, flat_map, list_any, Contains}
 use Rattle.std.proofs.lemmas.Bool.{ltb-true}
 use Rattle.std.proofs.lemmas.List.{length-map, length-take-le}
@@ -9,27 +9,26 @@ use Rattle.lis_journal.proofs.Fitting.{kept_whole}
 use Rattle.lis_graph.proofs.Members.{Among, contains_from_among, among_map, map_among}
 use Rattle.lis_words.specs.Words.{same_word, has_word}
 use Rattle.lis_fields.specs.Records.{FileRecord}
-use Rattle.lis_fields.proofs.Parts.{slot_small}
 use Rattle.lis_dict.specs.Dict.{Dict, words, number_of}
 use Rattle.lis_dict.proofs.Laws.{number_from_word, word_from_number}
 use Rattle.lis_catalog.specs.Catalog.{Filed, slot_of, rec_at}
 use Rattle.lis_catalog.proofs.Laws.{rec_at-slot_of}
 use Rattle.lis_ext.specs.Ext.{set_of as numbers_at}
 use Rattle.lis_model.specs.Image.{data_start}
-use Rattle.lis_model.specs.State.{State, File, known, description, up, file_limit, blocks_needed}
+use Rattle.lis_model.specs.State.{State, File, known, description, up}
 use Rattle.lis_model.specs.Changes.{file_of, has_name}
 use Rattle.lis_model.specs.Table.{Entry, Table, entry_of, table}
 use Rattle.lis_laws.proofs.Counts.{all_among}
 use Rattle.lis_eval.specs.View.{Placed}
 use Rattle.lis_kept.specs.Kept.{Kept}
 use Rattle.lis_kept.specs.Sound.{AreSound, FreeSlotsAreEmpty}
-use Rattle.lis_kept.specs.Telling.{words_told, declared_of, axioms_of, bytes_told, file_told, state_of, Tells}
-use Rattle.lis_kept.proofs.Filing.{find_among, found_has, filed_rec, filed_slot, filed_at_slot, map_all}
+use Rattle.lis_kept.specs.Telling.{words_told, declared_of, axioms_of, bytes_told, blocks_told, file_told, state_of, Tells}
+use Rattle.lis_kept.proofs.Filing.{number_from_among, find_among, found_has, filed_rec, filed_slot, filed_at_slot, map_all}
 use Rattle.lis_kept.proofs.Known.{word_known, known_word, words_known}
 use Rattle.lis_store.specs.Stored.{Stored, IsSound, StoreFits}
 use Rattle.lis_store.specs.Seen.{placed, table_of}
 use Rattle.lis_store.proofs.Spelled.{sound_parts}
-use Rattle.lis_store.proofs.Limits.{limits_of_version_1}
+use Rattle.lis_store.proofs.FileBlocks.{content_told, content_among, content_counted}
 
 map_map : {X Y Z : Type 0} (f : Y → Z) (g : X → Y) (xs : List X) → map f (map g xs) ≡ map (λ x. f (g x)) xs
 map_map f g [] = refl
@@ -78,13 +77,6 @@ file_found told named name (g ∷ fs) f is =
 
 -- ---- files by their slots
 module _ (k : Kept) (sound : AreSound k) where
-  pub size_is_short : k.limits.version ≡ 1 → (f : Filed) → Among k.catalog.entries f → f.rec.size ≤ 65536
-  size_is_short one f m = let short = (sound_parts k sound f m).short in omega (arith, short, ap file_limit one)
-
-  pub blocks_counted : k.limits.version ≡ 1 → (f : Filed) → Among k.catalog.entries f → length f.rec.blocks ≡ blocks_needed f.rec.size
-  blocks_counted one f m =
-      (sound_parts k sound f m).count ∙ slot_small k.limits.version f.rec.size (let short = size_is_short one f m in omega (arith, short))
-
   pub block_below : (f : Filed) → Among k.catalog.entries f → (b : ℕ) → Among f.rec.blocks b → b < k.limits.blocks
   block_below f m b there = ltb-true b k.limits.blocks (all_among (λ n. nat_lt n k.limits.blocks) f.rec.blocks b (sound_parts k sound f m).below there)
 
@@ -168,12 +160,18 @@ module _ (k : Stored) (m : Meaning) (s : State) (sound : IsSound k) (fits : Stor
   pub block_is_whole : (b : ℕ) → b < k.parts.limits.blocks → length (fits.kept (data_start k.parts.limits + b)) ≡ 4096
   block_is_whole b lt = kept_whole k.journal fits.journal (data_start k.parts.limits + b) (inr (omega arith)) (omega (arith, lt, sound.image))
 
+  -- the blocks of a file are blocks of the image
+  pub told_below : (f : Filed) → Among k.parts.catalog.entries f → (b : ℕ) → Among (blocks_told k.parts.limits fits.kept f.rec) b → b < k.parts.limits.blocks
+  told_below f there b among =
+      (fits.tells.given f (contains_from_among k.parts.catalog.entries f there) b (number_from_among (blocks_told k.parts.limits fits.kept f.rec) b among)).0
+
   -- each file has as many bytes as its record says
   pub size_of_filed : (f : Filed) → Among k.parts.catalog.entries f → length (bytes_told k.parts.limits fits.kept f.rec) ≡ f.rec.size
   size_of_filed f there =
-      let counted = blocks_counted k.parts sound.parts (limits_of_version_1 k.parts.limits sound.range) f there in
-      let whole = length-whole (λ b. fits.kept (data_start k.parts.limits + b)) f.rec.blocks (λ b among. block_is_whole b (block_below k.parts sound.parts f there b among)) in
-      length-take-le f.rec.size (flat_map (λ b. fits.kept (data_start k.parts.limits + b)) f.rec.blocks) (omega (arith, whole, counted))
+      let numbers = content_told k.parts.limits fits.kept f.rec in
+      let counted = content_counted k.parts sound.parts f there fits.kept in
+      let whole = length-whole (λ b. fits.kept (data_start k.parts.limits + b)) numbers (λ b among. block_is_whole b (told_below f there b (content_among k.parts.limits fits.kept f.rec b among))) in
+      length-take-le f.rec.size (flat_map (λ b. fits.kept (data_start k.parts.limits + b)) numbers) (omega (arith, whole, counted))
 
   size_told : (name : List ℕ) (slot : ℕ) (rec : FileRecord) → slot_of k.parts.catalog name ≡ Some slot → rec_at k.parts.catalog slot ≡ Some rec → length (file_of s.files name).bytes ≡ rec.size
   size_told name slot rec is_slot is_rec =

@@ -1,10 +1,11 @@
 -- Calls that read a file's bytes before they judge.
-use Rattle.std.proofs.Common.{◌≡◌, ◌⊎◌, sym, ap, ap₂, ◌∙◌, subst, inl, ℕ, true, false, List, length, cond, is_some, Some, None, Result, Ok, Err, IsTrue, IsSomeAnd, arith}
+use Rattle.std.proofs.Common.{◌≡◌, ◌⊎◌, sym, ap, ap₂, ◌∙◌, subst, inl, ℕ, nat_lt, true, false, List, length, cond, is_some, Some, None, Result, Ok, Err, IsTrue, IsSomeAnd, arith}
 use Rattle.std.specs.Result.{result_ok}
+use Rattle.std.proofs.lemmas.Bool.{lt-ltb}
 use Rattle.std.proofs.lemmas.Option.{same_Some}
 use Rattle.lis_journal.specs.Record.{Entry, block}
 use Rattle.lis_journal.specs.Phases.{looked}
-use Rattle.lis_catalog.specs.Catalog.{slot_of, rec_at}
+use Rattle.lis_catalog.specs.Catalog.{Filed, slot_of, rec_at}
 use Rattle.lis_fields.specs.Records.{FileRecord}
 use Rattle.lis_grammar.specs.Formula.{Formula}
 use Rattle.lis_grammar.specs.Places.{Resolution, resolved, text_words}
@@ -13,8 +14,10 @@ use Rattle.lis_words.specs.Words.{is_file_name}
 use Rattle.lis_model.specs.Changes.{file_of, new_file, file_replaced}
 use Rattle.lis_model.specs.State.{State, File}
 use Rattle.lis_kept.specs.Kept.{Kept}
-use Rattle.lis_kept.specs.Telling.{words_told, bytes_told}
-use Rattle.lis_kept.proofs.Refiled.{record_named}
+use Rattle.lis_laws.proofs.Counts.{all_from}
+use Rattle.lis_kept.specs.Telling.{words_told, bytes_told, blocks_told}
+use Rattle.lis_kept.proofs.Filing.{filed_at_slot}
+use Rattle.lis_kept.proofs.Filed.{record_named}
 use Rattle.lis_ports.specs.Meaning.{Meaning}
 use Rattle.lis_ports.specs.Runs.{Leaves}
 use Rattle.lis_ports.specs.Calls.{IsUnchanged}
@@ -28,13 +31,14 @@ use Rattle.lis_store.specs.declared.change.Change.TheVariants.{Refused, Disk}
 use Rattle.lis_store.specs.Stands.{Stands}
 use Rattle.lis_store.specs.Stored.{Stored, IsSound, StoreFits}
 use Rattle.lis_store.specs.Changes.{Changes, first_refusal}
+use Rattle.lis_store.specs.Contents.{AreContentsWithin}
 use Rattle.lis_store.specs.Judging.{is_among}
 use Rattle.lis_store.specs.Saving.{Saves}
 use Rattle.lis_store.specs.Instead.{given_before, instead_checks, renaming_checks}
 use Rattle.lis_store.specs.Replacing.{MayReplace}
 use Rattle.lis_store.specs.ReplacingIn.{RefilesIn}
 use Rattle.lis_store.specs.Retagging.{led_by, words_moved, moved_from, moving_checks}
-use Rattle.lis_store.proofs.Facts.{filed_named}
+use Rattle.lis_store.proofs.Facts.{filed_named, told_below}
 use Rattle.lis_store.proofs.InsteadTold.{old_is, rename_refused}
 use Rattle.lis_store.proofs.Judged.{change_refused, refused_first, refused_then}
 use Rattle.lis_store.proofs.ReplaceFile.{refiled_changes}
@@ -118,12 +122,21 @@ module _ (old : Stored) (place : List Formula) (name : List ℕ) (slot : ℕ) (r
 
     module _ (mid : Meaning) (same : IsTrue m.is_honest → IsUnchanged m mid) (any_moment : IsTrue m.is_honest → Leaves m mid m.images)
         (still : (kept : ℕ → List ℕ) → Fits old.journal m kept → Fits old.journal mid kept) (bytes : List ℕ)
-        (read : (kept : ℕ → List ℕ) → Fits old.journal m kept → bytes ≡ bytes_told p.limits (looked old.journal.staged kept) rec) where
+        (read : (kept : ℕ → List ℕ) → Fits old.journal m kept → AreContentsWithin p.limits (looked old.journal.staged kept) rec → bytes ≡ bytes_told p.limits (looked old.journal.staged kept) rec) where
       abbrev after : StoreFits old mid s
       after = fits_read old m mid now sound fits same any_moment still
 
+      -- the blocks of the file are blocks of the image
+      within : AreContentsWithin p.limits (looked old.journal.staged fits.kept) rec
+      within =
+          let filed : Filed = record { slot = slot; rec = rec } in
+          let of = filed_at_slot p.catalog sound.parts.catalog slot rec there in
+          let A : List Entry → Type 0 = λ es. AreContentsWithin p.limits (looked es fits.kept) rec in
+          subst A (sym (sound.staged fits.unbroken))
+          (all_from (λ n. nat_lt n p.limits.blocks) (blocks_told p.limits fits.kept rec) (λ n among. lt-ltb n p.limits.blocks (told_below old m s sound fits filed of n among)))
+
       told : bytes_told p.limits fits.kept rec ≡ bytes
-      told = sym (read fits.kept fits.journal ∙ ap (λ (es : List Entry). bytes_told p.limits (looked es fits.kept) rec) (sound.staged fits.unbroken))
+      told = sym (read fits.kept fits.journal within ∙ ap (λ (es : List Entry). bytes_told p.limits (looked es fits.kept) rec) (sound.staged fits.unbroken))
 
       bytes_are : bytes ≡ (file_of s.files name).bytes
       bytes_are = sym (ap (λ (f : File). f.bytes) (old_is old m s sound fits name slot rec named there) ∙ told)
@@ -138,17 +151,15 @@ module _ (old : Stored) (place : List Formula) (name : List ℕ) (slot : ℕ) (r
           (rest_of_rename p place name slot (given_before p rec other (file_of s.files name).bytes) here ∙ row)) ends
 
       pub renaming_changes : {T : Type 0} (q : Kept) (other : List ℕ) (assigned : List (List ℕ)) (unbroken : old.is_broken ≡ false) → assigned ≡ words_told p.dict rec.tags
-          → (first : IsSomeAnd (rec_at p.catalog slot) (λ (x : FileRecord). MayReplace p slot x (new_file other assigned bytes))) → RefilesIn slot (new_file other assigned bytes) p q
+          → (first : IsSomeAnd (rec_at p.catalog slot) (λ (x : FileRecord). MayReplace p slot x (new_file other assigned bytes))) → RefilesIn slot (new_file other assigned bytes) rec.blocks p q
           → first_refusal (renaming_checks p slot (given_before p rec other bytes)) ≡ None → (new : Stored) (end : Meaning) (result : Result T Change)
           → Saves q old.journal new mid end result → Changes now (rename now name other) new m end result
       renaming_changes q other assigned unbroken words first again none new end result saves =
-          let same_rec : rec ≡ again.rec = same_Some rec again.rec (sym there ∙ again.way.vacates.drops.there) in
-          let told_then = subst (λ (r : FileRecord). bytes_told p.limits fits.kept r ≡ bytes) same_rec told in
           let may = subst (λ o. IsSomeAnd o (λ (x : FileRecord). MayReplace p slot x (new_file other assigned bytes))) there first in
           after_read old m mid now sound fits same any_moment still (rename now name other) new end result
-          (refiled_changes old q slot other assigned bytes sound unbroken first again place new mid end result (rename now name other) s after
-          (renamed_done old m s sound fits place name slot rec again.rec named there again.way.vacates.drops.there here assigned words other bytes told_then none)
-          told_then may.assignable saves)
+          (refiled_changes old q slot other assigned bytes rec sound unbroken there first again place new mid end result (rename now name other) s after
+          (renamed_done old m s sound fits place name slot rec named there here assigned words other bytes told none)
+          told may.assignable saves)
 
       -- ---- in another place
       pub retagging_refused : {T : Type 0} (text : List ℕ) (next : List Formula) (refusal : Refusal) (result : Result T Change) → resolved place text ≡ NewPlace next
@@ -162,12 +173,10 @@ module _ (old : Stored) (place : List Formula) (name : List ℕ) (slot : ℕ) (r
 
       pub retagging_changes : {T : Type 0} (q : Kept) (text : List ℕ) (next : List Formula) (assigned : List (List ℕ)) (unbroken : old.is_broken ≡ false) → assigned ≡ words_moved p rec place next
           → resolved place text ≡ NewPlace next → (first : IsSomeAnd (rec_at p.catalog slot) (λ (x : FileRecord). MayReplace p slot x (new_file name assigned bytes)))
-          → RefilesIn slot (new_file name assigned bytes) p q → first_refusal (moving_checks p place next (text_words text) rec) ≡ None
+          → RefilesIn slot (new_file name assigned bytes) rec.blocks p q → first_refusal (moving_checks p place next (text_words text) rec) ≡ None
           → first_refusal (instead_checks p slot (moved_from p rec place next name bytes)) ≡ None → (new : Stored) (end : Meaning) (result : Result T Change)
           → Saves q old.journal new mid end result → Changes now (mv now name text) new m end result
       retagging_changes q text next assigned unbroken words leads first again moving none new end result saves =
-          let same_rec : rec ≡ again.rec = same_Some rec again.rec (sym there ∙ again.way.vacates.drops.there) in
-          let told_then = subst (λ (r : FileRecord). bytes_told p.limits fits.kept r ≡ bytes) same_rec told in
           let may = subst (λ o. IsSomeAnd o (λ (x : FileRecord). MayReplace p slot x (new_file name assigned bytes))) there first in
           let was = file_of s.files name in
           let row = subst (λ bs. first_refusal (instead_checks p slot (moved_from p rec place next name bs)) ≡ None) bytes_are none in
@@ -175,13 +184,12 @@ module _ (old : Stored) (place : List Formula) (name : List ℕ) (slot : ℕ) (r
           (refused_then (moving_checks p place next (text_words text) rec) (instead_checks p slot (moved_from p rec place next name was.bytes)) moving ∙ row) in
           let given : retagged was.assigned (tags_at place) (tags_at next) ≡ assigned =
           ap (λ (f : File). retagged f.assigned (tags_at place) (tags_at next)) (old_is old m s sound fits name slot rec named there) ∙ sym words in
-          let old_name : name ≡ again.rec.name = sym same_name ∙ ap (λ (r : FileRecord). r.name) same_rec in
           after_read old m mid now sound fits same any_moment still (mv now name text) new end result
-          (refiled_changes old q slot name assigned bytes sound unbroken first again place new mid end result (mv now name text) s after
+          (refiled_changes old q slot name assigned bytes rec sound unbroken there first again place new mid end result (mv now name text) s after
           (done
           ∙ (ap₂ (λ ws bs. changed now (file_replaced s name (new_file name ws bs))) given (sym bytes_are)
-          ∙ ap (λ n. changed now (file_replaced s n (new_file name assigned bytes))) old_name))
-          told_then may.assignable saves)
+          ∙ ap (λ n. changed now (file_replaced s n (new_file name assigned bytes))) (sym same_name)))
+          told may.assignable saves)
 
 -- no file of the name is here
 pub moved_nowhere : {T : Type 0} (old : Stored) (m : Meaning) (s : State) (place next : List Formula) (name text : List ℕ) (result : Result T Change) → IsSound old → StoreFits old m s

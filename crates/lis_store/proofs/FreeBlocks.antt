@@ -1,5 +1,5 @@
 -- The blocks that no file takes are those that are free.
-use Rattle.std.proofs.Common.{◌≡◌, refl, sym, ap, ◌∙◌, subst, inl, inr, ℕ, ◌+◌, ◌<◌, ◌==◌, nat_lt, not, ◌&&◌, Bool, true, false, cond, List, [], ◌∷◌, length, map, sum, set, replicate, arith, length-append, length-set, get_or-set_other}
+use Rattle.std.proofs.Common.{◌≡◌, refl, sym, ap, ◌∙◌, subst, inl, inr, ℕ, ◌+◌, ◌<◌, nat_lt, not, ◌&&◌, Bool, true, false, cond, List, [], ◌∷◌, length, map, sum, set, replicate, arith, length-append, length-set, get_or-set_other}
 use Rattle.std.specs.List.{flat_map, list_all}
 use Rattle.std.proofs.lemmas.Bool.{and_parts, and_from, both_ways, lt-ltb, ltb-true, not-true, not_from_false}
 use Rattle.std.proofs.lemmas.List.{length-replicate, get_or-replicate}
@@ -11,15 +11,15 @@ use Rattle.lis_blockmap.specs.Bitmap.{is_taken, free_count}
 use Rattle.lis_content.specs.Content.{marked, has_number, are_distinct, are_free}
 use Rattle.lis_catalog.specs.Catalog.{Filed}
 use Rattle.lis_model.specs.declared.limits.Limits.{Limits}
-use Rattle.lis_model.specs.State.{State, File, blocks_needed, blocks_taken, used_blocks}
+use Rattle.lis_model.specs.State.{State, File, blocks_taken, used_blocks}
 use Rattle.lis_laws.proofs.Counts.{all_among, all_from}
-use Rattle.lis_kept.specs.Telling.{file_told, state_of, Tells}
+use Rattle.lis_kept.specs.Telling.{blocks_told, file_told, state_of, Tells}
 use Rattle.lis_kept.proofs.Filing.{same_tests, among_from_number, number_from_among}
 use Rattle.lis_store.specs.Stored.{Stored, IsSound, StoreFits}
-use Rattle.lis_store.proofs.Facts.{limits_told, files_told, blocks_counted, size_of_filed}
+use Rattle.lis_store.proofs.Facts.{limits_told, files_told, size_of_filed}
+use Rattle.lis_store.proofs.FileBlocks.{told_counted}
 use Rattle.lis_store.proofs.Marks.{marks_are}
 use Rattle.lis_store.proofs.Spelled.{used, used_once, told_below}
-use Rattle.lis_store.proofs.Limits.{limits_of_version_1}
 
 -- ---- blocks that are taken are free no more
 one_fewer : (taken : List Bool) (n : ℕ) → n < length taken → is_taken taken n ≡ false → free_count (set taken n true) + 1 ≡ free_count taken
@@ -50,7 +50,7 @@ module _ (k : Stored) (m : Meaning) (s : State) (sound : IsSound k) (fits : Stor
   told = file_told k.parts.limits k.parts.dict fits.kept
 
   abbrev taken_blocks : List ℕ
-  taken_blocks = used k.parts sound.parts
+  taken_blocks = used k.parts sound.parts fits.kept
 
   tells_itself : Tells k.parts fits.kept (state_of k.parts fits.kept)
   tells_itself = subst (λ (x : State). Tells k.parts fits.kept x) (sym fits.tells.state) fits.tells
@@ -62,18 +62,19 @@ module _ (k : Stored) (m : Meaning) (s : State) (sound : IsSound k) (fits : Stor
   below = told_below k.parts fits.kept sound.parts sound.free sound.pairs fits.written tells_itself
 
   -- ---- how many blocks files take
-  pub version_told : s.limits.version ≡ 1
-  version_told =
-      ap (λ (l : Limits). l.version) (sym (limits_told k.parts fits.kept s sound.parts sound.free fits.tells))
-      ∙ limits_of_version_1 k.parts.limits sound.range
+  abbrev blocks_of : Filed → List ℕ
+  blocks_of f = blocks_told k.parts.limits fits.kept f.rec
 
-  one_takes : (f : Filed) → Among k.parts.catalog.entries f → blocks_taken s.limits.version (length (told f).bytes) ≡ length f.rec.blocks
+  pub version_told : s.limits.version ≡ k.parts.limits.version
+  version_told = ap (λ (l : Limits). l.version) (sym (limits_told k.parts fits.kept s sound.parts sound.free fits.tells))
+
+  one_takes : (f : Filed) → Among k.parts.catalog.entries f → blocks_taken s.limits.version (length (told f).bytes) ≡ length (blocks_of f)
   one_takes f there =
       ap (λ v. blocks_taken v (length (told f).bytes)) version_told
-      ∙ (ap blocks_needed (size_of_filed k m s sound fits f there) ∙ sym (blocks_counted k.parts sound.parts (limits_of_version_1 k.parts.limits sound.range) f there))
+      ∙ (ap (blocks_taken k.parts.limits.version) (size_of_filed k m s sound fits f there) ∙ sym (told_counted k.parts sound.parts f there fits.kept))
 
   all_take : (fs : List Filed) → ((f : Filed) → Among fs f → Among k.parts.catalog.entries f)
-      → sum (map (λ (file : File). blocks_taken s.limits.version (length file.bytes)) (map told fs)) ≡ length (flat_map (λ (f : Filed). f.rec.blocks) fs)
+      → sum (map (λ (file : File). blocks_taken s.limits.version (length file.bytes)) (map told fs)) ≡ length (flat_map blocks_of fs)
   all_take [] there = refl
   all_take (f ∷ fs) there =
       let taken : File → ℕ = λ file. blocks_taken s.limits.version (length file.bytes) in
@@ -82,7 +83,7 @@ module _ (k : Stored) (m : Meaning) (s : State) (sound : IsSound k) (fits : Stor
         sum_by-cons (λ (n : ℕ). n) (taken (told f)) (map taken (map told fs)),
         one_takes f (there f (inl refl)),
         all_take fs (λ g of. there g (inr of)),
-        length-append f.rec.blocks (flat_map (λ (g : Filed). g.rec.blocks) fs),
+        length-append (blocks_of f) (flat_map blocks_of fs),
       )
 
   used_counted : used_blocks s ≡ length taken_blocks
@@ -97,10 +98,10 @@ module _ (k : Stored) (m : Meaning) (s : State) (sound : IsSound k) (fits : Stor
       (λ taken.
       let of = fits.tells.taken n lt taken in
       number_from_among taken_blocks n
-      (flat_map_among (λ (f : Filed). f.rec.blocks) k.parts.catalog.entries of.file n (among_from_contains k.parts.catalog.entries of.file of.kept) (among_from_number (of.file).rec.blocks n of.has)))
+      (flat_map_among blocks_of k.parts.catalog.entries of.file n (among_from_contains k.parts.catalog.entries of.file of.kept) (among_from_number (blocks_of of.file) n of.has)))
       (λ has_it.
-      let found = among_flat_map (λ (f : Filed). f.rec.blocks) k.parts.catalog.entries n (among_from_number taken_blocks n has_it) in
-      (fits.tells.given found.0 (contains_from_among k.parts.catalog.entries found.0 found.1) n (number_from_among (found.0).rec.blocks n found.2)).1))
+      let found = among_flat_map blocks_of k.parts.catalog.entries n (among_from_number taken_blocks n has_it) in
+      (fits.tells.given found.0 (contains_from_among k.parts.catalog.entries found.0 found.1) n (number_from_among (blocks_of found.0) n found.2)).1))
 
   free_before : are_free (replicate k.parts.limits.blocks false) taken_blocks ≡ true
   free_before = all_from (λ n. nat_lt n (length (replicate k.parts.limits.blocks false)) && not (is_taken (replicate k.parts.limits.blocks false) n)) taken_blocks (λ n there.

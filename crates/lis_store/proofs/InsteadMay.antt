@@ -1,16 +1,15 @@
 -- Where a row refuses nothing, a file may come into the place of another.
-use Rattle.std.proofs.Common.{◌≡◌, sym, ap, subst, ℕ, ◌+◌, ◌≤◌, ◌==◌, nat_lt, nat_le, true, ◌&&◌, is_some, option_to_list, Some, None, List, length, arith, eqb-true}
+use Rattle.std.proofs.Common.{◌≡◌, sym, ap, subst, ℕ, ◌≤◌, true, option_to_list, Some, None, List, length, arith}
 use Rattle.std.specs.List.{flat_map, list_all}
 use Rattle.std.proofs.lemmas.Bool.{ltb-false, not-false}
 use Rattle.lis_graph.specs.Graph.{is_rising}
 use Rattle.lis_graph.proofs.Members.{Among}
-use Rattle.lis_blockmap.specs.Bitmap.{free_count}
 use Rattle.lis_catalog.specs.Catalog.{Filed, slot_of, rec_at}
 use Rattle.lis_dict.specs.Dict.{word_of}
 use Rattle.lis_fields.specs.Records.{FileRecord}
 use Rattle.lis_grammar.specs.Formula.{Formula}
 use Rattle.lis_words.specs.Words.{word_cmp, is_file_name}
-use Rattle.lis_model.specs.State.{State, File, is_assignable, file_limit, blocks_needed, blocks_taken}
+use Rattle.lis_model.specs.State.{State, File, is_assignable, file_limit}
 use Rattle.lis_laws.proofs.Members.{word_order, sorted_set_of}
 use Rattle.lis_laws.proofs.Counts.{all_among, rising_from_sorted}
 use Rattle.lis_kept.specs.Kept.{Kept}
@@ -22,11 +21,10 @@ use Rattle.lis_store.specs.Changes.{first_refusal}
 use Rattle.lis_store.specs.Instead.{given_before, write_checks_of, rename_checks_of}
 use Rattle.lis_store.specs.Replacing.{known_instead, MayReplace}
 use Rattle.lis_store.proofs.Admitted.{none_there}
-use Rattle.lis_store.proofs.Facts.{file_of_filed, blocks_counted, size_is_short}
+use Rattle.lis_store.proofs.Facts.{file_of_filed}
 use Rattle.lis_store.proofs.InsteadGiven.{told_few}
 use Rattle.lis_store.proofs.Judged.{all_pass}
-use Rattle.lis_store.proofs.Limits.{limits_of_version_1}
-use Rattle.lis_fields.proofs.Parts.{few_tags}
+use Rattle.lis_fields.proofs.Parts.{few_tags, size_fits}
 use Rattle.lis_kept.proofs.Dropped.{record_in_form}
 
 module _ (k : Stored) (sound : IsSound k) (slot : ℕ) (rec : FileRecord) (is_rec : rec_at k.parts.catalog slot ≡ Some rec) where
@@ -60,7 +58,7 @@ module _ (k : Stored) (sound : IsSound k) (slot : ℕ) (rec : FileRecord) (is_re
 
   module _ (place : List Formula) where
     -- ---- other bytes
-    pub write_may : (name bytes : List ℕ) (size : ℕ) → rec.name ≡ name → is_file_name name ≡ true → (size ≤ 65536 → length bytes ≡ size)
+    pub write_may : (name bytes : List ℕ) (size : ℕ) → rec.name ≡ name → is_file_name name ≡ true → (size ≤ 1048576 → length bytes ≡ size)
         → first_refusal (write_checks_of p place name slot rec (given_before p rec name bytes) size) ≡ None → MayReplace p slot rec (given_before p rec name bytes)
     write_may name bytes size named form whole none =
         let file = given_before p rec name bytes in
@@ -69,12 +67,7 @@ module _ (k : Stored) (sound : IsSound k) (slot : ℕ) (rec : FileRecord) (is_re
         let words = here.1 in
         let short = words.1 in
         let room = short.1 in
-        let blocks = room.1 in
-        let version : p.limits.version ≡ 1 = limits_of_version_1 p.limits sound.range in
-        let limit = ltb-false (file_limit p.limits.version) size row.0 in
-        let small : size ≤ 65536 = omega (arith, limit, ap file_limit version) in
-        let long = whole small in
-        let free = ltb-false (free_count p.taken + length rec.blocks) (blocks_taken p.limits.version size) blocks.0 in
+        let small = ltb-false (file_limit p.limits.version) size row.0 in
         record {
           there = is_rec;
           name = form;
@@ -84,8 +77,7 @@ module _ (k : Stored) (sound : IsSound k) (slot : ℕ) (rec : FileRecord) (is_re
           few = given_few;
           short = ltb-false 128 (length (described_by p file)) short.0;
           room = ltb-false p.limits.props (length (known_instead p slot file)) room.0;
-          small = omega (arith, long, small);
-          blocks = omega (arith, free, ap blocks_needed long, ap (λ v. blocks_taken v size) version);
+          small = omega (arith, whole (size_fits p.limits.version size small), small);
         }
 
     -- ---- another name
@@ -107,6 +99,5 @@ module _ (k : Stored) (sound : IsSound k) (slot : ℕ) (rec : FileRecord) (is_re
           few = given_few;
           short = ltb-false 128 (length (described_by p file)) short.0;
           room = ltb-false p.limits.props (length (known_instead p slot file)) room.0;
-          small = omega (arith, sized, size_is_short p sound.parts (limits_of_version_1 p.limits sound.range) filed there);
-          blocks = omega (arith, sized, blocks_counted p sound.parts (limits_of_version_1 p.limits sound.range) filed there);
+          small = omega (arith, sized, (record_in_form p.limits.version p.dict p.limits.blocks rec (sound.parts.records slot rec is_rec)).small);
         }

@@ -1,18 +1,20 @@
 -- The rows of `write` and `rename`, told by what a store keeps, are the rows of the state.
-use Rattle.std.proofs.Common.{◌≡◌, ◌⊎◌, refl, sym, ap, ap₂, ◌∙◌, inl, inr, ℕ, ◌+◌, ◌==◌, nat_lt, nat_le, Bool, true, false, not, cond, Some, None, List, [], ◌∷◌, ◌++◌, length, arith}
+use Rattle.std.proofs.Common.{◌≡◌, ◌⊎◌, refl, sym, ap, ap₂, ◌∙◌, inl, inr, ℕ, ◌+◌, ◌==◌, nat_lt, nat_le, Bool, true, false, not, cond, Some, None, List, [], ◌∷◌, ◌++◌, length, filter, arith}
 use Rattle.std.specs.List.{list_any}
-use Rattle.std.proofs.lemmas.Bool.{leb-true, ltb-true, not-false}
+use Rattle.std.proofs.lemmas.Bool.{cond-false, leb-true, ltb-true, not-false}
 use Rattle.lis_ports.specs.Meaning.{Meaning}
-use Rattle.lis_blockmap.specs.Bitmap.{free_count}
+use Rattle.lis_blockmap.specs.Bitmap.{free_count, is_taken}
+use Rattle.lis_content.proofs.Indexes.{small_blocks, small_size}
 use Rattle.lis_catalog.specs.Catalog.{Filed, slot_of, rec_at}
 use Rattle.lis_fields.specs.Records.{FileRecord}
-use Rattle.lis_graph.proofs.Members.{Among, among_from_any, any_from_among, among_insert_key, among_filter}
+use Rattle.lis_graph.proofs.Members.{Among, contains_from_among, among_from_any, any_from_among, among_insert_key, among_filter}
 use Rattle.lis_grammar.specs.Formula.{Formula}
 use Rattle.lis_words.specs.Words.{same_word}
 use Rattle.lis_model.specs.declared.limits.Limits.{Limits}
 use Rattle.lis_model.specs.declared.refusal.Refusal.{Refusal}
 use Rattle.lis_model.specs.declared.refusal.Refusal.TheVariants.{UnknownProperty, NameTaken, NoFileHere, LargeFile, NoSpace}
-use Rattle.lis_model.specs.State.{State, File, description, known, file_cmp, file_limit, blocks_needed, blocks_taken}
+use Rattle.lis_model.specs.Image.{data_start}
+use Rattle.lis_model.specs.State.{State, File, description, known, file_cmp, file_limit, blocks_taken}
 use Rattle.lis_model.specs.Changes.{has_name, file_of, new_file, file_removed, file_replaced}
 use Rattle.lis_model.specs.Table.{Table, Entry}
 use Rattle.lis_model.specs.Listing.{extension}
@@ -20,20 +22,23 @@ use Rattle.lis_model.specs.Step.{Situation, Payload, refused, changed, exceeds_w
 use Rattle.lis_laws.proofs.Counts.{all_among}
 use Rattle.lis_laws.proofs.Named.{file_there, file_of_name, gone_free, still_free}
 use Rattle.lis_kept.specs.Kept.{Kept}
-use Rattle.lis_kept.specs.Telling.{words_told, bytes_told}
-use Rattle.lis_kept.proofs.Filing.{same_tests, filed_at_slot}
+use Rattle.lis_kept.specs.Telling.{words_told, bytes_told, blocks_told}
+use Rattle.lis_kept.proofs.Contents.{slot_blocks_told}
+use Rattle.lis_kept.proofs.Dropped.{record_in_form}
+use Rattle.lis_kept.proofs.Filing.{same_tests, filed_at_slot, number_from_among}
 use Rattle.lis_store.specs.Stored.{Stored, IsSound, StoreFits}
 use Rattle.lis_store.specs.Admitting.{described_by}
 use Rattle.lis_store.specs.Changes.{first_refusal}
 use Rattle.lis_store.specs.Judging.{is_among}
 use Rattle.lis_store.specs.Replacing.{known_instead}
-use Rattle.lis_store.specs.Instead.{given_before, write_checks_of, rename_checks_of}
-use Rattle.lis_store.proofs.Facts.{limits_told, name_filed, file_in_slot, blocks_counted, size_of_filed, table_told}
+use Rattle.lis_store.specs.Instead.{given_before, free_instead, write_checks_of, rename_checks_of}
+use Rattle.lis_store.proofs.Facts.{limits_told, name_filed, file_in_slot, size_of_filed, table_told}
+use Rattle.lis_store.proofs.FileBlocks.{told_counted}
+use Rattle.lis_store.proofs.FreeAgain.{all_pass_filter}
 use Rattle.lis_store.proofs.FreeBlocks.{used_told, version_told}
 use Rattle.lis_store.proofs.InsteadMay.{given_assignable}
 use Rattle.lis_store.proofs.InsteadKnown.{described_are, known_replaced}
 use Rattle.lis_store.proofs.Judged.{same_first, judged_refused, judged_done}
-use Rattle.lis_store.proofs.Limits.{limits_of_version_1}
 
 -- ---- a file in the place of another
 module _ (k : Stored) (m : Meaning) (s : State) (sound : IsSound k) (fits : StoreFits k m s) (name : List ℕ) (slot : ℕ) (rec : FileRecord)
@@ -81,11 +86,9 @@ module _ (k : Stored) (m : Meaning) (s : State) (sound : IsSound k) (fits : Stor
   room_told file new =
       ap₂ (λ props ws. nat_lt props (length ws)) props_told (known_replaced p fits.kept s sound.parts sound.free fits.tells name slot rec is_slot is_rec file new)
 
-  -- the blocks that are free, and those that the file has
-  pub blocks_told : free_count p.taken + length rec.blocks ≡ blocks_for s (file_of s.files name)
-  blocks_told =
-      sum
-      ∙ sym (ap (λ v. cond (v == 2) (free_blocks s) (free_blocks s + blocks_taken v (length (file_of s.files name).bytes))) (version_told k m s sound fits))
+  -- how many blocks are free for other bytes
+  pub free_told : free_instead p rec ≡ blocks_for s (file_of s.files name)
+  free_told = by (p.limits.version == 2) refl ∙ sym (ap (λ v. cond (v == 2) (free_blocks s) (free_blocks s + blocks_taken v (length old.bytes))) version)
     where
       f : Filed
       f = record { slot = slot; rec = rec }
@@ -93,13 +96,33 @@ module _ (k : Stored) (m : Meaning) (s : State) (sound : IsSound k) (fits : Stor
       there : Among p.catalog.entries f
       there = filed_at_slot p.catalog sound.parts.catalog slot rec is_rec
 
-      taken : length rec.blocks ≡ blocks_needed (length (file_of s.files name).bytes)
-      taken =
-          blocks_counted p sound.parts (limits_of_version_1 p.limits sound.range) f there
-          ∙ ap blocks_needed (sym (ap (λ (x : File). length x.bytes) old_is ∙ size_of_filed k m s sound fits f there))
+      old : File
+      old = file_of s.files name
 
-      sum : free_count p.taken + length rec.blocks ≡ free_blocks s + blocks_needed (length (file_of s.files name).bytes)
-      sum = omega (arith, used_told k m s sound fits, taken)
+      version : s.limits.version ≡ p.limits.version
+      version = version_told k m s sound fits
+
+      free : free_count p.taken ≡ free_blocks s
+      free = omega (arith, used_told k m s sound fits)
+
+      size : length old.bytes ≡ rec.size
+      size = ap (λ (x : File). length x.bytes) old_is ∙ size_of_filed k m s sound fits f there
+
+      -- in version 1 the slot numbers all blocks of the file, and they are taken
+      taken : (p.limits.version == 2) ≡ false → length (filter (is_taken p.taken) rec.blocks) ≡ blocks_taken p.limits.version (length old.bytes)
+      taken one =
+          let short = (record_in_form p.limits.version p.dict p.limits.blocks rec (sound.parts.records slot rec is_rec)).small in
+          let small = small_size rec.size (omega (arith, short, cond-false {A = ℕ} (p.limits.version == 2) 1048576 65536 one)) in
+          ap length (all_pass_filter (is_taken p.taken) rec.blocks (λ b of.
+          (fits.tells.given f (contains_from_among p.catalog.entries f there) b (number_from_among (blocks_told p.limits fits.kept rec) b (slot_blocks_told p.limits fits.kept rec b of))).1))
+          ∙ (ap length (sym (small_blocks (data_start p.limits) rec.blocks rec.size fits.kept small))
+          ∙ (told_counted p sound.parts f there fits.kept ∙ ap (blocks_taken p.limits.version) (sym size)))
+
+      by : (two : Bool) → (p.limits.version == 2) ≡ two
+          → cond two (free_count p.taken) (free_count p.taken + length (filter (is_taken p.taken) rec.blocks))
+          ≡ cond two (free_blocks s) (free_blocks s + blocks_taken p.limits.version (length old.bytes))
+      by true is = free
+      by false is = omega (arith, free, taken is)
 
 -- ---- the rows
 module _ (k : Stored) (m : Meaning) (s : State) (sound : IsSound k) (fits : StoreFits k m s) (place : List Formula) (name : List ℕ) (slot : ℕ) (rec : FileRecord)
@@ -152,7 +175,7 @@ module _ (k : Stored) (m : Meaning) (s : State) (sound : IsSound k) (fits : Stor
                 room_told k m s sound fits name slot rec at.0 at.1 (given_before kept rec name bytes) (gone_free s name) ∙ ap exceeds_known (made at),
                 λ room. (
                   refl,
-                  ap₂ nat_lt (blocks_told k m s sound fits name slot rec at.0 at.1) (ap (λ v. blocks_taken v size) version_is),
+                  ap₂ nat_lt (free_told k m s sound fits name slot rec at.0 at.1) (ap (λ v. blocks_taken v size) version_is),
                   λ blocks. tt,
                 ),
               ),

@@ -25,7 +25,7 @@ use Rattle.lis_store.proofs.Vacated.{vacated, name_vacant, used_or_here, used_el
 
 module _ (p v : Kept) (slot : ℕ) (rec : FileRecord) (form : AreInForm p) (out : Vacates slot rec p v) where
   abbrev d : Kept
-  d = vacated p slot rec
+  d = vacated p slot
 
   pub went : ForgetsWithout slot (numbers_at p.ext slot) d v
   went = subst (λ (k : Kept). ForgetsWithout slot (numbers_at p.ext slot) k v) out.drops.parts out.forgets

@@ -1,8 +1,9 @@
-pub mod Limits
+pub mod Elsewhere
 pub mod SlotOrder
 pub mod Points
 pub mod Marks
 pub mod Spelled
+pub mod FileBlocks
 pub mod OneState
 pub mod Standing
 pub mod Empty
@@ -12,6 +13,7 @@ pub mod Entailment
 pub mod FileTests
 pub mod Viewing
 pub mod Saved
+pub mod SavedAlone
 pub mod Judged
 pub mod Cleaned
 pub mod Told
@@ -44,6 +46,8 @@ pub mod Gathered
 pub mod MetTests
 pub mod Measured
 pub mod Admitted
+pub mod Steps
+pub mod RemoveFile
 pub mod AddFile
 pub mod Sizes
 pub mod Counted
@@ -68,6 +72,10 @@ pub mod Unaxiom
 pub mod Forgot
 pub mod Vacated
 pub mod Left
+pub mod FreeAgain
+pub mod Housed
+pub mod Renewed
+pub mod ReadBack
 pub mod Replaced
 pub mod ReplacingIn
 pub mod ReplacedTells

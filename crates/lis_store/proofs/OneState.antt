@@ -10,7 +10,6 @@ use Rattle.lis_model.specs.Image.{image_blocks}
 use Rattle.lis_model.specs.State.{State}
 use Rattle.lis_kept.specs.Areas.{property_slots, axiom_slots, file_slots}
 use Rattle.lis_store.specs.Stands.{Contents, AreSlots, spelled_state, Spells, Stands}
-use Rattle.lis_store.proofs.Limits.{limits_in_range}
 
 -- two lists of one length with the same value in each place
 same_lists : {X : Type 0} (xs ys : List X) → length xs ≡ length ys → ((k : ℕ) (x y : X) → slice_get xs k ≡ Some x → slice_get ys k ≡ Some y → x ≡ y) → xs ≡ ys
@@ -46,7 +45,7 @@ one_replay a b e = cc
 pub one_state : (image : List ℕ) (s t : State) → Stands image s → Stands image t → s ≡ t
 unfolding Stands
 one_state image s t stands_s stands_t =
-    let limits = super_once s.limits t.limits (part 0 4096 image) (limits_in_range s.limits stands_s.range) (limits_in_range t.limits stands_t.range) stands_s.super stands_t.super in
+    let limits = super_once s.limits t.limits (part 0 4096 image) stands_s.range stands_t.range stands_s.super stands_t.super in
     let replay = one_replay stands_s.replay stands_t.replay (sym stands_s.replays ∙ (ap (λ (l : Limits). replayed (image_blocks l) image) limits ∙ stands_t.replays)) in
     let moved = subst (λ (r : List ℕ). Spells t.limits stands_t.contents (λ n. block n r) t) (sym replay) stands_t.spells in
     let there = subst (λ (l : Limits). Spells l stands_t.contents (λ n. block n stands_s.replay) t) (sym limits) moved in

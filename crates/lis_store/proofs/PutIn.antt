@@ -11,12 +11,13 @@ use Rattle.std.proofs.lemmas.Map.Keys.{IsStrictlyIncreasing-from_sorted}
 use Rattle.lis_graph.specs.Graph.{is_rising}
 use Rattle.lis_graph.proofs.Members.{Among, among_filter, among_append, among_left, among_flat_map, flat_map_among}
 use Rattle.lis_graph.proofs.Sets.{members_le, sorted_from_rising}
-use Rattle.lis_journal.specs.Journal.{Held}
 use Rattle.lis_catalog.specs.Catalog.{rec_at}
 use Rattle.lis_dict.specs.Dict.{words, number_of, word_of}
 use Rattle.lis_ext.specs.Ext.{Ext, set_of as numbers_at}
 use Rattle.lis_content.specs.Content.{has_number}
-use Rattle.lis_fields.specs.Layouts.{are_short, are_tags}
+use Rattle.lis_fields.specs.Records.{FileRecord}
+use Rattle.lis_fields.specs.Layouts.{are_short, are_tags, are_blocks, is_record}
+use Rattle.lis_fields.proofs.Parts.{record_from}
 use Rattle.lis_words.specs.Words.{word_cmp, has_word, is_plain_word, is_valued, is_head, is_built_in, built_in_heads, head_bytes}
 use Rattle.lis_model.specs.Sets.{with_word, with_words}
 use Rattle.lis_model.specs.Derived.{derived_words}
@@ -29,8 +30,8 @@ use Rattle.lis_laws.proofs.Counts.{all_among, all_from, all_weaker, rising_from_
 use Rattle.lis_laws.proofs.Derived.{derived_built_in}
 use Rattle.lis_laws.proofs.Members.{word_order, among_with_words, with_words_old, with_words_new, sorted_with_words, among_from_has_word, set_of_among}
 use Rattle.lis_kept.specs.Kept.{Kept}
-use Rattle.lis_kept.specs.Changes.{Adds}
-use Rattle.lis_kept.specs.Sound.{AreSound, FreeSlotsAreEmpty}
+use Rattle.lis_kept.specs.Changes.{Files}
+use Rattle.lis_kept.specs.Sound.{AreSound, FreeSlotsAreEmpty, is_sound_record}
 use Rattle.lis_kept.specs.Telling.{is_declared, declared_of, axioms_of}
 use Rattle.lis_kept.proofs.Filing.{number_from_among}
 use Rattle.lis_ext.proofs.Numbers.{among_where, sorted_where}
@@ -192,14 +193,28 @@ module _ (r : Kept) (sound : AreSound r) (words : List (List ℕ)) where
       all_from (λ n. is_some (word_of r.dict n)) (numbers_named r.dict words) (λ n m.
       ap is_some (one_of words (word_of r.dict n) (named_one r.dict sound.dict words n m)).1)
 
+-- ---- its record
+module _ (p r : Kept) (name : List ℕ) (assigned : List (List ℕ)) (bytes blocks : List ℕ) (admitted : IsAdmitted p (new_file name assigned bytes)) (sound : AreSound r)
+    (learns : LearnsAll (with_heads (learnt_words (new_file name assigned bytes))) p r) (formed : are_blocks p.limits.version (length bytes) blocks ≡ true)
+    (below : list_all (λ n. nat_lt n p.limits.blocks) blocks ≡ true) where
+  abbrev rec : FileRecord
+  rec = record { name = name; size = length bytes; tags = numbers_named r.dict assigned; blocks = blocks }
+
+  pub record_sound : is_sound_record r.limits.version r.dict r.limits.blocks rec ≡ true
+  record_sound =
+      and_from (is_record r.limits.version rec && list_all (λ n. is_some (word_of r.dict n)) rec.tags) (list_all (λ n. nat_lt n r.limits.blocks) blocks)
+      (and_from (is_record r.limits.version rec) (list_all (λ n. is_some (word_of r.dict n)) rec.tags)
+      (ap (λ (k : Kept). is_record k.limits.version rec) learns.parts ∙ record_from p.limits.version rec admitted.name admitted.small (named_tags r sound assigned admitted.few) formed)
+      (named_worded r sound assigned))
+      (ap (λ (k : Kept). list_all (λ n. nat_lt n k.limits.blocks) blocks) learns.parts ∙ below)
+
 -- a slot without numbers has the empty set
 pub none_has : (ns : List ℕ) → ((n : ℕ) → has_number ns n ≡ false) → ns ≡ []
 none_has [] none = refl
 none_has (n ∷ ns) none = absurd (both_ways (has_number (n ∷ ns) n) (none n) (number_from_among (n ∷ ns) n (inl refl)))
 
-pub slot_was_empty : (p r q : Kept) (more : List (List ℕ)) (name tags bytes : List ℕ) (slot : ℕ) (old new : Held) → FreeSlotsAreEmpty p → LearnsAll more p r → Adds name tags bytes slot r q old new
-    → numbers_at q.ext slot ≡ []
-slot_was_empty p r q more name tags bytes slot old new free learns adds =
-    let there : rec_at p.catalog slot ≡ None = ap (λ (k : Kept). rec_at k.catalog slot) (sym learns.parts) ∙ adds.free in
-    let same : q.ext ≡ p.ext = ap (λ (k : Kept). k.ext) adds.parts ∙ ap (λ (k : Kept). k.ext) learns.parts in
+pub slot_was_empty : (p r q : Kept) (more : List (List ℕ)) (slot : ℕ) (filed : FileRecord) → FreeSlotsAreEmpty p → LearnsAll more p r → Files slot filed r q → numbers_at q.ext slot ≡ []
+slot_was_empty p r q more slot filed free learns files =
+    let there : rec_at p.catalog slot ≡ None = ap (λ (k : Kept). rec_at k.catalog slot) (sym learns.parts) ∙ files.free in
+    let same : q.ext ≡ p.ext = ap (λ (k : Kept). k.ext) files.parts ∙ ap (λ (k : Kept). k.ext) learns.parts in
     ap (λ (e : Ext). numbers_at e slot) same ∙ none_has (numbers_at p.ext slot) (free slot there)

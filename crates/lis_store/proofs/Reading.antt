@@ -1,22 +1,30 @@
 -- One block of a file's bytes.
-use Rattle.std.proofs.Common.{◌≡◌, ◌⊎◌, refl, sym, ap, ap₂, ◌∙◌, subst, inl, inr, ℕ, zero, suc, ◌+◌, ◌-◌, ◌*◌, ◌<◌, ◌≤◌, List, [], ◌∷◌, ◌++◌, length, get_or, take, drop, Option, Some, IsSomeAnd, arith}
+use Rattle.std.proofs.Common.{◌≡◌, ◌⊎◌, refl, sym, ap, ap₂, ◌∙◌, subst, inl, inr, ℕ, zero, suc, ◌+◌, ◌-◌, ◌*◌, ◌<◌, ◌≤◌, List, [], ◌∷◌, ◌++◌, length, get_or, take, drop, replicate, slice_index, nat_lt, true, Option, Some, IsSomeAnd, arith}
 use Rattle.std.specs.List.{flat_map}
-use Rattle.std.proofs.lemmas.Bool.{cases_lt}
+use Rattle.std.proofs.lemmas.Bool.{cases_lt, cond-true, lt-ltb}
 use Rattle.std.proofs.lemmas.List.{take_all, take_at, take-take, take-append-le, length-take-le, drop-drop, drop_at, drop-take}
 use Rattle.lis_ports.specs.Meaning.{Meaning}
 use Rattle.lis_ports.specs.Bytes.{part}
-use Rattle.lis_journal.specs.Images.{Fits, look}
+use Rattle.lis_journal.specs.Images.{Fits}
+use Rattle.lis_journal.specs.Phases.{looked}
+use Rattle.lis_journal.specs.Record.{Entry}
+use Rattle.lis_content.specs.Content.{are_within}
+use Rattle.lis_content.specs.Large.{slot_count, content_blocks, block_within}
 use Rattle.lis_graph.proofs.Members.{Among}
 use Rattle.lis_fields.specs.Records.{FileRecord}
-use Rattle.lis_catalog.specs.Catalog.{slot_of, rec_at}
+use Rattle.lis_fields.proofs.Parts.{size_fits}
+use Rattle.lis_catalog.specs.Catalog.{Filed, slot_of, rec_at}
 use Rattle.lis_model.specs.Image.{data_start}
-use Rattle.lis_model.specs.State.{State, File}
+use Rattle.lis_model.specs.State.{State, File, blocks_needed}
 use Rattle.lis_model.specs.Changes.{file_of}
 use Rattle.lis_kept.specs.Telling.{bytes_told}
+use Rattle.lis_kept.proofs.BlocksTaken.{slot_within}
 use Rattle.lis_kept.proofs.Filing.{filed_at_slot}
 use Rattle.lis_store.specs.Stored.{Stored, IsSound, StoreFits}
-use Rattle.lis_store.proofs.Facts.{blocks_counted, block_below, file_in_slot, block_is_whole}
-use Rattle.lis_store.proofs.Limits.{limits_of_version_1}
+use Rattle.lis_store.proofs.Elsewhere.{numbers_counted}
+use Rattle.lis_store.proofs.FileBlocks.{content_told, content_among, content_counted}
+use Rattle.lis_store.proofs.Facts.{file_in_slot, block_is_whole, told_below}
+use Rattle.lis_store.proofs.Spelled.{sound_parts}
 
 among_get : {X : Type 0} (xs : List X) (n : ℕ) (d : X) → n < length xs → Among xs (get_or xs n d)
 among_get [] n d lt = absurd (omega arith)
@@ -59,58 +67,82 @@ module _ {X : Type 0} (w : ℕ) (at : X → List ℕ) where
       (front_of left (at (get_or xs n d)) (flat_map at (drop (suc n) xs)) (whole (get_or xs n d) (among_get xs n d lt)))
 
 -- ---- the n-th block of a file
--- a slot's record has these blocks, of which the n-th has some of the file's bytes
-pub record HasBlock (k : Stored) (slot n : ℕ) (rec : FileRecord) (ns : List ℕ) : Type 0 where
+-- a slot has this record, with these numbers of blocks and this size, and its file has bytes in an n-th block
+pub record HasBlock (k : Stored) (slot n : ℕ) (rec : FileRecord) (ns : List ℕ) (size : ℕ) : Type 0 where
   pub sound : IsSound k
   pub is_rec : rec_at k.parts.catalog slot ≡ Some rec
   pub within : 4096 * n < rec.size
   pub numbers : ns ≡ rec.blocks
+  pub sized : size ≡ rec.size
 
 pub has_block : (k : Stored) (slot n : ℕ) (rec inside : FileRecord) (ns : List ℕ) → IsSound k → rec_at k.parts.catalog slot ≡ Some rec
-    → IsSomeAnd (rec_at k.parts.catalog slot) (λ (r : FileRecord). 4096 * n < r.size) → inside ≡ rec → ns ≡ inside.blocks → HasBlock k slot n rec ns
+    → IsSomeAnd (rec_at k.parts.catalog slot) (λ (r : FileRecord). 4096 * n < r.size) → inside ≡ rec → ns ≡ inside.blocks → HasBlock k slot n rec ns inside.size
 has_block k slot n rec inside ns sound is_rec within is_it numbers = record {
   sound = sound;
   is_rec = is_rec;
   within = subst (λ (o : Option FileRecord). IsSomeAnd o (λ (r : FileRecord). 4096 * n < r.size)) is_rec within;
   numbers = numbers ∙ ap (λ (r : FileRecord). r.blocks) is_it;
+  sized = ap (λ (r : FileRecord). r.size) is_it;
 }
 
-module _ (k : Stored) (slot n : ℕ) (rec : FileRecord) (ns : List ℕ) (has : HasBlock k slot n rec ns) where
-  there : Among k.parts.catalog.entries (record { slot = slot; rec = rec })
+module _ (k : Stored) (slot n : ℕ) (rec : FileRecord) (ns : List ℕ) (size : ℕ) (has : HasBlock k slot n rec ns size) where
+  abbrev filed : Filed
+  filed = record { slot = slot; rec = rec }
+
+  there : Among k.parts.catalog.entries filed
   there = filed_at_slot k.parts.catalog has.sound.parts.catalog slot rec has.is_rec
 
-  in_record : n < length rec.blocks
-  in_record = let counted = blocks_counted k.parts has.sound.parts (limits_of_version_1 k.parts.limits has.sound.range) (record { slot = slot; rec = rec }) there in let within = has.within in omega (arith, counted)
+  pub block_few : size ≤ 1048576
+  block_few = omega (arith, has.sized, size_fits k.parts.limits.version rec.size (sound_parts k.parts has.sound.parts filed there).short)
 
-  number_is : (number : ℕ) → number ≡ get_or ns n 0 → number ≡ get_or rec.blocks n 0
-  number_is number is = is ∙ ap (λ ms. get_or ms n 0) has.numbers
+  pub block_counted : length ns ≡ slot_count size
+  block_counted = ap length has.numbers ∙ (numbers_counted k.parts has.sound.parts filed there ∙ ap slot_count (sym has.sized))
 
-  below : (b : ℕ) → Among rec.blocks b → b < k.parts.limits.blocks
-  below b among = block_below k.parts has.sound.parts (record { slot = slot; rec = rec }) there b among
+  pub block_within_slot : (base : ℕ) → base ≡ data_start k.parts.limits → are_within base k.journal.blocks ns ≡ true
+  block_within_slot base is_base = slot_within k.parts rec base k.journal.blocks ns (has.sound.parts.records slot rec has.is_rec) is_base has.sound.image has.numbers
 
-  pub block_there : n < length ns
-  block_there = subst (λ ms. n < length ms) (sym has.numbers) in_record
+  pub block_inside : n < blocks_needed size
+  block_inside = let within = has.within in omega (arith, within, has.sized)
 
-  pub block_within : (base number : ℕ) → base ≡ data_start k.parts.limits → number ≡ get_or ns n 0 → base + number < k.journal.blocks
-  block_within base number is_base is =
-      let lt = below (get_or rec.blocks n 0) (among_get rec.blocks n 0 in_record) in
-      omega (arith, lt, is_base, number_is number is, has.sound.image)
+  module _ (m : Meaning) (s : State) (fits : StoreFits k m s) where
+    abbrev numbers : List ℕ
+    numbers = content_told k.parts.limits fits.kept rec
 
-  block_told : (m : Meaning) (s : State) (fits : StoreFits k m s) (name : List ℕ) → slot_of k.parts.catalog name ≡ Some slot
-      → take (length (part (4096 * n) 4096 (file_of s.files name).bytes)) (fits.kept (data_start k.parts.limits + get_or rec.blocks n 0)) ≡ part (4096 * n) 4096 (file_of s.files name).bytes
-  block_told m s fits name is_slot =
-      let at : ℕ → List ℕ = λ b. fits.kept (data_start k.parts.limits + b) in
-      let within = has.within in
-      let bytes_are : (file_of s.files name).bytes ≡ bytes_told k.parts.limits fits.kept rec =
-      ap (λ (file : File). file.bytes) (file_in_slot k.parts fits.kept s has.sound.parts has.sound.free fits.tells name slot rec is_slot has.is_rec) in
-      subst (λ bytes. take (length (part (4096 * n) 4096 bytes)) (at (get_or rec.blocks n 0)) ≡ part (4096 * n) 4096 bytes) (sym bytes_are)
-      (part_of_pieces 4096 at rec.blocks n rec.size 0 (λ b among. block_is_whole k m s has.sound fits b (below b among)) in_record (omega arith))
+    in_content : n < length numbers
+    in_content = let within = has.within in omega (arith, within, content_counted k.parts has.sound.parts filed there fits.kept)
 
-  pub block_read : (m : Meaning) (base number : ℕ) (buf : List ℕ) → base ≡ data_start k.parts.limits → number ≡ get_or ns n 0
-      → ((kept : ℕ → List ℕ) → Fits k.journal m kept → buf ≡ look k.journal.staged (base + number) (kept (base + number)))
+    below : (b : ℕ) → Among numbers b → b < k.parts.limits.blocks
+    below b among = told_below k m s has.sound fits filed there b (content_among k.parts.limits fits.kept rec b among)
+
+    block_told : (name : List ℕ) → slot_of k.parts.catalog name ≡ Some slot
+        → take (length (part (4096 * n) 4096 (file_of s.files name).bytes)) (fits.kept (data_start k.parts.limits + get_or numbers n 0)) ≡ part (4096 * n) 4096 (file_of s.files name).bytes
+    block_told name is_slot =
+        let at : ℕ → List ℕ = λ b. fits.kept (data_start k.parts.limits + b) in
+        let within = has.within in
+        let bytes_are : (file_of s.files name).bytes ≡ bytes_told k.parts.limits fits.kept rec =
+        ap (λ (file : File). file.bytes) (file_in_slot k.parts fits.kept s has.sound.parts has.sound.free fits.tells name slot rec is_slot has.is_rec) in
+        subst (λ bytes. take (length (part (4096 * n) 4096 bytes)) (at (get_or numbers n 0)) ≡ part (4096 * n) 4096 bytes) (sym bytes_are)
+        (part_of_pieces 4096 at numbers n rec.size 0 (λ b among. block_is_whole k m s has.sound fits b (below b among)) in_content (omega arith))
+
+    number_within : data_start k.parts.limits + get_or numbers n 0 < k.journal.blocks
+    number_within = omega (arith, below (get_or numbers n 0) (among_get numbers n 0 in_content), has.sound.image)
+
+  pub block_read : (m : Meaning) (base : ℕ) (buf : List ℕ) → base ≡ data_start k.parts.limits
+      → ((kept : ℕ → List ℕ) → Fits k.journal m kept
+      → buf ≡ block_within base k.journal.blocks (looked k.journal.staged kept) (slice_index (content_blocks base ns size (looked k.journal.staged kept)) n))
       → (s : State) (name : List ℕ) → StoreFits k m s → slot_of k.parts.catalog name ≡ Some slot
       → take (length (part (4096 * n) 4096 (file_of s.files name).bytes)) buf ≡ part (4096 * n) 4096 (file_of s.files name).bytes
-  block_read m base number buf is_base is read s name fits is_slot =
-      let held = ap (λ es. look es (base + number) (fits.kept (base + number))) (has.sound.staged fits.unbroken) in
-      let is_block = read fits.kept fits.journal ∙ (held ∙ ap₂ (λ a b. fits.kept (a + b)) is_base (number_is number is)) in
+  block_read m base buf is_base read s name fits is_slot =
+      let held : ℕ → List ℕ → ℕ → List Entry → List ℕ =
+      λ b slots bytes es. block_within b k.journal.blocks (looked es fits.kept) (slice_index (content_blocks b slots bytes (looked es fits.kept)) n) in
+      let ds = data_start k.parts.limits in
+      let number = get_or (numbers m s fits) n 0 in
+      let is_read : buf ≡ held ds rec.blocks rec.size [] =
+      read fits.kept fits.journal
+      ∙ (ap (held base ns size) (has.sound.staged fits.unbroken)
+      ∙ (ap (λ b. held b ns size []) is_base
+      ∙ (ap (λ slots. held ds slots size []) has.numbers
+      ∙ ap (λ bytes. held ds rec.blocks bytes []) has.sized))) in
+      let is_block : buf ≡ fits.kept (ds + number) =
+      is_read ∙ cond-true (nat_lt (ds + number) k.journal.blocks) (fits.kept (ds + number)) (replicate 4096 0) (lt-ltb (ds + number) k.journal.blocks (number_within m s fits)) in
       ap (take (length (part (4096 * n) 4096 (file_of s.files name).bytes))) is_block ∙ block_told m s fits name is_slot

@@ -289,19 +289,16 @@ module _ (p q : Kept) (left right : List ℕ) (relates : RelatesIn left right p 
     pub sound_related : (j : Held) (b : Bool) → b ≡ false → IsSound (record { parts = p; journal = j; is_broken = b }) → IsSound (settled q j)
     sound_related j b whole was = subst (λ (k : Kept). IsSound (settled k j)) (sym end_is) (record {
       parts = sound_clean end sound_end;
-      range = was.range;
       free = free_then was.free;
       pairs = pairs_then was.pairs;
       closed = closed_then was.free was.closed;
       short = short_then was.free was.short;
-      taken = was.taken;
-      apart = was.apart;
       in_use = in_use_clean end (in_use_then was.in_use);
       tests = tests_clean end (tests_then sound_end was.tests);
       image = was.image;
       journal = λ _. was.journal whole;
       staged = λ _. refl;
-      placed = λ _. was.placed whole;
+      placed = λ _. refl;
       clean = λ _. clean_is end;
     })
 
@@ -381,6 +378,8 @@ module _ (p q : Kept) (left right : List ℕ) (relates : RelatesIn left right p 
         described = described_then;
         taken = λ n lt is. let b = tells.taken n lt is in record { file = b.file; kept = b.kept; has = b.has };
         given = tells.given;
+        indexed = tells.indexed;
+        apart = tells.apart;
         one_use = tells.one_use;
       }
 

@@ -1,55 +1,39 @@
 -- What a file that is taken out comes to.
-use Rattle.std.proofs.Common.{◌≡◌, ◌⊎◌, refl, sym, ap, ap₂, ◌∙◌, subst, inl, inr, ℕ, zero, suc, ◌+◌, ◌<◌, ◌≤◌, ◌==◌, not, ◌&&◌, ◌||◌, Bool, true, false, cond, if◌then◌else◌, List, [], ◌∷◌, length, map, sum, get_or, set, Option, Some, None, is_some, Result, Err, arith, get_or-set_same, get_or-set_other}
+use Rattle.std.proofs.Common.{◌≡◌, ◌⊎◌, refl, sym, ap, ap₂, ◌∙◌, subst, inl, inr, ℕ, zero, suc, ◌+◌, ◌<◌, ◌≤◌, ◌==◌, not, ◌&&◌, ◌||◌, Bool, true, false, if◌then◌else◌, List, [], ◌∷◌, length, map, sum, get_or, set, Option, Some, None, is_some, arith, get_or-set_same, get_or-set_other}
 use Rattle.std.specs.List.{list_any, range_with_len, Contains}
 use Rattle.std.proofs.lemmas.Bool.{and_parts, and_from, or_cases, or_left, or_right, both_ways, cases_eq, eq-eqb, ne_eqb, false_from_ne_true, not_from_false}
 use Rattle.std.proofs.lemmas.List.{get_or_default}
 use Rattle.std.proofs.lemmas.List.Sums.{sum_by-cons}
 use Rattle.std.proofs.lemmas.Option.{same_Some}
 use Rattle.lis_graph.proofs.Members.{Among, among_from_contains, contains_from_among, among_from_any, among_filter, filter_among}
-use Rattle.lis_ports.specs.Meaning.{Meaning}
-use Rattle.lis_journal.specs.Journal.{Held}
-use Rattle.lis_journal.specs.Record.{Entry as Staged}
-use Rattle.lis_journal.specs.Phases.{looked}
 use Rattle.lis_blockmap.specs.Bitmap.{is_taken}
 use Rattle.lis_content.specs.Content.{given, has_number}
-use Rattle.lis_content.proofs.Numbers.{stay_given}
 use Rattle.lis_dict.specs.Dict.{word_of}
 use Rattle.lis_catalog.specs.Catalog.{Filed, slot_of, rec_at, without_slot}
 use Rattle.lis_catalog.proofs.Laws.{rec_at-without_slot}
 use Rattle.lis_ext.specs.Ext.{Ext, has, set_of as numbers_at}
 use Rattle.lis_ext.specs.Numbers.{has_number as number_in, differs, numbers_where}
 use Rattle.lis_graph.proofs.Ranges.{range_among}
-use Rattle.lis_words.specs.Words.{same_word}
-use Rattle.lis_grammar.specs.Formula.{Formula}
 use Rattle.lis_fields.specs.Records.{FileRecord}
-use Rattle.lis_model.specs.declared.refusal.Refusal.TheVariants.{NoFileHere}
 use Rattle.lis_model.specs.State.{State, description}
-use Rattle.lis_model.specs.Table.{Table, Entry}
-use Rattle.lis_model.specs.Listing.{extension}
-use Rattle.lis_model.specs.Step.{Situation, refused, changed, is_here, rm}
 use Rattle.lis_model.specs.Changes.{file_removed}
-use Rattle.lis_laws.proofs.Counts.{all_from}
 use Rattle.lis_laws.proofs.Forms as forms
 use Rattle.lis_kept.specs.Kept.{Kept}
 use Rattle.lis_kept.specs.Areas.{IsSaved, marked_count}
 use Rattle.lis_kept.specs.Links.{is_linked, is_own_link, has_pair}
-use Rattle.lis_kept.specs.Sound.{AreSound, FreeSlotsAreEmpty, BlocksAreTaken}
+use Rattle.lis_kept.specs.Sound.{AreSound, FreeSlotsAreEmpty}
 use Rattle.lis_kept.specs.Forgetting.{KeepsInUse}
-use Rattle.lis_kept.specs.Telling.{declared_of, words_told, file_told, state_of, is_had, is_named_left, is_used, AreUsed, IsFileBlock, Tells}
+use Rattle.lis_kept.specs.Telling.{declared_of, words_told, blocks_told, file_told, state_of, is_had, is_named_left, is_used, AreUsed, IsFileBlock, Tells}
 use Rattle.lis_kept.proofs.Filing.{number_from_among, filed_rec, filed_at_slot}
 use Rattle.lis_kept.proofs.Dropped.{file_slot_below}
 use Rattle.lis_kept.proofs.Formed.{each_below}
-use Rattle.lis_store.specs.declared.change.Change.{Change}
-use Rattle.lis_store.specs.declared.change.Change.TheVariants.{Refused}
-use Rattle.lis_store.specs.Stored.{Stored, AreClosed, DescriptionsAreShort, BlocksAreApart, IsSound, StoreFits, TestsAreMet}
-use Rattle.lis_store.specs.Changes.{Changes, differing_bits}
-use Rattle.lis_store.specs.Judging.{is_among}
-use Rattle.lis_store.specs.Saving.{settled, IsReady, Saves}
+use Rattle.lis_store.specs.Stored.{AreClosed, DescriptionsAreShort, TestsAreMet}
+use Rattle.lis_store.specs.Changes.{differing_bits}
+use Rattle.lis_store.specs.Saving.{IsReady}
+use Rattle.lis_store.specs.ReplacingIn.{AreInForm}
 use Rattle.lis_store.specs.Removing.{TakesOut}
 use Rattle.lis_ext.proofs.Numbers.{numbers_same, numbers_of}
-use Rattle.lis_store.proofs.Facts.{filed_named, table_told}
-use Rattle.lis_store.proofs.Judged.{change_refused}
-use Rattle.lis_store.proofs.Cleaned.{clean_is, sound_clean, in_use_clean, none_marked, tests_clean}
+use Rattle.lis_store.proofs.Facts.{filed_named}
 use Rattle.lis_store.proofs.Told.{words_same}
 use Rattle.lis_store.proofs.OwnStay.{own_before}
 use Rattle.lis_store.proofs.FileTests.{tests_stay}
@@ -85,7 +69,7 @@ module _ (slot : ℕ) (p q : Kept) (out : TakesOut slot p q) (sound : AreSound p
 
   -- what is kept before words are forgotten, and at the end
   abbrev mid : Kept
-  mid = record p { catalog = without_slot p.catalog slot; taken = given p.taken rec.blocks; ext = out.emptied.ext; marks = out.emptied.marks }
+  mid = record p { catalog = without_slot p.catalog slot; ext = out.emptied.ext; marks = out.emptied.marks }
 
   abbrev end : Kept
   end = record mid { dict = q.dict; marks = q.marks }
@@ -93,7 +77,7 @@ module _ (slot : ℕ) (p q : Kept) (out : TakesOut slot p q) (sound : AreSound p
   mid_is : out.emptied ≡ mid
   mid_is = out.empties.parts ∙ ap (λ (k : Kept). record k { ext = out.emptied.ext; marks = out.emptied.marks }) out.drops.parts
 
-  end_is : q ≡ end
+  pub end_is : q ≡ end
   end_is = out.forgets.parts ∙ ap (λ (k : Kept). record k { dict = q.dict; marks = q.marks }) mid_is
 
   -- ---- descriptions
@@ -210,7 +194,7 @@ module _ (slot : ℕ) (p q : Kept) (out : TakesOut slot p q) (sound : AreSound p
           (subst (λ ws. is_own_link ws (word_of q.dict a) (word_of q.dict b) ≡ true) declared_same own))
       by (inr pair) = or_right (is_own_link (declared_of p) (word_of p.dict a) (word_of p.dict b)) (has_pair p.axioms a b) pair
 
-  module _ (j : Held) (b : Bool) (whole : b ≡ false) (was : IsSound (record { parts = p; journal = j; is_broken = b })) (after : AreSound q) where
+  module _ (form : AreInForm p) (after : AreSound q) where
     sound_end : AreSound end
     sound_end = subst (λ (k : Kept). AreSound k) end_is after
 
@@ -221,117 +205,38 @@ module _ (slot : ℕ) (p q : Kept) (out : TakesOut slot p q) (sound : AreSound p
         by (inl same) = ap (λ ns. has_number ns n) (ap (numbers_at mid.ext) same ∙ set_here)
         by (inr differ) =
             ap (λ ns. has_number ns n) (set_other at differ)
-            ∙ was.free at (sym (rec_at-without_slot p.catalog slot at ∙ ap (λ c. if c then None else rec_at p.catalog at) (ne_eqb at slot differ)) ∙ none) n
+            ∙ form.free at (sym (rec_at-without_slot p.catalog slot at ∙ ap (λ c. if c then None else rec_at p.catalog at) (ne_eqb at slot differ)) ∙ none) n
 
     closed_then : AreClosed end
-    closed_then at a c h linked = let before = had_before a at h in had_stays c at before.0 (was.closed at a c before.1 (link_back a c linked))
+    closed_then at a c h linked = let before = had_before a at h in had_stays c at before.0 (form.closed at a c before.1 (link_back a c linked))
 
     short_then : DescriptionsAreShort end
     short_then at = by (cases_eq at slot)
       where
         by : (at ≡ slot) ⊎ (at ≡ slot → ⊥) → length (numbers_at mid.ext at) ≤ 128
         by (inl same) = omega (arith, ap length (ap (numbers_at mid.ext) same ∙ set_here))
-        by (inr differ) = omega (arith, ap length (set_other at differ), was.short at)
-
-    taken_then : BlocksAreTaken end
-    taken_then at r is =
-        let before = rec_before at r is in
-        stay_given p.taken rec.blocks r.blocks (was.taken at r before.1)
-        (all_from (λ n. not (has_number r.blocks n)) rec.blocks (λ n m. not_from_false (has_number r.blocks n) (false_from_ne_true (has_number r.blocks n) (λ has_it.
-        before.0 (was.apart at slot r rec n before.1 there has_it (number_from_among rec.blocks n m))))))
-
-    apart_then : BlocksAreApart end
-    apart_then at other r more n is_r is_more has_r has_more = was.apart at other r more n (rec_before at r is_r).1 (rec_before other more is_more).1 has_r has_more
+        by (inr differ) = omega (arith, ap length (set_other at differ), form.short at)
 
     in_use_then : KeepsInUse end
     in_use_then = record {
-      used = subst (λ (k : Kept). AreUsed k) end_is (used_then was.in_use.used);
-      tags = λ at r is n tag. let before = rec_before at r is in had_stays n at before.0 (was.in_use.tags at r before.1 n tag);
-      rights = was.in_use.rights;
+      used = subst (λ (k : Kept). AreUsed k) end_is (used_then form.in_use.used);
+      tags = λ at r is n tag. let before = rec_before at r is in had_stays n at before.0 (form.in_use.tags at r before.1 n tag);
+      rights = form.in_use.rights;
     }
 
     tests_then : TestsAreMet end
     tests_then = tests_stay p end (λ at r is. (rec_before at r is).1) (λ n w is test. word_before n w is)
-        (λ n at r w is was test. ap (λ ns. has_number ns n) (set_other at (rec_before at r is).0)) was.tests
+        (λ n at r w is was test. ap (λ ns. has_number ns n) (set_other at (rec_before at r is).0)) form.tests
 
-    pub sound_removed : IsSound (settled q j)
-    sound_removed = subst (λ (k : Kept). IsSound (settled k j)) (sym end_is) (record {
-      parts = sound_clean end sound_end;
-      range = was.range;
+    pub form_removed : AreInForm q
+    form_removed = subst (λ (k : Kept). AreInForm k) (sym end_is) (record {
+      sound = sound_end;
       free = free_then;
-      pairs = was.pairs;
       closed = closed_then;
       short = short_then;
-      taken = taken_then;
-      apart = apart_then;
-      in_use = in_use_clean end in_use_then;
-      tests = tests_clean end tests_then;
-      image = was.image;
-      journal = λ _. was.journal whole;
-      staged = λ _. refl;
-      placed = λ _. was.placed whole;
-      clean = λ _. clean_is end;
+      in_use = in_use_then;
+      tests = tests_then;
     })
-
-  -- ---- the state that it tells
-  module _ (at : ℕ → List ℕ) (s : State) (tells : Tells p at s) (name : List ℕ) (named : slot_of p.catalog name ≡ Some slot) where
-    abbrev t : State
-    t = file_removed s name
-
-    state_then : state_of q at ≡ t
-    state_then =
-        out.forgets.state at
-        ∙ (ap (λ (k : Kept). state_of k at) out.empties.parts
-        ∙ (out.drops.state at
-        ∙ (ap (λ (nm : List ℕ). file_removed (state_of p at) nm) (filed_named p sound name slot rec named there).1
-        ∙ ap (λ (x : State). file_removed x name) tells.state)))
-
-    abbrev dropped_file : Filed
-    dropped_file = record { slot = slot; rec = rec }
-
-    there_dropped : Contains p.catalog.entries dropped_file
-    there_dropped = contains_from_among p.catalog.entries dropped_file (filed_at_slot p.catalog sound.catalog slot rec there)
-
-    taken_told : (n : ℕ) → n < p.limits.blocks → is_taken end.taken n ≡ true → IsFileBlock end at n
-    taken_told n lt is =
-        let both = and_parts (is_taken p.taken n) (not (has_number rec.blocks n)) (sym (given_taken p.taken rec.blocks n) ∙ is) in
-        let b = tells.taken n lt both.0 in
-        let m = among_from_contains p.catalog.entries b.file b.kept in
-        let differ : b.file.slot ≡ slot → ⊥ = λ same.
-        let recs : b.file.rec ≡ rec = same_Some b.file.rec rec (sym (filed_rec p.catalog sound.catalog b.file m) ∙ (ap (rec_at p.catalog) same ∙ there)) in
-        both_ways (not (has_number rec.blocks n)) (ap not (ap (λ (r : FileRecord). has_number r.blocks n) (sym recs) ∙ b.has)) both.1 in
-        record { file = b.file; kept = stays_filed b.file m differ; has = b.has }
-
-    tells_end : Tells end at t
-    tells_end = record {
-      super = tells.super;
-      state = ap (λ (k : Kept). state_of k at) (sym end_is) ∙ state_then;
-      formed = forms.removes_file s tells.formed name;
-      used = subst (λ (k : Kept). AreUsed k) end_is (used_then tells.used);
-      described = λ f m.
-          let of_p = left f m in
-          let ns = numbers_at p.ext f.slot in
-          ap (words_told q.dict) (set_other f.slot of_p.1)
-          ∙ (words_same p.dict q.dict ns (λ n of. used_stays n (used_had n f.slot (had_stays n f.slot of_p.1 (number_from_among ns n of))))
-          ∙ (tells.described f (contains_from_among p.catalog.entries f of_p.0)
-          ∙ ap (description s) (sym (file_then at f (among_from_contains end.catalog.entries f m)))));
-      taken = taken_told;
-      given = λ f m n has_it.
-          let of_p = left f m in
-          let there_f = contains_from_among p.catalog.entries f of_p.0 in
-          let g = tells.given f there_f n has_it in
-          let free = false_from_ne_true (has_number rec.blocks n) (λ also.
-          of_p.1 (ap (λ (x : Filed). x.slot) (tells.one_use f dropped_file there_f there_dropped n has_it also))) in
-          (g.0, given_taken p.taken rec.blocks n ∙ and_from (is_taken p.taken n) (not (has_number rec.blocks n)) g.1 (not_from_false (has_number rec.blocks n) free));
-      one_use = λ f g mf mg n has_f has_g.
-          tells.one_use f g (contains_from_among p.catalog.entries f (left f mf).0) (contains_from_among p.catalog.entries g (left g mg).0) n has_f has_g;
-    }
-
-    pub ready_removed : IsSaved p at → IsReady q at t
-    ready_removed saved = record {
-      tells = subst (λ (k : Kept). Tells k at t) (sym end_is) tells_end;
-      saved = out.forgets.marks.saved at ((out.empties.marks numbers (ap (λ (k : Kept). numbers_at k.ext slot) (sym out.drops.parts))).saved at (out.drops.marks.saved at saved));
-    }
 
   -- ---- how much is marked, and how often rows are edited
   abbrev gone : List ℕ
@@ -352,12 +257,12 @@ module _ (slot : ℕ) (p q : Kept) (out : TakesOut slot p q) (sound : AreSound p
   props_dropped : out.dropped.ext.props ≡ p.ext.props
   props_dropped = ap (λ (k : Kept). k.ext.props) out.drops.parts
 
-  pub few_marked : length numbers ≤ 128 → marked_count p ≡ 0 → marked_count q ≤ 300
-  few_marked short none =
+  pub few_marked : length numbers ≤ 128 → marked_count q ≤ marked_count p + 300
+  few_marked short =
       let one = out.drops.marks.few in
       let two = subst (λ (n : ℕ). marked_count out.emptied ≤ marked_count out.dropped + length (numbers_where n (differs numbers []))) props_dropped (out.empties.marks numbers ext_dropped).few in
       let three = out.forgets.marks.few in
-      omega (arith, one, two, three, ap length gone_is, short, none)
+      omega (arith, one, two, three, ap length gone_is, short)
 
   pub few_edits : q.ext.edits ≤ p.ext.edits + differing_bits p.ext q.ext
   few_edits =
@@ -370,35 +275,76 @@ module _ (slot : ℕ) (p q : Kept) (out : TakesOut slot p q) (sound : AreSound p
       let bits : f slot ≡ length gone = ap (λ ns. length (numbers_where p.ext.props (differs numbers ns))) here in
       omega (arith, made, one, bits, ap (λ (e : Ext). e.edits) ext_is)
 
--- ---- a call that takes a file away
-here_told : (k : Stored) (m : Meaning) (s : State) → IsSound k → StoreFits k m s → (place : List Formula) (name : List ℕ) → is_here (record { state = s; place = place }) name ≡ is_among k.parts place name
-here_told k m s sound fits place name =
-    ap (λ (t : Table). list_any (λ (file : Entry). same_word file.name name) (extension t place)) (sym (table_told k m s sound fits))
+-- ---- the state that it tells
+-- Memory tells s, and the blocks of the file in the slot are given back before it is taken out.
+module _ (slot : ℕ) (o : Kept) (taken marks : List Bool) (q : Kept) (out : TakesOut slot (record o { taken = taken; marks = marks }) q) (sound : AreSound (record o { taken = taken; marks = marks })) (at : ℕ → List ℕ) (s : State) (tells : Tells o at s)
+    (gave : taken ≡ given o.taken (blocks_told o.limits at out.rec)) (name : List ℕ) (named : slot_of o.catalog name ≡ Some slot) where
+  abbrev p : Kept
+  p = record o { taken = taken; marks = marks }
 
--- one that is refused
-pub removed_refused : {T : Type 0} (old : Stored) (m : Meaning) (place : List Formula) (name : List ℕ) (result : Result T Change) → IsSound old → is_among old.parts place name ≡ false
-    → result ≡ Err (Refused NoFileHere) → (s : State) → StoreFits old m s → Changes (record { state = s; place = place }) (rm (record { state = s; place = place }) name) old m m result
-removed_refused old m place name result sound none ends s fits =
-    let now : Situation = record { state = s; place = place } in
-    change_refused old m now (rm now name) NoFileHere result fits
-    (ap (λ b. cond (not b) (refused now NoFileHere) (changed now (file_removed s name))) (here_told old m s sound fits place name ∙ none)) ends
+  abbrev t : State
+  t = file_removed s name
 
-module _ (old : Stored) (q : Kept) (slot : ℕ) (place : List Formula) (name : List ℕ) (out : TakesOut slot old.parts q) (sound : IsSound old) (unbroken : old.is_broken ≡ false)
-    (here : is_among old.parts place name ≡ true) (named : slot_of old.parts.catalog name ≡ Some slot) where
-  pub removed_sound : AreSound q → IsSound (settled q old.journal)
-  removed_sound = sound_removed slot old.parts q out sound.parts old.journal old.is_broken unbroken sound
+  abbrev dropped : Filed
+  dropped = record { slot = slot; rec = out.rec }
 
-  pub removed_marks : length old.journal.staged + marked_count q ≤ 531
-  removed_marks =
-      let few = few_marked slot old.parts q out sound.parts (sound.short slot) (none_marked old.parts (sound.clean unbroken)) in
-      omega (arith, few, ap length (sound.staged unbroken))
+  -- its blocks
+  abbrev gone_blocks : List ℕ
+  gone_blocks = blocks_told o.limits at out.rec
 
-  pub removed_changes : {T : Type 0} (new : Stored) (before after : Meaning) (result : Result T Change) → Saves q old.journal new before after result
-      → (s : State) → StoreFits old before s → Changes (record { state = s; place = place }) (rm (record { state = s; place = place }) name) new before after result
-  removed_changes new before after result saves s fits =
-      let now : Situation = record { state = s; place = place } in
-      let made : State = file_removed s name in
-      let ready : IsReady q fits.kept made = ready_removed slot old.parts q out sound.parts fits.kept s fits.tells name named (λ area n lt unmarked. fits.written area n lt) in
-      saves old now (rm now name) made fits sound refl refl refl (ap (λ (k : Kept). k.limits) (end_is slot old.parts q out sound.parts))
-      (λ _. subst (λ (es : List Staged). IsReady q (looked es fits.kept) made) (sym (sound.staged unbroken)) ready)
-      (ap (λ b. cond (not b) (refused now NoFileHere) (changed now made)) (here_told old before s sound fits place name ∙ here))
+  state_then : state_of q at ≡ t
+  state_then =
+      out.forgets.state at
+      ∙ (ap (λ (k : Kept). state_of k at) out.empties.parts
+      ∙ (out.drops.state at
+      ∙ (ap (λ (nm : List ℕ). file_removed (state_of p at) nm) (filed_named p sound name slot out.rec named (there slot p q out sound)).1
+      ∙ ap (λ (x : State). file_removed x name) tells.state)))
+
+  there_dropped : Contains o.catalog.entries dropped
+  there_dropped = contains_from_among o.catalog.entries dropped (filed_at_slot o.catalog sound.catalog slot out.rec (there slot p q out sound))
+
+  was_there : (f : Filed) → Contains (end slot p q out sound).catalog.entries f → Contains o.catalog.entries f
+  was_there f m = contains_from_among o.catalog.entries f (left slot p q out sound f m).0
+
+  taken_told : (n : ℕ) → n < o.limits.blocks → is_taken taken n ≡ true → IsFileBlock (end slot p q out sound) at n
+  taken_told n lt is =
+      let both = and_parts (is_taken o.taken n) (not (has_number gone_blocks n)) (sym (given_taken o.taken gone_blocks n) ∙ (ap (λ ts. is_taken ts n) (sym gave) ∙ is)) in
+      let b = tells.taken n lt both.0 in
+      let m = among_from_contains o.catalog.entries b.file b.kept in
+      let differ : b.file.slot ≡ slot → ⊥ = λ same.
+      let recs : b.file.rec ≡ out.rec = same_Some b.file.rec out.rec (sym (filed_rec o.catalog sound.catalog b.file m) ∙ (ap (rec_at o.catalog) same ∙ there slot p q out sound)) in
+      both_ways (not (has_number gone_blocks n)) (ap not (ap (λ (r : FileRecord). has_number (blocks_told o.limits at r) n) (sym recs) ∙ b.has)) both.1 in
+      record { file = b.file; kept = stays_filed slot p q out sound b.file m differ; has = b.has }
+
+  tells_end : Tells (end slot p q out sound) at t
+  tells_end = record {
+    super = tells.super;
+    state = ap (λ (k : Kept). state_of k at) (sym (end_is slot p q out sound)) ∙ state_then;
+    formed = forms.removes_file s tells.formed name;
+    used = subst (λ (k : Kept). AreUsed k) (end_is slot p q out sound) (used_then slot p q out sound tells.used);
+    described = λ f m.
+        let of_p = left slot p q out sound f m in
+        let ns = numbers_at o.ext f.slot in
+        ap (words_told q.dict) (set_other slot p q out sound f.slot of_p.1)
+        ∙ (words_same o.dict q.dict ns (λ n of. used_stays slot p q out sound n (used_had slot p q out sound n f.slot (had_stays slot p q out sound n f.slot of_p.1 (number_from_among ns n of))))
+        ∙ (tells.described f (was_there f m)
+        ∙ ap (description s) (sym (file_then slot p q out sound at f (among_from_contains (end slot p q out sound).catalog.entries f m)))));
+    taken = taken_told;
+    given = λ f m n has_it.
+        let g = tells.given f (was_there f m) n has_it in
+        let free = false_from_ne_true (has_number gone_blocks n) (λ also.
+        (left slot p q out sound f m).1 (ap (λ (x : Filed). x.slot) (tells.one_use f dropped (was_there f m) there_dropped n has_it also))) in (
+          g.0,
+          ap (λ ts. is_taken ts n) gave
+          ∙ (given_taken o.taken gone_blocks n ∙ and_from (is_taken o.taken n) (not (has_number gone_blocks n)) g.1 (not_from_false (has_number gone_blocks n) free)),
+        );
+    indexed = λ f m. tells.indexed f (was_there f m);
+    apart = λ f m. tells.apart f (was_there f m);
+    one_use = λ f g mf mg n has_f has_g. tells.one_use f g (was_there f mf) (was_there g mg) n has_f has_g;
+  }
+
+  pub ready_removed : IsSaved p at → IsReady q at t
+  ready_removed saved = record {
+    tells = subst (λ (k : Kept). Tells k at t) (sym (end_is slot p q out sound)) tells_end;
+    saved = out.forgets.marks.saved at ((out.empties.marks (numbers_at o.ext slot) (ap (λ (k : Kept). numbers_at k.ext slot) (sym out.drops.parts))).saved at (out.drops.marks.saved at saved));
+  }

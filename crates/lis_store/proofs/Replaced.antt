@@ -1,12 +1,11 @@
 -- What memory comes to when another file takes the place of one.
-use Rattle.std.proofs.Common.{◌≡◌, ◌⊎◌, refl, sym, ap, ◌∙◌, subst, inl, inr, ℕ, true, false, List, [], Some, is_some, IsTrue, length}
+use Rattle.std.proofs.Common.{◌≡◌, ◌⊎◌, refl, sym, ap, ◌∙◌, subst, inl, inr, ℕ, true, false, Bool, List, Some, is_some, length}
 use Rattle.std.proofs.lemmas.Bool.{both_ways, cases_eq}
 use Rattle.lis_graph.proofs.Members.{Among}
 use Rattle.lis_journal.specs.Journal.{Held}
 use Rattle.lis_dict.specs.Dict.{word_of}
 use Rattle.lis_ext.specs.Ext.{has}
 use Rattle.lis_fields.specs.Records.{FileRecord}
-use Rattle.lis_store.specs.Stands.{is_super}
 use Rattle.lis_model.specs.Image.{image_blocks}
 use Rattle.lis_model.specs.State.{File}
 use Rattle.lis_model.specs.Changes.{new_file}
@@ -19,17 +18,17 @@ use Rattle.lis_kept.proofs.Without.{none_here, same_elsewhere}
 use Rattle.lis_store.specs.Stored.{Stored, PairsAreApart, IsSound, TestsAreMet}
 use Rattle.lis_store.specs.Saving.{settled}
 use Rattle.lis_store.specs.Replacing.{MayReplace}
-use Rattle.lis_store.specs.ReplacingIn.{AreInForm, MayComeIn, MakesWay}
+use Rattle.lis_store.specs.ReplacingIn.{AreInForm, MayComeIn, RefilesIn}
 use Rattle.lis_store.specs.Admitting.{described_by}
-use Rattle.lis_store.proofs.Added.{end, end_is, sound_end, used_had, word_from, has_here, has_other, left_stays, tags_then, free_then, closed_then, short_then, taken_then, apart_then, tests_then}
+use Rattle.lis_store.proofs.Added.{end, end_is, sound_end, used_had, word_from, has_here, has_other, left_stays, tags_then, free_then, closed_then, short_then, tests_then}
 use Rattle.lis_store.proofs.Cleaned.{clean_is, sound_clean, in_use_clean, tests_clean}
-use Rattle.lis_store.proofs.Coming.{ComesIn, ComesInto, comes_described, comes_over}
+use Rattle.lis_store.proofs.Coming.{ComesIn, comes_described, comes_over}
 use Rattle.lis_store.proofs.FileTests.{tests_stay}
 use Rattle.lis_store.proofs.HeadsUsed.{IsUsedFor, used_flagged, used_left, used_for}
 use Rattle.lis_store.proofs.HeadsUsed.IsUsedFor.{Flagged, HadAt, NamedLeft}
 use Rattle.lis_store.proofs.Left as gone
 use Rattle.lis_store.proofs.Naming.{of_one}
-use Rattle.lis_store.proofs.Vacated.{vacated, free_others, tags_others, tests_others, taken_others, apart_others}
+use Rattle.lis_store.proofs.Vacated.{vacated, free_others, tags_others, tests_others}
 
 -- ---- stores in form
 pub in_form : (k : Stored) → IsSound k → AreInForm k.parts
@@ -38,62 +37,79 @@ in_form k sound = record {
   free = sound.free;
   closed = sound.closed;
   short = sound.short;
-  taken = sound.taken;
-  apart = sound.apart;
   in_use = sound.in_use;
   tests = sound.tests;
 }
 
-pub settled_sound : (q : Kept) (j : Held) → AreInForm q → IsTrue (is_super q.limits) → PairsAreApart q → j.blocks ≡ image_blocks q.limits → j.is_broken ≡ false → j.placed ≡ [] → IsSound (settled q j)
-settled_sound q j form range pairs image unbroken unplaced = record {
+pub settled_sound : (q : Kept) (j : Held) → AreInForm q → PairsAreApart q → j.blocks ≡ image_blocks q.limits → j.is_broken ≡ false → IsSound (settled q j)
+settled_sound q j form pairs image unbroken = record {
   parts = sound_clean q form.sound;
-  range = range;
   free = form.free;
   pairs = pairs;
   closed = form.closed;
   short = form.short;
-  taken = form.taken;
-  apart = form.apart;
   in_use = in_use_clean q form.in_use;
   tests = tests_clean q form.tests;
   image = image;
   journal = λ _. unbroken;
   staged = λ _. refl;
-  placed = λ _. unplaced;
+  placed = λ _. refl;
   clean = λ _. clean_is q;
 }
 
--- A file makes way for another one, which comes into its slot.
-pub record Replaced (slot : ℕ) (file : File) (p q : Kept) : Type 0 where
-  pub rec : FileRecord
-  pub tags : List ℕ
-  pub described : Kept
-  pub way : MakesWay slot file rec tags p described
-  pub may : MayReplace p slot rec file
-  pub filed : FileRecord
-  pub into : ComesInto slot filed described q
-  pub named : filed.name ≡ file.name
-  pub tagged : filed.tags ≡ tags
+-- ---- where other blocks are taken
+module _ (p : Kept) (taken marks : List Bool) where
+  abbrev pub retaken : Kept
+  retaken = record p { taken = taken; marks = marks }
 
-module _ (p q : Kept) (slot : ℕ) (name : List ℕ) (assigned : List (List ℕ)) (bytes : List ℕ) (form : AreInForm p) (r : Replaced slot (new_file name assigned bytes) p q) where
+  pub form_retaken : AreSound retaken → AreInForm p → AreInForm retaken
+  form_retaken sound form = record {
+    sound = sound;
+    free = form.free;
+    closed = form.closed;
+    short = form.short;
+    in_use = record { used = form.in_use.used; tags = form.in_use.tags; rights = form.in_use.rights };
+    tests = record { given = form.tests.given; met = form.tests.met };
+  }
+
+  pub may_retaken : (slot : ℕ) (rec : FileRecord) (file : File) → MayReplace p slot rec file → MayReplace retaken slot rec file
+  may_retaken slot rec file may = record {
+    there = may.there;
+    name = may.name;
+    new = may.new;
+    set = may.set;
+    assignable = may.assignable;
+    few = may.few;
+    short = may.short;
+    room = may.room;
+    small = may.small;
+  }
+
+-- ---- a file makes way for another one, which comes into its slot
+module _ (p q : Kept) (slot : ℕ) (name : List ℕ) (assigned : List (List ℕ)) (bytes blocks : List ℕ) (form : AreInForm p)
+    (r : RefilesIn slot (new_file name assigned bytes) blocks p q) (may : MayReplace p slot r.way.rec (new_file name assigned bytes)) where
   abbrev pub file : File
   file = new_file name assigned bytes
 
+  -- the record that comes
+  abbrev pub filed : FileRecord
+  filed = record { name = name; size = length bytes; tags = r.tags; blocks = blocks }
+
   -- what is kept without the file and its words
   abbrev pub left : Kept
-  left = gone.left p r.way.vacated slot r.rec form r.way.vacates
+  left = gone.left p r.way.vacated slot r.way.rec form r.way.vacates
 
   pub sound_left : AreSound left
-  sound_left = gone.sound_left p r.way.vacated slot r.rec form r.way.vacates
+  sound_left = gone.sound_left p r.way.vacated slot r.way.rec form r.way.vacates
 
   pub coming : MayComeIn left file
-  coming = gone.coming p r.way.vacated slot r.rec form r.way.vacates file r.may
+  coming = gone.coming p r.way.vacated slot r.way.rec form r.way.vacates file may
 
   -- and with the other one
   abbrev pub comes : ComesIn file left q
   comes =
-      comes_over file r.way.vacated left q (gone.left_is p r.way.vacated slot r.rec form r.way.vacates)
-      (comes_described file slot r.filed r.way.vacated r.way.learnt r.described q r.way.learns.learns r.way.describes r.into r.named (r.tagged ∙ r.way.learns.tagged))
+      comes_over file r.way.vacated left q (gone.left_is p r.way.vacated slot r.way.rec form r.way.vacates)
+      (comes_described file slot filed r.way.vacated r.way.learnt r.described q r.way.learns.learns r.way.describes r.files refl refl r.way.learns.tagged)
 
   abbrev pub last : Kept
   last = end left q name assigned bytes sound_left coming comes
@@ -121,37 +137,34 @@ module _ (p q : Kept) (slot : ℕ) (name : List ℕ) (assigned : List (List ℕ)
         stayed (NamedLeft named) = used_left last n (left_stays left q name assigned bytes sound_left coming comes after n named)
 
         by : (word : List ℕ) → word_of last.dict n ≡ Some word → (word_of left.dict n ≡ Some word) ⊎ Among (described_by left file) word → is_used last n ≡ true
-        by word is (inl was) = stayed (used_for (emptied left slot) n (gone.still_used p r.way.vacated slot r.rec form r.way.vacates n (ap is_some was)))
+        by word is (inl was) = stayed (used_for (emptied left slot) n (gone.still_used p r.way.vacated slot r.way.rec form r.way.vacates n (ap is_some was)))
         by word is (inr m) =
             used_had left q name assigned bytes sound_left coming comes after n slot
             (has_here left q name assigned bytes sound_left coming comes after n ∙ of_one (described_by left file) (word_of last.dict n) word is m)
 
     pub free_last : FreeSlotsAreEmpty last
-    free_last = free_then left q name assigned bytes sound_left coming comes after (free_others p slot r.rec form r.may.there)
+    free_last = free_then left q name assigned bytes sound_left coming comes after (free_others p slot r.way.rec form may.there)
 
     tests_left : TestsAreMet left
     tests_left =
-        tests_stay (vacated p slot r.rec) left (λ at x is. is) (λ n w is test. gone.word_was p r.way.vacated slot r.rec form r.way.vacates n w is) (λ n at x w is was test. refl)
-        (tests_others p slot r.rec form r.may.there)
+        tests_stay (vacated p slot) left (λ at x is. is) (λ n w is test. gone.word_was p r.way.vacated slot r.way.rec form r.way.vacates n w is) (λ n at x w is was test. refl)
+        (tests_others p slot r.way.rec form may.there)
 
-    form_last : r.filed.size ≡ length bytes → AreInForm last
-    form_last sized = record {
+    pub form_last : AreInForm last
+    form_last = record {
       sound = sound_last;
       free = free_last;
       closed = closed_then left q name assigned bytes sound_left coming comes after
-          (λ n at differ h. ap is_some (gone.word_is_still p r.way.vacated slot r.rec form r.way.vacates n at differ h) ∙ named_all p form.sound form.free n at h)
-          (λ at a b differ. gone.closed_left p r.way.vacated slot r.rec form r.way.vacates at a b);
+          (λ n at differ h. ap is_some (gone.word_is_still p r.way.vacated slot r.way.rec form r.way.vacates n at differ h) ∙ named_all p form.sound form.free n at h)
+          (λ at a b differ. gone.closed_left p r.way.vacated slot r.way.rec form r.way.vacates at a b);
       short = short_then left q name assigned bytes sound_left coming comes after form.short;
-      taken = taken_then left q name assigned bytes sound_left coming comes (taken_others p slot r.rec form r.may.there);
-      apart = apart_then left q name assigned bytes sound_left coming comes (taken_others p slot r.rec form r.may.there) (apart_others p slot r.rec form r.may.there);
       in_use = record {
         used = used_last;
-        tags = tags_then left q name assigned bytes sound_left coming comes after (tags_others p slot r.rec form r.may.there);
+        tags = tags_then left q name assigned bytes sound_left coming comes after (tags_others p slot r.way.rec form may.there);
         rights = form.in_use.rights;
       };
-      tests = tests_then left q name assigned bytes sound_left coming comes after sized tests_left;
+      tests = tests_then left q name assigned bytes sound_left coming comes after refl tests_left;
     }
 
-    pub sound_replaced : r.filed.size ≡ length bytes → (j : Held) → IsTrue (is_super p.limits) → PairsAreApart p → j.blocks ≡ image_blocks p.limits → j.is_broken ≡ false → j.placed ≡ [] → IsSound (settled q j)
-    sound_replaced sized j range pairs image unbroken unplaced =
-        subst (λ (x : Kept). IsSound (settled x j)) (sym last_is) (settled_sound last j (form_last sized) range pairs image unbroken unplaced)
+    pub sound_replaced : (j : Held) → PairsAreApart p → j.blocks ≡ image_blocks p.limits → j.is_broken ≡ false → IsSound (settled q j)
+    sound_replaced j pairs image unbroken = subst (λ (x : Kept). IsSound (settled x j)) (sym last_is) (settled_sound last j form_last pairs image unbroken)

@@ -1,5 +1,5 @@
 -- How much is marked when another file takes the place of one, and how often rows are edited.
-use Rattle.std.proofs.Common.{◌≡◌, ◌⊎◌, refl, sym, ap, ◌∙◌, subst, inl, inr, ℕ, ◌+◌, ◌<◌, ◌≤◌, ◌&&◌, ◌||◌, not, Bool, true, false, cond, List, [], ◌∷◌, length, set, get_or, map, filter, count_by, length-append, arith, length-set, get_or-set_same}
+use Rattle.std.proofs.Common.{◌≡◌, ◌⊎◌, refl, sym, ap, ◌∙◌, subst, inl, inr, ℕ, ◌+◌, ◌<◌, ◌≤◌, ◌&&◌, ◌||◌, not, Bool, true, false, cond, List, [], ◌∷◌, length, set, get_or, map, filter, count_by, length-append, arith, get_or-set_same}
 use Rattle.std.specs.List.{range_with_len}
 use Rattle.std.specs.Ordering.{nat_cmp}
 use Rattle.std.specs.Cmp.{nat_cmp_total}
@@ -15,7 +15,6 @@ use Rattle.lis_ext.specs.Ext.{Ext, set_of as numbers_at}
 use Rattle.lis_ext.specs.Numbers.{has_number, differs, numbers_where}
 use Rattle.lis_model.specs.declared.limits.Limits.{Limits}
 use Rattle.lis_model.specs.Derived.{derived_words}
-use Rattle.lis_model.specs.Image.{bitmap_start}
 use Rattle.lis_model.specs.Changes.{new_file}
 use Rattle.lis_kept.specs.Kept.{Kept}
 use Rattle.lis_kept.specs.Areas.{block_of, marked_count}
@@ -26,12 +25,13 @@ use Rattle.lis_kept.proofs.InArea.{among_slots}
 use Rattle.lis_store.specs.Changes.{differing_bits}
 use Rattle.lis_store.specs.Admitting.{described_by}
 use Rattle.lis_store.specs.Adding.{is_one_of, numbers_named, learnt_words}
-use Rattle.lis_store.specs.ReplacingIn.{AreInForm}
+use Rattle.lis_store.specs.Replacing.{MayReplace}
+use Rattle.lis_store.specs.ReplacingIn.{AreInForm, RefilesIn}
 use Rattle.lis_store.proofs.AddedMarks.{heads_few}
 use Rattle.lis_laws.proofs.Derived.{derived_few}
 use Rattle.lis_store.proofs.Removed.{sum_has}
 use Rattle.lis_store.proofs.Left.{left_is}
-use Rattle.lis_store.proofs.Replaced.{Replaced, left}
+use Rattle.lis_store.proofs.Replaced.{left}
 use Rattle.lis_store.proofs.Vacated.{slot_below}
 
 abbrev true_in : List Bool → ℕ
@@ -75,7 +75,8 @@ where_either : (props : ℕ) (f g h : ℕ → Bool) → ((x : ℕ) → f x ≡ t
 unfolding numbers_where
 where_either props f g h either = filter_either f g h (range_with_len 0 props) either
 
-module _ (p q : Kept) (slot : ℕ) (name : List ℕ) (assigned : List (List ℕ)) (bytes : List ℕ) (form : AreInForm p) (r : Replaced slot (new_file name assigned bytes) p q) where
+module _ (p q : Kept) (slot : ℕ) (name : List ℕ) (assigned : List (List ℕ)) (bytes blocks : List ℕ) (form : AreInForm p)
+    (r : RefilesIn slot (new_file name assigned bytes) blocks p q) (may : MayReplace p slot r.way.rec (new_file name assigned bytes)) where
   abbrev v : Kept
   v = r.way.vacated
 
@@ -91,10 +92,10 @@ module _ (p q : Kept) (slot : ℕ) (name : List ℕ) (assigned : List (List ℕ)
   abbrev changed : ℕ
   changed = length (numbers_where p.ext.props (differs before numbers))
 
-  left_was : v ≡ left p q slot name assigned bytes form r
-  left_was = left_is p v slot r.rec form r.way.vacates
+  left_was : v ≡ left p q slot name assigned bytes blocks form r may
+  left_was = left_is p v slot r.way.rec form r.way.vacates
 
-  learnt_was : l ≡ record (left p q slot name assigned bytes form r) { dict = l.dict; marks = l.marks }
+  learnt_was : l ≡ record (left p q slot name assigned bytes blocks form r may) { dict = l.dict; marks = l.marks }
   learnt_was = r.way.learns.learns.parts ∙ ap (λ (x : Kept). record x { dict = l.dict; marks = l.marks }) left_was
 
   ext_before : l.ext ≡ p.ext
@@ -113,14 +114,12 @@ module _ (p q : Kept) (slot : ℕ) (name : List ℕ) (assigned : List (List ℕ)
       among_from_number numbers n (among_where p.ext.props (has_number numbers) n m).1) in
       omega (arith, either, some, more, form.short slot, r.way.learns.few)
 
-  -- ---- the blocks of the slot and of the bitmap are marked once
+  -- ---- the block of the slot is marked once
   limits_described : r.described.limits ≡ p.limits
   limits_described = ap (λ (x : Kept). x.limits) r.way.describes.parts ∙ ap (λ (x : Kept). x.limits) learnt_was
 
-  in_marks : (block_of p.limits Files slot < length p.marks) × (bitmap_start p.limits < length p.marks)
-  in_marks =
-      let below = slot_below p slot r.rec form r.may.there in
-      (omega (arith, (among_slots p.limits form.sound.range Files slot below).1, form.sound.marks), omega (arith, form.sound.marks))
+  in_marks : block_of p.limits Files slot < length p.marks
+  in_marks = omega (arith, (among_slots p.limits form.sound.range Files slot (slot_below p slot r.way.rec form may.there)).1, form.sound.marks)
 
   -- what is marked where the file was dropped stays marked
   still_marked : (block : ℕ) → is_taken r.way.vacates.dropped.marks block ≡ true → is_taken r.described.marks block ≡ true
@@ -132,46 +131,41 @@ module _ (p q : Kept) (slot : ℕ) (name : List ℕ) (assigned : List (List ℕ)
   file_marked : is_taken r.described.marks (block_of p.limits Files slot) ≡ true
   file_marked =
       still_marked (block_of p.limits Files slot)
-      (ap (λ (x : Kept). is_taken x.marks (block_of p.limits Files slot)) r.way.vacates.drops.parts
-      ∙ stays_marked (set p.marks (block_of p.limits Files slot) true) (bitmap_start p.limits ∷ []) (block_of p.limits Files slot)
-      (get_or-set_same p.marks (block_of p.limits Files slot) true false in_marks.0))
-
-  bitmap_marked : is_taken r.described.marks (bitmap_start p.limits) ≡ true
-  bitmap_marked =
-      still_marked (bitmap_start p.limits)
-      (ap (λ (x : Kept). is_taken x.marks (bitmap_start p.limits)) r.way.vacates.drops.parts
-      ∙ get_or-set_same (set p.marks (block_of p.limits Files slot) true) (bitmap_start p.limits) true false
-      (omega (arith, in_marks.1, length-set p.marks (block_of p.limits Files slot) true)))
+      (ap (λ (x : Kept). is_taken x.marks (block_of p.limits Files slot)) r.way.vacates.drops.parts ∙ get_or-set_same p.marks (block_of p.limits Files slot) true false in_marks)
 
   filed_marks : marked_count q ≡ marked_count r.described
   filed_marks =
-      let ms = r.described.marks in
       let file_at : block_of r.described.limits Files slot ≡ block_of p.limits Files slot = ap (λ (x : Limits). block_of x Files slot) limits_described in
-      let bitmap_at : bitmap_start r.described.limits ≡ bitmap_start p.limits = ap bitmap_start limits_described in
-      let one : is_taken ms (block_of r.described.limits Files slot) ≡ true = ap (is_taken ms) file_at ∙ file_marked in
-      let two : is_taken ms (bitmap_start r.described.limits) ≡ true = ap (is_taken ms) bitmap_at ∙ bitmap_marked in
-      ap (λ (x : Kept). true_in x.marks) r.into.parts
-      ∙ (kept_true (set ms (block_of r.described.limits Files slot) true) (bitmap_start r.described.limits)
-      (stays_marked ms (block_of r.described.limits Files slot ∷ []) (bitmap_start r.described.limits) two)
-      ∙ kept_true ms (block_of r.described.limits Files slot) one)
+      ap (λ (x : Kept). true_in x.marks) r.files.parts
+      ∙ kept_true r.described.marks (block_of r.described.limits Files slot) (ap (is_taken r.described.marks) file_at ∙ file_marked)
 
-  pub few_marked : marked_count p ≡ 0 → marked_count q ≤ 515
-  few_marked none =
+  -- 513 blocks more at most
+  pub few_marked : marked_count q ≤ marked_count p + 513
+  few_marked =
       let one = r.way.vacates.drops.marks.few in
       let two = r.way.vacates.forgets.marks.few in
       let three = r.way.learns.learns.marks.few in
       let heads_of = heads_few (learnt_words (new_file name assigned bytes)) in
       let own = length-append assigned (derived_words name bytes) in
       let four = subst (λ (e : Ext). marked_count r.described ≤ marked_count l + length (numbers_where e.props (differs before numbers))) ext_before (r.way.describes.marks before was).few in
-      omega (arith, none, one, two, three, heads_of, own, r.may.few, derived_few name bytes, filed_marks, four, changed_few, form.short slot)
+      omega (arith, one, two, three, heads_of, own, may.few, derived_few name bytes, filed_marks, four, changed_few, form.short slot)
+
+  -- ---- and what was marked before stays marked
+  pub marked_last : (block : ℕ) → is_taken p.marks block ≡ true → is_taken q.marks block ≡ true
+  marked_last block is =
+      ap (λ (x : Kept). is_taken x.marks block) r.files.parts
+      ∙ stays_marked r.described.marks (block_of r.described.limits Files slot ∷ []) block
+      (still_marked block
+      (ap (λ (x : Kept). is_taken x.marks block) r.way.vacates.drops.parts
+      ∙ stays_marked p.marks (block_of p.limits Files slot ∷ []) block is))
 
   pub few_edits : q.ext.edits ≤ p.ext.edits + differing_bits p.ext q.ext
   few_edits =
       let edited = subst (λ (e : Ext). r.described.ext.edits ≤ e.edits + length (numbers_where e.props (differs before numbers))) ext_before (r.way.describes.edits before was) in
-      let slot_in : slot < length p.ext.sets = omega (arith, slot_below p slot r.rec form r.may.there, form.sound.files) in
+      let slot_in : slot < length p.ext.sets = omega (arith, slot_below p slot r.way.rec form may.there, form.sound.files) in
       let f : ℕ → ℕ = λ at. length (numbers_where p.ext.props (differs (numbers_at p.ext at) (numbers_at q.ext at))) in
       let one = sum_has f (range_with_len 0 (length p.ext.sets)) slot (range_among 0 (length p.ext.sets) slot (omega arith) (omega (arith, slot_in))) in
-      let ext_is : q.ext ≡ r.described.ext = ap (λ (x : Kept). x.ext) r.into.parts in
+      let ext_is : q.ext ≡ r.described.ext = ap (λ (x : Kept). x.ext) r.files.parts in
       let sets_are : q.ext.sets ≡ set p.ext.sets slot numbers = ap (λ (e : Ext). e.sets) ext_is ∙ (r.way.describes.sets ∙ ap (λ (e : Ext). set e.sets slot numbers) ext_before) in
       let now : numbers_at q.ext slot ≡ numbers = ap (λ ss. get_or ss slot []) sets_are ∙ get_or-set_same p.ext.sets slot numbers [] slot_in in
       let bits : f slot ≡ changed = ap (λ ns. length (numbers_where p.ext.props (differs before ns))) now in

@@ -7,7 +7,7 @@ use Rattle.std.proofs.lemmas.Bool.{both_ways, ltb-false, not-false}
 use Rattle.std.proofs.lemmas.List.Kept.{IsStrictlySortedBy-filter}
 use Rattle.std.proofs.lemmas.Option.{same_Some}
 use Rattle.lis_ports.specs.Meaning.{Meaning}
-use Rattle.lis_catalog.specs.Catalog.{Filed, slot_of, rec_at}
+use Rattle.lis_catalog.specs.Catalog.{slot_of, rec_at}
 use Rattle.lis_dict.specs.Dict.{word_of}
 use Rattle.lis_fields.specs.Records.{FileRecord}
 use Rattle.lis_graph.proofs.Members.{Among, among_filter}
@@ -28,18 +28,17 @@ use Rattle.lis_laws.proofs.Counts.{all_among, all_from, rising_from_sorted}
 use Rattle.lis_laws.proofs.Named.{file_of_name, gone_free}
 use Rattle.lis_kept.specs.Kept.{Kept}
 use Rattle.lis_kept.specs.Telling.{words_told, declared_of}
-use Rattle.lis_kept.proofs.Filing.{filed_at_slot}
+use Rattle.lis_kept.proofs.Dropped.{record_in_form}
 use Rattle.lis_store.specs.Stored.{Stored, IsSound, StoreFits}
 use Rattle.lis_store.specs.Admitting.{described_by}
 use Rattle.lis_store.specs.Changes.{first_refusal}
 use Rattle.lis_store.specs.Judging.{is_among}
 use Rattle.lis_store.specs.Replacing.{known_instead, MayReplace}
 use Rattle.lis_store.specs.Retagging.{led_by, moved_from, retag_checks, mv_checks_by, mv_checks_of}
-use Rattle.lis_store.proofs.Facts.{table_told, blocks_counted, size_is_short}
+use Rattle.lis_store.proofs.Facts.{table_told}
 use Rattle.lis_store.proofs.InsteadMay.{given_assignable}
 use Rattle.lis_store.proofs.InsteadTold.{old_given, large_told, room_told}
 use Rattle.lis_store.proofs.Judged.{same_first, judged_refused, judged_done, all_pass}
-use Rattle.lis_store.proofs.Limits.{limits_of_version_1}
 
 -- ---- the words that the file is given
 module _ (test : List ℕ → Bool) (given here next : List (List ℕ)) where
@@ -213,8 +212,6 @@ module _ (k : Stored) (sound : IsSound k) (slot : ℕ) (rec : FileRecord) (is_re
   mv_may name bytes words named form sized none =
       let given = words_told p.dict rec.tags in
       let file = moved_from p rec here next name bytes in
-      let filed : Filed = record { slot = slot; rec = rec } in
-      let there = filed_at_slot p.catalog sound.parts.catalog slot rec is_rec in
       let row = all_pass (retag_checks p here next words slot rec file) none in
       let few = row.1.1.1.1 in
       let assignable = few.1 in
@@ -231,6 +228,5 @@ module _ (k : Stored) (sound : IsSound k) (slot : ℕ) (rec : FileRecord) (is_re
         few = ltb-false 16 (length file.assigned) few.0;
         short = ltb-false 128 (length (described_by p file)) short.0;
         room = ltb-false p.limits.props (length (known_instead p slot file)) room.0;
-        small = omega (arith, sized, size_is_short p sound.parts (limits_of_version_1 p.limits sound.range) filed there);
-        blocks = omega (arith, sized, blocks_counted p sound.parts (limits_of_version_1 p.limits sound.range) filed there);
+        small = omega (arith, sized, (record_in_form p.limits.version p.dict p.limits.blocks rec (sound.parts.records slot rec is_rec)).small);
       }

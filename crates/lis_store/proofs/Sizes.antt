@@ -4,11 +4,11 @@ use Rattle.lis_eval.specs.View.{Placed, file_in}
 use Rattle.lis_catalog.specs.Catalog.{slot_of, rec_at}
 use Rattle.lis_catalog.proofs.Laws.{rec_at-slot_of}
 use Rattle.lis_fields.specs.Records.{FileRecord}
+use Rattle.lis_fields.proofs.Parts.{size_fits}
+use Rattle.lis_kept.proofs.Dropped.{record_in_form}
 use Rattle.lis_store.specs.Stored.{Stored, IsSound}
 use Rattle.lis_store.specs.Seen.{seen_of}
-use Rattle.lis_store.proofs.Facts.{size_is_short, filed_named}
 use Rattle.lis_store.proofs.Here.{size_seen}
-use Rattle.lis_store.proofs.Limits.{limits_of_version_1}
 
 some_is : (o : Option Placed) (size : ℕ) → IsSomeAnd o (λ (f : Placed). size ≡ f.entry.size) → IsSome o
 some_is None size is = absurd is
@@ -34,10 +34,10 @@ module _ (k : Stored) (name : List ℕ) (slot : ℕ) (sound : IsSound k) (is : s
     is_size : size ≡ (has_rec.0).size
     is_size = one_size (file_in (seen_of k.parts) slot) size (has_rec.0).size told seen
 
-    pub size_is_small : size ≤ 65536
+    pub size_is_small : size ≤ 1048576
     size_is_small =
-        subst (λ n. n ≤ 65536) (sym is_size)
-        (size_is_short k.parts sound.parts (limits_of_version_1 k.parts.limits sound.range) (record { slot = slot; rec = has_rec.0 }) (filed_named k.parts sound.parts name slot has_rec.0 is has_rec.1).0)
+        let form = record_in_form k.parts.limits.version k.parts.dict k.parts.limits.blocks has_rec.0 (sound.parts.records slot has_rec.0 has_rec.1) in
+        subst (λ n. n ≤ 1048576) (sym is_size) (size_fits k.parts.limits.version (has_rec.0).size form.small)
 
     pub size_of_rec : IsSomeAnd (rec_at k.parts.catalog slot) (λ (rec : FileRecord). size ≡ rec.size)
     size_of_rec = subst (λ (o : Option FileRecord). IsSomeAnd o (λ (rec : FileRecord). size ≡ rec.size)) (sym has_rec.1) is_size

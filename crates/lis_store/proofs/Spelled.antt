@@ -1,5 +1,5 @@
 -- What memory tells of a state, the slots and blocks that it spells tell too.
-use Rattle.std.proofs.Common.{◌≡◌, ◌⊎◌, refl, sym, ap, ap₂, ◌∙◌, subst, inl, inr, ℕ, suc, ◌+◌, ◌/◌, ◌<◌, ◌≤◌, ◌==◌, ◌&&◌, nat_lt, nat_le, Bool, true, false, is_some, Option, Some, None, option_map, option_to_list, List, [], ◌∷◌, ◌++◌, length, get_or, map, drop, replicate, slice_get, IsTrue, arith, append-nil}
+use Rattle.std.proofs.Common.{◌≡◌, ◌⊎◌, refl, sym, ap, ap₂, ◌∙◌, subst, inl, inr, ℕ, suc, ◌+◌, ◌/◌, ◌<◌, ◌≤◌, ◌==◌, ◌&&◌, nat_lt, Bool, true, false, is_some, Option, Some, None, option_map, option_to_list, List, [], ◌∷◌, ◌++◌, length, get_or, map, drop, replicate, slice_get, IsTrue, arith, append-nil}
 use Rattle.std.specs.BTreeSet.{insert_key}
 use Rattle.std.specs.List.{find, fold, flat_map, list_all, range_with_len}
 use Rattle.std.specs.List.Sorted.{IsPermutation}
@@ -42,7 +42,7 @@ use Rattle.lis_kept.specs.Kept.{Kept, property_by, property_at, axiom_at, file_b
 use Rattle.lis_kept.specs.Areas.{IsWritten, property_slots, axiom_slots, file_slots, row_slots}
 use Rattle.lis_kept.specs.Areas.Area.{Properties, Axioms, Files, Rows, Bitmap}
 use Rattle.lis_kept.specs.Sound.{AreSound, FreeSlotsAreEmpty}
-use Rattle.lis_kept.specs.Telling.{bit_of, is_declared, declared_of, words_told, pair_by, pair_told, pairs_told, bytes_told, file_told, blocks_told, state_of, Tells}
+use Rattle.lis_kept.specs.Telling.{bit_of, is_declared, declared_of, words_told, pair_by, pair_told, pairs_told, bytes_told, file_told, blocks_told, HasIndex, state_of, Tells}
 use Rattle.lis_kept.proofs.Formed.{some_word, axioms_formed, records_formed}
 use Rattle.lis_kept.proofs.Filing.{same_tests, filed_rec, filed_at_slot, among_from_number, number_from_among as has_from_among, same_distinct}
 use Rattle.lis_kept.proofs.Known.{placed_at, only_pair, one_number, number_told, declared_word, declared_has_number, declared_set, words_known}
@@ -271,21 +271,21 @@ module _ (k : Kept) (sound : AreSound k) where
       (map_among (file_of_record k.limits (properties_told k) at) (all_records (files_told k)) (f.0).rec (entry_recorded f.0 f.1))
 
   -- ---- data blocks
-  abbrev pub used : List ℕ
-  used = flat_map (λ (f : Filed). f.rec.blocks) k.catalog.entries
+  abbrev pub used : (ℕ → List ℕ) → List ℕ
+  used at = flat_map (λ (f : Filed). blocks_told k.limits at f.rec) k.catalog.entries
 
-  blocks_once : (at : ℕ → List ℕ) (o : Option Filed) → all_blocks k.limits at (records_in (file_by (option_map (λ (f : Filed). f.rec) o))) ≡ held (λ (f : Filed). f.rec.blocks) o
+  blocks_once : (at : ℕ → List ℕ) (o : Option Filed) → all_blocks k.limits at (records_in (file_by (option_map (λ (f : Filed). f.rec) o))) ≡ held (λ (f : Filed). blocks_told k.limits at f.rec) o
   blocks_once at None = refl
-  blocks_once at (Some f) = append-nil f.rec.blocks
+  blocks_once at (Some f) = append-nil (blocks_told k.limits at f.rec)
 
-  blocks_permuted : (at : ℕ → List ℕ) → IsPermutation used (all_blocks k.limits at (all_records (files_told k)))
+  blocks_permuted : (at : ℕ → List ℕ) → IsPermutation (used at) (all_blocks k.limits at (all_records (files_told k)))
   blocks_permuted at =
-      let parts : Filed → List ℕ = λ (f : Filed). f.rec.blocks in
+      let parts : Filed → List ℕ = λ (f : Filed). blocks_told k.limits at f.rec in
       let here : all_blocks k.limits at (all_records (files_told k)) ≡ flat_map (held_at (λ (f : Filed). f.slot) parts k.catalog.entries) slots =
       flat_map-flat_map (blocks_told k.limits at) records_in (files_told k)
       ∙ (flat_map-map (λ s. all_blocks k.limits at (records_in s)) (record_at k.catalog) slots
       ∙ flat_all (λ n. all_blocks k.limits at (records_in (record_at k.catalog n))) (held_at (λ (f : Filed). f.slot) parts k.catalog.entries) slots (λ n m. blocks_once at (filed_at n))) in
-      subst (λ xs. IsPermutation used xs) (sym here) (slot_order (λ (f : Filed). f.slot) parts k.limits.files k.catalog.entries sound.catalog.apart filed_in)
+      subst (λ xs. IsPermutation (used at) xs) (sym here) (slot_order (λ (f : Filed). f.slot) parts k.limits.files k.catalog.entries sound.catalog.apart filed_in)
 
 -- ---- what is told is spelled
 module _ (k : Kept) (at : ℕ → List ℕ) (sound : AreSound k) (free : FreeSlotsAreEmpty k) (pairs : PairsAreApart k) (written : IsWritten k at) (tells : Tells k at (state_of k at)) where
@@ -386,34 +386,34 @@ module _ (k : Kept) (at : ℕ → List ℕ) (sound : AreSound k) (free : FreeSlo
       ap (λ es. length es) (pairs_are k sound) ∙ omega (arith, some)
 
   -- ---- data blocks
-  pub told_below : (n : ℕ) → Among (used k sound) n → n < k.limits.blocks
+  pub told_below : (n : ℕ) → Among (used k sound at) n → n < k.limits.blocks
   told_below n m =
-      let found = among_flat_map (λ (f : Filed). f.rec.blocks) k.catalog.entries n m in
-      (tells.given found.0 (contains_from_among k.catalog.entries found.0 found.1) n (has_from_among (found.0).rec.blocks n found.2)).0
+      let found = among_flat_map (λ (f : Filed). blocks_told k.limits at f.rec) k.catalog.entries n m in
+      (tells.given found.0 (contains_from_among k.catalog.entries found.0 found.1) n (has_from_among (blocks_told k.limits at (found.0).rec) n found.2)).0
 
-  slot_used : (n : ℕ) → Among (all_blocks k.limits at (all_records (files_told k))) n → Among (used k sound) n
-  slot_used n m = permuted_among (all_blocks k.limits at (all_records (files_told k))) (used k sound) n (IsPermutation-sym (used k sound) (all_blocks k.limits at (all_records (files_told k))) (blocks_permuted k sound at)) m
+  slot_used : (n : ℕ) → Among (all_blocks k.limits at (all_records (files_told k))) n → Among (used k sound at) n
+  slot_used n m = permuted_among (all_blocks k.limits at (all_records (files_told k))) (used k sound at) n (IsPermutation-sym (used k sound at) (all_blocks k.limits at (all_records (files_told k))) (blocks_permuted k sound at)) m
 
-  used_slot : (n : ℕ) → Among (used k sound) n → Among (all_blocks k.limits at (all_records (files_told k))) n
-  used_slot n m = permuted_among (used k sound) (all_blocks k.limits at (all_records (files_told k))) n (blocks_permuted k sound at) m
+  used_slot : (n : ℕ) → Among (used k sound at) n → Among (all_blocks k.limits at (all_records (files_told k))) n
+  used_slot n m = permuted_among (used k sound at) (all_blocks k.limits at (all_records (files_told k))) n (blocks_permuted k sound at) m
 
   all_in_image : IsTrue (list_all (λ n. nat_lt n k.limits.blocks) (all_blocks k.limits at (all_records (files_told k))))
   all_in_image = all_from (λ n. nat_lt n k.limits.blocks) (all_blocks k.limits at (all_records (files_told k))) (λ n m. lt-ltb n k.limits.blocks (told_below n (slot_used n m)))
 
-  pub used_once : are_distinct (used k sound) ≡ true
+  pub used_once : are_distinct (used k sound at) ≡ true
   used_once =
-      distinct_pieces (λ (f : Filed). f.slot) (λ (f : Filed). f.rec.blocks) k.catalog.entries (sym (same_distinct (map (λ (f : Filed). f.slot) k.catalog.entries)) ∙ sound.catalog.apart)
-      (λ f m. sym (same_distinct f.rec.blocks) ∙ (sound_parts k sound f m).apart)
-      (λ f g n here there in_f in_g. tells.one_use f g (contains_from_among k.catalog.entries f here) (contains_from_among k.catalog.entries g there) n (has_from_among f.rec.blocks n in_f) (has_from_among g.rec.blocks n in_g))
+      distinct_pieces (λ (f : Filed). f.slot) (λ (f : Filed). blocks_told k.limits at f.rec) k.catalog.entries (sym (same_distinct (map (λ (f : Filed). f.slot) k.catalog.entries)) ∙ sound.catalog.apart)
+      (λ f m. tells.apart f (contains_from_among k.catalog.entries f m))
+      (λ f g n here there in_f in_g. tells.one_use f g (contains_from_among k.catalog.entries f here) (contains_from_among k.catalog.entries g there) n (has_from_among (blocks_told k.limits at f.rec) n in_f) (has_from_among (blocks_told k.limits at g.rec) n in_g))
 
   taken_told : k.taken ≡ marked (replicate k.limits.blocks false) (all_blocks k.limits at (all_records (files_told k)))
   taken_told = marks_are k.taken (all_blocks k.limits at (all_records (files_told k))) k.limits.blocks sound.blocks (λ n lt.
       same_tests (is_taken k.taken n) (has_number (all_blocks k.limits at (all_records (files_told k))) n)
       (λ taken. let of_file = tells.taken n lt taken in
       has_from_among (all_blocks k.limits at (all_records (files_told k))) n
-      (used_slot n (flat_map_among (λ (f : Filed). f.rec.blocks) k.catalog.entries of_file.file n (among_from_contains k.catalog.entries of_file.file of_file.kept) (among_from_number (of_file.file).rec.blocks n of_file.has))))
-      (λ has_it. let found = among_flat_map (λ (f : Filed). f.rec.blocks) k.catalog.entries n (slot_used n (among_from_number (all_blocks k.limits at (all_records (files_told k))) n has_it)) in
-      (tells.given found.0 (contains_from_among k.catalog.entries found.0 found.1) n (has_from_among (found.0).rec.blocks n found.2)).1))
+      (used_slot n (flat_map_among (λ (f : Filed). blocks_told k.limits at f.rec) k.catalog.entries of_file.file n (among_from_contains k.catalog.entries of_file.file of_file.kept) (among_from_number (blocks_told k.limits at (of_file.file).rec) n of_file.has))))
+      (λ has_it. let found = among_flat_map (λ (f : Filed). blocks_told k.limits at f.rec) k.catalog.entries n (slot_used n (among_from_number (all_blocks k.limits at (all_records (files_told k))) n has_it)) in
+      (tells.given found.0 (contains_from_among k.catalog.entries found.0 found.1) n (has_from_among (blocks_told k.limits at (found.0).rec) n found.2)).1))
 
   -- ---- rows
   bit_is : (p i : ℕ) → i < k.limits.files → has k.ext p i ≡ row_bit s k.limits (contents_of k) at p i
@@ -461,8 +461,11 @@ module _ (k : Kept) (at : ℕ → List ℕ) (sound : AreSound k) (free : FreeSlo
     each_word_once = length_permutation (words k.dict) (words_in (properties_told k)) (words_permuted k sound) ∙ ap (λ ws. length ws) known_are;
     each_pair_once = pairs_once;
     each_name_once = names_once;
+    indexed = λ rec m.
+        let f = recorded_entry k sound rec (among_from_contains (all_records (files_told k)) rec m) in
+        subst (λ (r : FileRecord). HasIndex k.limits at r) f.2 (tells.indexed f.0 (contains_from_among k.catalog.entries f.0 f.1));
     blocks = all_in_image;
-    each_block_once = distinct_permuted (used k sound) (all_blocks k.limits at (all_records (files_told k))) (blocks_permuted k sound at) used_once;
+    each_block_once = distinct_permuted (used k sound at) (all_blocks k.limits at (all_records (files_told k))) (blocks_permuted k sound at) used_once;
     bitmap = written Bitmap 0 (omega arith) ∙ ap bitmap_bytes taken_told;
     rows = rows_are;
   }

@@ -11,13 +11,12 @@ use Rattle.lis_journal.specs.Journal.{Held}
 use Rattle.lis_journal.specs.Record.{Entry}
 use Rattle.lis_journal.specs.Phases.{looked}
 use Rattle.lis_blockmap.specs.Bitmap.{is_taken}
-use Rattle.lis_content.specs.Content.{has_number}
+use Rattle.lis_content.specs.Content.{has_number, are_distinct}
 use Rattle.lis_dict.specs.Dict.{Dict, number_of, word_of}
 use Rattle.lis_catalog.specs.Catalog.{Filed}
 use Rattle.lis_ext.specs.Ext.{Ext, has, set_of as numbers_at}
 use Rattle.lis_ext.specs.Numbers.{numbers_where}
 use Rattle.lis_grammar.specs.Formula.{Formula}
-use Rattle.lis_store.specs.Stands.{is_super}
 use Rattle.lis_words.specs.Words.{word_cmp, is_test, is_plain_word, is_property, test_of}
 use Rattle.lis_model.specs.declared.refusal.Refusal.{Refusal}
 use Rattle.lis_model.specs.declared.limits.Limits.{Limits}
@@ -31,15 +30,15 @@ use Rattle.lis_laws.proofs.Members.{word_order, word_exact, sorted_with_words}
 use Rattle.lis_kept.specs.Kept.{Kept}
 use Rattle.lis_kept.specs.Areas.{IsSaved, marked_count}
 use Rattle.lis_kept.specs.Forgetting.{KeepsInUse}
-use Rattle.lis_kept.specs.Sound.{AreSound, FreeSlotsAreEmpty, BlocksAreTaken}
-use Rattle.lis_kept.specs.Telling.{is_declared, words_told, bytes_told, file_told, state_of, AreUsed, Tells}
+use Rattle.lis_kept.specs.Sound.{AreSound, FreeSlotsAreEmpty}
+use Rattle.lis_kept.specs.Telling.{is_declared, words_told, bytes_told, blocks_told, HasIndex, file_told, state_of, AreUsed, Tells}
 use Rattle.lis_kept.specs.Under.{MayStandUnder, DeclaresUnder}
 use Rattle.lis_ext.proofs.Numbers.{among_where, where_among}
 use Rattle.lis_kept.proofs.Filing.{among_from_number, number_from_among, filed_rec}
 use Rattle.lis_kept.proofs.Formed.{named_all, named_below}
 use Rattle.lis_kept.proofs.Known.{among_word, word_among}
 use Rattle.lis_kept.proofs.Numbered.{Numbers, numbers_are}
-use Rattle.lis_store.specs.Stored.{Stored, PairsAreApart, AreClosed, DescriptionsAreShort, BlocksAreApart, TestsAreMet, IsSound, StoreFits}
+use Rattle.lis_store.specs.Stored.{Stored, PairsAreApart, AreClosed, DescriptionsAreShort, TestsAreMet, IsSound, StoreFits}
 use Rattle.lis_store.specs.Saving.{settled, IsReady, Saves}
 use Rattle.lis_store.specs.Judging.{word_checks}
 use Rattle.lis_store.specs.Placing.{AreNumbersOf}
@@ -50,6 +49,7 @@ use Rattle.lis_store.specs.declared.change.Change.{Change}
 use Rattle.lis_store.specs.declared.change.Change.TheVariants.{Refused}
 use Rattle.lis_store.proofs.Cleaned.{clean_is, sound_clean, in_use_clean, tests_clean, none_marked}
 use Rattle.lis_store.proofs.Crowded.{gained_told, gains_same, wide_told, met_described, unmet_described}
+use Rattle.lis_store.proofs.SavedAlone.{saves_alone}
 use Rattle.lis_store.proofs.Declared.{IsPlaceable, is_placeable, new_word, plain_at, apart_at, limits_are, parts_are, entries_are, file_then, in_use_then, apart_then, few_marked, saved_then, told_then, may_stand, described_alike, unlisted, unsided, not_wide, large_told, formed_then, outcome_is}
 use Rattle.lis_store.proofs.Facts.{file_of_filed, size_of_filed}
 use Rattle.lis_store.proofs.Judged.{judged_refused, judged_done, change_refused}
@@ -75,20 +75,17 @@ module _ (p made q : Kept) (word : List ℕ) (rights : List ℕ) (words : List (
   pub sound_then : (j : Held) (b : Bool) → b ≡ false → IsSound (record { parts = p; journal = j; is_broken = b }) → has_crowded p (test_of word) (is_gained p rights) ≡ false → AreSound q → IsSound (settled q j)
   sound_then j b whole was fits after = subst (λ (k : Kept). IsSound (settled k j)) (sym gives.parts) (record {
     parts = sound_clean end sound_end;
-    range = subst (λ (k : Kept). IsTrue (is_super k.limits)) (sym made_is) was.range;
     free = free_then p made word rights words sound new numbers stands sound_made plain q gives was.free;
     pairs = apart_then p made word rights words sound new numbers stands was.pairs;
     closed = closed_then p made word rights words sound new numbers stands sound_made plain q gives was.free was.tests was.closed;
     short = λ slot. let few = few_tested p made word rights words sound new numbers stands sound_made plain was.short fits slot in
         omega (arith, few, ap length (set_then p made word rights words sound new numbers stands sound_made plain q gives slot));
     tests = tests_clean end (tests_then p made word rights words sound new numbers stands sound_made plain q gives was.free was.tests was.in_use);
-    taken = subst (λ (k : Kept). BlocksAreTaken k) (sym made_is) was.taken;
-    apart = subst (λ (k : Kept). BlocksAreApart k) (sym made_is) was.apart;
     in_use = in_use_clean end (used_then p made word rights words sound new numbers stands sound_made plain q gives was.free (in_use_then p made word rights words sound new numbers stands was.in_use));
     image = subst (λ (k : Kept). j.blocks ≡ image_blocks k.limits) (sym made_is) was.image;
     journal = λ _. was.journal whole;
     staged = λ _. refl;
-    placed = λ _. was.placed whole;
+    placed = λ _. refl;
     clean = λ _. clean_is end;
   })
     where
@@ -226,12 +223,22 @@ module _ (p made q : Kept) (word : List ℕ) (rights : List ℕ) (words : List (
       described = λ f m. described_then f (there f m);
       taken = λ n lt is.
           let b = tells.taken n (subst (λ (k : Kept). n < k.limits.blocks) q_is lt) (subst (λ (k : Kept). is_taken k.taken n ≡ true) q_is is) in
-          record { file = b.file; kept = subst (λ (fs : List Filed). Contains fs b.file) (sym (ap (λ (k : Kept). k.catalog.entries) q_is)) b.kept; has = b.has };
+          record {
+            file = b.file;
+            kept = subst (λ (fs : List Filed). Contains fs b.file) (sym (ap (λ (k : Kept). k.catalog.entries) q_is)) b.kept;
+            has = subst (λ (k : Kept). has_number (blocks_told k.limits at b.file.rec) n ≡ true) (sym q_is) b.has;
+          };
       given = λ f m n has_it.
-          let g = tells.given f (contains_from_among p.catalog.entries f (there f m)) n has_it in
+          let g = tells.given f (contains_from_among p.catalog.entries f (there f m)) n (was_had f n has_it) in
           subst (λ (k : Kept). (n < k.limits.blocks) × (is_taken k.taken n ≡ true)) (sym q_is) g;
-      one_use = λ f g mf mg n has_f has_g. tells.one_use f g (contains_from_among p.catalog.entries f (there f mf)) (contains_from_among p.catalog.entries g (there g mg)) n has_f has_g;
+      indexed = λ f m. subst (λ (k : Kept). HasIndex k.limits at f.rec) (sym q_is) (tells.indexed f (contains_from_among p.catalog.entries f (there f m)));
+      apart = λ f m. subst (λ (k : Kept). are_distinct (blocks_told k.limits at f.rec) ≡ true) (sym q_is) (tells.apart f (contains_from_among p.catalog.entries f (there f m)));
+      one_use = λ f g mf mg n has_f has_g.
+          tells.one_use f g (contains_from_among p.catalog.entries f (there f mf)) (contains_from_among p.catalog.entries g (there g mg)) n (was_had f n has_f) (was_had g n has_g);
     }
+      where
+        was_had : (f : Filed) (n : ℕ) → has_number (blocks_told q.limits at f.rec) n ≡ true → has_number (blocks_told p.limits at f.rec) n ≡ true
+        was_had f n = subst (λ (k : Kept). has_number (blocks_told k.limits at f.rec) n ≡ true) q_is
 
     pub ready_tested : IsSaved p at → IsReady q at t
     ready_tested saved = record { tells = tells_tested; saved = gives.saved at (saved_then p made word rights words sound new numbers stands at saved) }
@@ -288,8 +295,7 @@ module _ (old : Stored) (place : List Formula) (word : List ℕ) (rights : List 
         let ready : IsReady q fits.kept made =
         ready_tested old.parts declares.made q word rights (words_at place) sound.parts declared_new numbers declares.stands declares.sound (plain_at place passes.plain) declares.gives fits.kept s sound.free fits.tells kept
         sound.pairs sizes sound.in_use formed (λ area n lt unmarked. fits.written area n lt) in
-        saves old now (mkdir now word) made fits sound refl refl refl declared_limits
-        (λ _. subst (λ (es : List Entry). IsReady q (looked es fits.kept) made) (sym (sound.staged unbroken)) ready)
+        saves_alone old sound unbroken q new before after result saves now (mkdir now word) made fits declared_limits (λ _. ready)
         (outcome_is old.parts sound.parts sound.pairs fits.kept s sound.free fits.tells place word kept sizes ∙ judged_done now (word_checks old.parts place word) (changed now made) none)
 
 -- one that is refused

@@ -4,8 +4,6 @@ use Rattle.std.proofs.lemmas.Bool.{and_parts}
 use Rattle.std.proofs.lemmas.Option.{same_Some}
 use Rattle.lis_graph.proofs.Members.{among_from_any}
 use Rattle.lis_ports.specs.Meaning.{Meaning}
-use Rattle.lis_journal.specs.Record.{Entry as Staged}
-use Rattle.lis_journal.specs.Phases.{looked}
 use Rattle.lis_words.specs.Words.{same_word, is_plain_word}
 use Rattle.lis_model.specs.declared.refusal.Refusal.TheVariants.{NoAxiom}
 use Rattle.lis_model.specs.State.{State}
@@ -24,6 +22,7 @@ use Rattle.lis_store.specs.Changes.{Changes}
 use Rattle.lis_store.specs.Saving.{settled, IsReady, Saves}
 use Rattle.lis_store.specs.Unlinking.{is_axiom, IsAxiomAt, TakesAxiom}
 use Rattle.lis_store.proofs.Judged.{change_refused}
+use Rattle.lis_store.proofs.SavedAlone.{saves_alone}
 use Rattle.lis_store.proofs.Unaxiomed.{limits_stay, sound_gone, ready_gone, few_marked}
 
 -- only plain words are right sides
@@ -74,6 +73,5 @@ module _ (old : Stored) (q : Kept) (l r : List ℕ) (left right : ℕ) (found : 
       let s = now.state in
       let made : State = axiom_removed s (l, r) in
       let ready : IsReady q fits.kept made = ready_gone left right old.parts q takes old.journal old.is_broken sound fits.kept s fits.tells l r found.is_left found.is_right (λ area n lt unmarked. fits.written area n lt) in
-      saves old now (unaxiom now (l, r)) made fits sound refl refl refl (limits_stay left right old.parts q takes old.journal old.is_broken sound)
-      (λ _. subst (λ (es : List Staged). IsReady q (looked es fits.kept) made) (sym (sound.staged unbroken)) ready)
+      saves_alone old sound unbroken q new before after result saves now (unaxiom now (l, r)) made fits (limits_stay left right old.parts q takes old.journal old.is_broken sound) (λ _. ready)
       (ap (λ b. cond (not b) (refused now NoAxiom) (changed now made)) (sym (axiom_here old before s fits l r) ∙ there))

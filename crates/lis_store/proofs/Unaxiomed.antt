@@ -9,7 +9,7 @@ use Rattle.lis_graph.proofs.Members.{Among, among_from_contains, contains_from_a
 use Rattle.lis_graph.proofs.Sets.{sorted_from_rising}
 use Rattle.lis_journal.specs.Journal.{Held}
 use Rattle.lis_blockmap.specs.Bitmap.{is_taken}
-use Rattle.lis_content.specs.Content.{has_number}
+use Rattle.lis_content.specs.Content.{has_number, are_distinct}
 use Rattle.lis_dict.specs.Dict.{Dict, word_of}
 use Rattle.lis_catalog.specs.Catalog.{Filed, rec_at}
 use Rattle.lis_fields.specs.Records.{FileRecord}
@@ -26,16 +26,15 @@ use Rattle.lis_laws.proofs.Leads.{right_leads}
 use Rattle.lis_model.specs.Tests.{are_weaker, is_met}
 use Rattle.lis_laws.proofs.Members.{pair_order}
 use Rattle.lis_laws.proofs.Sources.{rights_are, right_plain}
-use Rattle.lis_store.specs.Stands.{is_super}
 use Rattle.lis_model.specs.Image.{image_blocks}
 use Rattle.lis_kept.specs.Kept.{Kept}
 use Rattle.lis_kept.specs.Edges.{head_number}
 use Rattle.lis_kept.specs.Areas.{IsSaved, block_of, is_marked, marked_count}
 use Rattle.lis_kept.specs.Areas.Area.{Axioms, Rows}
 use Rattle.lis_kept.specs.Links.{is_pair, has_pair, is_own_link, is_linked}
-use Rattle.lis_kept.specs.Sound.{AreSound, FreeSlotsAreEmpty, BlocksAreTaken}
+use Rattle.lis_kept.specs.Sound.{AreSound, FreeSlotsAreEmpty}
 use Rattle.lis_kept.specs.TestEdges.{test_by, is_test_link}
-use Rattle.lis_kept.specs.Telling.{words_told, declared_of, axioms_of, file_told, blocks_told, state_of, is_head_by, is_had, is_used, AreUsed, IsFileBlock, Tells}
+use Rattle.lis_kept.specs.Telling.{words_told, declared_of, axioms_of, file_told, blocks_told, HasIndex, state_of, is_head_by, is_had, is_used, AreUsed, IsFileBlock, Tells}
 use Rattle.lis_kept.proofs.AxiomTaken.{axiom_back, taken_unfelt}
 use Rattle.lis_ext.proofs.Numbers.{among_where, where_among, sorted_where}
 use Rattle.lis_kept.proofs.Filing.{same_tests, among_from_number, number_from_among, filed_rec}
@@ -45,7 +44,7 @@ use Rattle.lis_kept.proofs.MarkedWithin.{marked_only, marked_within}
 use Rattle.lis_kept.proofs.TestLinks.{none_weaker, test_link, test_linked, linked_by}
 use Rattle.lis_kept.proofs.Used.{had_at}
 use Rattle.lis_kept.proofs.WordLess.{had_from}
-use Rattle.lis_store.specs.Stored.{AreClosed, DescriptionsAreShort, BlocksAreApart, TestsAreMet, IsSound}
+use Rattle.lis_store.specs.Stored.{AreClosed, DescriptionsAreShort, TestsAreMet, IsSound}
 use Rattle.lis_store.specs.Changes.{differing_bits}
 use Rattle.lis_store.specs.Redescribing.{IsTurnedRow}
 use Rattle.lis_store.specs.Saving.{settled, IsReady}
@@ -209,14 +208,11 @@ module _ (left right : ℕ) (p q : Kept) (takes : TakesAxiom left right p q) (j 
   pub sound_gone : b ≡ false → AreSound q → IsSound (settled q j)
   sound_gone whole after = subst (λ (u : Kept). IsSound (settled u j)) (sym end_is) (record {
     parts = sound_clean end sound_end;
-    range = subst (λ (u : Kept). is_super u.limits ≡ true) (sym takes.unlinks.parts) was.range;
     free = free_less k m takes.sound closed_k left right takes.lessens free_k;
     pairs = pairs_unlinked left right p k takes.unlinks was.pairs;
     closed = λ slot x y had linked. closed_less k m takes.sound closed_k left right takes.lessens slot x y had (link_back sound_end x y linked);
     tests = tests_clean end tests_end;
     short = short_less k m takes.sound closed_k left right takes.lessens (subst (λ (u : Kept). DescriptionsAreShort u) (sym takes.unlinks.parts) was.short);
-    taken = subst (λ (u : Kept). BlocksAreTaken u) (sym takes.unlinks.parts) was.taken;
-    apart = subst (λ (u : Kept). BlocksAreApart u) (sym takes.unlinks.parts) was.apart;
     in_use = in_use_clean end (record {
       used = subst (λ (u : Kept). AreUsed u) end_is used_then;
       tags = tags_less k m takes.sound closed_k left right takes.lessens (tags_unlinked left right p k takes.unlinks was.in_use.tags);
@@ -225,7 +221,7 @@ module _ (left right : ℕ) (p q : Kept) (takes : TakesAxiom left right p q) (j 
     image = was.image ∙ ap (λ (u : Kept). image_blocks u.limits) (sym takes.unlinks.parts);
     journal = λ _. was.journal whole;
     staged = λ _. refl;
-    placed = λ _. was.placed whole;
+    placed = λ _. refl;
     clean = λ _. clean_is end;
   })
     where
@@ -312,6 +308,8 @@ module _ (left right : ℕ) (p q : Kept) (takes : TakesAxiom left right p q) (j 
           ∙ (described_k f of ∙ ap (description t) (sym (file_then f of)));
       taken = λ n lt is. let one = taken_k n lt is in record { file = one.file; kept = one.kept; has = one.has };
       given = subst (λ (u : Kept). (f : Filed) → Contains u.catalog.entries f → (n : ℕ) → has_number (blocks_told u.limits at f.rec) n ≡ true → (n < u.limits.blocks) × (is_taken u.taken n ≡ true)) (sym takes.unlinks.parts) tells.given;
+      indexed = subst (λ (u : Kept). (f : Filed) → Contains u.catalog.entries f → HasIndex u.limits at f.rec) (sym takes.unlinks.parts) tells.indexed;
+      apart = subst (λ (u : Kept). (f : Filed) → Contains u.catalog.entries f → are_distinct (blocks_told u.limits at f.rec) ≡ true) (sym takes.unlinks.parts) tells.apart;
       one_use = subst (λ (u : Kept). (f g : Filed) → Contains u.catalog.entries f → Contains u.catalog.entries g → (n : ℕ)
           → has_number (blocks_told u.limits at f.rec) n ≡ true → has_number (blocks_told u.limits at g.rec) n ≡ true → f ≡ g) (sym takes.unlinks.parts) tells.one_use;
     }

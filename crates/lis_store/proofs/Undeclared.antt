@@ -10,7 +10,7 @@ use Rattle.lis_journal.specs.Journal.{Held}
 use Rattle.lis_journal.specs.Record.{Entry}
 use Rattle.lis_journal.specs.Phases.{looked}
 use Rattle.lis_blockmap.specs.Bitmap.{is_taken}
-use Rattle.lis_content.specs.Content.{has_number}
+use Rattle.lis_content.specs.Content.{has_number, are_distinct}
 use Rattle.lis_content.proofs.Numbers.{neither}
 use Rattle.lis_dict.specs.Dict.{number_of, word_of}
 use Rattle.lis_dict.proofs.Laws.{word_from_number}
@@ -19,7 +19,6 @@ use Rattle.lis_ext.specs.Ext.{Ext, has, set_of as numbers_at}
 use Rattle.lis_fields.specs.Records.{FileRecord}
 use Rattle.lis_fields.specs.declared.slots.AxiomSlot.TheVariants.{Pair}
 use Rattle.lis_fields.specs.Layouts.{is_prop}
-use Rattle.lis_store.specs.Stands.{is_super}
 use Rattle.lis_words.specs.Words.{word_cmp, same_word, head_bytes, is_valued, is_built_in, is_test, test_of}
 use Rattle.lis_model.specs.declared.refusal.Refusal.{Refusal}
 use Rattle.lis_model.specs.declared.refusal.Refusal.TheVariants.{BuiltIn, NotAssignable, NotDeclared, InUse}
@@ -41,9 +40,9 @@ use Rattle.lis_kept.specs.Kept.{Kept, property_by}
 use Rattle.lis_kept.specs.Areas.{IsSaved, block_of, is_marked, marked_count}
 use Rattle.lis_kept.specs.Areas.Area.{Rows}
 use Rattle.lis_kept.specs.Links.{is_own_link, has_pair, is_linked}
-use Rattle.lis_kept.specs.Sound.{AreSound, FreeSlotsAreEmpty, BlocksAreTaken}
+use Rattle.lis_kept.specs.Sound.{AreSound, FreeSlotsAreEmpty}
 use Rattle.lis_kept.specs.Forgetting.{KeepsInUse}
-use Rattle.lis_kept.specs.Telling.{bit_of, is_declared, declared_of, words_told, file_told, state_of, is_head_by, is_left_of, is_left_head_of, is_had, is_named_left, is_used, Tells}
+use Rattle.lis_kept.specs.Telling.{bit_of, is_declared, declared_of, words_told, blocks_told, HasIndex, file_told, state_of, is_head_by, is_left_of, is_left_head_of, is_had, is_named_left, is_used, Tells}
 use Rattle.lis_kept.specs.TestEdges.{test_by}
 use Rattle.lis_kept.specs.Undeclaring.{is_right_of, is_named_by, is_needed, MayUndeclare, Undeclares}
 use Rattle.lis_kept.proofs.Filing.{same_tests, among_from_number, number_from_among, filed_rec}
@@ -53,7 +52,7 @@ use Rattle.lis_kept.proofs.OwnLinks.{own_head, among_slot, unnamed_to}
 use Rattle.lis_kept.proofs.Used.{any_or}
 use Rattle.lis_kept.proofs.Needed.{may_undeclare}
 use Rattle.lis_kept.proofs.NeededTold.{needed_told}
-use Rattle.lis_store.specs.Stored.{Stored, PairsAreApart, AreClosed, DescriptionsAreShort, BlocksAreApart, TestsAreMet, IsSound, StoreFits}
+use Rattle.lis_store.specs.Stored.{Stored, PairsAreApart, AreClosed, DescriptionsAreShort, TestsAreMet, IsSound, StoreFits}
 use Rattle.lis_store.specs.Saving.{settled, IsReady, Saves}
 use Rattle.lis_store.specs.Judging.{is_needed_by, undeclare_checks}
 use Rattle.lis_store.specs.Redescribing.{IsTurnedRow}
@@ -61,6 +60,7 @@ use Rattle.lis_store.specs.Testing.{without_number, undescribed, UndeclaresUnmet
 use Rattle.lis_store.specs.Changes.{Changes, first_refusal, differing_bits}
 use Rattle.lis_store.specs.declared.change.Change.{Change}
 use Rattle.lis_store.specs.declared.change.Change.TheVariants.{Refused}
+use Rattle.lis_store.proofs.SavedAlone.{saves_alone}
 use Rattle.lis_store.proofs.Facts.{described_told, file_of_filed}
 use Rattle.lis_store.proofs.HeadsUsed.{used_flagged, used_had, used_left, IsUsedFor, used_for}
 use Rattle.lis_store.proofs.HeadsUsed.IsUsedFor.{Flagged, HadAt, NamedLeft}
@@ -338,20 +338,17 @@ module _ (p q : Kept) (number : ℕ) (sound : AreSound p) (may : MayUndeclare nu
   sound_undeclared j b whole was after =
       record {
         parts = sound_clean q after;
-        range = subst (λ (k : Kept). IsTrue (is_super k.limits)) (sym q_is) was.range;
         free = λ slot none n. false_from_ne_true (has q.ext n slot) (λ had.
             both_ways (has p.ext n slot) (was.free slot (sym (rec_is slot) ∙ none) n) (had_then n slot (ap (λ (e : Ext). has e n slot) (sym ext_is) ∙ had)).0);
         pairs = subst (λ (k : Kept). PairsAreApart k) (sym q_is) was.pairs;
         closed = closed_then after was.closed;
         short = λ slot. omega (arith, ap (λ (e : Ext). length (numbers_at e slot)) ext_is, ap length (set_then slot), filter_le (λ n. not (n == number)) (numbers_at p.ext slot), was.short slot);
         tests = tests_clean q (tests_then was.tests);
-        taken = subst (λ (k : Kept). BlocksAreTaken k) (sym q_is) was.taken;
-        apart = subst (λ (k : Kept). BlocksAreApart k) (sym q_is) was.apart;
         in_use = in_use_clean q (in_use_then was.in_use);
         image = subst (λ (k : Kept). j.blocks ≡ image_blocks k.limits) (sym q_is) was.image;
         journal = λ _. was.journal whole;
         staged = λ _. refl;
-        placed = λ _. was.placed whole;
+        placed = λ _. refl;
         clean = λ _. clean_is q;
       }
 
@@ -429,12 +426,22 @@ module _ (p q : Kept) (number : ℕ) (sound : AreSound p) (may : MayUndeclare nu
       described = λ f m. described_then f (there f m);
       taken = λ n lt is.
           let b = tells.taken n (subst (λ (k : Kept). n < k.limits.blocks) q_is lt) (subst (λ (k : Kept). is_taken k.taken n ≡ true) q_is is) in
-          record { file = b.file; kept = subst (λ (fs : List Filed). Contains fs b.file) (sym entries_are) b.kept; has = b.has };
+          record {
+            file = b.file;
+            kept = subst (λ (fs : List Filed). Contains fs b.file) (sym entries_are) b.kept;
+            has = subst (λ (k : Kept). has_number (blocks_told k.limits at b.file.rec) n ≡ true) (sym q_is) b.has;
+          };
       given = λ f m n has_it.
-          let g = tells.given f (contains_from_among p.catalog.entries f (there f m)) n has_it in
+          let g = tells.given f (contains_from_among p.catalog.entries f (there f m)) n (was_had f n has_it) in
           subst (λ (k : Kept). (n < k.limits.blocks) × (is_taken k.taken n ≡ true)) (sym q_is) g;
-      one_use = λ f g mf mg n has_f has_g. tells.one_use f g (contains_from_among p.catalog.entries f (there f mf)) (contains_from_among p.catalog.entries g (there g mg)) n has_f has_g;
+      indexed = λ f m. subst (λ (k : Kept). HasIndex k.limits at f.rec) (sym q_is) (tells.indexed f (contains_from_among p.catalog.entries f (there f m)));
+      apart = λ f m. subst (λ (k : Kept). are_distinct (blocks_told k.limits at f.rec) ≡ true) (sym q_is) (tells.apart f (contains_from_among p.catalog.entries f (there f m)));
+      one_use = λ f g mf mg n has_f has_g.
+          tells.one_use f g (contains_from_among p.catalog.entries f (there f mf)) (contains_from_among p.catalog.entries g (there g mg)) n (was_had f n has_f) (was_had g n has_g);
     }
+      where
+        was_had : (f : Filed) (n : ℕ) → has_number (blocks_told q.limits at f.rec) n ≡ true → has_number (blocks_told p.limits at f.rec) n ≡ true
+        was_had f n = subst (λ (k : Kept). has_number (blocks_told k.limits at f.rec) n ≡ true) q_is
 
     ready_undeclared : IsSaved p at → IsReady q at t
     ready_undeclared saved = record { tells = tells_undeclared; saved = undeclares.marks.saved at (gone.takes.saved at saved) }
@@ -504,8 +511,7 @@ module _ (old : Stored) (word : List ℕ) (number : ℕ) (sound : IsSound old) (
         let ready : IsReady q fits.kept (undeclared s gone.undeclares.word) =
         ready_undeclared old.parts q number sound.parts undeclared_may gone fits.kept s sound.free fits.tells sound.in_use (subst (λ w. is_in_use s w ≡ false) (sym same) unused)
         (subst (λ w. Among s.declared w) (sym same) listed) (λ area n lt unmarked. fits.written area n lt) in
-        saves old now (rmdir now word) (undeclared s word) fits sound refl refl refl undeclared_limits
-        (λ _. subst (λ (es : List Entry). IsReady q (looked es fits.kept) (undeclared s word)) (sym (sound.staged unbroken)) (subst (λ w. IsReady q fits.kept (undeclared s w)) same ready))
+        saves_alone old sound unbroken q new before after result saves now (rmdir now word) (undeclared s word) fits undeclared_limits (λ _. subst (λ w. IsReady q fits.kept (undeclared s w)) same ready)
         (rmdir_is old.parts sound.parts fits.kept now sound.free fits.tells word ∙ judged_done now (undeclare_checks old.parts word) (changed now (undeclared s word)) none)
 
 -- one that is refused

@@ -1,60 +1,39 @@
 -- What memory keeps when a file is gone whose slot is still described: another file may come into the slot.
-use Rattle.std.proofs.Common.{◌≡◌, ◌⊎◌, refl, sym, ap, ◌∙◌, inl, inr, ℕ, ◌+◌, ◌<◌, ◌≤◌, ◌==◌, not, Bool, true, false, if◌then◌else◌, cond, List, [], ◌∷◌, length, set, Option, Some, None, arith, length-set}
-use Rattle.std.proofs.lemmas.Bool.{and_parts, both_ways, cases_eq, eq-eqb, ne_eqb, false_from_ne_true, not-true, not_from_false}
+use Rattle.std.proofs.Common.{◌≡◌, ◌⊎◌, refl, sym, ap, ◌∙◌, inl, inr, ℕ, ◌<◌, ◌==◌, not, Bool, true, false, if◌then◌else◌, [], set, Option, Some, None, length-set}
+use Rattle.std.proofs.lemmas.Bool.{both_ways, cases_eq, eq-eqb, ne_eqb}
 use Rattle.std.proofs.lemmas.Map.Entries.{option_filter}
-use Rattle.std.proofs.lemmas.List.Sums.{sum_by-set}
-use Rattle.lis_blockmap.specs.Bitmap.{is_taken, free_count}
-use Rattle.lis_content.specs.Content.{given, has_number, are_taken, are_distinct}
-use Rattle.lis_content.proofs.Numbers.{below_if_taken, taken_still, stay_given}
+use Rattle.lis_content.specs.Content.{has_number}
 use Rattle.lis_catalog.specs.Catalog.{slot_of, rec_at, without_slot}
 use Rattle.lis_catalog.proofs.Laws.{rec_at-without_slot, slot_of-without_slot, slot_of-rec_at, filtered_none, filtered_one}
 use Rattle.lis_ext.specs.Ext.{has, set_of as numbers_at}
 use Rattle.lis_fields.specs.Records.{FileRecord}
 use Rattle.lis_words.specs.Words.{same_word}
-use Rattle.lis_model.specs.Image.{bitmap_start}
-use Rattle.lis_model.specs.State.{File, blocks_needed}
-use Rattle.lis_laws.proofs.Counts.{all_from}
+use Rattle.lis_model.specs.State.{File}
 use Rattle.lis_laws.proofs.Members.{same_word_decides}
 use Rattle.lis_kept.specs.Kept.{Kept}
 use Rattle.lis_kept.specs.Areas.{block_of}
 use Rattle.lis_kept.specs.Areas.Area.{Files}
-use Rattle.lis_kept.specs.Sound.{AreSound, BlocksAreTaken}
+use Rattle.lis_kept.specs.Sound.{AreSound}
 use Rattle.lis_kept.specs.Telling.{is_used}
 use Rattle.lis_kept.specs.Forgetting.{MayForget, emptied}
-use Rattle.lis_kept.proofs.Dropped.{blocks_apart, file_slot_below}
-use Rattle.lis_kept.proofs.Filing.{number_from_among}
+use Rattle.lis_kept.proofs.Dropped.{file_slot_below}
 use Rattle.lis_kept.proofs.Without.{left_out, none_here, same_elsewhere}
-use Rattle.lis_store.specs.Stored.{AreClosed, BlocksAreApart, TestsAreMet}
+use Rattle.lis_store.specs.Stored.{AreClosed, TestsAreMet}
 use Rattle.lis_store.specs.Replacing.{MayReplace}
 use Rattle.lis_store.specs.ReplacingIn.{AreInForm}
 use Rattle.lis_store.proofs.HeadsUsed.{IsUsedFor, used_flagged, used_had, used_left, used_for, head_used}
 use Rattle.lis_store.proofs.HeadsUsed.IsUsedFor.{Flagged, HadAt, NamedLeft}
 
--- ---- blocks that are given back are free
-one_more_free : (taken : List Bool) (n : ℕ) → is_taken taken n ≡ true → free_count (set taken n false) ≡ free_count taken + 1
-one_more_free taken n is =
-    let changed = sum_by-set (λ (b : Bool). cond (not b) 1 0) taken n false false (below_if_taken taken n is) in
-    omega (arith, changed, ap {B = ℕ} (λ (b : Bool). cond (not b) 1 0) is)
-
-pub free_after_given : (taken : List Bool) (ns : List ℕ) → are_distinct ns ≡ true → are_taken taken ns ≡ true → free_count (given taken ns) ≡ free_count taken + length ns
-free_after_given taken [] apart held = omega arith
-free_after_given taken (b ∷ ns) apart held =
-    let parts = and_parts (is_taken taken b) (are_taken taken ns) held in
-    let once = and_parts (not (has_number ns b)) (are_distinct ns) apart in
-    let still = taken_still taken ns b parts.1 (not-true (has_number ns b) once.0) in
-    omega (arith, one_more_free taken b parts.0, free_after_given (set taken b false) ns once.1 still)
-
 -- what is kept without the file, the slot described as before
-abbrev pub vacated : Kept → ℕ → FileRecord → Kept
-vacated p slot rec = record p {
+abbrev pub vacated : Kept → ℕ → Kept
+vacated p slot = record p {
   catalog = without_slot p.catalog slot;
-  taken = given p.taken rec.blocks;
-  marks = set (set p.marks (block_of p.limits Files slot) true) (bitmap_start p.limits) true;
+  marks = set p.marks (block_of p.limits Files slot) true;
 }
 
 module _ (p : Kept) (slot : ℕ) (rec : FileRecord) (form : AreInForm p) (there : rec_at p.catalog slot ≡ Some rec) where
   abbrev d : Kept
-  d = vacated p slot rec
+  d = vacated p slot
 
   pub slot_below : slot < p.limits.files
   slot_below = file_slot_below p form.sound slot rec there
@@ -81,19 +60,6 @@ module _ (p : Kept) (slot : ℕ) (rec : FileRecord) (form : AreInForm p) (there 
   pub tests_others : TestsAreMet d
   tests_others = record { given = λ at r is. form.tests.given at r (rec_before at r is).1; met = λ at r is. form.tests.met at r (rec_before at r is).1 }
 
-  pub taken_others : BlocksAreTaken d
-  taken_others at r is =
-      let before = rec_before at r is in
-      stay_given p.taken rec.blocks r.blocks (form.taken at r before.1)
-      (all_from (λ n. not (has_number r.blocks n)) rec.blocks (λ n m. not_from_false (has_number r.blocks n) (false_from_ne_true (has_number r.blocks n) (λ has_it.
-      before.0 (form.apart at slot r rec n before.1 there has_it (number_from_among rec.blocks n m))))))
-
-  pub apart_others : BlocksAreApart d
-  apart_others at other r more n is_r is_more has_r has_more = form.apart at other r more n (rec_before at r is_r).1 (rec_before other more is_more).1 has_r has_more
-
-  free_blocks : free_count d.taken ≡ free_count p.taken + length rec.blocks
-  free_blocks = free_after_given p.taken rec.blocks (blocks_apart p form.sound slot rec there) (form.taken slot rec there)
-
   module _ (file : File) (may : MayReplace p slot rec file) where
     pub name_vacant : slot_of d.catalog file.name ≡ None
     name_vacant = slot_of-without_slot p.catalog slot file.name form.sound.catalog ∙ by (same_word file.name rec.name) refl
@@ -104,9 +70,6 @@ module _ (p : Kept) (slot : ℕ) (rec : FileRecord) (form : AreInForm p) (there 
             (ap (slot_of p.catalog) ((same_word_decides file.name rec.name).0 same) ∙ slot_of-rec_at p.catalog slot rec form.sound.catalog there) refl
         by false other =
             filtered_none slot (slot_of p.catalog file.name) (may.new (λ same. both_ways (same_word file.name rec.name) other ((same_word_decides file.name rec.name).1 same)))
-
-    pub blocks_vacated : blocks_needed (length file.bytes) ≤ free_count d.taken
-    blocks_vacated = omega (arith, may.blocks, free_blocks)
 
   -- ---- words that may be forgotten
   module _ (sound : AreSound d) where

@@ -1,34 +1,35 @@
 -- The calls that write and rename a file.
-use Rattle.std.proofs.Common.{◌≡◌, refl, sym, ap, ap₂, ◌∙◌, subst, ℕ, ◌≤◌, not, cond, true, false, List, [], length, Option, Some, None, Result, Err, arith}
-use Rattle.std.proofs.lemmas.Bool.{both_ways, le-ltb}
-use Rattle.std.proofs.lemmas.Option.{same_Some}
+use Rattle.std.proofs.Common.{◌≡◌, refl, sym, ap, ap₂, ◌∙◌, subst, ℕ, ◌+◌, ◌≤◌, ◌==◌, not, cond, Bool, true, false, List, [], length, Option, Some, None, Result, Err, arith}
+use Rattle.std.proofs.lemmas.Bool.{both_ways, le-ltb, ltb-false}
 use Rattle.lis_ports.specs.Meaning.{Meaning}
 use Rattle.lis_catalog.specs.Catalog.{slot_of, rec_at}
 use Rattle.lis_catalog.proofs.Laws.{rec_at-slot_of}
 use Rattle.lis_fields.specs.Records.{FileRecord}
+use Rattle.lis_fields.proofs.Parts.{size_fits}
 use Rattle.lis_words.specs.Words.{is_file_name}
 use Rattle.lis_grammar.specs.Formula.{Formula}
 use Rattle.lis_model.specs.declared.refusal.Refusal.{Refusal}
 use Rattle.lis_model.specs.declared.refusal.Refusal.TheVariants.{NoFileHere, LargeFile}
-use Rattle.lis_model.specs.State.{State, File, file_limit}
+use Rattle.lis_model.specs.State.{State, File, file_limit, blocks_taken, used_blocks}
 use Rattle.lis_model.specs.Changes.{new_file, file_of, file_replaced}
-use Rattle.lis_model.specs.Step.{Situation, Payload, changed, write, rename}
+use Rattle.lis_model.specs.Step.{Situation, Payload, free_blocks, changed, write, rename}
 use Rattle.lis_kept.specs.Kept.{Kept}
 use Rattle.lis_kept.specs.Sound.{AreSound}
 use Rattle.lis_kept.specs.Telling.{words_told, bytes_told}
-use Rattle.lis_kept.proofs.Refiled.{record_named}
+use Rattle.lis_kept.proofs.Filed.{record_named}
 use Rattle.lis_store.specs.declared.change.Change.{Change}
 use Rattle.lis_store.specs.declared.change.Change.TheVariants.{Refused}
 use Rattle.lis_store.specs.Stored.{Stored, IsSound, StoreFits}
 use Rattle.lis_store.specs.Changes.{Changes, first_refusal}
 use Rattle.lis_store.specs.Judging.{is_among}
-use Rattle.lis_store.specs.Instead.{given_before, overwriting_checks, renaming_checks, write_checks_of, rename_checks_of}
+use Rattle.lis_store.specs.Instead.{given_before, free_instead, overwriting_checks, renaming_checks, write_checks_of, rename_checks_of}
 use Rattle.lis_store.specs.Replacing.{MayReplace}
 use Rattle.lis_store.proofs.Facts.{filed_named}
 use Rattle.lis_store.proofs.Here.{none_here}
 use Rattle.lis_store.proofs.InsteadMay.{write_may, rename_may}
-use Rattle.lis_store.proofs.InsteadTold.{old_is, old_given, write_refused, write_done, rename_refused, rename_done}
-use Rattle.lis_store.proofs.Judged.{change_refused}
+use Rattle.lis_store.proofs.InsteadTold.{free_told, old_is, old_given, write_refused, write_done, rename_refused, rename_done}
+use Rattle.lis_store.proofs.FreeBlocks.{used_told, version_told}
+use Rattle.lis_store.proofs.Judged.{all_pass, change_refused}
 
 -- ---- rows
 pub rest_of_write : (k : Kept) (place : List Formula) (name : List ℕ) (slot : ℕ) (rec : FileRecord) (file : File) (size : ℕ) → size ≤ file_limit k.limits.version → is_among k place name ≡ true
@@ -48,12 +49,20 @@ module _ (k : Stored) (sound : IsSound k) (place : List Formula) (name : List �
   same_name : rec.name ≡ name
   same_name = (filed_named k.parts sound.parts name slot rec named there).1
 
-  pub write_first : (bytes : List ℕ) (size : ℕ) → size ≤ file_limit k.parts.limits.version → (size ≤ 65536 → length bytes ≡ size)
+  pub write_first : (bytes : List ℕ) (size : ℕ) → size ≤ file_limit k.parts.limits.version → (size ≤ 1048576 → length bytes ≡ size)
       → first_refusal (overwriting_checks k.parts slot rec (given_before k.parts rec name bytes) size) ≡ None → MayReplace k.parts slot rec (given_before k.parts rec name bytes)
   write_first bytes size most whole none =
       write_may k sound slot rec there place name bytes size same_name
       (subst (λ n. is_file_name n ≡ true) same_name (record_named k.parts.limits.version k.parts.dict k.parts.limits.blocks rec (sound.parts.records slot rec there))) whole
       (rest_of_write k.parts place name slot rec (given_before k.parts rec name bytes) size most here ∙ none)
+
+  -- blocks that are enough for other bytes
+  pub write_enough : (bytes : List ℕ) (size : ℕ) → size ≤ file_limit k.parts.limits.version → (size ≤ 1048576 → length bytes ≡ size)
+      → first_refusal (overwriting_checks k.parts slot rec (given_before k.parts rec name bytes) size) ≡ None → blocks_taken k.parts.limits.version (length bytes) ≤ free_instead k.parts rec
+  write_enough bytes size most whole none =
+      let row = all_pass (overwriting_checks k.parts slot rec (given_before k.parts rec name bytes) size) none in
+      let enough = ltb-false (free_instead k.parts rec) (blocks_taken k.parts.limits.version size) row.1.1.1.0 in
+      omega (arith, enough, ap (blocks_taken k.parts.limits.version) (whole (size_fits k.parts.limits.version size most)))
 
   pub rename_first : (other bytes : List ℕ) → is_file_name other ≡ true → length bytes ≡ rec.size
       → first_refusal (renaming_checks k.parts slot (given_before k.parts rec other bytes)) ≡ None → MayReplace k.parts slot rec (given_before k.parts rec other bytes)
@@ -61,38 +70,56 @@ module _ (k : Stored) (sound : IsSound k) (place : List Formula) (name : List �
       rename_may k sound slot rec there place name other bytes form (omega (arith, size)) (rest_of_rename k.parts place name slot (given_before k.parts rec other bytes) here ∙ none)
 
 -- ---- calls that are done
-module _ (k : Stored) (m : Meaning) (s : State) (sound : IsSound k) (fits : StoreFits k m s) (place : List Formula) (name : List ℕ) (slot : ℕ) (rec taken : FileRecord)
-    (named : slot_of k.parts.catalog name ≡ Some slot) (there : rec_at k.parts.catalog slot ≡ Some rec) (gone : rec_at k.parts.catalog slot ≡ Some taken) (here : is_among k.parts place name ≡ true)
+module _ (k : Stored) (m : Meaning) (s : State) (sound : IsSound k) (fits : StoreFits k m s) (place : List Formula) (name : List ℕ) (slot : ℕ) (rec : FileRecord)
+    (named : slot_of k.parts.catalog name ≡ Some slot) (there : rec_at k.parts.catalog slot ≡ Some rec) (here : is_among k.parts place name ≡ true)
     (assigned : List (List ℕ)) (words_are : assigned ≡ words_told k.parts.dict rec.tags) where
-  same_rec : rec ≡ taken
-  same_rec = same_Some rec taken (sym there ∙ gone)
-
-  taken_named : taken.name ≡ name
-  taken_named = (filed_named k.parts sound.parts name slot taken named gone).1
+  taken_named : rec.name ≡ name
+  taken_named = (filed_named k.parts sound.parts name slot rec named there).1
 
   old_words : (file_of s.files name).assigned ≡ assigned
   old_words = old_given k m s sound fits name slot rec named there ∙ sym words_are
 
   pub written_done : (payload : Payload) → payload.size ≤ file_limit k.parts.limits.version
       → first_refusal (overwriting_checks k.parts slot rec (given_before k.parts rec name payload.bytes) payload.size) ≡ None
-      → write (record { state = s; place = place }) name payload ≡ changed (record { state = s; place = place }) (file_replaced s taken.name (new_file name assigned payload.bytes))
+      → write (record { state = s; place = place }) name payload ≡ changed (record { state = s; place = place }) (file_replaced s rec.name (new_file name assigned payload.bytes))
   written_done payload small none =
       let now : Situation = record { state = s; place = place } in
       write_done k m s sound fits place name slot rec (λ _. (named, there)) payload (rest_of_write k.parts place name slot rec (given_before k.parts rec name payload.bytes) payload.size small here ∙ none)
       ∙ ap₂ (λ n ws. changed now (file_replaced s n (new_file name ws payload.bytes))) (sym taken_named) old_words
 
-  bytes_are : (file_of s.files name).bytes ≡ bytes_told k.parts.limits fits.kept taken
-  bytes_are = ap (λ (f : File). f.bytes) (old_is k m s sound fits name slot rec named there) ∙ ap (bytes_told k.parts.limits fits.kept) same_rec
+  bytes_are : (file_of s.files name).bytes ≡ bytes_told k.parts.limits fits.kept rec
+  bytes_are = ap (λ (f : File). f.bytes) (old_is k m s sound fits name slot rec named there)
 
-  pub renamed_done : (other bytes : List ℕ) → bytes_told k.parts.limits fits.kept taken ≡ bytes → first_refusal (renaming_checks k.parts slot (given_before k.parts rec other bytes)) ≡ None
-      → rename (record { state = s; place = place }) name other ≡ changed (record { state = s; place = place }) (file_replaced s taken.name (new_file other assigned bytes))
+  -- the blocks of the new bytes are enough
+  pub written_enough : (size : ℕ) → blocks_taken k.parts.limits.version size ≤ free_instead k.parts rec
+      → used_blocks s + blocks_taken s.limits.version size ≤ s.limits.blocks + blocks_taken s.limits.version (length (bytes_told k.parts.limits fits.kept rec))
+  written_enough size enough =
+      let old = file_of s.files name in
+      let most = by (s.limits.version == 2) in
+      omega (
+        arith,
+        enough,
+        free_told k m s sound fits name slot rec named there,
+        most,
+        used_told k m s sound fits,
+        ap (λ v. blocks_taken v size) (version_told k m s sound fits),
+        ap (λ bs. blocks_taken s.limits.version (length bs)) bytes_are,
+      )
+    where
+      by : (two : Bool) → cond two (free_blocks s) (free_blocks s + blocks_taken s.limits.version (length (file_of s.files name).bytes))
+          ≤ free_blocks s + blocks_taken s.limits.version (length (file_of s.files name).bytes)
+      by true = omega arith
+      by false = omega arith
+
+  pub renamed_done : (other bytes : List ℕ) → bytes_told k.parts.limits fits.kept rec ≡ bytes → first_refusal (renaming_checks k.parts slot (given_before k.parts rec other bytes)) ≡ None
+      → rename (record { state = s; place = place }) name other ≡ changed (record { state = s; place = place }) (file_replaced s rec.name (new_file other assigned bytes))
   renamed_done other bytes told none =
       let now : Situation = record { state = s; place = place } in
       let same : (file_of s.files name).bytes ≡ bytes = bytes_are ∙ told in
       let row = subst (λ bs. first_refusal (renaming_checks k.parts slot (given_before k.parts rec other bs)) ≡ None) (sym same) none in
       rename_done k m s sound fits place name slot rec (λ _. (named, there)) other (rest_of_rename k.parts place name slot (given_before k.parts rec other (file_of s.files name).bytes) here ∙ row)
       ∙ (ap₂ (λ n ws. changed now (file_replaced s n (new_file other ws (file_of s.files name).bytes))) (sym taken_named) old_words
-      ∙ ap (λ bs. changed now (file_replaced s taken.name (new_file other assigned bs))) same)
+      ∙ ap (λ bs. changed now (file_replaced s rec.name (new_file other assigned bs))) same)
 
 -- ---- calls that are refused
 -- the slot of a name, where there is one

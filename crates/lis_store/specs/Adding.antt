@@ -1,7 +1,6 @@
 -- A file that comes into memory.
 use Rattle.std.specs.Prelude.{◌≡◌, ℕ, ◌≤◌, Bool, true, false, ◌&&◌, ◌||◌, if◌then◌else◌, Option, is_some, Some, None, List, [], ◌∷◌, ◌++◌, length, IsSome}
 use Rattle.std.specs.List.{flat_map}
-use Rattle.lis_journal.specs.Journal.{Held}
 use Rattle.lis_dict.specs.Dict.{Dict, words, number_of, word_of}
 use Rattle.lis_ext.specs.Numbers.{numbers_where}
 use Rattle.lis_words.specs.Words.{has_word, is_valued, head_bytes, is_head, is_built_in}
@@ -11,7 +10,7 @@ use Rattle.lis_model.specs.State.{File, heads}
 use Rattle.lis_kept.specs.Kept.{Kept}
 use Rattle.lis_kept.specs.Areas.{is_marked}
 use Rattle.lis_kept.specs.Telling.{state_of}
-use Rattle.lis_kept.specs.Changes.{Marks, Adds, Describes}
+use Rattle.lis_kept.specs.Changes.{Marks, Files, Describes}
 use Rattle.lis_store.specs.Admitting.{described_by}
 
 -- ---- numbers of words
@@ -60,12 +59,13 @@ pub record LearnsAll (more : List (List ℕ)) (p q : Kept) : Type 0 where
 abbrev pub learnt_words : File → List (List ℕ)
 learnt_words file = file.assigned ++ derived_words file.name file.bytes
 
--- Its words are learnt, then it is filed with the numbers of those that it was given, and described with those of its description.
-pub record PutsIn (file : File) (p q : Kept) (old new : Held) : Type 0 where
+-- Its words are learnt, then it is filed with the numbers of those that it was given and of its blocks, and described with the numbers of
+-- its description.
+pub record PutsIn (file : File) (blocks : List ℕ) (p q : Kept) : Type 0 where
   pub learnt : Kept
   pub learns : LearnsAll (with_heads (learnt_words file)) p learnt
   pub few : length (numbers_named learnt.dict (described_by p file)) ≤ 128
   pub slot : ℕ
   pub filed : Kept
-  pub adds : Adds file.name (numbers_named learnt.dict file.assigned) file.bytes slot learnt filed old new
+  pub files : Files slot (record { name = file.name; size = length file.bytes; tags = numbers_named learnt.dict file.assigned; blocks = blocks }) learnt filed
   pub describes : Describes slot (numbers_named learnt.dict (described_by p file)) filed q

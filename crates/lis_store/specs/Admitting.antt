@@ -10,7 +10,7 @@ use Rattle.lis_words.specs.Words.{is_built_in, is_file_name, word_cmp}
 use Rattle.lis_model.specs.declared.refusal.Refusal.{Refusal}
 use Rattle.lis_model.specs.declared.refusal.Refusal.TheVariants.{UnknownProperty, NotAPlace, NameTaken, NotAssignable, TooManyAssigned, LargeDescription, LargeFile, NoFileRoom, NoPropertyRoom, NoSpace, BuiltIn}
 use Rattle.lis_model.specs.Sets.{with_words}
-use Rattle.lis_model.specs.State.{File, file_words, is_assignable, file_limit, blocks_taken, blocks_needed}
+use Rattle.lis_model.specs.State.{File, file_words, is_assignable, file_limit, blocks_taken}
 use Rattle.lis_model.specs.Changes.{new_file}
 use Rattle.lis_model.specs.Places.{place_words}
 use Rattle.lis_model.specs.Step.{is_head_or_test, assigned_at}
@@ -63,5 +63,4 @@ pub record IsAdmitted (k : Kept) (file : File) : Type 0 where
   pub slots : length k.catalog.entries < k.limits.files
   pub short : length (described_by k file) ≤ 128
   pub room : length (known_with k file) ≤ k.limits.props
-  pub small : length file.bytes ≤ 65536
-  pub blocks : blocks_needed (length file.bytes) ≤ free_count k.taken
+  pub small : length file.bytes ≤ file_limit k.limits.version

@@ -1,8 +1,8 @@
 -- What a file is refused for that would come into the place of another, told by what a store keeps.
-use Rattle.std.specs.Prelude.{◌≡◌, ℕ, ◌+◌, ◌<◌, nat_lt, not, ◌&&◌, Bool, is_some, List, [], ◌∷◌, ◌++◌, length}
+use Rattle.std.specs.Prelude.{◌≡◌, ℕ, ◌+◌, ◌<◌, ◌==◌, nat_lt, not, ◌&&◌, if◌then◌else◌, Bool, is_some, List, [], ◌∷◌, ◌++◌, length, filter}
 use Rattle.std.specs.List.{list_all}
 use Rattle.lis_bits.specs.Rows.{Rows, get}
-use Rattle.lis_blockmap.specs.Bitmap.{free_count}
+use Rattle.lis_blockmap.specs.Bitmap.{free_count, is_taken}
 use Rattle.lis_catalog.specs.Catalog.{slot_of}
 use Rattle.lis_dict.specs.Dict.{word_of}
 use Rattle.lis_ext.specs.Ext.{has}
@@ -45,11 +45,15 @@ instead_checks k slot file =
     ∷ (nat_lt k.limits.props (length (known_instead k slot file)), NoPropertyRoom)
     ∷ []
 
--- the blocks of the file that was there may be used again
+-- How many blocks are free for other bytes of the file of a record. In version 1 those that it has, which are taken, may be used again; in
+-- version 2 they stay until the command is done.
+abbrev pub free_instead : Kept → FileRecord → ℕ
+free_instead k rec = if k.limits.version == 2 then free_count k.taken else free_count k.taken + length (filter (is_taken k.taken) rec.blocks)
+
 abbrev pub overwriting_checks : Kept → ℕ → FileRecord → File → ℕ → List (Bool × Refusal)
 overwriting_checks k slot rec file size =
     instead_checks k slot file
-    ++ (nat_lt (free_count k.taken + length rec.blocks) (blocks_taken k.limits.version size), NoSpace) ∷ []
+    ++ (nat_lt (free_instead k rec) (blocks_taken k.limits.version size), NoSpace) ∷ []
 
 abbrev pub renaming_checks : Kept → ℕ → File → List (Bool × Refusal)
 renaming_checks k slot file = (is_some (slot_of k.catalog file.name), NameTaken) ∷ instead_checks k slot file

@@ -1,16 +1,17 @@
 -- Laws on images that stand for a state.
-use Rattle.std.specs.Prelude.{◌≡◌, ◌⊎◌, ℕ, ◌≤◌, false, List, Some, length, IsTrue, IsSomeAnd}
+use Rattle.std.specs.Prelude.{◌≡◌, ℕ, ◌≤◌, List, Some, length, IsTrue, IsSomeAnd}
 use Rattle.lis_ports.specs.Meaning.{Meaning}
 use Rattle.lis_ports.specs.Runs.{Always, IsSettled}
 use Rattle.lis_ports.specs.Bytes.{part}
-use Rattle.lis_journal.specs.Record.{Entry}
-use Rattle.lis_journal.specs.Images.{StandsForAllOrNone}
-use Rattle.lis_journal.specs.Phases.{looked}
+use Rattle.lis_journal.specs.Images.{StandsFor, StandsBut}
+use Rattle.lis_content.specs.Content.{are_free}
+use Rattle.lis_content.specs.Placing.{homes_of}
 use Rattle.lis_catalog.specs.Catalog.{slot_of, rec_at}
 use Rattle.lis_fields.specs.Records.{FileRecord}
 use Rattle.lis_fields.specs.Layouts.{SpellsSuper}
 use Rattle.lis_model.specs.declared.limits.Limits.{Limits}
-use Rattle.lis_model.specs.Image.{data_start}
+use Rattle.lis_model.specs.Image.{data_start, image_blocks}
+use Rattle.lis_model.specs.Ranges.{are_in_range}
 use Rattle.lis_model.specs.State.{State, empty_state}
 use Rattle.lis_model.specs.Changes.{file_of}
 use Rattle.lis_model.specs.Step.{Situation, no_payload, create, add}
@@ -19,7 +20,7 @@ use Rattle.lis_kept.specs.Areas.{IsWritten}
 use Rattle.lis_kept.specs.Sound.{AreSound, FreeSlotsAreEmpty}
 use Rattle.lis_kept.specs.Telling.{words_told, axioms_of, Tells}
 use Rattle.lis_store.specs.Blank.{IsBlank}
-use Rattle.lis_store.specs.Stands.{is_super, Stands}
+use Rattle.lis_store.specs.Stands.{Stands}
 use Rattle.lis_store.specs.Stored.{Stored, PairsAreApart, IsSound, StoreFits, empty_stored}
 use Rattle.lis_store.specs.Seen.{table_of}
 use Rattle.lis_store.specs.Counting.{CountsState}
@@ -58,23 +59,27 @@ FittingStoresHaveTags m =
 
 -- the parts of an empty store are in form
 abbrev pub EmptyStoresAreSound : Type 0
-EmptyStoresAreSound = (limits : Limits) (blocks : ℕ) → IsTrue (is_super limits) → data_start limits ≤ blocks → IsSound (empty_stored limits blocks)
+EmptyStoresAreSound = (limits : Limits) (blocks : ℕ) → IsTrue (are_in_range limits) → data_start limits ≤ blocks → IsSound (empty_stored limits blocks)
 
 -- A store without words and files fits an honest disk of one image, where this is a blank one behind its super block.
 abbrev pub EmptyStoresFit : Meaning → Type 0
 EmptyStoresFit m =
-    (limits : Limits) (blocks : ℕ) (image : List ℕ) → IsTrue (is_super limits) → data_start limits ≤ blocks → IsTrue m.is_honest → IsSettled m image
+    (limits : Limits) (blocks : ℕ) (image : List ℕ) → IsTrue (are_in_range limits) → data_start limits ≤ blocks → IsTrue m.is_honest → IsSettled m image
     → SpellsSuper limits (part 0 4096 image) → IsBlank limits image → StoreFits (empty_stored limits blocks) m (empty_state limits)
 
--- What is staged over blocks that tell s makes blocks that tell t: then each image that stands for the one or the other blocks stands for
--- s or for t.
+-- While contents are placed in free blocks the image stands for the state as before, whatever these blocks hold.
+abbrev pub PlacedStand : Type 0
+PlacedStand =
+    (k : Stored) (kept : ℕ → List ℕ) (blocks : List ℕ) (s : State) → IsSound k → Tells k.parts kept s → IsWritten k.parts kept
+    → IsTrue (are_free k.parts.taken blocks)
+    → (image : List ℕ) → StandsBut k.journal.blocks (homes_of (data_start k.parts.limits) blocks) kept image → Stands image s
+
+-- What is staged over blocks that tell t makes blocks of it: then each image that has all that is staged stands for t.
 abbrev pub ChangesStand : Type 0
 ChangesStand =
-    (old new : Stored) (kept : ℕ → List ℕ) (staged : List Entry) (s t : State) → IsSound old → old.is_broken ≡ false
-    → AreSound new.parts → FreeSlotsAreEmpty new.parts → PairsAreApart new.parts
-    → Tells old.parts kept s → IsWritten old.parts kept → Tells new.parts (looked staged kept) t → IsWritten new.parts (looked staged kept)
-    → new.parts.limits ≡ old.parts.limits
-    → (image : List ℕ) → StandsForAllOrNone old.journal.blocks old.journal.placed kept staged image → Stands image s ⊎ Stands image t
+    (new : Stored) (blocks : ℕ) (kept : ℕ → List ℕ) (t : State) → AreSound new.parts → FreeSlotsAreEmpty new.parts → PairsAreApart new.parts
+    → Tells new.parts kept t → IsWritten new.parts kept → blocks ≡ image_blocks new.parts.limits
+    → (image : List ℕ) → StandsFor blocks kept image → Stands image t
 
 -- to create a file is to add one without bytes
 abbrev pub CreateIsAdd : Type 0

@@ -1,3 +1,4 @@
+pub mod Contents
 pub mod Stands
 pub mod Blank
 pub mod Stored

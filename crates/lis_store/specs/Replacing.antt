@@ -1,13 +1,12 @@
 -- A file that takes the place of another.
-use Rattle.std.specs.Prelude.{◌≡◌, ◌≢◌, ℕ, ◌+◌, ◌≤◌, Some, None, List, length, map, filter, IsTrue}
+use Rattle.std.specs.Prelude.{◌≡◌, ◌≢◌, ℕ, ◌≤◌, Some, None, List, length, map, filter, IsTrue}
 use Rattle.std.specs.List.{list_all}
 use Rattle.lis_graph.specs.Graph.{is_rising}
-use Rattle.lis_blockmap.specs.Bitmap.{free_count}
 use Rattle.lis_catalog.specs.Catalog.{rec_at, slot_of}
 use Rattle.lis_fields.specs.Records.{FileRecord}
 use Rattle.lis_words.specs.Words.{is_file_name, word_cmp}
 use Rattle.lis_model.specs.Sets.{with_words}
-use Rattle.lis_model.specs.State.{File, is_assignable, blocks_needed}
+use Rattle.lis_model.specs.State.{File, is_assignable, file_limit}
 use Rattle.lis_kept.specs.Kept.{Kept}
 use Rattle.lis_kept.specs.Telling.{declared_of, is_used}
 use Rattle.lis_kept.specs.Forgetting.{emptied}
@@ -31,5 +30,4 @@ pub record MayReplace (k : Kept) (slot : ℕ) (rec : FileRecord) (file : File) :
   pub few : length file.assigned ≤ 16
   pub short : length (described_by k file) ≤ 128
   pub room : length (known_instead k slot file) ≤ k.limits.props
-  pub small : length file.bytes ≤ 65536
-  pub blocks : blocks_needed (length file.bytes) ≤ free_count k.taken + length rec.blocks
+  pub small : length file.bytes ≤ file_limit k.limits.version

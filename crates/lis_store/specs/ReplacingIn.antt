@@ -3,18 +3,16 @@
 use Rattle.std.specs.Prelude.{◌≡◌, ℕ, ◌≤◌, None, List, length, IsTrue}
 use Rattle.std.specs.List.{list_all}
 use Rattle.std.specs.List.Sorted.{IsStrictlyIncreasing}
-use Rattle.lis_journal.specs.Journal.{Held}
 use Rattle.lis_catalog.specs.Catalog.{slot_of}
 use Rattle.lis_ext.specs.Ext.{set_of}
 use Rattle.lis_fields.specs.Records.{FileRecord}
 use Rattle.lis_model.specs.State.{File, is_assignable}
 use Rattle.lis_kept.specs.Kept.{Kept}
 use Rattle.lis_kept.specs.Telling.{declared_of}
-use Rattle.lis_kept.specs.Sound.{AreSound, FreeSlotsAreEmpty, BlocksAreTaken}
+use Rattle.lis_kept.specs.Sound.{AreSound, FreeSlotsAreEmpty}
 use Rattle.lis_kept.specs.Forgetting.{KeepsInUse, ForgetsWithout}
-use Rattle.lis_kept.specs.Changes.{Drops, Describes, Adds}
-use Rattle.lis_kept.specs.Refiling.{Refiles}
-use Rattle.lis_store.specs.Stored.{AreClosed, DescriptionsAreShort, BlocksAreApart, TestsAreMet}
+use Rattle.lis_kept.specs.Changes.{Drops, Describes, Files}
+use Rattle.lis_store.specs.Stored.{AreClosed, DescriptionsAreShort, TestsAreMet}
 use Rattle.lis_store.specs.Admitting.{described_by, known_with}
 use Rattle.lis_store.specs.Adding.{numbers_named, with_heads, LearnsAll, learnt_words}
 
@@ -24,8 +22,6 @@ pub record AreInForm (k : Kept) : Type 0 where
   pub free : FreeSlotsAreEmpty k
   pub closed : AreClosed k
   pub short : DescriptionsAreShort k
-  pub taken : BlocksAreTaken k
-  pub apart : BlocksAreApart k
   pub in_use : KeepsInUse k
   pub tests : TestsAreMet k
 
@@ -37,7 +33,7 @@ pub record MayComeIn (k : Kept) (file : File) : Type 0 where
   pub short : length (described_by k file) ≤ 128
   pub room : length (known_with k file) ≤ k.limits.props
 
--- The file in the slot goes, and the words go that nothing else uses. The slot is described as before.
+-- The record in the slot goes, and the words go that nothing else uses. The slot is described as before.
 pub record Vacates (slot : ℕ) (rec : FileRecord) (p q : Kept) : Type 0 where
   pub rising : IsStrictlyIncreasing (set_of p.ext slot)
   pub dropped : Kept
@@ -56,7 +52,8 @@ pub record LearnsOwn (file : File) (tags numbers : List ℕ) (p q : Kept) : Type
 
 -- The file in the slot goes, the words of another one are learnt, and the slot is described by them. `tags` are the numbers of those that
 -- it was given.
-pub record MakesWay (slot : ℕ) (file : File) (rec : FileRecord) (tags : List ℕ) (p q : Kept) : Type 0 where
+pub record MakesWay (slot : ℕ) (file : File) (tags : List ℕ) (p q : Kept) : Type 0 where
+  pub rec : FileRecord
   pub vacated : Kept
   pub vacates : Vacates slot rec p vacated
   pub learnt : Kept
@@ -64,18 +61,9 @@ pub record MakesWay (slot : ℕ) (file : File) (rec : FileRecord) (tags : List �
   pub describes : Describes slot (numbers_named learnt.dict (described_by vacated file)) learnt q
   pub form : AreSound q
 
--- The file in the slot makes way for another one, whose bytes come into other blocks.
-pub record Overwrites (slot : ℕ) (file : File) (p q : Kept) (old new : Held) : Type 0 where
-  pub rec : FileRecord
+-- The file in the slot makes way for another one, which stands in these blocks.
+pub record RefilesIn (slot : ℕ) (file : File) (blocks : List ℕ) (p q : Kept) : Type 0 where
   pub tags : List ℕ
   pub described : Kept
-  pub way : MakesWay slot file rec tags p described
-  pub adds : Adds file.name tags file.bytes slot described q old new
-
--- The file in the slot makes way for one with another name and other words. Its bytes stay in their blocks.
-pub record RefilesIn (slot : ℕ) (file : File) (p q : Kept) : Type 0 where
-  pub rec : FileRecord
-  pub tags : List ℕ
-  pub described : Kept
-  pub way : MakesWay slot file rec tags p described
-  pub refiles : Refiles slot (record rec { name = file.name; tags = tags }) described q
+  pub way : MakesWay slot file tags p described
+  pub files : Files slot (record { name = file.name; size = length file.bytes; tags = tags; blocks = blocks }) described q

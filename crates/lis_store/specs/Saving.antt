@@ -1,17 +1,20 @@
 -- How a command ends: what is marked is staged, and all that is staged is committed.
-use Rattle.std.specs.Prelude.{◌≡◌, ℕ, Bool, true, false, List, [], length, replicate, Result, Ok, Err}
+use Rattle.std.specs.Prelude.{◌≡◌, ℕ, ◌≤◌, Bool, true, false, List, [], length, replicate, Result, Ok, Err}
 use Rattle.lis_ports.specs.Meaning.{Meaning}
 use Rattle.lis_journal.specs.Journal.{Held}
+use Rattle.lis_journal.specs.Images.{StandsBut, Fits, is_among}
 use Rattle.lis_journal.specs.Phases.{looked}
+use Rattle.lis_model.specs.Image.{bitmap_start, data_start}
 use Rattle.lis_model.specs.State.{State}
 use Rattle.lis_model.specs.Step.{Situation, Outcome, changed}
 use Rattle.lis_kept.specs.Kept.{Kept}
-use Rattle.lis_kept.specs.Areas.{IsSaved}
+use Rattle.lis_kept.specs.Areas.{IsSaved, is_marked}
 use Rattle.lis_kept.specs.Sound.{AreSound}
 use Rattle.lis_kept.specs.Telling.{Tells}
 use Rattle.lis_store.specs.declared.change.Change.{Change}
 use Rattle.lis_store.specs.declared.change.Change.TheVariants.{Refused, Disk}
-use Rattle.lis_store.specs.Stored.{Stored, IsSound, StoreFits}
+use Rattle.lis_store.specs.Stands.{Stands}
+use Rattle.lis_store.specs.Stored.{Stored}
 use Rattle.lis_store.specs.Changes.{Changes}
 
 -- the parts without marks
@@ -20,19 +23,24 @@ clean k = record k { marks = replicate (length k.marks) false }
 
 -- the store that these parts and this journal are once they are saved
 abbrev pub settled : Kept → Held → Stored
-settled k j = record { parts = clean k; journal = record j { staged = [] }; is_broken = false }
+settled k j = record { parts = clean k; journal = record j { staged = []; placed = [] }; is_broken = false }
+
+-- Placed blocks are data blocks, and where there are any the block of the bitmap is marked.
+abbrev pub ArePlaced : Kept → Held → Type 0
+ArePlaced k j = (n : ℕ) → is_among j.placed n ≡ true → (data_start k.limits ≤ n) × (is_marked k (bitmap_start k.limits) ≡ true)
 
 -- By these blocks memory tells a state, and what is not marked is written.
 pub record IsReady (k : Kept) (at : ℕ → List ℕ) (s : State) : Type 0 where
   pub tells : Tells k at s
   pub saved : IsSaved k at
 
--- From any store that fitted the disk, to any state for which the parts are ready, saving them is that change.
+-- From any state for which each image stands that keeps all but the placed blocks, to any for which the parts are ready, saving them is
+-- that change.
 abbrev pub Saves : {T : Type 0} → Kept → Held → Stored → Meaning → Meaning → Result T Change → Type 0
 Saves k j new before after result =
-    (old : Stored) (now : Situation) (outcome : Outcome) (t : State) (fits : StoreFits old before now.state) → IsSound old
-    → j.blocks ≡ old.journal.blocks → j.records ≡ old.journal.records → j.placed ≡ old.journal.placed → k.limits ≡ old.parts.limits
-    → (AreSound k → IsReady k (looked j.staged fits.kept) t) → outcome ≡ changed now t → Changes now outcome new before after result
+    (now : Situation) (outcome : Outcome) (t : State) (kept : ℕ → List ℕ) → Fits j before kept → k.limits ≡ now.state.limits
+    → ((image : List ℕ) → StandsBut j.blocks j.placed kept image → Stands image now.state)
+    → (AreSound k → IsReady k (looked j.staged kept) t) → outcome ≡ changed now t → Changes now outcome new before after result
 
 -- It breaks the store exactly at a fault of the disk, and refuses nothing.
 abbrev pub SaveEnded : {T : Type 0} → Bool → Result T Change → Type 0

@@ -1,8 +1,8 @@
 -- When an image stands for a state.
-use Rattle.std.specs.Prelude.{◌≡◌, ℕ, ◌*◌, ◌/◌, ◌<◌, ◌≤◌, ◌==◌, nat_lt, Bool, true, false, ◌&&◌, Option, Some, None, is_some, List, [], ◌∷◌, length, map, drop, replicate, slice_get, slice_index_or, IsTrue}
+use Rattle.std.specs.Prelude.{◌≡◌, ℕ, ◌*◌, ◌/◌, ◌<◌, ◌≤◌, nat_lt, Bool, true, false, ◌&&◌, Option, Some, None, is_some, List, [], ◌∷◌, length, map, drop, replicate, slice_get, slice_index_or, IsTrue}
 use Rattle.std.specs.Option.{option_to_list}
 use Rattle.std.specs.BTreeSet.{insert_key}
-use Rattle.std.specs.List.{fold, flat_map, list_all}
+use Rattle.std.specs.List.{fold, flat_map, list_all, Contains}
 use Rattle.lis_ports.specs.Bytes.{part}
 use Rattle.lis_journal.specs.Record.{block, replayed}
 use Rattle.lis_slots.specs.Slots.{Slots, slot}
@@ -24,11 +24,7 @@ use Rattle.lis_model.specs.Ranges.{are_in_range}
 use Rattle.lis_model.specs.Sets.{set_of}
 use Rattle.lis_model.specs.State.{State, File, pair_cmp, file_cmp, known, description, WellFormed}
 use Rattle.lis_kept.specs.Areas.{property_slots, axiom_slots, file_slots, row_slots}
-use Rattle.lis_kept.specs.Telling.{pair_by, bytes_told, blocks_told}
-
--- Limits of an image. None of version 2 is made or opened yet; once they are, this is `are_in_range limits`.
-abbrev pub is_super : Limits → Bool
-is_super limits = (limits.version == 1) && are_in_range limits
+use Rattle.lis_kept.specs.Telling.{pair_by, bytes_told, blocks_told, HasIndex}
 
 -- what the slots of an image are, each array in the order of its numbers
 pub record Contents : Type 0 where
@@ -90,7 +86,7 @@ records_in (Used rec) = rec ∷ []
 abbrev pub all_records : List FileSlot → List FileRecord
 all_records files = flat_map records_in files
 
--- all data blocks of these files
+-- all blocks of these files, their index blocks among them
 abbrev pub all_blocks : Limits → (ℕ → List ℕ) → List FileRecord → List ℕ
 all_blocks limits at recs = flat_map (blocks_told limits at) recs
 
@@ -128,8 +124,9 @@ row_bit s limits contents at p i =
     is_had_by s (file_by limits contents.properties at) (word_at contents.properties p) (slice_index_or contents.files i FreeFile)
 
 -- By what each block holds, the slots are in their layouts and spell the state, which is well formed. The words of the slots are the known
--- words, each once; no two axiom slots have one pair, and those past the last number are free; no two files have one name; no data block is
--- used twice; the bitmap tells exactly the blocks in use; and the rows tell exactly which file has which word.
+-- words, each once; no two axiom slots have one pair, and those past the last number are free; no two files have one name; index blocks are
+-- in form; no block is used twice, as a data block or as an index block; the bitmap tells exactly the blocks in use; and the rows tell
+-- exactly which file has which word.
 pub record Spells (limits : Limits) (contents : Contents) (at : ℕ → List ℕ) (s : State) : Type 0 where
   pub properties : AreSlots prop_bytes is_prop (property_slots limits) at contents.properties
   pub axioms : AreSlots axiom_bytes is_axiom (axiom_slots limits) at contents.axioms
@@ -143,6 +140,7 @@ pub record Spells (limits : Limits) (contents : Contents) (at : ℕ → List ℕ
   pub each_word_once : length (words_in contents.properties) ≡ length (known s)
   pub each_pair_once : length (pairs_in contents.properties contents.axioms) ≡ length s.axioms
   pub each_name_once : length (all_records contents.files) ≡ length s.files
+  pub indexed : (rec : FileRecord) → Contains (all_records contents.files) rec → HasIndex limits at rec
   pub blocks : IsTrue (list_all (λ n. nat_lt n limits.blocks) (all_blocks limits at (all_records contents.files)))
   pub each_block_once : IsTrue (are_distinct (all_blocks limits at (all_records contents.files)))
   pub bitmap : at (bitmap_start limits) ≡ bitmap_bytes (marked (replicate limits.blocks false) (all_blocks limits at (all_records contents.files)))
@@ -151,7 +149,7 @@ pub record Spells (limits : Limits) (contents : Contents) (at : ℕ → List ℕ
 -- The image has a super block with the state's limits, is as long as these say, and has a replayed image that spells the state. What lies
 -- past the image is not looked at.
 pub record StandsFor (image : List ℕ) (s : State) : Type 0 where
-  pub range : IsTrue (is_super s.limits)
+  pub range : IsTrue (are_in_range s.limits)
   pub super : SpellsSuper s.limits (part 0 4096 image)
   pub long : 4096 * image_blocks s.limits ≤ length image
   pub replay : List ℕ

@@ -1,5 +1,5 @@
 -- A store: what memory keeps of an image, with its journal, and when it fits a disk.
-use Rattle.std.specs.Prelude.{◌≡◌, ℕ, ◌≤◌, Bool, true, false, Some, is_some, List, [], length, replicate, slice_get, IsTrue}
+use Rattle.std.specs.Prelude.{◌≡◌, ℕ, ◌≤◌, Bool, true, false, Some, is_some, List, [], length, replicate, slice_get}
 use Rattle.lis_ports.specs.Meaning.{Meaning}
 use Rattle.lis_journal.specs.Journal.{Held, no_records}
 use Rattle.lis_journal.specs.Images.{Fits}
@@ -8,7 +8,6 @@ use Rattle.lis_ext.specs.Ext.{has, set_of as numbers_at, empty_ext}
 use Rattle.lis_catalog.specs.Catalog.{rec_at}
 use Rattle.lis_content.specs.Content.{has_number}
 use Rattle.lis_fields.specs.Records.{FileRecord}
-use Rattle.lis_store.specs.Stands.{is_super}
 use Rattle.lis_fields.specs.declared.slots.AxiomSlot.TheVariants.{Free as FreeAxiom, Pair}
 use Rattle.lis_model.specs.declared.limits.Limits.{Limits}
 use Rattle.lis_model.specs.Image.{image_blocks}
@@ -17,7 +16,7 @@ use Rattle.lis_model.specs.Tests.{is_met}
 use Rattle.lis_kept.specs.Kept.{Kept}
 use Rattle.lis_kept.specs.Areas.{IsWritten, axiom_slots}
 use Rattle.lis_kept.specs.Links.{is_linked}
-use Rattle.lis_kept.specs.Sound.{AreSound, FreeSlotsAreEmpty, BlocksAreTaken}
+use Rattle.lis_kept.specs.Sound.{AreSound, FreeSlotsAreEmpty}
 use Rattle.lis_kept.specs.Telling.{Tells}
 use Rattle.lis_kept.specs.TestEdges.{test_by}
 use Rattle.lis_kept.specs.Forgetting.{KeepsInUse}
@@ -41,12 +40,6 @@ PairsAreApart k =
 abbrev pub DescriptionsAreShort : Kept → Type 0
 DescriptionsAreShort k = (slot : ℕ) → length (numbers_at k.ext slot) ≤ 128
 
--- No two files use one data block.
-abbrev pub BlocksAreApart : Kept → Type 0
-BlocksAreApart k =
-    (slot other : ℕ) (rec more : FileRecord) (n : ℕ) → rec_at k.catalog slot ≡ Some rec → rec_at k.catalog other ≡ Some more
-    → has_number rec.blocks n ≡ true → has_number more.blocks n ≡ true → slot ≡ other
-
 -- Tests come into descriptions by sizes alone: no file was given one, and a file has a known one exactly where its size meets it.
 pub record TestsAreMet (k : Kept) : Type 0 where
   pub given : (slot : ℕ) (rec : FileRecord) → rec_at k.catalog slot ≡ Some rec → (n : ℕ) → has_number rec.tags n ≡ true
@@ -57,14 +50,11 @@ pub record TestsAreMet (k : Kept) : Type 0 where
 -- What holds of every store. Where it is not broken nothing is staged, placed or marked between calls.
 pub record IsSound (k : Stored) : Type 0 where
   pub parts : AreSound k.parts
-  pub range : IsTrue (is_super k.parts.limits)
   pub free : FreeSlotsAreEmpty k.parts
   pub pairs : PairsAreApart k.parts
   pub closed : AreClosed k.parts
   pub short : DescriptionsAreShort k.parts
   pub tests : TestsAreMet k.parts
-  pub taken : BlocksAreTaken k.parts
-  pub apart : BlocksAreApart k.parts
   pub in_use : KeepsInUse k.parts
   pub image : k.journal.blocks ≡ image_blocks k.parts.limits
   pub journal : k.is_broken ≡ false → k.journal.is_broken ≡ false

@@ -1,16 +1,16 @@
 //! Files that come into memory.
 
-ghost use Rattle.std.specs.Prelude.{◌≡◌, ℕ, ◌*◌, ◌<◌, ◌≤◌, false, not, ◌&&◌, [], ◌++◌, length, IsTrue};
+ghost use Rattle.std.specs.Prelude.{◌≡◌, ℕ, ◌<◌, ◌≤◌, nat_lt, not, ◌&&◌, ◌++◌, length, IsTrue};
 ghost use Rattle.std.specs.List.{list_all};
 ghost use Rattle.lis_bits.specs.Rows.{HasShape, get};
 ghost use Rattle.lis_dict.specs.Dict.{word_of};
 ghost use Rattle.lis_ext.specs.Numbers.{numbers_where};
-ghost use Rattle.lis_model.specs.Image.{image_blocks};
+ghost use Rattle.lis_fields.specs.Layouts.{are_blocks};
 ghost use Rattle.lis_model.specs.State.{heads, all_up};
 ghost use Rattle.lis_model.specs.Tests.{met_tests};
 ghost use Rattle.lis_model.specs.Changes.{new_file};
 ghost use Rattle.lis_eval.specs.Room.{HasRoom};
-ghost use Rattle.lis_kept.specs.Sound.{AreSound, FreeSlotsAreEmpty, BlocksAreTaken};
+ghost use Rattle.lis_kept.specs.Sound.{AreSound, FreeSlotsAreEmpty};
 ghost use Rattle.lis_kept.specs.Telling.{declared_of, axioms_of};
 ghost use Rattle.lis_store.specs.Admitting.{IsAdmitted};
 ghost use Rattle.lis_store.specs.Adding.{is_one_of, numbers_named, AreNumbered, behind_head, with_heads, may_learn, HasWordRoom, LearnsAll, PutsIn};
@@ -20,9 +20,8 @@ use arrayvec::ArrayVec;
 use lis_bits::{Rows, and_not_row};
 use lis_derive::derive_words;
 use lis_eval::Scratch;
-use lis_journal::Journal;
+use lis_fields::FileRec;
 use lis_kept::Parts;
-use lis_ports::Disk;
 use lis_words::{Name, Word, head_of};
 
 // Gives the head of a valued word a number if it has none.
@@ -133,29 +132,24 @@ pub(crate) fn numbers_entailed(
     numbers_in(row, props)
 }
 
-/// Files bytes under a new name: its words come first, then the file in a slot, and last the numbers of its description.
-pub(crate) fn put_in<D: Disk>(
+/// Files bytes under a new name: its words come first, then its record in a slot, and last the numbers of its description. The bytes stand
+/// in blocks that are taken already.
+pub(crate) fn put_in(
     parts: &mut Parts,
-    journal: &mut Journal,
-    disk: &mut D,
     scratch: &mut Scratch,
     name: &Name,
     assigned: &[Word],
     payload: &[u8],
+    blocks: ArrayVec<u16, 16>,
 )
     requires sound { AreSound parts.old }
     requires admitted { IsAdmitted parts.old (new_file name.now assigned.now payload.now) }
     requires free { FreeSlotsAreEmpty parts.old }
-    requires taken { BlocksAreTaken parts.old }
-    requires image { journal.old.blocks ≡ image_blocks parts.old.limits }
-    requires unbroken { journal.old.is_broken ≡ false }
-    requires unplaced { journal.old.placed ≡ [] }
-    requires unstaged { journal.old.staged ≡ [] }
-    requires long { 4096 * journal.old.blocks ≤ (D.meaning disk.old).len }
+    requires in_form { IsTrue (are_blocks parts.old.limits.version (length payload.now) blocks.items) }
+    requires below { IsTrue (list_all (λ n. nat_lt n parts.old.limits.blocks) blocks.items) }
     requires scratch { HasRoom scratch.old parts.old.limits }
     ensures scratch { HasRoom scratch.new parts.old.limits }
-    ensures put { PutsIn (new_file name.now assigned.now payload.now) parts.old parts.new journal.old journal.new }
-    ensures disk { disk.new ≡ disk.old }
+    ensures put { PutsIn (new_file name.now assigned.now payload.now) blocks.items parts.old parts.new }
 {
     let derived = derive_words(name, payload);
     learn_words(parts, assigned);
@@ -168,6 +162,11 @@ pub(crate) fn put_in<D: Disk>(
         payload.len() as u64,
         &mut scratch.candidates,
     );
-    let slot = parts.add_file(journal, disk, name, tags, payload);
+    let slot = parts.add_record(FileRec {
+        name: name.copied(),
+        size: payload.len() as u32,
+        tags,
+        blocks,
+    });
     parts.describe(slot, &[], numbers.as_slice());
 }

@@ -9,7 +9,7 @@ ghost use Rattle.lis_catalog.specs.Catalog.{rec_at};
 ghost use Rattle.lis_fields.specs.Records.{FileRecord};
 ghost use Rattle.lis_model.specs.Image.{image_blocks};
 ghost use Rattle.lis_kept.specs.Telling.{bytes_told};
-ghost use Rattle.lis_store.specs.Stands.{is_super};
+ghost use Rattle.lis_store.specs.Contents.{AreContentsWithin};
 
 use lis_content::Buffer;
 use lis_journal::Journal;
@@ -25,12 +25,11 @@ pub(crate) fn read_file<D: Disk>(
     slot: u16,
 ) -> Result<(), Failed>
     requires there { IsSome (rec_at parts.now.catalog slot) }
-    requires range { IsTrue (is_super parts.now.limits) }
     requires image { journal.now.blocks ≡ image_blocks parts.now.limits }
     requires unbroken { journal.now.is_broken ≡ false }
     requires long { 4096 * journal.now.blocks ≤ (D.meaning disk.old).len }
     ensures read { OnOk result ((rec : FileRecord) (kept : ℕ → List ℕ) → rec_at parts.now.catalog slot ≡ Some rec
-        → Fits journal.now (D.meaning disk.old) kept → bytes.new ≡ bytes_told parts.now.limits (looked journal.now.staged kept) rec) }
+        → Fits journal.now (D.meaning disk.old) kept → AreContentsWithin parts.now.limits (looked journal.now.staged kept) rec → bytes.new ≡ bytes_told parts.now.limits (looked journal.now.staged kept) rec) }
     ensures size { OnOk result ((rec : FileRecord) → rec_at parts.now.catalog slot ≡ Some rec → length bytes.new ≡ rec.size) }
     ensures run { IsDiskRun (D.meaning disk.old) (D.meaning disk.new) }
     ensures cause { HasCause (D.meaning disk.old).disk_faults (D.meaning disk.new).disk_faults result }

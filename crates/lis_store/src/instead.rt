@@ -13,7 +13,7 @@ ghost use Rattle.lis_kept.specs.Telling.{words_told, is_used, AreUsed};
 ghost use Rattle.lis_store.specs.Admitting.{described_by};
 ghost use Rattle.lis_store.specs.Assigning.{Takes};
 ghost use Rattle.lis_store.specs.Changes.{Judges};
-ghost use Rattle.lis_store.specs.Instead.{leaving, given_before, instead_checks, overwriting_checks, renaming_checks};
+ghost use Rattle.lis_store.specs.Instead.{leaving, given_before, free_instead, instead_checks, overwriting_checks, renaming_checks};
 ghost use Rattle.lis_kept.specs.Forgetting.{emptied};
 ghost use Rattle.lis_store.specs.Replacing.{known_instead};
 
@@ -72,16 +72,16 @@ pub(crate) fn assigned_in(parts: &Parts, slot: u16) -> ArrayVec<Word, 16>
     words_of(parts, rec.tags.as_slice())
 }
 
-// How many blocks the file in a slot has.
-fn blocks_in(parts: &Parts, slot: u16) -> u64
+// How many blocks are free for other bytes of the file in a slot.
+fn free_instead(parts: &Parts, slot: u16) -> u64
     requires { IsSome (rec_at parts.now.catalog slot) }
-    ensures count { (rec : FileRecord) → rec_at parts.now.catalog slot ≡ Some rec → result ≡ length rec.blocks }
-    ensures few { result ≤ 16 }
+    ensures { (rec : FileRecord) → rec_at parts.now.catalog slot ≡ Some rec → result ≡ free_instead parts.now rec }
 {
-    let Some(rec) = parts.rec(slot) else {
-        unreachable!()
-    };
-    rec.blocks.len() as u64
+    let free = u64::from(parts.free_blocks());
+    if parts.limits().version == 2 {
+        return free;
+    }
+    free + parts.taken_blocks(slot) as u64
 }
 
 // Whether the description in a slot has a number which is not in the row, and which nothing else uses.
@@ -200,8 +200,7 @@ pub(crate) fn may_write(
 {
     let words = assigned_in(parts, slot);
     has_room_instead(parts, scratch, slot, name, words.as_slice(), payload)?;
-    let free = u64::from(parts.free_blocks()) + blocks_in(parts, slot);
-    if blocks_taken(parts.limits().version, size) > free {
+    if blocks_taken(parts.limits().version, size) > free_instead(parts, slot) {
         return Err(Refusal::NoSpace);
     }
     Ok(words)

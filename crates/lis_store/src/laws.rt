@@ -1,6 +1,6 @@
 //! Laws on images that stand for a state, each the contract of an empty function.
 
-ghost use Rattle.lis_store.specs.Laws.{OneState, FittingStoresStand, FittingStoresTell, FittingStoresHold, FittingStoresCount, FittingStoresHaveAxioms, FittingStoresHaveTags, EmptyStoresAreSound, EmptyStoresFit, ChangesStand, CreateIsAdd};
+ghost use Rattle.lis_store.specs.Laws.{OneState, FittingStoresStand, FittingStoresTell, FittingStoresHold, FittingStoresCount, FittingStoresHaveAxioms, FittingStoresHaveTags, EmptyStoresAreSound, EmptyStoresFit, PlacedStand, ChangesStand, CreateIsAdd};
 
 use lis_ports::Disk;
 
@@ -49,7 +49,12 @@ pub fn empty_stores_fit<D: Disk>(disk: &D)
     ensures { EmptyStoresFit (D.meaning disk.now) }
 {}
 
-/// A change of what is kept leads from images of one state to images of the next.
+/// While contents are placed in free blocks, images stand for the state as before.
+pub fn placed_stand()
+    ensures { PlacedStand }
+{}
+
+/// Images that have the blocks by which memory tells a state stand for it.
 pub fn changes_stand()
     ensures { ChangesStand }
 {}

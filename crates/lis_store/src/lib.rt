@@ -7,6 +7,7 @@ mod adding;
 mod admitting;
 mod assigning;
 mod change;
+mod contents;
 mod counting;
 mod crowding;
 mod describing;

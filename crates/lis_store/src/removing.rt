@@ -4,7 +4,6 @@ ghost use Rattle.std.specs.Prelude.{◌≡◌, ℕ, ◌<◌, ◌≤◌, All, len
 ghost use Rattle.std.specs.List.Sorted.{IsStrictlyIncreasing};
 ghost use Rattle.lis_catalog.specs.Catalog.{rec_at};
 ghost use Rattle.lis_ext.specs.Ext.{set_of};
-ghost use Rattle.lis_kept.specs.Sound.{BlocksAreTaken};
 ghost use Rattle.lis_kept.specs.Forgetting.{KeepsInUse};
 ghost use Rattle.lis_store.specs.Stored.{AreClosed};
 ghost use Rattle.lis_store.specs.Removing.{TakesOut};
@@ -32,17 +31,16 @@ pub(crate) fn numbers_at(ext: &Ext, props: u32, slot: u16) -> ArrayVec<u16, 128>
     numbers
 }
 
-/// Takes the file out of its slot, with its description and the words that nothing else uses.
+/// Takes the file out of its slot, with its description and the words that nothing else uses. Its blocks are given back already.
 pub(crate) fn take_out(parts: &mut Parts, slot: u16)
     requires there { IsSome (rec_at parts.old.catalog slot) }
-    requires taken { BlocksAreTaken parts.old }
     requires few { length (set_of parts.old.ext slot) ≤ 128 }
     requires closed { AreClosed parts.old }
     requires in_use { KeepsInUse parts.old }
     ensures { TakesOut slot parts.old parts.new }
 {
     let numbers = numbers_at(parts.ext(), parts.limits().props, slot);
-    parts.drop_file(slot);
+    parts.drop_record(slot);
     parts.describe(slot, numbers.as_slice(), &[]);
     parts.forget_unused(numbers.as_slice());
 }

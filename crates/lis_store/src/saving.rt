@@ -7,7 +7,7 @@ ghost use Rattle.lis_kept.specs.Areas.{marked_count};
 ghost use Rattle.lis_kept.specs.Sound.{AreSound};
 ghost use Rattle.lis_store.specs.Stored.{IsSound};
 ghost use Rattle.lis_store.specs.Changes.{HasChangeCause};
-ghost use Rattle.lis_store.specs.Saving.{settled, Saves, SaveEnded};
+ghost use Rattle.lis_store.specs.Saving.{settled, ArePlaced, Saves, SaveEnded};
 
 use crate::change::Change;
 use lis_journal::Journal;
@@ -23,9 +23,9 @@ pub(crate) fn save<D: Disk>(
 ) -> Result<(), Change>
     requires sound { AreSound parts.old → IsSound (settled parts.old journal.old) }
     requires image { journal.old.blocks ≡ image_blocks parts.old.limits }
-    requires unplaced { journal.old.placed ≡ [] }
     requires unbroken { journal.old.is_broken ≡ false }
     requires whole { is_broken.old ≡ false }
+    requires placed { ArePlaced parts.old journal.old }
     requires room { length journal.old.staged + marked_count parts.old ≤ 531 }
     requires long { 4096 * journal.old.blocks ≤ (D.meaning disk.old).len }
     ensures sound { IsSound (record { parts = parts.new; journal = journal.new; is_broken = is_broken.new }) }

@@ -26,9 +26,10 @@ mod unlinking;
 use crate::adding::put_in;
 use crate::admitting::may_add;
 use crate::change::Change;
+use crate::contents::{give_content, put_content};
 use crate::removing::take_out;
 use crate::saving::save;
-use lis_content::Buffer;
+use lis_content::{Buffer, read_block};
 use lis_eval::{Scratch, View, evaluate, found};
 use lis_ext::Ext;
 use lis_journal::Journal;
@@ -150,8 +151,15 @@ impl Store {
         let Some(rec) = self.parts.rec(slot) else {
             unreachable!()
         };
-        let block = rec.blocks[n as usize];
-        self.journal.read(disk, base + u32::from(block), buf)
+        read_block(
+            &self.journal,
+            disk,
+            base,
+            rec.blocks.as_slice(),
+            rec.size,
+            n,
+            buf,
+        )
     }
 
     /// The slot of the file of that name, where the file is in the extension of the place.
@@ -183,7 +191,7 @@ impl Store {
         payload: &[u8],
         size: u64,
     ) -> Result<(), Change>
-        requires whole { size ≤ 65536 → length payload.now ≡ size }
+        requires whole { size ≤ 1048576 → length payload.now ≡ size }
         requires scratch { HasRoom scratch.old self.old.parts.limits }
         requires unbroken { self.old.is_broken ≡ false }
         requires long { 4096 * self.old.journal.blocks ≤ (D.meaning disk.old).len }
@@ -203,14 +211,20 @@ impl Store {
         // Only its bytes tell that a name has a name's form.
         let _name = name.bytes();
         let assigned = may_add(&self.parts, scratch, place, name, tags, payload, size)?;
-        put_in(
+        let blocks = put_content(
             &mut self.parts,
             &mut self.journal,
+            &mut self.is_broken,
             disk,
+            payload,
+        )?;
+        put_in(
+            &mut self.parts,
             scratch,
             name,
             assigned.as_slice(),
             payload,
+            blocks,
         );
         save(
             &mut self.parts,
@@ -246,6 +260,13 @@ impl Store {
         let Some(slot) = self.slot_here(scratch, place, name) else {
             return Err(Change::Refused(Refusal::NoFileHere));
         };
+        give_content(
+            &mut self.parts,
+            &self.journal,
+            &mut self.is_broken,
+            disk,
+            slot,
+        )?;
         take_out(&mut self.parts, slot);
         save(
             &mut self.parts,

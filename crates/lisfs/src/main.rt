@@ -40,7 +40,7 @@ fn path_of(words: &[String]) -> &str {
 fn image_of(rt: &HostRuntime, words: &[String]) -> io::Result<Option<ImageFile>> {
     match task_of(words) {
         None | Some(Task::Try(_)) => Ok(None),
-        Some(Task::Make(_) | Task::Run | Task::Grow(_)) => {
+        Some(Task::Make(_) | Task::Run | Task::Upgrade | Task::Grow(_)) => {
             let image = image::open(rt, path_of(words), make_len(words))?;
             Ok(Some(image))
         }

@@ -13,9 +13,10 @@ ghost use Rattle.lis_store.specs.Changes.{Changes, HasChangeCause, ChangeLeft, E
 
 use crate::admitting::file_limit;
 use crate::change::Change;
+use crate::contents::{blocks_in, put_instead};
 use crate::file_bytes::read_file;
 use crate::instead::{has_room_instead, may_rename, may_write};
-use crate::replacing::{overwrite, refile};
+use crate::replacing::refile;
 use crate::retagging::{led_by, may_move};
 use crate::saving::save;
 use crate::store::Store;
@@ -36,7 +37,7 @@ impl Store {
         payload: &[u8],
         size: u64,
     ) -> Result<(), Change>
-        requires whole { size ≤ 65536 → length payload.now ≡ size }
+        requires whole { size ≤ 1048576 → length payload.now ≡ size }
         requires scratch { HasRoom scratch.old self.old.parts.limits }
         requires unbroken { self.old.is_broken ≡ false }
         requires long { 4096 * self.old.journal.blocks ≤ (D.meaning disk.old).len }
@@ -60,15 +61,22 @@ impl Store {
             return Err(Change::Refused(Refusal::NoFileHere));
         };
         let words = may_write(&self.parts, scratch, slot, name, payload, size)?;
-        overwrite(
+        let blocks = put_instead(
             &mut self.parts,
             &mut self.journal,
+            &mut self.is_broken,
             disk,
+            slot,
+            payload,
+        )?;
+        refile(
+            &mut self.parts,
             scratch,
             slot,
             name,
             words.as_slice(),
             payload,
+            blocks,
         );
         save(
             &mut self.parts,
@@ -116,6 +124,7 @@ impl Store {
             return Err(Change::from(fault));
         }
         let words = may_rename(&self.parts, scratch, slot, new, self.bytes.bytes())?;
+        let blocks = blocks_in(&self.parts, slot);
         refile(
             &mut self.parts,
             scratch,
@@ -123,6 +132,7 @@ impl Store {
             new,
             words.as_slice(),
             self.bytes.bytes(),
+            blocks,
         );
         save(
             &mut self.parts,
@@ -174,6 +184,7 @@ impl Store {
             words.as_slice(),
             self.bytes.bytes(),
         )?;
+        let blocks = blocks_in(&self.parts, slot);
         refile(
             &mut self.parts,
             scratch,
@@ -181,6 +192,7 @@ impl Store {
             name,
             words.as_slice(),
             self.bytes.bytes(),
+            blocks,
         );
         save(
             &mut self.parts,

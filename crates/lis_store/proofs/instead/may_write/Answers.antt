@@ -1,23 +1,21 @@
-use Rattle.std.proofs.Common.{◌≡◌, ◌∙◌, ◌+◌, ℕ, List, [], ◌∷◌, Some, None, cond, nat_lt, true, length, ap, subst, arith}
+use Rattle.std.proofs.Common.{◌≡◌, ◌∙◌, ℕ, List, [], ◌∷◌, Some, None, cond, nat_lt, true, ap, subst, arith}
 use Rattle.std.proofs.lemmas.Bool.{lt-ltb}
-use Rattle.lis_blockmap.specs.Bitmap.{free_count}
 use Rattle.lis_model.specs.declared.limits.Limits.{Limits}
 use Rattle.lis_model.specs.declared.refusal.Refusal.TheVariants.{NoSpace}
 use Rattle.lis_model.specs.State.{blocks_taken}
 use Rattle.lis_model.specs.Changes.{new_file}
 use Rattle.lis_store.specs.Changes.{first_refusal}
-use Rattle.lis_store.specs.Instead.{given_before, instead_checks}
+use Rattle.lis_store.specs.Instead.{given_before, free_instead, instead_checks}
 use Rattle.lis_store.proofs.Judged.{refused_then}
 use Rattle.lis_store.proofs.instead.may_write.Goals as goal
 
-pub returns-then-blocks_taken-free-clause-row : goal.returns-then-blocks_taken-free-clause-row
-returns-then-blocks_taken-free-clause-row c = λ rec there.
+pub returns-then-blocks_taken-free_instead-clause-row : goal.returns-then-blocks_taken-free_instead-clause-row
+returns-then-blocks_taken-free_instead-clause-row c = λ rec there.
     let k = c.args.parts.now in
     let P : List (List ℕ) → Type 0 = λ ws. first_refusal (instead_checks k c.args.slot (new_file c.args.name.now ws c.args.payload.now)) ≡ None in
     let none = subst P (c.as_slice.ensures.value ∙ c.assigned_in-words.ensures.words rec there) c.in_ok-has_room_instead.ensures.row in
-    let few = c.blocks_in.ensures.count rec there in
     let version = ap (λ (l : Limits). blocks_taken l.version c.args.size) c.limits.ensures.value in
-    let large : nat_lt (free_count k.taken + length rec.blocks) (blocks_taken k.limits.version c.args.size) ≡ true = lt-ltb (free_count k.taken + length rec.blocks) (blocks_taken k.limits.version c.args.size)
-    (omega (arith, c.if-blocks_taken-free.true, c.blocks_taken.ensures, c.from.ensures, c.free_blocks.ensures, few, version)) in
-    refused_then (instead_checks k c.args.slot (given_before k rec c.args.name.now c.args.payload.now)) ((nat_lt (free_count k.taken + length rec.blocks) (blocks_taken k.limits.version c.args.size), NoSpace) ∷ []) none
+    let large : nat_lt (free_instead k rec) (blocks_taken k.limits.version c.args.size) ≡ true = lt-ltb (free_instead k rec) (blocks_taken k.limits.version c.args.size)
+    (omega (arith, c.if-blocks_taken-free_instead.true, c.blocks_taken.ensures, c.free_instead.ensures rec there, version)) in
+    refused_then (instead_checks k c.args.slot (given_before k rec c.args.name.now c.args.payload.now)) ((nat_lt (free_instead k rec) (blocks_taken k.limits.version c.args.size), NoSpace) ∷ []) none
     ∙ ap (λ b. cond b (Some NoSpace) None) large

@@ -9,6 +9,7 @@ use Rattle.lis_store.proofs.AddAxiom.{axiom_sound, axiom_marks, axiom_changes}
 use Rattle.lis_store.proofs.Judged.{change_refused}
 use Rattle.lis_store.proofs.Related.{related, axiom_refused, axiom_done}
 use Rattle.lis_store.proofs.RelatesMarks.{few_edits}
+use Rattle.lis_store.proofs.SavedAlone.{alone_placed}
 use Rattle.lis_store.proofs.store.Store.axiom.Goals as goal
 
 pub returns-in_err-may_relate-clause-changes : goal.returns-in_err-may_relate-clause-changes
@@ -35,6 +36,12 @@ save-requires-clause-sound g c =
     let unbroken = ap (λ (k : Stored). k.is_broken) c.self.view_is ∙ c.requires.unbroken in
     let may = related c.self.inside.parts c.args.left.now c.args.right.now c.in_ok-may_relate.ensures.row in
     axiom_sound old c.relate.new.parts c.args.left.now c.args.right.now c.self.invariant unbroken may c.relate.ensures.relates
+
+pub save-requires-clause-placed : goal.save-requires-clause-placed
+save-requires-clause-placed g c =
+    let old : Stored = record { parts = c.self.inside.parts; journal = c.self.inside.journal; is_broken = c.self.inside.is_broken } in
+    let unbroken = ap (λ (k : Stored). k.is_broken) c.self.view_is ∙ c.requires.unbroken in
+    alone_placed old c.self.invariant unbroken c.relate.new.parts
 
 pub save-requires-clause-room : goal.save-requires-clause-room
 save-requires-clause-room g c =

@@ -8,6 +8,7 @@ use Rattle.lis_store.specs.Stored.{Stored, StoreFits}
 use Rattle.lis_store.specs.Placing.{AreNumbersOf}
 use Rattle.lis_store.specs.Changes.{Changes, differing_bits}
 use Rattle.lis_store.proofs.TestedTells.{declared_numbers, declared_few, declared_new, declared_may, declared_room, declared_limits, declared_edits, declared_marks, declared_sound, declared_changes, declared_refused}
+use Rattle.lis_store.proofs.SavedAlone.{alone_placed}
 use Rattle.lis_store.proofs.store.Store.declare.Goals as goal
 
 pub returns-in_err-places-clause-changes : goal.returns-in_err-places-clause-changes
@@ -67,6 +68,12 @@ save-requires-clause-image g c =
     let unbroken = ap (λ (k : Stored). k.is_broken) c.self.view_is ∙ c.requires.unbroken in
     c.self.invariant.image ∙ sym (ap image_blocks (declared_limits old c.args.place.now c.args.word.now c.as_slice.result.now c.self.invariant c.may_declare.ensures.word c.in_ok-places.ensures.form c.in_ok-places.ensures.row numbers
     unbroken c.declare_tested.new.parts c.declare_tested.ensures))
+
+pub save-requires-clause-placed : goal.save-requires-clause-placed
+save-requires-clause-placed g c =
+    let old : Stored = record { parts = c.self.inside.parts; journal = c.self.inside.journal; is_broken = c.self.inside.is_broken } in
+    let unbroken = ap (λ (k : Stored). k.is_broken) c.self.view_is ∙ c.requires.unbroken in
+    alone_placed old c.self.invariant unbroken c.declare_tested.new.parts
 
 pub save-requires-clause-room : goal.save-requires-clause-room
 save-requires-clause-room g c =

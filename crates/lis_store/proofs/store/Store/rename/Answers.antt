@@ -1,9 +1,11 @@
-use Rattle.std.proofs.Common.{◌≡◌, ◌∙◌, ◌+◌, ◌≤◌, List, ℕ, length, None, Err, IsSomeAnd, is_some, refl, sym, ap, subst}
+use Rattle.std.proofs.Common.{◌≡◌, ◌∙◌, ◌+◌, ◌≤◌, nat_lt, List, ℕ, length, None, Err, IsSomeAnd, is_some, refl, sym, ap, subst}
 use Rattle.std.proofs.lemmas.Result.{err_from_is_err_and}
+use Rattle.std.specs.List.{list_all}
 use Rattle.lis_catalog.specs.Catalog.{slot_of}
 use Rattle.lis_catalog.proofs.Laws.{rec_at-slot_of}
 use Rattle.lis_ext.specs.Ext.{Ext}
 use Rattle.lis_fields.specs.Records.{FileRecord}
+use Rattle.lis_fields.specs.Layouts.{are_blocks}
 use Rattle.lis_model.specs.Changes.{new_file}
 use Rattle.lis_model.specs.Step.{Situation, rename}
 use Rattle.lis_kept.specs.Kept.{Kept}
@@ -14,11 +16,13 @@ use Rattle.lis_model.specs.declared.refusal.Refusal.TheVariants.{NameTaken}
 use Rattle.lis_store.specs.declared.change.Change.TheVariants.{Refused}
 use Rattle.lis_store.specs.Stored.{Stored, IsSound, StoreFits}
 use Rattle.lis_store.specs.Changes.{Changes, first_refusal, differing_bits}
+use Rattle.lis_store.specs.Contents.{AreContentsWithin}
 use Rattle.lis_store.specs.Judging.{is_among}
 use Rattle.lis_store.specs.Replacing.{MayReplace}
+use Rattle.lis_store.specs.ReplacingIn.{RefilesIn}
 use Rattle.lis_store.specs.Instead.{given_before, renaming_checks}
 use Rattle.lis_store.proofs.FileRead.{name_taken, lost_read, renaming_refused, renaming_changes}
-use Rattle.lis_store.proofs.ReplaceFile.{refiled_sound, refiled_marks, refiled_edits}
+use Rattle.lis_store.proofs.ReplaceFile.{still_in_form, still_below, refiled_limits, refiled_sound, refiled_image, refiled_placed, refiled_room, refiled_edits}
 use Rattle.lis_store.proofs.WriteFile.{rename_first, renamed_nowhere}
 use Rattle.lis_store.proofs.store.Store.rename.Goals as goal
 
@@ -76,8 +80,8 @@ returns-in_err-words-clause-changes g c = λ s fits.
     let now : Situation = record { state = s; place = c.args.place.now } in
     let P : Stored → Type 0 = λ k. StoreFits k m s in
     let fits_old = subst P (sym c.self.view_is) fits in
-    let R : List ℕ → Type 0 = λ bs. (kept : ℕ → List ℕ) → Fits c.self.inside.journal m kept → bs ≡ bytes_told c.self.inside.parts.limits (looked c.self.inside.journal.staged kept) found.0 in
-    let read_now : R c.read_file.new.bytes = λ kept held. c.in_default-read_file.ensures.read found.0 kept found.1 held in
+    let R : List ℕ → Type 0 = λ bs. (kept : ℕ → List ℕ) → Fits c.self.inside.journal m kept → AreContentsWithin c.self.inside.parts.limits (looked c.self.inside.journal.staged kept) found.0 → bs ≡ bytes_told c.self.inside.parts.limits (looked c.self.inside.journal.staged kept) found.0 in
+    let read_now : R c.read_file.new.bytes = λ kept held within. c.in_default-read_file.ensures.read found.0 kept found.1 held within in
     renaming_refused old c.args.place.now c.args.name.now c.in-Some.slot found.0 c.self.invariant named found.1 here m s fits_old mid c.read_file.ensures.same c.read_file.ensures.any_moment c.read_file.ensures.fits
     c.bytes.result.now (subst R (sym c.bytes.ensures.bytes) read_now) c.args.new.now c.in_err-words.field-0.0 c.from_residual.result (c.in_err-words.ensures.row found.0 found.1) (e.1 ∙ ap Err e.2)
 
@@ -117,8 +121,51 @@ save-requires-clause-sound g c =
     let first = subst (λ o. IsSomeAnd o (λ (x : FileRecord). MayReplace c.self.inside.parts c.in-Some.slot x (new_file c.args.new.now c.as_slice.result.now c.bytes-2.result.now))) (sym found.1)
     (subst V same (subst W (sym words) may)) in
     let unbroken = ap (λ (k : Stored). k.is_broken) c.self.view_is ∙ c.requires.unbroken in
-    refiled_sound old c.refile.new.parts c.in-Some.slot c.args.new.now c.as_slice.result.now c.bytes-2.result.now c.self.invariant unbroken first c.refile.ensures.refiled
-    (λ rec is. ap length c.bytes-2.ensures.bytes ∙ c.in_default-read_file.ensures.size rec is)
+    let Again : List ℕ → Type 0 = λ ns. RefilesIn c.in-Some.slot (new_file c.args.new.now c.as_slice.result.now c.bytes-2.result.now) ns c.self.inside.parts c.refile.new.parts in
+    let again = subst Again (c.blocks_in-blocks.ensures found.0 found.1) c.refile.ensures.refiled in
+    refiled_sound old c.refile.new.parts c.in-Some.slot c.args.new.now c.as_slice.result.now c.bytes-2.result.now found.0 c.self.invariant unbroken found.1 first again
+
+pub save-requires-clause-image : goal.save-requires-clause-image
+save-requires-clause-image g c =
+    let old : Stored = record { parts = c.self.inside.parts; journal = c.self.inside.journal; is_broken = c.self.inside.is_broken } in
+    let named = ap (λ (k : Stored). slot_of k.parts.catalog c.args.name.now) c.self.view_is ∙ c.in-Some.ensures.slot in
+    let found = rec_at-slot_of c.self.inside.parts.catalog c.args.name.now c.in-Some.slot c.self.invariant.parts.catalog named in
+    let here = ap (λ (k : Stored). is_among k.parts c.args.place.now c.args.name.now) c.self.view_is ∙ sym c.in-Some.ensures.here in
+    let words = c.as_slice.ensures.value ∙ c.in_ok-words.ensures.words found.0 found.1 in
+    let same = c.bytes.ensures.bytes ∙ sym c.bytes-2.ensures.bytes in
+    let F : List (List ℕ) → List ℕ → Type 0 = λ ws bs. MayReplace c.self.inside.parts c.in-Some.slot found.0 (new_file c.args.new.now ws bs) in
+    let W : List (List ℕ) → Type 0 = λ ws. F ws c.bytes.result.now in
+    let V : List ℕ → Type 0 = λ bs. F c.as_slice.result.now bs in
+    let size = ap length c.bytes.ensures.bytes ∙ c.in_default-read_file.ensures.size found.0 found.1 in
+    let may = rename_first old c.self.invariant c.args.place.now c.args.name.now c.in-Some.slot found.0 named found.1 here c.args.new.now c.bytes.result.now c.bytes-name.ensures.name size
+    (c.in_ok-words.ensures.row found.0 found.1) in
+    let first = subst (λ o. IsSomeAnd o (λ (x : FileRecord). MayReplace c.self.inside.parts c.in-Some.slot x (new_file c.args.new.now c.as_slice.result.now c.bytes-2.result.now))) (sym found.1)
+    (subst V same (subst W (sym words) may)) in
+    let unbroken = ap (λ (k : Stored). k.is_broken) c.self.view_is ∙ c.requires.unbroken in
+    let Again : List ℕ → Type 0 = λ ns. RefilesIn c.in-Some.slot (new_file c.args.new.now c.as_slice.result.now c.bytes-2.result.now) ns c.self.inside.parts c.refile.new.parts in
+    let again = subst Again (c.blocks_in-blocks.ensures found.0 found.1) c.refile.ensures.refiled in
+    refiled_image old c.refile.new.parts c.in-Some.slot c.args.new.now c.as_slice.result.now c.bytes-2.result.now found.0 c.self.invariant unbroken found.1 first again
+
+pub save-requires-clause-placed : goal.save-requires-clause-placed
+save-requires-clause-placed g c =
+    let old : Stored = record { parts = c.self.inside.parts; journal = c.self.inside.journal; is_broken = c.self.inside.is_broken } in
+    let named = ap (λ (k : Stored). slot_of k.parts.catalog c.args.name.now) c.self.view_is ∙ c.in-Some.ensures.slot in
+    let found = rec_at-slot_of c.self.inside.parts.catalog c.args.name.now c.in-Some.slot c.self.invariant.parts.catalog named in
+    let here = ap (λ (k : Stored). is_among k.parts c.args.place.now c.args.name.now) c.self.view_is ∙ sym c.in-Some.ensures.here in
+    let words = c.as_slice.ensures.value ∙ c.in_ok-words.ensures.words found.0 found.1 in
+    let same = c.bytes.ensures.bytes ∙ sym c.bytes-2.ensures.bytes in
+    let F : List (List ℕ) → List ℕ → Type 0 = λ ws bs. MayReplace c.self.inside.parts c.in-Some.slot found.0 (new_file c.args.new.now ws bs) in
+    let W : List (List ℕ) → Type 0 = λ ws. F ws c.bytes.result.now in
+    let V : List ℕ → Type 0 = λ bs. F c.as_slice.result.now bs in
+    let size = ap length c.bytes.ensures.bytes ∙ c.in_default-read_file.ensures.size found.0 found.1 in
+    let may = rename_first old c.self.invariant c.args.place.now c.args.name.now c.in-Some.slot found.0 named found.1 here c.args.new.now c.bytes.result.now c.bytes-name.ensures.name size
+    (c.in_ok-words.ensures.row found.0 found.1) in
+    let first = subst (λ o. IsSomeAnd o (λ (x : FileRecord). MayReplace c.self.inside.parts c.in-Some.slot x (new_file c.args.new.now c.as_slice.result.now c.bytes-2.result.now))) (sym found.1)
+    (subst V same (subst W (sym words) may)) in
+    let unbroken = ap (λ (k : Stored). k.is_broken) c.self.view_is ∙ c.requires.unbroken in
+    let Again : List ℕ → Type 0 = λ ns. RefilesIn c.in-Some.slot (new_file c.args.new.now c.as_slice.result.now c.bytes-2.result.now) ns c.self.inside.parts c.refile.new.parts in
+    let again = subst Again (c.blocks_in-blocks.ensures found.0 found.1) c.refile.ensures.refiled in
+    refiled_placed old c.refile.new.parts c.in-Some.slot c.args.new.now c.as_slice.result.now c.bytes-2.result.now found.0 c.self.invariant unbroken found.1 first again
 
 pub save-requires-clause-room : goal.save-requires-clause-room
 save-requires-clause-room g c =
@@ -137,7 +184,9 @@ save-requires-clause-room g c =
     let first = subst (λ o. IsSomeAnd o (λ (x : FileRecord). MayReplace c.self.inside.parts c.in-Some.slot x (new_file c.args.new.now c.as_slice.result.now c.bytes-2.result.now))) (sym found.1)
     (subst V same (subst W (sym words) may)) in
     let unbroken = ap (λ (k : Stored). k.is_broken) c.self.view_is ∙ c.requires.unbroken in
-    refiled_marks old c.refile.new.parts c.in-Some.slot c.args.new.now c.as_slice.result.now c.bytes-2.result.now c.self.invariant unbroken first c.refile.ensures.refiled
+    let Again : List ℕ → Type 0 = λ ns. RefilesIn c.in-Some.slot (new_file c.args.new.now c.as_slice.result.now c.bytes-2.result.now) ns c.self.inside.parts c.refile.new.parts in
+    let again = subst Again (c.blocks_in-blocks.ensures found.0 found.1) c.refile.ensures.refiled in
+    refiled_room old c.refile.new.parts c.in-Some.slot c.args.new.now c.as_slice.result.now c.bytes-2.result.now found.0 c.self.invariant unbroken found.1 first again
 
 pub returns-clause-edits : goal.returns-clause-edits
 returns-clause-edits g c =
@@ -156,7 +205,9 @@ returns-clause-edits g c =
     let first = subst (λ o. IsSomeAnd o (λ (x : FileRecord). MayReplace c.self.inside.parts c.in-Some.slot x (new_file c.args.new.now c.as_slice.result.now c.bytes-2.result.now))) (sym found.1)
     (subst V same (subst W (sym words) may)) in
     let unbroken = ap (λ (k : Stored). k.is_broken) c.self.view_is ∙ c.requires.unbroken in
-    let few = refiled_edits old c.refile.new.parts c.in-Some.slot c.args.new.now c.as_slice.result.now c.bytes-2.result.now c.self.invariant unbroken first c.refile.ensures.refiled in
+    let Again : List ℕ → Type 0 = λ ns. RefilesIn c.in-Some.slot (new_file c.args.new.now c.as_slice.result.now c.bytes-2.result.now) ns c.self.inside.parts c.refile.new.parts in
+    let again = subst Again (c.blocks_in-blocks.ensures found.0 found.1) c.refile.ensures.refiled in
+    let few = refiled_edits old c.refile.new.parts c.in-Some.slot c.args.new.now c.as_slice.result.now c.bytes-2.result.now found.0 c.self.invariant unbroken found.1 first again in
     let E : Ext → Ext → Type 0 = λ a b. b.edits ≤ a.edits + differing_bits a b in
     let A : Ext → Type 0 = λ b. E c.args.self.now.parts.ext b in
     let B : Ext → Type 0 = λ a. E a c.refile.new.parts.ext in
@@ -184,10 +235,56 @@ returns-clause-changes g c = λ s fits.
     let now : Situation = record { state = s; place = c.args.place.now } in
     let P : Stored → Type 0 = λ k. StoreFits k m s in
     let fits_old = subst P (sym c.self.view_is) fits in
-    let R : List ℕ → Type 0 = λ bs. (kept : ℕ → List ℕ) → Fits c.self.inside.journal m kept → bs ≡ bytes_told c.self.inside.parts.limits (looked c.self.inside.journal.staged kept) found.0 in
-    let read_now : R c.read_file.new.bytes = λ kept held. c.in_default-read_file.ensures.read found.0 kept found.1 held in
+    let R : List ℕ → Type 0 = λ bs. (kept : ℕ → List ℕ) → Fits c.self.inside.journal m kept → AreContentsWithin c.self.inside.parts.limits (looked c.self.inside.journal.staged kept) found.0 → bs ≡ bytes_told c.self.inside.parts.limits (looked c.self.inside.journal.staged kept) found.0 in
+    let read_now : R c.read_file.new.bytes = λ kept held within. c.in_default-read_file.ensures.read found.0 kept found.1 held within in
+    let Again : List ℕ → Type 0 = λ ns. RefilesIn c.in-Some.slot (new_file c.args.new.now c.as_slice.result.now c.bytes-2.result.now) ns c.self.inside.parts c.refile.new.parts in
+    let again = subst Again (c.blocks_in-blocks.ensures found.0 found.1) c.refile.ensures.refiled in
     let new : Stored = record { parts = c.save.new.parts; journal = c.save.new.journal; is_broken = c.save.new.is_broken } in
     let N : List ℕ → Type 0 = λ bs. first_refusal (renaming_checks c.self.inside.parts c.in-Some.slot (given_before c.self.inside.parts found.0 c.args.new.now bs)) ≡ None in
     renaming_changes old c.args.place.now c.args.name.now c.in-Some.slot found.0 c.self.invariant named found.1 here m s fits_old mid c.read_file.ensures.same c.read_file.ensures.any_moment c.read_file.ensures.fits
-    c.bytes-2.result.now (subst R (sym c.bytes-2.ensures.bytes) read_now) c.refile.new.parts c.args.new.now c.as_slice.result.now unbroken words first c.refile.ensures.refiled
+    c.bytes-2.result.now (subst R (sym c.bytes-2.ensures.bytes) read_now) c.refile.new.parts c.args.new.now c.as_slice.result.now unbroken words first again
     (subst N same (c.in_ok-words.ensures.row found.0 found.1)) new (g.D.Disk.meaning c.save.new.disk) c.save.result c.save.ensures.saves
+
+pub returns-clause-limits : goal.returns-clause-limits
+returns-clause-limits g c =
+    let old : Stored = record { parts = c.self.inside.parts; journal = c.self.inside.journal; is_broken = c.self.inside.is_broken } in
+    let named = ap (λ (k : Stored). slot_of k.parts.catalog c.args.name.now) c.self.view_is ∙ c.in-Some.ensures.slot in
+    let found = rec_at-slot_of c.self.inside.parts.catalog c.args.name.now c.in-Some.slot c.self.invariant.parts.catalog named in
+    let here = ap (λ (k : Stored). is_among k.parts c.args.place.now c.args.name.now) c.self.view_is ∙ sym c.in-Some.ensures.here in
+    let words = c.as_slice.ensures.value ∙ c.in_ok-words.ensures.words found.0 found.1 in
+    let same = c.bytes.ensures.bytes ∙ sym c.bytes-2.ensures.bytes in
+    let F : List (List ℕ) → List ℕ → Type 0 = λ ws bs. MayReplace c.self.inside.parts c.in-Some.slot found.0 (new_file c.args.new.now ws bs) in
+    let W : List (List ℕ) → Type 0 = λ ws. F ws c.bytes.result.now in
+    let V : List ℕ → Type 0 = λ bs. F c.as_slice.result.now bs in
+    let size = ap length c.bytes.ensures.bytes ∙ c.in_default-read_file.ensures.size found.0 found.1 in
+    let may = rename_first old c.self.invariant c.args.place.now c.args.name.now c.in-Some.slot found.0 named found.1 here c.args.new.now c.bytes.result.now c.bytes-name.ensures.name size
+    (c.in_ok-words.ensures.row found.0 found.1) in
+    let first = subst (λ o. IsSomeAnd o (λ (x : FileRecord). MayReplace c.self.inside.parts c.in-Some.slot x (new_file c.args.new.now c.as_slice.result.now c.bytes-2.result.now))) (sym found.1)
+    (subst V same (subst W (sym words) may)) in
+    let unbroken = ap (λ (k : Stored). k.is_broken) c.self.view_is ∙ c.requires.unbroken in
+    let Again : List ℕ → Type 0 = λ ns. RefilesIn c.in-Some.slot (new_file c.args.new.now c.as_slice.result.now c.bytes-2.result.now) ns c.self.inside.parts c.refile.new.parts in
+    let again = subst Again (c.blocks_in-blocks.ensures found.0 found.1) c.refile.ensures.refiled in
+    ap (λ (k : Kept). k.limits) c.save.ensures.parts ∙ (refiled_limits old c.refile.new.parts c.in-Some.slot c.args.new.now c.as_slice.result.now c.bytes-2.result.now found.0 c.self.invariant unbroken found.1 first again ∙ ap (λ (k : Stored). k.parts.limits) c.self.view_is)
+
+pub blocks_in-blocks-requires : goal.blocks_in-blocks-requires
+blocks_in-blocks-requires g c =
+    let named = ap (λ (k : Stored). slot_of k.parts.catalog c.args.name.now) c.self.view_is ∙ c.in-Some.ensures.slot in
+    ap is_some (rec_at-slot_of c.self.inside.parts.catalog c.args.name.now c.in-Some.slot c.self.invariant.parts.catalog named).1
+
+pub refile-requires-clause-in_form : goal.refile-requires-clause-in_form
+refile-requires-clause-in_form g c =
+    let old : Stored = record { parts = c.self.inside.parts; journal = c.self.inside.journal; is_broken = c.self.inside.is_broken } in
+    let named = ap (λ (k : Stored). slot_of k.parts.catalog c.args.name.now) c.self.view_is ∙ c.in-Some.ensures.slot in
+    let found = rec_at-slot_of c.self.inside.parts.catalog c.args.name.now c.in-Some.slot c.self.invariant.parts.catalog named in
+    let size = ap length c.bytes-2.ensures.bytes ∙ c.in_default-read_file.ensures.size found.0 found.1 in
+    ap (are_blocks c.self.inside.parts.limits.version (length c.bytes-2.result.now)) (c.blocks_in-blocks.ensures found.0 found.1)
+    ∙ still_in_form old c.in-Some.slot c.bytes-2.result.now found.0 c.self.invariant found.1 size
+
+pub refile-requires-clause-below : goal.refile-requires-clause-below
+refile-requires-clause-below g c =
+    let old : Stored = record { parts = c.self.inside.parts; journal = c.self.inside.journal; is_broken = c.self.inside.is_broken } in
+    let named = ap (λ (k : Stored). slot_of k.parts.catalog c.args.name.now) c.self.view_is ∙ c.in-Some.ensures.slot in
+    let found = rec_at-slot_of c.self.inside.parts.catalog c.args.name.now c.in-Some.slot c.self.invariant.parts.catalog named in
+    let size = ap length c.bytes-2.ensures.bytes ∙ c.in_default-read_file.ensures.size found.0 found.1 in
+    ap (list_all (λ n. nat_lt n c.self.inside.parts.limits.blocks)) (c.blocks_in-blocks.ensures found.0 found.1)
+    ∙ still_below old c.in-Some.slot c.bytes-2.result.now found.0 c.self.invariant found.1 size

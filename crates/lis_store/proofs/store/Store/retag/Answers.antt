@@ -1,9 +1,11 @@
-use Rattle.std.proofs.Common.{◌≡◌, ◌∙◌, ◌+◌, ◌≤◌, List, ℕ, length, Some, None, Err, IsSomeAnd, is_some, refl, sym, ap, subst}
+use Rattle.std.proofs.Common.{◌≡◌, ◌∙◌, ◌+◌, ◌≤◌, nat_lt, List, ℕ, length, Some, None, Err, IsSomeAnd, is_some, refl, sym, ap, subst}
 use Rattle.std.proofs.lemmas.Result.{err_from_is_err_and}
+use Rattle.std.specs.List.{list_all}
 use Rattle.lis_catalog.specs.Catalog.{slot_of}
 use Rattle.lis_catalog.proofs.Laws.{rec_at-slot_of}
 use Rattle.lis_ext.specs.Ext.{Ext}
 use Rattle.lis_fields.specs.Records.{FileRecord}
+use Rattle.lis_fields.specs.Layouts.{are_blocks}
 use Rattle.lis_model.specs.Changes.{new_file}
 use Rattle.lis_model.specs.Step.{Situation, mv}
 use Rattle.lis_kept.specs.Kept.{Kept}
@@ -12,13 +14,15 @@ use Rattle.lis_journal.specs.Images.{Fits}
 use Rattle.lis_journal.specs.Phases.{looked}
 use Rattle.lis_store.specs.Stored.{Stored, IsSound, StoreFits}
 use Rattle.lis_store.specs.Changes.{Changes, first_refusal, differing_bits}
+use Rattle.lis_store.specs.Contents.{AreContentsWithin}
 use Rattle.lis_store.specs.Judging.{is_among}
 use Rattle.lis_store.specs.Replacing.{MayReplace}
+use Rattle.lis_store.specs.ReplacingIn.{RefilesIn}
 use Rattle.lis_grammar.specs.Places.{resolved, text_words}
 use Rattle.lis_store.specs.Instead.{instead_checks}
 use Rattle.lis_store.specs.Retagging.{words_moved}
 use Rattle.lis_store.proofs.FileRead.{led_to, lost_read, moved_first, moved_nowhere, moving_refused, retagging_refused, retagging_changes}
-use Rattle.lis_store.proofs.ReplaceFile.{refiled_sound, refiled_marks, refiled_edits}
+use Rattle.lis_store.proofs.ReplaceFile.{still_in_form, still_below, refiled_limits, refiled_sound, refiled_image, refiled_placed, refiled_room, refiled_edits}
 use Rattle.lis_store.proofs.store.Store.retag.Goals as goal
 
 pub returns-in_default-clause-changes : goal.returns-in_default-clause-changes
@@ -84,8 +88,8 @@ returns-in_err-has_room_instead-clause-changes g c = λ s fits.
     let now : Situation = record { state = s; place = c.args.place.now } in
     let P : Stored → Type 0 = λ k. StoreFits k m s in
     let fits_old = subst P (sym c.self.view_is) fits in
-    let R : List ℕ → Type 0 = λ bs. (kept : ℕ → List ℕ) → Fits c.self.inside.journal m kept → bs ≡ bytes_told c.self.inside.parts.limits (looked c.self.inside.journal.staged kept) found.0 in
-    let read_now : R c.read_file.new.bytes = λ kept held. c.in_default-read_file.ensures.read found.0 kept found.1 held in
+    let R : List ℕ → Type 0 = λ bs. (kept : ℕ → List ℕ) → Fits c.self.inside.journal m kept → AreContentsWithin c.self.inside.parts.limits (looked c.self.inside.journal.staged kept) found.0 → bs ≡ bytes_told c.self.inside.parts.limits (looked c.self.inside.journal.staged kept) found.0 in
+    let read_now : R c.read_file.new.bytes = λ kept held within. c.in_default-read_file.ensures.read found.0 kept found.1 held within in
     let words_judged = c.as_slice.ensures.value ∙ c.in_ok-words.ensures.words found.0 found.1 in
     let J : List (List ℕ) → Type 0 = λ ws. first_refusal (instead_checks c.self.inside.parts c.in-Some.slot (new_file c.args.name.now ws c.bytes.result.now)) ≡ Some c.in_err-has_room_instead.field-0.0 in
     retagging_refused old c.args.place.now c.args.name.now c.in-Some.slot found.0 c.self.invariant named found.1 here m s fits_old mid c.read_file.ensures.same c.read_file.ensures.any_moment c.read_file.ensures.fits
@@ -134,8 +138,57 @@ save-requires-clause-sound g c =
     let first = subst (λ o. IsSomeAnd o (λ (x : FileRecord). MayReplace c.self.inside.parts c.in-Some.slot x (new_file c.args.name.now c.as_slice-2.result.now c.bytes-2.result.now))) (sym found.1)
     (subst W (sym words) may) in
     let unbroken = ap (λ (k : Stored). k.is_broken) c.self.view_is ∙ c.requires.unbroken in
-    refiled_sound old c.refile.new.parts c.in-Some.slot c.args.name.now c.as_slice-2.result.now c.bytes-2.result.now c.self.invariant unbroken first c.refile.ensures.refiled
-    (λ rec is. ap length c.bytes-2.ensures.bytes ∙ c.in_default-read_file.ensures.size rec is)
+    let Again : List ℕ → Type 0 = λ ns. RefilesIn c.in-Some.slot (new_file c.args.name.now c.as_slice-2.result.now c.bytes-2.result.now) ns c.self.inside.parts c.refile.new.parts in
+    let again = subst Again (c.blocks_in-blocks.ensures found.0 found.1) c.refile.ensures.refiled in
+    refiled_sound old c.refile.new.parts c.in-Some.slot c.args.name.now c.as_slice-2.result.now c.bytes-2.result.now found.0 c.self.invariant unbroken found.1 first again
+
+pub save-requires-clause-image : goal.save-requires-clause-image
+save-requires-clause-image g c =
+    let old : Stored = record { parts = c.self.inside.parts; journal = c.self.inside.journal; is_broken = c.self.inside.is_broken } in
+    let named = ap (λ (k : Stored). slot_of k.parts.catalog c.args.name.now) c.self.view_is ∙ c.in-Some.ensures.slot in
+    let found = rec_at-slot_of c.self.inside.parts.catalog c.args.name.now c.in-Some.slot c.self.invariant.parts.catalog named in
+    let here = ap (λ (k : Stored). is_among k.parts c.args.place.now c.args.name.now) c.self.view_is ∙ sym c.in-Some.ensures.here in
+    let words = c.as_slice-2.ensures.value ∙ c.in_ok-words.ensures.words found.0 found.1 in
+    let words_judged = c.as_slice.ensures.value ∙ c.in_ok-words.ensures.words found.0 found.1 in
+    let same = c.bytes.ensures.bytes ∙ sym c.bytes-2.ensures.bytes in
+    let I : List (List ℕ) → List ℕ → Type 0 = λ ws bs. first_refusal (instead_checks c.self.inside.parts c.in-Some.slot (new_file c.args.name.now ws bs)) ≡ None in
+    let J : List (List ℕ) → Type 0 = λ ws. I ws c.bytes.result.now in
+    let K : List ℕ → Type 0 = λ bs. I (words_moved c.self.inside.parts found.0 c.args.place.now c.in_ok-next.next) bs in
+    let none = subst K same (subst J words_judged c.in_ok-has_room_instead.ensures.row) in
+    let size = ap length c.bytes-2.ensures.bytes ∙ c.in_default-read_file.ensures.size found.0 found.1 in
+    let moving = c.in_ok-words.ensures.row found.0 found.1 in
+    let may = moved_first old c.args.place.now c.args.name.now c.in-Some.slot found.0 c.self.invariant named found.1 here c.in_ok-next.next (text_words c.args.text.now) c.bytes-2.result.now size moving none in
+    let W : List (List ℕ) → Type 0 = λ ws. MayReplace c.self.inside.parts c.in-Some.slot found.0 (new_file c.args.name.now ws c.bytes-2.result.now) in
+    let first = subst (λ o. IsSomeAnd o (λ (x : FileRecord). MayReplace c.self.inside.parts c.in-Some.slot x (new_file c.args.name.now c.as_slice-2.result.now c.bytes-2.result.now))) (sym found.1)
+    (subst W (sym words) may) in
+    let unbroken = ap (λ (k : Stored). k.is_broken) c.self.view_is ∙ c.requires.unbroken in
+    let Again : List ℕ → Type 0 = λ ns. RefilesIn c.in-Some.slot (new_file c.args.name.now c.as_slice-2.result.now c.bytes-2.result.now) ns c.self.inside.parts c.refile.new.parts in
+    let again = subst Again (c.blocks_in-blocks.ensures found.0 found.1) c.refile.ensures.refiled in
+    refiled_image old c.refile.new.parts c.in-Some.slot c.args.name.now c.as_slice-2.result.now c.bytes-2.result.now found.0 c.self.invariant unbroken found.1 first again
+
+pub save-requires-clause-placed : goal.save-requires-clause-placed
+save-requires-clause-placed g c =
+    let old : Stored = record { parts = c.self.inside.parts; journal = c.self.inside.journal; is_broken = c.self.inside.is_broken } in
+    let named = ap (λ (k : Stored). slot_of k.parts.catalog c.args.name.now) c.self.view_is ∙ c.in-Some.ensures.slot in
+    let found = rec_at-slot_of c.self.inside.parts.catalog c.args.name.now c.in-Some.slot c.self.invariant.parts.catalog named in
+    let here = ap (λ (k : Stored). is_among k.parts c.args.place.now c.args.name.now) c.self.view_is ∙ sym c.in-Some.ensures.here in
+    let words = c.as_slice-2.ensures.value ∙ c.in_ok-words.ensures.words found.0 found.1 in
+    let words_judged = c.as_slice.ensures.value ∙ c.in_ok-words.ensures.words found.0 found.1 in
+    let same = c.bytes.ensures.bytes ∙ sym c.bytes-2.ensures.bytes in
+    let I : List (List ℕ) → List ℕ → Type 0 = λ ws bs. first_refusal (instead_checks c.self.inside.parts c.in-Some.slot (new_file c.args.name.now ws bs)) ≡ None in
+    let J : List (List ℕ) → Type 0 = λ ws. I ws c.bytes.result.now in
+    let K : List ℕ → Type 0 = λ bs. I (words_moved c.self.inside.parts found.0 c.args.place.now c.in_ok-next.next) bs in
+    let none = subst K same (subst J words_judged c.in_ok-has_room_instead.ensures.row) in
+    let size = ap length c.bytes-2.ensures.bytes ∙ c.in_default-read_file.ensures.size found.0 found.1 in
+    let moving = c.in_ok-words.ensures.row found.0 found.1 in
+    let may = moved_first old c.args.place.now c.args.name.now c.in-Some.slot found.0 c.self.invariant named found.1 here c.in_ok-next.next (text_words c.args.text.now) c.bytes-2.result.now size moving none in
+    let W : List (List ℕ) → Type 0 = λ ws. MayReplace c.self.inside.parts c.in-Some.slot found.0 (new_file c.args.name.now ws c.bytes-2.result.now) in
+    let first = subst (λ o. IsSomeAnd o (λ (x : FileRecord). MayReplace c.self.inside.parts c.in-Some.slot x (new_file c.args.name.now c.as_slice-2.result.now c.bytes-2.result.now))) (sym found.1)
+    (subst W (sym words) may) in
+    let unbroken = ap (λ (k : Stored). k.is_broken) c.self.view_is ∙ c.requires.unbroken in
+    let Again : List ℕ → Type 0 = λ ns. RefilesIn c.in-Some.slot (new_file c.args.name.now c.as_slice-2.result.now c.bytes-2.result.now) ns c.self.inside.parts c.refile.new.parts in
+    let again = subst Again (c.blocks_in-blocks.ensures found.0 found.1) c.refile.ensures.refiled in
+    refiled_placed old c.refile.new.parts c.in-Some.slot c.args.name.now c.as_slice-2.result.now c.bytes-2.result.now found.0 c.self.invariant unbroken found.1 first again
 
 pub save-requires-clause-room : goal.save-requires-clause-room
 save-requires-clause-room g c =
@@ -157,7 +210,9 @@ save-requires-clause-room g c =
     let first = subst (λ o. IsSomeAnd o (λ (x : FileRecord). MayReplace c.self.inside.parts c.in-Some.slot x (new_file c.args.name.now c.as_slice-2.result.now c.bytes-2.result.now))) (sym found.1)
     (subst W (sym words) may) in
     let unbroken = ap (λ (k : Stored). k.is_broken) c.self.view_is ∙ c.requires.unbroken in
-    refiled_marks old c.refile.new.parts c.in-Some.slot c.args.name.now c.as_slice-2.result.now c.bytes-2.result.now c.self.invariant unbroken first c.refile.ensures.refiled
+    let Again : List ℕ → Type 0 = λ ns. RefilesIn c.in-Some.slot (new_file c.args.name.now c.as_slice-2.result.now c.bytes-2.result.now) ns c.self.inside.parts c.refile.new.parts in
+    let again = subst Again (c.blocks_in-blocks.ensures found.0 found.1) c.refile.ensures.refiled in
+    refiled_room old c.refile.new.parts c.in-Some.slot c.args.name.now c.as_slice-2.result.now c.bytes-2.result.now found.0 c.self.invariant unbroken found.1 first again
 
 pub returns-clause-edits : goal.returns-clause-edits
 returns-clause-edits g c =
@@ -179,7 +234,9 @@ returns-clause-edits g c =
     let first = subst (λ o. IsSomeAnd o (λ (x : FileRecord). MayReplace c.self.inside.parts c.in-Some.slot x (new_file c.args.name.now c.as_slice-2.result.now c.bytes-2.result.now))) (sym found.1)
     (subst W (sym words) may) in
     let unbroken = ap (λ (k : Stored). k.is_broken) c.self.view_is ∙ c.requires.unbroken in
-    let few = refiled_edits old c.refile.new.parts c.in-Some.slot c.args.name.now c.as_slice-2.result.now c.bytes-2.result.now c.self.invariant unbroken first c.refile.ensures.refiled in
+    let Again : List ℕ → Type 0 = λ ns. RefilesIn c.in-Some.slot (new_file c.args.name.now c.as_slice-2.result.now c.bytes-2.result.now) ns c.self.inside.parts c.refile.new.parts in
+    let again = subst Again (c.blocks_in-blocks.ensures found.0 found.1) c.refile.ensures.refiled in
+    let few = refiled_edits old c.refile.new.parts c.in-Some.slot c.args.name.now c.as_slice-2.result.now c.bytes-2.result.now found.0 c.self.invariant unbroken found.1 first again in
     let E : Ext → Ext → Type 0 = λ a b. b.edits ≤ a.edits + differing_bits a b in
     let A : Ext → Type 0 = λ b. E c.args.self.now.parts.ext b in
     let B : Ext → Type 0 = λ a. E a c.refile.new.parts.ext in
@@ -211,9 +268,58 @@ returns-clause-changes g c = λ s fits.
     let now : Situation = record { state = s; place = c.args.place.now } in
     let P : Stored → Type 0 = λ k. StoreFits k m s in
     let fits_old = subst P (sym c.self.view_is) fits in
-    let R : List ℕ → Type 0 = λ bs. (kept : ℕ → List ℕ) → Fits c.self.inside.journal m kept → bs ≡ bytes_told c.self.inside.parts.limits (looked c.self.inside.journal.staged kept) found.0 in
-    let read_now : R c.read_file.new.bytes = λ kept held. c.in_default-read_file.ensures.read found.0 kept found.1 held in
+    let R : List ℕ → Type 0 = λ bs. (kept : ℕ → List ℕ) → Fits c.self.inside.journal m kept → AreContentsWithin c.self.inside.parts.limits (looked c.self.inside.journal.staged kept) found.0 → bs ≡ bytes_told c.self.inside.parts.limits (looked c.self.inside.journal.staged kept) found.0 in
+    let read_now : R c.read_file.new.bytes = λ kept held within. c.in_default-read_file.ensures.read found.0 kept found.1 held within in
+    let Again : List ℕ → Type 0 = λ ns. RefilesIn c.in-Some.slot (new_file c.args.name.now c.as_slice-2.result.now c.bytes-2.result.now) ns c.self.inside.parts c.refile.new.parts in
+    let again = subst Again (c.blocks_in-blocks.ensures found.0 found.1) c.refile.ensures.refiled in
     let new : Stored = record { parts = c.save.new.parts; journal = c.save.new.journal; is_broken = c.save.new.is_broken } in
     retagging_changes old c.args.place.now c.args.name.now c.in-Some.slot found.0 c.self.invariant named found.1 here m s fits_old mid c.read_file.ensures.same c.read_file.ensures.any_moment c.read_file.ensures.fits
-    c.bytes-2.result.now (subst R (sym c.bytes-2.ensures.bytes) read_now) c.refile.new.parts c.args.text.now c.in_ok-next.next c.as_slice-2.result.now unbroken words leads first c.refile.ensures.refiled
+    c.bytes-2.result.now (subst R (sym c.bytes-2.ensures.bytes) read_now) c.refile.new.parts c.args.text.now c.in_ok-next.next c.as_slice-2.result.now unbroken words leads first again
     moving none new (g.D.Disk.meaning c.save.new.disk) c.save.result c.save.ensures.saves
+
+pub returns-clause-limits : goal.returns-clause-limits
+returns-clause-limits g c =
+    let old : Stored = record { parts = c.self.inside.parts; journal = c.self.inside.journal; is_broken = c.self.inside.is_broken } in
+    let named = ap (λ (k : Stored). slot_of k.parts.catalog c.args.name.now) c.self.view_is ∙ c.in-Some.ensures.slot in
+    let found = rec_at-slot_of c.self.inside.parts.catalog c.args.name.now c.in-Some.slot c.self.invariant.parts.catalog named in
+    let here = ap (λ (k : Stored). is_among k.parts c.args.place.now c.args.name.now) c.self.view_is ∙ sym c.in-Some.ensures.here in
+    let words = c.as_slice-2.ensures.value ∙ c.in_ok-words.ensures.words found.0 found.1 in
+    let words_judged = c.as_slice.ensures.value ∙ c.in_ok-words.ensures.words found.0 found.1 in
+    let same = c.bytes.ensures.bytes ∙ sym c.bytes-2.ensures.bytes in
+    let I : List (List ℕ) → List ℕ → Type 0 = λ ws bs. first_refusal (instead_checks c.self.inside.parts c.in-Some.slot (new_file c.args.name.now ws bs)) ≡ None in
+    let J : List (List ℕ) → Type 0 = λ ws. I ws c.bytes.result.now in
+    let K : List ℕ → Type 0 = λ bs. I (words_moved c.self.inside.parts found.0 c.args.place.now c.in_ok-next.next) bs in
+    let none = subst K same (subst J words_judged c.in_ok-has_room_instead.ensures.row) in
+    let size = ap length c.bytes-2.ensures.bytes ∙ c.in_default-read_file.ensures.size found.0 found.1 in
+    let moving = c.in_ok-words.ensures.row found.0 found.1 in
+    let may = moved_first old c.args.place.now c.args.name.now c.in-Some.slot found.0 c.self.invariant named found.1 here c.in_ok-next.next (text_words c.args.text.now) c.bytes-2.result.now size moving none in
+    let W : List (List ℕ) → Type 0 = λ ws. MayReplace c.self.inside.parts c.in-Some.slot found.0 (new_file c.args.name.now ws c.bytes-2.result.now) in
+    let first = subst (λ o. IsSomeAnd o (λ (x : FileRecord). MayReplace c.self.inside.parts c.in-Some.slot x (new_file c.args.name.now c.as_slice-2.result.now c.bytes-2.result.now))) (sym found.1)
+    (subst W (sym words) may) in
+    let unbroken = ap (λ (k : Stored). k.is_broken) c.self.view_is ∙ c.requires.unbroken in
+    let Again : List ℕ → Type 0 = λ ns. RefilesIn c.in-Some.slot (new_file c.args.name.now c.as_slice-2.result.now c.bytes-2.result.now) ns c.self.inside.parts c.refile.new.parts in
+    let again = subst Again (c.blocks_in-blocks.ensures found.0 found.1) c.refile.ensures.refiled in
+    ap (λ (k : Kept). k.limits) c.save.ensures.parts ∙ (refiled_limits old c.refile.new.parts c.in-Some.slot c.args.name.now c.as_slice-2.result.now c.bytes-2.result.now found.0 c.self.invariant unbroken found.1 first again ∙ ap (λ (k : Stored). k.parts.limits) c.self.view_is)
+
+pub blocks_in-blocks-requires : goal.blocks_in-blocks-requires
+blocks_in-blocks-requires g c =
+    let named = ap (λ (k : Stored). slot_of k.parts.catalog c.args.name.now) c.self.view_is ∙ c.in-Some.ensures.slot in
+    ap is_some (rec_at-slot_of c.self.inside.parts.catalog c.args.name.now c.in-Some.slot c.self.invariant.parts.catalog named).1
+
+pub refile-requires-clause-in_form : goal.refile-requires-clause-in_form
+refile-requires-clause-in_form g c =
+    let old : Stored = record { parts = c.self.inside.parts; journal = c.self.inside.journal; is_broken = c.self.inside.is_broken } in
+    let named = ap (λ (k : Stored). slot_of k.parts.catalog c.args.name.now) c.self.view_is ∙ c.in-Some.ensures.slot in
+    let found = rec_at-slot_of c.self.inside.parts.catalog c.args.name.now c.in-Some.slot c.self.invariant.parts.catalog named in
+    let size = ap length c.bytes-2.ensures.bytes ∙ c.in_default-read_file.ensures.size found.0 found.1 in
+    ap (are_blocks c.self.inside.parts.limits.version (length c.bytes-2.result.now)) (c.blocks_in-blocks.ensures found.0 found.1)
+    ∙ still_in_form old c.in-Some.slot c.bytes-2.result.now found.0 c.self.invariant found.1 size
+
+pub refile-requires-clause-below : goal.refile-requires-clause-below
+refile-requires-clause-below g c =
+    let old : Stored = record { parts = c.self.inside.parts; journal = c.self.inside.journal; is_broken = c.self.inside.is_broken } in
+    let named = ap (λ (k : Stored). slot_of k.parts.catalog c.args.name.now) c.self.view_is ∙ c.in-Some.ensures.slot in
+    let found = rec_at-slot_of c.self.inside.parts.catalog c.args.name.now c.in-Some.slot c.self.invariant.parts.catalog named in
+    let size = ap length c.bytes-2.ensures.bytes ∙ c.in_default-read_file.ensures.size found.0 found.1 in
+    ap (list_all (λ n. nat_lt n c.self.inside.parts.limits.blocks)) (c.blocks_in-blocks.ensures found.0 found.1)
+    ∙ still_below old c.in-Some.slot c.bytes-2.result.now found.0 c.self.invariant found.1 size

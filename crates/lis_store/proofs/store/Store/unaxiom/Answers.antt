@@ -6,6 +6,7 @@ use Rattle.lis_ext.specs.Ext.{Ext}
 use Rattle.lis_kept.specs.Kept.{Kept}
 use Rattle.lis_store.proofs.Unaxiom.{may_go, unaxiom_refused, unaxiom_sound, unaxiom_marks, unaxiom_changes}
 use Rattle.lis_store.proofs.Unaxiomed.{few_edits}
+use Rattle.lis_store.proofs.SavedAlone.{alone_placed}
 use Rattle.lis_store.proofs.store.Store.unaxiom.Goals as goal
 
 pub returns-in_default-clause-changes : goal.returns-in_default-clause-changes
@@ -23,6 +24,12 @@ save-requires-clause-sound g c =
     let unbroken = ap (λ (k : Stored). k.is_broken) c.self.view_is ∙ c.requires.unbroken in
     unaxiom_sound old c.take_axiom.new.parts c.args.left.now c.args.right.now c.in-Some.from c.in-Some.to c.in-Some.ensures.numbers c.take_axiom.ensures.taken c.self.invariant unbroken
     (sym c.in-Some.ensures.there)
+
+pub save-requires-clause-placed : goal.save-requires-clause-placed
+save-requires-clause-placed g c =
+    let old : Stored = record { parts = c.self.inside.parts; journal = c.self.inside.journal; is_broken = c.self.inside.is_broken } in
+    let unbroken = ap (λ (k : Stored). k.is_broken) c.self.view_is ∙ c.requires.unbroken in
+    alone_placed old c.self.invariant unbroken c.take_axiom.new.parts
 
 pub save-requires-clause-room : goal.save-requires-clause-room
 save-requires-clause-room g c =

@@ -7,6 +7,7 @@ use Rattle.lis_kept.specs.Kept.{Kept}
 use Rattle.lis_store.specs.Stored.{Stored, StoreFits}
 use Rattle.lis_store.specs.Changes.{Changes, differing_bits}
 use Rattle.lis_store.proofs.Undeclared.{undeclared_may, undeclared_named, undeclared_limits, undeclared_edits, undeclared_marks, undeclared_sound, undeclared_changes, undeclared_refused}
+use Rattle.lis_store.proofs.SavedAlone.{alone_placed}
 use Rattle.lis_store.proofs.store.Store.undeclare.Goals as goal
 
 pub returns-in_err-number-clause-changes : goal.returns-in_err-number-clause-changes
@@ -37,6 +38,12 @@ save-requires-clause-image g c =
     let old : Stored = record { parts = c.self.inside.parts; journal = c.self.inside.journal; is_broken = c.self.inside.is_broken } in
     let unbroken = ap (λ (k : Stored). k.is_broken) c.self.view_is ∙ c.requires.unbroken in
     c.self.invariant.image ∙ sym (ap image_blocks (undeclared_limits old c.args.word.now c.in_ok-number.number c.self.invariant unbroken c.in_ok-number.ensures.row c.in_ok-number.ensures.number c.undeclare_unmet.new.parts c.undeclare_unmet.ensures))
+
+pub save-requires-clause-placed : goal.save-requires-clause-placed
+save-requires-clause-placed g c =
+    let old : Stored = record { parts = c.self.inside.parts; journal = c.self.inside.journal; is_broken = c.self.inside.is_broken } in
+    let unbroken = ap (λ (k : Stored). k.is_broken) c.self.view_is ∙ c.requires.unbroken in
+    alone_placed old c.self.invariant unbroken c.undeclare_unmet.new.parts
 
 pub save-requires-clause-room : goal.save-requires-clause-room
 save-requires-clause-room g c =

@@ -1,25 +1,25 @@
-use Rattle.std.proofs.Common.{◌≡◌, ◌∙◌, ◌+◌, ◌≤◌, List, ℕ, Err, IsSomeAnd, is_some, true, refl, sym, ap, subst, arith}
+use Rattle.std.proofs.Common.{◌≡◌, ◌∙◌, ◌+◌, ◌*◌, ◌≤◌, Bool, List, ℕ, Err, IsSomeAnd, is_some, length, true, refl, sym, ap, subst, arith}
 use Rattle.std.specs.List.{list_all}
 use Rattle.std.proofs.lemmas.Result.{err_from_is_err_and}
-use Rattle.lis_ports.specs.Meaning.{Meaning}
 use Rattle.lis_catalog.specs.Catalog.{slot_of}
 use Rattle.lis_catalog.proofs.Laws.{rec_at-slot_of}
 use Rattle.lis_ext.specs.Ext.{Ext}
 use Rattle.lis_fields.specs.Records.{FileRecord}
+use Rattle.lis_fields.proofs.Parts.{size_fits}
 use Rattle.lis_model.specs.declared.limits.Limits.{Limits}
 use Rattle.lis_model.specs.Changes.{new_file}
 use Rattle.lis_model.specs.State.{file_limit, is_assignable}
 use Rattle.lis_model.specs.Step.{Situation, Payload, write}
+use Rattle.lis_eval.specs.Room.{HasRoom}
 use Rattle.lis_kept.specs.Kept.{Kept}
 use Rattle.lis_kept.specs.Telling.{declared_of}
 use Rattle.lis_store.specs.Stored.{Stored, IsSound, StoreFits}
 use Rattle.lis_store.specs.Changes.{Changes, differing_bits}
 use Rattle.lis_store.specs.Judging.{is_among}
-use Rattle.lis_store.specs.Saving.{Saves}
 use Rattle.lis_store.specs.Instead.{given_before}
 use Rattle.lis_store.specs.Replacing.{MayReplace}
-use Rattle.lis_store.proofs.ReplaceFile.{overwritten_sound, overwritten_marks, overwritten_changes, overwritten_edits}
-use Rattle.lis_store.proofs.WriteFile.{write_first, rest_of_write, written_done, written_refused, written_nowhere}
+use Rattle.lis_store.proofs.ReplaceFile.{mid_form, mid_limits, mid_first, mid_in_form, mid_below, written_limits, written_sound, written_image, written_unbroken, written_placed, written_room, written_changes, written_edits, renewed_torn, content_broken, torn_sound, torn_limits, torn_edits, torn_changes}
+use Rattle.lis_store.proofs.WriteFile.{write_first, write_enough, written_enough, rest_of_write, written_done, written_refused, written_nowhere}
 use Rattle.lis_store.proofs.store.Store.write.Goals as goal
 
 pub returns-in_default-clause-changes : goal.returns-in_default-clause-changes
@@ -52,18 +52,92 @@ returns-in_err-words-clause-changes g c = λ s fits.
     (rest_of_write c.self.inside.parts c.args.place.now c.args.name.now c.in-Some.slot found.0 (given_before c.self.inside.parts found.0 c.args.name.now c.args.payload.now) c.args.size small here
     ∙ c.in_err-words.ensures.row found.0 found.1) (e.1 ∙ ap Err e.2))
 
-pub overwrite-requires-clause-may : goal.overwrite-requires-clause-may
-overwrite-requires-clause-may g c =
+pub put_instead-requires-clause-there : goal.put_instead-requires-clause-there
+put_instead-requires-clause-there g c =
+    let named = ap (λ (k : Stored). slot_of k.parts.catalog c.args.name.now) c.self.view_is ∙ c.in-Some.ensures.slot in
+    ap is_some (rec_at-slot_of c.self.inside.parts.catalog c.args.name.now c.in-Some.slot c.self.invariant.parts.catalog named).1
+
+pub put_instead-requires-clause-short : goal.put_instead-requires-clause-short
+put_instead-requires-clause-short g c =
+    let old : Stored = record { parts = c.self.inside.parts; journal = c.self.inside.journal; is_broken = c.self.inside.is_broken } in
+    let named = ap (λ (k : Stored). slot_of k.parts.catalog c.args.name.now) c.self.view_is ∙ c.in-Some.ensures.slot in
+    let found = rec_at-slot_of c.self.inside.parts.catalog c.args.name.now c.in-Some.slot c.self.invariant.parts.catalog named in
+    let small : c.args.size ≤ file_limit c.self.inside.parts.limits.version = omega (arith, c.if-size-file_limit.false, c.file_limit.ensures, ap (λ (l : Limits). file_limit l.version) c.limits.ensures.value) in
+    omega (arith, c.requires.whole (size_fits c.self.inside.parts.limits.version c.args.size small), small)
+
+pub put_instead-requires-clause-enough : goal.put_instead-requires-clause-enough
+put_instead-requires-clause-enough g c = λ rec there.
+    let old : Stored = record { parts = c.self.inside.parts; journal = c.self.inside.journal; is_broken = c.self.inside.is_broken } in
+    let named = ap (λ (k : Stored). slot_of k.parts.catalog c.args.name.now) c.self.view_is ∙ c.in-Some.ensures.slot in
+    let found = rec_at-slot_of c.self.inside.parts.catalog c.args.name.now c.in-Some.slot c.self.invariant.parts.catalog named in
+    let small : c.args.size ≤ file_limit c.self.inside.parts.limits.version = omega (arith, c.if-size-file_limit.false, c.file_limit.ensures, ap (λ (l : Limits). file_limit l.version) c.limits.ensures.value) in
+    let here = ap (λ (k : Stored). is_among k.parts c.args.place.now c.args.name.now) c.self.view_is ∙ sym c.in-Some.ensures.here in
+    write_enough old c.self.invariant c.args.place.now c.args.name.now c.in-Some.slot rec named there here c.args.payload.now c.args.size small c.requires.whole (c.in_ok-words.ensures.row rec there)
+
+pub returns-in_err-blocks-clause-changes : goal.returns-in_err-blocks-clause-changes
+returns-in_err-blocks-clause-changes g c = λ s fits.
+    let old : Stored = record { parts = c.self.inside.parts; journal = c.self.inside.journal; is_broken = c.self.inside.is_broken } in
+    let named = ap (λ (k : Stored). slot_of k.parts.catalog c.args.name.now) c.self.view_is ∙ c.in-Some.ensures.slot in
+    let found = rec_at-slot_of c.self.inside.parts.catalog c.args.name.now c.in-Some.slot c.self.invariant.parts.catalog named in
+    let e = err_from_is_err_and c.from_residual-in_err-blocks.result c.from_residual-in_err-blocks.ensures.1 in
+    let m = g.D.Disk.meaning c.args.disk.now in
+    let after = g.D.Disk.meaning c.put_instead.new.disk in
+    let now : Situation = record { state = s; place = c.args.place.now } in
+    let payload : Payload = record { size = c.args.size; bytes = c.args.payload.now } in
+    let P : Stored → Type 0 = λ k. StoreFits k m s in
+    let new : Stored = record { parts = c.put_instead.new.parts; journal = c.put_instead.new.journal; is_broken = c.put_instead.new.is_broken } in
+    let torn = renewed_torn old c.put_instead.new.parts c.put_instead.new.journal found.0 c.args.payload.now c.self.invariant m after c.in_err-blocks.field-0.0 (c.in_err-blocks.ensures.renewed found.0 found.1) in
+    torn_changes old c.put_instead.new.parts c.put_instead.new.journal c.self.invariant m after torn.1 now (write now c.args.name.now payload) new c.from_residual-in_err-blocks.result
+    (subst P (sym c.self.view_is) fits) (content_broken c.in_err-blocks.field-0.0 c.put_instead.new.is_broken c.in_err-blocks.ensures.ended torn.0)
+    (e.1 ∙ ap Err (e.2 ∙ torn.0))
+
+pub refile-requires-clause-form : goal.refile-requires-clause-form
+refile-requires-clause-form g c =
+    let old : Stored = record { parts = c.self.inside.parts; journal = c.self.inside.journal; is_broken = c.self.inside.is_broken } in
+    let named = ap (λ (k : Stored). slot_of k.parts.catalog c.args.name.now) c.self.view_is ∙ c.in-Some.ensures.slot in
+    let found = rec_at-slot_of c.self.inside.parts.catalog c.args.name.now c.in-Some.slot c.self.invariant.parts.catalog named in
+    let before = g.D.Disk.meaning c.args.disk.now in
+    let placed = g.D.Disk.meaning c.put_instead.new.disk in
+    let renews = c.in_ok-blocks.ensures.renewed found.0 found.1 in
+    mid_form old c.put_instead.new.parts c.put_instead.new.journal c.in-Some.slot c.args.payload.now c.in_ok-blocks.blocks.items found.0 c.self.invariant c.in_ok-blocks.ensures.sound found.1 before placed renews
+
+pub refile-requires-clause-may : goal.refile-requires-clause-may
+refile-requires-clause-may g c =
+    let old : Stored = record { parts = c.self.inside.parts; journal = c.self.inside.journal; is_broken = c.self.inside.is_broken } in
     let named = ap (λ (k : Stored). slot_of k.parts.catalog c.args.name.now) c.self.view_is ∙ c.in-Some.ensures.slot in
     let found = rec_at-slot_of c.self.inside.parts.catalog c.args.name.now c.in-Some.slot c.self.invariant.parts.catalog named in
     let small : c.args.size ≤ file_limit c.self.inside.parts.limits.version = omega (arith, c.if-size-file_limit.false, c.file_limit.ensures, ap (λ (l : Limits). file_limit l.version) c.limits.ensures.value) in
     let words = c.as_slice.ensures.value ∙ c.in_ok-words.ensures.words found.0 found.1 in
     let here = ap (λ (k : Stored). is_among k.parts c.args.place.now c.args.name.now) c.self.view_is ∙ sym c.in-Some.ensures.here in
     let W : List (List ℕ) → Type 0 = λ ws. MayReplace c.self.inside.parts c.in-Some.slot found.0 (new_file c.args.name.now ws c.args.payload.now) in
-    let may = write_first (record { parts = c.self.inside.parts; journal = c.self.inside.journal; is_broken = c.self.inside.is_broken }) c.self.invariant c.args.place.now c.args.name.now c.in-Some.slot found.0 named found.1 here
+    let may = write_first old c.self.invariant c.args.place.now c.args.name.now c.in-Some.slot found.0 named found.1 here
     c.args.payload.now c.args.size small c.requires.whole (c.in_ok-words.ensures.row found.0 found.1) in
     let first = subst (λ o. IsSomeAnd o (λ (x : FileRecord). MayReplace c.self.inside.parts c.in-Some.slot x (new_file c.args.name.now c.as_slice.result.now c.args.payload.now))) (sym found.1) (subst W (sym words) may) in
-    first
+    let before = g.D.Disk.meaning c.args.disk.now in
+    let placed = g.D.Disk.meaning c.put_instead.new.disk in
+    let renews = c.in_ok-blocks.ensures.renewed found.0 found.1 in
+    mid_first old c.put_instead.new.parts c.put_instead.new.journal c.in-Some.slot c.args.payload.now c.in_ok-blocks.blocks.items found.0 c.self.invariant c.in_ok-blocks.ensures.sound found.1 before placed renews
+    c.args.name.now c.as_slice.result.now first
+
+pub refile-requires-clause-in_form : goal.refile-requires-clause-in_form
+refile-requires-clause-in_form g c =
+    let old : Stored = record { parts = c.self.inside.parts; journal = c.self.inside.journal; is_broken = c.self.inside.is_broken } in
+    let named = ap (λ (k : Stored). slot_of k.parts.catalog c.args.name.now) c.self.view_is ∙ c.in-Some.ensures.slot in
+    let found = rec_at-slot_of c.self.inside.parts.catalog c.args.name.now c.in-Some.slot c.self.invariant.parts.catalog named in
+    let before = g.D.Disk.meaning c.args.disk.now in
+    let placed = g.D.Disk.meaning c.put_instead.new.disk in
+    let renews = c.in_ok-blocks.ensures.renewed found.0 found.1 in
+    mid_in_form old c.put_instead.new.parts c.put_instead.new.journal c.in-Some.slot c.args.payload.now c.in_ok-blocks.blocks.items found.0 c.self.invariant c.in_ok-blocks.ensures.sound found.1 before placed renews
+
+pub refile-requires-clause-below : goal.refile-requires-clause-below
+refile-requires-clause-below g c =
+    let old : Stored = record { parts = c.self.inside.parts; journal = c.self.inside.journal; is_broken = c.self.inside.is_broken } in
+    let named = ap (λ (k : Stored). slot_of k.parts.catalog c.args.name.now) c.self.view_is ∙ c.in-Some.ensures.slot in
+    let found = rec_at-slot_of c.self.inside.parts.catalog c.args.name.now c.in-Some.slot c.self.invariant.parts.catalog named in
+    let before = g.D.Disk.meaning c.args.disk.now in
+    let placed = g.D.Disk.meaning c.put_instead.new.disk in
+    let renews = c.in_ok-blocks.ensures.renewed found.0 found.1 in
+    mid_below old c.put_instead.new.parts c.put_instead.new.journal c.in-Some.slot c.args.payload.now c.in_ok-blocks.blocks.items found.0 c.self.invariant c.in_ok-blocks.ensures.sound found.1 before placed renews
 
 pub save-requires-clause-sound : goal.save-requires-clause-sound
 save-requires-clause-sound g c =
@@ -75,10 +149,51 @@ save-requires-clause-sound g c =
     let words = c.as_slice.ensures.value ∙ c.in_ok-words.ensures.words found.0 found.1 in
     let here = ap (λ (k : Stored). is_among k.parts c.args.place.now c.args.name.now) c.self.view_is ∙ sym c.in-Some.ensures.here in
     let W : List (List ℕ) → Type 0 = λ ws. MayReplace c.self.inside.parts c.in-Some.slot found.0 (new_file c.args.name.now ws c.args.payload.now) in
-    let may = write_first (record { parts = c.self.inside.parts; journal = c.self.inside.journal; is_broken = c.self.inside.is_broken }) c.self.invariant c.args.place.now c.args.name.now c.in-Some.slot found.0 named found.1 here
+    let may = write_first old c.self.invariant c.args.place.now c.args.name.now c.in-Some.slot found.0 named found.1 here
     c.args.payload.now c.args.size small c.requires.whole (c.in_ok-words.ensures.row found.0 found.1) in
     let first = subst (λ o. IsSomeAnd o (λ (x : FileRecord). MayReplace c.self.inside.parts c.in-Some.slot x (new_file c.args.name.now c.as_slice.result.now c.args.payload.now))) (sym found.1) (subst W (sym words) may) in
-    overwritten_sound old c.overwrite.new.parts c.overwrite.new.journal c.in-Some.slot c.args.name.now c.as_slice.result.now c.args.payload.now c.self.invariant unbroken first c.overwrite.ensures.overwritten
+    let before = g.D.Disk.meaning c.args.disk.now in
+    let placed = g.D.Disk.meaning c.put_instead.new.disk in
+    let renews = c.in_ok-blocks.ensures.renewed found.0 found.1 in
+    written_sound old c.put_instead.new.parts c.put_instead.new.journal c.in-Some.slot c.args.payload.now c.in_ok-blocks.blocks.items found.0 c.self.invariant c.in_ok-blocks.ensures.sound found.1 before placed renews
+    c.args.name.now c.as_slice.result.now first c.refile.new.parts c.refile.ensures.refiled unbroken
+
+pub save-requires-clause-image : goal.save-requires-clause-image
+save-requires-clause-image g c =
+    let old : Stored = record { parts = c.self.inside.parts; journal = c.self.inside.journal; is_broken = c.self.inside.is_broken } in
+    let named = ap (λ (k : Stored). slot_of k.parts.catalog c.args.name.now) c.self.view_is ∙ c.in-Some.ensures.slot in
+    let found = rec_at-slot_of c.self.inside.parts.catalog c.args.name.now c.in-Some.slot c.self.invariant.parts.catalog named in
+    let small : c.args.size ≤ file_limit c.self.inside.parts.limits.version = omega (arith, c.if-size-file_limit.false, c.file_limit.ensures, ap (λ (l : Limits). file_limit l.version) c.limits.ensures.value) in
+    let words = c.as_slice.ensures.value ∙ c.in_ok-words.ensures.words found.0 found.1 in
+    let here = ap (λ (k : Stored). is_among k.parts c.args.place.now c.args.name.now) c.self.view_is ∙ sym c.in-Some.ensures.here in
+    let W : List (List ℕ) → Type 0 = λ ws. MayReplace c.self.inside.parts c.in-Some.slot found.0 (new_file c.args.name.now ws c.args.payload.now) in
+    let may = write_first old c.self.invariant c.args.place.now c.args.name.now c.in-Some.slot found.0 named found.1 here
+    c.args.payload.now c.args.size small c.requires.whole (c.in_ok-words.ensures.row found.0 found.1) in
+    let first = subst (λ o. IsSomeAnd o (λ (x : FileRecord). MayReplace c.self.inside.parts c.in-Some.slot x (new_file c.args.name.now c.as_slice.result.now c.args.payload.now))) (sym found.1) (subst W (sym words) may) in
+    let before = g.D.Disk.meaning c.args.disk.now in
+    let placed = g.D.Disk.meaning c.put_instead.new.disk in
+    let renews = c.in_ok-blocks.ensures.renewed found.0 found.1 in
+    written_image old c.put_instead.new.parts c.put_instead.new.journal c.in-Some.slot c.args.payload.now c.in_ok-blocks.blocks.items found.0 c.self.invariant c.in_ok-blocks.ensures.sound found.1 before placed renews
+    c.args.name.now c.as_slice.result.now first c.refile.new.parts c.refile.ensures.refiled
+
+pub save-requires-clause-placed : goal.save-requires-clause-placed
+save-requires-clause-placed g c =
+    let old : Stored = record { parts = c.self.inside.parts; journal = c.self.inside.journal; is_broken = c.self.inside.is_broken } in
+    let named = ap (λ (k : Stored). slot_of k.parts.catalog c.args.name.now) c.self.view_is ∙ c.in-Some.ensures.slot in
+    let found = rec_at-slot_of c.self.inside.parts.catalog c.args.name.now c.in-Some.slot c.self.invariant.parts.catalog named in
+    let unbroken = ap (λ (k : Stored). k.is_broken) c.self.view_is ∙ c.requires.unbroken in
+    let small : c.args.size ≤ file_limit c.self.inside.parts.limits.version = omega (arith, c.if-size-file_limit.false, c.file_limit.ensures, ap (λ (l : Limits). file_limit l.version) c.limits.ensures.value) in
+    let words = c.as_slice.ensures.value ∙ c.in_ok-words.ensures.words found.0 found.1 in
+    let here = ap (λ (k : Stored). is_among k.parts c.args.place.now c.args.name.now) c.self.view_is ∙ sym c.in-Some.ensures.here in
+    let W : List (List ℕ) → Type 0 = λ ws. MayReplace c.self.inside.parts c.in-Some.slot found.0 (new_file c.args.name.now ws c.args.payload.now) in
+    let may = write_first old c.self.invariant c.args.place.now c.args.name.now c.in-Some.slot found.0 named found.1 here
+    c.args.payload.now c.args.size small c.requires.whole (c.in_ok-words.ensures.row found.0 found.1) in
+    let first = subst (λ o. IsSomeAnd o (λ (x : FileRecord). MayReplace c.self.inside.parts c.in-Some.slot x (new_file c.args.name.now c.as_slice.result.now c.args.payload.now))) (sym found.1) (subst W (sym words) may) in
+    let before = g.D.Disk.meaning c.args.disk.now in
+    let placed = g.D.Disk.meaning c.put_instead.new.disk in
+    let renews = c.in_ok-blocks.ensures.renewed found.0 found.1 in
+    written_placed old c.put_instead.new.parts c.put_instead.new.journal c.in-Some.slot c.args.payload.now c.in_ok-blocks.blocks.items found.0 c.self.invariant c.in_ok-blocks.ensures.sound found.1 before placed renews
+    c.args.name.now c.as_slice.result.now first c.refile.new.parts c.refile.ensures.refiled unbroken
 
 pub save-requires-clause-room : goal.save-requires-clause-room
 save-requires-clause-room g c =
@@ -90,16 +205,17 @@ save-requires-clause-room g c =
     let words = c.as_slice.ensures.value ∙ c.in_ok-words.ensures.words found.0 found.1 in
     let here = ap (λ (k : Stored). is_among k.parts c.args.place.now c.args.name.now) c.self.view_is ∙ sym c.in-Some.ensures.here in
     let W : List (List ℕ) → Type 0 = λ ws. MayReplace c.self.inside.parts c.in-Some.slot found.0 (new_file c.args.name.now ws c.args.payload.now) in
-    let may = write_first (record { parts = c.self.inside.parts; journal = c.self.inside.journal; is_broken = c.self.inside.is_broken }) c.self.invariant c.args.place.now c.args.name.now c.in-Some.slot found.0 named found.1 here
+    let may = write_first old c.self.invariant c.args.place.now c.args.name.now c.in-Some.slot found.0 named found.1 here
     c.args.payload.now c.args.size small c.requires.whole (c.in_ok-words.ensures.row found.0 found.1) in
     let first = subst (λ o. IsSomeAnd o (λ (x : FileRecord). MayReplace c.self.inside.parts c.in-Some.slot x (new_file c.args.name.now c.as_slice.result.now c.args.payload.now))) (sym found.1) (subst W (sym words) may) in
-    overwritten_marks old c.overwrite.new.parts c.overwrite.new.journal c.in-Some.slot c.args.name.now c.as_slice.result.now c.args.payload.now c.self.invariant unbroken first c.overwrite.ensures.overwritten
+    let before = g.D.Disk.meaning c.args.disk.now in
+    let placed = g.D.Disk.meaning c.put_instead.new.disk in
+    let renews = c.in_ok-blocks.ensures.renewed found.0 found.1 in
+    written_room old c.put_instead.new.parts c.put_instead.new.journal c.in-Some.slot c.args.payload.now c.in_ok-blocks.blocks.items found.0 c.self.invariant c.in_ok-blocks.ensures.sound found.1 before placed renews
+    c.args.name.now c.as_slice.result.now first c.refile.new.parts c.refile.ensures.refiled unbroken
 
 pub returns-clause-changes : goal.returns-clause-changes
 returns-clause-changes g c = λ s fits.
-    let m = g.D.Disk.meaning c.args.disk.now in
-    let new : Stored = record { parts = c.save.new.parts; journal = c.save.new.journal; is_broken = c.save.new.is_broken } in
-    let payload : Payload = record { size = c.args.size; bytes = c.args.payload.now } in
     let old : Stored = record { parts = c.self.inside.parts; journal = c.self.inside.journal; is_broken = c.self.inside.is_broken } in
     let named = ap (λ (k : Stored). slot_of k.parts.catalog c.args.name.now) c.self.view_is ∙ c.in-Some.ensures.slot in
     let found = rec_at-slot_of c.self.inside.parts.catalog c.args.name.now c.in-Some.slot c.self.invariant.parts.catalog named in
@@ -108,20 +224,25 @@ returns-clause-changes g c = λ s fits.
     let words = c.as_slice.ensures.value ∙ c.in_ok-words.ensures.words found.0 found.1 in
     let here = ap (λ (k : Stored). is_among k.parts c.args.place.now c.args.name.now) c.self.view_is ∙ sym c.in-Some.ensures.here in
     let W : List (List ℕ) → Type 0 = λ ws. MayReplace c.self.inside.parts c.in-Some.slot found.0 (new_file c.args.name.now ws c.args.payload.now) in
-    let may = write_first (record { parts = c.self.inside.parts; journal = c.self.inside.journal; is_broken = c.self.inside.is_broken }) c.self.invariant c.args.place.now c.args.name.now c.in-Some.slot found.0 named found.1 here
+    let may = write_first old c.self.invariant c.args.place.now c.args.name.now c.in-Some.slot found.0 named found.1 here
     c.args.payload.now c.args.size small c.requires.whole (c.in_ok-words.ensures.row found.0 found.1) in
     let first = subst (λ o. IsSomeAnd o (λ (x : FileRecord). MayReplace c.self.inside.parts c.in-Some.slot x (new_file c.args.name.now c.as_slice.result.now c.args.payload.now))) (sym found.1) (subst W (sym words) may) in
-    let over = c.overwrite.ensures.overwritten in
-    let F : Stored → Type 0 = λ k. StoreFits k m s in
-    let S : Meaning → Type 0 = λ before. Saves c.overwrite.new.parts c.overwrite.new.journal new before (g.D.Disk.meaning c.save.new.disk) c.save.result in
+    let before = g.D.Disk.meaning c.args.disk.now in
+    let placed = g.D.Disk.meaning c.put_instead.new.disk in
+    let renews = c.in_ok-blocks.ensures.renewed found.0 found.1 in
+    let new : Stored = record { parts = c.save.new.parts; journal = c.save.new.journal; is_broken = c.save.new.is_broken } in
+    let payload : Payload = record { size = c.args.size; bytes = c.args.payload.now } in
+    let F : Stored → Type 0 = λ k. StoreFits k before s in
     let fits_old = subst F (sym c.self.view_is) fits in
-    let A : List (List ℕ) → Type 0 = λ ws. list_all (is_assignable (declared_of c.self.inside.parts)) ws ≡ true in
-    let assignable = subst A (sym words) may.assignable in
-    overwritten_changes old c.overwrite.new.parts c.overwrite.new.journal c.in-Some.slot c.args.name.now c.as_slice.result.now c.args.payload.now c.self.invariant unbroken first c.overwrite.ensures.overwritten
-    c.args.place.now new m (g.D.Disk.meaning c.save.new.disk) c.save.result (λ t. write (record { state = t; place = c.args.place.now }) c.args.name.now payload)
-    (λ t told. written_done old m t c.self.invariant told c.args.place.now c.args.name.now c.in-Some.slot found.0 over.rec named found.1 over.way.vacates.drops.there here c.as_slice.result.now words payload small
-    (c.in_ok-words.ensures.row found.0 found.1))
-    assignable (subst S (ap g.D.Disk.meaning c.overwrite.ensures.disk) c.save.ensures.saves) s fits_old
+    let assigned = c.as_slice.result.now in
+    let G : List (List ℕ) → Type 0 = λ ws. list_all (is_assignable (declared_of c.self.inside.parts)) ws ≡ true in
+    let row = c.in_ok-words.ensures.row found.0 found.1 in
+    let enough = written_enough old before s c.self.invariant fits_old c.args.place.now c.args.name.now c.in-Some.slot found.0 named found.1 here assigned words (length c.args.payload.now)
+    (write_enough old c.self.invariant c.args.place.now c.args.name.now c.in-Some.slot found.0 named found.1 here c.args.payload.now c.args.size small c.requires.whole row) in
+    written_changes old c.put_instead.new.parts c.put_instead.new.journal c.in-Some.slot c.args.payload.now c.in_ok-blocks.blocks.items found.0 c.self.invariant c.in_ok-blocks.ensures.sound found.1 before placed renews
+    c.args.name.now c.as_slice.result.now first c.refile.new.parts c.refile.ensures.refiled unbroken s fits_old (subst G (sym words) may.assignable) enough
+    c.args.place.now new (g.D.Disk.meaning c.save.new.disk) c.save.result (write (record { state = s; place = c.args.place.now }) c.args.name.now payload)
+    (written_done old before s c.self.invariant fits_old c.args.place.now c.args.name.now c.in-Some.slot found.0 named found.1 here assigned words payload small row) c.save.ensures.saves
 
 pub returns-clause-edits : goal.returns-clause-edits
 returns-clause-edits g c =
@@ -133,11 +254,136 @@ returns-clause-edits g c =
     let words = c.as_slice.ensures.value ∙ c.in_ok-words.ensures.words found.0 found.1 in
     let here = ap (λ (k : Stored). is_among k.parts c.args.place.now c.args.name.now) c.self.view_is ∙ sym c.in-Some.ensures.here in
     let W : List (List ℕ) → Type 0 = λ ws. MayReplace c.self.inside.parts c.in-Some.slot found.0 (new_file c.args.name.now ws c.args.payload.now) in
-    let may = write_first (record { parts = c.self.inside.parts; journal = c.self.inside.journal; is_broken = c.self.inside.is_broken }) c.self.invariant c.args.place.now c.args.name.now c.in-Some.slot found.0 named found.1 here
+    let may = write_first old c.self.invariant c.args.place.now c.args.name.now c.in-Some.slot found.0 named found.1 here
     c.args.payload.now c.args.size small c.requires.whole (c.in_ok-words.ensures.row found.0 found.1) in
     let first = subst (λ o. IsSomeAnd o (λ (x : FileRecord). MayReplace c.self.inside.parts c.in-Some.slot x (new_file c.args.name.now c.as_slice.result.now c.args.payload.now))) (sym found.1) (subst W (sym words) may) in
-    let few = overwritten_edits old c.overwrite.new.parts c.overwrite.new.journal c.in-Some.slot c.args.name.now c.as_slice.result.now c.args.payload.now c.self.invariant unbroken first c.overwrite.ensures.overwritten in
+    let before = g.D.Disk.meaning c.args.disk.now in
+    let placed = g.D.Disk.meaning c.put_instead.new.disk in
+    let renews = c.in_ok-blocks.ensures.renewed found.0 found.1 in
+    let few = written_edits old c.put_instead.new.parts c.put_instead.new.journal c.in-Some.slot c.args.payload.now c.in_ok-blocks.blocks.items found.0 c.self.invariant c.in_ok-blocks.ensures.sound found.1 before placed renews
+    c.args.name.now c.as_slice.result.now first c.refile.new.parts c.refile.ensures.refiled unbroken in
     let E : Ext → Ext → Type 0 = λ a b. b.edits ≤ a.edits + differing_bits a b in
-    let A : Ext → Type 0 = λ b. E c.args.self.now.parts.ext b in
-    let B : Ext → Type 0 = λ a. E a c.overwrite.new.parts.ext in
-    subst A (sym (ap (λ (k : Kept). k.ext) c.save.ensures.parts)) (subst B (ap (λ (k : Stored). k.parts.ext) c.self.view_is) few)
+    let X : Ext → Type 0 = λ b. E c.args.self.now.parts.ext b in
+    let Y : Ext → Type 0 = λ a. E a c.refile.new.parts.ext in
+    subst X (sym (ap (λ (k : Kept). k.ext) c.save.ensures.parts)) (subst Y (ap (λ (k : Stored). k.parts.ext) c.self.view_is) few)
+
+-- ---- a fault of the disk while the bytes are put
+pub invariant_of-self : goal.invariant_of-self
+invariant_of-self g c =
+    let old : Stored = record { parts = c.self.inside.parts; journal = c.self.inside.journal; is_broken = c.self.inside.is_broken } in
+    let named = ap (λ (k : Stored). slot_of k.parts.catalog c.args.name.now) c.self.view_is ∙ c.in-Some.ensures.slot in
+    let found = rec_at-slot_of c.self.inside.parts.catalog c.args.name.now c.in-Some.slot c.self.invariant.parts.catalog named in
+    let before = g.D.Disk.meaning c.args.disk.now in
+    let after = g.D.Disk.meaning c.put_instead.new.disk in
+    let torn = renewed_torn old c.put_instead.new.parts c.put_instead.new.journal found.0 c.args.payload.now c.self.invariant before after c.in_err-blocks.field-0.0 (c.in_err-blocks.ensures.renewed found.0 found.1) in
+    let S : Bool → Type 0 = λ b. IsSound (record { parts = c.put_instead.new.parts; journal = c.put_instead.new.journal; is_broken = b }) in
+    subst S (sym (content_broken c.in_err-blocks.field-0.0 c.put_instead.new.is_broken c.in_err-blocks.ensures.ended torn.0)) (torn_sound old c.put_instead.new.parts c.put_instead.new.journal c.self.invariant before after torn.1 c.put_instead.ensures.sound)
+
+pub returns-in_err-blocks-clause-limits : goal.returns-in_err-blocks-clause-limits
+returns-in_err-blocks-clause-limits g c =
+    let old : Stored = record { parts = c.self.inside.parts; journal = c.self.inside.journal; is_broken = c.self.inside.is_broken } in
+    let named = ap (λ (k : Stored). slot_of k.parts.catalog c.args.name.now) c.self.view_is ∙ c.in-Some.ensures.slot in
+    let found = rec_at-slot_of c.self.inside.parts.catalog c.args.name.now c.in-Some.slot c.self.invariant.parts.catalog named in
+    let before = g.D.Disk.meaning c.args.disk.now in
+    let after = g.D.Disk.meaning c.put_instead.new.disk in
+    let torn = renewed_torn old c.put_instead.new.parts c.put_instead.new.journal found.0 c.args.payload.now c.self.invariant before after c.in_err-blocks.field-0.0 (c.in_err-blocks.ensures.renewed found.0 found.1) in
+    torn_limits old c.put_instead.new.parts c.put_instead.new.journal c.self.invariant before after torn.1 ∙ ap (λ (k : Stored). k.parts.limits) c.self.view_is
+
+pub returns-in_err-blocks-clause-image : goal.returns-in_err-blocks-clause-image
+returns-in_err-blocks-clause-image g c =
+    let old : Stored = record { parts = c.self.inside.parts; journal = c.self.inside.journal; is_broken = c.self.inside.is_broken } in
+    let named = ap (λ (k : Stored). slot_of k.parts.catalog c.args.name.now) c.self.view_is ∙ c.in-Some.ensures.slot in
+    let found = rec_at-slot_of c.self.inside.parts.catalog c.args.name.now c.in-Some.slot c.self.invariant.parts.catalog named in
+    let before = g.D.Disk.meaning c.args.disk.now in
+    let after = g.D.Disk.meaning c.put_instead.new.disk in
+    let torn = renewed_torn old c.put_instead.new.parts c.put_instead.new.journal found.0 c.args.payload.now c.self.invariant before after c.in_err-blocks.field-0.0 (c.in_err-blocks.ensures.renewed found.0 found.1) in
+    torn.1.image ∙ ap (λ (k : Stored). k.journal.blocks) c.self.view_is
+
+pub returns-in_err-blocks-clause-edits : goal.returns-in_err-blocks-clause-edits
+returns-in_err-blocks-clause-edits g c =
+    let old : Stored = record { parts = c.self.inside.parts; journal = c.self.inside.journal; is_broken = c.self.inside.is_broken } in
+    let named = ap (λ (k : Stored). slot_of k.parts.catalog c.args.name.now) c.self.view_is ∙ c.in-Some.ensures.slot in
+    let found = rec_at-slot_of c.self.inside.parts.catalog c.args.name.now c.in-Some.slot c.self.invariant.parts.catalog named in
+    let before = g.D.Disk.meaning c.args.disk.now in
+    let after = g.D.Disk.meaning c.put_instead.new.disk in
+    let torn = renewed_torn old c.put_instead.new.parts c.put_instead.new.journal found.0 c.args.payload.now c.self.invariant before after c.in_err-blocks.field-0.0 (c.in_err-blocks.ensures.renewed found.0 found.1) in
+    let E : Ext → Type 0 = λ a. c.put_instead.new.parts.ext.edits ≤ a.edits + differing_bits a c.put_instead.new.parts.ext in
+    subst E (ap (λ (k : Stored). k.parts.ext) c.self.view_is) (torn_edits old c.put_instead.new.parts c.put_instead.new.journal c.self.invariant before after torn.1)
+
+-- ---- limits
+pub refile-requires-clause-scratch : goal.refile-requires-clause-scratch
+refile-requires-clause-scratch g c =
+    let old : Stored = record { parts = c.self.inside.parts; journal = c.self.inside.journal; is_broken = c.self.inside.is_broken } in
+    let named = ap (λ (k : Stored). slot_of k.parts.catalog c.args.name.now) c.self.view_is ∙ c.in-Some.ensures.slot in
+    let found = rec_at-slot_of c.self.inside.parts.catalog c.args.name.now c.in-Some.slot c.self.invariant.parts.catalog named in
+    let before = g.D.Disk.meaning c.args.disk.now in
+    let placed = g.D.Disk.meaning c.put_instead.new.disk in
+    let renews = c.in_ok-blocks.ensures.renewed found.0 found.1 in
+    subst (λ (l : Limits). HasRoom c.may_write.new.scratch l) (sym (mid_limits old c.put_instead.new.parts c.put_instead.new.journal c.in-Some.slot c.args.payload.now c.in_ok-blocks.blocks.items found.0 c.self.invariant c.in_ok-blocks.ensures.sound found.1 before placed renews)) c.may_write.ensures.room
+
+pub save-requires-clause-unbroken : goal.save-requires-clause-unbroken
+save-requires-clause-unbroken g c =
+    let old : Stored = record { parts = c.self.inside.parts; journal = c.self.inside.journal; is_broken = c.self.inside.is_broken } in
+    let named = ap (λ (k : Stored). slot_of k.parts.catalog c.args.name.now) c.self.view_is ∙ c.in-Some.ensures.slot in
+    let found = rec_at-slot_of c.self.inside.parts.catalog c.args.name.now c.in-Some.slot c.self.invariant.parts.catalog named in
+    let unbroken = ap (λ (k : Stored). k.is_broken) c.self.view_is ∙ c.requires.unbroken in
+    let small : c.args.size ≤ file_limit c.self.inside.parts.limits.version = omega (arith, c.if-size-file_limit.false, c.file_limit.ensures, ap (λ (l : Limits). file_limit l.version) c.limits.ensures.value) in
+    let words = c.as_slice.ensures.value ∙ c.in_ok-words.ensures.words found.0 found.1 in
+    let here = ap (λ (k : Stored). is_among k.parts c.args.place.now c.args.name.now) c.self.view_is ∙ sym c.in-Some.ensures.here in
+    let W : List (List ℕ) → Type 0 = λ ws. MayReplace c.self.inside.parts c.in-Some.slot found.0 (new_file c.args.name.now ws c.args.payload.now) in
+    let may = write_first old c.self.invariant c.args.place.now c.args.name.now c.in-Some.slot found.0 named found.1 here
+    c.args.payload.now c.args.size small c.requires.whole (c.in_ok-words.ensures.row found.0 found.1) in
+    let first = subst (λ o. IsSomeAnd o (λ (x : FileRecord). MayReplace c.self.inside.parts c.in-Some.slot x (new_file c.args.name.now c.as_slice.result.now c.args.payload.now))) (sym found.1) (subst W (sym words) may) in
+    let before = g.D.Disk.meaning c.args.disk.now in
+    let placed = g.D.Disk.meaning c.put_instead.new.disk in
+    let renews = c.in_ok-blocks.ensures.renewed found.0 found.1 in
+    written_unbroken old c.put_instead.new.parts c.put_instead.new.journal c.in-Some.slot c.args.payload.now c.in_ok-blocks.blocks.items found.0 c.self.invariant c.in_ok-blocks.ensures.sound found.1 before placed renews
+    c.args.name.now c.as_slice.result.now first c.refile.new.parts c.refile.ensures.refiled unbroken
+
+pub save-requires-clause-long : goal.save-requires-clause-long
+save-requires-clause-long g c =
+    let old : Stored = record { parts = c.self.inside.parts; journal = c.self.inside.journal; is_broken = c.self.inside.is_broken } in
+    let named = ap (λ (k : Stored). slot_of k.parts.catalog c.args.name.now) c.self.view_is ∙ c.in-Some.ensures.slot in
+    let found = rec_at-slot_of c.self.inside.parts.catalog c.args.name.now c.in-Some.slot c.self.invariant.parts.catalog named in
+    let before = g.D.Disk.meaning c.args.disk.now in
+    let placed = g.D.Disk.meaning c.put_instead.new.disk in
+    let renews = c.in_ok-blocks.ensures.renewed found.0 found.1 in
+    omega (arith, c.requires.long, renews.image, c.in_ok-blocks.ensures.run.len, ap (λ (k : Stored). k.journal.blocks) c.self.view_is)
+
+pub returns-clause-scratch : goal.returns-clause-scratch
+returns-clause-scratch g c =
+    let old : Stored = record { parts = c.self.inside.parts; journal = c.self.inside.journal; is_broken = c.self.inside.is_broken } in
+    let named = ap (λ (k : Stored). slot_of k.parts.catalog c.args.name.now) c.self.view_is ∙ c.in-Some.ensures.slot in
+    let found = rec_at-slot_of c.self.inside.parts.catalog c.args.name.now c.in-Some.slot c.self.invariant.parts.catalog named in
+    let before = g.D.Disk.meaning c.args.disk.now in
+    let placed = g.D.Disk.meaning c.put_instead.new.disk in
+    let renews = c.in_ok-blocks.ensures.renewed found.0 found.1 in
+    subst (λ (l : Limits). HasRoom c.refile.new.scratch l) (mid_limits old c.put_instead.new.parts c.put_instead.new.journal c.in-Some.slot c.args.payload.now c.in_ok-blocks.blocks.items found.0 c.self.invariant c.in_ok-blocks.ensures.sound found.1 before placed renews ∙ ap (λ (k : Stored). k.parts.limits) c.self.view_is) c.refile.ensures.scratch
+
+pub returns-clause-limits : goal.returns-clause-limits
+returns-clause-limits g c =
+    let old : Stored = record { parts = c.self.inside.parts; journal = c.self.inside.journal; is_broken = c.self.inside.is_broken } in
+    let named = ap (λ (k : Stored). slot_of k.parts.catalog c.args.name.now) c.self.view_is ∙ c.in-Some.ensures.slot in
+    let found = rec_at-slot_of c.self.inside.parts.catalog c.args.name.now c.in-Some.slot c.self.invariant.parts.catalog named in
+    let small : c.args.size ≤ file_limit c.self.inside.parts.limits.version = omega (arith, c.if-size-file_limit.false, c.file_limit.ensures, ap (λ (l : Limits). file_limit l.version) c.limits.ensures.value) in
+    let words = c.as_slice.ensures.value ∙ c.in_ok-words.ensures.words found.0 found.1 in
+    let here = ap (λ (k : Stored). is_among k.parts c.args.place.now c.args.name.now) c.self.view_is ∙ sym c.in-Some.ensures.here in
+    let W : List (List ℕ) → Type 0 = λ ws. MayReplace c.self.inside.parts c.in-Some.slot found.0 (new_file c.args.name.now ws c.args.payload.now) in
+    let may = write_first old c.self.invariant c.args.place.now c.args.name.now c.in-Some.slot found.0 named found.1 here
+    c.args.payload.now c.args.size small c.requires.whole (c.in_ok-words.ensures.row found.0 found.1) in
+    let first = subst (λ o. IsSomeAnd o (λ (x : FileRecord). MayReplace c.self.inside.parts c.in-Some.slot x (new_file c.args.name.now c.as_slice.result.now c.args.payload.now))) (sym found.1) (subst W (sym words) may) in
+    let before = g.D.Disk.meaning c.args.disk.now in
+    let placed = g.D.Disk.meaning c.put_instead.new.disk in
+    let renews = c.in_ok-blocks.ensures.renewed found.0 found.1 in
+    ap (λ (k : Kept). k.limits) c.save.ensures.parts ∙ (written_limits old c.put_instead.new.parts c.put_instead.new.journal c.in-Some.slot c.args.payload.now c.in_ok-blocks.blocks.items found.0 c.self.invariant c.in_ok-blocks.ensures.sound found.1 before placed renews
+    c.args.name.now c.as_slice.result.now first c.refile.new.parts c.refile.ensures.refiled ∙ ap (λ (k : Stored). k.parts.limits) c.self.view_is)
+
+pub returns-clause-image : goal.returns-clause-image
+returns-clause-image g c =
+    let old : Stored = record { parts = c.self.inside.parts; journal = c.self.inside.journal; is_broken = c.self.inside.is_broken } in
+    let named = ap (λ (k : Stored). slot_of k.parts.catalog c.args.name.now) c.self.view_is ∙ c.in-Some.ensures.slot in
+    let found = rec_at-slot_of c.self.inside.parts.catalog c.args.name.now c.in-Some.slot c.self.invariant.parts.catalog named in
+    let before = g.D.Disk.meaning c.args.disk.now in
+    let placed = g.D.Disk.meaning c.put_instead.new.disk in
+    let renews = c.in_ok-blocks.ensures.renewed found.0 found.1 in
+    c.save.ensures.image ∙ (renews.image ∙ ap (λ (k : Stored). k.journal.blocks) c.self.view_is)

@@ -1,0 +1,345 @@
+-- Blocks that are taken for a content, or given back.
+use Rattle.std.proofs.Common.{◌≡◌, refl, sym, ap, ◌∙◌, subst, ℕ, zero, suc, ◌+◌, ◌^◌, ◌<◌, ◌≤◌, ◌==◌, ◌&&◌, ◌||◌, if◌then◌else◌, cond, nat_lt, not, Bool, true, false, List, [], ◌∷◌, length, drop, set, Result, Ok, Err, OnErr, MatchResult, is_some, arith, length-set}
+use Rattle.std.specs.List.{list_all}
+use Rattle.std.proofs.lemmas.Bool.{and_parts, and_from, cond-false, eq-eqb, ne_eqb, ltb-true, lt-ltb}
+use Rattle.lis_ports.specs.Meaning.{Meaning}
+use Rattle.lis_ports.specs.Runs.{Leaves}
+use Rattle.lis_ports.proofs.Moments.{leaves_none}
+use Rattle.lis_journal.specs.Journal.{OpenRecords, Held}
+use Rattle.lis_journal.specs.Record.{Entry}
+use Rattle.lis_journal.specs.Images.{look, is_among, StandsBut, FitsAt, Fits}
+use Rattle.lis_journal.specs.Phases.{looked}
+use Rattle.lis_blockmap.specs.Bitmap.{free_count}
+use Rattle.lis_content.specs.Content.{given, are_free, are_distinct, are_within, has_number, has_home}
+use Rattle.lis_content.specs.Large.{is_large, slot_count, file_blocks}
+use Rattle.lis_content.specs.Placing.{homes_of, HasFile, Places, IsPlaced, IsTornOff, IsUnplaced}
+use Rattle.lis_content.specs.Putting.{IsPut, IsRefused}
+use Rattle.lis_content.specs.declared.fault.PutFault.{PutFault}
+use Rattle.lis_content.specs.declared.fault.PutFault.TheVariants.{NoSpace, Disk}
+use Rattle.lis_content.proofs.Numbers.{are_below, below_from_free, within_if_below}
+use Rattle.lis_content.proofs.Indexes.{small_blocks, small_content, small_size}
+use Rattle.lis_content.proofs.Files.{slot_were_free}
+use Rattle.lis_dict.specs.Dict.{word_of}
+use Rattle.lis_fields.specs.Records.{FileRecord}
+use Rattle.lis_fields.specs.Layouts.{is_record, are_short, are_blocks, slot_blocks, are_distinct as slots_distinct}
+use Rattle.lis_taxonomy.specs.Taxonomy.{Taxonomy}
+use Rattle.lis_model.specs.Image.{bitmap_start, data_start, image_blocks}
+use Rattle.lis_model.specs.State.{file_limit, blocks_needed, blocks_taken}
+use Rattle.lis_laws.proofs.Counts.{all_among, all_from}
+use Rattle.lis_kept.specs.Kept.{Kept}
+use Rattle.lis_kept.specs.Areas.{Area, slots_of, block_of, spelled}
+use Rattle.lis_kept.specs.Areas.Area.{Properties, Axioms, Files, Rows, Bitmap}
+use Rattle.lis_kept.specs.Sound.{is_sound_record}
+use Rattle.lis_kept.specs.Links.{AreHeld}
+use Rattle.lis_kept.specs.Changes.{Takes, Gives, Fills, Lands, Puts, PutTorn}
+use Rattle.lis_kept.proofs.InArea.{few_blocks}
+use Rattle.lis_kept.proofs.Formed.{held_files}
+use Rattle.lis_kept.proofs.Marking.{block_marked}
+use Rattle.lis_kept.proofs.Filing.{same_distinct}
+use Rattle.lis_kept.proofs.Contents.{slot_blocks_counted}
+
+-- ---- other blocks are taken
+module _ (p : Kept) (t : Taxonomy) (held : AreHeld p t) (taken : List Bool) (len : length taken ≡ length p.taken) where
+  abbrev taken_marks : List Bool
+  taken_marks = set p.marks (bitmap_start p.limits) true
+
+  abbrev retaken : Kept
+  retaken = record p { taken = taken; marks = taken_marks }
+
+  held_retaken : AreHeld retaken t
+  held_retaken = held_files p t p.catalog taken p.ext taken_marks held (record {
+    slots = refl;
+    catalog_is = held.sound.catalog;
+    records = held.sound.records;
+    blocks = len;
+    rows = refl;
+    files = refl;
+    named = held.sound.named;
+    settled = held.sound.settled;
+    as_many = length-set p.marks (bitmap_start p.limits) true;
+  })
+
+  spelled_before : (area : Area) (n : ℕ) → n < (slots_of p.limits area).count → (block_of p.limits area n ≡ bitmap_start p.limits → ⊥) → spelled retaken area n ≡ spelled p area n
+  spelled_before Properties n lt apart = refl
+  spelled_before Axioms n lt apart = refl
+  spelled_before Files n lt apart = refl
+  spelled_before Rows n lt apart = refl
+  spelled_before Bitmap n lt apart = absurd (apart (omega (arith, lt)))
+
+  retaken_made : AreHeld retaken t × Takes taken p retaken
+  retaken_made = (
+    held_retaken,
+    record {
+      parts = refl;
+      len = len;
+      marks = block_marked p retaken (bitmap_start p.limits) refl refl (omega (arith, held.sound.marks)) spelled_before;
+    },
+  )
+
+-- the same, over what memory kept
+pub takes : (k p : Kept) (t : Taxonomy) (taken marks : List Bool) → p ≡ k → AreHeld p t → length taken ≡ length p.taken → marks ≡ set p.marks (bitmap_start p.limits) true
+    → AreHeld (record p { taken = taken; marks = marks }) t × Takes taken k (record p { taken = taken; marks = marks })
+takes k p t taken marks is held len are_marks =
+    let P : Kept → Type 0 = λ q. AreHeld q t × Takes taken k q in
+    let same : retaken p t held taken len ≡ record p { taken = taken; marks = marks } = ap (λ (ms : List Bool). record p { taken = taken; marks = ms }) (sym are_marks) in
+    let Q : Kept → Type 0 = λ q. AreHeld (retaken p t held taken len) t × Takes taken q (retaken p t held taken len) in
+    subst P same (subst Q is (retaken_made p t held taken len))
+
+-- ---- the numbers of a slot
+-- numbers of which none stands twice stay so where some go at the front
+distinct_behind : (ns : List ℕ) (k : ℕ) → are_distinct ns ≡ true → are_distinct (drop k ns) ≡ true
+distinct_behind ns zero apart = apart
+distinct_behind [] (suc k) apart = refl
+distinct_behind (n ∷ ns) (suc k) apart = distinct_behind ns k (and_parts (not (has_number ns n)) (are_distinct ns) apart).1
+
+-- free blocks are numbers below the number of blocks, of two bytes each
+module _ (p : Kept) (t : Taxonomy) (held : AreHeld p t) (numbers : List ℕ) (free : are_free p.taken numbers ≡ true) where
+  free_below : list_all (λ n. nat_lt n p.limits.blocks) numbers ≡ true
+  free_below = ap (λ m. are_below m numbers) (sym held.sound.blocks) ∙ below_from_free p.taken numbers free
+
+  free_short : are_short numbers ≡ true
+  free_short = all_from (λ n. nat_lt n (2 ^ 16)) numbers (λ n m.
+      lt-ltb n (2 ^ 16) (omega (arith, ltb-true n p.limits.blocks (all_among (λ i. nat_lt i p.limits.blocks) numbers n free_below m), few_blocks p.limits held.sound.range)))
+
+  free_in_form : (size : ℕ) → size ≤ file_limit p.limits.version → length numbers ≡ slot_count size → are_distinct numbers ≡ true → are_blocks p.limits.version size numbers ≡ true
+  free_in_form size few counted apart =
+      let as_many = counted ∙ sym (slot_blocks_counted p.limits.version size few) in
+      and_from ((length numbers == slot_blocks p.limits.version size) && are_short numbers) (slots_distinct numbers)
+      (and_from (length numbers == slot_blocks p.limits.version size) (are_short numbers) (eq-eqb (length numbers) (slot_blocks p.limits.version size) as_many) free_short)
+      (same_distinct numbers ∙ apart)
+
+-- ---- a content that is placed
+-- what is among the homes of blocks is one of them
+pub home_among : (base : ℕ) (blocks : List ℕ) (n : ℕ) → is_among (homes_of base blocks) n ≡ has_home base blocks n
+home_among base [] n = refl
+home_among base (b ∷ blocks) n = ap (λ t. base + b == n || t) (home_among base blocks n)
+
+placed_fills : (p : Kept) (taken : List Bool) (old : Held) (before after : Meaning) (blocks : List ℕ) → Places (data_start p.limits) p.taken taken old before after blocks → Fills blocks p old before after
+placed_fills p taken old before after blocks places = record {
+  distinct = places.distinct;
+  were_free = places.were_free;
+  moments = places.moments;
+  past = places.past;
+}
+
+module _ (p : Kept) (t : Taxonomy) (held : AreHeld p t) (bytes numbers : List ℕ) (taken : List Bool) (old new : Held) (before after : Meaning) (few : length bytes ≤ file_limit p.limits.version)
+    (unstaged : old.staged ≡ []) (two : p.limits.version ≡ 2) (placed : IsPlaced (data_start p.limits) bytes p.taken taken old new before after numbers) where
+  slot_apart : are_distinct numbers ≡ true
+  slot_apart =
+      subst (λ ns. are_distinct ns ≡ true) (sym placed.slot_is)
+      (by (is_large (length bytes)) (drop (blocks_needed (length bytes)) placed.blocks) placed.blocks (distinct_behind placed.blocks (blocks_needed (length bytes)) placed.lays.places.distinct) placed.lays.places.distinct)
+    where
+      by : (b : Bool) (ns ms : List ℕ) → are_distinct ns ≡ true → are_distinct ms ≡ true → are_distinct (cond b ns ms) ≡ true
+      by true ns ms one two = one
+      by false ns ms one two = two
+
+  staged_then : new.staged ≡ []
+  staged_then = ap (λ (h : Held). h.staged) placed.lays.journal ∙ unstaged
+
+  abbrev placed_lands : (kept : ℕ → List ℕ) → Fits old before kept → Lands p.limits bytes numbers placed.blocks (looked old.staged kept) new after
+  placed_lands kept fits =
+      let end = placed.lays.fits kept fits in
+      let H : List Entry → Type 0 = λ es. HasFile (data_start p.limits) bytes numbers placed.blocks (looked es end.0) in
+      record {
+        kept = end.0;
+        fits = end.1;
+        same = λ n none. ap (λ (es : List Entry). look es n (end.0 n)) staged_then ∙ (end.2 n none ∙ ap (λ (es : List Entry). look es n (kept n)) (sym unstaged));
+        holds = subst H (sym staged_then) end.3;
+      }
+
+  placed_puts : (q : Kept) → Takes taken p q → Puts bytes numbers p q old new before after
+  placed_puts q takes = record {
+    blocks = placed.blocks;
+    fills = placed_fills p taken old before after placed.blocks placed.lays.places;
+    takes = subst (λ (ts : List Bool). Takes ts p q) placed.lays.places.marks takes;
+    in_form = free_in_form p t held numbers free (length bytes) few placed.slot_len slot_apart;
+    below = free_below p t held numbers free;
+    image = ap (λ (h : Held). h.blocks) placed.lays.journal;
+    broken = ap (λ (h : Held). h.is_broken) placed.lays.journal;
+    placed = λ n among. sym (home_among (data_start p.limits) placed.blocks n) ∙ (ap (λ (h : Held). is_among h.placed n) (sym placed.lays.journal) ∙ among);
+    few_staged = omega (arith, ap length staged_then);
+    others = λ n was out. ap (λ (es : List Entry). look es n was) (staged_then ∙ sym unstaged);
+    lands = placed_lands;
+    stays = λ kept fits n none. (placed.lays.fits kept fits).2 n (sym (home_among (data_start p.limits) placed.blocks n) ∙ (ap (λ (h : Held). is_among h.placed n) (sym placed.lays.journal) ∙ none));
+    moments = λ kept fits.
+        subst (λ ns. Leaves before after (StandsBut old.blocks ns kept)) (sym (ap (λ (h : Held). h.placed) placed.lays.journal)) (placed.lays.places.moments kept fits);
+    unplaced = λ one. absurd (omega (arith, one, two));
+  }
+    where
+      free : are_free p.taken numbers ≡ true
+      free = slot_were_free (data_start p.limits) bytes p.taken taken old new numbers placed
+
+-- ---- a content that is staged
+module _ (p : Kept) (t : Taxonomy) (held : AreHeld p t) (bytes numbers : List ℕ) (taken : List Bool) (old new : Held) (m : Meaning) (few : length bytes ≤ file_limit p.limits.version)
+    (short : length bytes ≤ 65536) (unstaged : old.staged ≡ []) (unplaced : old.placed ≡ []) (put : IsPut (data_start p.limits) [] bytes p.taken taken old new numbers) where
+  small : is_large (length bytes) ≡ false
+  small = small_size (length bytes) short
+
+  counted : length numbers ≡ slot_count (length bytes)
+  counted = put.count ∙ sym (cond-false (is_large (length bytes)) 1 (blocks_needed (length bytes)) small)
+
+  staged_fits : (kept : ℕ → List ℕ) → Fits old m kept → Fits new m kept
+  staged_fits kept fits =
+      let B : ℕ → Type 0 = λ b. FitsAt b old.records old.placed m kept in
+      let R : OpenRecords → Type 0 = λ rs. FitsAt new.blocks rs old.placed m kept in
+      let P : List ℕ → Type 0 = λ ns. FitsAt new.blocks new.records ns m kept in
+      subst P (sym put.placed) (subst R (sym put.records) (subst B (sym put.image) fits))
+
+  abbrev staged_lands : (kept : ℕ → List ℕ) → Fits old m kept → Lands p.limits bytes numbers numbers (looked old.staged kept) new m
+  staged_lands kept fits = record {
+    kept = kept;
+    fits = staged_fits kept fits;
+    same = λ n none. put.others n (kept n) none;
+    holds = record {
+      reads = small_content (data_start p.limits) numbers (length bytes) (looked new.staged kept) small ∙ put.holds kept;
+      index = λ large. absurd (let e : true ≡ false = sym large ∙ small in cc);
+      all = small_blocks (data_start p.limits) numbers (length bytes) (looked new.staged kept) small;
+    };
+  }
+
+  staged_puts : (q : Kept) → Takes taken p q → Puts bytes numbers p q old new m m
+  staged_puts q takes = record {
+    blocks = numbers;
+    fills = record {
+      distinct = put.distinct;
+      were_free = put.were_free;
+      moments = λ kept fits. leaves_none m _;
+      past = λ kept fits n le. refl;
+    };
+    takes = subst (λ (ts : List Bool). Takes ts p q) put.marks takes;
+    in_form = free_in_form p t held numbers put.were_free (length bytes) few counted put.distinct;
+    below = free_below p t held numbers put.were_free;
+    image = put.image;
+    broken = put.broken;
+    placed = λ n among. absurd (let none : is_among new.placed n ≡ false = ap (λ ns. is_among ns n) (put.placed ∙ unplaced) in let e : true ≡ false = sym among ∙ none in cc);
+    few_staged = omega (arith, put.few, put.count, short, ap length unstaged);
+    others = put.others;
+    lands = staged_lands;
+    stays = λ kept fits n none. refl;
+    moments = λ kept fits. leaves_none m _;
+    unplaced = λ one. put.placed ∙ unplaced;
+  }
+
+-- ---- how a put ends
+-- memory is as it must be, and what the answer says holds of it
+pub record PutEnds {T : Type 0} (items : T → List ℕ) (bytes : List ℕ) (k q : Kept) (t : Taxonomy) (old new : Held) (before after : Meaning) (put : Result T PutFault) : Type 0 where
+  pub held : AreHeld q t
+  pub ended : MatchResult put (λ numbers. Puts bytes (items numbers) k q old new before after) (λ fault. PutTorn k q old new before after)
+  pub torn : OnErr put (k.limits.version ≡ 2)
+
+-- what is asked of a put
+pub record MayPut (k : Kept) (bytes : List ℕ) (old : Held) : Type 0 where
+  pub short : length bytes ≤ file_limit k.limits.version
+  pub enough : blocks_taken k.limits.version (length bytes) ≤ free_count k.taken
+  pub unplaced : old.placed ≡ []
+  pub unstaged : old.staged ≡ []
+
+module _ {T : Type 0} (items : T → List ℕ) (k p : Kept) (t : Taxonomy) (is : p ≡ k) (held : AreHeld p t) (bytes : List ℕ) (old new : Held) (asked : MayPut k bytes old) (taken marks : List Bool)
+    (are_marks : marks ≡ set p.marks (bitmap_start p.limits) true) (base : ℕ) (from : base ≡ data_start p.limits) where
+  abbrev after_put : Kept
+  after_put = record p { taken = taken; marks = marks }
+
+  may : MayPut p bytes old
+  may = subst (λ (q : Kept). MayPut q bytes old) (sym is) asked
+
+  held_put : length taken ≡ length p.taken → AreHeld after_put t
+  held_put len = (takes p p t taken marks refl held len are_marks).0
+
+  takes_put : length taken ≡ length p.taken → Takes taken p after_put
+  takes_put len = (takes p p t taken marks refl held len are_marks).1
+
+  module _ (before after : Meaning) (two : p.limits.version ≡ 2) where
+    needed_enough : blocks_taken 2 (length bytes) ≤ free_count p.taken
+    needed_enough = subst (λ v. blocks_taken v (length bytes) ≤ free_count p.taken) two may.enough
+
+    torn_off : IsTornOff (data_start p.limits) p.taken taken old new before after → PutTorn k after_put old new before after
+    torn_off torn =
+        let P : Kept → Type 0 = λ q. PutTorn q after_put old new before after in
+        subst P is (record {
+          blocks = torn.blocks;
+          fills = placed_fills p taken old before after torn.blocks torn.places;
+          parts = refl;
+          image = ap (λ (h : Held). h.blocks) torn.journal;
+        })
+
+    ends_placed : (put : Result T PutFault)
+        → MatchResult put (λ s. IsPlaced (data_start p.limits) bytes p.taken taken old new before after (items s)) (λ fault. IsUnplaced (data_start p.limits) bytes p.taken taken old new before after fault)
+        → PutEnds items bytes k after_put t old new before after put
+    ends_placed (Ok s) placed =
+        let P : Kept → Type 0 = λ q. Puts bytes (items s) q after_put old new before after in
+        record {
+          held = held_put placed.lays.places.len;
+          ended = subst P is (placed_puts p t held bytes (items s) taken old new before after may.short may.unstaged two placed after_put (takes_put placed.lays.places.len));
+          torn = tt;
+        }
+    ends_placed (Err NoSpace) refused = absurd (omega (arith, refused.2, needed_enough))
+    ends_placed (Err Disk) torn = record { held = held_put torn.1.places.len; ended = torn_off torn.1; torn = ap (λ (q : Kept). q.limits.version) (sym is) ∙ two }
+
+    pub placed_ends : (put : Result T PutFault) → MatchResult put (λ s. IsPlaced base bytes p.taken taken old new before after (items s)) (λ fault. IsUnplaced base bytes p.taken taken old new before after fault)
+        → PutEnds items bytes k after_put t old new before after put
+    placed_ends put ended =
+        ends_placed put (subst (λ b. MatchResult put (λ s. IsPlaced b bytes p.taken taken old new before after (items s)) (λ fault. IsUnplaced b bytes p.taken taken old new before after fault)) from ended)
+
+  module _ (m : Meaning) (not_two : p.limits.version ≡ 2 → ⊥) where
+    one : (p.limits.version == 2) ≡ false
+    one = ne_eqb p.limits.version 2 not_two
+
+    few_bytes : length bytes ≤ 65536
+    few_bytes = subst (λ n. length bytes ≤ n) (cond-false (p.limits.version == 2) 1048576 65536 one) may.short
+
+    content_enough : blocks_needed (length bytes) ≤ free_count p.taken
+    content_enough =
+        subst (λ n. n ≤ free_count p.taken)
+        (ap (λ b. if b && is_large (length bytes) then blocks_needed (length bytes) + 1 else blocks_needed (length bytes)) one) may.enough
+
+    ends_staged : (put : Result T PutFault)
+        → MatchResult put (λ s. IsPut (data_start p.limits) [] bytes p.taken taken old new (items s)) (λ fault. IsRefused [] bytes p.taken taken old new fault)
+        → PutEnds items bytes k after_put t old new m m put
+    ends_staged (Ok s) is_put =
+        let P : Kept → Type 0 = λ q. Puts bytes (items s) q after_put old new m m in
+        record {
+          held = held_put is_put.len;
+          ended = subst P is (staged_puts p t held bytes (items s) taken old new m may.short few_bytes may.unstaged may.unplaced is_put after_put (takes_put is_put.len));
+          torn = tt;
+        }
+    ends_staged (Err NoSpace) refused = absurd (omega (arith, refused.2, content_enough))
+    ends_staged (Err Disk) never = absurd never
+
+    pub staged_ends : (put : Result T PutFault) → MatchResult put (λ s. IsPut base [] bytes p.taken taken old new (items s)) (λ fault. IsRefused [] bytes p.taken taken old new fault)
+        → PutEnds items bytes k after_put t old new m m put
+    staged_ends put ended = ends_staged put (subst (λ b. MatchResult put (λ s. IsPut b [] bytes p.taken taken old new (items s)) (λ fault. IsRefused [] bytes p.taken taken old new fault)) from ended)
+
+-- what is said of an answer, said of its value
+pub ended_ok : {T : Type 0} (P : T → Type 0) (Q : PutFault → Type 0) (put : Result T PutFault) (x : T) → put ≡ Ok x → MatchResult put P Q → P x
+ended_ok P Q put x is ended = subst (λ r. MatchResult r P Q) is ended
+
+pub ended_err : {T : Type 0} (P : T → Type 0) (Q : PutFault → Type 0) (put : Result T PutFault) (fault : PutFault) → put ≡ Err fault → MatchResult put P Q → Q fault
+ended_err P Q put fault is ended = subst (λ r. MatchResult r P Q) is ended
+
+pub torn_err : {T : Type 0} (P : Type 0) (put : Result T PutFault) (fault : PutFault) → put ≡ Err fault → OnErr put P → P
+torn_err P put fault is torn = subst (λ r. OnErr r P) is torn
+
+-- ---- blocks that are given back
+-- the homes of the blocks that a slot numbers are blocks of the image
+pub slot_within : (k : Kept) (rec : FileRecord) (base blocks : ℕ) (numbers : List ℕ) → is_sound_record k.limits.version k.dict k.limits.blocks rec ≡ true → base ≡ data_start k.limits
+    → blocks ≡ image_blocks k.limits → numbers ≡ rec.blocks → are_within base blocks numbers ≡ true
+slot_within k rec base blocks numbers sound from image are =
+    let below = (and_parts (is_record k.limits.version rec && list_all (λ n. is_some (word_of k.dict n)) rec.tags) (list_all (λ n. nat_lt n k.limits.blocks) rec.blocks) sound).1 in
+    within_if_below base blocks k.limits.blocks numbers (omega (arith, from, image)) (ap (are_below k.limits.blocks) are ∙ below)
+
+pub gives : (k p : Kept) (t : Taxonomy) (rec : FileRecord) (journal : Held) (m : Meaning) (base size : ℕ) (numbers : List ℕ) (taken marks : List Bool) → p ≡ k → AreHeld p t → length taken ≡ length p.taken
+    → marks ≡ set p.marks (bitmap_start p.limits) true → base ≡ data_start p.limits → numbers ≡ rec.blocks → size ≡ rec.size
+    → ((kept : ℕ → List ℕ) → Fits journal m kept → taken ≡ given p.taken (file_blocks base numbers size (looked journal.staged kept)))
+    → (is_large size ≡ false → taken ≡ given p.taken numbers)
+    → Gives rec k (record p { taken = taken; marks = marks }) journal m
+gives k p t rec journal m base size numbers taken marks is held len are_marks from are sized given_back small_back =
+    let P : Kept → Type 0 = λ q. Gives rec q (record p { taken = taken; marks = marks }) journal m in
+    subst P is (record {
+      takes = (takes p p t taken marks refl held len are_marks).1;
+      small = λ small. small_back (ap is_large sized ∙ small) ∙ ap (given p.taken) are;
+      given = λ kept fits.
+          given_back kept fits
+          ∙ (ap (λ b. given p.taken (file_blocks b numbers size (looked journal.staged kept))) from
+          ∙ (ap (λ ns. given p.taken (file_blocks (data_start p.limits) ns size (looked journal.staged kept))) are
+          ∙ ap (λ n. given p.taken (file_blocks (data_start p.limits) rec.blocks n (looked journal.staged kept))) sized));
+    })

@@ -1,0 +1,74 @@
+-- The bytes and the blocks of a file: where other blocks change, and where it has no index block.
+use Rattle.std.proofs.Common.{◌≡◌, refl, sym, ◌∙◌, subst, ℕ, ◌+◌, ◌≤◌, ◌==◌, ◌&&◌, if◌then◌else◌, nat_lt, Bool, true, false, List, length, arith}
+use Rattle.std.proofs.lemmas.Bool.{le-ltb, eqb-true, cond-false}
+use Rattle.lis_graph.proofs.Members.{Among, among_from_any, among_right}
+use Rattle.lis_content.specs.Content.{content}
+use Rattle.lis_content.specs.Large.{is_large, slot_count, numbers_in, index_home}
+use Rattle.lis_content.proofs.Indexes.{large_blocks, small_blocks, small_content, small_size}
+use Rattle.lis_content.proofs.Files.{AreSame, same_file as same_in_content}
+use Rattle.lis_dict.specs.Dict.{Dict}
+use Rattle.lis_fields.specs.Records.{FileRecord}
+use Rattle.lis_fields.specs.Layouts.{slot_blocks}
+use Rattle.lis_fields.proofs.Parts.{few_blocks}
+use Rattle.lis_model.specs.declared.limits.Limits.{Limits}
+use Rattle.lis_model.specs.Image.{data_start}
+use Rattle.lis_model.specs.State.{file_limit, blocks_needed}
+use Rattle.lis_kept.specs.Sound.{is_sound_record}
+use Rattle.lis_kept.specs.Telling.{bytes_told, blocks_told, HasIndex}
+use Rattle.lis_kept.proofs.Dropped.{record_in_form}
+
+-- ---- how many numbers a slot has
+-- as many in each version as the size asks for
+pub slot_blocks_counted : (version size : ℕ) → size ≤ file_limit version → slot_blocks version size ≡ slot_count size
+slot_blocks_counted version size few = by (version == 2) few
+  where
+    by : (two : Bool) → size ≤ (if two then 1048576 else 65536) → (if two && nat_lt 16 (blocks_needed size) then 1 else blocks_needed size) ≡ slot_count size
+    by true le = refl
+    by false le = sym (cond-false (is_large size) 1 (blocks_needed size) (small_size size le))
+
+pub slot_counted : (version : ℕ) (dict : Dict) (blocks : ℕ) (rec : FileRecord) → is_sound_record version dict blocks rec ≡ true → length rec.blocks ≡ slot_count rec.size
+slot_counted version dict blocks rec sound =
+    let form = record_in_form version dict blocks rec sound in
+    few_blocks version rec.size rec.blocks form.blocks ∙ slot_blocks_counted version rec.size form.small
+
+-- in each version a file has at most a mebibyte
+pub size_bounded : (version : ℕ) (dict : Dict) (blocks : ℕ) (rec : FileRecord) → is_sound_record version dict blocks rec ≡ true → rec.size ≤ 1048576
+size_bounded version dict blocks rec sound = by (version == 2) (record_in_form version dict blocks rec sound).small
+  where
+    by : (two : Bool) → rec.size ≤ (if two then 1048576 else 65536) → rec.size ≤ 1048576
+    by true le = le
+    by false le = omega (arith, le)
+
+-- ---- a file where other blocks change
+-- A file stays where its blocks hold the same. Its index block is among them.
+pub same_file : (limits : Limits) (rec : FileRecord) (at there : ℕ → List ℕ) → length rec.blocks ≡ slot_count rec.size
+    → ((b : ℕ) → Among (blocks_told limits at rec) b → there (data_start limits + b) ≡ at (data_start limits + b))
+    → (bytes_told limits there rec ≡ bytes_told limits at rec) × (blocks_told limits there rec ≡ blocks_told limits at rec) × (HasIndex limits at rec → HasIndex limits there rec)
+same_file limits rec at there counted same =
+    let file = same_in_content (data_start limits) rec.blocks rec.size at there counted at_homes in
+    (file.reads, file.blocks, file.index)
+  where
+    at_homes : AreSame (data_start limits) (blocks_told limits at rec) at there
+    at_homes n has =
+        let found = among_from_any (λ b. data_start limits + b == n) (blocks_told limits at rec) has in
+        subst (λ k. there k ≡ at k) (eqb-true (data_start limits + found.0) n found.2) (same found.0 found.1)
+
+-- ---- a file without an index block
+pub small_file : (limits : Limits) (at : ℕ → List ℕ) (rec : FileRecord) → blocks_needed rec.size ≤ 16
+    → (blocks_told limits at rec ≡ rec.blocks) × (bytes_told limits at rec ≡ content (data_start limits) rec.blocks rec.size at) × HasIndex limits at rec
+small_file limits at rec few =
+    let small : is_large rec.size ≡ false = le-ltb 16 (blocks_needed rec.size) few in (
+      small_blocks (data_start limits) rec.blocks rec.size at small,
+      small_content (data_start limits) rec.blocks rec.size at small,
+      (λ large. absurd (let e : true ≡ false = sym large ∙ small in cc)),
+    )
+
+-- ---- the blocks that a slot numbers
+pub slot_blocks_told : (limits : Limits) (at : ℕ → List ℕ) (rec : FileRecord) (b : ℕ) → Among rec.blocks b → Among (blocks_told limits at rec) b
+slot_blocks_told limits at rec b of_slot = by (is_large rec.size) refl
+  where
+    by : (large : Bool) → is_large rec.size ≡ large → Among (blocks_told limits at rec) b
+    by true large =
+        let front = numbers_in (blocks_needed rec.size) (at (index_home (data_start limits) rec.blocks)) in
+        subst (λ ns. Among ns b) (sym (large_blocks (data_start limits) rec.blocks rec.size at large)) (among_right front rec.blocks b of_slot)
+    by false small = subst (λ ns. Among ns b) (sym (small_blocks (data_start limits) rec.blocks rec.size at small)) of_slot

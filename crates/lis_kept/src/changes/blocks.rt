@@ -1,0 +1,106 @@
+//! Blocks that contents take, and give back.
+
+ghost use Rattle.std.specs.Prelude.{◌≡◌, ℕ, ◌*◌, ◌≤◌, true, false, [], List, Some, length, slice_set, IsSome, IsTrue, OnOk, OnErr, MatchResult};
+ghost use Rattle.lis_ports.specs.Runs.{IsDiskRun, Leaves};
+ghost use Rattle.lis_ports.specs.Calls.{HasCause, IsUnchanged};
+ghost use Rattle.lis_journal.specs.Images.{Fits};
+ghost use Rattle.lis_blockmap.specs.Bitmap.{free_count};
+ghost use Rattle.lis_catalog.specs.Catalog.{rec_at};
+ghost use Rattle.lis_fields.specs.Records.{FileRecord};
+ghost use Rattle.lis_model.specs.Image.{bitmap_start, data_start, image_blocks};
+ghost use Rattle.lis_model.specs.Ranges.{are_in_range};
+ghost use Rattle.lis_model.specs.State.{blocks_taken, file_limit};
+ghost use Rattle.lis_kept.specs.Changes.{Gives, Puts, PutTorn};
+
+use crate::parts::Parts;
+use crate::places::{bitmap_start, data_start};
+use arrayvec::ArrayVec;
+use lis_bits::Flags;
+use lis_content::{PutFault, drop_large, place_file, put};
+use lis_journal::Journal;
+use lis_model::limits::Limits;
+use lis_ports::{Disk, Failed};
+
+// Marks the block of the bitmap.
+fn mark_bitmap(marks: &mut Flags, limits: &Limits)
+    requires range { IsTrue (are_in_range limits.now) }
+    requires long { data_start limits.now ≤ length marks.old }
+    ensures { marks.new ≡ slice_set marks.old (bitmap_start limits.now) true }
+{
+    marks.put(bitmap_start(limits), true);
+}
+
+impl Parts {
+    /// Puts bytes into free blocks, which it takes, and answers the numbers that a slot has of them. In version 1 they are staged; in
+    /// version 2 they are placed, with an index block where they are many. After a fault of the disk the journal is broken.
+    pub fn put_content<D: Disk>(
+        &mut self,
+        journal: &mut Journal,
+        disk: &mut D,
+        bytes: &[u8],
+    ) -> Result<ArrayVec<u16, 16>, Failed>
+        requires short { length bytes.now ≤ file_limit self.old.limits.version }
+        requires enough { blocks_taken self.old.limits.version (length bytes.now) ≤ free_count self.old.taken }
+        requires image { journal.old.blocks ≡ image_blocks self.old.limits }
+        requires unbroken { journal.old.is_broken ≡ false }
+        requires unplaced { journal.old.placed ≡ [] }
+        requires unstaged { journal.old.staged ≡ [] }
+        requires long { 4096 * journal.old.blocks ≤ (D.meaning disk.old).len }
+        ensures ended { MatchResult result
+            (λ numbers. Puts bytes.now numbers.items self.old self.new journal.old journal.new (D.meaning disk.old) (D.meaning disk.new))
+            (λ _. PutTorn self.old self.new journal.old journal.new (D.meaning disk.old) (D.meaning disk.new)) }
+        ensures torn { OnErr result (self.old.limits.version ≡ 2) }
+        ensures run { IsDiskRun (D.meaning disk.old) (D.meaning disk.new) }
+        ensures cause { HasCause (D.meaning disk.old).disk_faults (D.meaning disk.new).disk_faults result }
+    {
+        let base = data_start(&self.limits);
+        mark_bitmap(&mut self.marks, &self.limits);
+        let put = if self.limits.version == 2 {
+            place_file(&mut self.map, journal, disk, base, bytes)
+        } else {
+            put(&mut self.map, journal, disk, base, &[], bytes)
+        };
+        match put {
+            Ok(numbers) => Ok(numbers),
+            Err(PutFault::Disk) => Err(Failed),
+            Err(PutFault::NoSpace) => unreachable!(),
+        }
+    }
+
+    /// Gives the blocks of the file in a slot back. Those that its index block numbers are read from the disk; where that fails, none is given back.
+    pub fn give_blocks<D: Disk>(
+        &mut self,
+        journal: &Journal,
+        disk: &mut D,
+        slot: u16,
+    ) -> Result<(), Failed>
+        requires there { IsSome (rec_at self.old.catalog slot) }
+        requires image { journal.now.blocks ≡ image_blocks self.old.limits }
+        requires unbroken { journal.now.is_broken ≡ false }
+        requires long { 4096 * journal.now.blocks ≤ (D.meaning disk.old).len }
+        ensures gives { OnOk result ((rec : FileRecord) → rec_at self.old.catalog slot ≡ Some rec → Gives rec self.old self.new journal.now (D.meaning disk.old)) }
+        ensures stays { OnErr result (self.new ≡ self.old) }
+        ensures run { IsDiskRun (D.meaning disk.old) (D.meaning disk.new) }
+        ensures cause { HasCause (D.meaning disk.old).disk_faults (D.meaning disk.new).disk_faults result }
+        ensures same { IsTrue (D.meaning disk.old).is_honest → IsUnchanged (D.meaning disk.old) (D.meaning disk.new) }
+        ensures any_moment { IsTrue (D.meaning disk.old).is_honest
+            → Leaves (D.meaning disk.old) (D.meaning disk.new) (D.meaning disk.old).images }
+        ensures fits { (kept : ℕ → List ℕ) → Fits journal.now (D.meaning disk.old) kept
+            → Fits journal.now (D.meaning disk.new) kept }
+    {
+        let base = data_start(&self.limits);
+        let Some(rec) = self.catalog.rec(slot) else {
+            unreachable!()
+        };
+        drop_large(
+            &mut self.map,
+            journal,
+            disk,
+            base,
+            rec.blocks.as_slice(),
+            rec.size,
+        )?;
+        mark_bitmap(&mut self.marks, &self.limits);
+        Ok(())
+    }
+}

@@ -1,0 +1,50 @@
+//! Images of version 1 that become images of version 2.
+
+ghost use Rattle.std.specs.Prelude.{◌≡◌, ◌⊎◌, Err, IsTrue};
+ghost use Rattle.lis_ports.specs.Runs.{IsDiskRun, IsSettled, Leaves};
+ghost use Rattle.lis_journal.specs.Images.{KeepsPast};
+ghost use Rattle.lis_journal.specs.Recovery.{IsSettledPast};
+ghost use Rattle.lis_model.specs.declared.limits.Limits.{Limits as LimitsOf};
+ghost use Rattle.lis_model.specs.declared.spot.Spot.{Spot as SpotOf};
+ghost use Rattle.lis_model.specs.Image.{image_blocks};
+ghost use Rattle.lis_model.specs.State.{State};
+ghost use Rattle.lis_store.specs.Stands.{Stands};
+ghost use Rattle.lis_open.specs.Checks.{FailsFirst};
+ghost use Rattle.lis_open.specs.Opens.{HasOpenCause, HasSuper};
+ghost use Rattle.lis_open.specs.Upgrades.{upgraded, UpgradeEnded};
+ghost use Rattle.lis_open.specs.declared.mounting.OpenFault.TheVariants.{Damaged, DiskFault as DiskFailed};
+
+use crate::mounting::{OpenFault, mount};
+use lis_ports::Disk;
+use std::alloc::Global;
+
+/// Where a super block has the gate of its version.
+const GATE: u64 = 24;
+
+/// The gate of version 2.
+const SECOND: u8 = 2;
+
+/// Makes the image on a disk one of version 2. It is opened first, and refused as `mount` refuses it. Then the gate is written, in a write
+/// of its own, and synced. All memory is taken before.
+///
+/// Stopped at any moment, an image of which nothing was unsynced stands for its state, or for the same in version 2.
+pub fn upgrade<D: Disk>(alloc: Global, disk: &mut D) -> Result<(), OpenFault>
+    ensures run { IsDiskRun (D.meaning disk.old) (D.meaning disk.new) }
+    ensures cause { HasOpenCause (D.meaning disk.old).disk_faults (D.meaning disk.new).disk_faults result }
+    ensures ended { IsTrue (D.meaning disk.old).is_honest → UpgradeEnded (D.meaning disk.old) (D.meaning disk.new) result }
+    ensures spot { (spot : SpotOf) → result ≡ Err (Damaged spot) → IsTrue (D.meaning disk.old).is_honest → FailsFirst (D.meaning disk.old).bytes spot }
+    ensures moments { (s : State) → IsTrue (D.meaning disk.old).is_honest → IsSettled (D.meaning disk.old) (D.meaning disk.old).bytes
+        → Stands (D.meaning disk.old).bytes s
+        → Leaves (D.meaning disk.old) (D.meaning disk.new) (λ image. Stands image s ⊎ Stands image (upgraded s)) }
+    ensures past { (limits : LimitsOf) → IsTrue (D.meaning disk.old).is_honest → HasSuper limits (D.meaning disk.old).bytes
+        → (result ≡ Err DiskFailed → IsSettledPast (image_blocks limits) (D.meaning disk.old))
+        → KeepsPast (image_blocks limits) (D.meaning disk.old) (D.meaning disk.new) }
+{
+    let store = mount(alloc, disk)?;
+    if store.limits().version == 2 {
+        return Ok(());
+    }
+    disk.write_at(GATE, &[SECOND])?;
+    disk.sync()?;
+    Ok(())
+}

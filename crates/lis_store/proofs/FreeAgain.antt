@@ -1,0 +1,95 @@
+-- How many blocks are free where some are given back.
+use Rattle.std.proofs.Common.{◌≡◌, ◌⊎◌, refl, sym, ap, ◌∙◌, subst, inl, inr, ℕ, ◌+◌, ◌<◌, ◌≤◌, ◌==◌, ◌&&◌, not, Bool, true, false, cond, if◌then◌else◌, List, [], ◌∷◌, length, filter, set, Option, Some, None, IsSome, arith, get_or-set_other}
+use Rattle.std.proofs.lemmas.Bool.{and_parts, both_ways, cases_lt, cond-false, eqb-true, ne_eqb, not-true, or_cases}
+use Rattle.std.proofs.lemmas.List.{set_past}
+use Rattle.std.proofs.lemmas.List.Sums.{sum_by-set}
+use Rattle.lis_graph.proofs.Members.{Among}
+use Rattle.lis_ports.specs.Meaning.{Meaning}
+use Rattle.lis_journal.specs.Journal.{Held}
+use Rattle.lis_blockmap.specs.Bitmap.{is_taken, free_count}
+use Rattle.lis_content.specs.Content.{given, has_number, are_distinct}
+use Rattle.lis_content.specs.Large.{is_large}
+use Rattle.lis_content.proofs.Indexes.{small_size}
+use Rattle.lis_content.proofs.Numbers.{below_if_taken}
+use Rattle.lis_catalog.specs.Catalog.{rec_at}
+use Rattle.lis_fields.specs.Records.{FileRecord}
+use Rattle.lis_model.specs.declared.limits.Limits.{Limits}
+use Rattle.lis_model.specs.Ranges.{is_files_limit, is_props_limit, is_blocks_limit, is_version, are_in_range}
+use Rattle.lis_model.specs.State.{file_limit, blocks_taken}
+use Rattle.lis_kept.specs.Kept.{Kept}
+use Rattle.lis_kept.specs.Sound.{AreSound}
+use Rattle.lis_kept.specs.Changes.{Gives}
+use Rattle.lis_kept.proofs.Dropped.{record_in_form, blocks_apart}
+use Rattle.lis_kept.proofs.Filing.{filter_same, number_from_among}
+use Rattle.lis_store.specs.Instead.{free_instead}
+
+-- one that was taken is free then
+one_more_free : (taken : List Bool) (n : ℕ) → is_taken taken n ≡ true → free_count (set taken n false) ≡ free_count taken + 1
+one_more_free taken n is =
+    let changed = sum_by-set (λ (b : Bool). cond (not b) 1 0) taken n false false (below_if_taken taken n is) in
+    omega (arith, changed, ap {B = ℕ} (λ (b : Bool). cond (not b) 1 0) is)
+
+-- and where it was not, as many are
+as_many_free : (taken : List Bool) (n : ℕ) → is_taken taken n ≡ false → free_count (set taken n false) ≡ free_count taken
+as_many_free taken n is = by (cases_lt n (length taken))
+  where
+    by : (n < length taken) ⊎ (length taken ≤ n) → free_count (set taken n false) ≡ free_count taken
+    by (inl lt) =
+        let changed = sum_by-set (λ (b : Bool). cond (not b) 1 0) taken n false false lt in
+        omega (arith, changed, ap {B = ℕ} (λ (b : Bool). cond (not b) 1 0) is)
+    by (inr past) = ap free_count (set_past taken n false past)
+
+pub free_given : (taken : List Bool) (ns : List ℕ) → are_distinct ns ≡ true → free_count (given taken ns) ≡ free_count taken + length (filter (is_taken taken) ns)
+free_given taken [] apart = omega arith
+free_given taken (b ∷ ns) apart =
+    let once = and_parts (not (has_number ns b)) (are_distinct ns) apart in
+    let rest = free_given (set taken b false) ns once.1 in
+    let same : length (filter (is_taken (set taken b false)) ns) ≡ length (filter (is_taken taken) ns) = ap length (filter_same (is_taken (set taken b false)) (is_taken taken) ns (λ n m.
+    get_or-set_other taken b n false false (λ is. both_ways (has_number ns b) (not-true (has_number ns b) once.0) (number_from_among ns b (subst (λ k. Among ns k) is m))))) in
+    by (is_taken taken b) refl rest same
+  where
+    by : (t : Bool) → is_taken taken b ≡ t → free_count (given (set taken b false) ns) ≡ free_count (set taken b false) + length (filter (is_taken (set taken b false)) ns)
+        → length (filter (is_taken (set taken b false)) ns) ≡ length (filter (is_taken taken) ns)
+        → free_count (given (set taken b false) ns) ≡ free_count taken + length (cond t (b ∷ filter (is_taken taken) ns) (filter (is_taken taken) ns))
+    by true is rest same = omega (arith, rest, same, one_more_free taken b is)
+    by false is rest same = omega (arith, rest, same, as_many_free taken b is)
+
+-- where each passes a test, all are left
+pub all_pass_filter : (test : ℕ → Bool) (ns : List ℕ) → ((n : ℕ) → Among ns n → test n ≡ true) → filter test ns ≡ ns
+all_pass_filter test [] each = refl
+all_pass_filter test (n ∷ ns) each =
+    ap (λ b. cond b (n ∷ filter test ns) (filter test ns)) (each n (inl refl)) ∙ ap (λ ms. n ∷ ms) (all_pass_filter test ns (λ m of. each m (inr of)))
+
+-- ---- versions
+-- a version that is not the second is the first
+pub first_version : (limits : Limits) → are_in_range limits ≡ true → (limits.version ≡ 2 → ⊥) → limits.version ≡ 1
+first_version limits range not_two =
+    let version = (and_parts (is_files_limit limits.files && is_props_limit limits.props && is_blocks_limit limits.blocks) (is_version limits.version) range).1 in
+    by (or_cases (limits.version == 1) (limits.version == 2) version)
+  where
+    by : ((limits.version == 1) ≡ true) ⊎ ((limits.version == 2) ≡ true) → limits.version ≡ 1
+    by (inl one) = eqb-true limits.version 1 one
+    by (inr two) = absurd (not_two (eqb-true limits.version 2 two))
+
+-- ---- a file whose blocks are given back
+pub rec_some : (o : Option FileRecord) → IsSome o → (rec : FileRecord) × (o ≡ Some rec)
+rec_some None some = absurd cc
+rec_some (Some rec) some = (rec, refl)
+
+module _ (p mid : Kept) (slot : ℕ) (rec : FileRecord) (there : rec_at p.catalog slot ≡ Some rec) (sound : AreSound p) (journal : Held) (m : Meaning) (gives : Gives rec p mid journal m) (size : ℕ)
+    (not_two : p.limits.version ≡ 2 → ⊥) (enough : blocks_taken p.limits.version size ≤ free_instead p rec) where
+  one : p.limits.version ≡ 1
+  one = first_version p.limits sound.range not_two
+
+  small : is_large rec.size ≡ false
+  small =
+      let short = (record_in_form p.limits.version p.dict p.limits.blocks rec (sound.records slot rec there)).small in
+      small_size rec.size (omega (arith, short, ap file_limit one))
+
+  -- in version 1 its blocks count as free
+  pub enough_given : blocks_taken mid.limits.version size ≤ free_count mid.taken
+  enough_given =
+      let counted = free_given p.taken rec.blocks (blocks_apart p sound slot rec there) in
+      let instead = cond-false (p.limits.version == 2) (free_count p.taken) (free_count p.taken + length (filter (is_taken p.taken) rec.blocks)) (ne_eqb p.limits.version 2 not_two) in
+      let limits_are = ap (λ (x : Kept). x.limits) gives.takes.parts in
+      omega (arith, enough, instead, counted, ap free_count (gives.small small), ap (λ (x : Limits). blocks_taken x.version size) limits_are)

@@ -1,0 +1,153 @@
+-- The blocks of a file that comes into the place of another.
+use Rattle.std.proofs.Common.{◌≡◌, refl, sym, ap, ◌∙◌, subst, ℕ, ◌+◌, ◌<◌, ◌==◌, nat_lt, not, ◌&&◌, ◌||◌, Bool, true, false, List, length, IsTrue, arith}
+use Rattle.std.proofs.lemmas.Bool.{and_parts, both_ways, eqb-true, false_from_ne_true, ltb-true, not-true}
+use Rattle.lis_graph.proofs.Members.{Among, among_from_any, contains_from_among}
+use Rattle.lis_blockmap.specs.Bitmap.{is_taken}
+use Rattle.lis_content.specs.Content.{given, marked, are_free, are_distinct, has_number, has_home}
+use Rattle.lis_content.specs.Large.{file_content, file_blocks, IsIndexed}
+use Rattle.lis_content.specs.Placing.{HasFile}
+use Rattle.lis_content.proofs.Numbers.{length-given}
+use Rattle.lis_catalog.specs.Catalog.{Filed}
+use Rattle.lis_model.specs.declared.limits.Limits.{Limits}
+use Rattle.lis_model.specs.Image.{data_start}
+use Rattle.lis_model.specs.State.{State}
+use Rattle.lis_laws.proofs.Counts.{all_among}
+use Rattle.lis_kept.specs.Kept.{Kept}
+use Rattle.lis_kept.specs.Sound.{AreSound}
+use Rattle.lis_kept.specs.Telling.{bytes_told, blocks_told, Tells}
+use Rattle.lis_kept.proofs.Contents.{same_file}
+use Rattle.lis_kept.proofs.Filing.{among_from_number, number_from_among}
+use Rattle.lis_store.specs.Contents.{Trades}
+use Rattle.lis_store.specs.Contents.Trades.{First, Last}
+use Rattle.lis_store.proofs.Elsewhere.{numbers_counted}
+use Rattle.lis_store.proofs.Given.{given_taken}
+use Rattle.lis_store.proofs.Marks.{taken_after}
+
+-- They were free or the other file's, and hold the bytes, which the numbers tell; all others hold what they held. Then they are taken, and
+-- so is what was taken for files that stay.
+pub record IsHoused (limits : Limits) (taken now : List Bool) (old blocks bytes numbers : List ℕ) (at there : ℕ → List ℕ) : Type 0 where
+  pub below : (n : ℕ) → has_number blocks n ≡ true → n < limits.blocks
+  pub vacant : (n : ℕ) → has_number blocks n ≡ true → is_taken taken n ≡ true → has_number old n ≡ true
+  pub distinct : IsTrue (are_distinct blocks)
+  pub holds : HasFile (data_start limits) bytes numbers blocks there
+  pub same : (n : ℕ) → has_home (data_start limits) blocks n ≡ false → there n ≡ at n
+  pub marks : (n : ℕ) → n < limits.blocks → is_taken now n ≡ (has_number blocks n || (is_taken taken n && not (has_number old n)))
+
+-- the home of a data block is that of one of these only where it is one of them
+pub home_elsewhere : (base : ℕ) (blocks : List ℕ) (b : ℕ) → has_number blocks b ≡ false → has_home base blocks (base + b) ≡ false
+home_elsewhere base blocks b none = false_from_ne_true (has_home base blocks (base + b)) (λ has.
+    let found = among_from_any (λ c. base + c == base + b) blocks has in
+    let same : found.0 ≡ b = omega (arith, eqb-true (base + found.0) (base + b) found.2) in
+    both_ways (has_number blocks b) none (number_from_among blocks b (subst (λ c. Among blocks c) same found.1)))
+
+-- free blocks are blocks that are not taken
+pub free_number : (taken : List Bool) (blocks : List ℕ) (n : ℕ) → are_free taken blocks ≡ true → has_number blocks n ≡ true → (n < length taken) × (is_taken taken n ≡ false)
+free_number taken blocks n free has =
+    let one = and_parts (nat_lt n (length taken)) (not (is_taken taken n))
+    (all_among (λ i. nat_lt i (length taken) && not (is_taken taken i)) blocks n free (among_from_number blocks n has)) in
+    (ltb-true n (length taken) one.0, not-true (is_taken taken n) one.1)
+
+-- ---- bytes that come into other blocks
+module _ (limits : Limits) (taken mid now : List Bool) (old blocks bytes numbers : List ℕ) (at there : ℕ → List ℕ) (len : length taken ≡ limits.blocks) (distinct : are_distinct blocks ≡ true)
+    (holds : HasFile (data_start limits) bytes numbers blocks there) (same : (n : ℕ) → has_home (data_start limits) blocks n ≡ false → there n ≡ at n) where
+  -- once those of the other file are given back
+  pub given_first : mid ≡ given taken old → are_free mid blocks ≡ true → now ≡ marked mid blocks → IsHoused limits taken now old blocks bytes numbers at there
+  given_first gave free marks = record {
+    below = λ n has. omega (arith, (free_number mid blocks n free has).0, mid_len, len);
+    vacant = λ n has was. by (has_number old n) (sym (not_given n was) ∙ (free_number mid blocks n free has).1);
+    distinct = distinct;
+    holds = holds;
+    same = same;
+    marks = λ n lt.
+        ap (λ ts. is_taken ts n) marks
+        ∙ (taken_after mid blocks n (omega (arith, lt, mid_len, len))
+        ∙ ap (λ t. has_number blocks n || t) (ap (λ ts. is_taken ts n) gave ∙ given_taken taken old n));
+  }
+    where
+      mid_len : length mid ≡ length taken
+      mid_len = ap length gave ∙ length-given taken old
+
+      -- what was taken and is none of the other file's still is
+      not_given : (n : ℕ) → is_taken taken n ≡ true → is_taken mid n ≡ not (has_number old n)
+      not_given n was = ap (λ ts. is_taken ts n) gave ∙ (given_taken taken old n ∙ ap (λ t. t && not (has_number old n)) was)
+
+      by : (b : Bool) → not b ≡ false → b ≡ true
+      by true is = refl
+      by false is = absurd (both_ways true is refl)
+
+  -- before they are
+  pub given_last : are_free taken blocks ≡ true → ((n : ℕ) → has_number old n ≡ true → is_taken taken n ≡ true) → mid ≡ marked taken blocks → now ≡ given mid old
+      → IsHoused limits taken now old blocks bytes numbers at there
+  given_last free held marked_then gave = record {
+    below = λ n has. omega (arith, (free_number taken blocks n free has).0, len);
+    vacant = λ n has was. absurd (both_ways (is_taken taken n) (free_number taken blocks n free has).1 was);
+    distinct = distinct;
+    holds = holds;
+    same = same;
+    marks = λ n lt.
+        ap (λ ts. is_taken ts n) gave
+        ∙ (given_taken mid old n
+        ∙ (ap (λ t. t && not (has_number old n)) (ap (λ ts. is_taken ts n) marked_then ∙ taken_after taken blocks n (omega (arith, lt, len)))
+        ∙ by (has_number blocks n) (is_taken taken n) (has_number old n) (none_old n)));
+  }
+    where
+      none_old : (n : ℕ) → has_number blocks n ≡ true → has_number old n ≡ false
+      none_old n has = false_from_ne_true (has_number old n) (λ here. both_ways (is_taken taken n) (free_number taken blocks n free has).1 (held n here))
+
+      by : (b t o : Bool) → (b ≡ true → o ≡ false) → ((b || t) && not o) ≡ (b || (t && not o))
+      by true t true none = absurd (both_ways true (none refl) refl)
+      by true t false none = refl
+      by false t o none = refl
+
+-- ---- bytes that stay
+module _ (k : Kept) (at : ℕ → List ℕ) (s : State) (tells : Tells k at s) (f : Filed) (m : Among k.catalog.entries f) (bytes : List ℕ) (size : f.rec.size ≡ length bytes) (told : bytes_told k.limits at f.rec ≡ bytes) where
+  abbrev base : ℕ
+  base = data_start k.limits
+
+  abbrev held : List ℕ
+  held = blocks_told k.limits at f.rec
+
+  given_here : (n : ℕ) → has_number held n ≡ true → (n < k.limits.blocks) × (is_taken k.taken n ≡ true)
+  given_here = tells.given f (contains_from_among k.catalog.entries f m)
+
+  pub stay_housed : IsHoused k.limits k.taken k.taken held held bytes f.rec.blocks at at
+  stay_housed = record {
+    below = λ n has. (given_here n has).0;
+    vacant = λ n has was. has;
+    distinct = tells.apart f (contains_from_among k.catalog.entries f m);
+    holds = record {
+      reads = subst (λ n. file_content base f.rec.blocks n at ≡ bytes) size told;
+      index = subst (λ n. IsIndexed base f.rec.blocks n at) size (tells.indexed f (contains_from_among k.catalog.entries f m));
+      all = subst (λ n. file_blocks base f.rec.blocks n at ≡ held) size refl;
+    };
+    same = λ n none. refl;
+    marks = λ n lt. by (is_taken k.taken n) (has_number held n) (λ has. (given_here n has).1);
+  }
+    where
+      by : (t b : Bool) → (b ≡ true → t ≡ true) → t ≡ (b || (t && not b))
+      by true true is = refl
+      by true false is = refl
+      by false true is = absurd (both_ways false refl (is refl))
+      by false false is = refl
+
+-- ---- blocks that are traded
+module _ (k : Kept) (sound : AreSound k) (at there : ℕ → List ℕ) (s : State) (tells : Tells k at s) (f : Filed) (m : Among k.catalog.entries f) (now : List Bool) (blocks bytes numbers : List ℕ) (distinct : are_distinct blocks ≡ true)
+    (holds : HasFile (data_start k.limits) bytes numbers blocks there) (same : (n : ℕ) → has_home (data_start k.limits) blocks n ≡ false → there n ≡ at n) where
+  abbrev old : List ℕ
+  old = blocks_told k.limits at f.rec
+
+  old_taken : (n : ℕ) → has_number old n ≡ true → is_taken k.taken n ≡ true
+  old_taken n has = (tells.given f (contains_from_among k.catalog.entries f m) n has).1
+
+  -- where the new blocks were free, the blocks of the file are what they were
+  old_stays : are_free k.taken blocks ≡ true → blocks_told k.limits there f.rec ≡ old
+  old_stays free =
+      (same_file k.limits f.rec at there (numbers_counted k sound f m) (λ b among.
+      same (data_start k.limits + b)
+      (home_elsewhere (data_start k.limits) blocks b
+      (false_from_ne_true (has_number blocks b) (λ has. both_ways (is_taken k.taken b) (free_number k.taken blocks b free has).1 (old_taken b (number_from_among old b among))))))).1
+
+  pub trades_housed : Trades k.limits f.rec k.taken now blocks at there → IsHoused k.limits k.taken now old blocks bytes numbers at there
+  trades_housed (First free marks) = given_first k.limits k.taken (given k.taken old) now old blocks bytes numbers at there sound.blocks distinct holds same refl free marks
+  trades_housed (Last free gave) =
+      given_last k.limits k.taken (marked k.taken blocks) now old blocks bytes numbers at there sound.blocks distinct holds same free old_taken refl (gave ∙ ap (given (marked k.taken blocks)) (old_stays free))

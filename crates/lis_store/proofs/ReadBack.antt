@@ -1,0 +1,28 @@
+-- The bytes of a file, as they are read.
+use Rattle.std.proofs.Common.{◌≡◌, sym, ap, ◌∙◌, subst, ℕ, ◌+◌, nat_lt, List, IsTrue, arith}
+use Rattle.lis_content.specs.Content.{are_within}
+use Rattle.lis_content.specs.Large.{content_blocks, file_content}
+use Rattle.lis_content.proofs.Numbers.{within_if_below}
+use Rattle.lis_fields.specs.Records.{FileRecord}
+use Rattle.lis_model.specs.declared.limits.Limits.{Limits}
+use Rattle.lis_model.specs.Image.{data_start, image_blocks}
+use Rattle.lis_laws.proofs.Counts.{all_among, all_from}
+use Rattle.lis_kept.specs.Telling.{bytes_told, blocks_told}
+use Rattle.lis_store.specs.Contents.{AreContentsWithin}
+use Rattle.lis_store.proofs.FileBlocks.{content_told, content_among}
+
+-- what is read where the blocks of the content are blocks of the image is what memory tells
+pub read_told : (limits : Limits) (rec : FileRecord) (at : ℕ → List ℕ) (bytes : List ℕ) (blocks base size : ℕ) (numbers : List ℕ) → blocks ≡ image_blocks limits → base ≡ data_start limits → size ≡ rec.size
+    → numbers ≡ rec.blocks → AreContentsWithin limits at rec → (IsTrue (are_within base blocks (content_blocks base numbers size at)) → bytes ≡ file_content base numbers size at)
+    → bytes ≡ bytes_told limits at rec
+read_told limits rec at bytes blocks base size numbers image from sized are within read =
+    let all = all_from (λ n. nat_lt n limits.blocks) (content_told limits at rec) (λ n of.
+    all_among (λ m. nat_lt m limits.blocks) (blocks_told limits at rec) n within (content_among limits at rec n of)) in
+    let W : ℕ → List ℕ → ℕ → Type 0 = λ b ns n. IsTrue (are_within b blocks (content_blocks b ns n at)) in
+    let told : W (data_start limits) rec.blocks rec.size = within_if_below (data_start limits) blocks limits.blocks (content_told limits at rec) (omega (arith, image)) all in
+    let here : W base numbers size =
+    subst (λ b. W b numbers size) (sym from) (subst (λ ns. W (data_start limits) ns size) (sym are) (subst (λ n. W (data_start limits) rec.blocks n) (sym sized) told)) in
+    read here
+    ∙ (ap (λ b. file_content b numbers size at) from
+    ∙ (ap (λ ns. file_content (data_start limits) ns size at) are
+    ∙ ap (λ n. file_content (data_start limits) rec.blocks n at) sized))

@@ -1,0 +1,160 @@
+-- A call that takes a file away.
+use Rattle.std.proofs.Common.{◌≡◌, refl, sym, ap, ◌∙◌, subst, ℕ, ◌+◌, ◌≤◌, not, Bool, true, false, cond, List, length, set, Some, is_some, Result, Err, arith}
+use Rattle.std.specs.List.{list_any}
+use Rattle.std.proofs.lemmas.Option.{same_Some}
+use Rattle.lis_ports.specs.Meaning.{Meaning}
+use Rattle.lis_journal.specs.Journal.{Held}
+use Rattle.lis_journal.specs.Record.{Entry as Staged}
+use Rattle.lis_journal.specs.Phases.{looked}
+use Rattle.lis_content.specs.Content.{given}
+use Rattle.lis_content.specs.Placing.{Asks}
+use Rattle.lis_catalog.specs.Catalog.{slot_of, rec_at}
+use Rattle.lis_catalog.proofs.Laws.{rec_at-slot_of}
+use Rattle.lis_ext.specs.Ext.{Ext}
+use Rattle.lis_words.specs.Words.{same_word}
+use Rattle.lis_grammar.specs.Formula.{Formula}
+use Rattle.lis_fields.specs.Records.{FileRecord}
+use Rattle.lis_model.specs.declared.refusal.Refusal.TheVariants.{NoFileHere}
+use Rattle.lis_model.specs.Image.{bitmap_start, image_blocks}
+use Rattle.lis_model.specs.State.{State}
+use Rattle.lis_model.specs.Table.{Table, Entry}
+use Rattle.lis_model.specs.Listing.{extension}
+use Rattle.lis_model.specs.Step.{Situation, refused, changed, is_here, rm}
+use Rattle.lis_model.specs.Changes.{file_removed}
+use Rattle.lis_kept.specs.Kept.{Kept}
+use Rattle.lis_kept.specs.Areas.{IsSaved, marked_count}
+use Rattle.lis_kept.specs.Sound.{AreSound}
+use Rattle.lis_kept.specs.Changes.{Gives}
+use Rattle.lis_kept.specs.Telling.{blocks_told}
+use Rattle.lis_store.specs.declared.change.Change.{Change}
+use Rattle.lis_store.specs.declared.change.Change.TheVariants.{Refused, Disk}
+use Rattle.lis_store.specs.Stored.{Stored, IsSound, StoreFits}
+use Rattle.lis_store.specs.Contents.{ContentGiven, ContentEnded}
+use Rattle.lis_store.specs.Changes.{Changes, differing_bits}
+use Rattle.lis_store.specs.Judging.{is_among}
+use Rattle.lis_store.specs.Saving.{settled, ArePlaced, IsReady, Saves}
+use Rattle.lis_store.specs.Removing.{TakesOut}
+use Rattle.lis_store.specs.ReplacingIn.{AreInForm}
+use Rattle.lis_store.proofs.Facts.{limits_told, table_told}
+use Rattle.lis_store.proofs.Judged.{change_refused}
+use Rattle.lis_store.proofs.Cleaned.{none_marked}
+use Rattle.lis_store.proofs.Removed.{end_is, form_removed, few_marked, few_edits, ready_removed}
+use Rattle.lis_store.proofs.Replaced.{in_form, settled_sound}
+use Rattle.lis_store.proofs.SavedAlone.{alone_placed, unplaced_stands}
+use Rattle.lis_store.proofs.Steps.{form_taken, pairs_same, sound_lost, changes_behind, changes_lost, asks_stand, asks_past}
+
+here_told : (k : Stored) (m : Meaning) (s : State) → IsSound k → StoreFits k m s → (place : List Formula) (name : List ℕ) → is_here (record { state = s; place = place }) name ≡ is_among k.parts place name
+here_told k m s sound fits place name =
+    ap (λ (t : Table). list_any (λ (file : Entry). same_word file.name name) (extension t place)) (sym (table_told k m s sound fits))
+
+-- one that is refused
+pub removed_refused : {T : Type 0} (old : Stored) (m : Meaning) (place : List Formula) (name : List ℕ) (result : Result T Change) → IsSound old → is_among old.parts place name ≡ false
+    → result ≡ Err (Refused NoFileHere) → (s : State) → StoreFits old m s → Changes (record { state = s; place = place }) (rm (record { state = s; place = place }) name) old m m result
+removed_refused old m place name result sound none ends s fits =
+    let now : Situation = record { state = s; place = place } in
+    change_refused old m now (rm now name) NoFileHere result fits
+    (ap (λ b. cond (not b) (refused now NoFileHere) (changed now (file_removed s name))) (here_told old m s sound fits place name ∙ none)) ends
+
+-- what is known where the disk fails while its blocks are asked for
+given_err : (T : Type 0) (rec : FileRecord) (p q : Kept) (journal : Held) (before after : Meaning) (change : Change) → ContentGiven {T = T} rec p q journal before after (Err change)
+    → (change ≡ Disk) × (q ≡ p) × Asks journal before after
+given_err T rec p q journal before after (Refused refusal) never = absurd (let e : false ≡ true = never in cc)
+given_err T rec p q journal before after Disk stays = (refl, stays.0, stays.1)
+
+ended_err : (T : Type 0) (b : Bool) (change : Change) → ContentEnded {T = T} b (Err change) → b ≡ true
+ended_err T b (Refused refusal) never = absurd (let e : false ≡ true = never in cc)
+ended_err T b Disk broken = broken
+
+module _ (T : Type 0) (old : Stored) (slot : ℕ) (name : List ℕ) (sound : IsSound old) (named : slot_of old.parts.catalog name ≡ Some slot) (q : Kept) (b : Bool) (change : Change) (before after : Meaning)
+    (stays : (rec : FileRecord) → rec_at old.parts.catalog slot ≡ Some rec → ContentGiven {T = T} rec old.parts q old.journal before after (Err change)) (ended : ContentEnded {T = T} b (Err change)) where
+  lost : (change ≡ Disk) × (q ≡ old.parts) × Asks old.journal before after
+  lost =
+      let found = rec_at-slot_of old.parts.catalog name slot sound.parts.catalog named in
+      given_err T found.0 old.parts q old.journal before after change (stays found.0 found.1)
+
+  broken : b ≡ true
+  broken = ended_err T b change ended
+
+  pub lost_parts : q ≡ old.parts
+  lost_parts = lost.1
+
+  pub lost_sound : IsSound (record { parts = q; journal = old.journal; is_broken = b })
+  lost_sound =
+      subst (λ (k : Kept). IsSound (record { parts = k; journal = old.journal; is_broken = b })) (sym lost_parts)
+      (subst (λ c. IsSound (record { parts = old.parts; journal = old.journal; is_broken = c })) (sym broken) (sound_lost old.parts old.journal (in_form old sound) sound.pairs sound.image))
+
+  pub lost_changes : {U : Type 0} (place : List Formula) (result : Result U Change) → result ≡ Err change → (s : State) → StoreFits old before s
+      → Changes (record { state = s; place = place }) (rm (record { state = s; place = place }) name) (record { parts = q; journal = old.journal; is_broken = b }) before after result
+  lost_changes place result ends s fits =
+      let now : Situation = record { state = s; place = place } in
+      changes_lost now (rm now name) (record { parts = q; journal = old.journal; is_broken = b }) before after result (asks_stand old s before sound fits after lost.2) (asks_past old s before sound fits after lost.2)
+      broken (ends ∙ ap Err lost.0)
+
+-- ---- its blocks are given back, and then it is taken out
+module _ (old : Stored) (mid : Kept) (slot : ℕ) (rec : FileRecord) (before : Meaning) (gives : Gives rec old.parts mid old.journal before) (sound : IsSound old) (filed : rec_at old.parts.catalog slot ≡ Some rec) where
+  pub form_given : AreInForm mid
+  form_given = form_taken old.parts mid mid.taken gives.takes (in_form old sound)
+
+  pub there_given : is_some (rec_at mid.catalog slot) ≡ true
+  there_given = ap is_some (ap (λ (k : Kept). rec_at k.catalog slot) gives.takes.parts ∙ filed)
+
+module _ (old : Stored) (mid q : Kept) (slot : ℕ) (place : List Formula) (name : List ℕ) (rec : FileRecord) (before : Meaning) (gives : Gives rec old.parts mid old.journal before) (out : TakesOut slot mid q)
+    (sound : IsSound old) (unbroken : old.is_broken ≡ false) (here : is_among old.parts place name ≡ true) (named : slot_of old.parts.catalog name ≡ Some slot) (filed : rec_at old.parts.catalog slot ≡ Some rec) where
+  form_mid : AreInForm mid
+  form_mid = form_given old mid slot rec before gives sound filed
+
+  abbrev after_marks : List Bool
+  after_marks = set old.parts.marks (bitmap_start old.parts.limits) true
+
+  same_axioms : q.axioms ≡ old.parts.axioms
+  same_axioms = ap (λ (k : Kept). k.axioms) (end_is slot mid q out form_mid.sound) ∙ ap (λ (k : Kept). k.axioms) gives.takes.parts
+
+  pub same_limits : q.limits ≡ old.parts.limits
+  same_limits = ap (λ (k : Kept). k.limits) (end_is slot mid q out form_mid.sound) ∙ ap (λ (k : Kept). k.limits) gives.takes.parts
+
+  pub removed_sound : AreSound q → IsSound (settled q old.journal)
+  removed_sound after =
+      settled_sound q old.journal (form_removed slot mid q out form_mid.sound form_mid after) (pairs_same old.parts q same_axioms sound.pairs) (sound.image ∙ ap image_blocks (sym same_limits)) (sound.journal unbroken)
+
+  pub removed_marks : length old.journal.staged + marked_count q ≤ 531
+  removed_marks =
+      let few = few_marked slot mid q out form_mid.sound (form_mid.short slot) in
+      let none = none_marked old.parts (sound.clean unbroken) in
+      omega (arith, few, gives.takes.marks.few, none, ap length (sound.staged unbroken))
+
+  pub removed_placed : ArePlaced q old.journal
+  removed_placed = alone_placed old sound unbroken q
+
+  pub removed_edits : q.ext.edits ≤ old.parts.ext.edits + differing_bits old.parts.ext q.ext
+  removed_edits =
+      subst (λ (e : Ext). q.ext.edits ≤ e.edits + differing_bits e q.ext) (ap (λ (k : Kept). k.ext) gives.takes.parts) (few_edits slot mid q out form_mid.sound)
+
+  rec_is : out.rec ≡ rec
+  rec_is = same_Some out.rec rec (sym out.drops.there ∙ (ap (λ (k : Kept). rec_at k.catalog slot) gives.takes.parts ∙ filed))
+
+  module _ (s : State) (fits : StoreFits old before s) where
+    gave : mid.taken ≡ given old.parts.taken (blocks_told old.parts.limits fits.kept out.rec)
+    gave =
+        gives.given fits.kept fits.journal
+        ∙ (ap (λ (es : List Staged). given old.parts.taken (blocks_told old.parts.limits (looked es fits.kept) rec)) (sound.staged unbroken)
+        ∙ ap (λ (r : FileRecord). given old.parts.taken (blocks_told old.parts.limits fits.kept r)) (sym rec_is))
+
+    ready : IsReady q fits.kept (file_removed s name)
+    ready =
+        let ts = mid.taken in
+        let R : Kept → Type 0 = λ k.
+        (out : TakesOut slot k q) → AreSound k → ts ≡ given old.parts.taken (blocks_told old.parts.limits fits.kept out.rec) → IsSaved k fits.kept → IsReady q fits.kept (file_removed s name) in
+        subst R (sym gives.takes.parts)
+        (λ out sound_then gave_then saved. ready_removed slot old.parts ts after_marks q out sound_then fits.kept s fits.tells gave_then name named saved)
+        out form_mid.sound gave (gives.takes.marks.saved fits.kept (λ area n lt unmarked. fits.written area n lt))
+
+    pub removed_changes : {T : Type 0} (new : Stored) (asked after : Meaning) (result : Result T Change) → Asks old.journal before asked → Saves q old.journal new asked after result
+        → Changes (record { state = s; place = place }) (rm (record { state = s; place = place }) name) new before after result
+    removed_changes new asked after result asks saves =
+        let now : Situation = record { state = s; place = place } in
+        let made : State = file_removed s name in
+        let limits = same_limits ∙ limits_told old.parts fits.kept s sound.parts sound.free fits.tells in
+        changes_behind now (rm now name) new before asked after result (asks_stand old s before sound fits asked asks) (asks_past old s before sound fits asked asks)
+        (saves now (rm now name) made fits.kept (asks.fits fits.kept fits.journal) limits (unplaced_stands old sound unbroken s before fits)
+        (λ _. subst (λ (es : List Staged). IsReady q (looked es fits.kept) made) (sym (sound.staged unbroken)) ready)
+        (ap (λ b. cond (not b) (refused now NoFileHere) (changed now made)) (here_told old before s sound fits place name ∙ here)))

@@ -1,0 +1,263 @@
+-- Bytes that come into blocks in the place of others, and what the disk keeps meanwhile.
+use Rattle.std.proofs.Common.{◌≡◌, refl, sym, ap, ap₂, ◌∙◌, subst, ℕ, true, false, Bool, List, [], ◌∷◌, Option, Some, None, Result, Ok, Err, OnErr, IsSomeAnd, IsTrue, set, get_or-set_same, arith}
+use Rattle.std.proofs.lemmas.Bool.{both_ways, false_from_ne_true}
+use Rattle.arrayvec.specs.ArrayVec.{ArrayVec}
+use Rattle.lis_ports.specs.Meaning.{Meaning}
+use Rattle.lis_ports.specs.Runs.{Leaves}
+use Rattle.lis_ports.proofs.Moments.{leaves_weaken, leaves_then}
+use Rattle.lis_journal.specs.Journal.{Held}
+use Rattle.lis_journal.specs.Record.{block, replayed}
+use Rattle.lis_journal.specs.Phases.{looked}
+use Rattle.lis_journal.specs.Images.{KeepsBut, StandsBut, Fits, KeepsPast, is_among}
+use Rattle.lis_journal.proofs.Fitting.{fits_but}
+use Rattle.lis_content.specs.Content.{given, marked, are_free, has_home}
+use Rattle.lis_content.specs.Placing.{Asks, homes_of}
+use Rattle.lis_content.proofs.Numbers.{stays_marked}
+use Rattle.lis_fields.specs.Records.{FileRecord}
+use Rattle.lis_model.specs.Image.{bitmap_start, data_start}
+use Rattle.lis_kept.specs.Kept.{Kept}
+use Rattle.lis_kept.specs.Areas.{is_marked}
+use Rattle.lis_kept.specs.Sound.{AreSound}
+use Rattle.lis_kept.specs.Telling.{blocks_told}
+use Rattle.lis_kept.specs.Changes.{Marks, Takes, Gives, Lands, Puts, PutTorn}
+use Rattle.lis_kept.proofs.BlocksTaken.{home_among}
+use Rattle.lis_store.specs.declared.change.Change.{Change}
+use Rattle.lis_store.specs.declared.change.Change.TheVariants.{Refused, Disk}
+use Rattle.lis_store.specs.Contents.{Trades, IsRenewed, Renews, ContentPut, ContentGiven, ContentRenewed}
+use Rattle.lis_store.specs.Contents.Trades.{First, Last}
+
+-- ---- images
+-- what is kept in placed blocks does not count
+pub stands_same : (blocks : ℕ) (placed : List ℕ) (kept was : ℕ → List ℕ) (image : List ℕ) → ((n : ℕ) → is_among placed n ≡ false → kept n ≡ was n)
+    → StandsBut blocks placed kept image → StandsBut blocks placed was image
+unfolding StandsBut
+stands_same blocks placed kept was image same but = (but.0, by (replayed blocks image) but.1)
+  where
+    by : (o : Option (List ℕ)) → IsSomeAnd o (KeepsBut blocks placed kept) → IsSomeAnd o (KeepsBut blocks placed was)
+    by None h = h
+    by (Some r) h = record { long = h.long; same = λ n out none. h.same n out none ∙ same n none }
+
+-- with more placed blocks
+stands_less : (blocks : ℕ) (placed more : List ℕ) (kept : ℕ → List ℕ) (image : List ℕ) → ((n : ℕ) → is_among more n ≡ false → is_among placed n ≡ false)
+    → StandsBut blocks placed kept image → StandsBut blocks more kept image
+unfolding StandsBut
+stands_less blocks placed more kept image fewer but = (but.0, by (replayed blocks image) but.1)
+  where
+    by : (o : Option (List ℕ)) → IsSomeAnd o (KeepsBut blocks placed kept) → IsSomeAnd o (KeepsBut blocks more kept)
+    by None h = h
+    by (Some r) h = record { long = h.long; same = λ n out none. h.same n out (fewer n none) }
+
+-- blocks that are placed among the homes of these
+pub stands_homes : (blocks base : ℕ) (placed some : List ℕ) (kept : ℕ → List ℕ) (image : List ℕ) → ((n : ℕ) → is_among placed n ≡ true → has_home base some n ≡ true)
+    → StandsBut blocks placed kept image → StandsBut blocks (homes_of base some) kept image
+stands_homes blocks base placed some kept image homes but =
+    stands_less blocks placed (homes_of base some) kept image
+    (λ n none. false_from_ne_true (is_among placed n) (λ among. both_ways (has_home base some n) (sym (home_among base some n) ∙ none) (homes n among))) but
+
+-- with nothing placed, an image stands for what is kept
+unplaced_stands : (journal : Held) {m : Meaning} {kept : ℕ → List ℕ} (more : List ℕ) → journal.placed ≡ [] → Fits journal m kept → (image : List ℕ) → m.images image → StandsBut journal.blocks more kept image
+unplaced_stands journal {m} {kept} more none fits image is =
+    stands_less journal.blocks journal.placed more kept image (λ n absent. ap (λ ns. is_among ns n) none) (fits_but journal fits image is)
+
+-- ---- blocks are taken twice
+module _ (p mid q : Kept) (sound : AreSound p) (ts us : List Bool) (one : Takes ts p mid) (two : Takes us mid q) where
+  marked_mid : is_marked mid (bitmap_start p.limits) ≡ true
+  marked_mid = ap (λ (x : Kept). is_marked x (bitmap_start p.limits)) one.parts ∙ get_or-set_same p.marks (bitmap_start p.limits) true false (omega (arith, sound.marks))
+
+  pub twice_parts : q ≡ record p { taken = q.taken; marks = q.marks }
+  twice_parts =
+      let taken : List Bool → List Bool → Kept = λ t m. record mid { taken = t; marks = m } in
+      two.parts
+      ∙ (ap₂ taken (sym (ap (λ (x : Kept). x.taken) two.parts)) (sym (ap (λ (x : Kept). x.marks) two.parts))
+      ∙ ap (λ (x : Kept). record x { taken = q.taken; marks = q.marks }) one.parts)
+
+  pub twice_marks : Marks 2 p q
+  twice_marks = record { saved = λ at saved. two.marks.saved at (one.marks.saved at saved); few = omega (arith, one.marks.few, two.marks.few) }
+
+  pub twice_bitmap : is_marked q (bitmap_start p.limits) ≡ true
+  twice_bitmap =
+      ap (λ (x : Kept). is_marked x (bitmap_start p.limits)) two.parts
+      ∙ stays_marked mid.marks (bitmap_start mid.limits ∷ []) (bitmap_start p.limits) marked_mid
+
+-- ---- the blocks of the other file are given back first
+module _ (p q : Kept) (ts ms : List Bool) (rec : FileRecord) (bytes numbers : List ℕ) (old new : Held) (before asked after : Meaning) (sound : AreSound p) (unplaced : old.placed ≡ []) (one : p.limits.version ≡ 1)
+    (gives : Gives rec p (record p { taken = ts; marks = ms }) old before) (asks : Asks old before asked) (puts : Puts bytes numbers (record p { taken = ts; marks = ms }) q old new asked after) where
+  abbrev freed : Kept
+  freed = record p { taken = ts; marks = ms }
+
+  none_placed : new.placed ≡ []
+  none_placed = puts.unplaced one
+
+  pub first_moments : (kept : ℕ → List ℕ) → Fits old before kept → Leaves before after (StandsBut old.blocks new.placed kept)
+  first_moments kept fits =
+      leaves_then (leaves_weaken (StandsBut old.blocks new.placed kept) (asks.moments fits.honest) (unplaced_stands old new.placed unplaced fits)) (puts.moments kept (asks.fits kept fits))
+
+  pub first_past : (kept : ℕ → List ℕ) → Fits old before kept → KeepsPast old.blocks before after
+  first_past kept fits n le = puts.fills.past kept (asks.fits kept fits) n le ∙ ap (block n) (asks.same fits.honest).bytes
+
+  first_renewed : (kept : ℕ → List ℕ) → Fits old before kept → IsRenewed bytes numbers puts.blocks rec p q kept old new after
+  first_renewed kept fits =
+      let asked_fits = asks.fits kept fits in
+      record {
+        lands = puts.lands kept asked_fits;
+        stays = puts.stays kept asked_fits;
+        trades =
+            let gave = gives.given kept fits in
+            First (subst (λ xs. IsTrue (are_free xs puts.blocks)) gave puts.fills.were_free) (ap (λ (x : Kept). x.taken) puts.takes.parts ∙ ap (λ xs. marked xs puts.blocks) gave);
+      }
+
+  pub renews_first : Renews bytes numbers rec p q old new before after
+  renews_first = record {
+    parts = twice_parts p freed q sound ts (marked ts puts.blocks) gives.takes puts.takes;
+    marks = twice_marks p freed q sound ts (marked ts puts.blocks) gives.takes puts.takes;
+    bitmap = twice_bitmap p freed q sound ts (marked ts puts.blocks) gives.takes puts.takes;
+    in_form = puts.in_form;
+    below = puts.below;
+    image = puts.image;
+    broken = puts.broken;
+    few_staged = puts.few_staged;
+    spare = [];
+    were_free = refl;
+    placed = λ n among. absurd (both_ways (is_among new.placed n) (ap (λ ns. is_among ns n) none_placed) among);
+    moments = first_moments;
+    past = first_past;
+    blocks = puts.blocks;
+    distinct = puts.fills.distinct;
+    renewed = first_renewed;
+  }
+
+-- ---- and last
+module _ (p : Kept) (ts ms : List Bool) (bytes numbers : List ℕ) (old new : Held) (before placed after : Meaning) (sound : AreSound p)
+    (puts : Puts bytes numbers p (record p { taken = ts; marks = ms }) old new before placed) (asks : Asks new placed after) where
+  abbrev put : Kept
+  put = record p { taken = ts; marks = ms }
+
+  -- what is asked leaves the images of then
+  asked_stands : (kept : ℕ → List ℕ) → Fits old before kept → (image : List ℕ) → placed.images image → StandsBut old.blocks new.placed kept image
+  asked_stands kept fits image is =
+      let lands = puts.lands kept fits in
+      stands_same old.blocks new.placed lands.kept kept image (puts.stays kept fits)
+      (subst (λ n. StandsBut n new.placed lands.kept image) puts.image (fits_but new lands.fits image is))
+
+  last_moments : (kept : ℕ → List ℕ) → Fits old before kept → Leaves before after (StandsBut old.blocks new.placed kept)
+  last_moments kept fits =
+      leaves_then (puts.moments kept fits) (leaves_weaken (StandsBut old.blocks new.placed kept) (asks.moments (puts.lands kept fits).fits.honest) (asked_stands kept fits))
+
+  last_past : (kept : ℕ → List ℕ) → Fits old before kept → KeepsPast old.blocks before after
+  last_past kept fits n le = ap (block n) (asks.same (puts.lands kept fits).fits.honest).bytes ∙ puts.fills.past kept fits n le
+
+  -- blocks that are not given back then
+  pub torn_last : PutTorn p put old new before after
+  torn_last = record {
+    blocks = puts.blocks;
+    fills = record {
+      distinct = puts.fills.distinct;
+      were_free = puts.fills.were_free;
+      moments = λ kept fits.
+          leaves_weaken (StandsBut old.blocks (homes_of (data_start p.limits) puts.blocks) kept) (last_moments kept fits) (λ image but.
+          stands_homes old.blocks (data_start p.limits) new.placed puts.blocks kept image puts.placed but);
+      past = last_past;
+    };
+    parts = refl;
+    image = puts.image;
+  }
+
+  module _ (q : Kept) (rec : FileRecord) (gives : Gives rec put q new placed) where
+    last_renewed : (kept : ℕ → List ℕ) → Fits old before kept → IsRenewed bytes numbers puts.blocks rec p q kept old new after
+    last_renewed kept fits =
+        let landed = puts.lands kept fits in
+        record {
+          lands = record { kept = landed.kept; fits = asks.fits landed.kept landed.fits; same = landed.same; holds = landed.holds };
+          stays = puts.stays kept fits;
+          trades =
+              Last puts.fills.were_free
+              (gives.given landed.kept landed.fits ∙ ap (λ xs. given xs (blocks_told p.limits (looked new.staged landed.kept) rec)) (ap (λ (x : Kept). x.taken) puts.takes.parts));
+        }
+
+    pub renews_last : Renews bytes numbers rec p q old new before after
+    renews_last = record {
+      parts = twice_parts p put q sound (marked p.taken puts.blocks) q.taken puts.takes gives.takes;
+      marks = twice_marks p put q sound (marked p.taken puts.blocks) q.taken puts.takes gives.takes;
+      bitmap = twice_bitmap p put q sound (marked p.taken puts.blocks) q.taken puts.takes gives.takes;
+      in_form = puts.in_form;
+      below = puts.below;
+      image = puts.image;
+      broken = puts.broken;
+      few_staged = puts.few_staged;
+      spare = puts.blocks;
+      were_free = puts.fills.were_free;
+      placed = puts.placed;
+      moments = last_moments;
+      past = last_past;
+      blocks = puts.blocks;
+      distinct = puts.fills.distinct;
+      renewed = last_renewed;
+    }
+
+-- ---- blocks that are not given back at all
+pub torn_first : (p : Kept) (old : Held) (before after : Meaning) → old.placed ≡ [] → Asks old before after → PutTorn p p old old before after
+torn_first p old before after unplaced asks = record {
+  blocks = [];
+  fills = record {
+    distinct = refl;
+    were_free = refl;
+    moments = λ kept fits. leaves_weaken (StandsBut old.blocks [] kept) (asks.moments fits.honest) (unplaced_stands old [] unplaced fits);
+    past = λ kept fits n le. ap (block n) (asks.same fits.honest).bytes;
+  };
+  parts = refl;
+  image = refl;
+}
+
+-- ---- the same, over what memory keeps in between
+pub renews_given : (p mid q : Kept) (rec : FileRecord) (bytes numbers : List ℕ) (old new : Held) (before asked after : Meaning) → AreSound p → old.placed ≡ [] → p.limits.version ≡ 1
+    → Gives rec p mid old before → Asks old before asked → Puts bytes numbers mid q old new asked after → Renews bytes numbers rec p q old new before after
+renews_given p mid q rec bytes numbers old new before asked after sound unplaced one gives asks puts =
+    let P : Kept → Type 0 = λ x. Gives rec p x old before → Puts bytes numbers x q old new asked after → Renews bytes numbers rec p q old new before after in
+    subst P (sym gives.takes.parts)
+    (λ gave put. renews_first p q mid.taken (set p.marks (bitmap_start p.limits) true) rec bytes numbers old new before asked after sound unplaced one gave asks put) gives puts
+
+pub renews_placed : (p mid q : Kept) (rec : FileRecord) (bytes numbers : List ℕ) (old new : Held) (before placed after : Meaning) → AreSound p
+    → Puts bytes numbers p mid old new before placed → Gives rec mid q new placed → Asks new placed after → Renews bytes numbers rec p q old new before after
+renews_placed p mid q rec bytes numbers old new before placed after sound puts gives asks =
+    let P : Kept → Type 0 = λ x. Puts bytes numbers p x old new before placed → Gives rec x q new placed → Renews bytes numbers rec p q old new before after in
+    subst P (sym puts.takes.parts)
+    (λ put gave. renews_last p (marked p.taken puts.blocks) (set p.marks (bitmap_start p.limits) true) bytes numbers old new before placed after sound put asks q rec gave) puts gives
+
+pub torn_placed : (p mid q : Kept) (bytes numbers : List ℕ) (old new : Held) (before placed after : Meaning) → AreSound p
+    → Puts bytes numbers p mid old new before placed → q ≡ mid → Asks new placed after → PutTorn p q old new before after
+torn_placed p mid q bytes numbers old new before placed after sound puts same asks =
+    let P : Kept → Type 0 = λ x. Puts bytes numbers p x old new before placed → PutTorn p x old new before after in
+    let T : Kept → Type 0 = λ x. PutTorn p x old new before after in
+    subst T (sym same) (subst P (sym puts.takes.parts) (λ put. torn_last p (marked p.taken puts.blocks) (set p.marks (bitmap_start p.limits) true) bytes numbers old new before placed after sound put asks) puts)
+
+-- ---- how it ends
+pub lost_last : (T : Type 0) (p mid q : Kept) (rec : FileRecord) (bytes numbers : List ℕ) (old new : Held) (before placed after : Meaning) (change : Change) (result : Result (ArrayVec ℕ) Change) → AreSound p
+    → Puts bytes numbers p mid old new before placed → ContentGiven {T = T} rec mid q new placed after (Err change) → result ≡ Err change → ContentRenewed bytes rec p q old new before after result
+lost_last T p mid q rec bytes numbers old new before placed after change result sound puts gave ends =
+    subst (λ r. ContentRenewed bytes rec p q old new before after r) (sym ends) (by change gave)
+  where
+    by : (x : Change) → ContentGiven {T = T} rec mid q new placed after (Err x) → ContentRenewed bytes rec p q old new before after (Err x)
+    by (Refused refusal) never = never
+    by Disk lost = torn_placed p mid q bytes numbers old new before placed after sound puts lost.0 lost.1
+
+pub lost_first : (T : Type 0) (p q : Kept) (rec : FileRecord) (bytes : List ℕ) (old : Held) (before after : Meaning) (change : Change) (result : Result (ArrayVec ℕ) Change) → old.placed ≡ []
+    → ContentGiven {T = T} rec p q old before after (Err change) → result ≡ Err change → ContentRenewed bytes rec p q old old before after result
+lost_first T p q rec bytes old before after change result unplaced gave ends =
+    subst (λ r. ContentRenewed bytes rec p q old old before after r) (sym ends) (by change gave)
+  where
+    by : (x : Change) → ContentGiven {T = T} rec p q old before after (Err x) → ContentRenewed bytes rec p q old old before after (Err x)
+    by (Refused refusal) never = never
+    by Disk lost = let P : Kept → Type 0 = λ x. PutTorn p x old old before after in subst P (sym lost.0) (torn_first p old before after unplaced lost.1)
+
+-- in version 1 no put fails
+pub put_last : (p mid q : Kept) (rec : FileRecord) (bytes : List ℕ) (old new : Held) (before asked after : Meaning) (result : Result (ArrayVec ℕ) Change) → AreSound p → old.placed ≡ [] → p.limits.version ≡ 1
+    → Gives rec p mid old before → Asks old before asked → ContentPut bytes mid q old new asked after result → OnErr result (mid.limits.version ≡ 2) → ContentRenewed bytes rec p q old new before after result
+put_last p mid q rec bytes old new before asked after result sound unplaced one gives asks put torn = by result put torn
+  where
+    version : mid.limits.version ≡ 1
+    version = ap (λ (x : Kept). x.limits.version) gives.takes.parts ∙ one
+
+    by : (r : Result (ArrayVec ℕ) Change) → ContentPut bytes mid q old new asked after r → OnErr r (mid.limits.version ≡ 2) → ContentRenewed bytes rec p q old new before after r
+    by (Ok numbers) puts none = renews_given p mid q rec bytes numbers.items old new before asked after sound unplaced one gives asks puts
+    by (Err (Refused refusal)) never none = never
+    by (Err Disk) lost two = absurd (omega (arith, two, version))

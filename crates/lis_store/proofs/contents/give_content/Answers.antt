@@ -1,0 +1,6 @@
+use Rattle.lis_store.proofs.contents.give_content.Goals as goal
+
+pub returns-in-Ok-clause-given : goal.returns-in-Ok-clause-given
+returns-in-Ok-clause-given g c = λ rec is.
+    let given = c.in-Ok.ensures in
+    (given.gives rec is, record { run = given.run; same = given.same; moments = given.any_moment; fits = given.fits })

@@ -1,0 +1,81 @@
+-- How the contents of files are put on the disk, and given back.
+use Rattle.std.specs.Prelude.{◌≡◌, ℕ, ◌≤◌, nat_lt, Bool, true, false, List, length, Result, Ok, Err, IsTrue}
+use Rattle.std.specs.List.{list_all}
+use Rattle.arrayvec.specs.ArrayVec.{ArrayVec}
+use Rattle.lis_ports.specs.Meaning.{Meaning}
+use Rattle.lis_ports.specs.Runs.{Leaves}
+use Rattle.lis_journal.specs.Journal.{Held}
+use Rattle.lis_journal.specs.Images.{StandsBut, Fits, KeepsPast, is_among}
+use Rattle.lis_journal.specs.Phases.{looked}
+use Rattle.lis_content.specs.Content.{given, marked, are_free, are_distinct, has_home}
+use Rattle.lis_content.specs.Placing.{Asks}
+use Rattle.lis_fields.specs.Records.{FileRecord}
+use Rattle.lis_fields.specs.Layouts.{are_blocks}
+use Rattle.lis_model.specs.declared.limits.Limits.{Limits}
+use Rattle.lis_model.specs.Image.{bitmap_start, data_start}
+use Rattle.lis_kept.specs.Kept.{Kept}
+use Rattle.lis_kept.specs.Areas.{is_marked}
+use Rattle.lis_kept.specs.Telling.{blocks_told}
+use Rattle.lis_kept.specs.Changes.{Marks, Lands, Gives, Puts, PutTorn}
+use Rattle.lis_store.specs.declared.change.Change.{Change}
+use Rattle.lis_store.specs.declared.change.Change.TheVariants.{Refused, Disk}
+
+-- the blocks of the file are blocks of the image
+abbrev pub AreContentsWithin : Limits → (ℕ → List ℕ) → FileRecord → Type 0
+AreContentsWithin limits at rec = IsTrue (list_all (λ n. nat_lt n limits.blocks) (blocks_told limits at rec))
+
+-- It breaks the store exactly at a fault of the disk, and refuses nothing.
+abbrev pub ContentEnded : {T : Type 0} → Bool → Result T Change → Type 0
+ContentEnded is_broken (Ok done) = is_broken ≡ false
+ContentEnded is_broken (Err (Refused refusal)) = false ≡ true
+ContentEnded is_broken (Err Disk) = is_broken ≡ true
+
+-- The bytes are put into free blocks, and the numbers that a slot has of them answered. At a fault of the disk only what is on it counts.
+abbrev pub ContentPut : List ℕ → Kept → Kept → Held → Held → Meaning → Meaning → Result (ArrayVec ℕ) Change → Type 0
+ContentPut bytes p q old new before after (Ok numbers) = Puts bytes numbers.items p q old new before after
+ContentPut bytes p q old new before after (Err (Refused refusal)) = false ≡ true
+ContentPut bytes p q old new before after (Err Disk) = PutTorn p q old new before after
+
+-- The blocks of the file of a record are given back. The disk is asked alone, and at a fault none is.
+abbrev pub ContentGiven : {T : Type 0} → FileRecord → Kept → Kept → Held → Meaning → Meaning → Result T Change → Type 0
+ContentGiven rec p q journal before after (Ok done) = Gives rec p q journal before × Asks journal before after
+ContentGiven rec p q journal before after (Err (Refused refusal)) = false ≡ true
+ContentGiven rec p q journal before after (Err Disk) = (q ≡ p) × Asks journal before after
+
+-- The blocks of a file are given back and others taken. In version 1 they are given back first, and may be used again; in version 2 the
+-- others were free.
+pub data Trades (limits : Limits) (rec : FileRecord) (taken now : List Bool) (blocks : List ℕ) (at there : ℕ → List ℕ) : Type 0 where
+  First : IsTrue (are_free (given taken (blocks_told limits at rec)) blocks) → now ≡ marked (given taken (blocks_told limits at rec)) blocks
+      → Trades limits rec taken now blocks at there
+  Last : IsTrue (are_free taken blocks) → now ≡ given (marked taken blocks) (blocks_told limits there rec) → Trades limits rec taken now blocks at there
+
+-- By what the disk kept: these blocks hold the bytes, for which those of the file of a record are given back.
+pub record IsRenewed (bytes numbers blocks : List ℕ) (rec : FileRecord) (p q : Kept) (was : ℕ → List ℕ) (old new : Held) (after : Meaning) : Type 0 where
+  pub lands : Lands p.limits bytes numbers blocks (looked old.staged was) new after
+  pub stays : (n : ℕ) → is_among new.placed n ≡ false → lands.kept n ≡ was n
+  pub trades : Trades p.limits rec p.taken q.taken blocks (looked old.staged was) (looked new.staged lands.kept)
+
+-- Bytes are put into blocks in the place of those of the file of a record. At any moment a crash leaves all blocks as before but placed ones,
+-- which are among spare ones that were free.
+pub record Renews (bytes numbers : List ℕ) (rec : FileRecord) (p q : Kept) (old new : Held) (before after : Meaning) : Type 0 where
+  pub parts : q ≡ record p { taken = q.taken; marks = q.marks }
+  pub marks : Marks 2 p q
+  pub bitmap : is_marked q (bitmap_start p.limits) ≡ true
+  pub in_form : IsTrue (are_blocks p.limits.version (length bytes) numbers)
+  pub below : IsTrue (list_all (λ n. nat_lt n p.limits.blocks) numbers)
+  pub image : new.blocks ≡ old.blocks
+  pub broken : new.is_broken ≡ old.is_broken
+  pub few_staged : length new.staged ≤ 16
+  pub spare : List ℕ
+  pub were_free : IsTrue (are_free p.taken spare)
+  pub placed : (n : ℕ) → is_among new.placed n ≡ true → has_home (data_start p.limits) spare n ≡ true
+  pub moments : (kept : ℕ → List ℕ) → Fits old before kept → Leaves before after (StandsBut old.blocks new.placed kept)
+  pub past : (kept : ℕ → List ℕ) → Fits old before kept → KeepsPast old.blocks before after
+  pub blocks : List ℕ
+  pub distinct : IsTrue (are_distinct blocks)
+  pub renewed : (kept : ℕ → List ℕ) → Fits old before kept → IsRenewed bytes numbers blocks rec p q kept old new after
+
+abbrev pub ContentRenewed : List ℕ → FileRecord → Kept → Kept → Held → Held → Meaning → Meaning → Result (ArrayVec ℕ) Change → Type 0
+ContentRenewed bytes rec p q old new before after (Ok numbers) = Renews bytes numbers.items rec p q old new before after
+ContentRenewed bytes rec p q old new before after (Err (Refused refusal)) = false ≡ true
+ContentRenewed bytes rec p q old new before after (Err Disk) = PutTorn p q old new before after

@@ -1,0 +1,135 @@
+//! Contents of files that are put on the disk, put in the place of others, and given back. A fault of the disk breaks the store.
+
+ghost use Rattle.std.specs.Prelude.{◌≡◌, ◌*◌, ◌≤◌, ℕ, List, Bool, Some, true, false, [], length, IsSome, IsTrue, OnOk, OnErr, Ok};
+ghost use Rattle.lis_ports.specs.Runs.{IsDiskRun};
+ghost use Rattle.lis_blockmap.specs.Bitmap.{free_count};
+ghost use Rattle.lis_catalog.specs.Catalog.{rec_at};
+ghost use Rattle.lis_fields.specs.Records.{FileRecord};
+ghost use Rattle.lis_model.specs.Image.{image_blocks};
+ghost use Rattle.lis_model.specs.State.{blocks_taken, file_limit};
+ghost use Rattle.lis_kept.specs.Sound.{AreSound};
+ghost use Rattle.lis_store.specs.Instead.{free_instead};
+ghost use Rattle.lis_store.specs.Changes.{HasChangeCause};
+ghost use Rattle.lis_store.specs.Contents.{ContentPut, ContentGiven, ContentRenewed, ContentEnded};
+
+use crate::change::Change;
+use arrayvec::ArrayVec;
+use lis_journal::Journal;
+use lis_kept::Parts;
+use lis_ports::Disk;
+
+/// Puts bytes into free blocks, and answers the numbers that a slot has of them.
+pub(crate) fn put_content<D: Disk>(
+    parts: &mut Parts,
+    journal: &mut Journal,
+    is_broken: &mut bool,
+    disk: &mut D,
+    payload: &[u8],
+) -> Result<ArrayVec<u16, 16>, Change>
+    requires short { length payload.now ≤ file_limit parts.old.limits.version }
+    requires enough { blocks_taken parts.old.limits.version (length payload.now) ≤ free_count parts.old.taken }
+    requires image { journal.old.blocks ≡ image_blocks parts.old.limits }
+    requires unbroken { journal.old.is_broken ≡ false }
+    requires whole { is_broken.old ≡ false }
+    requires unplaced { journal.old.placed ≡ [] }
+    requires unstaged { journal.old.staged ≡ [] }
+    requires long { 4096 * journal.old.blocks ≤ (D.meaning disk.old).len }
+    ensures put { ContentPut payload.now parts.old parts.new journal.old journal.new (D.meaning disk.old) (D.meaning disk.new) result }
+    ensures ended { ContentEnded is_broken.new result }
+    ensures sound { AreSound parts.new }
+    ensures torn { OnErr result (parts.old.limits.version ≡ 2) }
+    ensures run { IsDiskRun (D.meaning disk.old) (D.meaning disk.new) }
+    ensures cause { HasChangeCause (D.meaning disk.old).disk_faults (D.meaning disk.new).disk_faults result }
+{
+    let put = parts.put_content(journal, disk, payload);
+    // Only its limits tell that memory is in form.
+    let _limits = parts.limits();
+    match put {
+        Ok(numbers) => Ok(numbers),
+        Err(fault) => {
+            *is_broken = true;
+            Err(Change::from(fault))
+        }
+    }
+}
+
+/// Gives the blocks of the file in a slot back.
+pub(crate) fn give_content<D: Disk>(
+    parts: &mut Parts,
+    journal: &Journal,
+    is_broken: &mut bool,
+    disk: &mut D,
+    slot: u16,
+) -> Result<(), Change>
+    requires there { IsSome (rec_at parts.old.catalog slot) }
+    requires image { journal.now.blocks ≡ image_blocks parts.old.limits }
+    requires unbroken { journal.now.is_broken ≡ false }
+    requires whole { is_broken.old ≡ false }
+    requires long { 4096 * journal.now.blocks ≤ (D.meaning disk.old).len }
+    ensures given { (rec : FileRecord) → rec_at parts.old.catalog slot ≡ Some rec
+        → ContentGiven rec parts.old parts.new journal.now (D.meaning disk.old) (D.meaning disk.new) result }
+    ensures ended { ContentEnded is_broken.new result }
+    ensures run { IsDiskRun (D.meaning disk.old) (D.meaning disk.new) }
+    ensures cause { HasChangeCause (D.meaning disk.old).disk_faults (D.meaning disk.new).disk_faults result }
+{
+    match parts.give_blocks(journal, disk, slot) {
+        Ok(()) => Ok(()),
+        Err(fault) => {
+            *is_broken = true;
+            Err(Change::from(fault))
+        }
+    }
+}
+
+/// The numbers of blocks that the slot of a file has.
+pub(crate) fn blocks_in(parts: &Parts, slot: u16) -> ArrayVec<u16, 16>
+    requires { IsSome (rec_at parts.now.catalog slot) }
+    ensures { (rec : FileRecord) → rec_at parts.now.catalog slot ≡ Some rec → result.items ≡ rec.blocks }
+{
+    let Some(rec) = parts.rec(slot) else {
+        unreachable!()
+    };
+    let mut numbers = ArrayVec::new();
+    numbers
+        .try_extend_from_slice(rec.blocks.as_slice())
+        .unwrap();
+    numbers
+}
+
+/// Puts bytes into blocks in the place of those of the file in a slot, and answers the numbers that a slot has of them. In version 1 the
+/// blocks of that file may be used again; in version 2 they stay until the command is done.
+pub(crate) fn put_instead<D: Disk>(
+    parts: &mut Parts,
+    journal: &mut Journal,
+    is_broken: &mut bool,
+    disk: &mut D,
+    slot: u16,
+    payload: &[u8],
+) -> Result<ArrayVec<u16, 16>, Change>
+    requires there { IsSome (rec_at parts.old.catalog slot) }
+    requires short { length payload.now ≤ file_limit parts.old.limits.version }
+    requires enough { (rec : FileRecord) → rec_at parts.old.catalog slot ≡ Some rec
+        → blocks_taken parts.old.limits.version (length payload.now) ≤ free_instead parts.old rec }
+    requires image { journal.old.blocks ≡ image_blocks parts.old.limits }
+    requires unbroken { journal.old.is_broken ≡ false }
+    requires whole { is_broken.old ≡ false }
+    requires unplaced { journal.old.placed ≡ [] }
+    requires unstaged { journal.old.staged ≡ [] }
+    requires long { 4096 * journal.old.blocks ≤ (D.meaning disk.old).len }
+    ensures renewed { (rec : FileRecord) → rec_at parts.old.catalog slot ≡ Some rec
+        → ContentRenewed payload.now rec parts.old parts.new journal.old journal.new (D.meaning disk.old) (D.meaning disk.new) result }
+    ensures ended { ContentEnded is_broken.new result }
+    ensures sound { AreSound parts.new }
+    ensures run { IsDiskRun (D.meaning disk.old) (D.meaning disk.new) }
+    ensures cause { HasChangeCause (D.meaning disk.old).disk_faults (D.meaning disk.new).disk_faults result }
+{
+    if parts.limits().version == 2 {
+        let numbers = put_content(parts, journal, is_broken, disk, payload)?;
+        give_content(parts, journal, is_broken, disk, slot)?;
+        // Only its limits tell that memory is in form.
+        let _limits = parts.limits();
+        return Ok(numbers);
+    }
+    give_content(parts, journal, is_broken, disk, slot)?;
+    put_content(parts, journal, is_broken, disk, payload)
+}
