@@ -4,7 +4,7 @@ use Rattle.std.specs.Option.{option_to_list}
 use Rattle.std.specs.List.{list_all, list_any, flat_map, Contains}
 use Rattle.lis_slots.specs.Slots.{slot}
 use Rattle.lis_blockmap.specs.Bitmap.{is_taken}
-use Rattle.lis_content.specs.Content.{marked, are_free, has_number}
+use Rattle.lis_content.specs.Content.{marked, are_free, are_distinct, has_number}
 use Rattle.lis_dict.specs.Dict.{Dict, number_of, word_of}
 use Rattle.lis_catalog.specs.Catalog.{Filed, IsCatalog, slot_of, rec_at, with_filed}
 use Rattle.lis_ext.specs.Ext.{set_of, empty_ext}
@@ -22,7 +22,7 @@ use Rattle.lis_model.specs.Tests.{met_tests}
 use Rattle.lis_kept.specs.Kept.{record_at}
 use Rattle.lis_kept.specs.Areas.{file_slots}
 use Rattle.lis_kept.specs.Sound.{is_sound_record}
-use Rattle.lis_kept.specs.Telling.{words_told, bytes_told, file_told, axioms_of}
+use Rattle.lis_kept.specs.Telling.{words_told, bytes_told, blocks_told, HasIndex, file_told, axioms_of}
 use Rattle.lis_open.specs.declared.words.Words.{Words}
 use Rattle.lis_open.specs.declared.axioms.Axioms.{Axioms}
 use Rattle.lis_open.specs.declared.files.Files.{Files}
@@ -102,49 +102,79 @@ is_assignable_by words (Some word) = is_assignable (declared_words words) word
 abbrev pub is_assignable_number : Words → ℕ → Bool
 is_assignable_number words n = is_assignable_by words (word_of words.dict n)
 
--- the file may be taken: its name is new, it may be given its words, and its data blocks are free
+-- the file may be filed: its name is new, and it may be given its words
 abbrev pub may_file : Words → Files → FileRecord → Bool
-may_file words files rec =
-    not (is_some (slot_of files.catalog rec.name)) && list_all (is_assignable_number words) rec.tags && are_free files.map rec.blocks
+may_file words files rec = not (is_some (slot_of files.catalog rec.name)) && list_all (is_assignable_number words) rec.tags
 
--- and its description may be had, where these words are found in it
-abbrev pub may_take_record : Words → Taxonomy → Files → FileRecord → List (List ℕ) → Bool
-may_take_record words t files rec found = may_file words files rec && may_describe words t rec found
+-- ---- blocks
+-- What is read of a file's blocks is usable: there are such blocks, which no file before uses, and none of them stands twice.
+pub record AreUsable (taken : List Bool) (slot blocks : List ℕ) : Type 0 where
+  pub own : IsTrue (are_free taken slot)
+  pub free : IsTrue (are_free taken blocks)
+  pub distinct : IsTrue (are_distinct blocks)
 
--- where its bytes are these
-abbrev pub may_take_file : Words → Taxonomy → Files → Option FileSlot → List ℕ → Bool
-may_take_file words t files None bytes = false
-may_take_file words t files (Some FreeFile) bytes = true
-may_take_file words t files (Some (Used rec)) bytes = may_take_record words t files rec (found_words words rec.name bytes)
+-- a record's index block is in form, and its blocks are usable
+pub record HasBlocks (limits : Limits) (at : ℕ → List ℕ) (taken : List Bool) (rec : FileRecord) : Type 0 where
+  pub indexed : HasIndex limits at rec
+  pub free : IsTrue (are_free taken (blocks_told limits at rec))
+  pub distinct : IsTrue (are_distinct (blocks_told limits at rec))
 
--- The bytes are those of the slot's file. They are not looked at where the file may not be taken, whatever they are.
-abbrev pub AreItsBytes : Limits → (ℕ → List ℕ) → Words → Files → Option FileSlot → List ℕ → Type 0
-AreItsBytes limits at words files None bytes = Unit {0}
-AreItsBytes limits at words files (Some FreeFile) bytes = Unit {0}
-AreItsBytes limits at words files (Some (Used rec)) bytes = may_file words files rec ≡ true → bytes ≡ bytes_told limits at rec
+-- all blocks of a record's file, where its index block is in form
+abbrev pub AreReadBlocks : Limits → (ℕ → List ℕ) → FileRecord → Option (List ℕ) → Type 0
+AreReadBlocks limits at rec None = HasIndex limits at rec → ⊥
+AreReadBlocks limits at rec (Some blocks) = HasIndex limits at rec × (blocks ≡ blocks_told limits at rec)
 
+-- and where they are usable too
+abbrev pub AreItsBlocks : Limits → (ℕ → List ℕ) → List Bool → FileRecord → Option (List ℕ) → Type 0
+AreItsBlocks limits at taken rec None = HasBlocks limits at taken rec → ⊥
+AreItsBlocks limits at taken rec (Some blocks) = HasIndex limits at rec × (blocks ≡ blocks_told limits at rec)
+
+-- ---- one file
 -- the file is in the slot, its blocks are taken, and the slot has these numbers
-pub record TakesNumbers (slot : ℕ) (rec : FileRecord) (numbers : List ℕ) (old new : Files) : Type 0 where
+pub record TakesNumbers (slot : ℕ) (rec : FileRecord) (blocks numbers : List ℕ) (old new : Files) : Type 0 where
   pub catalog : new.catalog ≡ with_filed old.catalog slot rec
   pub kept : IsCatalog new.catalog
-  pub map : new.map ≡ marked old.map rec.blocks
+  pub map : new.map ≡ marked old.map blocks
   pub props : new.ext.props ≡ old.ext.props
   pub sets : new.ext.sets ≡ slice_set old.ext.sets slot numbers
   pub settled : new.ext.marks ≡ []
 
--- they are those of its description, and there are as many bytes as the record says
-pub record TakesRecord (words : Words) (t : Taxonomy) (slot : ℕ) (rec : FileRecord) (bytes : List ℕ) (old new : Files) : Type 0 where
-  pub sized : length bytes ≡ rec.size
-  pub takes : TakesNumbers slot rec (described t (own_numbers words.dict rec.tags (found_words words rec.name bytes))) old new
+-- the bytes and the blocks that were read of a record's file are those that are told of it
+pub record AreTold (limits : Limits) (at : ℕ → List ℕ) (rec : FileRecord) (bytes blocks : List ℕ) : Type 0 where
+  pub bytes : bytes ≡ bytes_told limits at rec
+  pub indexed : HasIndex limits at rec
+  pub blocks : blocks ≡ blocks_told limits at rec
 
-abbrev pub TakesFile : Words → Taxonomy → ℕ → Option FileSlot → List ℕ → Files → Files → Type 0
-TakesFile words t slot None bytes old new = ⊥
-TakesFile words t slot (Some FreeFile) bytes old new = new ≡ old
-TakesFile words t slot (Some (Used rec)) bytes old new = TakesRecord words t slot rec bytes old new
+-- The record's file may be taken and is, with these bytes and blocks. They are those that are told by whatever may be kept.
+pub record TakesRecord (limits : Limits) (MayBeKept : (ℕ → List ℕ) → Type 0) (words : Words) (t : Taxonomy) (slot : ℕ) (rec : FileRecord) (old new : Files) : Type 0 where
+  pub bytes : List ℕ
+  pub blocks : List ℕ
+  pub sized : length bytes ≡ rec.size
+  pub filed : may_file words old rec ≡ true
+  pub described : may_describe words t rec (found_words words rec.name bytes) ≡ true
+  pub usable : AreUsable old.map rec.blocks blocks
+  pub takes : TakesNumbers slot rec blocks (described t (own_numbers words.dict rec.tags (found_words words rec.name bytes))) old new
+  pub told : (kept : ℕ → List ℕ) → MayBeKept kept → AreTold limits kept rec bytes blocks
+
+abbrev pub TakesFile : Limits → ((ℕ → List ℕ) → Type 0) → Words → Taxonomy → ℕ → Option FileSlot → Files → Files → Type 0
+TakesFile limits MayBeKept words t slot None old new = ⊥
+TakesFile limits MayBeKept words t slot (Some FreeFile) old new = new ≡ old
+TakesFile limits MayBeKept words t slot (Some (Used rec)) old new = TakesRecord limits MayBeKept words t slot rec old new
+
+-- why a record's file is not taken
+pub data RecordFault (limits : Limits) (at : ℕ → List ℕ) (words : Words) (t : Taxonomy) (files : Files) (rec : FileRecord) : Type 0 where
+  NotFiled : may_file words files rec ≡ false → RecordFault limits at words t files rec
+  NoBlocks : (HasBlocks limits at files.map rec → ⊥) → RecordFault limits at words t files rec
+  NotDescribed : may_describe words t rec (found_words words rec.name (bytes_told limits at rec)) ≡ false → RecordFault limits at words t files rec
+
+-- and why that of a slot is not
+abbrev pub HasSlotFault : Limits → (ℕ → List ℕ) → Words → Taxonomy → Files → Option FileSlot → Type 0
+HasSlotFault limits at words t files None = Unit {0}
+HasSlotFault limits at words t files (Some FreeFile) = ⊥
+HasSlotFault limits at words t files (Some (Used rec)) = RecordFault limits at words t files rec
 
 -- ---- files
--- Files of the slots below the end, which may be given their words; no data block is used twice, and those in use are taken; and the slots
--- have the numbers of the descriptions.
+-- Files of the slots below the end, which may be given their words; and the slots have the numbers of the descriptions.
 pub record AreFirstFiles (limits : Limits) (words : Words) (axioms : Axioms) (files : Files) (end : ℕ) : Type 0 where
   pub slots : files.catalog.files ≡ limits.files
   pub catalog : IsCatalog files.catalog
@@ -152,11 +182,6 @@ pub record AreFirstFiles (limits : Limits) (words : Words) (axioms : Axioms) (fi
   pub given : (slot : ℕ) (rec : FileRecord) → rec_at files.catalog slot ≡ Some rec → IsTrue (list_all (is_assignable_number words) rec.tags)
   pub rest : (n : ℕ) → end ≤ n → rec_at files.catalog n ≡ None
   pub blocks : length files.map ≡ limits.blocks
-  pub taken : (slot : ℕ) (rec : FileRecord) (n : ℕ) → rec_at files.catalog slot ≡ Some rec → has_number rec.blocks n ≡ true → is_taken files.map n ≡ true
-  pub in_use : (n : ℕ) → is_taken files.map n ≡ true
-      → (slot : ℕ) × (rec : FileRecord) × (rec_at files.catalog slot ≡ Some rec) × (has_number rec.blocks n ≡ true)
-  pub apart : (slot other : ℕ) (rec more : FileRecord) (n : ℕ) → rec_at files.catalog slot ≡ Some rec → rec_at files.catalog other ≡ Some more
-      → has_number rec.blocks n ≡ true → has_number more.blocks n ≡ true → slot ≡ other
   pub props : files.ext.props ≡ limits.props
   pub count : length files.ext.sets ≡ limits.files
   pub sets : (slot : ℕ) → AreNumbers words axioms.taxonomy (rec_at files.catalog slot) (set_of files.ext slot)
@@ -179,6 +204,18 @@ FilesAreDescribed limits at words axioms files =
     (f : Filed) → Contains files.catalog.entries f → words_told words.dict (set_of files.ext f.slot)
     ≡ file_words (declared_words words) (axioms_of (kept_words limits words axioms.slots.items)) (file_told limits words.dict at f)
 
+-- Their index blocks are in form. The blocks that are taken are those of files, and none of them is used twice, by one file or by two.
+pub record FilesHaveBlocks (limits : Limits) (at : ℕ → List ℕ) (files : Files) : Type 0 where
+  pub indexed : (slot : ℕ) (rec : FileRecord) → rec_at files.catalog slot ≡ Some rec → HasIndex limits at rec
+  pub distinct : (slot : ℕ) (rec : FileRecord) → rec_at files.catalog slot ≡ Some rec → IsTrue (are_distinct (blocks_told limits at rec))
+  pub taken : (slot : ℕ) (rec : FileRecord) (n : ℕ) → rec_at files.catalog slot ≡ Some rec → has_number (blocks_told limits at rec) n ≡ true
+      → is_taken files.map n ≡ true
+  pub in_use : (n : ℕ) → is_taken files.map n ≡ true
+      → (slot : ℕ) × (rec : FileRecord) × (rec_at files.catalog slot ≡ Some rec) × (has_number (blocks_told limits at rec) n ≡ true)
+  pub one_use : (slot other : ℕ) (rec more : FileRecord) (n : ℕ) → rec_at files.catalog slot ≡ Some rec → rec_at files.catalog other ≡ Some more
+      → has_number (blocks_told limits at rec) n ≡ true → has_number (blocks_told limits at more) n ≡ true → slot ≡ other
+
 pub record FilesAreTold (limits : Limits) (at : ℕ → List ℕ) (words : Words) (axioms : Axioms) (files : Files) : Type 0 where
   pub spelled : FilesAreSpelled limits at files limits.files
+  pub blocks : FilesHaveBlocks limits at files
   pub described : FilesAreDescribed limits at words axioms files

@@ -16,11 +16,10 @@ ghost use Rattle.lis_ext.specs.Numbers.{numbers_where};
 ghost use Rattle.lis_fields.specs.Layouts.{file_bytes, is_file, is_record};
 ghost use Rattle.lis_model.specs.Ranges.{are_in_range};
 ghost use Rattle.lis_model.specs.Image.{image_blocks};
-ghost use Rattle.lis_kept.specs.Telling.{bytes_told};
 ghost use Rattle.lis_kept.specs.Areas.{file_slots, axiom_slots};
 ghost use Rattle.lis_open.specs.Reading.{OnlyReads, HasPartCause, Recalls, IsReadAs, Ends};
 ghost use Rattle.lis_open.specs.ReadWords.{AreWords, AreFirstWords, AreFirstAxioms, WordsAreSpelled, AxiomsAreSpelled};
-ghost use Rattle.lis_open.specs.ReadFiles.{no_files, is_described, AreListed, found_words, met_numbers, is_numbered, own_numbers, AreDescribed, may_file, may_take_record, may_take_file, AreItsBytes, TakesNumbers, TakesRecord, TakesFile, AreFirstFiles, FilesAreTold};
+ghost use Rattle.lis_open.specs.ReadFiles.{no_files, is_described, AreListed, found_words, met_numbers, is_numbered, own_numbers, AreDescribed, may_file, TakesNumbers, TakesRecord, TakesFile, RecordFault, HasSlotFault, AreFirstFiles, FilesAreTold};
 
 use crate::axioms::Axioms;
 use crate::blocks::LastBlock;
@@ -210,7 +209,7 @@ fn describe(
     list_numbers(row)
 }
 
-// Whether no file before has the name, the words may be given, and no file before uses one of the blocks.
+// Whether no file before has the name, and the words may be given.
 fn may_file(words: &Words, files: &Files, rec: &FileRec) -> bool
     requires { AreWords words.now }
     ensures { result ≡ may_file words.now files.now rec.now }
@@ -221,18 +220,18 @@ fn may_file(words: &Words, files: &Files, rec: &FileRec) -> bool
     are_assignable(words, rec.tags.as_slice())
 }
 
-// Files a record, and gives its slot the numbers of its description.
+// Files a record, takes its blocks, and gives its slot the numbers of its description.
 fn file(files: &mut Files, slot: u16, rec: FileRec, blocks: &[u16], numbers: &[u16])
-    requires distinct { IsTrue (are_distinct rec.blocks) }
+    requires distinct { IsTrue (are_distinct blocks.now) }
     requires name { slot_of files.old.catalog rec.name ≡ None }
-    requires free { IsTrue (are_free files.old.map rec.blocks) }
+    requires free { IsTrue (are_free files.old.map blocks.now) }
     requires below { slot < files.old.catalog.files }
     requires empty { rec_at files.old.catalog slot ≡ None }
     requires undescribed { set_of files.old.ext slot ≡ [] }
     requires within { slot < length files.old.ext.sets }
     requires rise { IsStrictlyIncreasing numbers.now }
     requires in_range { All (λ n. n < files.old.ext.props) numbers.now }
-    ensures { TakesNumbers slot rec numbers.now files.old files.new }
+    ensures { TakesNumbers slot rec blocks.now numbers.now files.old files.new }
 {
     mark_all(&mut files.map, blocks);
     files.catalog.place(slot, rec);
@@ -274,12 +273,11 @@ fn take_record<D: Disk>(
     ensures reads { OnlyReads (D.meaning disk.old) (D.meaning disk.new) }
     ensures cause { HasCause (D.meaning disk.old).disk_faults (D.meaning disk.new).disk_faults result }
     ensures shape { HasShape row.new 2 words.now.dict.props }
-    ensures bytes { OnOk result ((kept : ℕ → List ℕ) → Fits journal.now (D.meaning disk.old) kept → may_file words.now files.old rec ≡ true
-        → bytes.new ≡ bytes_told limits.now kept rec) }
-    ensures answer { IfOk result (λ taken. taken ≡ may_take_record words.now axioms.now.taxonomy files.old rec (found_words words.now rec.name bytes.new)) }
     ensures taken { IfOk result (λ taken. OnTrue taken
-        (TakesRecord words.now axioms.now.taxonomy slot rec bytes.new files.old files.new)) }
-    ensures refused { IfOk result (λ taken. OnFalse taken (files.new ≡ files.old)) }
+        (TakesRecord limits.now (Fits journal.now (D.meaning disk.old)) words.now axioms.now.taxonomy slot rec files.old files.new)) }
+    ensures refused { IfOk result (λ taken. OnFalse taken ((files.new ≡ files.old)
+        × ((kept : ℕ → List ℕ) → Fits journal.now (D.meaning disk.old) kept
+            → RecordFault limits.now kept words.now axioms.now.taxonomy files.old rec))) }
 {
     if !may_file(words, files, &rec) {
         return Ok(false);
@@ -334,11 +332,11 @@ fn take_file<D: Disk>(
     ensures reads { OnlyReads (D.meaning disk.old) (D.meaning disk.new) }
     ensures cause { HasCause (D.meaning disk.old).disk_faults (D.meaning disk.new).disk_faults result }
     ensures shape { HasShape row.new 2 words.now.dict.props }
-    ensures bytes { OnOk result ((kept : ℕ → List ℕ) → Fits journal.now (D.meaning disk.old) kept
-        → AreItsBytes limits.now kept words.now files.old found bytes.new) }
-    ensures answer { IfOk result (λ taken. taken ≡ may_take_file words.now axioms.now.taxonomy files.old found bytes.new) }
-    ensures taken { IfOk result (λ taken. OnTrue taken (TakesFile words.now axioms.now.taxonomy slot found bytes.new files.old files.new)) }
-    ensures refused { IfOk result (λ taken. OnFalse taken (files.new ≡ files.old)) }
+    ensures taken { IfOk result (λ taken. OnTrue taken
+        (TakesFile limits.now (Fits journal.now (D.meaning disk.old)) words.now axioms.now.taxonomy slot found files.old files.new)) }
+    ensures refused { IfOk result (λ taken. OnFalse taken ((files.new ≡ files.old)
+        × ((kept : ℕ → List ℕ) → Fits journal.now (D.meaning disk.old) kept
+            → HasSlotFault limits.now kept words.now axioms.now.taxonomy files.old found))) }
 {
     match found {
         None => Ok(false),

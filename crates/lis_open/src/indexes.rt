@@ -1,8 +1,16 @@
 //! The blocks of files: those that a slot numbers, and those that an index block does.
 
-ghost use Rattle.std.specs.Prelude.{◌≡◌, ◌<◌, nat_lt, not, ◌&&◌, length};
+ghost use Rattle.std.specs.Prelude.{◌≡◌, ◌*◌, ◌<◌, ◌≤◌, ℕ, List, [], nat_lt, not, ◌&&◌, false, length, IsTrue, IfOk, IfSome};
+ghost use Rattle.std.specs.Option.{option_map};
+ghost use Rattle.lis_ports.specs.Calls.{HasCause};
+ghost use Rattle.lis_journal.specs.Images.{Fits};
 ghost use Rattle.lis_blockmap.specs.Bitmap.{is_taken};
-ghost use Rattle.lis_content.specs.Content.{are_free, are_distinct};
+ghost use Rattle.lis_content.specs.Content.{are_free, are_distinct, are_within};
+ghost use Rattle.lis_fields.specs.Layouts.{is_record};
+ghost use Rattle.lis_model.specs.Ranges.{are_in_range};
+ghost use Rattle.lis_model.specs.Image.{data_start, image_blocks};
+ghost use Rattle.lis_open.specs.Reading.{OnlyReads};
+ghost use Rattle.lis_open.specs.ReadFiles.{AreReadBlocks, AreUsable, AreItsBlocks};
 
 use arrayvec::ArrayVec;
 use lis_blockmap::BlockMap;
@@ -50,6 +58,17 @@ fn all_blocks<D: Disk>(
     limits: &Limits,
     rec: &FileRec,
 ) -> Result<Option<ArrayVec<u16, MOST_BLOCKS>>, Failed>
+    requires range { IsTrue (are_in_range limits.now) }
+    requires form { IsTrue (is_record limits.now.version rec.now) }
+    requires within { IsTrue (are_within (data_start limits.now) (image_blocks limits.now) rec.now.blocks) }
+    requires image { journal.now.blocks ≡ image_blocks limits.now }
+    requires clean { journal.now.staged ≡ [] }
+    requires unbroken { journal.now.is_broken ≡ false }
+    requires long { 4096 * journal.now.blocks ≤ (D.meaning disk.old).len }
+    ensures reads { OnlyReads (D.meaning disk.old) (D.meaning disk.new) }
+    ensures cause { HasCause (D.meaning disk.old).disk_faults (D.meaning disk.new).disk_faults result }
+    ensures found { IfOk result (λ found. (kept : ℕ → List ℕ) → Fits journal.now (D.meaning disk.old) kept
+        → AreReadBlocks limits.now kept rec.now (option_map (λ blocks. blocks.items) found)) }
 {
     let mut blocks = ArrayVec::new();
     if is_large(rec.size) {
@@ -79,6 +98,18 @@ pub fn free_blocks<D: Disk>(
     map: &BlockMap,
     rec: &FileRec,
 ) -> Result<Option<ArrayVec<u16, MOST_BLOCKS>>, Failed>
+    requires range { IsTrue (are_in_range limits.now) }
+    requires form { IsTrue (is_record limits.now.version rec.now) }
+    requires map { length map.now ≡ limits.now.blocks }
+    requires image { journal.now.blocks ≡ image_blocks limits.now }
+    requires clean { journal.now.staged ≡ [] }
+    requires unbroken { journal.now.is_broken ≡ false }
+    requires long { 4096 * journal.now.blocks ≤ (D.meaning disk.old).len }
+    ensures reads { OnlyReads (D.meaning disk.old) (D.meaning disk.new) }
+    ensures cause { HasCause (D.meaning disk.old).disk_faults (D.meaning disk.new).disk_faults result }
+    ensures usable { IfOk result (λ found. IfSome found (λ blocks. AreUsable map.now rec.now.blocks blocks.items)) }
+    ensures found { IfOk result (λ found. (kept : ℕ → List ℕ) → Fits journal.now (D.meaning disk.old) kept
+        → AreItsBlocks limits.now kept map.now rec.now (option_map (λ blocks. blocks.items) found)) }
 {
     if !are_free(map, rec.blocks.as_slice()) {
         return Ok(None);
