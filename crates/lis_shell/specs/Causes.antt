@@ -2,6 +2,8 @@
 use Rattle.std.specs.Prelude.{◌≡◌, ℕ}
 use Rattle.lis_ports.specs.Meaning.{Meaning}
 use Rattle.lis_ports.specs.Calls.{Rose}
+use Rattle.lis_open.specs.declared.mounting.OpenFault.{OpenFault}
+use Rattle.lis_open.specs.declared.mounting.OpenFault.TheVariants.{TooShort as ShortDisk, Damaged, DiskFault as DiskFailed, NoMemory as NoRoom}
 use Rattle.lis_shell.specs.declared.status.Status.{Status}
 use Rattle.lis_shell.specs.declared.status.Status.TheVariants.{Done, Usage, NotAnImage, TooShort, DiskFault, InputFault, OutputFault, InputLimit, NoMemory}
 
@@ -37,3 +39,10 @@ IsTryStatus InputFault = Unit {0}
 IsTryStatus OutputFault = Unit {0}
 IsTryStatus InputLimit = Unit {0}
 IsTryStatus NoMemory = Unit {0}
+
+-- what a refusal of opening is to the program
+abbrev pub status_of : OpenFault → Status
+status_of (ShortDisk len need) = TooShort len need
+status_of (Damaged spot) = NotAnImage spot
+status_of DiskFailed = DiskFault
+status_of NoRoom = NoMemory

@@ -5,3 +5,4 @@ pub mod Tries
 pub mod Runs
 pub mod Grows
 pub mod MakesImage
+pub mod Keeps

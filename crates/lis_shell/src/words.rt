@@ -19,7 +19,7 @@ const GROW_END: u64 = 1 << 31;
 pub enum Task {
     /// `try FILES PROPS BLOCKS`, with `v2` behind it or not: a session over a state that begins empty, of version 2 or 1.
     Try(Limits),
-    /// `make IMAGE FILES PROPS BLOCKS`: an empty image.
+    /// `make IMAGE FILES PROPS BLOCKS`, with `v2` behind it or not: an empty image, of version 2 or 1.
     Make(Limits),
     /// `run IMAGE`: a session over an image.
     Run,
@@ -103,8 +103,7 @@ fn task_of_five(
     Some(Task::Try(limits))
 }
 
-/// What the words after the program's name ask for. None comes exactly where they are in none of the four forms, or a number is out
-/// of range.
+/// What the words after the program's name ask for. None comes exactly where they are in none of the forms, or a number is out of range.
 pub fn task_of(words: &[String]) -> Option<Task>
     ensures { result ≡ task_of (map string_bytes words.now) }
 {
