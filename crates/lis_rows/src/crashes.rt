@@ -3,7 +3,7 @@
 ghost use Rattle.std.specs.Prelude.{IfOk, IsTrue};
 ghost use Rattle.lis_memdisk.specs.MemStation.{meaning_of};
 
-use crate::images::{fresh, run, session};
+use crate::images::{MAKES, made, run, session};
 use crate::tests::tables::{SCRIPT, SCRIPT_STATES};
 use lis_memdisk::MemStation;
 use lis_shell::status::Status;
@@ -56,11 +56,11 @@ fn is_allowed(left: &str, shown: u64) -> bool {
     is_behind(left, whole.saturating_add(1)) || (!is_begun && is_behind(left, whole))
 }
 
-// The script over an empty image.
-fn scripted(alloc: Global) -> Result<MemStation, Fail>
+// The script over an empty image that these words make.
+fn scripted(alloc: Global, words: &[&str]) -> Result<MemStation, Fail>
     ensures { IfOk result (λ station. IsTrue (meaning_of station).is_recorded) }
 {
-    let mut station = MemStation::new(alloc, &fresh(alloc)?, ROOM)?;
+    let mut station = MemStation::new(alloc, &made(alloc, words)?, ROOM)?;
     if run(alloc, SCRIPT, &mut station)? != Status::Done {
         return Err("the script was not carried out".into());
     }
@@ -89,8 +89,8 @@ fn wrong_state(alloc: Global, station: &MemStation, pick: u8) -> Result<Option<S
 }
 
 // The same of the first of these picks that leaves such a state.
-fn wrong_of(alloc: Global, picks: [u8; 2]) -> Result<Option<String>, Fail> {
-    let station = scripted(alloc)?;
+fn wrong_of(alloc: Global, words: &[&str], picks: [u8; 2]) -> Result<Option<String>, Fail> {
+    let station = scripted(alloc, words)?;
     for pick in picks {
         let wrong = wrong_state(alloc, &station, pick)?;
         if wrong.is_some() {
@@ -104,7 +104,7 @@ fn wrong_of(alloc: Global, picks: [u8; 2]) -> Result<Option<String>, Fail> {
 fn a_crash_that_takes_all_or_nothing_leaves_the_state_before_a_command_or_behind_it(
     rt: HostRuntime,
 ) -> Result<(), Fail> {
-    let wrong = wrong_of(rt.alloc(), [0, 1])?;
+    let wrong = wrong_of(rt.alloc(), MAKES[0], [0, 1])?;
     assert!(rt; wrong.is_none(), "{wrong:?}");
     Ok(())
 }
@@ -113,7 +113,23 @@ fn a_crash_that_takes_all_or_nothing_leaves_the_state_before_a_command_or_behind
 fn a_crash_that_takes_some_leaves_the_state_before_a_command_or_behind_it(
     rt: HostRuntime,
 ) -> Result<(), Fail> {
-    let wrong = wrong_of(rt.alloc(), [2, 165])?;
+    let wrong = wrong_of(rt.alloc(), MAKES[0], [2, 165])?;
+    assert!(rt; wrong.is_none(), "{wrong:?}");
+    Ok(())
+}
+
+#[test]
+fn so_it_is_on_an_image_of_version_2_where_all_or_nothing_is_taken(
+    rt: HostRuntime,
+) -> Result<(), Fail> {
+    let wrong = wrong_of(rt.alloc(), MAKES[1], [0, 1])?;
+    assert!(rt; wrong.is_none(), "{wrong:?}");
+    Ok(())
+}
+
+#[test]
+fn and_where_some_is_taken(rt: HostRuntime) -> Result<(), Fail> {
+    let wrong = wrong_of(rt.alloc(), MAKES[1], [2, 165])?;
     assert!(rt; wrong.is_none(), "{wrong:?}");
     Ok(())
 }

@@ -8,11 +8,15 @@ use crate::tests::{SOUND, call, crowded_row, row_of, sized_row, tested_row};
 use lis_memdisk::MemStation;
 use lis_ports::Disk;
 use lis_shell::status::Status;
+use lis_shell::words::make_len;
 use std::alloc::{AllocError, Global};
 use std::test::Fail;
 
-/// How many bytes an image of `64 64 8` takes.
-const IMAGE_LEN: usize = 2_433_024;
+/// The words that make an image of either version.
+pub static MAKES: [&[&str]; 2] = [
+    &["make", "i", "64", "64", "8"],
+    &["make", "i", "64", "64", "8", "v2"],
+];
 
 /// Where its extension rows begin, each of eight bytes.
 const ROWS_START: usize = 584 * 4_096;
@@ -29,25 +33,36 @@ pub fn run(alloc: Global, row: &str, station: &mut MemStation) -> Result<Status,
     Ok(status)
 }
 
-// The bytes of a station.
-fn bytes_of(alloc: Global, station: &mut MemStation) -> Result<Vec<u8>, Fail> {
-    let mut bytes = zeros(alloc, IMAGE_LEN)?;
-    if station.len() < bytes.len() as u64 {
-        return Err("the image is too short".into());
-    }
+/// The bytes of a station.
+pub fn bytes_of(alloc: Global, station: &mut MemStation) -> Result<Vec<u8>, Fail> {
+    let mut bytes = zeros(alloc, station.len() as usize)?;
     station.read_at(0, &mut bytes)?;
     Ok(bytes)
 }
 
-/// The bytes of an image without words and files.
-pub fn fresh(alloc: Global) -> Result<Vec<u8>, Fail> {
-    let mut station = MemStation::new(alloc, &zeros(alloc, IMAGE_LEN)?, 0)?;
-    let words = ["make", "i", "64", "64", "8"];
-    let (status, _) = call(alloc, &words, "", &SOUND, &mut station)?;
+// How many bytes the image has that these words make.
+fn len_of(alloc: Global, words: &[&str]) -> Result<usize, AllocError> {
+    let mut owned = Vec::new(alloc);
+    for word in words {
+        owned.push(String::from_str(alloc, word)?)?;
+    }
+    Ok(make_len(&owned).unwrap_or(0) as usize)
+}
+
+/// The bytes of an image without words and files that these words make.
+pub fn made(alloc: Global, words: &[&str]) -> Result<Vec<u8>, Fail> {
+    let len = len_of(alloc, words)?;
+    let mut station = MemStation::new(alloc, &zeros(alloc, len)?, 0)?;
+    let (status, _) = call(alloc, words, "", &SOUND, &mut station)?;
     if status != Status::Done {
         return Err("no image was made".into());
     }
     bytes_of(alloc, &mut station)
+}
+
+/// The bytes of an image of version 1 without words and files.
+pub fn fresh(alloc: Global) -> Result<Vec<u8>, Fail> {
+    made(alloc, MAKES[0])
 }
 
 /// How a session over these bytes ends, and what it shows.
@@ -60,11 +75,13 @@ pub fn session(alloc: Global, image: &[u8], row: &str) -> Result<(Status, String
 #[test]
 fn images_show_what_plain_states_show(rt: HostRuntime) -> Result<(), Fail> {
     let alloc = rt.alloc();
-    let image = fresh(alloc)?;
-    for (row, wanted) in &SESSIONS {
-        let (status, shown) = session(alloc, &image, row)?;
-        assert_eq!(rt; shown.as_str(), *wanted, "{row}");
-        assert_eq!(rt; status, Status::Done, "{row}");
+    for words in &MAKES {
+        let image = made(alloc, words)?;
+        for (row, wanted) in &SESSIONS {
+            let (status, shown) = session(alloc, &image, row)?;
+            assert_eq!(rt; shown.as_str(), *wanted, "{row}");
+            assert_eq!(rt; status, Status::Done, "{row}");
+        }
     }
     Ok(())
 }
@@ -72,16 +89,18 @@ fn images_show_what_plain_states_show(rt: HostRuntime) -> Result<(), Fail> {
 #[test]
 fn words_by_size_and_by_name_come_and_go_in_an_image(rt: HostRuntime) -> Result<(), Fail> {
     let alloc = rt.alloc();
-    let image = fresh(alloc)?;
-    let (row, wanted) = sized_row(alloc)?;
-    let (_, shown) = session(alloc, &image, row.as_str())?;
-    assert_eq!(rt; shown.as_str(), wanted);
-    let (row, wanted) = tested_row(alloc)?;
-    let (_, shown) = session(alloc, &image, row.as_str())?;
-    assert_eq!(rt; shown.as_str(), wanted);
-    let (row, wanted) = crowded_row(alloc)?;
-    let (_, shown) = session(alloc, &image, row.as_str())?;
-    assert_eq!(rt; shown.as_str(), wanted.as_str());
+    for words in &MAKES {
+        let image = made(alloc, words)?;
+        let (row, wanted) = sized_row(alloc)?;
+        let (_, shown) = session(alloc, &image, row.as_str())?;
+        assert_eq!(rt; shown.as_str(), wanted, "{words:?}");
+        let (row, wanted) = tested_row(alloc)?;
+        let (_, shown) = session(alloc, &image, row.as_str())?;
+        assert_eq!(rt; shown.as_str(), wanted, "{words:?}");
+        let (row, wanted) = crowded_row(alloc)?;
+        let (_, shown) = session(alloc, &image, row.as_str())?;
+        assert_eq!(rt; shown.as_str(), wanted.as_str(), "{words:?}");
+    }
     Ok(())
 }
 

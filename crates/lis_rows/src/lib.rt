@@ -11,3 +11,5 @@ mod images;
 mod limit;
 #[cfg(test)]
 mod tests;
+#[cfg(test)]
+mod versions;

@@ -170,8 +170,8 @@ fn a_line_is_long_by_its_bytes(rt: HostRuntime) -> Result<(), Fail> {
     Ok(())
 }
 
-// A line that adds a file of so many bytes, and the bytes.
-fn push_file(row: &mut String, line: &str, size: usize) -> Result<(), AllocError> {
+/// A line that adds a file of so many bytes, and the bytes.
+pub fn push_file(row: &mut String, line: &str, size: usize) -> Result<(), AllocError> {
     row.push_str(line)?;
     for _ in 0..size {
         row.push('x')?;
@@ -189,15 +189,21 @@ fn blocks_are_given_back(rt: HostRuntime) -> Result<(), Fail> {
     Ok(())
 }
 
+/// Lines that add files of these names and sizes, and what comes behind them.
+pub fn files_row(alloc: Global, files: &[(&str, usize)], behind: &str) -> Result<String, AllocError> {
+    let mut row = String::new(alloc);
+    for (name, size) in files {
+        let line = format!(in alloc; "add {name} {size};")?;
+        push_file(&mut row, line.as_str(), *size)?;
+    }
+    row.push_str(behind)?;
+    Ok(row)
+}
+
 #[test]
 fn files_are_as_large_as_there_are_blocks(rt: HostRuntime) -> Result<(), Fail> {
     for (words, files, behind, wanted) in &LARGE_FILES {
-        let mut row = String::new(rt.alloc());
-        for (name, size) in *files {
-            let line = format!(in rt.alloc(); "add {name} {size};")?;
-            push_file(&mut row, line.as_str(), *size)?;
-        }
-        row.push_str(behind)?;
+        let row = files_row(rt.alloc(), files, behind)?;
         let seen = run(rt.alloc(), words, row.as_str(), &SOUND)?;
         assert_eq!(rt; seen.shown.as_str(), *wanted, "{words:?}");
     }

@@ -259,7 +259,7 @@ pub static LONG_LINES: [(usize, &str, &str); 4] = [
     (1_023, "^;", "no 01 bad line;"),
 ];
 
-pub static WRONG_WORDS: [&[&str]; 34] = [
+pub static WRONG_WORDS: [&[&str]; 40] = [
     &[],
     &["try"],
     &["try", "64", "64"],
@@ -294,6 +294,12 @@ pub static WRONG_WORDS: [&[&str]; 34] = [
     &["try", "64", "64", "8", "v1"],
     &["try", "v2", "64", "64", "8"],
     &["try", "64", "64", "8", "v2", "v2"],
+    &["make", "x", "64", "64", "8", "V2"],
+    &["make", "x", "64", "64", "8", "v2", "v2"],
+    &["make", "64", "64", "8", "v2"],
+    &["upgrade"],
+    &["upgrade", "x", "y"],
+    &["Upgrade", "x"],
 ];
 
 pub static RIGHT_WORDS: [&[&str]; 5] = [
@@ -430,7 +436,7 @@ pub static CUT_SESSIONS: [Cut; 15] = [
 ];
 
 /// Words, the length of the disk, and how a run over zeros ends.
-pub static IMAGE_WORDS: [(&[&str], usize, Status); 8] = [
+pub static IMAGE_WORDS: [(&[&str], usize, Status); 12] = [
     (&["run"], 100, Status::Usage),
     (&["run", "i", "j"], 100, Status::Usage),
     (&["make", "i", "63", "64", "8"], 100, Status::Usage),
@@ -443,6 +449,14 @@ pub static IMAGE_WORDS: [(&[&str], usize, Status); 8] = [
         2_433_023,
         Status::TooShort(2_433_023, 2_433_024),
     ),
+    (
+        &["make", "i", "64", "64", "8", "v2"],
+        2_433_023,
+        Status::TooShort(2_433_023, 2_433_024),
+    ),
+    (&["upgrade", "i"], 100, Status::TooShort(100, 4_096)),
+    (&["upgrade", "i"], 0, Status::TooShort(0, 4_096)),
+    (&["upgrade", "i"], 2_433_024, Status::NotAnImage(Spot::Super)),
 ];
 
 /// Inputs at a limit of ten bytes: how the session ends, what it shows, and what the same input shows then in a run.
