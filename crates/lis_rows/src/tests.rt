@@ -190,7 +190,11 @@ fn blocks_are_given_back(rt: HostRuntime) -> Result<(), Fail> {
 }
 
 /// Lines that add files of these names and sizes, and what comes behind them.
-pub fn files_row(alloc: Global, files: &[(&str, usize)], behind: &str) -> Result<String, AllocError> {
+pub fn files_row(
+    alloc: Global,
+    files: &[(&str, usize)],
+    behind: &str,
+) -> Result<String, AllocError> {
     let mut row = String::new(alloc);
     for (name, size) in files {
         let line = format!(in alloc; "add {name} {size};")?;

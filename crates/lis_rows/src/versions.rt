@@ -72,7 +72,10 @@ fn an_upgraded_image_takes_larger_files(rt: HostRuntime) -> Result<(), Fail> {
     row.push_str("stat;")?;
     assert_eq!(rt; run(alloc, row.as_str(), &mut station)?, Status::Done);
     let shown = shown_behind(alloc, &station, 0)?;
-    assert_eq!(rt; shown.as_str(), "ok;s files 1;s known 2;s axioms 0;s free 22;ok;");
+    assert_eq!(rt;
+        shown.as_str(),
+        "ok;s files 1;s known 2;s axioms 0;s free 22;ok;"
+    );
     Ok(())
 }
 
@@ -87,7 +90,11 @@ fn a_crash_of_an_upgrade_leaves_an_image_that_opens(rt: HostRuntime) -> Result<(
             let image = station.crash(alloc, call, pick)?;
             let (status, shown) = session(alloc, &image, "ls;")?;
             assert_eq!(rt; status, Status::Done, "the call {call} and the pick {pick}");
-            assert_eq!(rt; shown.as_str(), "ok;", "the call {call} and the pick {pick}");
+            assert_eq!(rt;
+                shown.as_str(),
+                "ok;",
+                "the call {call} and the pick {pick}"
+            );
         }
     }
     Ok(())

@@ -99,7 +99,7 @@ module _ (old : Stored) (mid : Kept) (j : Held) (bytes numbers : List ℕ) (befo
     added_placed n among = (
       subst (λ (l : Limits). data_start l ≤ n) (sym limits_then) (home_behind (data_start old.parts.limits) n put.blocks (put.placed n among)),
       ap (λ (l : Limits). is_marked q (bitmap_start l)) limits_then
-      ∙ stay_marked mid q name assigned bytes numbers form_put.sound admitted_mid puts form_put.free (bitmap_start old.parts.limits) bitmap_marked,
+          ∙ stay_marked mid q name assigned bytes numbers form_put.sound admitted_mid puts form_put.free (bitmap_start old.parts.limits) bitmap_marked,
     )
 
     pub added_marks : length j.staged + marked_count q ≤ 531

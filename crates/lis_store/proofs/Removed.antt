@@ -336,7 +336,7 @@ module _ (slot : ℕ) (o : Kept) (taken marks : List Bool) (q : Kept) (out : Tak
         (left slot p q out sound f m).1 (ap (λ (x : Filed). x.slot) (tells.one_use f dropped (was_there f m) there_dropped n has_it also))) in (
           g.0,
           ap (λ ts. is_taken ts n) gave
-          ∙ (given_taken o.taken gone_blocks n ∙ and_from (is_taken o.taken n) (not (has_number gone_blocks n)) g.1 (not_from_false (has_number gone_blocks n) free)),
+              ∙ (given_taken o.taken gone_blocks n ∙ and_from (is_taken o.taken n) (not (has_number gone_blocks n)) g.1 (not_from_false (has_number gone_blocks n) free)),
         );
     indexed = λ f m. tells.indexed f (was_there f m);
     apart = λ f m. tells.apart f (was_there f m);

@@ -456,7 +456,11 @@ pub static IMAGE_WORDS: [(&[&str], usize, Status); 12] = [
     ),
     (&["upgrade", "i"], 100, Status::TooShort(100, 4_096)),
     (&["upgrade", "i"], 0, Status::TooShort(0, 4_096)),
-    (&["upgrade", "i"], 2_433_024, Status::NotAnImage(Spot::Super)),
+    (
+        &["upgrade", "i"],
+        2_433_024,
+        Status::NotAnImage(Spot::Super),
+    ),
 ];
 
 /// Inputs at a limit of ten bytes: how the session ends, what it shows, and what the same input shows then in a run.
