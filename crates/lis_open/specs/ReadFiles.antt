@@ -141,9 +141,9 @@ pub record TakesNumbers (slot : ℕ) (rec : FileRecord) (blocks numbers : List �
 
 -- the bytes and the blocks that were read of a record's file are those that are told of it
 pub record AreTold (limits : Limits) (at : ℕ → List ℕ) (rec : FileRecord) (bytes blocks : List ℕ) : Type 0 where
-  pub bytes : bytes ≡ bytes_told limits at rec
+  pub bytes_are : bytes ≡ bytes_told limits at rec
   pub indexed : HasIndex limits at rec
-  pub blocks : blocks ≡ blocks_told limits at rec
+  pub blocks_are : blocks ≡ blocks_told limits at rec
 
 -- The record's file may be taken and is, with these bytes and blocks. They are those that are told by whatever may be kept.
 pub record TakesRecord (limits : Limits) (MayBeKept : (ℕ → List ℕ) → Type 0) (words : Words) (t : Taxonomy) (slot : ℕ) (rec : FileRecord) (old new : Files) : Type 0 where
@@ -151,7 +151,7 @@ pub record TakesRecord (limits : Limits) (MayBeKept : (ℕ → List ℕ) → Typ
   pub blocks : List ℕ
   pub sized : length bytes ≡ rec.size
   pub filed : may_file words old rec ≡ true
-  pub described : may_describe words t rec (found_words words rec.name bytes) ≡ true
+  pub describes : may_describe words t rec (found_words words rec.name bytes) ≡ true
   pub usable : AreUsable old.map rec.blocks blocks
   pub takes : TakesNumbers slot rec blocks (described t (own_numbers words.dict rec.tags (found_words words rec.name bytes))) old new
   pub told : (kept : ℕ → List ℕ) → MayBeKept kept → AreTold limits kept rec bytes blocks
