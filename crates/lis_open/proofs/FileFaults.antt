@@ -68,20 +68,24 @@ used_slot : (o : Option FileRecord) (rec : FileRecord) → file_by o ≡ Used re
 used_slot None rec is = cc
 used_slot (Some r) rec is = cc
 
--- an index block is in form or not
-index_or_none : (limits : Limits) (at : ℕ → List ℕ) (rec : FileRecord) → HasIndex limits at rec ⊎ (HasIndex limits at rec → ⊥)
-index_or_none limits at rec = by (cases_Bool (is_large rec.size)) (cases_Bool (same_word held spelled))
+-- ---- an index block is in form or not
+same_or_not : (xs ys : List ℕ) → (xs ≡ ys) ⊎ (xs ≡ ys → ⊥)
+same_or_not xs ys = by (cases_Bool (same_word xs ys))
   where
-    abbrev held : List ℕ
-    held = at (index_home (data_start limits) rec.blocks)
+    by : (same_word xs ys ≡ true) ⊎ (same_word xs ys ≡ false) → (xs ≡ ys) ⊎ (xs ≡ ys → ⊥)
+    by (inl same) = inl ((same_word_decides xs ys).0 same)
+    by (inr differ) = inr (λ same. both_ways (same_word xs ys) differ ((same_word_decides xs ys).1 same))
 
-    abbrev spelled : List ℕ
-    spelled = index_bytes (numbers_in (blocks_needed rec.size) held)
+under_or_not : (b : Bool) (P : Type 0) → P ⊎ (P → ⊥) → (b ≡ true → P) ⊎ ((b ≡ true → P) → ⊥)
+under_or_not true P (inl is) = inl (λ _. is)
+under_or_not true P (inr none) = inr (λ all. none (all refl))
+under_or_not false P either = inl (λ e. absurd cc)
 
-    by : (is_large rec.size ≡ true) ⊎ (is_large rec.size ≡ false) → (same_word held spelled ≡ true) ⊎ (same_word held spelled ≡ false) → HasIndex limits at rec ⊎ (HasIndex limits at rec → ⊥)
-    by (inr small) same = inl (λ large. absurd (both_ways (is_large rec.size) small large))
-    by (inl large) (inl same) = inl (λ _. (same_word_decides held spelled).0 same)
-    by (inl large) (inr differ) = inr (λ indexed. both_ways (same_word held spelled) differ ((same_word_decides held spelled).1 (indexed large)))
+index_or_not : (limits : Limits) (at : ℕ → List ℕ) (rec : FileRecord) → HasIndex limits at rec ⊎ (HasIndex limits at rec → ⊥)
+index_or_not limits at rec =
+    let held = at (index_home (data_start limits) rec.blocks) in
+    let spelled = index_bytes (numbers_in (blocks_needed rec.size) held) in
+    under_or_not (is_large rec.size) (held ≡ spelled) (same_or_not held spelled)
 
 -- ---- axiom slots
 module _ (limits : Limits) (words : Words) (axioms : Axioms) (are : AreFirstWords limits words limits.props) (first : AreFirstAxioms limits words axioms (axiom_slots limits).count) where
@@ -277,7 +281,7 @@ module _ (limits : Limits) (words : Words) (axioms : Axioms) (files : Files) (en
 
     -- blocks that are not usable
     blocks_fault : (rec : FileRecord) → FilesHaveBlocks limits at files → end < limits.files → (HasBlocks limits at files.map rec → ⊥) → FileFault limits at properties items end rec
-    blocks_fault rec blocks below fails = by (index_or_none limits at rec) (cases_Bool (are_distinct (blocks_told limits at rec))) (cases_Bool (are_free files.map (blocks_told limits at rec)))
+    blocks_fault rec blocks below fails = by (index_or_not limits at rec) (cases_Bool (are_distinct (blocks_told limits at rec))) (cases_Bool (are_free files.map (blocks_told limits at rec)))
       where
         by : HasIndex limits at rec ⊎ (HasIndex limits at rec → ⊥) → (are_distinct (blocks_told limits at rec) ≡ true) ⊎ (are_distinct (blocks_told limits at rec) ≡ false)
             → (are_free files.map (blocks_told limits at rec) ≡ true) ⊎ (are_free files.map (blocks_told limits at rec) ≡ false) → FileFault limits at properties items end rec
