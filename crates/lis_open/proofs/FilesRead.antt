@@ -42,7 +42,7 @@ use Rattle.lis_open.specs.declared.files.Files.{Files}
 use Rattle.lis_open.specs.declared.blocks.LastBlock.{LastBlock}
 use Rattle.lis_open.specs.Reading.{OnlyReads, Recalls, IsReadAs}
 use Rattle.lis_open.specs.ReadWords.{AreWords}
-use Rattle.lis_open.specs.ReadFiles.{no_files, described, found_words, is_numbered, own_numbers, may_describe, HasNumbers, AreNumbers, is_assignable_by, is_assignable_number, may_file, AreTold, TakesNumbers, TakesRecord, TakesFile, AreFirstFiles, FilesAreSpelled, FilesAreNumbered, FilesHaveBlocks}
+use Rattle.lis_open.specs.ReadFiles.{no_files, described, found_words, is_numbered, own_numbers, HasNumbers, AreNumbers, is_assignable_by, is_assignable_number, may_file, AreTold, TakesNumbers, TakesRecord, TakesFile, AreFirstFiles, FilesAreSpelled, FilesAreNumbered, FilesHaveBlocks}
 use Rattle.lis_open.proofs.Numbers.{is_taken-marked}
 
 -- ---- one record
