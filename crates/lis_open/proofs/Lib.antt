@@ -10,6 +10,7 @@ mod WordsRead
 mod WordUses
 mod Numbers
 mod Gathering
+mod BlocksRead
 mod OwnNumbers
 mod FilesRead
 mod Counts
