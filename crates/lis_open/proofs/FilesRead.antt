@@ -14,7 +14,7 @@ use Rattle.lis_slots.specs.Slots.{slot}
 use Rattle.lis_bits.specs.Rows.{Rows, HasShape}
 use Rattle.lis_blockmap.specs.Bitmap.{is_taken}
 use Rattle.lis_content.specs.Content.{are_free, has_number, are_distinct, are_within}
-use Rattle.lis_content.specs.Large.{slot_count, content_blocks, file_content}
+use Rattle.lis_content.specs.Large.{content_blocks, file_content}
 use Rattle.lis_content.proofs.Numbers.{length-marked, not_true, are_below, below_from_free, within_if_below}
 use Rattle.lis_dict.specs.Dict.{word_of}
 use Rattle.lis_dict.proofs.Laws.{number_below, number_from_word}
@@ -25,7 +25,6 @@ use Rattle.lis_fields.specs.Records.{FileRecord}
 use Rattle.lis_fields.specs.Layouts.{file_bytes, is_file, is_record}
 use Rattle.lis_fields.specs.declared.slots.FileSlot.{FileSlot}
 use Rattle.lis_fields.specs.declared.slots.FileSlot.TheVariants.{Free as FreeFile, Used}
-use Rattle.lis_fields.proofs.Parts.{record_tests, few_blocks, size_fits}
 use Rattle.lis_laws.proofs.Counts.{all_among, all_weaker}
 use Rattle.lis_model.specs.declared.limits.Limits.{Limits}
 use Rattle.lis_model.specs.Image.{data_start, image_blocks}
@@ -34,7 +33,6 @@ use Rattle.lis_kept.specs.Kept.{file_by, record_at}
 use Rattle.lis_kept.specs.Areas.{file_slots}
 use Rattle.lis_kept.specs.Sound.{is_sound_record}
 use Rattle.lis_kept.proofs.Filing.{among_from_number}
-use Rattle.lis_kept.proofs.Contents.{slot_blocks_counted}
 use Rattle.lis_store.proofs.ReadBack.{read_told}
 use Rattle.lis_open.specs.declared.words.Words.{Words}
 use Rattle.lis_open.specs.declared.axioms.Axioms.{Axioms}
@@ -44,19 +42,6 @@ use Rattle.lis_open.specs.Reading.{OnlyReads, Recalls, IsReadAs}
 use Rattle.lis_open.specs.ReadWords.{AreWords}
 use Rattle.lis_open.specs.ReadFiles.{no_files, described, found_words, is_numbered, own_numbers, HasNumbers, AreNumbers, is_assignable_by, is_assignable_number, may_file, AreTold, TakesNumbers, TakesRecord, TakesFile, AreFirstFiles, FilesAreSpelled, FilesAreNumbered, FilesHaveBlocks}
 use Rattle.lis_open.proofs.Numbers.{is_taken-marked}
-
--- ---- one record
--- in each version a record has few bytes, and its slot as many numbers as they ask for
-pub size_within : {seen : FileRecord} (version : ℕ) (rec : FileRecord) → IsTrue (is_record version rec) → seen ≡ rec → seen.size ≤ 1048576
-size_within version rec is view = omega (arith, size_fits version rec.size (record_tests version rec is).small, ap (λ (r : FileRecord). r.size) view)
-
-pub blocks_counted : {seen : FileRecord} (version : ℕ) (rec : FileRecord) (blocks : List ℕ) → IsTrue (is_record version rec) → seen ≡ rec → blocks ≡ seen.blocks → length blocks ≡ slot_count seen.size
-blocks_counted version rec blocks is view same =
-    let form = record_tests version rec is in
-    ap (length {A = ℕ}) same
-    ∙ (ap (λ (r : FileRecord). length r.blocks) view
-    ∙ (few_blocks version rec.size rec.blocks form.blocks
-    ∙ (slot_blocks_counted version rec.size form.small ∙ sym (ap (λ (r : FileRecord). slot_count r.size) view))))
 
 -- ---- what may be filed
 -- each of two tests that hold together
@@ -94,10 +79,10 @@ blocks_within limits taken rec blocks start end is_start is_end long view same f
     ∙ within_if_below start end (length taken) rec.blocks (omega (arith, is_start, is_end, long)) (below_from_free taken rec.blocks free)
 
 -- where nothing is staged, and all its blocks are blocks of the image, what was read are its bytes
-pub bytes_are : (limits : Limits) (taken : List Bool) (rec : FileRecord) {seen : FileRecord} (blocks numbers : List ℕ) (staged : List Entry) (kept : ℕ → List ℕ) (start end : ℕ) (bytes : List ℕ)
+pub read_are_told : (limits : Limits) (taken : List Bool) (rec : FileRecord) {seen : FileRecord} (blocks numbers : List ℕ) (staged : List Entry) (kept : ℕ → List ℕ) (start end : ℕ) (bytes : List ℕ)
     → start ≡ data_start limits → end ≡ image_blocks limits → length taken ≡ limits.blocks → staged ≡ [] → seen ≡ rec → numbers ≡ seen.blocks → are_free taken blocks ≡ true → blocks ≡ blocks_told limits kept rec
     → (IsTrue (are_within start end (content_blocks start numbers seen.size (looked staged kept))) → bytes ≡ file_content start numbers seen.size (looked staged kept)) → bytes ≡ bytes_told limits kept rec
-bytes_are limits taken rec {seen} blocks numbers staged kept start end bytes is_start is_end long none view same free told read =
+read_are_told limits taken rec {seen} blocks numbers staged kept start end bytes is_start is_end long none view same free told read =
     let below : are_below limits.blocks (blocks_told limits kept rec) ≡ true =
     ap (are_below limits.blocks) (sym told) ∙ (ap (λ m. are_below m blocks) (sym long) ∙ below_from_free taken blocks free) in
     read_told limits rec kept bytes end start seen.size numbers is_end is_start (ap (λ (r : FileRecord). r.size) view) (same ∙ ap (λ (r : FileRecord). r.blocks) view) below
