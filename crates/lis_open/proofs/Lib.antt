@@ -35,5 +35,6 @@ mod Lefts
 mod ZeroRows
 mod AllRead
 mod Order
+mod SameHomes
 mod Parts
 mod Opening
