@@ -36,5 +36,6 @@ mod Lefts
 mod ZeroRows
 mod AllRead
 mod Order
+mod SameHomes
 mod Parts
 mod Opening
