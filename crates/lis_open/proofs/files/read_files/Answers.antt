@@ -1,10 +1,11 @@
-use Rattle.std.proofs.Common.{◌≡◌, refl, sym, subst, ◌∙◌, arith}
+use Rattle.std.proofs.Common.{◌≡◌, ℕ, List, refl, sym, subst, ◌∙◌, arith}
 use Rattle.std.proofs.lemmas.Bool.{OnTrue_at, OnFalse_at}
 use Rattle.lis_graph.proofs.Members.{among_from_contains}
 use Rattle.lis_bits.specs.Rows.{HasShape}
+use Rattle.lis_journal.specs.Images.{Fits}
 use Rattle.lis_kept.proofs.Filing.{filed_rec}
 use Rattle.lis_open.specs.declared.files.Files.{Files}
-use Rattle.lis_open.specs.ReadFiles.{AreFirstFiles}
+use Rattle.lis_open.specs.ReadFiles.{AreFirstFiles, TakesFile}
 use Rattle.lis_open.proofs.Quiet.{reads_none, reads_then, fits_after}
 use Rattle.lis_open.proofs.FilesRead.{files_on, spelled_on, numbered_on, blocks_on, no_files_yet, none_numbered, none_have_blocks}
 use Rattle.lis_open.proofs.FileFaults.{file_fails, files_pass, slot_described}
@@ -42,20 +43,20 @@ loop-slot-preserved g c =
     let found = c.in_ok-found.found in
     let next = c.take_file.new.files in
     let form = c.in_ok-found.ensures.form in
-    let taken = OnTrue_at c.if-not-is_taken.false c.in_ok-is_taken.ensures.taken in
-    let fits_read = λ kept fits. fits_after c.args.journal.now kept l.invariant.reads fits in
-    let fits_take = λ kept fits. fits_after c.args.journal.now kept c.in_ok-found.ensures.reads (fits_read kept fits) in
+    let MayBeKept : (ℕ → List ℕ) → Type 0 = Fits c.args.journal.now (g.D.Disk.meaning c.read_slot.new.disk) in
+    let taken = OnTrue_at {P = TakesFile limits MayBeKept words axioms.taxonomy l.slot found l.files next} c.if-not-is_taken.false c.in_ok-is_taken.ensures.taken in
+    let to_found = reads_then l.invariant.reads c.in_ok-found.ensures.reads in
     record {
-      reads = reads_then (reads_then l.invariant.reads c.in_ok-found.ensures.reads) c.in_ok-is_taken.ensures.reads;
+      reads = reads_then to_found c.in_ok-is_taken.ensures.reads;
       faults = c.in_ok-is_taken.ensures.cause.stays ∙ (c.in_ok-found.ensures.cause.stays ∙ l.invariant.faults);
       shape = subst (λ n. HasShape c.take_file.new.row 2 n) c.requires.words.props c.in_ok-is_taken.ensures.shape;
-      first = files_on limits _ words axioms l.files l.slot l.invariant.first below found next form taken;
-      recalls = λ kept fits recalls. c.in_ok-found.ensures.recalls kept (fits_read kept fits) (l.invariant.recalls kept fits recalls);
+      first = files_on limits MayBeKept words axioms l.files l.slot l.invariant.first below found next form taken;
+      recalls = λ kept fits recalls. c.in_ok-found.ensures.recalls kept (fits_after c.args.journal.now kept l.invariant.reads fits) (l.invariant.recalls kept fits recalls);
       spelled = λ kept fits recalls.
-          spelled_on limits _ words axioms l.files l.slot l.invariant.first below kept (l.invariant.spelled kept fits recalls) found next form taken
-          (c.in_ok-found.ensures.read kept (fits_read kept fits) (l.invariant.recalls kept fits recalls));
-      numbered = λ kept fits. numbered_on limits _ words axioms l.files l.slot l.invariant.first below kept (fits_take kept fits) (l.invariant.numbered kept fits) found next form taken;
-      blocks = λ kept fits. blocks_on limits _ words axioms l.files l.slot l.invariant.first below kept (fits_take kept fits) (l.invariant.blocks kept fits) found next form taken;
+          spelled_on limits MayBeKept words axioms l.files l.slot l.invariant.first below kept (l.invariant.spelled kept fits recalls) found next form taken
+          (c.in_ok-found.ensures.read kept (fits_after c.args.journal.now kept l.invariant.reads fits) (l.invariant.recalls kept fits recalls));
+      numbered = λ kept fits. numbered_on limits MayBeKept words axioms l.files l.slot l.invariant.first below kept (fits_after c.args.journal.now kept to_found fits) (l.invariant.numbered kept fits) found next form taken;
+      blocks = λ kept fits. blocks_on limits MayBeKept words axioms l.files l.slot l.invariant.first below kept (fits_after c.args.journal.now kept to_found fits) (l.invariant.blocks kept fits) found next form taken;
     }
 
 pub returns-clause-ended : goal.returns-clause-ended

@@ -53,7 +53,7 @@ returns-in-None-clause-refused g c =
     let usable = rw c.in-Some.is at c.in_ok-blocks.ensures.usable in
     (refl, λ kept fits.
     let found = rw c.in-Some.is at (c.in_ok-blocks.ensures.found kept fits) in
-    let told = read_are_told limits c.args.files.now.map rec c.in-Some.blocks.items c.as_slice.result.now c.args.journal.now.staged kept c.data_start.result c.args.journal.now.blocks c.read.new.self
+    let told = read_are_told limits c.args.files.now.map rec _ c.as_slice.result.now c.args.journal.now.staged kept c.data_start.result _ c.read.new.self
     c.data_start.ensures.start c.requires.image c.requires.map c.requires.clean c.rec.view_is c.as_slice.ensures.value usable.free found.1
     (c.in_ok-read.ensures.read kept (fits_after c.args.journal.now kept c.in_ok-blocks.ensures.reads fits)) in
     NotDescribed (subst (λ bytes. may_describe words c.args.axioms.now.taxonomy rec (found_words words rec.name bytes) ≡ false) (c.bytes.ensures.bytes ∙ told) c.in-None.ensures.described))
@@ -79,12 +79,12 @@ returns-in-Some-describe-clause-taken g c =
       describes = c.in-Some-describe.ensures.described.0;
       usable = usable;
       takes = subst (λ ns. TakesNumbers c.args.slot rec blocks ns files c.file.new.files) numbers
-          (subst (λ bs. TakesNumbers c.args.slot rec bs c.as_slice-in-Some-describe.result.now files c.file.new.files) c.deref.ensures c.file.ensures);
+          (subst (λ bs. TakesNumbers c.args.slot rec bs c.as_slice-in-Some-describe.result.now files c.file.new.files) c.deref.ensures.0 c.file.ensures);
       told = λ kept fits.
           let found = rw c.in-Some.is at (c.in_ok-blocks.ensures.found kept fits) in
           record {
             bytes_are = c.bytes.ensures.bytes ∙
-                read_are_told limits files.map rec blocks c.as_slice.result.now c.args.journal.now.staged kept c.data_start.result c.args.journal.now.blocks c.read.new.self
+                read_are_told limits files.map rec blocks c.as_slice.result.now c.args.journal.now.staged kept c.data_start.result _ c.read.new.self
                 c.data_start.ensures.start c.requires.image c.requires.map c.requires.clean c.rec.view_is c.as_slice.ensures.value usable.free found.1
                 (c.in_ok-read.ensures.read kept (fits_after c.args.journal.now kept c.in_ok-blocks.ensures.reads fits));
             indexed = found.0;
