@@ -1,4 +1,5 @@
 use Rattle.std.proofs.Common.{◌≡◌, refl, sym, ap, subst, ◌∙◌, length, false}
+use Rattle.lis_content.specs.Content.{are_free, are_distinct}
 use Rattle.lis_fields.specs.Records.{FileRecord}
 use Rattle.lis_fields.proofs.Parts.{record_tests, few_tags}
 use Rattle.lis_open.specs.ReadFiles.{found_words, own_numbers, may_describe, TakesNumbers}
@@ -50,13 +51,15 @@ returns-in-None-clause-refused g c =
     let limits = c.args.limits.now in
     let words = c.args.words.now in
     let rec = c.args.rec in
-    let usable = rw c.in-Some.is at c.in_ok-blocks.ensures.usable in
-    (refl, λ kept fits.
-    let found = rw c.in-Some.is at (c.in_ok-blocks.ensures.found kept fits) in
-    let told = read_are_told limits c.args.files.now.map rec _ c.as_slice.result.now c.args.journal.now.staged kept c.data_start.result _ c.read.new.self
-    c.data_start.ensures.start c.requires.image c.requires.map c.requires.clean c.rec.view_is c.as_slice.ensures.value usable.free found.1
-    (c.in_ok-read.ensures.read kept (fits_after c.args.journal.now kept c.in_ok-blocks.ensures.reads fits)) in
-    NotDescribed (subst (λ bytes. may_describe words c.args.axioms.now.taxonomy rec (found_words words rec.name bytes) ≡ false) (c.bytes.ensures.bytes ∙ told) c.in-None.ensures.described))
+    let usable = rw c.in-Some.is at c.in_ok-blocks.ensures.usable in (
+      refl,
+      λ kept fits.
+          let found = rw c.in-Some.is at (c.in_ok-blocks.ensures.found kept fits) in
+          let told = read_are_told limits c.args.files.now.map rec _ c.as_slice.result.now c.args.journal.now.staged kept c.data_start.result _ c.read.new.self
+          c.data_start.ensures.start c.requires.image c.requires.map c.requires.clean c.rec.view_is c.as_slice.ensures.value usable.free found.1
+          (c.in_ok-read.ensures.read kept (fits_after c.args.journal.now kept c.in_ok-blocks.ensures.reads fits)) in
+          NotDescribed (subst (λ bytes. may_describe words c.args.axioms.now.taxonomy rec (found_words words rec.name bytes) ≡ false) (c.bytes.ensures.bytes ∙ told) c.in-None.ensures.described),
+    )
 
 pub returns-in-Some-describe-clause-reads : goal.returns-in-Some-describe-clause-reads
 returns-in-Some-describe-clause-reads g c =
@@ -68,7 +71,8 @@ returns-in-Some-describe-clause-taken g c =
     let limits = c.args.limits.now in
     let rec = c.args.rec in
     let files = c.args.files.now in
-    let blocks = c.in-Some.blocks.items in
+    let blocks = c.deref.result.now in
+    let same = c.deref.ensures.0 in
     let usable = rw c.in-Some.is at c.in_ok-blocks.ensures.usable in
     let numbers = c.as_slice-in-Some-describe.ensures.value ∙ c.in-Some-describe.ensures.described.1 in
     record {
@@ -77,17 +81,16 @@ returns-in-Some-describe-clause-taken g c =
       sized = ap length c.bytes.ensures.bytes ∙ (c.in_ok-read.ensures.size ∙ ap (λ (r : FileRecord). r.size) c.rec.view_is);
       filed = sym c.if-not-may_file.ensures;
       describes = c.in-Some-describe.ensures.described.0;
-      usable = usable;
-      takes = subst (λ ns. TakesNumbers c.args.slot rec blocks ns files c.file.new.files) numbers
-          (subst (λ bs. TakesNumbers c.args.slot rec bs c.as_slice-in-Some-describe.result.now files c.file.new.files) c.deref.ensures.0 c.file.ensures);
+      usable = record { own = usable.own; free = ap (are_free files.map) same ∙ usable.free; distinct = ap are_distinct same ∙ usable.distinct };
+      takes = subst (λ ns. TakesNumbers c.args.slot rec blocks ns files c.file.new.files) numbers c.file.ensures;
       told = λ kept fits.
           let found = rw c.in-Some.is at (c.in_ok-blocks.ensures.found kept fits) in
           record {
             bytes_are = c.bytes.ensures.bytes ∙
-                read_are_told limits files.map rec blocks c.as_slice.result.now c.args.journal.now.staged kept c.data_start.result _ c.read.new.self
+                read_are_told limits files.map rec _ c.as_slice.result.now c.args.journal.now.staged kept c.data_start.result _ c.read.new.self
                 c.data_start.ensures.start c.requires.image c.requires.map c.requires.clean c.rec.view_is c.as_slice.ensures.value usable.free found.1
                 (c.in_ok-read.ensures.read kept (fits_after c.args.journal.now kept c.in_ok-blocks.ensures.reads fits));
             indexed = found.0;
-            blocks_are = found.1;
+            blocks_are = same ∙ found.1;
           };
     }
