@@ -33,6 +33,7 @@ use Rattle.lis_model.specs.Image.{bitmap_start, image_blocks}
 use Rattle.lis_model.specs.Sets.{set_of}
 use Rattle.lis_model.specs.State.{State, File, pair_cmp, description, known, is_nameable, is_assignable}
 use Rattle.lis_kept.specs.Areas.{property_slots, axiom_slots, file_slots}
+use Rattle.lis_kept.specs.Telling.{blocks_told}
 use Rattle.lis_kept.proofs.Filing.{among_from_number, number_from_among as has_from_among}
 use Rattle.lis_kept.proofs.Formed.{some_word}
 use Rattle.lis_kept.proofs.Known.{placed_at, among_place}
@@ -40,10 +41,10 @@ use Rattle.lis_store.specs.Stands.{Contents, AreSlots, word_in, words_in, word_a
 use Rattle.lis_store.proofs.Points.{AllApart}
 use Rattle.lis_open.specs.Checks.{IsFile, AreContents, IsUsed, axioms_by, PropertyFails, AxiomFault, HasAxiomFault, AxiomFails, FileFault, HasFileFault, FileFails, WordFails, BitFails, RowFault, RowFails, Fails, FailsReplayed, RecordFails, FailsIn}
 use Rattle.lis_open.specs.Checks.AxiomFault.{PastLast, LeftUnnumbered, RightUnnumbered, RightNotPlain, RightUndeclared, LeftUnnameable, HeadUnnumbered, PairThere, Circle}
-use Rattle.lis_open.specs.Checks.FileFault.{NameTaken, TagUnnumbered, TagUnassignable, BlockMissing, BlockTaken, WordUnnumbered, TooManyWords}
+use Rattle.lis_open.specs.Checks.FileFault.{NameTaken, TagUnnumbered, TagUnassignable, BlockMissing, IndexUnformed, BlockTwice, BlockTaken, WordUnnumbered, TooManyWords}
 use Rattle.lis_open.specs.Checks.RowFault.{RowWrong, RestNotZero}
 use Rattle.lis_open.proofs.Needs.{one_limits, has_super}
-use Rattle.lis_open.proofs.Numbers.{is_taken-marked}
+use Rattle.lis_open.proofs.Numbers.{is_taken-marked, distinct_piece}
 use Rattle.lis_open.proofs.OneList.{one_list}
 use Rattle.lis_open.proofs.ZeroRows.{zero_row, rows_enough}
 use Rattle.lis_open.proofs.Once.{taken_place, slot_at, value_at, part_once, distinct_apart, apart_by_count, file_there, names-more}
@@ -64,24 +65,24 @@ first_slots spelled is_in_range slots at values n le are = record {
   each = λ k value is. are.each k value (taken_place n values k value is).1;
 }
 
--- the name of a file slot, and its data blocks
+-- the name of a file slot, and its blocks
 abbrev name_parts : FileSlot → List (List ℕ)
 name_parts FreeFile = []
 name_parts (Used rec) = rec.name ∷ []
 
-abbrev block_parts : FileSlot → List ℕ
-block_parts FreeFile = []
-block_parts (Used rec) = rec.blocks
+abbrev block_parts : Limits → (ℕ → List ℕ) → FileSlot → List ℕ
+block_parts limits at FreeFile = []
+block_parts limits at (Used rec) = blocks_told limits at rec
 
 names_same : (files : List FileSlot) → map (λ (rec : FileRecord). rec.name) (all_records files) ≡ flat_map name_parts files
 names_same [] = refl
 names_same (FreeFile ∷ files) = names_same files
 names_same (Used rec ∷ files) = ap (λ ns. rec.name ∷ ns) (names_same files)
 
-blocks_same : (limits : Limits) (at : ℕ → List ℕ) (files : List FileSlot) → all_blocks limits at (all_records files) ≡ flat_map block_parts files
+blocks_same : (limits : Limits) (at : ℕ → List ℕ) (files : List FileSlot) → all_blocks limits at (all_records files) ≡ flat_map (block_parts limits at) files
 blocks_same limits at [] = refl
 blocks_same limits at (FreeFile ∷ files) = blocks_same limits at files
-blocks_same limits at (Used rec ∷ files) = ap (λ ns. rec.blocks ++ ns) (blocks_same limits at files)
+blocks_same limits at (Used rec ∷ files) = ap (λ ns. blocks_told limits at rec ++ ns) (blocks_same limits at files)
 
 used_record : (f : FileSlot) (rec : FileRecord) → Among (records_in f) rec → f ≡ Used rec
 used_record FreeFile rec m = absurd m
@@ -259,8 +260,8 @@ module _ (limits : Limits) (contents : Contents) (at : ℕ → List ℕ) (spells
       names_of [] = refl
       names_of (rec ∷ recs) = ap (λ ns. rec.name ∷ ns) (names_of recs)
 
-  blocks_apart : AllApart (flat_map block_parts contents.files)
-  blocks_apart = distinct_apart (flat_map block_parts contents.files) (ap are_distinct (sym (blocks_same limits at contents.files)) ∙ spells.each_block_once)
+  blocks_apart : AllApart (flat_map (block_parts limits at) contents.files)
+  blocks_apart = distinct_apart (flat_map (block_parts limits at) contents.files) (ap are_distinct (sym (blocks_same limits at contents.files)) ∙ spells.each_block_once)
 
   module _ (n : ℕ) (rec : FileRecord) (is : IsFile limits at n (Used rec)) where
     in_records : Among records rec
@@ -283,12 +284,16 @@ module _ (limits : Limits) (contents : Contents) (at : ℕ → List ℕ) (spells
     no_file_fault (TagUnnumbered tag has_it none) = both_ways (is_some (word_at properties tag)) (ap is_some none) (tag_named tag (among_from_number rec.tags tag has_it))
     no_file_fault (TagUnassignable tag w has_it is_w not) = both_ways (is_assignable s.declared w) not (tag_assignable tag w (among_from_number rec.tags tag has_it) is_w)
     no_file_fault (BlockMissing data_block has_it past) =
-        let there = flat_map_among (λ (r : FileRecord). r.blocks) records rec data_block in_records (among_from_number rec.blocks data_block has_it) in
+        let there = flat_map_among (blocks_told limits at) records rec data_block in_records (among_from_number (blocks_told limits at rec) data_block has_it) in
         let below = ltb-true data_block limits.blocks (all_among (λ j. nat_lt j limits.blocks) (all_blocks limits at records) data_block spells.blocks there) in
         omega (arith, below, past)
+    no_file_fault (IndexUnformed unformed) = unformed (spells.indexed rec (contains_from_among records rec in_records))
+    no_file_fault (BlockTwice twice) =
+        both_ways (are_distinct (blocks_told limits at rec)) twice (distinct_piece (blocks_told limits at) records rec in_records spells.each_block_once)
     no_file_fault (BlockTaken earlier other data_block before is_other has_other has_it) =
-        part_once block_parts contents.files blocks_apart earlier n (Used other) (Used rec) data_block before
-        (file_value earlier (Used other) is_other) (file_value n (Used rec) is) (among_from_number other.blocks data_block has_other) (among_from_number rec.blocks data_block has_it)
+        part_once (block_parts limits at) contents.files blocks_apart earlier n (Used other) (Used rec) data_block before
+        (file_value earlier (Used other) is_other) (file_value n (Used rec) is)
+        (among_from_number (blocks_told limits at other) data_block has_other) (among_from_number (blocks_told limits at rec) data_block has_it)
     no_file_fault (WordUnnumbered w has_it none) =
         let file = file_by limits properties at rec in
         both_ways (has_word (words_in properties) w) none
@@ -344,13 +349,13 @@ module _ (limits : Limits) (contents : Contents) (at : ℕ → List ℕ) (spells
   used_number : (n : ℕ) → IsUsed limits at n → has_number (all_blocks limits at records) n ≡ true
   used_number n used =
       has_from_among (all_blocks limits at records) n
-      (flat_map_among (λ (r : FileRecord). r.blocks) records used.rec n (record_among used.slot used.rec used.is) (among_from_number used.rec.blocks n used.has))
+      (flat_map_among (blocks_told limits at) records used.rec n (record_among used.slot used.rec used.is) (among_from_number (blocks_told limits at used.rec) n used.has))
 
   number_used : (n : ℕ) → has_number (all_blocks limits at records) n ≡ true → IsUsed limits at n
   number_used n has_it =
-      let found = among_flat_map (λ (r : FileRecord). r.blocks) records n (among_from_number (all_blocks limits at records) n has_it) in
+      let found = among_flat_map (blocks_told limits at) records n (among_from_number (all_blocks limits at records) n has_it) in
       let place = record_place found.0 found.1 in
-      record { slot = place.0; rec = found.0; is = place.1; has = has_from_among (found.0).blocks n found.2 }
+      record { slot = place.0; rec = found.0; is = place.1; has = has_from_among (blocks_told limits at found.0) n found.2 }
 
   bit_is : (n : ℕ) → n < 32768 → has_bit (at (bitmap_start limits)) n ≡ has_number (all_blocks limits at records) n
   bit_is n lt =

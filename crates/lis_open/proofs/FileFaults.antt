@@ -1,11 +1,13 @@
 -- What is wrong with a file slot that is not taken, and that nothing is wrong with those that are.
 use Rattle.std.proofs.Common.{◌≡◌, ◌⊎◌, ◌∙◌, refl, sym, ap, subst, inl, inr, ℕ, ◌-◌, ◌^◌, ◌<◌, ◌≤◌, nat_lt, nat_le, Bool, true, false, not, ◌&&◌, ◌||◌, is_some, Option, Some, None, List, [], ◌∷◌, length, slice_get, arith}
 use Rattle.std.specs.List.{list_all, flat_map}
-use Rattle.std.proofs.lemmas.Bool.{and_parts, and_from, or_left, or_right, both_ways, cases_Bool, cases_lt, lt-ltb, ltb-true, leb-false}
+use Rattle.std.proofs.lemmas.Bool.{and_parts, and_from, and_cases, or_left, or_right, both_ways, cases_Bool, cases_lt, lt-ltb, leb-false}
 use Rattle.std.proofs.lemmas.Option.{same_Some, slice_get_within, get_or_from_slice_get}
 use Rattle.lis_graph.proofs.Members.{Among, flat_map_among}
 use Rattle.lis_blockmap.specs.Bitmap.{is_taken}
-use Rattle.lis_content.specs.Content.{are_free, has_number}
+use Rattle.lis_content.specs.Content.{are_free, has_number, are_distinct}
+use Rattle.lis_content.specs.Large.{is_large, index_bytes, numbers_in, index_home}
+use Rattle.lis_content.proofs.Numbers.{below_if_taken}
 use Rattle.lis_dict.specs.Dict.{number_of, word_of}
 use Rattle.lis_dict.proofs.Laws.{number_from_word}
 use Rattle.lis_catalog.specs.Catalog.{Filed, slot_of, rec_at}
@@ -19,27 +21,29 @@ use Rattle.lis_fields.specs.declared.slots.AxiomSlot.TheVariants.{Free as FreeAx
 use Rattle.lis_fields.specs.declared.slots.FileSlot.{FileSlot}
 use Rattle.lis_fields.specs.declared.slots.FileSlot.TheVariants.{Free as FreeFile, Used}
 use Rattle.lis_fields.proofs.OneSpelling.{axiom_once}
-use Rattle.lis_words.specs.Words.{has_word, is_valued, head_bytes}
+use Rattle.lis_words.specs.Words.{same_word, has_word, is_valued, head_bytes}
 use Rattle.lis_laws.proofs.Counts.{all_among}
 use Rattle.lis_laws.proofs.Chains.{up_self, up_own, links_head}
-use Rattle.lis_laws.proofs.Members.{among_from_has_word, has_word_from_among, set_of_among}
+use Rattle.lis_laws.proofs.Members.{same_word_decides, among_from_has_word, has_word_from_among, set_of_among}
 use Rattle.lis_model.specs.declared.limits.Limits.{Limits}
 use Rattle.lis_model.specs.declared.spot.Spot.{Spot}
 use Rattle.lis_model.specs.declared.spot.Spot.TheVariants.{Super, BadRecord, Property, Axiom, File as FileSpot, Word, Bitmap, Row}
-use Rattle.lis_model.specs.State.{file_words, own_words, up, is_assignable}
+use Rattle.lis_model.specs.Image.{data_start}
+use Rattle.lis_model.specs.State.{blocks_needed, file_words, own_words, up, is_assignable}
 use Rattle.lis_kept.specs.Kept.{axiom_at, file_by, record_at}
 use Rattle.lis_kept.specs.Areas.{axiom_slots, file_slots}
-use Rattle.lis_kept.specs.Telling.{words_told, bytes_told, file_told, axioms_of}
+use Rattle.lis_kept.specs.Telling.{words_told, bytes_told, blocks_told, HasIndex, file_told, axioms_of}
 use Rattle.lis_kept.proofs.Filing.{among_from_number, number_from_among}
 use Rattle.lis_store.specs.Stands.{words_in}
 use Rattle.lis_open.specs.declared.words.Words.{Words}
 use Rattle.lis_open.specs.declared.axioms.Axioms.{Axioms}
 use Rattle.lis_open.specs.declared.files.Files.{Files}
 use Rattle.lis_open.specs.Checks.{IsFile, AreAxioms, declared_by, axioms_by, description_by, FileFault, HasFileFault, FileFails, Fails, rank, place}
-use Rattle.lis_open.specs.Checks.FileFault.{NameTaken, TagUnnumbered, TagUnassignable, BlockMissing, BlockTaken, WordUnnumbered, TooManyWords}
+use Rattle.lis_open.specs.Checks.FileFault.{NameTaken, TagUnnumbered, TagUnassignable, BlockMissing, IndexUnformed, BlockTwice, BlockTaken, WordUnnumbered, TooManyWords}
 use Rattle.lis_open.specs.Reading.{IsReadAs, IsFirst}
 use Rattle.lis_open.specs.ReadWords.{AreFirstWords, AreFirstAxioms, WordsAreSpelled, AxiomsAreSpelled, declared_words, kept_words}
-use Rattle.lis_open.specs.ReadFiles.{described, found_words, is_numbered, own_numbers, may_describe, is_assignable_by, is_assignable_number, may_file, may_take_record, may_take_file, AreItsBytes, AreFirstFiles, FilesAreSpelled, FilesAreNumbered}
+use Rattle.lis_open.specs.ReadFiles.{described, found_words, is_numbered, own_numbers, may_describe, is_assignable_by, is_assignable_number, may_file, HasBlocks, RecordFault, HasSlotFault, AreFirstFiles, FilesAreSpelled, FilesAreNumbered, FilesHaveBlocks}
+use Rattle.lis_open.specs.ReadFiles.RecordFault.{NotFiled, NoBlocks, NotDescribed}
 use Rattle.lis_open.proofs.Slots.{one_file}
 use Rattle.lis_open.proofs.OneList.{one_list}
 use Rattle.lis_open.proofs.WordPlaces.{assignable_word}
@@ -63,6 +67,25 @@ there (Some n) old = (n, refl)
 used_slot : (o : Option FileRecord) (rec : FileRecord) → file_by o ≡ Used rec → o ≡ Some rec
 used_slot None rec is = cc
 used_slot (Some r) rec is = cc
+
+-- ---- an index block is in form or not
+same_or_not : (xs ys : List ℕ) → (xs ≡ ys) ⊎ (xs ≡ ys → ⊥)
+same_or_not xs ys = by (cases_Bool (same_word xs ys))
+  where
+    by : (same_word xs ys ≡ true) ⊎ (same_word xs ys ≡ false) → (xs ≡ ys) ⊎ (xs ≡ ys → ⊥)
+    by (inl same) = inl ((same_word_decides xs ys).0 same)
+    by (inr differ) = inr (λ same. both_ways (same_word xs ys) differ ((same_word_decides xs ys).1 same))
+
+under_or_not : (b : Bool) (P : Type 0) → P ⊎ (P → ⊥) → (b ≡ true → P) ⊎ ((b ≡ true → P) → ⊥)
+under_or_not true P (inl is) = inl (λ _. is)
+under_or_not true P (inr none) = inr (λ all. none (all refl))
+under_or_not false P either = inl (λ e. absurd cc)
+
+index_or_not : (limits : Limits) (at : ℕ → List ℕ) (rec : FileRecord) → HasIndex limits at rec ⊎ (HasIndex limits at rec → ⊥)
+index_or_not limits at rec =
+    let held = at (index_home (data_start limits) rec.blocks) in
+    let spelled = index_bytes (numbers_in (blocks_needed rec.size) held) in
+    under_or_not (is_large rec.size) (held ≡ spelled) (same_or_not held spelled)
 
 -- ---- axiom slots
 module _ (limits : Limits) (words : Words) (axioms : Axioms) (are : AreFirstWords limits words limits.props) (first : AreFirstAxioms limits words axioms (axiom_slots limits).count) where
@@ -94,12 +117,6 @@ module _ (limits : Limits) (words : Words) (axioms : Axioms) (files : Files) (en
   record_of n rec is =
       let named = list_all (λ k. is_some (word_of words.dict k)) rec.tags in
       (and_parts (is_record limits.version rec) named (and_parts (is_record limits.version rec && named) (list_all (λ k. nat_lt k limits.blocks) rec.blocks) (first.records n rec is)).0).0
-
-  block_below : (n : ℕ) (rec : FileRecord) (data_block : ℕ) → rec_at files.catalog n ≡ Some rec → has_number rec.blocks data_block ≡ true → data_block < limits.blocks
-  block_below n rec data_block is has =
-      let named = list_all (λ k. is_some (word_of words.dict k)) rec.tags in
-      let all = (and_parts (is_record limits.version rec && named) (list_all (λ k. nat_lt k limits.blocks) rec.blocks) (first.records n rec is)).1 in
-      ltb-true data_block limits.blocks (all_among (λ k. nat_lt k limits.blocks) rec.blocks data_block all (among_from_number rec.blocks data_block has))
 
   -- a slot that has a file is below the end
   pub slot_read : (n : ℕ) (rec : FileRecord) → rec_at files.catalog n ≡ Some rec → n < end
@@ -160,7 +177,7 @@ module _ (limits : Limits) (words : Words) (axioms : Axioms) (files : Files) (en
         described_words limits words axioms (axiom_slots limits).count are links rec.tags (file_told limits words.dict at (record { slot = 0; rec = rec })) refl given numbered ∙ file_words_are rec
 
     -- ---- no fault
-    module _ (numbers : FilesAreNumbered limits at words axioms files) where
+    module _ (numbers : FilesAreNumbered limits at words axioms files) (blocks : FilesHaveBlocks limits at files) where
       no_fault : (n : ℕ) (rec : FileRecord) → rec_at files.catalog n ≡ Some rec → n < end → FileFault limits at properties items n rec → ⊥
       no_fault n rec is lt (NameTaken earlier other before is_other same) =
           let here = rec_is earlier other (omega arith) is_other in
@@ -178,11 +195,13 @@ module _ (limits : Limits) (words : Words) (axioms : Axioms) (files : Files) (en
           both_ways (is_assignable (declared_words words) word) (ap (λ ds. is_assignable ds word) (sym (declared_told limits words are.are are.props)) ∙ not_given)
           (subst (λ w. is_assignable (declared_words words) w ≡ true) same found.2)
       no_fault n rec is lt (BlockMissing data_block has past) =
-          let below = block_below n rec data_block is has in
-          omega (arith, below, past)
+          let below = below_if_taken files.map data_block (blocks.taken n rec data_block is has) in
+          omega (arith, below, past, first.blocks)
+      no_fault n rec is lt (IndexUnformed unformed) = unformed (blocks.indexed n rec is)
+      no_fault n rec is lt (BlockTwice twice) = both_ways (are_distinct (blocks_told limits at rec)) twice (blocks.distinct n rec is)
       no_fault n rec is lt (BlockTaken earlier other data_block before is_other has_other has) =
           let here = rec_is earlier other (omega arith) is_other in
-          let same = first.apart n earlier rec other data_block is here has has_other in
+          let same = blocks.one_use n earlier rec other data_block is here has has_other in
           omega (arith, same, before)
       no_fault n rec is lt (WordUnnumbered word has none) =
           let m = among_from_has_word (description_by limits properties items at rec) word has in
@@ -242,23 +261,34 @@ module _ (limits : Limits) (words : Words) (axioms : Axioms) (files : Files) (en
             TagUnassignable tag word has (word_at_told limits words are.are are.props tag ∙ is)
             (ap (λ ds. is_assignable ds word) (declared_told limits words are.are are.props) ∙ (ap (is_assignable_by words) (sym is) ∙ not_given))
 
-    block_fault : (rec : FileRecord) → end < limits.files → are_free files.map rec.blocks ≡ false → FileFault limits at properties items end rec
-    block_fault rec below fails =
-        let found = failing (λ n. nat_lt n (length files.map) && not (is_taken files.map n)) rec.blocks fails in
-        by found.0 (number_from_among rec.blocks found.0 found.1) found.2 (cases_lt found.0 limits.blocks)
+    block_fault : (rec : FileRecord) → FilesHaveBlocks limits at files → end < limits.files → are_free files.map (blocks_told limits at rec) ≡ false → FileFault limits at properties items end rec
+    block_fault rec blocks below fails =
+        let found = failing (λ n. nat_lt n (length files.map) && not (is_taken files.map n)) (blocks_told limits at rec) fails in
+        by found.0 (number_from_among (blocks_told limits at rec) found.0 found.1) found.2 (cases_lt found.0 limits.blocks)
       where
         at_last : (t b : Bool) → b ≡ true → (b && not t) ≡ false → t ≡ true
         at_last true b is e = refl
         at_last false true is e = cc
         at_last false false is e = cc
 
-        by : (n : ℕ) → has_number rec.blocks n ≡ true → (nat_lt n (length files.map) && not (is_taken files.map n)) ≡ false → (n < limits.blocks) ⊎ (limits.blocks ≤ n) → FileFault limits at properties items end rec
+        by : (n : ℕ) → has_number (blocks_told limits at rec) n ≡ true → (nat_lt n (length files.map) && not (is_taken files.map n)) ≡ false → (n < limits.blocks) ⊎ (limits.blocks ≤ n) → FileFault limits at properties items end rec
         by n has not_free (inl lt) =
             let taken = at_last (is_taken files.map n) (nat_lt n (length files.map)) (lt-ltb n (length files.map) (omega (arith, first.blocks))) not_free in
-            let owner = first.in_use n taken in
+            let owner = blocks.in_use n taken in
             let before : owner.0 < end = slot_read owner.0 owner.1 owner.2 in
             BlockTaken owner.0 owner.1 n before (used_is owner.0 owner.1 (omega (arith, before, below)) owner.2) owner.3 has
         by n has not_free (inr past) = BlockMissing n has past
+
+    -- blocks that are not usable
+    blocks_fault : (rec : FileRecord) → FilesHaveBlocks limits at files → end < limits.files → (HasBlocks limits at files.map rec → ⊥) → FileFault limits at properties items end rec
+    blocks_fault rec blocks below fails = by (index_or_not limits at rec) (cases_Bool (are_distinct (blocks_told limits at rec))) (cases_Bool (are_free files.map (blocks_told limits at rec)))
+      where
+        by : HasIndex limits at rec ⊎ (HasIndex limits at rec → ⊥) → (are_distinct (blocks_told limits at rec) ≡ true) ⊎ (are_distinct (blocks_told limits at rec) ≡ false)
+            → (are_free files.map (blocks_told limits at rec) ≡ true) ⊎ (are_free files.map (blocks_told limits at rec) ≡ false) → FileFault limits at properties items end rec
+        by (inr unformed) distinct free = IndexUnformed unformed
+        by (inl indexed) (inr twice) free = BlockTwice twice
+        by (inl indexed) (inl distinct) (inr in_use) = block_fault rec blocks below in_use
+        by (inl indexed) (inl distinct) (inl free) = absurd (fails (record { indexed = indexed; free = free; distinct = distinct }))
 
     -- a word that the file has by itself is in its description, and so is the head of a valued one
     found_there : (rec : FileRecord) → list_all (is_assignable_number words) rec.tags ≡ true → (w q : List ℕ) → Among (in_file rec) w → Among (up (declared_words words) (axioms_of (kept_words limits words items)) w) q
@@ -317,50 +347,43 @@ module _ (limits : Limits) (words : Words) (axioms : Axioms) (files : Files) (en
         by (inl all) (inl few) = absurd (both_ways (may_describe words axioms.taxonomy rec (in_file rec)) fails
             (and_from (list_all (is_numbered words.dict) (in_file rec)) (nat_le (length (described axioms.taxonomy (own rec))) 128) all few))
 
-    may_from : (rec : FileRecord) → not (is_some (slot_of files.catalog rec.name)) ≡ true → list_all (is_assignable_number words) rec.tags ≡ true → are_free files.map rec.blocks ≡ true → may_file words files rec ≡ true
-    may_from rec name tags free =
-        and_from (not (is_some (slot_of files.catalog rec.name)) && list_all (is_assignable_number words) rec.tags) (are_free files.map rec.blocks)
-        (and_from (not (is_some (slot_of files.catalog rec.name))) (list_all (is_assignable_number words) rec.tags) name tags) free
-
-    record_fault : (rec : FileRecord) (bytes : List ℕ) → end < limits.files → may_take_record words axioms.taxonomy files rec (found_words words rec.name bytes) ≡ false
-        → (may_file words files rec ≡ true → bytes ≡ bytes_told limits at rec) → FileFault limits at properties items end rec
-    record_fault rec bytes below fails read =
-        by (cases_Bool (not (is_some (slot_of files.catalog rec.name)))) (cases_Bool (list_all (is_assignable_number words) rec.tags)) (cases_Bool (are_free files.map rec.blocks))
-        (cases_Bool (may_describe words axioms.taxonomy rec (in_file rec)))
+    given_fault : (rec : FileRecord) → may_describe words axioms.taxonomy rec (in_file rec) ≡ false → FileFault limits at properties items end rec
+    given_fault rec fails = by (cases_Bool (list_all (is_assignable_number words) rec.tags))
       where
-        by : (not (is_some (slot_of files.catalog rec.name)) ≡ true) ⊎ (not (is_some (slot_of files.catalog rec.name)) ≡ false)
-            → (list_all (is_assignable_number words) rec.tags ≡ true) ⊎ (list_all (is_assignable_number words) rec.tags ≡ false)
-            → (are_free files.map rec.blocks ≡ true) ⊎ (are_free files.map rec.blocks ≡ false)
-            → (may_describe words axioms.taxonomy rec (in_file rec) ≡ true) ⊎ (may_describe words axioms.taxonomy rec (in_file rec) ≡ false) → FileFault limits at properties items end rec
-        by (inr name) tags free described = name_fault rec below name
-        by (inl name) (inr tags) free described = tag_fault rec tags
-        by (inl name) (inl tags) (inr free) described = block_fault rec below free
-        by (inl name) (inl tags) (inl free) (inr none) = words_fault rec tags none
-        by (inl name) (inl tags) (inl free) (inl described) =
-            let may = may_from rec name tags free in
-            let same = ap (found_words words rec.name) (read may) in
-            absurd (both_ways (may_take_record words axioms.taxonomy files rec (found_words words rec.name bytes)) fails
-            (subst (λ ws. may_take_record words axioms.taxonomy files rec ws ≡ true) (sym same)
-            (and_from (may_file words files rec) (may_describe words axioms.taxonomy rec (in_file rec)) may described)))
+        by : (list_all (is_assignable_number words) rec.tags ≡ true) ⊎ (list_all (is_assignable_number words) rec.tags ≡ false) → FileFault limits at properties items end rec
+        by (inl given) = words_fault rec given fails
+        by (inr not_given) = tag_fault rec not_given
 
-    file_fault : (found : Option FileSlot) (bytes : List ℕ) → end < limits.files → may_take_file words axioms.taxonomy files found bytes ≡ false → AreItsBytes limits at words files found bytes
+    filing_fault : (rec : FileRecord) → end < limits.files → may_file words files rec ≡ false → FileFault limits at properties items end rec
+    filing_fault rec below fails = by (and_cases (not (is_some (slot_of files.catalog rec.name))) (list_all (is_assignable_number words) rec.tags) fails)
+      where
+        by : (not (is_some (slot_of files.catalog rec.name)) ≡ false) ⊎ (list_all (is_assignable_number words) rec.tags ≡ false) → FileFault limits at properties items end rec
+        by (inl name) = name_fault rec below name
+        by (inr tags) = tag_fault rec tags
+
+    record_fault : (rec : FileRecord) → FilesHaveBlocks limits at files → end < limits.files → RecordFault limits at words axioms.taxonomy files rec → FileFault limits at properties items end rec
+    record_fault rec blocks below (NotFiled fails) = filing_fault rec below fails
+    record_fault rec blocks below (NoBlocks fails) = blocks_fault rec blocks below fails
+    record_fault rec blocks below (NotDescribed fails) = given_fault rec fails
+
+    file_fault : (found : Option FileSlot) → FilesHaveBlocks limits at files → end < limits.files → HasSlotFault limits at words axioms.taxonomy files found
         → IsReadAs file_bytes (is_file limits.version) (file_slots limits) at end found → (file : FileSlot) → IsFile limits at end file → HasFileFault limits at properties items end file
-    file_fault None bytes below may its read file is = absurd (read file is)
-    file_fault (Some FreeFile) bytes below may its read file is = absurd cc
-    file_fault (Some (Used rec)) bytes below may its read file is =
-        subst (λ (f : FileSlot). HasFileFault limits at properties items end f) (one_file limits at end (Used rec) file read is) (record_fault rec bytes below may its)
+    file_fault None blocks below fault read file is = absurd (read file is)
+    file_fault (Some FreeFile) blocks below fault read file is = absurd fault
+    file_fault (Some (Used rec)) blocks below fault read file is =
+        subst (λ (f : FileSlot). HasFileFault limits at properties items end f) (one_file limits at end (Used rec) file read is) (record_fault rec blocks below fault)
 
-    pub file_fails : (numbers : FilesAreNumbered limits at words axioms files) (found : Option FileSlot) (bytes : List ℕ) → end < limits.files → may_take_file words axioms.taxonomy files found bytes ≡ false
-        → AreItsBytes limits at words files found bytes → IsReadAs file_bytes (is_file limits.version) (file_slots limits) at end found → IsFirst limits at 4 (FileSpot end)
-    file_fails numbers found bytes below may its read = record {
+    pub file_fails : (numbers : FilesAreNumbered limits at words axioms files) (found : Option FileSlot) → end < limits.files → HasSlotFault limits at words axioms.taxonomy files found
+        → IsReadAs file_bytes (is_file limits.version) (file_slots limits) at end found → FilesHaveBlocks limits at files → IsFirst limits at 4 (FileSpot end)
+    file_fails numbers found below fault read blocks = record {
       fails = record {
         below = below;
         properties = properties;
         words = are_told limits words are.are are.props at told;
         axioms = items;
         pairs = are_axioms limits words axioms are links at pairs;
-        fault = file_fault found bytes below may its read;
+        fault = file_fault found blocks below fault read;
       };
       is = refl;
-      none_before = none_before numbers;
+      none_before = none_before numbers blocks;
     }

@@ -13,7 +13,8 @@ use Rattle.lis_journal.specs.Record.{Entry}
 use Rattle.lis_slots.specs.Slots.{slot}
 use Rattle.lis_bits.specs.Rows.{Rows, HasShape}
 use Rattle.lis_blockmap.specs.Bitmap.{is_taken}
-use Rattle.lis_content.specs.Content.{content, are_free, has_number, are_distinct, are_within}
+use Rattle.lis_content.specs.Content.{are_free, has_number, are_distinct, are_within}
+use Rattle.lis_content.specs.Large.{content_blocks, file_content}
 use Rattle.lis_content.proofs.Numbers.{length-marked, not_true, are_below, below_from_free, within_if_below}
 use Rattle.lis_dict.specs.Dict.{word_of}
 use Rattle.lis_dict.proofs.Laws.{number_below, number_from_word}
@@ -21,61 +22,37 @@ use Rattle.lis_catalog.specs.Catalog.{Catalog, slot_of, rec_at}
 use Rattle.lis_catalog.proofs.Laws.{rec_at-with_filed}
 use Rattle.lis_ext.specs.Ext.{set_of}
 use Rattle.lis_fields.specs.Records.{FileRecord}
-use Rattle.lis_fields.specs.Layouts as layouts
-use Rattle.lis_fields.specs.Layouts.{file_bytes, is_file, is_record, are_short, slot_blocks}
+use Rattle.lis_fields.specs.Layouts.{file_bytes, is_file, is_record}
 use Rattle.lis_fields.specs.declared.slots.FileSlot.{FileSlot}
 use Rattle.lis_fields.specs.declared.slots.FileSlot.TheVariants.{Free as FreeFile, Used}
-use Rattle.lis_fields.proofs.Parts.{record_tests, few_blocks}
 use Rattle.lis_laws.proofs.Counts.{all_among, all_weaker}
 use Rattle.lis_model.specs.declared.limits.Limits.{Limits}
-use Rattle.lis_model.specs.State.{file_limit, blocks_needed}
 use Rattle.lis_model.specs.Image.{data_start, image_blocks}
-use Rattle.lis_kept.specs.Telling.{bytes_told}
+use Rattle.lis_kept.specs.Telling.{bytes_told, blocks_told, HasIndex}
 use Rattle.lis_kept.specs.Kept.{file_by, record_at}
 use Rattle.lis_kept.specs.Areas.{file_slots}
 use Rattle.lis_kept.specs.Sound.{is_sound_record}
+use Rattle.lis_kept.proofs.Filing.{among_from_number}
+use Rattle.lis_store.proofs.ReadBack.{read_told}
 use Rattle.lis_open.specs.declared.words.Words.{Words}
 use Rattle.lis_open.specs.declared.axioms.Axioms.{Axioms}
 use Rattle.lis_open.specs.declared.files.Files.{Files}
 use Rattle.lis_open.specs.declared.blocks.LastBlock.{LastBlock}
 use Rattle.lis_open.specs.Reading.{OnlyReads, Recalls, IsReadAs}
 use Rattle.lis_open.specs.ReadWords.{AreWords}
-use Rattle.lis_open.specs.ReadFiles.{no_files, described, found_words, is_numbered, own_numbers, may_describe, HasNumbers, AreNumbers, is_assignable_by, is_assignable_number, may_file, may_take_record, may_take_file, AreItsBytes, TakesNumbers, TakesRecord, TakesFile, AreFirstFiles, FilesAreSpelled, FilesAreNumbered}
-use Rattle.lis_kept.proofs.Filing.{among_from_number, same_distinct}
+use Rattle.lis_open.specs.ReadFiles.{no_files, described, found_words, is_numbered, own_numbers, HasNumbers, AreNumbers, is_assignable_by, is_assignable_number, may_file, AreTold, TakesNumbers, TakesRecord, TakesFile, AreFirstFiles, FilesAreSpelled, FilesAreNumbered, FilesHaveBlocks}
 use Rattle.lis_open.proofs.Numbers.{is_taken-marked}
 
--- ---- one record
-pub record_blocks : (version : ℕ) (rec : FileRecord) → IsTrue (is_record version rec) → are_distinct rec.blocks ≡ true
-record_blocks version rec is =
-    let blocks = (record_tests version rec is).blocks in
-    sym (same_distinct rec.blocks) ∙ (and_parts ((length rec.blocks == slot_blocks version rec.size) && are_short rec.blocks) (layouts.are_distinct rec.blocks) blocks).1
-
-pub kept_blocks : {seen : FileRecord} (rec : FileRecord) (blocks : List ℕ) → are_distinct rec.blocks ≡ true → seen ≡ rec → blocks ≡ seen.blocks → are_distinct blocks ≡ true
-kept_blocks rec blocks apart view same = ap are_distinct (same ∙ ap (λ (r : FileRecord). r.blocks) view) ∙ apart
-
--- a record of version 1 has few bytes, and its slot has the number of each block
-pub size_within : {seen : FileRecord} (version : ℕ) (rec : FileRecord) → version ≡ 1 → IsTrue (is_record version rec) → seen ≡ rec → seen.size ≤ 65536
-size_within version rec one is view = let small = (record_tests version rec is).small in omega (arith, small, ap file_limit one, ap (λ (r : FileRecord). r.size) view)
-
-pub blocks_counted : {seen : FileRecord} (version : ℕ) (rec : FileRecord) (blocks : List ℕ) → version ≡ 1 → IsTrue (is_record version rec) → seen ≡ rec → blocks ≡ seen.blocks → length blocks ≡ blocks_needed seen.size
-blocks_counted {seen} version rec blocks one is view same =
-    ap (length {A = ℕ}) same
-    ∙ (ap (λ (r : FileRecord). length r.blocks) view
-    ∙ (few_blocks version rec.size rec.blocks (record_tests version rec is).blocks
-    ∙ (ap (λ v. slot_blocks v rec.size) one ∙ sym (ap (λ (r : FileRecord). blocks_needed r.size) view))))
-
 -- ---- what may be filed
--- each of three tests that hold together
+-- each of two tests that hold together
 pub record MayFile (words : Words) (files : Files) (rec : FileRecord) : Type 0 where
   pub new : not (is_some (slot_of files.catalog rec.name)) ≡ true
   pub given : list_all (is_assignable_number words) rec.tags ≡ true
-  pub free : are_free files.map rec.blocks ≡ true
 
 pub tests_of : (words : Words) (files : Files) (rec : FileRecord) → may_file words files rec ≡ true → MayFile words files rec
 tests_of words files rec may =
-    let both = and_parts (not (is_some (slot_of files.catalog rec.name)) && list_all (is_assignable_number words) rec.tags) (are_free files.map rec.blocks) may in
-    let first = and_parts (not (is_some (slot_of files.catalog rec.name))) (list_all (is_assignable_number words) rec.tags) both.0 in
-    record { new = first.0; given = first.1; free = both.1 }
+    let both = and_parts (not (is_some (slot_of files.catalog rec.name))) (list_all (is_assignable_number words) rec.tags) may in
+    record { new = both.0; given = both.1 }
 
 -- a number that may be given has a word, and so it is below the limit
 pub assignable_some : (words : Words) (o : Option (List ℕ)) → is_assignable_by words o ≡ true → is_some o ≡ true
@@ -94,19 +71,22 @@ tags_below words files rec props are same may =
     all_weaker (is_assignable_number words) (λ n. nat_lt n props) rec.tags (λ n m is. lt-ltb n props (let below = number_within words n are is in omega (arith, below, same))) (tests_of words files rec may).given
 
 -- ---- the bytes of a record's file
--- its blocks are within the image
-pub blocks_within : (limits : Limits) (words : Words) (files : Files) (rec : FileRecord) {seen : FileRecord} (blocks : List ℕ) (start end : ℕ) → start ≡ data_start limits → end ≡ image_blocks limits
-    → length files.map ≡ limits.blocks → seen ≡ rec → blocks ≡ seen.blocks → may_file words files rec ≡ true → are_within start end blocks ≡ true
-blocks_within limits words files rec blocks start end is_start is_end long view same may =
+-- the blocks that its slot numbers are within the image
+pub blocks_within : (limits : Limits) (taken : List Bool) (rec : FileRecord) {seen : FileRecord} (blocks : List ℕ) (start end : ℕ) → start ≡ data_start limits → end ≡ image_blocks limits
+    → length taken ≡ limits.blocks → seen ≡ rec → blocks ≡ seen.blocks → are_free taken rec.blocks ≡ true → are_within start end blocks ≡ true
+blocks_within limits taken rec blocks start end is_start is_end long view same free =
     ap (are_within start end) (same ∙ ap (λ (r : FileRecord). r.blocks) view)
-    ∙ within_if_below start end (length files.map) rec.blocks (omega (arith, is_start, is_end, long)) (below_from_free files.map rec.blocks (tests_of words files rec may).free)
+    ∙ within_if_below start end (length taken) rec.blocks (omega (arith, is_start, is_end, long)) (below_from_free taken rec.blocks free)
 
--- where nothing is staged, what was read are its bytes
-pub bytes_are : (limits : Limits) (rec : FileRecord) {seen : FileRecord} (blocks : List ℕ) (staged : List Entry) (kept : ℕ → List ℕ) (start : ℕ) (bytes : List ℕ) → start ≡ data_start limits → staged ≡ []
-    → seen ≡ rec → blocks ≡ seen.blocks → bytes ≡ content start blocks seen.size (looked staged kept) → bytes ≡ bytes_told limits kept rec
-bytes_are limits rec {seen} blocks staged kept start bytes is_start none view same is =
-    is ∙ (ap (λ ns. content start ns seen.size (looked staged kept)) same ∙ (ap (λ (r : FileRecord). content start r.blocks r.size (looked staged kept)) view
-    ∙ (ap (λ s. content s rec.blocks rec.size (looked staged kept)) is_start ∙ ap (λ (es : List Entry). content (data_start limits) rec.blocks rec.size (looked es kept)) none)))
+-- where nothing is staged, and all its blocks are blocks of the image, what was read are its bytes
+pub read_are_told : (limits : Limits) (taken : List Bool) (rec : FileRecord) {seen : FileRecord} (blocks numbers : List ℕ) (staged : List Entry) (kept : ℕ → List ℕ) (start end : ℕ) (bytes : List ℕ)
+    → start ≡ data_start limits → end ≡ image_blocks limits → length taken ≡ limits.blocks → staged ≡ [] → seen ≡ rec → numbers ≡ seen.blocks → are_free taken blocks ≡ true → blocks ≡ blocks_told limits kept rec
+    → (IsTrue (are_within start end (content_blocks start numbers seen.size (looked staged kept))) → bytes ≡ file_content start numbers seen.size (looked staged kept)) → bytes ≡ bytes_told limits kept rec
+read_are_told limits taken rec {seen} blocks numbers staged kept start end bytes is_start is_end long none view same free told read =
+    let below : are_below limits.blocks (blocks_told limits kept rec) ≡ true =
+    ap (are_below limits.blocks) (sym told) ∙ (ap (λ m. are_below m blocks) (sym long) ∙ below_from_free taken blocks free) in
+    read_told limits rec kept bytes end start seen.size numbers is_end is_start (ap (λ (r : FileRecord). r.size) view) (same ∙ ap (λ (r : FileRecord). r.blocks) view) below
+    (subst (λ (es : List Entry). IsTrue (are_within start end (content_blocks start numbers seen.size (looked es kept))) → bytes ≡ file_content start numbers seen.size (looked es kept)) none read)
 
 -- ---- no file yet
 nothing_at : {X : Type 0} (n k : ℕ) (x : X) → get_or (replicate n x) k x ≡ x
@@ -125,9 +105,6 @@ no_files_yet limits words axioms = record {
   given = λ slot rec is. absurd cc;
   rest = λ n le. refl;
   blocks = length-replicate limits.blocks false;
-  taken = λ slot rec n is. absurd cc;
-  in_use = λ n is. absurd (both_ways (get_or (replicate limits.blocks false) n false) (nothing_at limits.blocks n false) is);
-  apart = λ slot other rec more n is. absurd cc;
   props = refl;
   count = length-replicate limits.files [];
   sets = λ slot. nothing_at limits.files slot [];
@@ -139,31 +116,38 @@ pub none_numbered : (limits : Limits) (words : Words) (axioms : Axioms) (files :
 unfolding no_files
 none_numbered limits words axioms files at is slot rec there = absurd (let e = ap (λ (f : Files). rec_at f.catalog slot) (sym is) ∙ there in cc)
 
+pub none_have_blocks : (limits : Limits) (files : Files) (at : ℕ → List ℕ) → files ≡ no_files limits → FilesHaveBlocks limits at files
+unfolding no_files
+none_have_blocks limits files at is = subst (λ (f : Files). FilesHaveBlocks limits at f) (sym is) (record {
+  indexed = λ slot rec there. absurd cc;
+  distinct = λ slot rec there. absurd cc;
+  taken = λ slot rec n there. absurd cc;
+  in_use = λ n held. absurd (both_ways (get_or (replicate limits.blocks false) n false) (nothing_at limits.blocks n false) held);
+  one_use = λ slot other rec more n there. absurd cc;
+})
+
 -- ---- one file more
 absent : (o : Option ℕ) → not (is_some o) ≡ true → o ≡ None
 absent None new = refl
 absent (Some n) new = absurd cc
 
-module _ (limits : Limits) (words : Words) (axioms : Axioms) (files next : Files) (number : ℕ) (rec : FileRecord) (bytes : List ℕ) (first : AreFirstFiles limits words axioms files number) (lt : number < limits.files)
-    (form : is_record limits.version rec ≡ true) (may : may_take_record words axioms.taxonomy files rec (found_words words rec.name bytes) ≡ true) (taken : TakesRecord words axioms.taxonomy number rec bytes files next) where
+module _ (limits : Limits) (MayBeKept : (ℕ → List ℕ) → Type 0) (words : Words) (axioms : Axioms) (files next : Files) (number : ℕ) (rec : FileRecord) (first : AreFirstFiles limits words axioms files number)
+    (lt : number < limits.files) (form : is_record limits.version rec ≡ true) (took : TakesRecord limits MayBeKept words axioms.taxonomy number rec files next) where
   -- the words that are found in the file
   abbrev in_file : List (List ℕ)
-  in_file = found_words words rec.name bytes
+  in_file = found_words words rec.name took.bytes
 
   abbrev numbers : List ℕ
   numbers = described axioms.taxonomy (own_numbers words.dict rec.tags in_file)
 
-  takes : TakesNumbers number rec (described axioms.taxonomy (own_numbers words.dict rec.tags in_file)) files next
-  takes = taken.takes
-
-  parts : (may_file words files rec ≡ true) × (may_describe words axioms.taxonomy rec in_file ≡ true)
-  parts = and_parts (may_file words files rec) (may_describe words axioms.taxonomy rec in_file) may
+  takes : TakesNumbers number rec took.blocks (described axioms.taxonomy (own_numbers words.dict rec.tags in_file)) files next
+  takes = took.takes
 
   described_parts : (list_all (is_numbered words.dict) in_file ≡ true) × (nat_le (length numbers) 128 ≡ true)
-  described_parts = and_parts (list_all (is_numbered words.dict) in_file) (nat_le (length numbers) 128) parts.1
+  described_parts = and_parts (list_all (is_numbered words.dict) in_file) (nat_le (length numbers) 128) took.describes
 
   tests : MayFile words files rec
-  tests = tests_of words files rec parts.0
+  tests = tests_of words files rec took.filed
 
   free_slot : rec_at files.catalog number ≡ None
   free_slot = first.rest number (omega arith)
@@ -195,22 +179,13 @@ module _ (limits : Limits) (words : Words) (axioms : Axioms) (files next : Files
       differs same = let none = sym free_slot ∙ (ap (rec_at files.catalog) (sym same) ∙ is) in cc
 
   below : are_below limits.blocks rec.blocks ≡ true
-  below = ap (λ m. are_below m rec.blocks) (sym first.blocks) ∙ below_from_free files.map rec.blocks tests.free
+  below = ap (λ m. are_below m rec.blocks) (sym first.blocks) ∙ below_from_free files.map rec.blocks took.usable.own
 
   sound : is_sound_record limits.version words.dict limits.blocks rec ≡ true
   sound =
       let named = list_all (λ n. is_some (word_of words.dict n)) rec.tags in
       and_from (is_record limits.version rec && named) (list_all (λ n. nat_lt n limits.blocks) rec.blocks)
       (and_from (is_record limits.version rec) named form (all_weaker (is_assignable_number words) (λ n. is_some (word_of words.dict n)) rec.tags (λ n m is. assignable_some words (word_of words.dict n) is) tests.given)) below
-
-  taken_is : (n : ℕ) → is_taken next.map n ≡ (has_number rec.blocks n || is_taken files.map n)
-  taken_is n = ap (λ (m : List Bool). is_taken m n) takes.map ∙ is_taken-marked files.map rec.blocks n (below_from_free files.map rec.blocks tests.free)
-
-  -- a new data block is that of no old file
-  not_both : (n slot : ℕ) (r : FileRecord) → has_number rec.blocks n ≡ true → rec_at files.catalog slot ≡ Some r → has_number r.blocks n ≡ true → ⊥
-  not_both n slot r here is there =
-      let free = (and_parts (nat_lt n (length files.map)) (not (is_taken files.map n)) (all_among (λ k. nat_lt k (length files.map) && not (is_taken files.map k)) rec.blocks n tests.free (among_from_number rec.blocks n here))).1 in
-      both_ways (is_taken files.map n) (not_true (is_taken files.map n) free) (first.taken slot r n is there)
 
   set_new : set_of next.ext number ≡ numbers
   set_new = ap (λ (sets : List (List ℕ)). get_or sets number []) takes.sets ∙ get_or-set_same files.ext.sets number numbers [] (omega (arith, lt, first.count))
@@ -224,21 +199,21 @@ module _ (limits : Limits) (words : Words) (axioms : Axioms) (files next : Files
   sets_are : (n : ℕ) → (n ≡ number) ⊎ (n ≡ number → ⊥) → AreNumbers words axioms.taxonomy (rec_at next.catalog n) (set_of next.ext n)
   sets_are n (inl same) =
       subst (λ k. AreNumbers words axioms.taxonomy (rec_at next.catalog k) (set_of next.ext k)) (sym same)
-      (subst (λ o. AreNumbers words axioms.taxonomy o (set_of next.ext number)) (sym found_new) (record { bytes = bytes; sized = taken.sized; has = has_new }))
+      (subst (λ o. AreNumbers words axioms.taxonomy o (set_of next.ext number)) (sym found_new) (record { bytes = took.bytes; sized = took.sized; has = has_new }))
   sets_are n (inr differ) =
       subst (λ o. AreNumbers words axioms.taxonomy o (set_of next.ext n)) (sym (found_old n differ))
       (subst (λ ns. AreNumbers words axioms.taxonomy (rec_at files.catalog n) ns) (sym (set_old n differ)) (first.sets n))
 
   -- and by the words that are found in them
-  pub numbered_more : (at : ℕ → List ℕ) → FilesAreNumbered limits at words axioms files → bytes ≡ bytes_told limits at rec → FilesAreNumbered limits at words axioms next
-  numbered_more at old is n r there = by (cases_eq n number)
+  numbered_more : (at : ℕ → List ℕ) → MayBeKept at → FilesAreNumbered limits at words axioms files → FilesAreNumbered limits at words axioms next
+  numbered_more at may old n r there = by (cases_eq n number)
     where
       by : (n ≡ number) ⊎ (n ≡ number → ⊥) → HasNumbers words axioms.taxonomy r (found_words words r.name (bytes_told limits at r)) (set_of next.ext n)
       by (inl same) =
           let one = same_Some rec r (sym found_new ∙ (ap (rec_at next.catalog) (sym same) ∙ there)) in
           subst (λ (x : FileRecord). HasNumbers words axioms.taxonomy x (found_words words x.name (bytes_told limits at x)) (set_of next.ext n)) one
           (subst (λ k. HasNumbers words axioms.taxonomy rec (found_words words rec.name (bytes_told limits at rec)) (set_of next.ext k)) (sym same)
-          (subst (λ bs. HasNumbers words axioms.taxonomy rec (found_words words rec.name bs) (set_of next.ext number)) is has_new))
+          (subst (λ bs. HasNumbers words axioms.taxonomy rec (found_words words rec.name bs) (set_of next.ext number)) (took.told at may).bytes_are has_new))
       by (inr differ) =
           subst (λ ns. HasNumbers words axioms.taxonomy r (found_words words r.name (bytes_told limits at r)) ns) (sym (set_old n differ)) (old n r (sym (found_old n differ) ∙ there))
 
@@ -248,33 +223,20 @@ module _ (limits : Limits) (words : Words) (axioms : Axioms) (files next : Files
       omega (arith, few, ap (length {A = ℕ}) (ap (set_of next.ext) same ∙ set_new))
   short_at n (inr differ) = let few = first.short n in omega (arith, few, ap (length {A = ℕ}) (set_old n differ))
 
-  pub files_more : AreFirstFiles limits words axioms next (number + 1)
+  files_more : AreFirstFiles limits words axioms next (number + 1)
   files_more = record {
     slots = ap (λ (c : Catalog). c.files) takes.catalog ∙ first.slots;
     catalog = takes.kept;
     records = either (λ slot r. IsTrue (is_sound_record limits.version words.dict limits.blocks r)) sound first.records;
     given = either (λ slot r. IsTrue (list_all (is_assignable_number words) r.tags)) tests.given first.given;
     rest = λ n le. found_old n (λ e. omega arith) ∙ first.rest n (omega arith);
-    blocks = ap (length {A = Bool}) takes.map ∙ (length-marked files.map rec.blocks ∙ first.blocks);
-    taken = λ slot r n is has. taken_is n ∙
-        either (λ k x. has_number x.blocks n ≡ true → (has_number rec.blocks n || is_taken files.map n) ≡ true) (λ here. or_left (has_number rec.blocks n) (is_taken files.map n) here)
-        (λ k x there here. or_right (has_number rec.blocks n) (is_taken files.map n) (first.taken k x n there here)) slot r is has;
-    in_use = λ n is. used n (or_cases (has_number rec.blocks n) (is_taken files.map n) (sym (taken_is n) ∙ is));
-    apart = λ slot other r more n is_r is_more.
-        either (λ k x. has_number x.blocks n ≡ true → has_number more.blocks n ≡ true → k ≡ other)
-        (λ here. either (λ k x. has_number x.blocks n ≡ true → number ≡ k) (λ there. refl) (λ k x is there. absurd (not_both n k x here is there)) other more is_more)
-        (λ k x is here. either (λ j y. has_number y.blocks n ≡ true → k ≡ j) (λ there. absurd (not_both n k x there is here)) (λ j y is_y there. first.apart k j x y n is is_y here there) other more is_more)
-        slot r is_r;
+    blocks = ap (length {A = Bool}) takes.map ∙ (length-marked files.map took.blocks ∙ first.blocks);
     props = takes.props ∙ first.props;
     count = ap (length {A = List ℕ}) takes.sets ∙ (length-set files.ext.sets number numbers ∙ first.count);
     sets = λ n. sets_are n (cases_eq n number);
     short = λ n. short_at n (cases_eq n number);
     settled = takes.settled;
   }
-    where
-      used : (n : ℕ) → (has_number rec.blocks n ≡ true) ⊎ (is_taken files.map n ≡ true) → (slot : ℕ) × (r : FileRecord) × (rec_at next.catalog slot ≡ Some r) × (has_number r.blocks n ≡ true)
-      used n (inl here) = (number, rec, found_new, here)
-      used n (inr old) = let found = first.in_use n old in (found.0, found.1, still_there found.0 found.1 found.2, found.3)
 
   spelled_more : (at : ℕ → List ℕ) → FilesAreSpelled limits at files number → slot (file_slots limits) at number ≡ file_bytes (Used rec) → FilesAreSpelled limits at next (number + 1)
   spelled_more at spelled here n less = by (cases_eq n number)
@@ -283,43 +245,84 @@ module _ (limits : Limits) (words : Words) (axioms : Axioms) (files next : Files
       by (inl same) = subst (λ k. slot (file_slots limits) at k ≡ file_bytes (record_at next.catalog k)) (sym same) (here ∙ ap (λ o. file_bytes (file_by o)) (sym found_new))
       by (inr differ) = spelled n (omega arith) ∙ ap (λ o. file_bytes (file_by o)) (sym (found_old n differ))
 
+  -- ---- their blocks
+  taken_is : (n : ℕ) → is_taken next.map n ≡ (has_number took.blocks n || is_taken files.map n)
+  taken_is n = ap (λ (m : List Bool). is_taken m n) takes.map ∙ is_taken-marked files.map took.blocks n (below_from_free files.map took.blocks took.usable.free)
+
+  -- a new block was free
+  was_free : (n : ℕ) → has_number took.blocks n ≡ true → is_taken files.map n ≡ false
+  was_free n new =
+      let free = all_among (λ k. nat_lt k (length files.map) && not (is_taken files.map k)) took.blocks n took.usable.free (among_from_number took.blocks n new) in
+      not_true (is_taken files.map n) (and_parts (nat_lt n (length files.map)) (not (is_taken files.map n)) free).1
+
+  module _ (at : ℕ → List ℕ) (may : MayBeKept at) (old : FilesHaveBlocks limits at files) where
+    told : AreTold limits at rec took.bytes took.blocks
+    told = took.told at may
+
+    in_new : (n : ℕ) → has_number (blocks_told limits at rec) n ≡ true → has_number took.blocks n ≡ true
+    in_new n has = ap (λ ns. has_number ns n) told.blocks_are ∙ has
+
+    -- and so it is that of no old file
+    not_both : (n slot : ℕ) (r : FileRecord) → has_number (blocks_told limits at rec) n ≡ true → rec_at files.catalog slot ≡ Some r → has_number (blocks_told limits at r) n ≡ true → ⊥
+    not_both n slot r here is there = both_ways (is_taken files.map n) (was_free n (in_new n here)) (old.taken slot r n is there)
+
+    blocks_more : FilesHaveBlocks limits at next
+    blocks_more = record {
+      indexed = either (λ k r. HasIndex limits at r) told.indexed old.indexed;
+      distinct = either (λ k r. IsTrue (are_distinct (blocks_told limits at r))) (ap are_distinct (sym told.blocks_are) ∙ took.usable.distinct) old.distinct;
+      taken = λ slot r n is has. taken_is n ∙
+          either (λ k x. has_number (blocks_told limits at x) n ≡ true → (has_number took.blocks n || is_taken files.map n) ≡ true)
+          (λ here. or_left (has_number took.blocks n) (is_taken files.map n) (in_new n here))
+          (λ k x there here. or_right (has_number took.blocks n) (is_taken files.map n) (old.taken k x n there here)) slot r is has;
+      in_use = λ n is. used n (or_cases (has_number took.blocks n) (is_taken files.map n) (sym (taken_is n) ∙ is));
+      one_use = λ slot other r more n is_r is_more.
+          either (λ k x. has_number (blocks_told limits at x) n ≡ true → has_number (blocks_told limits at more) n ≡ true → k ≡ other)
+          (λ here. either (λ k x. has_number (blocks_told limits at x) n ≡ true → number ≡ k) (λ there. refl) (λ k x is there. absurd (not_both n k x here is there)) other more is_more)
+          (λ k x is here. either (λ j y. has_number (blocks_told limits at y) n ≡ true → k ≡ j) (λ there. absurd (not_both n k x there is here)) (λ j y is_y there. old.one_use k j x y n is is_y here there) other more is_more)
+          slot r is_r;
+    }
+      where
+        used : (n : ℕ) → (has_number took.blocks n ≡ true) ⊎ (is_taken files.map n ≡ true) → (slot : ℕ) × (r : FileRecord) × (rec_at next.catalog slot ≡ Some r) × (has_number (blocks_told limits at r) n ≡ true)
+        used n (inl here) = (number, rec, found_new, ap (λ ns. has_number ns n) (sym told.blocks_are) ∙ here)
+        used n (inr was) = let found = old.in_use n was in (found.0, found.1, still_there found.0 found.1 found.2, found.3)
+
 -- ---- one slot more
-module _ (limits : Limits) (words : Words) (axioms : Axioms) (files : Files) (number : ℕ) (first : AreFirstFiles limits words axioms files number) (lt : number < limits.files) where
-  pub files_on : (found : Option FileSlot) (bytes : List ℕ) (next : Files) → IfSome found (λ file. IsTrue (is_file limits.version file)) → may_take_file words axioms.taxonomy files found bytes ≡ true
-      → TakesFile words axioms.taxonomy number found bytes files next → AreFirstFiles limits words axioms next (number + 1)
-  files_on None bytes next form may takes = absurd takes
-  files_on (Some FreeFile) bytes next form may takes = subst (λ (f : Files). AreFirstFiles limits words axioms f (number + 1)) (sym takes) (record {
+module _ (limits : Limits) (MayBeKept : (ℕ → List ℕ) → Type 0) (words : Words) (axioms : Axioms) (files : Files) (number : ℕ) (first : AreFirstFiles limits words axioms files number) (lt : number < limits.files) where
+  pub files_on : (found : Option FileSlot) (next : Files) → IfSome found (λ file. IsTrue (is_file limits.version file)) → TakesFile limits MayBeKept words axioms.taxonomy number found files next
+      → AreFirstFiles limits words axioms next (number + 1)
+  files_on None next form takes = absurd takes
+  files_on (Some FreeFile) next form takes = subst (λ (f : Files). AreFirstFiles limits words axioms f (number + 1)) (sym takes) (record {
     slots = first.slots;
     catalog = first.catalog;
     records = first.records;
     given = first.given;
     rest = λ n le. first.rest n (omega arith);
     blocks = first.blocks;
-    taken = first.taken;
-    in_use = first.in_use;
-    apart = first.apart;
     props = first.props;
     count = first.count;
     sets = first.sets;
     short = first.short;
     settled = first.settled;
   })
-  files_on (Some (Used rec)) bytes next form may takes = files_more limits words axioms files next number rec bytes first lt form may takes
+  files_on (Some (Used rec)) next form takes = files_more limits MayBeKept words axioms files next number rec first lt form takes
 
-  -- the numbers are those of the descriptions, where the bytes were those of the files
-  pub numbered_on : (at : ℕ → List ℕ) → FilesAreNumbered limits at words axioms files → (found : Option FileSlot) (bytes : List ℕ) (next : Files) → IfSome found (λ file. IsTrue (is_file limits.version file))
-      → may_take_file words axioms.taxonomy files found bytes ≡ true → TakesFile words axioms.taxonomy number found bytes files next → AreItsBytes limits at words files found bytes → FilesAreNumbered limits at words axioms next
-  numbered_on at old None bytes next form may takes are = absurd takes
-  numbered_on at old (Some FreeFile) bytes next form may takes are = subst (λ (f : Files). FilesAreNumbered limits at words axioms f) (sym takes) old
-  numbered_on at old (Some (Used rec)) bytes next form may takes are =
-      let in_file = found_words words rec.name bytes in
-      let told = are (and_parts (may_file words files rec) (may_describe words axioms.taxonomy rec in_file) may).0 in
-      numbered_more limits words axioms files next number rec bytes first lt form may takes at old told
+  -- the numbers are those of the descriptions
+  pub numbered_on : (at : ℕ → List ℕ) → MayBeKept at → FilesAreNumbered limits at words axioms files → (found : Option FileSlot) (next : Files) → IfSome found (λ file. IsTrue (is_file limits.version file))
+      → TakesFile limits MayBeKept words axioms.taxonomy number found files next → FilesAreNumbered limits at words axioms next
+  numbered_on at may old None next form takes = absurd takes
+  numbered_on at may old (Some FreeFile) next form takes = subst (λ (f : Files). FilesAreNumbered limits at words axioms f) (sym takes) old
+  numbered_on at may old (Some (Used rec)) next form takes = numbered_more limits MayBeKept words axioms files next number rec first lt form takes at may old
 
-  pub spelled_on : (at : ℕ → List ℕ) → FilesAreSpelled limits at files number → (found : Option FileSlot) (bytes : List ℕ) (next : Files) → IfSome found (λ file. IsTrue (is_file limits.version file))
-      → may_take_file words axioms.taxonomy files found bytes ≡ true → TakesFile words axioms.taxonomy number found bytes files next → IsReadAs file_bytes (is_file limits.version) (file_slots limits) at number found → FilesAreSpelled limits at next (number + 1)
-  spelled_on at spelled None bytes next form may takes read = absurd takes
-  spelled_on at spelled (Some FreeFile) bytes next form may takes read = subst (λ (f : Files). FilesAreSpelled limits at f (number + 1)) (sym takes) (λ n less. by n less (cases_eq n number))
+  pub blocks_on : (at : ℕ → List ℕ) → MayBeKept at → FilesHaveBlocks limits at files → (found : Option FileSlot) (next : Files) → IfSome found (λ file. IsTrue (is_file limits.version file))
+      → TakesFile limits MayBeKept words axioms.taxonomy number found files next → FilesHaveBlocks limits at next
+  blocks_on at may old None next form takes = absurd takes
+  blocks_on at may old (Some FreeFile) next form takes = subst (λ (f : Files). FilesHaveBlocks limits at f) (sym takes) old
+  blocks_on at may old (Some (Used rec)) next form takes = blocks_more limits MayBeKept words axioms files next number rec first lt form takes at may old
+
+  pub spelled_on : (at : ℕ → List ℕ) → FilesAreSpelled limits at files number → (found : Option FileSlot) (next : Files) → IfSome found (λ file. IsTrue (is_file limits.version file))
+      → TakesFile limits MayBeKept words axioms.taxonomy number found files next → IsReadAs file_bytes (is_file limits.version) (file_slots limits) at number found → FilesAreSpelled limits at next (number + 1)
+  spelled_on at spelled None next form takes read = absurd takes
+  spelled_on at spelled (Some FreeFile) next form takes read = subst (λ (f : Files). FilesAreSpelled limits at f (number + 1)) (sym takes) (λ n less. by n less (cases_eq n number))
     where
       here : slot (file_slots limits) at number ≡ file_bytes (record_at files.catalog number)
       here = read.bytes ∙ ap (λ o. file_bytes (file_by o)) (sym (first.rest number (omega arith)))
@@ -327,7 +330,7 @@ module _ (limits : Limits) (words : Words) (axioms : Axioms) (files : Files) (nu
       by : (n : ℕ) → n < number + 1 → (n ≡ number) ⊎ (n ≡ number → ⊥) → slot (file_slots limits) at n ≡ file_bytes (record_at files.catalog n)
       by n less (inl same) = subst (λ k. slot (file_slots limits) at k ≡ file_bytes (record_at files.catalog k)) (sym same) here
       by n less (inr differ) = spelled n (omega arith)
-  spelled_on at spelled (Some (Used rec)) bytes next form may takes read = spelled_more limits words axioms files next number rec bytes first lt form may takes at spelled read.bytes
+  spelled_on at spelled (Some (Used rec)) next form takes read = spelled_more limits MayBeKept words axioms files next number rec first lt form takes at spelled read.bytes
 
 -- ---- the loop
 -- the slots below the end were read, by runs that only read
@@ -339,3 +342,4 @@ pub record FilesTurn (journal : Held) (limits : Limits) (words : Words) (axioms 
   pub recalls : (kept : ℕ → List ℕ) → Fits journal old kept → Recalls last_old kept → Recalls last kept
   pub spelled : (kept : ℕ → List ℕ) → Fits journal old kept → Recalls last_old kept → FilesAreSpelled limits kept files end
   pub numbered : (kept : ℕ → List ℕ) → Fits journal old kept → FilesAreNumbered limits kept words axioms files
+  pub blocks : (kept : ℕ → List ℕ) → Fits journal old kept → FilesHaveBlocks limits kept files

@@ -18,20 +18,19 @@ use Rattle.lis_taxonomy.specs.Taxonomy.{no_links, has_edge, entails, Entails as 
 use Rattle.lis_taxonomy.proofs.Laws.{entails_decides}
 use Rattle.lis_fields.specs.Records.{FileRecord}
 use Rattle.lis_fields.specs.Layouts.{is_prop}
-use Rattle.lis_store.specs.Stands.{is_super}
 use Rattle.lis_fields.specs.declared.slots.AxiomSlot.{AxiomSlot}
 use Rattle.lis_fields.specs.declared.slots.AxiomSlot.TheVariants.{Free as FreeAxiom, Pair}
 use Rattle.lis_words.specs.Words.{is_plain_word, is_valued, same_word, head_bytes}
 use Rattle.lis_laws.proofs.Apart.{plain_not_valued, test_not_valued, declarable_not_valued}
 use Rattle.lis_laws.proofs.Chains.{head_not_valued}
-use Rattle.lis_laws.proofs.Counts.{all_among, all_from}
+use Rattle.lis_laws.proofs.Counts.{all_among}
 use Rattle.lis_laws.proofs.Members.{same_word_decides}
 use Rattle.lis_model.specs.declared.limits.Limits.{Limits}
 use Rattle.lis_model.specs.Ranges.{are_in_range}
 use Rattle.lis_model.specs.Image.{image_blocks}
 use Rattle.lis_model.specs.State.{is_declarable, is_assignable}
 use Rattle.lis_kept.specs.Kept.{Kept, property_by}
-use Rattle.lis_kept.specs.Sound.{IsSoundAxiom, AreSound, FreeSlotsAreEmpty, BlocksAreTaken}
+use Rattle.lis_kept.specs.Sound.{IsSoundAxiom, AreSound, FreeSlotsAreEmpty}
 use Rattle.lis_kept.specs.Links.{is_pair, has_pair, is_own_link, TellsLinks, AreHeld}
 use Rattle.lis_kept.specs.Telling.{is_left_of, is_left_head_of, is_head_by, is_had, is_named_left, is_used, AreUsed}
 use Rattle.lis_kept.specs.TestEdges.{is_test_link}
@@ -295,9 +294,6 @@ module _ (limits : Limits) (words : Words) (axioms : Axioms) (files : Files) (ma
         let bare = edge_end limits words axioms dict _ read.axioms_are p q edge in
         slot_has limits words axioms files limits.files read.files_are slot q from.own from.rec from.some from.has (leads_on axioms.taxonomy from.own p q from.leads edge) (below q bare.word bare.is)
 
-    parts_taken : BlocksAreTaken k
-    parts_taken slot rec is = all_from (is_taken files.map) rec.blocks (λ n m. read.files_are.taken slot rec n is (has_from_among rec.blocks n m))
-
     parts_in_use : KeepsInUse k
     parts_in_use = record {
       used = each_used;
@@ -312,17 +308,14 @@ module _ (limits : Limits) (words : Words) (axioms : Axioms) (files : Files) (ma
           declared_flagged limits words dict right to.word to.is to.declared;
     }
 
-    pub store_sound : TestsAreMet (kept_in limits words axioms files marks) → (journal : Held) → IsTrue (is_super limits) → journal.blocks ≡ image_blocks limits → journal.is_broken ≡ false → journal.staged ≡ [] → journal.placed ≡ []
+    pub store_sound : TestsAreMet (kept_in limits words axioms files marks) → (journal : Held) → journal.blocks ≡ image_blocks limits → journal.is_broken ≡ false → journal.staged ≡ [] → journal.placed ≡ []
         → IsSound (record { parts = k; journal = journal; is_broken = false })
-    store_sound tests journal super image unbroken staged placed = record {
+    store_sound tests journal image unbroken staged placed = record {
       parts = parts_sound;
-      range = super;
       free = parts_free;
       pairs = read.axioms_are.apart;
       closed = parts_closed;
       short = read.files_are.short;
-      taken = parts_taken;
-      apart = read.files_are.apart;
       in_use = parts_in_use;
       tests = tests;
       image = image;

@@ -10,6 +10,7 @@ mod WordsRead
 mod WordUses
 mod Numbers
 mod Gathering
+mod BlocksRead
 mod OwnNumbers
 mod FilesRead
 mod Counts
@@ -35,5 +36,6 @@ mod Lefts
 mod ZeroRows
 mod AllRead
 mod Order
+mod SameHomes
 mod Parts
 mod Opening

@@ -6,12 +6,11 @@ use Rattle.lis_model.specs.declared.limits.Limits.{Limits}
 use Rattle.lis_model.specs.Image.{image_blocks}
 use Rattle.lis_model.specs.State.{State}
 use Rattle.lis_store.specs.Stands.{Stands}
-use Rattle.lis_store.proofs.Limits.{limits_in_range}
 use Rattle.lis_open.specs.Opens.{HasSuper, IsNeeded}
 
 -- a super block tells one value of limits
 pub one_limits : (image : List ℕ) (a b : Limits) → HasSuper a image → HasSuper b image → a ≡ b
-one_limits image a b is_a is_b = super_once a b (part 0 4096 image) (limits_in_range a is_a.range) (limits_in_range b is_b.range) is_a.spelled is_b.spelled
+one_limits image a b is_a is_b = super_once a b (part 0 4096 image) is_a.range is_b.range is_a.spelled is_b.spelled
 
 pub has_super : (image : List ℕ) (s : State) → Stands image s → HasSuper s.limits image
 unfolding Stands

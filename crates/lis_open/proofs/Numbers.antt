@@ -1,17 +1,36 @@
 -- Lists of numbers of which none stands twice, and blocks that are taken.
-use Rattle.std.proofs.Common.{◌≡◌, ◌⊎◌, ◌∙◌, refl, sym, ap, subst, inl, inr, ℕ, ◌+◌, ◌<◌, ◌==◌, nat_lt, Bool, true, false, not, ◌&&◌, ◌||◌, List, [], ◌∷◌, length, get_or, set, drop, eq-eqb, add-one, length-set, get_or-set_same, get_or-set_other, drop-cons}
-use Rattle.std.proofs.lemmas.Bool.{and_parts, and_from, both_ways, ne_eqb, cases_eq, ltb-true}
-use Rattle.lis_graph.proofs.Members.{Among}
+use Rattle.std.proofs.Common.{◌≡◌, ◌⊎◌, ◌∙◌, refl, sym, ap, subst, inl, inr, ℕ, ◌+◌, ◌<◌, ◌==◌, nat_lt, Bool, true, false, not, ◌&&◌, ◌||◌, List, [], ◌∷◌, ◌++◌, length, get_or, set, drop, eq-eqb, add-one, length-set, get_or-set_same, get_or-set_other, drop-cons}
+use Rattle.std.specs.List.{flat_map}
+use Rattle.std.proofs.lemmas.Bool.{and_parts, and_from, both_ways, ne_eqb, cases_eq, ltb-true, false_from_ne_true, not_from_false}
+use Rattle.lis_graph.proofs.Members.{Among, among_left}
 use Rattle.lis_blockmap.specs.Bitmap.{is_taken}
 use Rattle.lis_content.specs.Content.{marked, are_free, has_number, are_distinct}
 use Rattle.lis_content.proofs.Numbers.{not_true, are_below}
-use Rattle.lis_kept.proofs.Filing.{number_from_among}
+use Rattle.lis_kept.proofs.Filing.{among_from_number, number_from_among}
 
 -- ---- no number twice
 pub apart_first : (n : ℕ) (ns : List ℕ) → are_distinct (n ∷ ns) ≡ true → (Among ns n → ⊥) × (are_distinct ns ≡ true)
 apart_first n ns distinct =
     let parts = and_parts (not (has_number ns n)) (are_distinct ns) distinct in
     (λ m. both_ways (has_number ns n) (not_true (has_number ns n) parts.0) (number_from_among ns n m), parts.1)
+
+distinct_front : (ms ns : List ℕ) → are_distinct (ms ++ ns) ≡ true → are_distinct ms ≡ true
+distinct_front [] ns distinct = refl
+distinct_front (m ∷ ms) ns distinct =
+    let parts = apart_first m (ms ++ ns) distinct in
+    and_from (not (has_number ms m)) (are_distinct ms)
+    (not_from_false (has_number ms m) (false_from_ne_true (has_number ms m) (λ has. parts.0 (among_left ms ns m (among_from_number ms m has)))))
+    (distinct_front ms ns parts.1)
+
+distinct_behind : (ms ns : List ℕ) → are_distinct (ms ++ ns) ≡ true → are_distinct ns ≡ true
+distinct_behind [] ns distinct = distinct
+distinct_behind (m ∷ ms) ns distinct = distinct_behind ms ns (apart_first m (ms ++ ns) distinct).1
+
+-- and so none stands twice in a piece of such a list
+pub distinct_piece : {X : Type 0} (piece : X → List ℕ) (xs : List X) (x : X) → Among xs x → are_distinct (flat_map piece xs) ≡ true → are_distinct (piece x) ≡ true
+distinct_piece piece [] x m distinct = absurd m
+distinct_piece piece (y ∷ ys) x (inl same) distinct = subst (λ z. are_distinct (piece z) ≡ true) same (distinct_front (piece y) (flat_map piece ys) distinct)
+distinct_piece piece (y ∷ ys) x (inr m) distinct = distinct_piece piece ys x m (distinct_behind (piece y) (flat_map piece ys) distinct)
 
 -- ---- blocks that are taken
 pub is_taken-marked : (taken : List Bool) (ns : List ℕ) (n : ℕ) → are_below (length taken) ns ≡ true → is_taken (marked taken ns) n ≡ (has_number ns n || is_taken taken n)

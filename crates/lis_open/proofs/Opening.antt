@@ -1,7 +1,5 @@
 -- How opening an image ends: the super block, the journal, and the parts behind it.
-use Rattle.std.proofs.Common.{◌≡◌, ◌⊎◌, ◌∙◌, refl, sym, ap, subst, inl, inr, ℕ, ◌*◌, ◌<◌, ◌≤◌, ◌==◌, false, List, length, Option, Some, None, Result, Ok, Err, IsTrue, IsSomeAnd, arith, Bool, true, cond, eq-eqb}
-use Rattle.std.proofs.lemmas.Bool.{and_from}
-use Rattle.std.proofs.lemmas.Option.{same_Some}
+use Rattle.std.proofs.Common.{◌≡◌, ◌⊎◌, ◌∙◌, refl, sym, ap, subst, inl, inr, ℕ, ◌*◌, ◌<◌, ◌≤◌, false, List, length, Option, Some, None, Result, Ok, Err, IsTrue, IsSomeAnd, arith, Bool, true, cond}
 use Rattle.lis_ports.specs.Meaning.{Meaning}
 use Rattle.lis_ports.specs.Bytes.{part}
 use Rattle.lis_ports.specs.Calls.{IsUnchanged}
@@ -21,13 +19,11 @@ use Rattle.lis_model.specs.declared.spot.Spot.TheVariants.{Super, BadRecord, Pro
 use Rattle.lis_model.specs.Ranges.{are_in_range}
 use Rattle.lis_model.specs.Image.{image_blocks}
 use Rattle.lis_model.specs.State.{State}
-use Rattle.lis_store.specs.Stands.{is_super, Stands}
+use Rattle.lis_store.specs.Stands.{Stands}
 use Rattle.lis_kept.specs.Areas.{IsWritten}
 use Rattle.lis_kept.specs.Telling.{Tells}
 use Rattle.lis_store.specs.Stored.{Stored, IsSound}
-use Rattle.lis_store.proofs.Limits.{limits_in_range, limits_of_version_1}
 use Rattle.lis_store.proofs.Spelled.{contents_of, tells_spells}
-use Rattle.lis_store.proofs.Standing.{kept_stands}
 use Rattle.lis_open.specs.declared.mounting.OpenFault.{OpenFault}
 use Rattle.lis_open.specs.declared.mounting.OpenFault.TheVariants.{TooShort, Damaged, DiskFault, NoMemory}
 use Rattle.lis_open.specs.Opens.{HasOpenCause, HasSuper, IsNeeded, IsLongEnough, OpenEnded, Recovers, OpenLeft, InOpening, journal_fault}
@@ -37,6 +33,7 @@ use Rattle.lis_open.specs.ReadAll.{StoreEnded}
 use Rattle.lis_open.proofs.Quiet.{fits_after, settled_after, unchanged_then}
 use Rattle.lis_open.proofs.Needs.{one_limits, has_super, needs_no_more}
 use Rattle.lis_open.proofs.Damage.{damaged}
+use Rattle.lis_open.proofs.SameHomes.{kept_stands}
 
 -- what is said of a value that there is
 pub some_replay : (o : Option (List ℕ)) (P : List ℕ → Type 0) → IsSomeAnd o P → (r : List ℕ) × (o ≡ Some r) × P r
@@ -95,32 +92,14 @@ pub failed_opened : (old new : Meaning) → Opened old new (Err DiskFault)
 failed_opened old new = unspotted old new DiskFault tt tt (λ spot fault. cc)
 
 -- ---- the super block, as it was read
-pub limits_of_super : (limits : Limits) → limits.version ≡ 1 → IsTrue (are_in_range limits) → IsTrue (is_super limits)
-limits_of_super limits one range = and_from (limits.version == 1) (are_in_range limits) (eq-eqb limits.version 1 one) range
-
-pub super_read : (image read : List ℕ) (limits : Limits) → read ≡ part 0 4096 image → limits.version ≡ 1 → IsTrue (are_in_range limits) × SpellsSuper limits read → HasSuper limits image
-super_read image read limits is one told = record {
-  range = limits_of_super limits one told.0;
-  spelled = subst (λ bytes. SpellsSuper limits bytes) is told.1;
-}
-
--- what was found, if anything was, are the limits of the super block
-found_limits : (image read : List ℕ) (found : Option Limits) (limits : Limits) → read ≡ part 0 4096 image
-    → ((told : Limits) → IsTrue (are_in_range told) → SpellsSuper told read → found ≡ Some told) → HasSuper limits image → found ≡ Some limits
-found_limits image read found limits is same super = same limits (limits_in_range limits super.range) (subst (λ bytes. SpellsSuper limits bytes) (sym is) super.spelled)
+pub super_read : (image read : List ℕ) (limits : Limits) → read ≡ part 0 4096 image → IsTrue (are_in_range limits) × SpellsSuper limits read → HasSuper limits image
+super_read image read limits is told = record { range = told.0; spelled = subst (λ bytes. SpellsSuper limits bytes) is told.1 }
 
 pub none_read : (image read : List ℕ) (found : Option Limits) → found ≡ None → read ≡ part 0 4096 image
     → ((told : Limits) → IsTrue (are_in_range told) → SpellsSuper told read → found ≡ Some told) → (limits : Limits) → HasSuper limits image → ⊥
 none_read image read found none is same limits super =
-    let some = found_limits image read found limits is same super in
+    let some = same limits super.range (subst (λ bytes. SpellsSuper limits bytes) (sym is) super.spelled) in
     cc
-
--- and so none have, where those that were found are of another version
-pub other_read : (image read : List ℕ) (found : Option Limits) (other : Limits) → found ≡ Some other → (other.version ≡ 1 → ⊥) → read ≡ part 0 4096 image
-    → ((told : Limits) → IsTrue (are_in_range told) → SpellsSuper told read → found ≡ Some told) → (limits : Limits) → HasSuper limits image → ⊥
-other_read image read found other was differs is same limits super =
-    let one : other ≡ limits = same_Some other limits (sym was ∙ found_limits image read found limits is same super) in
-    differs (ap (λ (l : Limits). l.version) one ∙ limits_of_version_1 limits super.range)
 
 -- ---- no super block
 no_super_needs : (old : Meaning) → 4096 ≤ old.len → ((limits : Limits) → HasSuper limits old.bytes → ⊥) → IsLongEnough old
@@ -341,7 +320,7 @@ module _ (old : Meaning) (limits : Limits) (super : HasSuper limits old.bytes) (
       told_stand store s sound tells written same =
           let limits_are : limits ≡ s.limits = sym same ∙ ap (λ (t : State). t.limits) tells.state in
           record {
-            range = subst (λ (l : Limits). IsTrue (is_super l)) limits_are super.range;
+            range = subst (λ (l : Limits). IsTrue (are_in_range l)) limits_are super.range;
             super = subst (λ (l : Limits). SpellsSuper l (part 0 4096 old.bytes)) limits_are super.spelled;
             long = omega (arith, whole, long, ap image_blocks limits_are);
             replay = r;
@@ -355,7 +334,7 @@ module _ (old : Meaning) (limits : Limits) (super : HasSuper limits old.bytes) (
       told_limits store s sound tells =
           let told : store.parts.limits ≡ s.limits = ap (λ (t : State). t.limits) tells.state in
           told
-          ∙ one_limits r s.limits limits (record { range = subst (λ (l : Limits). IsTrue (is_super l)) told sound.range; spelled = tells.super }) (record { range = super.range; spelled = super_kept })
+          ∙ one_limits r s.limits limits (record { range = subst (λ (l : Limits). IsTrue (are_in_range l)) told sound.parts.range; spelled = tells.super }) (record { range = super.range; spelled = super_kept })
 
       parts_opened : (result : Result Stored OpenFault) → ((store : Stored) → result ≡ Ok store → IsOpened journal store) → StoreEnded limits kept result → Opened old new result
       parts_opened (Ok store) opened ended =

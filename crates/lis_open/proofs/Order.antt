@@ -170,11 +170,11 @@ module _ (limits : Limits) (at : ℕ → List ℕ) (words : Words) (axioms : Axi
   used_taken : (n : ℕ) → IsUsed limits at n → is_taken files.map n ≡ true
   used_taken n used =
       let rec = rec_is limits words axioms files limits.files read.words_are read.axioms_are read.files_are at read.properties read.pairs read.records.spelled used.slot used.rec used.is.below used.is in
-      read.files_are.taken used.slot used.rec n rec used.has
+      read.records.blocks.taken used.slot used.rec n rec used.has
 
   taken_used : (n : ℕ) → is_taken files.map n ≡ true → IsUsed limits at n
   taken_used n taken =
-      let owner = read.files_are.in_use n taken in
+      let owner = read.records.blocks.in_use n taken in
       let lt = slot_read limits words axioms files limits.files read.words_are read.axioms_are read.files_are owner.0 owner.1 owner.2 in
       record {
         slot = owner.0;

@@ -1,8 +1,8 @@
 -- What was read and checked tells a state.
-use Rattle.std.proofs.Common.{◌≡◌, ◌∙◌, refl, sym, ap, ap₂, subst, ℕ, zero, suc, ◌+◌, ◌-◌, ◌<◌, ◌≤◌, nat_lt, nat_le, ◌&&◌, Bool, true, List, [], ◌∷◌, length, map, sum, Option, Some, None, slice_get, IsTrue, arith, length-append}
+use Rattle.std.proofs.Common.{◌≡◌, ◌∙◌, refl, sym, ap, ap₂, subst, ℕ, zero, suc, ◌+◌, ◌-◌, ◌<◌, ◌≤◌, nat_le, ◌&&◌, Bool, true, List, [], ◌∷◌, length, map, sum, Option, Some, None, slice_get, IsTrue, arith, length-append}
 use Rattle.std.specs.Option.{option_to_list}
 use Rattle.std.specs.List.{list_all, flat_map, Contains}
-use Rattle.std.proofs.lemmas.Bool.{and_from, ltb-true, le-leb}
+use Rattle.std.proofs.lemmas.Bool.{and_from, le-leb}
 use Rattle.std.proofs.lemmas.List.{length-map}
 use Rattle.std.proofs.lemmas.List.Folds.{list_all-map}
 use Rattle.std.proofs.lemmas.Option.{same_Some}
@@ -10,33 +10,34 @@ use mathlib.Core.List.{map-map}
 use Rattle.lis_graph.specs.Graph.{is_rising}
 use Rattle.lis_graph.proofs.Members.{Among, among_from_contains, contains_from_among, among_flat_map}
 use Rattle.lis_graph.proofs.Sets.{sorted_nil, sorted_with_more}
-use Rattle.lis_content.specs.Content.{content, are_distinct}
+use Rattle.lis_blockmap.specs.Bitmap.{is_taken}
+use Rattle.lis_content.specs.Content.{has_number, are_distinct}
+use Rattle.lis_content.specs.Large.{content_blocks}
+use Rattle.lis_content.proofs.Numbers.{below_if_taken}
 use Rattle.lis_dict.specs.Dict.{Dict, words as words_of, word_of}
 use Rattle.lis_catalog.specs.Catalog.{Filed, rec_at}
 use Rattle.lis_ext.specs.Ext.{set_of as numbers_at}
 use Rattle.lis_fields.specs.Layouts.{SpellsSuper, is_prop}
-use Rattle.lis_store.specs.Stands.{is_super}
 use Rattle.lis_fields.specs.declared.slots.AxiomSlot.{AxiomSlot}
 use Rattle.lis_fields.specs.declared.slots.AxiomSlot.TheVariants.{Free as FreeAxiom, Pair}
 use Rattle.lis_fields.proofs.Parts.{IsFileRecord, few_tags}
 use Rattle.lis_words.specs.Words.{word_cmp, has_word, is_plain_word, is_file_name}
 use Rattle.lis_laws.proofs.Members.{word_order, pair_order, sorted_set_of, has_word_from_among}
-use Rattle.lis_laws.proofs.Counts.{all_among, all_from, rising_from_sorted}
+use Rattle.lis_laws.proofs.Counts.{all_from, rising_from_sorted}
+use Rattle.lis_laws.proofs.Steps.{taken_le}
 use Rattle.lis_model.specs.declared.limits.Limits.{Limits}
 use Rattle.lis_model.specs.Ranges.{are_in_range}
 use Rattle.lis_model.specs.Image.{data_start}
-use Rattle.lis_model.specs.State.{State, File, description, known, is_declarable, is_assignable, is_nameable, pair_cmp, file_cmp, file_limit, blocks_needed, blocks_taken, used_blocks, AxiomsAreFormed, FilesAreFormed, WellFormed}
+use Rattle.lis_model.specs.State.{State, File, description, known, is_declarable, is_assignable, is_nameable, pair_cmp, file_cmp, file_limit, blocks_taken, used_blocks, AxiomsAreFormed, FilesAreFormed, WellFormed}
 use Rattle.lis_kept.specs.Kept.{Kept, property_by}
 use Rattle.lis_kept.specs.Areas.{IsWritten}
 use Rattle.lis_kept.specs.Areas.Area.{Properties, Axioms as AxiomArea, Files as FileArea, Rows, Bitmap}
 use Rattle.lis_kept.specs.Sound.{AreSound, FreeSlotsAreEmpty}
-use Rattle.lis_kept.specs.Telling.{words_told, pair_by, pairs_told, file_told, state_of, AreUsed, Tells}
+use Rattle.lis_kept.specs.Telling.{words_told, pair_by, pairs_told, bytes_told, blocks_told, file_told, state_of, AreUsed, Tells}
 use Rattle.lis_kept.proofs.Filing.{among_from_number, number_from_among as has_from_among, same_distinct, filed_rec, filed_at_slot}
 use Rattle.lis_kept.proofs.Known.{declared_set, declared_has_number, among_axiom, words_known, among_word}
 use Rattle.lis_kept.proofs.Dropped.{record_in_form}
-use Rattle.lis_store.proofs.Spelled.{sound_parts}
-use Rattle.lis_store.proofs.Facts.{blocks_counted}
-use Rattle.lis_store.proofs.Limits.{limits_in_range, limits_of_version_1}
+use Rattle.lis_store.proofs.FileBlocks.{told_counted}
 use Rattle.lis_store.proofs.Marks.{distinct_pieces}
 use Rattle.lis_store.specs.Stored.{Stored}
 use Rattle.lis_open.specs.declared.words.Words.{Words}
@@ -64,18 +65,12 @@ few_pairs dict end (Pair p q ∷ xs) first below =
     one (Some l) None = omega arith
     one (Some l) (Some r) = omega arith
 
-module _ (limits : Limits) (words : Words) (axioms : Axioms) (files : Files) (marks : List Bool) (at : ℕ → List ℕ) (read : AreRead limits words axioms files marks) (spelled : AreSpelled limits at words axioms files) (super : IsTrue (is_super limits)) (clean : AreNoMarks limits marks) where
+module _ (limits : Limits) (words : Words) (axioms : Axioms) (files : Files) (marks : List Bool) (at : ℕ → List ℕ) (read : AreRead limits words axioms files marks) (spelled : AreSpelled limits at words axioms files) (range : IsTrue (are_in_range limits)) (clean : AreNoMarks limits marks) where
   abbrev k : Kept
   k = kept_in limits words axioms files marks
 
   abbrev s : State
   s = state_of k at
-
-  range : IsTrue (are_in_range limits)
-  range = limits_in_range limits super
-
-  version : limits.version ≡ 1
-  version = limits_of_version_1 limits super
 
   sound : AreSound k
   sound = parts_sound limits words axioms files marks read range clean
@@ -125,11 +120,14 @@ module _ (limits : Limits) (words : Words) (axioms : Axioms) (files : Files) (ma
       let recs = same_Some f.rec g.rec (sym (filed_rec files.catalog sound.catalog f in_f) ∙ (ap (rec_at files.catalog) same ∙ filed_rec files.catalog sound.catalog g in_g)) in
       ap₂ (λ slot rec. record { slot = slot; rec = rec }) same recs
 
-  one_owner : (f g : Filed) → Among files.catalog.entries f → Among files.catalog.entries g → (n : ℕ) → Among f.rec.blocks n → Among g.rec.blocks n → f ≡ g
+  -- all blocks of an entry's file
+  abbrev blocks_of : Filed → List ℕ
+  blocks_of f = blocks_told limits at f.rec
+
+  one_owner : (f g : Filed) → Among files.catalog.entries f → Among files.catalog.entries g → (n : ℕ) → has_number (blocks_of f) n ≡ true → has_number (blocks_of g) n ≡ true → f ≡ g
   one_owner f g in_f in_g n has_f has_g =
       one_filed f g in_f in_g
-      (read.files_are.apart f.slot g.slot f.rec g.rec n (filed_rec files.catalog sound.catalog f in_f) (filed_rec files.catalog sound.catalog g in_g)
-      (has_from_among f.rec.blocks n has_f) (has_from_among g.rec.blocks n has_g))
+      (spelled.records.blocks.one_use f.slot g.slot f.rec g.rec n (filed_rec files.catalog sound.catalog f in_f) (filed_rec files.catalog sound.catalog g in_g) has_f has_g)
 
   -- a test of all files, by their entries
   each_file : (test : File → Bool) → ((f : Filed) → Among files.catalog.entries f → test (file_told limits words.dict at f) ≡ true) → list_all test s.files ≡ true
@@ -142,8 +140,8 @@ module _ (limits : Limits) (words : Words) (axioms : Axioms) (files : Files) (ma
   entry_record : (f : Filed) → Among files.catalog.entries f → IsFileRecord limits.version f.rec
   entry_record f m = record_in_form limits.version words.dict limits.blocks f.rec (sound.records f.slot f.rec (filed_rec files.catalog sound.catalog f m))
 
-  short_bytes : (f : Filed) → length (content (data_start limits) f.rec.blocks f.rec.size at) ≤ f.rec.size
-  short_bytes f = take_few f.rec.size (flat_map (λ b. at (data_start limits + b)) f.rec.blocks)
+  short_bytes : (f : Filed) → length (bytes_told limits at f.rec) ≤ f.rec.size
+  short_bytes f = take_few f.rec.size (flat_map (λ b. at (data_start limits + b)) (content_blocks (data_start limits) f.rec.blocks f.rec.size at))
 
   files_formed : FilesAreFormed s
   files_formed = record {
@@ -162,33 +160,39 @@ module _ (limits : Limits) (words : Words) (axioms : Axioms) (files : Files) (ma
         (let is = ap (λ ws. length ws) (is_described f (contains_from_among files.catalog.entries f m)) in
         omega (arith, is, few_told (numbers_at files.ext f.slot), read.files_are.short f.slot)));
     short = each_file (λ (file : File). nat_le (length file.bytes) (file_limit limits.version)) (λ f m.
-        le-leb (length (content (data_start limits) f.rec.blocks f.rec.size at)) (file_limit limits.version)
+        le-leb (length (bytes_told limits at f.rec)) (file_limit limits.version)
         (let small = (entry_record f m).small in omega (arith, short_bytes f, small)));
   }
 
-  -- ---- data blocks
-  block_below : (f : Filed) (n : ℕ) → Among files.catalog.entries f → Among f.rec.blocks n → n < limits.blocks
-  block_below f n in_f m = ltb-true n limits.blocks (all_among (λ b. nat_lt b limits.blocks) f.rec.blocks n (sound_parts k sound f in_f).below m)
+  -- ---- blocks
+  block_taken : (f : Filed) (n : ℕ) → Among files.catalog.entries f → has_number (blocks_of f) n ≡ true → is_taken files.map n ≡ true
+  block_taken f n in_f has_it = spelled.records.blocks.taken f.slot f.rec n (filed_rec files.catalog sound.catalog f in_f) has_it
+
+  block_below : (f : Filed) (n : ℕ) → Among files.catalog.entries f → has_number (blocks_of f) n ≡ true → n < limits.blocks
+  block_below f n in_f has_it = let below = below_if_taken files.map n (block_taken f n in_f has_it) in omega (arith, below, read.files_are.blocks)
 
   abbrev all_used : List ℕ
-  all_used = flat_map (λ (f : Filed). f.rec.blocks) files.catalog.entries
+  all_used = flat_map blocks_of files.catalog.entries
 
   used_once : are_distinct all_used ≡ true
   used_once =
-      distinct_pieces (λ (f : Filed). f.slot) (λ (f : Filed). f.rec.blocks) files.catalog.entries
+      distinct_pieces (λ (f : Filed). f.slot) blocks_of files.catalog.entries
       (sym (same_distinct (map (λ (f : Filed). f.slot) files.catalog.entries)) ∙ sound.catalog.apart)
-      (λ f m. sym (same_distinct f.rec.blocks) ∙ (sound_parts k sound f m).apart)
-      (λ f g n here there in_f in_g. one_owner f g here there n in_f in_g)
+      (λ f m. spelled.records.blocks.distinct f.slot f.rec (filed_rec files.catalog sound.catalog f m))
+      (λ f g n here there in_f in_g. one_owner f g here there n (has_from_among (blocks_of f) n in_f) (has_from_among (blocks_of g) n in_g))
 
   few_used : used_blocks s ≤ limits.blocks
   few_used =
-      let within = sum_within (λ (f : Filed). blocks_needed (length (file_told limits words.dict at f).bytes)) (λ (f : Filed). f.rec.blocks) files.catalog.entries (λ f m.
-      let count = blocks_counted k sound version f m in
-      omega (arith, count, short_bytes f)) in
-      let few = few_below all_used limits.blocks used_once (λ n m. let found = among_flat_map (λ (f : Filed). f.rec.blocks) files.catalog.entries n m in block_below found.0 n found.1 found.2) in
-      let same = ap sum (map-map (λ (file : File). blocks_needed (length file.bytes)) (file_told limits words.dict at) files.catalog.entries) in
-      let taken = ap (λ v. sum (map (λ (file : File). blocks_taken v (length file.bytes)) s.files)) version in
-      omega (arith, within, few, same, taken)
+      let takes : File → ℕ = λ file. blocks_taken limits.version (length file.bytes) in
+      let within = sum_within (λ (f : Filed). takes (file_told limits words.dict at f)) blocks_of files.catalog.entries (λ f m.
+      let count = told_counted k sound f m at in
+      let few = taken_le limits.version (length (bytes_told limits at f.rec)) f.rec.size (short_bytes f) in
+      omega (arith, count, few)) in
+      let few = few_below all_used limits.blocks used_once (λ n m.
+      let found = among_flat_map blocks_of files.catalog.entries n m in
+      block_below found.0 n found.1 (has_from_among (blocks_of found.0) n found.2)) in
+      let same = ap sum (map-map takes (file_told limits words.dict at) files.catalog.entries) in
+      omega (arith, within, few, same)
 
   -- ---- the state
   formed : WellFormed s
@@ -221,14 +225,15 @@ module _ (limits : Limits) (words : Words) (axioms : Axioms) (files : Files) (ma
     used = used;
     described = is_described;
     taken = λ n lt taken.
-        let found = read.files_are.in_use n taken in
+        let found = spelled.records.blocks.in_use n taken in
         let f : Filed = record { slot = found.0; rec = found.1 } in
         record { file = f; kept = contains_from_among files.catalog.entries f (filed_at_slot files.catalog sound.catalog found.0 found.1 found.2); has = found.3 };
     given = λ f m n has_it.
         let in_f = among_from_contains files.catalog.entries f m in
-        (block_below f n in_f (among_from_number f.rec.blocks n has_it), read.files_are.taken f.slot f.rec n (filed_rec files.catalog sound.catalog f in_f) has_it);
-    one_use = λ f g in_f in_g n has_f has_g.
-        one_owner f g (among_from_contains files.catalog.entries f in_f) (among_from_contains files.catalog.entries g in_g) n (among_from_number f.rec.blocks n has_f) (among_from_number g.rec.blocks n has_g);
+        (block_below f n in_f has_it, block_taken f n in_f has_it);
+    indexed = λ f m. spelled.records.blocks.indexed f.slot f.rec (filed_rec files.catalog sound.catalog f (among_from_contains files.catalog.entries f m));
+    apart = λ f m. spelled.records.blocks.distinct f.slot f.rec (filed_rec files.catalog sound.catalog f (among_from_contains files.catalog.entries f m));
+    one_use = λ f g in_f in_g. one_owner f g (among_from_contains files.catalog.entries f in_f) (among_from_contains files.catalog.entries g in_g);
   }
 
   pub store_told : (store : Stored) → store.parts ≡ k → SpellsSuper limits (at 0) → StoreTells at store

@@ -15,12 +15,12 @@ use Rattle.lis_fields.proofs.Supers.{length_super, super_spells}
 use Rattle.lis_model.specs.declared.limits.Limits.{Limits}
 use Rattle.lis_model.specs.Image.{data_start, image_blocks}
 use Rattle.lis_model.specs.State.{empty_state}
-use Rattle.lis_store.specs.Stands.{is_super, Stands}
+use Rattle.lis_model.specs.Ranges.{are_in_range}
+use Rattle.lis_store.specs.Stands.{Stands}
 use Rattle.lis_store.specs.Stored.{empty_stored}
 use Rattle.lis_store.proofs.Empty.{zeros-part, empty_sound, no_state}
 use Rattle.lis_store.proofs.EmptyStore.{empty_fits}
 use Rattle.lis_store.proofs.Standing.{fitting_stands}
-use Rattle.lis_store.proofs.Limits.{limits_in_range}
 use Rattle.lis_open.specs.Makes.{first_byte, IsNameless, IsSpared, AreZeros, rest_of_super, IsWiped, IsWiping, IsMaking}
 use Rattle.lis_open.proofs.Names.{first_is, first-put, named_or_not}
 use Rattle.lis_open.proofs.Zeros.{zeros_are}
@@ -92,11 +92,11 @@ holding image = record {
   show_faults = 0;
 }
 
-pub wiped_stands : (limits : Limits) (image : List ℕ) → IsTrue (is_super limits) → IsWiped limits image → first_byte image ≡ 76 → Stands image (empty_state limits)
+pub wiped_stands : (limits : Limits) (image : List ℕ) → IsTrue (are_in_range limits) → IsWiped limits image → first_byte image ≡ 76 → Stands image (empty_state limits)
 wiped_stands limits image range is first =
     let room : data_start limits ≤ data_start limits = omega arith in
     let super : SpellsSuper limits (block 0 image) =
-    subst (λ bytes. SpellsSuper limits bytes) (sym (wiped_super limits image is first)) (super_spells limits (limits_in_range limits range)) in
+    subst (λ bytes. SpellsSuper limits bytes) (sym (wiped_super limits image is first)) (super_spells limits range) in
     let fits = empty_fits (holding image) limits (data_start limits) image range room refl (record { reads = refl; only = λ other is. is }) super is.blank in
     (fitting_stands (holding image) (empty_stored limits (data_start limits)) (empty_state limits) (empty_sound limits (data_start limits) range room) fits).reads
 
@@ -116,7 +116,7 @@ pub wiping_moments : {old new : Meaning} (limits : Limits) (bytes : List ℕ) �
 wiping_moments limits bytes all spreads =
     leaves_spread (IsWiping limits) (IsMaking limits bytes) all spreads (λ from image none wiping. inr (inr (λ s. no_state image s (nameless_wiping limits from image none wiping))))
 
-pub naming_moments : {old new : Meaning} (limits : Limits) (bytes : List ℕ) → IsTrue (is_super limits) → Always old (IsWiped limits) → Spreads old new (Torn 0 1) → Leaves old new (IsMaking limits bytes)
+pub naming_moments : {old new : Meaning} (limits : Limits) (bytes : List ℕ) → IsTrue (are_in_range limits) → Always old (IsWiped limits) → Spreads old new (Torn 0 1) → Leaves old new (IsMaking limits bytes)
 naming_moments limits bytes range all spreads =
     leaves_spread (Torn 0 1) (IsMaking limits bytes) all spreads (λ from image is torn. by image (wiped_torn limits from image is torn) (named_or_not image))
   where
@@ -130,7 +130,7 @@ wiped_named limits bytes is =
     let some : 1 ≤ length bytes = omega (arith, is.blank.long) in
     (wiped_torn limits bytes (put bytes 0 (76 ∷ [])) is (torn-put bytes 0 (76 ∷ []) some), first-put bytes 76 some)
 
-pub named_stands : {old new : Meaning} (limits : Limits) → IsTrue (is_super limits) → Always old (IsWiped limits) → IsSettled new (put old.bytes 0 (76 ∷ [])) → Always new (λ image. Stands image (empty_state limits))
+pub named_stands : {old new : Meaning} (limits : Limits) → IsTrue (are_in_range limits) → Always old (IsWiped limits) → IsSettled new (put old.bytes 0 (76 ∷ [])) → Always new (λ image. Stands image (empty_state limits))
 named_stands {old} limits range all settled =
     let named = wiped_named limits old.bytes all.reads in
     always_settled (λ image. Stands image (empty_state limits)) (put old.bytes 0 (76 ∷ [])) settled

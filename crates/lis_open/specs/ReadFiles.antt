@@ -5,6 +5,7 @@ use Rattle.std.specs.List.{list_all, list_any, flat_map, Contains}
 use Rattle.lis_slots.specs.Slots.{slot}
 use Rattle.lis_blockmap.specs.Bitmap.{is_taken}
 use Rattle.lis_content.specs.Content.{marked, are_free, are_distinct, has_number}
+use Rattle.lis_content.specs.Large.{index_bytes, numbers_in, file_blocks, IsIndexed}
 use Rattle.lis_dict.specs.Dict.{Dict, number_of, word_of}
 use Rattle.lis_catalog.specs.Catalog.{Filed, IsCatalog, slot_of, rec_at, with_filed}
 use Rattle.lis_ext.specs.Ext.{set_of, empty_ext}
@@ -17,7 +18,7 @@ use Rattle.lis_fields.specs.Layouts.{file_bytes}
 use Rattle.lis_words.specs.Words.{is_valued, head_bytes}
 use Rattle.lis_model.specs.declared.limits.Limits.{Limits}
 use Rattle.lis_model.specs.Derived.{derived_words}
-use Rattle.lis_model.specs.State.{file_words, is_assignable}
+use Rattle.lis_model.specs.State.{file_words, blocks_needed, is_assignable}
 use Rattle.lis_model.specs.Tests.{met_tests}
 use Rattle.lis_kept.specs.Kept.{record_at}
 use Rattle.lis_kept.specs.Areas.{file_slots}
@@ -119,10 +120,16 @@ pub record HasBlocks (limits : Limits) (at : ℕ → List ℕ) (taken : List Boo
   pub free : IsTrue (are_free taken (blocks_told limits at rec))
   pub distinct : IsTrue (are_distinct (blocks_told limits at rec))
 
--- all blocks of a record's file, where its index block is in form
-abbrev pub AreReadBlocks : Limits → (ℕ → List ℕ) → FileRecord → Option (List ℕ) → Type 0
-AreReadBlocks limits at rec None = HasIndex limits at rec → ⊥
-AreReadBlocks limits at rec (Some blocks) = HasIndex limits at rec × (blocks ≡ blocks_told limits at rec)
+-- the numbers that an index block has for so many bytes, where it is in form
+abbrev pub AreIndexed : ℕ → List ℕ → Option (List ℕ) → Type 0
+AreIndexed size block None = block ≡ index_bytes (numbers_in (blocks_needed size) block) → ⊥
+AreIndexed size block (Some numbers) =
+    (numbers ≡ numbers_in (blocks_needed size) block) × (block ≡ index_bytes (numbers_in (blocks_needed size) block))
+
+-- all blocks of a file by the numbers of its slot, where its index block is in form
+abbrev pub AreReadBlocks : ℕ → List ℕ → ℕ → (ℕ → List ℕ) → Option (List ℕ) → Type 0
+AreReadBlocks base slot size at None = IsIndexed base slot size at → ⊥
+AreReadBlocks base slot size at (Some blocks) = IsIndexed base slot size at × (blocks ≡ file_blocks base slot size at)
 
 -- and where they are usable too
 abbrev pub AreItsBlocks : Limits → (ℕ → List ℕ) → List Bool → FileRecord → Option (List ℕ) → Type 0
@@ -141,9 +148,9 @@ pub record TakesNumbers (slot : ℕ) (rec : FileRecord) (blocks numbers : List �
 
 -- the bytes and the blocks that were read of a record's file are those that are told of it
 pub record AreTold (limits : Limits) (at : ℕ → List ℕ) (rec : FileRecord) (bytes blocks : List ℕ) : Type 0 where
-  pub bytes : bytes ≡ bytes_told limits at rec
+  pub bytes_are : bytes ≡ bytes_told limits at rec
   pub indexed : HasIndex limits at rec
-  pub blocks : blocks ≡ blocks_told limits at rec
+  pub blocks_are : blocks ≡ blocks_told limits at rec
 
 -- The record's file may be taken and is, with these bytes and blocks. They are those that are told by whatever may be kept.
 pub record TakesRecord (limits : Limits) (MayBeKept : (ℕ → List ℕ) → Type 0) (words : Words) (t : Taxonomy) (slot : ℕ) (rec : FileRecord) (old new : Files) : Type 0 where
@@ -151,7 +158,7 @@ pub record TakesRecord (limits : Limits) (MayBeKept : (ℕ → List ℕ) → Typ
   pub blocks : List ℕ
   pub sized : length bytes ≡ rec.size
   pub filed : may_file words old rec ≡ true
-  pub described : may_describe words t rec (found_words words rec.name bytes) ≡ true
+  pub describes : may_describe words t rec (found_words words rec.name bytes) ≡ true
   pub usable : AreUsable old.map rec.blocks blocks
   pub takes : TakesNumbers slot rec blocks (described t (own_numbers words.dict rec.tags (found_words words rec.name bytes))) old new
   pub told : (kept : ℕ → List ℕ) → MayBeKept kept → AreTold limits kept rec bytes blocks

@@ -1,16 +1,18 @@
 //! The blocks of files: those that a slot numbers, and those that an index block does.
 
-ghost use Rattle.std.specs.Prelude.{◌≡◌, ◌*◌, ◌<◌, ◌≤◌, ℕ, List, [], nat_lt, not, ◌&&◌, false, length, IsTrue, IfOk, IfSome};
+ghost use Rattle.std.specs.Prelude.{◌≡◌, ◌+◌, ◌*◌, ◌<◌, ◌≤◌, ℕ, List, [], ◌++◌, nat_lt, not, ◌&&◌, false, length, IsTrue, IfOk, IfSome};
 ghost use Rattle.std.specs.Option.{option_map};
 ghost use Rattle.lis_ports.specs.Calls.{HasCause};
 ghost use Rattle.lis_journal.specs.Images.{Fits};
 ghost use Rattle.lis_blockmap.specs.Bitmap.{is_taken};
-ghost use Rattle.lis_content.specs.Content.{are_free, are_distinct, are_within};
+ghost use Rattle.lis_content.specs.Content.{are_free, are_distinct, are_within, has_number};
+ghost use Rattle.lis_content.specs.Large.{slot_count};
 ghost use Rattle.lis_fields.specs.Layouts.{is_record};
 ghost use Rattle.lis_model.specs.Ranges.{are_in_range};
 ghost use Rattle.lis_model.specs.Image.{data_start, image_blocks};
+ghost use Rattle.lis_model.specs.State.{blocks_needed};
 ghost use Rattle.lis_open.specs.Reading.{OnlyReads};
-ghost use Rattle.lis_open.specs.ReadFiles.{AreReadBlocks, AreUsable, AreItsBlocks};
+ghost use Rattle.lis_open.specs.ReadFiles.{AreIndexed, AreReadBlocks, AreUsable, AreItsBlocks};
 
 use arrayvec::ArrayVec;
 use lis_blockmap::BlockMap;
@@ -38,17 +40,59 @@ fn are_free(map: &BlockMap, blocks: &[u16]) -> bool
     blocks.iter().all(|block| is_free(map, *block))
 }
 
+// Whether the number is one of the others.
+fn is_among(number: u16, others: &[u16]) -> bool
+    ensures { result ≡ has_number others.now number }
+{
+    others.iter().any(|other| *other == number)
+}
+
 // Whether no number stands twice.
 fn are_distinct(numbers: &[u16]) -> bool
     ensures { result ≡ are_distinct numbers.now }
 {
     for (k, number) in numbers.iter().enumerate() {
         let (_, behind) = numbers.split_at(k + 1);
-        if behind.iter().any(|other| *other == *number) {
+        if is_among(*number, behind) {
             return false;
         }
     }
     true
+}
+
+// The numbers that an index block has, for a content of so many bytes. None comes where the block is out of form.
+fn read_numbers<D: Disk>(
+    disk: &mut D,
+    journal: &Journal,
+    home: u32,
+    size: u32,
+) -> Result<Option<ArrayVec<u16, 256>>, Failed>
+    requires few { size ≤ 1048576 }
+    requires home { 578 ≤ home }
+    requires within { home < journal.now.blocks }
+    requires clean { journal.now.staged ≡ [] }
+    requires unbroken { journal.now.is_broken ≡ false }
+    requires long { 4096 * journal.now.blocks ≤ (D.meaning disk.old).len }
+    ensures reads { OnlyReads (D.meaning disk.old) (D.meaning disk.new) }
+    ensures cause { HasCause (D.meaning disk.old).disk_faults (D.meaning disk.new).disk_faults result }
+    ensures count { IfOk result (λ found. IfSome found (λ numbers. length numbers.items ≡ blocks_needed size)) }
+    ensures found { IfOk result (λ found. (kept : ℕ → List ℕ) → Fits journal.now (D.meaning disk.old) kept
+        → AreIndexed size (kept home) (option_map (λ numbers. numbers.items) found)) }
+{
+    let mut block = [0; BLOCK_LEN];
+    journal.read(disk, home, &mut block)?;
+    Ok(index_numbers(&block, size))
+}
+
+// The blocks of a content, and then those that the slot numbers.
+fn joined(content: &[u16], slot: &[u16]) -> ArrayVec<u16, MOST_BLOCKS>
+    requires { length content.now + length slot.now ≤ 257 }
+    ensures { result.items ≡ content.now ++ slot.now }
+{
+    let mut blocks = ArrayVec::new();
+    blocks.try_extend_from_slice(content).unwrap();
+    blocks.try_extend_from_slice(slot).unwrap();
+    blocks
 }
 
 // All blocks of a file, those of its content first, by its index block where it has one. None comes where that block is out of form.
@@ -56,11 +100,13 @@ fn all_blocks<D: Disk>(
     disk: &mut D,
     journal: &Journal,
     limits: &Limits,
-    rec: &FileRec,
+    slot: &[u16],
+    size: u32,
 ) -> Result<Option<ArrayVec<u16, MOST_BLOCKS>>, Failed>
     requires range { IsTrue (are_in_range limits.now) }
-    requires form { IsTrue (is_record limits.now.version rec.now) }
-    requires within { IsTrue (are_within (data_start limits.now) (image_blocks limits.now) rec.now.blocks) }
+    requires few { size ≤ 1048576 }
+    requires count { length slot.now ≡ slot_count size }
+    requires within { IsTrue (are_within (data_start limits.now) (image_blocks limits.now) slot.now) }
     requires image { journal.now.blocks ≡ image_blocks limits.now }
     requires clean { journal.now.staged ≡ [] }
     requires unbroken { journal.now.is_broken ≡ false }
@@ -68,25 +114,16 @@ fn all_blocks<D: Disk>(
     ensures reads { OnlyReads (D.meaning disk.old) (D.meaning disk.new) }
     ensures cause { HasCause (D.meaning disk.old).disk_faults (D.meaning disk.new).disk_faults result }
     ensures found { IfOk result (λ found. (kept : ℕ → List ℕ) → Fits journal.now (D.meaning disk.old) kept
-        → AreReadBlocks limits.now kept rec.now (option_map (λ blocks. blocks.items) found)) }
+        → AreReadBlocks (data_start limits.now) slot.now size kept (option_map (λ blocks. blocks.items) found)) }
 {
-    let mut blocks = ArrayVec::new();
-    if is_large(rec.size) {
-        let mut block = [0; BLOCK_LEN];
-        journal.read(
-            disk,
-            data_start(limits) + u32::from(rec.blocks[0]),
-            &mut block,
-        )?;
-        let Some(numbers) = index_numbers(&block, rec.size) else {
-            return Ok(None);
-        };
-        blocks.try_extend_from_slice(&numbers).unwrap();
+    if !is_large(size) {
+        return Ok(Some(joined(&[], slot)));
     }
-    blocks
-        .try_extend_from_slice(rec.blocks.as_slice())
-        .unwrap();
-    Ok(Some(blocks))
+    let home = data_start(limits) + u32::from(slot[0]);
+    let Some(numbers) = read_numbers(disk, journal, home, size)? else {
+        return Ok(None);
+    };
+    Ok(Some(joined(numbers.as_slice(), slot)))
 }
 
 /// All blocks of a file. None comes where its index block is out of form, where there is no block of one of the numbers, where a file before
@@ -111,16 +148,17 @@ pub fn free_blocks<D: Disk>(
     ensures found { IfOk result (λ found. (kept : ℕ → List ℕ) → Fits journal.now (D.meaning disk.old) kept
         → AreItsBlocks limits.now kept map.now rec.now (option_map (λ blocks. blocks.items) found)) }
 {
-    if !are_free(map, rec.blocks.as_slice()) {
+    let slot = rec.blocks.as_slice();
+    if !are_free(map, slot) {
         return Ok(None);
     }
-    let Some(blocks) = all_blocks(disk, journal, limits, rec)? else {
+    let Some(blocks) = all_blocks(disk, journal, limits, slot, rec.size)? else {
         return Ok(None);
     };
-    if !are_free(map, &blocks) {
+    if !are_free(map, blocks.as_slice()) {
         return Ok(None);
     }
-    if !are_distinct(&blocks) {
+    if !are_distinct(blocks.as_slice()) {
         return Ok(None);
     }
     Ok(Some(blocks))

@@ -2,7 +2,6 @@ use Rattle.std.proofs.Common.{◌≡◌, inl, inr, ◌-◌, ◌*◌, ◌≤◌, 
 use Rattle.lis_ports.proofs.Always.{always_settled, settled_synced}
 use Rattle.lis_journal.proofs.Spreading.{spreads_then, spreads_sync}
 use Rattle.lis_model.specs.Image.{data_start, image_blocks}
-use Rattle.lis_store.proofs.Limits.{limits_in_range}
 use Rattle.lis_open.specs.Makes.{IsWiped, IsWiping}
 use Rattle.lis_open.proofs.Ranges.{on_ok}
 use Rattle.lis_open.proofs.Wiping.{wiped}
@@ -10,7 +9,7 @@ use Rattle.lis_open.proofs.Made.{wiping_refl, wiping_trans, spreads_wiping}
 use Rattle.lis_open.proofs.clearing.wipe.Goals as goal
 
 pub image_blocks-requires : goal.image_blocks-requires
-image_blocks-requires g c = limits_in_range c.args.limits.now c.requires.range
+image_blocks-requires g c = c.requires.range
 
 pub returns-in_err-write_rest-clause-spreads : goal.returns-in_err-write_rest-clause-spreads
 returns-in_err-write_rest-clause-spreads g c = λ honest.

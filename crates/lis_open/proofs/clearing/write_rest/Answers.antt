@@ -1,13 +1,12 @@
 use Rattle.std.proofs.Common.{◌≡◌, ◌∙◌, length, ap, arith}
 use Rattle.lis_ports.specs.Bytes.{put, Torn}
 use Rattle.lis_journal.proofs.Spreading.{spreads_torn}
-use Rattle.lis_store.proofs.Limits.{limits_in_range}
 use Rattle.lis_open.proofs.Ranges.{on_ok, torn_wider}
 use Rattle.lis_open.proofs.Wiping.{rest_is, length-rest}
 use Rattle.lis_open.proofs.clearing.write_rest.Goals as goal
 
 pub write_super-requires-clause-range : goal.write_super-requires-clause-range
-write_super-requires-clause-range g c = limits_in_range c.args.limits.now c.requires.range
+write_super-requires-clause-range g c = c.requires.range
 
 pub returns-clause-spreads : goal.returns-clause-spreads
 returns-clause-spreads g c = λ honest.

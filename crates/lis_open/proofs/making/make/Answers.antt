@@ -1,10 +1,9 @@
 use Rattle.std.proofs.Common.{Err, ap, ◌∙◌}
 use Rattle.std.proofs.lemmas.Result.{err_from_is_err_and}
-use Rattle.lis_store.proofs.Limits.{limits_in_range}
 use Rattle.lis_open.proofs.making.make.Goals as goal
 
 pub image_blocks-requires : goal.image_blocks-requires
-image_blocks-requires g c = limits_in_range c.args.limits.now c.requires.range
+image_blocks-requires g c = c.requires.range
 
 pub returns-in_err-write_image-clause-spare : goal.returns-in_err-write_image-clause-spare
 returns-in_err-write_image-clause-spare g c = λ n honest is settled.

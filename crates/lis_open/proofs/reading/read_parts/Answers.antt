@@ -1,6 +1,5 @@
 use Rattle.std.proofs.Common.{◌∙◌, []}
 use Rattle.std.proofs.lemmas.Result.{err_from_is_err_and}
-use Rattle.lis_store.proofs.Limits.{limits_in_range}
 use Rattle.lis_open.specs.ReadAll.{kept_in}
 use Rattle.lis_open.proofs.AllRead.{HasRead}
 use Rattle.lis_open.proofs.Joined.{none_past}
@@ -152,6 +151,5 @@ returns-clause-ended g c = λ kept fits.
       pairs = pairs.is;
       records = records.is;
     } in
-    let range = limits_in_range limits c.requires.range in
     let fits4 = fits_after journal kept c.check_bitmap.ensures.reads fits3 in
-    rows_ended limits kept words axioms files read below5 c.in_ok-check_words.ensures range (c.in_ok-check_bitmap.ensures.ended kept fits3) c.check_rows.result (c.check_rows.ensures.ended kept fits4 recalls3)
+    rows_ended limits kept words axioms files read below5 c.in_ok-check_words.ensures c.requires.range (c.in_ok-check_bitmap.ensures.ended kept fits3) c.check_rows.result (c.check_rows.ensures.ended kept fits4 recalls3)

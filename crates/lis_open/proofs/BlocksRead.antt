@@ -1,0 +1,91 @@
+-- The blocks of a file as they are read: those that its slot numbers, and those that its index block does.
+use Rattle.std.proofs.Common.{◌≡◌, ◌∙◌, refl, sym, ap, subst, ℕ, ◌≤◌, ◌&&◌, not, nat_lt, Bool, true, false, Option, Some, None, IfSome, List, ◌++◌, length, IsTrue, arith}
+use Rattle.std.specs.Option.{option_map}
+use Rattle.std.proofs.lemmas.Bool.{and_parts, both_ways}
+use Rattle.std.proofs.lemmas.List.Folds.{list_all-append}
+use Rattle.lis_blockmap.specs.Bitmap.{is_taken}
+use Rattle.lis_content.specs.Content.{are_free, are_distinct, are_within}
+use Rattle.lis_content.specs.Large.{is_large, slot_count, index_bytes, numbers_in, index_home, file_blocks}
+use Rattle.lis_content.proofs.Indexes.{length-numbers_in, large_blocks, small_blocks}
+use Rattle.lis_content.proofs.Numbers.{below_from_free, within_if_below}
+use Rattle.lis_fields.specs.Records.{FileRecord}
+use Rattle.lis_fields.specs.Layouts.{is_record}
+use Rattle.lis_fields.proofs.Parts.{record_tests, few_blocks, size_fits}
+use Rattle.lis_kept.proofs.Contents.{slot_blocks_counted}
+use Rattle.lis_model.specs.declared.limits.Limits.{Limits}
+use Rattle.lis_model.specs.Image.{data_start, image_blocks}
+use Rattle.lis_model.specs.State.{blocks_needed}
+use Rattle.lis_open.specs.ReadFiles.{HasBlocks, AreIndexed, AreReadBlocks}
+
+-- ---- records in form
+pub size_of_form : (version : ℕ) (rec : FileRecord) {seen : FileRecord} → IsTrue (is_record version rec) → seen ≡ rec → seen.size ≤ 1048576
+size_of_form version rec form view =
+    subst (λ (r : FileRecord). r.size ≤ 1048576) (sym view) (size_fits version rec.size (record_tests version rec form).small)
+
+pub slot_of_form : (version : ℕ) (rec : FileRecord) {seen : FileRecord} (slot : List ℕ) → IsTrue (is_record version rec) → seen ≡ rec → slot ≡ seen.blocks → length slot ≡ slot_count seen.size
+slot_of_form version rec slot form view same =
+    let tests = record_tests version rec form in
+    let counted : length rec.blocks ≡ slot_count rec.size = few_blocks version rec.size rec.blocks tests.blocks ∙ slot_blocks_counted version rec.size tests.small in
+    ap length same ∙ subst (λ (r : FileRecord). length r.blocks ≡ slot_count r.size) (sym view) counted
+
+-- ---- an index block
+pub numbers_counted : {X : Type 0} (found : Option X) (items : X → List ℕ) (size : ℕ) (block : List ℕ)
+    → IfSome found (λ x. (items x ≡ numbers_in (blocks_needed size) block) × (block ≡ index_bytes (items x))) → IfSome found (λ x. length (items x) ≡ blocks_needed size)
+numbers_counted None items size block some = some
+numbers_counted (Some x) items size block some = ap length some.0 ∙ length-numbers_in (blocks_needed size) block
+
+-- what was told of its numbers as it was read, told of what is kept there
+pub numbers_found : {X : Type 0} (found : Option X) (items : X → List ℕ) (size : ℕ) (block held : List ℕ) → block ≡ held
+    → IfSome found (λ x. (items x ≡ numbers_in (blocks_needed size) block) × (block ≡ index_bytes (items x)))
+    → (found ≡ None → block ≡ index_bytes (numbers_in (blocks_needed size) block) → ⊥) → AreIndexed size held (option_map items found)
+numbers_found None items size block held same some none = subst (λ bytes. bytes ≡ index_bytes (numbers_in (blocks_needed size) bytes) → ⊥) same (none refl)
+numbers_found (Some x) items size block held same some none =
+    subst (λ bytes. (items x ≡ numbers_in (blocks_needed size) bytes) × (bytes ≡ index_bytes (numbers_in (blocks_needed size) bytes))) same
+    (some.0, some.1 ∙ ap index_bytes some.0)
+
+-- ---- all blocks
+pub large_found : (base : ℕ) (slot : List ℕ) (size : ℕ) (at : ℕ → List ℕ) (home : ℕ) (numbers blocks : List ℕ) → is_large size ≡ true → home ≡ index_home base slot
+    → AreIndexed size (at home) (Some numbers) → blocks ≡ numbers ++ slot → AreReadBlocks base slot size at (Some blocks)
+large_found base slot size at home numbers blocks large is_home indexed same =
+    let there = subst (λ h. AreIndexed size (at h) (Some numbers)) is_home indexed in
+    ((λ _. there.1), same ∙ (ap (λ ns. ns ++ slot) there.0 ∙ sym (large_blocks base slot size at large)))
+
+pub large_missed : (base : ℕ) (slot : List ℕ) (size : ℕ) (at : ℕ → List ℕ) (home : ℕ) → is_large size ≡ true → home ≡ index_home base slot → AreIndexed size (at home) None → AreReadBlocks base slot size at None
+large_missed base slot size at home large is_home none = λ indexed. subst (λ h. AreIndexed size (at h) None) is_home none (indexed large)
+
+-- told by the numbers of the record
+pub read_of : (limits : Limits) (at : ℕ → List ℕ) (rec : FileRecord) {seen : FileRecord} (slot : List ℕ) (found : Option (List ℕ)) → seen ≡ rec → slot ≡ seen.blocks
+    → AreReadBlocks (data_start limits) slot seen.size at found → AreReadBlocks (data_start limits) rec.blocks rec.size at found
+read_of limits at rec {seen} slot found view same are =
+    subst (λ (r : FileRecord). AreReadBlocks (data_start limits) r.blocks r.size at found) view
+    (subst (λ ns. AreReadBlocks (data_start limits) ns seen.size at found) same are)
+
+-- ---- free blocks
+-- the numbers of the slot are among all
+slot_free : (taken : List Bool) (base : ℕ) (slot : List ℕ) (size : ℕ) (at : ℕ → List ℕ) → are_free taken (file_blocks base slot size at) ≡ true → are_free taken slot ≡ true
+slot_free taken base slot size at free = by (is_large size) refl
+  where
+    by : (large : Bool) → is_large size ≡ large → are_free taken slot ≡ true
+    by true large =
+        let numbers = numbers_in (blocks_needed size) (at (index_home base slot)) in
+        (and_parts (are_free taken numbers) (are_free taken slot)
+        (sym (list_all-append (λ n. nat_lt n (length taken) && not (is_taken taken n)) numbers slot) ∙ (ap (are_free taken) (sym (large_blocks base slot size at large)) ∙ free))).1
+    by false small = ap (are_free taken) (sym (small_blocks base slot size at small)) ∙ free
+
+-- where they are free, they lie within the image
+pub free_within : (limits : Limits) (taken : List Bool) (slot : List ℕ) → length taken ≡ limits.blocks → are_free taken slot ≡ true → IsTrue (are_within (data_start limits) (image_blocks limits) slot)
+free_within limits taken slot len free = within_if_below (data_start limits) (image_blocks limits) (length taken) slot (omega (arith, len)) (below_from_free taken slot free)
+
+module _ (limits : Limits) (at : ℕ → List ℕ) (taken : List Bool) (rec : FileRecord) where
+  pub not_own : {seen : FileRecord} (slot : List ℕ) → seen ≡ rec → slot ≡ seen.blocks → are_free taken slot ≡ false → HasBlocks limits at taken rec → ⊥
+  not_own slot view same taken_one has =
+      both_ways (are_free taken slot) taken_one (ap (are_free taken) (same ∙ ap (λ (r : FileRecord). r.blocks) view) ∙ slot_free taken (data_start limits) rec.blocks rec.size at has.free)
+
+  pub not_indexed : AreReadBlocks (data_start limits) rec.blocks rec.size at None → HasBlocks limits at taken rec → ⊥
+  not_indexed none has = none has.indexed
+
+  pub not_free : (blocks : List ℕ) → AreReadBlocks (data_start limits) rec.blocks rec.size at (Some blocks) → are_free taken blocks ≡ false → HasBlocks limits at taken rec → ⊥
+  not_free blocks are taken_one has = both_ways (are_free taken blocks) taken_one (ap (are_free taken) are.1 ∙ has.free)
+
+  pub not_distinct : (blocks : List ℕ) → AreReadBlocks (data_start limits) rec.blocks rec.size at (Some blocks) → are_distinct blocks ≡ false → HasBlocks limits at taken rec → ⊥
+  not_distinct blocks are twice has = both_ways (are_distinct blocks) twice (ap are_distinct are.1 ∙ has.distinct)

@@ -1,0 +1,15 @@
+use Rattle.std.proofs.Common.{◌∙◌, sym, ap, ap₂, ◌+◌, ◌++◌}
+use Rattle.lis_model.specs.Image.{data_start}
+use Rattle.lis_open.proofs.BlocksRead.{large_found, large_missed}
+use Rattle.lis_open.proofs.indexes.all_blocks.Goals as goal
+
+pub returns-in_default-clause-found : goal.returns-in_default-clause-found
+returns-in_default-clause-found g c = λ kept fits.
+    large_missed (data_start c.args.limits.now) c.args.slot.now c.args.size kept (c.data_start.result + c.from.result) (sym c.is_large.ensures ∙ c.if-not-is_large.false)
+    (ap₂ (λ a b. a + b) c.data_start.ensures.start c.from.ensures) (rw c.in_default.is at (c.in_ok-numbers.ensures.found kept fits))
+
+pub returns-clause-found : goal.returns-clause-found
+returns-clause-found g c = λ kept fits.
+    large_found (data_start c.args.limits.now) c.args.slot.now c.args.size kept (c.data_start.result + c.from.result) c.in-Some.numbers.items c.joined-2.result.items (sym c.is_large.ensures ∙ c.if-not-is_large.false)
+    (ap₂ (λ a b. a + b) c.data_start.ensures.start c.from.ensures) (rw c.in-Some.is at (c.in_ok-numbers.ensures.found kept fits))
+    (c.joined-2.ensures ∙ ap (λ ns. ns ++ c.args.slot.now) c.as_slice.ensures.value)
