@@ -1,7 +1,7 @@
 //! Images of version 1 that become images of version 2.
 
-ghost use Rattle.std.specs.Prelude.{◌≡◌, ◌⊎◌, Err, IsTrue};
-ghost use Rattle.lis_ports.specs.Runs.{IsDiskRun, IsSettled, Leaves};
+ghost use Rattle.std.specs.Prelude.{◌≡◌, ◌⊎◌, ℕ, ◌<◌, Err, IsTrue};
+ghost use Rattle.lis_ports.specs.Runs.{IsDiskRun, Leaves};
 ghost use Rattle.lis_journal.specs.Images.{KeepsPast};
 ghost use Rattle.lis_journal.specs.Recovery.{IsSettledPast};
 ghost use Rattle.lis_model.specs.declared.limits.Limits.{Limits as LimitsOf};
@@ -10,9 +10,9 @@ ghost use Rattle.lis_model.specs.Image.{image_blocks};
 ghost use Rattle.lis_model.specs.State.{State};
 ghost use Rattle.lis_store.specs.Stands.{Stands};
 ghost use Rattle.lis_open.specs.Checks.{FailsFirst};
-ghost use Rattle.lis_open.specs.Opens.{HasOpenCause, HasSuper};
-ghost use Rattle.lis_open.specs.Upgrades.{upgraded, UpgradeEnded};
-ghost use Rattle.lis_open.specs.declared.mounting.OpenFault.TheVariants.{Damaged, DiskFault as DiskFailed};
+ghost use Rattle.lis_open.specs.Opens.{HasOpenCause, HasSuper, InOpening};
+ghost use Rattle.lis_open.specs.Upgrades.{upgraded, UpgradeEnded, UpgradeLeft};
+ghost use Rattle.lis_open.specs.declared.mounting.OpenFault.TheVariants.{TooShort, Damaged, DiskFault as DiskFailed};
 
 use crate::mounting::{OpenFault, mount};
 use lis_ports::Disk;
@@ -27,15 +27,27 @@ const SECOND: u8 = 2;
 /// Makes the image on a disk one of version 2. It is opened first, and refused as `mount` refuses it. Then the gate is written, in a write
 /// of its own, and synced. All memory is taken before.
 ///
-/// Stopped at any moment, an image of which nothing was unsynced stands for its state, or for the same in version 2.
+/// Stopped at any moment, an image stands for its state, or for the same in version 2, or is one that a crash could have left before.
 pub fn upgrade<D: Disk>(alloc: Global, disk: &mut D) -> Result<(), OpenFault>
     ensures run { IsDiskRun (D.meaning disk.old) (D.meaning disk.new) }
     ensures cause { HasOpenCause (D.meaning disk.old).disk_faults (D.meaning disk.new).disk_faults result }
     ensures ended { IsTrue (D.meaning disk.old).is_honest → UpgradeEnded (D.meaning disk.old) (D.meaning disk.new) result }
     ensures spot { (spot : SpotOf) → result ≡ Err (Damaged spot) → IsTrue (D.meaning disk.old).is_honest → FailsFirst (D.meaning disk.old).bytes spot }
-    ensures moments { (s : State) → IsTrue (D.meaning disk.old).is_honest → IsSettled (D.meaning disk.old) (D.meaning disk.old).bytes
-        → Stands (D.meaning disk.old).bytes s
-        → Leaves (D.meaning disk.old) (D.meaning disk.new) (λ image. Stands image s ⊎ Stands image (upgraded s)) }
+    ensures moments { (s : State) → IsTrue (D.meaning disk.old).is_honest → Stands (D.meaning disk.old).bytes s
+        → Leaves (D.meaning disk.old) (D.meaning disk.new) (λ image. (D.meaning disk.old).images image ⊎ (Stands image s ⊎ Stands image (upgraded s))) }
+
+    // Where it is refused nothing is written but what an open gate asks for, and where the image stands for no state each moment is one of
+    // opening.
+    ensures left { IsTrue (D.meaning disk.old).is_honest → UpgradeLeft (D.meaning disk.old) (D.meaning disk.new) result }
+    ensures refused { IsTrue (D.meaning disk.old).is_honest → ((s : State) → Stands (D.meaning disk.old).bytes s → ⊥)
+        → Leaves (D.meaning disk.old) (D.meaning disk.new) (InOpening (D.meaning disk.old)) }
+
+    // Of any disk: how the answer goes with its length.
+    ensures numbers { (len need : ℕ) → result ≡ Err (TooShort len need) → (len ≡ (D.meaning disk.old).len) × (len < need) }
+    ensures small { (D.meaning disk.old).len < 4096
+        → (result ≡ Err (TooShort (D.meaning disk.old).len 4096)) × (disk.new ≡ disk.old) }
+
+    // What lies past the image stays; where the disk failed, if a crash at entry left it as it read.
     ensures past { (limits : LimitsOf) → IsTrue (D.meaning disk.old).is_honest → HasSuper limits (D.meaning disk.old).bytes
         → (result ≡ Err DiskFailed → IsSettledPast (image_blocks limits) (D.meaning disk.old))
         → KeepsPast (image_blocks limits) (D.meaning disk.old) (D.meaning disk.new) }
