@@ -38,3 +38,6 @@ mod AllRead
 mod Order
 mod Parts
 mod Opening
+mod Shut
+mod Upgraded
+mod UpgradedImages
