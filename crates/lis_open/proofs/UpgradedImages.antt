@@ -1,5 +1,6 @@
 -- The gate of an image's version is written: each image of meanwhile stands for the state as before or in version 2, and the last one for that.
-use Rattle.std.proofs.Common.{◌≡◌, ◌⊎◌, refl, sym, ap, ap₂, ◌∙◌, subst, inl, inr, ℕ, ◌+◌, ◌*◌, ◌<◌, ◌≤◌, false, List, [], ◌∷◌, ◌++◌, length, take, drop, get_or, IsTrue, Result, Ok, Err, arith, get_or-take, get_or-drop}
+use Rattle.std.proofs.Common.{◌≡◌, ◌⊎◌, refl, sym, ap, ap₂, ◌∙◌, subst, inl, inr, ℕ, ◌+◌, ◌*◌, ◌<◌, ◌≤◌, false, List, [], ◌∷◌, ◌++◌, length, take, drop, get_or, IsTrue, Result, Ok, Err, arith, get_or-take, get_or-drop, if◌then◌else◌, eq-eqb}
+use Rattle.std.proofs.lemmas.Bool.{ne_eqb}
 use Rattle.std.proofs.lemmas.List.{drop-take, drop_more}
 use Rattle.lis_ports.specs.Meaning.{Meaning}
 use Rattle.lis_ports.specs.Bytes.{part, put, Torn}
@@ -25,7 +26,7 @@ use Rattle.lis_store.proofs.OneState.{one_state}
 use Rattle.lis_store.proofs.Standing.{change_stands, fitting_stands}
 use Rattle.lis_open.specs.declared.mounting.OpenFault.{OpenFault}
 use Rattle.lis_open.specs.Opens.{OpenEnded, OpenLeft, Recovers}
-use Rattle.lis_open.specs.Upgrades.{upgraded}
+use Rattle.lis_open.specs.Upgrades.{upgraded, GateLeft}
 use Rattle.lis_open.proofs.Needs.{one_limits, has_super}
 use Rattle.lis_open.proofs.Shut.{shut_keeps, shut_stands, shut_torn, recovered_shut}
 use Rattle.lis_open.proofs.Upgraded.{state_in, kept_in, state_own, kept_own, formed_upgraded, sound_upgraded, tells_in, written_in}
@@ -150,6 +151,16 @@ module _ (old mid : Meaning) (k : Stored) (sound : IsSound k) (ended : OpenEnded
   gate_within : 25 ≤ length mid.bytes
   gate_within = omega (arith, fits.journal.reads.holds.enough, fits.journal.reads.holds.long)
 
+  version_told : left.0.version ≡ k.parts.limits.version
+  version_told =
+      ap (λ (l : Limits). l.version) (one_limits old.bytes left.0 s.limits left.1 (has_super old.bytes s stood)) ∙ sym (ap (λ (l : Limits). l.version) limits_are)
+
+  -- what opening left of an image of version 2 stays
+  pub second_left : k.parts.limits.version ≡ 2 → GateLeft old mid
+  second_left two =
+      let after : List ℕ = recovered (image_blocks left.0) old.bytes in
+      (left.0, left.1, subst (λ is_second. IsSettled mid (if is_second then after else put after 24 (2 ∷ []))) (sym (eq-eqb left.0.version 2 (version_told ∙ two))) left.2)
+
   -- of version 2 it is what it becomes
   pub second_stands : k.parts.limits.version ≡ 2 → Always mid (λ image. Stands image (upgraded s))
   second_stands two =
@@ -169,6 +180,17 @@ module _ (old mid : Meaning) (k : Stored) (sound : IsSound k) (ended : OpenEnded
             let same = one_limits old.bytes left.0 s.limits left.1 (has_super old.bytes s stands) in
             recovered_shut (image_blocks left.0) old.bytes stands.replay (ap (λ (l : Limits). replayed (image_blocks l) old.bytes) same ∙ stands.replays)
             (omega (arith, fits.journal.reads.holds.enough, fits.journal.reads.holds.long, ap length left.2.reads))
+
+    -- and of an image of version 1 its gate is put
+    pub first_left : {new : Meaning} → IsSettled new (put mid.bytes 24 (2 ∷ [])) → GateLeft old new
+    first_left {new} written =
+        let after : List ℕ = recovered (image_blocks left.0) old.bytes in
+        (
+          left.0,
+          left.1,
+          subst (λ is_second. IsSettled new (if is_second then after else put after 24 (2 ∷ []))) (sym (ne_eqb left.0.version 2 (λ e. omega (arith, e, version_told, one))))
+              (subst (λ bytes. IsSettled new (put bytes 24 (2 ∷ []))) left.2.reads written),
+        )
 
     -- at each moment it stands for the state as before, or in version 2
     gate_moments : {new : Meaning} → Spreads mid new (Torn 24 1) → Leaves mid new (λ image. Stands image s ⊎ Stands image (upgraded s))

@@ -2,7 +2,7 @@ use Rattle.std.proofs.Common.{◌≡◌, ◌∙◌, sym, ap, arith}
 use Rattle.std.proofs.lemmas.Result.{err_from_is_err_and}
 use Rattle.lis_model.specs.declared.limits.Limits.{Limits}
 use Rattle.lis_store.proofs.FreeAgain.{first_version}
-use Rattle.lis_open.proofs.UpgradedImages.{fault_of, handed_on, opening_moments, second_stands, upgrade_moments, upgrade_past, first_stands}
+use Rattle.lis_open.proofs.UpgradedImages.{fault_of, handed_on, opening_moments, second_left, second_stands, first_left, upgrade_moments, upgrade_past, first_stands}
 use Rattle.lis_open.proofs.upgrading.upgrade.Goals as goal
 
 -- ---- refused
@@ -39,6 +39,11 @@ returns-then-limits-eq2-clause-ended g c = λ honest.
     let ended = c.in_ok-store.ensures.ended honest in
     let two = ap (λ (l : Limits). l.version) (sym c.limits.ensures.value) ∙ c.if-limits-eq2.true in
     (ended.0, (ended.1.0, ended.1.1, second_stands _ _ _ c.limits.ensures.sound ended (c.in_ok-store.ensures.left honest) two))
+
+pub returns-then-limits-eq2-clause-left : goal.returns-then-limits-eq2-clause-left
+returns-then-limits-eq2-clause-left g c = λ honest.
+    let two = ap (λ (l : Limits). l.version) (sym c.limits.ensures.value) ∙ c.if-limits-eq2.true in
+    second_left _ _ _ c.limits.ensures.sound (c.in_ok-store.ensures.ended honest) (c.in_ok-store.ensures.left honest) two
 
 pub returns-then-limits-eq2-clause-moments : goal.returns-then-limits-eq2-clause-moments
 returns-then-limits-eq2-clause-moments g c = λ s honest stands. opening_moments s (c.in_ok-store.ensures.same_state s honest stands)
@@ -91,6 +96,11 @@ returns-clause-ended g c = λ honest.
         first_stands _ _ _ c.limits.ensures.sound ended (c.in_ok-store.ensures.left honest) one (c.in_ok-write_gate.ensures.settled (c.mount.ensures.run.honest ∙ honest)),
       ),
     )
+
+pub returns-clause-left : goal.returns-clause-left
+returns-clause-left g c = λ honest.
+    let one = first_version _ c.limits.ensures.sound.parts.range (λ two. c.if-limits-eq2.false (ap (λ (l : Limits). l.version) c.limits.ensures.value ∙ two)) in
+    first_left _ _ _ c.limits.ensures.sound (c.in_ok-store.ensures.ended honest) (c.in_ok-store.ensures.left honest) one (c.in_ok-write_gate.ensures.settled (c.mount.ensures.run.honest ∙ honest))
 
 pub returns-clause-moments : goal.returns-clause-moments
 returns-clause-moments g c = λ s honest stands.
