@@ -47,6 +47,9 @@ handed_on {given = given} {other = other} was is told =
     let same : given ≡ other = cc in
     was ∙ ap Err (is ∙ same)
 
+pub not_refused : {S : Type 0} {done : S} {fault : OpenFault} → ◌≡◌ {A = Result S OpenFault} (Ok done) (Err fault) → ⊥
+not_refused is = cc
+
 -- ---- one image
 module _ (k : Stored) (m : Meaning) (s : State) (sound : IsSound k) (fits : StoreFits k m s) (one : s.limits.version ≡ 1) (shut : is_open 0 m.bytes ≡ false) where
   keeps : Keeps k.journal.blocks fits.kept m.bytes
