@@ -39,3 +39,6 @@ mod Order
 mod SameHomes
 mod Parts
 mod Opening
+mod Shut
+mod Upgraded
+mod UpgradedImages

@@ -1,12 +1,15 @@
 -- How an image becomes one of version 2.
-use Rattle.std.specs.Prelude.{Result, Ok, Err}
+use Rattle.std.specs.Prelude.{ℕ, ◌==◌, List, [], ◌∷◌, if◌then◌else◌, Result, Ok, Err}
+use Rattle.lis_ports.specs.Bytes.{put}
 use Rattle.lis_ports.specs.Meaning.{Meaning}
-use Rattle.lis_ports.specs.Runs.{Always}
+use Rattle.lis_ports.specs.Runs.{Always, IsSettled}
+use Rattle.lis_journal.specs.Record.{recovered}
+use Rattle.lis_model.specs.declared.limits.Limits.{Limits}
+use Rattle.lis_model.specs.Image.{image_blocks}
 use Rattle.lis_model.specs.State.{State}
 use Rattle.lis_store.specs.Stands.{Stands}
-use Rattle.lis_store.specs.Stored.{Stored}
 use Rattle.lis_open.specs.declared.mounting.OpenFault.{OpenFault}
-use Rattle.lis_open.specs.Opens.{IsLongEnough, OpenEnded, OpenLeft}
+use Rattle.lis_open.specs.Opens.{HasSuper, IsLongEnough, OpenEnded, OpenLeft}
 
 -- the same state in an image of version 2
 abbrev pub upgraded : State → State
@@ -17,7 +20,15 @@ abbrev pub UpgradeEnded : {T : Type 0} → Meaning → Meaning → Result T Open
 UpgradeEnded old new (Ok done) = IsLongEnough old × ((s : State) × Stands old.bytes s × Always new (λ image. Stands image (upgraded s)))
 UpgradeEnded old new (Err fault) = OpenEnded old new (Err fault)
 
--- what is left where it is refused, which is what opening leaves
+-- what becomes of the bytes of an image with these limits: of version 1 its gate is put, and of version 2 all stay
+abbrev pub with_gate : Limits → List ℕ → List ℕ
+with_gate limits bytes = if limits.version == 2 then bytes else put bytes 24 (2 ∷ [])
+
+-- It reads as what opening leaves with its gate put, and a crash leaves just this.
+abbrev pub GateLeft : Meaning → Meaning → Type 0
+GateLeft old new = (limits : Limits) × HasSuper limits old.bytes × IsSettled new (with_gate limits (recovered (image_blocks limits) old.bytes))
+
+-- what is left; where it is refused, that is what opening leaves
 abbrev pub UpgradeLeft : {T : Type 0} → Meaning → Meaning → Result T OpenFault → Type 0
-UpgradeLeft old new (Ok done) = Unit {0}
+UpgradeLeft old new (Ok done) = GateLeft old new
 UpgradeLeft old new (Err fault) = OpenLeft old new (Err fault)

@@ -13,9 +13,9 @@ mod mounting;
 mod naming;
 mod reading;
 mod room;
-mod upgrading;
 #[cfg(test)]
 mod tests;
+mod upgrading;
 mod words;
 
 pub use making::{MakeFault, make};

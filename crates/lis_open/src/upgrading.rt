@@ -1,9 +1,12 @@
 //! Images of version 1 that become images of version 2.
 
-ghost use Rattle.std.specs.Prelude.{◌≡◌, ◌⊎◌, ℕ, ◌<◌, Err, IsTrue};
-ghost use Rattle.lis_ports.specs.Runs.{IsDiskRun, Leaves};
+ghost use Rattle.std.specs.Prelude.{◌≡◌, ◌⊎◌, ℕ, ◌<◌, ◌≤◌, [], ◌∷◌, Err, IsTrue, OnOk};
+ghost use Rattle.lis_ports.specs.Bytes.{put, Torn};
+ghost use Rattle.lis_ports.specs.Calls.{HasCause};
+ghost use Rattle.lis_ports.specs.Runs.{IsDiskRun, IsSettled, Leaves};
 ghost use Rattle.lis_journal.specs.Images.{KeepsPast};
 ghost use Rattle.lis_journal.specs.Recovery.{IsSettledPast};
+ghost use Rattle.lis_journal.specs.Spreads.{Spreads};
 ghost use Rattle.lis_model.specs.declared.limits.Limits.{Limits as LimitsOf};
 ghost use Rattle.lis_model.specs.declared.spot.Spot.{Spot as SpotOf};
 ghost use Rattle.lis_model.specs.Image.{image_blocks};
@@ -15,7 +18,7 @@ ghost use Rattle.lis_open.specs.Upgrades.{upgraded, UpgradeEnded, UpgradeLeft};
 ghost use Rattle.lis_open.specs.declared.mounting.OpenFault.TheVariants.{TooShort, Damaged, DiskFault as DiskFailed};
 
 use crate::mounting::{OpenFault, mount};
-use lis_ports::Disk;
+use lis_ports::{Disk, Failed};
 use std::alloc::Global;
 
 /// Where a super block has the gate of its version.
@@ -23,6 +26,19 @@ const GATE: u64 = 24;
 
 /// The gate of version 2.
 const SECOND: u8 = 2;
+
+// Writes the gate of version 2, in a write of its own, and syncs.
+fn write_gate<D: Disk>(disk: &mut D) -> Result<(), Failed>
+    requires { 25 ≤ (D.meaning disk.old).len }
+    ensures run { IsDiskRun (D.meaning disk.old) (D.meaning disk.new) }
+    ensures cause { HasCause (D.meaning disk.old).disk_faults (D.meaning disk.new).disk_faults result }
+    ensures spreads { IsTrue (D.meaning disk.old).is_honest → Spreads (D.meaning disk.old) (D.meaning disk.new) (Torn 24 1) }
+    ensures settled { OnOk result (IsTrue (D.meaning disk.old).is_honest
+        → IsSettled (D.meaning disk.new) (put (D.meaning disk.old).bytes 24 (2 ∷ []))) }
+{
+    disk.write_at(GATE, &[SECOND])?;
+    disk.sync()
+}
 
 /// Makes the image on a disk one of version 2. It is opened first, and refused as `mount` refuses it. Then the gate is written, in a write
 /// of its own, and synced. All memory is taken before.
@@ -56,7 +72,6 @@ pub fn upgrade<D: Disk>(alloc: Global, disk: &mut D) -> Result<(), OpenFault>
     if store.limits().version == 2 {
         return Ok(());
     }
-    disk.write_at(GATE, &[SECOND])?;
-    disk.sync()?;
+    write_gate(disk)?;
     Ok(())
 }

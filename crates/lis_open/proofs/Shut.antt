@@ -1,0 +1,97 @@
+-- Images whose first gate is closed: after a recovery, and where bytes before the gates change.
+use Rattle.std.proofs.Common.{◌≡◌, refl, sym, ap, ◌∙◌, subst, ℕ, ◌+◌, ◌-◌, ◌*◌, ◌<◌, ◌≤◌, ◌==◌, ◌||◌, Bool, true, false, cond, Option, Some, None, is_some, IsSomeAnd, List, [], ◌∷◌, ◌++◌, length, take, drop, get_or, replicate, inl, inr, arith, length-append, length-drop, get_or-take}
+use Rattle.std.specs.List.{list_any, prefix_len}
+use Rattle.std.proofs.lemmas.Bool.{both_ways}
+use Rattle.std.proofs.lemmas.List.{length-take, length-replicate}
+use Rattle.std.proofs.lemmas.List.Sums.{prefix_len_is}
+use Rattle.lis_ports.specs.Bytes.{part, put, Torn}
+use Rattle.lis_ports.proofs.Parts.{part-torn, part-put, part-put_other}
+use Rattle.lis_journal.specs.Record.{block, gates, is_open, has_open, open_count, first_bad, all_recorded, apply, bad_record, replayed, gates_closed, recovered_as, recovered}
+use Rattle.lis_journal.specs.Images.{IsOutside, Keeps, StandsFor}
+use Rattle.lis_journal.proofs.Fitting.{replayed_parts}
+
+-- ---- the first gate
+first_gate : (image : List ℕ) → is_open 0 image ≡ (get_or (part 4096 1 image) 0 0 == 1)
+first_gate image =
+    ap (λ gate. gate == 1)
+    (get_or-take 64 (drop 4096 image) 0 0 (omega arith) ∙ sym (get_or-take 1 (drop 4096 image) 0 0 (omega arith)))
+
+none_first : (gates_are : List ℕ) → list_any (λ gate. gate == 1) gates_are ≡ false → (get_or gates_are 0 0 == 1) ≡ false
+none_first [] none = refl
+none_first (gate ∷ rest) none = by (gate == 1) none
+  where
+    by : (b : Bool) → (b || list_any (λ g. g == 1) rest) ≡ false → b ≡ false
+    by true e = e
+    by false e = refl
+
+-- with the first gate closed no record is open
+none_open : (image : List ℕ) → is_open 0 image ≡ false → open_count image ≡ 0
+unfolding open_count
+none_open image shut = prefix_len_is (λ gate. gate == 1) (gates image) 0 0 (omega arith) (λ k lt. absurd (omega arith)) (λ lt. shut)
+
+-- and the image is its own replayed image
+pub shut_replays : (blocks : ℕ) (image : List ℕ) → is_open 0 image ≡ false → replayed blocks image ≡ Some image
+unfolding replayed bad_record
+shut_replays blocks image shut =
+    ap (λ n. cond (is_some (first_bad blocks 2 n image)) None (Some (apply (all_recorded 2 n image) image))) (none_open image shut)
+
+-- ---- what it keeps
+pub shut_keeps : (blocks : ℕ) (kept : ℕ → List ℕ) (image : List ℕ) → is_open 0 image ≡ false → StandsFor blocks kept image → Keeps blocks kept image
+unfolding StandsFor
+shut_keeps blocks kept image shut stands = subst (λ (o : Option (List ℕ)). IsSomeAnd o (Keeps blocks kept)) (shut_replays blocks image shut) stands.1
+
+pub shut_stands : (blocks : ℕ) (image : List ℕ) → is_open 0 image ≡ false → 4096 * blocks ≤ length image → StandsFor blocks (λ n. block n image) image
+unfolding StandsFor
+shut_stands blocks image shut long =
+    let keeps : Keeps blocks (λ n. block n image) image = record { long = long; same = λ n out. refl } in
+    (long, subst (λ (o : Option (List ℕ)). IsSomeAnd o (Keeps blocks (λ n. block n image))) (sym (shut_replays blocks image shut)) keeps)
+
+-- what is torn before the gates leaves them as they are
+pub shut_torn : (at n : ℕ) (from image : List ℕ) → at + n ≤ 4096 → Torn at n from image → is_open 0 from ≡ false → is_open 0 image ≡ false
+shut_torn at n from image low torn shut =
+    ap (λ (gate : List ℕ). get_or gate 0 0 == 1) (part-torn at n from image torn 4096 64 (inr low)) ∙ shut
+
+-- ---- after a recovery
+-- what is longer than the end of what was put there was so before
+put_long : (xs : List ℕ) (at : ℕ) (bytes : List ℕ) → at + length bytes < length (put xs at bytes) → at + length bytes ≤ length xs
+unfolding put
+put_long xs at bytes long = omega (
+  arith,
+  long,
+  length-append (take at xs ++ bytes) (drop (at + length bytes) xs),
+  length-append (take at xs) bytes,
+  length-take at xs,
+  length-drop (at + length bytes) xs,
+)
+
+rest_closed : (image : List ℕ) → 4160 < length (put image 4097 (replicate 63 0)) → (4160 ≤ length image) × (is_open 0 (put image 4097 (replicate 63 0)) ≡ is_open 0 image)
+rest_closed image long =
+    let le : 4097 + length {A = ℕ} (replicate 63 0) ≤ length image = put_long image 4097 (replicate 63 0) long in (
+      le,
+      first_gate (put image 4097 (replicate 63 0))
+          ∙ (ap (λ (gate : List ℕ). get_or gate 0 0 == 1) (part-put_other image 4097 (replicate 63 0) le 4096 1 (inl (omega arith))) ∙ sym (first_gate image)),
+    )
+
+closed_first : (blocks : ℕ) (image replay : List ℕ) → replayed blocks image ≡ Some replay → (first : Bool) → is_open 0 image ≡ first → 4160 < length (gates_closed first replay)
+    → is_open 0 (gates_closed first replay) ≡ false
+unfolding gates_closed
+closed_first blocks image replay replays true is long =
+    let first = put replay 4096 (0 ∷ []) in
+    let rest = rest_closed first long in
+    let le : 4097 ≤ length replay = put_long replay 4096 (0 ∷ []) (omega (arith, rest.0)) in
+    rest.1 ∙ (first_gate first ∙ ap (λ (gate : List ℕ). get_or gate 0 0 == 1) (part-put replay 4096 (0 ∷ []) le))
+closed_first blocks image replay replays false is long =
+    let none = none_open image is in
+    let same : image ≡ replay = subst (λ n. apply (all_recorded 2 n image) image ≡ replay) none (replayed_parts blocks image replay replays).1 in
+    (rest_closed replay long).1 ∙ (ap (is_open 0) (sym same) ∙ is)
+
+-- its first gate is closed
+pub recovered_shut : (blocks : ℕ) (image replay : List ℕ) → replayed blocks image ≡ Some replay → 4160 < length (recovered blocks image) → is_open 0 (recovered blocks image) ≡ false
+unfolding recovered
+recovered_shut blocks image replay replays long = by (has_open image) refl long
+  where
+    by : (some : Bool) → has_open image ≡ some → 4160 < length (cond some (recovered_as image (replayed blocks image)) image) → is_open 0 (cond some (recovered_as image (replayed blocks image)) image) ≡ false
+    by false none enough = none_first (gates image) none
+    by true some enough =
+        subst (λ (o : Option (List ℕ)). 4160 < length (recovered_as image o) → is_open 0 (recovered_as image o) ≡ false) (sym replays)
+        (λ l. closed_first blocks image replay replays (is_open 0 image) refl l) enough

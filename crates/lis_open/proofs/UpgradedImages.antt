@@ -1,0 +1,224 @@
+-- The gate of an image's version is written: each image of meanwhile stands for the state as before or in version 2, and the last one for that.
+use Rattle.std.proofs.Common.{◌≡◌, ◌⊎◌, refl, sym, ap, ap₂, ◌∙◌, subst, inl, inr, ℕ, ◌+◌, ◌*◌, ◌<◌, ◌≤◌, false, List, [], ◌∷◌, ◌++◌, length, take, drop, get_or, IsTrue, Result, Ok, Err, arith, get_or-take, get_or-drop, if◌then◌else◌, eq-eqb}
+use Rattle.std.proofs.lemmas.Bool.{ne_eqb}
+use Rattle.std.proofs.lemmas.List.{drop-take, drop_more}
+use Rattle.lis_ports.specs.Meaning.{Meaning}
+use Rattle.lis_ports.specs.Bytes.{part, put, Torn}
+use Rattle.lis_ports.specs.Runs.{Always, IsSettled, Leaves}
+use Rattle.lis_ports.proofs.Always.{always_settled}
+use Rattle.lis_ports.proofs.Moments.{leaves_then, leaves_weaken}
+use Rattle.lis_ports.proofs.Parts.{part-torn, part-part, part-put, torn-put, length-part}
+use Rattle.lis_journal.specs.Record.{block, is_open, replayed, recovered}
+use Rattle.lis_journal.specs.Images.{Keeps, StandsFor, KeepsPast}
+use Rattle.lis_journal.specs.Spreads.{Spreads}
+use Rattle.lis_journal.proofs.Fitting.{fits_stand}
+use Rattle.lis_journal.proofs.Spreading.{leaves_spread}
+use Rattle.lis_fields.specs.Layouts.{SpellsSuper}
+use Rattle.lis_fields.proofs.Widths.{joined}
+use Rattle.lis_fields.proofs.Supers.{super_torn, super_upgraded}
+use Rattle.lis_model.specs.declared.limits.Limits.{Limits}
+use Rattle.lis_model.specs.Image.{image_blocks}
+use Rattle.lis_model.specs.State.{State, WellFormed}
+use Rattle.lis_kept.specs.Sound.{AreSound}
+use Rattle.lis_store.specs.Stands.{Stands}
+use Rattle.lis_store.specs.Stored.{Stored, IsSound, StoreFits}
+use Rattle.lis_store.proofs.OneState.{one_state}
+use Rattle.lis_store.proofs.Standing.{change_stands, fitting_stands}
+use Rattle.lis_open.specs.declared.mounting.OpenFault.{OpenFault}
+use Rattle.lis_open.specs.Opens.{OpenEnded, OpenLeft, Recovers}
+use Rattle.lis_open.specs.Upgrades.{upgraded, GateLeft}
+use Rattle.lis_open.proofs.Needs.{one_limits, has_super}
+use Rattle.lis_open.proofs.Shut.{shut_keeps, shut_stands, shut_torn, recovered_shut}
+use Rattle.lis_open.proofs.Upgraded.{state_in, kept_in, state_own, kept_own, formed_upgraded, sound_upgraded, tells_in, written_in}
+
+-- ---- answers
+-- the fault of an answer that was handed on
+pub fault_of : {S T : Type 0} {result : Result T OpenFault} {fault given other : OpenFault} → result ≡ Err fault → fault ≡ given → result ≡ Err other
+    → ◌≡◌ {A = Result S OpenFault} (Err given) (Err other)
+fault_of {T = T} {fault = fault} {other = other} was is told =
+    let both : ◌≡◌ {A = Result T OpenFault} (Err fault) (Err other) = sym was ∙ told in
+    let same : fault ≡ other = cc in
+    ap Err (sym is ∙ same)
+
+-- and the answer of that fault
+pub handed_on : {S T : Type 0} {result : Result T OpenFault} {fault given other : OpenFault} → result ≡ Err fault → fault ≡ given → ◌≡◌ {A = Result S OpenFault} (Err given) (Err other)
+    → result ≡ Err other
+handed_on {given = given} {other = other} was is told =
+    let same : given ≡ other = cc in
+    was ∙ ap Err (is ∙ same)
+
+pub not_refused : {S : Type 0} {done : S} {fault : OpenFault} → ◌≡◌ {A = Result S OpenFault} (Ok done) (Err fault) → ⊥
+not_refused is = cc
+
+-- ---- one image
+module _ (k : Stored) (m : Meaning) (s : State) (sound : IsSound k) (fits : StoreFits k m s) (one : s.limits.version ≡ 1) (shut : is_open 0 m.bytes ≡ false) where
+  keeps : Keeps k.journal.blocks fits.kept m.bytes
+  keeps = shut_keeps k.journal.blocks fits.kept m.bytes shut (fits_stand k.journal (sound.placed fits.unbroken) fits.journal).reads
+
+  kept_one : k.parts.limits.version ≡ 1
+  kept_one = ap (λ (t : State). t.limits.version) fits.tells.state ∙ one
+
+  super_before : SpellsSuper s.limits (block 0 m.bytes)
+  super_before = subst (λ bytes. SpellsSuper s.limits bytes) (sym (keeps.same 0 (inl refl))) fits.tells.super
+
+  module _ (image : List ℕ) (torn : Torn 24 1 m.bytes image) where
+    long : 4096 * k.journal.blocks ≤ length image
+    long = omega (arith, keeps.long, torn.len)
+
+    whole : 4096 ≤ length image
+    whole = omega (arith, long, sound.image)
+
+    same : (n : ℕ) → 578 ≤ n → block n image ≡ fits.kept n
+    same n low = part-torn 24 1 m.bytes image torn (4096 * n) 4096 (inr (omega (arith, low))) ∙ keeps.same n (inr low)
+
+    front : take 24 (block 0 image) ≡ take 24 (block 0 m.bytes)
+    front = part-part 0 24 0 4096 image (omega arith) ∙ (torn.before ∙ sym (part-part 0 24 0 4096 m.bytes (omega arith)))
+
+    behind : drop 25 (block 0 image) ≡ drop 25 (block 0 m.bytes)
+    behind = drop-take 25 4071 image ∙ (ap (take 4071) torn.after ∙ sym (drop-take 25 4071 m.bytes))
+
+    -- it stands for the state in the version that its super block tells
+    stands_in : (version : ℕ) → SpellsSuper (record s.limits { version = version }) (block 0 image) → AreSound (kept_in version k.parts) → WellFormed (state_in version s) → Stands image (state_in version s)
+    stands_in version super sound_then formed =
+        change_stands (record k { parts = kept_in version k.parts }) k.journal.blocks (λ n. block n image) (state_in version s) sound_then sound.free sound.pairs
+        (tells_in version k.parts fits.kept (λ n. block n image) sound.parts same s super formed fits.tells)
+        (written_in version k.parts fits.kept (λ n. block n image) sound.parts same fits.written)
+        sound.image image (shut_stands k.journal.blocks image (shut_torn 24 1 m.bytes image (omega arith) torn shut) long)
+
+    stands_before : SpellsSuper s.limits (block 0 image) → Stands image s
+    stands_before super =
+        subst (Stands image) (state_own s one)
+        (stands_in 1 (subst (λ version. SpellsSuper (record s.limits { version = version }) (block 0 image)) one super) (subst AreSound (sym (kept_own k.parts kept_one)) sound.parts)
+        (subst WellFormed (sym (state_own s one)) fits.tells.formed))
+
+    pub stands_upgraded : SpellsSuper (record s.limits { version = 2 }) (block 0 image) → Stands image (upgraded s)
+    stands_upgraded super = stands_in 2 super (sound_upgraded k.parts kept_one sound.parts) (formed_upgraded s one fits.tells.formed)
+
+    pub torn_stands : Stands image s ⊎ Stands image (upgraded s)
+    torn_stands = elim super_then as (λ _. Stands image s ⊎ Stands image (upgraded s)) [
+      | inl before ↦ inl (stands_before before)
+      | inr after ↦ inr (stands_upgraded after)
+    ]
+      where
+        super_then : SpellsSuper s.limits (block 0 image) ⊎ SpellsSuper (record s.limits { version = 2 }) (block 0 image)
+        super_then =
+            super_torn s.limits (block 0 m.bytes) (block 0 image) one super_before
+            (length-part 0 4096 image whole ∙ sym (length-part 0 4096 m.bytes (omega (arith, whole, torn.len)))) front behind
+
+    -- where the byte is a 2
+    pub written_stands : part 24 1 image ≡ 2 ∷ [] → Stands image (upgraded s)
+    written_stands gate_is =
+        stands_upgraded (subst (λ bytes. SpellsSuper (record s.limits { version = 2 }) bytes) (sym new) (super_upgraded s.limits (block 0 m.bytes) super_before))
+      where
+        gate : get_or (block 0 image) 24 0 ≡ 2
+        gate =
+            get_or-take 4096 image 24 0 (omega arith)
+            ∙ (sym (get_or-drop 24 image 0 0)
+            ∙ (sym (get_or-take 1 (drop 24 image) 0 0 (omega arith)) ∙ ap (λ (bytes : List ℕ). get_or bytes 0 0) gate_is))
+
+        new : block 0 image ≡ take 24 (block 0 m.bytes) ++ (2 ∷ drop 25 (block 0 m.bytes))
+        new =
+            joined 24 (block 0 image) (take 24 (block 0 m.bytes)) (2 ∷ drop 25 (block 0 m.bytes)) front
+            (drop_more (block 0 image) 24 0 (omega (arith, length-part 0 4096 image whole)) ∙ ap₂ (λ x xs. x ∷ xs) gate behind)
+
+-- ---- runs
+pub opening_moments : {old mid : Meaning} (t : State) → Leaves old mid (λ image. old.images image ⊎ Stands image t)
+    → Leaves old mid (λ image. old.images image ⊎ (Stands image t ⊎ Stands image (upgraded t)))
+opening_moments {old} t moments = leaves_weaken (λ image. old.images image ⊎ (Stands image t ⊎ Stands image (upgraded t))) moments by
+  where
+    by : (image : List ℕ) → old.images image ⊎ Stands image t → old.images image ⊎ (Stands image t ⊎ Stands image (upgraded t))
+    by image (inl is) = inl is
+    by image (inr stands) = inr (inl stands)
+
+module _ (old mid : Meaning) (k : Stored) (sound : IsSound k) (ended : OpenEnded old mid (Ok k)) (left : OpenLeft old mid (Ok k)) where
+  abbrev s : State
+  s = ended.1.0
+
+  stood : Stands old.bytes s
+  stood = ended.1.1
+
+  fits : StoreFits k mid s
+  fits = ended.1.2
+
+  limits_are : k.parts.limits ≡ s.limits
+  limits_are = ap (λ (t : State). t.limits) fits.tells.state
+
+  always : Always mid (λ image. Stands image s)
+  always = fitting_stands mid k s sound fits
+
+  -- nothing is unsynced
+  settled : IsSettled mid mid.bytes
+  settled = record { reads = refl; only = λ image is. left.2.only image is ∙ sym left.2.reads }
+
+  -- it has the first bytes
+  gate_within : 25 ≤ length mid.bytes
+  gate_within = omega (arith, fits.journal.reads.holds.enough, fits.journal.reads.holds.long)
+
+  version_told : left.0.version ≡ k.parts.limits.version
+  version_told =
+      ap (λ (l : Limits). l.version) (one_limits old.bytes left.0 s.limits left.1 (has_super old.bytes s stood)) ∙ sym (ap (λ (l : Limits). l.version) limits_are)
+
+  -- what opening left of an image of version 2 stays
+  pub second_left : k.parts.limits.version ≡ 2 → GateLeft old mid
+  second_left two =
+      let after : List ℕ = recovered (image_blocks left.0) old.bytes in
+      (left.0, left.1, subst (λ is_second. IsSettled mid (if is_second then after else put after 24 (2 ∷ []))) (sym (eq-eqb left.0.version 2 (version_told ∙ two))) left.2)
+
+  -- of version 2 it is what it becomes
+  pub second_stands : k.parts.limits.version ≡ 2 → Always mid (λ image. Stands image (upgraded s))
+  second_stands two =
+      let same : s ≡ upgraded s = ap (λ version. state_in version s) (sym (ap (λ (l : Limits). l.version) limits_are) ∙ two) in
+      subst (λ (t : State). Always mid (λ image. Stands image t)) same always
+
+  module _ (one : k.parts.limits.version ≡ 1) where
+    state_one : s.limits.version ≡ 1
+    state_one = sym (ap (λ (l : Limits). l.version) limits_are) ∙ one
+
+    shut : is_open 0 mid.bytes ≡ false
+    unfolding Stands
+    shut = subst (λ bytes. is_open 0 bytes ≡ false) (sym left.2.reads) (by stood)
+      where
+        by : Stands old.bytes s → is_open 0 (recovered (image_blocks left.0) old.bytes) ≡ false
+        by stands =
+            let same = one_limits old.bytes left.0 s.limits left.1 (has_super old.bytes s stands) in
+            recovered_shut (image_blocks left.0) old.bytes stands.replay (ap (λ (l : Limits). replayed (image_blocks l) old.bytes) same ∙ stands.replays)
+            (omega (arith, fits.journal.reads.holds.enough, fits.journal.reads.holds.long, ap length left.2.reads))
+
+    -- and of an image of version 1 its gate is put
+    pub first_left : {new : Meaning} → IsSettled new (put mid.bytes 24 (2 ∷ [])) → GateLeft old new
+    first_left {new} written =
+        let after : List ℕ = recovered (image_blocks left.0) old.bytes in
+        (
+          left.0,
+          left.1,
+          subst (λ is_second. IsSettled new (if is_second then after else put after 24 (2 ∷ []))) (sym (ne_eqb left.0.version 2 (λ e. omega (arith, e, version_told, one))))
+              (subst (λ bytes. IsSettled new (put bytes 24 (2 ∷ []))) left.2.reads written),
+        )
+
+    -- at each moment it stands for the state as before, or in version 2
+    gate_moments : {new : Meaning} → Spreads mid new (Torn 24 1) → Leaves mid new (λ image. Stands image s ⊎ Stands image (upgraded s))
+    gate_moments spreads =
+        leaves_spread (Torn 24 1) (λ image. Stands image s ⊎ Stands image (upgraded s)) (always_settled (λ image. image ≡ mid.bytes) mid.bytes settled refl) spreads (λ from image same torn.
+        torn_stands k mid s sound fits state_one shut image (subst (λ bytes. Torn 24 1 bytes image) same torn))
+
+    pub upgrade_moments : (t : State) {new : Meaning} → Stands old.bytes t → Leaves old mid (λ image. old.images image ⊎ Stands image t) → Spreads mid new (Torn 24 1)
+        → Leaves old new (λ image. old.images image ⊎ (Stands image t ⊎ Stands image (upgraded t)))
+    upgrade_moments t stands moments spreads =
+        let same : s ≡ t = one_state old.bytes s t stood stands in
+        leaves_then (opening_moments t moments)
+        (leaves_weaken (λ image. old.images image ⊎ (Stands image t ⊎ Stands image (upgraded t))) (gate_moments spreads) (λ image is.
+        inr (subst (λ (u : State). Stands image u ⊎ Stands image (upgraded u)) same is)))
+
+    -- what lies past the image stays
+    pub upgrade_past : (limits : Limits) {new : Meaning} → KeepsPast (image_blocks limits) old mid → Spreads mid new (Torn 24 1) → KeepsPast (image_blocks limits) old new
+    upgrade_past limits {new} past spreads n le =
+        let from = spreads.reads in
+        part-torn 24 1 from.0 new.bytes from.2 (4096 * n) 4096 (inr (omega (arith, le)))
+        ∙ (ap (block n) (elim from.1 as (λ _. from.0 ≡ mid.bytes) [ inl image ↦ settled.only from.0 image | inr same ↦ same ]) ∙ past n le)
+
+    -- when it is written and synced, every image stands for the state in version 2
+    pub first_stands : {new : Meaning} → IsSettled new (put mid.bytes 24 (2 ∷ [])) → Always new (λ image. Stands image (upgraded s))
+    first_stands written =
+        let le = gate_within in
+        always_settled (λ image. Stands image (upgraded s)) (put mid.bytes 24 (2 ∷ [])) written
+        (written_stands k mid s sound fits state_one shut (put mid.bytes 24 (2 ∷ [])) (torn-put mid.bytes 24 (2 ∷ []) le) (part-put mid.bytes 24 (2 ∷ []) le))
