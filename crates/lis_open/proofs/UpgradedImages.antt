@@ -187,8 +187,7 @@ module _ (old mid : Meaning) (k : Stored) (sound : IsSound k) (ended : OpenEnded
     -- and of an image of version 1 its gate is put
     pub first_left : {new : Meaning} → IsSettled new (put mid.bytes 24 (2 ∷ [])) → GateLeft old new
     first_left {new} written =
-        let after : List ℕ = recovered (image_blocks left.0) old.bytes in
-        (
+        let after : List ℕ = recovered (image_blocks left.0) old.bytes in (
           left.0,
           left.1,
           subst (λ is_second. IsSettled new (if is_second then after else put after 24 (2 ∷ []))) (sym (ne_eqb left.0.version 2 (λ e. omega (arith, e, version_told, one))))

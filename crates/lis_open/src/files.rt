@@ -277,7 +277,7 @@ fn take_record<D: Disk>(
         (TakesRecord limits.now (Fits journal.now (D.meaning disk.old)) words.now axioms.now.taxonomy slot rec files.old files.new)) }
     ensures refused { IfOk result (λ taken. OnFalse taken ((files.new ≡ files.old)
         × ((kept : ℕ → List ℕ) → Fits journal.now (D.meaning disk.old) kept
-            → RecordFault limits.now kept words.now axioms.now.taxonomy files.old rec))) }
+        → RecordFault limits.now kept words.now axioms.now.taxonomy files.old rec))) }
 {
     if !may_file(words, files, &rec) {
         return Ok(false);
@@ -336,7 +336,7 @@ fn take_file<D: Disk>(
         (TakesFile limits.now (Fits journal.now (D.meaning disk.old)) words.now axioms.now.taxonomy slot found files.old files.new)) }
     ensures refused { IfOk result (λ taken. OnFalse taken ((files.new ≡ files.old)
         × ((kept : ℕ → List ℕ) → Fits journal.now (D.meaning disk.old) kept
-            → HasSlotFault limits.now kept words.now axioms.now.taxonomy files.old found))) }
+        → HasSlotFault limits.now kept words.now axioms.now.taxonomy files.old found))) }
 {
     match found {
         None => Ok(false),
