@@ -1,5 +1,5 @@
 -- The row of a new file, told by what a store keeps, is the row of the state; and what holds where it refuses nothing.
-use Rattle.std.proofs.Common.{◌≡◌, ◌⊎◌, refl, sym, ap, ap₂, ◌∙◌, inl, inr, ℕ, ◌<◌, ◌≤◌, nat_lt, nat_le, Bool, true, false, not, cond, is_some, Option, Some, None, List, ◌++◌, length, Result, Err, arith}
+use Rattle.std.proofs.Common.{◌≡◌, ◌⊎◌, refl, sym, ap, ap₂, ◌∙◌, subst, inl, inr, ℕ, ◌<◌, ◌≤◌, nat_lt, nat_le, Bool, true, false, not, cond, is_some, Option, Some, None, List, ◌++◌, length, Result, Err, arith}
 use Rattle.std.specs.List.{list_any, list_all}
 use Rattle.std.proofs.lemmas.Bool.{le-ltb, ltb-true, ltb-false, leb-true, leb-false, not-false}
 use Rattle.lis_ports.specs.Meaning.{Meaning}
@@ -15,7 +15,6 @@ use Rattle.lis_model.specs.Sets.{with_words}
 use Rattle.lis_model.specs.State.{State, File, file_words, description, known, is_assignable, file_cmp, file_limit, blocks_taken}
 use Rattle.lis_model.specs.Changes.{has_name, new_file, file_added}
 use Rattle.lis_model.specs.Step.{Situation, Payload, refused, changed, exceeds_words, assigned_at, free_blocks, add_checks, add}
-use Rattle.lis_fields.proofs.Parts.{size_fits}
 use Rattle.lis_laws.proofs.Members.{word_order}
 use Rattle.lis_laws.proofs.Counts.{all_among, rising_from_sorted}
 use Rattle.lis_laws.proofs.Growth.{known_adds_file}
@@ -90,8 +89,13 @@ passes k place words file size none =
       blocks = ltb-false (free_count k.taken) (blocks_taken k.limits.version size) blocks.0;
     }
 
+-- What a store asks of a payload speaks of the store's value, and what is proved speaks of its parts.
+pub whole_inside : {old now : Stored} (bytes : List ℕ) (size : ℕ) → old ≡ now → (size ≤ file_limit now.parts.limits.version → length bytes ≡ size)
+    → size ≤ file_limit old.parts.limits.version → length bytes ≡ size
+whole_inside bytes size is whole small = whole (subst (λ (k : Stored). size ≤ file_limit k.parts.limits.version) is small)
+
 -- A file of a name, with the words of a place and words that were named, is let in.
-module _ (k : Kept) (place : List Formula) (name : List ℕ) (words : List (List ℕ)) (bytes : List ℕ) (size : ℕ) (form : is_file_name name ≡ true) (whole : size ≤ 1048576 → length bytes ≡ size)
+module _ (k : Kept) (place : List Formula) (name : List ℕ) (words : List (List ℕ)) (bytes : List ℕ) (size : ℕ) (form : is_file_name name ≡ true) (whole : size ≤ file_limit k.limits.version → length bytes ≡ size)
     (none : first_refusal (add_checks_of k place name words bytes size) ≡ None) where
   abbrev let_in : File
   let_in = new_file name (assigned_at place words) bytes
@@ -100,7 +104,7 @@ module _ (k : Kept) (place : List Formula) (name : List ℕ) (words : List (List
   row = passes k place words let_in size none
 
   long : length bytes ≡ size
-  long = whole (size_fits k.limits.version size row.small)
+  long = whole row.small
 
   pub admitted : IsAdmitted k let_in
   admitted = record {

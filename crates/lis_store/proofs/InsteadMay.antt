@@ -24,7 +24,7 @@ use Rattle.lis_store.proofs.Admitted.{none_there}
 use Rattle.lis_store.proofs.Facts.{file_of_filed}
 use Rattle.lis_store.proofs.InsteadGiven.{told_few}
 use Rattle.lis_store.proofs.Judged.{all_pass}
-use Rattle.lis_fields.proofs.Parts.{few_tags, size_fits}
+use Rattle.lis_fields.proofs.Parts.{few_tags}
 use Rattle.lis_kept.proofs.Dropped.{record_in_form}
 
 module _ (k : Stored) (sound : IsSound k) (slot : ℕ) (rec : FileRecord) (is_rec : rec_at k.parts.catalog slot ≡ Some rec) where
@@ -58,9 +58,9 @@ module _ (k : Stored) (sound : IsSound k) (slot : ℕ) (rec : FileRecord) (is_re
 
   module _ (place : List Formula) where
     -- ---- other bytes
-    pub write_may : (name bytes : List ℕ) (size : ℕ) → rec.name ≡ name → is_file_name name ≡ true → (size ≤ 1048576 → length bytes ≡ size)
+    pub write_may : (name bytes : List ℕ) (size : ℕ) → rec.name ≡ name → is_file_name name ≡ true → length bytes ≡ size
         → first_refusal (write_checks_of p place name slot rec (given_before p rec name bytes) size) ≡ None → MayReplace p slot rec (given_before p rec name bytes)
-    write_may name bytes size named form whole none =
+    write_may name bytes size named form long none =
         let file = given_before p rec name bytes in
         let row = all_pass (write_checks_of p place name slot rec file size) none in
         let here = row.1 in
@@ -77,7 +77,7 @@ module _ (k : Stored) (sound : IsSound k) (slot : ℕ) (rec : FileRecord) (is_re
           few = given_few;
           short = ltb-false 128 (length (described_by p file)) short.0;
           room = ltb-false p.limits.props (length (known_instead p slot file)) room.0;
-          small = omega (arith, whole (size_fits p.limits.version size small), small);
+          small = omega (arith, long, small);
         }
 
     -- ---- another name

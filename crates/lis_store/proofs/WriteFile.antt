@@ -5,7 +5,6 @@ use Rattle.lis_ports.specs.Meaning.{Meaning}
 use Rattle.lis_catalog.specs.Catalog.{slot_of, rec_at}
 use Rattle.lis_catalog.proofs.Laws.{rec_at-slot_of}
 use Rattle.lis_fields.specs.Records.{FileRecord}
-use Rattle.lis_fields.proofs.Parts.{size_fits}
 use Rattle.lis_words.specs.Words.{is_file_name}
 use Rattle.lis_grammar.specs.Formula.{Formula}
 use Rattle.lis_model.specs.declared.refusal.Refusal.{Refusal}
@@ -49,20 +48,20 @@ module _ (k : Stored) (sound : IsSound k) (place : List Formula) (name : List �
   same_name : rec.name ≡ name
   same_name = (filed_named k.parts sound.parts name slot rec named there).1
 
-  pub write_first : (bytes : List ℕ) (size : ℕ) → size ≤ file_limit k.parts.limits.version → (size ≤ 1048576 → length bytes ≡ size)
+  pub write_first : (bytes : List ℕ) (size : ℕ) → size ≤ file_limit k.parts.limits.version → length bytes ≡ size
       → first_refusal (overwriting_checks k.parts slot rec (given_before k.parts rec name bytes) size) ≡ None → MayReplace k.parts slot rec (given_before k.parts rec name bytes)
-  write_first bytes size most whole none =
+  write_first bytes size most long none =
       write_may k sound slot rec there place name bytes size same_name
-      (subst (λ n. is_file_name n ≡ true) same_name (record_named k.parts.limits.version k.parts.dict k.parts.limits.blocks rec (sound.parts.records slot rec there))) whole
+      (subst (λ n. is_file_name n ≡ true) same_name (record_named k.parts.limits.version k.parts.dict k.parts.limits.blocks rec (sound.parts.records slot rec there))) long
       (rest_of_write k.parts place name slot rec (given_before k.parts rec name bytes) size most here ∙ none)
 
   -- blocks that are enough for other bytes
-  pub write_enough : (bytes : List ℕ) (size : ℕ) → size ≤ file_limit k.parts.limits.version → (size ≤ 1048576 → length bytes ≡ size)
+  pub write_enough : (bytes : List ℕ) (size : ℕ) → length bytes ≡ size
       → first_refusal (overwriting_checks k.parts slot rec (given_before k.parts rec name bytes) size) ≡ None → blocks_taken k.parts.limits.version (length bytes) ≤ free_instead k.parts rec
-  write_enough bytes size most whole none =
+  write_enough bytes size long none =
       let row = all_pass (overwriting_checks k.parts slot rec (given_before k.parts rec name bytes) size) none in
       let enough = ltb-false (free_instead k.parts rec) (blocks_taken k.parts.limits.version size) row.1.1.1.0 in
-      omega (arith, enough, ap (blocks_taken k.parts.limits.version) (whole (size_fits k.parts.limits.version size most)))
+      omega (arith, enough, ap (blocks_taken k.parts.limits.version) long)
 
   pub rename_first : (other bytes : List ℕ) → is_file_name other ≡ true → length bytes ≡ rec.size
       → first_refusal (renaming_checks k.parts slot (given_before k.parts rec other bytes)) ≡ None → MayReplace k.parts slot rec (given_before k.parts rec other bytes)

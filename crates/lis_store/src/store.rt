@@ -8,7 +8,7 @@ ghost use Rattle.lis_catalog.specs.Catalog.{slot_of, rec_at};
 ghost use Rattle.lis_fields.specs.Records.{FileRecord};
 ghost use Rattle.lis_model.specs.declared.refusal.Refusal.{Refusal};
 ghost use Rattle.lis_model.specs.Changes.{file_of};
-ghost use Rattle.lis_model.specs.State.{State};
+ghost use Rattle.lis_model.specs.State.{State, file_limit};
 ghost use Rattle.lis_model.specs.Step.{add, rm};
 ghost use Rattle.lis_eval.specs.Room.{HasRoom};
 ghost use Rattle.lis_kept.specs.Telling.{is_declared};
@@ -191,7 +191,7 @@ impl Store {
         payload: &[u8],
         size: u64,
     ) -> Result<(), Change>
-        requires whole { size ≤ 1048576 → length payload.now ≡ size }
+        requires whole { size ≤ file_limit self.old.parts.limits.version → length payload.now ≡ size }
         requires scratch { HasRoom scratch.old self.old.parts.limits }
         requires unbroken { self.old.is_broken ≡ false }
         requires long { 4096 * self.old.journal.blocks ≤ (D.meaning disk.old).len }

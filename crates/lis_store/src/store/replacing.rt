@@ -4,7 +4,7 @@ ghost use Rattle.std.specs.Prelude.{◌≡◌, ℕ, ◌*◌, ◌≤◌, false, l
 ghost use Rattle.lis_ports.specs.Runs.{IsDiskRun};
 ghost use Rattle.lis_ports.specs.Calls.{IsUnchanged};
 ghost use Rattle.lis_model.specs.declared.refusal.Refusal.{Refusal};
-ghost use Rattle.lis_model.specs.State.{State};
+ghost use Rattle.lis_model.specs.State.{State, file_limit};
 ghost use Rattle.lis_model.specs.Step.{write, rename, mv};
 ghost use Rattle.lis_eval.specs.Room.{HasRoom};
 ghost use Rattle.lis_store.specs.declared.change.Change.TheVariants.{Refused};
@@ -37,7 +37,7 @@ impl Store {
         payload: &[u8],
         size: u64,
     ) -> Result<(), Change>
-        requires whole { size ≤ 1048576 → length payload.now ≡ size }
+        requires whole { size ≤ file_limit self.old.parts.limits.version → length payload.now ≡ size }
         requires scratch { HasRoom scratch.old self.old.parts.limits }
         requires unbroken { self.old.is_broken ≡ false }
         requires long { 4096 * self.old.journal.blocks ≤ (D.meaning disk.old).len }

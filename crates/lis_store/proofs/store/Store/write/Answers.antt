@@ -5,7 +5,6 @@ use Rattle.lis_catalog.specs.Catalog.{slot_of}
 use Rattle.lis_catalog.proofs.Laws.{rec_at-slot_of}
 use Rattle.lis_ext.specs.Ext.{Ext}
 use Rattle.lis_fields.specs.Records.{FileRecord}
-use Rattle.lis_fields.proofs.Parts.{size_fits}
 use Rattle.lis_model.specs.declared.limits.Limits.{Limits}
 use Rattle.lis_model.specs.Changes.{new_file}
 use Rattle.lis_model.specs.State.{file_limit, is_assignable}
@@ -18,6 +17,7 @@ use Rattle.lis_store.specs.Changes.{Changes, differing_bits}
 use Rattle.lis_store.specs.Judging.{is_among}
 use Rattle.lis_store.specs.Instead.{given_before}
 use Rattle.lis_store.specs.Replacing.{MayReplace}
+use Rattle.lis_store.proofs.Admitted.{whole_inside}
 use Rattle.lis_store.proofs.ReplaceFile.{mid_form, mid_limits, mid_first, mid_in_form, mid_below, written_limits, written_sound, written_image, written_unbroken, written_placed, written_room, written_changes, written_edits, renewed_torn, content_broken, torn_sound, torn_limits, torn_edits, torn_changes}
 use Rattle.lis_store.proofs.WriteFile.{write_first, write_enough, written_enough, rest_of_write, written_done, written_refused, written_nowhere}
 use Rattle.lis_store.proofs.store.Store.write.Goals as goal
@@ -63,7 +63,7 @@ put_instead-requires-clause-short g c =
     let named = ap (λ (k : Stored). slot_of k.parts.catalog c.args.name.now) c.self.view_is ∙ c.in-Some.ensures.slot in
     let found = rec_at-slot_of c.self.inside.parts.catalog c.args.name.now c.in-Some.slot c.self.invariant.parts.catalog named in
     let small : c.args.size ≤ file_limit c.self.inside.parts.limits.version = omega (arith, c.if-size-file_limit.false, c.file_limit.ensures, ap (λ (l : Limits). file_limit l.version) c.limits.ensures.value) in
-    omega (arith, c.requires.whole (size_fits c.self.inside.parts.limits.version c.args.size small), small)
+    omega (arith, whole_inside c.args.payload.now c.args.size c.self.view_is c.requires.whole small, small)
 
 pub put_instead-requires-clause-enough : goal.put_instead-requires-clause-enough
 put_instead-requires-clause-enough g c = λ rec there.
@@ -72,7 +72,7 @@ put_instead-requires-clause-enough g c = λ rec there.
     let found = rec_at-slot_of c.self.inside.parts.catalog c.args.name.now c.in-Some.slot c.self.invariant.parts.catalog named in
     let small : c.args.size ≤ file_limit c.self.inside.parts.limits.version = omega (arith, c.if-size-file_limit.false, c.file_limit.ensures, ap (λ (l : Limits). file_limit l.version) c.limits.ensures.value) in
     let here = ap (λ (k : Stored). is_among k.parts c.args.place.now c.args.name.now) c.self.view_is ∙ sym c.in-Some.ensures.here in
-    write_enough old c.self.invariant c.args.place.now c.args.name.now c.in-Some.slot rec named there here c.args.payload.now c.args.size small c.requires.whole (c.in_ok-words.ensures.row rec there)
+    write_enough old c.self.invariant c.args.place.now c.args.name.now c.in-Some.slot rec named there here c.args.payload.now c.args.size (whole_inside c.args.payload.now c.args.size c.self.view_is c.requires.whole small) (c.in_ok-words.ensures.row rec there)
 
 pub returns-in_err-blocks-clause-changes : goal.returns-in_err-blocks-clause-changes
 returns-in_err-blocks-clause-changes g c = λ s fits.
@@ -111,7 +111,7 @@ refile-requires-clause-may g c =
     let here = ap (λ (k : Stored). is_among k.parts c.args.place.now c.args.name.now) c.self.view_is ∙ sym c.in-Some.ensures.here in
     let W : List (List ℕ) → Type 0 = λ ws. MayReplace c.self.inside.parts c.in-Some.slot found.0 (new_file c.args.name.now ws c.args.payload.now) in
     let may = write_first old c.self.invariant c.args.place.now c.args.name.now c.in-Some.slot found.0 named found.1 here
-    c.args.payload.now c.args.size small c.requires.whole (c.in_ok-words.ensures.row found.0 found.1) in
+    c.args.payload.now c.args.size small (whole_inside c.args.payload.now c.args.size c.self.view_is c.requires.whole small) (c.in_ok-words.ensures.row found.0 found.1) in
     let first = subst (λ o. IsSomeAnd o (λ (x : FileRecord). MayReplace c.self.inside.parts c.in-Some.slot x (new_file c.args.name.now c.as_slice.result.now c.args.payload.now))) (sym found.1) (subst W (sym words) may) in
     let before = g.D.Disk.meaning c.args.disk.now in
     let placed = g.D.Disk.meaning c.put_instead.new.disk in
@@ -150,7 +150,7 @@ save-requires-clause-sound g c =
     let here = ap (λ (k : Stored). is_among k.parts c.args.place.now c.args.name.now) c.self.view_is ∙ sym c.in-Some.ensures.here in
     let W : List (List ℕ) → Type 0 = λ ws. MayReplace c.self.inside.parts c.in-Some.slot found.0 (new_file c.args.name.now ws c.args.payload.now) in
     let may = write_first old c.self.invariant c.args.place.now c.args.name.now c.in-Some.slot found.0 named found.1 here
-    c.args.payload.now c.args.size small c.requires.whole (c.in_ok-words.ensures.row found.0 found.1) in
+    c.args.payload.now c.args.size small (whole_inside c.args.payload.now c.args.size c.self.view_is c.requires.whole small) (c.in_ok-words.ensures.row found.0 found.1) in
     let first = subst (λ o. IsSomeAnd o (λ (x : FileRecord). MayReplace c.self.inside.parts c.in-Some.slot x (new_file c.args.name.now c.as_slice.result.now c.args.payload.now))) (sym found.1) (subst W (sym words) may) in
     let before = g.D.Disk.meaning c.args.disk.now in
     let placed = g.D.Disk.meaning c.put_instead.new.disk in
@@ -168,7 +168,7 @@ save-requires-clause-image g c =
     let here = ap (λ (k : Stored). is_among k.parts c.args.place.now c.args.name.now) c.self.view_is ∙ sym c.in-Some.ensures.here in
     let W : List (List ℕ) → Type 0 = λ ws. MayReplace c.self.inside.parts c.in-Some.slot found.0 (new_file c.args.name.now ws c.args.payload.now) in
     let may = write_first old c.self.invariant c.args.place.now c.args.name.now c.in-Some.slot found.0 named found.1 here
-    c.args.payload.now c.args.size small c.requires.whole (c.in_ok-words.ensures.row found.0 found.1) in
+    c.args.payload.now c.args.size small (whole_inside c.args.payload.now c.args.size c.self.view_is c.requires.whole small) (c.in_ok-words.ensures.row found.0 found.1) in
     let first = subst (λ o. IsSomeAnd o (λ (x : FileRecord). MayReplace c.self.inside.parts c.in-Some.slot x (new_file c.args.name.now c.as_slice.result.now c.args.payload.now))) (sym found.1) (subst W (sym words) may) in
     let before = g.D.Disk.meaning c.args.disk.now in
     let placed = g.D.Disk.meaning c.put_instead.new.disk in
@@ -187,7 +187,7 @@ save-requires-clause-placed g c =
     let here = ap (λ (k : Stored). is_among k.parts c.args.place.now c.args.name.now) c.self.view_is ∙ sym c.in-Some.ensures.here in
     let W : List (List ℕ) → Type 0 = λ ws. MayReplace c.self.inside.parts c.in-Some.slot found.0 (new_file c.args.name.now ws c.args.payload.now) in
     let may = write_first old c.self.invariant c.args.place.now c.args.name.now c.in-Some.slot found.0 named found.1 here
-    c.args.payload.now c.args.size small c.requires.whole (c.in_ok-words.ensures.row found.0 found.1) in
+    c.args.payload.now c.args.size small (whole_inside c.args.payload.now c.args.size c.self.view_is c.requires.whole small) (c.in_ok-words.ensures.row found.0 found.1) in
     let first = subst (λ o. IsSomeAnd o (λ (x : FileRecord). MayReplace c.self.inside.parts c.in-Some.slot x (new_file c.args.name.now c.as_slice.result.now c.args.payload.now))) (sym found.1) (subst W (sym words) may) in
     let before = g.D.Disk.meaning c.args.disk.now in
     let placed = g.D.Disk.meaning c.put_instead.new.disk in
@@ -206,7 +206,7 @@ save-requires-clause-room g c =
     let here = ap (λ (k : Stored). is_among k.parts c.args.place.now c.args.name.now) c.self.view_is ∙ sym c.in-Some.ensures.here in
     let W : List (List ℕ) → Type 0 = λ ws. MayReplace c.self.inside.parts c.in-Some.slot found.0 (new_file c.args.name.now ws c.args.payload.now) in
     let may = write_first old c.self.invariant c.args.place.now c.args.name.now c.in-Some.slot found.0 named found.1 here
-    c.args.payload.now c.args.size small c.requires.whole (c.in_ok-words.ensures.row found.0 found.1) in
+    c.args.payload.now c.args.size small (whole_inside c.args.payload.now c.args.size c.self.view_is c.requires.whole small) (c.in_ok-words.ensures.row found.0 found.1) in
     let first = subst (λ o. IsSomeAnd o (λ (x : FileRecord). MayReplace c.self.inside.parts c.in-Some.slot x (new_file c.args.name.now c.as_slice.result.now c.args.payload.now))) (sym found.1) (subst W (sym words) may) in
     let before = g.D.Disk.meaning c.args.disk.now in
     let placed = g.D.Disk.meaning c.put_instead.new.disk in
@@ -225,7 +225,7 @@ returns-clause-changes g c = λ s fits.
     let here = ap (λ (k : Stored). is_among k.parts c.args.place.now c.args.name.now) c.self.view_is ∙ sym c.in-Some.ensures.here in
     let W : List (List ℕ) → Type 0 = λ ws. MayReplace c.self.inside.parts c.in-Some.slot found.0 (new_file c.args.name.now ws c.args.payload.now) in
     let may = write_first old c.self.invariant c.args.place.now c.args.name.now c.in-Some.slot found.0 named found.1 here
-    c.args.payload.now c.args.size small c.requires.whole (c.in_ok-words.ensures.row found.0 found.1) in
+    c.args.payload.now c.args.size small (whole_inside c.args.payload.now c.args.size c.self.view_is c.requires.whole small) (c.in_ok-words.ensures.row found.0 found.1) in
     let first = subst (λ o. IsSomeAnd o (λ (x : FileRecord). MayReplace c.self.inside.parts c.in-Some.slot x (new_file c.args.name.now c.as_slice.result.now c.args.payload.now))) (sym found.1) (subst W (sym words) may) in
     let before = g.D.Disk.meaning c.args.disk.now in
     let placed = g.D.Disk.meaning c.put_instead.new.disk in
@@ -238,7 +238,7 @@ returns-clause-changes g c = λ s fits.
     let G : List (List ℕ) → Type 0 = λ ws. list_all (is_assignable (declared_of c.self.inside.parts)) ws ≡ true in
     let row = c.in_ok-words.ensures.row found.0 found.1 in
     let enough = written_enough old before s c.self.invariant fits_old c.args.place.now c.args.name.now c.in-Some.slot found.0 named found.1 here assigned words (length c.args.payload.now)
-    (write_enough old c.self.invariant c.args.place.now c.args.name.now c.in-Some.slot found.0 named found.1 here c.args.payload.now c.args.size small c.requires.whole row) in
+    (write_enough old c.self.invariant c.args.place.now c.args.name.now c.in-Some.slot found.0 named found.1 here c.args.payload.now c.args.size (whole_inside c.args.payload.now c.args.size c.self.view_is c.requires.whole small) row) in
     written_changes old c.put_instead.new.parts c.put_instead.new.journal c.in-Some.slot c.args.payload.now c.in_ok-blocks.blocks.items found.0 c.self.invariant c.in_ok-blocks.ensures.sound found.1 before placed renews
     c.args.name.now c.as_slice.result.now first c.refile.new.parts c.refile.ensures.refiled unbroken s fits_old (subst G (sym words) may.assignable) enough
     c.args.place.now new (g.D.Disk.meaning c.save.new.disk) c.save.result (write (record { state = s; place = c.args.place.now }) c.args.name.now payload)
@@ -255,7 +255,7 @@ returns-clause-edits g c =
     let here = ap (λ (k : Stored). is_among k.parts c.args.place.now c.args.name.now) c.self.view_is ∙ sym c.in-Some.ensures.here in
     let W : List (List ℕ) → Type 0 = λ ws. MayReplace c.self.inside.parts c.in-Some.slot found.0 (new_file c.args.name.now ws c.args.payload.now) in
     let may = write_first old c.self.invariant c.args.place.now c.args.name.now c.in-Some.slot found.0 named found.1 here
-    c.args.payload.now c.args.size small c.requires.whole (c.in_ok-words.ensures.row found.0 found.1) in
+    c.args.payload.now c.args.size small (whole_inside c.args.payload.now c.args.size c.self.view_is c.requires.whole small) (c.in_ok-words.ensures.row found.0 found.1) in
     let first = subst (λ o. IsSomeAnd o (λ (x : FileRecord). MayReplace c.self.inside.parts c.in-Some.slot x (new_file c.args.name.now c.as_slice.result.now c.args.payload.now))) (sym found.1) (subst W (sym words) may) in
     let before = g.D.Disk.meaning c.args.disk.now in
     let placed = g.D.Disk.meaning c.put_instead.new.disk in
@@ -332,7 +332,7 @@ save-requires-clause-unbroken g c =
     let here = ap (λ (k : Stored). is_among k.parts c.args.place.now c.args.name.now) c.self.view_is ∙ sym c.in-Some.ensures.here in
     let W : List (List ℕ) → Type 0 = λ ws. MayReplace c.self.inside.parts c.in-Some.slot found.0 (new_file c.args.name.now ws c.args.payload.now) in
     let may = write_first old c.self.invariant c.args.place.now c.args.name.now c.in-Some.slot found.0 named found.1 here
-    c.args.payload.now c.args.size small c.requires.whole (c.in_ok-words.ensures.row found.0 found.1) in
+    c.args.payload.now c.args.size small (whole_inside c.args.payload.now c.args.size c.self.view_is c.requires.whole small) (c.in_ok-words.ensures.row found.0 found.1) in
     let first = subst (λ o. IsSomeAnd o (λ (x : FileRecord). MayReplace c.self.inside.parts c.in-Some.slot x (new_file c.args.name.now c.as_slice.result.now c.args.payload.now))) (sym found.1) (subst W (sym words) may) in
     let before = g.D.Disk.meaning c.args.disk.now in
     let placed = g.D.Disk.meaning c.put_instead.new.disk in
@@ -370,7 +370,7 @@ returns-clause-limits g c =
     let here = ap (λ (k : Stored). is_among k.parts c.args.place.now c.args.name.now) c.self.view_is ∙ sym c.in-Some.ensures.here in
     let W : List (List ℕ) → Type 0 = λ ws. MayReplace c.self.inside.parts c.in-Some.slot found.0 (new_file c.args.name.now ws c.args.payload.now) in
     let may = write_first old c.self.invariant c.args.place.now c.args.name.now c.in-Some.slot found.0 named found.1 here
-    c.args.payload.now c.args.size small c.requires.whole (c.in_ok-words.ensures.row found.0 found.1) in
+    c.args.payload.now c.args.size small (whole_inside c.args.payload.now c.args.size c.self.view_is c.requires.whole small) (c.in_ok-words.ensures.row found.0 found.1) in
     let first = subst (λ o. IsSomeAnd o (λ (x : FileRecord). MayReplace c.self.inside.parts c.in-Some.slot x (new_file c.args.name.now c.as_slice.result.now c.args.payload.now))) (sym found.1) (subst W (sym words) may) in
     let before = g.D.Disk.meaning c.args.disk.now in
     let placed = g.D.Disk.meaning c.put_instead.new.disk in
