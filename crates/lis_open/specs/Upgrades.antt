@@ -4,7 +4,6 @@ use Rattle.lis_ports.specs.Meaning.{Meaning}
 use Rattle.lis_ports.specs.Runs.{Always}
 use Rattle.lis_model.specs.State.{State}
 use Rattle.lis_store.specs.Stands.{Stands}
-use Rattle.lis_store.specs.Stored.{Stored}
 use Rattle.lis_open.specs.declared.mounting.OpenFault.{OpenFault}
 use Rattle.lis_open.specs.Opens.{IsLongEnough, OpenEnded, OpenLeft}
 
