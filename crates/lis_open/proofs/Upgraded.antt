@@ -1,8 +1,8 @@
 -- A state of version 1 and what memory keeps of it, in another version: the same in all but the limits.
-use Rattle.std.proofs.Common.{◌≡◌, refl, sym, ap, ◌∙◌, subst, ℕ, ◌+◌, ◌/◌, ◌<◌, ◌≤◌, ◌&&◌, nat_lt, nat_le, true, false, is_some, List, length, map, sum, IsTrue, arith}
+use Rattle.std.proofs.Common.{◌≡◌, sym, ap, ◌∙◌, subst, ℕ, ◌+◌, ◌≤◌, ◌&&◌, nat_lt, nat_le, true, is_some, List, length, map, sum, IsTrue, arith}
 use Rattle.std.specs.List.{list_all, Contains}
 use Rattle.std.proofs.lemmas.Bool.{and_parts, and_from, cond-false, leb-true, le-leb}
-use Rattle.lis_graph.proofs.Members.{Among, among_from_contains}
+use Rattle.lis_graph.proofs.Members.{among_from_contains}
 use Rattle.lis_catalog.specs.Catalog.{Filed}
 use Rattle.lis_content.specs.Content.{has_number, are_distinct}
 use Rattle.lis_content.proofs.Indexes.{small_size}
@@ -14,12 +14,12 @@ use Rattle.lis_fields.proofs.Parts.{file_upgraded}
 use Rattle.lis_fields.proofs.Supers.{upgraded_in_range}
 use Rattle.lis_laws.proofs.Counts.{all_among, all_weaker}
 use Rattle.lis_model.specs.Image.{data_start}
-use Rattle.lis_model.specs.State.{State, File, file_limit, blocks_needed, blocks_taken, description, AxiomsAreFormed, FilesAreFormed, WellFormed}
+use Rattle.lis_model.specs.State.{State, File, file_limit, blocks_needed, blocks_taken, description, WellFormed}
 use Rattle.lis_kept.specs.Kept.{Kept}
-use Rattle.lis_kept.specs.Areas.{Area, IsWritten, slots_of}
+use Rattle.lis_kept.specs.Areas.{IsWritten}
 use Rattle.lis_kept.specs.Areas.Area.{Properties, Axioms, Files, Rows, Bitmap}
 use Rattle.lis_kept.specs.Sound.{is_sound_record, AreSound}
-use Rattle.lis_kept.specs.Telling.{blocks_told, file_told, state_of, Tells}
+use Rattle.lis_kept.specs.Telling.{blocks_told, Tells}
 use Rattle.lis_kept.proofs.Filing.{map_all}
 use Rattle.lis_store.proofs.Elsewhere.{AreFilesSame, blocks_there, index_there, file_there, state_there, written_there}
 
