@@ -1,5 +1,5 @@
 -- The gate of an image's version is written: each image of meanwhile stands for the state as before or in version 2, and the last one for that.
-use Rattle.std.proofs.Common.{◌≡◌, ◌⊎◌, refl, sym, ap, ap₂, ◌∙◌, subst, inl, inr, ℕ, ◌+◌, ◌*◌, ◌<◌, ◌≤◌, false, List, [], ◌∷◌, ◌++◌, length, take, drop, get_or, IsTrue, Result, Ok, Err, arith, get_or-take, get_or-drop, if◌then◌else◌, eq-eqb}
+use Rattle.std.proofs.Common.{◌≡◌, ◌⊎◌, refl, sym, ap, ap₂, ◌∙◌, subst, inl, inr, ℕ, ◌*◌, ◌≤◌, false, List, [], ◌∷◌, ◌++◌, length, take, drop, get_or, Result, Ok, Err, arith, get_or-take, get_or-drop, if◌then◌else◌, eq-eqb}
 use Rattle.std.proofs.lemmas.Bool.{ne_eqb}
 use Rattle.std.proofs.lemmas.List.{drop-take, drop_more}
 use Rattle.lis_ports.specs.Meaning.{Meaning}
@@ -9,7 +9,7 @@ use Rattle.lis_ports.proofs.Always.{always_settled}
 use Rattle.lis_ports.proofs.Moments.{leaves_then, leaves_weaken}
 use Rattle.lis_ports.proofs.Parts.{part-torn, part-part, part-put, torn-put, length-part}
 use Rattle.lis_journal.specs.Record.{block, is_open, replayed, recovered}
-use Rattle.lis_journal.specs.Images.{Keeps, StandsFor, KeepsPast}
+use Rattle.lis_journal.specs.Images.{Keeps, KeepsPast}
 use Rattle.lis_journal.specs.Spreads.{Spreads}
 use Rattle.lis_journal.proofs.Fitting.{fits_stand}
 use Rattle.lis_journal.proofs.Spreading.{leaves_spread}
@@ -25,7 +25,7 @@ use Rattle.lis_store.specs.Stored.{Stored, IsSound, StoreFits}
 use Rattle.lis_store.proofs.OneState.{one_state}
 use Rattle.lis_store.proofs.Standing.{change_stands, fitting_stands}
 use Rattle.lis_open.specs.declared.mounting.OpenFault.{OpenFault}
-use Rattle.lis_open.specs.Opens.{OpenEnded, OpenLeft, Recovers}
+use Rattle.lis_open.specs.Opens.{OpenEnded, OpenLeft}
 use Rattle.lis_open.specs.Upgrades.{upgraded, GateLeft}
 use Rattle.lis_open.proofs.Needs.{one_limits, has_super}
 use Rattle.lis_open.proofs.Shut.{shut_keeps, shut_stands, shut_torn, recovered_shut}
