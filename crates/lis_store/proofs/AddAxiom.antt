@@ -1,5 +1,5 @@
 -- A call that adds an axiom.
-use Rattle.std.proofs.Common.{◌≡◌, refl, sym, ap, subst, ◌+◌, ◌≤◌, ℕ, false, List, length, Result, arith}
+use Rattle.std.proofs.Common.{◌≡◌, ap, ◌+◌, ◌≤◌, ℕ, false, List, length, Result, arith}
 use Rattle.lis_ports.specs.Meaning.{Meaning}
 use Rattle.lis_journal.specs.Record.{Entry}
 use Rattle.lis_model.specs.State.{State}
@@ -11,7 +11,7 @@ use Rattle.lis_kept.specs.Sound.{AreSound}
 use Rattle.lis_store.specs.declared.change.Change.{Change}
 use Rattle.lis_store.specs.Stored.{Stored, IsSound, StoreFits}
 use Rattle.lis_store.specs.Changes.{Changes}
-use Rattle.lis_store.specs.Saving.{settled, IsReady, Saves}
+use Rattle.lis_store.specs.Saving.{settled, Saves}
 use Rattle.lis_store.specs.Relating.{MayRelate}
 use Rattle.lis_store.specs.RelatingIn.{RelatesIn}
 use Rattle.lis_store.proofs.Cleaned.{none_marked}

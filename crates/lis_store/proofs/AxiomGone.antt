@@ -1,6 +1,6 @@
 -- An axiom that is gone, and descriptions without it: what holds of memory then.
-use Rattle.std.proofs.Common.{◌≡◌, ◌⊎◌, refl, sym, ap, ap₂, ◌∙◌, subst, inl, inr, ℕ, ◌<◌, ◌≤◌, ◌==◌, not, ◌||◌, Bool, true, false, if◌then◌else◌, List, [], length, set, slice_get, Option, Some, None, is_some, IsSome, option_to_list, arith}
-use Rattle.std.proofs.lemmas.Bool.{and_parts, or_cases, or_left, or_right, both_ways, cases_lt, false_from_ne_true}
+use Rattle.std.proofs.Common.{◌≡◌, ◌⊎◌, refl, sym, ap, ap₂, ◌∙◌, subst, inl, inr, ℕ, ◌≤◌, ◌==◌, not, ◌||◌, Bool, true, false, if◌then◌else◌, List, [], length, set, slice_get, Option, Some, None, is_some, IsSome, option_to_list, arith}
+use Rattle.std.proofs.lemmas.Bool.{and_parts, or_cases, or_left, or_right, both_ways, false_from_ne_true}
 use Rattle.std.proofs.lemmas.List.{get_or_past}
 use Rattle.lis_graph.proofs.Members.{Among, among_filter}
 use Rattle.lis_blockmap.specs.Bitmap.{is_taken}

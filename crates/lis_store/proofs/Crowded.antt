@@ -1,9 +1,8 @@
 -- How many words files would have with a test that is declared.
 use Rattle.std.proofs.Common.{◌≡◌, ◌⊎◌, refl, sym, ap, ap₂, ◌∙◌, subst, inl, inr, ℕ, ◌+◌, ◌<◌, ◌≤◌, nat_lt, nat_le, ◌&&◌, ◌||◌, Bool, true, false, List, [], ◌∷◌, length, take, get_or, Option, Some, None, is_some, IsSome, arith}
 use Rattle.std.proofs.Math.Path.{fun_ext}
-use Rattle.std.specs.declared.cmp.Ordering.TheVariants.{Equal}
-use Rattle.std.specs.List.{list_any, list_all, range_with_len}
-use Rattle.std.proofs.lemmas.Bool.{and_parts, and_from, or_cases, or_left, or_right, both_ways, false_from_ne_true, ltb-true, lt-ltb, leb-true}
+use Rattle.std.specs.List.{list_all, range_with_len}
+use Rattle.std.proofs.lemmas.Bool.{and_parts, or_cases, or_left, or_right, both_ways, false_from_ne_true, ltb-true, lt-ltb, leb-true}
 use Rattle.std.proofs.lemmas.List.{take_more}
 use Rattle.std.proofs.lemmas.List.Elements.{Contains-get_or}
 use Rattle.std.proofs.lemmas.List.Folds.{list_any-append}
@@ -18,7 +17,7 @@ use Rattle.lis_catalog.proofs.Laws.{slot_is_below}
 use Rattle.lis_ext.specs.Ext.{has, set_of as numbers_at}
 use Rattle.lis_fields.specs.Records.{FileRecord}
 use Rattle.lis_taxonomy.specs.Taxonomy.{Taxonomy, entails as leads}
-use Rattle.lis_words.specs.Words.{word_cmp, has_word, is_test, is_property, test_of}
+use Rattle.lis_words.specs.Words.{is_test, test_of}
 use Rattle.lis_model.specs.Sets.{with_word, with_words}
 use Rattle.lis_model.specs.Tests.{is_met}
 use Rattle.lis_model.specs.State.{State, File, up, all_up, own_words, description}
@@ -30,13 +29,12 @@ use Rattle.lis_laws.proofs.Members.{word_exact, among_with_words, with_words_old
 use Rattle.lis_kept.specs.Kept.{Kept}
 use Rattle.lis_kept.specs.Links.{TellsLinks}
 use Rattle.lis_kept.specs.Sound.{AreSound, FreeSlotsAreEmpty}
-use Rattle.lis_kept.specs.Telling.{bit_of, is_declared, declared_of, axioms_of, bytes_told, words_told, file_told, state_of, Tells}
+use Rattle.lis_kept.specs.Telling.{bit_of, is_declared, declared_of, axioms_of, bytes_told, words_told, file_told, Tells}
 use Rattle.lis_ext.proofs.Numbers.{among_where, where_among}
 use Rattle.lis_kept.proofs.Filing.{same_tests, among_from_number, number_from_among, filed_rec, filed_at_slot}
 use Rattle.lis_kept.proofs.Formed.{named_all, named_below, some_word}
-use Rattle.lis_kept.proofs.Known.{some_number, among_word, word_among}
+use Rattle.lis_kept.proofs.Known.{among_word, word_among}
 use Rattle.lis_kept.proofs.Numbered.{Numbers, numbers_are}
-use Rattle.lis_store.specs.Adding.{is_one_of}
 use Rattle.lis_store.specs.Placing.{AreNumbersOf}
 use Rattle.lis_store.specs.Relating.{entails_number}
 use Rattle.lis_store.specs.Testing.{is_met_by, is_met_at, is_gained, is_gained_by, wider, is_crowded, has_crowded}

@@ -1,19 +1,15 @@
 -- What a declared word comes to.
-use Rattle.std.proofs.Common.{◌≡◌, ◌⊎◌, refl, sym, ap, ap₂, ◌∙◌, subst, inl, inr, ℕ, ◌+◌, ◌<◌, ◌≤◌, ◌==◌, nat_lt, nat_le, not, ◌&&◌, ◌||◌, Bool, true, false, if◌then◌else◌, List, [], ◌∷◌, ◌++◌, length, count_by, set, slice_get, Option, Some, None, option_to_list, is_some, IsSome, IsTrue, Result, Err, arith, eq-eqb, get_or-set_same, get_or-set_other}
-use Rattle.std.specs.List.{list_all, flat_map, Contains}
+use Rattle.std.proofs.Common.{◌≡◌, ◌⊎◌, refl, sym, ap, ap₂, ◌∙◌, subst, inl, inr, ℕ, ◌+◌, ◌<◌, ◌≤◌, ◌==◌, nat_lt, nat_le, not, ◌&&◌, ◌||◌, Bool, true, false, if◌then◌else◌, List, [], ◌∷◌, ◌++◌, length, count_by, set, slice_get, Option, Some, None, option_to_list, is_some, IsSome, arith, eq-eqb, get_or-set_same, get_or-set_other}
+use Rattle.std.specs.List.{list_all, flat_map}
 use Rattle.std.specs.Prelude.{unwrap_or, option_map}
-use Rattle.std.proofs.lemmas.Bool.{and_parts, and_from, or_cases, or_left, or_right, both_ways, cases_eq, ne_eqb, eqb-true, false_from_ne_true, not_from_false, not-true, not-false, ltb-true, ltb-false, leb-true, le-leb}
-use Rattle.lis_graph.proofs.Members.{Among, among_from_contains, contains_from_among, among_from_any, any_from_among}
-use Rattle.lis_ports.specs.Meaning.{Meaning}
-use Rattle.lis_journal.specs.Journal.{Held}
-use Rattle.lis_journal.specs.Record.{Entry}
-use Rattle.lis_journal.specs.Phases.{looked}
+use Rattle.std.proofs.lemmas.Bool.{and_parts, and_from, or_cases, both_ways, cases_eq, ne_eqb, eqb-true, false_from_ne_true, not_from_false, not-true, not-false, ltb-true, ltb-false, leb-true, le-leb}
+use Rattle.lis_graph.proofs.Members.{Among, among_from_any, any_from_among}
 use Rattle.lis_blockmap.specs.Bitmap.{is_taken}
 use Rattle.lis_content.specs.Content.{has_number, are_distinct}
 use Rattle.lis_dict.specs.Dict.{Dict, IsDict, number_of, word_of}
 use Rattle.lis_dict.proofs.Laws.{word_from_number, number_from_word, word_of-with_entry}
 use Rattle.lis_catalog.specs.Catalog.{Filed, rec_at}
-use Rattle.lis_ext.specs.Ext.{Ext, has, set_of as numbers_at}
+use Rattle.lis_ext.specs.Ext.{has}
 use Rattle.lis_grammar.specs.Formula.{Formula}
 use Rattle.lis_fields.specs.Records.{FileRecord}
 use Rattle.lis_fields.specs.declared.slots.AxiomSlot.{AxiomSlot}
@@ -21,11 +17,10 @@ use Rattle.lis_fields.specs.declared.slots.AxiomSlot.TheVariants.{Free as FreeAx
 use Rattle.lis_fields.specs.declared.slots.PropSlot.{PropSlot}
 use Rattle.lis_fields.specs.declared.slots.PropSlot.TheVariants.{Known}
 use Rattle.lis_fields.specs.Layouts.{is_prop, is_record}
-use Rattle.lis_words.specs.Words.{word_cmp, same_word, has_word, head_bytes, is_head, is_plain_word, is_valued, is_built_in, is_word, is_test, is_property, test_of}
+use Rattle.lis_words.specs.Words.{word_cmp, has_word, is_head, is_plain_word, is_valued, is_built_in, is_test, is_property, test_of}
 use Rattle.lis_model.specs.declared.refusal.Refusal.{Refusal}
 use Rattle.lis_model.specs.declared.refusal.Refusal.TheVariants.{BuiltIn, NotAssignable, AlreadyDeclared, NotAPlace, UnknownProperty, NoAxiomRoom, NoPropertyRoom, LargeDescription}
 use Rattle.lis_model.specs.declared.limits.Limits.{Limits}
-use Rattle.lis_model.specs.Image.{image_blocks}
 use Rattle.lis_model.specs.Places.{all_conjuncts, place_words}
 use Rattle.lis_model.specs.Sets.{with_word, with_words, set_of}
 use Rattle.lis_model.specs.Tests.{are_weaker}
@@ -37,7 +32,7 @@ use Rattle.lis_laws.proofs.Counts.{all_among, all_from}
 use Rattle.lis_laws.proofs.Forms as forms
 use Rattle.lis_laws.proofs.Forms.{under}
 use Rattle.lis_laws.proofs.Growth.{known_declares}
-use Rattle.lis_laws.proofs.Members.{among_with_words, word_exact, word_order, same_word_decides, sorted_set_of, among_from_has_word, has_word_from_among}
+use Rattle.lis_laws.proofs.Members.{among_with_words, word_exact, word_order, sorted_set_of, among_from_has_word, has_word_from_among}
 use Rattle.lis_laws.proofs.Sources.{known_from}
 use Rattle.lis_laws.proofs.Sources.Source.{Declared, Left, Described}
 use Rattle.lis_laws.proofs.Closures.{entailing}
@@ -50,9 +45,9 @@ use Rattle.lis_kept.specs.Forgetting.{KeepsInUse}
 use Rattle.lis_kept.specs.Changes.{Declares}
 use Rattle.lis_kept.specs.Under.{is_plain_by, MayStandUnder, DeclaresUnder}
 use Rattle.lis_kept.specs.TestEdges.{test_by, declared_test}
-use Rattle.lis_kept.specs.Telling.{bytes_told, bit_of, is_declared, declared_of, words_told, axioms_of, file_told, state_of, is_head_by, Tells}
+use Rattle.lis_kept.specs.Telling.{bytes_told, bit_of, is_declared, declared_of, axioms_of, file_told, state_of, is_head_by, Tells}
 use Rattle.lis_kept.proofs.Filing.{same_tests, among_from_number, number_from_among, filed_rec}
-use Rattle.lis_kept.proofs.Formed.{some_word, named_all}
+use Rattle.lis_kept.proofs.Formed.{some_word}
 use Rattle.lis_kept.proofs.Known.{word_among}
 use Rattle.lis_kept.proofs.OwnLinks.{slot_at, among_slot}
 use Rattle.lis_kept.proofs.TestLinks.{linked_by}
@@ -61,19 +56,15 @@ use Rattle.lis_kept.proofs.AxiomsTold.{axioms_counted}
 use Rattle.lis_kept.proofs.UnderOthers.{AreWordsOf, declared_then_linked, declared_then_marked, each_parts, under_used}
 use Rattle.lis_kept.proofs.StandsUnder.{each_pairs, each_linked, under_apart}
 use Rattle.lis_kept.proofs.WordMore.{declared_there, there_declared}
-use Rattle.lis_store.specs.Stored.{Stored, PairsAreApart, AreClosed, DescriptionsAreShort, IsSound, StoreFits}
-use Rattle.lis_store.specs.Saving.{settled, IsReady, Saves}
+use Rattle.lis_store.specs.Stored.{PairsAreApart}
 use Rattle.lis_store.specs.Judging.{word_checks}
 use Rattle.lis_store.specs.Placing.{AreNumbersOf}
 use Rattle.lis_store.specs.Testing.{is_gained_by, has_crowded}
 use Rattle.lis_store.proofs.Crowded.{declared_number, crowded_told, never_crowded}
 use Rattle.lis_store.proofs.Entailment.{up_has_number}
-use Rattle.lis_store.specs.Changes.{Changes, first_refusal, differing_bits}
-use Rattle.lis_store.specs.declared.change.Change.{Change}
-use Rattle.lis_store.specs.declared.change.Change.TheVariants.{Refused}
+use Rattle.lis_store.specs.Changes.{first_refusal}
 use Rattle.lis_store.proofs.Facts.{limits_told, known_counted, number_of_known, file_of_filed}
-use Rattle.lis_store.proofs.Judged.{all_pass, judged_refused, judged_done, change_refused}
-use Rattle.lis_store.proofs.Cleaned.{clean_is, sound_clean, in_use_clean, none_marked}
+use Rattle.lis_store.proofs.Judged.{all_pass}
 use Rattle.lis_store.proofs.Told.{words_same, length-with_word}
 use Rattle.lis_store.proofs.Points.{AllApart}
 use Rattle.lis_store.proofs.Measured.{sorted_apart, told_counted}

@@ -1,5 +1,5 @@
 -- The bytes of a file, as they are read.
-use Rattle.std.proofs.Common.{◌≡◌, sym, ap, ◌∙◌, subst, ℕ, ◌+◌, nat_lt, List, IsTrue, arith}
+use Rattle.std.proofs.Common.{◌≡◌, sym, ap, ◌∙◌, subst, ℕ, nat_lt, List, IsTrue, arith}
 use Rattle.lis_content.specs.Content.{are_within}
 use Rattle.lis_content.specs.Large.{content_blocks, file_content}
 use Rattle.lis_content.proofs.Numbers.{within_if_below}

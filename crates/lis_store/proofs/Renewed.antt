@@ -19,11 +19,11 @@ use Rattle.lis_kept.specs.Kept.{Kept}
 use Rattle.lis_kept.specs.Areas.{is_marked}
 use Rattle.lis_kept.specs.Sound.{AreSound}
 use Rattle.lis_kept.specs.Telling.{blocks_told}
-use Rattle.lis_kept.specs.Changes.{Marks, Takes, Gives, Lands, Puts, PutTorn}
+use Rattle.lis_kept.specs.Changes.{Marks, Takes, Gives, Puts, PutTorn}
 use Rattle.lis_kept.proofs.BlocksTaken.{home_among}
 use Rattle.lis_store.specs.declared.change.Change.{Change}
 use Rattle.lis_store.specs.declared.change.Change.TheVariants.{Refused, Disk}
-use Rattle.lis_store.specs.Contents.{Trades, IsRenewed, Renews, ContentPut, ContentGiven, ContentRenewed}
+use Rattle.lis_store.specs.Contents.{IsRenewed, Renews, ContentPut, ContentGiven, ContentRenewed}
 use Rattle.lis_store.specs.Contents.Trades.{First, Last}
 
 -- ---- images

@@ -33,7 +33,7 @@ use Rattle.lis_store.specs.Replacing.{MayReplace}
 use Rattle.lis_store.specs.ReplacingIn.{AreInForm, MayComeIn, RefilesIn}
 use Rattle.lis_store.proofs.Added.{rec_here, set_here, set_other, word_stays, described_numbered}
 use Rattle.lis_store.proofs.Coming.{ComesIn}
-use Rattle.lis_store.proofs.Elsewhere.{AreFilesSame, bytes_there, blocks_there, index_there, state_there, saved_there, no_home_before}
+use Rattle.lis_store.proofs.Elsewhere.{AreFilesSame, blocks_there, index_there, state_there, saved_there, no_home_before}
 use Rattle.lis_store.proofs.Facts.{limits_told, filed_of_file, file_of_filed}
 use Rattle.lis_store.proofs.Housed.{IsHoused, home_elsewhere}
 use Rattle.lis_store.proofs.Naming.{named_told}

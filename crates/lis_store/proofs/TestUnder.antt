@@ -1,14 +1,14 @@
 -- What a test that is declared under words comes to in a state: the files that meet it have it, and all that the words entail.
-use Rattle.std.proofs.Common.{◌≡◌, ◌⊎◌, ℕ, zero, suc, Bool, true, false, not, ◌&&◌, cond, nat_lt, nat_le, Option, Some, None, List, [], ◌∷◌, length, refl, sym, ap, ◌∙◌, subst, inl, inr, arith}
+use Rattle.std.proofs.Common.{◌≡◌, ◌⊎◌, ℕ, zero, suc, true, false, List, [], ◌∷◌, length, sym, ap, ◌∙◌, subst, inl, inr}
 use Rattle.std.specs.List.Sorted.{IsStrictlySortedBy}
-use Rattle.std.proofs.lemmas.Bool.{both_ways, ltb-true, lt-ltb, leb-true, le-leb}
+use Rattle.std.proofs.lemmas.Bool.{both_ways}
 use Rattle.lis_graph.specs.Graph.{Chain}
 use Rattle.lis_graph.proofs.Members.{Among, among_insert_key, insert_key_old, insert_key_new}
 use Rattle.lis_graph.proofs.Sets as sets
 use Rattle.lis_words.specs.Words.{word_cmp, head_bytes, is_plain_word, is_valued, is_test, test_of}
 use Rattle.lis_words.proofs.Tests.{test_not_plain}
 use Rattle.lis_model.specs.Sets.{with_word, with_words}
-use Rattle.lis_model.specs.Tests.{are_weaker, is_met}
+use Rattle.lis_model.specs.Tests.{is_met}
 use Rattle.lis_model.specs.State.{State, File, WellFormed, pair_cmp, links, up, all_up, own_words, description}
 use Rattle.lis_model.specs.Changes.{with_axiom, declared_under}
 use Rattle.lis_laws.proofs.Members.{word_exact, word_order, pair_exact, among_with_words, with_words_old, with_words_new, sorted_with_words, same_words}

@@ -1,12 +1,12 @@
 -- What memory keeps once a word is declared under others, and the files that meet it have it, where it is a test.
-use Rattle.std.proofs.Common.{◌≡◌, ◌⊎◌, refl, sym, ap, ap₂, ◌∙◌, subst, inl, inr, ℕ, zero, suc, ◌+◌, ◌<◌, ◌≤◌, ◌==◌, nat_lt, ◌&&◌, ◌||◌, not, if◌then◌else◌, cond, Bool, true, false, List, [], ◌∷◌, ◌++◌, length, map, count_by, length-append, slice_get, Option, Some, None, is_some, IsSome, IsTrue, arith, eq-eqb}
+use Rattle.std.proofs.Common.{◌≡◌, ◌⊎◌, refl, sym, ap, ap₂, ◌∙◌, subst, inl, inr, ℕ, zero, suc, ◌+◌, ◌<◌, ◌≤◌, ◌==◌, nat_lt, ◌&&◌, ◌||◌, not, if◌then◌else◌, cond, Bool, true, false, List, [], ◌∷◌, ◌++◌, length, map, count_by, length-append, Option, Some, None, is_some, IsSome, arith, eq-eqb}
 use Rattle.std.specs.List.{list_any, list_all, range_with_len}
-use Rattle.std.proofs.lemmas.Bool.{and_parts, or_cases, or_left, or_right, both_ways, cases_eq, false_from_ne_true, not-true, eqb-true, ne_eqb, ltb-false}
+use Rattle.std.proofs.lemmas.Bool.{and_parts, or_cases, or_left, or_right, both_ways, cases_eq, false_from_ne_true, not-true, eqb-true, ltb-false}
 use Rattle.std.proofs.lemmas.List.{length-map}
 use Rattle.std.proofs.lemmas.List.Sums.{sum_by-cons}
 use Rattle.std.proofs.lemmas.Option.{same_Some}
 use Rattle.lis_graph.proofs.Members.{Among, among_from_any, any_from_among, among_left, among_right, map_among, insert_key_old}
-use Rattle.lis_graph.proofs.Ranges.{among_range, range_among}
+use Rattle.lis_graph.proofs.Ranges.{range_among}
 use Rattle.lis_blockmap.specs.Bitmap.{is_taken}
 use Rattle.lis_content.specs.Content.{has_number}
 use Rattle.lis_dict.specs.Dict.{Dict, IsDict, number_of, word_of}
@@ -36,12 +36,12 @@ use Rattle.lis_kept.specs.TestEdges.{test_by, is_test_link}
 use Rattle.lis_kept.specs.Under.{is_plain_by, MayStandUnder, DeclaresUnder}
 use Rattle.lis_ext.proofs.Numbers.{among_where, where_among, sorted_where}
 use Rattle.lis_kept.proofs.Filing.{same_tests, among_from_number, number_from_among}
-use Rattle.lis_kept.proofs.Formed.{named_all, named_below, some_word}
+use Rattle.lis_kept.proofs.Formed.{named_all, named_below}
 use Rattle.lis_kept.proofs.Known.{among_axiom, among_word}
 use Rattle.lis_kept.proofs.MarkedWithin.{marked_within}
 use Rattle.lis_kept.proofs.OwnLinks.{unnamed_to, unnamed_from}
 use Rattle.lis_kept.proofs.StandsUnder.{each_pairs}
-use Rattle.lis_kept.proofs.TestLinks.{TestLink, test_link, not_itself, linked_by}
+use Rattle.lis_kept.proofs.TestLinks.{test_link, not_itself, linked_by}
 use Rattle.lis_store.specs.Changes.{differing_bits}
 use Rattle.lis_store.specs.Placing.{AreNumbersOf}
 use Rattle.lis_store.specs.Redescribing.{IsTurnedRow, Redescribes}

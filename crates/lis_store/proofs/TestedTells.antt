@@ -1,15 +1,12 @@
 -- The state that memory tells once a word is declared, and files that meet it have it; and the call that declares it.
-use Rattle.std.proofs.Common.{◌≡◌, ◌⊎◌, refl, sym, ap, ap₂, ◌∙◌, subst, inl, inr, ℕ, ◌+◌, ◌<◌, ◌≤◌, ◌==◌, ◌||◌, if◌then◌else◌, Bool, true, false, List, [], ◌∷◌, length, count_by, Option, Some, None, is_some, IsSome, IsTrue, Result, Err, arith}
+use Rattle.std.proofs.Common.{◌≡◌, ◌⊎◌, refl, sym, ap, ◌∙◌, subst, inl, inr, ℕ, ◌+◌, ◌<◌, ◌≤◌, ◌==◌, ◌||◌, if◌then◌else◌, Bool, true, false, List, length, Some, None, is_some, IsSome, Result, Err, arith}
 use Rattle.std.specs.List.{list_all, Contains}
-use Rattle.std.specs.List.Sorted.{IsStrictlySortedBy}
 use Rattle.std.proofs.lemmas.Bool.{or_cases, or_left, or_right}
 use Rattle.std.proofs.lemmas.Option.{same_Some}
 use Rattle.lis_graph.proofs.Members.{Among, among_from_contains, contains_from_among, among_insert_key, insert_key_old, insert_key_new}
 use Rattle.lis_graph.proofs.Sets.{sorted_insert_key}
 use Rattle.lis_ports.specs.Meaning.{Meaning}
 use Rattle.lis_journal.specs.Journal.{Held}
-use Rattle.lis_journal.specs.Record.{Entry}
-use Rattle.lis_journal.specs.Phases.{looked}
 use Rattle.lis_blockmap.specs.Bitmap.{is_taken}
 use Rattle.lis_content.specs.Content.{has_number, are_distinct}
 use Rattle.lis_dict.specs.Dict.{Dict, number_of, word_of}
@@ -19,7 +16,6 @@ use Rattle.lis_ext.specs.Numbers.{numbers_where}
 use Rattle.lis_grammar.specs.Formula.{Formula}
 use Rattle.lis_words.specs.Words.{word_cmp, is_test, is_plain_word, is_property, test_of}
 use Rattle.lis_model.specs.declared.refusal.Refusal.{Refusal}
-use Rattle.lis_model.specs.declared.limits.Limits.{Limits}
 use Rattle.lis_model.specs.Image.{image_blocks}
 use Rattle.lis_model.specs.Sets.{with_word, with_words}
 use Rattle.lis_model.specs.State.{State, File, all_up, own_words, description, is_declarable, WellFormed}
@@ -34,11 +30,11 @@ use Rattle.lis_kept.specs.Sound.{AreSound, FreeSlotsAreEmpty}
 use Rattle.lis_kept.specs.Telling.{is_declared, words_told, bytes_told, blocks_told, HasIndex, file_told, state_of, AreUsed, Tells}
 use Rattle.lis_kept.specs.Under.{MayStandUnder, DeclaresUnder}
 use Rattle.lis_ext.proofs.Numbers.{among_where, where_among}
-use Rattle.lis_kept.proofs.Filing.{among_from_number, number_from_among, filed_rec}
+use Rattle.lis_kept.proofs.Filing.{among_from_number, number_from_among}
 use Rattle.lis_kept.proofs.Formed.{named_all, named_below}
 use Rattle.lis_kept.proofs.Known.{among_word, word_among}
 use Rattle.lis_kept.proofs.Numbered.{Numbers, numbers_are}
-use Rattle.lis_store.specs.Stored.{Stored, PairsAreApart, AreClosed, DescriptionsAreShort, TestsAreMet, IsSound, StoreFits}
+use Rattle.lis_store.specs.Stored.{Stored, PairsAreApart, IsSound, StoreFits}
 use Rattle.lis_store.specs.Saving.{settled, IsReady, Saves}
 use Rattle.lis_store.specs.Judging.{word_checks}
 use Rattle.lis_store.specs.Placing.{AreNumbersOf}
@@ -50,10 +46,10 @@ use Rattle.lis_store.specs.declared.change.Change.TheVariants.{Refused}
 use Rattle.lis_store.proofs.Cleaned.{clean_is, sound_clean, in_use_clean, tests_clean, none_marked}
 use Rattle.lis_store.proofs.Crowded.{gained_told, gains_same, wide_told, met_described, unmet_described}
 use Rattle.lis_store.proofs.SavedAlone.{saves_alone}
-use Rattle.lis_store.proofs.Declared.{IsPlaceable, is_placeable, new_word, plain_at, apart_at, limits_are, parts_are, entries_are, file_then, in_use_then, apart_then, few_marked, saved_then, told_then, may_stand, described_alike, unlisted, unsided, not_wide, large_told, formed_then, outcome_is}
+use Rattle.lis_store.proofs.Declared.{IsPlaceable, is_placeable, new_word, plain_at, apart_at, parts_are, file_then, in_use_then, apart_then, few_marked, saved_then, told_then, may_stand, described_alike, unlisted, unsided, not_wide, large_told, formed_then, outcome_is}
 use Rattle.lis_store.proofs.Facts.{file_of_filed, size_of_filed}
 use Rattle.lis_store.proofs.Judged.{judged_refused, judged_done, change_refused}
-use Rattle.lis_store.proofs.Tested.{other, named_other, named_then, is_word, ext_same, met_same, test_there, gained_back, gained_then, gained_source, few_tested, set_then, tested_edits, had_then, old_had, new_had, free_then, closed_then, tests_then, used_then, few_more}
+use Rattle.lis_store.proofs.Tested.{other, named_other, is_word, ext_same, met_same, test_there, gained_back, gained_then, gained_source, few_tested, set_then, tested_edits, had_then, old_had, new_had, free_then, closed_then, tests_then, used_then, few_more}
 use Rattle.lis_store.proofs.Told.{words_same}
 
 module _ (p made q : Kept) (word : List ℕ) (rights : List ℕ) (words : List (List ℕ)) (sound : AreSound p) (new : number_of p.dict word ≡ None) (numbers : AreNumbersOf p words rights)

@@ -1,5 +1,5 @@
 -- What a declaration that is taken back comes to.
-use Rattle.std.proofs.Common.{◌≡◌, ◌⊎◌, refl, sym, ap, ap₂, ◌∙◌, subst, inl, inr, ℕ, ◌+◌, ◌<◌, ◌≤◌, ◌==◌, not, ◌&&◌, ◌||◌, Bool, true, false, if◌then◌else◌, List, [], ◌∷◌, ◌++◌, length, map, filter, slice_get, Option, Some, None, is_some, IsSome, IsTrue, Result, Err, arith, eq-eqb, get_or-set_other}
+use Rattle.std.proofs.Common.{◌≡◌, ◌⊎◌, refl, sym, ap, ap₂, ◌∙◌, subst, inl, inr, ℕ, ◌+◌, ◌<◌, ◌≤◌, ◌==◌, not, ◌&&◌, ◌||◌, Bool, true, false, if◌then◌else◌, List, [], ◌∷◌, ◌++◌, length, map, slice_get, Option, Some, None, is_some, IsSome, Result, Err, arith, eq-eqb, get_or-set_other}
 use Rattle.std.specs.List.{list_any, flat_map, Contains}
 use Rattle.std.proofs.lemmas.Bool.{and_parts, or_cases, or_left, both_ways, cases_eq, ne_eqb, not_from_false, not-false, not-true, false_from_ne_true}
 use Rattle.std.proofs.lemmas.Option.{same_Some}
@@ -7,8 +7,6 @@ use Rattle.lis_graph.proofs.Members.{Among, among_from_contains, contains_from_a
 use Rattle.lis_graph.proofs.Sets.{sorted_from_rising, sorted_insert_key}
 use Rattle.lis_ports.specs.Meaning.{Meaning}
 use Rattle.lis_journal.specs.Journal.{Held}
-use Rattle.lis_journal.specs.Record.{Entry}
-use Rattle.lis_journal.specs.Phases.{looked}
 use Rattle.lis_blockmap.specs.Bitmap.{is_taken}
 use Rattle.lis_content.specs.Content.{has_number, are_distinct}
 use Rattle.lis_content.proofs.Numbers.{neither}
@@ -52,7 +50,7 @@ use Rattle.lis_kept.proofs.OwnLinks.{own_head, among_slot, unnamed_to}
 use Rattle.lis_kept.proofs.Used.{any_or}
 use Rattle.lis_kept.proofs.Needed.{may_undeclare}
 use Rattle.lis_kept.proofs.NeededTold.{needed_told}
-use Rattle.lis_store.specs.Stored.{Stored, PairsAreApart, AreClosed, DescriptionsAreShort, TestsAreMet, IsSound, StoreFits}
+use Rattle.lis_store.specs.Stored.{Stored, PairsAreApart, AreClosed, TestsAreMet, IsSound, StoreFits}
 use Rattle.lis_store.specs.Saving.{settled, IsReady, Saves}
 use Rattle.lis_store.specs.Judging.{is_needed_by, undeclare_checks}
 use Rattle.lis_store.specs.Redescribing.{IsTurnedRow}

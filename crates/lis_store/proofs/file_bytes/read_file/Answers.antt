@@ -1,11 +1,10 @@
-use Rattle.std.proofs.Common.{◌≡◌, ◌∙◌, Some, length, sym, ap, subst, arith}
+use Rattle.std.proofs.Common.{◌≡◌, ◌∙◌, length, sym, ap, arith}
 use Rattle.std.proofs.lemmas.Option.{same_Some}
 use Rattle.std.proofs.lemmas.Result.{on_ok_weaker}
 use Rattle.lis_content.specs.Large.{slot_count}
 use Rattle.lis_journal.specs.Phases.{looked}
 use Rattle.lis_fields.specs.Records.{FileRecord}
 use Rattle.lis_fields.proofs.Parts.{size_fits}
-use Rattle.lis_model.specs.declared.limits.Limits.{Limits}
 use Rattle.lis_model.specs.Image.{data_start}
 use Rattle.lis_kept.proofs.BlocksTaken.{slot_within}
 use Rattle.lis_kept.proofs.Contents.{slot_counted}

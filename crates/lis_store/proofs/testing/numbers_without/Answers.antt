@@ -1,4 +1,4 @@
-use Rattle.std.proofs.Common.{ℕ, ◌<◌, length, take, ap, arith}
+use Rattle.std.proofs.Common.{◌<◌, length, take, ap, arith}
 use Rattle.std.proofs.lemmas.List.{length-take-le}
 use Rattle.lis_laws.proofs.Counts.{filter_le}
 use Rattle.lis_store.proofs.Without.{is_other}

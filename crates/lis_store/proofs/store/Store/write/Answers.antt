@@ -1,4 +1,4 @@
-use Rattle.std.proofs.Common.{◌≡◌, ◌∙◌, ◌+◌, ◌*◌, ◌≤◌, Bool, List, ℕ, Err, IsSomeAnd, is_some, length, true, refl, sym, ap, subst, arith}
+use Rattle.std.proofs.Common.{◌≡◌, ◌∙◌, ◌+◌, ◌≤◌, Bool, List, ℕ, Err, IsSomeAnd, is_some, length, true, refl, sym, ap, subst, arith}
 use Rattle.std.specs.List.{list_all}
 use Rattle.std.proofs.lemmas.Result.{err_from_is_err_and}
 use Rattle.lis_catalog.specs.Catalog.{slot_of}
