@@ -1,5 +1,7 @@
 mod Forms
 mod Going
 mod Served
+mod Refused
 mod Opened
 mod Grown
+mod Upgraded
