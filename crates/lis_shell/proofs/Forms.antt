@@ -149,15 +149,3 @@ pub made_in_range : (words : List (List ℕ)) (limits : Limits) → task_of word
 made_in_range words limits e =
     let said = made_limits words limits e in
     limits_in_range said.version said.files said.props said.blocks limits said.versioned said.are
-
--- the limits of a state that begins empty are those that were said
-pub one_try : (a b : Limits) → ◌≡◌ {A = Option Task} (Some (Try a)) (Some (Try b)) → a ≡ b
-one_try a b is = cc
-
--- the limits of an image that is asked for are those that were said
-pub one_make : (a b : Limits) → ◌≡◌ {A = Option Task} (Some (Make a)) (Some (Make b)) → a ≡ b
-one_make a b is = cc
-
--- the number is the one that was said
-pub one_grow : (a b : ℕ) → ◌≡◌ {A = Option Task} (Some (Grow a)) (Some (Grow b)) → a ≡ b
-one_grow a b is = cc

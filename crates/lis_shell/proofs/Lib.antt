@@ -5,3 +5,4 @@ mod Refused
 mod Opened
 mod Grown
 mod Upgraded
+mod Tasks

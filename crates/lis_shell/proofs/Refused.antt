@@ -1,9 +1,10 @@
 -- What a task keeps where opening refused the image.
-use Rattle.std.proofs.Common.{◌≡◌, ◌⊎◌, ℕ, ◌<◌, List, length, Option, Result, Ok, Err, IsTrue, refl, sym, ap, ap₂, subst, arith}
+use Rattle.std.proofs.Common.{◌≡◌, ◌⊎◌, ℕ, ◌<◌, List, [], length, Option, Some, None, Result, Ok, Err, IsTrue, refl, sym, ap, ap₂, subst, arith}
 use Rattle.lis_ports.specs.Meaning.{Meaning}
 use Rattle.lis_ports.specs.Runs.{IsDiskRun, Leaves}
 use Rattle.lis_journal.specs.Images.{KeepsPast}
 use Rattle.lis_journal.specs.Recovery.{IsSettledPast}
+use Rattle.lis_line.specs.Taking.{TakesFew}
 use Rattle.lis_model.specs.declared.limits.Limits.{Limits}
 use Rattle.lis_model.specs.declared.spot.Spot.{Spot}
 use Rattle.lis_model.specs.Image.{image_blocks}
@@ -87,17 +88,17 @@ refused_measured {old = old} fault opening idles = record {
 }
 
 -- what a refusal leaves
-left_barred : {old new : Meaning} (fault : OpenFault) → OpenLeft old new (Err fault) → BarredLeft old new (status_of fault)
-left_barred (ShortDisk len need) left = left
-left_barred (Damaged spot) left = left
-left_barred DiskFailed left = tt
-left_barred NoRoom left = left
+left_barred : (old new : Meaning) (fault : OpenFault) → OpenLeft old new (Err fault) → BarredLeft old new (status_of fault)
+left_barred old new (ShortDisk len need) left = left
+left_barred old new (Damaged spot) left = left
+left_barred old new DiskFailed left = tt
+left_barred old new NoRoom left = left
 
 pub refused_barred : {T : Type 0} {old new : Meaning} {unmoved : Type 0} (fault : OpenFault) → Opening {T = T} old new unmoved (Err fault)
     → (IsTrue old.is_honest → OpenLeft old new (Err fault)) → IsTrue old.is_honest → ((state : State) → Stands old.bytes state → ⊥) → Barred old new (status_of fault)
-refused_barred fault opening left honest none = record {
+refused_barred {old = old} {new = new} fault opening left honest none = record {
   moments = opening.moments honest none;
-  left = left_barred fault (left honest);
+  left = left_barred old new fault (left honest);
   past = λ limits super settled. opening.past limits honest super (λ is. settled (ap status_of (one_fault fault DiskFailed is)));
 }
 
@@ -111,23 +112,28 @@ refused_ended End (Damaged spot) opening ended state honest stands failed no_roo
 refused_ended End DiskFailed opening ended state honest stands failed no_room = failed
 refused_ended End NoRoom opening ended state honest stands failed no_room = no_room (ended.2 state stands)
 
+-- ---- no input was taken
 pub refused_input : (fault : OpenFault) (limit : ℕ) (bytes : List ℕ) (left : Option (List ℕ)) → InputRead limit bytes left (status_of fault)
 refused_input (ShortDisk len need) limit bytes left = tt
 refused_input (Damaged spot) limit bytes left = tt
 refused_input DiskFailed limit bytes left = tt
 refused_input NoRoom limit bytes left = tt
 
+pub few_none : (limit : ℕ) (left : Option (List ℕ)) → TakesFew limit left left
+few_none limit None = record { taken = []; consumed = tt; few = omega arith }
+few_none limit (Some bytes) = record { taken = []; consumed = refl; few = omega arith }
+
 -- ---- counts of faults
 pub same_counts : {old new : Meaning} (input : ℕ) → new.disk_faults ≡ old.disk_faults → IsDiskRun old new → counts new input ≡ counts old input
 same_counts input disk run = ap₂ (λ (faults show : ℕ). record { disk = faults; input = input; show = show }) disk run.show_faults
 
-fault_cause : {T : Type 0} {old new : Meaning} (fault : OpenFault) (input : ℕ) → HasOpenCause {T = T} old.disk_faults new.disk_faults (Err fault) → IsDiskRun old new
+fault_cause : {old new : Meaning} (T : Type 0) (fault : OpenFault) (input : ℕ) → HasOpenCause {T = T} old.disk_faults new.disk_faults (Err fault) → IsDiskRun old new
     → HasStatusCause (counts old input) (counts new input) (status_of fault)
-fault_cause (ShortDisk len need) input cause run = same_counts input cause run
-fault_cause (Damaged spot) input cause run = same_counts input cause run
-fault_cause DiskFailed input cause run = (cause, refl, run.show_faults)
-fault_cause NoRoom input cause run = same_counts input cause run
+fault_cause T (ShortDisk len need) input cause run = same_counts input cause run
+fault_cause T (Damaged spot) input cause run = same_counts input cause run
+fault_cause T DiskFailed input cause run = (cause, refl, run.show_faults)
+fault_cause T NoRoom input cause run = same_counts input cause run
 
-pub refused_cause : {T : Type 0} {old new : Meaning} {status : Status} (fault : OpenFault) (input : ℕ) → status ≡ status_of fault
+pub refused_cause : {old new : Meaning} {status : Status} (T : Type 0) (fault : OpenFault) (input : ℕ) → status ≡ status_of fault
     → HasOpenCause {T = T} old.disk_faults new.disk_faults (Err fault) → IsDiskRun old new → HasStatusCause (counts old input) (counts new input) status
-refused_cause {T} {old} {new} fault input is cause run = subst (HasStatusCause (counts old input) (counts new input)) (sym is) (fault_cause {T = T} fault input cause run)
+refused_cause {old = old} {new = new} T fault input is cause run = subst (HasStatusCause (counts old input) (counts new input)) (sym is) (fault_cause T fault input cause run)

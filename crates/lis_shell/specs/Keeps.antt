@@ -1,5 +1,5 @@
 -- What each task keeps. `untouched` says that no input was taken, and `unmoved` that the station is as it was.
-use Rattle.std.specs.Prelude.{◌≡◌, ◌⊎◌, ℕ, ◌<◌, ◌^◌, List, Option, Some, IsTrue}
+use Rattle.std.specs.Prelude.{◌≡◌, ◌↔◌, ◌⊎◌, ℕ, ◌<◌, ◌^◌, List, Option, Some, None, IsTrue}
 use Rattle.lis_ports.specs.Meaning.{Meaning}
 use Rattle.lis_ports.specs.Calls.{IsShowCall}
 use Rattle.lis_ports.specs.Runs.{IsDiskRun, Leaves, IsSettled, Always}
@@ -18,6 +18,8 @@ use Rattle.lis_session.specs.Runs.{RunsImage}
 use Rattle.lis_grow.specs.Session.{grow_items}
 use Rattle.lis_shell.specs.declared.status.Status.{Status}
 use Rattle.lis_shell.specs.declared.status.Status.TheVariants.{Done, Usage, NotAnImage, TooShort, DiskFault, InputFault, OutputFault, InputLimit, NoMemory}
+use Rattle.lis_shell.specs.declared.words.Task.{Task}
+use Rattle.lis_shell.specs.declared.words.Task.TheVariants.{Try, Make, Run, Upgrade, Grow}
 use Rattle.lis_shell.specs.Causes.{IsTryStatus}
 use Rattle.lis_shell.specs.Tries.{Tries}
 use Rattle.lis_shell.specs.MakesImage.{MadeImage}
@@ -96,3 +98,13 @@ pub record UpgradeKeeps (unmoved : Type 0) (old new : Meaning) (status : Status)
   pub idle : IsIdle (Unit {0}) old new status
   pub measured : IsMeasured old status unmoved
   pub barred : IsTrue old.is_honest → ((state : State) → Stands old.bytes state → ⊥) → Barred old new status
+
+-- what is kept by the words of the command line, by the task that they ask for
+pub record TaskKeeps (task : Option Task) (untouched unmoved : Type 0) (left left_after : Option (List ℕ)) (old new : Meaning) (status : Status) : Type 0 where
+  pub usage : (status ≡ Usage) ↔ (task ≡ None)
+  pub unused : status ≡ Usage → untouched × unmoved
+  pub tries : (limits : Limits) → task ≡ Some (Try limits) → TryKeeps limits left left_after old new status
+  pub makes : (limits : Limits) → task ≡ Some (Make limits) → MakeKeeps limits unmoved old new status × untouched
+  pub runs : task ≡ Some Run → RunKeeps untouched unmoved left left_after old new status
+  pub grows : (n : ℕ) → task ≡ Some (Grow n) → GrowKeeps n unmoved old new status × untouched
+  pub upgrades : task ≡ Some Upgrade → UpgradeKeeps unmoved old new status × untouched

@@ -17,7 +17,7 @@ ghost use Rattle.lis_shell.specs.declared.words.Task.TheVariants.{Try, Make, Run
 ghost use Rattle.lis_shell.specs.Causes.{counts, HasStatusCause, status_of};
 ghost use Rattle.lis_shell.specs.Runs.{IsSessionStatus, Entry, Ran, NoFault, IsComplete, InputRead};
 ghost use Rattle.lis_shell.specs.Grows.{IsGrowStatus, GrowRan, GrowHeadline, GrowEntry, IsGrown};
-ghost use Rattle.lis_shell.specs.Keeps.{TryKeeps, MakeKeeps, RunKeeps, GrowKeeps, UpgradeKeeps};
+ghost use Rattle.lis_shell.specs.Keeps.{TryKeeps, MakeKeeps, RunKeeps, GrowKeeps, UpgradeKeeps, TaskKeeps};
 
 use crate::serving::serve;
 use crate::session::try_session;
@@ -182,6 +182,30 @@ fn grow_image<T: Station>(alloc: Global, station: &mut T, n: u32) -> Status
     }
 }
 
+// Carries out the task that the words ask for, if any.
+fn carry_task<S: Source, T: Station>(
+    alloc: Global,
+    task: Option<Task>,
+    input: &mut S,
+    station: &mut T,
+) -> Status
+    requires range { (limits : LimitsOf) → task ≡ Some (Make limits) → IsTrue (are_in_range limits) }
+    ensures same { IsSameStation (T.meaning station.old) (T.meaning station.new) }
+    ensures cause { HasStatusCause (counts (T.meaning station.old) (S.faults input.old)) (counts (T.meaning station.new) (S.faults input.new)) result }
+    ensures few { TakesFew (2 ^ 40) (S.left input.old) (S.left input.new) }
+    ensures keeps { TaskKeeps task (input.new ≡ input.old) (station.new ≡ station.old) (S.left input.old) (S.left input.new)
+        (T.meaning station.old) (T.meaning station.new) result }
+{
+    match task {
+        None => Status::Usage,
+        Some(Task::Try(limits)) => try_from_empty(alloc, &limits, input, station),
+        Some(Task::Make(limits)) => make_image(&limits, station),
+        Some(Task::Run) => run_image(alloc, input, station),
+        Some(Task::Upgrade) => upgrade_image(alloc, station),
+        Some(Task::Grow(n)) => grow_image(alloc, station, n),
+    }
+}
+
 /// Does what the words after the program's name ask for.
 ///
 /// `try FILES PROPS BLOCKS` carries out the commands of the input on a state that begins empty, and shows the replies; it makes no call of
@@ -242,12 +266,6 @@ pub fn lisfs<S: Source, T: Station>(
     ensures upgrades { task_of (map string_bytes words.now) ≡ Some Upgrade
         → UpgradeKeeps (station.new ≡ station.old) (T.meaning station.old) (T.meaning station.new) result × (input.new ≡ input.old) }
 {
-    match task_of(words) {
-        None => Status::Usage,
-        Some(Task::Try(limits)) => try_from_empty(alloc, &limits, input, station),
-        Some(Task::Make(limits)) => make_image(&limits, station),
-        Some(Task::Run) => run_image(alloc, input, station),
-        Some(Task::Upgrade) => upgrade_image(alloc, station),
-        Some(Task::Grow(n)) => grow_image(alloc, station, n),
-    }
+    let task = task_of(words);
+    carry_task(alloc, task, input, station)
 }

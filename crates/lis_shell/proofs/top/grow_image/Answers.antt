@@ -1,4 +1,5 @@
 use Rattle.std.proofs.Common.{ap, subst}
+use Rattle.lis_store.specs.Stored.{Stored}
 use Rattle.lis_session.proofs.Fitting.{same_run, same_then}
 use Rattle.lis_shell.specs.Causes.{Counts, counts, HasStatusCause}
 use Rattle.lis_shell.proofs.Refused.{same_counts, refused_cause}
@@ -29,7 +30,7 @@ pub returns-in-Err-clause-same : goal.returns-in-Err-clause-same
 returns-in-Err-clause-same g c = same_run c.in-Err.ensures.run
 
 pub returns-in-Err-clause-cause : goal.returns-in-Err-clause-cause
-returns-in-Err-clause-cause g c = λ k. refused_cause c.in-Err.fault k c.status_of.ensures c.in-Err.ensures.cause c.in-Err.ensures.run
+returns-in-Err-clause-cause g c = λ k. refused_cause Stored c.in-Err.fault k c.status_of.ensures c.in-Err.ensures.cause c.in-Err.ensures.run
 
 pub returns-in-Err-clause-keeps : goal.returns-in-Err-clause-keeps
 returns-in-Err-clause-keeps g c = grow_refused c.args.n c.in-Err.fault c.status_of.ensures (record {

@@ -17,7 +17,7 @@ returns-in-Ok-clause-keeps g c = upgrade_done c.in-Ok.field-0 (record {
 }) c.in-Ok.ensures.ended c.in-Ok.ensures.moments
 
 pub returns-in-Err-clause-cause : goal.returns-in-Err-clause-cause
-returns-in-Err-clause-cause g c = λ n. refused_cause c.in-Err.fault n c.status_of.ensures c.in-Err.ensures.cause c.in-Err.ensures.run
+returns-in-Err-clause-cause g c = λ n. refused_cause (Unit {0}) c.in-Err.fault n c.status_of.ensures c.in-Err.ensures.cause c.in-Err.ensures.run
 
 pub returns-in-Err-clause-keeps : goal.returns-in-Err-clause-keeps
 returns-in-Err-clause-keeps g c = upgrade_refused c.in-Err.fault c.status_of.ensures (record {
