@@ -87,7 +87,7 @@ pub run_opened : {old mid new : Meaning} {opening_unmoved unmoved untouched : Ty
     → IsRunStatus status → (status ≡ NoMemory → untouched × (new.shown ≡ mid.shown))
     → ((bytes : List ℕ) → left ≡ Some bytes → InputRead (2 ^ 40) bytes left_after status)
     → ((state : State) (bytes : List ℕ) → StoreFits store mid state → left ≡ Some bytes
-        → Serves (root_of state) (script bytes (2 ^ 40)) mid new (Ran state (2 ^ 40) bytes left_after mid.shown new status))
+    → Serves (root_of state) (script bytes (2 ^ 40)) mid new (Ran state (2 ^ 40) bytes left_after mid.shown new status))
     → RunKeeps untouched unmoved left left_after old new status
 run_opened {old = old} {mid = mid} {new = new} {untouched = untouched} {left_after = left_after} store status opening ended moments only idle input runs = record {
   runs = λ state bytes entry.

@@ -260,7 +260,7 @@ pub fn lisfs<S: Source, T: Station>(
         → MakeKeeps limits (station.new ≡ station.old) (T.meaning station.old) (T.meaning station.new) result × (input.new ≡ input.old) }
     ensures runs { task_of (map string_bytes words.now) ≡ Some Run
         → RunKeeps (input.new ≡ input.old) (station.new ≡ station.old) (S.left input.old) (S.left input.new)
-            (T.meaning station.old) (T.meaning station.new) result }
+        (T.meaning station.old) (T.meaning station.new) result }
     ensures grows { (n : ℕ) → task_of (map string_bytes words.now) ≡ Some (Grow n)
         → GrowKeeps n (station.new ≡ station.old) (T.meaning station.old) (T.meaning station.new) result × (input.new ≡ input.old) }
     ensures upgrades { task_of (map string_bytes words.now) ≡ Some Upgrade
