@@ -1,11 +1,12 @@
 -- A run of `grow` on an image: how it was opened, and how the session behind it ended.
-use Rattle.std.proofs.Common.{◌≡◌, ◌⊎◌, ℕ, List, [], Option, Some, Ok, Err, IsTrue, refl, ap, sym, subst, ◌∙◌, inl, inr, arith}
+use Rattle.std.proofs.Common.{◌≡◌, ◌⊎◌, ℕ, List, [], Option, Some, Result, Ok, Err, IsTrue, refl, ap, ap₂, sym, subst, ◌∙◌, inl, inr, arith}
 use Rattle.std.specs.Io.KnownBytes.{append_known}
 use Rattle.lis_ports.specs.Meaning.{Meaning}
 use Rattle.lis_ports.specs.Runs.{Adds, Leaves}
 use Rattle.lis_ports.specs.Since.{Since}
 use Rattle.lis_ports.proofs.Moments.{adds_none, adds_then, adds_weaken, each_moment}
 use Rattle.lis_reply.proofs.Showing.{append_known-nil}
+use Rattle.lis_grammar.specs.Formula.{Formula}
 use Rattle.lis_model.specs.State.{State}
 use Rattle.lis_model.specs.Step.{Situation, Item, situation_after}
 use Rattle.lis_store.specs.Stands.{Stands}
@@ -13,13 +14,16 @@ use Rattle.lis_store.specs.Stored.{Stored, StoreFits}
 use Rattle.lis_open.specs.declared.mounting.OpenFault.{OpenFault}
 use Rattle.lis_open.specs.declared.mounting.OpenFault.TheVariants.{TooShort as ShortDisk, Damaged, DiskFault as DiskFailed, NoMemory as NoRoom}
 use Rattle.lis_open.specs.Opens.{OpenEnded, OpenLeft}
+use Rattle.lis_session.specs.Item.{HasEndCause}
 use Rattle.lis_session.specs.Session.{root_of}
+use Rattle.lis_session.specs.declared.end.End.{End}
+use Rattle.lis_session.specs.declared.end.End.TheVariants.{DiskFault as EndDisk, OutputFault as EndOutput}
 use Rattle.lis_session.proofs.Moments.{begins_nothing, take_none}
 use Rattle.lis_session.proofs.Whole.{OnlyNow}
-use Rattle.lis_grow.specs.Session.{grow_items, GrowMoment, Grows}
-use Rattle.lis_shell.specs.Causes.{Counts, HasStatusCause, status_of}
-use Rattle.lis_shell.specs.Runs.{NoFault}
-use Rattle.lis_shell.specs.Grows.{IsGrowStatus, GrowRan, GrowRunMoment, GrowHeadline, GrowsImage, IsGrown}
+use Rattle.lis_grow.specs.Session.{grow_items, GrowMoment, GrowEnded, Grows}
+use Rattle.lis_shell.specs.Causes.{Counts, counts, HasStatusCause, status_of}
+use Rattle.lis_shell.specs.Runs.{IsSessionStatus, NoFault}
+use Rattle.lis_shell.specs.Grows.{IsGrowStatus, grow_status, GrowRan, GrowRunMoment, GrowHeadline, GrowsImage, IsGrown}
 use Rattle.lis_shell.specs.Keeps.{GrowKeeps}
 use Rattle.lis_shell.specs.declared.status.Status.{Status}
 use Rattle.lis_shell.specs.declared.status.Status.TheVariants.{Done, Usage, NotAnImage, TooShort, DiskFault, InputFault, OutputFault, InputLimit, NoMemory}
@@ -73,6 +77,36 @@ grow_headline {old} {new} state items only_now adds = λ image bytes had.
       | inl now ↦ inl now
       | inr moment ↦ moment
     ]
+
+-- a session that ended in a run
+grow_ran : (state : State) (items : List Item) (before : Option (List ℕ)) (new : Meaning) (ended : Result (Unit {0}) End)
+    → GrowEnded (root_of state) items before new ended → GrowRan state items before new (grow_status ended)
+grow_ran state items before new (Ok done) told = told
+grow_ran state items before new (Err EndDisk) told = told
+grow_ran state items before new (Err EndOutput) told = told
+
+pub session_status : (ended : Result (Unit {0}) End) → IsSessionStatus (grow_status ended)
+session_status (Ok done) = tt
+session_status (Err EndDisk) = tt
+session_status (Err EndOutput) = tt
+
+pub session_unread : (ended : Result (Unit {0}) End) → IsGrowStatus (grow_status ended)
+session_unread (Ok done) = tt
+session_unread (Err EndDisk) = tt
+session_unread (Err EndOutput) = tt
+
+pub session_cause : (old new : Meaning) (input : ℕ) (ended : Result (Unit {0}) End) → HasEndCause old new ended → HasStatusCause (counts old input) (counts new input) (grow_status ended)
+session_cause old new input (Ok done) cause = ap₂ (λ (faults show : ℕ). record { disk = faults; input = input; show = show }) cause.0 cause.1
+session_cause old new input (Err EndDisk) cause = (cause.0, refl, cause.1)
+session_cause old new input (Err EndOutput) cause = (cause.1, cause.0, refl)
+
+-- what a session says that begins at the root
+pub grow_served : {old new : Meaning} (state : State) (place : List Formula) (items : List Item) (before : Option (List ℕ)) (ended : Result (Unit {0}) End) → place ≡ []
+    → Grows (record { state = state; place = place }) items old new (GrowEnded (record { state = state; place = place }) items before new ended)
+    → Grows (root_of state) items old new (GrowRan state items before new (grow_status ended))
+grow_served {old} {new} state place items before ended is grows =
+    let session = subst (λ (at : List Formula). Grows (record { state = state; place = at }) items old new (GrowEnded (record { state = state; place = at }) items before new ended)) is grows in
+    record { moments = session.moments; past = session.past; ended = grow_ran state items before new ended session.ended }
 
 -- ---- what `grow` keeps
 pub grow_opened : {old mid new : Meaning} {opening_unmoved unmoved : Type 0} (n : ℕ) (store : Stored) (status : Status)

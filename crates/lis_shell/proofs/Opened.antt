@@ -1,8 +1,9 @@
 -- A run on an image: how it was opened, and how the session behind it ended.
-use Rattle.std.proofs.Common.{◌≡◌, ◌≢◌, ℕ, ◌≤◌, ◌^◌, List, length, Option, Some, Ok, Err, IsTrue, refl, sym, subst, ◌∙◌}
+use Rattle.std.proofs.Common.{◌≡◌, ◌≢◌, ℕ, ◌≤◌, ◌^◌, List, [], length, Option, Some, Ok, Err, IsTrue, refl, sym, subst, ◌∙◌}
 use Rattle.lis_ports.specs.Meaning.{Meaning}
 use Rattle.lis_ports.specs.Runs.{Leaves}
 use Rattle.lis_ports.proofs.Moments.{adds_none}
+use Rattle.lis_grammar.specs.Formula.{Formula}
 use Rattle.lis_model.specs.Script.{script}
 use Rattle.lis_model.specs.State.{State}
 use Rattle.lis_model.specs.Step.{Item}
@@ -27,7 +28,7 @@ pub opened_fits : (store : Stored) (old new : Meaning) (state : State) → Stand
 opened_fits store old new state stands ended = subst (StoreFits store new) (one_state old.bytes ended.1.0 state ended.1.1 stands) ended.1.2
 
 -- a session that ended in a run
-pub session_ran : (state : State) (limit : ℕ) (bytes : List ℕ) (left before : Option (List ℕ)) (new : Meaning) (status : Status)
+session_ran : (state : State) (limit : ℕ) (bytes : List ℕ) (left before : Option (List ℕ)) (new : Meaning) (status : Status)
     → Served (root_of state) limit bytes left before new status → Ran state limit bytes left before new status
 session_ran state limit bytes left before new Done served = served
 session_ran state limit bytes left before new InputLimit served = served
@@ -38,6 +39,15 @@ session_ran state limit bytes left before new DiskFault served = served
 session_ran state limit bytes left before new Usage served = served
 session_ran state limit bytes left before new (NotAnImage spot) served = served
 session_ran state limit bytes left before new (TooShort len need) served = served
+
+-- ---- the session behind the opening
+-- what a session says that begins at the root
+pub run_served : {old new : Meaning} (state : State) (place : List Formula) (limit : ℕ) (bytes : List ℕ) (left before : Option (List ℕ)) (status : Status) → place ≡ []
+    → Serves (record { state = state; place = place }) (script bytes limit) old new (Served (record { state = state; place = place }) limit bytes left before new status)
+    → Serves (root_of state) (script bytes limit) old new (Ran state limit bytes left before new status)
+run_served {old} {new} state place limit bytes left before status is serves =
+    let session = subst (λ (at : List Formula). Serves (record { state = state; place = at }) (script bytes limit) old new (Served (record { state = state; place = at }) limit bytes left before new status)) is serves in
+    record { moments = session.moments; past = session.past; ended = session_ran state limit bytes left before new status session.ended }
 
 -- an opened image on which nothing was carried out
 pub serves_none : (state : State) (items : List Item) (m : Meaning) (end : Type 0) → end → Serves (root_of state) items m m end
