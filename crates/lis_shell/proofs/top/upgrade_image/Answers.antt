@@ -14,7 +14,7 @@ returns-in-Ok-clause-keeps g c = upgrade_done c.in-Ok.field-0 (record {
   small = c.in-Ok.ensures.small;
   moments = c.in-Ok.ensures.refused;
   past = c.in-Ok.ensures.past;
-}) c.in-Ok.ensures.ended c.in-Ok.ensures.moments
+}) c.in-Ok.ensures.ended c.in-Ok.ensures.left c.in-Ok.ensures.moments
 
 pub returns-in-Err-clause-cause : goal.returns-in-Err-clause-cause
 returns-in-Err-clause-cause g c = λ n. refused_cause (Unit {0}) c.in-Err.fault n c.status_of.ensures c.in-Err.ensures.cause c.in-Err.ensures.run
