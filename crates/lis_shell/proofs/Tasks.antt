@@ -1,5 +1,5 @@
 -- What is kept by each task, and by words that ask for none.
-use Rattle.std.proofs.Common.{◌≡◌, ℕ, List, Option, Some, None, refl, sym, subst, ◌∙◌}
+use Rattle.std.proofs.Common.{◌≡◌, ℕ, List, Option, Some, None, refl, sym, ap, subst, ◌∙◌}
 use Rattle.lis_ports.specs.Meaning.{Meaning}
 use Rattle.lis_model.specs.declared.limits.Limits.{Limits}
 use Rattle.lis_shell.specs.declared.status.Status.{Status}
@@ -20,6 +20,9 @@ one_make a b is = cc
 
 one_grow : (a b : ℕ) → ◌≡◌ {A = Option Task} (Some (Grow a)) (Some (Grow b)) → a ≡ b
 one_grow a b is = cc
+
+pub is_task : {task : Option Task} (found one : Task) → task ≡ Some found → found ≡ one → task ≡ Some one
+is_task found one is same = is ∙ ap Some same
 
 module _ {task : Option Task} {untouched unmoved : Type 0} {left left_after : Option (List ℕ)} {old new : Meaning} where
   pub task_none : task ≡ None → untouched → unmoved → TaskKeeps task untouched unmoved left left_after old new Usage
