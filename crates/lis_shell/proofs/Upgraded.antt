@@ -12,7 +12,6 @@ use Rattle.lis_open.specs.Upgrades.{upgraded, UpgradeEnded}
 use Rattle.lis_shell.specs.declared.status.Status.{Status}
 use Rattle.lis_shell.specs.declared.status.Status.TheVariants.{Done}
 use Rattle.lis_shell.specs.Causes.{status_of}
-use Rattle.lis_shell.specs.Grows.{GrowEntry}
 use Rattle.lis_shell.specs.Keeps.{Upgraded, UpgradeKeeps}
 use Rattle.lis_shell.proofs.Refused.{Opening, opened_small, opened_past, refused_past, refused_judged, refused_idle, refused_measured, refused_barred, refused_ended}
 
