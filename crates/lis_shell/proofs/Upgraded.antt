@@ -13,7 +13,6 @@ use Rattle.lis_open.specs.Upgrades.{upgraded, UpgradeEnded, GateLeft}
 use Rattle.lis_shell.specs.declared.status.Status.{Status}
 use Rattle.lis_shell.specs.declared.status.Status.TheVariants.{Done}
 use Rattle.lis_shell.specs.Causes.{status_of}
-use Rattle.lis_shell.specs.Grows.{GrowEntry}
 use Rattle.lis_shell.specs.Keeps.{Upgraded, IsUpgradeStatus, UpgradeLeaves, UpgradeMoment, UpgradeKeeps}
 use Rattle.lis_shell.proofs.Refused.{Opening, opened_small, opened_past, refused_past, refused_judged, refused_idle, refused_measured, refused_barred, refused_ended}
 
@@ -32,11 +31,11 @@ refused_status (Damaged spot) = tt
 refused_status DiskFault = tt
 refused_status NoMemory = tt
 
-refused_left : {old new : Meaning} (fault : OpenFault) → OpenLeft old new (Err fault) → UpgradeLeaves old new (status_of fault)
-refused_left (TooShort len need) left = left
-refused_left (Damaged spot) left = left
-refused_left DiskFault left = left
-refused_left NoMemory left = left
+refused_left : (old new : Meaning) (fault : OpenFault) → OpenLeft old new (Err fault) → UpgradeLeaves old new (status_of fault)
+refused_left old new (TooShort len need) left = left
+refused_left old new (Damaged spot) left = left
+refused_left old new DiskFault left = left
+refused_left old new NoMemory left = left
 
 pub upgrade_done : {old new : Meaning} {unmoved : Type 0} (done : Unit {0}) → Opening old new unmoved (Ok done) → (IsTrue old.is_honest → UpgradeEnded old new (Ok done))
     → (IsTrue old.is_honest → GateLeft old new)
@@ -65,7 +64,7 @@ pub upgrade_refused : {old new : Meaning} {unmoved : Type 0} {status : Status} (
 upgrade_refused {old} {new} {unmoved} fault is opening ended left moments = subst (UpgradeKeeps unmoved old new) (sym is) (record {
   only = refused_status fault;
   run = opening.run;
-  left = λ honest. refused_left fault (left honest);
+  left = λ honest. refused_left old new fault (left honest);
   ended = λ state entry. refused_ended (Upgraded state new) fault opening (ended entry.honest) state entry.honest entry.stands tt (λ stands. stands);
   moments = λ state entry. moments state entry.honest entry.stands;
   settled_moments = λ state entry settled. settled_moments state entry.stands settled (moments state entry.honest entry.stands);

@@ -157,7 +157,7 @@ fn upgrade_image<T: Station>(alloc: Global, station: &mut T) -> Status
     }
 }
 
-// What the end of such a session is to the program.
+// What the end of a large session is to the program.
 fn grow_status(ended: Result<(), End>) -> Status
     ensures { result ≡ grow_status ended }
 {
