@@ -1,5 +1,8 @@
 mod Forms
 mod Going
 mod Served
+mod Refused
 mod Opened
 mod Grown
+mod Upgraded
+mod Tasks

@@ -1,5 +1,5 @@
 -- How a large session that is made of a number ends, and a run of the program with it on an image.
-use Rattle.std.specs.Prelude.{◌≡◌, ◌⊎◌, ℕ, List, Option, IsTrue}
+use Rattle.std.specs.Prelude.{◌≡◌, ◌⊎◌, ℕ, List, Option, Result, Ok, Err, IsTrue}
 use Rattle.lis_ports.specs.Meaning.{Meaning, Now}
 use Rattle.lis_ports.specs.Runs.{Adds}
 use Rattle.lis_ports.specs.Since.{Begins, Since}
@@ -7,6 +7,8 @@ use Rattle.lis_model.specs.State.{State}
 use Rattle.lis_model.specs.Step.{Item}
 use Rattle.lis_store.specs.Stands.{Stands}
 use Rattle.lis_session.specs.Session.{root_of}
+use Rattle.lis_session.specs.declared.end.End.{End}
+use Rattle.lis_session.specs.declared.end.End.TheVariants.{DiskFault as EndDisk, OutputFault as EndOutput}
 use Rattle.lis_grow.specs.Session.{GrowMoment, GrewAll, summary}
 use Rattle.lis_shell.specs.declared.status.Status.{Status}
 use Rattle.lis_shell.specs.declared.status.Status.TheVariants.{Done, Usage, NotAnImage, TooShort, DiskFault, InputFault, OutputFault, InputLimit, NoMemory}
@@ -22,6 +24,12 @@ IsGrowStatus InputFault = ⊥
 IsGrowStatus OutputFault = Unit {0}
 IsGrowStatus InputLimit = ⊥
 IsGrowStatus NoMemory = Unit {0}
+
+-- what the end of the session is to the program
+abbrev pub grow_status : Result (Unit {0}) End → Status
+grow_status (Ok done) = Done
+grow_status (Err EndDisk) = DiskFault
+grow_status (Err EndOutput) = OutputFault
 
 -- How it ended on an image that stands for a state. There may be no memory at its opening, and then nothing was shown.
 abbrev pub GrowRan : State → List Item → Option (List ℕ) → Meaning → Status → Type 0

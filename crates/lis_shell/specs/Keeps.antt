@@ -1,7 +1,7 @@
 -- What each task keeps. `untouched` says that no input was taken, and `unmoved` that the station is as it was.
-use Rattle.std.specs.Prelude.{◌≡◌, ◌⊎◌, ℕ, ◌<◌, ◌^◌, List, Option, Some, IsTrue}
+use Rattle.std.specs.Prelude.{◌≡◌, ◌↔◌, ◌⊎◌, ℕ, ◌<◌, ◌^◌, List, Option, Some, None, IsTrue}
 use Rattle.lis_ports.specs.Meaning.{Meaning}
-use Rattle.lis_ports.specs.Calls.{IsShowCall}
+use Rattle.lis_ports.specs.Calls.{IsShowCall, IsUnchanged}
 use Rattle.lis_ports.specs.Runs.{IsDiskRun, Leaves, IsSettled, Always}
 use Rattle.lis_journal.specs.Record.{block}
 use Rattle.lis_journal.specs.Images.{KeepsPast}
@@ -13,11 +13,14 @@ use Rattle.lis_model.specs.State.{State}
 use Rattle.lis_model.specs.Step.{Situation, start_of}
 use Rattle.lis_store.specs.Stands.{Stands}
 use Rattle.lis_open.specs.Makes.{InMaking, IsSettledAt, IsSpare}
-use Rattle.lis_open.specs.Upgrades.{upgraded}
+use Rattle.lis_open.specs.Opens.{RefusedLeft}
+use Rattle.lis_open.specs.Upgrades.{upgraded, GateLeft}
 use Rattle.lis_session.specs.Runs.{RunsImage}
 use Rattle.lis_grow.specs.Session.{grow_items}
 use Rattle.lis_shell.specs.declared.status.Status.{Status}
 use Rattle.lis_shell.specs.declared.status.Status.TheVariants.{Done, Usage, NotAnImage, TooShort, DiskFault, InputFault, OutputFault, InputLimit, NoMemory}
+use Rattle.lis_shell.specs.declared.words.Task.{Task}
+use Rattle.lis_shell.specs.declared.words.Task.TheVariants.{Try, Make, Run, Upgrade, Grow}
 use Rattle.lis_shell.specs.Causes.{IsTryStatus}
 use Rattle.lis_shell.specs.Tries.{Tries}
 use Rattle.lis_shell.specs.MakesImage.{MadeImage}
@@ -83,16 +86,57 @@ Upgraded state new InputFault = ⊥
 Upgraded state new OutputFault = ⊥
 Upgraded state new InputLimit = ⊥
 
--- `upgrade`: with nothing unsynced at entry each moment stands for the state of entry, or for the same in version 2; and it is the latter that
--- every image stands for at its end. What lies past the image stays; where the disk failed, if a crash at entry left it as it read. An image
--- that stands for no state is refused as `run` refuses it.
+-- The statuses of an upgrade: those of opening, and Done. It takes no input and shows nothing.
+abbrev pub IsUpgradeStatus : Status → Type 0
+IsUpgradeStatus Done = Unit {0}
+IsUpgradeStatus (NotAnImage spot) = Unit {0}
+IsUpgradeStatus (TooShort len need) = Unit {0}
+IsUpgradeStatus DiskFault = Unit {0}
+IsUpgradeStatus NoMemory = Unit {0}
+IsUpgradeStatus Usage = ⊥
+IsUpgradeStatus InputFault = ⊥
+IsUpgradeStatus OutputFault = ⊥
+IsUpgradeStatus InputLimit = ⊥
+
+-- What it leaves, byte for byte: what opening leaves, and when it is done its gate put. Where there is no memory the station is as it was.
+abbrev pub UpgradeLeaves : Meaning → Meaning → Status → Type 0
+UpgradeLeaves old new Done = GateLeft old new
+UpgradeLeaves old new (NotAnImage spot) = RefusedLeft old new
+UpgradeLeaves old new (TooShort len need) = IsUnchanged old new
+UpgradeLeaves old new DiskFault = Unit {0}
+UpgradeLeaves old new NoMemory = IsUnchanged old new
+UpgradeLeaves old new Usage = ⊥
+UpgradeLeaves old new InputFault = ⊥
+UpgradeLeaves old new OutputFault = ⊥
+UpgradeLeaves old new InputLimit = ⊥
+
+-- the image stands for the state, or for the same in version 2
+abbrev pub UpgradeMoment : State → List ℕ → Type 0
+UpgradeMoment state image = Stands image state ⊎ Stands image (upgraded state)
+
+-- `upgrade`: each moment stands for the state of entry, or for the same in version 2, or is an image that a crash could have left at entry;
+-- with nothing unsynced then, it is one of the first two. At its end every image stands for the state in version 2. What lies past the image
+-- stays; where the disk failed, if a crash at entry left it as it read. An image that stands for no state is refused as `run` refuses it.
 pub record UpgradeKeeps (unmoved : Type 0) (old new : Meaning) (status : Status) : Type 0 where
+  pub only : IsUpgradeStatus status
   pub run : IsDiskRun old new
   pub ended : (state : State) → GrowEntry old state → Upgraded state new status
-  pub moments : (state : State) → GrowEntry old state → IsSettled old old.bytes → Leaves old new (λ image. Stands image state ⊎ Stands image (upgraded state))
+  pub left : IsTrue old.is_honest → UpgradeLeaves old new status
+  pub moments : (state : State) → GrowEntry old state → Leaves old new (λ image. old.images image ⊎ UpgradeMoment state image)
+  pub settled_moments : (state : State) → GrowEntry old state → IsSettled old old.bytes → Leaves old new (UpgradeMoment state)
   pub past : (state : State) → GrowEntry old state
       → (status ≡ DiskFault → IsSettledPast (image_blocks state.limits) old) → KeepsPast (image_blocks state.limits) old new
   pub judged : IsTrue old.is_honest → IsJudged old status
   pub idle : IsIdle (Unit {0}) old new status
   pub measured : IsMeasured old status unmoved
   pub barred : IsTrue old.is_honest → ((state : State) → Stands old.bytes state → ⊥) → Barred old new status
+
+-- what is kept by the words of the command line, by the task that they ask for
+pub record TaskKeeps (task : Option Task) (untouched unmoved : Type 0) (left left_after : Option (List ℕ)) (old new : Meaning) (status : Status) : Type 0 where
+  pub usage : (status ≡ Usage) ↔ (task ≡ None)
+  pub unused : status ≡ Usage → untouched × unmoved
+  pub tries : (limits : Limits) → task ≡ Some (Try limits) → TryKeeps limits left left_after old new status
+  pub makes : (limits : Limits) → task ≡ Some (Make limits) → MakeKeeps limits unmoved old new status × untouched
+  pub runs : task ≡ Some Run → RunKeeps untouched unmoved left left_after old new status
+  pub grows : (n : ℕ) → task ≡ Some (Grow n) → GrowKeeps n unmoved old new status × untouched
+  pub upgrades : task ≡ Some Upgrade → UpgradeKeeps unmoved old new status × untouched

@@ -26,6 +26,11 @@ task_of_five word second third fourth last =
     else if same_word word (codes "try") && same_word last (codes "v2") then option_map Try (limits_of 2 second third fourth)
     else None
 
+-- `make` with an image, three limits and `v2`
+abbrev pub task_of_six : List ℕ → List ℕ → List ℕ → List ℕ → List ℕ → Option Task
+task_of_six word files props blocks last =
+    if same_word word (codes "make") && same_word last (codes "v2") then option_map Make (limits_of 2 files props blocks) else None
+
 -- `run` or `upgrade`
 abbrev pub task_of_two : List ℕ → Option Task
 task_of_two word = if same_word word (codes "run") then Some Run else if same_word word (codes "upgrade") then Some Upgrade else None
@@ -39,8 +44,7 @@ task_of (word ∷ image ∷ []) = task_of_two word
 task_of (word ∷ image ∷ number ∷ []) = if same_word word (codes "grow") then option_map Grow (grow_number_of number) else None
 task_of (word ∷ files ∷ props ∷ blocks ∷ []) = if same_word word (codes "try") then option_map Try (limits_of 1 files props blocks) else None
 task_of (word ∷ second ∷ third ∷ fourth ∷ last ∷ []) = task_of_five word second third fourth last
-task_of (word ∷ image ∷ files ∷ props ∷ blocks ∷ last ∷ []) =
-    if same_word word (codes "make") && same_word last (codes "v2") then option_map Make (limits_of 2 files props blocks) else None
+task_of (word ∷ image ∷ files ∷ props ∷ blocks ∷ last ∷ []) = task_of_six word files props blocks last
 task_of (word ∷ second ∷ third ∷ fourth ∷ last ∷ more ∷ one ∷ words) = None
 
 -- how many bytes an image takes that is to be made

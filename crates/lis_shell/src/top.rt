@@ -16,8 +16,8 @@ ghost use Rattle.lis_shell.specs.Words.{task_of};
 ghost use Rattle.lis_shell.specs.declared.words.Task.TheVariants.{Try, Make, Run, Upgrade, Grow};
 ghost use Rattle.lis_shell.specs.Causes.{counts, HasStatusCause, status_of};
 ghost use Rattle.lis_shell.specs.Runs.{IsSessionStatus, Entry, Ran, NoFault, IsComplete, InputRead};
-ghost use Rattle.lis_shell.specs.Grows.{IsGrowStatus, GrowRan, GrowHeadline, GrowEntry, IsGrown};
-ghost use Rattle.lis_shell.specs.Keeps.{TryKeeps, MakeKeeps, RunKeeps, GrowKeeps, UpgradeKeeps};
+ghost use Rattle.lis_shell.specs.Grows.{IsGrowStatus, grow_status, GrowRan, GrowHeadline, GrowEntry, IsGrown};
+ghost use Rattle.lis_shell.specs.Keeps.{TryKeeps, MakeKeeps, RunKeeps, GrowKeeps, UpgradeKeeps, TaskKeeps};
 
 use crate::serving::serve;
 use crate::session::try_session;
@@ -78,6 +78,12 @@ fn session_over(alloc: Global, store: &Store) -> Result<(Session, Payload), Allo
     Ok((session, payload))
 }
 
+// Gives back the memory of a store. It has many parts, so that this takes long to check where a contract looks on.
+fn end_store(_store: Store) {}
+
+// Gives back the memory of a session.
+fn end_session(_session: Session, _payload: Payload) {}
+
 // Carries out the items of the input on an opened image.
 fn run_store<S: Source, T: Station>(
     alloc: Global,
@@ -98,16 +104,20 @@ fn run_store<S: Source, T: Station>(
         (Ran state (2 ^ 40) bytes (S.left input.new) (T.meaning station.old).shown (T.meaning station.new) result) }
 {
     let Ok((mut session, mut payload)) = session_over(alloc, &store) else {
+        end_store(store);
         return Status::NoMemory;
     };
-    serve(
+    let status = serve(
         &mut store,
         &mut session,
         &mut payload,
         input,
         station,
         INPUT_LIMIT,
-    )
+    );
+    end_session(session, payload);
+    end_store(store);
+    status
 }
 
 // What a refusal of opening is to the program.
@@ -147,6 +157,17 @@ fn upgrade_image<T: Station>(alloc: Global, station: &mut T) -> Status
     }
 }
 
+// What the end of a large session is to the program.
+fn grow_status(ended: Result<(), End>) -> Status
+    ensures { result ≡ grow_status ended }
+{
+    match ended {
+        Ok(()) => Status::Done,
+        Err(End::DiskFault) => Status::DiskFault,
+        Err(End::OutputFault) => Status::OutputFault,
+    }
+}
+
 // Carries out the session that is made of the number on an opened image.
 fn grow_store<T: Station>(alloc: Global, mut store: Store, station: &mut T, n: u32) -> Status
     requires unbroken { store.is_broken ≡ false }
@@ -161,13 +182,13 @@ fn grow_store<T: Station>(alloc: Global, mut store: Store, station: &mut T, n: u
         (GrowRan state (grow_items n) (T.meaning station.old).shown (T.meaning station.new) result) }
 {
     let Ok((mut session, mut payload)) = session_over(alloc, &store) else {
+        end_store(store);
         return Status::NoMemory;
     };
-    match grow_session(&mut store, &mut session, &mut payload, station, n) {
-        Ok(()) => Status::Done,
-        Err(End::DiskFault) => Status::DiskFault,
-        Err(End::OutputFault) => Status::OutputFault,
-    }
+    let ended = grow_session(&mut store, &mut session, &mut payload, station, n);
+    end_session(session, payload);
+    end_store(store);
+    grow_status(ended)
 }
 
 // Opens the image, and carries out the session that is made of the number on it.
@@ -179,6 +200,30 @@ fn grow_image<T: Station>(alloc: Global, station: &mut T, n: u32) -> Status
     match mount(alloc, station) {
         Ok(store) => grow_store(alloc, store, station, n),
         Err(fault) => status_of(fault),
+    }
+}
+
+// Carries out the task that the words ask for, if any.
+fn carry_task<S: Source, T: Station>(
+    alloc: Global,
+    task: Option<Task>,
+    input: &mut S,
+    station: &mut T,
+) -> Status
+    requires range { (limits : LimitsOf) → task ≡ Some (Make limits) → IsTrue (are_in_range limits) }
+    ensures same { IsSameStation (T.meaning station.old) (T.meaning station.new) }
+    ensures cause { HasStatusCause (counts (T.meaning station.old) (S.faults input.old)) (counts (T.meaning station.new) (S.faults input.new)) result }
+    ensures few { TakesFew (2 ^ 40) (S.left input.old) (S.left input.new) }
+    ensures keeps { TaskKeeps task (input.new ≡ input.old) (station.new ≡ station.old) (S.left input.old) (S.left input.new)
+        (T.meaning station.old) (T.meaning station.new) result }
+{
+    match task {
+        None => Status::Usage,
+        Some(Task::Try(limits)) => try_from_empty(alloc, &limits, input, station),
+        Some(Task::Make(limits)) => make_image(&limits, station),
+        Some(Task::Run) => run_image(alloc, input, station),
+        Some(Task::Upgrade) => upgrade_image(alloc, station),
+        Some(Task::Grow(n)) => grow_image(alloc, station, n),
     }
 }
 
@@ -236,18 +281,12 @@ pub fn lisfs<S: Source, T: Station>(
         → MakeKeeps limits (station.new ≡ station.old) (T.meaning station.old) (T.meaning station.new) result × (input.new ≡ input.old) }
     ensures runs { task_of (map string_bytes words.now) ≡ Some Run
         → RunKeeps (input.new ≡ input.old) (station.new ≡ station.old) (S.left input.old) (S.left input.new)
-            (T.meaning station.old) (T.meaning station.new) result }
+        (T.meaning station.old) (T.meaning station.new) result }
     ensures grows { (n : ℕ) → task_of (map string_bytes words.now) ≡ Some (Grow n)
         → GrowKeeps n (station.new ≡ station.old) (T.meaning station.old) (T.meaning station.new) result × (input.new ≡ input.old) }
     ensures upgrades { task_of (map string_bytes words.now) ≡ Some Upgrade
         → UpgradeKeeps (station.new ≡ station.old) (T.meaning station.old) (T.meaning station.new) result × (input.new ≡ input.old) }
 {
-    match task_of(words) {
-        None => Status::Usage,
-        Some(Task::Try(limits)) => try_from_empty(alloc, &limits, input, station),
-        Some(Task::Make(limits)) => make_image(&limits, station),
-        Some(Task::Run) => run_image(alloc, input, station),
-        Some(Task::Upgrade) => upgrade_image(alloc, station),
-        Some(Task::Grow(n)) => grow_image(alloc, station, n),
-    }
+    let task = task_of(words);
+    carry_task(alloc, task, input, station)
 }

@@ -3,7 +3,7 @@
 ghost use Rattle.std.specs.Prelude.{◌≡◌, map};
 ghost use Rattle.std.specs.String.{string_bytes};
 ghost use Rattle.lis_words.specs.Words.{same_word};
-ghost use Rattle.lis_shell.specs.Words.{limits_of, grow_number_of, task_of_two, task_of_five, task_of, length_for};
+ghost use Rattle.lis_shell.specs.Words.{limits_of, grow_number_of, task_of_two, task_of_five, task_of_six, task_of, length_for};
 
 use lis_model::limits::{Limits, image_blocks, is_blocks_limit, is_files_limit, is_props_limit};
 use lis_words::read_count;
@@ -103,6 +103,25 @@ fn task_of_five(
     Some(Task::Try(limits))
 }
 
+fn task_of_six(
+    word: &String,
+    files: &String,
+    props: &String,
+    blocks: &String,
+    last: &String,
+) -> Option<Task>
+    ensures { result ≡ task_of_six (string_bytes word.now) (string_bytes files.now) (string_bytes props.now) (string_bytes blocks.now) (string_bytes last.now) }
+{
+    if !is_word(word, b"make") {
+        return None;
+    }
+    if !is_word(last, b"v2") {
+        return None;
+    }
+    let limits = limits_of(2, files.as_bytes(), props.as_bytes(), blocks.as_bytes())?;
+    Some(Task::Make(limits))
+}
+
 /// What the words after the program's name ask for. None comes exactly where they are in none of the forms, or a number is out of range.
 pub fn task_of(words: &[String]) -> Option<Task>
     ensures { result ≡ task_of (map string_bytes words.now) }
@@ -124,16 +143,7 @@ pub fn task_of(words: &[String]) -> Option<Task>
             Some(Task::Try(limits))
         }
         [word, second, third, fourth, last] => task_of_five(word, second, third, fourth, last),
-        [word, _, files, props, blocks, last] => {
-            if !is_word(word, b"make") {
-                return None;
-            }
-            if !is_word(last, b"v2") {
-                return None;
-            }
-            let limits = limits_of(2, files.as_bytes(), props.as_bytes(), blocks.as_bytes())?;
-            Some(Task::Make(limits))
-        }
+        [word, _, files, props, blocks, last] => task_of_six(word, files, props, blocks, last),
         _ => None,
     }
 }
