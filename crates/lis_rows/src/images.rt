@@ -36,6 +36,9 @@ pub fn run(alloc: Global, row: &str, station: &mut MemStation) -> Result<Status,
 /// The bytes of a station.
 pub fn bytes_of(alloc: Global, station: &mut MemStation) -> Result<Vec<u8>, Fail> {
     let mut bytes = zeros(alloc, station.len() as usize)?;
+    if station.len() < bytes.len() as u64 {
+        return Err("the image is too short".into());
+    }
     station.read_at(0, &mut bytes)?;
     Ok(bytes)
 }
