@@ -1,5 +1,8 @@
 //! Large files in images, and images of version 1 that become images of version 2.
 
+ghost use Rattle.std.specs.Prelude.{◌≡◌, IfOk, IsTrue};
+ghost use Rattle.lis_memdisk.specs.MemStation.{meaning_of};
+
 use crate::images::{bytes_of, made, run, session, shown_behind};
 use crate::tests::tables::LARGE_FILES;
 use crate::tests::{SOUND, call, files_row, push_file, row_of};
@@ -25,7 +28,9 @@ fn making(alloc: Global, words: &'static [&'static str]) -> Result<Vec<&'static 
     Ok(made)
 }
 
-fn upgrade(alloc: Global, station: &mut MemStation) -> Result<(Status, usize), AllocError> {
+fn upgrade(alloc: Global, station: &mut MemStation) -> Result<(Status, usize), AllocError>
+    ensures recorded { (meaning_of station.new).is_recorded ≡ (meaning_of station.old).is_recorded }
+{
     call(alloc, &["upgrade", "i"], "mkdir a;", &SOUND, station)
 }
 
@@ -79,16 +84,41 @@ fn an_upgraded_image_takes_larger_files(rt: HostRuntime) -> Result<(), Fail> {
     Ok(())
 }
 
+// A station on which such an image became one of version 2.
+fn recorded(alloc: Global) -> Result<MemStation, Fail>
+    ensures { IfOk result (λ station. IsTrue (meaning_of station).is_recorded) }
+{
+    let mut station = MemStation::new(alloc, &refused(alloc)?, ROOM)?;
+    let (status, _) = upgrade(alloc, &mut station)?;
+    if status != Status::Done {
+        return Err("the image was not upgraded".into());
+    }
+    Ok(station)
+}
+
+// How a session that looks ends on what a crash just after the call leaves, and what it shows.
+fn left_by(
+    alloc: Global,
+    station: &MemStation,
+    call: u64,
+    pick: u8,
+) -> Result<(Status, String), Fail>
+    requires { IsTrue (meaning_of station.now).is_recorded }
+{
+    if call > station.calls() {
+        return Err("there was no such call".into());
+    }
+    let image = station.crash(alloc, call, pick)?;
+    Ok(session(alloc, &image, "ls;")?)
+}
+
 #[test]
 fn a_crash_of_an_upgrade_leaves_an_image_that_opens(rt: HostRuntime) -> Result<(), Fail> {
     let alloc = rt.alloc();
-    let mut station = MemStation::new(alloc, &refused(alloc)?, ROOM)?;
-    let (status, _) = upgrade(alloc, &mut station)?;
-    assert_eq!(rt; status, Status::Done);
+    let station = recorded(alloc)?;
     for call in 0..=station.calls() {
         for pick in [0, 1, 2, 165] {
-            let image = station.crash(alloc, call, pick)?;
-            let (status, shown) = session(alloc, &image, "ls;")?;
+            let (status, shown) = left_by(alloc, &station, call, pick)?;
             assert_eq!(rt; status, Status::Done, "the call {call} and the pick {pick}");
             assert_eq!(rt;
                 shown.as_str(),
