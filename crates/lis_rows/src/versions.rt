@@ -7,6 +7,7 @@ use crate::images::{bytes_of, made, run, session, shown_behind};
 use crate::tests::tables::LARGE_FILES;
 use crate::tests::{SOUND, call, files_row, push_file, row_of};
 use lis_memdisk::MemStation;
+use lis_model::spot::Spot;
 use lis_shell::status::Status;
 use std::alloc::{AllocError, Global};
 use std::test::Fail;
@@ -16,6 +17,66 @@ static SMALL: [&str; 5] = ["make", "i", "64", "64", "40"];
 
 /// Room for the record of an upgrade.
 const ROOM: u64 = 1 << 20;
+
+/// How many bytes a block has.
+const BLOCK_LEN: usize = 4_096;
+
+/// Where such an image has its first file slot, and its first data block.
+const FILES_START: usize = 580 * BLOCK_LEN;
+
+const DATA_START: usize = 586 * BLOCK_LEN;
+
+/// Where a file slot has its first block number.
+const NUMBERS_AT: usize = 100;
+
+/// How many bytes a file slot has.
+const FILE_LEN: usize = 256;
+
+/// A place of an image with a file above 65,536 bytes in slot 0, and a small one in slot 1: in the super block, in a file slot, or in
+/// the index block of the first file.
+#[derive(Clone, Copy, Debug)]
+enum Place {
+    Super(usize),
+    Slot(usize, usize),
+    Index(usize),
+}
+
+/// What is written there.
+#[derive(Clone, Copy, Debug)]
+enum Written {
+    /// These two bytes.
+    Bytes([u8; 2]),
+    /// The number of the index block.
+    IndexNumber,
+    /// The first block number of the small file.
+    SmallNumber,
+    /// The first number in the index block.
+    FirstNumber,
+}
+
+/// Damages of such an image, and where the first check fails.
+static DAMAGES: [(Place, Written, Spot); 9] = [
+    // Something behind the numbers.
+    (Place::Index(34), Written::Bytes([1, 0]), Spot::File(0)),
+    (Place::Index(4_094), Written::Bytes([0, 1]), Spot::File(0)),
+    // A number that no block has, and the numbers of blocks that are used already.
+    (Place::Index(32), Written::Bytes([40, 0]), Spot::File(0)),
+    (Place::Index(2), Written::FirstNumber, Spot::File(0)),
+    (Place::Index(0), Written::IndexNumber, Spot::File(0)),
+    (Place::Index(0), Written::SmallNumber, Spot::File(1)),
+    (
+        Place::Slot(0, NUMBERS_AT),
+        Written::Bytes([40, 0]),
+        Spot::File(0),
+    ),
+    (
+        Place::Slot(0, NUMBERS_AT + 2),
+        Written::Bytes([1, 0]),
+        Spot::File(0),
+    ),
+    // In version 1 a file has not so many bytes.
+    (Place::Super(24), Written::Bytes([255, 0]), Spot::File(0)),
+];
 
 // The words that make an image for a session with these limits.
 fn making(alloc: Global, words: &'static [&'static str]) -> Result<Vec<&'static str>, AllocError> {
@@ -126,6 +187,109 @@ fn a_crash_of_an_upgrade_leaves_an_image_that_opens(rt: HostRuntime) -> Result<(
                 "the call {call} and the pick {pick}"
             );
         }
+    }
+    Ok(())
+}
+
+// The bytes of an image of version 2 with a file above 65,536 bytes and a small one. It has nothing left to bring home.
+fn with_files(alloc: Global) -> Result<Vec<u8>, Fail> {
+    let words = ["make", "i", "64", "64", "40", "v2"];
+    let mut station = MemStation::new(alloc, &made(alloc, &words)?, 0)?;
+    let row = files_row(alloc, &[("a", 65_537), ("b", 1)], "")?;
+    for row in [row.as_str(), ""] {
+        if run(alloc, row, &mut station)? != Status::Done {
+            return Err("the session did not end".into());
+        }
+    }
+    bytes_of(alloc, &mut station)
+}
+
+// The two bytes there; zeros where there are none.
+fn pair_at(image: &[u8], at: usize) -> [u8; 2] {
+    match image.get(at..) {
+        Some([low, high, ..]) => [*low, *high],
+        _ => [0; 2],
+    }
+}
+
+// Where the index block of the first file begins.
+fn index_at(image: &[u8]) -> usize {
+    let number = u16::from_le_bytes(pair_at(image, FILES_START + NUMBERS_AT));
+    DATA_START + BLOCK_LEN * usize::from(number)
+}
+
+fn address(image: &[u8], place: Place) -> usize {
+    match place {
+        Place::Super(at) => at,
+        Place::Slot(slot, at) => FILES_START
+            .saturating_add(slot.saturating_mul(FILE_LEN))
+            .saturating_add(at),
+        Place::Index(at) => index_at(image).saturating_add(at),
+    }
+}
+
+fn bytes_for(image: &[u8], what: Written) -> [u8; 2] {
+    match what {
+        Written::Bytes(bytes) => bytes,
+        Written::IndexNumber => pair_at(image, FILES_START + NUMBERS_AT),
+        Written::SmallNumber => pair_at(image, FILES_START + FILE_LEN + NUMBERS_AT),
+        Written::FirstNumber => pair_at(image, index_at(image)),
+    }
+}
+
+fn put(bytes: &mut Vec<u8>, at: usize, value: u8) -> bool {
+    match bytes.get_mut(at) {
+        None => false,
+        Some(place) => {
+            *place = value;
+            true
+        }
+    }
+}
+
+// Writes this there, by the numbers of the image as it was.
+fn damage(image: &[u8], bytes: &mut Vec<u8>, place: Place, what: Written) -> bool {
+    let at = address(image, place);
+    let [low, high] = bytes_for(image, what);
+    put(bytes, at, low) && put(bytes, at.saturating_add(1), high)
+}
+
+#[test]
+fn damaged_index_blocks_are_named(rt: HostRuntime) -> Result<(), Fail> {
+    let alloc = rt.alloc();
+    let image = with_files(alloc)?;
+    let (status, _) = session(alloc, &image, "ls;")?;
+    assert_eq!(rt; status, Status::Done);
+    for (place, what, spot) in &DAMAGES {
+        let mut bytes = image.clone()?;
+        assert!(rt; damage(&image, &mut bytes, *place, *what), "{place:?}");
+        let (status, shown) = session(alloc, &bytes, "ls;")?;
+        assert_eq!(rt; status, Status::NotAnImage(*spot), "{place:?} {what:?}");
+        assert!(rt; shown.is_empty(), "{place:?} {what:?}");
+    }
+    Ok(())
+}
+
+// Every value of the gate of a version but one is version 1, and an image without large files opens as either.
+#[test]
+fn the_gate_of_a_version_may_have_any_value(rt: HostRuntime) -> Result<(), Fail> {
+    let alloc = rt.alloc();
+    let image = made(alloc, &SMALL)?;
+    for gate in [0, 1, 2, 3, 165, 255] {
+        let mut bytes = image.clone()?;
+        match bytes.get_mut(24) {
+            None => return Err("there is no gate".into()),
+            Some(place) => *place = gate,
+        }
+        let row = files_row(alloc, &[("a", 65_537)], "")?;
+        let (status, shown) = session(alloc, &bytes, row.as_str())?;
+        let wanted = if gate == 2 {
+            "ok;"
+        } else {
+            "no 20 file too large;"
+        };
+        assert_eq!(rt; status, Status::Done, "{gate}");
+        assert_eq!(rt; shown.as_str(), wanted, "{gate}");
     }
     Ok(())
 }
