@@ -85,7 +85,7 @@ const SOURCE: &[Change] = &[
 const DAMAGES: &[(&[Change], Spot)] = &[
     (&[(8, b"\x09")], Spot::Super),
     (&[(12, b"\x3f")], Spot::Super),
-    (&[(24, b"\x02")], Spot::Super),
+    (&[(25, b"\x01")], Spot::Super),
     (&[(4_095, b"\x01")], Spot::Super),
     (&[(GATES, b"\x01")], Spot::BadRecord(2)),
     // a whole record of one block, and none behind it
