@@ -1,8 +1,8 @@
 -- What a crash leaves of a range, byte by byte.
-use Rattle.std.proofs.Common.{◌≡◌, ℕ, ◌+◌, ◌<◌, ◌≤◌, List, [], ◌∷◌, ◌++◌, length, get_or, take, drop, refl, sym, ◌∙◌, ap, arith, zero, suc, append_assoc}
-use Rattle.std.proofs.lemmas.List.{ext_get_or, drop-drop}
+use Rattle.std.proofs.Common.{◌≡◌, ℕ, ◌+◌, ◌<◌, ◌≤◌, List, [], ◌∷◌, ◌++◌, length, get_or, take, drop, refl, sym, ◌∙◌, ap, arith, zero, suc}
+use Rattle.std.proofs.lemmas.List.{ext_get_or}
 use Rattle.lis_ports.specs.Bytes.{part, put}
-use Rattle.lis_ports.proofs.Parts.{length-part}
+use Rattle.lis_ports.proofs.Parts.{length-part, put_between}
 use Rattle.lis_memdisk.specs.Changes.{picked, picked_byte}
 
 pub length-picked : (pick at : ℕ) (new old : List ℕ) → length new ≡ length old → length (picked pick at new old) ≡ length new
@@ -26,13 +26,6 @@ pub picked_whole : (pick at : ℕ) (new old all : List ℕ) → length new ≡ l
 picked_whole pick at new old all same len each =
     ext_get_or 0 all (picked pick at new old) (len ∙ sym (length-picked pick at new old same))
     (λ k lt. each k (omega (arith, lt, len)) ∙ sym (picked-at pick at new old k same (omega (arith, lt, len))))
-
--- the front, the new bytes and the rest of what stood behind the front
-pub put_between : (xs : List ℕ) (at : ℕ) (bytes : List ℕ) → take at xs ++ (bytes ++ drop (length bytes) (drop at xs)) ≡ put xs at bytes
-unfolding put
-put_between xs at bytes =
-    sym (append_assoc (take at xs) bytes (drop (length bytes) (drop at xs)))
-    ∙ ap (λ ys. take at xs ++ bytes ++ ys) (drop-drop (length bytes) at xs)
 
 -- the same for the picked bytes of the range
 pub put_picked : (pick at : ℕ) (bytes xs : List ℕ) → at + length bytes ≤ length xs → take at xs ++ (picked pick at bytes (take (length bytes) (drop at xs)) ++ drop (length bytes) (drop at xs)) ≡ put xs at (picked pick at bytes (part at (length bytes) xs))

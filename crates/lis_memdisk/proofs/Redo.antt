@@ -1,8 +1,8 @@
 -- Walking through a record up to a call of the disk.
-use Rattle.std.proofs.Common.{◌≡◌, ℕ, ◌+◌, ◌<◌, ◌≤◌, Bool, true, false, List, [], ◌∷◌, length, get_or, drop, IsTrue, refl, sym, ◌∙◌, ap, subst, arith, length-append}
+use Rattle.std.proofs.Common.{◌≡◌, ℕ, ◌+◌, ◌<◌, ◌≤◌, Bool, true, false, List, [], ◌∷◌, length, get_or, drop, IsTrue, sym, ◌∙◌, ap, subst, arith, length-append}
 use Rattle.std.specs.List.{list_all}
 use Rattle.std.proofs.lemmas.Bool.{and_parts, leb-true, cond-true, cond-false}
-use Rattle.std.proofs.lemmas.List.{drop_more, drop_all}
+use Rattle.std.proofs.lemmas.List.{drop_more}
 use Rattle.lis_ports.proofs.Parts.{length-part}
 use Rattle.lis_memdisk.specs.declared.event.Kind.{Kind}
 use Rattle.lis_memdisk.specs.declared.event.Kind.TheVariants.{Write, Sync, Show}
@@ -10,7 +10,7 @@ use Rattle.lis_memdisk.specs.declared.event.Event.{Event}
 use Rattle.lis_memdisk.specs.Changes.{Deed, Change, State, fresh, after, replay, state_at, had_happened, IsAt}
 use Rattle.lis_memdisk.specs.Changes.Deed.{Writes, Syncs, Shows}
 use Rattle.lis_memdisk.specs.Seen.{is_within}
-use Rattle.lis_memdisk.specs.Event.{deed_of, change_of, changes_of, has_bytes, has_given, all_stored, spanned, shown_len}
+use Rattle.lis_memdisk.specs.Event.{deed_of, change_of, changes_of, has_bytes, all_stored, spanned, shown_len}
 
 -- what is left of the record leads from this state to the same ends
 pub record Redoing (start given shown : List ℕ) (events : List Event) (call : ℕ) (rest : List Event) (state : State) : Type 0 where
@@ -58,22 +58,6 @@ stopped_at start given shown events items call k d had state same lt is_had unha
 pub went_on : (start given shown : List ℕ) (events items : List Event) (call k : ℕ) (d : Event) (had : Bool) (state : State) → items ≡ events → k < length items → had ≡ had_happened call (change_of given shown (get_or items k d)) → had ≡ true → Redoing start given shown events call (drop k events) state → Redoing start given shown events call (drop (k + 1) events) (after state (deed_of given shown (get_or items k d).kind))
 went_on start given shown events items call k d had state same lt is_had had_it so_far =
     (turn_at start given shown events items call k d state same lt so_far).on (sym is_had ∙ had_it)
-
--- at the end of the list
-pub done_at : (start given shown : List ℕ) (events : List Event) (call k : ℕ) (state : State) → length events ≤ k → Redoing start given shown events call (drop k events) state → state ≡ state_at (fresh start) call (changes_of given shown events)
-done_at start given shown events call k state le so_far =
-    (subst (λ rest. Redoing start given shown events call rest state) (drop_all k events le) so_far).ends
-
-pub has_given-has_bytes : (g s : ℕ) (kind : Kind) → IsTrue (has_bytes g s kind) → IsTrue (has_given g kind)
-has_given-has_bytes g s (Write place span) has = has
-has_given-has_bytes g s Sync has = refl
-has_given-has_bytes g s (Show span) has = refl
-
--- a deed that shows fits in any case
-pub is_within-shown : (n : ℕ) (given shown : List ℕ) (kind : Kind) → IsTrue (is_within n (deed_of given shown kind)) → IsTrue (is_within n (deed_of given [] kind))
-is_within-shown n given shown (Write place span) within = within
-is_within-shown n given shown Sync within = refl
-is_within-shown n given shown (Show span) within = refl
 
 -- what was shown does not get less
 pub shown_grows : (s : State) (cs : List Change) → length s.shown ≤ length (replay s cs).shown

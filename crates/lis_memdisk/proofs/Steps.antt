@@ -6,12 +6,12 @@ use Rattle.std.proofs.lemmas.List.Folds.{list_all-append}
 use Rattle.lis_ports.specs.Meaning.{Now}
 use Rattle.lis_ports.specs.Bytes.{part, put, Torn}
 use Rattle.lis_ports.specs.Runs.{Adds, IsDiskRun}
-use Rattle.lis_ports.specs.Calls.{IsUnchanged, IsTorn, IsWritten, IsSynced, IsUnsynced, IsShowCall}
+use Rattle.lis_ports.specs.Calls.{IsUnchanged, IsTorn, IsWritten, IsSynced, IsShowCall}
 use Rattle.lis_ports.proofs.Parts.{torn-put, torn_refl, length-put, length-part}
 use Rattle.lis_memdisk.proofs.Picks.{length-picked}
 use Rattle.lis_memdisk.specs.Changes.{Deed, Change, Unsynced, State, fresh, bytes_of, after, replay, state_at, is_by, had_happened, picked, crashed, IsImage, IsLeft, clock_at, time_of, Moment}
 use Rattle.lis_memdisk.specs.Changes.Deed.{Writes, Syncs, Shows}
-use Rattle.lis_memdisk.specs.Seen.{Seen, now_of, clock_of, meaning, is_within, is_counted, IsSound, Passed, Did, bytes_after, shown_after}
+use Rattle.lis_memdisk.specs.Seen.{Seen, now_of, clock_of, meaning, is_within, is_counted, IsSound, Did, bytes_after, shown_after}
 use Rattle.lis_memdisk.specs.Laws.{IsWhole, whole_after, whole_fresh, whole_start, Sound, image_reads}
 
 pub replay-push : (s : State) (cs : List Change) (c : Change) → replay s (cs ++ c ∷ []) ≡ after (replay s cs) c.deed
@@ -91,33 +91,6 @@ sound_did a b deed cost kept sound did within counts =
       reads = ap bytes_of (now_after a b deed cost kept did) ∙ (reads_after (now_of a) deed ∙ (ap (bytes_after deed) sound.reads ∙ sym did.bytes));
       shows = ap (λ s. s.shown) (now_after a b deed cost kept did) ∙ (shows_after (now_of a) deed ∙ (ap (shown_after deed) sound.shows ∙ sym did.shown));
     }
-
--- Calls that change nothing.
-
-pub adds_passed : (a b : Seen) (d f e g : ℕ) (P : List ℕ → List ℕ → Type 0) → Passed a b → clock_of a ≤ clock_of b → Adds (meaning a d f) (meaning b e g) P
-adds_passed a b d f e g P passed later =
-    subst (λ s. Adds (meaning a d f) (meaning s e g) P) (sym passed)
-    (record { later = later; only = λ t image bytes le had. inl had; keeps = λ t image bytes le had. had })
-
-pub run_passed : (a b : Seen) (d f e : ℕ) → Passed a b → clock_of a ≤ clock_of b → d ≤ e → IsDiskRun (meaning a d f) (meaning b e f)
-run_passed a b d f e passed later le =
-    subst (λ s. IsDiskRun (meaning a d f) (meaning s e f)) (sym passed)
-    (record { later = later; honest = refl; len = refl; recorded = refl; shown = refl; show_faults = refl; disk_faults = le })
-
-pub same_passed : (a b : Seen) (d f e g : ℕ) → Passed a b → IsUnchanged (meaning a d f) (meaning b e g)
-same_passed a b d f e g passed =
-    subst (λ s. IsUnchanged (meaning a d f) (meaning s e g)) (sym passed)
-    (record { bytes = refl; images = record { only = λ image is. is; each = λ kept image is. is } })
-
-pub torn_passed : (at n : ℕ) (a b : Seen) (d f e g : ℕ) → Passed a b → IsTorn at n (meaning a d f) (meaning b e g)
-torn_passed at n a b d f e g passed =
-    subst (λ s. IsTorn at n (meaning a d f) (meaning s e g)) (sym passed)
-    (record { bytes = torn_refl at n a.bytes; only = λ image is. (image, is, torn_refl at n image); grows = λ kept image is. is })
-
-pub unsynced_passed : (a b : Seen) (d f e g : ℕ) → Passed a b → IsUnsynced (meaning a d f) (meaning b e g)
-unsynced_passed a b d f e g passed =
-    subst (λ s. IsUnsynced (meaning a d f) (meaning s e g)) (sym passed)
-    (record { bytes = inr refl; images = record { only = λ image is. is; each = λ kept image is. is } })
 
 -- Calls that do something.
 

@@ -1,5 +1,5 @@
 -- How moments of calls and runs in a row add up.
-use Rattle.std.proofs.Common.{◌⊎◌, ℕ, ◌≤◌, List, IsTrue, refl, sym, ◌∙◌, inl, inr, arith}
+use Rattle.std.proofs.Common.{◌⊎◌, ℕ, List, refl, sym, ◌∙◌, inl, inr, arith}
 use Rattle.lis_ports.specs.Meaning.{Meaning, Now}
 use Rattle.lis_ports.specs.Runs.{Adds, IsDiskRun, Leaves}
 
@@ -35,11 +35,6 @@ pub each_moment : {a b : Meaning} {P : List ℕ → List ℕ → Type 0} → Add
 each_moment {a} ab only_now image bytes had =
     either (ab.only a.clock image bytes (omega arith) had) (λ h. inl (only_now image bytes h)) (λ p. inr p)
 
--- what stands at the end of a run is one of its moments
-pub ends_with : {a b : Meaning} {P : List ℕ → List ℕ → Type 0} → Adds a b P → ((t : ℕ) (image bytes : List ℕ) → t ≤ b.clock → Now b image bytes → b.moments t image bytes) → ((image bytes : List ℕ) → a.moments a.clock image bytes → Now a image bytes) → (image bytes : List ℕ) → Now b image bytes → Now a image bytes ⊎ P image bytes
-ends_with {a} ab counts_now only_now image bytes now =
-    each_moment ab only_now image bytes (counts_now a.clock image bytes ab.later now)
-
 pub run_none : (m : Meaning) → IsDiskRun m m
 run_none m = record {
   later = omega arith;
@@ -61,9 +56,6 @@ run_then ab bc = record {
   show_faults = bc.show_faults ∙ ab.show_faults;
   disk_faults = omega (arith, ab.disk_faults, bc.disk_faults);
 }
-
-pub honest_after : {a b : Meaning} → IsDiskRun a b → IsTrue a.is_honest → IsTrue b.is_honest
-honest_after run honest = run.honest ∙ honest
 
 pub leaves_none : (m : Meaning) (Q : List ℕ → Type 0) → Leaves m m Q
 leaves_none m Q = record { run = run_none m; adds = adds_none m _ }
@@ -87,7 +79,3 @@ leaves_then ab bc = record {
   run = run_then ab.run bc.run;
   adds = adds_then ab.adds (adds_weaken _ bc.adds (λ image bytes q. (q.0, sym ab.run.shown ∙ q.1)));
 }
-
--- a run, and one call more: for loops with one disk call a turn
-pub leaves_on : {a b c : Meaning} {Q : List ℕ → Type 0} → Leaves a b Q → IsDiskRun b c → Adds b c (Now c) → ((image : List ℕ) → c.images image → Q image) → Leaves a c Q
-leaves_on {Q = Q} ab run bc each = leaves_then ab (leaves_call Q run bc each)

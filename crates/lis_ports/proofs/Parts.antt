@@ -43,6 +43,13 @@ length-put xs at bytes le = omega (
   length-drop (at + length bytes) xs,
 )
 
+-- the front, the new bytes and the rest of what stood behind the front
+pub put_between : (xs : List ℕ) (at : ℕ) (bytes : List ℕ) → take at xs ++ (bytes ++ drop (length bytes) (drop at xs)) ≡ put xs at bytes
+unfolding put
+put_between xs at bytes =
+    sym (append_assoc (take at xs) bytes (drop (length bytes) (drop at xs)))
+    ∙ ap (λ ys. take at xs ++ bytes ++ ys) (drop-drop (length bytes) at xs)
+
 -- a written range is torn, and no more
 pub torn-put : (xs : List ℕ) (at : ℕ) (bytes : List ℕ) → at + length bytes ≤ length xs → Torn at (length bytes) xs (put xs at bytes)
 unfolding put

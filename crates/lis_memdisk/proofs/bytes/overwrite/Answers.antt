@@ -1,4 +1,4 @@
-use Rattle.lis_memdisk.proofs.Picks.{put_between}
+use Rattle.lis_ports.proofs.Parts.{put_between}
 use Rattle.lis_memdisk.proofs.bytes.overwrite.Goals as goal
 
 pub returns : goal.returns
