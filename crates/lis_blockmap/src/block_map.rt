@@ -82,9 +82,8 @@ impl BlockMap {
         self.free
     }
 
-    /// Whether a block is taken.
+    /// Whether a block is taken: false past the last block.
     pub fn is_taken(&self, n: u16) -> bool
-        requires { n < length self.now }
         ensures { result ≡ is_taken self.now n }
     {
         self.tells(u32::from(n))

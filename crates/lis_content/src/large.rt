@@ -164,7 +164,7 @@ pub fn read_block<D: Disk>(
 fn give_taken(map: &mut BlockMap, n: u16)
     ensures { map.new ≡ slice_set map.old n false }
 {
-    if usize::from(n) < map.len() && map.is_taken(n) {
+    if map.is_taken(n) {
         map.give(n);
     }
 }
@@ -247,8 +247,7 @@ fn are_within(journal: &Journal, base: u32, blocks: &[u16]) -> bool
     blocks.iter().all(|n| u32::from(*n) < end)
 }
 
-/// Reads the bytes of a file, by the numbers of its slot. Where the index block gives a number that is none of the image's it gives
-/// zeros; no image that is in form has such a number.
+/// Reads the bytes of a file, by the numbers of its slot.
 pub fn read_content<D: Disk>(
     journal: &Journal,
     disk: &mut D,

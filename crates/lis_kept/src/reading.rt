@@ -16,18 +16,11 @@ use lis_fields::FileRec;
 use lis_taxonomy::Taxonomy;
 use lis_words::{Name, Word};
 
-// Whether a block is taken. None is that there is not.
-fn is_taken(map: &BlockMap, n: u16) -> bool
-    ensures { result ≡ is_taken map.now n }
-{
-    usize::from(n) < map.len() && map.is_taken(n)
-}
-
 // How many of these blocks are taken.
 fn count_taken(map: &BlockMap, blocks: &[u16]) -> usize
     ensures { result ≡ length (filter (is_taken map.now) blocks.now) }
 {
-    blocks.iter().filter(|n| is_taken(map, **n)).count()
+    blocks.iter().filter(|n| map.is_taken(**n)).count()
 }
 
 impl Parts {
