@@ -3,22 +3,23 @@ use Rattle.std.proofs.Common.{drop, ◌≡◌, ◌⊎◌, ℕ, ◌+◌, ◌-◌,
 use Rattle.std.specs.List.{flat_map}
 use Rattle.std.proofs.lemmas.Bool.{eqb-false, eq-eqb, ne_eqb, cond-true, cond-false, cases_lt, false≢true}
 use Rattle.std.proofs.lemmas.Grind.{flat_map-append}
-use Rattle.std.proofs.lemmas.List.{append-nil, take_all, drop_at}
+use Rattle.std.proofs.lemmas.List.{append-nil, drop_at}
 use Rattle.std.proofs.lemmas.List.Folds.{list_any-append}
 use Rattle.byteorder.specs.Endian.{little_bytes}
 use Rattle.lis_ports.specs.Meaning.{Meaning}
 use Rattle.lis_ports.specs.Runs.{IsDiskRun}
-use Rattle.lis_ports.proofs.Moments.{run_then, run_none, leaves_none, leaves_then, leaves_weaken}
+use Rattle.lis_ports.proofs.Moments.{run_then, leaves_then, leaves_weaken}
 use Rattle.lis_model.specs.State.{blocks_needed}
 use Rattle.lis_journal.specs.Record.{replayed}
 use Rattle.lis_journal.specs.Journal.{Held}
 use Rattle.lis_journal.specs.Images.{KeepsBut, StandsBut, is_among, with_placed, with_kept}
 use Rattle.lis_journal.specs.Staging.{has_entry}
+use Rattle.lis_journal.proofs.Entries.{neither}
 use Rattle.lis_blockmap.specs.Bitmap.{free_count, is_taken}
 use Rattle.lis_content.specs.Content.{content, padded, has_number, has_home}
 use Rattle.lis_content.specs.Large.{is_large, index_bytes, numbers_in}
 use Rattle.lis_content.specs.Placing.{AreUnstaged, homes_of, Places, Lays, IsLaid, HasFile, IsPlaced, IsTornOff, TakesOne, OnePlaced, OneTorn}
-use Rattle.lis_content.proofs.Numbers.{neither, are_below, below_from_free, free_after, distinct_more, free_more, marked_more}
+use Rattle.lis_content.proofs.Numbers.{are_below, below_from_free, free_after, distinct_more, free_more, marked_more}
 use Rattle.lis_content.proofs.Taking.{length-padded, part_more, same_others}
 use Rattle.lis_content.proofs.Indexes.{index_reads_back, large_numbers, large_blocks, small_numbers, small_blocks}
 
@@ -136,21 +137,6 @@ lays_torn base start now_taken next_taken before now next blocks P was one = rec
       (sym (ap (λ (h : Held). h.placed) one.journal ∙ ap (λ (h : Held). h.placed) was.journal)));
 }
 
-pub lays_none : (base : ℕ) (start : List Bool) (before : Held) (m : Meaning) (P : (ℕ → List ℕ) → Type 0) → before.placed ≡ [] → ((at : ℕ → List ℕ) → P at) → Lays base start start before before m m [] P
-lays_none base start before m P none all = record {
-  places = record {
-    distinct = refl;
-    were_free = refl;
-    marks = refl;
-    len = refl;
-    counted = omega arith;
-    moments = λ kept fits. leaves_none m _;
-    past = λ kept fits n le. refl;
-  };
-  journal = ap (λ p. record before { placed = p }) none;
-  fits = λ kept fits. (kept, fits, (λ n none. refl), all kept);
-}
-
 -- what is not staged of the free blocks stays so
 pub unstaged_still : (base : ℕ) (start now_taken : List Bool) (before now : Held) {old new : Meaning} (blocks : List ℕ) {P : (ℕ → List ℕ) → Type 0} → Lays base start now_taken before now old new blocks P → AreUnstaged base start before.staged → AreUnstaged base now_taken now.staged
 unstaged_still base start now_taken before now blocks was unstaged n lt free =
@@ -169,16 +155,6 @@ pub record Laying (base : ℕ) (bytes rest : List ℕ) (start now_taken : List B
   pub count : length blocks + blocks_needed (length rest) ≡ blocks_needed (length bytes)
   pub enough : blocks_needed (length rest) ≤ free_count now_taken
   pub left : 0 < length rest → 4096 * length blocks + length rest ≡ length bytes
-
-pub laying_none : (base : ℕ) (bytes : List ℕ) (start : List Bool) (before : Held) (m : Meaning) → before.placed ≡ [] → blocks_needed (length bytes) ≤ free_count start → Laying base bytes bytes start start before before m m []
-laying_none base bytes start before m none enough = record {
-  lays = lays_none base start before m _ none (λ at. record { long = refl; holds = take_all (length bytes) bytes (omega arith) });
-  run = run_none m;
-  faults = refl;
-  count = omega arith;
-  enough = enough;
-  left = λ some. omega arith;
-}
 
 pub laying_more : (base : ℕ) (bytes rest front behind : List ℕ) (start now_taken next_taken : List Bool) (before now next : Held) {old mid new : Meaning} (blocks : List ℕ) (n : ℕ) → Laying base bytes rest start now_taken before now old mid blocks → 0 < length rest → front ++ behind ≡ rest → length front ≡ min (length rest) 4096 → OnePlaced base front now_taken next_taken now next mid new n → IsDiskRun mid new → new.disk_faults ≡ mid.disk_faults → Laying base bytes behind start next_taken before next old new (blocks ++ n ∷ [])
 laying_more base bytes rest front behind start now_taken next_taken before now next blocks n was some parts size one run faults = record {

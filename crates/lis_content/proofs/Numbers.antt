@@ -5,6 +5,7 @@ use Rattle.std.proofs.lemmas.Bool.{and_parts, and_from, ltb-true, lt-ltb, eqb-fa
 use Rattle.std.proofs.lemmas.List.{get_or_past}
 use Rattle.std.proofs.lemmas.List.Sums.{fold-append}
 use Rattle.std.proofs.lemmas.List.Folds.{list_all-append, list_any-append}
+pub use Rattle.lis_journal.proofs.Entries.{neither}
 use Rattle.lis_blockmap.specs.Bitmap.{is_taken}
 use Rattle.lis_content.specs.Content.{given, marked, are_taken, are_free, has_number, are_distinct, are_within}
 
@@ -15,11 +16,6 @@ length-given taken (n ∷ ns) = length-given (set taken n false) ns ∙ length-s
 pub length-marked : (taken : List Bool) (ns : List ℕ) → length (marked taken ns) ≡ length taken
 length-marked taken [] = refl
 length-marked taken (n ∷ ns) = length-marked (set taken n true) ns ∙ length-set taken n true
-
--- of two tests that fail together, each fails
-pub neither : (a b : Bool) → (a || b) ≡ false → (a ≡ false) × (b ≡ false)
-neither true b is = absurd (let e : true ≡ false = is in cc)
-neither false b is = (refl, is)
 
 pub not_true : (b : Bool) → not b ≡ true → b ≡ false
 not_true true is = absurd (let e : false ≡ true = is in cc)
@@ -126,10 +122,3 @@ marked_are_taken m taken (n ∷ ns) len below =
     let parts = and_parts (nat_lt n m) (are_below m ns) below in
     let first : is_taken (set taken n true) n ≡ true = get_or-set_same taken n true false (omega (arith, ltb-true n m parts.0, len)) in
     and_from (is_taken (marked (set taken n true) ns) n) (are_taken (marked (set taken n true) ns) ns) (stays_marked (set taken n true) ns n first) (marked_are_taken m (set taken n true) ns (length-set taken n true ∙ len) parts.1)
-
--- Taken blocks stay taken where others are given back.
-pub stay_given : (taken : List Bool) (ns ms : List ℕ) → are_taken taken ms ≡ true → list_all (λ n. not (has_number ms n)) ns ≡ true → are_taken (given taken ns) ms ≡ true
-stay_given taken [] ms held apart = held
-stay_given taken (n ∷ ns) ms held apart =
-    let parts = and_parts (not (has_number ms n)) (list_all (λ k. not (has_number ms k)) ns) apart in
-    stay_given (set taken n false) ns ms (taken_still taken ms n held (not_true (has_number ms n) parts.0)) parts.1

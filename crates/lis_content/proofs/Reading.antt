@@ -42,9 +42,6 @@ pub record SoFar (old now : Meaning) (journal : Held) (base : ℕ) (ns : List �
   pub fits : (kept : ℕ → List ℕ) → Fits journal old kept → Fits journal now kept
   pub filled : (kept : ℕ → List ℕ) → Fits journal old kept → IsFilled (λ b. looked journal.staged kept (base + b)) ns k size buf
 
-pub filled_none : (at : ℕ → List ℕ) (ns : List ℕ) (size : ℕ) (buf : List ℕ) → IsFilled at ns 0 size buf
-filled_none at ns size buf = record { long = refl; front = sym (take_all size [] (omega arith)) }
-
 pub filled_more : (at : ℕ → List ℕ) (ns : List ℕ) (k size a e : ℕ) (buf read : List ℕ) → IsFilled at ns k size buf → k < length ns → length buf ≡ size → length ns ≡ blocks_needed size → a ≡ 4096 * k → e ≡ min size (a + 4096) → length (at (get_or ns k 0)) ≡ 4096 → read ≡ take (e - a) (at (get_or ns k 0)) → IsFilled at ns (k + 1) size (take a buf ++ (read ++ drop (e - a) (drop a buf)))
 filled_more at ns k size a e buf read was lt len count is_a is_e whole is_read = record {
   long = ap length snoc ∙ (length-append done (x ++ []) ∙ omega (arith, was.long, length-append x [], whole));

@@ -1,14 +1,11 @@
 -- Contents that come over earlier ones.
-use Rattle.std.proofs.Common.{◌≡◌, ℕ, ◌+◌, ◌<◌, ◌≤◌, ◌==◌, true, cond, List, [], ◌∷◌, ◌++◌, length, get_or, take, refl, sym, ◌∙◌, ap, arith}
+use Rattle.std.proofs.Common.{◌≡◌, ℕ, ◌+◌, ◌<◌, ◌≤◌, ◌==◌, cond, List, [], ◌∷◌, ◌++◌, length, get_or, take, sym, ◌∙◌, ap, arith}
 use Rattle.std.proofs.lemmas.List.{take_more, take_all}
 use Rattle.lis_journal.specs.Record.{Entry}
 use Rattle.lis_journal.specs.Images.{look}
-use Rattle.lis_journal.specs.Staging.{Staging, has_entry}
+use Rattle.lis_journal.specs.Staging.{Staging}
 use Rattle.lis_journal.specs.Phases.{Absorbs}
 use Rattle.lis_journal.proofs.Series.{look-append}
-
-pub absorbs_none : (es : List Entry) → Absorbs es [] es
-absorbs_none es = λ n old. refl
 
 pub absorbs_put : (first es latest later : List Entry) (home : ℕ) (bytes : List ℕ) → Absorbs first es latest → ((m : ℕ) (old : List ℕ) → look later m old ≡ cond (m == home) bytes (look latest m old)) → Absorbs first (es ++ record { home = home; bytes = bytes } ∷ []) later
 absorbs_put first es latest later home bytes absorbs looks = λ m old.
@@ -40,7 +37,3 @@ absorbed_more before now next es k home bytes d lt is_home is_bytes so_far block
 pub absorbed_all : (before now : Staging) (es : List Entry) (k : ℕ) → length es ≤ k → SoAbsorbed before es now k → Absorbs before.entries es now.entries
 absorbed_all before now es k le so_far = λ m old.
     so_far.absorbs m old ∙ ap (λ fs. look fs m (look before.entries m old)) (take_all k es le)
-
-pub some_entry : (es : List Entry) (n : ℕ) → has_entry es n ≡ true → 0 < length es
-some_entry [] n has = cc
-some_entry (e ∷ es) n has = omega arith

@@ -67,12 +67,6 @@ home_or_clear (e ∷ es) n = by (eqb n e.home) refl (home_or_clear es n)
     by true is (inr clear) = inl (λ old other. refl)
     by false is (inr clear) = inr (clear.0, (blocks-apart n e.home is, clear.1))
 
-pub look_again : (es : List Entry) (n : ℕ) (old : List ℕ) → look es n (look es n old) ≡ look es n old
-look_again es n old = elim (home_or_clear es n) as (λ _. look es n (look es n old) ≡ look es n old) [
-  | inl held ↦ held (look es n old) old
-  | inr clear ↦ clear.0 (look es n old)
-]
-
 -- each entry has a home block
 abbrev pub AtHome : List Entry → Type 0
 AtHome [] = Unit {0}
@@ -154,7 +148,8 @@ look-past blocks n (e ∷ es) old within le =
     let ne : n ≡ e.home → ⊥ = λ same. absurd (omega (arith, same, within.0, le)) in
     ap (look es n) (cond-false (n == e.home) e.bytes old (ne_eqb n e.home ne)) ∙ look-past blocks n es old within.2 le
 
-neither : (a b : Bool) → (a || b) ≡ false → (a ≡ false) × (b ≡ false)
+-- of two tests that fail together, each fails
+pub neither : (a b : Bool) → (a || b) ≡ false → (a ≡ false) × (b ≡ false)
 neither true b e = absurd (false≢true (sym e))
 neither false b e = (refl, e)
 
@@ -165,28 +160,6 @@ look-absent (e ∷ es) n old absent =
     let parts = neither (e.home == n) (has_entry es n) absent in
     let ne : n ≡ e.home → ⊥ = λ same. eqb-false e.home n parts.0 (sym same) in
     ap (look es n) (cond-false (n == e.home) e.bytes old (ne_eqb n e.home ne)) ∙ look-absent es n old parts.1
-
--- What the entries are after one is staged.
-
-pub has-with_entry : (es : List Entry) (n m : ℕ) (bytes : List ℕ) → has_entry (with_entry es n bytes) m ≡ ((n == m) || has_entry es m)
-has-with_entry [] n m bytes = refl
-has-with_entry (e ∷ es) n m bytes = by (nat_lt e.home n) (e.home == n) refl (has-with_entry es n m bytes)
-  where
-    swap : (a b c : Bool) → (a || (b || c)) ≡ (b || (a || c))
-    swap true true c = refl
-    swap true false c = refl
-    swap false b c = refl
-
-    twice : (a b : Bool) → (a || b) ≡ (a || (a || b))
-    twice true b = refl
-    twice false b = refl
-
-    by : (lower same : Bool) → (e.home == n) ≡ same → has_entry (with_entry es n bytes) m ≡ ((n == m) || has_entry es m) → has_entry (cond lower (e ∷ with_entry es n bytes) (cond same (record { home = n; bytes = bytes } ∷ es) (record { home = n; bytes = bytes } ∷ e ∷ es))) m ≡ ((n == m) || ((e.home == m) || has_entry es m))
-    by true same is more = ap (λ b. (e.home == m) || b) more ∙ swap (e.home == m) (n == m) (has_entry es m)
-    by false true is more =
-        let home : e.home ≡ n = eqb-true e.home n is in
-        twice (n == m) (has_entry es m) ∙ ap (λ h. (n == m) || ((h == m) || has_entry es m)) (sym home)
-    by false false is more = refl
 
 pub length-with_entry : (es : List Entry) (n : ℕ) (bytes : List ℕ) → length (with_entry es n bytes) ≤ length es + 1
 length-with_entry [] n bytes = omega arith

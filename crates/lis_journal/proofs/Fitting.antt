@@ -9,15 +9,15 @@ use Rattle.lis_ports.specs.Calls.{IsUnchanged}
 use Rattle.lis_ports.proofs.Always.{always_settled}
 use Rattle.lis_ports.proofs.Parts.{length-part}
 use Rattle.lis_journal.specs.Record.{block, has_open, Entry, first_bad, all_recorded, apply, bad_record, replayed, open_count}
-use Rattle.lis_journal.specs.Journal.{Held, OpenRecords, no_records, IsOverSame}
+use Rattle.lis_journal.specs.Journal.{Held, OpenRecords, no_records}
 use Rattle.lis_journal.specs.Images.{IsOutside, StandsFor, StandsBut, is_among, look, IsAtRest, FitsAt, Fits, KeepsPast, with_placed}
 use Rattle.lis_journal.specs.Spreads.{Spreads, SamePast}
 use Rattle.lis_journal.specs.Staging.{has_entry}
-use Rattle.lis_journal.proofs.Entries.{AtHome, block-apply, length-look, look-past, look-absent}
+use Rattle.lis_journal.proofs.Entries.{AtHome, block-apply, length-look, look-past, look-absent, neither}
 use Rattle.lis_journal.proofs.Series.{all_sound}
 use Rattle.lis_journal.proofs.Gates.{all_closed}
 use Rattle.lis_journal.proofs.Holding.{fits_placed}
-use Rattle.lis_journal.proofs.Phases.{full, rest_stands, stands_full as stands_whole, shut_rest, replayed-closed as replayed-shut}
+use Rattle.lis_journal.proofs.Phases.{full, rest_stands, stands_full, shut_rest, replayed-closed as replayed-shut}
 
 -- a block that is kept has 4,096 bytes
 pub kept_whole : (journal : Held) {m : Meaning} {kept : ℕ → List ℕ} → Fits journal m kept → (n : ℕ) → IsOutside n → n < journal.blocks → length (kept n) ≡ 4096
@@ -31,9 +31,6 @@ kept_whole journal {m} {kept} fits n out lt =
 -- Each image, and the bytes as they read, stand for what is kept, but for the placed blocks.
 pub fits_but : (journal : Held) {m : Meaning} {kept : ℕ → List ℕ} → Fits journal m kept → (image : List ℕ) → m.images image → StandsBut journal.blocks journal.placed kept image
 fits_but journal {kept = kept} fits image is = rest_stands journal.blocks journal.records journal.placed kept image (fits.leaves image is)
-
-pub stands_full : (blocks : ℕ) (kept : ℕ → List ℕ) (image : List ℕ) → StandsBut blocks [] kept image → StandsFor blocks kept image
-stands_full = stands_whole
 
 -- With nothing placed, each image, and the bytes as they read, stand for what is kept.
 pub fits_stand : (journal : Held) {m : Meaning} {kept : ℕ → List ℕ} → journal.placed ≡ [] → Fits journal m kept → Always m (StandsFor journal.blocks kept)
@@ -53,28 +50,6 @@ fits_unchanged journal {kept = kept} run same fits = record {
   reads = subst (IsAtRest journal.blocks journal.records [] kept) (sym same.bytes) fits.reads;
   leaves = λ image is. fits.leaves image (same.images.only image is);
 }
-
--- the blocks that are kept may be told otherwise
-pub fits_as : (journal : Held) {m : Meaning} {kept : ℕ → List ℕ} (now : ℕ → List ℕ) → ((n : ℕ) → IsOutside n → kept n ≡ now n) → Fits journal m kept → Fits journal m now
-fits_as journal {m} {kept} now is fits = record {
-  honest = fits.honest;
-  reads = told [] m.bytes fits.reads;
-  leaves = λ image i. told journal.placed image (fits.leaves image i);
-}
-  where
-    told : (placed image : List ℕ) → IsAtRest journal.blocks journal.records placed kept image → IsAtRest journal.blocks journal.records placed now image
-    told placed image rest = record {
-      few = rest.few;
-      holds = record {
-        enough = rest.holds.enough;
-        long = rest.holds.long;
-        form = rest.holds.form;
-        ends = rest.holds.ends;
-        latest = rest.holds.latest;
-        same = λ n out not_in. rest.holds.same n out not_in ∙ is n out;
-      };
-      gates = rest.gates;
-    }
 
 -- A settled image with all gates closed is kept as it is.
 pub settled_fits : {m : Meaning} (journal : Held) (bytes : List ℕ) → journal.records ≡ no_records → IsTrue m.is_honest → IsSettled m bytes → 578 < journal.blocks → 4096 * journal.blocks ≤ length bytes → has_open bytes ≡ false → Fits journal m (λ n. block n bytes)
@@ -141,10 +116,6 @@ past_kept {blocks} {records} {placed} {a} {b} {kept} within fits spreads n le =
 pub among_more : (placed : List ℕ) (n m : ℕ) → is_among (with_placed placed n) m ≡ false → is_among (n ∷ placed) m ≡ false
 among_more placed n m e = by (is_among placed n) (n == m) refl refl e
   where
-    neither : (a b : Bool) → (a || b) ≡ false → (a ≡ false) × (b ≡ false)
-    neither true b e = absurd (false≢true (sym e))
-    neither false b e = (refl, e)
-
     by : (old same : Bool) → is_among placed n ≡ old → (n == m) ≡ same → is_among (cond old placed (placed ++ n ∷ [])) m ≡ false → (same || is_among placed m) ≡ false
     by true true is here e = absurd (false≢true (sym e ∙ subst (λ k. is_among placed k ≡ true) (eqb-true n m here) is))
     by true false is here e = e
@@ -164,20 +135,6 @@ fits_told {now = now} {records = records} {now_records = now_records} {placed = 
 pub content_some : {T : Type 0} (o : Option T) (bytes_of : T → List ℕ) (staged latest : List Entry) (n : ℕ) → has_entry staged n ≡ false → IfSome o (λ x. (old : List ℕ) → look latest n old ≡ bytes_of x) → IfSome o (λ x. (old : List ℕ) → look staged n (look latest n old) ≡ bytes_of x)
 content_some None bytes_of staged latest n absent some = tt
 content_some (Some x) bytes_of staged latest n absent some = λ old. look-absent staged n (look latest n old) absent ∙ some old
-
--- a journal over the same records fits where the other does
-pub fits_over : (old new : Held) {m : Meaning} {kept : ℕ → List ℕ} → IsOverSame old new → Fits old m kept → Fits new m kept
-fits_over old new over fits = fits_told (sym over.blocks) (sym over.records) (sym over.placed) fits
-
-pub over_none : (journal : Held) → IsOverSame journal journal
-over_none journal = record { blocks = refl; records = refl; placed = refl }
-
-pub over_then : {a b c : Held} → IsOverSame a b → IsOverSame b c → IsOverSame a c
-over_then one two = record {
-  blocks = two.blocks ∙ one.blocks;
-  records = two.records ∙ one.records;
-  placed = two.placed ∙ one.placed;
-}
 
 -- a commit with nothing placed leaves nothing placed
 pub none_placed : (old new : Held) {A B : Type 0} → old.placed ≡ [] → (old.staged ≡ [] → A × B × (new ≡ old)) → (0 < length old.staged → new.placed ≡ []) → new.placed ≡ []

@@ -1,12 +1,13 @@
 -- The gates, one by one and counted.
-use Rattle.std.proofs.Common.{◌≡◌, ◌≢◌, ◌⊎◌, inl, inr, ℕ, zero, suc, ◌+◌, ◌-◌, ◌<◌, ◌≤◌, ◌==◌, ◌||◌, nat_lt, Bool, true, false, List, [], ◌∷◌, length, get_or, slice_index, drop, replicate, refl, sym, ◌∙◌, ap, subst, arith}
+use Rattle.std.proofs.Common.{◌≡◌, ◌≢◌, ◌⊎◌, inl, inr, ℕ, zero, suc, ◌+◌, ◌-◌, ◌<◌, ◌≤◌, ◌==◌, nat_lt, true, false, List, [], ◌∷◌, length, get_or, slice_index, drop, replicate, refl, sym, ◌∙◌, ap, subst, arith}
 use Rattle.std.specs.List.{list_any}
-use Rattle.std.proofs.lemmas.Bool.{lt-ltb, le-ltb, false≢true}
+use Rattle.std.proofs.lemmas.Bool.{lt-ltb, le-ltb}
 use Rattle.std.proofs.lemmas.List.{get_or-take, get_or-drop}
 use Rattle.std.proofs.lemmas.List.Sums.{prefix_len_is, prefix_len_passes, prefix_len_stops, prefix_len-le-length}
 use Rattle.lis_ports.specs.Bytes.{part, put, Torn}
 use Rattle.lis_ports.proofs.Parts.{Apart, length-part, part-torn, part-put}
 use Rattle.lis_journal.specs.Record.{gates, is_open, has_open, open_count}
+use Rattle.lis_journal.proofs.Entries.{neither}
 
 index-part : (at n k : ℕ) (xs : List ℕ) → k < n → slice_index (part at n xs) k ≡ slice_index xs (at + k)
 index-part at n k xs lt = get_or-take n (drop at xs) k 0 lt ∙ get_or-drop at xs k 0
@@ -103,15 +104,7 @@ shut_first image long none = subst (λ k. is_open k image ≡ false) none (close
 none_open : (gates_are : List ℕ) (k : ℕ) → list_any (λ gate. gate == 1) gates_are ≡ false → (get_or gates_are k 0 == 1) ≡ false
 none_open [] k none = refl
 none_open (gate ∷ rest) zero none = (neither (gate == 1) (list_any (λ gate. gate == 1) rest) none).0
-  where
-    neither : (a b : Bool) → (a || b) ≡ false → (a ≡ false) × (b ≡ false)
-    neither true b e = absurd (false≢true (sym e))
-    neither false b e = (refl, e)
-none_open (gate ∷ rest) (suc k) none = none_open rest k (neither (gate == 1) (list_any (λ gate. gate == 1) rest) none)
-  where
-    neither : (a b : Bool) → (a || b) ≡ false → b ≡ false
-    neither true b e = absurd (false≢true (sym e))
-    neither false b e = e
+none_open (gate ∷ rest) (suc k) none = none_open rest k (neither (gate == 1) (list_any (λ gate. gate == 1) rest) none).1
 
 -- with no gate open, each is closed
 pub all_closed : (image : List ℕ) → has_open image ≡ false → (k : ℕ) → is_open k image ≡ false

@@ -1,19 +1,13 @@
 -- The numbers of a header, as they are written one by one and read.
-use Rattle.std.proofs.Common.{◌≡◌, ◌⊎◌, inl, inr, ℕ, zero, suc, ◌+◌, ◌-◌, ◌*◌, ◌^◌, ◌<◌, ◌≤◌, ◌==◌, nat_lt, nat_le, Bool, true, false, ◌&&◌, List, [], ◌∷◌, ◌++◌, length, get_or, take, drop, replicate, IsTrue, refl, sym, ◌∙◌, ap, subst, arith, append_assoc}
+use Rattle.std.proofs.Common.{◌≡◌, inl, ℕ, zero, suc, ◌+◌, ◌-◌, ◌*◌, ◌^◌, ◌<◌, ◌≤◌, ◌==◌, nat_lt, nat_le, ◌&&◌, List, [], ◌∷◌, ◌++◌, length, get_or, take, drop, replicate, IsTrue, refl, sym, ◌∙◌, ap, subst, arith}
 use Rattle.std.specs.Int.{w32, to_le_bytes, from_le_bytes}
 use Rattle.std.specs.List.{list_all}
-use Rattle.std.proofs.lemmas.Bool.{and_parts, and_from, lt-ltb, le-ltb, le-leb, leb-true, ltb-true}
+use Rattle.std.proofs.lemmas.Bool.{and_parts, lt-ltb, leb-true, ltb-true}
 use Rattle.std.proofs.lemmas.List.{drop-drop, take_more, map-append}
 use Rattle.std.proofs.lemmas.Nat.{from_le_bytes-to_le_bytes_4}
 use Rattle.lis_ports.specs.Bytes.{put}
 use Rattle.lis_ports.proofs.Parts.{part-put, part-put_other, torn-put, length-put}
 use Rattle.lis_journal.specs.Record.{Entry, homes, word, words, count_of, homes_of, rises, is_header}
-
-pub put_between : (xs : List ℕ) (at : ℕ) (bytes : List ℕ) → take at xs ++ (bytes ++ drop (length bytes) (drop at xs)) ≡ put xs at bytes
-unfolding put
-put_between xs at bytes =
-    sym (append_assoc (take at xs) bytes (drop (length bytes) (drop at xs)))
-    ∙ ap (λ ys. take at xs ++ bytes ++ ys) (drop-drop (length bytes) at xs)
 
 pub word-put : (h : List ℕ) (k v : ℕ) → v < 2 ^ 32 → 4 * k + 4 ≤ length h → word k (put h (4 * k) (to_le_bytes w32 v)) ≡ v
 word-put h k v fits le = ap (from_le_bytes w32) (part-put h (4 * k) (to_le_bytes w32 v) le) ∙ from_le_bytes-to_le_bytes_4 v fits
@@ -64,25 +58,6 @@ pub rises_on : (blocks last home : ℕ) (hs : List ℕ) → last < home → home
 rises_on blocks last home hs above within =
     ap (λ b. b && nat_lt home blocks && rises blocks home hs) (lt-ltb last home above)
     ∙ ap (λ b. b && rises blocks home hs) (lt-ltb home blocks within)
-
-pub rises_not : (blocks last home : ℕ) (hs : List ℕ) → (home ≤ last) ⊎ (blocks ≤ home) → rises blocks last (home ∷ hs) ≡ false
-rises_not blocks last home hs (inl low) = ap (λ b. b && nat_lt home blocks && rises blocks home hs) (le-ltb last home low)
-rises_not blocks last home hs (inr high) =
-    ap (λ b. nat_lt last home && b && rises blocks home hs) (le-ltb home blocks high) ∙ no_and (nat_lt last home) (rises blocks home hs)
-  where
-    no_and : (a b : Bool) → (a && false && b) ≡ false
-    no_and true b = refl
-    no_and false b = refl
-
--- What is written is in form.
-pub header_form : (blocks c : ℕ) (h hs : List ℕ) → 0 < c → c ≤ 575 → word 0 h ≡ c → words 1 c h ≡ hs → IsTrue (rises blocks 577 hs) → IsTrue (list_all (λ b. b == 0) (drop (4 * (c + 1)) h)) → IsTrue (is_header blocks h)
-header_form blocks c h hs some few count done rise zeros =
-    let same : homes_of h ≡ hs = ap (λ n. words 1 n h) count ∙ done in
-    let first : IsTrue (nat_lt 0 (count_of h)) = lt-ltb 0 (count_of h) (omega (arith, some, count)) in
-    let second : IsTrue (nat_le (count_of h) 575) = le-leb (count_of h) 575 (omega (arith, few, count)) in
-    let third : IsTrue (rises blocks 577 (homes_of h)) = subst (λ hs. IsTrue (rises blocks 577 hs)) (sym same) rise in
-    let fourth : IsTrue (list_all (λ b. b == 0) (drop (4 * (count_of h + 1)) h)) = subst (λ n. IsTrue (list_all (λ b. b == 0) (drop (4 * (n + 1)) h))) (sym count) zeros in
-    and_from _ _ (and_from _ _ (and_from _ _ first second) third) fourth
 
 zeros-replicate : (n : ℕ) → IsTrue (list_all (λ b. b == 0) (replicate n 0))
 zeros-replicate zero = refl
@@ -151,8 +126,3 @@ pub rises_step : (blocks last home k c : ℕ) (h : List ℕ) → k ≤ c → hom
 rises_step blocks last home k c h le is above within =
     ap (rises blocks last) (words_left h k c le ∙ ap (λ w. w ∷ words (k + 1) (c + 1 - (k + 1)) h) (sym is))
     ∙ rises_on blocks last home (words (k + 1) (c + 1 - (k + 1)) h) above within
-
-pub rises_stop : (blocks last home k c : ℕ) (h : List ℕ) → k ≤ c → home ≡ word k h → (home ≤ last) ⊎ (blocks ≤ home) → rises blocks last (words k (c + 1 - k) h) ≡ false
-rises_stop blocks last home k c h le is out =
-    ap (rises blocks last) (words_left h k c le ∙ ap (λ w. w ∷ words (k + 1) (c + 1 - (k + 1)) h) (sym is))
-    ∙ rises_not blocks last home (words (k + 1) (c + 1 - (k + 1)) h) out

@@ -5,7 +5,7 @@ use Rattle.lis_ports.specs.Meaning.{Meaning}
 use Rattle.lis_ports.specs.Bytes.{part}
 use Rattle.lis_ports.specs.Runs.{IsDiskRun}
 use Rattle.lis_ports.specs.Calls.{Elapses, IsUnchanged}
-use Rattle.lis_ports.proofs.Moments.{run_none, run_then, leaves_none, leaves_call, leaves_then, leaves_weaken}
+use Rattle.lis_ports.proofs.Moments.{run_then, leaves_none, leaves_call, leaves_then, leaves_weaken}
 use Rattle.lis_journal.specs.Record.{block, word, words, count_of, homes_of, rises, is_header, record_end, is_record, entries_from, recorded, first_bad, all_recorded, behind}
 use Rattle.lis_journal.specs.Images.{look}
 use Rattle.lis_journal.specs.Staging.{Staging}
@@ -79,16 +79,6 @@ pub record Loaded (old now : Meaning) (before after : Staging) (h : List ℕ) (b
   pub few : length after.entries ≤ length before.entries + k
   pub loaded : IsTrue old.is_honest → Absorbs before.entries (entries_from (b + 1) (words 1 k h) old.bytes) after.entries
 
-pub begin_load : (m : Meaning) (s : Staging) (h : List ℕ) (b : ℕ) → Loaded m m s s h b 0
-begin_load m s h b = record {
-  run = run_none m;
-  faults = refl;
-  quiet = λ honest. reads_none m;
-  blocks_are = refl;
-  few = omega arith;
-  loaded = λ honest n old. refl;
-}
-
 pub quiet_on : {old now next : Meaning} → IsDiskRun old now → (IsTrue old.is_honest → OnlyReads old now) → IsDiskRun now next → Elapses now next → (IsTrue now.is_honest → IsUnchanged now next) → IsTrue old.is_honest → OnlyReads old next
 quiet_on run quiet run_next time unchanged honest =
     reads_then (quiet honest) (reads_call run_next time (unchanged (run.honest ∙ honest)))
@@ -161,19 +151,6 @@ pub record Through (old now : Meaning) (before after : Staging) (first k : ℕ) 
   pub ends : IsTrue old.is_honest → first ≡ behind 2 k old.bytes
   pub latest : IsTrue old.is_honest → Absorbs [] (all_recorded 2 k old.bytes) after.entries
 
-pub begin_through : (m : Meaning) (s : Staging) → s.entries ≡ [] → Through m m s s 2 0
-begin_through m s empty = record {
-  run = run_none m;
-  faults = refl;
-  quiet = λ honest. reads_none m;
-  blocks_are = refl;
-  room = omega (arith, ap length empty);
-  within = omega arith;
-  form = λ honest. refl;
-  ends = λ honest. refl;
-  latest = λ honest n old. ap (λ es. look es n old) empty;
-}
-
 pub through_on : {old now next : Meaning} (before s t : Staging) (first last k : ℕ) → Through old now before s first k → IsDiskRun now next → next.disk_faults ≡ now.disk_faults → (IsTrue now.is_honest → OnlyReads now next) → t.blocks ≡ s.blocks → length t.entries + 2 ≤ last → last ≤ 578 → (IsTrue now.is_honest → (is_record s.blocks first now.bytes ≡ true) × (last ≡ record_end first now.bytes) × Absorbs s.entries (recorded first now.bytes) t.entries) → Through old next before t last (k + 1)
 through_on {old} {now} {next} before s t first last k so_far run faults quiet blocks room within read =
     let one : suc k ≡ k + 1 = omega arith in
@@ -215,10 +192,3 @@ through_bad {old} {now} before s first k count so_far lt honest bad =
     ∙ (ap (λ bytes. is_record before.blocks first bytes) (sym (so_far.quiet honest).bytes)
     ∙ (ap (λ n. is_record n first now.bytes) (sym so_far.blocks_are) ∙ bad (so_far.run.honest ∙ honest))) in
     ap Some there ∙ sym (form-bad before.blocks 2 k count old.bytes lt (so_far.form honest) form)
-
-pub through_good : {old now : Meaning} (before s : Staging) (first k count : ℕ) → Through old now before s first k → k ≡ count → IsTrue old.is_honest → None ≡ first_bad before.blocks 2 count old.bytes
-through_good {old} before s first k count so_far is honest = sym (so_far.form honest) ∙ ap (λ n. first_bad before.blocks 2 n old.bytes) is
-
-pub through_latest : {old now : Meaning} (before s : Staging) (first k count : ℕ) → Through old now before s first k → k ≡ count → IsTrue old.is_honest → (n : ℕ) (was : List ℕ) → look (all_recorded 2 count old.bytes) n was ≡ look s.entries n was
-through_latest {old} before s first k count so_far is honest n was =
-    ap (λ m. look (all_recorded 2 m old.bytes) n was) (sym is) ∙ sym (so_far.latest honest n was)

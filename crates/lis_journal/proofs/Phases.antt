@@ -28,7 +28,7 @@ replayed-bad blocks b image bad =
 pub replayed-closed : (blocks : ℕ) (image : List ℕ) → 4160 ≤ length image → is_open 0 image ≡ false → replayed blocks image ≡ Some image
 replayed-closed blocks image long closed = replayed-good blocks 0 image (open_count-shut image long closed) refl
 
-some_and : (P : List ℕ → Type 0) {r : List ℕ} (o : Option (List ℕ)) → o ≡ Some r → P r → IsSomeAnd o P
+pub some_and : (P : List ℕ → Type 0) {r : List ℕ} (o : Option (List ℕ)) → o ≡ Some r → P r → IsSomeAnd o P
 some_and P o is p = subst (λ o. IsSomeAnd o P) (sym is) p
 
 pub stands : (blocks : ℕ) (kept : ℕ → List ℕ) (image r : List ℕ) → 4096 * blocks ≤ length image → replayed blocks image ≡ Some r → Keeps blocks kept r → StandsFor blocks kept image
@@ -91,17 +91,6 @@ holds_from {blocks} {records} {placed} {kept} {from} others now image holds len 
       latest = λ n old. ap (λ es. look es n old) rest.all ∙ holds.latest n old;
       same = looks;
     }
-
--- the blocks that are kept may be told otherwise
-pub holds_as : {blocks : ℕ} {records : OpenRecords} {placed : List ℕ} {kept : ℕ → List ℕ} {image : List ℕ} (now : ℕ → List ℕ) → ((n : ℕ) → kept n ≡ now n) → Holds blocks records placed kept image → Holds blocks records placed now image
-holds_as now is holds = record {
-  enough = holds.enough;
-  long = holds.long;
-  form = holds.form;
-  ends = holds.ends;
-  latest = holds.latest;
-  same = λ n out not_in. holds.same n out not_in ∙ is n;
-}
 
 apart-journal : (at n : ℕ) → 4096 ≤ at → at + n ≤ 2367488 → (k : ℕ) → IsOutside k → Apart at n (4096 * k) 4096
 apart-journal at n low high k (inl none) = inl (omega (arith, none, low))

@@ -5,7 +5,7 @@ use Rattle.std.proofs.lemmas.Bool.{false≢true}
 use Rattle.lis_ports.specs.Meaning.{Meaning}
 use Rattle.lis_ports.specs.Bytes.{put, Torn}
 use Rattle.lis_ports.specs.Runs.{IsDiskRun, Leaves, Always, IsSettled}
-use Rattle.lis_ports.specs.Calls.{Elapses, IsSynced, IsUnsynced}
+use Rattle.lis_ports.specs.Calls.{Elapses, IsSynced}
 use Rattle.lis_ports.proofs.Always.{always_settled}
 use Rattle.lis_ports.proofs.Moments.{leaves_call, leaves_then, leaves_weaken}
 use Rattle.lis_journal.specs.Record.{block, gates, is_open, has_open, open_count, behind_gates, gates_closed, Entry, first_bad, all_recorded, behind, apply, bad_record, replayed, recovered_as, recovered}
@@ -18,7 +18,7 @@ use Rattle.lis_journal.proofs.Entries.{Within, block-apply, apply_alike}
 use Rattle.lis_journal.proofs.Spreading.{leaves_both}
 use Rattle.lis_journal.proofs.Gates.{all_closed, open_before, shut_first}
 use Rattle.lis_journal.proofs.Series.{all_sound}
-use Rattle.lis_journal.proofs.Phases.{replayed-good, replayed-bad, replayed-closed, shut_rest, stands_full, rest_stands}
+use Rattle.lis_journal.proofs.Phases.{replayed-good, replayed-bad, replayed-closed, shut_rest, some_and, stands_full, rest_stands}
 use Rattle.lis_journal.proofs.Saving.{on_ok, others_stand, others_fit, around_past, gates_around}
 
 -- ---- what the sync and the reads leave
@@ -50,9 +50,6 @@ reading_on {old} {m} {n} reading run quiet = record {
 
 reading_settled : {old m : Meaning} → Reading old m → IsSettled m old.bytes
 reading_settled reading = record { reads = reading.reads; only = reading.only }
-
-some_and : (P : List ℕ → Type 0) {r : List ℕ} (o : Option (List ℕ)) → o ≡ Some r → P r → IsSomeAnd o P
-some_and P o is p = subst (λ o. IsSomeAnd o P) (sym is) p
 
 -- ---- what a recovery makes of an image
 recovered-closed : (blocks : ℕ) (image : List ℕ) → has_open image ≡ false → recovered blocks image ≡ image
@@ -107,20 +104,6 @@ failed_recovers blocks (Err e) failed reading = record {
   left = tt;
   past = tt;
   settled_past = λ settled n le. ap (block n) reading.reads;
-}
-
--- at the first sync
-pub unsynced_recovers : {E : Type 0} (blocks : ℕ) {old m : Meaning} (e : E) → IsDiskRun old m → Elapses old m → IsUnsynced old m → Recovers {E = E} blocks old m (Err e)
-unsynced_recovers blocks {old} {m} e run time unsynced = record {
-  moments = leaves_call _ run time (λ image is. inl (unsynced.images.only image is));
-  images = tt;
-  ended = tt;
-  left = tt;
-  past = tt;
-  settled_past = λ settled. elim unsynced.bytes as (λ _. KeepsPast blocks old m) [
-    | inl image ↦ λ n le. settled m.bytes image n le
-    | inr same ↦ λ n le. ap (block n) same
-  ];
 }
 
 -- ---- closing the gates

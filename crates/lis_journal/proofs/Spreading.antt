@@ -3,7 +3,7 @@ use Rattle.std.proofs.Common.{◌≡◌, ◌⊎◌, ℕ, List, IsTrue, refl, sym
 use Rattle.lis_ports.specs.Meaning.{Meaning}
 use Rattle.lis_ports.specs.Bytes.{Torn}
 use Rattle.lis_ports.specs.Runs.{IsDiskRun, Leaves, Always}
-use Rattle.lis_ports.specs.Calls.{Elapses, IsUnchanged, IsTorn, IsSynced, IsUnsynced}
+use Rattle.lis_ports.specs.Calls.{Elapses, IsTorn, IsSynced, IsUnsynced}
 use Rattle.lis_ports.proofs.Moments.{leaves_none, leaves_call, leaves_then, leaves_weaken}
 use Rattle.lis_ports.proofs.Parts.{torn_refl}
 use Rattle.lis_journal.specs.Spreads.{Spreads}
@@ -22,15 +22,6 @@ spreads_torn {a} {b} R at n run time torn weaker =
       moments = leaves_call _ run time images;
       images = images;
       reads = (a.bytes, inr refl, weaker a.bytes b.bytes torn.bytes);
-    }
-
-pub spreads_unchanged : {a b : Meaning} (R : List ℕ → List ℕ → Type 0) → IsDiskRun a b → Elapses a b → IsUnchanged a b → ((image : List ℕ) → R image image) → Spreads a b R
-spreads_unchanged {a} {b} R run time same refl_R =
-    let images : (image : List ℕ) → b.images image → (from : List ℕ) × a.images from × R from image = λ image is. (image, same.images.only image is, refl_R image) in
-    record {
-      moments = leaves_call _ run time images;
-      images = images;
-      reads = (b.bytes, inr same.bytes, refl_R b.bytes);
     }
 
 pub spreads_synced : {a b : Meaning} (R : List ℕ → List ℕ → Type 0) → IsDiskRun a b → Elapses a b → IsSynced a b → ((image : List ℕ) → R image image) → Spreads a b R

@@ -15,7 +15,7 @@ put_between xs at n bytes is =
     ∙ ap (λ ys. take at xs ++ bytes ++ ys) (drop-drop (length bytes) at xs))
 
 -- places of one block are apart
-places_apart : (w a b : ℕ) → (a ≡ b → ⊥) → Apart (w * b) w (w * a) w
+pub places_apart : (w a b : ℕ) → (a ≡ b → ⊥) → Apart (w * b) w (w * a) w
 places_apart w a b differ = cases (cases_lt a b)
   where
     cases : (a < b) ⊎ (b ≤ a) → Apart (w * b) w (w * a) w

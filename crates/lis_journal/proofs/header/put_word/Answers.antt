@@ -1,5 +1,5 @@
 use Rattle.std.proofs.Common.{◌*◌}
-use Rattle.lis_journal.proofs.Headers.{put_between}
+use Rattle.lis_ports.proofs.Parts.{put_between}
 use Rattle.lis_journal.proofs.header.put_word.Goals as goal
 
 pub returns : goal.returns
