@@ -49,10 +49,17 @@ pub sets_row_same : (old new : Rows) (row : ℕ) (f g : ℕ → Bool) → SetsRo
 sets_row_same old new row f g sets same = record { bits = sets.bits; rows = sets.rows ∙ ap (λ values. set old.rows row values) (row_same old.bits f g same) }
 
 -- ---- rows of one shape, of which one row is set
+pub shaped : (r : Rows) (rows bits row : ℕ) (value : ℕ → Bool) → HasShape r rows bits → HasShape (with_row r row value) rows bits
+shaped r rows bits row value shape = record { tall = length-with_row r row value ∙ shape.tall; wide = shape.wide }
+
+-- the row that was set
+pub new_row : (r : Rows) (rows bits row bit : ℕ) (value : ℕ → Bool) → HasShape r rows bits → row < rows → bit < bits → get (with_row r row value) row bit ≡ value bit
+new_row r rows bits row bit value shape lt in_row = get-with_row_same r row bit value (omega (arith, shape.tall)) (omega (arith, shape.wide))
+
 pub bits_set : (old : Rows) (rows bits row : ℕ) (value : ℕ → Bool) → HasShape old rows bits → row < rows → SetsBits old (with_row old row value) rows bits row value
 bits_set old rows bits row value shape lt = record {
-  shape = record { tall = length-with_row old row value ∙ shape.tall; wide = shape.wide };
-  at = λ bit in_row. get-with_row_same old row bit value (omega (arith, shape.tall)) (omega (arith, shape.wide));
+  shape = shaped old rows bits row value shape;
+  at = λ bit in_row. new_row old rows bits row bit value shape lt in_row;
   others = λ other bit differ. get-with_row_other old row other bit value differ;
 }
 

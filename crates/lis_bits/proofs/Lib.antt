@@ -2,7 +2,7 @@ mod View
 mod Bits
 mod Joined
 mod Counts
-mod Subset
+pub mod Subset
 mod SharedBits
 mod OneRow
 pub mod Numbers

@@ -1,22 +1,11 @@
 -- Whether two rows have a true bit in common, from the words of the two.
 use Rattle.std.proofs.Common.{◌≡◌, ◌≢◌, ℕ, ◌*◌, ◌+◌, ◌/◌, ◌%◌, ◌^◌, ◌<◌, true, false, ◌&&◌, Bool, List, length, get_or, nat_eq, refl, sym, ap, ◌∙◌, arith, bit_and}
 use Rattle.std.specs.Int.{w64, trailing_zeros}
+use Rattle.std.proofs.lemmas.Bool.{and_parts, and_from}
 use Rattle.std.proofs.lemmas.Nat.{and_le_l}
 use Rattle.std.proofs.lemmas.Nat.Bits.{bit_at-trailing_zeros}
 use Rattle.lis_bits.specs.Words.{word_bit, words_bit}
 use Rattle.lis_bits.proofs.Bits.{and_bit, zero_bit}
-
-first_true : (x y : Bool) → (x && y) ≡ true → x ≡ true
-first_true true y h = refl
-first_true false y h = absurd cc
-
-second_true : (x y : Bool) → (x && y) ≡ true → y ≡ true
-second_true true y h = h
-second_true false y h = absurd cc
-
-both_true : (x y : Bool) → x ≡ true → y ≡ true → (x && y) ≡ true
-both_true true y h k = k
-both_true false y h k = absurd cc
 
 -- a word that is not 0 has a bit
 word_meets : (a b : ℕ) → a < 2 ^ 64 → bit_and a b ≢ 0 → (bit : ℕ) × (bit < 64) × (word_bit a bit ≡ true) × (word_bit b bit ≡ true)
@@ -26,7 +15,8 @@ word_meets a b fits some =
     let found = bit_at-trailing_zeros w64 both (omega arith) (omega arith) in
     let bit : ℕ = trailing_zeros w64 both in
     let set : (word_bit a bit && word_bit b bit) ≡ true = sym (and_bit a b bit) ∙ ap (λ n. nat_eq n 1) found.1 in
-    (bit, found.0, first_true (word_bit a bit) (word_bit b bit) set, second_true (word_bit a bit) (word_bit b bit) set)
+    let bits = and_parts (word_bit a bit) (word_bit b bit) set in
+    (bit, found.0, bits.0, bits.1)
 
 module _ (a b : List ℕ) (a_fit : (i : ℕ) → get_or a i 0 < 2 ^ 64) where
   pub words_meet : ((i : ℕ) × (i < length a) × (bit_and (get_or a i 0) (get_or b i 0) ≢ 0)) → (bit : ℕ) × (bit < 64 * length a) × (words_bit a bit ≡ true) × (words_bit b bit ≡ true)
@@ -46,6 +36,6 @@ module _ (a b : List ℕ) (a_fit : (i : ℕ) → get_or a i 0 < 2 ^ 64) where
     omega arith,
     λ none.
         let clear = ap (λ w. word_bit w (bit % 64)) none ∙ zero_bit (bit % 64) in
-        let set = and_bit (get_or a (bit / 64) 0) (get_or b (bit / 64) 0) (bit % 64) ∙ both_true (words_bit a bit) (words_bit b bit) in_a in_b in
+        let set = and_bit (get_or a (bit / 64) 0) (get_or b (bit / 64) 0) (bit % 64) ∙ and_from (words_bit a bit) (words_bit b bit) in_a in_b in
         cc,
   )

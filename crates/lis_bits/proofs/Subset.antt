@@ -6,7 +6,7 @@ use Rattle.std.proofs.lemmas.Nat.Bits.{bit_at-lt, bit_at-zero, same_from_bits_be
 use Rattle.lis_bits.specs.Words.{word_bit, words_bit}
 use Rattle.lis_bits.proofs.Bits.{and_not_bit, zero_bit}
 
-implied : (x y : Bool) → (x && not y) ≡ false → x ≡ true → y ≡ true
+pub implied : (x y : Bool) → (x && not y) ≡ false → x ≡ true → y ≡ true
 implied true true h t = refl
 implied true false h t = absurd cc
 implied false y h t = absurd cc

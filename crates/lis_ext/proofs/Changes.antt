@@ -1,18 +1,12 @@
 -- Rows that are changed one at a time, each with its mark and an edit.
 use Rattle.std.proofs.Common.{◌≡◌, ◌⊎◌, ℕ, ◌+◌, ◌<◌, ◌==◌, Bool, true, false, not, ◌&&◌, ◌||◌, if◌then◌else◌, List, length, get_or, take, refl, sym, ap, ◌∙◌, inl, inr, arith, eq-eqb}
 use Rattle.std.specs.List.Sorted.{IsStrictlyIncreasing}
-use Rattle.std.proofs.lemmas.Bool.{cases_eq, ne_eqb}
+use Rattle.std.proofs.lemmas.Bool.{cases_eq, ne_eqb, or_parts}
 use Rattle.lis_bits.specs.Rows.{HasShape, Rows, get, with_row}
-use Rattle.lis_bits.proofs.Laws.{get-with_row_same, get-with_row_other, length-with_row}
+use Rattle.lis_bits.proofs.Laws.{get-with_row_other, shaped, new_row}
 use Rattle.lis_ext.specs.Numbers.{has_number}
 use Rattle.lis_ext.specs.Inside.{Changes, AddsNumbers, DropsNumbers}
 use Rattle.lis_ext.proofs.Numbers.{numbers_more, numbers_le, has_more, not_before}
-
-shaped : (r : Rows) (rows bits row : ℕ) (value : ℕ → Bool) → HasShape r rows bits → HasShape (with_row r row value) rows bits
-shaped r rows bits row value shape = record { tall = length-with_row r row value ∙ shape.tall; wide = shape.wide }
-
-new_row : (r : Rows) (rows bits row bit : ℕ) (value : ℕ → Bool) → HasShape r rows bits → row < rows → bit < bits → get (with_row r row value) row bit ≡ value bit
-new_row r rows bits row bit value shape lt in_row = get-with_row_same r row bit value (omega (arith, shape.tall)) (omega (arith, shape.wide))
 
 or_true : (b : Bool) → (b || true) ≡ true
 or_true true = refl
@@ -78,14 +72,10 @@ module _ (old now old_marks marks : Rows) (props files file : ℕ) (numbers : Li
   has_other : (p : ℕ) → (p ≡ q → ⊥) → has_number (take (k + 1) numbers) p ≡ has_number (take k numbers) p
   has_other p differ = other_has numbers k lt p (λ e. differ (e ∙ sym next))
 
-  both_false : (x y : Bool) → (x || y) ≡ false → (x ≡ false) × (y ≡ false)
-  both_false true y e = absurd cc
-  both_false false y e = (refl, e)
-
   pub adds_number : get now q file ≡ false
       → AddsNumbers old (with_row now q (λ i. if i == file then true else get now q i)) old_marks (with_row marks 0 (λ p. if p == q then true else get marks 0 p)) props files file (take (k + 1) numbers)
   adds_number lacks_it =
-      let none = both_false (get old q file) (has_number (take k numbers) q) (sym at_file ∙ lacks_it) in
+      let none = or_parts (get old q file) (has_number (take k numbers) q) (sym at_file ∙ lacks_it) in
       changes_more old now old_marks marks props files _ (λ p. has_number (take (k + 1) numbers) p && not (get old p file)) _ (λ p i. if i == file then get old p file || has_number (take (k + 1) numbers) p else get old p i) q (λ i. if i == file then true else get now q i)
       h q_in (rw none.1) (rw (has_next, none.0))
       (λ p p_in differ. ap (λ b. b && not (get old p file)) (has_other p differ))

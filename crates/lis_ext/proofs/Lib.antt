@@ -1,4 +1,4 @@
 pub mod Numbers
 mod Changes
 mod Widened
-mod Seen
+pub mod Seen

@@ -51,7 +51,7 @@ seen-empty props files = rw (sets, numbers_same props (get (empty_rows 1 props) 
 pub none_marked : (marks : Rows) (props : ℕ) → HasShape marks 1 props → numbers_where props (get (with_row marks 0 (λ _. false)) 0) ≡ []
 none_marked marks props shape = numbers_same props (get (with_row marks 0 (λ _. false)) 0) (λ _. false) (λ p p_in. get-with_row_same marks 0 p (λ _. false) (omega (arith, shape.tall)) (omega (arith, shape.wide))) ∙ numbers_none props
 
-or_assoc : (x y z : Bool) → ((x || y) || z) ≡ (x || (y || z))
+pub or_assoc : (x y z : Bool) → ((x || y) || z) ≡ (x || (y || z))
 or_assoc true y z = refl
 or_assoc false y z = refl
 

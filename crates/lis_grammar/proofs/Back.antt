@@ -108,7 +108,7 @@ completes (SlashAfter g ∷ ops) steps f before last text e n w = record { befor
 alone : (ops : List Pending) (steps : List Formula) (f : Formula) (text : List ℕ) → takes_alt ops ≡ true → Negs ops steps f text → Alts ops steps f text
 alone ops steps f text t n = record { before = n.before; last = n.last; whole = n.whole; reads = neg n.last f n.reads; takes = t; wanted = n.wanted }
 
-regroup : (front left last : List ℕ) (b : ℕ) → (front ++ (left ++ b ∷ [])) ++ last ≡ front ++ (left ++ b ∷ last)
+pub regroup : (front left last : List ℕ) (b : ℕ) → (front ++ (left ++ b ∷ [])) ++ last ≡ front ++ (left ++ b ∷ last)
 regroup front left last b = simp append_assoc
 
 close_bar_back : (d : Done) (text : List ℕ) → Completed d text → AltCompleted (close_bar d) text

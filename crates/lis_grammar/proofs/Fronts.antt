@@ -17,7 +17,7 @@ use Rattle.lis_grammar.specs.Machine.Pending.{Bang, Open, BarAfter, SlashAfter}
 use Rattle.lis_grammar.specs.Machine.Done.{done}
 use Rattle.lis_grammar.specs.Machine.State.{Wants, Within, Complete}
 use Rattle.lis_grammar.proofs.Forth.{run-append, path_complete}
-use Rattle.lis_grammar.proofs.Back.{takes_alt, takes_path, Wanted, Stands, run_back, start_stands}
+use Rattle.lis_grammar.proofs.Back.{takes_alt, takes_path, Wanted, Stands, regroup, run_back, start_stands}
 
 -- some path begins with the text
 pub record BeginsPath (text : List ℕ) : Type 0 where
@@ -41,9 +41,6 @@ at_start steps text last f w a = elim w [
         path = rw (append-nil ((some.0 ++ 47 ∷ []) ++ last), append_assoc some.0 (47 ∷ []) last) (slash some.0 last steps f some.2 a);
       })
 ]
-
-regroup : (front left last : List ℕ) (b : ℕ) → (front ++ (left ++ b ∷ [])) ++ last ≡ front ++ (left ++ b ∷ last)
-regroup front left last b = simp append_assoc
 
 one_sign : (front last : List ℕ) (b : ℕ) → (front ++ b ∷ []) ++ last ≡ front ++ b ∷ last
 one_sign front last b = append_assoc front (b ∷ []) last
@@ -249,7 +246,7 @@ nil_of_append (x ∷ xs) ys h = absurd (cc)
 taken : (j : ℕ) (text rest : List ℕ) → j ≤ length text → take j text ++ rest ≡ [] → j ≡ 0
 taken j text rest short h = let none = nil_of_append (take j text) rest h in omega (arith, ap length none, length-take-le j text short)
 
-tail_of : (b c : ℕ) (xs ys : List ℕ) → b ∷ xs ≡ c ∷ ys → (b ≡ c) × (xs ≡ ys)
+pub tail_of : (b c : ℕ) (xs ys : List ℕ) → b ∷ xs ≡ c ∷ ys → (b ≡ c) × (xs ≡ ys)
 tail_of b c xs ys h = (cc, cc)
 
 rooted_longest : (text : List ℕ) (k : ℕ) → BreaksPath text k → (j : ℕ) → suc j ≤ suc (length text) → IsFront (47 ∷ take j text) → suc j ≤ suc k

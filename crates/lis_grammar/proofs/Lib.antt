@@ -6,4 +6,3 @@ pub mod Fronts
 pub mod Printed
 pub mod Fits
 pub mod Placed
-pub mod TextWords

@@ -44,10 +44,6 @@ module _ {K : Type 0} (own wide : K → List K) (edges more : List (K × K)) (wi
   pub entails_wider : (p q : K) → Entails own edges p q → Entails wide more p q
   entails_wider p q e = (e.0, chain_wider e.0 p q e.1)
 
-  -- fewer links have no circle where more have none
-  pub acyclic_wider : Acyclic wide more → Acyclic own edges
-  acyclic_wider none n p c = none n p (chain_wider (suc n) p p c)
-
 module _ {K : Type 0} (eq : K → K → Bool) (cmp : K → K → Ordering) (own : K → List K)
     (decides : (x y : K) → Decides (eq x y) (x ≡ y)) (exact : CmpEqualImpliesEq cmp)
     (ordered : IsOrdered own) where
@@ -170,9 +166,6 @@ module _ {K : Type 0} (eq : K → K → Bool) (cmp : K → K → Ordering) (own 
       by (inl old) = inl (entails_from_up edges p q old)
       by (inr new) = inr (entails_from_up edges p edge.0 new.0, entails_from_up edges edge.1 q new.1)
 
-  pub entails_trans : (edges : List (K × K)) (p q r : K) → Entails own edges p q → Entails own edges q r → Entails own edges p r
-  entails_trans edges p q r first rest = (first.0 + rest.0, chain_append own edges first.0 rest.0 p q r first.1 rest.1)
-
   pub entails_through : (edge : K × K) (edges : List (K × K)) (p q : K) → Entails own edges p edge.0 → Entails own edges edge.1 q → Entails own (edge ∷ edges) p q
   entails_through edge edges p q left right =
       let found = up_through edge edges p q (up_from_chain edges left.0 p edge.0 left.1) (up_from_chain edges right.0 edge.1 q right.1) in
@@ -289,14 +282,3 @@ module _ {K : Type 0} (eq : K → K → Bool) (cmp : K → K → Ordering)
   up_wider edges more within p q h =
       let chain = entails_wider own wide edges more within p q (entails_from_up eq cmp own decides exact own_ordered edges p q h) in
       up_from_chain eq cmp wide decides exact wide_ordered more chain.0 p q chain.1
-
--- links within each other make the same sets
-module _ {K : Type 0} (eq : K → K → Bool) (cmp : K → K → Ordering)
-    (decides : (x y : K) → Decides (eq x y) (x ≡ y)) (exact : CmpEqualImpliesEq cmp)
-    (own wide : K → List K) (own_ordered : IsOrdered own) (wide_ordered : IsOrdered wide) (order : IsTotalOrder cmp) where
-  pub up_alike : (edges more : List (K × K)) → IsLinkedWithin own wide edges more → IsLinkedWithin wide own more edges → (p : K) → up eq cmp own edges p ≡ up eq cmp wide more p
-  up_alike edges more to from p =
-      same_sets cmp order (up eq cmp own edges p) (up eq cmp wide more p)
-      (sorted_up eq cmp own decides exact own_ordered order edges p) (sorted_up eq cmp wide decides exact wide_ordered order more p)
-      (up_wider eq cmp decides exact own wide own_ordered wide_ordered edges more to p)
-      (up_wider eq cmp decides exact wide own wide_ordered own_ordered more edges from p)

@@ -3,3 +3,4 @@ pub mod Sets
 pub mod Graph
 pub mod Pairs
 pub mod Ranges
+pub mod Filters

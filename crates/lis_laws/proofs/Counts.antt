@@ -12,6 +12,7 @@ use Rattle.std.proofs.lemmas.Bool.{and_parts, and_from}
 use Rattle.std.proofs.lemmas.List.Sums.{sum_by-cons}
 use Rattle.lis_graph.specs.Graph.{is_rising}
 use Rattle.lis_graph.proofs.Members.{Among, among_filter, among_insert_key}
+pub use Rattle.lis_graph.proofs.Filters.{filter_le}
 use Rattle.lis_graph.proofs.Sets.{below_tail, sorted_tail, sorted_from_rising, sorted_insert_key}
 
 -- ---- tests of all members
@@ -62,14 +63,6 @@ module _ {K : Type 0} (cmp : K → K → Ordering) where
 
 -- ---- counts
 module _ {K : Type 0} where
-  pub filter_le : (keep : K → Bool) (xs : List K) → length (filter keep xs) ≤ length xs
-  filter_le keep [] = omega arith
-  filter_le keep (x ∷ xs) = by (keep x) (filter_le keep xs)
-    where
-      by : (b : Bool) → length (filter keep xs) ≤ length xs → length (cond b (x ∷ filter keep xs) (filter keep xs)) ≤ length (x ∷ xs)
-      by true more = omega (arith, more)
-      by false more = omega (arith, more)
-
   sum_first : (count : K → ℕ) (x : K) (xs : List K) → sum (map count (x ∷ xs)) ≡ count x + sum (map count xs)
   sum_first count x xs = sum_by-cons (λ n. n) (count x) (map count xs)
 

@@ -41,10 +41,6 @@ begun head rest no_plain behind before built_in h = by (or_cases _ _ h)
     by (inl either) = front (or_cases (is_plain_word (head ++ rest)) (is_head (head ++ rest)) either)
     by (inr valued) = or_right (has_word built_in_heads (head ++ rest)) _ (and_from _ _ valued (ap (has_word built_in_heads) before ∙ built_in))
 
--- a word that begins with this head
-BeginsWith : List ℕ → List ℕ → Type 0
-BeginsWith head word = (rest : List ℕ) × (head ++ rest ≡ word)
-
 -- ---- name and size
 suffix_built_in : (suffix : Option (List ℕ)) (word : List ℕ) → Among (suffix_words suffix) word → is_built_in word ≡ true
 suffix_built_in None word m = absurd m

@@ -56,7 +56,7 @@ entailed_few s t within few file m word has = omega (arith, few_of t few file m,
     inside : (w : List ℕ) → Among (up s.declared s.axioms word) w → Among (description t file) w
     inside w n = all_up_closed t.declared t.axioms _ word w has (up_wider s.declared t.declared s.axioms t.axioms within.declared within.axioms word w n)
 
-heads_le : (word : List ℕ) → length (heads word) ≤ 1
+pub heads_le : (word : List ℕ) → length (heads word) ≤ 1
 heads_le word = by (is_valued word)
   where
     by : (b : Bool) → length (cond b (head_bytes word ∷ []) []) ≤ 1

@@ -1,8 +1,9 @@
 -- A file has a candidate among its words exactly where it has an increment.
-use Rattle.std.proofs.Common.{◌≡◌, ◌⊎◌, ◌↔◌, ℕ, Bool, true, false, not, ◌&&◌, cond, List, [], ◌∷◌, filter, refl, sym, ap, subst, ◌∙◌, inl, inr}
+use Rattle.std.proofs.Common.{◌≡◌, ◌⊎◌, ◌↔◌, ℕ, Bool, true, false, not, ◌&&◌, List, [], filter, refl, sym, ap, subst, ◌∙◌, inl, inr}
 use Rattle.std.specs.List.{list_any, Contains}
 use Rattle.std.proofs.lemmas.Bool.{and_parts, and_from, not-true, not_from_false, false_from_ne_true}
 use Rattle.lis_graph.proofs.Members.{Among, among_from_any, any_from_among, among_filter, filter_among, among_from_contains, contains_from_among}
+pub use Rattle.lis_graph.proofs.Filters.{filter_same}
 use Rattle.lis_words.specs.Words.{same_word, has_word}
 use Rattle.lis_grammar.specs.Formula.{Formula}
 use Rattle.lis_model.specs.Table.{Table, Entry, entails}
@@ -11,21 +12,7 @@ use Rattle.lis_laws.specs.Laws.{is_uncovered}
 use Rattle.lis_laws.proofs.Members.{same_word_decides, among_from_has_word, has_word_from_among}
 use Rattle.lis_laws.proofs.Tops.{Top, topmost}
 use Rattle.lis_laws.proofs.Tables.{Sound}
-
--- two tests with the same meaning are one
-pub same_tests : (a b : Bool) → (a ≡ true → b ≡ true) → (b ≡ true → a ≡ true) → a ≡ b
-same_tests true b to from = sym (to refl)
-same_tests false true to from = from refl
-same_tests false false to from = refl
-
--- a filter by one of two tests that agree on the members
-pub filter_same : {K : Type 0} (f g : K → Bool) (xs : List K) → ((x : K) → Among xs x → f x ≡ g x) → filter f xs ≡ filter g xs
-filter_same f g [] same = refl
-filter_same f g (x ∷ xs) same = by (g x) (same x (inl refl)) (filter_same f g xs (λ y m. same y (inr m)))
-  where
-    by : (b : Bool) → f x ≡ b → filter f xs ≡ filter g xs → cond (f x) (x ∷ filter f xs) (filter f xs) ≡ cond b (x ∷ filter g xs) (filter g xs)
-    by true e rest = rw e (ap (λ ys. x ∷ ys) rest)
-    by false e rest = rw e rest
+pub use Rattle.lis_laws.proofs.Tables.{same_tests}
 
 -- ---- the order of candidates
 above_level : (t : Table) (files : List Entry) (p : List ℕ) → is_above t files p p ≡ false

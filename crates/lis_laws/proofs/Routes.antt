@@ -1,9 +1,10 @@
 -- The route to a file: it leads there by increments, it is the only one, and it is shorter than the extension.
-use Rattle.std.proofs.Common.{◌≡◌, ℕ, zero, suc, ◌<◌, ◌≤◌, Bool, true, false, not, ◌&&◌, ◌||◌, cond, Option, Some, List, [], ◌∷◌, ◌++◌, length, filter, refl, sym, ap, subst, ◌∙◌, inl, inr, arith}
+use Rattle.std.proofs.Common.{◌≡◌, ℕ, zero, suc, ◌<◌, ◌≤◌, Bool, true, false, ◌&&◌, ◌||◌, cond, Option, Some, List, [], ◌∷◌, ◌++◌, length, filter, refl, sym, ap, subst, ◌∙◌, inl, inr, arith}
 use Rattle.std.specs.List.{list_any, find}
 use Rattle.std.proofs.lemmas.Bool.{and_parts, not-true, not-false, not_from_false}
 use Rattle.std.proofs.lemmas.List.Folds.{list_all-append}
 use Rattle.lis_graph.proofs.Members.{Among, among_filter, filter_among, contains_from_among}
+use Rattle.lis_graph.proofs.Filters.{filter_same, filter_twice, filter_fewer}
 use Rattle.lis_words.specs.Words.{has_word}
 use Rattle.lis_grammar.specs.Formula.{Formula}
 use Rattle.lis_model.specs.Tests.{step_of}
@@ -11,34 +12,7 @@ use Rattle.lis_model.specs.Table.{Table, Entry}
 use Rattle.lis_model.specs.Listing.{holds, holds_all, extension, is_increment, increments, is_local, locals}
 use Rattle.lis_model.specs.Route.{first_increment, word_then, route_within, route, IsRoute, Leads}
 use Rattle.lis_laws.proofs.Tables.{Sound}
-use Rattle.lis_laws.proofs.Locals.{filter_same, local_is, candidate_of_increment}
-
--- ---- filters
-pub filter_twice : {K : Type 0} (f g : K → Bool) (xs : List K) → filter (λ x. f x && g x) xs ≡ filter g (filter f xs)
-filter_twice f g [] = refl
-filter_twice f g (x ∷ xs) = by (f x) (g x) refl (filter_twice f g xs)
-  where
-    by : (a b : Bool) → g x ≡ b → filter (λ y. f y && g y) xs ≡ filter g (filter f xs)
-        → cond (a && b) (x ∷ filter (λ y. f y && g y) xs) (filter (λ y. f y && g y) xs) ≡ filter g (cond a (x ∷ filter f xs) (filter f xs))
-    by true true e rest = rw e (ap (λ ys. x ∷ ys) rest)
-    by true false e rest = rw e rest
-    by false b e rest = rest
-
-filter_le : {K : Type 0} (f : K → Bool) (xs : List K) → length (filter f xs) ≤ length xs
-filter_le f [] = omega arith
-filter_le f (x ∷ xs) = by (f x) (filter_le f xs)
-  where
-    by : (b : Bool) → length (filter f xs) ≤ length xs → length (cond b (x ∷ filter f xs) (filter f xs)) ≤ length (x ∷ xs)
-    by true more = omega (arith, more)
-    by false more = omega (arith, more)
-
-filter_fewer : {K : Type 0} (f : K → Bool) (xs : List K) → list_any (λ x. not (f x)) xs ≡ true → length (filter f xs) < length xs
-filter_fewer f [] h = absurd cc
-filter_fewer f (x ∷ xs) h = by (f x) h (filter_fewer f xs)
-  where
-    by : (b : Bool) → (not b || list_any (λ y. not (f y)) xs) ≡ true → (list_any (λ y. not (f y)) xs ≡ true → length (filter f xs) < length xs) → length (cond b (x ∷ filter f xs) (filter f xs)) < length (x ∷ xs)
-    by true some more = omega (arith, more some)
-    by false some more = omega (arith, filter_le f xs)
+use Rattle.lis_laws.proofs.Locals.{local_is, candidate_of_increment}
 
 -- ---- the first member that passes a test
 find_some : {K : Type 0} (f : K → Bool) (xs : List K) → list_any f xs ≡ true → (x : K) × (find f xs ≡ Some x)
@@ -49,7 +23,7 @@ find_some f (x ∷ xs) h = by (f x) h (find_some f xs)
     by true some more = (x, refl)
     by false some more = more some
 
-find_among : {K : Type 0} (f : K → Bool) (xs : List K) (x : K) → find f xs ≡ Some x → Among xs x × (f x ≡ true)
+pub find_among : {K : Type 0} (f : K → Bool) (xs : List K) (x : K) → find f xs ≡ Some x → Among xs x × (f x ≡ true)
 find_among f [] x h = absurd cc
 find_among f (y ∷ ys) x h = by (f y) refl h (find_among f ys x)
   where
@@ -71,7 +45,7 @@ holds_further t sound place p there file m =
 pub extension_further : (t : Table) → Sound t → (place : List Formula) (p : List ℕ) → Among t.known p → extension t (place ++ step_of p ∷ []) ≡ filter (λ (file : Entry). has_word file.words p) (extension t place)
 extension_further t sound place p there =
     filter_same (holds_all (place ++ step_of p ∷ [])) (λ (file : Entry). holds_all place file && has_word file.words p) t.files (holds_further t sound place p there)
-    ∙ filter_twice (holds_all place) (λ (file : Entry). has_word file.words p) t.files
+    ∙ sym (filter_twice (holds_all place) (λ (file : Entry). has_word file.words p) t.files)
 
 pub increment_known : (t : Table) (place : List Formula) (p : List ℕ) → Among (increments t place) p → Among t.known p
 increment_known t place p m = (among_filter (is_increment t (extension t place)) t.known p m).0

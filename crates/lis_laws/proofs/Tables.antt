@@ -49,10 +49,11 @@ entails_made s p q m h =
     (and_from _ _ ((same_word_decides p p).1 refl) (has_word_from_among (up s.declared s.axioms p) q h))
 
 -- ---- the step of a word
-same_truth : (a b : Bool) → (a ≡ true → b ≡ true) → (b ≡ true → a ≡ true) → a ≡ b
-same_truth true b to from = sym (to refl)
-same_truth false true to from = from refl
-same_truth false false to from = refl
+-- two tests with the same meaning are one
+pub same_tests : (a b : Bool) → (a ≡ true → b ≡ true) → (b ≡ true → a ≡ true) → a ≡ b
+same_tests true b to from = sym (to refl)
+same_tests false true to from = from refl
+same_tests false false to from = refl
 
 step_holds : (s : State) → WellFormed s → (file : File) → Among s.files file → (p : List ℕ) → Among (known s) p
     → holds (step_of p) (entry_of s.declared s.axioms file) ≡ has_word (description s file) p
@@ -76,7 +77,7 @@ step_holds s formed file m p there = by (test_of p) refl
     by (Some test) e =
         let is : is_test p ≡ true = ap (λ (o : Option (Bool × ℕ)). is_some o) e in
         size_of test ∙ sym (ap (λ (o : Option (Bool × ℕ)). is_met o (length file.bytes)) e)
-        ∙ same_truth (is_met (test_of p) (length file.bytes)) (has_word (description s file) p) (had is) (meets is)
+        ∙ same_tests (is_met (test_of p) (length file.bytes)) (has_word (description s file) p) (had is) (meets is)
 
 -- ---- the table of a state
 pub table_sound : (s : State) → WellFormed s → Sound (table s)

@@ -212,11 +212,6 @@ with_payload text payload more size is =
     by (inl h) = absurd (omega (arith, h.1, is, length-append payload more))
     by (inr h) = h.0
 
--- a payload, and its line feed
-pub with_whole : (text payload more : List ℕ) (size : ℕ) → length payload ≡ size
-    → first_with text size (payload ++ 10 ∷ more) ≡ record { item = item_of text (payload_of size payload); rest = more; is_whole = true }
-with_whole text payload more size is = with_payload text payload (10 ∷ more) size is
-
 -- a payload, and the end of the input
 pub with_end : (text payload : List ℕ) (size : ℕ) → length payload ≡ size
     → first_with text size payload ≡ record { item = item_of text (payload_of size payload); rest = []; is_whole = false }
@@ -226,29 +221,3 @@ with_end text payload size is = ap (first_with text size) (sym (append-nil paylo
 pub with_other : (text payload : List ℕ) (b : ℕ) (more : List ℕ) (size : ℕ) → length payload ≡ size → is_feed b ≡ false
     → first_with text size (payload ++ b ∷ more) ≡ record { item = Some (Bad PayloadEnd); rest = after_feed more; is_whole = list_any is_feed more }
 with_other text payload b more size is other = with_payload text payload (b ∷ more) size is ∙ rw other refl
-
--- a line with its line feed, whatever follows
-pub all_items_line : (text more : List ℕ) → IsOneLine text → payload_size text ≡ None
-    → all_items (text ++ 10 ∷ more) ≡ option_to_list (item_of text no_payload) ++ all_items more
-all_items_line text more one none = all_items_of (text ++ 10 ∷ more) _ (some_front text more) (line_alone text more one none)
-
-pub whole_items_line : (text more : List ℕ) → IsOneLine text → payload_size text ≡ None
-    → whole_items (text ++ 10 ∷ more) ≡ option_to_list (item_of text no_payload) ++ whole_items more
-whole_items_line text more one none = whole_items_of (text ++ 10 ∷ more) _ (some_front text more) (line_alone text more one none)
-
--- a last line without a line feed
-pub all_items_last : (text : List ℕ) → IsOneLine text → payload_size text ≡ None → 0 < length text
-    → all_items text ≡ option_to_list (item_of text no_payload)
-all_items_last text one none some =
-    all_items_of text _ some (last_alone text one none)
-    ∙ ap (λ items. option_to_list (item_of text no_payload) ++ items) all_items_none
-    ∙ append-nil (option_to_list (item_of text no_payload))
-
-pub whole_items_last : (text : List ℕ) → IsOneLine text → whole_items text ≡ []
-whole_items_last [] one = whole_items_none
-whole_items_last (b ∷ text) one = by (payload_size (b ∷ text)) refl
-  where
-    by : (size : Option ℕ) → payload_size (b ∷ text) ≡ size → whole_items (b ∷ text) ≡ []
-    by None is = whole_items_of (b ∷ text) _ (omega arith) (last_alone (b ∷ text) one is)
-    by (Some zero) is = whole_items_of (b ∷ text) _ (omega arith) (last_with (b ∷ text) zero one is ∙ with_end (b ∷ text) [] zero refl)
-    by (Some (suc n)) is = whole_items_of (b ∷ text) _ (omega arith) (last_with (b ∷ text) (suc n) one is ∙ with_cut (b ∷ text) [] (suc n) (omega arith))

@@ -30,7 +30,7 @@ pub record Outcome : Type 0 where
   pub next : Situation
   pub reply : List ℕ
 
--- the bytes that come behind a command's line: how many, and the bytes themselves where a file may have so many
+-- the bytes that come behind a command's line: how many, and the bytes themselves where they are at most `payload_limit`
 pub record Payload : Type 0 where
   pub size : ℕ
   pub bytes : List ℕ

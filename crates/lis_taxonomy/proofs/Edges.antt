@@ -95,6 +95,10 @@ reach_step linked props p next q p_in next_in bit rest =
     (graph.up_edge nat_eq nat_cmp no_links nat_decides exact_unsigned no_links_ordered (edge_list linked props) p next (edges_among linked props p next p_in next_in bit))
     (among_from_reach linked props next q rest))
 
+pub reach_trans : (linked : Rows) (props a b c : ℕ) → reach linked props a b ≡ true → reach linked props b c ≡ true → reach linked props a c ≡ true
+reach_trans linked props a b c h k =
+    reach_from_among linked props a c (graph.up_trans nat_eq nat_cmp no_links nat_decides exact_unsigned no_links_ordered (edge_list linked props) a b c (among_from_reach linked props a b h) (among_from_reach linked props b c k))
+
 -- what a number is linked to entails less than it
 pub fewer_ups : (linked : Rows) (props p next : ℕ) → IsAcyclicTable linked props → p < props → next < props → get linked p next ≡ true → length (ups linked props next) < length (ups linked props p)
 fewer_ups linked props p next acyclic p_in next_in bit =

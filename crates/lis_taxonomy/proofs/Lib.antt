@@ -1,5 +1,5 @@
 mod Edges
 mod Loops
 mod Remakes
-mod Seen
+pub mod Seen
 pub mod Laws

@@ -2,16 +2,9 @@
 use Rattle.std.proofs.Common.{◌≡◌, ◌⊎◌, ◌↔◌, ℕ, ◌+◌, ◌<◌, ◌≤◌, ◌==◌, Bool, true, false, ◌&&◌, ◌||◌, nat_eq, if◌then◌else◌, refl, sym, ap, ◌∙◌, inl, inr, arith, eq-eqb}
 use Rattle.std.proofs.lemmas.Bool.{cases_eq, cases_lt, cases_order, ne_eqb, eqb-true}
 use Rattle.lis_bits.specs.Rows.{HasShape, Rows, get, with_row, NoneTrue}
-use Rattle.lis_bits.proofs.Laws.{get-with_row_same, get-with_row_other, length-with_row}
+use Rattle.lis_bits.proofs.Laws.{get-with_row_other, shaped, new_row}
 use Rattle.lis_taxonomy.specs.Inside.{Gathers}
 use Rattle.lis_taxonomy.specs.Steps.{ReachThemselves, WidensTo, GathersTo, MarksTo}
-
-pub shaped : (r : Rows) (rows bits row : ℕ) (value : ℕ → Bool) → HasShape r rows bits → HasShape (with_row r row value) rows bits
-shaped r rows bits row value shape = record { tall = length-with_row r row value ∙ shape.tall; wide = shape.wide }
-
--- the row that was set
-pub new_row : (r : Rows) (rows bits row bit : ℕ) (value : ℕ → Bool) → HasShape r rows bits → row < rows → bit < bits → get (with_row r row value) row bit ≡ value bit
-new_row r rows bits row bit value shape lt in_row = get-with_row_same r row bit value (omega (arith, shape.tall)) (omega (arith, shape.wide))
 
 same_test : (p q : ℕ) → nat_eq p q ≡ nat_eq q p
 same_test p q = elim (cases_eq p q) [ inl same ↦ eq-eqb p q same ∙ sym (eq-eqb q p (sym same)) | inr differ ↦ ne_eqb p q differ ∙ sym (ne_eqb q p (λ e. differ (sym e))) ]

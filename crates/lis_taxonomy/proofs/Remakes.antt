@@ -2,10 +2,10 @@
 use Rattle.std.proofs.Common.{◌≡◌, ◌⊎◌, ℕ, ◌+◌, ◌<◌, ◌≤◌, ◌==◌, Bool, true, false, if◌then◌else◌, refl, sym, ap, ◌∙◌, inl, inr, arith, eq-eqb}
 use Rattle.std.proofs.lemmas.Bool.{cases_eq, cases_lt, cases_order, ne_eqb}
 use Rattle.lis_bits.specs.Rows.{Rows, get, with_row, NoneTrue}
+use Rattle.lis_bits.proofs.Laws.{shaped, new_row}
 use Rattle.lis_taxonomy.specs.Inside.{Gathers, IsPartlyRight, reach}
 use Rattle.lis_taxonomy.specs.Steps.{RemakesTo}
 use Rattle.lis_taxonomy.proofs.Edges.{reach_self, reach_step, first_step}
-use Rattle.lis_taxonomy.proofs.Loops.{shaped, new_row}
 
 -- one more of the words that the word is linked to is made anew, or was not stale
 pub remakes_more : (linked old_stale reached stale reached' stale' : Rows) (props word start next : ℕ) → RemakesTo linked old_stale reached stale props word start → IsPartlyRight linked reached' stale' props

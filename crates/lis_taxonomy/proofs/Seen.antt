@@ -8,15 +8,14 @@ use Rattle.std.specs.FinSet as set
 use Rattle.std.proofs.lemmas.Bool.{cases_eq, ne_eqb, eqb-true}
 use Rattle.std.proofs.lemmas.Map.Lookups.{CmpEqualImpliesEq, exact_unsigned}
 use Rattle.lis_bits.specs.Rows.{HasShape, Rows, get, with_row, empty_rows}
-use Rattle.lis_bits.proofs.Laws.{get-with_row_other, get-empty_rows}
+use Rattle.lis_bits.proofs.Laws.{get-with_row_other, get-empty_rows, shaped, new_row}
 use Rattle.lis_graph.specs.Graph.{Linked}
 use Rattle.lis_graph.proofs.Members.{Among, among_from_any, any_from_among, among_from_contains, contains_from_among}
 use Rattle.lis_graph.proofs.Pairs.{pairs_total, pairs_exact}
 use Rattle.lis_graph.proofs.Graph as graph
 use Rattle.lis_taxonomy.specs.Taxonomy.{pair_cmp, no_links, has_edge, Entails, IsAcyclic, entails, with_edge, without_edge, empty_taxonomy}
 use Rattle.lis_taxonomy.specs.Inside.{edge_list, reach, IsAcyclicTable, seen, IsSound, IsWidened, IsPartlyRight}
-use Rattle.lis_taxonomy.proofs.Edges.{IsOneMore, among_edges, edges_among, big_among, among_big, reach_with, acyclic_with, acyclic_without, reach_decides, acyclic_decides, first_step, reach_self, nat_decides, no_links_ordered}
-use Rattle.lis_taxonomy.proofs.Loops.{shaped, new_row}
+use Rattle.lis_taxonomy.proofs.Edges.{IsOneMore, among_edges, edges_among, big_among, among_big, reach_with, acyclic_with, acyclic_without, reach_decides, acyclic_decides, first_step, reach_self, reach_trans, nat_decides, no_links_ordered}
 
 -- ---- sets of pairs
 pair_total : IsTotalOrder pair_cmp
@@ -25,7 +24,7 @@ pair_total = pairs_total nat_cmp nat_cmp nat_cmp_total nat_cmp_total exact_unsig
 pair_exact : CmpEqualImpliesEq pair_cmp
 pair_exact = pairs_exact nat_cmp nat_cmp nat_cmp_total nat_cmp_total exact_unsigned exact_unsigned
 
-pair_decides : (a b : ℕ × ℕ) → Decides (eq_by_cmp pair_cmp a b) (a ≡ b)
+pub pair_decides : (a b : ℕ × ℕ) → Decides (eq_by_cmp pair_cmp a b) (a ≡ b)
 pair_decides a b = (
   λ h. pair_exact a b ((Equal-is (pair_cmp a b)).0 h),
   λ same. (Equal-is (pair_cmp a b)).1 (ap (λ k. pair_cmp a k) (sym same) ∙ tied_itself pair_total a),
@@ -224,6 +223,32 @@ sound_added linked reached reached' stale props p q sound p_in q_in apart widene
       right = λ a b a_in b_in. widened.bits a b a_in b_in
           ∙ ((λ i. sound.right a b a_in b_in i || (sound.right a p a_in p_in i && sound.right q b q_in b_in i)) ∙ sym (reach_with linked linked' props p q one a b));
     }
+
+-- rows where p has q are as wide as an edge from p to q makes them
+widened_already : (linked reached stale : Rows) (props p q : ℕ) → IsSound linked reached stale props → p < props → q < props → get reached p q ≡ true → IsWidened reached reached props p q
+widened_already linked reached stale props p q sound p_in q_in there = record {
+  shape = sound.reached_shape;
+  bits = λ a b a_in b_in. by a b a_in b_in (get reached a b) (get reached a p) (get reached q b) refl refl refl;
+}
+  where
+    right : (a b : ℕ) → a < props → b < props → get reached a b ≡ true → reach linked props a b ≡ true
+    right a b a_in b_in h = sym (sound.right a b a_in b_in) ∙ h
+
+    through : (a b : ℕ) → a < props → b < props → get reached a p ≡ true → get reached q b ≡ true → get reached a b ≡ true
+    through a b a_in b_in h k = sound.right a b a_in b_in
+        ∙ reach_trans linked props a q b (reach_trans linked props a p q (right a p a_in p_in h) (right p q p_in q_in there)) (right q b q_in b_in k)
+
+    by : (a b : ℕ) → a < props → b < props → (x y z : Bool) → get reached a b ≡ x → get reached a p ≡ y → get reached q b ≡ z → x ≡ (x || (y && z))
+    by a b a_in b_in true y z e f g = refl
+    by a b a_in b_in false true true e f g = absurd (let k = through a b a_in b_in f g in cc)
+    by a b a_in b_in false true false e f g = refl
+    by a b a_in b_in false false z e f g = refl
+
+-- so they stay
+pub sound_known : (linked reached stale : Rows) (props p q : ℕ) → IsSound linked reached stale props → p < props → q < props → get reached q p ≡ false → get reached p q ≡ true
+    → IsSound (with_row linked p (λ k. if k == q then true else get linked p k)) reached stale props
+sound_known linked reached stale props p q sound p_in q_in apart there =
+    sound_added linked reached reached stale props p q sound p_in q_in apart (widened_already linked reached stale props p q sound p_in q_in there)
 
 module _ (linked reached stale : Rows) (props p q : ℕ) (sound : IsSound linked reached stale props) (p_in : p < props) (q_in : q < props) (there : get linked p q ≡ true) where
   pub acyclic_removed : IsAcyclicTable (with_row linked p (λ k. if k == q then false else get linked p k)) props

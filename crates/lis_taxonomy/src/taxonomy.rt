@@ -83,7 +83,10 @@ impl Taxonomy {
             return Err(EdgeFault::Cycle);
         }
         self.linked.put(p, q, true);
-        tables::widen(&mut self.reached, self.props, p, q);
+        // Where p entails q already, no row changes.
+        if !self.reached.get(p, q) {
+            tables::widen(&mut self.reached, self.props, p, q);
+        }
         Ok(())
     }
 
