@@ -27,9 +27,3 @@ pub record Held : Type 0 where
 -- nothing is staged, and nothing is placed
 abbrev pub IsIdle : Held → Type 0
 IsIdle journal = (journal.staged ≡ []) × (journal.placed ≡ [])
-
--- They are over the same image, with the same open records and the same placed blocks.
-pub record IsOverSame (old new : Held) : Type 0 where
-  pub blocks : new.blocks ≡ old.blocks
-  pub records : new.records ≡ old.records
-  pub placed : new.placed ≡ old.placed
