@@ -249,7 +249,7 @@ nil_of_append (x ∷ xs) ys h = absurd (cc)
 taken : (j : ℕ) (text rest : List ℕ) → j ≤ length text → take j text ++ rest ≡ [] → j ≡ 0
 taken j text rest short h = let none = nil_of_append (take j text) rest h in omega (arith, ap length none, length-take-le j text short)
 
-tail_of : (b c : ℕ) (xs ys : List ℕ) → b ∷ xs ≡ c ∷ ys → (b ≡ c) × (xs ≡ ys)
+pub tail_of : (b c : ℕ) (xs ys : List ℕ) → b ∷ xs ≡ c ∷ ys → (b ≡ c) × (xs ≡ ys)
 tail_of b c xs ys h = (cc, cc)
 
 rooted_longest : (text : List ℕ) (k : ℕ) → BreaksPath text k → (j : ℕ) → suc j ≤ suc (length text) → IsFront (47 ∷ take j text) → suc j ≤ suc k
