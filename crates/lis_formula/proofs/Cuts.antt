@@ -1,6 +1,7 @@
 -- The array and the starts say the same as the stack of texts.
 use Rattle.std.proofs.Common.{◌≡◌, ℕ, ◌+◌, ◌<◌, ◌≤◌, List, [], ◌∷◌, ◌++◌, length, take, drop, reverse, refl, ap, sym, ◌∙◌, arith, append_assoc, length-append}
 use Rattle.std.proofs.lemmas.List.{take_at, drop_at, reverse-append, length-reverse}
+use Rattle.lis_grammar.proofs.Fronts.{tail_of}
 use Rattle.lis_formula.specs.Pieces.{joined, starts_of, cut_at, IsCut, with_end, with_joint}
 
 pub cut_back : (stack : List (List ℕ)) → cut_at (starts_of stack) (joined stack) ≡ stack
@@ -52,9 +53,6 @@ stack_end text starts more bytes (last ∷ stack) s some e =
 
 -- the last two become one
 
-heads : (n m : ℕ) (xs ys : List ℕ) → n ∷ xs ≡ m ∷ ys → (n ≡ m) × (xs ≡ ys)
-heads n m xs ys h = (cc, cc)
-
 pub record Joins (text starts rest : List ℕ) (start : ℕ) (stack : List (List ℕ)) : Type 0 where
   pub inside : start ≤ length text
   pub after : (b : ℕ) (more : List ℕ) → more ≡ take start text ++ b ∷ drop start text → IsStack more rest (with_joint b stack)
@@ -65,7 +63,7 @@ stack_join text starts rest start [] s two e = absurd (let count = stack_count t
 stack_join text starts rest start (right ∷ []) s two e = absurd (let count = stack_count text starts (right ∷ []) s in omega (arith, count))
 stack_join text starts rest start (right ∷ left ∷ stack) s two e =
     let before = joined stack ++ left in
-    let split = heads start (length before) (reverse rest) (starts_of (left ∷ stack)) (sym (ap reverse e ∙ reverse-append rest (start ∷ [])) ∙ s.places) in
+    let split = tail_of start (length before) (reverse rest) (starts_of (left ∷ stack)) (sym (ap reverse e ∙ reverse-append rest (start ∷ [])) ∙ s.places) in
     let at = split.0 in
     record {
       inside = omega (arith, at, ap length s.whole, length-append before right);

@@ -11,7 +11,7 @@ use Rattle.lis_place.specs.declared.node.Node.{Node}
 use Rattle.lis_place.specs.declared.node.Node.TheVariants.{Not, And, Or}
 use Rattle.lis_place.specs.Nodes.{tree_node_list, nodes_of}
 use Rattle.lis_place.proofs.Trees.{IsMeaning, steps_values}
-use Rattle.lis_place.proofs.Tallies.{tree_bytes, within_bytes}
+use Rattle.lis_place.proofs.Tallies.{joint_bytes, tree_bytes, within_bytes}
 use Rattle.lis_formula.specs.Pieces.{joined}
 use Rattle.lis_formula.specs.Printer.{node_bytes, all_bytes, with_text, chained, slashed}
 
@@ -30,9 +30,6 @@ pub steps_printed : (steps : List Formula) → fold with_text [] (nodes_of steps
 steps_printed steps = steps_values printed_tree with_text prints steps [] ∙ append-nil (reverse (map printed_tree steps))
 
 -- their bytes
-
-joint_bytes : (left right : List ℕ) (sign : ℕ) → length (40 ∷ ((left ++ sign ∷ right) ++ 41 ∷ [])) ≡ length left + length right + 3
-joint_bytes left right sign = omega (arith, length-append (left ++ sign ∷ right) (41 ∷ []), length-append left (sign ∷ right))
 
 two_trees : (f g : Formula) (sign : Node) → node_bytes sign ≡ 3 → all_bytes (tree_node_list f) ≡ length (printed_tree f) → all_bytes (tree_node_list g) ≡ length (printed_tree g)
     → all_bytes ((tree_node_list f ++ tree_node_list g) ++ sign ∷ []) ≡ length (printed_tree f) + length (printed_tree g) + 3

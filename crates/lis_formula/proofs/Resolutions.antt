@@ -1,8 +1,8 @@
 -- What a text makes of a place, by what the text reads to.
-use Rattle.std.proofs.Common.{◌≡◌, ℕ, ◌<◌, ◌≤◌, Bool, true, false, cond, inl, inr, Option, Some, None, List, ◌++◌, length, refl, ap, sym, ◌∙◌, codes, nat_lt, MatchOption}
+use Rattle.std.proofs.Common.{◌≡◌, ℕ, ◌≤◌, Bool, true, false, inl, inr, Option, Some, None, List, ◌++◌, length, ap, sym, ◌∙◌, codes, nat_lt, MatchOption}
 use Rattle.std.specs.Prelude.{Result, Ok, Err, IfSome}
 use Rattle.std.specs.Option.{ok_or}
-use Rattle.std.proofs.lemmas.Bool.{cond-true, cond-false, lt-ltb, le-ltb}
+use Rattle.std.proofs.lemmas.Bool.{cond-true, cond-false, le-ltb}
 use Rattle.lis_words.specs.Words.{same_word}
 use Rattle.lis_grammar.specs.Formula.{Formula}
 use Rattle.lis_grammar.specs.Machine.{text_steps}
@@ -13,6 +13,7 @@ use Rattle.lis_place.specs.declared.place.Path.{Path}
 use Rattle.lis_formula.specs.declared.fault.FormulaFault.{FormulaFault}
 use Rattle.lis_formula.specs.declared.fault.FormulaFault.TheVariants.{TooLarge, Syntax}
 use Rattle.lis_formula.specs.Answers.{Answers, Computes, IsResolution}
+use Rattle.lis_formula.proofs.TextWords.{long_beyond, large_beyond}
 
 within : (steps : List Formula) → IsPlace steps → within_limits steps ≡ NewPlace steps
 within steps p = cond-true (is_place steps) _ _ (test_from_place steps p)
@@ -38,30 +39,16 @@ read_text : (place : List Formula) (text : List ℕ) → same_word text (codes "
 unfolding resolved
 read_text place text h short = cond-false (same_word text (codes "..")) _ _ h ∙ cond-false (nat_lt 1024 (length text)) _ _ (le-ltb 1024 (length text) short)
 
-long_text : (place : List Formula) (text : List ℕ) → same_word text (codes "..") ≡ false → 1024 < length text → resolved place text ≡ BeyondLimits
-unfolding resolved
-long_text place text h long = cond-false (same_word text (codes "..")) _ _ h ∙ cond-true (nat_lt 1024 (length text)) _ _ (lt-ltb 1024 (length text) long)
-
 pub path_followed : (place : List Formula) (text : List ℕ) (path : Path) → same_word text (codes "..") ≡ false
     → Answers text (Ok path) → Computes text (Ok path) → resolved place text ≡ within_limits (steps_from place path.rooted path.place)
 path_followed place text path h a e =
     read_text place text h a.0 ∙ (ap (resolved_path place text) e ∙ cond-true (is_place path.place) _ _ (test_from_place path.place a.2))
 
-beyond_path : (place : List Formula) (text : List ℕ) (path : Bool × List Formula) → same_word text (codes "..") ≡ false → text_steps text ≡ Some path → is_place path.1 ≡ false
-    → resolved place text ≡ BeyondLimits
-unfolding resolved
-beyond_path place text path h e f =
-    cond-false (same_word text (codes "..")) _ _ h ∙ by (nat_lt 1024 (length text))
-  where
-    by : (t : Bool) → cond t BeyondLimits (resolved_path place text (text_steps text)) ≡ BeyondLimits
-    by true = refl
-    by false = ap (resolved_path place text) e ∙ cond-false (is_place path.1) _ _ f
-
 pub fault_answered : (place : List Formula) (text : List ℕ) (fault : FormulaFault) → same_word text (codes "..") ≡ false
     → Answers text (Err fault) → Computes text (Err fault) → IsResolution (resolved place text) (Err fault)
 fault_answered place text TooLarge h a e = elim e [
-  | inl long ↦ long_text place text h long
-  | inr found ↦ beyond_path place text found.0 h found.1 found.2
+  | inl long ↦ long_beyond place text h long
+  | inr found ↦ large_beyond place text found.0 h found.1 found.2
 ]
 fault_answered place text (Syntax k) h a e =
     read_text place text h a.0 ∙ (ap (resolved_path place text) e.0 ∙ ap Unreadable (sym e.1))

@@ -38,7 +38,7 @@ tally_mark t bytes = rw (le-leb 1 (t.trees + 1) (omega arith)) (ap (λ u. Some u
 tally_joint : (t : Tally) (left right bytes : ℕ) → bytes ≡ left + right + 3 → with_joint (added (added t 1 left) 1 right) ≡ Some (added t 1 bytes)
 tally_joint t left right bytes e = rw (le-leb 2 (t.trees + 1 + 1) (omega arith)) (ap (λ u. Some u) (same_tally _ _ (omega arith) (omega arith)))
 
-joint_bytes : (left right : List ℕ) (sign : ℕ) → length (40 ∷ ((left ++ sign ∷ right) ++ 41 ∷ [])) ≡ length left + length right + 3
+pub joint_bytes : (left right : List ℕ) (sign : ℕ) → length (40 ∷ ((left ++ sign ∷ right) ++ 41 ∷ [])) ≡ length left + length right + 3
 joint_bytes left right sign = omega (arith, length-append (left ++ sign ∷ right) (41 ∷ []), length-append left (sign ∷ right))
 
 tally_tree : (f : Formula) (t : Tally) (nodes : List Node) → IsFit f → tally_after t (tree_node_list f ++ nodes) ≡ tally_after (added t 1 (length (printed_tree f))) nodes
