@@ -12,7 +12,7 @@ use Rattle.std.proofs.lemmas.List.Folds.{list_all-map}
 use Rattle.std.proofs.lemmas.Map.Entries.{option_filter}
 use Rattle.std.proofs.lemmas.Slice.Eq.{bytes_eq-Decides}
 use Rattle.lis_graph.proofs.Sets.{below_tail, sorted_tail}
-use Rattle.lis_words.specs.Words.{word_cmp, same_word}
+use Rattle.lis_words.specs.Words.{word_cmp}
 use Rattle.lis_fields.specs.Records.{FileRecord}
 use Rattle.lis_fields.specs.Layouts.{are_distinct}
 use Rattle.lis_catalog.specs.Catalog.{Filed, Catalog, slot_of, rec_at, filed_cmp, with_filed, without_slot, IsCatalog}
@@ -53,13 +53,6 @@ module _ (test : Filed → Bool) (f : Filed) where
 map_cond : {A B : Type 0} (v : A → B) (b : Bool) (x : A) (o : Option A) → option_map v (cond b (Some x) o) ≡ cond b (Some (v x)) (option_map v o)
 map_cond v true x o = refl
 map_cond v false x o = refl
-
-pub slot_of-with_filed : (c : Catalog) (slot : ℕ) (rec : FileRecord) (name : List ℕ) → slot_of c rec.name ≡ None → slot_of (with_filed c slot rec) name ≡ (if same_word rec.name name then Some slot else slot_of c name)
-slot_of-with_filed c slot rec name none =
-    let f : Filed = record { slot = slot; rec = rec } in
-    let absent = map_none (λ (g : Filed). g.slot) (find (is_named rec.name) c.entries) none in
-    ap (option_map (λ (g : Filed). g.slot)) (find_more (is_named name) f c.entries absent (λ same. subst (λ n. find (is_named n) c.entries ≡ None) ((bytes_eq-Decides rec.name name).0 same) absent))
-    ∙ map_cond (λ (g : Filed). g.slot) (same_word rec.name name) f (find (is_named name) c.entries)
 
 pub rec_at-with_filed : (c : Catalog) (slot : ℕ) (rec : FileRecord) (n : ℕ) → slot_of c rec.name ≡ None → rec_at c slot ≡ None → rec_at (with_filed c slot rec) n ≡ (if slot == n then Some rec else rec_at c n)
 rec_at-with_filed c slot rec n none free =

@@ -1,6 +1,6 @@
 mod Order
 mod Places
-mod Slots
+pub mod Slots
 mod Held
 mod Indexed
 pub mod Laws

@@ -16,6 +16,12 @@ map_none v None e = refl
 map_none v (Some x) e = absurd cc
 
 -- ---- tests of lists
+pub swapped : (a b c : Bool) → (a || (b || c)) ≡ (b || (a || c))
+swapped true true c = refl
+swapped true false c = refl
+swapped false true c = refl
+swapped false false c = refl
+
 module _ {X : Type 0} (p : X → Bool) where
   pub none_any : (xs : List X) → find p xs ≡ None → list_any p xs ≡ false
   none_any [] h = refl
@@ -61,12 +67,6 @@ module _ {X : Type 0} (p : X → Bool) where
   all_insert (suc k) (y ∷ ys) x all here =
       let parts = and_parts (p y) (list_all p ys) all in
       and_from (p y) (list_all p (insert ys k x)) parts.0 (all_insert k ys x parts.1 here)
-
-  swapped : (a b c : Bool) → (a || (b || c)) ≡ (b || (a || c))
-  swapped true true c = refl
-  swapped true false c = refl
-  swapped false true c = refl
-  swapped false false c = refl
 
   pub any_insert : (k : ℕ) (xs : List X) (x : X) → list_any p (insert xs k x) ≡ (p x || list_any p xs)
   any_insert zero [] x = refl

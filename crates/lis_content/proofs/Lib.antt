@@ -2,6 +2,6 @@ pub mod Numbers
 pub mod Indexes
 pub mod Files
 mod Taking
-mod Laying
-mod Reading
+pub mod Laying
+pub mod Reading
 pub mod Buffers

@@ -215,8 +215,8 @@ fn read_index<D: Disk>(
     Ok(numbers_in(&block, count))
 }
 
-// Whether each of these bytes is zero.
-fn are_zeros(bytes: &[u8]) -> bool
+/// Whether each of these bytes is zero.
+pub fn are_zeros(bytes: &[u8]) -> bool
     ensures { result ≡ list_all (λ b. b == 0) bytes.now }
 {
     bytes.iter().all(|byte| *byte == 0)

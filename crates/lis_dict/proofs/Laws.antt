@@ -101,10 +101,6 @@ module _ (d : Dict) (kept : IsDict d) where
   pub number_below : (word : List ℕ) (number : ℕ) → number_of d word ≡ Some number → number < d.props
   number_below word number h = ltb-true number d.props (all_among (λ (e : Entry). nat_lt e.1 d.props) d.entries (word, number) kept.below (among_from_number d word number h))
 
-  -- what has a number is a word
-  pub word_is_formed : (word : List ℕ) (number : ℕ) → number_of d word ≡ Some number → IsTrue (is_property word)
-  word_is_formed word number h = all_among is_property (words d) word kept.forms (map_among (λ (e : Entry). e.0) d.entries (word, number) (among_from_number d word number h))
-
 -- ---- one word more
 module _ (d : Dict) (word : List ℕ) (number : ℕ) (new : number_of d word ≡ None) where
   no_tie : (x : Entry) → Among d.entries x → entry_cmp (word, number) x ≡ Equal → ⊥

@@ -1,5 +1,5 @@
 mod Finds
 mod Entries
-mod Places
+pub mod Places
 mod Holders
 pub mod Laws

@@ -14,7 +14,7 @@ pub record FitsSuper (limits : Limits) : Type 0 where
   pub props : limits.props < 256 ^ 4
   pub blocks : limits.blocks < 256 ^ 4
 
-files_small : (n : ℕ) → is_files_limit n ≡ true → n ≤ 4096
+pub files_small : (n : ℕ) → is_files_limit n ≡ true → n ≤ 4096
 files_small n h = grind (arith, nat_tests)
 
 pub super_fits : (limits : Limits) → IsTrue (are_in_range limits) → FitsSuper limits
