@@ -1,5 +1,5 @@
 -- Whether two rows have a true bit in common, from the words of the two.
-use Rattle.std.proofs.Common.{◌≡◌, ◌≢◌, ℕ, ◌*◌, ◌+◌, ◌/◌, ◌%◌, ◌^◌, ◌<◌, true, false, ◌&&◌, Bool, List, length, get_or, nat_eq, refl, sym, ap, ◌∙◌, arith, bit_and}
+use Rattle.std.proofs.Common.{◌≡◌, ◌≢◌, ℕ, ◌*◌, ◌+◌, ◌/◌, ◌%◌, ◌^◌, ◌<◌, true, ◌&&◌, List, length, get_or, nat_eq, sym, ap, ◌∙◌, arith, bit_and}
 use Rattle.std.specs.Int.{w64, trailing_zeros}
 use Rattle.std.proofs.lemmas.Bool.{and_parts, and_from}
 use Rattle.std.proofs.lemmas.Nat.{and_le_l}

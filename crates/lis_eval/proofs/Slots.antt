@@ -3,7 +3,7 @@ use Rattle.std.proofs.Common.{◌≡◌, ℕ, ◌+◌, ◌<◌, ◌==◌, Bool, 
 use Rattle.std.specs.Bool.{one_answer}
 use Rattle.std.specs.List.{slice_get, find, Contains}
 use Rattle.std.specs.Option.{option_map}
-use Rattle.std.proofs.lemmas.Bool.{eqb-true, cases_eq, ne_eqb}
+use Rattle.std.proofs.lemmas.Bool.{eqb-true, cases_eq, ne_eqb, and_parts, and_from}
 use Rattle.std.proofs.lemmas.List.Folds.{list_any_more}
 use Rattle.std.proofs.lemmas.Option.{slice_get_within, get_or_from_slice_get}
 use Rattle.std.proofs.lemmas.Slice.Eq.{bytes_eq-Decides}
@@ -74,14 +74,6 @@ file_given v kept k name slot e =
       },
     )
 
-pub both_parts : (x y : Bool) → (x && y) ≡ true → (x ≡ true) × (y ≡ true)
-both_parts true y e = (refl, e)
-both_parts false y e = absurd cc
-
-pub both_true : (x y : Bool) → x ≡ true → y ≡ true → (x && y) ≡ true
-both_true true y e h = h
-both_true false y e h = absurd cc
-
 -- a file's slot passes where the file does
 pub passes_at : (v : Seen) → IsView v → (test : Entry → Bool) (f : Placed) → Contains v.files f → slot_passes v.files test f.slot ≡ test f.entry
 passes_at v kept test f there = one_answer (slot_passes v.files test f.slot) (test f.entry) (only, all) (λ e. e, λ e. e)
@@ -89,12 +81,12 @@ passes_at v kept test f there = one_answer (slot_passes v.files test f.slot) (te
     only : slot_passes v.files test f.slot ≡ true → test f.entry ≡ true
     only any =
         let found = among_from_any (λ (g : Placed). (g.slot == f.slot) && test g.entry) v.files any in
-        let parts = both_parts (found.0.slot == f.slot) (test found.0.entry) found.2 in
+        let parts = and_parts (found.0.slot == f.slot) (test found.0.entry) found.2 in
         let same = kept.one_slot found.0 f (contains_from_among v.files found.0 found.1) there (eqb-true found.0.slot f.slot parts.0) in
         ap (λ (g : Placed). test g.entry) (sym same) ∙ parts.1
 
     all : test f.entry ≡ true → slot_passes v.files test f.slot ≡ true
-    all passes = any_from_among (λ (g : Placed). (g.slot == f.slot) && test g.entry) v.files f (among_from_contains v.files f there) (both_true (f.slot == f.slot) (test f.entry) (eq-eqb f.slot f.slot refl) passes)
+    all passes = any_from_among (λ (g : Placed). (g.slot == f.slot) && test g.entry) v.files f (among_from_contains v.files f there) (and_from (f.slot == f.slot) (test f.entry) (eq-eqb f.slot f.slot refl) passes)
 
 pub passes_none : (v : Seen) (test : Entry → Bool) (slot : ℕ) → file_in v slot ≡ None → slot_passes v.files test slot ≡ false
 passes_none v test slot none = find_none (λ (g : Placed). g.slot == slot) (λ (g : Placed). test g.entry) v.files none

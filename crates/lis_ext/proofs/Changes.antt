@@ -2,7 +2,7 @@
 use Rattle.std.proofs.Common.{◌≡◌, ◌⊎◌, ℕ, ◌+◌, ◌<◌, ◌==◌, Bool, true, false, not, ◌&&◌, ◌||◌, if◌then◌else◌, List, length, get_or, take, refl, sym, ap, ◌∙◌, inl, inr, arith, eq-eqb}
 use Rattle.std.specs.List.Sorted.{IsStrictlyIncreasing}
 use Rattle.std.proofs.lemmas.Bool.{cases_eq, ne_eqb, or_parts}
-use Rattle.lis_bits.specs.Rows.{HasShape, Rows, get, with_row}
+use Rattle.lis_bits.specs.Rows.{Rows, get, with_row}
 use Rattle.lis_bits.proofs.Laws.{get-with_row_other, shaped, new_row}
 use Rattle.lis_ext.specs.Numbers.{has_number}
 use Rattle.lis_ext.specs.Inside.{Changes, AddsNumbers, DropsNumbers}

@@ -2,7 +2,7 @@
 use Rattle.std.proofs.Common.{◌≡◌, ℕ, ◌+◌, ◌<◌, ◌==◌, Bool, true, false, not, ◌&&◌, ◌||◌, Some, List, take, refl, sym, ap, ◌∙◌, arith, eq-eqb}
 use Rattle.std.specs.Bool.{one_answer}
 use Rattle.std.specs.List.{slice_get, list_any, Contains}
-use Rattle.std.proofs.lemmas.Bool.{eqb-true}
+use Rattle.std.proofs.lemmas.Bool.{eqb-true, and_parts, and_from}
 use Rattle.std.proofs.lemmas.List.Folds.{list_any_more}
 use Rattle.std.proofs.lemmas.Option.{slice_get_within, get_or_from_slice_get}
 use Rattle.std.proofs.lemmas.Slice.Eq.{bytes_eq-Decides}
@@ -13,7 +13,6 @@ use Rattle.lis_bits.proofs.Laws.{bits_set}
 use Rattle.lis_model.specs.Table.{Entry}
 use Rattle.lis_model.specs.Listing.{is_candidate}
 use Rattle.lis_eval.specs.View.{Placed, Seen, IsView}
-use Rattle.lis_eval.proofs.Slots.{both_parts, both_true}
 use Rattle.lis_incr.specs.Marked.{number_passes, AreMarked, MarkedTo, IsSame, MarksWord, LeavesLocals, LeftTo, is_covered}
 
 module _ (v : Seen) (test : List ℕ → Bool) where
@@ -40,18 +39,18 @@ module _ (v : Seen) (test : List ℕ → Bool) where
       only : number_passes v.words test w.1 ≡ true → test w.0 ≡ true
       only any =
           let found = among_from_any (λ (x : List ℕ × ℕ). (x.1 == w.1) && test x.0) v.words any in
-          let parts = both_parts (found.0.1 == w.1) (test found.0.0) found.2 in
+          let parts = and_parts (found.0.1 == w.1) (test found.0.0) found.2 in
           let same = (bytes_eq-Decides found.0.0 w.0).0 (kept.apart found.0 w (contains_from_among v.words found.0 found.1) there ∙ parts.0) in
           ap test (sym same) ∙ parts.1
 
       all : test w.0 ≡ true → number_passes v.words test w.1 ≡ true
-      all passes = any_from_among (λ (x : List ℕ × ℕ). (x.1 == w.1) && test x.0) v.words w (among_from_contains v.words w there) (both_true (w.1 == w.1) (test w.0) (eq-eqb w.1 w.1 refl) passes)
+      all passes = any_from_among (λ (x : List ℕ × ℕ). (x.1 == w.1) && test x.0) v.words w (among_from_contains v.words w there) (and_from (w.1 == w.1) (test w.0) (eq-eqb w.1 w.1 refl) passes)
 
   -- a number that is marked is that of a word that passes
   pub marked_only : (marks : Rows) → AreMarked v test marks → (n : ℕ) → n < v.limits.props → get marks 0 n ≡ true → (w : List ℕ × ℕ) × Contains v.words w × (w.1 ≡ n) × (test w.0 ≡ true)
   marked_only marks are n lt set =
       let found = among_from_any (λ (x : List ℕ × ℕ). (x.1 == n) && test x.0) v.words (sym (are.marked n lt) ∙ set) in
-      let parts = both_parts (found.0.1 == n) (test found.0.0) found.2 in
+      let parts = and_parts (found.0.1 == n) (test found.0.0) found.2 in
       (found.0, contains_from_among v.words found.0 found.1, eqb-true found.0.1 n parts.0, parts.1)
 
   pub marks_same : (old new : Rows) → IsSame old new v.limits.props → AreMarked v test old → AreMarked v test new
@@ -100,7 +99,7 @@ module _ (v : Seen) (files : List Entry) (found : Rows) where
           to_word : is_covered files v.words f.entry ≡ true → list_any (is_candidate files) f.entry.words ≡ true
           to_word any =
               let some = among_from_any (λ (x : List ℕ × ℕ). is_candidate files x.0 && has_word f.entry.words x.0) v.words any in
-              let parts = both_parts (is_candidate files some.0.0) (has_word f.entry.words some.0.0) some.2 in
+              let parts = and_parts (is_candidate files some.0.0) (has_word f.entry.words some.0.0) some.2 in
               let word = among_from_any (λ (y : List ℕ). same_word y some.0.0) f.entry.words parts.1 in
               any_from_among (is_candidate files) f.entry.words word.0 word.1 (ap (is_candidate files) ((bytes_eq-Decides word.0 some.0.0).0 word.2) ∙ parts.0)
 
@@ -110,7 +109,7 @@ module _ (v : Seen) (files : List Entry) (found : Rows) where
               let known = kept.known f some.0 there (contains_from_among f.entry.words some.0 some.1) in
               let has : has_word f.entry.words known.0.0 ≡ true = any_from_among (λ (y : List ℕ). same_word y known.0.0) f.entry.words some.0 some.1 ((bytes_eq-Decides some.0 known.0.0).1 (sym known.2)) in
               any_from_among (λ (x : List ℕ × ℕ). is_candidate files x.0 && has_word f.entry.words x.0) v.words known.0 (among_from_contains v.words known.0 known.1)
-              (both_true (is_candidate files known.0.0) (has_word f.entry.words known.0.0) (ap (is_candidate files) known.2 ∙ some.2) has)
+              (and_from (is_candidate files known.0.0) (has_word f.entry.words known.0.0) (ap (is_candidate files) known.2 ∙ some.2) has)
 
 -- ---- rows that stay
 pub still_same : (old : Rows) (bits : ℕ) → HasShape old 1 bits → IsSame old old bits

@@ -1,8 +1,8 @@
 -- The way to a file, step by step, is the route of the model.
-use Rattle.std.proofs.Common.{◌≡◌, ◌⊎◌, ℕ, zero, suc, ◌+◌, ◌<◌, ◌≤◌, ◌==◌, Bool, true, false, cond, not, ◌&&◌, ◌||◌, Option, Some, None, List, [], ◌∷◌, ◌++◌, length, map, filter, take, drop, get_or, unwrap_or, refl, sym, ap, subst, ◌∙◌, inl, inr, arith, add-zero, append_assoc, length-append, length-take, get_or-take}
+use Rattle.std.proofs.Common.{◌≡◌, ◌⊎◌, ℕ, zero, suc, ◌+◌, ◌<◌, ◌≤◌, ◌==◌, Bool, true, false, cond, not, ◌&&◌, Option, Some, None, List, [], ◌∷◌, ◌++◌, length, map, filter, take, drop, get_or, unwrap_or, refl, sym, ap, subst, ◌∙◌, inl, inr, arith, add-zero, append_assoc, length-append, length-take, get_or-take}
 use Rattle.std.specs.Option.{option_map, option_or}
 use Rattle.std.specs.List.{slice_get, find, list_any, Contains}
-use Rattle.std.proofs.lemmas.Bool.{cases_lt}
+use Rattle.std.proofs.lemmas.Bool.{cases_lt, and_parts}
 use Rattle.std.proofs.lemmas.List.{take_more, take-append-drop, map-append, drop_more, get_or_default}
 use Rattle.std.proofs.Math.ListN.{get_or-append}
 use Rattle.std.proofs.Math.Seq.{get_or-append_seam}
@@ -11,6 +11,7 @@ use Rattle.std.proofs.lemmas.List.Elements.{filter-append}
 use Rattle.std.proofs.lemmas.Option.{slice_get_within, get_or_from_slice_get}
 use Rattle.std.proofs.lemmas.Slice.Eq.{bytes_eq-Decides}
 use Rattle.lis_graph.proofs.Members.{Among, among_from_contains, contains_from_among, among_from_any, any_from_among, among_filter, filter_among, among_map, map_among}
+use Rattle.lis_graph.proofs.Filters.{filter_same, filter_twice, filter_fewer, any_same}
 use Rattle.lis_words.specs.Words.{same_word, has_word}
 use Rattle.lis_grammar.specs.Formula.{Formula}
 use Rattle.lis_bits.specs.Rows.{Rows, get}
@@ -20,12 +21,11 @@ use Rattle.lis_model.specs.Listing.{holds, holds_all, extension, increments, is_
 use Rattle.lis_model.specs.Route.{first_increment, word_then, route_within}
 use Rattle.lis_eval.specs.View.{Placed, Seen, IsView, TellsTest, table_of}
 use Rattle.lis_eval.proofs.Members.{contains_at, find_is, find_first, mapped_some}
-use Rattle.lis_eval.proofs.Slots.{both_parts}
 use Rattle.std.proofs.Math.Bool.{and-true, and-false}
 use Rattle.lis_incr.specs.Marked.{found_files, is_top}
 use Rattle.lis_incr.specs.Walking.{is_step}
 use Rattle.lis_incr.specs.Ways.{word_of, words_of, AreKnown, file_here, further, Walks}
-use Rattle.lis_incr.proofs.Shown.{filter_same, filter_twice, found_is}
+use Rattle.lis_incr.proofs.Shown.{found_is}
 
 -- ---- the first member that passes, place by place
 module _ {X : Type 0} (test : X → Bool) (xs : List X) (k : ℕ) (x : X) (none : find test (take k xs) ≡ None) (at : slice_get xs k ≡ Some x) where
@@ -44,10 +44,6 @@ module _ {X : Type 0} (test : X → Bool) (xs : List X) (k : ℕ) (x : X) (none 
       ap (find test) (sym (take-append-drop (k + 1) xs)) ∙ (find-append test (take (k + 1) xs) (drop (k + 1) xs) ∙ ap (λ o. option_or o (find test (drop (k + 1) xs))) first)
 
 -- ---- own words suffice
-any_same : {X : Type 0} (f g : X → Bool) (xs : List X) → ((x : X) → Among xs x → f x ≡ g x) → list_any f xs ≡ list_any g xs
-any_same f g [] same = refl
-any_same f g (x ∷ xs) same = rw (same x (inl refl), any_same f g xs (λ y m. same y (inr m)))
-
 module _ (v : Seen) (kept : IsView v) (files : List Entry) (f : Placed) (here : Contains v.files f) (w : List ℕ × ℕ) (there : Contains v.words w) where
   own : List ℕ → Bool
   own word = has_word f.entry.words word && is_candidate files word
@@ -104,8 +100,8 @@ module _ (v : Seen) (kept : IsView v) (found : Rows) (place : List Formula) (tel
   pub goes_on : (n : ℕ) (w : List ℕ × ℕ) → find (is_step v found e) v.words ≡ Some w → route_within (suc n) (table_of v) place e ≡ w.0 ∷ route_within n (table_of v) (place ++ step_of w.0 ∷ []) e
   goes_on n w first =
       let word = first_is ∙ ap (option_map (λ (x : List ℕ × ℕ). x.0)) first in
-      let parts = both_parts (is_increment (table_of v) (found_files v found) w.0) (has_word e.words w.0) (find_is (is_step v found e) v.words w first).1 in
-      let candidate = both_parts (is_candidate (found_files v found) w.0) (not (list_any (is_above (table_of v) (found_files v found) w.0) (table_of v).known)) parts.0 in
+      let parts = and_parts (is_increment (table_of v) (found_files v found) w.0) (has_word e.words w.0) (find_is (is_step v found e) v.words w first).1 in
+      let candidate = and_parts (is_candidate (found_files v found) w.0) (not (list_any (is_above (table_of v) (found_files v found) w.0) (table_of v).known)) parts.0 in
       let own = among_from_any (λ (x : List ℕ). same_word x w.0) e.words parts.1 in
       let covered : list_any (is_candidate (found_files v found)) e.words ≡ true = any_from_among (is_candidate (found_files v found)) e.words own.0 own.1 (ap (is_candidate (found_files v found)) ((bytes_eq-Decides own.0 w.0).0 own.2) ∙ candidate.0) in
       let open_way : is_local (extension (table_of v) place) e ≡ false = ap (λ (files : List Entry). is_local files e) (sym (found_is v kept found place tells)) ∙ ap not covered in
@@ -127,22 +123,6 @@ module _ (v : Seen) (kept : IsView v) (found : Rows) (place : List Formula) (tel
       by slot lt free true e = absurd (let set = fewer slot lt e in let clear = tells.none slot lt free in cc)
 
 -- ---- a route is shorter than the extension
-filter_le : {K : Type 0} (f : K → Bool) (xs : List K) → length (filter f xs) ≤ length xs
-filter_le f [] = omega arith
-filter_le f (x ∷ xs) = by (f x) (filter_le f xs)
-  where
-    by : (b : Bool) → length (filter f xs) ≤ length xs → length (cond b (x ∷ filter f xs) (filter f xs)) ≤ length (x ∷ xs)
-    by true more = omega (arith, more)
-    by false more = omega (arith, more)
-
-filter_fewer : {K : Type 0} (f : K → Bool) (xs : List K) → list_any (λ x. not (f x)) xs ≡ true → length (filter f xs) < length xs
-filter_fewer f [] h = absurd cc
-filter_fewer f (x ∷ xs) h = by (f x) h (filter_fewer f xs)
-  where
-    by : (b : Bool) → (not b || list_any (λ y. not (f y)) xs) ≡ true → (list_any (λ y. not (f y)) xs ≡ true → length (filter f xs) < length xs) → length (cond b (x ∷ filter f xs) (filter f xs)) < length (x ∷ xs)
-    by true some more = omega (arith, more some)
-    by false some more = omega (arith, filter_le f xs)
-
 some_here : (files : List Entry) (e : Entry) → Among files e → 0 < length files
 some_here [] e m = absurd m
 some_here (x ∷ files) e m = omega arith
@@ -174,8 +154,8 @@ module _ (v : Seen) (kept : IsView v) where
           let files = extension (table_of v) place in
           let further : extension (table_of v) (place ++ step_of p ∷ []) ≡ filter (λ (o : Entry). has_word o.words p) files = subst (λ (q : List ℕ). extension (table_of v) (place ++ step_of q ∷ []) ≡ filter (λ (o : Entry). has_word o.words q) files) w.2 (further_is place w.0 there) in
           let inside : Among (extension (table_of v) (place ++ step_of p ∷ [])) e = subst (λ (es : List Entry). Among es e) (sym further) (filter_among (λ (o : Entry). has_word o.words p) files e m found.1) in
-          let candidate = both_parts (is_candidate files p) (not (list_any (is_above (table_of v) files p) (table_of v).known)) known.1 in
-          let lacks = (both_parts (list_any (λ (o : Entry). has_word o.words p) files) (list_any (λ (o : Entry). not (has_word o.words p)) files) candidate.0).1 in
+          let candidate = and_parts (is_candidate files p) (not (list_any (is_above (table_of v) files p) (table_of v).known)) known.1 in
+          let lacks = (and_parts (list_any (λ (o : Entry). has_word o.words p) files) (list_any (λ (o : Entry). not (has_word o.words p)) files) candidate.0).1 in
           let fewer = filter_fewer (λ (o : Entry). has_word o.words p) files lacks in
           let rest = more (place ++ step_of p ∷ []) e inside in
           let same = ap length further in
@@ -193,13 +173,6 @@ module _ {X : Type 0} (test : X → Bool) (xs : List X) (k : ℕ) (x : X) (at : 
 
   pub none_counted : test x ≡ false → length (filter test (take k xs)) ≡ length (filter test (take (k + 1) xs))
   none_counted fails = sym (counted ∙ (ap (λ n. length (filter test (take k xs)) + n) (rw fails) ∙ add-zero (length (filter test (take k xs)))))
-
-pub both_first : (x y : Bool) → (x && y) ≡ true → x ≡ true
-both_first true y e = refl
-both_first false y e = absurd cc
-
-pub none_both : (x y : Bool) → x ≡ false → (x && y) ≡ false
-none_both x y e = rw e
 
 -- ---- places
 pub word_at : (v : Seen) (k : ℕ) (w : List ℕ × ℕ) → slice_get v.words k ≡ Some w → word_of v k ≡ w.0

@@ -1,10 +1,11 @@
 -- Lines from rows of marks are those of the listing.
-use Rattle.std.proofs.Common.{◌≡◌, ℕ, ◌+◌, ◌≤◌, Bool, true, false, cond, ◌&&◌, Some, List, [], ◌∷◌, length, map, filter, drop, refl, sym, ap, ◌∙◌, inl, inr}
+use Rattle.std.proofs.Common.{◌≡◌, ℕ, ◌+◌, ◌≤◌, Bool, true, false, cond, ◌&&◌, Some, List, [], ◌∷◌, length, map, filter, drop, refl, sym, ap, ◌∙◌}
 use Rattle.std.specs.List.{slice_get}
 use Rattle.std.proofs.lemmas.List.{drop_more, drop_all}
 use Rattle.std.proofs.lemmas.Simd.{map-map}
 use Rattle.std.proofs.lemmas.Option.{slice_get_within, get_or_from_slice_get}
-use Rattle.lis_graph.proofs.Members.{Among, contains_from_among}
+use Rattle.lis_graph.proofs.Members.{contains_from_among}
+use Rattle.lis_graph.proofs.Filters.{filter_same, filter_twice}
 use Rattle.lis_grammar.specs.Formula.{Formula}
 use Rattle.lis_bits.specs.Rows.{Rows, get}
 use Rattle.lis_model.specs.Table.{Entry}
@@ -15,10 +16,6 @@ use Rattle.lis_incr.specs.Lines.{listing, words_from, names_from, lines_from}
 use Rattle.lis_incr.proofs.Marked.{marked_at}
 
 -- ---- filters
-pub filter_same : {K : Type 0} (f g : K → Bool) (xs : List K) → ((x : K) → Among xs x → f x ≡ g x) → filter f xs ≡ filter g xs
-filter_same f g [] same = refl
-filter_same f g (x ∷ xs) same = rw (same x (inl refl)) (ap (λ ys. cond (g x) (x ∷ ys) ys) (filter_same f g xs (λ y m. same y (inr m))))
-
 pub filter_mapped : {K L : Type 0} (test : L → Bool) (h : K → L) (xs : List K) → filter test (map h xs) ≡ map h (filter (λ x. test (h x)) xs)
 filter_mapped test h [] = refl
 filter_mapped test h (x ∷ xs) = by (test (h x)) (filter_mapped test h xs)
@@ -26,15 +23,6 @@ filter_mapped test h (x ∷ xs) = by (test (h x)) (filter_mapped test h xs)
     by : (b : Bool) → filter test (map h xs) ≡ map h (filter (λ y. test (h y)) xs) → cond b (h x ∷ filter test (map h xs)) (filter test (map h xs)) ≡ map h (cond b (x ∷ filter (λ y. test (h y)) xs) (filter (λ y. test (h y)) xs))
     by true rest = ap (λ ys. h x ∷ ys) rest
     by false rest = rest
-
-pub filter_twice : {K : Type 0} (f g : K → Bool) (xs : List K) → filter g (filter f xs) ≡ filter (λ x. f x && g x) xs
-filter_twice f g [] = refl
-filter_twice f g (x ∷ xs) = by (f x) (g x) refl (filter_twice f g xs)
-  where
-    by : (a b : Bool) → g x ≡ b → filter g (filter f xs) ≡ filter (λ y. f y && g y) xs → filter g (cond a (x ∷ filter f xs) (filter f xs)) ≡ cond (a && b) (x ∷ filter (λ y. f y && g y) xs) (filter (λ y. f y && g y) xs)
-    by true true e rest = rw e (ap (λ ys. x ∷ ys) rest)
-    by true false e rest = rw e rest
-    by false b e rest = rest
 
 -- ---- what is shown from a place on
 module _ {K : Type 0} (test : K → Bool) (name : K → List ℕ) (xs : List K) where

@@ -2,7 +2,7 @@
 use Rattle.std.proofs.Common.{◌≡◌, ◌⊎◌, ℕ, ◌<◌, ◌==◌, if◌then◌else◌, Bool, true, false, not, ◌&&◌, List, map, IsTrue, ◌↔◌, refl, sym, ap, ◌∙◌, inl, inr, arith, eq-eqb}
 use Rattle.std.specs.Bool.{one_answer}
 use Rattle.std.specs.List.{list_any, Contains}
-use Rattle.std.proofs.lemmas.Bool.{cases_eq, ne_eqb}
+use Rattle.std.proofs.lemmas.Bool.{cases_eq, ne_eqb, and_parts, and_from}
 use Rattle.lis_graph.proofs.Members.{among_from_contains, contains_from_among, among_from_any, any_from_among, among_map, map_among}
 use Rattle.lis_words.specs.Words.{same_word}
 use Rattle.lis_bits.specs.Rows.{Rows, HasShape, get, with_row, Meets}
@@ -10,7 +10,6 @@ use Rattle.lis_bits.proofs.Laws.{bits_set}
 use Rattle.lis_model.specs.Table.{entails}
 use Rattle.lis_taxonomy.specs.Taxonomy as taxonomy
 use Rattle.lis_eval.specs.View.{Seen, IsView, TellsEntailment, table_of}
-use Rattle.lis_eval.proofs.Slots.{both_parts, both_true}
 use Rattle.lis_incr.specs.Marked.{AreMarked, IsSame, is_top}
 use Rattle.lis_incr.proofs.Marked.{marked_at, marked_only}
 
@@ -73,15 +72,15 @@ module _ (v : Seen) (kept : IsView v) (old rows : Rows) (test : List ℕ → Boo
           let entailed = sym (told x.0 x.1) ∙ (ap (get rows number) x.2 ∙ common.3) in
           let other = kept.apart x.0 w x.1 there ∙ ne_eqb x.0.1 w.1 (λ e. differ (sym x.2 ∙ (e ∙ numbered))) in
           any_from_among is_other (map (λ (x : List ℕ × ℕ). x.0) v.words) x.0.0 (map_among (λ (x : List ℕ × ℕ). x.0) v.words x.0 (among_from_contains v.words x.0 x.1))
-          (both_true (entails (table_of v) w.0 x.0.0 && not (same_word x.0.0 w.0)) (test x.0.0) (both_true (entails (table_of v) w.0 x.0.0) (not (same_word x.0.0 w.0)) entailed (ap not other)) x.3)
+          (and_from (entails (table_of v) w.0 x.0.0 && not (same_word x.0.0 w.0)) (test x.0.0) (and_from (entails (table_of v) w.0 x.0.0) (not (same_word x.0.0 w.0)) entailed (ap not other)) x.3)
 
   from_other : list_any is_other (map (λ (x : List ℕ × ℕ). x.0) v.words) ≡ true → Meets (cleared old number) 0 rows number
   from_other any =
       let q = among_from_any is_other (map (λ (x : List ℕ × ℕ). x.0) v.words) any in
       let x = among_map (λ (x : List ℕ × ℕ). x.0) v.words q.0 q.1 in
       let here = contains_from_among v.words x.0 x.1 in
-      let parts = both_parts (entails (table_of v) w.0 q.0 && not (same_word q.0 w.0)) (test q.0) q.2 in
-      let first = both_parts (entails (table_of v) w.0 q.0) (not (same_word q.0 w.0)) parts.0 in
+      let parts = and_parts (entails (table_of v) w.0 q.0 && not (same_word q.0 w.0)) (test q.0) q.2 in
+      let first = and_parts (entails (table_of v) w.0 q.0) (not (same_word q.0 w.0)) parts.0 in
       let lt = kept.numbers x.0 here in
       let apart = kept.apart x.0 w here there in
       let other : same_word x.0.0 w.0 ≡ false = ap (λ (word : List ℕ). same_word word w.0) x.2 ∙ set_from (same_word q.0 w.0) first.1 in

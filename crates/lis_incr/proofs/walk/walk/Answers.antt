@@ -1,4 +1,5 @@
 use Rattle.std.proofs.Common.{◌≡◌, suc, ◌+◌, ◌-◌, ◌&&◌, ◌++◌, [], ◌∷◌, take, sym, ap, subst, ◌∙◌, arith}
+use Rattle.std.proofs.lemmas.Bool.{and_parts, and_left}
 use Rattle.std.proofs.lemmas.List.{take_more_set, append-nil}
 use Rattle.std.proofs.lemmas.Option.{slice_get_within}
 use Rattle.lis_bits.specs.Rows.{get}
@@ -8,7 +9,7 @@ use Rattle.lis_eval.specs.View.{table_of}
 use Rattle.lis_eval.proofs.Members.{contains_at}
 use Rattle.lis_incr.specs.Ways.{words_of, further, Walks}
 use Rattle.lis_incr.proofs.Found.{row_told}
-use Rattle.lis_incr.proofs.Routes.{ends, known_more, walks_on, both_first, none_both}
+use Rattle.lis_incr.proofs.Routes.{ends, known_more, walks_on}
 use Rattle.lis_incr.proofs.walk.walk.Goals as goal
 
 pub returns-in-None-clause-steps : goal.returns-in-None-clause-steps
@@ -44,7 +45,7 @@ loop-step-preserved g c =
     rw (c.and_row.ensures, places) (record {
       finds = record {
         shape = sets.shape;
-        none = λ slot lt free. sets.at slot lt ∙ none_both (get found 0 slot) (get rows number slot) (c.loop-step.invariant.finds.none slot lt free);
+        none = λ slot lt free. sets.at slot lt ∙ and_left (get found 0 slot) (get rows number slot) (c.loop-step.invariant.finds.none slot lt free);
       };
       shape = c.first_step.ensures.shape;
       known = known_more v (take step c.loop-step.route) c.in-Some.place c.loop-step.invariant.known (slice_get_within v.words c.in-Some.place first.0 first.1);
@@ -54,6 +55,6 @@ loop-step-preserved g c =
           let there = contains_at v.words c.in-Some.place w next.1 in
           walks_on v kept found _ (c.args.most - (step + 1)) (take step c.loop-step.route) c.in-Some.place w place f.entry (route_within c.args.most (table_of v) place f.entry)
           (subst (λ n. Walks v found n (take step c.loop-step.route) place f.entry (route_within c.args.most (table_of v) place f.entry)) left (c.loop-step.invariant.walks f place here placed tells)) next.1 next.3
-          (λ slot lt set. both_first (get found 0 slot) (get rows number slot) (sym (sets.at slot lt) ∙ set))
+          (λ slot lt set. (and_parts (get found 0 slot) (get rows number slot) (sym (sets.at slot lt) ∙ set)).0)
           (λ o inside. sets.at o.slot (kept.slots o inside) ∙ ap (λ b. get found 0 o.slot && b) (row_told v kept c.ext.result.now c.ext.ensures.told rows c.rows.ensures.values w there number next.2 o inside));
     })
