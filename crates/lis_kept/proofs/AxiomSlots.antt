@@ -9,6 +9,7 @@ use Rattle.lis_graph.proofs.Members.{among_from_any}
 use Rattle.lis_fields.specs.declared.slots.AxiomSlot.{AxiomSlot}
 use Rattle.lis_fields.specs.declared.slots.AxiomSlot.TheVariants.{Free as FreeAxiom, Pair}
 use Rattle.lis_model.specs.declared.limits.Limits.{Limits}
+use Rattle.lis_catalog.proofs.Slots.{swapped}
 use Rattle.lis_kept.specs.Kept.{Kept}
 use Rattle.lis_kept.specs.Areas.{axiom_slots}
 use Rattle.lis_kept.specs.Sound.{AreSound}
@@ -42,16 +43,11 @@ set_cases xs i x y at k z is = by (cases_eq k i)
 or_around : (a b c : Bool) → a ≡ false → (b || c) ≡ (b || (a || c))
 or_around a b c none = ap (λ x. b || (x || c)) (sym none)
 
-or_past : (a b c : Bool) → (a || (b || c)) ≡ (b || (a || c))
-or_past true true c = refl
-or_past true false c = refl
-or_past false b c = refl
-
 -- an element that passes the test comes in the place of one that does not, or of one that does not either
 pub any_set : {X : Type 0} (f : X → Bool) (xs : List X) (i : ℕ) (x y : X) → slice_get xs i ≡ Some x → f x ≡ false → list_any f (set xs i y) ≡ (f y || list_any f xs)
 any_set f [] i x y is none = absurd cc
 any_set f (z ∷ xs) zero x y is none = or_around (f z) (f y) (list_any f xs) (ap f (same_Some z x is) ∙ none)
-any_set f (z ∷ xs) (suc i) x y is none = ap (λ b. f z || b) (any_set f xs i x y is none) ∙ or_past (f z) (f y) (list_any f xs)
+any_set f (z ∷ xs) (suc i) x y is none = ap (λ b. f z || b) (any_set f xs i x y is none) ∙ swapped (f z) (f y) (list_any f xs)
 
 -- ---- the first place of an element
 pub first_place : {X : Type 0} (test : X → Bool) (xs : List X) (d : X) (i : ℕ) → position test xs ≡ Some i → (slice_get xs i ≡ Some (get_or xs i d)) × (test (get_or xs i d) ≡ true)

@@ -1,43 +1,24 @@
 -- What an axiom more or fewer leaves of descriptions.
-use Rattle.std.proofs.Common.{◌≡◌, ◌⊎◌, ℕ, not, Bool, true, false, cond, List, [], ◌∷◌, Some, refl, sym, ap, ap₂, ◌∙◌, subst, inl, inr}
-use Rattle.std.specs.List.{list_any, filter, fold}
+use Rattle.std.proofs.Common.{◌≡◌, ◌⊎◌, ℕ, not, Bool, true, false, cond, List, ◌∷◌, refl, sym, ap, ap₂, ◌∙◌, subst, inl, inr}
+use Rattle.std.specs.List.{filter}
 use Rattle.std.specs.List.Sorted.{IsStrictlySortedBy}
 use Rattle.std.proofs.lemmas.Bool.{and_parts, both_ways, not_from_false, false_from_ne_true}
 use Rattle.std.proofs.lemmas.List.Kept.{IsStrictlySortedBy-filter}
-use Rattle.lis_graph.proofs.Members.{Among, among_filter, filter_among, among_insert_key, insert_key_old, insert_key_new, any_from_among, among_from_any}
+use Rattle.lis_graph.proofs.Members.{Among, among_filter, filter_among, among_insert_key, insert_key_old, insert_key_new}
 use Rattle.lis_graph.proofs.Sets.{same_sets, sorted_insert_key}
-use Rattle.lis_content.specs.Content.{has_number}
-use Rattle.lis_dict.specs.Dict.{word_of}
-use Rattle.lis_taxonomy.specs.Taxonomy.{Taxonomy, entails as leads}
 use Rattle.lis_words.specs.Words.{same_word, has_word}
 use Rattle.lis_model.specs.Sets.{with_words}
-use Rattle.lis_model.specs.State.{File, pair_cmp, up, all_up, own_words, file_words}
+use Rattle.lis_model.specs.State.{File, pair_cmp, up, own_words, file_words}
 use Rattle.lis_model.specs.Changes.{same_pair, with_axiom}
-use Rattle.lis_laws.proofs.Closures.{with_one_axiom, entailing, entailed_in}
+use Rattle.lis_laws.proofs.Closures.{with_one_axiom}
 use Rattle.lis_laws.proofs.Members.{pair_exact, pair_order, same_word_decides, has_word_from_among, among_from_has_word, with_words_old}
-use Rattle.lis_kept.specs.Kept.{Kept}
-use Rattle.lis_kept.specs.Sound.{AreSound}
-use Rattle.lis_kept.specs.Links.{TellsLinks}
-use Rattle.lis_kept.specs.Telling.{declared_of, axioms_of}
-use Rattle.lis_kept.proofs.Filing.{among_from_number, number_from_among}
-use Rattle.lis_kept.proofs.Entailed.{leads_numbers}
-use Rattle.lis_kept.proofs.Numbered.{Numbers}
 
--- ---- axioms from a word that a file has not
--- one axiom from it
+-- ---- an axiom from a word that a file has not
 pub one_unfelt : (declared : List (List ℕ)) (axioms : List (List ℕ × List ℕ)) (pair : List ℕ × List ℕ) (file : File) → has_word (file_words declared axioms file) pair.0 ≡ false
     → file_words declared (with_axiom axioms pair) file ≡ file_words declared axioms file
 one_unfelt declared axioms pair file none =
     with_one_axiom declared axioms pair (own_words declared file)
     ∙ ap (λ b. cond b (with_words (file_words declared axioms file) (up declared axioms pair.1)) (file_words declared axioms file)) none
-
--- any number of them
-pub under_unfelt : (declared : List (List ℕ)) (axioms : List (List ℕ × List ℕ)) (word : List ℕ) (words : List (List ℕ)) (file : File) → has_word (file_words declared axioms file) word ≡ false
-    → file_words declared (fold (λ xs q. with_axiom xs (word, q)) axioms words) file ≡ file_words declared axioms file
-under_unfelt declared axioms word [] file none = refl
-under_unfelt declared axioms word (q ∷ words) file none =
-    let one = one_unfelt declared axioms (word, q) file none in
-    under_unfelt declared (with_axiom axioms (word, q)) word words file (ap (λ ws. has_word ws word) one ∙ none) ∙ one
 
 -- ---- an axiom that is taken away
 -- it comes back
@@ -81,20 +62,3 @@ module _ (declared : List (List ℕ)) (axioms : List (List ℕ × List ℕ)) (pa
   taken_unfelt none =
       sym (one_unfelt declared less pair file (false_from_ne_true (has_word (file_words declared less file) pair.0) (λ has. both_ways (has_word (file_words declared axioms file) pair.0) none (more has))))
       ∙ back
-
--- ---- the numbers of all that some words entail: those to which one of their numbers leads
-pub all_leads_numbers : (k : Kept) (sound : AreSound k) (t : Taxonomy) (tells : TellsLinks k t) (ns : List ℕ) (words : List (List ℕ)) → Numbers k.dict (has_number ns) words
-    → ((n : ℕ) → has_number ns n ≡ true → (w : List ℕ) × (word_of k.dict n ≡ Some w)) → Numbers k.dict (λ m. list_any (λ n. leads t n m) ns) (all_up (declared_of k) (axioms_of k) words)
-all_leads_numbers k sound t tells ns words numbers named = record {
-  numbered = λ w m.
-      let source = entailing (declared_of k) (axioms_of k) words w m in
-      let from = numbers.numbered source.0 source.1 in
-      let onward = (leads_numbers k sound t tells from.0 source.0 from.1).numbered w source.2 in
-      (onward.0, onward.1, any_from_among (λ n. leads t n onward.0) ns from.0 (among_from_number ns from.0 from.2) onward.2);
-  worded = λ m w is some.
-      let found = among_from_any (λ n. leads t n m) ns some in
-      let has = number_from_among ns found.0 found.1 in
-      let from = named found.0 has in
-      entailed_in (declared_of k) (axioms_of k) words from.0 w (numbers.worded found.0 from.0 from.1 has)
-      ((leads_numbers k sound t tells found.0 from.0 from.1).worded m w is found.2);
-}

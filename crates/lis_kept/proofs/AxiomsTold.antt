@@ -15,12 +15,12 @@ use Rattle.lis_words.specs.Words.{same_word}
 use Rattle.lis_model.specs.State.{pair_cmp}
 use Rattle.lis_model.specs.Changes.{same_pair, has_axiom}
 use Rattle.lis_laws.proofs.Members.{pair_exact, same_word_decides}
+use Rattle.lis_laws.proofs.Locals.{same_tests}
 use Rattle.lis_kept.specs.Kept.{Kept}
 use Rattle.lis_kept.specs.Sound.{AreSound}
 use Rattle.lis_kept.specs.Links.{is_pair, has_pair}
 use Rattle.lis_kept.specs.Linking.{is_filled}
 use Rattle.lis_kept.specs.Telling.{pair_by, pair_told, pairs_told, axioms_of}
-use Rattle.lis_kept.proofs.Filing.{same_tests}
 use Rattle.lis_kept.proofs.Formed.{some_word}
 use Rattle.lis_kept.proofs.OwnLinks.{slot_at, among_slot}
 use Rattle.lis_kept.proofs.Known.{only_pair, one_number, axiom_among, among_axiom}

@@ -1,28 +1,9 @@
 -- A block whose slots are written one by one.
-use Rattle.std.proofs.Common.{◌≡◌, ◌⊎◌, sym, ap, ◌∙◌, subst, inl, inr, ℕ, ◌+◌, ◌*◌, ◌<◌, ◌≤◌, List, ◌++◌, length, take, drop, arith, append_assoc, mul-le-mul_left}
-use Rattle.std.proofs.lemmas.Bool.{cases_eq, cases_lt}
-use Rattle.std.proofs.lemmas.List.{drop-drop}
+use Rattle.std.proofs.Common.{◌≡◌, ◌⊎◌, sym, ap, ◌∙◌, subst, inl, inr, ℕ, ◌+◌, ◌*◌, ◌<◌, ◌≤◌, List, ◌++◌, length, take, drop, arith}
+use Rattle.std.proofs.lemmas.Bool.{cases_eq}
 use Rattle.lis_ports.specs.Bytes.{part, put}
 use Rattle.lis_ports.proofs.Parts.{Apart, length-part, part-put, part-put_other}
-
-put_between : (xs : List ℕ) (at n : ℕ) (bytes : List ℕ) → n ≡ length bytes → take at xs ++ (bytes ++ drop n (drop at xs)) ≡ put xs at bytes
-unfolding put
-put_between xs at n bytes is =
-    ap (λ k. take at xs ++ (bytes ++ drop k (drop at xs))) is
-    ∙ (sym (append_assoc (take at xs) bytes (drop (length bytes) (drop at xs)))
-    ∙ ap (λ ys. take at xs ++ bytes ++ ys) (drop-drop (length bytes) at xs))
-
--- slots of one width are apart
-slots_apart : (width j k : ℕ) → (j ≡ k → ⊥) → Apart (width * k) width (width * j) width
-slots_apart width j k differ = by (cases_lt j k)
-  where
-    by : (j < k) ⊎ (k ≤ j) → Apart (width * k) width (width * j) width
-    by (inl lt) =
-        let le : j + 1 ≤ k = omega arith in
-        inl (omega (arith, mul-le-mul_left width le))
-    by (inr le) =
-        let more : k + 1 ≤ j = omega (arith, differ) in
-        inr (omega (arith, mul-le-mul_left width more))
+use Rattle.lis_slots.proofs.Putting.{put_between, places_apart}
 
 -- the slots so far, and one more
 pub one_slot_more : (width k at n : ℕ) (spelled : ℕ → List ℕ) (block bytes : List ℕ) → at ≡ width * k → n ≡ width → width * k + width ≤ length block
@@ -43,5 +24,5 @@ one_slot_more width k at n spelled block bytes place len within covers is so_far
         ∙ (ap (λ m. part (width * k) m (put block (width * k) bytes)) (sym wide)
         ∙ (part-put block (width * k) bytes fits ∙ (is ∙ ap spelled (sym same))))
     by j lt (inr differ) =
-        part-put_other block (width * k) bytes fits (width * j) width (subst (λ m. Apart (width * k) m (width * j) width) (sym wide) (slots_apart width j k differ))
+        part-put_other block (width * k) bytes fits (width * j) width (subst (λ m. Apart (width * k) m (width * j) width) (sym wide) (places_apart width j k differ))
         ∙ so_far j (omega (arith, differ, lt))

@@ -10,15 +10,16 @@ use Rattle.lis_journal.specs.Record.{Entry}
 use Rattle.lis_journal.specs.Images.{look, is_among, StandsBut, FitsAt, Fits}
 use Rattle.lis_journal.specs.Phases.{looked}
 use Rattle.lis_blockmap.specs.Bitmap.{free_count}
-use Rattle.lis_content.specs.Content.{given, are_free, are_distinct, are_within, has_number, has_home}
+use Rattle.lis_content.specs.Content.{given, are_free, are_distinct, are_within, has_number}
 use Rattle.lis_content.specs.Large.{is_large, slot_count, file_blocks}
-use Rattle.lis_content.specs.Placing.{homes_of, HasFile, Places, IsPlaced, IsTornOff, IsUnplaced}
+use Rattle.lis_content.specs.Placing.{HasFile, Places, IsPlaced, IsTornOff, IsUnplaced}
 use Rattle.lis_content.specs.Putting.{IsPut, IsRefused}
 use Rattle.lis_content.specs.declared.fault.PutFault.{PutFault}
 use Rattle.lis_content.specs.declared.fault.PutFault.TheVariants.{NoSpace, Disk}
 use Rattle.lis_content.proofs.Numbers.{are_below, below_from_free, within_if_below}
 use Rattle.lis_content.proofs.Indexes.{small_blocks, small_content, small_size}
 use Rattle.lis_content.proofs.Files.{slot_were_free}
+use Rattle.lis_content.proofs.Laying.{among_homes}
 use Rattle.lis_dict.specs.Dict.{word_of}
 use Rattle.lis_fields.specs.Records.{FileRecord}
 use Rattle.lis_fields.specs.Layouts.{is_record, are_short, are_blocks, slot_blocks, are_distinct as slots_distinct}
@@ -109,11 +110,6 @@ module _ (p : Kept) (t : Taxonomy) (held : AreHeld p t) (numbers : List ℕ) (fr
       (same_distinct numbers ∙ apart)
 
 -- ---- a content that is placed
--- what is among the homes of blocks is one of them
-pub home_among : (base : ℕ) (blocks : List ℕ) (n : ℕ) → is_among (homes_of base blocks) n ≡ has_home base blocks n
-home_among base [] n = refl
-home_among base (b ∷ blocks) n = ap (λ t. base + b == n || t) (home_among base blocks n)
-
 placed_fills : (p : Kept) (taken : List Bool) (old : Held) (before after : Meaning) (blocks : List ℕ) → Places (data_start p.limits) p.taken taken old before after blocks → Fills blocks p old before after
 placed_fills p taken old before after blocks places = record {
   distinct = places.distinct;
@@ -156,11 +152,11 @@ module _ (p : Kept) (t : Taxonomy) (held : AreHeld p t) (bytes numbers : List �
     below = free_below p t held numbers free;
     image = ap (λ (h : Held). h.blocks) placed.lays.journal;
     broken = ap (λ (h : Held). h.is_broken) placed.lays.journal;
-    placed = λ n among. sym (home_among (data_start p.limits) placed.blocks n) ∙ (ap (λ (h : Held). is_among h.placed n) (sym placed.lays.journal) ∙ among);
+    placed = λ n among. sym (among_homes (data_start p.limits) placed.blocks n) ∙ (ap (λ (h : Held). is_among h.placed n) (sym placed.lays.journal) ∙ among);
     few_staged = omega (arith, ap length staged_then);
     others = λ n was out. ap (λ (es : List Entry). look es n was) (staged_then ∙ sym unstaged);
     lands = placed_lands;
-    stays = λ kept fits n none. (placed.lays.fits kept fits).2 n (sym (home_among (data_start p.limits) placed.blocks n) ∙ (ap (λ (h : Held). is_among h.placed n) (sym placed.lays.journal) ∙ none));
+    stays = λ kept fits n none. (placed.lays.fits kept fits).2 n (sym (among_homes (data_start p.limits) placed.blocks n) ∙ (ap (λ (h : Held). is_among h.placed n) (sym placed.lays.journal) ∙ none));
     moments = λ kept fits.
         subst (λ ns. Leaves before after (StandsBut old.blocks ns kept)) (sym (ap (λ (h : Held). h.placed) placed.lays.journal)) (placed.lays.places.moments kept fits);
     unplaced = λ one. absurd (omega (arith, one, two));

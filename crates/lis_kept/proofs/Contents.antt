@@ -1,10 +1,9 @@
--- The bytes and the blocks of a file: where other blocks change, and where it has no index block.
-use Rattle.std.proofs.Common.{◌≡◌, refl, sym, ◌∙◌, subst, ℕ, ◌+◌, ◌≤◌, ◌==◌, ◌&&◌, if◌then◌else◌, nat_lt, Bool, true, false, List, length, arith}
-use Rattle.std.proofs.lemmas.Bool.{le-ltb, eqb-true, cond-false}
+-- The bytes and the blocks of a file, and where other blocks change.
+use Rattle.std.proofs.Common.{◌≡◌, refl, sym, ◌∙◌, subst, ℕ, ◌+◌, ◌≤◌, ◌==◌, ◌&&◌, if◌then◌else◌, nat_lt, Bool, true, false, List, length}
+use Rattle.std.proofs.lemmas.Bool.{eqb-true, cond-false}
 use Rattle.lis_graph.proofs.Members.{Among, among_from_any, among_right}
-use Rattle.lis_content.specs.Content.{content}
 use Rattle.lis_content.specs.Large.{is_large, slot_count, numbers_in, index_home}
-use Rattle.lis_content.proofs.Indexes.{large_blocks, small_blocks, small_content, small_size}
+use Rattle.lis_content.proofs.Indexes.{large_blocks, small_blocks, small_size}
 use Rattle.lis_content.proofs.Files.{AreSame, same_file as same_in_content}
 use Rattle.lis_dict.specs.Dict.{Dict}
 use Rattle.lis_fields.specs.Records.{FileRecord}
@@ -31,14 +30,6 @@ slot_counted version dict blocks rec sound =
     let form = record_in_form version dict blocks rec sound in
     few_blocks version rec.size rec.blocks form.blocks ∙ slot_blocks_counted version rec.size form.small
 
--- in each version a file has at most a mebibyte
-pub size_bounded : (version : ℕ) (dict : Dict) (blocks : ℕ) (rec : FileRecord) → is_sound_record version dict blocks rec ≡ true → rec.size ≤ 1048576
-size_bounded version dict blocks rec sound = by (version == 2) (record_in_form version dict blocks rec sound).small
-  where
-    by : (two : Bool) → rec.size ≤ (if two then 1048576 else 65536) → rec.size ≤ 1048576
-    by true le = le
-    by false le = omega (arith, le)
-
 -- ---- a file where other blocks change
 -- A file stays where its blocks hold the same. Its index block is among them.
 pub same_file : (limits : Limits) (rec : FileRecord) (at there : ℕ → List ℕ) → length rec.blocks ≡ slot_count rec.size
@@ -52,16 +43,6 @@ same_file limits rec at there counted same =
     at_homes n has =
         let found = among_from_any (λ b. data_start limits + b == n) (blocks_told limits at rec) has in
         subst (λ k. there k ≡ at k) (eqb-true (data_start limits + found.0) n found.2) (same found.0 found.1)
-
--- ---- a file without an index block
-pub small_file : (limits : Limits) (at : ℕ → List ℕ) (rec : FileRecord) → blocks_needed rec.size ≤ 16
-    → (blocks_told limits at rec ≡ rec.blocks) × (bytes_told limits at rec ≡ content (data_start limits) rec.blocks rec.size at) × HasIndex limits at rec
-small_file limits at rec few =
-    let small : is_large rec.size ≡ false = le-ltb 16 (blocks_needed rec.size) few in (
-      small_blocks (data_start limits) rec.blocks rec.size at small,
-      small_content (data_start limits) rec.blocks rec.size at small,
-      (λ large. absurd (let e : true ≡ false = sym large ∙ small in cc)),
-    )
 
 -- ---- the blocks that a slot numbers
 pub slot_blocks_told : (limits : Limits) (at : ℕ → List ℕ) (rec : FileRecord) (b : ℕ) → Among rec.blocks b → Among (blocks_told limits at rec) b

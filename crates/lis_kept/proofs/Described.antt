@@ -2,10 +2,9 @@
 use Rattle.std.proofs.Common.{◌≡◌, ◌⊎◌, ℕ, ◌+◌, ◌<◌, ◌≤◌, ◌&&◌, ◌||◌, not, nat_lt, nat_eq, Bool, true, false, List, [], length, get_or, set, map, is_some, IsSome, refl, sym, ap, ◌∙◌, subst, inl, inr, arith, length-set, get_or-set_same, get_or-set_other}
 use Rattle.std.specs.List.{All, list_all, range_with_len}
 use Rattle.std.proofs.lemmas.List.Elements.{Contains-get_or}
-use Rattle.std.proofs.lemmas.Bool.{cases_eq, lt-ltb, eqb-true, false_from_ne_true, and_parts, or_cases}
-use Rattle.std.proofs.lemmas.List.{length-map}
+use Rattle.std.proofs.lemmas.Bool.{cases_eq, lt-ltb, eqb-true, both_ways, false_from_ne_true, and_parts, or_cases}
 use Rattle.std.proofs.lemmas.List.FromFn.{length-range_with_len}
-use Rattle.lis_graph.proofs.Members.{Among, among_map, map_among, among_from_any, among_from_contains}
+use Rattle.lis_graph.proofs.Members.{Among, among_from_any, among_from_contains}
 use Rattle.lis_content.specs.Content.{marked}
 use Rattle.lis_content.proofs.Numbers.{length-marked}
 use Rattle.lis_dict.specs.Dict.{word_of}
@@ -15,16 +14,14 @@ use Rattle.lis_ext.specs.Numbers.{has_number, differs, numbers_where}
 use Rattle.lis_taxonomy.specs.Taxonomy.{Taxonomy}
 use Rattle.lis_laws.proofs.Counts.{all_among, all_from, filter_le}
 use Rattle.lis_kept.specs.Kept.{Kept}
-use Rattle.lis_kept.specs.Areas.{Area, slots_of, block_of, spelled}
-use Rattle.lis_kept.specs.Areas.Area.{Properties, Axioms, Files, Rows, Bitmap}
+use Rattle.lis_kept.specs.Areas.{block_of}
+use Rattle.lis_kept.specs.Areas.Area.{Rows}
 use Rattle.lis_kept.specs.Sound.{AreSound}
 use Rattle.lis_kept.specs.Links.{AreHeld}
 use Rattle.lis_kept.specs.Changes.{Marks, Describes}
-use Rattle.lis_kept.proofs.InArea.{rows_counted, among_slots}
-use Rattle.lis_ext.proofs.Numbers.{among_where, where_among}
-use Rattle.lis_kept.proofs.RowBytes.{row_bytes_same}
+use Rattle.lis_ext.proofs.Numbers.{among_where}
 use Rattle.lis_kept.proofs.Formed.{held_files, named_below, AreWithin, had_within}
-use Rattle.lis_kept.proofs.Marking.{AreBelow, blocks_marked}
+use Rattle.lis_kept.proofs.RowsMarked.{rows_marked}
 
 -- ---- numbers
 same_numbers : (old new : List ℕ) (n : ℕ) → differs old new n ≡ false → has_number new n ≡ has_number old n
@@ -59,9 +56,6 @@ module _ (p : Kept) (t : Taxonomy) (held : AreHeld p t) (slot : ℕ) (old new : 
   abbrev described : Kept
   described = record p { ext = e; marks = marks }
 
-  abbrev touched : List ℕ
-  touched = numbers_where p.ext.props (differs old new)
-
   -- the numbers of each file
   set_in : set_of e slot ≡ new
   set_in = ap (λ ss. get_or ss slot []) sets ∙ get_or-set_same p.ext.sets slot new [] (omega (arith, below, held.sound.files))
@@ -74,17 +68,9 @@ module _ (p : Kept) (t : Taxonomy) (held : AreHeld p t) (slot : ℕ) (old new : 
       let found = among_from_any (λ m. nat_eq m n) new has_it in
       subst (λ m. IsSome (word_of p.dict m)) (eqb-true found.0 n found.2) (all_among (λ m. is_some (word_of p.dict m)) new found.0 named found.1)
 
-  -- marked are blocks of rows
-  homes_below : AreBelow (length p.marks) (map (block_of p.limits Rows) touched)
-  homes_below h m =
-      let found = among_map (block_of p.limits Rows) touched h m in
-      let lt = (among_where p.ext.props (differs old new) found.0 found.1).0 in
-      let inside = among_slots p.limits held.sound.range Rows found.0 (omega (arith, lt, held.sound.rows, rows_counted p.limits held.sound.range)) in
-      omega (arith, inside.1, found.2, held.sound.marks)
-
-  -- a row in another block is as before
-  same_row : (n : ℕ) → (Among (map (block_of p.limits Rows) touched) (block_of p.limits Rows n) → ⊥) → (s : ℕ) → has e n s ≡ has p.ext n s
-  same_row n apart s = by (cases_eq s slot)
+  -- a number in which they do not differ has the row that it had
+  same_row : (n : ℕ) → (n < p.ext.props → differs old new n ≡ false) → (s : ℕ) → has e n s ≡ has p.ext n s
+  same_row n agree s = by (cases_eq s slot)
     where
       in_range : differs old new n ≡ true → n < p.ext.props
       in_range differ = elim (or_cases (has_number new n && not (has_number old n)) (has_number old n && not (has_number new n)) differ) [
@@ -93,7 +79,7 @@ module _ (p : Kept) (t : Taxonomy) (held : AreHeld p t) (slot : ℕ) (old new : 
       ]
 
       alike : differs old new n ≡ false
-      alike = false_from_ne_true (differs old new n) (λ differ. apart (map_among (block_of p.limits Rows) touched n (where_among p.ext.props (differs old new) n (in_range differ) differ)))
+      alike = false_from_ne_true (differs old new n) (λ differ. both_ways (differs old new n) (agree (in_range differ)) differ)
 
       by : (s ≡ slot) ⊎ (s ≡ slot → ⊥) → has e n s ≡ has p.ext n s
       by (inl same) =
@@ -101,17 +87,8 @@ module _ (p : Kept) (t : Taxonomy) (held : AreHeld p t) (slot : ℕ) (old new : 
           ∙ (same_numbers old new n alike ∙ (ap (λ ns. has_number ns n) (sym is_old) ∙ ap (λ k. has p.ext n k) (sym same))))
       by (inr differ) = ap (λ ns. has_number ns n) (set_at s differ)
 
-  spelled_before : (area : Area) (n : ℕ) → n < (slots_of p.limits area).count → (Among (map (block_of p.limits Rows) touched) (block_of p.limits area n) → ⊥) → spelled described area n ≡ spelled p area n
-  spelled_before Properties n lt apart = refl
-  spelled_before Axioms n lt apart = refl
-  spelled_before Files n lt apart = refl
-  spelled_before Rows n lt apart = row_bytes_same p.ext e n (ap length sets ∙ length-set p.ext.sets slot new) (same_row n apart)
-  spelled_before Bitmap n lt apart = refl
-
-  marks_owed : Marks (length touched) p described
-  marks_owed =
-      let M : ℕ → Type 0 = λ n. Marks n p described in
-      subst M (length-map touched (block_of p.limits Rows)) (blocks_marked p described (map (block_of p.limits Rows) touched) refl are_marks homes_below spelled_before)
+  as_many : length e.sets ≡ length p.ext.sets
+  as_many = ap length sets ∙ length-set p.ext.sets slot new
 
   held_described : AreHeld described t
   held_described = held_files p t p.catalog p.taken e marks held (record {
@@ -120,10 +97,10 @@ module _ (p : Kept) (t : Taxonomy) (held : AreHeld p t) (slot : ℕ) (old new : 
     records = held.sound.records;
     blocks = refl;
     rows = props;
-    files = ap length sets ∙ length-set p.ext.sets slot new;
+    files = as_many;
     named = λ n s. by n s (cases_eq s slot);
     settled = settled;
-    as_many = ap length are_marks ∙ length-marked p.marks (map (block_of p.limits Rows) touched);
+    as_many = ap length are_marks ∙ length-marked p.marks (map (block_of p.limits Rows) (numbers_where p.ext.props (differs old new)));
   })
     where
       by : (n s : ℕ) → (s ≡ slot) ⊎ (s ≡ slot → ⊥) → IsSome (rec_at p.catalog s) → has e n s ≡ true → IsSome (word_of p.dict n)
@@ -140,7 +117,7 @@ module _ (p : Kept) (t : Taxonomy) (held : AreHeld p t) (slot : ℕ) (old new : 
       settled = settled;
       edits = λ was is. subst (λ ns. e.edits ≤ p.ext.edits + length (numbers_where p.ext.props (differs ns new))) (sym is_old ∙ sym is) edits;
       touched = λ was is. subst (λ ns. marks ≡ marked p.marks (map (block_of p.limits Rows) (numbers_where p.ext.props (differs ns new)))) (sym is_old ∙ sym is) are_marks;
-      marks = λ was is. subst (λ ns. Marks (length (numbers_where p.ext.props (differs ns new))) p described) (sym is_old ∙ sym is) marks_owed;
+      marks = λ was is. subst (λ ns. Marks (length (numbers_where p.ext.props (differs ns new))) p described) (sym is_old ∙ sym is) (rows_marked p held.sound (differs old new) e marks as_many are_marks same_row);
     },
   )
 

@@ -16,6 +16,7 @@ use Rattle.lis_words.specs.Words.{same_word}
 use Rattle.lis_model.specs.State.{File}
 use Rattle.lis_model.specs.Changes.{file_removed}
 use Rattle.lis_laws.proofs.Members.{same_word_decides}
+use Rattle.lis_laws.proofs.Locals.{same_tests, filter_same}
 use Rattle.lis_kept.specs.Kept.{Kept, file_by}
 use Rattle.lis_kept.specs.Areas.{Area, slots_of, block_of, spelled}
 use Rattle.lis_kept.specs.Areas.Area.{Properties, Axioms, Files, Rows, Bitmap}
@@ -26,7 +27,7 @@ use Rattle.lis_kept.specs.Changes.{Drops}
 use Rattle.lis_kept.proofs.InArea.{among_slots}
 use Rattle.lis_kept.proofs.Formed.{held_files}
 use Rattle.lis_kept.proofs.Marking.{block_marked}
-use Rattle.lis_kept.proofs.Filing.{same_tests, filter-map, filter_same, catalog_without, filed_rec, filed_slot, same_distinct}
+use Rattle.lis_kept.proofs.Filing.{filter-map, catalog_without, filed_rec, filed_slot, same_distinct}
 
 -- the block of a file slot has a mark
 pub file_home_below : (k : Kept) (t : Taxonomy) (slot : ℕ) → AreHeld k t → slot < k.limits.files → block_of k.limits Files slot < length k.marks

@@ -1,18 +1,16 @@
 -- Chains of links between words that have numbers are chains of edges between their numbers.
-use Rattle.std.proofs.Common.{◌≡◌, ◌⊎◌, ℕ, zero, suc, ◌==◌, true, List, Option, Some, None, Decides, refl, sym, ap, ap₂, ◌∙◌, subst, inl, inr, eq-eqb}
-use Rattle.std.specs.Ordering.{nat_cmp, eq_by_cmp}
-use Rattle.std.specs.Cmp.{IsTotalOrder, nat_cmp_total, Equal-is, tied_itself}
+use Rattle.std.proofs.Common.{◌≡◌, ◌⊎◌, ℕ, zero, suc, ◌==◌, true, List, Option, Some, None, refl, sym, ap, ap₂, ◌∙◌, subst, inl, inr, eq-eqb}
+use Rattle.std.specs.Ordering.{eq_by_cmp}
 use Rattle.std.specs.FinSet as set
 use Rattle.std.proofs.lemmas.Bool.{and_parts, and_from, or_cases, or_left, or_right, eqb-true}
 use Rattle.std.proofs.lemmas.Option.{same_Some}
-use Rattle.std.proofs.lemmas.Map.Lookups.{CmpEqualImpliesEq, exact_unsigned}
 use Rattle.lis_graph.specs.Graph.{Linked, Chain}
 use Rattle.lis_graph.proofs.Members.{Among, among_from_contains, contains_from_among, among_from_any, any_from_among}
-use Rattle.lis_graph.proofs.Pairs.{pairs_total, pairs_exact}
 use Rattle.lis_dict.specs.Dict.{word_of, number_of}
 use Rattle.lis_dict.proofs.Laws.{word_from_number}
 use Rattle.lis_taxonomy.specs.Taxonomy.{Taxonomy, pair_cmp, no_links, has_edge, Entails as Leads, entails as leads}
 use Rattle.lis_taxonomy.proofs.Laws.{entails_decides}
+use Rattle.lis_taxonomy.proofs.Seen.{pair_decides}
 use Rattle.lis_fields.specs.declared.slots.AxiomSlot.{AxiomSlot}
 use Rattle.lis_fields.specs.declared.slots.AxiomSlot.TheVariants.{Free as FreeAxiom, Pair}
 use Rattle.lis_words.specs.Words.{head_bytes, has_word}
@@ -20,35 +18,23 @@ use Rattle.lis_model.specs.State.{links, up}
 use Rattle.lis_laws.proofs.Members.{among_from_has_word, has_word_from_among}
 use Rattle.lis_laws.proofs.Chains.{OwnLink, own_link, up_from_entails, entails_from_up}
 use Rattle.lis_laws.proofs.Chains.OwnLink.{Head, Weaker}
+use Rattle.lis_laws.proofs.Locals.{same_tests}
 use Rattle.lis_kept.specs.Kept.{Kept}
 use Rattle.lis_kept.specs.Sound.{AreSound}
 use Rattle.lis_kept.specs.Telling.{declared_of, axioms_of}
 use Rattle.lis_kept.specs.Links.{is_pair, has_pair, is_own_link, is_linked, TellsLinks}
-use Rattle.lis_kept.proofs.Filing.{same_tests}
 use Rattle.lis_kept.proofs.Formed.{some_word}
 use Rattle.lis_kept.proofs.Numbered.{Numbers}
 use Rattle.lis_kept.proofs.Known.{some_number, placed_at, among_place, one_number, declared_has_number, axiom_among, among_axiom}
 
 -- ---- the edges of a taxonomy
-edge_total : IsTotalOrder pair_cmp
-edge_total = pairs_total nat_cmp nat_cmp nat_cmp_total nat_cmp_total exact_unsigned exact_unsigned
-
-edge_exact : CmpEqualImpliesEq pair_cmp
-edge_exact = pairs_exact nat_cmp nat_cmp nat_cmp_total nat_cmp_total exact_unsigned exact_unsigned
-
-edge_decides : (a b : ℕ × ℕ) → Decides (eq_by_cmp pair_cmp a b) (a ≡ b)
-edge_decides a b = (
-  λ h. edge_exact a b ((Equal-is (pair_cmp a b)).0 h),
-  λ same. (Equal-is (pair_cmp a b)).1 (ap (λ k. pair_cmp a k) (sym same) ∙ tied_itself edge_total a),
-)
-
 pub edge_among : (t : Taxonomy) (p q : ℕ) → has_edge t p q ≡ true → Among (set.items t.edges) (p, q)
 edge_among t p q h =
     let found = among_from_any (eq_by_cmp pair_cmp (p, q)) (set.items t.edges) (sym (set.contains-items t.edges (p, q)) ∙ h) in
-    subst (λ (e : ℕ × ℕ). Among (set.items t.edges) e) (sym ((edge_decides (p, q) found.0).0 found.2)) found.1
+    subst (λ (e : ℕ × ℕ). Among (set.items t.edges) e) (sym ((pair_decides (p, q) found.0).0 found.2)) found.1
 
 among_edge : (t : Taxonomy) (p q : ℕ) → Among (set.items t.edges) (p, q) → has_edge t p q ≡ true
-among_edge t p q m = set.contains-items t.edges (p, q) ∙ any_from_among (eq_by_cmp pair_cmp (p, q)) (set.items t.edges) (p, q) m ((edge_decides (p, q) (p, q)).1 refl)
+among_edge t p q m = set.contains-items t.edges (p, q) ∙ any_from_among (eq_by_cmp pair_cmp (p, q)) (set.items t.edges) (p, q) m ((pair_decides (p, q) (p, q)).1 refl)
 
 pub edge_of : (t : Taxonomy) (p q : ℕ) → Linked no_links (set.items t.edges) p q → has_edge t p q ≡ true
 edge_of t p q (inl none) = absurd (among_from_contains (no_links p) q none)

@@ -21,11 +21,6 @@ use Rattle.lis_laws.proofs.Members.{word_exact, word_order}
 use Rattle.lis_laws.proofs.Counts.{all_among, all_from, all_insert_key, rising_insert_key, insert_key_le, filter_le}
 
 -- ---- tests and numbers
-pub same_tests : (a b : Bool) → (a ≡ true → b ≡ true) → (b ≡ true → a ≡ true) → a ≡ b
-same_tests true b to from = sym (to refl)
-same_tests false true to from = from refl
-same_tests false false to from = refl
-
 pub among_from_number : (ns : List ℕ) (n : ℕ) → has_number ns n ≡ true → Among ns n
 among_from_number ns n has =
     let found = among_from_any (λ m. m == n) ns has in
@@ -82,11 +77,6 @@ module _ {X Y : Type 0} where
       by : (b : Bool) → filter keep (map f xs) ≡ map f (filter (λ z. keep (f z)) xs) → cond b (f x ∷ filter keep (map f xs)) (filter keep (map f xs)) ≡ map f (cond b (x ∷ filter (λ z. keep (f z)) xs) (filter (λ z. keep (f z)) xs))
       by true rest = ap (λ ys. f x ∷ ys) rest
       by false rest = rest
-
-pub filter_same : {X : Type 0} (p q : X → Bool) (xs : List X) → ((x : X) → Among xs x → p x ≡ q x) → filter p xs ≡ filter q xs
-filter_same p q [] same = refl
-filter_same p q (x ∷ xs) same =
-    ap₂ (λ b ys. cond b (x ∷ ys) ys) (same x (inl refl)) (filter_same p q xs (λ z m. same z (inr m)))
 
 pub map_all : {X Y : Type 0} (f g : X → Y) (xs : List X) → ((x : X) → Among xs x → f x ≡ g x) → map f xs ≡ map g xs
 map_all f g [] same = refl

@@ -156,17 +156,6 @@ retest f g a b p q went same le = record {
     by n (Some w) e = ap (λ t. if t then None else word_of p.dict n) (same n (ap is_some e))
 
 -- ---- a pass, number by number
-pub due_none : (but : Option ℕ) (valued : Bool) (p : Kept) → ForgetsDue but valued [] p p
-due_none but valued p = record {
-  parts = refl;
-  props = refl;
-  marks = record { saved = λ at saved. saved; few = omega arith };
-  marked = λ block is. is;
-  words = λ n. refl;
-  state = λ at. refl;
-  lefts = λ n some. refl;
-}
-
 -- x: the number was among those before; d: it is due; e: it is the next one
 here_gone : (x d e : Bool) → d ≡ true → e ≡ true → ((x && d) || e) ≡ ((x || e) && d)
 here_gone true d e is_d is_e = or_left d e is_d ∙ sym is_d

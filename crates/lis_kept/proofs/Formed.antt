@@ -1,15 +1,15 @@
 -- What sound parts spell is in the ranges of its layouts.
-use Rattle.std.proofs.Common.{◌≡◌, ◌⊎◌, inl, inr, ℕ, ◌-◌, ◌^◌, ◌<◌, ◌≤◌, ◌&&◌, nat_lt, Bool, true, false, List, [], length, Option, Some, None, is_some, unwrap_or, slice_get, IsSome, refl, sym, ap, ◌∙◌, subst, arith}
+use Rattle.std.proofs.Common.{◌≡◌, ◌⊎◌, inl, inr, ℕ, ◌-◌, ◌^◌, ◌<◌, ◌≤◌, ◌&&◌, nat_lt, Bool, true, false, List, [], length, Option, Some, None, is_some, unwrap_or, slice_get, IsSome, refl, sym, ap, ◌∙◌, arith}
 use Rattle.std.specs.List.{list_all, All}
 use Rattle.std.proofs.lemmas.Bool.{and_parts, and_from, lt-ltb, both_ways, cases_lt, false_from_ne_true}
 use Rattle.std.proofs.lemmas.List.{get_or_past}
 use Rattle.std.proofs.lemmas.Option.{unwrap_or-slice_get, get_or_from_slice_get}
-use Rattle.lis_graph.proofs.Members.{Among, contains_from_among}
 use Rattle.lis_dict.specs.Dict.{word_of}
 use Rattle.lis_dict.proofs.Laws.{number_from_word, number_below}
 use Rattle.lis_catalog.specs.Catalog.{Catalog, IsCatalog, rec_at}
 use Rattle.lis_content.specs.Content.{has_number}
 use Rattle.lis_ext.specs.Ext.{Ext, has, set_of}
+use Rattle.lis_ext.proofs.Seen.{each_below}
 use Rattle.lis_taxonomy.specs.Taxonomy.{Taxonomy}
 use Rattle.lis_fields.specs.Records.{FileRecord}
 use Rattle.lis_fields.specs.declared.slots.AxiomSlot.{AxiomSlot}
@@ -70,10 +70,6 @@ module _ (k : Kept) (sound : AreSound k) where
 -- what rows tell of each set: its numbers are below the limit
 abbrev pub AreWithin : Ext → Type 0
 AreWithin e = (slot : ℕ) → slot < length e.sets → All (λ p. p < e.props) (set_of e slot)
-
--- what is asked of each place of a list, of each number
-pub each_below : (props : ℕ) (numbers : List ℕ) → All (λ p. p < props) numbers → (p : ℕ) → Among numbers p → p < props
-each_below props numbers all p m = let found = contains_from_among numbers p m in subst (λ k. k < props) found.2 (all found.0 p found.1)
 
 -- so no slot has a number past the last one
 pub had_within : (e : Ext) → AreWithin e → (n slot : ℕ) → has e n slot ≡ true → n < e.props

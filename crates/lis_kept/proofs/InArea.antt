@@ -6,6 +6,7 @@ use Rattle.std.proofs.lemmas.Bool.Decides.{nat_tests}
 use Rattle.lis_model.specs.declared.limits.Limits.{Limits}
 use Rattle.lis_model.specs.Ranges.{is_files_limit, is_props_limit, is_blocks_limit, is_version, are_in_range}
 use Rattle.lis_model.specs.Image.{axioms_start, files_start, rows_start, bitmap_start, data_start}
+use Rattle.lis_fields.proofs.Supers.{files_small}
 use Rattle.lis_kept.specs.Kept.{Kept}
 use Rattle.lis_kept.specs.Areas.{Area, slots_of, block_of, spelled, held_in, row_slots, row_blocks}
 use Rattle.lis_kept.specs.Areas.Area.{Properties, Axioms, Files, Rows, Bitmap}
@@ -27,14 +28,11 @@ props_range limits range = (limit_parts limits range).1
 files_whole : (n : ℕ) → is_files_limit n ≡ true → n % 16 ≡ 0
 files_whole n is = grind (arith, nat_tests)
 
-files_few : (n : ℕ) → is_files_limit n ≡ true → n ≤ 4096
-files_few n is = grind (arith, nat_tests)
-
 pub whole_files : (limits : Limits) → IsTrue (are_in_range limits) → limits.files % 16 ≡ 0
 whole_files limits range = files_whole limits.files (files_range limits range)
 
 pub few_files : (limits : Limits) → IsTrue (are_in_range limits) → limits.files ≤ 4096
-few_files limits range = files_few limits.files (files_range limits range)
+few_files limits range = files_small limits.files (files_range limits range)
 
 blocks_few : (n : ℕ) → is_blocks_limit n ≡ true → n ≤ 32768
 blocks_few n is = grind (arith, nat_tests)
@@ -70,18 +68,9 @@ each_files_limit P n is p6 p7 p8 p9 p10 p11 p12 =
     (λ one. either P n 128 (n == 64) one (λ zero. subst P (sym (eqb-true n 64 zero)) p6) p7)
     p8) p9) p10) p11) p12
 
--- rows fill a block
-pub rows_whole : (limits : Limits) → IsTrue (are_in_range limits) → (4096 / (limits.files / 8)) * (limits.files / 8) ≡ 4096
-rows_whole limits range =
-    each_files_limit (λ n. (4096 / (n / 8)) * (n / 8) ≡ 4096) limits.files (files_range limits range) refl refl refl refl refl refl refl
-
 pub some_rows : (limits : Limits) → IsTrue (are_in_range limits) → 0 < 4096 / (limits.files / 8)
 some_rows limits range =
     each_files_limit (λ n. 0 < 4096 / (n / 8)) limits.files (files_range limits range) (lit< tt) (lit< tt) (lit< tt) (lit< tt) (lit< tt) (lit< tt) (lit< tt)
-
-pub few_rows : (limits : Limits) → IsTrue (are_in_range limits) → 4096 / (limits.files / 8) ≤ 512
-few_rows limits range =
-    each_files_limit (λ n. 4096 / (n / 8) ≤ 512) limits.files (files_range limits range) (omega arith) (omega arith) (omega arith) (omega arith) (omega arith) (omega arith) (omega arith)
 
 -- each number below the limit has a row
 pub rows_counted : (limits : Limits) → IsTrue (are_in_range limits) → limits.props ≤ (row_slots limits).count

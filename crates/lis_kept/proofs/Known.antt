@@ -24,10 +24,11 @@ use Rattle.lis_laws.proofs.Chains.{among_heads, heads_of_valued}
 use Rattle.lis_laws.proofs.Known.{sorted_known}
 use Rattle.lis_laws.proofs.Sources.{Source, source_of, known_from}
 use Rattle.lis_laws.proofs.Sources.Source.{Declared, Left, LeftHead, Described}
+use Rattle.lis_laws.proofs.Locals.{same_tests}
 use Rattle.lis_kept.specs.Kept.{Kept}
 use Rattle.lis_kept.specs.Sound.{AreSound, FreeSlotsAreEmpty}
 use Rattle.lis_kept.specs.Telling.{bit_of, is_declared, declared_of, words_told, pair_by, pair_told, pairs_told, axioms_of, file_told, state_of, is_left_of, is_head_by, is_left_head_of, is_had, is_named_left, AreUsed}
-use Rattle.lis_kept.proofs.Filing.{same_tests, among_from_number as among_numbers, number_from_among as has_from_among, filed_at_slot}
+use Rattle.lis_kept.proofs.Filing.{among_from_number as among_numbers, number_from_among as has_from_among, filed_at_slot}
 use Rattle.lis_kept.proofs.Formed.{some_word}
 
 pub only_word : (o : Option (List ℕ)) (w : List ℕ) → Among (option_to_list o) w → o ≡ Some w

@@ -5,6 +5,7 @@ pub mod Staged
 pub mod Formed
 pub mod Spelled
 pub mod Marking
+pub mod RowsMarked
 pub mod Described
 pub mod Filing
 pub mod Dropped
@@ -19,11 +20,11 @@ pub mod WordDeclared
 pub mod HeadEdges
 pub mod WordLearnt
 pub mod Known
+pub mod WordGone
 pub mod WordLess
 pub mod Forgotten
 pub mod Used
 pub mod Emptied
-pub mod ToldInUse
 pub mod Without
 pub mod Numbered
 pub mod Entailed

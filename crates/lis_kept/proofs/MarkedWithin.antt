@@ -1,14 +1,11 @@
 -- Which blocks are marked, and how many.
-use Rattle.std.proofs.Common.{◌≡◌, ◌⊎◌, ℕ, zero, suc, ◌<◌, ◌≤◌, Bool, true, false, cond, List, [], ◌∷◌, length, get_or, set, map, count_by, refl, sym, subst, ap, ◌∙◌, inl, inr, arith, get_or-set_same, get_or-set_other}
+use Rattle.std.proofs.Common.{◌≡◌, ◌⊎◌, ℕ, zero, suc, ◌<◌, ◌≤◌, Bool, true, false, cond, List, [], ◌∷◌, length, get_or, set, count_by, refl, sym, ap, ◌∙◌, inl, inr, arith, get_or-set_same, get_or-set_other}
 use Rattle.std.proofs.lemmas.Bool.{cases_eq, cases_lt, both_ways}
-use Rattle.std.proofs.lemmas.List.{get_or_past, length-map}
+use Rattle.std.proofs.lemmas.List.{get_or_past}
 use Rattle.std.proofs.lemmas.List.Sums.{sum_by-set, sum_by-cons}
-use Rattle.lis_graph.proofs.Members.{Among, map_among}
+use Rattle.lis_graph.proofs.Members.{Among}
 use Rattle.lis_blockmap.specs.Bitmap.{is_taken}
 use Rattle.lis_content.specs.Content.{marked}
-use Rattle.lis_kept.specs.Kept.{Kept}
-use Rattle.lis_kept.specs.Areas.{block_of, is_marked, marked_count}
-use Rattle.lis_kept.specs.Areas.Area.{Rows}
 
 -- what is marked was so, or is one of the blocks
 pub marked_only : (homes : List ℕ) (bits : List Bool) (n : ℕ) → is_taken (marked bits homes) n ≡ true → (is_taken bits n ≡ true) ⊎ Among homes n
@@ -58,12 +55,3 @@ marked_within bits (m ∷ ns) within = by (cases_lt m (length bits)) (λ less in
     by (inr past) others =
         let fewer = others bits (rest bits (λ n is. is) (get_or_past bits m false past)) in
         omega (arith, fewer)
-
--- ---- blocks of rows
--- no more blocks are marked than there are numbers, where all that are marked are blocks of their rows
-pub rows_few : (q : Kept) (ns : List ℕ) → ((block : ℕ) → is_marked q block ≡ true → (n : ℕ) × Among ns n × (block ≡ block_of q.limits Rows n)) → marked_count q ≤ length ns
-rows_few q ns within =
-    let few = marked_within q.marks (map (block_of q.limits Rows) ns) (λ block is.
-    let found = within block is in
-    subst (λ b. Among (map (block_of q.limits Rows) ns) b) (sym found.2) (map_among (block_of q.limits Rows) ns found.0 found.1)) in
-    omega (arith, few, length-map ns (block_of q.limits Rows))

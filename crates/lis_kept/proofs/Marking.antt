@@ -23,10 +23,6 @@ use Rattle.lis_kept.proofs.InArea.{among_slots, rows_counted}
 abbrev true_in : List Bool → ℕ
 true_in bits = count_by (λ (b : Bool). b) bits
 
-at_most_one : (b : Bool) → cond b 1 0 ≤ 1
-at_most_one true = omega arith
-at_most_one false = omega arith
-
 true_set : (bits : List Bool) (n : ℕ) → n < length bits → true_in (set bits n true) ≤ true_in bits + 1
 true_set bits n lt = omega (arith, sum_by-set (λ (b : Bool). cond b 1 0) bits n true false lt)
 

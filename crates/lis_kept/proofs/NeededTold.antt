@@ -14,12 +14,13 @@ use Rattle.lis_model.specs.State.{heads, description}
 use Rattle.lis_model.specs.Step.{is_side, is_had as is_had_by, is_in_use}
 use Rattle.lis_laws.proofs.Chains.{among_heads, heads_of_valued, head_no_test}
 use Rattle.lis_laws.proofs.Members.{same_word_decides, among_from_has_word, has_word_from_among}
+use Rattle.lis_laws.proofs.Locals.{same_tests}
 use Rattle.lis_kept.specs.Kept.{Kept}
 use Rattle.lis_kept.specs.Sound.{AreSound, FreeSlotsAreEmpty}
 use Rattle.lis_kept.specs.Telling.{words_told, axioms_of, file_told, state_of, is_left_of, is_head_by, is_left_head_of, is_had}
 use Rattle.lis_kept.specs.TestEdges.{test_by}
 use Rattle.lis_kept.specs.Undeclaring.{is_right_of, is_named_by, is_needed}
-use Rattle.lis_kept.proofs.Filing.{same_tests, filed_at_slot}
+use Rattle.lis_kept.proofs.Filing.{filed_at_slot}
 use Rattle.lis_kept.proofs.Formed.{some_word}
 use Rattle.lis_kept.proofs.OwnLinks.{slot_at, among_slot}
 use Rattle.lis_kept.proofs.Known.{one_number, word_among, among_word, axiom_among, among_axiom}

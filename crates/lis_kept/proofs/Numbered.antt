@@ -23,13 +23,6 @@ pub record Numbers (d : Dict) (test : ℕ → Bool) (ws : List (List ℕ)) : Typ
   pub numbered : (w : List ℕ) → Among ws w → (n : ℕ) × (word_of d n ≡ Some w) × (test n ≡ true)
   pub worded : (n : ℕ) (w : List ℕ) → word_of d n ≡ Some w → test n ≡ true → Among ws w
 
--- another test that answers the same at each number that has a word
-pub numbers_alike : (d : Dict) (test other : ℕ → Bool) (ws : List (List ℕ)) → ((n : ℕ) (w : List ℕ) → word_of d n ≡ Some w → other n ≡ test n) → Numbers d test ws → Numbers d other ws
-numbers_alike d test other ws same numbers = record {
-  numbered = λ w m. let found = numbers.numbered w m in (found.0, found.1, same found.0 w found.1 ∙ found.2);
-  worded = λ n w is passes. numbers.worded n w is (sym (same n w is) ∙ passes);
-}
-
 module _ (k : Kept) (sound : AreSound k) where
   sorted_told : (ns : List ℕ) → IsStrictlySortedBy word_cmp (words_told k.dict ns)
   sorted_told ns = sorted_set_of (flat_map (λ n. option_to_list (word_of k.dict n)) ns)

@@ -1,5 +1,5 @@
 -- Blocks that are staged one by one, each as memory spells it.
-use Rattle.std.proofs.Common.{◌≡◌, ◌⊎◌, ℕ, ◌+◌, ◌<◌, ◌≤◌, ◌==◌, Bool, true, false, cond, nat_lt, List, [], ◌∷◌, length, take, count_by, IsTrue, refl, sym, ap, ◌∙◌, inl, inr, arith}
+use Rattle.std.proofs.Common.{◌≡◌, ◌⊎◌, ℕ, ◌+◌, ◌<◌, ◌≤◌, ◌==◌, Bool, true, false, cond, List, [], ◌∷◌, length, take, count_by, IsTrue, refl, sym, ap, ◌∙◌, inl, inr, arith}
 use Rattle.std.proofs.lemmas.Bool.{cases_eq, cases_lt, eq-eqb, ne_eqb}
 use Rattle.std.proofs.lemmas.List.Sums.{count_by_more_no, count_by_more_yes, sum_by-take-le}
 use Rattle.lis_journal.specs.Journal.{Held}
@@ -7,6 +7,7 @@ use Rattle.lis_journal.specs.Record.{Entry}
 use Rattle.lis_journal.specs.Staging.{with_entry}
 use Rattle.lis_journal.specs.Images.{look}
 use Rattle.lis_journal.specs.Phases.{looked}
+use Rattle.lis_journal.proofs.Entries.{length-with_entry}
 use Rattle.lis_model.specs.Ranges.{are_in_range}
 use Rattle.lis_model.specs.Image.{data_start}
 use Rattle.lis_kept.specs.Kept.{Kept}
@@ -14,16 +15,6 @@ use Rattle.lis_kept.specs.Areas.{Area, slots_of, block_of, spelled, held_in, is_
 use Rattle.lis_kept.specs.Staging.{Stages}
 use Rattle.lis_kept.specs.Inside.{bytes_in, IsBlock, StagesBlock, StagedBelow}
 use Rattle.lis_kept.proofs.InArea.{held_by, among_slots}
-
-length-with_entry : (es : List Entry) (home : ℕ) (bytes : List ℕ) → length (with_entry es home bytes) ≤ length es + 1
-length-with_entry [] home bytes = omega arith
-length-with_entry (e ∷ es) home bytes = by (nat_lt e.home home) (e.home == home) (length-with_entry es home bytes)
-  where
-    by : (before here : Bool) → length (with_entry es home bytes) ≤ length es + 1
-        → length (cond before (e ∷ with_entry es home bytes) (cond here (record { home = home; bytes = bytes } ∷ es) (record { home = home; bytes = bytes } ∷ e ∷ es))) ≤ length (e ∷ es) + 1
-    by true here more = omega (arith, more)
-    by false true more = omega arith
-    by false false more = omega arith
 
 pub stages_block : (k : Kept) (n : ℕ) (old new : Held) (block : List ℕ) → new ≡ record old { staged = with_entry old.staged n block }
     → ((m : ℕ) (was : List ℕ) → look new.staged m was ≡ cond (m == n) block (look old.staged m was)) → IsBlock k n block → StagesBlock k n old new

@@ -15,11 +15,11 @@ use Rattle.lis_model.specs.Tests.{are_weaker}
 use Rattle.lis_laws.proofs.Members.{same_word_decides, among_from_has_word, has_word_from_among}
 use Rattle.lis_laws.proofs.Chains.{OwnLink, own_link, links_weaker, head_no_test, weaker_apart}
 use Rattle.lis_laws.proofs.Chains.OwnLink.{Head, Weaker}
+use Rattle.lis_laws.proofs.Locals.{same_tests}
 use Rattle.lis_kept.specs.Kept.{Kept}
 use Rattle.lis_kept.specs.Telling.{bit_of, is_declared, declared_of, is_head_by}
 use Rattle.lis_kept.specs.Links.{is_own_link, is_linked, is_pair, has_pair, AreHeld}
 use Rattle.lis_kept.specs.TestEdges.{test_by, declared_test, is_test_link, TestsAreOrdered}
-use Rattle.lis_kept.proofs.Filing.{same_tests}
 use Rattle.lis_kept.proofs.Formed.{some_word}
 use Rattle.lis_kept.proofs.OwnLinks.{own_head, slot_at}
 use Rattle.lis_kept.proofs.WordMore.{declared_there, there_declared}

@@ -1,7 +1,7 @@
 -- A word that is declared under others.
-use Rattle.std.proofs.Common.{◌≡◌, ℕ, zero, suc, ◌+◌, ◌==◌, ◌&&◌, ◌||◌, Bool, true, false, List, [], ◌∷◌, ◌++◌, length, Some, is_some, refl, sym, ap, ap₂, ◌∙◌, subst, arith, append-nil, append_assoc}
+use Rattle.std.proofs.Common.{◌≡◌, ℕ, zero, suc, ◌+◌, ◌==◌, ◌&&◌, ◌||◌, true, false, List, [], ◌∷◌, ◌++◌, length, Some, is_some, refl, sym, ap, ◌∙◌, subst, arith, append-nil, append_assoc}
 use Rattle.std.specs.List.{fold}
-use Rattle.std.proofs.lemmas.Bool.{both_ways, false_from_ne_true, ne_eqb, or_right}
+use Rattle.std.proofs.lemmas.Bool.{both_ways, false_from_ne_true, or_right}
 use Rattle.lis_graph.specs.Graph.{Chain}
 use Rattle.lis_graph.proofs.Members.{Among}
 use Rattle.lis_dict.specs.Dict.{Dict, word_of}
@@ -35,9 +35,6 @@ pub under_more : (s : State) (word : List ℕ) (ws : List (List ℕ)) (w : List 
 under_more s word ws w = ap (λ (axioms : List (List ℕ × List ℕ)). record s { declared = with_word s.declared word; axioms = axioms }) (under_step word s.axioms ws w)
 
 -- ---- axioms one after another
-pub each_none : (left : ℕ) (p : Kept) → LinksEach left [] p p
-each_none left p = refl
-
 pub each_more : (left : ℕ) (rights : List ℕ) (right : ℕ) (p q r : Kept) → LinksEach left rights p q → Links left right q r → LinksEach left (rights ++ right ∷ []) p r
 each_more left [] right p q r is last = (r, subst (λ (k : Kept). Links left right k r) is last, refl)
 each_more left (first ∷ rights) right p q r each last = (each.0, each.1, each_more left rights right each.0 q r each.2 last)
@@ -106,15 +103,6 @@ plain_no_test k sound p word plain test =
   where
     rights : (e : List ℕ × List ℕ) → Among (axioms_of k) e → is_plain_word e.1 ≡ true
     rights e m = let found = among_axiom k sound e m in (sound.axioms found.0 found.1 found.2 found.3).plain e.1 found.5
-
--- an axiom to another word leads nothing to it
-pub still_nothing : (left right number : ℕ) (p q : Kept) → Links left right p q → (right ≡ number → ⊥) → ((x : ℕ) → is_linked p x number ≡ false) → (x : ℕ) → is_linked q x number ≡ false
-still_nothing left right number p q links differ nothing x =
-    links.linked x number ∙ (ap₂ (λ a b. ((left == x) && a) || b) (ne_eqb right number differ) (nothing x) ∙ last (left == x))
-  where
-    last : (b : Bool) → ((b && false) || false) ≡ false
-    last true = refl
-    last false = refl
 
 -- ---- what stays
 -- all but the axioms and the marks

@@ -12,10 +12,10 @@ use Rattle.lis_dict.proofs.Laws.{number_from_word, word_from_number}
 use Rattle.lis_ext.specs.Ext.{Ext, has}
 use Rattle.lis_words.specs.Words.{same_word, is_valued, head_bytes}
 use Rattle.lis_laws.proofs.Members.{same_word_decides}
+use Rattle.lis_laws.proofs.Locals.{same_tests}
 use Rattle.lis_kept.specs.Kept.{Kept}
 use Rattle.lis_kept.specs.Telling.{is_head_by, is_had, is_named_left, is_used}
 use Rattle.lis_kept.specs.Edges.{head_number}
-use Rattle.lis_kept.proofs.Filing.{same_tests}
 use Rattle.lis_kept.proofs.WordLess.{had_from}
 
 -- ---- by rows

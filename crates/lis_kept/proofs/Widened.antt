@@ -3,7 +3,7 @@ use Rattle.std.proofs.Common.{◌≡◌, ◌⊎◌, ℕ, ◌+◌, ◌<◌, ◌�
 use Rattle.std.proofs.lemmas.Bool.{cases_lt, both_ways, false_from_ne_true, true_from_ne_false, and_from, or_cases}
 use Rattle.std.proofs.lemmas.List.{length-map, get_or-map, get_or_past}
 use Rattle.std.proofs.lemmas.List.Elements.{Contains-get_or}
-use Rattle.lis_graph.proofs.Members.{Among, among_map, map_among, any_from_among, among_from_contains}
+use Rattle.lis_graph.proofs.Members.{Among, among_map, any_from_among, among_from_contains}
 use Rattle.lis_blockmap.specs.Bitmap.{is_taken}
 use Rattle.lis_content.specs.Content.{marked}
 use Rattle.lis_content.proofs.Numbers.{length-marked}
@@ -13,16 +13,14 @@ use Rattle.lis_ext.specs.Ext.{Ext, has, set_of, with_marks, is_lacked, widened}
 use Rattle.lis_ext.specs.Numbers.{has_number, numbers_where}
 use Rattle.lis_taxonomy.specs.Taxonomy.{Taxonomy}
 use Rattle.lis_kept.specs.Kept.{Kept}
-use Rattle.lis_kept.specs.Areas.{Area, slots_of, block_of, spelled, is_marked}
-use Rattle.lis_kept.specs.Areas.Area.{Properties, Axioms, Files, Rows, Bitmap}
+use Rattle.lis_kept.specs.Areas.{block_of, is_marked}
+use Rattle.lis_kept.specs.Areas.Area.{Rows}
 use Rattle.lis_kept.specs.Links.{AreHeld}
-use Rattle.lis_kept.specs.Changes.{Marks}
 use Rattle.lis_kept.specs.Widening.{lacked_numbers, Widens}
-use Rattle.lis_kept.proofs.InArea.{rows_counted, among_slots}
-use Rattle.lis_kept.proofs.RowBytes.{row_bytes_same}
 use Rattle.lis_kept.proofs.Formed.{held_files, AreWithin, none_past}
-use Rattle.lis_kept.proofs.Filing.{same_tests, among_from_number, number_from_among}
-use Rattle.lis_kept.proofs.Marking.{AreBelow, blocks_marked}
+use Rattle.lis_laws.proofs.Locals.{same_tests}
+use Rattle.lis_kept.proofs.Filing.{among_from_number, number_from_among}
+use Rattle.lis_kept.proofs.RowsMarked.{rows_marked}
 use Rattle.lis_ext.proofs.Numbers.{among_where, where_among}
 use Rattle.lis_kept.proofs.MarkedWithin.{marked_only}
 
@@ -66,9 +64,6 @@ module _ (p : Kept) (t : Taxonomy) (held : AreHeld p t) (left : ℕ) (ups : ℕ 
   abbrev wide_parts : Kept
   wide_parts = record p { ext = e; marks = marks }
 
-  abbrev touched : List ℕ
-  touched = lacked_numbers p.ext left ups
-
   abbrev test : List ℕ → ℕ → Bool
   test ns n = has_number ns n || ups n
 
@@ -110,21 +105,12 @@ module _ (p : Kept) (t : Taxonomy) (held : AreHeld p t) (left : ℕ) (ups : ℕ 
           (λ h. number_from_among (numbers_where p.ext.props (test (set_of p.ext slot))) n (where_among p.ext.props (test (set_of p.ext slot)) n (omega (arith, lt, held.sound.rows)) h))
       by false = or_none (has p.ext n slot)
 
-  -- ---- marked are blocks of rows
-  homes_below : AreBelow (length p.marks) (map (block_of p.limits Rows) touched)
-  homes_below h m =
-      let found = among_map (block_of p.limits Rows) touched h m in
-      let lt = (among_where p.ext.props (λ n. ups n && is_lacked p.ext left n) found.0 found.1).0 in
-      let inside = among_slots p.limits held.sound.range Rows found.0 (omega (arith, lt, held.sound.rows, rows_counted p.limits held.sound.range)) in
-      omega (arith, inside.1, found.2, held.sound.marks)
-
-  -- a row in another block is as before
-  same_row : (n : ℕ) → (Among (map (block_of p.limits Rows) touched) (block_of p.limits Rows n) → ⊥) → (s : ℕ) → has e n s ≡ has p.ext n s
-  same_row n apart s = by (cases_lt n p.limits.props)
+  -- a number that no file gets has the row that it had
+  same_row : (n : ℕ) → (n < p.ext.props → (ups n && is_lacked p.ext left n) ≡ false) → (s : ℕ) → has e n s ≡ has p.ext n s
+  same_row n unlacked s = by (cases_lt n p.limits.props)
     where
       not_touched : n < p.limits.props → (ups n && is_lacked p.ext left n) ≡ true → ⊥
-      not_touched lt is =
-          apart (map_among (block_of p.limits Rows) touched n (where_among p.ext.props (λ m. ups m && is_lacked p.ext left m) n (omega (arith, lt, held.sound.rows)) is))
+      not_touched lt = both_ways (ups n && is_lacked p.ext left n) (unlacked (omega (arith, lt, held.sound.rows)))
 
       alike : (a b c : Bool) → (b ≡ true → c ≡ true → a ≡ true) → (a || (b && c)) ≡ a
       alike true b c has_it = refl
@@ -153,18 +139,6 @@ module _ (p : Kept) (t : Taxonomy) (held : AreHeld p t) (left : ℕ) (ups : ℕ 
   as_many : length e.sets ≡ length p.ext.sets
   as_many = ap length sets ∙ length-map p.ext.sets wider
 
-  spelled_before : (area : Area) (n : ℕ) → n < (slots_of p.limits area).count → (Among (map (block_of p.limits Rows) touched) (block_of p.limits area n) → ⊥) → spelled wide_parts area n ≡ spelled p area n
-  spelled_before Properties n lt apart = refl
-  spelled_before Axioms n lt apart = refl
-  spelled_before Files n lt apart = refl
-  spelled_before Rows n lt apart = row_bytes_same p.ext e n as_many (same_row n apart)
-  spelled_before Bitmap n lt apart = refl
-
-  marks_owed : Marks (length touched) p wide_parts
-  marks_owed =
-      let M : ℕ → Type 0 = λ n. Marks n p wide_parts in
-      subst M (length-map touched (block_of p.limits Rows)) (blocks_marked p wide_parts (map (block_of p.limits Rows) touched) refl are_marks homes_below spelled_before)
-
   marked_within : (block : ℕ) → is_marked wide_parts block ≡ true
       → (is_marked p block ≡ true) ⊎ ((n : ℕ) × (n < p.limits.props) × ((ups n && is_lacked p.ext left n) ≡ true) × (block ≡ block_of p.limits Rows n))
   marked_within block is = by (marked_rows p wide_parts p.ext.props (λ n. ups n && is_lacked p.ext left n) are_marks block is)
@@ -184,7 +158,7 @@ module _ (p : Kept) (t : Taxonomy) (held : AreHeld p t) (left : ℕ) (ups : ℕ 
     files = as_many;
     named = λ n s there has_it. worded n s there (had_then n s has_it);
     settled = settled;
-    as_many = ap length are_marks ∙ length-marked p.marks (map (block_of p.limits Rows) touched);
+    as_many = ap length are_marks ∙ length-marked p.marks (map (block_of p.limits Rows) (lacked_numbers p.ext left ups));
   })
     where
       worded : (n s : ℕ) → IsSome (rec_at p.catalog s) → (has p.ext n s ≡ true) ⊎ ((n < p.limits.props) × (ups n ≡ true)) → IsSome (word_of p.dict n)
@@ -201,7 +175,7 @@ module _ (p : Kept) (t : Taxonomy) (held : AreHeld p t) (left : ℕ) (ups : ℕ 
       rows = row_then;
       settled = settled;
       edits = edits;
-      marks = marks_owed;
+      marks = rows_marked p held.sound (λ n. ups n && is_lacked p.ext left n) e marks as_many are_marks same_row;
       within = marked_within;
     },
   )

@@ -1,46 +1,34 @@
 -- A word that loses its number.
-use Rattle.std.proofs.Common.{rules, ◌≡◌, ◌⊎◌, refl, sym, ap, ap₂, ◌∙◌, subst, inl, inr, ℕ, ◌<◌, ◌≤◌, ◌==◌, if◌then◌else◌, ◌&&◌, ◌||◌, nat_lt, Bool, true, false, List, [], ◌∷◌, length, map, set, get_or, Option, Some, None, is_some, IsSome, IfSome, slice_get, arith, length-set}
-use Rattle.std.specs.Option.{option_to_list}
-use Rattle.std.specs.BTreeSet.{insert_key}
-use Rattle.std.specs.List.{list_all, list_any, fold}
+use Rattle.std.proofs.Common.{rules, ◌≡◌, ◌⊎◌, refl, sym, ap, ap₂, ◌∙◌, subst, inl, inr, ℕ, ◌<◌, ◌≤◌, ◌==◌, if◌then◌else◌, ◌&&◌, ◌||◌, Bool, true, false, List, [], ◌∷◌, length, map, set, get_or, Option, Some, None, is_some, IfSome, arith}
+use Rattle.std.specs.List.{list_any}
 use Rattle.std.proofs.lemmas.Bool.{and_parts, and_from, both_ways, cases_eq, cases_lt, eq-eqb, eqb-true, ne_eqb, false_from_ne_true}
 use Rattle.std.proofs.lemmas.List.{get_or_past}
 use Rattle.std.proofs.lemmas.List.Elements.{Contains-get_or}
 use Rattle.lis_graph.proofs.Members.{Among, among_from_any, among_from_contains, any_from_among}
-use Rattle.lis_blockmap.specs.Bitmap.{is_taken}
 use Rattle.lis_content.specs.Content.{has_number}
-use Rattle.lis_content.proofs.Numbers.{neither, stays_marked}
-use Rattle.lis_dict.specs.Dict.{Dict, IsDict, number_of, word_of, without_word}
-use Rattle.lis_dict.proofs.Laws.{number_from_word, word_from_number, number_of-without_word, word_of-without_word, length-without_word, kept_without_word}
-use Rattle.lis_catalog.specs.Catalog.{Filed, rec_at}
+use Rattle.lis_content.proofs.Numbers.{stays_marked}
+use Rattle.lis_dict.specs.Dict.{Dict, number_of, word_of, without_word}
+use Rattle.lis_dict.proofs.Laws.{number_from_word, word_from_number}
 use Rattle.lis_ext.specs.Ext.{Ext, has}
-use Rattle.lis_fields.specs.Records.{FileRecord}
-use Rattle.lis_fields.specs.Layouts.{prop_bytes, is_prop, is_record}
+use Rattle.lis_fields.specs.Layouts.{is_prop}
 use Rattle.lis_fields.specs.declared.slots.AxiomSlot.{AxiomSlot}
 use Rattle.lis_fields.specs.declared.slots.AxiomSlot.TheVariants.{Free as FreeAxiom, Pair}
 use Rattle.lis_taxonomy.specs.Taxonomy.{Taxonomy, has_edge}
 use Rattle.lis_words.specs.Words.{same_word, is_valued, is_test, head_bytes}
-use Rattle.lis_model.specs.Sets.{set_of}
-use Rattle.lis_model.specs.State.{File, pair_cmp}
+use Rattle.lis_model.specs.State.{File}
 use Rattle.lis_laws.proofs.Members.{same_word_decides, same_words}
-use Rattle.lis_laws.proofs.Counts.{all_weaker}
-use Rattle.lis_kept.specs.Kept.{Kept, property_by, property_at}
-use Rattle.lis_kept.specs.Areas.{Area, slots_of, block_of, spelled}
-use Rattle.lis_kept.specs.Areas.Area.{Properties, Axioms, Files, Rows, Bitmap}
-use Rattle.lis_kept.specs.Telling.{bit_of, is_declared, declared_of, pair_by, pair_told, axioms_of, file_told, state_of, is_left_of, is_head_by, is_left_head_of, is_named_left, is_had}
-use Rattle.lis_kept.specs.Sound.{AreSound, is_sound_record}
+use Rattle.lis_kept.specs.Kept.{Kept, property_by}
+use Rattle.lis_kept.specs.Areas.{block_of}
+use Rattle.lis_kept.specs.Areas.Area.{Properties}
+use Rattle.lis_kept.specs.Telling.{bit_of, is_declared, declared_of, file_told, state_of, is_left_of, is_head_by, is_left_head_of, is_named_left, is_had}
 use Rattle.lis_kept.specs.Links.{AreHeld, is_pair, has_pair, is_own_link, is_linked}
 use Rattle.lis_kept.specs.Edges.{head_number, without_edge_to}
 use Rattle.lis_kept.specs.Forgetting.{MayGo}
-use Rattle.lis_kept.specs.Changes.{Marks}
 use Rattle.lis_kept.specs.Passes.{ForgetsWhere}
-use Rattle.lis_kept.proofs.InArea.{among_slots}
-use Rattle.lis_kept.proofs.Formed.{named_below}
-use Rattle.lis_kept.proofs.Marking.{block_marked}
-use Rattle.lis_kept.proofs.Filing.{map_all, filed_rec, number_from_among}
 use Rattle.lis_kept.proofs.HeadEdges.{no_more_edges, other_edges, none_left}
-use Rattle.lis_kept.proofs.OwnLinks.{own_from, own_to, undeclared_not_test, slot_at, among_slot, unnamed_to, unnamed_from}
-use Rattle.lis_kept.proofs.WordMore.{flat_all, sorted_declared, declared_there, there_declared}
+use Rattle.lis_kept.proofs.OwnLinks.{own_from, own_to, undeclared_not_test, slot_at, unnamed_to, unnamed_from}
+use Rattle.lis_kept.proofs.WordMore.{sorted_declared, declared_there, there_declared}
+use Rattle.lis_kept.proofs.WordGone.{GoneWord, at, word_then, word_gone, word_other, not_gone, number_then, not_left, dict_kept, sound_then, marks_then, axioms_then, files_then}
 
 pub any_same : {X : Type 0} (f g : X → Bool) (xs : List X) → ((x : X) → Among xs x → f x ≡ g x) → list_any f xs ≡ list_any g xs
 any_same f g [] same = refl
@@ -61,151 +49,39 @@ module _ (p : Kept) (t : Taxonomy) (held : AreHeld p t) {word : List ℕ} {numbe
   abbrev pub forgotten : Kept
   forgotten = record p { dict = less; marks = set p.marks (block_of p.limits Properties number) true }
 
-  -- ---- why it may go
-  not_left : (slot left right : ℕ) → slice_get p.axioms slot ≡ Some (Pair left right) → Among p.axioms (Pair left right) → left ≡ number → ⊥
-  not_left slot left right is m same =
-      let none = (neither (list_any (is_left_of number) p.axioms) (list_any (is_left_head_of p.dict number) p.axioms) go.lefts).0 in
-      both_ways (list_any (is_left_of number) p.axioms) none (any_from_among (is_left_of number) p.axioms (Pair left right) m (eq-eqb left number same))
-
-  -- ---- words and numbers
-  at : number_of p.dict word ≡ Some number
-  at = number_from_word p.dict held.sound.dict word number there
-
-  word_then : (n : ℕ) → word_of less n ≡ (if number == n then None else word_of p.dict n)
-  word_then n = word_of-without_word p.dict word held.sound.dict number at n
-
-  word_gone : word_of less number ≡ None
-  word_gone = word_then number ∙ ap (λ b. if b then None else word_of p.dict number) (eq-eqb number number refl)
-
-  pub word_other : (n : ℕ) → (n ≡ number → ⊥) → word_of less n ≡ word_of p.dict n
-  word_other n differ = word_then n ∙ ap (λ b. if b then None else word_of p.dict n) (ne_eqb number n (λ e. differ (sym e)))
-
-  not_gone : (n : ℕ) (v : List ℕ) → word_of less n ≡ Some v → n ≡ number → ⊥
-  not_gone n v is same = let both : ◌≡◌ {A = Option (List ℕ)} None (Some v) = sym word_gone ∙ (ap (word_of less) (sym same) ∙ is) in cc
-
-  some_stays : (n : ℕ) → (n ≡ number → ⊥) → IsSome (word_of p.dict n) → IsSome (word_of less n)
-  some_stays n differ some = ap is_some (word_other n differ) ∙ some
-
-  number_then : (v : List ℕ) → number_of less v ≡ (if same_word word v then None else number_of p.dict v)
-  number_then v = number_of-without_word p.dict word v
-
-  dict_kept : IsDict less
-  dict_kept = kept_without_word p.dict word held.sound.dict (omega (arith, length-without_word p.dict word held.sound.dict number at, held.sound.dict.few))
-
-  -- ---- soundness
-  head_stays : (n : ℕ) (v : List ℕ) → word_of less n ≡ Some v → is_valued v ≡ true → IsSome (number_of less (head_bytes v))
-  head_stays n v is valued = ap is_some (number_then (head_bytes v)) ∙ by (same_word word (head_bytes v)) refl
-    where
-      was : word_of p.dict n ≡ Some v
-      was = sym (word_other n (not_gone n v is)) ∙ is
-
-      by : (b : Bool) → same_word word (head_bytes v) ≡ b → is_some (if b then None else number_of p.dict (head_bytes v)) ≡ true
-      by false e = held.sound.heads n v was valued
-      by true e =
-          let same = (same_word_decides word (head_bytes v)).0 e in
-          let yes : is_head_by (word_of p.dict n) (word_of p.dict number) ≡ true =
-          ap₂ is_head_by was there ∙ and_from (is_valued v) (same_word (head_bytes v) word) valued ((same_word_decides (head_bytes v) word).1 (sym same)) in
-          absurd (both_ways (is_head_by (word_of p.dict n) (word_of p.dict number)) (go.heads n) yes)
-
-  property_then : (n : ℕ) → (n ≡ number) ⊎ (n ≡ number → ⊥) → is_prop (property_at less p.declared n) ≡ true
-  property_then n (inl same) = ap (λ o. is_prop (property_by o (is_taken p.declared n))) (ap (word_of less) same ∙ word_gone)
-  property_then n (inr differ) = ap (λ o. is_prop (property_by o (is_taken p.declared n))) (word_other n differ) ∙ held.sound.properties n
-
-  not_tag : (slot : ℕ) (rec : FileRecord) → rec_at p.catalog slot ≡ Some rec → (n : ℕ) → Among rec.tags n → n ≡ number → ⊥
-  not_tag slot rec is n m same = both_ways (has_number rec.tags number) (go.tags slot rec is) (number_from_among rec.tags number (subst (λ k. Among rec.tags k) same m))
-
-  record_then : (slot : ℕ) (rec : FileRecord) → rec_at p.catalog slot ≡ Some rec → is_sound_record p.limits.version less p.limits.blocks rec ≡ true
-  record_then slot rec is =
-      let most = and_parts (is_record p.limits.version rec && list_all (λ n. is_some (word_of p.dict n)) rec.tags) (list_all (λ n. nat_lt n p.limits.blocks) rec.blocks) (held.sound.records slot rec is) in
-      let both = and_parts (is_record p.limits.version rec) (list_all (λ n. is_some (word_of p.dict n)) rec.tags) most.0 in
-      and_from (is_record p.limits.version rec && list_all (λ n. is_some (word_of less n)) rec.tags) (list_all (λ n. nat_lt n p.limits.blocks) rec.blocks)
-      (and_from (is_record p.limits.version rec) (list_all (λ n. is_some (word_of less n)) rec.tags) both.0
-      (all_weaker (λ n. is_some (word_of p.dict n)) (λ n. is_some (word_of less n)) rec.tags (λ n m some. some_stays n (not_tag slot rec is n m) some) both.1)) most.1
-
-  pub sound_then : AreSound forgotten
-  sound_then = record {
-    range = held.sound.range;
-    numbers = held.sound.numbers;
-    dict = dict_kept;
-    heads = head_stays;
-    bits = held.sound.bits;
-    flagged = λ n bit. some_stays n (λ same. both_ways (is_taken p.declared number) go.flagged (subst (λ m. is_taken p.declared m ≡ true) same bit)) (held.sound.flagged n bit);
-    properties = λ n. property_then n (cases_eq n number);
-    axiom_count = held.sound.axiom_count;
-    axioms = λ slot left right is.
-        let one = held.sound.axioms slot left right is in
-        record {
-          below = one.below;
-          left = some_stays left (not_left slot left right is (among_slot p.axioms slot (Pair left right) is)) one.left;
-          right = some_stays right (go.rights slot left right is) one.right;
-          plain = λ v is_v. one.plain v (sym (word_other right (go.rights slot left right is)) ∙ is_v);
-        };
-    slots = held.sound.slots;
-    catalog = held.sound.catalog;
-    records = record_then;
-    blocks = held.sound.blocks;
-    rows = held.sound.rows;
-    files = held.sound.files;
-    named = λ n slot file has_it.
-        some_stays n (λ same. both_ways (has p.ext number slot) (go.had slot file) (subst (λ m. has p.ext m slot ≡ true) same has_it)) (held.sound.named n slot file has_it);
-    settled = held.sound.settled;
-    marks = omega (arith, length-set p.marks (block_of p.limits Properties number) true, held.sound.marks);
+  gone_word : GoneWord p word number p.declared
+  gone_word = record {
+    there = there;
+    had = go.had;
+    lefts = go.lefts;
+    rights = go.rights;
+    tags = go.tags;
+    heads = go.heads;
+    long = refl;
+    here = go.flagged;
+    others = λ n differ. refl;
   }
 
-  number_below : number < p.limits.props
-  number_below = named_below p held.sound number (ap is_some there)
-
-  -- ---- the marked block
-  spelled_before : (area : Area) (n : ℕ) → n < (slots_of p.limits area).count → (block_of p.limits area n ≡ block_of p.limits Properties number → ⊥) → spelled forgotten area n ≡ spelled p area n
-  spelled_before Properties n lt apart =
-      let differ : n ≡ number → ⊥ = λ e. apart (ap (block_of p.limits Properties) e) in
-      ap (λ o. prop_bytes (property_by o (is_taken p.declared n))) (word_other n differ)
-  spelled_before Axioms n lt apart = refl
-  spelled_before Files n lt apart = refl
-  spelled_before Rows n lt apart = refl
-  spelled_before Bitmap n lt apart = refl
-
-  pub marks_then : Marks 1 p forgotten
-  marks_then =
-      block_marked p forgotten (block_of p.limits Properties number) refl refl
-      (omega (arith, (among_slots p.limits held.sound.range Properties number number_below).1, held.sound.marks)) spelled_before
-
   -- ---- what is told
-  pair_same : (a : AxiomSlot) → Among p.axioms a → pair_told less a ≡ pair_told p.dict a
-  pair_same FreeAxiom m = refl
-  pair_same (Pair left right) m =
-      let found = slot_at p.axioms (Pair left right) m in
-      ap₂ pair_by (word_other left (not_left found.0 left right found.1 m)) (word_other right (go.rights found.0 left right found.1))
-
-  axioms_then : axioms_of forgotten ≡ axioms_of p
-  axioms_then = ap (fold (insert_key pair_cmp) []) (flat_all (pair_told less) (pair_told p.dict) p.axioms pair_same)
-
-  file_same : (blocks : ℕ → List ℕ) (f : Filed) → Among p.catalog.entries f → file_told p.limits less blocks f ≡ file_told p.limits p.dict blocks f
-  file_same blocks f m =
-      let is = filed_rec p.catalog held.sound.catalog f m in
-      ap (λ (ws : List (List ℕ)). record (file_told p.limits p.dict blocks f) { assigned = ws })
-      (ap set_of (flat_all (λ n. option_to_list (word_of less n)) (λ n. option_to_list (word_of p.dict n)) f.rec.tags
-      (λ n k. ap option_to_list (word_other n (not_tag f.slot f.rec is n k)))))
-
   declared_then : (v : List ℕ) → is_declared forgotten v ≡ is_declared p v
-  declared_then v = ap (bit_of p.declared) (number_then v) ∙ by (same_word word v) refl
+  declared_then v = ap (bit_of p.declared) (number_then p held.sound gone_word v) ∙ by (same_word word v) refl
     where
       by : (b : Bool) → same_word word v ≡ b → bit_of p.declared (if b then None else number_of p.dict v) ≡ is_declared p v
       by false e = refl
-      by true e = sym (ap (bit_of p.declared) (ap (number_of p.dict) (sym ((same_word_decides word v).0 e)) ∙ at) ∙ go.flagged)
+      by true e = sym (ap (bit_of p.declared) (ap (number_of p.dict) (sym ((same_word_decides word v).0 e)) ∙ at p held.sound gone_word) ∙ go.flagged)
 
   declared_same : declared_of forgotten ≡ declared_of p
   declared_same =
-      same_words (declared_of forgotten) (declared_of p) (sorted_declared forgotten dict_kept) (sorted_declared p held.sound.dict)
+      same_words (declared_of forgotten) (declared_of p) (sorted_declared forgotten (dict_kept p held.sound gone_word)) (sorted_declared p held.sound.dict)
       (λ v m. declared_there p v (sym (declared_then v) ∙ there_declared forgotten v m))
       (λ v m. declared_there forgotten v (declared_then v ∙ there_declared p v m))
 
   pub state_then : (blocks : ℕ → List ℕ) → state_of forgotten blocks ≡ state_of p blocks
   state_then blocks =
       ap (λ (ds : List (List ℕ)). record (state_of forgotten blocks) { declared = ds }) declared_same
-      ∙ (ap (λ (axioms : List (List ℕ × List ℕ)). record (state_of p blocks) { axioms = axioms; files = map (file_told p.limits less blocks) p.catalog.entries }) axioms_then
+      ∙ (ap (λ (axioms : List (List ℕ × List ℕ)). record (state_of p blocks) { axioms = axioms; files = map (file_told p.limits less blocks) p.catalog.entries }) (axioms_then p held.sound gone_word)
       ∙ ap (λ (fs : List File). record (state_of p blocks) { files = fs })
-      (map_all (file_told p.limits less blocks) (file_told p.limits p.dict blocks) p.catalog.entries (file_same blocks)))
+      (files_then p held.sound gone_word blocks))
 
   -- ---- links
   no_pair_from : (y : ℕ) → has_pair p.axioms number y ≡ false
@@ -215,7 +91,7 @@ module _ (p : Kept) (t : Taxonomy) (held : AreHeld p t) {word : List ℕ} {numbe
       by FreeAxiom m is = cc
       by (Pair left right) m is =
           let found = slot_at p.axioms (Pair left right) m in
-          not_left found.0 left right found.1 m (eqb-true left number (and_parts (left == number) (right == y) is).0)
+          not_left p held.sound gone_word found.0 left right found.1 (eqb-true left number (and_parts (left == number) (right == y) is).0)
 
   no_pair_to : (x : ℕ) → has_pair p.axioms x number ≡ false
   no_pair_to x = false_from_ne_true (has_pair p.axioms x number) (λ has. let found = among_from_any (is_pair x number) p.axioms has in by found.0 found.1 found.2)
@@ -276,16 +152,16 @@ module _ (p : Kept) (t : Taxonomy) (held : AreHeld p t) {word : List ℕ} {numbe
       by : (x ≡ number) ⊎ (x ≡ number → ⊥) → (y ≡ number) ⊎ (y ≡ number → ⊥) → has_edge unlinked x y ≡ is_linked forgotten x y
       by (inl same) other =
           subst (λ n. has_edge unlinked n y ≡ is_linked forgotten n y) (sym same)
-          (none_left t number (head_number p.dict word) y (head_edge y) ∙ sym (unnamed_from forgotten sound_then number word_gone y))
+          (none_left t number (head_number p.dict word) y (head_edge y) ∙ sym (unnamed_from forgotten (sound_then p held.sound gone_word) number (word_gone p held.sound gone_word) y))
       by (inr differ) (inl same) =
           let none : has_edge t x number ≡ false = held.links.edges x number ∙ ap₂ (λ a b. a || b) (own_to_it x) (no_pair_to x) in
           subst (λ n. has_edge unlinked x n ≡ is_linked forgotten x n) (sym same)
-          (no_more_edges t number (head_number p.dict word) x number none ∙ sym (unnamed_to forgotten sound_then number word_gone x))
+          (no_more_edges t number (head_number p.dict word) x number none ∙ sym (unnamed_to forgotten (sound_then p held.sound gone_word) number (word_gone p held.sound gone_word) x))
       by (inr differ) (inr apart) =
           other_edges t number (head_number p.dict word) x y differ
           ∙ (held.links.edges x y
           ∙ ap (λ b. b || has_pair p.axioms x y)
-          (sym (ap₂ (is_own_link (declared_of p)) (word_other x differ) (word_other y apart))
+          (sym (ap₂ (is_own_link (declared_of p)) (word_other p held.sound gone_word x differ) (word_other p held.sound gone_word y apart))
           ∙ sym (ap (λ ds. is_own_link ds (word_of less x) (word_of less y)) declared_same)))
 
   same_props : (o : Option ℕ) → (without_edge_to t number o).props ≡ t.props
@@ -298,27 +174,24 @@ module _ (p : Kept) (t : Taxonomy) (held : AreHeld p t) {word : List ℕ} {numbe
       ap (λ b. list_any (is_left_of n) p.axioms || b)
       (any_same (is_left_head_of less n) (is_left_head_of p.dict n) p.axioms alike)
     where
-      still : n ≡ number → ⊥
-      still same = both_ways (is_some (word_of less n)) (ap is_some (ap (word_of less) same ∙ word_gone)) some
-
       alike : (a : AxiomSlot) → Among p.axioms a → is_left_head_of less n a ≡ is_left_head_of p.dict n a
       alike FreeAxiom m = refl
       alike (Pair left right) m =
           let found = slot_at p.axioms (Pair left right) m in
-          ap₂ is_head_by (word_other left (not_left found.0 left right found.1 m)) (word_other n still)
+          ap₂ is_head_by (word_other p held.sound gone_word left (not_left p held.sound gone_word found.0 left right found.1)) (word_other p held.sound gone_word n (not_gone p held.sound gone_word n some))
 
   pub forgotten_made : AreHeld forgotten unlinked × ForgetsWhere (λ n. number == n) 1 p forgotten
   forgotten_made = (
     record {
-      sound = sound_then;
+      sound = sound_then p held.sound gone_word;
       links = record { props = same_props (head_number p.dict word) ∙ held.links.props; edges = links_then };
     },
     record {
       parts = refl;
       props = refl;
-      marks = marks_then;
+      marks = marks_then p held.sound gone_word;
       marked = stays_marked p.marks (block_of p.limits Properties number ∷ []);
-      words = word_then;
+      words = word_then p held.sound gone_word;
       state = state_then;
       lefts = lefts_then;
     },

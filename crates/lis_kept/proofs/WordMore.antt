@@ -60,6 +60,10 @@ there_declared k w m = (among_filter (is_declared k) (words k.dict) w m).1
 pub sorted_declared : (k : Kept) → IsDict k.dict → IsStrictlySortedBy word_cmp (declared_of k)
 sorted_declared k dict = IsStrictlySortedBy-filter word_cmp (is_declared k) (words k.dict) (sorted_from_rising word_cmp word_order (words k.dict) dict.rising)
 
+-- the bits of all other numbers stay
+abbrev pub OthersStay : ℕ → List Bool → List Bool → Type 0
+OthersStay number old bits = (n : ℕ) → (n ≡ number → ⊥) → is_taken bits n ≡ is_taken old n
+
 -- what a word needs to get a number, and the bits then
 pub record NewWord (p : Kept) (word : List ℕ) (number : ℕ) (bits : List Bool) (flag : Bool) : Type 0 where
   pub new : number_of p.dict word ≡ None
@@ -71,7 +75,7 @@ pub record NewWord (p : Kept) (word : List ℕ) (number : ℕ) (bits : List Bool
   pub headed : is_valued word ≡ true → IsSome (number_of p.dict (head_bytes word))
   pub long : length bits ≡ length p.declared
   pub here : is_taken bits number ≡ flag
-  pub others : (n : ℕ) → (n ≡ number → ⊥) → is_taken bits n ≡ is_taken p.declared n
+  pub others : OthersStay number p.declared bits
 
 module _ (p : Kept) (t : Taxonomy) (held : AreHeld p t) {word : List ℕ} {number : ℕ} {bits : List Bool} {flag : Bool} (w : NewWord p word number bits flag) where
   abbrev d : Dict

@@ -23,6 +23,7 @@ use Rattle.lis_fields.specs.declared.slots.AxiomSlot.TheVariants.{Free as FreeAx
 use Rattle.lis_laws.proofs.Apart.{plain_not_valued}
 use Rattle.lis_laws.proofs.Chains.{acyclic_within, acyclic_cons, acyclic_decides}
 use Rattle.lis_laws.proofs.Members.{pair_exact}
+use Rattle.lis_laws.proofs.Locals.{same_tests}
 use Rattle.lis_model.specs.declared.limits.Limits.{Limits}
 use Rattle.lis_model.specs.State.{Entails, Acyclic, pair_cmp}
 use Rattle.lis_kept.specs.Kept.{axiom_at}
@@ -30,7 +31,6 @@ use Rattle.lis_kept.specs.Areas.{axiom_slots}
 use Rattle.lis_kept.specs.Telling.{is_head_by, pair_told, pairs_told, axioms_of}
 use Rattle.lis_kept.specs.TestEdges.{is_test_link}
 use Rattle.lis_kept.specs.Links.{is_pair, has_pair, is_own_link, is_linked, TellsLinks}
-use Rattle.lis_kept.proofs.Filing.{same_tests}
 use Rattle.lis_kept.proofs.HeadEdges.{has_edge-with_edge}
 use Rattle.lis_kept.proofs.Known.{placed_at, among_place}
 use Rattle.lis_kept.proofs.TestLinks.{linked_by}

@@ -10,9 +10,9 @@ use Rattle.lis_taxonomy.specs.Taxonomy.{Taxonomy, pair_cmp, has_edge, empty_taxo
 use Rattle.lis_words.specs.Words.{same_word, is_valued, head_bytes}
 use Rattle.lis_laws.proofs.Members.{same_word_decides}
 use Rattle.lis_laws.proofs.Chains.{head_not_valued}
+use Rattle.lis_laws.proofs.Locals.{same_tests}
 use Rattle.lis_kept.specs.Edges.{with_edge_to}
 use Rattle.lis_kept.specs.Telling.{is_head_by}
-use Rattle.lis_kept.proofs.Filing.{same_tests}
 use Rattle.lis_kept.proofs.HeadEdges.{has_edge-with_edge}
 use Rattle.lis_open.specs.declared.words.Words.{Words}
 use Rattle.lis_open.specs.ReadWords.{head_by, LinksHeads}

@@ -9,10 +9,10 @@ use Rattle.lis_words.specs.Words.{same_word, is_valued, head_bytes, is_test}
 use Rattle.lis_laws.proofs.Apart.{test_not_valued}
 use Rattle.lis_laws.proofs.Chains.{head_no_test}
 use Rattle.lis_laws.proofs.Members.{same_word_decides}
+use Rattle.lis_laws.proofs.Locals.{same_tests}
 use Rattle.lis_model.specs.Tests.{are_weaker}
 use Rattle.lis_kept.specs.Telling.{is_head_by}
 use Rattle.lis_kept.specs.TestEdges.{test_by, declared_test, is_test_link, TestsAreOrdered, LinksWeaker}
-use Rattle.lis_kept.proofs.Filing.{same_tests}
 use Rattle.lis_kept.proofs.TestLinks.{none_weaker, no_test, test_link}
 use Rattle.lis_open.specs.declared.words.Words.{Words}
 use Rattle.lis_open.specs.ReadWords.{LinksHeads, LinksTests}

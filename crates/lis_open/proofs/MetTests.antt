@@ -19,10 +19,10 @@ use Rattle.lis_words.specs.Words.{is_valued, head_bytes, test_of}
 use Rattle.lis_laws.proofs.Apart.{test_not_valued}
 use Rattle.lis_laws.proofs.Counts.{all_from}
 use Rattle.lis_laws.proofs.Members.{among_from_has_word, has_word_from_among}
+use Rattle.lis_laws.proofs.Locals.{same_tests}
 use Rattle.lis_model.specs.Tests.{is_met, met_tests}
 use Rattle.lis_kept.specs.Telling.{bit_of}
 use Rattle.lis_kept.specs.TestEdges.{test_by, declared_test}
-use Rattle.lis_kept.proofs.Filing.{same_tests}
 use Rattle.lis_open.specs.declared.words.Words.{Words}
 use Rattle.lis_open.specs.ReadWords.{declared_words, is_met_number}
 use Rattle.lis_open.specs.ReadFiles.{is_described, is_numbered, numbers_of, met_numbers, own_numbers}

@@ -11,6 +11,7 @@ use Rattle.lis_fields.specs.Records.{FileRecord}
 use Rattle.lis_words.specs.Words.{has_word, is_test, test_of}
 use Rattle.lis_laws.proofs.Counts.{all_from}
 use Rattle.lis_laws.proofs.Members.{among_from_has_word, has_word_from_among}
+use Rattle.lis_laws.proofs.Locals.{same_tests}
 use Rattle.lis_model.specs.declared.limits.Limits.{Limits}
 use Rattle.lis_model.specs.Ranges.{are_in_range}
 use Rattle.lis_model.specs.State.{File, file_words, is_assignable}
@@ -19,7 +20,7 @@ use Rattle.lis_kept.specs.Kept.{Kept}
 use Rattle.lis_kept.specs.Sound.{AreSound}
 use Rattle.lis_kept.specs.Telling.{words_told, axioms_of}
 use Rattle.lis_kept.specs.TestEdges.{test_by}
-use Rattle.lis_kept.proofs.Filing.{same_tests, among_from_number, number_from_among as has_from_among}
+use Rattle.lis_kept.proofs.Filing.{among_from_number, number_from_among as has_from_among}
 use Rattle.lis_store.specs.Stored.{TestsAreMet}
 use Rattle.lis_store.proofs.FileTests.{assigned_no_test, test_described}
 use Rattle.lis_open.specs.declared.words.Words.{Words}

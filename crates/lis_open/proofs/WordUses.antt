@@ -7,9 +7,9 @@ use Rattle.lis_model.specs.declared.limits.Limits.{Limits}
 use Rattle.lis_model.specs.State.{is_assignable, is_nameable, is_known_head}
 use Rattle.lis_kept.specs.Telling.{bit_of, declared_of, is_declared}
 use Rattle.lis_kept.proofs.WordMore.{declared_there, there_declared}
-use Rattle.lis_kept.proofs.Filing.{same_tests}
 use Rattle.lis_laws.proofs.Members.{among_from_has_word, has_word_from_among}
 use Rattle.lis_laws.proofs.Apart.{plain_not_valued, plain_not_head, bare_head_not_valued}
+use Rattle.lis_laws.proofs.Locals.{same_tests}
 use Rattle.lis_words.proofs.Tests.{head_not_test, valued_not_test}
 use Rattle.lis_open.specs.declared.words.Words.{Words}
 use Rattle.lis_open.specs.ReadWords.{declared_words, kept_words}

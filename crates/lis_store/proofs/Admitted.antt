@@ -19,9 +19,9 @@ use Rattle.lis_laws.proofs.Members.{word_order}
 use Rattle.lis_laws.proofs.Counts.{all_among, rising_from_sorted}
 use Rattle.lis_laws.proofs.Growth.{known_adds_file}
 use Rattle.lis_laws.proofs.Named.{file_there}
+use Rattle.lis_laws.proofs.Locals.{same_tests}
 use Rattle.lis_kept.specs.Kept.{Kept}
 use Rattle.lis_kept.specs.Telling.{declared_of, axioms_of}
-use Rattle.lis_kept.proofs.Filing.{same_tests}
 use Rattle.lis_store.specs.Stored.{Stored, IsSound, StoreFits}
 use Rattle.lis_store.specs.Admitting.{described_by, known_with, named_checks, room_checks, file_checks, add_checks_of, IsAdmitted}
 use Rattle.lis_store.specs.declared.change.Change.{Change}

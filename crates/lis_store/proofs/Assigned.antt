@@ -29,9 +29,9 @@ use Rattle.lis_model.specs.Step.{tags_at, assigned_at}
 use Rattle.lis_laws.proofs.Members.{word_exact, word_order, same_word_decides, among_from_has_word, has_word_from_among, among_with_words, with_words_old, with_words_new, among_set_of, set_of_among, sorted_with_words, sorted_set_of, same_words}
 use Rattle.lis_laws.proofs.Counts.{all_among, all_from}
 use Rattle.lis_laws.proofs.Apart.{plain_not_valued}
+use Rattle.lis_laws.proofs.Locals.{same_tests}
 use Rattle.lis_kept.specs.Kept.{Kept}
 use Rattle.lis_kept.specs.Telling.{is_declared, declared_of}
-use Rattle.lis_kept.proofs.Filing.{same_tests}
 use Rattle.lis_kept.proofs.WordMore.{declared_there, there_declared}
 use Rattle.lis_store.proofs.Told.{words_grow}
 use Rattle.lis_store.specs.Assigning.{is_conjunct, node_tags, is_held, Takes}

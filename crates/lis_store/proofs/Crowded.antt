@@ -26,12 +26,13 @@ use Rattle.lis_model.specs.Step.{exceeds_words}
 use Rattle.lis_laws.proofs.Closures.{entailing, entailed_in, sorted_all_up}
 use Rattle.lis_laws.proofs.Counts.{all_among}
 use Rattle.lis_laws.proofs.Members.{word_exact, among_with_words, with_words_old, with_words_new, sorted_with_words}
+use Rattle.lis_laws.proofs.Locals.{same_tests}
 use Rattle.lis_kept.specs.Kept.{Kept}
 use Rattle.lis_kept.specs.Links.{TellsLinks}
 use Rattle.lis_kept.specs.Sound.{AreSound, FreeSlotsAreEmpty}
 use Rattle.lis_kept.specs.Telling.{bit_of, is_declared, declared_of, axioms_of, bytes_told, words_told, file_told, Tells}
 use Rattle.lis_ext.proofs.Numbers.{among_where, where_among}
-use Rattle.lis_kept.proofs.Filing.{same_tests, among_from_number, number_from_among, filed_rec, filed_at_slot}
+use Rattle.lis_kept.proofs.Filing.{among_from_number, number_from_among, filed_rec, filed_at_slot}
 use Rattle.lis_kept.proofs.Formed.{named_all, named_below, some_word}
 use Rattle.lis_kept.proofs.Known.{among_word, word_among}
 use Rattle.lis_kept.proofs.Numbered.{Numbers, numbers_are}

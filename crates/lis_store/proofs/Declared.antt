@@ -36,6 +36,7 @@ use Rattle.lis_laws.proofs.Members.{among_with_words, word_exact, word_order, so
 use Rattle.lis_laws.proofs.Sources.{known_from}
 use Rattle.lis_laws.proofs.Sources.Source.{Declared, Left, Described}
 use Rattle.lis_laws.proofs.Closures.{entailing}
+use Rattle.lis_laws.proofs.Locals.{same_tests}
 use Rattle.lis_kept.specs.Kept.{Kept, property_by, property_at}
 use Rattle.lis_kept.specs.Areas.{IsSaved, marked_count}
 use Rattle.lis_kept.specs.Links.{is_pair, is_linked, has_pair}
@@ -46,7 +47,7 @@ use Rattle.lis_kept.specs.Changes.{Declares}
 use Rattle.lis_kept.specs.Under.{is_plain_by, MayStandUnder, DeclaresUnder}
 use Rattle.lis_kept.specs.TestEdges.{test_by, declared_test}
 use Rattle.lis_kept.specs.Telling.{bytes_told, bit_of, is_declared, declared_of, axioms_of, file_told, state_of, is_head_by, Tells}
-use Rattle.lis_kept.proofs.Filing.{same_tests, among_from_number, number_from_among, filed_rec}
+use Rattle.lis_kept.proofs.Filing.{among_from_number, number_from_among, filed_rec}
 use Rattle.lis_kept.proofs.Formed.{some_word}
 use Rattle.lis_kept.proofs.Known.{word_among}
 use Rattle.lis_kept.proofs.OwnLinks.{slot_at, among_slot}

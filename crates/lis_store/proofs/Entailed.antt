@@ -11,11 +11,11 @@ use Rattle.lis_model.specs.Sets.{set_of}
 use Rattle.lis_model.specs.State.{up, all_up}
 use Rattle.lis_laws.proofs.Chains.{up_from_entails}
 use Rattle.lis_laws.proofs.Members.{among_set_of, set_of_among}
+use Rattle.lis_laws.proofs.Locals.{same_tests}
 use Rattle.lis_kept.specs.Kept.{Kept}
 use Rattle.lis_kept.specs.Links.{TellsLinks}
 use Rattle.lis_kept.specs.Sound.{AreSound}
 use Rattle.lis_kept.specs.Telling.{declared_of, axioms_of}
-use Rattle.lis_kept.proofs.Filing.{same_tests}
 use Rattle.lis_ext.specs.Numbers.{numbers_where}
 use Rattle.lis_store.specs.Adding.{is_one_of, numbers_named}
 use Rattle.lis_kept.proofs.Entailed.{chain_named, leads_from_up}

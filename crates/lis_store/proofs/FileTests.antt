@@ -23,11 +23,11 @@ use Rattle.lis_laws.proofs.Members.{among_from_has_word, has_word_from_among}
 use Rattle.lis_laws.proofs.Sources.{OwnWord, own_word, own_from, Assignable, assignable_cases, met_weaker}
 use Rattle.lis_laws.proofs.Sources.OwnWord.{Assigned, Derived, Met}
 use Rattle.lis_laws.proofs.Sources.Assignable.{Plain, Valued}
+use Rattle.lis_laws.proofs.Locals.{same_tests}
 use Rattle.lis_kept.specs.Kept.{Kept, property_by}
 use Rattle.lis_kept.specs.Sound.{AreSound}
 use Rattle.lis_kept.specs.Telling.{declared_of, axioms_of}
 use Rattle.lis_kept.specs.TestEdges.{test_by}
-use Rattle.lis_kept.proofs.Filing.{same_tests}
 use Rattle.lis_kept.proofs.Formed.{some_word}
 use Rattle.lis_kept.proofs.Known.{declared_word, among_axiom}
 use Rattle.lis_kept.proofs.OwnLinks.{undeclared_not_test}

@@ -20,7 +20,8 @@ use Rattle.lis_kept.specs.Kept.{Kept}
 use Rattle.lis_kept.specs.Sound.{AreSound}
 use Rattle.lis_kept.specs.Changes.{Gives}
 use Rattle.lis_kept.proofs.Dropped.{record_in_form, blocks_apart}
-use Rattle.lis_kept.proofs.Filing.{filter_same, number_from_among}
+use Rattle.lis_laws.proofs.Locals.{filter_same}
+use Rattle.lis_kept.proofs.Filing.{number_from_among}
 use Rattle.lis_store.specs.Instead.{free_instead}
 
 -- one that was taken is free then

@@ -13,8 +13,9 @@ use Rattle.lis_catalog.specs.Catalog.{Filed}
 use Rattle.lis_model.specs.declared.limits.Limits.{Limits}
 use Rattle.lis_model.specs.State.{State, File, blocks_taken, used_blocks}
 use Rattle.lis_laws.proofs.Counts.{all_among, all_from}
+use Rattle.lis_laws.proofs.Locals.{same_tests}
 use Rattle.lis_kept.specs.Telling.{blocks_told, file_told, state_of, Tells}
-use Rattle.lis_kept.proofs.Filing.{same_tests, among_from_number, number_from_among}
+use Rattle.lis_kept.proofs.Filing.{among_from_number, number_from_among}
 use Rattle.lis_store.specs.Stored.{Stored, IsSound, StoreFits}
 use Rattle.lis_store.proofs.Facts.{limits_told, files_told, size_of_filed}
 use Rattle.lis_store.proofs.FileBlocks.{told_counted}

@@ -7,8 +7,8 @@ use Rattle.std.proofs.lemmas.Bool.{cases_lt}
 use Rattle.std.proofs.lemmas.List.FromFn.{filter_of_map_range_with_len_more}
 use Rattle.lis_ext.specs.Ext.{Ext, set_of, has}
 use Rattle.lis_ext.specs.Numbers.{numbers_where}
-use Rattle.lis_kept.proofs.Formed.{each_below}
 use Rattle.lis_ext.proofs.Numbers.{numbers_of}
+use Rattle.lis_ext.proofs.Seen.{each_below}
 
 abbrev pub found_below : (ℕ → Bool) → ℕ → List ℕ
 found_below test n = filter test (map (λ (p : ℕ). p) (range_with_len 0 n))

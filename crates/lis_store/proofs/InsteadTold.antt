@@ -21,11 +21,12 @@ use Rattle.lis_model.specs.Listing.{extension}
 use Rattle.lis_model.specs.Step.{Situation, Payload, refused, changed, exceeds_words, exceeds_known, free_blocks, blocks_for, is_here, is_large, room_checks, write_checks, write, rename_checks, rename}
 use Rattle.lis_laws.proofs.Counts.{all_among}
 use Rattle.lis_laws.proofs.Named.{file_there, file_of_name, gone_free, still_free}
+use Rattle.lis_laws.proofs.Locals.{same_tests}
 use Rattle.lis_kept.specs.Kept.{Kept}
 use Rattle.lis_kept.specs.Telling.{words_told, bytes_told, blocks_told}
 use Rattle.lis_kept.proofs.Contents.{slot_blocks_told}
 use Rattle.lis_kept.proofs.Dropped.{record_in_form}
-use Rattle.lis_kept.proofs.Filing.{same_tests, filed_at_slot, number_from_among}
+use Rattle.lis_kept.proofs.Filing.{filed_at_slot, number_from_among}
 use Rattle.lis_store.specs.Stored.{Stored, IsSound, StoreFits}
 use Rattle.lis_store.specs.Admitting.{described_by}
 use Rattle.lis_store.specs.Changes.{first_refusal}

@@ -30,12 +30,13 @@ use Rattle.lis_laws.proofs.Members.{word_exact, word_order, among_from_has_word,
 use Rattle.lis_laws.proofs.Chains.{head_not_valued, among_heads, heads_of_valued, OwnLink, own_link, links_head, up_self, up_own, up_trans, entails_from_up, up_from_entails}
 use Rattle.lis_laws.proofs.Chains.OwnLink.{Head, Weaker}
 use Rattle.lis_laws.proofs.Closures.{entailing, entailed_in, sorted_all_up}
+use Rattle.lis_laws.proofs.Locals.{same_tests}
 use Rattle.lis_kept.specs.Kept.{Kept}
 use Rattle.lis_kept.specs.Sound.{AreSound}
 use Rattle.lis_kept.specs.Telling.{declared_of, axioms_of, words_told}
 use Rattle.lis_ext.proofs.Numbers.{among_where, where_among}
 use Rattle.lis_kept.proofs.Described.{few_where}
-use Rattle.lis_kept.proofs.Filing.{same_tests, among_from_number, number_from_among}
+use Rattle.lis_kept.proofs.Filing.{among_from_number, number_from_among}
 use Rattle.lis_kept.proofs.Known.{among_axiom, declared_has_number, word_among, among_word, word_known, known_word, one_number, only_word}
 use Rattle.lis_kept.proofs.Formed.{some_word}
 use Rattle.lis_store.specs.Admitting.{described_by, known_with}

@@ -19,9 +19,10 @@ use Rattle.lis_ext.specs.Numbers.{numbers_where}
 use Rattle.lis_words.specs.Words.{word_cmp, same_word}
 use Rattle.lis_laws.proofs.Counts.{filter_drops}
 use Rattle.lis_laws.proofs.Members.{same_word_decides, among_from_has_word, has_word_from_among, among_set_of, set_of_among, sorted_set_of, same_words}
+use Rattle.lis_laws.proofs.Locals.{same_tests}
 use Rattle.lis_kept.specs.Telling.{words_told}
 use Rattle.lis_ext.proofs.Numbers.{among_where, where_among, numbers_same, sorted_where}
-use Rattle.lis_kept.proofs.Filing.{same_tests, among_from_number, number_from_among}
+use Rattle.lis_kept.proofs.Filing.{among_from_number, number_from_among}
 use Rattle.lis_kept.proofs.Known.{only_word, some_number}
 use Rattle.lis_store.specs.Adding.{is_one_of, numbers_named, AreNumbered}
 

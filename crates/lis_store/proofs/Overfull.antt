@@ -17,12 +17,13 @@ use Rattle.lis_model.specs.Changes.{axiom_added}
 use Rattle.lis_model.specs.Step.{exceeds_words}
 use Rattle.lis_laws.proofs.Counts.{all_among}
 use Rattle.lis_laws.proofs.Members.{among_from_has_word}
+use Rattle.lis_laws.proofs.Locals.{same_tests}
 use Rattle.lis_kept.specs.Kept.{Kept}
 use Rattle.lis_kept.specs.Sound.{AreSound, FreeSlotsAreEmpty}
 use Rattle.lis_kept.specs.Telling.{declared_of, axioms_of, file_told, Tells}
 use Rattle.lis_kept.proofs.AxiomTaken.{one_unfelt}
 use Rattle.lis_ext.proofs.Numbers.{among_where, where_among}
-use Rattle.lis_kept.proofs.Filing.{same_tests, among_from_number, number_from_among, filed_rec, filed_at_slot}
+use Rattle.lis_kept.proofs.Filing.{among_from_number, number_from_among, filed_rec, filed_at_slot}
 use Rattle.lis_kept.proofs.Formed.{named_below}
 use Rattle.lis_kept.proofs.Known.{among_word}
 use Rattle.lis_kept.proofs.Numbered.{Numbers, widened_told}

@@ -24,10 +24,10 @@ use Rattle.lis_model.specs.Places.{place_words}
 use Rattle.lis_model.specs.Step.{is_plain_place, words_at}
 use Rattle.lis_laws.proofs.Members.{word_order, among_set_of, set_of_among, sorted_set_of, same_words}
 use Rattle.lis_laws.proofs.Counts.{all_among, all_from, all_weaker, all_insert_key}
+use Rattle.lis_laws.proofs.Locals.{same_tests}
 use Rattle.lis_kept.specs.Kept.{Kept}
 use Rattle.lis_kept.specs.Sound.{AreSound}
 use Rattle.lis_kept.specs.Telling.{is_declared, words_told}
-use Rattle.lis_kept.proofs.Filing.{same_tests}
 use Rattle.lis_kept.proofs.Known.{word_among}
 use Rattle.lis_store.specs.Assigning.{is_conjunct}
 use Rattle.lis_store.specs.Placing.{is_plain_conjunct, declared_number, AreNumbersOf, TakesNumbers}

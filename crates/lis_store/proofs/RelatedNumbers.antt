@@ -16,10 +16,10 @@ use Rattle.lis_model.specs.State.{up}
 use Rattle.lis_model.specs.Changes.{same_pair, has_axiom}
 use Rattle.lis_laws.proofs.Chains.{head_not_valued}
 use Rattle.lis_laws.proofs.Members.{word_exact, word_order, same_word_decides, among_from_has_word, has_word_from_among, same_words}
+use Rattle.lis_laws.proofs.Locals.{same_tests}
 use Rattle.lis_kept.specs.Kept.{Kept}
 use Rattle.lis_kept.specs.Sound.{AreSound}
 use Rattle.lis_kept.specs.Telling.{declared_of, axioms_of}
-use Rattle.lis_kept.proofs.Filing.{same_tests}
 use Rattle.lis_kept.proofs.Known.{among_axiom}
 use Rattle.lis_store.specs.Adding.{behind_head}
 use Rattle.lis_store.specs.Relating.{entails_word}

@@ -26,6 +26,7 @@ use Rattle.lis_laws.proofs.Forms as forms
 use Rattle.lis_laws.proofs.Growth.{known_adds_axiom}
 use Rattle.lis_laws.proofs.Chains.{among_heads}
 use Rattle.lis_laws.proofs.Members.{word_order, same_word_decides, among_with_words, with_words_old, with_words_new, sorted_with_words}
+use Rattle.lis_laws.proofs.Locals.{same_tests}
 use Rattle.lis_kept.specs.Areas.{IsSaved}
 use Rattle.lis_kept.specs.Kept.{Kept}
 use Rattle.lis_kept.specs.Links.{is_pair, has_pair}
@@ -35,7 +36,6 @@ use Rattle.lis_kept.specs.Telling.{bit_of, declared_of, axioms_of, words_told, f
 use Rattle.lis_kept.proofs.AxiomsTold.{axioms_counted}
 use Rattle.lis_kept.proofs.AxiomDescribed as described
 use Rattle.lis_kept.proofs.AxiomSlots.{InSlot, set_cases, same_sides}
-use Rattle.lis_kept.proofs.Filing.{same_tests}
 use Rattle.lis_kept.proofs.Formed.{some_word, named_below, named_all}
 use Rattle.lis_kept.proofs.Known.{some_number, one_number}
 use Rattle.lis_kept.proofs.Numbered.{Numbers}

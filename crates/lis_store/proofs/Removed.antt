@@ -26,13 +26,13 @@ use Rattle.lis_kept.specs.Forgetting.{KeepsInUse}
 use Rattle.lis_kept.specs.Telling.{declared_of, words_told, blocks_told, file_told, state_of, is_had, is_named_left, is_used, AreUsed, IsFileBlock, Tells}
 use Rattle.lis_kept.proofs.Filing.{number_from_among, filed_rec, filed_at_slot}
 use Rattle.lis_kept.proofs.Dropped.{file_slot_below}
-use Rattle.lis_kept.proofs.Formed.{each_below}
 use Rattle.lis_store.specs.Stored.{AreClosed, DescriptionsAreShort, TestsAreMet}
 use Rattle.lis_store.specs.Changes.{differing_bits}
 use Rattle.lis_store.specs.Saving.{IsReady}
 use Rattle.lis_store.specs.ReplacingIn.{AreInForm}
 use Rattle.lis_store.specs.Removing.{TakesOut}
 use Rattle.lis_ext.proofs.Numbers.{numbers_same, numbers_of}
+use Rattle.lis_ext.proofs.Seen.{each_below}
 use Rattle.lis_store.proofs.Facts.{filed_named}
 use Rattle.lis_store.proofs.Told.{words_same}
 use Rattle.lis_store.proofs.OwnStay.{own_before}

@@ -13,6 +13,7 @@ use Rattle.lis_journal.proofs.Fitting.{fits_but}
 use Rattle.lis_content.specs.Content.{given, marked, are_free, has_home}
 use Rattle.lis_content.specs.Placing.{Asks, homes_of}
 use Rattle.lis_content.proofs.Numbers.{stays_marked}
+use Rattle.lis_content.proofs.Laying.{among_homes}
 use Rattle.lis_fields.specs.Records.{FileRecord}
 use Rattle.lis_model.specs.Image.{bitmap_start, data_start}
 use Rattle.lis_kept.specs.Kept.{Kept}
@@ -20,7 +21,6 @@ use Rattle.lis_kept.specs.Areas.{is_marked}
 use Rattle.lis_kept.specs.Sound.{AreSound}
 use Rattle.lis_kept.specs.Telling.{blocks_told}
 use Rattle.lis_kept.specs.Changes.{Marks, Takes, Gives, Puts, PutTorn}
-use Rattle.lis_kept.proofs.BlocksTaken.{home_among}
 use Rattle.lis_store.specs.declared.change.Change.{Change}
 use Rattle.lis_store.specs.declared.change.Change.TheVariants.{Refused, Disk}
 use Rattle.lis_store.specs.Contents.{IsRenewed, Renews, ContentPut, ContentGiven, ContentRenewed}
@@ -52,7 +52,7 @@ pub stands_homes : (blocks base : ℕ) (placed some : List ℕ) (kept : ℕ → 
     → StandsBut blocks placed kept image → StandsBut blocks (homes_of base some) kept image
 stands_homes blocks base placed some kept image homes but =
     stands_less blocks placed (homes_of base some) kept image
-    (λ n none. false_from_ne_true (is_among placed n) (λ among. both_ways (has_home base some n) (sym (home_among base some n) ∙ none) (homes n among))) but
+    (λ n none. false_from_ne_true (is_among placed n) (λ among. both_ways (has_home base some n) (sym (among_homes base some n) ∙ none) (homes n among))) but
 
 -- with nothing placed, an image stands for what is kept
 unplaced_stands : (journal : Held) {m : Meaning} {kept : ℕ → List ℕ} (more : List ℕ) → journal.placed ≡ [] → Fits journal m kept → (image : List ℕ) → m.images image → StandsBut journal.blocks more kept image

@@ -38,13 +38,14 @@ use Rattle.lis_laws.proofs.Counts.{all_among, all_from, all_weaker}
 use Rattle.lis_laws.proofs.Forms.{file_order}
 use Rattle.lis_laws.proofs.Known.{sorted_known}
 use Rattle.lis_laws.proofs.Members.{word_order, pair_exact, among_set_of, set_of_among, sorted_set_of, same_words}
+use Rattle.lis_laws.proofs.Locals.{same_tests}
 use Rattle.lis_kept.specs.Kept.{Kept, property_by, property_at, axiom_at, file_by, record_at}
 use Rattle.lis_kept.specs.Areas.{IsWritten, property_slots, axiom_slots, file_slots, row_slots}
 use Rattle.lis_kept.specs.Areas.Area.{Properties, Axioms, Files, Rows, Bitmap}
 use Rattle.lis_kept.specs.Sound.{AreSound, FreeSlotsAreEmpty}
 use Rattle.lis_kept.specs.Telling.{bit_of, is_declared, declared_of, words_told, pair_by, pair_told, pairs_told, bytes_told, file_told, blocks_told, HasIndex, state_of, Tells}
 use Rattle.lis_kept.proofs.Formed.{some_word, axioms_formed, records_formed}
-use Rattle.lis_kept.proofs.Filing.{same_tests, filed_rec, filed_at_slot, among_from_number, number_from_among as has_from_among, same_distinct}
+use Rattle.lis_kept.proofs.Filing.{filed_rec, filed_at_slot, among_from_number, number_from_among as has_from_among, same_distinct}
 use Rattle.lis_kept.proofs.Known.{placed_at, only_pair, one_number, number_told, declared_word, declared_has_number, declared_set, words_known}
 use Rattle.lis_store.specs.Stands.{Contents, AreSlots, word_in, declared_in, words_in, all_declared, word_at, pair_in, pairs_in, is_named_axiom, is_free_axiom, records_in, all_records, all_blocks, file_by as file_of_record, are_named, spelled_state, is_had_by, row_bit, Spells}
 use Rattle.lis_store.specs.Stored.{PairsAreApart}

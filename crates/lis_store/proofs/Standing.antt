@@ -8,6 +8,7 @@ use Rattle.lis_journal.specs.Images.{Keeps, KeepsBut, StandsFor as KeptBy, Stand
 use Rattle.lis_journal.proofs.Fitting.{fits_stand, replayed-front}
 use Rattle.lis_content.specs.Content.{are_free}
 use Rattle.lis_content.specs.Placing.{homes_of}
+use Rattle.lis_content.proofs.Laying.{among_homes}
 use Rattle.lis_fields.specs.Layouts.{SpellsSuper}
 use Rattle.lis_model.specs.Image.{data_start, image_blocks}
 use Rattle.lis_model.specs.State.{State}
@@ -15,7 +16,6 @@ use Rattle.lis_kept.specs.Kept.{Kept}
 use Rattle.lis_kept.specs.Areas.{IsWritten}
 use Rattle.lis_kept.specs.Sound.{AreSound, FreeSlotsAreEmpty}
 use Rattle.lis_kept.specs.Telling.{Tells}
-use Rattle.lis_kept.proofs.BlocksTaken.{home_among}
 use Rattle.lis_store.specs.Stands.{Stands}
 use Rattle.lis_store.specs.Stored.{Stored, PairsAreApart, IsSound, StoreFits}
 use Rattle.lis_store.proofs.Elsewhere.{AreSameBut, tells_elsewhere, written_elsewhere}
@@ -31,7 +31,7 @@ module _ (k : Kept) (at : ℕ → List ℕ) (s : State) (sound : AreSound k) (em
   limits_are = ap (λ (t : State). t.limits) tells.state
 
   same_replay : (count : ℕ) (replay : List ℕ) → KeepsBut count placed at replay → AreSameBut k blocks at (λ n. block n replay)
-  same_replay count replay keeps n out none = keeps.same n out (home_among (data_start k.limits) blocks n ∙ none)
+  same_replay count replay keeps n out none = keeps.same n out (among_homes (data_start k.limits) blocks n ∙ none)
 
   pub told_stands : (image : List ℕ) → StandsBut (image_blocks s.limits) placed at image → Stands image s
   unfolding StandsBut Stands

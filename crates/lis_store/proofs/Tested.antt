@@ -35,7 +35,7 @@ use Rattle.lis_kept.specs.Telling.{words_told, declared_of, axioms_of, is_head_b
 use Rattle.lis_kept.specs.TestEdges.{test_by, is_test_link}
 use Rattle.lis_kept.specs.Under.{is_plain_by, MayStandUnder, DeclaresUnder}
 use Rattle.lis_ext.proofs.Numbers.{among_where, where_among, sorted_where}
-use Rattle.lis_kept.proofs.Filing.{same_tests, among_from_number, number_from_among}
+use Rattle.lis_kept.proofs.Filing.{among_from_number, number_from_among}
 use Rattle.lis_kept.proofs.Formed.{named_all, named_below}
 use Rattle.lis_kept.proofs.Known.{among_axiom, among_word}
 use Rattle.lis_kept.proofs.MarkedWithin.{marked_within}
@@ -55,6 +55,7 @@ use Rattle.lis_store.proofs.Redescribed.{same_here, given_then, redescribed_edit
 use Rattle.lis_store.proofs.Remaining.{led, led_from, led_itself, led_on, few_within}
 use Rattle.lis_store.proofs.TestUnder.{plain_entails}
 use Rattle.lis_laws.proofs.Sources.{met_weaker}
+use Rattle.lis_laws.proofs.Locals.{same_tests}
 
 -- ---- the blocks that are marked
 abbrev taken_from : List Bool → ℕ → List ℕ

@@ -26,6 +26,7 @@ use Rattle.lis_laws.proofs.Leads.{right_leads}
 use Rattle.lis_model.specs.Tests.{are_weaker, is_met}
 use Rattle.lis_laws.proofs.Members.{pair_order}
 use Rattle.lis_laws.proofs.Sources.{rights_are, right_plain}
+use Rattle.lis_laws.proofs.Locals.{same_tests}
 use Rattle.lis_model.specs.Image.{image_blocks}
 use Rattle.lis_kept.specs.Kept.{Kept}
 use Rattle.lis_kept.specs.Edges.{head_number}
@@ -37,7 +38,7 @@ use Rattle.lis_kept.specs.TestEdges.{test_by, is_test_link}
 use Rattle.lis_kept.specs.Telling.{words_told, declared_of, axioms_of, file_told, blocks_told, HasIndex, state_of, is_head_by, is_had, is_used, AreUsed, IsFileBlock, Tells}
 use Rattle.lis_kept.proofs.AxiomTaken.{axiom_back, taken_unfelt}
 use Rattle.lis_ext.proofs.Numbers.{among_where, where_among, sorted_where}
-use Rattle.lis_kept.proofs.Filing.{same_tests, among_from_number, number_from_among, filed_rec}
+use Rattle.lis_kept.proofs.Filing.{among_from_number, number_from_among, filed_rec}
 use Rattle.lis_kept.proofs.Formed.{some_word, named_below, named_all}
 use Rattle.lis_kept.proofs.Known.{among_place, number_told, axiom_among, among_axiom}
 use Rattle.lis_kept.proofs.MarkedWithin.{marked_only, marked_within}

@@ -34,6 +34,7 @@ use Rattle.lis_laws.proofs.Forms as forms
 use Rattle.lis_laws.proofs.Known.{described_within}
 use Rattle.lis_laws.proofs.Members.{word_exact, word_order, same_word_decides, has_word_from_among, among_from_has_word, same_words}
 use Rattle.lis_laws.proofs.Sources.{test_had}
+use Rattle.lis_laws.proofs.Locals.{same_tests}
 use Rattle.lis_kept.specs.Kept.{Kept, property_by}
 use Rattle.lis_kept.specs.Areas.{IsSaved, block_of, is_marked, marked_count}
 use Rattle.lis_kept.specs.Areas.Area.{Rows}
@@ -43,7 +44,7 @@ use Rattle.lis_kept.specs.Forgetting.{KeepsInUse}
 use Rattle.lis_kept.specs.Telling.{bit_of, is_declared, declared_of, words_told, blocks_told, HasIndex, file_told, state_of, is_head_by, is_left_of, is_left_head_of, is_had, is_named_left, is_used, Tells}
 use Rattle.lis_kept.specs.TestEdges.{test_by}
 use Rattle.lis_kept.specs.Undeclaring.{is_right_of, is_named_by, is_needed, MayUndeclare, Undeclares}
-use Rattle.lis_kept.proofs.Filing.{same_tests, among_from_number, number_from_among, filed_rec}
+use Rattle.lis_kept.proofs.Filing.{among_from_number, number_from_among, filed_rec}
 use Rattle.lis_kept.proofs.Known.{one_number, among_word, word_among}
 use Rattle.lis_kept.proofs.Numbered.{Numbers, numbers_are}
 use Rattle.lis_kept.proofs.OwnLinks.{own_head, among_slot, unnamed_to}

@@ -20,13 +20,14 @@ use Rattle.lis_model.specs.Table.{Entry, entails}
 use Rattle.lis_model.specs.Listing.{holds}
 use Rattle.lis_laws.proofs.Members.{same_word_decides, among_from_has_word, has_word_from_among}
 use Rattle.lis_laws.proofs.Counts.{all_among}
+use Rattle.lis_laws.proofs.Locals.{same_tests}
 use Rattle.lis_eval.specs.View.{Placed, file_in, IsView, TellsFiles, TellsEntailment}
 use Rattle.lis_kept.specs.Kept.{Kept}
 use Rattle.lis_kept.specs.Sound.{AreSound, FreeSlotsAreEmpty}
 use Rattle.lis_kept.specs.Telling.{words_told, declared_of, axioms_of}
 use Rattle.lis_kept.specs.TestEdges.{test_by}
 use Rattle.lis_kept.specs.Links.{TellsLinks}
-use Rattle.lis_kept.proofs.Filing.{same_tests, filed_rec, filed_slot, filed_at_slot}
+use Rattle.lis_kept.proofs.Filing.{filed_rec, filed_slot, filed_at_slot}
 use Rattle.lis_kept.proofs.Known.{among_word, number_told}
 use Rattle.lis_store.specs.Stored.{AreClosed, TestsAreMet}
 use Rattle.lis_store.specs.Seen.{placed, seen_of, table_of}
