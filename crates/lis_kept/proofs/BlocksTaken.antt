@@ -160,6 +160,7 @@ module _ (p : Kept) (t : Taxonomy) (held : AreHeld p t) (bytes numbers : List �
     moments = λ kept fits.
         subst (λ ns. Leaves before after (StandsBut old.blocks ns kept)) (sym (ap (λ (h : Held). h.placed) placed.lays.journal)) (placed.lays.places.moments kept fits);
     unplaced = λ one. absurd (omega (arith, one, two));
+    unstaged = λ _. staged_then ∙ sym unstaged;
   }
     where
       free : are_free p.taken numbers ≡ true
@@ -167,7 +168,7 @@ module _ (p : Kept) (t : Taxonomy) (held : AreHeld p t) (bytes numbers : List �
 
 -- ---- a content that is staged
 module _ (p : Kept) (t : Taxonomy) (held : AreHeld p t) (bytes numbers : List ℕ) (taken : List Bool) (old new : Held) (m : Meaning) (few : length bytes ≤ file_limit p.limits.version)
-    (short : length bytes ≤ 65536) (unstaged : old.staged ≡ []) (unplaced : old.placed ≡ []) (put : IsPut (data_start p.limits) [] bytes p.taken taken old new numbers) where
+    (not_two : p.limits.version ≡ 2 → ⊥) (short : length bytes ≤ 65536) (unstaged : old.staged ≡ []) (unplaced : old.placed ≡ []) (put : IsPut (data_start p.limits) [] bytes p.taken taken old new numbers) where
   small : is_large (length bytes) ≡ false
   small = small_size (length bytes) short
 
@@ -214,6 +215,7 @@ module _ (p : Kept) (t : Taxonomy) (held : AreHeld p t) (bytes numbers : List �
     stays = λ kept fits n none. refl;
     moments = λ kept fits. leaves_none m _;
     unplaced = λ one. put.placed ∙ unplaced;
+    unstaged = λ two. absurd (not_two two);
   }
 
 -- ---- how a put ends
@@ -295,7 +297,7 @@ module _ {T : Type 0} (items : T → List ℕ) (k p : Kept) (t : Taxonomy) (is :
         let P : Kept → Type 0 = λ q. Puts bytes (items s) q after_put old new m m in
         record {
           held = held_put is_put.len;
-          ended = subst P is (staged_puts p t held bytes (items s) taken old new m may.short few_bytes may.unstaged may.unplaced is_put after_put (takes_put is_put.len));
+          ended = subst P is (staged_puts p t held bytes (items s) taken old new m may.short not_two few_bytes may.unstaged may.unplaced is_put after_put (takes_put is_put.len));
           torn = tt;
         }
     ends_staged (Err NoSpace) refused = absurd (omega (arith, refused.2, content_enough))

@@ -144,6 +144,7 @@ pub record Puts (bytes numbers : List ℕ) (p q : Kept) (old new : Held) (before
   pub stays : (kept : ℕ → List ℕ) (fits : Fits old before kept) (n : ℕ) → is_among new.placed n ≡ false → (lands kept fits).kept n ≡ kept n
   pub moments : (kept : ℕ → List ℕ) → Fits old before kept → Leaves before after (StandsBut old.blocks new.placed kept)
   pub unplaced : p.limits.version ≡ 1 → new.placed ≡ []
+  pub unstaged : p.limits.version ≡ 2 → new.staged ≡ old.staged
 
 -- The disk failed: some blocks are taken, and only what is on the disk counts.
 pub record PutTorn (p q : Kept) (old new : Held) (before after : Meaning) : Type 0 where

@@ -116,6 +116,7 @@ module _ (p q : Kept) (ts ms : List Bool) (rec : FileRecord) (bytes numbers : Li
     image = puts.image;
     broken = puts.broken;
     few_staged = puts.few_staged;
+    unstaged = puts.unstaged;
     spare = [];
     were_free = refl;
     placed = λ n among. absurd (both_ways (is_among new.placed n) (ap (λ ns. is_among ns n) none_placed) among);
@@ -184,6 +185,7 @@ module _ (p : Kept) (ts ms : List Bool) (bytes numbers : List ℕ) (old new : He
       image = puts.image;
       broken = puts.broken;
       few_staged = puts.few_staged;
+      unstaged = puts.unstaged;
       spare = puts.blocks;
       were_free = puts.fills.were_free;
       placed = puts.placed;

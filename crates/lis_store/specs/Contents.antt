@@ -66,6 +66,7 @@ pub record Renews (bytes numbers : List ℕ) (rec : FileRecord) (p q : Kept) (ol
   pub image : new.blocks ≡ old.blocks
   pub broken : new.is_broken ≡ old.is_broken
   pub few_staged : length new.staged ≤ 16
+  pub unstaged : p.limits.version ≡ 2 → new.staged ≡ old.staged
   pub spare : List ℕ
   pub were_free : IsTrue (are_free p.taken spare)
   pub placed : (n : ℕ) → is_among new.placed n ≡ true → has_home (data_start p.limits) spare n ≡ true
