@@ -1,5 +1,4 @@
 pub mod JoinedLemmas
-pub mod RunLemmas
 pub mod PathLemmas
 pub mod PieceLemmas
 pub mod ReadingLemmas

@@ -8,7 +8,7 @@ use Rattle.lis_ports.specs.Runs.{Adds}
 use Rattle.lis_ports.specs.Calls.{Rose, HasCause, Elapses, Images, IsUnchanged, IsShowCall}
 use Rattle.lis_ports.specs.Shown.{AppendsFront, Shows}
 use Rattle.lis_ports.specs.Since.{Begins, Since, IsShowRun}
-use Rattle.lis_ports.proofs.Moments.{adds_none, adds_then, adds_weaken}
+use Rattle.lis_ports.proofs.Moments.{adds_then, adds_weaken}
 
 pub append_known-append : (known : Option (List ℕ)) (xs ys : List ℕ) → append_known (append_known known xs) ys ≡ append_known known (xs ++ ys)
 append_known-append None xs ys = refl
@@ -58,15 +58,6 @@ pub record ShownSoFar (old now : Meaning) (bytes : List ℕ) (place : ℕ) : Typ
   pub faults : now.show_faults ≡ old.show_faults
   pub shown : now.shown ≡ append_known old.shown (take place bytes)
   pub moments : IsTrue old.is_honest → Adds old now (Since old.shown (λ image front. old.images image × Begins front bytes))
-
-pub shown_none : (m : Meaning) (bytes : List ℕ) → ShownSoFar m m bytes 0
-shown_none m bytes = record {
-  within = omega arith;
-  call = call_none m;
-  faults = refl;
-  shown = sym (append_known-nil m.shown);
-  moments = λ honest. adds_none m _;
-}
 
 -- the moments of a call, after which a front is shown
 front_moments : {old now next : Meaning} (bytes : List ℕ) (place : ℕ) → IsTrue old.is_honest

@@ -32,7 +32,8 @@ pub record IsMeasured (old : Meaning) (status : Status) (idle : Type 0) : Type 0
   pub small : old.len < 4096 → (status ≡ TooShort old.len 4096) × idle
   pub numbers : (len need : ℕ) → status ≡ TooShort len need → (len ≡ old.len) × (len < need)
 
--- `try`: what was shown is what the model replies to the items of the input. It makes no call of the disk.
+-- `try`: what was shown is what the model replies to the items of the input. The bytes of an honest
+-- disk, and what a crash leaves of it, are as before.
 pub record TryKeeps (limits : Limits) (left left_after : Option (List ℕ)) (old new : Meaning) (status : Status) : Type 0 where
   pub only : IsTryStatus status
   pub disk : IsShowCall old new
@@ -98,7 +99,8 @@ IsUpgradeStatus InputFault = ⊥
 IsUpgradeStatus OutputFault = ⊥
 IsUpgradeStatus InputLimit = ⊥
 
--- What it leaves, byte for byte: what opening leaves, and when it is done its gate put. Where there is no memory the station is as it was.
+-- What it leaves, byte for byte: what opening leaves, and when it is done its gate put. Where there is no memory, or the disk is too short, the
+-- bytes and what a crash leaves are as before.
 abbrev pub UpgradeLeaves : Meaning → Meaning → Status → Type 0
 UpgradeLeaves old new Done = GateLeft old new
 UpgradeLeaves old new (NotAnImage spot) = RefusedLeft old new

@@ -9,9 +9,10 @@ use lis_place::Text;
 /// How a run of the program ended.
 #[derive(Clone, Copy, Debug, PartialEq, Eq)]
 pub enum Status {
-    /// The input was read to its end, and every command has its reply shown.
+    /// `run` and `try`: the input was read to its end, and every item has its reply shown. `grow`: every item of its session was carried out,
+    /// and the summary was shown. `make`: the image was made. `upgrade`: the image is of version 2.
     Done,
-    /// The words are in no form, or a limit is out of range. Nothing was read.
+    /// The words are in no form, or a limit or the number of `grow` is out of range. Nothing was read.
     Usage,
     /// The disk holds no image. The spot is where the first check failed.
     NotAnImage(Spot),
