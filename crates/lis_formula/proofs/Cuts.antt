@@ -41,9 +41,6 @@ starts_count (text ∷ stack) = omega (arith, starts_count stack)
 pub stack_count : (text starts : List ℕ) (stack : List (List ℕ)) → IsStack text starts stack → length starts ≡ length stack
 stack_count text starts stack s = sym (length-reverse starts) ∙ (ap length s.places ∙ starts_count stack)
 
-pub stack_bytes : (text starts : List ℕ) (stack : List (List ℕ)) → IsStack text starts stack → length text ≡ length (joined stack)
-stack_bytes text starts stack s = ap length s.whole
-
 -- more at the end of the last text
 pub stack_end : (text starts more bytes : List ℕ) (stack : List (List ℕ)) → IsStack text starts stack → 0 < length starts → more ≡ text ++ bytes
     → IsStack more starts (with_end bytes stack)

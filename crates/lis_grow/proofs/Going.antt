@@ -23,7 +23,7 @@ use Rattle.lis_session.specs.Item.{FitsAt}
 use Rattle.lis_session.specs.Tally.{is_refusal, listed, Tallied, TalliesItem}
 use Rattle.lis_session.proofs.Laws.{last_situation}
 use Rattle.lis_session.proofs.Moments.{state_front, state_whole}
-use Rattle.lis_session.proofs.Going.{past_then}
+use Rattle.lis_session.proofs.Going.{carries_item, past_then}
 use Rattle.lis_grow.specs.declared.summary.Sum.{Sum}
 use Rattle.lis_grow.specs.Session.{refusals, listings, StandsAmong, SummedAll, Summed}
 
@@ -107,10 +107,6 @@ item_read so_far says is few some = record {
   done = so_far.done;
 }
 
--- what carrying out the asked item says of the item itself
-tallies_item : (asked : Option Item) (item : Item) (P : Item → Type 0) → asked ≡ Some item → IfSome asked P → P item
-tallies_item asked item P is holds = subst (λ (a : Option Item). IfSome a P) is holds
-
 -- the item at the place where the first ones led
 one_here : {start : Situation} {first : List Item} {old mid : Meaning} {fits : State → Type 0} {place : List Formula} {sum : Sum} (new : Meaning) (result : Result Tally Failed) (fits_after : State → Type 0) (place_after : List Formula) (item : Item)
     → DoneSoFar start first old mid fits place sum → TalliesItem fits place mid new result fits_after place_after item
@@ -163,7 +159,7 @@ pub so_far_more : {limit : ℕ} {left_before left : Option (List ℕ)} {reading 
     → SoFar limit left_before left reading place_before fits_before old new fits_after place_after after
 so_far_more {place_before = place_before} {mid = mid} {new = new} {fits = fits} {fits_after = fits_after} {place = place} {place_after = place_after} {after = after} {asked = asked} tally read tallied adds =
     let item = read.taken.item in
-    let tallies = tallies_item asked item (TalliesItem fits place mid new (Ok tally) fits_after place_after) read.taken.is tallied in
+    let tallies = carries_item asked item (TalliesItem fits place mid new (Ok tally) fits_after place_after) read.taken.is tallied in
     record {
       first = read.first ++ item ∷ [];
       read = read.taken.read;
@@ -205,7 +201,7 @@ ends_disk {limit = limit} {left = left} {reading = reading} {place_before = plac
     let first : List Item = read.first ++ item ∷ [] in
     let front = script_front limit input left reading first (subst (λ l. ReadSoFar limit l left reading first) told read.taken.read) in
     let done = read.done state fitting in
-    let tallies = tallies_item asked item (TalliesItem fits place mid new (Err failed) fits_after place_after) read.taken.is tallied in
+    let tallies = carries_item asked item (TalliesItem fits place mid new (Err failed) fits_after place_after) read.taken.is tallied in
     let one = one_here new (Err failed) fits_after place_after item done tallies in
     let all : all_items input ≡ first ++ front.0 = sym (script_short input limit short) ∙ front.1 in
     record {

@@ -7,7 +7,7 @@ use Rattle.lis_model.proofs.Lines.{all_items_of, whole_items_of, all_items_none,
 use Rattle.lis_line.specs.Stock.{Stocked}
 use Rattle.lis_line.specs.Reading.{Gave, GaveWhole, GaveLast, GaveEnd, Overran, GaveRest}
 use Rattle.lis_line.specs.Parts.{WholePart, LastPart, PartPast, PartFailed}
-use Rattle.lis_line.proofs.Bytes.{gave_none, gave_then}
+use Rattle.lis_line.proofs.Bytes.{gave_then}
 
 -- these bytes ask for nothing, whatever follows
 pub record IsBlank (bytes : List ℕ) : Type 0 where
@@ -20,14 +20,6 @@ pub record Skipping (old now : Stocked) (left_before left : Option (List ℕ)) :
   pub gave : Gave old now left_before left bytes
   pub blank : IsBlank bytes
   pub some : 0 < now.rest
-
-pub skip_none : (stock : Stocked) (left : Option (List ℕ)) → 0 < stock.rest → Skipping stock stock left left
-skip_none stock left some = record {
-  bytes = [];
-  gave = gave_none stock left;
-  blank = record { all = λ more. refl; whole = λ more. refl };
-  some = some;
-}
 
 -- a whole part, by itself and behind what asks for nothing
 whole_some : (bytes : List ℕ) (item : Option Item) → ((more : List ℕ) → first_of (bytes ++ more) ≡ record { item = item; rest = more; is_whole = true })

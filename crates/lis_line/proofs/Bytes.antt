@@ -54,13 +54,6 @@ pub record Going (old now : Stocked) (left_before left : Option (List ℕ)) (lin
   pub taken : LineTaken old now left_before left line text text
   pub some : 0 < now.rest
 
-pub going_none : (stock : Stocked) (left : Option (List ℕ)) (line : List ℕ) → line ≡ [] → 0 < stock.rest → Going stock stock left left line
-going_none stock left line empty some = record {
-  text = [];
-  taken = record { one_line = refl; took = consumes_none (stream_of stock left); rest = omega arith; kept = empty };
-  some = some;
-}
-
 pub same : (a b : ℕ) → a ≡ b → (a == b) ≡ true
 same a b is = elim (eqb_tells a b) as (λ _. (a == b) ≡ true) [ inl h ↦ h.0 | inr h ↦ absurd (h.1 is) ]
 
@@ -129,14 +122,6 @@ taken_ended old now next left_before left left_after line text b taken byte rest
   rest = omega (arith, taken.rest, rest, length-append text (b ∷ []));
   kept = taken.kept;
 }
-
--- the end of the input, or a fault: nothing more was taken
-pub taken_stopped : (old now next : Stocked) (left_before left left_after : Option (List ℕ)) (line text : List ℕ)
-    → LineTaken old now left_before left line text text → now.ahead ≡ [] → next.ahead ≡ [] → Keeps left left_after → next.rest ≡ now.rest
-    → LineTaken old next left_before left_after line text text
-taken_stopped old now next left_before left left_after line text taken none none_now keeps rest =
-    let gave = gave_stopped old now next left_before left left_after text (record { took = taken.took; rest = taken.rest }) none none_now keeps rest in
-    record { one_line = taken.one_line; took = gave.took; rest = gave.rest; kept = taken.kept }
 
 -- what a line was taken from
 pub gave_line : (old new : Stocked) (left_before left : Option (List ℕ)) (line text bytes : List ℕ)

@@ -3,12 +3,12 @@ use Rattle.std.proofs.Common.{◌≡◌, ℕ, ◌+◌, ◌≤◌, ◌<◌, List,
 use Rattle.std.specs.Io.KnownBytes.{Consumes}
 use Rattle.std.proofs.lemmas.List.{take_more_set}
 use Rattle.std.proofs.lemmas.Bool.{cases_lt, le-leb, lt-leb}
-use Rattle.lis_model.specs.Step.{Payload, no_payload}
+use Rattle.lis_model.specs.Step.{Payload}
 use Rattle.lis_model.specs.Script.{payload_limit, payload_of}
 use Rattle.lis_line.specs.Stock.{Stocked, stream_of}
 use Rattle.lis_line.specs.Reading.{Gave}
 use Rattle.lis_line.specs.Parts.{with_byte}
-use Rattle.lis_line.proofs.Bytes.{gave_none, gave_then}
+use Rattle.lis_line.proofs.Bytes.{gave_then}
 
 -- a byte is written behind those that are kept
 pub byte_kept : (frame written : List ℕ) (size byte : ℕ) → length frame ≡ payload_limit → size < payload_limit → written ≡ set frame size byte
@@ -29,11 +29,6 @@ pub record Filling (old now : Stocked) (left_before left : Option (List ℕ)) (s
   pub some : 0 < now.rest
   pub kept : payload ≡ payload_of (length bytes) bytes
   pub within : length bytes ≤ size
-
-pub filling_none : (stock : Stocked) (left : Option (List ℕ)) (size : ℕ) (payload : Payload) → 0 < stock.rest → payload ≡ no_payload
-    → Filling stock stock left left size payload
-filling_none stock left size payload some is =
-    record { bytes = []; gave = gave_none stock left; some = some; kept = is; within = omega arith }
 
 pushed : (bytes : List ℕ) (byte : ℕ) → with_byte (payload_of (length bytes) bytes) byte ≡ payload_of (length (bytes ++ byte ∷ [])) (bytes ++ byte ∷ [])
 pushed bytes byte =

@@ -21,9 +21,6 @@ pub record TagsSoFar (whole rest : List ℕ) (tags : List (List ℕ)) (is_over :
 not_below : (a b : ℕ) → b ≤ a → nat_lt a b ≡ false
 not_below a b le = elim (leb_tells (suc a) b) as (λ _. nat_lt a b ≡ false) [ inl h ↦ absurd (omega (arith, h.1, le)) | inr h ↦ h.0 ]
 
-pub tags_none : (text : List ℕ) (tags : List (List ℕ)) → tags ≡ [] → TagsSoFar text text tags false
-tags_none text tags none = record { seen = []; split = refl; words = refl; kept = none; over = refl }
-
 split_more : (whole rest behind : List ℕ) (seen : List (List ℕ)) (word : List ℕ) → words_of whole ≡ seen ++ words_of rest → words_of rest ≡ word ∷ words_of behind
     → words_of whole ≡ (seen ++ word ∷ []) ++ words_of behind
 split_more whole rest behind seen word split next = split ∙ ap (λ ws. seen ++ ws) next ∙ sym (append_assoc seen (word ∷ []) (words_of behind))
@@ -63,11 +60,6 @@ all_read whole rest tags is_over so_far none = so_far.split ∙ ap (λ ws. so_fa
 answered : (seen : List (List ℕ)) (over : Bool) → list_all is_property seen ≡ true → nat_lt 16 (length seen) ≡ over
     → tags_form seen ≡ cond over (Err TooManyAssigned) (Ok seen)
 answered seen over all is = rw (all, is) refl
-
-pub tags_over : (whole rest : List ℕ) (tags : List (List ℕ)) (is_over : Bool) → TagsSoFar whole rest tags is_over → words_of rest ≡ [] → is_over ≡ true
-    → Err TooManyAssigned ≡ tags_form (words_of whole)
-tags_over whole rest tags is_over so_far none over =
-    sym (ap tags_form (all_read whole rest tags is_over so_far none) ∙ answered so_far.seen true so_far.words (sym so_far.over ∙ over))
 
 kept_ok : List (List ℕ) → Result (List (List ℕ)) Refusal
 kept_ok ws = Ok ws

@@ -8,9 +8,6 @@ use Rattle.std.proofs.Math.ListN.{drop_of_length-le}
 use Rattle.memchr.specs.Find.{IsFirstByte, Passes}
 use Rattle.lis_transducers.specs.Lines.{without_return, is_feed, is_some_bytes, lines, header}
 
-one_more : (n : ℕ) → 1 + n ≡ suc n
-one_more n = omega arith
-
 -- a line that ends with CR, without it
 pub return_dropped : (line : List ℕ) (end : ℕ) → length line ≡ end + 1 → get_or line end 0 ≡ 13 → take end line ≡ without_return line
 return_dropped [] end long last = absurd (omega (arith, long))

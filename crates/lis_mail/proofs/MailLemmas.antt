@@ -122,11 +122,6 @@ pub part_noted : (out now all xs ys whole : List (List ℕ)) → noted_all out (
 part_noted out now all xs ys whole before cut is =
     ap (λ o. noted_all o (filter is_word ys)) is ∙ sym (noted_in_parts out xs ys) ∙ ap (λ words. noted_all out (filter is_word words)) (sym cut) ∙ before
 
--- the words of one token, and of those behind it
-pub token_by_token : (kind : FieldKind) (token : List ℕ) (ts : List (List ℕ))
-    → token_words kind (token ∷ ts) ≡ token_words kind (token ∷ []) ++ token_words kind ts
-token_by_token kind token ts = token_words-append kind (token ∷ []) ts
-
 -- a line that is not empty is the first of its header
 pub line_first : (bytes line rest : List ℕ) → header bytes ≡ cond (is_some_bytes line) (line ∷ header rest) [] → 0 < length line
     → header bytes ≡ line ∷ header rest

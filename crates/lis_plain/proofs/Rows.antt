@@ -1,5 +1,5 @@
 -- Where a row of refusals ends.
-use Rattle.std.proofs.Common.{◌≡◌, Bool, true, false, cond, Some, None, List, [], ◌∷◌, ◌++◌, refl, ap, sym, ◌∙◌}
+use Rattle.std.proofs.Common.{◌≡◌, Bool, true, false, cond, Some, None, List, [], ◌∷◌, refl, ap, sym, ◌∙◌}
 use Rattle.std.proofs.lemmas.Option.{none-some, same_Some}
 use Rattle.lis_model.specs.declared.refusal.Refusal.{Refusal}
 use Rattle.lis_model.specs.Replies.{ok_line, refusal_line}
@@ -26,15 +26,6 @@ row_some (check ∷ checks) now done refusal is = by check.0 is (row_some checks
     by true is more = ap (refused now) (same_Some check.1 refusal is)
     by false is more = more is
 
-pub row_front : (checks more : List (Bool × Refusal)) (refusal : Refusal) → first_refusal checks ≡ Some refusal → first_refusal (checks ++ more) ≡ Some refusal
-row_front [] more refusal is = absurd (none-some refusal is)
-row_front (check ∷ checks) more refusal is = by check.0 is (row_front checks more refusal)
-  where
-    by : (b : Bool) → cond b (Some check.1) (first_refusal checks) ≡ Some refusal → (first_refusal checks ≡ Some refusal → first_refusal (checks ++ more) ≡ Some refusal)
-        → cond b (Some check.1) (first_refusal (checks ++ more)) ≡ Some refusal
-    by true is next = is
-    by false is next = next is
-
 pub row_none : (checks : List (Bool × Refusal)) (now : Situation) (done : Outcome) → first_refusal checks ≡ None → judged now checks done ≡ done
 row_none [] now done is = refl
 row_none (check ∷ checks) now done is = by check.0 is (row_none checks now done)
@@ -43,13 +34,3 @@ row_none (check ∷ checks) now done is = by check.0 is (row_none checks now don
         → cond b (refused now check.1) (judged now checks done) ≡ done
     by true is more = absurd (cc)
     by false is more = more is
-
--- a row of two parts, where the first refuses nothing
-pub row_then : (checks more : List (Bool × Refusal)) → first_refusal checks ≡ None → first_refusal (checks ++ more) ≡ first_refusal more
-row_then [] more is = refl
-row_then (check ∷ checks) more is = by check.0 is (row_then checks more)
-  where
-    by : (b : Bool) → cond b (Some check.1) (first_refusal checks) ≡ None → (first_refusal checks ≡ None → first_refusal (checks ++ more) ≡ first_refusal more)
-        → cond b (Some check.1) (first_refusal (checks ++ more)) ≡ first_refusal more
-    by true is next = absurd (cc)
-    by false is next = next is

@@ -78,18 +78,8 @@ BlocksShown k slot old now n =
     (name : List ℕ) → slot_of k.parts.catalog name ≡ Some slot → (state : State) → FitsAt (StoreFits k old) old state
     → SaidSoFar (root_of state) (only_shows (file_of state.files name).bytes (root_of state)) old now (StoreFits k now) (take (4096 * n) (file_of state.files name).bytes)
 
-take_none : (xs : List ℕ) → take 0 xs ≡ []
-take_none [] = refl
-take_none (x ∷ xs) = refl
-
 front_begins : (j : ℕ) (xs : List ℕ) → Begins (take j xs) xs
 front_begins j xs = record { rest = drop j xs; is = sym (take-append-drop j xs) }
-
-pub blocks_none : (k : Stored) (slot : ℕ) (m : Meaning) → BlocksShown k slot m m 0
-blocks_none k slot m name is_slot state fitting =
-    let bytes = (file_of state.files name).bytes in
-    let outcome : Outcome = only_shows bytes (root_of state) in
-    subst (λ said. SaidSoFar (root_of state) outcome m m (StoreFits k m) said) (sym (take_none bytes)) (said_none (root_of state) outcome fitting)
 
 block_more : (n : ℕ) (bytes : List ℕ) → take (4096 * n) bytes ++ part (4096 * n) 4096 bytes ≡ take (4096 * (n + 1)) bytes
 block_more n bytes = let next : 4096 * (n + 1) ≡ 4096 * n + 4096 = omega arith in sym (ap (λ j. take j bytes) next ∙ take-add (4096 * n) 4096 bytes)

@@ -1,5 +1,5 @@
 -- The words that a file has, and the route to it.
-use Rattle.std.proofs.Common.{◌≡◌, ℕ, ◌+◌, ◌≤◌, cond, Bool, true, false, Option, Some, None, is_some, option_to_list, List, [], ◌∷◌, ◌++◌, length, map, filter, drop, slice_get, refl, sym, ap, ◌∙◌, arith, append_assoc, append-nil, ◌<◌}
+use Rattle.std.proofs.Common.{◌≡◌, ℕ, ◌+◌, cond, Bool, true, false, Option, Some, None, is_some, option_to_list, List, [], ◌∷◌, ◌++◌, map, filter, drop, slice_get, refl, sym, ap, ◌∙◌, arith, append_assoc, append-nil, ◌<◌}
 use Rattle.std.specs.List.{flat_map}
 use Rattle.std.proofs.lemmas.Cmp.{nat_list_cmp_total}
 use Rattle.std.proofs.lemmas.List.{drop_more, drop_all}
@@ -92,9 +92,6 @@ module _ (k : Kept) (slot : ℕ) where
   text_next n =
       ap (λ ws. flat_map (body_line 112) (words_had k slot ws)) (split_at k.dict.entries n)
       ∙ had_of_both (option_to_list (slice_get k.dict.entries n)) (drop (n + 1) k.dict.entries)
-
-  pub text_end : (n : ℕ) → length k.dict.entries ≤ n → text_from n ≡ []
-  text_end n past = ap (λ ws. flat_map (body_line 112) (words_had k slot ws)) (drop_all n k.dict.entries past)
 
   -- ---- the words are those that the numbers of the slot tell
   module _ (sound : AreSound k) where

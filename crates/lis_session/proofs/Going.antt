@@ -78,7 +78,7 @@ item_read so_far says is few some = record {
 }
 
 -- what carrying out the asked item says of the item itself
-carries_item : (asked : Option Item) (item : Item) (P : Item → Type 0) → asked ≡ Some item → IfSome asked P → P item
+pub carries_item : (asked : Option Item) (item : Item) (P : Item → Type 0) → asked ≡ Some item → IfSome asked P → P item
 carries_item asked item P is holds = subst (λ (a : Option Item). IfSome a P) is holds
 
 pub past_then : (start : Situation) (first : List Item) (old mid new : Meaning) → KeepsPast (image_blocks start.state.limits) old mid

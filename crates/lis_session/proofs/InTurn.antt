@@ -1,5 +1,5 @@
 -- Pieces of a reply that are shown in turn, and lines of a listing.
-use Rattle.std.proofs.Common.{◌≡◌, ℕ, List, [], ◌∷◌, ◌++◌, map, Result, Ok, Err, refl, ap, sym, subst, ◌∙◌, append_assoc, append-nil, arith}
+use Rattle.std.proofs.Common.{◌≡◌, ℕ, List, [], ◌∷◌, ◌++◌, map, Result, Ok, Err, refl, ap, sym, subst, ◌∙◌, append_assoc, arith}
 use Rattle.std.specs.List.{flat_map}
 use Rattle.lis_ports.specs.Meaning.{Meaning}
 use Rattle.lis_ports.proofs.Moments.{adds_none}
@@ -65,10 +65,6 @@ text_broke {old = old} {next = after} piece rest end so_far splits answers =
     let front = answers_front piece rest end answers in
     subst (λ bytes. Answers old after bytes (Err end)) (sym (so_far.is ∙ ap (λ text. so_far.said ++ text) splits))
     (answers_then so_far.said (piece ++ rest) tt (Err end) so_far.answers front)
-
-pub text_all : {all left : List ℕ} {old now : Meaning} → TextSoFar all left old now → left ≡ [] → Answers old now all (Ok tt)
-text_all {old = old} {now = now} so_far none =
-    subst (λ bytes. Answers old now bytes (Ok tt)) (sym (so_far.is ∙ ap (λ text. so_far.said ++ text) none ∙ append-nil so_far.said)) so_far.answers
 
 -- ---- lines
 names_shown : (files : List Entry) → flat_map shown_line (map (λ name. File name) (map (λ (e : Entry). e.name) files)) ≡ flat_map (λ (e : Entry). body_line 102 e.name) files

@@ -1,17 +1,19 @@
 -- A session on the way, and how it ends.
-use Rattle.std.proofs.Common.{◌≡◌, ℕ, ◌≤◌, List, [], ◌∷◌, ◌++◌, length, Option, Some, None, Result, Ok, Err, ap, sym, subst, ◌∙◌, refl, append_assoc, append-nil}
+use Rattle.std.proofs.Common.{◌≡◌, ℕ, ◌≤◌, List, [], ◌∷◌, ◌++◌, length, Option, Some, None, Result, Ok, Err, ap, sym, subst, ◌∙◌, refl, append_assoc}
 use Rattle.std.specs.Io.KnownBytes.{append_known}
 use Rattle.std.specs.Option.{IfSome}
 use Rattle.lis_ports.specs.Shown.{AppendsFront}
 use Rattle.lis_reply.proofs.Showing.{append_known-append, append_known-nil}
 use Rattle.lis_model.specs.Step.{Situation, Item, Payload, step, replies, situation_after}
 use Rattle.lis_model.specs.Script.{script}
-use Rattle.lis_model.proofs.Runs.{replies-append, situation_after-append}
+use Rattle.lis_model.proofs.Runs.{situation_after-append}
 use Rattle.lis_line.specs.declared.reader.Item.{Item as Said}
 use Rattle.lis_line.specs.declared.reader.Item.TheVariants.{Command, Bad, End, Limit}
 use Rattle.lis_line.specs.Reading.{Reading, fresh, Says, asked_by}
 use Rattle.lis_line.proofs.Given.{ReadSoFar, read_none, script_front}
 use Rattle.lis_line.proofs.Answered.{ItemTaken, item_taken, all_taken, limit_taken, whole_taken}
+use Rattle.lis_session.proofs.Laws.{last_reply}
+use Rattle.lis_session.proofs.Going.{carries_item}
 use Rattle.lis_plain.specs.Carries.{Carries}
 use Rattle.lis_plain.specs.declared.end.PlainEnd.TheVariants.{OutputFault, NoMemory}
 use Rattle.lis_shell.specs.declared.status.Status.{Status}
@@ -57,15 +59,6 @@ item_read limit left_before left left_after old new start now before after paylo
   at = so_far.at;
   shown = so_far.shown;
 }
-
--- what carrying out that item says of the item itself
-carries_item : (asked : Option Item) (item : Item) (P : Item → Type 0) → asked ≡ Some item → IfSome asked P → P item
-carries_item asked item P is holds = subst (λ (a : Option Item). IfSome a P) is holds
-
-last_reply : (start : Situation) (first : List Item) (item : Item)
-    → replies start (first ++ item ∷ []) ≡ replies start first ++ (step (situation_after start first) item).reply
-last_reply start first item =
-    replies-append start first (item ∷ []) ∙ ap (λ bytes. replies start first ++ bytes) (append-nil (step (situation_after start first) item).reply)
 
 pub so_far_more : (limit : ℕ) (left_before left : Option (List ℕ)) (reading : Reading) (start now next : Situation) (before after shown : Option (List ℕ)) (asked : Option Item) (u : Unit {0})
     → ItemRead limit left_before left reading start now before after asked

@@ -2,7 +2,6 @@
 use Rattle.std.proofs.Common.{◌≡◌, ◌⊎◌, ℕ, zero, suc, ◌<◌, ◌≤◌, Bool, true, false, not, cond, ◌&&◌, Some, None, List, [], ◌∷◌, length, filter, refl, ap, sym, subst, ◌∙◌, inl, inr, arith}
 use Rattle.std.specs.List.{find, flat_map}
 use Rattle.std.specs.List.Sorted.{IsStrictlySortedBy}
-use Rattle.std.proofs.lemmas.Option.{none-some, same_Some}
 use Rattle.lis_graph.specs.Graph.{Linked, Chain}
 use Rattle.lis_graph.proofs.Members.{Among, among_from_contains, contains_from_among, among_flat_map, flat_map_among}
 use Rattle.lis_words.specs.Words.{word_cmp, has_word}
@@ -11,6 +10,7 @@ use Rattle.lis_model.specs.State.{links, up, all_up}
 use Rattle.lis_laws.proofs.Members.{among_from_has_word, has_word_from_among, among_set_of, set_of_among, among_with_words, with_words_old, with_words_new, sorted_with_words, sorted_set_of, same_words}
 use Rattle.lis_laws.proofs.Chains.{Pairs, links_ordered, up_self, up_own, up_edge, entails_from_up, sorted_up}
 use Rattle.lis_laws.proofs.Closures.{entailing, entailed_in, all_up_closed, sorted_all_up}
+use Rattle.lis_laws.proofs.Routes.{find_among}
 use Rattle.lis_table.specs.Links.{with_links, all_linked, is_open}
 
 -- what the set keeps while it is widened
@@ -44,13 +44,6 @@ begun declared axioms words = record {
 }
 
 -- ---- the first that passes a test
-found : {A : Type 0} (test : A → Bool) (xs : List A) (x : A) → find test xs ≡ Some x → Among xs x × (test x ≡ true)
-found test [] x h = absurd (none-some x h)
-found {A} test (y ∷ ys) x h = by (test y) refl h (found test ys x)
-  where
-    by : (b : Bool) → test y ≡ b → cond b (Some y) (find test ys) ≡ Some x → (find test ys ≡ Some x → Among ys x × (test x ≡ true)) → Among (y ∷ ys) x × (test x ≡ true)
-    by true e is more = let same = same_Some y x is in (inl same, ap test (sym same) ∙ e)
-    by false e is more = let rest = more is in (inr rest.0, rest.1)
 
 lacking : {A : Type 0} (test : A → Bool) (xs : List A) → find test xs ≡ None → (x : A) → Among xs x → test x ≡ false
 lacking test [] h x m = absurd m
@@ -83,7 +76,7 @@ module _ (declared : List (List ℕ)) (axioms : Pairs) (words all : List (List �
   }
     where
       at : Among axioms pair × (is_open all pair ≡ true)
-      at = found (is_open all) axioms pair h
+      at = find_among (is_open all) axioms pair h
 
       right : Among (all_up declared axioms words) pair.1
       right =
@@ -169,7 +162,7 @@ shrinks declared axioms all pair h =
     more = with_words all (with_links declared pair.1)
 
     at : Among axioms pair × (is_open all pair ≡ true)
-    at = found (is_open all) axioms pair h
+    at = find_among (is_open all) axioms pair h
 
 -- ---- one word alone
 pub up_alone : (declared : List (List ℕ)) (axioms : Pairs) (p : List ℕ) → all_up declared axioms (p ∷ []) ≡ up declared axioms p

@@ -1,7 +1,6 @@
 pub mod Places
 mod Stacks
 mod PlaceWords
-mod KnownWords
 mod NoTests
 mod Closing
 pub mod Routes

@@ -1,5 +1,5 @@
 use Rattle.lis_dict.specs.Dict.{words}
-use Rattle.lis_session.proofs.TextWords.{words_of_path, no_words}
+use Rattle.lis_formula.proofs.TextWords.{words_of_path, no_words}
 use Rattle.lis_session.proofs.moving.knows_text.Goals as goal
 
 pub returns-in-Ok : goal.returns-in-Ok

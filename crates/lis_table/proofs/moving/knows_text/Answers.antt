@@ -1,4 +1,4 @@
-use Rattle.lis_table.proofs.KnownWords.{words_of_path, no_words}
+use Rattle.lis_formula.proofs.TextWords.{words_of_path, no_words}
 use Rattle.lis_table.proofs.moving.knows_text.Goals as goal
 
 pub returns-in-Ok : goal.returns-in-Ok
