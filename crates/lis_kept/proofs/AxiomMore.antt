@@ -18,7 +18,7 @@ use Rattle.lis_fields.specs.declared.slots.AxiomSlot.TheVariants.{Free as FreeAx
 use Rattle.lis_model.specs.State.{pair_cmp, up}
 use Rattle.lis_model.specs.Changes.{with_axiom}
 use Rattle.lis_laws.proofs.Members.{pair_exact, pair_order, has_word_from_among}
-use Rattle.lis_catalog.proofs.Slots.{swapped}
+use Rattle.lis_catalog.proofs.Slots.{swapped as or_swapped}
 use Rattle.lis_kept.specs.Kept.{Kept}
 use Rattle.lis_kept.specs.Areas.{Area, slots_of, block_of, spelled}
 use Rattle.lis_kept.specs.Areas.Area.{Properties, Axioms, Files, Rows, Bitmap}
@@ -157,7 +157,7 @@ module _ (p : Kept) (t : Taxonomy) (held : AreHeld p t) {left right : ℕ} (may 
   links_then : (x y : ℕ) → is_linked linked x y ≡ (are_both left right x y || is_linked p x y)
   links_then x y =
       let own = is_own_link (declared_of p) (word_of p.dict x) (word_of p.dict y) in
-      ap (λ b. own || b) (pairs_then x y) ∙ swapped own (are_both left right x y) (has_pair p.axioms x y)
+      ap (λ b. own || b) (pairs_then x y) ∙ or_swapped own (are_both left right x y) (has_pair p.axioms x y)
 
   edges_then : (x y : ℕ) → has_edge (with_edge t left right) x y ≡ is_linked linked x y
   edges_then x y =
