@@ -42,7 +42,7 @@ unlike_all n (m ∷ ns) none =
     let parts = or_parts (m == n) (has_number ns n) none in
     (ne_eqb n m (λ e. both_ways (has_number (m ∷ ns) n) none (number_from_among (m ∷ ns) n (inl (sym e)))), unlike_all n ns parts.1)
 
-each_once : (ns : List ℕ) → are_distinct ns ≡ true → IsDistinct eqb ns
+pub each_once : (ns : List ℕ) → are_distinct ns ≡ true → IsDistinct eqb ns
 unfolding IsDistinct
 each_once [] apart = tt
 each_once (n ∷ ns) apart =

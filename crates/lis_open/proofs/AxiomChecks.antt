@@ -22,21 +22,22 @@ use Rattle.lis_kept.specs.Kept.{axiom_at}
 use Rattle.lis_kept.specs.Areas.{axiom_slots}
 use Rattle.lis_kept.specs.Telling.{axioms_of}
 use Rattle.lis_kept.specs.Links.{is_pair, has_pair, is_own_link}
+use Rattle.lis_kept.proofs.AxiomSlots.{pair_is}
 use Rattle.lis_kept.proofs.Known.{some_number, placed_at, among_place}
 use Rattle.lis_kept.proofs.OwnLinks.{own_to_plain}
 use Rattle.lis_store.specs.Stands.{word_at, words_in}
+use Rattle.lis_store.proofs.OneState.{one_array}
 use Rattle.lis_open.specs.declared.words.Words.{Words}
 use Rattle.lis_open.specs.declared.axioms.Axioms.{Axioms}
 use Rattle.lis_open.specs.Checks.{IsAxiom, AreFirstAxiomSlots, declared_by, axioms_by, AxiomFault, HasAxiomFault, AxiomFails, Fails, rank, place}
 use Rattle.lis_open.specs.Checks.AxiomFault.{PastLast, LeftUnnumbered, RightUnnumbered, RightNotPlain, RightUndeclared, LeftUnnameable, HeadUnnumbered, PairThere, Circle}
 use Rattle.lis_open.specs.Reading.{IsReadAs, IsFirst, Passes}
 use Rattle.lis_open.specs.ReadWords.{declared_words, kept_words, AreFirstWords, WordsAreSpelled, is_left, is_right, are_sides, RefusesPair, RefusesAxiom, AreFirstAxioms, AxiomsAreSpelled}
-use Rattle.lis_open.proofs.OneList.{one_list}
 use Rattle.lis_open.proofs.Once.{taken_place}
 use Rattle.lis_open.proofs.Joined.{Sides, sides}
 use Rattle.lis_open.proofs.WordsTold.{told_properties, word_at_told, declared_told, told_word, word_told, axioms_told, are_told, only_told}
 use Rattle.lis_open.proofs.WordChains.{pair_among, left_numbered, chain_named}
-use Rattle.lis_open.proofs.AxiomsRead.{sides_of, only_pair, pairs_within, slot_below}
+use Rattle.lis_open.proofs.AxiomsRead.{sides_of, pairs_within, slot_below}
 
 -- ---- fronts of lists
 front_among : {X : Type 0} (n : ℕ) (xs : List X) (x : X) → Among (take n xs) x → Among xs x
@@ -122,7 +123,7 @@ module _ (limits : Limits) (at : ℕ → List ℕ) (words : Words) (first : AreF
   }
 
   only_first : (n : ℕ) → n ≤ end → (others : List AxiomSlot) → AreFirstAxiomSlots limits at n others → others ≡ take n slots
-  only_first n le others is = one_list axiom_bytes is_axiom (record (axiom_slots limits) { count = n }) at others (take n slots) axiom_once is (first_are n le)
+  only_first n le others is = one_array axiom_bytes is_axiom (record (axiom_slots limits) { count = n }) at others (take n slots) axiom_once is (first_are n le)
 
   -- the axioms of the first slots are some of all, and all below the end
   some_within : (n : ℕ) (e : List ℕ × List ℕ) → Among (axioms_of (kept_words limits words (take n slots))) e → Among (axioms_of (kept_words limits words slots)) e
@@ -253,7 +254,7 @@ module _ (limits : Limits) (at : ℕ → List ℕ) (words : Words) (first : AreF
         by (inr has) =
             let found = among_from_any (is_pair left right) slots has in
             let at = placed_at slots found.0 found.1 in
-            let is : slice_get slots at.0 ≡ Some (Pair left right) = at.1 ∙ ap Some (only_pair left right found.0 found.2) in
+            let is : slice_get slots at.0 ≡ Some (Pair left right) = at.1 ∙ ap Some (pair_is left right found.0 found.2) in
             PairThere (contains_from_among (take end slots) (Pair left right)
             (among_front end slots at.0 (Pair left right) (slot_below limits words first axioms end are at.0 left right is) (omega (arith, few, are.count)) is))
 

@@ -1,11 +1,11 @@
 -- The axioms of axiom slots, read one after another.
-use Rattle.std.proofs.Common.{◌≡◌, ◌⊎◌, ◌∙◌, ◌↔◌, refl, sym, ap, ap₂, subst, inl, inr, ℕ, ◌+◌, ◌<◌, ◌≤◌, ◌==◌, Bool, true, false, ◌&&◌, ◌||◌, Option, Some, None, Result, Ok, Err, OnOk, List, [], ◌∷◌, length, set, replicate, slice_get, get_or, IsTrue, arith, eq-eqb}
+use Rattle.std.proofs.Common.{◌≡◌, ◌⊎◌, ◌∙◌, ◌↔◌, refl, sym, ap, ap₂, subst, inl, inr, ℕ, ◌+◌, ◌<◌, ◌≤◌, ◌==◌, true, false, ◌&&◌, ◌||◌, Option, Some, None, Result, Ok, Err, OnOk, List, [], ◌∷◌, length, set, replicate, slice_get, IsTrue, arith, eq-eqb}
 use Rattle.std.specs.Result.{is_err}
 use Rattle.std.specs.FinSet as finite
 use Rattle.std.proofs.Math.Bool.{or-false}
-use Rattle.std.proofs.lemmas.Bool.{and_parts, and_from, or_cases, or_left, or_right, both_ways, cases_eq, cases_lt, eqb-true, false_from_ne_true}
-use Rattle.std.proofs.lemmas.List.{length-set, length-replicate, get_or-replicate, get_or_past, get_or-set_same, get_or-set_other}
-use Rattle.std.proofs.lemmas.Option.{slice_get_within, slice_get-get_or, get_or_from_slice_get, same_Some}
+use Rattle.std.proofs.lemmas.Bool.{and_parts, and_from, or_right, both_ways, cases_eq, cases_lt, false_from_ne_true}
+use Rattle.std.proofs.lemmas.List.{length-set, length-replicate, get_or-set_same, get_or-set_other}
+use Rattle.std.proofs.lemmas.Option.{slice_get-get_or, get_or_from_slice_get, same_Some}
 use Rattle.lis_graph.specs.Graph.{Chain}
 use Rattle.lis_graph.proofs.Members.{Among, among_from_any, any_from_among, among_flat_map, flat_map_among, among_with_more, with_more_new}
 use Rattle.lis_ports.specs.Meaning.{Meaning}
@@ -31,6 +31,9 @@ use Rattle.lis_kept.specs.Areas.{axiom_slots}
 use Rattle.lis_kept.specs.Telling.{is_head_by, pair_told, pairs_told, axioms_of}
 use Rattle.lis_kept.specs.TestEdges.{is_test_link}
 use Rattle.lis_kept.specs.Links.{is_pair, has_pair, is_own_link, is_linked, TellsLinks}
+use Rattle.lis_catalog.proofs.Slots.{swapped as or_swapped}
+use Rattle.lis_kept.proofs.AxiomMore.{swapped}
+use Rattle.lis_kept.proofs.AxiomSlots.{set_cases, any_set, pair_is, same_sides}
 use Rattle.lis_kept.proofs.HeadEdges.{has_edge-with_edge}
 use Rattle.lis_kept.proofs.Known.{placed_at, among_place}
 use Rattle.lis_kept.proofs.TestLinks.{linked_by}
@@ -40,6 +43,8 @@ use Rattle.lis_open.specs.declared.axioms.Axioms.{Axioms}
 use Rattle.lis_open.specs.Reading.{OnlyReads, Recalls, IsReadAs}
 use Rattle.lis_open.specs.ReadWords.{declared_words, kept_words, AreWords, AreFirstWords, LinksTests, is_left, is_right, are_sides, TakesPair, TakesAxiom, IsGoodPair, AreFirstAxioms, AxiomsAreSpelled}
 use Rattle.lis_open.proofs.Joined.{Sides, sides}
+use Rattle.lis_open.proofs.Quiet.{StillRecalls}
+use Rattle.lis_open.proofs.WordsRead.{nothing_at}
 use Rattle.lis_open.proofs.WordPlaces.{left_word, right_word}
 use Rattle.lis_open.proofs.LinkedTests.{tests_below}
 use Rattle.lis_open.proofs.Owned.{bare_numbered}
@@ -77,69 +82,6 @@ pair_taken limits words k left right old new r below both ok present cycle taxon
   slots = slots;
   taxonomy = when_ok r ok taxonomy;
 }
-
--- ---- a slot that is set
-set_place : {X : Type 0} (xs : List X) (k n : ℕ) (v x : X) → slice_get (set xs k v) n ≡ Some x → ((n ≡ k) × (v ≡ x)) ⊎ ((n ≡ k → ⊥) × (slice_get xs n ≡ Some x))
-set_place xs k n v x is = by (cases_eq n k)
-  where
-    within : n < length xs
-    within = omega (arith, slice_get_within (set xs k v) n x is, length-set xs k v)
-
-    there : get_or (set xs k v) n x ≡ x
-    there = get_or_from_slice_get (set xs k v) n x x is
-
-    by : (n ≡ k) ⊎ (n ≡ k → ⊥) → ((n ≡ k) × (v ≡ x)) ⊎ ((n ≡ k → ⊥) × (slice_get xs n ≡ Some x))
-    by (inl same) = inl (same, sym (get_or-set_same xs k v x (omega (arith, within, same))) ∙ (ap (λ j. get_or (set xs k v) j x) (sym same) ∙ there))
-    by (inr differ) = inr (differ, slice_get-get_or xs n x within ∙ ap Some (sym (get_or-set_other xs k n v x differ) ∙ there))
-
-set_here : {X : Type 0} (xs : List X) (k : ℕ) (v : X) → k < length xs → slice_get (set xs k v) k ≡ Some v
-set_here xs k v lt = slice_get-get_or (set xs k v) k v (omega (arith, lt, length-set xs k v)) ∙ ap Some (get_or-set_same xs k v v lt)
-
-set_there : {X : Type 0} (xs : List X) (k n : ℕ) (v x : X) → (n ≡ k → ⊥) → slice_get xs n ≡ Some x → slice_get (set xs k v) n ≡ Some x
-set_there xs k n v x differ is =
-    slice_get-get_or (set xs k v) n x (omega (arith, slice_get_within xs n x is, length-set xs k v)) ∙ ap Some (get_or-set_other xs k n v x differ ∙ get_or_from_slice_get xs n x x is)
-
-pub pair_same : (a b c d : ℕ) → ◌≡◌ {A = AxiomSlot} (Pair a b) (Pair c d) → (a ≡ c) × (b ≡ d)
-pair_same a b c d is = (cc, cc)
-
--- a pair that is one of the slot's is this one
-pub only_pair : (p q : ℕ) (a : AxiomSlot) → is_pair p q a ≡ true → a ≡ Pair p q
-only_pair p q FreeAxiom is = absurd cc
-only_pair p q (Pair left right) is = let both = and_parts (left == p) (right == q) is in ap₂ Pair (eqb-true left p both.0) (eqb-true right q both.1)
-
-has_pair_set : (xs : List AxiomSlot) (k left right p q : ℕ) → k < length xs → get_or xs k FreeAxiom ≡ FreeAxiom → has_pair (set xs k (Pair left right)) p q ≡ (((left == p) && (right == q)) || has_pair xs p q)
-has_pair_set xs k left right p q lt free =
-    same_tests (has_pair (set xs k (Pair left right)) p q) (((left == p) && (right == q)) || has_pair xs p q)
-    (λ h. let found = among_from_any (is_pair p q) (set xs k (Pair left right)) h in
-    let place = placed_at (set xs k (Pair left right)) found.0 found.1 in
-    from found.0 found.2 place.0 (set_place xs k place.0 (Pair left right) found.0 place.1))
-    (λ h. back (or_cases ((left == p) && (right == q)) (has_pair xs p q) h))
-  where
-    from : (a : AxiomSlot) → is_pair p q a ≡ true → (n : ℕ) → ((n ≡ k) × (Pair left right ≡ a)) ⊎ ((n ≡ k → ⊥) × (slice_get xs n ≡ Some a)) → (((left == p) && (right == q)) || has_pair xs p q) ≡ true
-    from a is n (inl here) = or_left ((left == p) && (right == q)) (has_pair xs p q) (ap (is_pair p q) here.1 ∙ is)
-    from a is n (inr there) = or_right ((left == p) && (right == q)) (has_pair xs p q) (any_from_among (is_pair p q) xs a (among_place xs n a there.1) is)
-
-    apart : (a : AxiomSlot) (n : ℕ) → is_pair p q a ≡ true → slice_get xs n ≡ Some a → n ≡ k → ⊥
-    apart a n is at same =
-        let here : a ≡ FreeAxiom = sym (get_or_from_slice_get xs n a FreeAxiom at) ∙ (ap (λ j. get_or xs j FreeAxiom) same ∙ free) in
-        let both = sym (ap (is_pair p q) here) ∙ is in
-        cc
-
-    back : (((left == p) && (right == q)) ≡ true) ⊎ (has_pair xs p q ≡ true) → has_pair (set xs k (Pair left right)) p q ≡ true
-    back (inl is) = any_from_among (is_pair p q) (set xs k (Pair left right)) (Pair left right) (among_place (set xs k (Pair left right)) k (Pair left right) (set_here xs k (Pair left right) lt)) is
-    back (inr has) =
-        let found = among_from_any (is_pair p q) xs has in
-        let place = placed_at xs found.0 found.1 in
-        any_from_among (is_pair p q) (set xs k (Pair left right)) found.0
-        (among_place (set xs k (Pair left right)) place.0 found.0 (set_there xs k place.0 (Pair left right) found.0 (apart found.0 place.0 found.2 place.1) place.1)) found.2
-
-same_either : (a b : ℕ) → (a == b) ≡ (b == a)
-same_either a b = same_tests (a == b) (b == a) (λ h. eq-eqb b a (sym (eqb-true a b h))) (λ h. eq-eqb a b (sym (eqb-true b a h)))
-
-or_between : (a b c : Bool) → (a || (b || c)) ≡ (b || (a || c))
-or_between true true c = refl
-or_between true false c = refl
-or_between false b c = refl
 
 -- ---- the words of slots
 -- more axiom slots have more pairs
@@ -182,15 +124,18 @@ module _ (limits : Limits) (words : Words) (first : AreFirstWords limits words l
     within : k < length slots
     within = omega (arith, are.count, below)
 
+    free_here : slice_get slots k ≡ Some FreeAxiom
+    free_here = slice_get-get_or slots k FreeAxiom within ∙ ap Some (are.rest k (omega arith))
+
     slot_then : (n a b : ℕ) → slice_get next.slots.items n ≡ Some (Pair a b) → ((n ≡ k) × (◌≡◌ {A = AxiomSlot} (Pair left right) (Pair a b))) ⊎ ((n ≡ k → ⊥) × (slice_get slots n ≡ Some (Pair a b)))
-    slot_then n a b is = set_place slots k n (Pair left right) (Pair a b) (ap (λ ys. slice_get ys n) (sym taken.slots) ∙ is)
+    slot_then n a b is = set_cases slots k FreeAxiom (Pair left right) free_here n (Pair a b) (ap (λ ys. slice_get ys n) (sym taken.slots) ∙ is)
 
     good_then : (n a b : ℕ) → slice_get next.slots.items n ≡ Some (Pair a b) → IsGoodPair limits words n a b
     good_then n a b is = by (slot_then n a b is)
       where
         by : ((n ≡ k) × (◌≡◌ {A = AxiomSlot} (Pair left right) (Pair a b))) ⊎ ((n ≡ k → ⊥) × (slice_get slots n ≡ Some (Pair a b))) → IsGoodPair limits words n a b
         by (inl here) =
-            let same = pair_same left right a b here.1 in
+            let same = same_sides here.1 in
             record { below = omega (arith, taken.below, here.0); sides = ap₂ (are_sides words) (sym same.0) (sym same.1) ∙ taken.sides }
         by (inr there) = are.good n a b there.1
 
@@ -219,9 +164,9 @@ module _ (limits : Limits) (words : Words) (first : AreFirstWords limits words l
         let own = is_own_link (declared_words words) (word_of words.dict p) (word_of words.dict q) in
         ap (λ (t : Taxonomy). has_edge t p q) taken.taxonomy
         ∙ (has_edge-with_edge old.taxonomy left right p q
-        ∙ (ap₂ (λ a b. a || b) (ap₂ (λ a b. a && b) (same_either p left) (same_either q right)) (are.links.edges p q)
-        ∙ (or_between ((left == p) && (right == q)) own (has_pair slots p q)
-        ∙ (ap (λ b. own || b) (sym (has_pair_set slots k left right p q within (are.rest k (omega arith)))) ∙ ap (λ ys. own || has_pair ys p q) (sym taken.slots)))))
+        ∙ (ap₂ (λ a b. a || b) (ap₂ (λ a b. a && b) (swapped p left) (swapped q right)) (are.links.edges p q)
+        ∙ (or_swapped ((left == p) && (right == q)) own (has_pair slots p q)
+        ∙ (ap (λ b. own || b) (sym (any_set (is_pair p q) slots k FreeAxiom (Pair left right) free_here refl)) ∙ ap (λ ys. own || has_pair ys p q) (sym taken.slots)))))
 
     links_then : TellsLinks (kept_words limits words next.slots.items) next.taxonomy
     links_then = record { props = ap (λ (t : Taxonomy). t.props) taken.taxonomy ∙ are.links.props; edges = edges_then }
@@ -240,7 +185,7 @@ module _ (limits : Limits) (words : Words) (first : AreFirstWords limits words l
         by : (n a b : ℕ) → word_of words.dict a ≡ Some e.0 → word_of words.dict b ≡ Some e.1 → ((n ≡ k) × (◌≡◌ {A = AxiomSlot} (Pair left right) (Pair a b))) ⊎ ((n ≡ k → ⊥) × (slice_get slots n ≡ Some (Pair a b)))
             → Among ((both.from.word, both.to.word) ∷ axioms_of (kept_words limits words slots)) e
         by n a b is_a is_b (inl here) =
-            let same = pair_same left right a b here.1 in
+            let same = same_sides here.1 in
             inl (ap₂ (λ p q. (p, q)) (same_Some both.from.word e.0 (sym both.from.is ∙ (ap (word_of words.dict) same.0 ∙ is_a))) (same_Some both.to.word e.1 (sym both.to.is ∙ (ap (word_of words.dict) same.1 ∙ is_b))))
         by n a b is_a is_b (inr there) = inr (pair_among limits words dict slots old_sides n a b e.0 e.1 there.1 is_a is_b)
 
@@ -285,11 +230,7 @@ module _ (limits : Limits) (words : Words) (first : AreFirstWords limits words l
 -- ---- no slot yet
 module _ (limits : Limits) (words : Words) (first : AreFirstWords limits words limits.props) (slots : List AxiomSlot) (t : Taxonomy) (free : slots ≡ replicate (axiom_slots limits).count FreeAxiom) (linked : LinksTests words limits.props t) where
   all_free : (n : ℕ) → axiom_at slots n ≡ FreeAxiom
-  all_free n = ap (λ ys. axiom_at ys n) free ∙ by (cases_lt n (axiom_slots limits).count)
-    where
-      by : (n < (axiom_slots limits).count) ⊎ ((axiom_slots limits).count ≤ n) → axiom_at (replicate (axiom_slots limits).count FreeAxiom) n ≡ FreeAxiom
-      by (inl lt) = get_or-replicate (axiom_slots limits).count n FreeAxiom FreeAxiom lt
-      by (inr past) = get_or_past (replicate (axiom_slots limits).count FreeAxiom) n FreeAxiom (omega (arith, past, length-replicate (axiom_slots limits).count FreeAxiom))
+  all_free n = ap (λ ys. axiom_at ys n) free ∙ nothing_at (axiom_slots limits).count n FreeAxiom
 
   no_axiom : (n left right : ℕ) → slice_get slots n ≡ Some (Pair left right) → ⊥
   no_axiom n left right is = let both = sym (get_or_from_slice_get slots n (Pair left right) FreeAxiom is) ∙ all_free n in cc
@@ -298,7 +239,7 @@ module _ (limits : Limits) (words : Words) (first : AreFirstWords limits words l
   no_pair p q = false_from_ne_true (has_pair slots p q) (λ h.
       let found = among_from_any (is_pair p q) slots h in
       let place = placed_at slots found.0 found.1 in
-      no_axiom place.0 p q (place.1 ∙ ap Some (only_pair p q found.0 found.2)))
+      no_axiom place.0 p q (place.1 ∙ ap Some (pair_is p q found.0 found.2)))
 
   none_told : (e : List ℕ × List ℕ) → Among (axioms_of (kept_words limits words slots)) e → Among {K = List ℕ × List ℕ} [] e
   none_told e m =
@@ -330,5 +271,5 @@ pub record AxiomsTurn (journal : Held) (limits : Limits) (old now : Meaning) (be
   pub reads : OnlyReads old now
   pub faults : now.disk_faults ≡ old.disk_faults
   pub first : AreFirstAxioms limits words axioms end
-  pub recalls : (kept : ℕ → List ℕ) → Fits journal old kept → Recalls before kept → Recalls last kept
+  pub recalls : StillRecalls journal old before last
   pub spelled : (kept : ℕ → List ℕ) → Fits journal old kept → Recalls before kept → AxiomsAreSpelled limits kept axioms end

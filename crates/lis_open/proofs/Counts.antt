@@ -1,33 +1,19 @@
--- How many words and blocks there are, and lists that rise.
-use Rattle.std.proofs.Common.{◌≡◌, refl, sym, ap, ap₂, subst, inl, inr, ℕ, ◌+◌, zero, suc, ◌<◌, ◌≤◌, eqb, true, false, ◌&&◌, List, [], ◌∷◌, length, map, take, Option, Some, None, arith, sum, length-append}
+-- How many members lists have, and lists that rise.
+use Rattle.std.proofs.Common.{◌≡◌, refl, sym, ap, ap₂, subst, inl, inr, ℕ, ◌+◌, zero, suc, ◌<◌, ◌≤◌, eqb, true, ◌&&◌, List, [], ◌∷◌, length, map, take, arith, sum, length-append}
 use Rattle.std.specs.declared.cmp.Ordering.{Ordering}
 use Rattle.std.specs.Ordering.{is_lt}
-use Rattle.std.specs.Option.{option_to_list}
-use Rattle.std.specs.List.{list_all, flat_map, AllByRecursion, IsDistinct}
-use Rattle.std.proofs.lemmas.Bool.{ne_eqb, eqb-true}
+use Rattle.std.specs.List.{list_all, flat_map}
+use Rattle.std.proofs.lemmas.Bool.{eqb-true}
 use Rattle.std.proofs.lemmas.List.Sums.{sum_by-cons}
 use Rattle.std.proofs.lemmas.Map.Steps.{length-le_from_distinct_below}
 use Rattle.std.specs.BTreeSet.{insert_key}
 use Rattle.lis_graph.specs.Graph.{is_rising, with_more}
-use Rattle.lis_words.specs.Words.{word_cmp}
-use Rattle.lis_model.specs.Sets.{with_words}
 use Rattle.lis_laws.proofs.Counts.{insert_key_le}
 use Rattle.lis_graph.proofs.Members.{Among, among_from_any}
 use Rattle.lis_content.specs.Content.{are_distinct}
-use Rattle.lis_open.proofs.Numbers.{apart_first}
+use Rattle.lis_kept.proofs.Filed.{each_once}
 
 -- ---- numbers below a bound, none of them twice
-unlike_all : (n : ℕ) (ns : List ℕ) → (Among ns n → ⊥) → AllByRecursion (λ m. eqb n m ≡ false) ns
-unlike_all n [] none = tt
-unlike_all n (m ∷ ns) none = (ne_eqb n m (λ e. none (inl (sym e))), unlike_all n ns (λ k. none (inr k)))
-
-each_once : (ns : List ℕ) → are_distinct ns ≡ true → IsDistinct eqb ns
-unfolding IsDistinct
-each_once [] distinct = tt
-each_once (n ∷ ns) distinct =
-    let parts = apart_first n ns distinct in
-    (unlike_all n ns parts.0, each_once ns parts.1)
-
 pub few_below : (ns : List ℕ) (end : ℕ) → are_distinct ns ≡ true → ((n : ℕ) → Among ns n → n < end) → length ns ≤ end
 few_below ns end distinct below =
     length-le_from_distinct_below ns end (each_once ns distinct)
@@ -37,21 +23,6 @@ few_below ns end distinct below =
 pub more_le : {K : Type 0} (cmp : K → K → Ordering) (xs more : List K) → length (with_more cmp xs more) ≤ length xs + length more
 more_le cmp xs [] = omega arith
 more_le cmp xs (m ∷ more) = let rest = more_le cmp (insert_key cmp xs m) more in omega (arith, rest, insert_key_le cmp xs m)
-
-pub with_words_le : (words more : List (List ℕ)) → length (with_words words more) ≤ length words + length more
-with_words_le words more = more_le word_cmp words more
-
--- ---- one word at most for each number
-
-pub few_words : (word_by : ℕ → Option (List ℕ)) (ns : List ℕ) → length (flat_map (λ n. option_to_list (word_by n)) ns) ≤ length ns
-few_words word_by [] = omega arith
-few_words word_by (n ∷ ns) =
-    let rest = few_words word_by ns in
-    omega (arith, rest, one (word_by n), length-append (option_to_list (word_by n)) (flat_map (λ k. option_to_list (word_by k)) ns))
-  where
-    one : (o : Option (List ℕ)) → length (option_to_list o) ≤ 1
-    one None = omega arith
-    one (Some w) = omega arith
 
 -- ---- a front is no longer than it is told
 pub take_few : {X : Type 0} (n : ℕ) (xs : List X) → length (take n xs) ≤ n

@@ -4,7 +4,7 @@ use Rattle.std.specs.Option.{option_to_list}
 use Rattle.std.specs.List.{list_all, flat_map}
 use Rattle.std.proofs.lemmas.Bool.{and_parts, both_ways, ltb-true, leb-true, cases_lt}
 use Rattle.std.proofs.lemmas.List.{length-map, length-take-le, length-drop, length-replicate, get_or-replicate, get_or_past, get_or-drop}
-use Rattle.std.proofs.lemmas.Option.{slice_get-get_or, slice_get_within, get_or_from_slice_get}
+use Rattle.std.proofs.lemmas.Option.{slice_get-get_or, slice_get_within, get_or_from_slice_get, same_Some}
 use Rattle.lis_graph.proofs.Members.{Among, among_from_contains, contains_from_among, map_among, among_flat_map, flat_map_among, among_with_more, with_more_new}
 use Rattle.lis_journal.specs.Record.{block, replayed}
 use Rattle.lis_slots.specs.Slots.{Slots}
@@ -37,7 +37,9 @@ use Rattle.lis_kept.specs.Telling.{blocks_told}
 use Rattle.lis_kept.proofs.Filing.{among_from_number, number_from_among as has_from_among}
 use Rattle.lis_kept.proofs.Formed.{some_word}
 use Rattle.lis_kept.proofs.Known.{placed_at, among_place}
+use Rattle.lis_kept.proofs.InArea.{rows_counted}
 use Rattle.lis_store.specs.Stands.{Contents, AreSlots, word_in, words_in, word_at, pair_in, pairs_in, is_named_axiom, is_free_axiom, records_in, all_records, all_blocks, file_by, spelled_state, is_had_by, row_bit, Spells, Stands}
+use Rattle.lis_store.proofs.OneState.{one_array}
 use Rattle.lis_store.proofs.Points.{AllApart}
 use Rattle.lis_open.specs.Checks.{IsFile, AreContents, IsUsed, axioms_by, PropertyFails, AxiomFault, HasAxiomFault, AxiomFails, FileFault, HasFileFault, FileFails, WordFails, BitFails, RowFault, RowFails, Fails, FailsReplayed, RecordFails, FailsIn}
 use Rattle.lis_open.specs.Checks.AxiomFault.{PastLast, LeftUnnumbered, RightUnnumbered, RightNotPlain, RightUndeclared, LeftUnnameable, HeadUnnumbered, PairThere, Circle}
@@ -45,17 +47,17 @@ use Rattle.lis_open.specs.Checks.FileFault.{NameTaken, TagUnnumbered, TagUnassig
 use Rattle.lis_open.specs.Checks.RowFault.{RowWrong, RestNotZero}
 use Rattle.lis_open.proofs.Needs.{one_limits, has_super}
 use Rattle.lis_open.proofs.Numbers.{is_taken-marked, distinct_piece}
-use Rattle.lis_open.proofs.OneList.{one_list}
-use Rattle.lis_open.proofs.ZeroRows.{zero_row, rows_enough}
+use Rattle.lis_open.proofs.ZeroRows.{zero_row}
+use Rattle.lis_open.proofs.WordsTold.{one_of}
 use Rattle.lis_open.proofs.Once.{taken_place, slot_at, value_at, part_once, distinct_apart, apart_by_count, file_there, names-more}
 
 -- ---- one value in each slot
 pub one_contents : (limits : Limits) (at : ℕ → List ℕ) (a b : Contents) → AreContents limits at a → AreContents limits at b → a ≡ b
 one_contents limits at a b are_a are_b =
     let make : List PropSlot → List AxiomSlot → List FileSlot → Contents = λ ps xs fs. record { properties = ps; axioms = xs; files = fs } in
-    ap (λ ps. make ps a.axioms a.files) (one_list prop_bytes is_prop (property_slots limits) at a.properties b.properties prop_once are_a.properties are_b.properties)
-    ∙ (ap (λ xs. make b.properties xs a.files) (one_list axiom_bytes is_axiom (axiom_slots limits) at a.axioms b.axioms axiom_once are_a.axioms are_b.axioms)
-    ∙ ap (λ fs. make b.properties b.axioms fs) (one_list file_bytes (is_file limits.version) (file_slots limits) at a.files b.files (file_once limits.version) are_a.files are_b.files))
+    ap (λ ps. make ps a.axioms a.files) (one_array prop_bytes is_prop (property_slots limits) at a.properties b.properties prop_once are_a.properties are_b.properties)
+    ∙ (ap (λ xs. make b.properties xs a.files) (one_array axiom_bytes is_axiom (axiom_slots limits) at a.axioms b.axioms axiom_once are_a.axioms are_b.axioms)
+    ∙ ap (λ fs. make b.properties b.axioms fs) (one_array file_bytes (is_file limits.version) (file_slots limits) at a.files b.files (file_once limits.version) are_a.files are_b.files))
 
 -- the first slots are the first values
 first_slots : {X : Type 0} (spelled : X → List ℕ) (is_in_range : X → Bool) (slots : Slots) (at : ℕ → List ℕ) (values : List X) (n : ℕ) → n ≤ slots.count
@@ -89,9 +91,6 @@ used_record FreeFile rec m = absurd m
 used_record (Used r) rec (inl same) = ap Used same
 used_record (Used r) rec (inr m) = absurd m
 
-member_some : (o : Option (List ℕ)) (w : List ℕ) → o ≡ Some w → Among (option_to_list o) w
-member_some o w is = subst (λ p. Among (option_to_list p) w) (sym is) (inl refl)
-
 module _ (limits : Limits) (contents : Contents) (at : ℕ → List ℕ) (spells : Spells limits contents at (spelled_state limits contents at)) where
   abbrev s : State
   s = spelled_state limits contents at
@@ -116,7 +115,7 @@ module _ (limits : Limits) (contents : Contents) (at : ℕ → List ℕ) (spells
       let found = fails.fault p (slot_at prop_bytes is_prop (property_slots limits) at properties spells.properties n p there) in
       part_once (λ q. option_to_list (word_in q)) properties words_apart found.earlier n found.there.property p found.word found.before
       (value_at prop_bytes is_prop (property_slots limits) at properties spells.properties prop_once found.earlier found.there.property found.there.is) there
-      (member_some (word_in found.there.property) found.word found.there.has) (member_some (word_in p) found.word found.has)
+      (one_of (word_in found.there.property) found.word found.there.has) (one_of (word_in p) found.word found.has)
 
   -- a known word has a slot
   known_there : (w : List ℕ) → Among (known s) w → has_word (words_in properties) w ≡ true
@@ -205,11 +204,11 @@ module _ (limits : Limits) (contents : Contents) (at : ℕ → List ℕ) (spells
       there = slice_get-get_or axioms n FreeAxiom (omega (arith, fails.below, spells.axioms.count))
 
       words_same : fails.properties ≡ properties
-      words_same = one_list prop_bytes is_prop (property_slots limits) at fails.properties properties prop_once fails.words spells.properties
+      words_same = one_array prop_bytes is_prop (property_slots limits) at fails.properties properties prop_once fails.words spells.properties
 
       before_same : fails.earlier ≡ take n axioms
       before_same =
-          one_list axiom_bytes is_axiom (record (axiom_slots limits) { count = n }) at fails.earlier (take n axioms) axiom_once fails.before
+          one_array axiom_bytes is_axiom (record (axiom_slots limits) { count = n }) at fails.earlier (take n axioms) axiom_once fails.before
           (first_slots axiom_bytes is_axiom (axiom_slots limits) at axioms n (let lt = fails.below in omega (arith, lt)) spells.axioms)
 
       fault : (a : AxiomSlot) → slice_get axioms n ≡ Some a → HasAxiomFault limits properties (take n axioms) n a
@@ -276,7 +275,7 @@ module _ (limits : Limits) (contents : Contents) (at : ℕ → List ℕ) (spells
     tag_assignable tag w m is_w =
         assigned_are s spells.formed (file_by limits properties at rec) (file_in_state rec in_records) w
         (set_of_among (flat_map (λ j. option_to_list (word_at properties j)) rec.tags) w
-        (flat_map_among (λ j. option_to_list (word_at properties j)) rec.tags tag w m (member_some (word_at properties tag) w is_w)))
+        (flat_map_among (λ j. option_to_list (word_at properties j)) rec.tags tag w m (one_of (word_at properties tag) w is_w)))
 
     no_file_fault : FileFault limits at properties axioms n rec → ⊥
     no_file_fault (NameTaken earlier other before is_other same) =
@@ -312,10 +311,10 @@ module _ (limits : Limits) (contents : Contents) (at : ℕ → List ℕ) (spells
           (slice_get-get_or contents.files n FreeFile (omega (arith, fails.below, spells.files.count)))
 
       words_same : fails.properties ≡ properties
-      words_same = one_list prop_bytes is_prop (property_slots limits) at fails.properties properties prop_once fails.words spells.properties
+      words_same = one_array prop_bytes is_prop (property_slots limits) at fails.properties properties prop_once fails.words spells.properties
 
       axioms_same : fails.axioms ≡ axioms
-      axioms_same = one_list axiom_bytes is_axiom (axiom_slots limits) at fails.axioms axioms axiom_once fails.pairs spells.axioms
+      axioms_same = one_array axiom_bytes is_axiom (axiom_slots limits) at fails.axioms axioms axiom_once fails.pairs spells.axioms
 
       fault : (f : FileSlot) → IsFile limits at n f → HasFileFault limits at properties axioms n f
       fault f is =
@@ -335,7 +334,7 @@ module _ (limits : Limits) (contents : Contents) (at : ℕ → List ℕ) (spells
           let p = get_or properties n FreeProp in
           subst (λ ws. Among ws w) spells.words
           (set_of_among (words_in properties) w
-          (flat_map_among (λ q. option_to_list (word_in q)) properties p w (among_place properties n p (slice_get-get_or properties n FreeProp lt)) (member_some (word_in p) w is)))
+          (flat_map_among (λ q. option_to_list (word_in q)) properties p w (among_place properties n p (slice_get-get_or properties n FreeProp lt)) (one_of (word_in p) w is)))
       by (inr past) = absurd (let none : ◌≡◌ {A = Option (List ℕ)} None (Some w) = ap word_in (sym (get_or_past properties n FreeProp past)) ∙ is in cc)
 
   no_word : (n : ℕ) → WordFails limits at n → ⊥
@@ -381,7 +380,7 @@ module _ (limits : Limits) (contents : Contents) (at : ℕ → List ℕ) (spells
 
   -- ---- rows
   no_row_fault : (n : ℕ) → RowFault limits at contents n → ⊥
-  no_row_fault n (RowWrong below wrong) = wrong (spells.rows n (let enough = rows_enough limits spells.formed.limits in omega (arith, enough, below)))
+  no_row_fault n (RowWrong below wrong) = wrong (spells.rows n (let enough = rows_counted limits spells.formed.limits in omega (arith, enough, below)))
   no_row_fault n (RestNotZero last p from below not_zero) =
       not_zero (spells.rows p below ∙ zero_row (limits.files / 8) (row_bit s limits contents at p) (λ i. none i))
     where
@@ -409,14 +408,11 @@ pub spelled_passes : (limits : Limits) (contents : Contents) (at : ℕ → List 
 spelled_passes limits contents at s spot spells = none_fails limits contents at (subst (λ (t : State). Spells limits contents at t) spells.state spells) spot
 
 -- ---- images
-one_some : {X : Type 0} (a b : X) → ◌≡◌ {A = Option X} (Some a) (Some b) → a ≡ b
-one_some a b e = cc
-
 replayed_passes : (image : List ℕ) (s : State) (spot : Spot) → Stands image s → FailsReplayed image spot → ⊥
 unfolding Stands
 replayed_passes image s spot stands fails =
     let limits = one_limits image fails.limits s.limits fails.super (record { range = stands.range; spelled = stands.super }) in
-    let replay = one_some fails.replay stands.replay (sym fails.replays ∙ (ap (λ (l : Limits). replayed (image_blocks l) image) limits ∙ stands.replays)) in
+    let replay = same_Some fails.replay stands.replay (sym fails.replays ∙ (ap (λ (l : Limits). replayed (image_blocks l) image) limits ∙ stands.replays)) in
     let there = subst (λ (l : Limits). Fails l (λ n. block n fails.replay) spot) limits fails.fails in
     spelled_passes s.limits stands.contents (λ n. block n stands.replay) s spot stands.spells (subst (λ (r : List ℕ). Fails s.limits (λ n. block n r) spot) replay there)
 

@@ -1,13 +1,11 @@
 -- The numbers that the words of a file lead to are those of the words of its description.
-use Rattle.std.proofs.Common.{◌≡◌, ◌⊎◌, ◌∙◌, refl, sym, ap, subst, inl, inr, ℕ, ◌<◌, ◌≤◌, true, Some, option_to_list, List, [], ◌∷◌, ◌++◌, length, arith}
-use Rattle.std.specs.List.{list_all, flat_map, AllByRecursion}
+use Rattle.std.proofs.Common.{◌≡◌, ◌⊎◌, ◌∙◌, refl, sym, ap, subst, inl, inr, ℕ, ◌<◌, true, Some, option_to_list, List, [], ◌∷◌, ◌++◌, length, arith}
+use Rattle.std.specs.List.{list_all, flat_map}
 use Rattle.std.specs.List.Sorted.{IsStrictlySortedBy}
 use Rattle.std.specs.Ordering.{nat_cmp}
-use Rattle.std.specs.declared.cmp.Ordering.TheVariants.{Less}
-use Rattle.std.specs.Cmp.{nat_cmp_total, tied_itself}
+use Rattle.std.specs.Cmp.{nat_cmp_total}
 use Rattle.std.proofs.lemmas.Option.{same_Some}
 use Rattle.lis_graph.proofs.Members.{Among, among_from_any, any_from_among, among_append, among_left, among_right, among_flat_map, flat_map_among}
-use Rattle.lis_graph.proofs.Sets.{below_tail, sorted_tail}
 use Rattle.lis_dict.specs.Dict.{Dict, IsDict, word_of}
 use Rattle.lis_dict.proofs.Laws.{number_from_word, number_below}
 use Rattle.lis_taxonomy.specs.Taxonomy.{Taxonomy, entails, Entails as Leads}
@@ -23,11 +21,11 @@ use Rattle.lis_kept.specs.Kept.{Kept}
 use Rattle.lis_kept.specs.Telling.{words_told, axioms_of}
 use Rattle.lis_kept.proofs.Known.{only_word}
 use Rattle.lis_store.proofs.Points.{AllApart, length-with_more}
+use Rattle.lis_store.proofs.Measured.{sorted_apart}
 use Rattle.lis_open.specs.declared.words.Words.{Words}
 use Rattle.lis_open.specs.declared.axioms.Axioms.{Axioms}
 use Rattle.lis_open.specs.ReadWords.{AreFirstWords, AreFirstAxioms, declared_words, kept_words}
 use Rattle.lis_open.specs.ReadFiles.{is_described, described, found_words, is_numbered, numbers_of, own_numbers, is_assignable_number}
-use Rattle.lis_open.proofs.Counts.{few_words, with_words_le}
 use Rattle.lis_open.proofs.Owned.{IsNumbered, found_word, number_in_file, own_cases, own_numbered, tag_owned, found_owned}
 use Rattle.lis_open.proofs.Joined.{sides}
 use Rattle.lis_open.proofs.WordsTold.{one_of}
@@ -42,22 +40,6 @@ pub among_told : (dict : Dict) (ns : List ℕ) (w : List ℕ) → Among (words_t
 among_told dict ns w m =
     let found = among_flat_map (λ k. option_to_list (word_of dict k)) ns w (among_set_of (flat_map (λ k. option_to_list (word_of dict k)) ns) w m) in
     (found.0, found.1, only_word (word_of dict found.0) w found.2)
-
--- they are no more than the numbers
-pub told_le : (dict : Dict) (ns : List ℕ) → length (words_told dict ns) ≤ length ns
-told_le dict ns =
-    let words = flat_map (λ k. option_to_list (word_of dict k)) ns in
-    omega (arith, with_words_le [] words, few_words (word_of dict) ns)
-
--- numbers that rise stand once
-apart_sorted : (ns : List ℕ) → IsStrictlySortedBy nat_cmp ns → AllApart ns
-apart_sorted [] sorted = tt
-apart_sorted (n ∷ ns) sorted = (λ m. above ns (below_tail nat_cmp nat_cmp_total n ns sorted) m, apart_sorted ns (sorted_tail nat_cmp nat_cmp_total n ns sorted))
-  where
-    above : (ms : List ℕ) → AllByRecursion (λ y. nat_cmp n y ≡ Less) ms → Among ms n → ⊥
-    above [] below m = m
-    above (x ∷ ms) below (inl same) = let tied = tied_itself nat_cmp_total n in let less = ap (nat_cmp n) (sym same) ∙ below.0 in cc
-    above (x ∷ ms) below (inr m) = above ms below.1 m
 
 module _ (dict : Dict) (is_dict : IsDict dict) where
   abbrev words_of : List ℕ → List (List ℕ)
@@ -88,7 +70,7 @@ module _ (dict : Dict) (is_dict : IsDict dict) where
   -- of numbers that rise and have words there are as many words
   pub told_as_many : (ns : List ℕ) → IsStrictlySortedBy nat_cmp ns → ((n : ℕ) → Among ns n → (w : List ℕ) × (word_of dict n ≡ Some w)) → length (words_told dict ns) ≡ length ns
   told_as_many ns sorted named =
-      let all = words_apart ns (apart_sorted ns sorted) named in
+      let all = words_apart ns (sorted_apart nat_cmp nat_cmp_total ns sorted) named in
       let long = length-with_more word_cmp word_exact [] (words_of ns) all.apart (λ x m none. none) in
       omega (arith, long, all.long)
 

@@ -35,6 +35,8 @@ use Rattle.lis_kept.specs.Areas.{axiom_slots, file_slots}
 use Rattle.lis_kept.specs.Telling.{words_told, bytes_told, blocks_told, HasIndex, file_told, axioms_of}
 use Rattle.lis_kept.proofs.Filing.{among_from_number, number_from_among}
 use Rattle.lis_store.specs.Stands.{words_in}
+use Rattle.lis_store.proofs.OneState.{one_array}
+use Rattle.lis_store.proofs.Relates.{told_few}
 use Rattle.lis_open.specs.declared.words.Words.{Words}
 use Rattle.lis_open.specs.declared.axioms.Axioms.{Axioms}
 use Rattle.lis_open.specs.declared.files.Files.{Files}
@@ -45,11 +47,11 @@ use Rattle.lis_open.specs.ReadWords.{AreFirstWords, AreFirstAxioms, WordsAreSpel
 use Rattle.lis_open.specs.ReadFiles.{described, found_words, is_numbered, own_numbers, may_describe, is_assignable_by, is_assignable_number, may_file, HasBlocks, RecordFault, HasSlotFault, AreFirstFiles, FilesAreSpelled, FilesAreNumbered, FilesHaveBlocks}
 use Rattle.lis_open.specs.ReadFiles.RecordFault.{NotFiled, NoBlocks, NotDescribed}
 use Rattle.lis_open.proofs.Slots.{one_file}
-use Rattle.lis_open.proofs.OneList.{one_list}
+use Rattle.lis_open.proofs.WordsRead.{old_from}
 use Rattle.lis_open.proofs.WordPlaces.{assignable_word}
 use Rattle.lis_open.proofs.Joined.{sides}
 use Rattle.lis_open.proofs.WordsTold.{told_properties, number_within, word_at_told, declared_told, told_word, word_told, axioms_told, file_is_told, are_told, only_told}
-use Rattle.lis_open.proofs.Descriptions.{among_told, told_le, found_own, described_words, description_long}
+use Rattle.lis_open.proofs.Descriptions.{among_told, found_own, described_words, description_long}
 
 -- a test that some member does not pass
 failing : {X : Type 0} (test : X → Bool) (xs : List X) → list_all test xs ≡ false → (x : X) × Among xs x × (test x ≡ false)
@@ -59,10 +61,6 @@ failing test (x ∷ xs) fails = by (test x) refl fails (failing test xs)
     by : (b : Bool) → test x ≡ b → (b && list_all test xs) ≡ false → (list_all test xs ≡ false → (y : _) × Among xs y × (test y ≡ false)) → (y : _) × Among (x ∷ xs) y × (test y ≡ false)
     by true is some more = let rest = more some in (rest.0, inr rest.1, rest.2)
     by false is some more = (x, inl refl, is)
-
-there : (o : Option ℕ) → not (is_some o) ≡ false → (n : ℕ) × (o ≡ Some n)
-there None old = absurd cc
-there (Some n) old = (n, refl)
 
 used_slot : (o : Option FileRecord) (rec : FileRecord) → file_by o ≡ Used rec → o ≡ Some rec
 used_slot None rec is = cc
@@ -109,7 +107,7 @@ module _ (limits : Limits) (words : Words) (axioms : Axioms) (are : AreFirstWord
 
     -- and no other list is told
     only_axioms : (others : List AxiomSlot) → AreAxioms limits at others → others ≡ axioms.slots.items
-    only_axioms others are_others = one_list axiom_bytes is_axiom (axiom_slots limits) at others axioms.slots.items axiom_once are_others are_axioms
+    only_axioms others are_others = one_array axiom_bytes is_axiom (axiom_slots limits) at others axioms.slots.items axiom_once are_others are_axioms
 
 -- ---- files by their slots
 module _ (limits : Limits) (words : Words) (axioms : Axioms) (files : Files) (end : ℕ) (are : AreFirstWords limits words limits.props) (links : AreFirstAxioms limits words axioms (axiom_slots limits).count) (first : AreFirstFiles limits words axioms files end) where
@@ -208,7 +206,7 @@ module _ (limits : Limits) (words : Words) (axioms : Axioms) (files : Files) (en
           let number = among_told words.dict (described axioms.taxonomy (own rec)) word (subst (λ ws. Among ws word) (sym (description_is rec (first.given n rec is) (numbers n rec is).numbered)) m) in
           both_ways (has_word (words_in properties) word) none (told_word limits words are.are are.props number.0 word number.2)
       no_fault n rec is lt (TooManyWords many) =
-          let few = told_le words.dict (described axioms.taxonomy (own rec)) in
+          let few = told_few words.dict (described axioms.taxonomy (own rec)) in
           let short = first.short n in
           let has = numbers n rec is in
           let long = ap (length {A = List ℕ}) (description_is rec (first.given n rec is) has.numbered) in
@@ -247,7 +245,7 @@ module _ (limits : Limits) (words : Words) (axioms : Axioms) (files : Files) (en
     -- ---- the fault of a record that is not taken
     name_fault : (rec : FileRecord) → end < limits.files → not (is_some (slot_of files.catalog rec.name)) ≡ false → FileFault limits at properties items end rec
     name_fault rec below fails =
-        let slot_is = there (slot_of files.catalog rec.name) fails in
+        let slot_is = old_from (slot_of files.catalog rec.name) fails in
         let found = rec_at-slot_of files.catalog rec.name slot_is.0 first.catalog slot_is.1 in
         let before : slot_is.0 < end = slot_read slot_is.0 found.0 found.1 in
         NameTaken slot_is.0 found.0 before (used_is slot_is.0 found.0 (omega (arith, before, below)) found.1) found.2

@@ -2,8 +2,8 @@
 use Rattle.std.proofs.Common.{◌≡◌, ◌⊎◌, ◌∙◌, refl, sym, ap, subst, inl, inr, ℕ, ◌+◌, ◌<◌, ◌≤◌, ◌==◌, nat_lt, nat_le, Bool, true, false, cond, not, ◌&&◌, ◌||◌, is_some, Option, Some, None, List, [], length, replicate, get_or, IsTrue, arith, eq-eqb, length-set, get_or-set_same, get_or-set_other}
 use Rattle.std.specs.Option.{IfSome}
 use Rattle.std.specs.List.{list_all}
-use Rattle.std.proofs.lemmas.Bool.{and_parts, and_from, both_ways, or_cases, or_left, or_right, cases_eq, cases_lt, ne_eqb, lt-ltb, leb-true}
-use Rattle.std.proofs.lemmas.List.{length-replicate, get_or-replicate, get_or_past}
+use Rattle.std.proofs.lemmas.Bool.{and_parts, and_from, both_ways, or_cases, or_left, or_right, cases_eq, ne_eqb, lt-ltb, leb-true}
+use Rattle.std.proofs.lemmas.List.{length-replicate}
 use Rattle.std.proofs.lemmas.Option.{same_Some}
 use Rattle.lis_ports.specs.Meaning.{Meaning}
 use Rattle.lis_journal.specs.Journal.{Held}
@@ -41,6 +41,8 @@ use Rattle.lis_open.specs.declared.blocks.LastBlock.{LastBlock}
 use Rattle.lis_open.specs.Reading.{OnlyReads, Recalls, IsReadAs}
 use Rattle.lis_open.specs.ReadWords.{AreWords}
 use Rattle.lis_open.specs.ReadFiles.{no_files, described, found_words, is_numbered, own_numbers, HasNumbers, AreNumbers, is_assignable_by, is_assignable_number, may_file, AreTold, TakesNumbers, TakesRecord, TakesFile, AreFirstFiles, FilesAreSpelled, FilesAreNumbered, FilesHaveBlocks}
+use Rattle.lis_open.proofs.Quiet.{StillRecalls}
+use Rattle.lis_open.proofs.WordsRead.{new_from, nothing_at}
 use Rattle.lis_open.proofs.Numbers.{is_taken-marked}
 
 -- ---- what may be filed
@@ -89,13 +91,6 @@ read_are_told limits taken rec {seen} blocks numbers staged kept start end bytes
     (subst (λ (es : List Entry). IsTrue (are_within start end (content_blocks start numbers seen.size (looked es kept))) → bytes ≡ file_content start numbers seen.size (looked es kept)) none read)
 
 -- ---- no file yet
-nothing_at : {X : Type 0} (n k : ℕ) (x : X) → get_or (replicate n x) k x ≡ x
-nothing_at n k x = by (cases_lt k n)
-  where
-    by : (k < n) ⊎ (n ≤ k) → get_or (replicate n x) k x ≡ x
-    by (inl lt) = get_or-replicate n k x x lt
-    by (inr past) = get_or_past (replicate n x) k x (omega (arith, past, length-replicate n x))
-
 pub no_files_yet : (limits : Limits) (words : Words) (axioms : Axioms) → AreFirstFiles limits words axioms (no_files limits) 0
 unfolding no_files
 no_files_yet limits words axioms = record {
@@ -127,10 +122,6 @@ none_have_blocks limits files at is = subst (λ (f : Files). FilesHaveBlocks lim
 })
 
 -- ---- one file more
-absent : (o : Option ℕ) → not (is_some o) ≡ true → o ≡ None
-absent None new = refl
-absent (Some n) new = absurd cc
-
 module _ (limits : Limits) (MayBeKept : (ℕ → List ℕ) → Type 0) (words : Words) (axioms : Axioms) (files next : Files) (number : ℕ) (rec : FileRecord) (first : AreFirstFiles limits words axioms files number)
     (lt : number < limits.files) (form : is_record limits.version rec ≡ true) (took : TakesRecord limits MayBeKept words axioms.taxonomy number rec files next) where
   -- the words that are found in the file
@@ -153,7 +144,7 @@ module _ (limits : Limits) (MayBeKept : (ℕ → List ℕ) → Type 0) (words : 
   free_slot = first.rest number (omega arith)
 
   found_at : (n : ℕ) → rec_at next.catalog n ≡ cond (number == n) (Some rec) (rec_at files.catalog n)
-  found_at n = ap (λ (c : Catalog). rec_at c n) takes.catalog ∙ rec_at-with_filed files.catalog number rec n (absent (slot_of files.catalog rec.name) tests.new) free_slot
+  found_at n = ap (λ (c : Catalog). rec_at c n) takes.catalog ∙ rec_at-with_filed files.catalog number rec n (new_from (slot_of files.catalog rec.name) tests.new) free_slot
 
   found_new : rec_at next.catalog number ≡ Some rec
   found_new = found_at number ∙ ap (λ b. cond b (Some rec) (rec_at files.catalog number)) (eq-eqb number number refl)
@@ -339,7 +330,7 @@ pub record FilesTurn (journal : Held) (limits : Limits) (words : Words) (axioms 
   pub faults : now.disk_faults ≡ old.disk_faults
   pub shape : HasShape row 2 limits.props
   pub first : AreFirstFiles limits words axioms files end
-  pub recalls : (kept : ℕ → List ℕ) → Fits journal old kept → Recalls last_old kept → Recalls last kept
+  pub recalls : StillRecalls journal old last_old last
   pub spelled : (kept : ℕ → List ℕ) → Fits journal old kept → Recalls last_old kept → FilesAreSpelled limits kept files end
   pub numbered : (kept : ℕ → List ℕ) → Fits journal old kept → FilesAreNumbered limits kept words axioms files
   pub blocks : (kept : ℕ → List ℕ) → Fits journal old kept → FilesHaveBlocks limits kept files

@@ -1,8 +1,9 @@
 -- A row of what numbers entail, gathered number by number, and the numbers of the row.
-use Rattle.std.proofs.Common.{◌≡◌, ℕ, ◌+◌, ◌<◌, Bool, true, false, ◌||◌, Option, List, [], ◌∷◌, length, get_or, take, refl, sym, ap, ap₂, ◌∙◌, subst, arith}
+use Rattle.std.proofs.Common.{◌≡◌, ℕ, ◌+◌, ◌<◌, false, ◌||◌, Option, List, [], ◌∷◌, length, get_or, take, sym, ap, ap₂, ◌∙◌, subst, arith}
 use Rattle.std.specs.Prelude.{All}
 use Rattle.std.specs.Ordering.{nat_cmp}
 use Rattle.std.specs.List.Sorted.{IsStrictlySortedBy, IsStrictlyIncreasing}
+use Rattle.std.proofs.Math.Bool.{or-false}
 use Rattle.std.proofs.lemmas.List.{take_more}
 use Rattle.std.proofs.lemmas.List.Elements.{Contains-get_or}
 use Rattle.std.proofs.lemmas.List.Folds.{list_any-append}
@@ -19,10 +20,6 @@ use Rattle.lis_open.specs.ReadFiles.{is_described, described, AreListed}
 pub record Gathered (t : Taxonomy) (tags : List ℕ) (row : Rows) (k : ℕ) : Type 0 where
   pub shape : HasShape row 2 t.props
   pub bits : (n : ℕ) → n < t.props → get row 0 n ≡ is_described t (take k tags) n
-
-or_false : (b : Bool) → (b || false) ≡ b
-or_false true = refl
-or_false false = refl
 
 pub gathered_none : (t : Taxonomy) (tags : List ℕ) (old row : Rows) → HasShape old 2 t.props → row ≡ with_row old 0 (λ _. false) → Gathered t tags row 0
 gathered_none t tags old row shape is = subst (λ (r : Rows). Gathered t tags r 0) (sym is) (record { shape = set.shape; bits = λ n lt. set.at n lt })
@@ -45,7 +42,7 @@ gathered_more t tags row mid new k tag was lt is ups joined =
     described_more n =
         ap (λ ns. is_described t ns n) (take_more tags k 0 lt)
         ∙ (list_any-append (λ m. entails t m n) (take k tags) (get_or tags k 0 ∷ [])
-        ∙ ap (λ b. is_described t (take k tags) n || b) (or_false (entails t (get_or tags k 0) n) ∙ ap (λ m. entails t m n) (sym is)))
+        ∙ ap (λ b. is_described t (take k tags) n || b) (or-false (entails t (get_or tags k 0) n) ∙ ap (λ m. entails t m n) (sym is)))
 
     bits : (n : ℕ) → n < t.props → get (with_row mid 0 (λ bit. get mid 0 bit || get mid 1 bit)) 0 n ≡ is_described t (take (k + 1) tags) n
     bits n below =

@@ -7,6 +7,7 @@ use Rattle.std.proofs.lemmas.Option.{same_Some}
 use Rattle.lis_graph.specs.Graph.{Chain}
 use Rattle.lis_graph.proofs.Members.{Among, among_from_any, any_from_among}
 use Rattle.lis_journal.specs.Journal.{Held}
+use Rattle.lis_bits.proofs.Subset.{implied}
 use Rattle.lis_blockmap.specs.Bitmap.{is_taken}
 use Rattle.lis_content.specs.Content.{has_number}
 use Rattle.lis_dict.specs.Dict.{IsDict, number_of, word_of}
@@ -49,7 +50,7 @@ use Rattle.lis_open.specs.ReadAll.{AreNoMarks, kept_in, AreRead}
 use Rattle.lis_kept.proofs.Entailed.{edge_of}
 use Rattle.lis_open.proofs.Edges.{leads_on}
 use Rattle.lis_open.proofs.LinkedTests.{linked_test}
-use Rattle.lis_open.proofs.WordPlaces.{LeftWord, RightWord, left_word, right_word, assignable_word, some_from, used_from, valued_headed, declared_flagged}
+use Rattle.lis_open.proofs.WordPlaces.{LeftWord, RightWord, left_word, right_word, assignable_word, some_from, valued_headed, declared_flagged}
 use Rattle.lis_open.proofs.Owned.{IsNumbered, own_numbered, tag_owned}
 
 -- ---- axioms by their slots
@@ -164,7 +165,7 @@ module _ (limits : Limits) (words : Words) (axioms : Axioms) (files : Files) (ma
       omega (arith, lower, read.words_are.props, edges.props)
 
   pub each_used : AreUsed k
-  each_used n some = used_from (is_some (word_of words.dict n)) (is_used k n) (read.used n) some
+  each_used n some = implied (is_some (word_of words.dict n)) (is_used k n) (read.used n) some
 
   -- a number of what a file has by itself has a word, and its head has one too
   own_word : (slot n : ℕ) (from : IsOwnFrom words axioms files slot n) → (w : List ℕ) × IsNumbered words from.own w

@@ -1,6 +1,7 @@
 -- Rows of the left sides of axioms and of their heads, and the words that are not in use.
 use Rattle.std.proofs.Common.{◌≡◌, ◌⊎◌, ◌∙◌, refl, sym, ap, ap₂, inl, inr, ℕ, ◌<◌, ◌==◌, if◌then◌else◌, ◌&&◌, ◌||◌, not, Bool, true, false, cond, List, length, Option, Some, None, is_some, eq-eqb, arith}
 use Rattle.std.specs.List.{list_any}
+use Rattle.std.proofs.Math.Bool.{or-true, or-false, or_assoc}
 use Rattle.std.proofs.lemmas.Bool.{both_ways, ne_eqb, cases_eq}
 use Rattle.lis_bits.specs.Rows.{Rows, HasShape, get, with_row}
 use Rattle.lis_bits.proofs.Laws.{get-with_row_same, length-with_row}
@@ -23,18 +24,6 @@ shaped r rows bits row value next shape is = record {
   wide = ap (λ (x : Rows). x.bits) is ∙ shape.wide;
 }
 
-or_false : (b : Bool) → b ≡ (b || false)
-or_false true = refl
-or_false false = refl
-
-or_true : (b : Bool) → true ≡ (b || true)
-or_true true = refl
-or_true false = refl
-
-or_or : (a b c : Bool) → ((a || b) || c) ≡ (a || (b || c))
-or_or true b c = refl
-or_or false b c = refl
-
 -- one bit more
 pub bit_put : (r next : Rows) (bits m n : ℕ) → HasShape r 2 bits → next ≡ with_row r 0 (λ j. if j == m then true else get r 0 j) → n < bits → get next 0 n ≡ (get r 0 n || (m == n))
 bit_put r next bits m n shape is below =
@@ -43,9 +32,9 @@ bit_put r next bits m n shape is below =
   where
     by : (n ≡ m) ⊎ (n ≡ m → ⊥) → cond (n == m) true (get r 0 n) ≡ (get r 0 n || (m == n))
     by (inl same) =
-        ap (λ b. cond b true (get r 0 n)) (eq-eqb n m same) ∙ (or_true (get r 0 n) ∙ ap (λ b. get r 0 n || b) (sym (eq-eqb m n (sym same))))
+        ap (λ b. cond b true (get r 0 n)) (eq-eqb n m same) ∙ (sym (or-true (get r 0 n)) ∙ ap (λ b. get r 0 n || b) (sym (eq-eqb m n (sym same))))
     by (inr differ) =
-        ap (λ b. cond b true (get r 0 n)) (ne_eqb n m differ) ∙ (or_false (get r 0 n) ∙ ap (λ b. get r 0 n || b) (sym (ne_eqb m n (λ e. differ (sym e)))))
+        ap (λ b. cond b true (get r 0 n)) (ne_eqb n m differ) ∙ (sym (or-false (get r 0 n)) ∙ ap (λ b. get r 0 n || b) (sym (ne_eqb m n (λ e. differ (sym e)))))
 
 pub no_bit_set : (r next : Rows) (bits n : ℕ) → HasShape r 2 bits → next ≡ with_row r 0 (λ _. false) → n < bits → get next 0 n ≡ false
 no_bit_set r next bits n shape is below =
@@ -77,7 +66,7 @@ module _ (d : Dict) (dict : IsDict d) (left n : ℕ) where
   -- a number without a word is no left side of a word's axiom
   pub none_marked : (old : Rows) → word_of d left ≡ None → is_some (word_of d n) ≡ true → get old 0 n ≡ (get old 0 n || is_marked)
   none_marked old none some =
-      or_false (get old 0 n)
+      sym (or-false (get old 0 n))
       ∙ ap (λ b. get old 0 n || b)
       (sym (ap₂ (λ a b. a || b) (ne_eqb left n (λ same. both_ways (is_some (word_of d n)) (ap is_some (ap (word_of d) (sym same) ∙ none)) some)) (ap (λ o. is_head_by o (word_of d n)) none)))
 
@@ -85,14 +74,14 @@ module _ (d : Dict) (dict : IsDict d) (left n : ℕ) where
       → get mid 0 n ≡ (get old 0 n || is_marked)
   left_marked old mid bits shape is none below =
       bit_put old mid bits left n shape is below
-      ∙ ap (λ b. get old 0 n || b) (or_false (left == n) ∙ ap (λ b. (left == n) || b) (sym (ap (λ o. is_at o n) none) ∙ head_at d dict left n))
+      ∙ ap (λ b. get old 0 n || b) (sym (or-false (left == n)) ∙ ap (λ b. (left == n) || b) (sym (ap (λ o. is_at o n) none) ∙ head_at d dict left n))
 
   pub both_marked : (old mid new : Rows) (bits head : ℕ) → HasShape old 2 bits → mid ≡ with_row old 0 (λ j. if j == left then true else get old 0 j) → head_by d (word_of d left) ≡ Some head
       → new ≡ with_row mid 0 (λ j. if j == head then true else get mid 0 j) → n < bits → get new 0 n ≡ (get old 0 n || is_marked)
   both_marked old mid new bits head shape is some then_is below =
       bit_put mid new bits head n (shaped old 2 bits 0 _ mid shape is) then_is below
       ∙ (ap (λ b. b || (head == n)) (bit_put old mid bits left n shape is below)
-      ∙ (or_or (get old 0 n) (left == n) (head == n) ∙ ap (λ b. get old 0 n || ((left == n) || b)) (sym (ap (λ o. is_at o n) some) ∙ head_at d dict left n)))
+      ∙ (or_assoc (get old 0 n) (left == n) (head == n) ∙ ap (λ b. get old 0 n || ((left == n) || b)) (sym (ap (λ o. is_at o n) some) ∙ head_at d dict left n)))
 
 -- ---- words that are not in use
 -- by a row of left sides that is right where there are words

@@ -30,7 +30,6 @@ mod AxiomChecks
 mod Descriptions
 mod TestsMet
 mod FileFaults
-mod OneList
 mod Damage
 mod Lefts
 mod ZeroRows

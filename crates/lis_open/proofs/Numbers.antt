@@ -1,6 +1,7 @@
 -- Lists of numbers of which none stands twice, and blocks that are taken.
 use Rattle.std.proofs.Common.{◌≡◌, ◌⊎◌, ◌∙◌, refl, sym, ap, subst, inl, inr, ℕ, ◌+◌, ◌<◌, ◌==◌, nat_lt, Bool, true, false, not, ◌&&◌, ◌||◌, List, [], ◌∷◌, ◌++◌, length, get_or, set, drop, eq-eqb, add-one, length-set, get_or-set_same, get_or-set_other, drop-cons}
 use Rattle.std.specs.List.{flat_map}
+use Rattle.std.proofs.Math.Bool.{or-true}
 use Rattle.std.proofs.lemmas.Bool.{and_parts, and_from, both_ways, ne_eqb, cases_eq, ltb-true, false_from_ne_true, not_from_false}
 use Rattle.lis_graph.proofs.Members.{Among, among_left}
 use Rattle.lis_blockmap.specs.Bitmap.{is_taken}
@@ -40,14 +41,10 @@ is_taken-marked taken (b ∷ ns) n below =
     is_taken-marked (set taken b true) ns n (ap (λ m. are_below m ns) (length-set taken b true) ∙ parts.1)
     ∙ by (cases_eq b n) (ltb-true b (length taken) parts.0)
   where
-    more : (a : Bool) → (a || true) ≡ true
-    more true = refl
-    more false = refl
-
     by : (b ≡ n) ⊎ (b ≡ n → ⊥) → b < length taken → (has_number ns n || is_taken (set taken b true) n) ≡ (((b == n) || has_number ns n) || is_taken taken n)
     by (inl same) lt =
         let here : is_taken (set taken b true) n ≡ true = ap (λ k. get_or (set taken b true) k false) (sym same) ∙ get_or-set_same taken b true false lt in
-        ap (λ t. has_number ns n || t) here ∙ (more (has_number ns n) ∙ sym (ap (λ t. (t || has_number ns n) || is_taken taken n) (eq-eqb b n same)))
+        ap (λ t. has_number ns n || t) here ∙ (or-true (has_number ns n) ∙ sym (ap (λ t. (t || has_number ns n) || is_taken taken n) (eq-eqb b n same)))
     by (inr differ) lt =
         ap (λ t. has_number ns n || t) (get_or-set_other taken b n true false (λ e. differ (sym e)))
         ∙ sym (ap (λ t. (t || has_number ns n) || is_taken taken n) (ne_eqb b n differ))

@@ -1,5 +1,6 @@
 -- How opening an image ends: the super block, the journal, and the parts behind it.
 use Rattle.std.proofs.Common.{◌≡◌, ◌⊎◌, ◌∙◌, refl, sym, ap, subst, inl, inr, ℕ, ◌*◌, ◌<◌, ◌≤◌, false, List, length, Option, Some, None, Result, Ok, Err, IsTrue, IsSomeAnd, arith, Bool, true, cond}
+use Rattle.std.proofs.lemmas.Option.{same_Some}
 use Rattle.lis_ports.specs.Meaning.{Meaning}
 use Rattle.lis_ports.specs.Bytes.{part}
 use Rattle.lis_ports.specs.Calls.{IsUnchanged}
@@ -12,6 +13,7 @@ use Rattle.lis_journal.specs.Recovery.{HasMountCause, StandsForReplayed, InRecov
 use Rattle.lis_journal.specs.declared.journal.JournalFault.{JournalFault}
 use Rattle.lis_journal.specs.declared.journal.JournalFault.TheVariants.{DiskFault as JournalDisk, BadRecord as JournalRecord, NoMemory as JournalMemory}
 use Rattle.lis_journal.proofs.Fitting.{replayed-front}
+use Rattle.lis_content.proofs.Reading.{unchanged_then}
 use Rattle.lis_fields.specs.Layouts.{SpellsSuper}
 use Rattle.lis_model.specs.declared.limits.Limits.{Limits}
 use Rattle.lis_model.specs.declared.spot.Spot.{Spot}
@@ -30,7 +32,7 @@ use Rattle.lis_open.specs.Opens.{HasOpenCause, HasSuper, IsNeeded, IsLongEnough,
 use Rattle.lis_open.specs.Checks.{Fails, FailsReplayed, RecordFails, FailsIn, IsBefore, FailsFirst}
 use Rattle.lis_open.specs.Reading.{OnlyReads, IsFirstOfAll, Opened}
 use Rattle.lis_open.specs.ReadAll.{StoreEnded}
-use Rattle.lis_open.proofs.Quiet.{fits_after, settled_after, unchanged_then}
+use Rattle.lis_open.proofs.Quiet.{fits_after, settled_after}
 use Rattle.lis_open.proofs.Needs.{one_limits, has_super, needs_no_more}
 use Rattle.lis_open.proofs.Damage.{damaged}
 use Rattle.lis_open.proofs.SameHomes.{kept_stands}
@@ -39,9 +41,6 @@ use Rattle.lis_open.proofs.SameHomes.{kept_stands}
 pub some_replay : (o : Option (List ℕ)) (P : List ℕ → Type 0) → IsSomeAnd o P → (r : List ℕ) × (o ≡ Some r) × P r
 some_replay None P is = absurd is
 some_replay (Some r) P is = (r, refl, is)
-
-some_one : (a b : List ℕ) → ◌≡◌ {A = Option (List ℕ)} (Some a) (Some b) → a ≡ b
-some_one a b e = cc
 
 -- with a record that is not in form nothing is to be done
 recovered-none : (blocks : ℕ) (image : List ℕ) → replayed blocks image ≡ None → recovered blocks image ≡ image
@@ -287,7 +286,7 @@ module _ (old : Meaning) (limits : Limits) (super : HasSuper limits old.bytes) (
     replayed_fails : (spot : Spot) → FailsReplayed old.bytes spot → Fails limits kept spot
     replayed_fails spot told =
         let same = one_limits old.bytes told.limits limits told.super super in
-        let replay = some_one told.replay r (sym told.replays ∙ (ap (λ (l : Limits). replayed (image_blocks l) old.bytes) same ∙ replays)) in
+        let replay = same_Some told.replay r (sym told.replays ∙ (ap (λ (l : Limits). replayed (image_blocks l) old.bytes) same ∙ replays)) in
         subst (λ (l : Limits). Fails l kept spot) same (subst (λ (bytes : List ℕ). Fails told.limits (λ n. block n bytes) spot) replay told.fails)
 
     no_bad_record : (b : ℕ) → RecordFails old.bytes b → ⊥

@@ -6,6 +6,7 @@ use Rattle.std.proofs.lemmas.List.FromFn.{get_or-map-range_with_len}
 use Rattle.lis_graph.proofs.Members.{contains_from_among}
 use Rattle.lis_bits.specs.Bytes.{bits_bytes}
 use Rattle.lis_bits.proofs.Numbers.{bytes_same}
+use Rattle.lis_bits.proofs.Subset.{implied}
 use Rattle.lis_blockmap.specs.Bitmap.{is_taken, has_bit, IsFirstDifference}
 use Rattle.lis_content.proofs.Numbers.{not_true}
 use Rattle.lis_dict.specs.Dict.{word_of}
@@ -42,7 +43,6 @@ use Rattle.lis_open.specs.ReadAll.{AreNoMarks, kept_in, is_stray, IsFirstStray, 
 use Rattle.lis_open.proofs.AllRead.{HasRead, contents_are, state_read, used_known, known_used}
 use Rattle.lis_open.proofs.Damage.{one_contents}
 use Rattle.lis_open.proofs.FileFaults.{used_is, rec_is, slot_read}
-use Rattle.lis_open.proofs.WordPlaces.{used_from}
 use Rattle.lis_open.proofs.Joined.{named, none_past, parts_sound, slots_without}
 use Rattle.lis_open.proofs.WordsTold.{word_at_told, file_is_told}
 use Rattle.lis_open.proofs.ZeroRows.{no_file_has}
@@ -134,7 +134,7 @@ module _ (limits : Limits) (at : ℕ → List ℕ) (words : Words) (axioms : Axi
   word_passes n no_stray fails =
       let same = one_contents limits at fails.contents contents fails.are (contents_are limits at words axioms files (no_marks limits) read) in
       let is = sym (word_is n) ∙ subst (λ (c : Contents). word_at c.properties n ≡ Some fails.word) same fails.has in
-      let used = used_from (is_some (word_of words.dict n)) (is_used k n) no_stray (ap is_some is) in
+      let used = implied (is_some (word_of words.dict n)) (is_used k n) no_stray (ap is_some is) in
       let there = used_known limits at words axioms files (no_marks limits) read n fails.word is used in
       let unknown = subst (λ (c : Contents). has_word (known (spelled_state limits c at)) fails.word ≡ false) same fails.unknown in
       both_ways (has_word (known (state_of k at)) fails.word)

@@ -1,31 +1,20 @@
 -- Runs that only read, one after another.
-use Rattle.std.proofs.Common.{◌∙◌, refl, sym, ℕ, List, IsTrue}
+use Rattle.std.proofs.Common.{◌∙◌, ℕ, List, IsTrue}
 use Rattle.lis_ports.specs.Meaning.{Meaning}
-use Rattle.lis_ports.specs.Runs.{IsDiskRun, IsSettled}
-use Rattle.lis_ports.specs.Calls.{IsUnchanged}
+use Rattle.lis_ports.specs.Runs.{IsSettled}
 use Rattle.lis_ports.proofs.Moments.{run_none, run_then, leaves_none, leaves_weaken, leaves_then}
 use Rattle.lis_journal.specs.Journal.{Held}
 use Rattle.lis_journal.specs.Images.{Fits}
 use Rattle.lis_journal.proofs.Fitting.{fits_unchanged}
-use Rattle.lis_open.specs.Reading.{OnlyReads}
-
-pub unchanged_none : (m : Meaning) → IsUnchanged m m
-unchanged_none m = record { bytes = refl; images = record { only = λ image is. is; each = λ recorded image is. is } }
+use Rattle.lis_content.proofs.Reading.{unchanged_none, unchanged_then}
+use Rattle.lis_open.specs.declared.blocks.LastBlock.{LastBlock}
+use Rattle.lis_open.specs.Reading.{OnlyReads, Recalls}
 
 pub reads_none : (m : Meaning) → OnlyReads m m
 reads_none m = record {
   run = run_none m;
   same = λ honest. unchanged_none m;
   moments = λ honest. leaves_none m m.images;
-}
-
-pub unchanged_then : {a b c : Meaning} → IsDiskRun b c → IsUnchanged a b → IsUnchanged b c → IsUnchanged a c
-unchanged_then run first second = record {
-  bytes = second.bytes ∙ first.bytes;
-  images = record {
-    only = λ image is. first.images.only image (second.images.only image is);
-    each = λ recorded image is. second.images.each recorded image (first.images.each (sym run.recorded ∙ recorded) image is);
-  };
 }
 
 pub reads_then : {a b c : Meaning} → OnlyReads a b → OnlyReads b c → OnlyReads a c
@@ -44,3 +33,7 @@ pub settled_after : {a b : Meaning} {bytes : List ℕ} → OnlyReads a b → IsT
 settled_after reads honest settled =
     let same = reads.same honest in
     record { reads = same.bytes ∙ settled.reads; only = λ image is. settled.only image (same.images.only image is) }
+
+-- what the last block that was read recalls of the image, a later one recalls
+abbrev pub StillRecalls : Held → Meaning → LastBlock → LastBlock → Type 0
+StillRecalls journal old before last = (kept : ℕ → List ℕ) → Fits journal old kept → Recalls before kept → Recalls last kept

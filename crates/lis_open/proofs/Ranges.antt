@@ -1,5 +1,5 @@
--- Ranges that are torn, and results that are Ok.
-use Rattle.std.proofs.Common.{◌≡◌, ℕ, ◌+◌, ◌-◌, ◌≤◌, List, take, drop, sym, ◌∙◌, ap, arith, OnOk, Result, Ok, Err}
+-- Ranges that are torn.
+use Rattle.std.proofs.Common.{◌≡◌, ℕ, ◌+◌, ◌-◌, ◌≤◌, List, take, drop, sym, ◌∙◌, ap, arith}
 use Rattle.std.proofs.lemmas.List.{take-take, drop-drop}
 use Rattle.lis_ports.specs.Bytes.{Torn}
 
@@ -15,7 +15,3 @@ torn_wider at n low most from image below above torn =
           ∙ (ap (drop (low + most - (at + n))) torn.after
           ∙ (drop-drop (low + most - (at + n)) (at + n) from ∙ ap (λ k. drop k from) rest)));
     }
-
-pub on_ok : {T E P Q : Type 0} (r : Result T E) → (P → Q) → OnOk r P → OnOk r Q
-on_ok (Ok x) step p = step p
-on_ok (Err e) step p = p

@@ -39,13 +39,14 @@ use Rattle.lis_kept.proofs.Known.{declared_set, declared_has_number, among_axiom
 use Rattle.lis_kept.proofs.Dropped.{record_in_form}
 use Rattle.lis_store.proofs.FileBlocks.{told_counted}
 use Rattle.lis_store.proofs.Marks.{distinct_pieces}
+use Rattle.lis_store.proofs.Relates.{told_few}
 use Rattle.lis_store.specs.Stored.{Stored}
 use Rattle.lis_open.specs.declared.words.Words.{Words}
 use Rattle.lis_open.specs.declared.axioms.Axioms.{Axioms}
 use Rattle.lis_open.specs.declared.files.Files.{Files}
 use Rattle.lis_open.specs.ReadWords.{declared_words}
 use Rattle.lis_open.specs.ReadAll.{AreNoMarks, kept_in, AreRead, AreSpelled, StoreTells}
-use Rattle.lis_open.proofs.Counts.{few_below, few_words, more_le, with_words_le, take_few, sum_within, rising_map}
+use Rattle.lis_open.proofs.Counts.{few_below, more_le, take_few, sum_within, rising_map}
 use Rattle.lis_open.proofs.Joined.{sides, given_word, each_used, parts_sound, parts_free}
 use Rattle.lis_open.proofs.WordPlaces.{declared_flagged}
 
@@ -134,9 +135,6 @@ module _ (limits : Limits) (words : Words) (axioms : Axioms) (files : Files) (ma
   each_file test each =
       list_all-map test (file_told limits words.dict at) files.catalog.entries ∙ all_from (λ (f : Filed). test (file_told limits words.dict at f)) files.catalog.entries each
 
-  few_told : (ns : List ℕ) → length (words_told words.dict ns) ≤ length ns
-  few_told ns = omega (arith, few_words (word_of words.dict) ns, with_words_le [] (flat_map (λ n. option_to_list (word_of words.dict n)) ns))
-
   entry_record : (f : Filed) → Among files.catalog.entries f → IsFileRecord limits.version f.rec
   entry_record f m = record_in_form limits.version words.dict limits.blocks f.rec (sound.records f.slot f.rec (filed_rec files.catalog sound.catalog f m))
 
@@ -154,11 +152,11 @@ module _ (limits : Limits) (words : Words) (axioms : Axioms) (files : Files) (ma
         let given = given_word limits words axioms files _ read.files_are f.slot found.0 f.rec (filed_rec files.catalog sound.catalog f m) (among_from_number f.rec.tags found.0 found.2) in
         subst (λ v. is_assignable (declared_words words) v ≡ true) (same_Some given.0 w (sym given.1 ∙ found.1)) given.2));
     few_assigned = each_file (λ (file : File). nat_le (length file.assigned) 16) (λ f m.
-        le-leb (length (words_told words.dict f.rec.tags)) 16 (let few = few_tags f.rec.tags (entry_record f m).tags in omega (arith, few, few_told f.rec.tags)));
+        le-leb (length (words_told words.dict f.rec.tags)) 16 (let few = few_tags f.rec.tags (entry_record f m).tags in omega (arith, few, told_few words.dict f.rec.tags)));
     few_words = each_file (λ (file : File). nat_le (length (description s file)) 128) (λ f m.
         le-leb (length (description s (file_told limits words.dict at f))) 128
         (let is = ap (λ ws. length ws) (is_described f (contains_from_among files.catalog.entries f m)) in
-        omega (arith, is, few_told (numbers_at files.ext f.slot), read.files_are.short f.slot)));
+        omega (arith, is, told_few words.dict (numbers_at files.ext f.slot), read.files_are.short f.slot)));
     short = each_file (λ (file : File). nat_le (length file.bytes) (file_limit limits.version)) (λ f m.
         le-leb (length (bytes_told limits at f.rec)) (file_limit limits.version)
         (let small = (entry_record f m).small in omega (arith, short_bytes f, small)));

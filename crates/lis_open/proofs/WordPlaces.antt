@@ -1,5 +1,5 @@
 -- What the words of numbers may stand for.
-use Rattle.std.proofs.Common.{◌≡◌, ◌∙◌, refl, sym, ap, subst, ℕ, ◌&&◌, ◌||◌, not, Bool, true, false, List, Option, Some, None, is_some, IsSome}
+use Rattle.std.proofs.Common.{◌≡◌, ◌∙◌, refl, sym, ap, subst, ℕ, ◌||◌, not, Bool, true, false, List, Option, Some, None, is_some, IsSome}
 use Rattle.std.proofs.lemmas.Bool.{and_parts, both_ways}
 use Rattle.lis_graph.proofs.Members.{Among, among_filter, among_map}
 use Rattle.lis_blockmap.specs.Bitmap.{is_taken}
@@ -45,11 +45,6 @@ assignable_word words (Some w) h = (w, refl, h)
 -- a word of whose kind there is one
 pub some_from : (o : Option (List ℕ)) (w : List ℕ) → o ≡ Some w → IsSome o
 some_from o w is = ap is_some is
-
-pub used_from : (a b : Bool) → (a && not b) ≡ false → a ≡ true → b ≡ true
-used_from true true h e = refl
-used_from true false h e = sym h
-used_from false b h e = absurd (both_ways false refl e)
 
 pub valued_headed : (a b : Bool) → (not a || b) ≡ true → a ≡ true → b ≡ true
 valued_headed true b h e = h

@@ -1,8 +1,9 @@
 -- The words of property slots, read one after another.
-use Rattle.std.proofs.Common.{◌≡◌, ◌⊎◌, ◌∙◌, refl, sym, ap, ap₂, subst, inl, inr, ℕ, ◌+◌, ◌<◌, ◌≤◌, Bool, true, false, not, cond, is_some, Option, Some, None, List, replicate, IsTrue, IsSome, arith, eq-eqb}
+use Rattle.std.proofs.Common.{◌≡◌, ◌⊎◌, ◌∙◌, refl, sym, ap, ap₂, subst, inl, inr, ℕ, ◌+◌, ◌<◌, ◌≤◌, Bool, true, false, not, cond, is_some, Option, Some, None, List, replicate, get_or, IsTrue, IsSome, arith, eq-eqb}
 use Rattle.std.specs.Option.{IfSome}
-use Rattle.std.proofs.lemmas.Bool.{cases_eq, cases_lt, ne_eqb, both_ways}
+use Rattle.std.proofs.lemmas.Bool.{cases_eq, cases_lt, ne_eqb, both_ways, not-true, not-false}
 use Rattle.std.proofs.lemmas.List.{length-replicate, get_or-replicate, get_or_past, length-set, get_or-set_same, get_or-set_other}
+use Rattle.std.proofs.lemmas.Option.{same_Some}
 use Rattle.lis_ports.specs.Meaning.{Meaning}
 use Rattle.lis_journal.specs.Journal.{Held}
 use Rattle.lis_journal.specs.Images.{Fits}
@@ -20,32 +21,24 @@ use Rattle.lis_model.specs.declared.spot.Spot.TheVariants.{Super, BadRecord, Pro
 use Rattle.lis_kept.specs.Kept.{property_by, property_at}
 use Rattle.lis_kept.specs.Areas.{property_slots}
 use Rattle.lis_kept.proofs.InArea.{few_properties}
+use Rattle.lis_kept.proofs.Known.{some_number}
 use Rattle.lis_store.specs.Stands.{word_in}
+use Rattle.lis_store.proofs.Admitted.{none_there}
+use Rattle.lis_store.proofs.Spelled.{word_by}
 use Rattle.lis_open.specs.declared.blocks.LastBlock.{LastBlock}
 use Rattle.lis_open.specs.declared.words.Words.{Words}
 use Rattle.lis_open.specs.Checks.{IsProperty, HasWord, HasWordBefore, PropertyFails, Fails, rank, place}
 use Rattle.lis_open.specs.Reading.{OnlyReads, Recalls, IsReadAs, IsFirst, Passes}
 use Rattle.lis_open.specs.ReadWords.{no_words, with_word, may_take_property, with_property, AreWords, AreFirstWords, WordsAreSpelled}
+use Rattle.lis_open.proofs.Quiet.{StillRecalls}
 use Rattle.lis_open.proofs.Slots.{one_property}
 
--- ---- what is kept of a slot, and its word
-pub word_of_slot : (o : Option (List ℕ)) (b : Bool) (w : List ℕ) → word_in (property_by o b) ≡ Some w → o ≡ Some w
-word_of_slot None b w is = is
-word_of_slot (Some v) true w is = is
-word_of_slot (Some v) false w is = is
-
-pub slot_of_word : (o : Option (List ℕ)) (b : Bool) → word_in (property_by o b) ≡ o
-slot_of_word None b = refl
-slot_of_word (Some v) true = refl
-slot_of_word (Some v) false = refl
-
+-- ---- whether there is a number
 pub new_from : (o : Option ℕ) → not (is_some o) ≡ true → o ≡ None
-new_from None new = refl
-new_from (Some n) new = absurd cc
+new_from o new = none_there o (not-true (is_some o) new)
 
-old_from : (o : Option ℕ) → not (is_some o) ≡ false → (n : ℕ) × (o ≡ Some n)
-old_from None old = absurd cc
-old_from (Some n) old = (n, refl)
+pub old_from : (o : Option ℕ) → not (is_some o) ≡ false → (n : ℕ) × (o ≡ Some n)
+old_from o old = some_number o (not-false (is_some o) old)
 
 -- ---- one word more
 module _ (words : Words) (number : ℕ) (word : List ℕ) (is_declared : Bool) (are : AreWords words) (below : number < words.dict.props) (free : word_of words.dict number ≡ None) (new : number_of words.dict word ≡ None) where
@@ -160,24 +153,21 @@ module _ (limits : Limits) (at : ℕ → List ℕ) (words : Words) (end : ℕ) (
       record {
         property = property_at words.dict words.declared n;
         is = property_is n (number_read n w is) (omega (arith, first.props, below));
-        has = slot_of_word (word_of words.dict n) (is_taken words.declared n) ∙ is;
+        has = word_by (word_of words.dict n) (is_taken words.declared n) ∙ is;
       }
 
   pub word_is : (n : ℕ) (w : List ℕ) → n < end → HasWord limits at n w → word_of words.dict n ≡ Some w
   word_is n w lt has =
-      word_of_slot (word_of words.dict n) (is_taken words.declared n) w
-      (ap word_in (one_property limits at n (property_at words.dict words.declared n) has.property (property_is n lt has.is.below) has.is) ∙ has.has)
+      sym (word_by (word_of words.dict n) (is_taken words.declared n))
+      ∙ (ap word_in (one_property limits at n (property_at words.dict words.declared n) has.property (property_is n lt has.is.below) has.is) ∙ has.has)
 
   pub property_passes : (n : ℕ) → n < end → PropertyFails limits at n → ⊥
   property_passes n lt fails =
       let found = fails.fault (property_at words.dict words.declared n) (property_is n lt fails.below) in
-      let here = number_from_word words.dict first.are.dict found.word n (word_of_slot (word_of words.dict n) (is_taken words.declared n) found.word found.has) in
+      let here = number_from_word words.dict first.are.dict found.word n (sym (word_by (word_of words.dict n) (is_taken words.declared n)) ∙ found.has) in
       let there = number_from_word words.dict first.are.dict found.word found.earlier (word_is found.earlier found.word (omega (arith, found.before)) found.there) in
-      let same : n ≡ found.earlier = by n found.earlier (sym here ∙ there) in
+      let same : n ≡ found.earlier = same_Some n found.earlier (sym here ∙ there) in
       omega (arith, found.before, same)
-    where
-      by : (a b : ℕ) → ◌≡◌ {A = Option ℕ} (Some a) (Some b) → a ≡ b
-      by a b e = cc
 
   none_before : (earlier : Spot) → rank earlier ≡ 2 → place earlier < end → Fails limits at earlier → ⊥
   none_before Super kind lt fails = fails
@@ -231,15 +221,16 @@ pub record WordsTurn (journal : Held) (limits : Limits) (old now : Meaning) (bef
   pub reads : OnlyReads old now
   pub faults : now.disk_faults ≡ old.disk_faults
   pub first : AreFirstWords limits words end
-  pub recalls : (kept : ℕ → List ℕ) → Fits journal old kept → Recalls before kept → Recalls last kept
+  pub recalls : StillRecalls journal old before last
   pub spelled : (kept : ℕ → List ℕ) → Fits journal old kept → Recalls before kept → WordsAreSpelled limits kept words end
 
-none_taken : (count n : ℕ) → is_taken (replicate count false) n ≡ false
-none_taken count n = by (cases_lt n count)
+-- a list of one value has it everywhere, and past its end
+pub nothing_at : {X : Type 0} (n k : ℕ) (x : X) → get_or (replicate n x) k x ≡ x
+nothing_at n k x = by (cases_lt k n)
   where
-    by : (n < count) ⊎ (count ≤ n) → is_taken (replicate count false) n ≡ false
-    by (inl lt) = get_or-replicate count n false false lt
-    by (inr past) = get_or_past (replicate count false) n false (omega (arith, length-replicate count false, past))
+    by : (k < n) ⊎ (n ≤ k) → get_or (replicate n x) k x ≡ x
+    by (inl lt) = get_or-replicate n k x x lt
+    by (inr past) = get_or_past (replicate n x) k x (omega (arith, past, length-replicate n x))
 
 no_words_yet : (limits : Limits) → IsTrue (are_in_range limits) → AreFirstWords limits (no_words limits) 0
 unfolding no_words
@@ -249,7 +240,7 @@ no_words_yet limits range = record {
     few = few_properties limits range;
     long = length-replicate limits.props false;
     forms = λ n. refl;
-    flagged = λ n bit. absurd (both_ways (is_taken (replicate limits.props false) n) (none_taken limits.props n) bit);
+    flagged = λ n bit. absurd (both_ways (is_taken (replicate limits.props false) n) (nothing_at limits.props n false) bit);
   };
   props = refl;
   rest = λ n le. refl;

@@ -1,5 +1,5 @@
 -- The property slots that words spell, and what they tell.
-use Rattle.std.proofs.Common.{◌≡◌, ◌⊎◌, ◌∙◌, refl, sym, ap, ap₂, subst, inl, inr, ℕ, ◌<◌, ◌≤◌, Bool, true, false, Option, Some, None, option_to_list, List, [], map, IsTrue, arith}
+use Rattle.std.proofs.Common.{◌≡◌, ◌⊎◌, ◌∙◌, refl, sym, ap, ap₂, subst, inl, inr, ℕ, ◌<◌, ◌≤◌, Bool, true, Option, Some, None, option_to_list, List, [], map, IsTrue, arith}
 use Rattle.std.specs.BTreeSet.{insert_key}
 use Rattle.std.specs.List.{fold, range_with_len}
 use Rattle.std.proofs.lemmas.Bool.{cases_lt}
@@ -29,25 +29,15 @@ use Rattle.lis_kept.proofs.Known.{only_word}
 use Rattle.lis_kept.proofs.WordMore.{declared_there, there_declared, sorted_declared, flat_all}
 use Rattle.lis_store.specs.Stands.{word_in, declared_in, words_in, all_declared, word_at, pair_in, file_by}
 use Rattle.lis_store.proofs.SlotOrder.{given_at}
+use Rattle.lis_store.proofs.OneState.{one_array}
+use Rattle.lis_store.proofs.Spelled.{word_by, declared_by as declared_by_slot}
 use Rattle.lis_open.specs.declared.words.Words.{Words}
 use Rattle.lis_open.specs.Checks.{AreProperties, declared_by, axioms_by}
 use Rattle.lis_open.specs.ReadWords.{AreWords, WordsAreSpelled, declared_words, kept_words}
-use Rattle.lis_open.proofs.OneList.{one_list}
 
 -- the property slots of all numbers
 abbrev pub told_properties : Limits → Words → List PropSlot
 told_properties limits words = map (property_at words.dict words.declared) (range_with_len 0 limits.props)
-
-word_by : (o : Option (List ℕ)) (b : Bool) → word_in (property_by o b) ≡ o
-word_by None b = refl
-word_by (Some w) true = refl
-word_by (Some w) false = refl
-
-declared_one : (o : Option (List ℕ)) (b : Bool) (w : List ℕ) → Among (option_to_list (declared_in (property_by o b))) w → (o ≡ Some w) × (b ≡ true)
-declared_one None b w m = absurd m
-declared_one (Some v) true w (inl same) = (ap Some same, refl)
-declared_one (Some v) true w (inr m) = absurd m
-declared_one (Some v) false w m = absurd m
 
 pub one_of : (o : Option (List ℕ)) (w : List ℕ) → o ≡ Some w → Among (option_to_list o) w
 one_of o w is = subst (λ p. Among (option_to_list p) w) (sym is) (inl refl)
@@ -90,7 +80,7 @@ module _ (limits : Limits) (words : Words) (are : AreWords words) (same : words.
   slot_declared w m =
       let found = among_flat_map (λ x. option_to_list (declared_in x)) told w m in
       let n = among_map property (range_with_len 0 limits.props) found.0 found.1 in
-      let is = declared_one (word_of words.dict n.0) (is_taken words.declared n.0) w (subst (λ x. Among (option_to_list (declared_in x)) w) (sym n.2) found.2) in
+      let is = declared_by_slot (word_of words.dict n.0) (is_taken words.declared n.0) w (subst (λ x. Among (option_to_list (declared_in x)) w) (sym n.2) found.2) in
       declared_there k w (ap (bit_of words.declared) (number_from_word words.dict are.dict w n.0 is.0) ∙ is.1)
 
   declared_slot : (w : List ℕ) → Among (declared_words words) w → Among (all_declared told) w
@@ -146,4 +136,4 @@ module _ (limits : Limits) (words : Words) (are : AreWords words) (same : words.
 
     -- and no other list is told
     pub only_told : (properties : List PropSlot) → AreProperties limits at properties → properties ≡ told_properties limits words
-    only_told properties others = one_list prop_bytes is_prop (property_slots limits) at properties told prop_once others are_told
+    only_told properties others = one_array prop_bytes is_prop (property_slots limits) at properties told prop_once others are_told

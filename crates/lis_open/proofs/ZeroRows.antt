@@ -1,23 +1,22 @@
--- Rows of which no bit is set, and how many rows there are.
-use Rattle.std.proofs.Common.{◌≡◌, ◌⊎◌, ◌∙◌, sym, ap, ap₂, inl, inr, ℕ, ◌+◌, ◌*◌, ◌/◌, ◌<◌, ◌≤◌, ◌==◌, min, Bool, false, cond, List, [], length, replicate, IsTrue, ◌↔◌, arith}
+-- Rows of which no bit is set.
+use Rattle.std.proofs.Common.{◌≡◌, ◌⊎◌, ◌∙◌, sym, ap, ap₂, inl, inr, ℕ, ◌*◌, ◌/◌, ◌<◌, ◌≤◌, ◌==◌, min, Bool, false, cond, List, [], length, IsTrue, ◌↔◌, arith}
 use Rattle.std.specs.List.{list_all}
 use Rattle.std.proofs.lemmas.Bool.{cases_lt, both_ways, lt-ltb, le-ltb}
-use Rattle.std.proofs.lemmas.List.{length-replicate, get_or-replicate, get_or_past}
+use Rattle.std.proofs.lemmas.List.{length-replicate}
 use Rattle.lis_bits.specs.Bytes.{bits_bytes}
 use Rattle.lis_bits.proofs.Numbers.{bytes_same}
 use Rattle.lis_content.specs.Content.{has_number}
-use Rattle.lis_ext.specs.Ext.{Ext, has, set_of as numbers_at, empty_ext}
+use Rattle.lis_ext.specs.Ext.{Ext, has, empty_ext}
 use Rattle.lis_fields.specs.Layouts.{zeros}
 use Rattle.lis_fields.proofs.Widths.{zeros_pass, zeros_of}
 use Rattle.lis_model.specs.declared.limits.Limits.{Limits}
-use Rattle.lis_model.specs.Ranges.{are_in_range}
 use Rattle.lis_model.specs.Image.{rows_start}
 use Rattle.lis_slots.specs.Slots.{slot}
 use Rattle.lis_model.specs.declared.spot.Spot.TheVariants.{Row}
 use Rattle.lis_open.specs.ReadAll.{IsRowSpelled, IsFirstRow, row_place}
+use Rattle.lis_open.proofs.WordsRead.{nothing_at}
 use Rattle.lis_kept.specs.Areas.{row_slots}
 use Rattle.lis_kept.specs.Rows.{row_bytes}
-use Rattle.lis_kept.proofs.InArea.{files_range, each_files_limit}
 use Rattle.lis_kept.proofs.RowBytes.{row_bytes_none}
 
 -- a row of which no bit is set is all zeros
@@ -25,11 +24,7 @@ abbrev no_rows : ℕ → Ext
 no_rows n = empty_ext 0 (8 * n)
 
 no_set : (n i : ℕ) → has (no_rows n) 0 i ≡ false
-no_set n i = ap (λ ns. has_number ns 0) (by (cases_lt i (8 * n)))
-  where
-    by : (i < 8 * n) ⊎ (8 * n ≤ i) → numbers_at (no_rows n) i ≡ []
-    by (inl lt) = get_or-replicate (8 * n) i [] [] lt
-    by (inr past) = get_or_past (replicate (8 * n) []) i [] (omega (arith, past, length-replicate {A = List ℕ} (8 * n) []))
+no_set n i = ap (λ ns. has_number ns 0) (nothing_at (8 * n) i [])
 
 pub zero_row : (n : ℕ) (bit : ℕ → Bool) → ((i : ℕ) → bit i ≡ false) → bits_bytes n bit ≡ zeros n
 unfolding zeros
@@ -38,12 +33,6 @@ zero_row n bit none =
     let count : n ≡ length (no_rows n).sets / 8 = omega (arith, long) in
     bytes_same n bit (has (no_rows n) 0) (λ i lt. none i ∙ sym (no_set n i))
     ∙ (ap (λ m. bits_bytes m (has (no_rows n) 0)) count ∙ sym (row_bytes_none (no_rows n) 0 n (sym long) (no_set n)))
-
--- there are rows for all numbers
-pub rows_enough : (limits : Limits) → IsTrue (are_in_range limits) → limits.props ≤ (row_slots limits).count
-rows_enough limits range =
-    each_files_limit (λ n. limits.props ≤ (4096 / (n / 8)) * ((limits.props * n + 32767) / 32768)) limits.files (files_range limits range)
-    (omega arith) (omega arith) (omega arith) (omega arith) (omega arith) (omega arith) (omega arith)
 
 -- the row of a number that no file has
 pub no_file_has : (e : Ext) (files number : ℕ) → length e.sets ≡ files → ((slot : ℕ) → has e number slot ≡ false) → row_bytes e number ≡ zeros (files / 8)

@@ -1,7 +1,7 @@
 //! What else must hold of an image: that each word is in use, what the bitmap tells, and what the rows tell.
 
-ghost use Rattle.std.specs.Prelude.{◌≡◌, ◌↔◌, ◌*◌, ◌/◌, ◌<◌, ◌≤◌, ◌||◌, ◌&&◌, ◌==◌, not, is_some, ℕ, Bool, List, [], length, true, false, IsTrue, IfOk};
-ghost use Rattle.std.specs.List.{list_all, list_any};
+ghost use Rattle.std.specs.Prelude.{◌≡◌, ◌↔◌, ◌*◌, ◌/◌, ◌<◌, ◌≤◌, ◌||◌, ◌&&◌, not, is_some, ℕ, Bool, List, [], length, true, false, IsTrue, IfOk};
+ghost use Rattle.std.specs.List.{list_any};
 ghost use Rattle.lis_ports.specs.Calls.{HasCause};
 ghost use Rattle.lis_journal.specs.Images.{Fits};
 ghost use Rattle.lis_bits.specs.Rows.{HasShape, get};
@@ -25,6 +25,7 @@ use crate::mounting::OpenFault;
 use crate::words::Words;
 use lis_bits::Rows;
 use lis_blockmap::BlockMap;
+use lis_content::are_zeros;
 use lis_ext::Ext;
 use lis_fields::AxiomSlot;
 use lis_journal::{BLOCK_LEN, Journal};
@@ -152,13 +153,6 @@ fn row_count(limits: &Limits) -> u32
 {
     let per_block = BLOCK_LEN as u32 / (limits.files / 8);
     per_block * (bitmap_start(limits) - rows_start(limits))
-}
-
-// Whether all bytes are zero.
-fn are_zeros(bytes: &[u8]) -> bool
-    ensures { result ≡ list_all (λ b. b == 0) bytes.now }
-{
-    bytes.iter().all(|byte| *byte == 0)
 }
 
 // Whether the bytes are those of a number's row, which is zeros past the last number.

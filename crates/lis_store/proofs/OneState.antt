@@ -20,7 +20,7 @@ same_lists (x ∷ xs) (y ∷ ys) len each =
     ap₂ (λ z zs. z ∷ zs) (each 0 x y refl refl) (same_lists xs ys (omega arith) (λ k u v is_u is_v. each (suc k) u v is_u is_v))
 
 -- an array of slots spells one list of values, where each layout has one
-one_array : {X : Type 0} (spelled : X → List ℕ) (is_in_range : X → Bool) (slots : Slots) (at : ℕ → List ℕ) (xs ys : List X)
+pub one_array : {X : Type 0} (spelled : X → List ℕ) (is_in_range : X → Bool) (slots : Slots) (at : ℕ → List ℕ) (xs ys : List X)
     → ((x y : X) → IsTrue (is_in_range x) → IsTrue (is_in_range y) → spelled x ≡ spelled y → x ≡ y)
     → AreSlots spelled is_in_range slots at xs → AreSlots spelled is_in_range slots at ys → xs ≡ ys
 one_array spelled is_in_range slots at xs ys one are_xs are_ys =

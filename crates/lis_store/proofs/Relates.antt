@@ -56,11 +56,11 @@ use Rattle.lis_store.proofs.FileTests.{plain_leads, test_flagged, flagged_before
 use Rattle.lis_store.proofs.RelatingIn.{declared_same, axioms_same, left_named, right_named, new_pair}
 
 -- no more words are told than there are numbers
-few_with : (some more : List (List ℕ)) → length (with_words some more) ≤ length some + length more
+pub few_with : (some more : List (List ℕ)) → length (with_words some more) ≤ length some + length more
 few_with some [] = omega arith
 few_with some (word ∷ more) = omega (arith, few_with (with_word some word) more, insert_key_le word_cmp some word)
 
-told_few : (d : Dict) (ns : List ℕ) → length (words_told d ns) ≤ length ns
+pub told_few : (d : Dict) (ns : List ℕ) → length (words_told d ns) ≤ length ns
 told_few d ns = omega (arith, few_with [] (flat_map (λ n. option_to_list (word_of d n)) ns), flat_few ns)
   where
     one : (o : Option (List ℕ)) → length (option_to_list o) ≤ 1

@@ -55,12 +55,12 @@ use Rattle.lis_store.proofs.Points.{set_of_points, AllApart, length-with_more}
 use Rattle.lis_store.proofs.Marks.{marks_are, distinct_pieces}
 
 -- ---- slots by their numbers
-word_by : (o : Option (List ℕ)) (b : Bool) → word_in (property_by o b) ≡ o
+pub word_by : (o : Option (List ℕ)) (b : Bool) → word_in (property_by o b) ≡ o
 word_by None b = refl
 word_by (Some w) true = refl
 word_by (Some w) false = refl
 
-declared_by : (o : Option (List ℕ)) (b : Bool) (w : List ℕ) → Among (option_to_list (declared_in (property_by o b))) w → (o ≡ Some w) × (b ≡ true)
+pub declared_by : (o : Option (List ℕ)) (b : Bool) (w : List ℕ) → Among (option_to_list (declared_in (property_by o b))) w → (o ≡ Some w) × (b ≡ true)
 declared_by None b w m = absurd m
 declared_by (Some v) true w (inl same) = (ap Some same, refl)
 declared_by (Some v) true w (inr m) = absurd m

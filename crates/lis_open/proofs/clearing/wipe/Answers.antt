@@ -1,9 +1,9 @@
 use Rattle.std.proofs.Common.{◌≡◌, inl, inr, ◌-◌, ◌*◌, ◌≤◌, ◌∙◌, length, subst, sym, arith}
+use Rattle.std.proofs.lemmas.Result.{on_ok_weaker}
 use Rattle.lis_ports.proofs.Always.{always_settled, settled_synced}
 use Rattle.lis_journal.proofs.Spreading.{spreads_then, spreads_sync}
 use Rattle.lis_model.specs.Image.{data_start, image_blocks}
 use Rattle.lis_open.specs.Makes.{IsWiped, IsWiping}
-use Rattle.lis_open.proofs.Ranges.{on_ok}
 use Rattle.lis_open.proofs.Wiping.{wiped}
 use Rattle.lis_open.proofs.Made.{wiping_refl, wiping_trans, spreads_wiping}
 use Rattle.lis_open.proofs.clearing.wipe.Goals as goal
@@ -54,7 +54,7 @@ returns-clause-spreads g c = λ honest.
     (spreads_sync (IsWiping limits) c.sync.result c.sync.ensures.call.run c.sync.ensures.call.time c.sync.ensures.synced c.sync.ensures.unsynced (wiping_refl limits) honest3)
 
 pub returns-clause-wiped : goal.returns-clause-wiped
-returns-clause-wiped g c = on_ok c.sync.result (λ synced. λ honest.
+returns-clause-wiped g c = on_ok_weaker c.sync.result (λ synced. λ honest.
     let limits = c.args.limits.now in
     let end = c.image_blocks.result - limits.blocks in
     let is_end : end ≡ data_start limits = omega (arith, c.image_blocks.ensures.blocks) in

@@ -1,7 +1,8 @@
 use Rattle.std.proofs.Common.{◌≡◌, ◌∙◌, length, ap, arith}
+use Rattle.std.proofs.lemmas.Result.{on_ok_weaker}
 use Rattle.lis_ports.specs.Bytes.{put, Torn}
 use Rattle.lis_journal.proofs.Spreading.{spreads_torn}
-use Rattle.lis_open.proofs.Ranges.{on_ok, torn_wider}
+use Rattle.lis_open.proofs.Ranges.{torn_wider}
 use Rattle.lis_open.proofs.Wiping.{rest_is, length-rest}
 use Rattle.lis_open.proofs.clearing.write_rest.Goals as goal
 
@@ -18,4 +19,4 @@ returns-clause-spreads g c = λ honest.
 pub returns-clause-written : goal.returns-clause-written
 returns-clause-written g c =
     let same = rest_is c.args.limits.now c.write_super.new.bytes c.split_at.result.1.now c.write_super.ensures c.split_at.ensures.back in
-    on_ok c.write_at.result (λ written. λ honest. (written honest).reads ∙ ap (put (g.D.Disk.meaning c.args.disk.now).bytes 1) same) c.write_at.ensures.written
+    on_ok_weaker c.write_at.result (λ written. λ honest. (written honest).reads ∙ ap (put (g.D.Disk.meaning c.args.disk.now).bytes 1) same) c.write_at.ensures.written

@@ -1,8 +1,7 @@
 use Rattle.std.proofs.Common.{◌∙◌}
-use Rattle.std.proofs.lemmas.Result.{err_from_is_err_and, IfErr-at_err}
+use Rattle.std.proofs.lemmas.Result.{err_from_is_err_and, IfErr-at_err, on_ok_weaker}
 use Rattle.lis_ports.proofs.Moments.{leaves_then}
 use Rattle.lis_open.specs.Makes.{IsSettledAt}
-use Rattle.lis_open.proofs.Ranges.{on_ok}
 use Rattle.lis_open.proofs.Wiping.{spared_moments, wiping_moments, naming_moments, named_stands}
 use Rattle.lis_open.proofs.Made.{named_spreads, wiped_spreads, made_spreads, moments_spare, spare_spreads, made_all, spare_either}
 use Rattle.lis_open.proofs.making.write_image.Goals as goal
@@ -40,7 +39,7 @@ returns-in_err-wipe-clause-spare g c = λ n honest is settled.
     (IfErr-at_err (λ _. IsSettledAt (g.D.Disk.meaning c.args.disk.now) n) p.1 settled)
 
 pub returns-clause-made : goal.returns-clause-made
-returns-clause-made g c = on_ok c.write_first.result (λ written. λ honest.
+returns-clause-made g c = on_ok_weaker c.write_first.result (λ written. λ honest.
     let honest1 = c.take_name.ensures.run.honest ∙ honest in
     let honest2 = c.wipe.ensures.run.honest ∙ honest1 in
     named_stands c.args.limits.now c.requires.range (c.in_ok-wipe.ensures.wiped honest1) (written honest2))
@@ -59,7 +58,7 @@ returns-clause-any_moment g c = λ honest settled.
     (made_spreads limits (c.take_name.ensures.spreads honest) (c.wipe.ensures.spreads honest1) (c.write_first.ensures.spreads honest2))
 
 pub returns-clause-left : goal.returns-clause-left
-returns-clause-left g c = on_ok c.write_first.result (λ written. λ honest.
+returns-clause-left g c = on_ok_weaker c.write_first.result (λ written. λ honest.
     let honest1 = c.take_name.ensures.run.honest ∙ honest in
     let honest2 = c.wipe.ensures.run.honest ∙ honest1 in
     made_all c.args.limits.now (g.D.Disk.meaning c.args.disk.now).bytes (c.in_ok-take_name.ensures.torn honest) (c.wipe.ensures.spreads honest1)
@@ -72,6 +71,6 @@ returns-clause-spare g c = λ n honest.
     let honest1 = c.take_name.ensures.run.honest ∙ honest in
     let honest2 = c.wipe.ensures.run.honest ∙ honest1 in
     spare_either limits n c.write_first.result
-    (on_ok c.write_first.result (λ written. made_all limits (g.D.Disk.meaning c.args.disk.now).bytes (c.in_ok-take_name.ensures.torn honest) (c.wipe.ensures.spreads honest1)
+    (on_ok_weaker c.write_first.result (λ written. made_all limits (g.D.Disk.meaning c.args.disk.now).bytes (c.in_ok-take_name.ensures.torn honest) (c.wipe.ensures.spreads honest1)
     (c.in_ok-wipe.ensures.wiped honest1) (written honest2) (c.write_first.ensures.spreads honest2)) c.write_first.ensures.settled)
     (made_spreads limits (c.take_name.ensures.spreads honest) (c.wipe.ensures.spreads honest1) (c.write_first.ensures.spreads honest2))

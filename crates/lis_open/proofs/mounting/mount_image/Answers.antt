@@ -6,6 +6,7 @@ use Rattle.lis_journal.specs.Journal.{Held}
 use Rattle.lis_journal.specs.Recovery.{InRecovery, MountEnded, IsSettledPast}
 use Rattle.lis_journal.specs.declared.journal.JournalFault.{JournalFault}
 use Rattle.lis_journal.specs.declared.journal.JournalFault.TheVariants.{DiskFault as JournalDisk}
+use Rattle.lis_content.proofs.Reading.{unchanged_none}
 use Rattle.lis_ports.specs.Runs.{Leaves, IsSettled}
 use Rattle.lis_ports.specs.Calls.{IsUnchanged}
 use Rattle.lis_model.specs.Image.{image_blocks}
@@ -13,7 +14,6 @@ use Rattle.lis_store.specs.Stored.{Stored, IsSound}
 use Rattle.lis_open.specs.declared.mounting.OpenFault.{OpenFault}
 use Rattle.lis_open.proofs.Opening.{one_fault, memory_opened, journal_cause, journal_enough, journal_opened, journal_moments, store_opened, store_moments}
 use Rattle.lis_open.specs.Opens.{journal_fault}
-use Rattle.lis_open.proofs.Quiet.{unchanged_none}
 use Rattle.lis_open.proofs.mounting.mount_image.Goals as goal
 
 pub returns-in_err-room-clause-opened : goal.returns-in_err-room-clause-opened
