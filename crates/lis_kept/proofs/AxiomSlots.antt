@@ -103,7 +103,7 @@ free_is : (a : AxiomSlot) → is_free a ≡ true → a ≡ FreeAxiom
 free_is FreeAxiom is = refl
 free_is (Pair left right) is = absurd cc
 
-pair_is : (left right : ℕ) (a : AxiomSlot) → is_pair left right a ≡ true → a ≡ Pair left right
+pub pair_is : (left right : ℕ) (a : AxiomSlot) → is_pair left right a ≡ true → a ≡ Pair left right
 pair_is left right FreeAxiom is = absurd cc
 pair_is left right (Pair x y) is =
     let parts = and_parts (x == left) (y == right) is in
