@@ -23,20 +23,22 @@ use Rattle.lis_store.specs.declared.change.Change.{Change}
 use Rattle.lis_store.specs.declared.change.Change.TheVariants.{Refused, Disk}
 use Rattle.lis_store.specs.Stored.{Stored, IsSound, StoreFits}
 use Rattle.lis_store.specs.Contents.{ContentPut, ContentEnded}
-use Rattle.lis_store.specs.Changes.{Changes, differing_bits}
+use Rattle.lis_store.specs.Changes.{Changes}
 use Rattle.lis_store.specs.Saving.{settled, ArePlaced, IsReady, Saves}
 use Rattle.lis_store.specs.Admitting.{IsAdmitted}
 use Rattle.lis_store.specs.Adding.{PutsIn}
 use Rattle.lis_store.specs.ReplacingIn.{AreInForm}
 use Rattle.lis_store.proofs.Added.{form_added, same_axioms, same_limits}
+use Rattle.lis_store.proofs.Edits.{AreEditsFew}
 use Rattle.lis_store.proofs.AddedMarks.{few_marked, stay_marked, few_edits}
 use Rattle.lis_store.proofs.AddedTells.{ArePut, ready_added}
 use Rattle.lis_store.proofs.Cleaned.{none_marked}
 use Rattle.lis_store.proofs.Elsewhere.{saved_elsewhere, no_home_before}
 use Rattle.lis_store.proofs.Facts.{limits_told}
 use Rattle.lis_store.proofs.FreeBlocks.{used_told}
-use Rattle.lis_store.proofs.Replaced.{form_retaken, in_form, settled_sound}
-use Rattle.lis_store.proofs.Steps.{form_taken, pairs_same, sound_lost, changes_behind, changes_lost, fills_stand, fills_past, put_stands}
+use Rattle.lis_store.proofs.Replaced.{in_form, settled_sound}
+use Rattle.lis_store.proofs.Steps.{form_taken, pairs_same, changes_behind, fills_stand, fills_past, put_stands}
+use Rattle.lis_store.proofs.Torn.{torn_sound, torn_limits, torn_ext, torn_changes, ended_broken}
 
 -- a file that is admitted is so where other blocks are taken
 admitted_retaken : (o : Kept) (taken marks : List Bool) (name : List ℕ) (assigned : List (List ℕ)) (bytes : List ℕ) → IsAdmitted o (new_file name assigned bytes)
@@ -107,9 +109,9 @@ module _ (old : Stored) (mid : Kept) (j : Held) (bytes numbers : List ℕ) (befo
         let few = few_marked mid q name assigned bytes numbers form_put.sound admitted_mid puts form_put.free in
         omega (arith, few, put.takes.marks.few, none_marked old.parts (sound.clean unbroken), put.few_staged)
 
-    pub added_edits : q.ext.edits ≤ old.parts.ext.edits + differing_bits old.parts.ext q.ext
+    pub added_edits : AreEditsFew old.parts.ext q.ext
     added_edits =
-        subst (λ (e : Ext). q.ext.edits ≤ e.edits + differing_bits e q.ext) (ap (λ (k : Kept). k.ext) put.takes.parts) (few_edits mid q name assigned bytes numbers form_put.sound admitted_mid puts form_put.free)
+        subst (λ (e : Ext). AreEditsFew e q.ext) (ap (λ (k : Kept). k.ext) put.takes.parts) (few_edits mid q name assigned bytes numbers form_put.sound admitted_mid puts form_put.free)
 
     module _ (s : State) (fits : StoreFits old before s) (enough : blocks_taken old.parts.limits.version (length bytes) ≤ free_count old.parts.taken) where
       abbrev kept : ℕ → List ℕ
@@ -160,31 +162,9 @@ module _ (old : Stored) (mid : Kept) (j : Held) (bytes numbers : List ℕ) (befo
           (put_stands old s before sound fits bytes numbers mid j placed put) ready is)
 
 -- ---- the disk fails while they are put
-module _ (old : Stored) (mid : Kept) (j : Held) (before after : Meaning) (torn : PutTorn old.parts mid old.journal j before after) (sound : IsSound old) where
-  pub torn_limits : mid.limits ≡ old.parts.limits
-  torn_limits = ap (λ (k : Kept). k.limits) torn.parts
-
-  pub torn_ext : mid.ext ≡ old.parts.ext
-  torn_ext = ap (λ (k : Kept). k.ext) torn.parts
-
-  pub torn_sound : AreSound mid → IsSound (record { parts = mid; journal = j; is_broken = true })
-  torn_sound sound_mid =
-      let F : Kept → Type 0 = λ k. AreSound k → AreInForm k in
-      let form : AreInForm mid = subst F (sym torn.parts) (λ sound_then. form_retaken old.parts mid.taken mid.marks sound_then (in_form old sound)) sound_mid in
-      sound_lost mid j form (pairs_same old.parts mid (ap (λ (k : Kept). k.axioms) torn.parts) sound.pairs) (torn.image ∙ (sound.image ∙ ap image_blocks (sym torn_limits)))
-
-  pub torn_changes : {T : Type 0} (now : Situation) (outcome : Outcome) (new : Stored) (result : Result T Change) → StoreFits old before now.state → new.is_broken ≡ true → result ≡ Err Disk
-      → Changes now outcome new before after result
-  torn_changes now outcome new result fits broken ends =
-      changes_lost now outcome new before after result (fills_stand old now.state before sound fits torn.blocks after torn.fills) (fills_past old now.state before sound fits torn.blocks after torn.fills) broken ends
-
 put_err : (bytes : List ℕ) (p q : Kept) (old new : Held) (before after : Meaning) (change : Change) → ContentPut bytes p q old new before after (Err change) → (change ≡ Disk) × PutTorn p q old new before after
 put_err bytes p q old new before after (Refused refusal) never = absurd (let e : false ≡ true = never in cc)
 put_err bytes p q old new before after Disk torn = (refl, torn)
-
-put_ended : (T : Type 0) (b : Bool) (change : Change) → ContentEnded {T = T} b (Err change) → b ≡ true
-put_ended T b (Refused refusal) never = absurd (let e : false ≡ true = never in cc)
-put_ended T b Disk broken = broken
 
 module _ (T : Type 0) (old : Stored) (sound : IsSound old) (bytes : List ℕ) (q : Kept) (j : Held) (b : Bool) (change : Change) (before after : Meaning)
     (put : ContentPut bytes old.parts q old.journal j before after (Err change)) (ended : ContentEnded {T = T} b (Err change)) where
@@ -192,17 +172,17 @@ module _ (T : Type 0) (old : Stored) (sound : IsSound old) (bytes : List ℕ) (q
   lost = put_err bytes old.parts q old.journal j before after change put
 
   broken : b ≡ true
-  broken = put_ended T b change ended
+  broken = ended_broken T b change ended
 
   pub lost_sound : AreSound q → IsSound (record { parts = q; journal = j; is_broken = b })
   lost_sound after_sound =
-      subst (λ c. IsSound (record { parts = q; journal = j; is_broken = c })) (sym broken) (torn_sound old q j before after lost.1 sound after_sound)
+      subst (λ c. IsSound (record { parts = q; journal = j; is_broken = c })) (sym broken) (torn_sound old q j sound before after lost.1 after_sound)
 
   pub lost_limits : q.limits ≡ old.parts.limits
-  lost_limits = torn_limits old q j before after lost.1 sound
+  lost_limits = torn_limits old q j sound before after lost.1
 
   pub lost_ext : q.ext ≡ old.parts.ext
-  lost_ext = torn_ext old q j before after lost.1 sound
+  lost_ext = torn_ext old q j sound before after lost.1
 
   pub lost_image : j.blocks ≡ old.journal.blocks
   lost_image = lost.1.image
@@ -210,4 +190,4 @@ module _ (T : Type 0) (old : Stored) (sound : IsSound old) (bytes : List ℕ) (q
   pub lost_changes : {U : Type 0} (now : Situation) (outcome : Outcome) (result : Result U Change) → result ≡ Err change → StoreFits old before now.state
       → Changes now outcome (record { parts = q; journal = j; is_broken = b }) before after result
   lost_changes now outcome result ends fits =
-      torn_changes old q j before after lost.1 sound now outcome (record { parts = q; journal = j; is_broken = b }) result fits broken (ends ∙ ap Err lost.0)
+      torn_changes old q j sound before after lost.1 now outcome (record { parts = q; journal = j; is_broken = b }) result fits broken (ends ∙ ap Err lost.0)

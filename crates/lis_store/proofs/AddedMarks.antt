@@ -1,10 +1,8 @@
 -- How much is marked when a file is put in, and how often rows are edited.
-use Rattle.std.proofs.Common.{◌≡◌, refl, sym, ap, ap₂, ◌∙◌, subst, ℕ, ◌+◌, ◌*◌, ◌<◌, ◌≤◌, ◌&&◌, ◌||◌, not, Bool, true, false, cond, List, [], ◌∷◌, ◌++◌, length, map, length-append, arith}
-use Rattle.std.specs.List.{range_with_len}
+use Rattle.std.proofs.Common.{◌≡◌, refl, sym, ap, ◌∙◌, subst, ℕ, ◌+◌, ◌*◌, ◌<◌, ◌≤◌, ◌&&◌, ◌||◌, not, Bool, true, false, cond, List, [], ◌∷◌, ◌++◌, length, map, length-append, arith}
 use Rattle.std.specs.Ordering.{nat_cmp}
 use Rattle.std.specs.Cmp.{nat_cmp_total}
 use Rattle.lis_graph.proofs.Sets.{members_le}
-use Rattle.lis_graph.proofs.Ranges.{range_among}
 use Rattle.lis_blockmap.specs.Bitmap.{is_taken}
 use Rattle.lis_content.proofs.Numbers.{stays_marked}
 use Rattle.lis_dict.specs.Dict.{word_of}
@@ -20,14 +18,13 @@ use Rattle.lis_kept.specs.Areas.Area.{Files, Rows}
 use Rattle.lis_kept.specs.Sound.{AreSound, FreeSlotsAreEmpty}
 use Rattle.lis_ext.proofs.Numbers.{among_where, sorted_where}
 use Rattle.lis_kept.proofs.Filing.{among_from_number}
-use Rattle.lis_store.specs.Changes.{differing_bits}
 use Rattle.lis_store.specs.Admitting.{described_by, IsAdmitted}
 use Rattle.lis_store.specs.Adding.{is_one_of, numbers_named, behind_head, with_heads, learnt_words, PutsIn}
 use Rattle.lis_store.proofs.Added.{free_slot, below_files, set_here}
 use Rattle.lis_store.specs.ReplacingIn.{MayComeIn}
 use Rattle.lis_store.proofs.Coming.{ComesIn, comes_in}
 use Rattle.lis_store.proofs.PutIn.{may_come, none_has, slot_was_empty}
-use Rattle.lis_store.proofs.Removed.{sum_has}
+use Rattle.lis_store.proofs.Edits.{AreEditsFew, edits_at}
 
 -- a word has one head at most
 pub heads_few : (words : List (List ℕ)) → length (with_heads words) ≤ 2 * length words
@@ -91,13 +88,9 @@ module _ (p q : Kept) (name : List ℕ) (assigned : List (List ℕ)) (bytes bloc
       ap (λ ms. is_taken ms block) (puts.describes.touched [] (sym was_empty))
       ∙ stays_marked puts.filed.marks (map (block_of puts.filed.limits Rows) (numbers_where puts.filed.ext.props (differs [] numbers))) block filed
 
-  pub few_edits : q.ext.edits ≤ p.ext.edits + differing_bits p.ext q.ext
+  pub few_edits : AreEditsFew p.ext q.ext
   few_edits =
       let made = subst (λ (e : Ext). q.ext.edits ≤ e.edits + length (numbers_where e.props (differs [] numbers))) ext_before (puts.describes.edits [] (sym was_empty)) in
       let slot_in : slot < length p.ext.sets = omega (arith, below_files p q name assigned bytes sound may comes, sound.files) in
-      let f : ℕ → ℕ = λ at. length (numbers_where p.ext.props (differs (numbers_at p.ext at) (numbers_at q.ext at))) in
-      let one = sum_has f (range_with_len 0 (length p.ext.sets)) slot (range_among 0 (length p.ext.sets) slot (omega arith) (omega (arith, slot_in))) in
       let before : numbers_at p.ext slot ≡ [] = none_has (numbers_at p.ext slot) (free slot (free_slot p q name assigned bytes sound may comes)) in
-      let now : numbers_at q.ext slot ≡ numbers = set_here p q name assigned bytes sound may comes in
-      let bits : f slot ≡ gained = ap₂ (λ a b. length (numbers_where p.ext.props (differs a b))) before now in
-      omega (arith, made, one, bits)
+      edits_at p.ext q.ext slot [] numbers slot_in before (set_here p q name assigned bytes sound may comes) made

@@ -208,9 +208,6 @@ pub with_words-append : (words more others : List (List ℕ)) → with_words wor
 with_words-append words [] others = refl
 with_words-append words (w ∷ more) others = with_words-append (with_word words w) more others
 
-pub takes_few : (more old new : List (List ℕ)) → Takes more old new true → length new ≤ 16
-takes_few more old new takes = omega (arith, leb-true (length (with_words old more)) 16 (sym takes.room), ap length (takes.words refl))
-
 pub takes_more : (more others old mid new : List (List ℕ)) (fits : Bool) → Takes more old mid true → Takes others mid new fits → Takes (more ++ others) old new fits
 takes_more more others old mid new fits first next =
     let all : with_words old (more ++ others) ≡ with_words mid others = with_words-append old more others ∙ ap (λ ws. with_words ws others) (sym (first.words refl)) in
@@ -286,10 +283,6 @@ flat_next {X} f xs i x lt is =
     ∙ (flat_map-append f (take i xs) (x ∷ []) ∙ ap (λ ws. flat_map f (take i xs) ++ ws) (no_more (f x)))
 
 module _ {X : Type 0} (f : X → List (List ℕ)) (xs : List X) (i : ℕ) (x : X) (lt : i < length xs) (is : x ≡ get_or xs i x) (old mid new : List (List ℕ)) where
-  pub takes_step : Takes (flat_map f (take i xs)) old mid true → Takes (f x) mid new true → Takes (flat_map f (take (i + 1) xs)) old new true
-  takes_step before next =
-      subst (λ ws. Takes ws old new true) (sym (flat_next f xs i x lt is)) (takes_more (flat_map f (take i xs)) (f x) old mid new true before next)
-
   pub takes_stop : Takes (flat_map f (take i xs)) old mid true → Takes (f x) mid new false → Takes (flat_map f xs) old new false
   takes_stop before next =
       let stopped = subst (λ ws. Takes ws old new false) (sym (flat_next f xs i x lt is)) (takes_more (flat_map f (take i xs)) (f x) old mid new false before next) in

@@ -1,13 +1,20 @@
 -- What memory keeps without its marks.
-use Rattle.std.proofs.Common.{◌≡◌, Bool, false, cond, length, replicate, sym, ap, ◌∙◌, arith, count_by}
+use Rattle.std.proofs.Common.{◌≡◌, refl, sym, ap, ◌∙◌, ℕ, zero, suc, Bool, false, cond, length, replicate, arith, count_by}
 use Rattle.std.proofs.lemmas.List.{length-replicate}
 use Rattle.std.proofs.lemmas.List.Folds.{sum_by-replicate}
+use Rattle.lis_blockmap.specs.Bitmap.{is_taken}
 use Rattle.lis_kept.specs.Kept.{Kept}
 use Rattle.lis_kept.specs.Areas.{marked_count}
 use Rattle.lis_kept.specs.Sound.{AreSound}
 use Rattle.lis_kept.specs.Forgetting.{KeepsInUse}
 use Rattle.lis_store.specs.Stored.{TestsAreMet}
 use Rattle.lis_store.specs.Saving.{clean}
+
+-- where all bits are unset
+pub none_set : (n i : ℕ) → is_taken (replicate n false) i ≡ false
+none_set zero i = refl
+none_set (suc n) zero = refl
+none_set (suc n) (suc i) = none_set n i
 
 pub clean_is : (k : Kept) → (clean k).marks ≡ replicate (length (clean k).marks) false
 clean_is k = ap (λ n. replicate n false) (sym (length-replicate (length k.marks) false))

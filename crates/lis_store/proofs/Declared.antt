@@ -379,9 +379,6 @@ module _ (p q : Kept) (word : List ℕ) (rights : List ℕ) (words : List (List 
   pub entries_are : q.catalog.entries ≡ p.catalog.entries
   entries_are = ap (λ (k : Kept). k.catalog.entries) parts_are
 
-  pub stays_then : (m : ℕ) → IsSome (word_of p.dict m) → word_of q.dict m ≡ word_of p.dict m
-  stays_then m some = ap (λ (d : Dict). word_of d m) dict_is ∙ stays p mid word sound new declares m some
-
   pub file_then : (at : ℕ → List ℕ) (f : Filed) → Among p.catalog.entries f → file_told q.limits q.dict at f ≡ file_told p.limits p.dict at f
   file_then at f m = ap (λ (k : Kept). file_told k.limits k.dict at f) mid_is ∙ file_declared p mid word sound new declares at f m
 

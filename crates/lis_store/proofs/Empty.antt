@@ -32,6 +32,7 @@ use Rattle.lis_kept.proofs.RowBytes.{row_bytes_none}
 use Rattle.lis_store.specs.Blank.{IsBlank}
 use Rattle.lis_store.specs.Stands.{Stands}
 use Rattle.lis_store.specs.Stored.{IsSound, empty_parts, empty_stored}
+use Rattle.lis_store.proofs.Cleaned.{none_set}
 
 -- ---- no words and no files
 module _ (limits : Limits) (blocks : ℕ) where
@@ -62,11 +63,6 @@ module _ (limits : Limits) (blocks : ℕ) where
   no_set : (n at : ℕ) → has parts.ext n at ≡ false
   no_set n at = ap (λ ns. has_in ns n) (empty_set at)
 
-  not_taken : (bits n : ℕ) → is_taken (replicate bits false) n ≡ false
-  not_taken zero n = refl
-  not_taken (suc bits) zero = refl
-  not_taken (suc bits) (suc n) = not_taken bits n
-
   empty_are_sound : IsTrue (are_in_range limits) → data_start limits ≤ blocks → AreSound parts
   empty_are_sound range room = record {
     range = range;
@@ -74,7 +70,7 @@ module _ (limits : Limits) (blocks : ℕ) where
     dict = empty_dict;
     heads = λ n word is. absurd cc;
     bits = length-replicate limits.props false;
-    flagged = λ n is. absurd (both_ways (is_taken (replicate limits.props false) n) (not_taken limits.props n) is);
+    flagged = λ n is. absurd (both_ways (is_taken (replicate limits.props false) n) (none_set limits.props n) is);
     properties = λ n. refl;
     axiom_count = length-replicate (axiom_slots limits).count FreeAxiom;
     axioms = λ at left right is. absurd (no_axiom at left right is);
@@ -170,7 +166,7 @@ module _ (limits : Limits) (blocks : ℕ) (image : List ℕ) (range : IsTrue (ar
     formed = empty_formed limits range;
     used = λ n is. absurd cc;
     described = λ f m. absurd (none_contained f m);
-    taken = λ n lt is. absurd (both_ways (is_taken (replicate limits.blocks false) n) (not_taken limits blocks limits.blocks n) is);
+    taken = λ n lt is. absurd (both_ways (is_taken (replicate limits.blocks false) n) (none_set limits.blocks n) is);
     given = λ f m. absurd (none_contained f m);
     indexed = λ f m. absurd (none_contained f m);
     apart = λ f m. absurd (none_contained f m);

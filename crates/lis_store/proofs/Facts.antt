@@ -8,9 +8,10 @@ use Rattle.lis_ports.specs.Meaning.{Meaning}
 use Rattle.lis_journal.proofs.Fitting.{kept_whole}
 use Rattle.lis_graph.proofs.Members.{Among, contains_from_among, among_map, map_among}
 use Rattle.lis_words.specs.Words.{same_word, has_word}
+use Rattle.lis_grammar.specs.Formula.{Formula}
 use Rattle.lis_fields.specs.Records.{FileRecord}
 use Rattle.lis_dict.specs.Dict.{Dict, words, number_of}
-use Rattle.lis_dict.proofs.Laws.{number_from_word, word_from_number}
+use Rattle.lis_dict.proofs.Laws.{number_from_word}
 use Rattle.lis_catalog.specs.Catalog.{Filed, slot_of, rec_at}
 use Rattle.lis_catalog.proofs.Laws.{rec_at-slot_of}
 use Rattle.lis_ext.specs.Ext.{set_of as numbers_at}
@@ -18,15 +19,19 @@ use Rattle.lis_model.specs.Image.{data_start}
 use Rattle.lis_model.specs.State.{State, File, known, description, up}
 use Rattle.lis_model.specs.Changes.{file_of, has_name}
 use Rattle.lis_model.specs.Table.{Entry, Table, entry_of, table}
+use Rattle.lis_model.specs.Listing.{extension}
+use Rattle.lis_model.specs.Step.{is_here}
 use Rattle.lis_laws.proofs.Counts.{all_among}
+use Rattle.lis_laws.proofs.Named.{file_of_name}
 use Rattle.lis_eval.specs.View.{Placed}
 use Rattle.lis_kept.specs.Kept.{Kept}
 use Rattle.lis_kept.specs.Sound.{AreSound, FreeSlotsAreEmpty}
 use Rattle.lis_kept.specs.Telling.{words_told, declared_of, axioms_of, bytes_told, blocks_told, file_told, state_of, Tells}
 use Rattle.lis_kept.proofs.Filing.{number_from_among, find_among, found_has, filed_rec, filed_slot, filed_at_slot, map_all}
-use Rattle.lis_kept.proofs.Known.{word_known, known_word, words_known}
+use Rattle.lis_kept.proofs.Known.{known_word, words_known}
 use Rattle.lis_store.specs.Stored.{Stored, IsSound, StoreFits}
 use Rattle.lis_store.specs.Seen.{placed, table_of}
+use Rattle.lis_store.specs.Judging.{is_among}
 use Rattle.lis_store.proofs.Spelled.{sound_parts}
 use Rattle.lis_store.proofs.FileBlocks.{content_told, content_among, content_counted}
 
@@ -102,17 +107,10 @@ module _ (k : Kept) (at : ℕ → List ℕ) (s : State) (sound : AreSound k) (fr
   pub known_told : words k.dict ≡ known s
   known_told = words_known k sound free at tells.used described_told ∙ ap known tells.state
 
-  -- a word has a number exactly where it is known
-  pub known_numbered : (word : List ℕ) → has_word (known s) word ≡ is_some (number_of k.dict word)
-  known_numbered word = ap (λ ws. has_word ws word) (sym known_told) ∙ numbered k.dict word
-
   pub number_of_known : (word : List ℕ) → Among (known s) word → (n : ℕ) × (number_of k.dict word ≡ Some n)
   number_of_known word m =
       let found = known_word k sound word (subst (λ ws. Among ws word) (sym known_told) m) in
       (found.0, number_from_word k.dict sound.dict word found.0 found.1)
-
-  pub known_of_number : (word : List ℕ) (n : ℕ) → number_of k.dict word ≡ Some n → Among (known s) word
-  known_of_number word n is = subst (λ ws. Among ws word) known_told (word_known k sound n word (word_from_number k.dict sound.dict word n is))
 
   pub known_counted : length (known s) ≡ length k.dict.entries
   known_counted = ap (λ ws. length ws) (sym known_told) ∙ length-map k.dict.entries (λ (e : List ℕ × ℕ). e.0)
@@ -207,3 +205,11 @@ module _ (k : Stored) (m : Meaning) (s : State) (sound : IsSound k) (fits : Stor
       record { limits = k.parts.limits; known = ws; files = files; entailed = map (λ p. (p, up (declared_of k.parts) (axioms_of k.parts) p)) ws } in
       let ws : words k.parts.dict ≡ known (state_of k.parts fits.kept) = words_known k.parts sound.parts sound.free fits.kept fits.tells.used (described_told k.parts fits.kept s sound.parts sound.free fits.tells) in
       ap₂ of_parts ws entries_are ∙ ap table fits.tells.state
+
+  -- and so does each place
+  module _ (place : List Formula) (name : List ℕ) where
+    pub here_told : is_among k.parts place name ≡ is_here (record { state = s; place = place }) name
+    here_told = ap (λ (t : Table). list_any (λ (file : Entry). same_word file.name name) (extension t place)) table_told
+
+    pub among_told : is_among k.parts place name ≡ is_here (record { state = s; place = place }) (file_of s.files name).name
+    among_told = here_told ∙ ap (is_here (record { state = s; place = place })) (sym (file_of_name s.files name))

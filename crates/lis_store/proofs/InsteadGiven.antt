@@ -1,13 +1,12 @@
 -- The words of numbers, put into a set one after another.
-use Rattle.std.proofs.Common.{◌≡◌, ◌∙◌, subst, ℕ, ◌+◌, ◌<◌, ◌≤◌, Bool, true, Option, Some, None, option_to_list, List, [], ◌∷◌, length, take, get_or, sym, ap, arith, length-append}
+use Rattle.std.proofs.Common.{◌≡◌, ◌∙◌, subst, ℕ, ◌+◌, ◌<◌, ◌≤◌, Bool, true, Option, Some, None, option_to_list, List, [], length, take, get_or, sym, ap, arith}
 use Rattle.std.specs.List.{flat_map}
 use Rattle.std.proofs.lemmas.Bool.{le-leb}
 use Rattle.std.proofs.lemmas.List.{get_or_default}
 use Rattle.lis_dict.specs.Dict.{Dict, word_of}
 use Rattle.lis_words.specs.Words.{word_cmp}
-use Rattle.lis_model.specs.Sets.{with_word, with_words}
+use Rattle.lis_model.specs.Sets.{with_words}
 use Rattle.lis_laws.proofs.Counts.{insert_key_le}
-use Rattle.lis_kept.specs.Telling.{words_told}
 use Rattle.lis_store.specs.Assigning.{Takes}
 use Rattle.lis_store.proofs.Assigned.{takes_more, flat_next}
 
@@ -30,19 +29,3 @@ told_next d numbers i lt few mid new fits before short next =
       subst (λ ws. Takes ws [] new true) (sym (flat_next (told d) numbers i n lt (get_or_default numbers i 0 n lt))) all,
       omega (arith, ap length (next.words fit), longer, short),
     )
-
--- ---- there are no more words than numbers
-with_few : (words more : List (List ℕ)) → length (with_words words more) ≤ length words + length more
-with_few words [] = omega arith
-with_few words (w ∷ more) = omega (arith, with_few (with_word words w) more, insert_key_le word_cmp words w)
-
-flat_few : (d : Dict) (numbers : List ℕ) → length (flat_map (told d) numbers) ≤ length numbers
-flat_few d [] = omega arith
-flat_few d (n ∷ numbers) = omega (arith, flat_few d numbers, length-append (told d n) (flat_map (told d) numbers), one (word_of d n))
-  where
-    one : (o : Option (List ℕ)) → length (option_to_list o) ≤ 1
-    one None = omega arith
-    one (Some w) = omega arith
-
-pub told_few : (d : Dict) (numbers : List ℕ) → length (words_told d numbers) ≤ length numbers
-told_few d numbers = omega (arith, with_few [] (flat_map (told d) numbers), flat_few d numbers)

@@ -22,7 +22,7 @@ use Rattle.lis_store.specs.Instead.{given_before, write_checks_of, rename_checks
 use Rattle.lis_store.specs.Replacing.{known_instead, MayReplace}
 use Rattle.lis_store.proofs.Admitted.{none_there}
 use Rattle.lis_store.proofs.Facts.{file_of_filed}
-use Rattle.lis_store.proofs.InsteadGiven.{told_few}
+use Rattle.lis_store.proofs.Relates.{told_few}
 use Rattle.lis_store.proofs.Judged.{all_pass}
 use Rattle.lis_fields.proofs.Parts.{few_tags}
 use Rattle.lis_kept.proofs.Dropped.{record_in_form}

@@ -16,8 +16,6 @@ use Rattle.lis_model.specs.declared.refusal.Refusal.TheVariants.{UnknownProperty
 use Rattle.lis_model.specs.Image.{data_start}
 use Rattle.lis_model.specs.State.{State, File, description, known, file_cmp, file_limit, blocks_taken}
 use Rattle.lis_model.specs.Changes.{has_name, file_of, new_file, file_removed, file_replaced}
-use Rattle.lis_model.specs.Table.{Table, Entry}
-use Rattle.lis_model.specs.Listing.{extension}
 use Rattle.lis_model.specs.Step.{Situation, Payload, refused, changed, exceeds_words, exceeds_known, free_blocks, blocks_for, is_here, is_large, room_checks, write_checks, write, rename_checks, rename}
 use Rattle.lis_laws.proofs.Counts.{all_among}
 use Rattle.lis_laws.proofs.Named.{file_there, file_of_name, gone_free, still_free}
@@ -33,7 +31,7 @@ use Rattle.lis_store.specs.Changes.{first_refusal}
 use Rattle.lis_store.specs.Judging.{is_among}
 use Rattle.lis_store.specs.Replacing.{known_instead}
 use Rattle.lis_store.specs.Instead.{given_before, free_instead, write_checks_of, rename_checks_of}
-use Rattle.lis_store.proofs.Facts.{limits_told, name_filed, file_in_slot, size_of_filed, table_told}
+use Rattle.lis_store.proofs.Facts.{limits_told, name_filed, file_in_slot, size_of_filed, among_told}
 use Rattle.lis_store.proofs.FileBlocks.{told_counted}
 use Rattle.lis_store.proofs.FreeAgain.{all_pass_filter}
 use Rattle.lis_store.proofs.FreeBlocks.{used_told, version_told}
@@ -137,11 +135,6 @@ module _ (k : Stored) (m : Meaning) (s : State) (sound : IsSound k) (fits : Stor
   abbrev kept : Kept
   kept = k.parts
 
-  among_told : is_among kept place name ≡ is_here now old.name
-  among_told =
-      ap (λ (t : Table). list_any (λ (file : Entry). same_word file.name name) (extension t place)) (table_told k m s sound fits)
-      ∙ ap (is_here now) (sym (file_of_name s.files name))
-
   version_is : kept.limits.version ≡ s.limits.version
   version_is = ap (λ (l : Limits). l.version) (limits_told kept fits.kept s sound.parts sound.free fits.tells)
 
@@ -164,7 +157,7 @@ module _ (k : Stored) (m : Meaning) (s : State) (sound : IsSound k) (fits : Stor
         ap (λ v. nat_lt (file_limit v) size) version_is,
         λ small. (
           refl,
-          ap not among_told,
+          ap not (among_told k m s sound fits place name),
           λ here. let at = there (not-false (is_among kept place name) here) in (
             refl,
             ap not (given_assignable k sound slot rec at.1 fits.kept s fits.tells),
@@ -203,7 +196,7 @@ module _ (k : Stored) (m : Meaning) (s : State) (sound : IsSound k) (fits : Stor
       ∷ room_checks (file_replaced s old.name (new_file other old.assigned old.bytes))
       ) (
         refl,
-        ap not among_told,
+        ap not (among_told k m s sound fits place name),
         λ here. let at = there (not-false (is_among kept place name) here) in
             let made = made_is other old.bytes (old_given k m s sound fits name slot rec at.0 at.1) in (
               refl,

@@ -19,7 +19,7 @@ use Rattle.lis_store.specs.Stored.{AreClosed}
 use Rattle.lis_store.specs.Admitting.{described_by, known_with}
 use Rattle.lis_store.specs.Replacing.{words_without, known_instead, MayReplace}
 use Rattle.lis_store.specs.ReplacingIn.{AreInForm, MayComeIn, Vacates}
-use Rattle.lis_store.proofs.Forgot.{rest, word_before, used_word_stays, known_used, closed_still}
+use Rattle.lis_store.proofs.Forgot.{word_before, word_stays, known_used, rest, closed_still}
 use Rattle.lis_store.proofs.InsteadKnown.{sorted_without, word_without}
 use Rattle.lis_store.proofs.Vacated.{vacated, name_vacant, used_or_here, used_elsewhere}
 
@@ -48,11 +48,11 @@ module _ (p v : Kept) (slot : ℕ) (rec : FileRecord) (form : AreInForm p) (out 
   -- ---- words
   -- a word that is still known was known, with this number, and is in use without the slot
   pub word_was : (n : ℕ) (w : List ℕ) → word_of left.dict n ≡ Some w → word_of p.dict n ≡ Some w
-  word_was n w is = word_before slot (numbers_at p.ext slot) d v went n w is
+  word_was = word_before d.dict v.dict (numbers_at p.ext slot) (is_used (emptied d slot)) went.words
 
   pub used_left : (n : ℕ) → is_some (word_of left.dict n) ≡ true → is_used (emptied p slot) n ≡ true
   used_left n some =
-      known_used slot (numbers_at p.ext slot) d v went
+      known_used d.dict v.dict (numbers_at p.ext slot) (is_used (emptied d slot)) went.words
       (λ m known. used_or_here p slot rec form out.drops.there sound_d m (form.in_use.used m known)) n some
 
   pub still_used : (n : ℕ) → is_some (word_of left.dict n) ≡ true → is_used (emptied left slot) n ≡ true
@@ -60,7 +60,7 @@ module _ (p v : Kept) (slot : ℕ) (rec : FileRecord) (form : AreInForm p) (out 
 
   pub word_is_still : (n at : ℕ) → (at ≡ slot → ⊥) → has p.ext n at ≡ true → word_of left.dict n ≡ word_of p.dict n
   word_is_still n at differ h =
-      used_word_stays slot (numbers_at p.ext slot) d v went n (used_elsewhere p slot rec form out.drops.there sound_d n at differ h)
+      word_stays d.dict v.dict (numbers_at p.ext slot) (is_used (emptied d slot)) went.words n (used_elsewhere p slot rec form out.drops.there sound_d n at differ h)
 
   -- ---- the state
   pub state_left : (at : ℕ → List ℕ) → state_of left at ≡ file_removed (state_of p at) rec.name

@@ -2,6 +2,7 @@ pub mod Elsewhere
 pub mod SlotOrder
 pub mod Points
 pub mod Marks
+pub mod Edits
 pub mod Spelled
 pub mod FileBlocks
 pub mod OneState
@@ -47,6 +48,7 @@ pub mod MetTests
 pub mod Measured
 pub mod Admitted
 pub mod Steps
+pub mod Torn
 pub mod RemoveFile
 pub mod AddFile
 pub mod Sizes

@@ -16,6 +16,7 @@ use Rattle.lis_kept.proofs.Filing.{map_all}
 use Rattle.lis_kept.proofs.MarkedWithin.{marked_only}
 use Rattle.lis_store.specs.Changes.{differing_bits}
 use Rattle.lis_store.specs.Redescribing.{Gives, turned_at, IsTurnedRow, Redescribes}
+use Rattle.lis_store.proofs.Edits.{AreEditsFew}
 
 -- nothing is done yet
 pub redescribed_none : (sets : ℕ → List ℕ) (p : Kept) → Redescribes sets 0 p p
@@ -135,7 +136,7 @@ module _ (sets : ℕ → List ℕ) (files : ℕ) (p q : Kept) (all : Redescribes
       by (inr le) = all.others slot le ∙ sym (past slot le)
 
   -- rows are edited at most as often as their bits differ
-  pub redescribed_edits : q.ext.edits ≤ p.ext.edits + differing_bits p.ext q.ext
+  pub redescribed_edits : AreEditsFew p.ext q.ext
   redescribed_edits =
       let f : ℕ → ℕ = λ slot. length (turned_at p sets slot) in
       let g : ℕ → ℕ = λ slot. length (numbers_where p.ext.props (differs (numbers_at p.ext slot) (numbers_at q.ext slot))) in

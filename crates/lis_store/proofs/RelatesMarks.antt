@@ -25,6 +25,7 @@ use Rattle.lis_store.specs.Adding.{behind_head}
 use Rattle.lis_store.specs.Changes.{differing_bits}
 use Rattle.lis_store.specs.Relating.{entails_number, widened_numbers, MayRelate}
 use Rattle.lis_store.specs.RelatingIn.{RelatesIn}
+use Rattle.lis_store.proofs.Edits.{AreEditsFew}
 use Rattle.lis_store.proofs.Relates.{ext_before, ups_are, rows, left_before}
 
 -- a word and its head are two words at most
@@ -123,7 +124,7 @@ module _ (p q : Kept) (left right : List ℕ) (relates : RelatesIn left right p 
       let differ = or_left (has q.ext n at.0 && not (has p.ext n at.0)) (has p.ext n at.0 && not (has q.ext n at.0)) (and_from (has q.ext n at.0) (not (has p.ext n at.0)) gained (ap not at.3)) in
       (at.0, range_among 0 (length p.ext.sets) at.0 (omega arith) (omega (arith, at.1)), where_among p.ext.props (differs (numbers_at p.ext at.0) (numbers_at q.ext at.0)) n here.0 differ))
 
-  pub few_edits : q.ext.edits ≤ p.ext.edits + differing_bits p.ext q.ext
+  pub few_edits : AreEditsFew p.ext q.ext
   few_edits =
       let made = subst (λ (e : Ext). q.ext.edits ≤ e.edits + length (lacked_numbers e from ups)) (ext_before p q left right relates sound may) relates.widens.edits in
       omega (arith, made, lacked_spread)

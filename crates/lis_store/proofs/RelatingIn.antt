@@ -38,9 +38,6 @@ module _ (k : Kept) (sound : AreSound k) (t : Taxonomy) (tells : TellsLinks k t)
   rest_shape : HasShape rest 1 k.limits.props
   rest_shape = same_shape full rest 1 k.limits.props 0 (λ bit. get full 0 bit && not (get entailed number bit)) full_shape is_rest
 
-  pub shown_shape : HasShape done 1 k.limits.props
-  shown_shape = same_shape rest done 1 k.limits.props 0 (λ bit. not (get rest 0 bit)) rest_shape turned
-
   pub shown_bits : (n : ℕ) → n < k.limits.props → get done 0 n ≡ entails_number k word n
   shown_bits n lt =
       let below = number_below k.dict sound.dict word number there in

@@ -1,6 +1,5 @@
 -- A call that takes a file away.
 use Rattle.std.proofs.Common.{◌≡◌, refl, sym, ap, ◌∙◌, subst, ℕ, ◌+◌, ◌≤◌, not, Bool, true, false, cond, List, length, set, Some, is_some, Result, Err, arith}
-use Rattle.std.specs.List.{list_any}
 use Rattle.std.proofs.lemmas.Option.{same_Some}
 use Rattle.lis_ports.specs.Meaning.{Meaning}
 use Rattle.lis_journal.specs.Journal.{Held}
@@ -11,15 +10,12 @@ use Rattle.lis_content.specs.Placing.{Asks}
 use Rattle.lis_catalog.specs.Catalog.{slot_of, rec_at}
 use Rattle.lis_catalog.proofs.Laws.{rec_at-slot_of}
 use Rattle.lis_ext.specs.Ext.{Ext}
-use Rattle.lis_words.specs.Words.{same_word}
 use Rattle.lis_grammar.specs.Formula.{Formula}
 use Rattle.lis_fields.specs.Records.{FileRecord}
 use Rattle.lis_model.specs.declared.refusal.Refusal.TheVariants.{NoFileHere}
 use Rattle.lis_model.specs.Image.{bitmap_start, image_blocks}
 use Rattle.lis_model.specs.State.{State}
-use Rattle.lis_model.specs.Table.{Table, Entry}
-use Rattle.lis_model.specs.Listing.{extension}
-use Rattle.lis_model.specs.Step.{Situation, refused, changed, is_here, rm}
+use Rattle.lis_model.specs.Step.{Situation, refused, changed, rm}
 use Rattle.lis_model.specs.Changes.{file_removed}
 use Rattle.lis_kept.specs.Kept.{Kept}
 use Rattle.lis_kept.specs.Areas.{IsSaved, marked_count}
@@ -30,22 +26,20 @@ use Rattle.lis_store.specs.declared.change.Change.{Change}
 use Rattle.lis_store.specs.declared.change.Change.TheVariants.{Refused, Disk}
 use Rattle.lis_store.specs.Stored.{Stored, IsSound, StoreFits}
 use Rattle.lis_store.specs.Contents.{ContentGiven, ContentEnded}
-use Rattle.lis_store.specs.Changes.{Changes, differing_bits}
+use Rattle.lis_store.specs.Changes.{Changes}
 use Rattle.lis_store.specs.Judging.{is_among}
 use Rattle.lis_store.specs.Saving.{settled, ArePlaced, IsReady, Saves}
 use Rattle.lis_store.specs.Removing.{TakesOut}
 use Rattle.lis_store.specs.ReplacingIn.{AreInForm}
-use Rattle.lis_store.proofs.Facts.{limits_told, table_told}
+use Rattle.lis_store.proofs.Facts.{limits_told, here_told}
 use Rattle.lis_store.proofs.Judged.{change_refused}
 use Rattle.lis_store.proofs.Cleaned.{none_marked}
+use Rattle.lis_store.proofs.Edits.{AreEditsFew}
 use Rattle.lis_store.proofs.Removed.{end_is, form_removed, few_marked, few_edits, ready_removed}
 use Rattle.lis_store.proofs.Replaced.{in_form, settled_sound}
 use Rattle.lis_store.proofs.SavedAlone.{alone_placed, unplaced_stands}
 use Rattle.lis_store.proofs.Steps.{form_taken, pairs_same, sound_lost, changes_behind, changes_lost, asks_stand, asks_past}
-
-here_told : (k : Stored) (m : Meaning) (s : State) → IsSound k → StoreFits k m s → (place : List Formula) (name : List ℕ) → is_here (record { state = s; place = place }) name ≡ is_among k.parts place name
-here_told k m s sound fits place name =
-    ap (λ (t : Table). list_any (λ (file : Entry). same_word file.name name) (extension t place)) (sym (table_told k m s sound fits))
+use Rattle.lis_store.proofs.Torn.{ended_broken}
 
 -- one that is refused
 pub removed_refused : {T : Type 0} (old : Stored) (m : Meaning) (place : List Formula) (name : List ℕ) (result : Result T Change) → IsSound old → is_among old.parts place name ≡ false
@@ -53,17 +47,13 @@ pub removed_refused : {T : Type 0} (old : Stored) (m : Meaning) (place : List Fo
 removed_refused old m place name result sound none ends s fits =
     let now : Situation = record { state = s; place = place } in
     change_refused old m now (rm now name) NoFileHere result fits
-    (ap (λ b. cond (not b) (refused now NoFileHere) (changed now (file_removed s name))) (here_told old m s sound fits place name ∙ none)) ends
+    (ap (λ b. cond (not b) (refused now NoFileHere) (changed now (file_removed s name))) (sym (here_told old m s sound fits place name) ∙ none)) ends
 
 -- what is known where the disk fails while its blocks are asked for
 given_err : (T : Type 0) (rec : FileRecord) (p q : Kept) (journal : Held) (before after : Meaning) (change : Change) → ContentGiven {T = T} rec p q journal before after (Err change)
     → (change ≡ Disk) × (q ≡ p) × Asks journal before after
 given_err T rec p q journal before after (Refused refusal) never = absurd (let e : false ≡ true = never in cc)
 given_err T rec p q journal before after Disk stays = (refl, stays.0, stays.1)
-
-ended_err : (T : Type 0) (b : Bool) (change : Change) → ContentEnded {T = T} b (Err change) → b ≡ true
-ended_err T b (Refused refusal) never = absurd (let e : false ≡ true = never in cc)
-ended_err T b Disk broken = broken
 
 module _ (T : Type 0) (old : Stored) (slot : ℕ) (name : List ℕ) (sound : IsSound old) (named : slot_of old.parts.catalog name ≡ Some slot) (q : Kept) (b : Bool) (change : Change) (before after : Meaning)
     (stays : (rec : FileRecord) → rec_at old.parts.catalog slot ≡ Some rec → ContentGiven {T = T} rec old.parts q old.journal before after (Err change)) (ended : ContentEnded {T = T} b (Err change)) where
@@ -73,7 +63,7 @@ module _ (T : Type 0) (old : Stored) (slot : ℕ) (name : List ℕ) (sound : IsS
       given_err T found.0 old.parts q old.journal before after change (stays found.0 found.1)
 
   broken : b ≡ true
-  broken = ended_err T b change ended
+  broken = ended_broken T b change ended
 
   pub lost_parts : q ≡ old.parts
   lost_parts = lost.1
@@ -125,9 +115,9 @@ module _ (old : Stored) (mid q : Kept) (slot : ℕ) (place : List Formula) (name
   pub removed_placed : ArePlaced q old.journal
   removed_placed = alone_placed old sound unbroken q
 
-  pub removed_edits : q.ext.edits ≤ old.parts.ext.edits + differing_bits old.parts.ext q.ext
+  pub removed_edits : AreEditsFew old.parts.ext q.ext
   removed_edits =
-      subst (λ (e : Ext). q.ext.edits ≤ e.edits + differing_bits e q.ext) (ap (λ (k : Kept). k.ext) gives.takes.parts) (few_edits slot mid q out form_mid.sound)
+      subst (λ (e : Ext). AreEditsFew e q.ext) (ap (λ (k : Kept). k.ext) gives.takes.parts) (few_edits slot mid q out form_mid.sound)
 
   rec_is : out.rec ≡ rec
   rec_is = same_Some out.rec rec (sym out.drops.there ∙ (ap (λ (k : Kept). rec_at k.catalog slot) gives.takes.parts ∙ filed))
@@ -157,4 +147,4 @@ module _ (old : Stored) (mid q : Kept) (slot : ℕ) (place : List Formula) (name
         changes_behind now (rm now name) new before asked after result (asks_stand old s before sound fits asked asks) (asks_past old s before sound fits asked asks)
         (saves now (rm now name) made fits.kept (asks.fits fits.kept fits.journal) limits (unplaced_stands old sound unbroken s before fits)
         (λ _. subst (λ (es : List Staged). IsReady q (looked es fits.kept) made) (sym (sound.staged unbroken)) ready)
-        (ap (λ b. cond (not b) (refused now NoFileHere) (changed now made)) (here_told old before s sound fits place name ∙ here)))
+        (ap (λ b. cond (not b) (refused now NoFileHere) (changed now made)) (sym (here_told old before s sound fits place name) ∙ here)))

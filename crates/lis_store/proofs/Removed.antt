@@ -1,9 +1,8 @@
 -- What a file that is taken out comes to.
-use Rattle.std.proofs.Common.{◌≡◌, ◌⊎◌, refl, sym, ap, ap₂, ◌∙◌, subst, inl, inr, ℕ, zero, suc, ◌+◌, ◌<◌, ◌≤◌, ◌==◌, not, ◌&&◌, ◌||◌, Bool, true, false, if◌then◌else◌, List, [], ◌∷◌, length, map, sum, get_or, set, Option, Some, None, is_some, arith, get_or-set_same, get_or-set_other}
-use Rattle.std.specs.List.{list_any, range_with_len, Contains}
+use Rattle.std.proofs.Common.{◌≡◌, ◌⊎◌, refl, sym, ap, ◌∙◌, subst, inl, inr, ℕ, zero, suc, ◌+◌, ◌<◌, ◌≤◌, ◌==◌, not, ◌&&◌, ◌||◌, Bool, true, false, if◌then◌else◌, List, [], ◌∷◌, length, map, get_or, set, Option, Some, None, is_some, arith, get_or-set_same, get_or-set_other}
+use Rattle.std.specs.List.{list_any, Contains}
 use Rattle.std.proofs.lemmas.Bool.{and_parts, and_from, or_cases, or_left, or_right, both_ways, cases_eq, eq-eqb, ne_eqb, false_from_ne_true, not_from_false}
 use Rattle.std.proofs.lemmas.List.{get_or_default}
-use Rattle.std.proofs.lemmas.List.Sums.{sum_by-cons}
 use Rattle.std.proofs.lemmas.Option.{same_Some}
 use Rattle.lis_graph.proofs.Members.{Among, among_from_contains, contains_from_among, among_from_any, among_filter, filter_among}
 use Rattle.lis_blockmap.specs.Bitmap.{is_taken}
@@ -13,7 +12,6 @@ use Rattle.lis_catalog.specs.Catalog.{Filed, slot_of, rec_at, without_slot}
 use Rattle.lis_catalog.proofs.Laws.{rec_at-without_slot}
 use Rattle.lis_ext.specs.Ext.{Ext, has, set_of as numbers_at}
 use Rattle.lis_ext.specs.Numbers.{has_number as number_in, differs, numbers_where}
-use Rattle.lis_graph.proofs.Ranges.{range_among}
 use Rattle.lis_fields.specs.Records.{FileRecord}
 use Rattle.lis_model.specs.State.{State, description}
 use Rattle.lis_model.specs.Changes.{file_removed}
@@ -27,13 +25,14 @@ use Rattle.lis_kept.specs.Telling.{declared_of, words_told, blocks_told, file_to
 use Rattle.lis_kept.proofs.Filing.{number_from_among, filed_rec, filed_at_slot}
 use Rattle.lis_kept.proofs.Dropped.{file_slot_below}
 use Rattle.lis_store.specs.Stored.{AreClosed, DescriptionsAreShort, TestsAreMet}
-use Rattle.lis_store.specs.Changes.{differing_bits}
 use Rattle.lis_store.specs.Saving.{IsReady}
 use Rattle.lis_store.specs.ReplacingIn.{AreInForm}
 use Rattle.lis_store.specs.Removing.{TakesOut}
 use Rattle.lis_ext.proofs.Numbers.{numbers_same, numbers_of}
 use Rattle.lis_ext.proofs.Seen.{each_below}
+use Rattle.lis_store.proofs.Edits.{AreEditsFew, edits_at}
 use Rattle.lis_store.proofs.Facts.{filed_named}
+use Rattle.lis_store.proofs.Forgot.{word_before, word_stays, known_used}
 use Rattle.lis_store.proofs.Told.{words_same}
 use Rattle.lis_store.proofs.OwnStay.{own_before}
 use Rattle.lis_store.proofs.FileTests.{tests_stay}
@@ -50,12 +49,6 @@ pub same_map : {X Y : Type 0} (f g : X → Y) (xs : List X) → map f xs ≡ map
 same_map f g [] e x m = absurd m
 same_map f g (y ∷ ys) e x (inl same) = let first : f y ≡ g y = cc in subst (λ z. f z ≡ g z) same first
 same_map f g (y ∷ ys) e x (inr m) = let rest : map f ys ≡ map g ys = cc in same_map f g ys rest x m
-
--- a sum is no less than one of its terms
-pub sum_has : (f : ℕ → ℕ) (xs : List ℕ) (x : ℕ) → Among xs x → f x ≤ sum (map f xs)
-sum_has f [] x m = absurd m
-sum_has f (y ∷ ys) x (inl same) = omega (arith, ap f same, sum_by-cons (λ (n : ℕ). n) (f y) (map f ys))
-sum_has f (y ∷ ys) x (inr m) = omega (arith, sum_has f ys x m, sum_by-cons (λ (n : ℕ). n) (f y) (map f ys))
 
 module _ (slot : ℕ) (p q : Kept) (out : TakesOut slot p q) (sound : AreSound p) where
   abbrev rec : FileRecord
@@ -104,19 +97,11 @@ module _ (slot : ℕ) (p q : Kept) (out : TakesOut slot p q) (sound : AreSound p
   words_then : (n : ℕ) → word_of q.dict n ≡ (if has_number numbers n && not (is_used mid n) then None else word_of p.dict n)
   words_then n = subst (λ (k : Kept). word_of q.dict n ≡ (if has_number numbers n && not (is_used k n) then None else word_of k.dict n)) mid_is (out.forgets.words n)
 
-  word_before : (n : ℕ) (w : List ℕ) → word_of q.dict n ≡ Some w → word_of p.dict n ≡ Some w
-  word_before n w is = by (has_number numbers n && not (is_used mid n)) (sym (words_then n) ∙ is)
-    where
-      by : (b : Bool) → (if b then None else word_of p.dict n) ≡ Some w → word_of p.dict n ≡ Some w
-      by true e = absurd cc
-      by false e = e
+  was_word : (n : ℕ) (w : List ℕ) → word_of q.dict n ≡ Some w → word_of p.dict n ≡ Some w
+  was_word = word_before p.dict q.dict numbers (is_used mid) words_then
 
   used_stays : (n : ℕ) → is_used mid n ≡ true → word_of q.dict n ≡ word_of p.dict n
-  used_stays n used = words_then n ∙ (ap (λ b. if has_number numbers n && not b then None else word_of p.dict n) used ∙ by (has_number numbers n))
-    where
-      by : (b : Bool) → (if b && false then None else word_of p.dict n) ≡ word_of p.dict n
-      by true = refl
-      by false = refl
+  used_stays = word_stays p.dict q.dict numbers (is_used mid) words_then
 
   used_had : (n at : ℕ) → has mid.ext n at ≡ true → is_used mid n ≡ true
   used_had n at h =
@@ -143,17 +128,13 @@ module _ (slot : ℕ) (p q : Kept) (out : TakesOut slot p q) (sound : AreSound p
       by (inr left) = or_right (is_taken p.declared n || is_had mid.ext n) (is_named_left mid n) left
 
   used_then : AreUsed p → AreUsed q
-  used_then used n some = out.forgets.used n some ∙ (ap (λ (k : Kept). is_used k n) mid_is ∙ on (has_number numbers n) refl)
+  used_then used n some =
+      out.forgets.used n some
+      ∙ (ap (λ (k : Kept). is_used k n) mid_is ∙ known_used p.dict q.dict numbers (is_used mid) words_then (λ m known. on m known (has_number numbers m) refl) n some)
     where
-      still : (b : Bool) → is_used mid n ≡ b → has_number numbers n ≡ true → is_used mid n ≡ true
-      still true e h = e
-      still false e h =
-          let none : is_some (word_of q.dict n) ≡ false = ap is_some (words_then n ∙ ap₂ (λ a b. if a && not b then None else word_of p.dict n) h e) in
-          absurd (both_ways (is_some (word_of q.dict n)) none some)
-
-      on : (b : Bool) → has_number numbers n ≡ b → is_used mid n ≡ true
-      on true h = still (is_used mid n) refl h
-      on false h = used_back n (used n (sym (ap is_some (words_then n ∙ ap (λ b. if b && not (is_used mid n) then None else word_of p.dict n) h)) ∙ some)) h
+      on : (m : ℕ) → is_some (word_of p.dict m) ≡ true → (b : Bool) → has_number numbers m ≡ b → (is_used mid m ≡ true) ⊎ (has_number numbers m ≡ true)
+      on m known true here = inr here
+      on m known false none = inl (used_back m (used m known) none)
 
   -- ---- files
   file_then : (at : ℕ → List ℕ) (f : Filed) → Among end.catalog.entries f → file_told p.limits q.dict at f ≡ file_told p.limits p.dict at f
@@ -190,7 +171,7 @@ module _ (slot : ℕ) (p q : Kept) (out : TakesOut slot p q) (sound : AreSound p
       by : (is_own_link (declared_of end) (word_of q.dict a) (word_of q.dict b) ≡ true) ⊎ (has_pair p.axioms a b ≡ true) → is_linked p a b ≡ true
       by (inl own) =
           or_left (is_own_link (declared_of p) (word_of p.dict a) (word_of p.dict b)) (has_pair p.axioms a b)
-          (own_before (declared_of p) (word_of q.dict a) (word_of q.dict b) (word_of p.dict a) (word_of p.dict b) (word_before a) (word_before b)
+          (own_before (declared_of p) (word_of q.dict a) (word_of q.dict b) (word_of p.dict a) (word_of p.dict b) (was_word a) (was_word b)
           (subst (λ ws. is_own_link ws (word_of q.dict a) (word_of q.dict b) ≡ true) declared_same own))
       by (inr pair) = or_right (is_own_link (declared_of p) (word_of p.dict a) (word_of p.dict b)) (has_pair p.axioms a b) pair
 
@@ -225,7 +206,7 @@ module _ (slot : ℕ) (p q : Kept) (out : TakesOut slot p q) (sound : AreSound p
     }
 
     tests_then : TestsAreMet end
-    tests_then = tests_stay p end (λ at r is. (rec_before at r is).1) (λ n w is test. word_before n w is)
+    tests_then = tests_stay p end (λ at r is. (rec_before at r is).1) (λ n w is test. was_word n w is)
         (λ n at r w is was test. ap (λ ns. has_number ns n) (set_other at (rec_before at r is).0)) form.tests
 
     pub form_removed : AreInForm q
@@ -264,16 +245,13 @@ module _ (slot : ℕ) (p q : Kept) (out : TakesOut slot p q) (sound : AreSound p
       let three = out.forgets.marks.few in
       omega (arith, one, two, three, ap length gone_is, short)
 
-  pub few_edits : q.ext.edits ≤ p.ext.edits + differing_bits p.ext q.ext
+  pub few_edits : AreEditsFew p.ext q.ext
   few_edits =
       let made = subst (λ (k : Kept). out.emptied.ext.edits ≤ k.ext.edits + length (numbers_where k.ext.props (differs numbers []))) out.drops.parts (out.empties.edits numbers ext_dropped) in
       let slot_in : slot < length p.ext.sets = omega (arith, file_slot_below p sound slot rec there, sound.files) in
-      let f : ℕ → ℕ = λ at. length (numbers_where p.ext.props (differs (numbers_at p.ext at) (numbers_at q.ext at))) in
-      let one = sum_has f (range_with_len 0 (length p.ext.sets)) slot (range_among 0 (length p.ext.sets) slot (omega arith) (omega (arith, slot_in))) in
       let ext_is : q.ext ≡ out.emptied.ext = ap (λ (k : Kept). k.ext) end_is in
       let here : numbers_at q.ext slot ≡ [] = ap (λ (e : Ext). numbers_at e slot) ext_is ∙ set_here in
-      let bits : f slot ≡ length gone = ap (λ ns. length (numbers_where p.ext.props (differs numbers ns))) here in
-      omega (arith, made, one, bits, ap (λ (e : Ext). e.edits) ext_is)
+      edits_at p.ext q.ext slot numbers [] slot_in refl here (omega (arith, made, ap (λ (e : Ext). e.edits) ext_is))
 
 -- ---- the state that it tells
 -- Memory tells s, and the blocks of the file in the slot are given back before it is taken out.

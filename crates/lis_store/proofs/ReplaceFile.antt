@@ -31,8 +31,8 @@ use Rattle.lis_store.specs.declared.change.Change.{Change}
 use Rattle.lis_store.specs.declared.change.Change.TheVariants.{Refused, Disk}
 use Rattle.lis_store.specs.Stands.{Stands}
 use Rattle.lis_store.specs.Stored.{Stored, IsSound, StoreFits}
-use Rattle.lis_store.specs.Changes.{Changes, differing_bits}
-use Rattle.lis_store.specs.Contents.{ContentEnded, ContentRenewed, IsRenewed, Renews}
+use Rattle.lis_store.specs.Changes.{Changes}
+use Rattle.lis_store.specs.Contents.{ContentRenewed, IsRenewed, Renews}
 use Rattle.lis_store.specs.Saving.{settled, ArePlaced, Saves}
 use Rattle.lis_store.specs.Replacing.{MayReplace}
 use Rattle.lis_store.specs.ReplacingIn.{AreInForm, RefilesIn}
@@ -41,12 +41,13 @@ use Rattle.lis_store.proofs.Facts.{limits_told, size_of_filed}
 use Rattle.lis_store.proofs.Housed.{IsHoused, stay_housed, trades_housed}
 use Rattle.lis_store.proofs.Renewed.{stands_same, stands_homes}
 use Rattle.lis_store.proofs.Replaced.{in_form, retaken, form_retaken, may_retaken, last_is, sound_replaced}
+use Rattle.lis_store.proofs.Edits.{AreEditsFew}
 use Rattle.lis_store.proofs.ReplacedMarks.{few_marked, marked_last, few_edits}
 use Rattle.lis_store.proofs.ReplacedTells.{ready_replaced}
 use Rattle.lis_store.proofs.ReplacingIn.{may_there}
 use Rattle.lis_store.proofs.SavedAlone.{alone_placed, unplaced_stands}
 use Rattle.lis_store.proofs.Standing.{placed_stand}
-use Rattle.lis_store.proofs.Steps.{sound_lost, changes_behind, changes_lost, fills_stand, fills_past}
+use Rattle.lis_store.proofs.Steps.{changes_behind}
 
 -- ---- memory tells the next state, from wherever the bytes come
 module _ (old : Stored) (taken marks : List Bool) (q : Kept) (j : Held) (slot : ℕ) (name : List ℕ) (assigned : List (List ℕ)) (bytes numbers : List ℕ) (sound : IsSound old) (sound_p : AreSound (retaken old.parts taken marks))
@@ -75,7 +76,7 @@ module _ (old : Stored) (taken marks : List Bool) (q : Kept) (j : Held) (slot : 
   pub replaced_bitmap : is_marked p (bitmap_start o.limits) ≡ true → is_marked q (bitmap_start q.limits) ≡ true
   replaced_bitmap is = ap (λ (x : Limits). is_marked q (bitmap_start x)) limits_then ∙ marked_last p q slot name assigned bytes numbers form again may (bitmap_start o.limits) is
 
-  pub replaced_edits : q.ext.edits ≤ o.ext.edits + differing_bits o.ext q.ext
+  pub replaced_edits : AreEditsFew o.ext q.ext
   replaced_edits = few_edits p q slot name assigned bytes numbers form again may
 
   pub replaced_changes : {T : Type 0} (place : List Formula) (new : Stored) (before after : Meaning) (result : Result T Change) (outcome : Outcome) (s : State) (at kept : ℕ → List ℕ) (held : List ℕ)
@@ -156,7 +157,7 @@ module _ (old : Stored) (mid : Kept) (j : Held) (slot : ℕ) (bytes numbers : Li
             let some = replaced_marks old mid.taken mid.marks q j slot name assigned bytes numbers sound sound_renewed first again in
             omega (arith, some, renews.few_staged, renews.marks.few, none_marked k (sound.clean unbroken), ap (λ (x : Kept). marked_count x) renews.parts)
 
-        pub written_edits : q.ext.edits ≤ k.ext.edits + differing_bits k.ext q.ext
+        pub written_edits : AreEditsFew k.ext q.ext
         written_edits = replaced_edits old mid.taken mid.marks q j slot name assigned bytes numbers sound sound_renewed first again
 
         -- from a state that the store told, where its words may be given and its blocks are enough
@@ -219,33 +220,10 @@ module _ (old : Stored) (mid : Kept) (j : Held) (slot : ℕ) (bytes numbers : Li
               (done ∙ ap (λ (r : FileRecord). changed now (file_replaced s r.name (new_file name assigned bytes))) same_rec) assignable saves)
 
 -- ---- a fault of the disk while they are put
-module _ (old : Stored) (q : Kept) (j : Held) (sound : IsSound old) (before after : Meaning) (torn : PutTorn old.parts q old.journal j before after) where
-  pub torn_sound : AreSound q → IsSound (record { parts = q; journal = j; is_broken = true })
-  torn_sound sound_q =
-      let form = form_retaken old.parts q.taken q.marks (subst (λ (x : Kept). AreSound x) torn.parts sound_q) (in_form old sound) in
-      subst (λ (x : Kept). IsSound (record { parts = x; journal = j; is_broken = true })) (sym torn.parts)
-      (sound_lost (retaken old.parts q.taken q.marks) j form sound.pairs (torn.image ∙ sound.image))
-
-  pub torn_limits : q.limits ≡ old.parts.limits
-  torn_limits = ap (λ (x : Kept). x.limits) torn.parts
-
-  pub torn_edits : q.ext.edits ≤ old.parts.ext.edits + differing_bits old.parts.ext q.ext
-  torn_edits = omega (arith, ap (λ (x : Kept). x.ext.edits) torn.parts)
-
-  pub torn_changes : {T : Type 0} (now : Situation) (outcome : Outcome) (new : Stored) (result : Result T Change) → StoreFits old before now.state → new.is_broken ≡ true → result ≡ Err Disk
-      → Changes now outcome new before after result
-  torn_changes now outcome new result fits broken ends =
-      changes_lost now outcome new before after result (fills_stand old now.state before sound fits torn.blocks after torn.fills) (fills_past old now.state before sound fits torn.blocks after torn.fills) broken ends
-
--- the same of a put that failed
 module _ (old : Stored) (q : Kept) (j : Held) (rec : FileRecord) (bytes : List ℕ) (sound : IsSound old) (before after : Meaning) where
   pub renewed_torn : (change : Change) → ContentRenewed bytes rec old.parts q old.journal j before after (Err change) → (change ≡ Disk) × PutTorn old.parts q old.journal j before after
   renewed_torn (Refused refusal) never = absurd (let e : false ≡ true = never in cc)
   renewed_torn Disk torn = (refl, torn)
-
--- and a fault breaks the store
-pub content_broken : (change : Change) (b : Bool) → ContentEnded {T = ℕ} b (Err change) → change ≡ Disk → b ≡ true
-content_broken change b ended is = let E : Change → Type 0 = λ x. ContentEnded {T = ℕ} b (Err x) in subst E is ended
 
 -- ---- another name and other words, and the same bytes
 -- the blocks of a file are those of a record that has its size
@@ -286,7 +264,7 @@ module _ (old : Stored) (q : Kept) (slot : ℕ) (name : List ℕ) (assigned : Li
       let some = replaced_marks old parts.taken parts.marks q old.journal slot name assigned bytes rec.blocks sound sound.parts first again in
       omega (arith, some, none_marked parts (sound.clean unbroken), ap (λ (es : List Entry). length es) (sound.staged unbroken))
 
-  pub refiled_edits : q.ext.edits ≤ parts.ext.edits + differing_bits parts.ext q.ext
+  pub refiled_edits : AreEditsFew parts.ext q.ext
   refiled_edits = replaced_edits old parts.taken parts.marks q old.journal slot name assigned bytes rec.blocks sound sound.parts first again
 
   -- where the bytes of the file that was there are these

@@ -7,7 +7,6 @@ use Rattle.std.proofs.lemmas.Bool.{both_ways}
 use Rattle.std.proofs.lemmas.List.Sums.{sum_by-set}
 use Rattle.std.proofs.lemmas.Map.Keys.{sorted_from_strictly_increasing}
 use Rattle.lis_graph.proofs.Sets.{members_le}
-use Rattle.lis_graph.proofs.Ranges.{range_among}
 use Rattle.lis_blockmap.specs.Bitmap.{is_taken}
 use Rattle.lis_content.proofs.Numbers.{below_if_taken, stays_marked}
 use Rattle.lis_dict.specs.Dict.{word_of}
@@ -22,14 +21,13 @@ use Rattle.lis_kept.specs.Areas.Area.{Files, Rows}
 use Rattle.lis_ext.proofs.Numbers.{among_where, sorted_where}
 use Rattle.lis_kept.proofs.Filing.{among_from_number}
 use Rattle.lis_kept.proofs.InArea.{among_slots}
-use Rattle.lis_store.specs.Changes.{differing_bits}
 use Rattle.lis_store.specs.Admitting.{described_by}
 use Rattle.lis_store.specs.Adding.{is_one_of, numbers_named, learnt_words}
 use Rattle.lis_store.specs.Replacing.{MayReplace}
 use Rattle.lis_store.specs.ReplacingIn.{AreInForm, RefilesIn}
 use Rattle.lis_store.proofs.AddedMarks.{heads_few}
 use Rattle.lis_laws.proofs.Derived.{derived_few}
-use Rattle.lis_store.proofs.Removed.{sum_has}
+use Rattle.lis_store.proofs.Edits.{AreEditsFew, edits_at}
 use Rattle.lis_store.proofs.Left.{left_is}
 use Rattle.lis_store.proofs.Replaced.{left}
 use Rattle.lis_store.proofs.Vacated.{slot_below}
@@ -159,14 +157,11 @@ module _ (p q : Kept) (slot : ℕ) (name : List ℕ) (assigned : List (List ℕ)
       (ap (λ (x : Kept). is_taken x.marks block) r.way.vacates.drops.parts
       ∙ stays_marked p.marks (block_of p.limits Files slot ∷ []) block is))
 
-  pub few_edits : q.ext.edits ≤ p.ext.edits + differing_bits p.ext q.ext
+  pub few_edits : AreEditsFew p.ext q.ext
   few_edits =
       let edited = subst (λ (e : Ext). r.described.ext.edits ≤ e.edits + length (numbers_where e.props (differs before numbers))) ext_before (r.way.describes.edits before was) in
       let slot_in : slot < length p.ext.sets = omega (arith, slot_below p slot r.way.rec form may.there, form.sound.files) in
-      let f : ℕ → ℕ = λ at. length (numbers_where p.ext.props (differs (numbers_at p.ext at) (numbers_at q.ext at))) in
-      let one = sum_has f (range_with_len 0 (length p.ext.sets)) slot (range_among 0 (length p.ext.sets) slot (omega arith) (omega (arith, slot_in))) in
       let ext_is : q.ext ≡ r.described.ext = ap (λ (x : Kept). x.ext) r.files.parts in
       let sets_are : q.ext.sets ≡ set p.ext.sets slot numbers = ap (λ (e : Ext). e.sets) ext_is ∙ (r.way.describes.sets ∙ ap (λ (e : Ext). set e.sets slot numbers) ext_before) in
       let now : numbers_at q.ext slot ≡ numbers = ap (λ ss. get_or ss slot []) sets_are ∙ get_or-set_same p.ext.sets slot numbers [] slot_in in
-      let bits : f slot ≡ changed = ap (λ ns. length (numbers_where p.ext.props (differs before ns))) now in
-      omega (arith, edited, one, bits, ap (λ (e : Ext). e.edits) ext_is)
+      edits_at p.ext q.ext slot before numbers slot_in refl now (omega (arith, edited, ap (λ (e : Ext). e.edits) ext_is))

@@ -109,9 +109,6 @@ module _ (p q : Kept) (slot : ℕ) (name : List ℕ) (assigned : List (List ℕ)
       ∙ (ap (λ (x : Kept). record x { ext = q.ext; marks = q.marks }) way.learns.learns.parts
       ∙ ap (λ (x : Kept). record x { dict = l.dict; ext = q.ext; marks = q.marks }) (left_is p way.vacated slot way.rec form way.vacates))
 
-  pub limits_way : q.limits ≡ p.limits
-  limits_way = ap (λ (x : Kept). x.limits) end_is
-
   pub below_way : slot < q.limits.files
   below_way = omega (arith, ap (λ (x : Kept). x.limits.files) end_is, slot_below p slot way.rec form there)
 

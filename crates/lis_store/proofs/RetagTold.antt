@@ -1,6 +1,5 @@
 -- The row of `mv`, told by what a store keeps, is the row of the state; and what holds where it refuses nothing.
-use Rattle.std.proofs.Common.{◌≡◌, ◌⊎◌, refl, sym, ap, ap₂, ◌∙◌, subst, inl, inr, ℕ, ◌≤◌, nat_lt, Bool, true, false, not, cond, ◌&&◌, is_some, option_to_list, Some, None, List, [], ◌∷◌, ◌++◌, length, filter, Err, arith}
-use Rattle.std.specs.Result.{result_err}
+use Rattle.std.proofs.Common.{◌≡◌, ◌⊎◌, refl, sym, ap, ap₂, ◌∙◌, subst, inl, inr, ℕ, ◌≤◌, nat_lt, Bool, true, false, not, cond, ◌&&◌, is_some, option_to_list, Some, None, List, [], ◌∷◌, ◌++◌, length, filter, arith}
 use Rattle.std.specs.List.{list_any, list_all, flat_map}
 use Rattle.std.specs.List.Sorted.{IsStrictlySortedBy}
 use Rattle.std.proofs.lemmas.Bool.{both_ways, ltb-false, not-false}
@@ -14,14 +13,12 @@ use Rattle.lis_graph.proofs.Members.{Among, among_filter}
 use Rattle.lis_grammar.specs.Formula.{Formula}
 use Rattle.lis_grammar.specs.Places.{Resolution, resolved, text_words}
 use Rattle.lis_grammar.specs.Places.Resolution.{NewPlace, BeyondLimits, Unreadable}
-use Rattle.lis_words.specs.Words.{word_cmp, same_word, has_word, is_file_name, is_built_in, is_head}
+use Rattle.lis_words.specs.Words.{word_cmp, has_word, is_file_name, is_built_in, is_head}
 use Rattle.lis_model.specs.declared.refusal.Refusal.{Refusal}
 use Rattle.lis_model.specs.declared.refusal.Refusal.TheVariants.{BadFormula, UnknownProperty, LargeFormula, NotAPlace, NoFileHere, NotAssignable, TooManyAssigned, BuiltIn}
 use Rattle.lis_model.specs.State.{State, File, is_assignable}
 use Rattle.lis_model.specs.Places.{place_words}
 use Rattle.lis_model.specs.Changes.{file_of, new_file, file_replaced}
-use Rattle.lis_model.specs.Table.{Table, Entry}
-use Rattle.lis_model.specs.Listing.{extension}
 use Rattle.lis_model.specs.Step.{Situation, refused, changed, is_here, exceeds_words, exceeds_known, here_checks, room_checks, tags_at, retagged, mv_checks, mv_to, mv}
 use Rattle.lis_laws.proofs.Members.{word_order, sorted_set_of, sorted_with_words, among_with_words}
 use Rattle.lis_laws.proofs.Counts.{all_among, all_from, rising_from_sorted}
@@ -34,8 +31,8 @@ use Rattle.lis_store.specs.Admitting.{described_by}
 use Rattle.lis_store.specs.Changes.{first_refusal}
 use Rattle.lis_store.specs.Judging.{is_among}
 use Rattle.lis_store.specs.Replacing.{known_instead, MayReplace}
-use Rattle.lis_store.specs.Retagging.{led_by, moved_from, retag_checks, mv_checks_by, mv_checks_of}
-use Rattle.lis_store.proofs.Facts.{table_told}
+use Rattle.lis_store.specs.Retagging.{moved_from, retag_checks, mv_checks_by, mv_checks_of}
+use Rattle.lis_store.proofs.Facts.{among_told}
 use Rattle.lis_store.proofs.InsteadMay.{given_assignable}
 use Rattle.lis_store.proofs.InsteadTold.{old_given, large_told, room_told}
 use Rattle.lis_store.proofs.Judged.{same_first, judged_refused, judged_done, all_pass}
@@ -67,11 +64,6 @@ module _ (k : Stored) (m : Meaning) (s : State) (sound : IsSound k) (fits : Stor
   abbrev kept : Kept
   kept = k.parts
 
-  among_told : is_among kept place name ≡ is_here now old.name
-  among_told =
-      ap (λ (t : Table). list_any (λ (file : Entry). same_word file.name name) (extension t place)) (table_told k m s sound fits)
-      ∙ ap (is_here now) (sym (file_of_name s.files name))
-
   declared_told : declared_of kept ≡ s.declared
   declared_told = ap (λ (t : State). t.declared) fits.tells.state
 
@@ -102,7 +94,7 @@ module _ (k : Stored) (m : Meaning) (s : State) (sound : IsSound k) (fits : Stor
   mv_row next words =
       same_first (checks next words) (wanted next words) (
         refl,
-        ap not among_told,
+        ap not (among_told k m s sound fits place name),
         λ here. let at = there (not-false (is_among kept place name) here) in let given = old_given k m s sound fits name slot rec at.0 at.1 in (
           refl,
           refl,
@@ -183,14 +175,6 @@ module _ (k : Stored) (m : Meaning) (s : State) (sound : IsSound k) (fits : Stor
   mv_here_done text next leads here none = mv_done text next leads (led_row text next leads ∙ (row_here next (text_words text) here ∙ none))
 
 -- ---- refusals before the slot is known
-pub mv_unled : (now : Situation) (name text : List ℕ) (refusal : Refusal) → led_by (resolved now.place text) ≡ Err refusal → mv now name text ≡ refused now refusal
-mv_unled now name text refusal first = by (resolved now.place text) first
-  where
-    by : (r : Resolution) → led_by r ≡ Err refusal → mv_to now (file_of now.state.files name) text r ≡ refused now refusal
-    by (Unreadable n) is = ap (refused now) (same_Some BadFormula refusal (ap result_err is))
-    by BeyondLimits is = ap (refused now) (same_Some LargeFormula refusal (ap result_err is))
-    by (NewPlace next) is = absurd cc
-
 pub mv_nowhere : (k : Stored) (m : Meaning) (s : State) → IsSound k → StoreFits k m s → (place next : List Formula) (name text : List ℕ)
     → resolved place text ≡ NewPlace next → is_among k.parts place name ≡ false
     → mv (record { state = s; place = place }) name text ≡ refused (record { state = s; place = place }) NoFileHere

@@ -1,19 +1,17 @@
 -- What a file is refused for that would move to another place, as the calls ask it.
-use Rattle.std.proofs.Common.{◌≡◌, refl, sym, ap, ◌∙◌, inl, inr, ◌⊎◌, ℕ, ◌<◌, ◌≤◌, nat_lt, Bool, true, false, not, cond, ◌||◌, IsSome, Some, None, List, [], ◌∷◌, ◌++◌, length, filter, take, get_or, ◌+◌, append-nil, arith}
+use Rattle.std.proofs.Common.{◌≡◌, refl, sym, ap, ◌∙◌, inl, inr, ◌⊎◌, ℕ, ◌<◌, Bool, true, false, not, cond, ◌||◌, IsSome, List, [], ◌∷◌, ◌++◌, length, filter, take, get_or, ◌+◌, append-nil, arith}
 use Rattle.std.specs.List.{list_any, flat_map}
 use Rattle.std.specs.List.Sorted.{IsStrictlySortedBy}
-use Rattle.std.proofs.lemmas.Bool.{leb-false, le-leb, le-ltb}
+use Rattle.std.proofs.lemmas.Bool.{leb-false}
 use Rattle.std.proofs.lemmas.List.{take_more}
 use Rattle.std.proofs.lemmas.List.Elements.{filter-append}
 use Rattle.std.proofs.lemmas.List.Folds.{list_any-append}
 use Rattle.std.proofs.lemmas.List.Kept.{IsStrictlySortedBy-filter}
 use Rattle.lis_graph.proofs.Members.{Among}
-use Rattle.lis_fields.specs.Records.{FileRecord}
 use Rattle.lis_words.specs.Words.{word_cmp, same_word, has_word}
 use Rattle.lis_grammar.specs.Formula.{Formula}
 use Rattle.lis_place.specs.declared.node.Node.{Node}
 use Rattle.lis_place.specs.Nodes.{nodes_of}
-use Rattle.lis_model.specs.declared.refusal.Refusal.TheVariants.{TooManyAssigned}
 use Rattle.lis_model.specs.Sets.{with_words, set_of}
 use Rattle.lis_model.specs.Places.{place_words}
 use Rattle.lis_model.specs.Step.{tags_at, retagged}
@@ -21,10 +19,7 @@ use Rattle.lis_laws.proofs.Members.{among_from_has_word, has_word_from_among, am
 use Rattle.lis_laws.proofs.Locals.{same_tests, filter_same}
 use Rattle.lis_kept.specs.Kept.{Kept}
 use Rattle.lis_store.specs.Assigning.{node_tags, Takes}
-use Rattle.lis_store.specs.Changes.{first_refusal}
-use Rattle.lis_store.specs.Retagging.{words_moved, places_checks, moving_checks}
 use Rattle.lis_store.proofs.Assigned.{tags_of_nodes}
-use Rattle.lis_store.proofs.Judged.{refused_then}
 
 -- ---- words of nodes
 pub any_of_nodes : (p : List ℕ → Bool) (f : Node → List (List ℕ)) (nodes : List Node) → list_any (λ node. list_any p (f node)) nodes ≡ list_any p (flat_map f nodes)
@@ -95,18 +90,3 @@ module _ (here there : List Formula) (words kept : List (List ℕ)) (nodes : Lis
 
   pub moved_are : (new : List (List ℕ)) → Takes tags kept new true → new ≡ retagged words (tags_at here) (tags_at there)
   moved_are new takes = takes.words refl ∙ all_are
-
--- ---- the row of a file that moves, whatever its bytes are
-module _ (k : Kept) (here there : List Formula) (words : List (List ℕ)) (rec : FileRecord) (none : first_refusal (places_checks k here there words) ≡ None) where
-  abbrev moved : List (List ℕ)
-  moved = words_moved k rec here there
-
-  pub many_refused : 16 < length moved → first_refusal (moving_checks k here there words rec) ≡ Some TooManyAssigned
-  many_refused many =
-      refused_then (places_checks k here there words) ((nat_lt 16 (length moved), TooManyAssigned) ∷ []) none
-      ∙ ap (λ b. cond b (Some TooManyAssigned) None) (le-leb 17 (length moved) many)
-
-  pub few_moved : length moved ≤ 16 → first_refusal (moving_checks k here there words rec) ≡ None
-  few_moved few =
-      refused_then (places_checks k here there words) ((nat_lt 16 (length moved), TooManyAssigned) ∷ []) none
-      ∙ ap (λ b. cond b (Some TooManyAssigned) None) (le-ltb 16 (length moved) few)

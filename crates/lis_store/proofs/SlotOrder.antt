@@ -1,5 +1,5 @@
 -- What slots hold, in the order of their numbers, has the parts of what a map's entries hold, in the order of its keys.
-use Rattle.std.proofs.Common.{◌≡◌, ◌⊎◌, refl, sym, ap, ◌∙◌, subst, inl, inr, ℕ, zero, suc, ◌+◌, ◌<◌, ◌≤◌, ◌==◌, eqb, Bool, true, false, not, cond, List, [], ◌∷◌, ◌++◌, map, Option, Some, None, IsTrue, arith, append_assoc, slice_get}
+use Rattle.std.proofs.Common.{◌≡◌, ◌⊎◌, refl, sym, ap, ◌∙◌, subst, inl, inr, ℕ, zero, suc, ◌+◌, ◌<◌, ◌≤◌, ◌==◌, eqb, true, false, not, cond, List, [], ◌∷◌, ◌++◌, map, Option, Some, None, IsTrue, arith, append_assoc, slice_get}
 use Rattle.std.specs.List.{find, flat_map, range_with_len, AllByRecursion, IsDistinct}
 use Rattle.std.specs.List.Sorted.{IsPermutation}
 use Rattle.std.proofs.lemmas.Bool.{and_parts, and_from, or_parts, or_from, not-true, not_from_false, eq-eqb, eqb-false, ne_eqb, cases_eq}
@@ -29,15 +29,6 @@ IsPermutation-same xs ys same = subst (IsPermutation xs) same (IsPermutation-ref
 
 pub permuted_among : {X : Type 0} (xs ys : List X) (x : X) → IsPermutation xs ys → Among xs x → Among ys x
 permuted_among xs ys x same m = among_from_contains ys x (Contains-permutation xs ys x same (contains_from_among xs x m))
-
--- what is found is one of the list
-pub found_among : {X : Type 0} (test : X → Bool) (xs : List X) (x : X) → find test xs ≡ Some x → Among xs x
-found_among test [] x is = absurd cc
-found_among test (y ∷ ys) x is = by (test y) is (found_among test ys x)
-  where
-    by : (b : Bool) → cond b (Some y) (find test ys) ≡ Some x → (find test ys ≡ Some x → Among ys x) → Among (y ∷ ys) x
-    by true is more = inl cc
-    by false is more = inr (more is)
 
 -- the part of one element goes behind another part
 IsPermutation-behind : {X : Type 0} (xs ys zs all : List X) → IsPermutation (xs ++ zs) all → IsPermutation (xs ++ (ys ++ zs)) (ys ++ all)

@@ -42,7 +42,6 @@ use Rattle.lis_kept.proofs.MarkedWithin.{marked_within}
 use Rattle.lis_kept.proofs.OwnLinks.{unnamed_to, unnamed_from}
 use Rattle.lis_kept.proofs.StandsUnder.{each_pairs}
 use Rattle.lis_kept.proofs.TestLinks.{test_link, not_itself, linked_by}
-use Rattle.lis_store.specs.Changes.{differing_bits}
 use Rattle.lis_store.specs.Placing.{AreNumbersOf}
 use Rattle.lis_store.specs.Redescribing.{IsTurnedRow, Redescribes}
 use Rattle.lis_store.specs.Stored.{AreClosed, DescriptionsAreShort, TestsAreMet}
@@ -51,6 +50,7 @@ use Rattle.lis_store.specs.Unlinking.{is_entailed}
 use Rattle.lis_store.proofs.Declared.{parts_are, dict_is, ext_is, word_other, word_new, told_then, right_word, link_then}
 use Rattle.lis_store.proofs.HeadsUsed.{used_flagged, used_had, used_left, IsUsedFor, used_for}
 use Rattle.lis_store.proofs.HeadsUsed.IsUsedFor.{Flagged, HadAt, NamedLeft}
+use Rattle.lis_store.proofs.Edits.{AreEditsFew}
 use Rattle.lis_store.proofs.Redescribed.{same_here, given_then, redescribed_edits}
 use Rattle.lis_store.proofs.Remaining.{led, led_from, led_itself, led_on, few_within}
 use Rattle.lis_store.proofs.TestUnder.{plain_entails}
@@ -313,10 +313,8 @@ module _ (p made : Kept) (word : List ℕ) (rights : List ℕ) (words : List (Li
     pub set_then : (slot : ℕ) → numbers_at q.ext slot ≡ sets slot
     set_then = given_then sets made.limits.files made q gives sound_made.files past
 
-    pub tested_edits : q.ext.edits ≤ p.ext.edits + differing_bits p.ext q.ext
-    tested_edits =
-        let P : Ext → Type 0 = λ e. q.ext.edits ≤ e.edits + differing_bits e q.ext in
-        subst P ext_same (redescribed_edits sets made.limits.files made q gives sound_made.files past)
+    pub tested_edits : AreEditsFew p.ext q.ext
+    tested_edits = subst (λ (e : Ext). AreEditsFew e q.ext) ext_same (redescribed_edits sets made.limits.files made q gives sound_made.files past)
 
     -- what a slot has then
     abbrev Gains : ℕ → ℕ → Type 0

@@ -40,9 +40,10 @@ use Rattle.lis_store.specs.Judging.{word_checks}
 use Rattle.lis_store.specs.Placing.{AreNumbersOf}
 use Rattle.lis_store.specs.Redescribing.{Redescribes}
 use Rattle.lis_store.specs.Testing.{is_met_at, is_gained, is_gained_by, wider, has_crowded, tested, DeclaresTested}
-use Rattle.lis_store.specs.Changes.{Changes, first_refusal, differing_bits}
+use Rattle.lis_store.specs.Changes.{Changes, first_refusal}
 use Rattle.lis_store.specs.declared.change.Change.{Change}
 use Rattle.lis_store.specs.declared.change.Change.TheVariants.{Refused}
+use Rattle.lis_store.proofs.Edits.{AreEditsFew}
 use Rattle.lis_store.proofs.Cleaned.{clean_is, sound_clean, in_use_clean, tests_clean, none_marked}
 use Rattle.lis_store.proofs.Crowded.{gained_told, gains_same, wide_told, met_described, unmet_described}
 use Rattle.lis_store.proofs.SavedAlone.{saves_alone}
@@ -269,7 +270,7 @@ module _ (old : Stored) (place : List Formula) (word : List ℕ) (rights : List 
     pub declared_limits : q.limits ≡ old.parts.limits
     declared_limits = limits_then old.parts declares.made q word rights (words_at place) sound.parts declared_new numbers declares.stands declares.sound (plain_at place passes.plain) declares.gives
 
-    pub declared_edits : q.ext.edits ≤ old.parts.ext.edits + differing_bits old.parts.ext q.ext
+    pub declared_edits : AreEditsFew old.parts.ext q.ext
     declared_edits = tested_edits old.parts declares.made word rights (words_at place) sound.parts declared_new numbers declares.stands declares.sound (plain_at place passes.plain) q declares.gives
 
     pub declared_marks : length rights ≤ 64 → length old.journal.staged + marked_count q ≤ 531

@@ -1,9 +1,9 @@
 -- What a store comes to when an axiom is taken away.
-use Rattle.std.proofs.Common.{◌≡◌, ◌⊎◌, refl, sym, ap, ap₂, ◌∙◌, subst, inl, inr, ℕ, ◌+◌, ◌<◌, ◌≤◌, ◌==◌, not, ◌&&◌, ◌||◌, if◌then◌else◌, Bool, true, false, List, [], ◌∷◌, length, map, filter, Option, Some, None, is_some, IsSome, option_to_list, slice_set, replicate, arith, eq-eqb}
+use Rattle.std.proofs.Common.{◌≡◌, ◌⊎◌, refl, sym, ap, ap₂, ◌∙◌, subst, inl, inr, ℕ, ◌<◌, ◌≤◌, ◌==◌, not, ◌&&◌, ◌||◌, if◌then◌else◌, Bool, true, false, List, [], ◌∷◌, length, map, filter, Option, Some, None, is_some, IsSome, option_to_list, slice_set, replicate, arith, eq-eqb}
 use Rattle.std.specs.List.{Contains}
 use Rattle.std.specs.List.Sorted.{IsStrictlySortedBy}
-use Rattle.std.proofs.lemmas.Bool.{and_parts, and_from, or_cases, or_left, or_right, both_ways, cases_lt, not-true, false_from_ne_true}
-use Rattle.std.proofs.lemmas.List.{length-map, length-replicate, get_or-replicate, get_or_past}
+use Rattle.std.proofs.lemmas.Bool.{and_parts, and_from, or_cases, or_left, or_right, both_ways, not-true, false_from_ne_true}
+use Rattle.std.proofs.lemmas.List.{length-map}
 use Rattle.std.proofs.lemmas.Option.{same_Some}
 use Rattle.lis_graph.proofs.Members.{Among, among_from_contains, contains_from_among, among_filter, any_from_among, map_among}
 use Rattle.lis_graph.proofs.Sets.{sorted_from_rising}
@@ -39,31 +39,25 @@ use Rattle.lis_kept.specs.Telling.{words_told, declared_of, axioms_of, file_told
 use Rattle.lis_kept.proofs.AxiomTaken.{axiom_back, taken_unfelt}
 use Rattle.lis_ext.proofs.Numbers.{among_where, where_among, sorted_where}
 use Rattle.lis_kept.proofs.Filing.{among_from_number, number_from_among, filed_rec}
-use Rattle.lis_kept.proofs.Formed.{some_word, named_below, named_all}
+use Rattle.lis_kept.proofs.Formed.{named_below, named_all}
 use Rattle.lis_kept.proofs.Known.{among_place, number_told, axiom_among, among_axiom}
 use Rattle.lis_kept.proofs.MarkedWithin.{marked_only, marked_within}
 use Rattle.lis_kept.proofs.TestLinks.{none_weaker, test_link, test_linked, linked_by}
 use Rattle.lis_kept.proofs.Used.{had_at}
 use Rattle.lis_kept.proofs.WordLess.{had_from}
 use Rattle.lis_store.specs.Stored.{AreClosed, DescriptionsAreShort, TestsAreMet, IsSound}
-use Rattle.lis_store.specs.Changes.{differing_bits}
 use Rattle.lis_store.specs.Redescribing.{IsTurnedRow}
 use Rattle.lis_store.specs.Saving.{settled, IsReady}
 use Rattle.lis_store.specs.Unlinking.{is_entailed, tags_by, remaining_at, lessened, heads_by, with_head, TakesAxiom}
+use Rattle.lis_store.proofs.Edits.{AreEditsFew}
 use Rattle.lis_store.proofs.Redescribed.{redescribed_edits}
 use Rattle.lis_store.proofs.AxiomGone.{none_past, rights_unlinked, pairs_unlinked, closed_unlinked, tags_unlinked, SetCases, set_then, set_by, had_back, lost, closed_less, tags_less, short_less, free_less, unused_is}
-use Rattle.lis_store.proofs.Cleaned.{clean_is, sound_clean, in_use_clean, tests_clean}
+use Rattle.lis_store.proofs.Cleaned.{none_set, clean_is, sound_clean, in_use_clean, tests_clean}
+use Rattle.lis_store.proofs.Forgot.{word_before, word_stays, known_used}
 use Rattle.lis_store.proofs.HeadsUsed.{used_had}
 use Rattle.lis_store.proofs.Remaining.{led, led_had, few_within, remaining_told}
 use Rattle.lis_store.proofs.Removed.{same_map}
 use Rattle.lis_store.proofs.Told.{words_same}
-
-none_set : (n i : ℕ) → is_taken (replicate n false) i ≡ false
-none_set n i = by (cases_lt i n)
-  where
-    by : (i < n) ⊎ (n ≤ i) → is_taken (replicate n false) i ≡ false
-    by (inl lt) = get_or-replicate n i false false lt
-    by (inr past) = get_or_past (replicate n false) i false (omega (arith, length-replicate n false))
 
 heads_few : (d : Dict) (o : Option (List ℕ)) → length (heads_by d o) ≤ 1
 heads_few d None = omega arith
@@ -109,32 +103,22 @@ module _ (left right : ℕ) (p q : Kept) (takes : TakesAxiom left right p q) (j 
   words_then : (n : ℕ) → word_of q.dict n ≡ (if has_number numbers n && not (is_used less n) then None else word_of k.dict n)
   words_then n = subst (λ (u : Kept). word_of q.dict n ≡ (if has_number numbers n && not (is_used u n) then None else word_of u.dict n)) takes.lessens.parts (takes.forgets.words n)
 
-  word_before : (n : ℕ) (w : List ℕ) → word_of q.dict n ≡ Some w → word_of k.dict n ≡ Some w
-  word_before n w is = by (has_number numbers n && not (is_used less n)) (sym (words_then n) ∙ is)
-    where
-      by : (c : Bool) → (if c then None else word_of k.dict n) ≡ Some w → word_of k.dict n ≡ Some w
-      by true e = absurd cc
-      by false e = e
+  was_word : (n : ℕ) (w : List ℕ) → word_of q.dict n ≡ Some w → word_of k.dict n ≡ Some w
+  was_word = word_before k.dict q.dict numbers (is_used less) words_then
 
   used_stays : (n : ℕ) → is_used less n ≡ true → word_of q.dict n ≡ word_of k.dict n
-  used_stays n used = words_then n ∙ (ap (λ c. if has_number numbers n && not c then None else word_of k.dict n) used ∙ by (has_number numbers n))
-    where
-      by : (c : Bool) → (if c && false then None else word_of k.dict n) ≡ word_of k.dict n
-      by true = refl
-      by false = refl
+  used_stays = word_stays k.dict q.dict numbers (is_used less) words_then
 
   used_then : AreUsed q
-  used_then n some = takes.forgets.used n some ∙ (ap (λ (u : Kept). is_used u n) takes.lessens.parts ∙ by (is_used less n) refl)
+  used_then n some =
+      takes.forgets.used n some
+      ∙ (ap (λ (u : Kept). is_used u n) takes.lessens.parts ∙ known_used k.dict q.dict numbers (is_used less) words_then (λ i known. by i known (is_used less i) refl) n some)
     where
-      before : is_some (word_of p.dict n) ≡ true
-      before = let w = some_word (word_of q.dict n) some in ap is_some (ap (λ d. word_of d n) (sym dict_is) ∙ word_before n w.0 w.1)
-
-      by : (c : Bool) → is_used less n ≡ c → is_used less n ≡ true
-      by true e = e
-      by false e =
-          let given = unused_is left right p k m was.parts was.in_use.used takes.unlinks takes.sound closed_k takes.lessens was.in_use.rights n before e in
-          let none : is_some (word_of q.dict n) ≡ false = ap is_some (words_then n ∙ ap₂ (λ x y. if x && not y then None else word_of k.dict n) given e) in
-          absurd (both_ways (is_some (word_of q.dict n)) none some)
+      by : (i : ℕ) → is_some (word_of k.dict i) ≡ true → (c : Bool) → is_used less i ≡ c → (is_used less i ≡ true) ⊎ (has_number numbers i ≡ true)
+      by i known true used = inl used
+      by i known false unused =
+          let before = ap (λ d. is_some (word_of d i)) (sym dict_is) ∙ known in
+          inr (unused_is left right p k m was.parts was.in_use.used takes.unlinks takes.sound closed_k takes.lessens was.in_use.rights i before unused)
 
   -- ---- the store is in form again
   link_back : AreSound end → (x y : ℕ) → is_linked end x y ≡ true → is_linked k x y ≡ true
@@ -143,12 +127,12 @@ module _ (left right : ℕ) (p q : Kept) (takes : TakesAxiom left right p q) (j 
       heads_back : (o v : Option (List ℕ)) → word_of q.dict x ≡ o → word_of q.dict y ≡ v → is_head_by o v ≡ true → is_head_by (word_of k.dict x) (word_of k.dict y) ≡ true
       heads_back None v is_x is_y h = absurd cc
       heads_back (Some w) None is_x is_y h = absurd cc
-      heads_back (Some w) (Some v) is_x is_y h = ap₂ is_head_by (word_before x w is_x) (word_before y v is_y) ∙ h
+      heads_back (Some w) (Some v) is_x is_y h = ap₂ is_head_by (was_word x w is_x) (was_word y v is_y) ∙ h
 
       tests_back : (o v : Option (List ℕ)) → word_of q.dict x ≡ o → word_of q.dict y ≡ v → are_weaker (test_by v) (test_by o) ≡ true → are_weaker (test_by (word_of k.dict y)) (test_by (word_of k.dict x)) ≡ true
       tests_back o None is_x is_y h = absurd (both_ways false refl h)
       tests_back None (Some v) is_x is_y h = absurd (both_ways (are_weaker (test_of v) None) (none_weaker (test_of v)) h)
-      tests_back (Some w) (Some v) is_x is_y h = ap₂ are_weaker (ap test_by (word_before y v is_y)) (ap test_by (word_before x w is_x)) ∙ h
+      tests_back (Some w) (Some v) is_x is_y h = ap₂ are_weaker (ap test_by (was_word y v is_y)) (ap test_by (was_word x w is_x)) ∙ h
 
       own : (is_head_by (word_of q.dict x) (word_of q.dict y) ≡ true) ⊎ (is_test_link q.dict k.declared x y ≡ true) → (is_head_by (word_of k.dict x) (word_of k.dict y) || is_test_link k.dict k.declared x y) ≡ true
       own (inl head) = or_left (is_head_by (word_of k.dict x) (word_of k.dict y)) (is_test_link k.dict k.declared x y) (heads_back (word_of q.dict x) (word_of q.dict y) refl refl head)
@@ -194,7 +178,7 @@ module _ (left right : ℕ) (p q : Kept) (takes : TakesAxiom left right p q) (j 
           by : (o : Option (List ℕ)) → word_of q.dict n ≡ o → is_some {T = Bool × ℕ} (test_by o) ≡ true → has m.ext n slot ≡ is_met (test_by (word_of q.dict n)) rec.size
           by None none h = absurd (both_ways false refl h)
           by (Some w) word h =
-              let in_k = word_before n w word in
+              let in_k = was_word n w word in
               let in_p : word_of p.dict n ≡ Some w = ap (λ d. word_of d n) (sym dict_is) ∙ in_k in
               let not_led : is_entailed k right n ≡ false = false_from_ne_true (is_entailed k right n) (λ e. both_ways (is_test w) (plain_not_test w (plain_led n w in_k e)) h) in
               let told = was.tests.met slot rec (sym (rec_p slot) ∙ is) n (ap (λ o. is_some {T = Bool × ℕ} (test_by o)) in_p ∙ h) in
@@ -409,12 +393,10 @@ module _ (left right : ℕ) (p q : Kept) (takes : TakesAxiom left right p q) (j 
       by block (inr row) = inr (subst (λ c. Among (map (block_of k.limits Rows) lost_few.0) c) (sym row.is) (map_among (block_of k.limits Rows) lost_few.0 row.number (lost_few.2 block row)))
 
   -- ---- how often rows are edited
-  pub few_edits : q.ext.edits ≤ p.ext.edits + differing_bits p.ext q.ext
+  pub few_edits : AreEditsFew p.ext q.ext
   few_edits =
-      let E : Ext → Ext → Type 0 = λ a c. c.edits ≤ a.edits + differing_bits a c in
-      let P : Ext → Type 0 = λ a. E a q.ext in
-      let Q : Ext → Type 0 = λ c. E k.ext c in
-      subst P (ap (λ (u : Kept). u.ext) takes.unlinks.parts) (subst Q (sym (ap (λ (u : Kept). u.ext) end_is)) here)
+      subst (λ (a : Ext). AreEditsFew a q.ext) (ap (λ (u : Kept). u.ext) takes.unlinks.parts)
+      (subst (λ (c : Ext). AreEditsFew k.ext c) (sym (ap (λ (u : Kept). u.ext) end_is)) here)
     where
-      here : m.ext.edits ≤ k.ext.edits + differing_bits k.ext m.ext
+      here : AreEditsFew k.ext m.ext
       here = redescribed_edits (lessened k left right) k.limits.files k m takes.lessens takes.sound.files (none_past k m takes.sound closed_k left right takes.lessens)

@@ -56,7 +56,7 @@ use Rattle.lis_store.specs.Saving.{settled, IsReady, Saves}
 use Rattle.lis_store.specs.Judging.{is_needed_by, undeclare_checks}
 use Rattle.lis_store.specs.Redescribing.{IsTurnedRow}
 use Rattle.lis_store.specs.Testing.{without_number, undescribed, UndeclaresUnmet}
-use Rattle.lis_store.specs.Changes.{Changes, first_refusal, differing_bits}
+use Rattle.lis_store.specs.Changes.{Changes, first_refusal}
 use Rattle.lis_store.specs.declared.change.Change.{Change}
 use Rattle.lis_store.specs.declared.change.Change.TheVariants.{Refused}
 use Rattle.lis_store.proofs.SavedAlone.{saves_alone}
@@ -65,6 +65,7 @@ use Rattle.lis_store.proofs.HeadsUsed.{used_flagged, used_had, used_left, IsUsed
 use Rattle.lis_store.proofs.HeadsUsed.IsUsedFor.{Flagged, HadAt, NamedLeft}
 use Rattle.lis_store.proofs.Judged.{all_pass, judged_refused, judged_done, change_refused}
 use Rattle.lis_store.proofs.Cleaned.{clean_is, sound_clean, in_use_clean, tests_clean, none_marked}
+use Rattle.lis_store.proofs.Edits.{AreEditsFew}
 use Rattle.lis_store.proofs.Redescribed.{given_then, redescribed_edits}
 use Rattle.lis_store.proofs.Told.{words_same}
 use Rattle.lis_store.proofs.Declared.{declared_told}
@@ -351,8 +352,8 @@ module _ (p q : Kept) (number : ℕ) (sound : AreSound p) (may : MayUndeclare nu
         clean = λ _. clean_is q;
       }
 
-  pub few_edits : q.ext.edits ≤ p.ext.edits + differing_bits p.ext q.ext
-  few_edits = subst (λ (e : Ext). e.edits ≤ p.ext.edits + differing_bits p.ext e) (sym ext_is) (redescribed_edits (without_number p number) p.limits.files p made gone.takes sound.files (without_past p sound number))
+  pub few_edits : AreEditsFew p.ext q.ext
+  few_edits = subst (λ (e : Ext). AreEditsFew p.ext e) (sym ext_is) (redescribed_edits (without_number p number) p.limits.files p made gone.takes sound.files (without_past p sound number))
 
   -- the rows that change are that of the number
   pub few_marked : marked_count p ≡ 0 → marked_count q ≤ 2
@@ -493,7 +494,7 @@ module _ (old : Stored) (word : List ℕ) (number : ℕ) (sound : IsSound old) (
     pub undeclared_limits : q.limits ≡ old.parts.limits
     undeclared_limits = limits_then old.parts q number sound.parts undeclared_may gone
 
-    pub undeclared_edits : q.ext.edits ≤ old.parts.ext.edits + differing_bits old.parts.ext q.ext
+    pub undeclared_edits : AreEditsFew old.parts.ext q.ext
     undeclared_edits = few_edits old.parts q number sound.parts undeclared_may gone
 
     pub undeclared_marks : length old.journal.staged + marked_count q ≤ 531

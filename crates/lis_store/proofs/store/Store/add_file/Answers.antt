@@ -1,4 +1,4 @@
-use Rattle.std.proofs.Common.{◌∙◌, ◌+◌, ◌≤◌, nat_lt, List, ℕ, length, Err, sym, ap, subst, arith, ◌≡◌}
+use Rattle.std.proofs.Common.{◌∙◌, nat_lt, List, ℕ, length, Err, sym, ap, subst, arith, ◌≡◌}
 use Rattle.std.specs.List.{list_all}
 use Rattle.std.proofs.lemmas.Result.{err_from_is_err_and}
 use Rattle.arrayvec.specs.ArrayVec.{ArrayVec}
@@ -11,8 +11,9 @@ use Rattle.lis_eval.specs.Room.{HasRoom}
 use Rattle.lis_kept.specs.Kept.{Kept}
 use Rattle.lis_store.specs.Admitting.{IsAdmitted}
 use Rattle.lis_store.specs.Stored.{Stored, StoreFits}
-use Rattle.lis_store.specs.Changes.{Changes, differing_bits}
+use Rattle.lis_store.specs.Changes.{Changes}
 use Rattle.lis_store.specs.Adding.{PutsIn}
+use Rattle.lis_store.proofs.Edits.{edits_saved}
 use Rattle.lis_store.proofs.AddFile.{form_put, limits_put, admitted_put, limits_then, added_sound, added_image, added_placed, added_marks, added_edits, added_changes, lost_sound, lost_limits, lost_ext, lost_image, lost_changes}
 use Rattle.lis_store.proofs.Admitted.{whole_inside, admitted, enough_free, add_done, added_refused}
 use Rattle.lis_store.proofs.store.Store.add_file.Goals as goal
@@ -235,7 +236,4 @@ returns-clause-edits g c =
     let unbroken = ap (λ (k : Stored). k.is_broken) c.self.view_is ∙ c.requires.unbroken in
     let P : List (List ℕ) → Type 0 = λ ws. PutsIn (new_file c.args.name.now ws c.args.payload.now) c.in_ok-blocks.blocks.items c.put_content.new.parts c.put_in.new.parts in
     let puts = subst P (c.as_slice.ensures.value ∙ c.in_ok-assigned.ensures.words) c.put_in.ensures.put in
-    let E : Ext → Ext → Type 0 = λ a b. b.edits ≤ a.edits + differing_bits a b in
-    let A : Ext → Type 0 = λ b. E c.args.self.now.parts.ext b in
-    let B : Ext → Type 0 = λ a. E a c.put_in.new.parts.ext in
-    subst A (sym (ap (λ (k : Kept). k.ext) c.save.ensures.parts)) (subst B (ap (λ (k : Stored). k.parts.ext) c.self.view_is) (added_edits old c.put_content.new.parts c.put_content.new.journal c.args.payload.now c.in_ok-blocks.blocks.items m placed put c.self.invariant c.put_in.new.parts c.args.name.now given unbroken one puts))
+    edits_saved c.put_in.new.parts c.self.view_is c.save.ensures.parts (added_edits old c.put_content.new.parts c.put_content.new.journal c.args.payload.now c.in_ok-blocks.blocks.items m placed put c.self.invariant c.put_in.new.parts c.args.name.now given unbroken one puts)

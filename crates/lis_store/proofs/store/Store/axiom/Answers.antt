@@ -1,10 +1,9 @@
-use Rattle.std.proofs.Common.{◌∙◌, ◌+◌, ◌≤◌, Err, sym, ap, subst}
+use Rattle.std.proofs.Common.{◌∙◌, Err, sym, ap, subst}
 use Rattle.std.proofs.lemmas.Result.{err_from_is_err_and}
-use Rattle.lis_ext.specs.Ext.{Ext}
 use Rattle.lis_model.specs.Step.{add_axiom}
-use Rattle.lis_kept.specs.Kept.{Kept}
 use Rattle.lis_store.specs.Stored.{Stored, StoreFits}
-use Rattle.lis_store.specs.Changes.{Changes, differing_bits}
+use Rattle.lis_store.specs.Changes.{Changes}
+use Rattle.lis_store.proofs.Edits.{edits_saved}
 use Rattle.lis_store.proofs.AddAxiom.{axiom_sound, axiom_marks, axiom_changes}
 use Rattle.lis_store.proofs.Judged.{change_refused}
 use Rattle.lis_store.proofs.Related.{related, axiom_refused, axiom_done}
@@ -68,7 +67,4 @@ pub returns-clause-edits : goal.returns-clause-edits
 returns-clause-edits g c =
     let may = related c.self.inside.parts c.args.left.now c.args.right.now c.in_ok-may_relate.ensures.row in
     let few = few_edits c.self.inside.parts c.relate.new.parts c.args.left.now c.args.right.now c.relate.ensures.relates c.self.invariant.parts may c.self.invariant.free in
-    let E : Ext → Ext → Type 0 = λ a b. b.edits ≤ a.edits + differing_bits a b in
-    let A : Ext → Type 0 = λ b. E c.args.self.now.parts.ext b in
-    let B : Ext → Type 0 = λ a. E a c.relate.new.parts.ext in
-    subst A (sym (ap (λ (k : Kept). k.ext) c.save.ensures.parts)) (subst B (ap (λ (k : Stored). k.parts.ext) c.self.view_is) few)
+    edits_saved c.relate.new.parts c.self.view_is c.save.ensures.parts few

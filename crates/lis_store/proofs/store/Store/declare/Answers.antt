@@ -1,12 +1,12 @@
-use Rattle.std.proofs.Common.{ℕ, ◌∙◌, ◌+◌, ◌≤◌, length, sym, ap, subst, List, Err, arith}
+use Rattle.std.proofs.Common.{ℕ, ◌∙◌, length, sym, ap, subst, List, Err, arith}
 use Rattle.std.proofs.lemmas.Result.{err_from_is_err_and}
-use Rattle.lis_ext.specs.Ext.{Ext}
 use Rattle.lis_model.specs.Image.{image_blocks}
 use Rattle.lis_model.specs.Step.{Situation, words_at, mkdir}
 use Rattle.lis_kept.specs.Kept.{Kept}
 use Rattle.lis_store.specs.Stored.{Stored, StoreFits}
 use Rattle.lis_store.specs.Placing.{AreNumbersOf}
-use Rattle.lis_store.specs.Changes.{Changes, differing_bits}
+use Rattle.lis_store.specs.Changes.{Changes}
+use Rattle.lis_store.proofs.Edits.{edits_saved}
 use Rattle.lis_store.proofs.TestedTells.{declared_numbers, declared_few, declared_new, declared_may, declared_room, declared_limits, declared_edits, declared_marks, declared_sound, declared_changes, declared_refused}
 use Rattle.lis_store.proofs.SavedAlone.{alone_placed}
 use Rattle.lis_store.proofs.store.Store.declare.Goals as goal
@@ -99,11 +99,8 @@ returns-clause-edits g c =
     let old : Stored = record { parts = c.self.inside.parts; journal = c.self.inside.journal; is_broken = c.self.inside.is_broken } in
     let numbers = subst (λ (ns : List ℕ). AreNumbersOf c.self.inside.parts (words_at c.args.place.now) ns) (sym c.as_slice.ensures.value) c.in_ok-places.ensures.numbers in
     let unbroken = ap (λ (k : Stored). k.is_broken) c.self.view_is ∙ c.requires.unbroken in
-    let E : Ext → Ext → Type 0 = λ a b. b.edits ≤ a.edits + differing_bits a b in
     let few = declared_edits old c.args.place.now c.args.word.now c.as_slice.result.now c.self.invariant c.may_declare.ensures.word c.in_ok-places.ensures.form c.in_ok-places.ensures.row numbers unbroken c.declare_tested.new.parts c.declare_tested.ensures in
-    let P : Ext → Type 0 = λ b. E c.args.self.now.parts.ext b in
-    let Q : Ext → Type 0 = λ a. E a c.declare_tested.new.parts.ext in
-    subst P (sym (ap (λ (k : Kept). k.ext) c.save.ensures.parts)) (subst Q (ap (λ (k : Stored). k.parts.ext) c.self.view_is) few)
+    edits_saved c.declare_tested.new.parts c.self.view_is c.save.ensures.parts few
 
 pub returns-clause-limits : goal.returns-clause-limits
 returns-clause-limits g c =

@@ -1,13 +1,13 @@
-use Rattle.std.proofs.Common.{◌≡◌, ◌∙◌, ◌+◌, ◌≤◌, refl, sym, ap, subst, is_some, Err, arith}
+use Rattle.std.proofs.Common.{◌≡◌, ◌∙◌, refl, sym, ap, subst, is_some, Err, arith}
 use Rattle.std.proofs.lemmas.Result.{err_from_is_err_and}
 use Rattle.lis_catalog.specs.Catalog.{slot_of}
 use Rattle.lis_catalog.proofs.Laws.{rec_at-slot_of}
 use Rattle.lis_store.specs.Stored.{Stored, IsSound, StoreFits}
-use Rattle.lis_store.specs.Changes.{differing_bits}
 use Rattle.lis_store.specs.Judging.{is_among}
 use Rattle.lis_model.specs.Image.{image_blocks}
 use Rattle.lis_ext.specs.Ext.{Ext}
 use Rattle.lis_kept.specs.Kept.{Kept}
+use Rattle.lis_store.proofs.Edits.{edits_saved}
 use Rattle.lis_store.proofs.RemoveFile.{removed_refused, lost_parts, lost_sound, lost_changes, form_given, there_given, same_limits, removed_sound, removed_placed, removed_marks, removed_edits, removed_changes}
 use Rattle.lis_store.proofs.store.Store.remove.Goals as goal
 
@@ -168,7 +168,4 @@ returns-clause-edits g c =
     let m = g.D.Disk.meaning c.args.disk.now in
     let unbroken = ap (λ (k : Stored). k.is_broken) c.self.view_is ∙ c.requires.unbroken in
     let here = ap (λ (k : Stored). is_among k.parts c.args.place.now c.args.name.now) c.self.view_is ∙ sym c.in-Some.ensures.here in
-    let E : Ext → Ext → Type 0 = λ a b. b.edits ≤ a.edits + differing_bits a b in
-    let P : Ext → Type 0 = λ b. E c.args.self.now.parts.ext b in
-    let Q : Ext → Type 0 = λ a. E a c.take_out.new.parts.ext in
-    subst P (sym (ap (λ (k : Kept). k.ext) c.save.ensures.parts)) (subst Q (ap (λ (k : Stored). k.parts.ext) c.self.view_is) (removed_edits old c.give_content.new.parts c.take_out.new.parts c.in-Some.slot c.args.place.now c.args.name.now found.0 m given.0 c.take_out.ensures c.self.invariant unbroken here named found.1))
+    edits_saved c.take_out.new.parts c.self.view_is c.save.ensures.parts (removed_edits old c.give_content.new.parts c.take_out.new.parts c.in-Some.slot c.args.place.now c.args.name.now found.0 m given.0 c.take_out.ensures c.self.invariant unbroken here named found.1)

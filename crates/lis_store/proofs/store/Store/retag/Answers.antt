@@ -1,9 +1,8 @@
-use Rattle.std.proofs.Common.{◌≡◌, ◌∙◌, ◌+◌, ◌≤◌, nat_lt, List, ℕ, length, Some, None, Err, IsSomeAnd, is_some, refl, sym, ap, subst}
+use Rattle.std.proofs.Common.{◌≡◌, ◌∙◌, nat_lt, List, ℕ, length, Some, None, Err, IsSomeAnd, is_some, refl, sym, ap, subst}
 use Rattle.std.proofs.lemmas.Result.{err_from_is_err_and}
 use Rattle.std.specs.List.{list_all}
 use Rattle.lis_catalog.specs.Catalog.{slot_of}
 use Rattle.lis_catalog.proofs.Laws.{rec_at-slot_of}
-use Rattle.lis_ext.specs.Ext.{Ext}
 use Rattle.lis_fields.specs.Records.{FileRecord}
 use Rattle.lis_fields.specs.Layouts.{are_blocks}
 use Rattle.lis_model.specs.Changes.{new_file}
@@ -13,7 +12,7 @@ use Rattle.lis_kept.specs.Telling.{bytes_told}
 use Rattle.lis_journal.specs.Images.{Fits}
 use Rattle.lis_journal.specs.Phases.{looked}
 use Rattle.lis_store.specs.Stored.{Stored, IsSound, StoreFits}
-use Rattle.lis_store.specs.Changes.{Changes, first_refusal, differing_bits}
+use Rattle.lis_store.specs.Changes.{Changes, first_refusal}
 use Rattle.lis_store.specs.Contents.{AreContentsWithin}
 use Rattle.lis_store.specs.Judging.{is_among}
 use Rattle.lis_store.specs.Replacing.{MayReplace}
@@ -21,6 +20,7 @@ use Rattle.lis_store.specs.ReplacingIn.{RefilesIn}
 use Rattle.lis_grammar.specs.Places.{resolved, text_words}
 use Rattle.lis_store.specs.Instead.{instead_checks}
 use Rattle.lis_store.specs.Retagging.{words_moved}
+use Rattle.lis_store.proofs.Edits.{edits_saved}
 use Rattle.lis_store.proofs.FileRead.{led_to, lost_read, moved_first, moved_nowhere, moving_refused, retagging_refused, retagging_changes}
 use Rattle.lis_store.proofs.ReplaceFile.{still_in_form, still_below, refiled_limits, refiled_sound, refiled_image, refiled_placed, refiled_room, refiled_edits}
 use Rattle.lis_store.proofs.store.Store.retag.Goals as goal
@@ -237,10 +237,7 @@ returns-clause-edits g c =
     let Again : List ℕ → Type 0 = λ ns. RefilesIn c.in-Some.slot (new_file c.args.name.now c.as_slice-2.result.now c.bytes-2.result.now) ns c.self.inside.parts c.refile.new.parts in
     let again = subst Again (c.blocks_in-blocks.ensures found.0 found.1) c.refile.ensures.refiled in
     let few = refiled_edits old c.refile.new.parts c.in-Some.slot c.args.name.now c.as_slice-2.result.now c.bytes-2.result.now found.0 c.self.invariant unbroken found.1 first again in
-    let E : Ext → Ext → Type 0 = λ a b. b.edits ≤ a.edits + differing_bits a b in
-    let A : Ext → Type 0 = λ b. E c.args.self.now.parts.ext b in
-    let B : Ext → Type 0 = λ a. E a c.refile.new.parts.ext in
-    subst A (sym (ap (λ (k : Kept). k.ext) c.save.ensures.parts)) (subst B (ap (λ (k : Stored). k.parts.ext) c.self.view_is) few)
+    edits_saved c.refile.new.parts c.self.view_is c.save.ensures.parts few
 
 pub returns-clause-changes : goal.returns-clause-changes
 returns-clause-changes g c = λ s fits.

@@ -1,9 +1,7 @@
-use Rattle.std.proofs.Common.{◌∙◌, ◌+◌, ◌≤◌, refl, sym, ap, subst}
+use Rattle.std.proofs.Common.{◌∙◌, refl, sym, ap, subst}
 use Rattle.lis_store.specs.Stored.{Stored, StoreFits}
-use Rattle.lis_store.specs.Changes.{differing_bits}
 use Rattle.lis_store.specs.Unlinking.{is_axiom}
-use Rattle.lis_ext.specs.Ext.{Ext}
-use Rattle.lis_kept.specs.Kept.{Kept}
+use Rattle.lis_store.proofs.Edits.{edits_saved}
 use Rattle.lis_store.proofs.Unaxiom.{may_go, unaxiom_refused, unaxiom_sound, unaxiom_marks, unaxiom_changes}
 use Rattle.lis_store.proofs.Unaxiomed.{few_edits}
 use Rattle.lis_store.proofs.SavedAlone.{alone_placed}
@@ -51,8 +49,5 @@ returns-clause-changes g c = λ now fits.
 pub returns-clause-edits : goal.returns-clause-edits
 returns-clause-edits g c =
     let now = c.args.self.now in
-    let E : Ext → Ext → Type 0 = λ a b. b.edits ≤ a.edits + differing_bits a b in
     let few = few_edits c.in-Some.from c.in-Some.to c.self.inside.parts c.take_axiom.new.parts c.take_axiom.ensures.taken c.self.inside.journal c.self.inside.is_broken c.self.invariant in
-    let P : Ext → Type 0 = λ b. E now.parts.ext b in
-    let Q : Ext → Type 0 = λ a. E a c.take_axiom.new.parts.ext in
-    subst P (sym (ap (λ (k : Kept). k.ext) c.save.ensures.parts)) (subst Q (ap (λ (k : Stored). k.parts.ext) c.self.view_is) few)
+    edits_saved c.take_axiom.new.parts c.self.view_is c.save.ensures.parts few

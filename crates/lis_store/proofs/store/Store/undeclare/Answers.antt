@@ -1,11 +1,11 @@
-use Rattle.std.proofs.Common.{◌∙◌, ◌+◌, ◌≤◌, sym, ap, subst, Err}
+use Rattle.std.proofs.Common.{◌∙◌, sym, ap, subst, Err}
 use Rattle.std.proofs.lemmas.Result.{err_from_is_err_and}
-use Rattle.lis_ext.specs.Ext.{Ext}
 use Rattle.lis_model.specs.Image.{image_blocks}
 use Rattle.lis_model.specs.Step.{rmdir}
 use Rattle.lis_kept.specs.Kept.{Kept}
 use Rattle.lis_store.specs.Stored.{Stored, StoreFits}
-use Rattle.lis_store.specs.Changes.{Changes, differing_bits}
+use Rattle.lis_store.specs.Changes.{Changes}
+use Rattle.lis_store.proofs.Edits.{edits_saved}
 use Rattle.lis_store.proofs.Undeclared.{undeclared_may, undeclared_named, undeclared_limits, undeclared_edits, undeclared_marks, undeclared_sound, undeclared_changes, undeclared_refused}
 use Rattle.lis_store.proofs.SavedAlone.{alone_placed}
 use Rattle.lis_store.proofs.store.Store.undeclare.Goals as goal
@@ -55,11 +55,8 @@ pub returns-clause-edits : goal.returns-clause-edits
 returns-clause-edits g c =
     let old : Stored = record { parts = c.self.inside.parts; journal = c.self.inside.journal; is_broken = c.self.inside.is_broken } in
     let unbroken = ap (λ (k : Stored). k.is_broken) c.self.view_is ∙ c.requires.unbroken in
-    let E : Ext → Ext → Type 0 = λ a b. b.edits ≤ a.edits + differing_bits a b in
     let few = undeclared_edits old c.args.word.now c.in_ok-number.number c.self.invariant unbroken c.in_ok-number.ensures.row c.in_ok-number.ensures.number c.undeclare_unmet.new.parts c.undeclare_unmet.ensures in
-    let P : Ext → Type 0 = λ b. E c.args.self.now.parts.ext b in
-    let Q : Ext → Type 0 = λ a. E a c.undeclare_unmet.new.parts.ext in
-    subst P (sym (ap (λ (k : Kept). k.ext) c.save.ensures.parts)) (subst Q (ap (λ (k : Stored). k.parts.ext) c.self.view_is) few)
+    edits_saved c.undeclare_unmet.new.parts c.self.view_is c.save.ensures.parts few
 
 pub returns-clause-limits : goal.returns-clause-limits
 returns-clause-limits g c =

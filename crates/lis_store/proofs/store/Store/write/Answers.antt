@@ -1,4 +1,4 @@
-use Rattle.std.proofs.Common.{◌≡◌, ◌∙◌, ◌+◌, ◌≤◌, Bool, List, ℕ, Err, IsSomeAnd, is_some, length, true, refl, sym, ap, subst, arith}
+use Rattle.std.proofs.Common.{◌≡◌, ◌∙◌, ◌≤◌, Bool, List, ℕ, Err, IsSomeAnd, is_some, length, true, refl, sym, ap, subst, arith}
 use Rattle.std.specs.List.{list_all}
 use Rattle.std.proofs.lemmas.Result.{err_from_is_err_and}
 use Rattle.lis_catalog.specs.Catalog.{slot_of}
@@ -13,12 +13,14 @@ use Rattle.lis_eval.specs.Room.{HasRoom}
 use Rattle.lis_kept.specs.Kept.{Kept}
 use Rattle.lis_kept.specs.Telling.{declared_of}
 use Rattle.lis_store.specs.Stored.{Stored, IsSound, StoreFits}
-use Rattle.lis_store.specs.Changes.{Changes, differing_bits}
+use Rattle.lis_store.specs.Changes.{Changes}
 use Rattle.lis_store.specs.Judging.{is_among}
 use Rattle.lis_store.specs.Instead.{given_before}
 use Rattle.lis_store.specs.Replacing.{MayReplace}
+use Rattle.lis_store.proofs.Edits.{AreEditsFew, edits_saved}
 use Rattle.lis_store.proofs.Admitted.{whole_inside}
-use Rattle.lis_store.proofs.ReplaceFile.{mid_form, mid_limits, mid_first, mid_in_form, mid_below, written_limits, written_sound, written_image, written_unbroken, written_placed, written_room, written_changes, written_edits, renewed_torn, content_broken, torn_sound, torn_limits, torn_edits, torn_changes}
+use Rattle.lis_store.proofs.ReplaceFile.{mid_form, mid_limits, mid_first, mid_in_form, mid_below, written_limits, written_sound, written_image, written_unbroken, written_placed, written_room, written_changes, written_edits, renewed_torn}
+use Rattle.lis_store.proofs.Torn.{torn_sound, torn_limits, torn_edits, torn_changes, ended_broken}
 use Rattle.lis_store.proofs.WriteFile.{write_first, write_enough, written_enough, rest_of_write, written_done, written_refused, written_nowhere}
 use Rattle.lis_store.proofs.store.Store.write.Goals as goal
 
@@ -88,7 +90,7 @@ returns-in_err-blocks-clause-changes g c = λ s fits.
     let new : Stored = record { parts = c.put_instead.new.parts; journal = c.put_instead.new.journal; is_broken = c.put_instead.new.is_broken } in
     let torn = renewed_torn old c.put_instead.new.parts c.put_instead.new.journal found.0 c.args.payload.now c.self.invariant m after c.in_err-blocks.field-0.0 (c.in_err-blocks.ensures.renewed found.0 found.1) in
     torn_changes old c.put_instead.new.parts c.put_instead.new.journal c.self.invariant m after torn.1 now (write now c.args.name.now payload) new c.from_residual-in_err-blocks.result
-    (subst P (sym c.self.view_is) fits) (content_broken c.in_err-blocks.field-0.0 c.put_instead.new.is_broken c.in_err-blocks.ensures.ended torn.0)
+    (subst P (sym c.self.view_is) fits) (ended_broken ℕ c.put_instead.new.is_broken c.in_err-blocks.field-0.0 c.in_err-blocks.ensures.ended)
     (e.1 ∙ ap Err (e.2 ∙ torn.0))
 
 pub refile-requires-clause-form : goal.refile-requires-clause-form
@@ -262,10 +264,7 @@ returns-clause-edits g c =
     let renews = c.in_ok-blocks.ensures.renewed found.0 found.1 in
     let few = written_edits old c.put_instead.new.parts c.put_instead.new.journal c.in-Some.slot c.args.payload.now c.in_ok-blocks.blocks.items found.0 c.self.invariant c.in_ok-blocks.ensures.sound found.1 before placed renews
     c.args.name.now c.as_slice.result.now first c.refile.new.parts c.refile.ensures.refiled unbroken in
-    let E : Ext → Ext → Type 0 = λ a b. b.edits ≤ a.edits + differing_bits a b in
-    let X : Ext → Type 0 = λ b. E c.args.self.now.parts.ext b in
-    let Y : Ext → Type 0 = λ a. E a c.refile.new.parts.ext in
-    subst X (sym (ap (λ (k : Kept). k.ext) c.save.ensures.parts)) (subst Y (ap (λ (k : Stored). k.parts.ext) c.self.view_is) few)
+    edits_saved c.refile.new.parts c.self.view_is c.save.ensures.parts few
 
 -- ---- a fault of the disk while the bytes are put
 pub invariant_of-self : goal.invariant_of-self
@@ -277,7 +276,7 @@ invariant_of-self g c =
     let after = g.D.Disk.meaning c.put_instead.new.disk in
     let torn = renewed_torn old c.put_instead.new.parts c.put_instead.new.journal found.0 c.args.payload.now c.self.invariant before after c.in_err-blocks.field-0.0 (c.in_err-blocks.ensures.renewed found.0 found.1) in
     let S : Bool → Type 0 = λ b. IsSound (record { parts = c.put_instead.new.parts; journal = c.put_instead.new.journal; is_broken = b }) in
-    subst S (sym (content_broken c.in_err-blocks.field-0.0 c.put_instead.new.is_broken c.in_err-blocks.ensures.ended torn.0)) (torn_sound old c.put_instead.new.parts c.put_instead.new.journal c.self.invariant before after torn.1 c.put_instead.ensures.sound)
+    subst S (sym (ended_broken ℕ c.put_instead.new.is_broken c.in_err-blocks.field-0.0 c.in_err-blocks.ensures.ended)) (torn_sound old c.put_instead.new.parts c.put_instead.new.journal c.self.invariant before after torn.1 c.put_instead.ensures.sound)
 
 pub returns-in_err-blocks-clause-limits : goal.returns-in_err-blocks-clause-limits
 returns-in_err-blocks-clause-limits g c =
@@ -307,7 +306,7 @@ returns-in_err-blocks-clause-edits g c =
     let before = g.D.Disk.meaning c.args.disk.now in
     let after = g.D.Disk.meaning c.put_instead.new.disk in
     let torn = renewed_torn old c.put_instead.new.parts c.put_instead.new.journal found.0 c.args.payload.now c.self.invariant before after c.in_err-blocks.field-0.0 (c.in_err-blocks.ensures.renewed found.0 found.1) in
-    let E : Ext → Type 0 = λ a. c.put_instead.new.parts.ext.edits ≤ a.edits + differing_bits a c.put_instead.new.parts.ext in
+    let E : Ext → Type 0 = λ a. AreEditsFew a c.put_instead.new.parts.ext in
     subst E (ap (λ (k : Stored). k.parts.ext) c.self.view_is) (torn_edits old c.put_instead.new.parts c.put_instead.new.journal c.self.invariant before after torn.1)
 
 -- ---- limits

@@ -1,0 +1,35 @@
+-- How often rows are edited: at most as often as bits of them differ.
+use Rattle.std.proofs.Common.{◌≡◌, sym, ap, ap₂, subst, inl, inr, ℕ, ◌+◌, ◌<◌, ◌≤◌, List, [], ◌∷◌, length, map, sum, arith}
+use Rattle.std.specs.List.{range_with_len}
+use Rattle.std.proofs.lemmas.List.Sums.{sum_by-cons}
+use Rattle.lis_graph.proofs.Members.{Among}
+use Rattle.lis_graph.proofs.Ranges.{range_among}
+use Rattle.lis_ext.specs.Ext.{Ext, set_of as numbers_at}
+use Rattle.lis_ext.specs.Numbers.{differs, numbers_where}
+use Rattle.lis_kept.specs.Kept.{Kept}
+use Rattle.lis_store.specs.Stored.{Stored}
+use Rattle.lis_store.specs.Changes.{differing_bits}
+
+-- as the contracts say it of stores
+abbrev pub AreEditsFew : Ext → Ext → Type 0
+AreEditsFew p q = q.edits ≤ p.edits + differing_bits p q
+
+-- a sum is no less than one of its terms
+sum_has : (f : ℕ → ℕ) (xs : List ℕ) (x : ℕ) → Among xs x → f x ≤ sum (map f xs)
+sum_has f [] x m = absurd m
+sum_has f (y ∷ ys) x (inl same) = omega (arith, ap f same, sum_by-cons (λ (n : ℕ). n) (f y) (map f ys))
+sum_has f (y ∷ ys) x (inr m) = omega (arith, sum_has f ys x m, sum_by-cons (λ (n : ℕ). n) (f y) (map f ys))
+
+-- where the set of one slot came to be another
+pub edits_at : (p q : Ext) (slot : ℕ) (before now : List ℕ) → slot < length p.sets → numbers_at p slot ≡ before → numbers_at q slot ≡ now
+    → q.edits ≤ p.edits + length (numbers_where p.props (differs before now)) → AreEditsFew p q
+edits_at p q slot before now slot_in was is made =
+    let f : ℕ → ℕ = λ at. length (numbers_where p.props (differs (numbers_at p at) (numbers_at q at))) in
+    let one = sum_has f (range_with_len 0 (length p.sets)) slot (range_among 0 (length p.sets) slot (omega arith) (omega (arith, slot_in))) in
+    let bits : f slot ≡ length (numbers_where p.props (differs before now)) = ap₂ (λ a b. length (numbers_where p.props (differs a b))) was is in
+    omega (arith, made, one, bits)
+
+-- saving parts edits no row
+pub edits_saved : {was old : Stored} {saved : Kept} (made : Kept) → was ≡ old → saved ≡ record made { marks = saved.marks } → AreEditsFew was.parts.ext made.ext → AreEditsFew old.parts.ext saved.ext
+edits_saved {was} {old} {saved} made same is few =
+    subst (λ (e : Ext). AreEditsFew old.parts.ext e) (sym (ap (λ (k : Kept). k.ext) is)) (subst (λ (k : Stored). AreEditsFew k.parts.ext made.ext) same few)
