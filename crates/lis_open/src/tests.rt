@@ -35,6 +35,15 @@ const BITMAP: u64 = 585 * 4_096;
 
 const DATA: u64 = 586 * 4_096;
 
+// The same of an image with room for 192 known words.
+const WIDE_LEN: usize = 596 * 4_096;
+
+const WIDE_AXIOMS: u64 = 581 * 4_096;
+
+const WIDE_FILES: u64 = 582 * 4_096;
+
+const WIDE_START: &[u8] = b"LISFS-IM\x01\0\0\0\x40\0\0\0\xc0\0\0\0\x08\0\0\0\0";
+
 const SUPER_START: &[u8] = b"LISFS-IM\x01\0\0\0\x40\0\0\0\x40\0\0\0\x08\0\0\0\0";
 
 /// Bytes, and the place where they are written.
@@ -119,6 +128,36 @@ const DAMAGES: &[(&[Change], Spot)] = &[
         Spot::File(7),
     ),
     (&[(ROWS + 512, b"\x01"), (ROWS, b"\x01")], Spot::Row(0)),
+    // two damages of parts that are looked at one after the other, the earlier one in the last place of its part
+    (&[(GATES, b"\x01"), (8, b"\x09")], Spot::Super),
+    (
+        &[(WORDS + 5 * 64, b"\x03"), (GATES, b"\x01")],
+        Spot::BadRecord(2),
+    ),
+    (
+        &[(WORDS + 5 * 64, b"\x03"), (WORDS + 3 * 64, b"\x03")],
+        Spot::Property(3),
+    ),
+    (
+        &[(AXIOMS, b"\x01\0\0\0\x01"), (WORDS + 63 * 64, b"\x03")],
+        Spot::Property(63),
+    ),
+    (
+        &[(FILES, b"\x02"), (AXIOMS + 512, b"\x01\0\0\0\x01")],
+        Spot::Axiom(64),
+    ),
+    (
+        &[(WORDS, b"\x01\x04ext:"), (FILES + 63 * 256, b"\x02")],
+        Spot::File(63),
+    ),
+    (
+        &[(BITMAP, b"\x01"), (WORDS + 63 * 64, b"\x01\x04ext:")],
+        Spot::Word(63),
+    ),
+    (
+        &[(ROWS, b"\x01"), (BITMAP + 4_095, b"\x80")],
+        Spot::Bitmap(32_767),
+    ),
 ];
 
 // The same of the image with `song`.
@@ -132,11 +171,24 @@ const SONG_DAMAGES: &[(&[Change], Spot)] = &[
     (&[(AXIOMS, b"\x01\0\0\0\x02")], Spot::Axiom(0)),
     (&[(AXIOMS, b"\x01\0\0\0\x05")], Spot::Axiom(0)),
     (&[(AXIOMS + 512, b"\x06\0\0\0\x01")], Spot::Axiom(64)),
-    // a valued left side without its head, and a word that only its axiom kept
+    // a left side without a word, and a slot with a left side alone
+    (&[(AXIOMS, b"\x05\0\0\0\x01")], Spot::Axiom(0)),
+    (&[(AXIOMS, b"\x01")], Spot::Axiom(0)),
+    // a valued left side without its head, declared or built in, and a word that only its axiom kept
     (&[(WORDS + 64, b"\0\0\0\0\0\0\0")], Spot::Axiom(4)),
+    (
+        &[
+            (WORDS + 3 * 64, b"\x01\x06from:x"),
+            (AXIOMS, b"\x04\0\0\0\x01"),
+        ],
+        Spot::Axiom(0),
+    ),
     (&[(AXIOMS + 4 * 8, b"\0\0\0\0\0")], Spot::Word(2)),
-    // a word without a slot, a block past the last one, a name twice, and a block twice
+    // a word without a slot, two that no file is given, a block past the last one, a name twice, and a block twice, in two files and
+    // in one of 4,097 bytes
     (&[(FILES + 256 + 68, b"\x06")], Spot::File(1)),
+    (&[(FILES + 256 + 68, b"\x01")], Spot::File(1)),
+    (&[(FILES + 256 + 68, b"\x09")], Spot::File(1)),
     (&[(FILES + 256 + 100, b"\x08")], Spot::File(1)),
     (&[(FILES + 512, b"\x01\x04song")], Spot::File(2)),
     (
@@ -146,6 +198,14 @@ const SONG_DAMAGES: &[(&[Change], Spot)] = &[
             (FILES + 512 + 100, b"\x01"),
         ],
         Spot::File(2),
+    ),
+    (
+        &[
+            (WORDS + 9 * 64, b"\x01\x0bsize:medium"),
+            (FILES + 256 + 64, b"\x01\x10"),
+            (FILES + 256 + 100, b"\x01\0\x01"),
+        ],
+        Spot::File(1),
     ),
     (&[(BITMAP, b"\x03")], Spot::Bitmap(0)),
     (&[(BITMAP, b"\0")], Spot::Bitmap(1)),
@@ -245,6 +305,34 @@ fn assert_found(
     Ok(())
 }
 
+// The words `aa`, `ab` and so on, 130 of them, each with an axiom to the one before.
+fn put_chain(disk: &mut MemStation) -> Result<(), Fail> {
+    for n in 0..130_u8 {
+        let slot = u64::from(n);
+        put(
+            disk,
+            WORDS + slot * 64,
+            &[2, 2, b'a' + n / 26, b'a' + n % 26],
+        )?;
+        if n > 0 {
+            put(disk, WIDE_AXIOMS + slot * 8, &[n + 1, 0, 0, 0, n])?;
+        }
+    }
+    Ok(())
+}
+
+// What opening answers to an image with these words and an empty file that has the one of this slot.
+fn opening_chain(alloc: Global, slot: u8) -> Result<Answer, Fail> {
+    let mut disk = disk_of(alloc, 0, WIDE_LEN)?;
+    put(&mut disk, 0, WIDE_START)?;
+    put_chain(&mut disk)?;
+    put(&mut disk, WORDS + 130 * 64, b"\x01\x05size:")?;
+    put(&mut disk, WORDS + 131 * 64, b"\x01\x0asize:empty")?;
+    put(&mut disk, WIDE_FILES, b"\x01\x01f")?;
+    put(&mut disk, WIDE_FILES + 62, &[1, 0, 0, 0, 0, 0, slot])?;
+    opening(alloc, &mut disk)
+}
+
 #[test]
 fn making_leaves_an_empty_image(rt: HostRuntime) -> Result<(), Fail> {
     let mut disk = disk_of(rt.alloc(), b'L', IMAGE_LEN + 1)?;
@@ -277,10 +365,16 @@ fn a_short_disk_is_refused(rt: HostRuntime) -> Result<(), Fail> {
     let mut disk = disk_of(rt.alloc(), 0, IMAGE_LEN - 1)?;
     let answer = making(&mut disk);
     assert!(rt; matches!(answer, Err(MakeFault::TooShort(2_433_023, 2_433_024))));
-    put(&mut disk, 0, SUPER_START)?;
+    // The length is judged behind the super block, and ahead of the gates.
+    put_all(&mut disk, &[(0, SUPER_START), (GATES, b"\x01")])?;
     assert_eq!(rt;
         opening(rt.alloc(), &mut disk)?,
         Answer::TooShort(2_433_023, 2_433_024)
+    );
+    put(&mut disk, 8, b"\x09")?;
+    assert_eq!(rt;
+        opening(rt.alloc(), &mut disk)?,
+        Answer::Damaged(Spot::Super)
     );
     let mut small = disk_of(rt.alloc(), 0, 4_095)?;
     assert_eq!(rt;
@@ -318,4 +412,18 @@ fn damage_to_words_and_files_is_found(rt: HostRuntime) -> Result<(), Fail> {
 #[test]
 fn damage_to_what_files_tell_is_found(rt: HostRuntime) -> Result<(), Fail> {
     assert_found(&rt, rt.alloc(), SOURCE, SOURCE_DAMAGES)
+}
+
+// With its two words by size the file has 128 words, 129 and 132. Its rows are empty, which is judged later.
+#[test]
+fn a_file_has_at_most_128_words(rt: HostRuntime) -> Result<(), Fail> {
+    for (slot, spot) in [
+        (125, Spot::Row(0)),
+        (126, Spot::File(0)),
+        (129, Spot::File(0)),
+    ] {
+        let answer = opening_chain(rt.alloc(), slot)?;
+        assert_eq!(rt; answer, Answer::Damaged(spot), "{slot}");
+    }
+    Ok(())
 }
