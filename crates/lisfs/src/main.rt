@@ -10,14 +10,20 @@ use lis_ports::StdSource;
 use lis_shell::status::{Status, exit_code};
 use lis_shell::top::lisfs;
 use lis_shell::words::{Task, make_len, task_of};
-use std::io::Error;
+use std::io::{Error, ErrorKind};
 use std::process::ExitCode;
 use std::{env, io};
 
+fn is_no_memory(error: &Error) -> bool {
+    error.kind() == ErrorKind::OutOfMemory
+}
+
 /// The words after the program's name, or the status of a program that can't have them.
 fn words(rt: &HostRuntime) -> Result<Vec<String>, Status> {
-    let Ok(all) = env::args(rt) else {
-        return Err(Status::Usage);
+    let all = match env::args(rt) {
+        Ok(all) => all,
+        Err(error) if is_no_memory(&error) => return Err(Status::NoMemory),
+        Err(_) => return Err(Status::Usage),
     };
     let mut words = Vec::new(rt.alloc());
     for word in all.skip(1) {
@@ -53,11 +59,17 @@ fn run(rt: &HostRuntime, words: &[String]) -> (Status, Option<Error>) {
         reader: rt.reader(),
         faults: 0,
     };
-    let _standard = image::hold_standard(rt);
+    let standard = image::hold_standard(rt);
+    if let Err(error) = &standard {
+        if is_no_memory(error) {
+            return (Status::NoMemory, None);
+        }
+    }
     // Without a file every call of the disk fails.
     let (file, len, cause) = match image_of(rt, words) {
         Ok(None) => (None, u64::MAX, None),
         Ok(Some(image)) => (Some(image.file), image.len, None),
+        Err(error) if is_no_memory(&error) => return (Status::NoMemory, None),
         Err(error) => (None, u64::MAX, Some(error)),
     };
     let mut station = FileStation {
