@@ -178,8 +178,8 @@ fn a_failing_show_leaves_what_was_carried_out(rt: HostRuntime) -> Result<(), Fai
     Ok(())
 }
 
-// How many calls of the disk opening these bytes makes.
-fn opening_calls(alloc: Global, image: &[u8]) -> Result<u64, AllocError> {
+/// How many calls of the disk opening these bytes makes.
+pub fn opening_calls(alloc: Global, image: &[u8]) -> Result<u64, AllocError> {
     let mut station = MemStation::new(alloc, image, 0)?;
     run(alloc, "", &mut station)?;
     Ok(station.calls())

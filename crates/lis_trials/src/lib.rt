@@ -4,6 +4,8 @@
 #[cfg(test)]
 mod crashes;
 #[cfg(test)]
+mod failures;
+#[cfg(test)]
 mod growing;
 #[cfg(test)]
 mod images;

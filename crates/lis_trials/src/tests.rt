@@ -59,6 +59,7 @@ struct Seen {
     status: Status,
     shown: String,
     taken: usize,
+    calls: u64,
 }
 
 pub fn bytes_of(alloc: Global, row: &str) -> Result<Vec<u8>, AllocError> {
@@ -130,6 +131,7 @@ fn run(alloc: Global, words: &[&str], row: &str, outside: &Outside) -> Result<Se
         status,
         shown,
         taken,
+        calls: station.calls(),
     })
 }
 
@@ -146,6 +148,7 @@ fn sessions_show_the_same_in_any_pieces(rt: HostRuntime) -> Result<(), Fail> {
             assert_eq!(rt; seen.shown.as_str(), *wanted, "{row}");
             assert_eq!(rt; seen.status, Status::Done, "{row}");
             assert_eq!(rt; seen.taken, row.len(), "{row}");
+            assert_eq!(rt; seen.calls, 0, "{row}");
         }
     }
     Ok(())
@@ -320,6 +323,7 @@ fn go_on(
         status,
         shown,
         taken: input.place,
+        calls: station.calls(),
     })
 }
 

@@ -13,22 +13,42 @@ use std::test::Fail;
 /// Room for the record of a session of some commands.
 const ROOM: u64 = 1 << 22;
 
+/// The same for an opening.
+const OPENING_ROOM: u64 = 1 << 20;
+
+/// At how many of its calls of the disk an opening is stopped, at most.
+const OPENING_CALLS: u64 = 40;
+
+/// What is left of bytes that were not synced, where an opening is stopped too.
+const PICK: u8 = 165;
+
 /// How many bytes each reply of the script has: `ok` and a line feed.
 const REPLY_LEN: u64 = 3;
 
-// What a crash just after the call leaves, as a session that looks shows it.
-fn left_by(alloc: Global, station: &MemStation, call: u64, pick: u8) -> Result<String, Fail>
+// What a session that looks shows of an image.
+fn looked_at(alloc: Global, image: &[u8]) -> Result<String, Fail> {
+    let (status, shown) = session(alloc, image, "ls;stat;cat m;")?;
+    if status != Status::Done {
+        return Err("the image was not opened".into());
+    }
+    Ok(shown)
+}
+
+// The image that a crash just after the call leaves.
+fn crashed(alloc: Global, station: &MemStation, call: u64, pick: u8) -> Result<Vec<u8>, Fail>
     requires { IsTrue (meaning_of station.now).is_recorded }
 {
     if call > station.calls() {
         return Err("there was no such call".into());
     }
-    let image = station.crash(alloc, call, pick)?;
-    let (status, shown) = session(alloc, &image, "ls;cat m;")?;
-    if status != Status::Done {
-        return Err("the image was not opened".into());
-    }
-    Ok(shown)
+    Ok(station.crash(alloc, call, pick)?)
+}
+
+// What such a session shows of it.
+fn left_by(alloc: Global, station: &MemStation, call: u64, pick: u8) -> Result<String, Fail>
+    requires { IsTrue (meaning_of station.now).is_recorded }
+{
+    looked_at(alloc, &crashed(alloc, station, call, pick)?)
 }
 
 // How many bytes had been shown when the call answered.
@@ -67,14 +87,17 @@ fn scripted(alloc: Global, words: &[&str]) -> Result<MemStation, Fail>
     Ok(station)
 }
 
-// What the first crash leaves that leaves a state that it must not, by a pick of the bytes that were not synced.
+// What the first crash leaves that leaves a state that it must not, by a pick of the bytes that were not synced. A crash may come
+// just after a call, or just before the next one, when more replies were shown.
 fn wrong_state(alloc: Global, station: &MemStation, pick: u8) -> Result<Option<String>, Fail>
     requires { IsTrue (meaning_of station.now).is_recorded }
 {
     let last = station.calls();
     for call in 0..last {
         let left = left_by(alloc, station, call, pick)?;
-        if !is_allowed(left.as_str(), shown_at(station, call)) {
+        let is_right = is_allowed(left.as_str(), shown_at(station, call))
+            && is_allowed(left.as_str(), shown_at(station, call + 1));
+        if !is_right {
             return Ok(Some(left));
         }
     }
@@ -95,6 +118,32 @@ fn wrong_of(alloc: Global, words: &[&str], picks: [u8; 2]) -> Result<Option<Stri
         let wrong = wrong_state(alloc, &station, pick)?;
         if wrong.is_some() {
             return Ok(wrong);
+        }
+    }
+    Ok(None)
+}
+
+// What a session that looks shows of an image whose opening stopped at the call behind the fuse. None where it was not stopped.
+fn left_by_opening(alloc: Global, image: &[u8], fuse: u64) -> Result<Option<String>, Fail> {
+    let mut station = MemStation::new(alloc, image, OPENING_ROOM)?;
+    station.fuse = fuse;
+    if run(alloc, "", &mut station)? == Status::Done {
+        return Ok(None);
+    }
+    Ok(Some(left_by(alloc, &station, station.calls(), PICK)?))
+}
+
+// The first fuse with which the opening leaves another state than the image has.
+fn wrong_fuse(alloc: Global, image: &[u8]) -> Result<Option<u64>, Fail> {
+    let before = looked_at(alloc, image)?;
+    for fuse in 0..OPENING_CALLS {
+        match left_by_opening(alloc, image, fuse)? {
+            None => return Ok(None),
+            Some(left) => {
+                if left != before {
+                    return Ok(Some(fuse));
+                }
+            }
         }
     }
     Ok(None)
@@ -131,5 +180,23 @@ fn so_it_is_on_an_image_of_version_2_where_all_or_nothing_is_taken(
 fn and_where_some_is_taken(rt: HostRuntime) -> Result<(), Fail> {
     let wrong = wrong_of(rt.alloc(), MAKES[1], [2, 165])?;
     assert!(rt; wrong.is_none(), "{wrong:?}");
+    Ok(())
+}
+
+// Behind each call of the fourth command, which puts a content.
+#[test]
+fn an_opening_that_is_stopped_leaves_the_state_that_it_found(rt: HostRuntime) -> Result<(), Fail> {
+    let alloc = rt.alloc();
+    let station = scripted(alloc, MAKES[0])?;
+    let mut stops: u32 = 0;
+    for call in 0..station.calls() {
+        if shown_at(&station, call) == 3 * REPLY_LEN {
+            let image = crashed(alloc, &station, call, PICK)?;
+            let wrong = wrong_fuse(alloc, &image)?;
+            assert!(rt; wrong.is_none(), "the call {call} and {wrong:?}");
+            stops = stops.saturating_add(1);
+        }
+    }
+    assert_eq!(rt; stops, 9);
     Ok(())
 }

@@ -501,19 +501,50 @@ pub static EDITS: [(&str, u64); 10] = [
 pub static SCRIPT: &str =
     "mkdir music;mkdir rock;create s1 rock;add m 5 music;hello;axiom rock music;write m 2;hi;rename s1 s2.c;unaxiom rock music;mv s2.c /music;rm m;";
 
-/// What `ls;cat m;` shows before the script, and behind each command.
+/// What `ls;stat;cat m;` shows before the script, and behind each command.
 pub static SCRIPT_STATES: [&str; 11] = [
-    "ok;no 10 no such file here;",
-    "ok;no 10 no such file here;",
-    "ok;no 10 no such file here;",
-    "f s1;ok;no 10 no such file here;",
-    "d music;d rock;d size:empty;d size:small;ok;b 5;hello;ok;",
-    "d rock;d size:empty;d size:small;ok;b 5;hello;ok;",
-    "d rock;d size:empty;d size:small;ok;b 2;hi;ok;",
-    "d ext:;d rock;d size:empty;d size:small;ok;b 2;hi;ok;",
-    "d ext:;d music;d rock;d size:empty;d size:small;ok;b 2;hi;ok;",
-    "d ext:;d rock;d size:empty;d size:small;ok;b 2;hi;ok;",
-    "f s2.c;ok;no 10 no such file here;",
+    "ok;s files 0;s known 0;s axioms 0;s free 8;ok;no 10 no such file here;",
+    "ok;s files 0;s known 1;s axioms 0;s free 8;ok;no 10 no such file here;",
+    "ok;s files 0;s known 2;s axioms 0;s free 8;ok;no 10 no such file here;",
+    "f s1;ok;s files 1;s known 4;s axioms 0;s free 8;ok;no 10 no such file here;",
+    "d music;d rock;d size:empty;d size:small;ok;s files 2;s known 5;s axioms 0;s free 7;ok;b 5;hello;ok;",
+    "d rock;d size:empty;d size:small;ok;s files 2;s known 5;s axioms 1;s free 7;ok;b 5;hello;ok;",
+    "d rock;d size:empty;d size:small;ok;s files 2;s known 5;s axioms 1;s free 7;ok;b 2;hi;ok;",
+    "d ext:;d rock;d size:empty;d size:small;ok;s files 2;s known 7;s axioms 1;s free 7;ok;b 2;hi;ok;",
+    "d ext:;d music;d rock;d size:empty;d size:small;ok;s files 2;s known 7;s axioms 0;s free 7;ok;b 2;hi;ok;",
+    "d ext:;d rock;d size:empty;d size:small;ok;s files 2;s known 7;s axioms 0;s free 7;ok;b 2;hi;ok;",
+    "f s2.c;ok;s files 1;s known 6;s axioms 0;s free 8;ok;no 10 no such file here;",
+];
+
+/// Eight commands on one file and its words. The reply to each is `ok`.
+pub static FAILING_SCRIPT: &str =
+    "mkdir music;mkdir rock;axiom rock music;add s1 5 rock;hello;write s1 3;bye;mv s1 /music;unaxiom rock music;rm s1;";
+
+/// What it shows.
+pub static FAILING_SHOWN: &str = "ok;ok;ok;ok;ok;ok;ok;ok;";
+
+/// What `stat;cat s1;unaxiom rock music;props s1;` shows before it, and behind each command.
+pub static FAILING_STATES: [&str; 9] = [
+    "s files 0;s known 0;s axioms 0;s free 8;ok;no 10 no such file here;no 17 no such axiom;no 10 no such file here;",
+    "s files 0;s known 1;s axioms 0;s free 8;ok;no 10 no such file here;no 17 no such axiom;no 10 no such file here;",
+    "s files 0;s known 2;s axioms 0;s free 8;ok;no 10 no such file here;no 17 no such axiom;no 10 no such file here;",
+    "s files 0;s known 2;s axioms 1;s free 8;ok;no 10 no such file here;ok;no 10 no such file here;",
+    "s files 1;s known 4;s axioms 1;s free 7;ok;b 5;hello;ok;ok;p rock;p size:;p size:small;ok;",
+    "s files 1;s known 4;s axioms 1;s free 7;ok;b 3;bye;ok;ok;p rock;p size:;p size:small;ok;",
+    "s files 1;s known 4;s axioms 1;s free 7;ok;b 3;bye;ok;ok;p music;p rock;p size:;p size:small;ok;",
+    "s files 1;s known 4;s axioms 0;s free 7;ok;b 3;bye;ok;no 17 no such axiom;p music;p rock;p size:;p size:small;ok;",
+    "s files 0;s known 2;s axioms 0;s free 8;ok;no 10 no such file here;no 17 no such axiom;no 10 no such file here;",
+];
+
+/// Places at which the source of it fails at one byte a call, and how many commands are carried out then: the second line is not
+/// whole, or just so; so are a payload and all of it.
+pub static FAILING_PLACES: [(usize, usize); 6] = [
+    (0, 0),
+    (22, 1),
+    (23, 2),
+    (59, 3),
+    (60, 4),
+    (113, 8),
 ];
 
 /// A byte of the rows of an image in which file 0 has the words 0, 1 and 2, what it is changed to, and how a run ends then.

@@ -1,0 +1,139 @@
+//! A script over an image with one call that fails: of the disk, of the station that shows, or of the source.
+
+use crate::images::{MAKES, bytes_of, made, opening_calls, session};
+use crate::tests::tables::{FAILING_PLACES, FAILING_SCRIPT, FAILING_SHOWN, FAILING_STATES};
+use crate::tests::{Outside, SOUND, call, row_of};
+use lis_memdisk::MemStation;
+use lis_shell::status::Status;
+use std::alloc::Global;
+use std::test::Fail;
+
+/// More calls of the disk than the script makes.
+const MANY_CALLS: u64 = 200;
+
+/// How many bytes each reply of the script has: `ok` and a line feed.
+const REPLY_LEN: usize = 3;
+
+/// How a run of the script ended, what it showed, and what a session that looks shows of the image that it left.
+#[derive(Drop)]
+struct Ending {
+    status: Status,
+    shown: String,
+    left: String,
+}
+
+// The script over a station that lets a call fail, and a look over a fresh one with the bytes that the first then reads.
+fn ending_of(alloc: Global, station: &mut MemStation, outside: &Outside) -> Result<Ending, Fail> {
+    let (status, _) = call(alloc, &["run", "i"], FAILING_SCRIPT, outside, station)?;
+    let shown = row_of(alloc, station.shown())?;
+    station.fails.clear();
+    let image = bytes_of(alloc, station)?;
+    let (looked, left) = session(alloc, &image, "stat;cat s1;unaxiom rock music;props s1;")?;
+    if looked != Status::Done {
+        return Err("the image was not opened".into());
+    }
+    Ok(Ending {
+        status,
+        shown,
+        left,
+    })
+}
+
+// Whether these are so many first bytes of what the script shows.
+fn is_front(shown: &str, len: usize) -> bool {
+    shown.len() == len && FAILING_SHOWN.starts_with(shown)
+}
+
+// Whether this is the state behind so many commands.
+fn is_behind(left: &str, commands: usize) -> bool {
+    match FAILING_STATES.get(commands) {
+        None => false,
+        Some(state) => left == *state,
+    }
+}
+
+// The replies were shown whole, and the image has the state behind their commands or behind one more.
+fn is_allowed(ended: &Ending) -> bool {
+    let replies = ended.shown.len() / REPLY_LEN;
+    is_front(ended.shown.as_str(), replies * REPLY_LEN)
+        && (is_behind(ended.left.as_str(), replies) || is_behind(ended.left.as_str(), replies + 1))
+}
+
+// Nothing was shown, and the image has the state of before.
+fn is_unchanged(ended: &Ending) -> bool {
+    ended.shown.is_empty() && is_behind(ended.left.as_str(), 0)
+}
+
+// The script with a failing call of this number.
+fn failing(alloc: Global, image: &[u8], number: u64) -> Result<Ending, Fail> {
+    let mut station = MemStation::new(alloc, image, 0)?;
+    station.fails.push(number)?;
+    ending_of(alloc, &mut station, &SOUND)
+}
+
+#[test]
+fn a_failing_call_of_the_disk_leaves_the_state_that_was_shown_or_the_next_one(
+    rt: HostRuntime,
+) -> Result<(), Fail> {
+    let alloc = rt.alloc();
+    let image = made(alloc, MAKES[0])?;
+    let opening = opening_calls(alloc, &image)?;
+    for number in 1..MANY_CALLS {
+        let ended = failing(alloc, &image, number)?;
+        assert!(rt; is_allowed(&ended), "the call {number}");
+        assert!(rt;
+            number > opening || is_unchanged(&ended),
+            "the call {number}"
+        );
+        if ended.status == Status::Done {
+            assert!(rt; is_front(ended.shown.as_str(), FAILING_SHOWN.len()));
+            return Ok(());
+        }
+        assert_eq!(rt; ended.status, Status::DiskFault, "the call {number}");
+    }
+    Err("the script makes more calls".into())
+}
+
+// At one byte a call it is known what was shown. The command whose reply is not shown whole was carried out.
+#[test]
+fn a_failing_show_leaves_the_state_of_the_reply_that_it_cuts_off(
+    rt: HostRuntime,
+) -> Result<(), Fail> {
+    let alloc = rt.alloc();
+    let image = made(alloc, MAKES[0])?;
+    for before in 0..FAILING_SHOWN.len() {
+        let mut station = MemStation::new(alloc, &image, 0)?;
+        station.step = 1;
+        station.show_fails.push(before as u64 + 1)?;
+        let ended = ending_of(alloc, &mut station, &SOUND)?;
+        assert_eq!(rt; ended.status, Status::OutputFault, "behind {before}");
+        assert!(rt; is_front(ended.shown.as_str(), before), "behind {before}");
+        assert!(rt;
+            is_behind(ended.left.as_str(), before / REPLY_LEN + 1),
+            "behind {before}"
+        );
+    }
+    Ok(())
+}
+
+#[test]
+fn a_failing_source_leaves_the_state_of_what_came_whole(rt: HostRuntime) -> Result<(), Fail> {
+    let alloc = rt.alloc();
+    let image = made(alloc, MAKES[0])?;
+    for (place, commands) in &FAILING_PLACES {
+        let mut station = MemStation::new(alloc, &image, 0)?;
+        let outside = Outside {
+            step: 1,
+            fail_at: Some(*place),
+            ..SOUND
+        };
+        let ended = ending_of(alloc, &mut station, &outside)?;
+        assert_eq!(rt; ended.status, Status::InputFault, "at {place}");
+        assert!(rt;
+            is_front(ended.shown.as_str(), commands.saturating_mul(REPLY_LEN)),
+            "at {place}"
+        );
+        assert!(rt; is_behind(ended.left.as_str(), *commands), "at {place}");
+    }
+    Ok(())
+}
