@@ -87,7 +87,8 @@ impl Parts {
 
     /// Takes all marks away, as what is marked was written.
     pub fn settle(&mut self)
-        ensures { self.new ≡ record self.old { marks = replicate (length self.old.marks) false } }
+        ensures settled { self.new ≡ record self.old { marks = replicate (length self.old.marks) false } }
+        ensures sound { AreSound self.new }
     {
         self.marks.fill(false);
     }

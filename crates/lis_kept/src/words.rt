@@ -15,6 +15,7 @@ ghost use Rattle.lis_kept.specs.Forgetting.{MayGo, MayForget};
 ghost use Rattle.lis_kept.specs.Passes.{is_of_pass, is_due, ForgetsWhere, ForgetsDue};
 ghost use Rattle.lis_kept.specs.Areas.Area.{Properties};
 ghost use Rattle.lis_kept.specs.Changes.{Declares, Learns, Forgets};
+ghost use Rattle.lis_kept.specs.Sound.{AreSound};
 ghost use Rattle.lis_kept.specs.Telling.{is_left_of, is_head_by, is_left_head_of, is_had, is_used};
 
 mod undeclaring;
@@ -149,7 +150,8 @@ impl Parts {
         requires form { IsTrue (is_declarable word.now) }
         requires new { number_of self.old.dict word.now ≡ None }
         requires room { length self.old.dict.entries < self.old.limits.props }
-        ensures { Declares word.now self.old self.new }
+        ensures declares { Declares word.now self.old self.new }
+        ensures sound { AreSound self.new }
     {
         // Only its bytes tell that a word has a word's form.
         let _bytes = word.bytes();
@@ -170,7 +172,8 @@ impl Parts {
         requires headed { number_of self.old.dict word.now ≡ None → IsTrue (is_valued word.now)
             → IsSome (number_of self.old.dict (head_bytes word.now)) }
         requires room { number_of self.old.dict word.now ≡ None → length self.old.dict.entries < self.old.limits.props }
-        ensures { Learns word.now result self.old self.new }
+        ensures learns { Learns word.now result self.old self.new }
+        ensures sound { AreSound self.new }
     {
         let head = head_number(&self.dict, word);
         if let Some(number) = self.dict.id_of(word) {
@@ -187,7 +190,8 @@ impl Parts {
     // Forgets the word of a number that may go, if it has one.
     fn forget(&mut self, number: u16)
         requires { IsSome (word_of self.old.dict number) → MayGo number self.old }
-        ensures { ForgetsWhere (λ n. number == n) 1 self.old self.new }
+        ensures forgets { ForgetsWhere (λ n. number == n) 1 self.old self.new }
+        ensures sound { AreSound self.new }
     {
         let Some(word) = self.dict.word_of(number) else {
             return;
@@ -201,7 +205,8 @@ impl Parts {
     /// Forgets the words of those numbers that are not in use.
     pub fn forget_unused(&mut self, numbers: &[u16])
         requires { MayForget numbers.now self.old }
-        ensures { Forgets numbers.now self.old self.new }
+        ensures forgets { Forgets numbers.now self.old self.new }
+        ensures sound { AreSound self.new }
     {
         // The head of a known word keeps its number, so valued words go before heads.
         self.forget_due(numbers, true, None);
@@ -212,8 +217,11 @@ impl Parts {
     // the others.
     fn forget_due(&mut self, numbers: &[u16], valued: bool, slot: Option<u16>)
         requires { (n : ℕ) → is_due slot self.old valued n ≡ true → MayGo n self.old }
-        ensures { ForgetsDue slot valued numbers.now self.old self.new }
+        ensures forgets { ForgetsDue slot valued numbers.now self.old self.new }
+        ensures sound { AreSound self.new }
     {
+        // Without numbers memory is read for nothing else, and is in form all the same.
+        let _ = &self.limits;
         for number in numbers {
             if self.is_due(*number, valued, slot) {
                 self.forget(*number);

@@ -3,6 +3,7 @@
 ghost use Rattle.std.specs.Prelude.{◌≡◌, ℕ, ◌<◌, Bool, is_some, IsSome};
 ghost use Rattle.std.specs.List.{list_any};
 ghost use Rattle.lis_dict.specs.Dict.{word_of};
+ghost use Rattle.lis_kept.specs.Sound.{AreSound};
 ghost use Rattle.lis_kept.specs.TestEdges.{test_by};
 ghost use Rattle.lis_kept.specs.Undeclaring.{is_right_of, is_named_by, is_needed, MayUndeclare, Undeclares};
 
@@ -64,7 +65,8 @@ impl Parts {
     /// Takes the declaration of a word back, and with it its number.
     pub fn undeclare(&mut self, number: u16)
         requires { MayUndeclare number self.old }
-        ensures { Undeclares number self.old self.new }
+        ensures undeclares { Undeclares number self.old self.new }
+        ensures sound { AreSound self.new }
     {
         let Some(word) = self.dict.word_of(number) else {
             unreachable!()

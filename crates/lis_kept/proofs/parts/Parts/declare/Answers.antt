@@ -76,4 +76,5 @@ returns c =
     let pre = subst Q (sym c.self.view_is) (c.requires.new, c.requires.room) in
     let added = added_word c.self.inside.dict c.add.new.self c.args.word.now c.in-Ok.number c.in-Ok.ensures pre.0 in
     let bits = c.put.ensures ∙ ap (λ n. set c.self.inside.declared n true) c.from-at.ensures in
-    (declares v c.self.inside.taxonomy c.self.invariant c.args.word.now c.in-Ok.number c.requires.form c.bytes-bytes.ensures.word pre.0 pre.1 added.0 added.1 c.add.new.self c.put.new.self added.2 bits c.args.self.now c.link_weaker.new.taxonomy c.link_stronger.new.taxonomy c.mark_property.new.marks c.self.view_is (rw c.from-at.ensures at c.link_weaker.ensures) (rw c.from-at.ensures at c.link_stronger.ensures) c.mark_property.ensures).1
+    let both = declares v c.self.inside.taxonomy c.self.invariant c.args.word.now c.in-Ok.number c.requires.form c.bytes-bytes.ensures.word pre.0 pre.1 added.0 added.1 c.add.new.self c.put.new.self added.2 bits c.args.self.now c.link_weaker.new.taxonomy c.link_stronger.new.taxonomy c.mark_property.new.marks c.self.view_is (rw c.from-at.ensures at c.link_weaker.ensures) (rw c.from-at.ensures at c.link_stronger.ensures) c.mark_property.ensures in
+    record { declares = both.1; sound = both.0.sound }

@@ -8,8 +8,8 @@ use Rattle.lis_kept.proofs.parts.Parts.declare_under.Goals as goal
 
 pub unreachable-requires : goal.unreachable-requires
 unreachable-requires c =
-    let there = number_declared c.args.self.now c.declare.new.self c.args.word.now c.requires.new c.declare.ensures in
-    let both : ◌≡◌ {A = Option ℕ} None (Some c.declare.ensures.number) = sym c.in_default.is ∙ (c.number_of.ensures ∙ there) in
+    let there = number_declared c.args.self.now c.declare.new.self c.args.word.now c.requires.new c.declare.ensures.declares in
+    let both : ◌≡◌ {A = Option ℕ} None (Some c.declare.ensures.declares.number) = sym c.in_default.is ∙ (c.number_of.ensures ∙ there) in
     cc
 
 pub link-requires : goal.link-requires
@@ -18,12 +18,12 @@ link-requires c =
     let now = c.loop-place.self in
     let places = c.args.places.now in
     let i = c.loop-place.place-index in
-    let there = number_declared c.args.self.now mid c.args.word.now c.requires.new c.declare.ensures in
-    let same = same_Some c.in-Some.number c.declare.ensures.number (sym c.in-Some.is ∙ (c.number_of.ensures ∙ there)) in
+    let there = number_declared c.args.self.now mid c.args.word.now c.requires.new c.declare.ensures.declares in
+    let same = same_Some c.in-Some.number c.declare.ensures.declares.number (sym c.in-Some.is ∙ (c.number_of.ensures ∙ there)) in
     let lt : i < length places = omega (arith, c.loop-place-test.true, c.loop-place.auto.place-index-end) in
     subst (λ n. MayLink n (get_or places i 0) now) (sym same)
-    (may_link_next c.args.self.now mid now c.limits-before.ensures.sound c.limits-now.ensures.sound c.args.word.now c.requires.form c.requires.new c.declare.ensures places c.requires.places i lt
-    (subst (λ n. LinksEach n (take i places) mid now) same c.loop-place.invariant))
+    (may_link_next c.args.self.now mid now c.limits-before.ensures.sound c.loop-place.invariant.sound c.args.word.now c.requires.form c.requires.new c.declare.ensures.declares places c.requires.places i lt
+    (subst (λ n. LinksEach n (take i places) mid now) same c.loop-place.invariant.links))
 
 pub loop-place-preserved : goal.loop-place-preserved
 loop-place-preserved c =
@@ -31,12 +31,16 @@ loop-place-preserved c =
     let now = c.loop-place.self in
     let places = c.args.places.now in
     let i = c.loop-place.place-index in
-    let there = number_declared c.args.self.now mid c.args.word.now c.requires.new c.declare.ensures in
-    let same = same_Some c.in-Some.number c.declare.ensures.number (sym c.in-Some.is ∙ (c.number_of.ensures ∙ there)) in
+    let there = number_declared c.args.self.now mid c.args.word.now c.requires.new c.declare.ensures.declares in
+    let same = same_Some c.in-Some.number c.declare.ensures.declares.number (sym c.in-Some.is ∙ (c.number_of.ensures ∙ there)) in
     let lt : i < length places = omega (arith, c.loop-place-test.true, c.loop-place.auto.place-index-end) in
-    subst (λ n. LinksEach n (take (i + 1) places) mid c.link.new.self) (sym same)
-    (linked_next c.args.self.now mid now c.limits-before.ensures.sound c.limits-now.ensures.sound c.args.word.now c.requires.form c.requires.new c.declare.ensures places c.requires.places i lt
-    (subst (λ n. LinksEach n (take i places) mid now) same c.loop-place.invariant) c.link.new.self (subst (λ n. Links n (get_or places i 0) now c.link.new.self) same c.link.ensures))
+    record {
+      links =
+          subst (λ n. LinksEach n (take (i + 1) places) mid c.link.new.self) (sym same)
+          (linked_next c.args.self.now mid now c.limits-before.ensures.sound c.loop-place.invariant.sound c.args.word.now c.requires.form c.requires.new c.declare.ensures.declares places c.requires.places i lt
+          (subst (λ n. LinksEach n (take i places) mid now) same c.loop-place.invariant.links) c.link.new.self (subst (λ n. Links n (get_or places i 0) now c.link.new.self) same c.link.ensures.links));
+      sound = c.link.ensures.sound;
+    }
 
 pub returns : goal.returns
 returns c =
@@ -44,11 +48,14 @@ returns c =
     let now = c.loop-place.self in
     let places = c.args.places.now in
     let i = c.loop-place.place-index in
-    let there = number_declared c.args.self.now mid c.args.word.now c.requires.new c.declare.ensures in
-    let same = same_Some c.in-Some.number c.declare.ensures.number (sym c.in-Some.is ∙ (c.number_of.ensures ∙ there)) in
+    let there = number_declared c.args.self.now mid c.args.word.now c.requires.new c.declare.ensures.declares in
+    let same = same_Some c.in-Some.number c.declare.ensures.declares.number (sym c.in-Some.is ∙ (c.number_of.ensures ∙ there)) in
     let le : length places ≤ i = omega (arith, c.loop-place-test.false) in
     record {
-      mid = mid;
-      declares = c.declare.ensures;
-      links = subst (λ n. LinksEach n places mid now) same (subst (λ (ns : List ℕ). LinksEach c.in-Some.number ns mid now) (take_all i places le) c.loop-place.invariant);
+      declares_under = record {
+        mid = mid;
+        declares = c.declare.ensures.declares;
+        links = subst (λ n. LinksEach n places mid now) same (subst (λ (ns : List ℕ). LinksEach c.in-Some.number ns mid now) (take_all i places le) c.loop-place.invariant.links);
+      };
+      sound = c.loop-place.invariant.sound;
     }

@@ -14,6 +14,7 @@ invariant_of-self c =
 pub returns : goal.returns
 returns c =
     let may = subst (MayUndeclare c.args.number) (sym c.self.view_is) c.requires in
-    (undeclares c.args.self.now (the_view c.self.inside) c.self.inside.taxonomy c.unlink_all.new.taxonomy c.args.number c.in-Some.word c.remove.new.self c.put.new.self c.mark_property.new.marks
+    let both = undeclares c.args.self.now (the_view c.self.inside) c.self.inside.taxonomy c.unlink_all.new.taxonomy c.args.number c.in-Some.word c.remove.new.self c.put.new.self c.mark_property.new.marks
     c.self.view_is c.self.invariant may (sym c.word_of.ensures ∙ c.in-Some.is) c.remove.ensures.gone
-    (c.put.ensures ∙ ap (λ n. set c.self.inside.declared n false) c.from-at.ensures) (rw c.from-at.ensures at c.unlink_all.ensures) c.mark_property.ensures).1
+    (c.put.ensures ∙ ap (λ n. set c.self.inside.declared n false) c.from-at.ensures) (rw c.from-at.ensures at c.unlink_all.ensures) c.mark_property.ensures in
+    record { undeclares = both.1; sound = both.0.sound }
