@@ -145,8 +145,6 @@ impl Parts {
             write_files(&self.catalog, self.limits.version, first, block);
             return;
         }
-        // Only its rows tell that each file's numbers are below the limit.
-        let _rows = self.ext.rows();
         let width = self.limits.files / 8;
         let count = BLOCK_LEN as u32 / width;
         write_rows(

@@ -19,12 +19,7 @@ impl Parts {
         ensures declares_under { DeclaresUnder word.now places.now self.old self.new }
         ensures sound { AreSound self.new }
     {
-        // Only the limits tell that memory is in form before.
-        let _before = self.limits();
-        self.declare(word);
-        let Some(number) = self.number_of(word) else {
-            unreachable!()
-        };
+        let number = self.declare_word(word);
         for place in places {
             self.link(number, *place);
         }

@@ -2,7 +2,7 @@
 
 ghost use Rattle.std.specs.Prelude.{◌≡◌, ◌≢◌, ℕ, ◌<◌, ◌≤◌, true, false, ◌||◌, ◌==◌, Some, None, length, slice_set, IsTrue, IsSome, IfSome};
 ghost use Rattle.std.specs.List.{list_any};
-ghost use Rattle.lis_dict.specs.Dict.{number_of, word_of};
+ghost use Rattle.lis_dict.specs.Dict.{IsDict, number_of, word_of};
 ghost use Rattle.lis_fields.specs.Layouts.{is_undeclared};
 ghost use Rattle.lis_model.specs.Image.{data_start};
 ghost use Rattle.lis_model.specs.Ranges.{are_in_range};
@@ -12,6 +12,7 @@ ghost use Rattle.lis_words.specs.Words.{is_valued, head_bytes};
 ghost use Rattle.lis_kept.specs.Areas.{block_of};
 ghost use Rattle.lis_kept.specs.Edges.{head_number, with_edge_to, without_edge_to};
 ghost use Rattle.lis_kept.specs.Forgetting.{MayGo, MayForget};
+ghost use Rattle.lis_kept.specs.Inside.{IsShort};
 ghost use Rattle.lis_kept.specs.Passes.{is_of_pass, is_due, ForgetsWhere, ForgetsDue};
 ghost use Rattle.lis_kept.specs.Areas.Area.{Properties};
 ghost use Rattle.lis_kept.specs.Changes.{Declares, Learns, Forgets};
@@ -98,13 +99,12 @@ fn is_had(ext: &Ext, number: u16) -> bool
 
 // Whether the word of a number is valued, and another number is that of its head.
 fn has_head(dict: &Dict, number: u16, head: u16) -> bool
+    requires { IsDict dict.now }
     ensures { result ≡ is_head_by (word_of dict.now number) (word_of dict.now head) }
 {
     let Some(word) = dict.word_of(number) else {
         return false;
     };
-    // Only its length tells that a dictionary has a number for one word.
-    let _len = dict.len();
     match head_number(dict, &word) {
         None => false,
         Some(found) => found == head,
@@ -113,7 +113,7 @@ fn has_head(dict: &Dict, number: u16, head: u16) -> bool
 
 // Whether a number is that of an axiom's left side, or of its head.
 fn is_on_left(dict: &Dict, slot: AxiomSlot, number: u16) -> bool
-    requires { (n : ℕ) → IsSome (word_of dict.now n) → n < 65536 }
+    requires { IsShort dict.now }
     ensures { result ≡ (is_left_of number slot || is_left_head_of dict.now number slot) }
 {
     let AxiomSlot::Pair(left, _) = slot else {
@@ -127,7 +127,7 @@ fn is_on_left(dict: &Dict, slot: AxiomSlot, number: u16) -> bool
 
 // Whether a number is the left side of an axiom, or the head of one.
 fn is_named_left(dict: &Dict, axioms: &[AxiomSlot], number: u16) -> bool
-    requires { (n : ℕ) → IsSome (word_of dict.now n) → n < 65536 }
+    requires { IsShort dict.now }
     ensures { result ≡ list_any (λ slot. is_left_of number slot || is_left_head_of dict.now number slot) axioms.now }
 {
     axioms.iter().any(|slot| is_on_left(dict, *slot, number))
@@ -153,8 +153,19 @@ impl Parts {
         ensures declares { Declares word.now self.old self.new }
         ensures sound { AreSound self.new }
     {
-        // Only its bytes tell that a word has a word's form.
-        let _bytes = word.bytes();
+        self.declare_word(word);
+    }
+
+    // The same, and answers the number.
+    pub(crate) fn declare_word(&mut self, word: &Word) -> u16
+        requires form { IsTrue (is_declarable word.now) }
+        requires new { number_of self.old.dict word.now ≡ None }
+        requires room { length self.old.dict.entries < self.old.limits.props }
+        ensures declares { Declares word.now self.old self.new }
+        ensures number { number_of self.new.dict word.now ≡ Some result }
+        ensures was_sound { AreSound self.old }
+        ensures sound { AreSound self.new }
+    {
         let Ok(number) = self.dict.add(word) else {
             unreachable!()
         };
@@ -164,6 +175,7 @@ impl Parts {
         link_weaker(&self.dict, &self.declared, &mut self.taxonomy, props, at);
         link_stronger(&self.dict, &self.declared, &mut self.taxonomy, props, at);
         mark_property(&mut self.marks, &self.limits, number);
+        number
     }
 
     /// The number of a word that is known and not declared: the one that it has, or else a free one that it gets.

@@ -1,8 +1,11 @@
 use Rattle.std.proofs.Common.{◌∙◌, false, set, sym, ap, subst}
 use Rattle.lis_kept.specs.Undeclaring.{MayUndeclare}
-use Rattle.lis_kept.proofs.WordUndeclared.{undeclares}
+use Rattle.lis_kept.proofs.WordUndeclared.{edges_within, undeclares}
 use Rattle.lis_kept.specs.contracts.parts.Parts.{the_view}
 use Rattle.lis_kept.proofs.parts.Parts.undeclare.Goals as goal
+
+pub unlink_all-requires-clause-within : goal.unlink_all-requires-clause-within
+unlink_all-requires-clause-within c = edges_within (the_view c.self.inside) c.self.inside.taxonomy c.self.invariant
 
 pub invariant_of-self : goal.invariant_of-self
 invariant_of-self c =
