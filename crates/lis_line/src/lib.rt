@@ -2,6 +2,7 @@
 #![tactic(auto)]
 
 mod asked;
+pub mod carrier;
 mod forms;
 mod line;
 pub mod part;

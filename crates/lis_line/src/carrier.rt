@@ -1,0 +1,88 @@
+//! The one loop of a session: an item after another is read, and carried out.
+
+ghost use Rattle.std.specs.Prelude.{◌≡◌, ℕ, ◌≤◌, ◌^◌, List, [], ◌∷◌, ◌++◌, IfOk, IfSome, IsSome, MatchResult};
+ghost use Rattle.lis_ports.specs.Meaning.{Meaning};
+ghost use Rattle.lis_model.specs.Step.{Item as Asked};
+ghost use Rattle.lis_line.specs.Reading.{asked_by};
+ghost use Rattle.lis_line.specs.Taking.{TakesFew};
+ghost use Rattle.lis_line.specs.Endings.{HasEnded, HasHaltCause};
+
+use crate::reader::{Item, LineReader, Payload};
+use lis_ports::{Source, Station};
+
+/// What carries out the items of a session on a station.
+pub trait Carrier {
+    /// Why an item could not be carried out.
+    type Fault;
+
+    /// Whether it can carry out an item on such a station.
+    ghost is_ready: { Self → Meaning → Type 0 };
+
+    /// What it and the station have come to since a start: these items were carried out, in this order.
+    ghost has_done: { Self → Meaning → List Asked → Self → Meaning → Type 0 };
+
+    /// What they have come to since a start, where these items were carried out and then there was a fault in this one.
+    ghost has_stopped: { Self → Meaning → List Asked → Asked → Self.Fault → Self → Meaning → Type 0 };
+
+    /// Carries out an item.
+    fn carry<T: Station>(
+        &mut self,
+        item: &Item,
+        payload: &Payload,
+        station: &mut T,
+    ) -> Result<(), Self::Fault>
+        requires asked { IsSome (asked_by item.now payload.now) }
+        requires ready { is_ready self.old (T.meaning station.old) }
+        ensures ready { IfOk result (λ _. is_ready self.new (T.meaning station.new)) }
+        ensures carried { (start : Self) (entry : T) (first : List Asked) → has_done start (T.meaning entry) first self.old (T.meaning station.old)
+            → IfSome (asked_by item.now payload.now) (λ asked. MatchResult result
+            (λ _. has_done start (T.meaning entry) (first ++ asked ∷ []) self.new (T.meaning station.new))
+            (λ fault. has_stopped start (T.meaning entry) first asked fault self.new (T.meaning station.new))) };
+}
+
+/// Where a session ended.
+#[derive(Clone, Copy, Debug, PartialEq, Eq)]
+pub enum Halt<F> {
+    /// The input has ended.
+    End,
+    /// The input is longer than its limit.
+    Limit,
+    /// A call of the source failed.
+    InputFault,
+    /// An item could not be carried out.
+    Stopped(F),
+}
+
+/// Carries out the items of an input of at most `limit` bytes, up to its end, its limit or the first fault. It takes at most one byte past
+/// the limit.
+pub fn carry_all<C: Carrier, S: Source, T: Station>(
+    carrier: &mut C,
+    payload: &mut Payload,
+    input: &mut S,
+    station: &mut T,
+    limit: u64,
+) -> Halt<C::Fault>
+    requires limit { limit ≤ 2 ^ 40 }
+    requires ready { C.is_ready carrier.old (T.meaning station.old) }
+    requires start { C.has_done carrier.old (T.meaning station.old) [] carrier.old (T.meaning station.old) }
+    ensures few { TakesFew limit (S.left input.old) (S.left input.new) }
+    ensures cause { HasHaltCause (S.faults input.old) (S.faults input.new) result }
+    ensures ended { HasEnded limit (S.left input.old) (S.left input.new)
+        (λ first. C.has_done carrier.old (T.meaning station.old) first carrier.new (T.meaning station.new))
+        (λ first item fault. C.has_stopped carrier.old (T.meaning station.old) first item fault carrier.new (T.meaning station.new)) result }
+{
+    let mut reader = LineReader::new(limit);
+    loop {
+        let Ok(item) = reader.next(input, payload) else {
+            return Halt::InputFault;
+        };
+        match item {
+            Item::End => return Halt::End,
+            Item::Limit => return Halt::Limit,
+            Item::Command(_) | Item::Bad(_) => {}
+        }
+        if let Err(fault) = carrier.carry(&item, payload, station) {
+            return Halt::Stopped(fault);
+        }
+    }
+}
