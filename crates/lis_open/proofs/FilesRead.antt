@@ -11,7 +11,7 @@ use Rattle.lis_journal.specs.Images.{Fits}
 use Rattle.lis_journal.specs.Phases.{looked}
 use Rattle.lis_journal.specs.Record.{Entry}
 use Rattle.lis_slots.specs.Slots.{slot}
-use Rattle.lis_bits.specs.Rows.{Rows, HasShape}
+use Rattle.lis_bits.specs.Rows.{Rows}
 use Rattle.lis_blockmap.specs.Bitmap.{is_taken}
 use Rattle.lis_content.specs.Content.{are_free, has_number, are_distinct, are_within}
 use Rattle.lis_content.specs.Large.{content_blocks, file_content}
@@ -40,7 +40,7 @@ use Rattle.lis_open.specs.declared.files.Files.{Files}
 use Rattle.lis_open.specs.declared.blocks.LastBlock.{LastBlock}
 use Rattle.lis_open.specs.Reading.{OnlyReads, Recalls, IsReadAs}
 use Rattle.lis_open.specs.ReadWords.{AreWords}
-use Rattle.lis_open.specs.ReadFiles.{no_files, described, found_words, is_numbered, own_numbers, HasNumbers, AreNumbers, is_assignable_by, is_assignable_number, may_file, AreTold, TakesNumbers, TakesRecord, TakesFile, AreFirstFiles, FilesAreSpelled, FilesAreNumbered, FilesHaveBlocks}
+use Rattle.lis_open.specs.ReadFiles.{no_files, described, found_words, is_numbered, HasTests, own_numbers, HasNumbers, AreNumbers, is_assignable_by, is_assignable_number, may_file, AreTold, TakesNumbers, TakesRecord, TakesFile, AreFirstFiles, FilesAreSpelled, FilesAreNumbered, FilesHaveBlocks}
 use Rattle.lis_open.proofs.Quiet.{StillRecalls}
 use Rattle.lis_open.proofs.WordsRead.{new_from, nothing_at}
 use Rattle.lis_open.proofs.Numbers.{is_taken-marked}
@@ -328,7 +328,7 @@ module _ (limits : Limits) (MayBeKept : (ℕ → List ℕ) → Type 0) (words : 
 pub record FilesTurn (journal : Held) (limits : Limits) (words : Words) (axioms : Axioms) (old now : Meaning) (last_old last : LastBlock) (files : Files) (row : Rows) (end : ℕ) : Type 0 where
   pub reads : OnlyReads old now
   pub faults : now.disk_faults ≡ old.disk_faults
-  pub shape : HasShape row 2 limits.props
+  pub rows : HasTests words row
   pub first : AreFirstFiles limits words axioms files end
   pub recalls : StillRecalls journal old last_old last
   pub spelled : (kept : ℕ → List ℕ) → Fits journal old kept → Recalls last_old kept → FilesAreSpelled limits kept files end

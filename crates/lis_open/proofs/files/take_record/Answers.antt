@@ -36,7 +36,7 @@ file-requires-clause-rise g c =
 pub file-requires-clause-in_range : goal.file-requires-clause-in_range
 file-requires-clause-in_range g c =
     described_in c.args.axioms.now.taxonomy (own_numbers c.args.words.now.dict c.args.rec.tags (found_words c.args.words.now c.args.rec.name c.bytes.result.now)) c.as_slice-in-Some-describe.result.now
-    c.args.files.now.ext.props (c.requires.rows ∙ sym c.requires.props) (c.as_slice-in-Some-describe.ensures.value ∙ c.in-Some-describe.ensures.described.1)
+    c.args.files.now.ext.props (c.requires.ext ∙ sym c.requires.props) (c.as_slice-in-Some-describe.ensures.value ∙ c.in-Some-describe.ensures.described.1)
 
 pub returns-in_default-clause-refused : goal.returns-in_default-clause-refused
 returns-in_default-clause-refused g c = (refl, λ kept fits. NoBlocks (rw c.in_default.is at (c.in_ok-blocks.ensures.found kept fits)))
