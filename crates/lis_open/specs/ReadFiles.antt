@@ -146,7 +146,6 @@ AreItsBlocks limits at taken rec (Some blocks) = HasIndex limits at rec × (bloc
 -- the file is in the slot, its blocks are taken, and the slot has these numbers
 pub record TakesNumbers (slot : ℕ) (rec : FileRecord) (blocks numbers : List ℕ) (old new : Files) : Type 0 where
   pub catalog : new.catalog ≡ with_filed old.catalog slot rec
-  pub kept : IsCatalog new.catalog
   pub map : new.map ≡ marked old.map blocks
   pub props : new.ext.props ≡ old.ext.props
   pub sets : new.ext.sets ≡ slice_set old.ext.sets slot numbers
@@ -194,6 +193,7 @@ pub record AreFirstFiles (limits : Limits) (words : Words) (axioms : Axioms) (fi
   pub records : (slot : ℕ) (rec : FileRecord) → rec_at files.catalog slot ≡ Some rec → IsTrue (is_sound_record limits.version words.dict limits.blocks rec)
   pub given : (slot : ℕ) (rec : FileRecord) → rec_at files.catalog slot ≡ Some rec → IsTrue (list_all (is_assignable_number words) rec.tags)
   pub rest : (n : ℕ) → end ≤ n → rec_at files.catalog n ≡ None
+  pub counted : length files.catalog.entries ≤ end
   pub blocks : length files.map ≡ limits.blocks
   pub props : files.ext.props ≡ limits.props
   pub count : length files.ext.sets ≡ limits.files

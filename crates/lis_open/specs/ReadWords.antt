@@ -66,6 +66,7 @@ pub record AreFirstWords (limits : Limits) (words : Words) (end : ℕ) : Type 0 
   pub are : AreWords words
   pub props : words.dict.props ≡ limits.props
   pub rest : (n : ℕ) → end ≤ n → word_of words.dict n ≡ None
+  pub counted : length words.dict.entries ≤ end
 
 -- the slots below the end are spelled by them
 abbrev pub WordsAreSpelled : Limits → (ℕ → List ℕ) → Words → ℕ → Type 0

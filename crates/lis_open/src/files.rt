@@ -250,8 +250,6 @@ fn file(files: &mut Files, slot: u16, rec: FileRec, blocks: &[u16], numbers: &[u
 {
     mark_all(&mut files.map, blocks);
     files.catalog.place(slot, rec);
-    // Its length tells what holds of every catalog.
-    let _files = files.catalog.len();
     files.ext.set_file(u32::from(slot), &[], numbers);
     files.ext.settle();
 }
