@@ -254,58 +254,70 @@ fn file(files: &mut Files, slot: u16, rec: FileRec, blocks: &[u16], numbers: &[u
     files.ext.settle();
 }
 
+// What the reader of a file only looks at.
+#[derive(Clone, Copy)]
+struct Known<'a> {
+    journal: &'a Journal,
+    limits: &'a Limits,
+    words: &'a Words,
+    axioms: &'a Axioms,
+}
+
 // Takes the file of a record where it may be taken, and answers whether it is so. Its bytes are read where nothing else speaks
 // against it.
 fn take_record<D: Disk>(
     disk: &mut D,
-    journal: &Journal,
-    limits: &Limits,
-    words: &Words,
-    axioms: &Axioms,
+    known: Known,
     files: &mut Files,
     row: &mut Rows,
     bytes: &mut Buffer,
     slot: u16,
     rec: FileRec,
 ) -> Result<bool, Failed>
-    requires range { IsTrue (are_in_range limits.now) }
-    requires image { journal.now.blocks ≡ image_blocks limits.now }
-    requires clean { journal.now.staged ≡ [] }
-    requires unbroken { journal.now.is_broken ≡ false }
-    requires long { 4096 * journal.now.blocks ≤ (D.meaning disk.old).len }
-    requires are { AreWords words.now }
-    requires form { IsTrue (is_record limits.now.version rec) }
-    requires props { axioms.now.taxonomy.props ≡ words.now.dict.props }
-    requires ext { files.old.ext.props ≡ words.now.dict.props }
-    requires map { length files.old.map ≡ limits.now.blocks }
-    requires rows { HasTests words.now row.old }
+    requires range { IsTrue (are_in_range known.limits.now) }
+    requires image { known.journal.now.blocks ≡ image_blocks known.limits.now }
+    requires clean { known.journal.now.staged ≡ [] }
+    requires unbroken { known.journal.now.is_broken ≡ false }
+    requires long { 4096 * known.journal.now.blocks ≤ (D.meaning disk.old).len }
+    requires are { AreWords known.words.now }
+    requires form { IsTrue (is_record known.limits.now.version rec) }
+    requires props { known.axioms.now.taxonomy.props ≡ known.words.now.dict.props }
+    requires ext { files.old.ext.props ≡ known.words.now.dict.props }
+    requires map { length files.old.map ≡ known.limits.now.blocks }
+    requires rows { HasTests known.words.now row.old }
     requires below { slot < files.old.catalog.files }
     requires free { rec_at files.old.catalog slot ≡ None }
     requires undescribed { set_of files.old.ext slot ≡ [] }
     requires within { slot < length files.old.ext.sets }
     ensures reads { OnlyReads (D.meaning disk.old) (D.meaning disk.new) }
     ensures cause { HasCause (D.meaning disk.old).disk_faults (D.meaning disk.new).disk_faults result }
-    ensures rows { HasTests words.now row.new }
+    ensures rows { HasTests known.entry.words.now row.new }
     ensures taken { IfOk result (λ taken. OnTrue taken
-        (TakesRecord limits.now (Fits journal.now (D.meaning disk.old)) words.now axioms.now.taxonomy slot rec files.old files.new)) }
+        (TakesRecord known.entry.limits.now (Fits known.entry.journal.now (D.meaning disk.old)) known.entry.words.now known.entry.axioms.now.taxonomy slot rec files.old files.new)) }
     ensures refused { IfOk result (λ taken. OnFalse taken ((files.new ≡ files.old)
-        × ((kept : ℕ → List ℕ) → Fits journal.now (D.meaning disk.old) kept
-        → RecordFault limits.now kept words.now axioms.now.taxonomy files.old rec))) }
+        × ((kept : ℕ → List ℕ) → Fits known.entry.journal.now (D.meaning disk.old) kept
+        → RecordFault known.entry.limits.now kept known.entry.words.now known.entry.axioms.now.taxonomy files.old rec))) }
 {
-    if !may_file(words, files, &rec) {
+    if !may_file(known.words, files, &rec) {
         return Ok(false);
     }
-    let Some(blocks) = free_blocks(disk, journal, limits, &files.map, &rec)? else {
+    let Some(blocks) = free_blocks(disk, known.journal, known.limits, &files.map, &rec)? else {
         return Ok(false);
     };
     bytes.read(
-        journal,
+        known.journal,
         disk,
-        data_start(limits),
+        data_start(known.limits),
         rec.blocks.as_slice(),
         rec.size,
     )?;
-    match describe(words, &axioms.taxonomy, &rec, bytes.bytes(), row) {
+    match describe(
+        known.words,
+        &known.axioms.taxonomy,
+        &rec,
+        bytes.bytes(),
+        row,
+    ) {
         None => Ok(false),
         Some(numbers) => {
             file(files, slot, rec, &blocks, numbers.as_slice());
@@ -317,46 +329,41 @@ fn take_record<D: Disk>(
 // Takes the file of a slot where the slot is in its layout and the file may be taken, and answers whether it is so.
 fn take_file<D: Disk>(
     disk: &mut D,
-    journal: &Journal,
-    limits: &Limits,
-    words: &Words,
-    axioms: &Axioms,
+    known: Known,
     files: &mut Files,
     row: &mut Rows,
     bytes: &mut Buffer,
     slot: u16,
     found: Option<FileSlot>,
 ) -> Result<bool, Failed>
-    requires range { IsTrue (are_in_range limits.now) }
-    requires image { journal.now.blocks ≡ image_blocks limits.now }
-    requires clean { journal.now.staged ≡ [] }
-    requires unbroken { journal.now.is_broken ≡ false }
-    requires long { 4096 * journal.now.blocks ≤ (D.meaning disk.old).len }
-    requires are { AreWords words.now }
-    requires form { IfSome found (λ file. IsTrue (is_file limits.now.version file)) }
-    requires props { axioms.now.taxonomy.props ≡ words.now.dict.props }
-    requires ext { files.old.ext.props ≡ words.now.dict.props }
-    requires map { length files.old.map ≡ limits.now.blocks }
-    requires rows { HasTests words.now row.old }
+    requires range { IsTrue (are_in_range known.limits.now) }
+    requires image { known.journal.now.blocks ≡ image_blocks known.limits.now }
+    requires clean { known.journal.now.staged ≡ [] }
+    requires unbroken { known.journal.now.is_broken ≡ false }
+    requires long { 4096 * known.journal.now.blocks ≤ (D.meaning disk.old).len }
+    requires are { AreWords known.words.now }
+    requires form { IfSome found (λ file. IsTrue (is_file known.limits.now.version file)) }
+    requires props { known.axioms.now.taxonomy.props ≡ known.words.now.dict.props }
+    requires ext { files.old.ext.props ≡ known.words.now.dict.props }
+    requires map { length files.old.map ≡ known.limits.now.blocks }
+    requires rows { HasTests known.words.now row.old }
     requires below { slot < files.old.catalog.files }
     requires free { rec_at files.old.catalog slot ≡ None }
     requires undescribed { set_of files.old.ext slot ≡ [] }
     requires within { slot < length files.old.ext.sets }
     ensures reads { OnlyReads (D.meaning disk.old) (D.meaning disk.new) }
     ensures cause { HasCause (D.meaning disk.old).disk_faults (D.meaning disk.new).disk_faults result }
-    ensures rows { HasTests words.now row.new }
+    ensures rows { HasTests known.entry.words.now row.new }
     ensures taken { IfOk result (λ taken. OnTrue taken
-        (TakesFile limits.now (Fits journal.now (D.meaning disk.old)) words.now axioms.now.taxonomy slot found files.old files.new)) }
+        (TakesFile known.entry.limits.now (Fits known.entry.journal.now (D.meaning disk.old)) known.entry.words.now known.entry.axioms.now.taxonomy slot found files.old files.new)) }
     ensures refused { IfOk result (λ taken. OnFalse taken ((files.new ≡ files.old)
-        × ((kept : ℕ → List ℕ) → Fits journal.now (D.meaning disk.old) kept
-        → HasSlotFault limits.now kept words.now axioms.now.taxonomy files.old found))) }
+        × ((kept : ℕ → List ℕ) → Fits known.entry.journal.now (D.meaning disk.old) kept
+        → HasSlotFault known.entry.limits.now kept known.entry.words.now known.entry.axioms.now.taxonomy files.old found))) }
 {
     match found {
         None => Ok(false),
         Some(FileSlot::Free) => Ok(true),
-        Some(FileSlot::Used(rec)) => take_record(
-            disk, journal, limits, words, axioms, files, row, bytes, slot, rec,
-        ),
+        Some(FileSlot::Used(rec)) => take_record(disk, known, files, row, bytes, slot, rec),
     }
 }
 
@@ -392,20 +399,15 @@ pub fn read_files<D: Disk>(
         → Ends limits.now kept 4 (FilesAreTold limits.now kept words.now axioms.now files.new) result }
 {
     mark_tests(words, row);
+    let known = Known {
+        journal,
+        limits,
+        words,
+        axioms,
+    };
     for slot in 0..limits.files {
         let found = read_slot(last, disk, journal, limits, slot)?;
-        let is_taken = take_file(
-            disk,
-            journal,
-            limits,
-            words,
-            axioms,
-            files,
-            row,
-            bytes,
-            slot as u16,
-            found,
-        )?;
+        let is_taken = take_file(disk, known, files, row, bytes, slot as u16, found)?;
         if !is_taken {
             return Err(OpenFault::Damaged(Spot::File(slot)));
         }
