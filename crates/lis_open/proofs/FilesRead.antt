@@ -11,18 +11,19 @@ use Rattle.lis_journal.specs.Images.{Fits}
 use Rattle.lis_journal.specs.Phases.{looked}
 use Rattle.lis_journal.specs.Record.{Entry}
 use Rattle.lis_slots.specs.Slots.{slot}
-use Rattle.lis_bits.specs.Rows.{Rows, HasShape}
+use Rattle.lis_bits.specs.Rows.{Rows}
 use Rattle.lis_blockmap.specs.Bitmap.{is_taken}
 use Rattle.lis_content.specs.Content.{are_free, has_number, are_distinct, are_within}
 use Rattle.lis_content.specs.Large.{content_blocks, file_content}
 use Rattle.lis_content.proofs.Numbers.{length-marked, not_true, are_below, below_from_free, within_if_below}
 use Rattle.lis_dict.specs.Dict.{word_of}
 use Rattle.lis_dict.proofs.Laws.{number_below, number_from_word}
-use Rattle.lis_catalog.specs.Catalog.{Catalog, slot_of, rec_at}
+use Rattle.lis_catalog.specs.Catalog.{Catalog, IsCatalog, slot_of, rec_at, with_filed}
 use Rattle.lis_catalog.proofs.Laws.{rec_at-with_filed}
 use Rattle.lis_ext.specs.Ext.{set_of}
 use Rattle.lis_fields.specs.Records.{FileRecord}
 use Rattle.lis_fields.specs.Layouts.{file_bytes, is_file, is_record}
+use Rattle.lis_fields.proofs.Parts.{record_tests}
 use Rattle.lis_fields.specs.declared.slots.FileSlot.{FileSlot}
 use Rattle.lis_fields.specs.declared.slots.FileSlot.TheVariants.{Free as FreeFile, Used}
 use Rattle.lis_laws.proofs.Counts.{all_among, all_weaker}
@@ -32,7 +33,7 @@ use Rattle.lis_kept.specs.Telling.{bytes_told, blocks_told, HasIndex}
 use Rattle.lis_kept.specs.Kept.{file_by, record_at}
 use Rattle.lis_kept.specs.Areas.{file_slots}
 use Rattle.lis_kept.specs.Sound.{is_sound_record}
-use Rattle.lis_kept.proofs.Filing.{among_from_number}
+use Rattle.lis_kept.proofs.Filing.{among_from_number, entries_longer, catalog_then}
 use Rattle.lis_store.proofs.ReadBack.{read_told}
 use Rattle.lis_open.specs.declared.words.Words.{Words}
 use Rattle.lis_open.specs.declared.axioms.Axioms.{Axioms}
@@ -40,7 +41,7 @@ use Rattle.lis_open.specs.declared.files.Files.{Files}
 use Rattle.lis_open.specs.declared.blocks.LastBlock.{LastBlock}
 use Rattle.lis_open.specs.Reading.{OnlyReads, Recalls, IsReadAs}
 use Rattle.lis_open.specs.ReadWords.{AreWords}
-use Rattle.lis_open.specs.ReadFiles.{no_files, described, found_words, is_numbered, own_numbers, HasNumbers, AreNumbers, is_assignable_by, is_assignable_number, may_file, AreTold, TakesNumbers, TakesRecord, TakesFile, AreFirstFiles, FilesAreSpelled, FilesAreNumbered, FilesHaveBlocks}
+use Rattle.lis_open.specs.ReadFiles.{no_files, described, found_words, is_numbered, HasTests, own_numbers, HasNumbers, AreNumbers, is_assignable_by, is_assignable_number, may_file, AreTold, TakesNumbers, TakesRecord, TakesFile, AreFirstFiles, FilesAreSpelled, FilesAreNumbered, FilesHaveBlocks}
 use Rattle.lis_open.proofs.Quiet.{StillRecalls}
 use Rattle.lis_open.proofs.WordsRead.{new_from, nothing_at}
 use Rattle.lis_open.proofs.Numbers.{is_taken-marked}
@@ -99,6 +100,7 @@ no_files_yet limits words axioms = record {
   records = λ slot rec is. absurd cc;
   given = λ slot rec is. absurd cc;
   rest = λ n le. refl;
+  counted = omega arith;
   blocks = length-replicate limits.blocks false;
   props = refl;
   count = length-replicate limits.files [];
@@ -143,8 +145,16 @@ module _ (limits : Limits) (MayBeKept : (ℕ → List ℕ) → Type 0) (words : 
   free_slot : rec_at files.catalog number ≡ None
   free_slot = first.rest number (omega arith)
 
+  new_name : slot_of files.catalog rec.name ≡ None
+  new_name = new_from (slot_of files.catalog rec.name) tests.new
+
+  -- each file so far has a slot, so that there is room for it
+  catalog_more : IsCatalog (with_filed files.catalog number rec)
+  catalog_more =
+      catalog_then files.catalog first.catalog number rec new_name (record_tests limits.version rec form).name (omega (arith, lt, first.slots)) free_slot (omega (arith, first.counted, lt, first.slots))
+
   found_at : (n : ℕ) → rec_at next.catalog n ≡ cond (number == n) (Some rec) (rec_at files.catalog n)
-  found_at n = ap (λ (c : Catalog). rec_at c n) takes.catalog ∙ rec_at-with_filed files.catalog number rec n (new_from (slot_of files.catalog rec.name) tests.new) free_slot
+  found_at n = ap (λ (c : Catalog). rec_at c n) takes.catalog ∙ rec_at-with_filed files.catalog number rec n new_name free_slot
 
   found_new : rec_at next.catalog number ≡ Some rec
   found_new = found_at number ∙ ap (λ b. cond b (Some rec) (rec_at files.catalog number)) (eq-eqb number number refl)
@@ -217,10 +227,11 @@ module _ (limits : Limits) (MayBeKept : (ℕ → List ℕ) → Type 0) (words : 
   files_more : AreFirstFiles limits words axioms next (number + 1)
   files_more = record {
     slots = ap (λ (c : Catalog). c.files) takes.catalog ∙ first.slots;
-    catalog = takes.kept;
+    catalog = subst IsCatalog (sym takes.catalog) catalog_more;
     records = either (λ slot r. IsTrue (is_sound_record limits.version words.dict limits.blocks r)) sound first.records;
     given = either (λ slot r. IsTrue (list_all (is_assignable_number words) r.tags)) tests.given first.given;
     rest = λ n le. found_old n (λ e. omega arith) ∙ first.rest n (omega arith);
+    counted = omega (arith, ap (λ (c : Catalog). length c.entries) takes.catalog, entries_longer files.catalog first.catalog number rec new_name, first.counted);
     blocks = ap (length {A = Bool}) takes.map ∙ (length-marked files.map took.blocks ∙ first.blocks);
     props = takes.props ∙ first.props;
     count = ap (length {A = List ℕ}) takes.sets ∙ (length-set files.ext.sets number numbers ∙ first.count);
@@ -288,6 +299,7 @@ module _ (limits : Limits) (MayBeKept : (ℕ → List ℕ) → Type 0) (words : 
     records = first.records;
     given = first.given;
     rest = λ n le. first.rest n (omega arith);
+    counted = omega (arith, first.counted);
     blocks = first.blocks;
     props = first.props;
     count = first.count;
@@ -328,7 +340,7 @@ module _ (limits : Limits) (MayBeKept : (ℕ → List ℕ) → Type 0) (words : 
 pub record FilesTurn (journal : Held) (limits : Limits) (words : Words) (axioms : Axioms) (old now : Meaning) (last_old last : LastBlock) (files : Files) (row : Rows) (end : ℕ) : Type 0 where
   pub reads : OnlyReads old now
   pub faults : now.disk_faults ≡ old.disk_faults
-  pub shape : HasShape row 2 limits.props
+  pub rows : HasTests words row
   pub first : AreFirstFiles limits words axioms files end
   pub recalls : StillRecalls journal old last_old last
   pub spelled : (kept : ℕ → List ℕ) → Fits journal old kept → Recalls last_old kept → FilesAreSpelled limits kept files end

@@ -25,7 +25,7 @@ shaped r rows bits row value next shape is = record {
 }
 
 -- one bit more
-pub bit_put : (r next : Rows) (bits m n : ℕ) → HasShape r 2 bits → next ≡ with_row r 0 (λ j. if j == m then true else get r 0 j) → n < bits → get next 0 n ≡ (get r 0 n || (m == n))
+pub bit_put : (r next : Rows) (bits m n : ℕ) → HasShape r 3 bits → next ≡ with_row r 0 (λ j. if j == m then true else get r 0 j) → n < bits → get next 0 n ≡ (get r 0 n || (m == n))
 bit_put r next bits m n shape is below =
     ap (λ (x : Rows). get x 0 n) is
     ∙ (get-with_row_same r 0 n (λ j. if j == m then true else get r 0 j) (omega (arith, shape.tall)) (omega (arith, shape.wide, below)) ∙ by (cases_eq n m))
@@ -36,7 +36,7 @@ bit_put r next bits m n shape is below =
     by (inr differ) =
         ap (λ b. cond b true (get r 0 n)) (ne_eqb n m differ) ∙ (sym (or-false (get r 0 n)) ∙ ap (λ b. get r 0 n || b) (sym (ne_eqb m n (λ e. differ (sym e)))))
 
-pub no_bit_set : (r next : Rows) (bits n : ℕ) → HasShape r 2 bits → next ≡ with_row r 0 (λ _. false) → n < bits → get next 0 n ≡ false
+pub no_bit_set : (r next : Rows) (bits n : ℕ) → HasShape r 3 bits → next ≡ with_row r 0 (λ _. false) → n < bits → get next 0 n ≡ false
 no_bit_set r next bits n shape is below =
     ap (λ (x : Rows). get x 0 n) is ∙ get-with_row_same r 0 n (λ _. false) (omega (arith, shape.tall)) (omega (arith, shape.wide, below))
 
@@ -70,16 +70,16 @@ module _ (d : Dict) (dict : IsDict d) (left n : ℕ) where
       ∙ ap (λ b. get old 0 n || b)
       (sym (ap₂ (λ a b. a || b) (ne_eqb left n (λ same. both_ways (is_some (word_of d n)) (ap is_some (ap (word_of d) (sym same) ∙ none)) some)) (ap (λ o. is_head_by o (word_of d n)) none)))
 
-  pub left_marked : (old mid : Rows) (bits : ℕ) → HasShape old 2 bits → mid ≡ with_row old 0 (λ j. if j == left then true else get old 0 j) → head_by d (word_of d left) ≡ None → n < bits
+  pub left_marked : (old mid : Rows) (bits : ℕ) → HasShape old 3 bits → mid ≡ with_row old 0 (λ j. if j == left then true else get old 0 j) → head_by d (word_of d left) ≡ None → n < bits
       → get mid 0 n ≡ (get old 0 n || is_marked)
   left_marked old mid bits shape is none below =
       bit_put old mid bits left n shape is below
       ∙ ap (λ b. get old 0 n || b) (sym (or-false (left == n)) ∙ ap (λ b. (left == n) || b) (sym (ap (λ o. is_at o n) none) ∙ head_at d dict left n))
 
-  pub both_marked : (old mid new : Rows) (bits head : ℕ) → HasShape old 2 bits → mid ≡ with_row old 0 (λ j. if j == left then true else get old 0 j) → head_by d (word_of d left) ≡ Some head
+  pub both_marked : (old mid new : Rows) (bits head : ℕ) → HasShape old 3 bits → mid ≡ with_row old 0 (λ j. if j == left then true else get old 0 j) → head_by d (word_of d left) ≡ Some head
       → new ≡ with_row mid 0 (λ j. if j == head then true else get mid 0 j) → n < bits → get new 0 n ≡ (get old 0 n || is_marked)
   both_marked old mid new bits head shape is some then_is below =
-      bit_put mid new bits head n (shaped old 2 bits 0 _ mid shape is) then_is below
+      bit_put mid new bits head n (shaped old 3 bits 0 _ mid shape is) then_is below
       ∙ (ap (λ b. b || (head == n)) (bit_put old mid bits left n shape is below)
       ∙ (or_assoc (get old 0 n) (left == n) (head == n) ∙ ap (λ b. get old 0 n || ((left == n) || b)) (sym (ap (λ o. is_at o n) some) ∙ head_at d dict left n)))
 

@@ -1,13 +1,13 @@
 -- The declared tests that a file meets, by their numbers.
-use Rattle.std.proofs.Common.{◌≡◌, ◌∙◌, refl, sym, ap, ap₂, subst, inl, inr, ℕ, ◌+◌, ◌<◌, if◌then◌else◌, Bool, true, false, not, ◌&&◌, ◌||◌, Option, Some, None, is_some, option_to_list, List, [], ◌∷◌, ◌++◌, filter, append-nil, map-id, arith}
+use Rattle.std.proofs.Common.{◌≡◌, ◌⊎◌, ◌∙◌, refl, sym, ap, ap₂, subst, inl, inr, ℕ, zero, suc, ◌+◌, ◌-◌, ◌<◌, ◌≤◌, ◌==◌, eq-eqb, if◌then◌else◌, Bool, true, false, not, ◌&&◌, ◌||◌, Option, Some, None, is_some, option_to_list, List, [], ◌∷◌, ◌++◌, filter, append-nil, map-id, arith}
 use Rattle.std.specs.List.{list_all, range_with_len}
 use Rattle.std.proofs.Math.Bool.{or-false, or_assoc, and-true}
-use Rattle.std.proofs.lemmas.Bool.{and_from, both_ways, or_left}
+use Rattle.std.proofs.lemmas.Bool.{and_from, both_ways, or_left, cases_eq, ne_eqb}
 use Rattle.std.proofs.lemmas.Grind.{flat_map-append}
 use Rattle.std.proofs.lemmas.List.FromFn.{filter_of_map_range_with_len_more}
 use Rattle.std.proofs.lemmas.List.Folds.{list_any-append, list_all-append}
 use Rattle.lis_graph.proofs.Members.{Among, among_from_any, any_from_among, among_filter, filter_among, among_flat_map, flat_map_among}
-use Rattle.lis_bits.specs.Rows.{Rows, HasShape, get, with_row, SetsRow, SetsBits}
+use Rattle.lis_bits.specs.Rows.{Rows, HasShape, get, with_row, NoneTrue, SetsRow, SetsBits}
 use Rattle.lis_bits.proofs.Laws.{bits_set, row_sets}
 use Rattle.lis_blockmap.specs.Bitmap.{is_taken}
 use Rattle.lis_dict.specs.Dict.{IsDict, number_of, word_of}
@@ -24,8 +24,8 @@ use Rattle.lis_model.specs.Tests.{is_met, met_tests}
 use Rattle.lis_kept.specs.Telling.{bit_of}
 use Rattle.lis_kept.specs.TestEdges.{test_by, declared_test}
 use Rattle.lis_open.specs.declared.words.Words.{Words}
-use Rattle.lis_open.specs.ReadWords.{declared_words, is_met_number}
-use Rattle.lis_open.specs.ReadFiles.{is_described, is_numbered, numbers_of, met_numbers, own_numbers}
+use Rattle.lis_open.specs.ReadWords.{declared_words, is_test_number, is_met_number}
+use Rattle.lis_open.specs.ReadFiles.{is_described, is_numbered, numbers_of, met_numbers, HasTests, own_numbers}
 use Rattle.lis_open.proofs.WordUses.{declared_bit, no_limits}
 use Rattle.lis_open.proofs.WordPlaces.{declared_numbered, declared_flagged}
 use Rattle.lis_open.proofs.LinkedTests.{declared_test_is}
@@ -46,38 +46,96 @@ where_more k test =
     ap (filter test) (sym (map-id (range_with_len 0 (k + 1))))
     ∙ (filter_of_map_range_with_len_more test (λ n. n) 0 k k (omega arith) ∙ ap (λ ns. filter test ns ++ (if test k then k ∷ [] else [])) (map-id (range_with_len 0 k)))
 
+-- numbers that fail add nothing
+where_past : (test : ℕ → Bool) (start end : ℕ) → start ≤ end → ((n : ℕ) → start ≤ n → n < end → test n ≡ false) → numbers_where end test ≡ numbers_where start test
+where_past test start end le none = ap (λ n. numbers_where n test) (sym gap) ∙ skip (end - start) (omega arith)
+  where
+    gap : start + (end - start) ≡ end
+    gap = omega arith
+
+    skip : (count : ℕ) → start + count ≤ end → numbers_where (start + count) test ≡ numbers_where start test
+    skip zero within = ap (λ n. numbers_where n test) (omega arith)
+    skip (suc count) within =
+        let more : start + suc count ≡ (start + count) + 1 = omega arith in
+        let fails = none (start + count) (omega arith) (omega arith) in
+        ap (λ n. numbers_where n test) more
+        ∙ (where_more (start + count) test
+        ∙ (ap (λ b. numbers_where (start + count) test ++ (if b then (start + count) ∷ [] else [])) fails
+        ∙ (append-nil (numbers_where (start + count) test) ∙ skip count (omega arith))))
+
+-- ---- the row of the declared tests
+-- the numbers below the end are marked where they have one
+pub record Marked (words : Words) (row : Rows) (end : ℕ) : Type 0 where
+  pub shape : HasShape row 3 words.dict.props
+  pub tests : (n : ℕ) → n < end → get row 2 n ≡ is_test_number words n
+
+pub marked_more : (words : Words) (row next : Rows) (end : ℕ) (value : Bool) → Marked words row end → end < words.dict.props → value ≡ is_test_number words end
+    → next ≡ with_row row 2 (λ k. if k == end then value else get row 2 k) → Marked words next (end + 1)
+marked_more words row next end value was below is put =
+    subst (λ (r : Rows). Marked words r (end + 1)) (sym put) (record { shape = set.shape; tests = λ n lt. set.at n (omega (arith, lt, below)) ∙ by n lt (cases_eq n end) })
+  where
+    set : SetsBits row (with_row row 2 (λ k. if k == end then value else get row 2 k)) 3 words.dict.props 2 (λ k. if k == end then value else get row 2 k)
+    set = bits_set row 3 words.dict.props 2 (λ k. if k == end then value else get row 2 k) was.shape (omega arith)
+
+    by : (n : ℕ) → n < end + 1 → (n ≡ end) ⊎ (n ≡ end → ⊥) → (if n == end then value else get row 2 n) ≡ is_test_number words n
+    by n lt (inl same) = ap (λ b. if b then value else get row 2 n) (eq-eqb n end same) ∙ (is ∙ ap (is_test_number words) (sym same))
+    by n lt (inr differ) = ap (λ b. if b then value else get row 2 n) (ne_eqb n end differ) ∙ was.tests n (omega arith)
+
+-- ---- the tests that are met, one after another
 -- the row has what it had, and what the tests of the numbers below k entail that are met
 pub record MetSoFar (words : Words) (t : Taxonomy) (size : ℕ) (old row : Rows) (k : ℕ) : Type 0 where
-  pub shape : HasShape row 2 t.props
+  pub rows : HasTests words row
+  pub within : k ≤ words.dict.props
   pub bits : (n : ℕ) → n < t.props → get row 0 n ≡ (get old 0 n || is_described t (numbers_where k (is_met_number words size)) n)
 
-module _ (words : Words) (t : Taxonomy) (size : ℕ) where
-  pub met_none : (row : Rows) → HasShape row 2 t.props → MetSoFar words t size row row 0
-  met_none row shape = record {
-    shape = shape;
+module _ (words : Words) (t : Taxonomy) (size : ℕ) (props : t.props ≡ words.dict.props) where
+  pub met_none : (row : Rows) → HasTests words row → MetSoFar words t size row row 0
+  met_none row rows = record {
+    rows = rows;
+    within = omega arith;
     bits = λ n lt. sym (ap (λ ns. get row 0 n || is_described t ns n) (where_none (is_met_number words size)) ∙ or-false (get row 0 n));
   }
 
-  pub met_not : (old row : Rows) (k : ℕ) → MetSoFar words t size old row k → is_met_number words size k ≡ false → MetSoFar words t size old row (k + 1)
-  met_not old row k was unmet = record { shape = was.shape; bits = λ n lt. was.bits n lt ∙ ap (λ ns. get old 0 n || is_described t ns n) (sym same) }
+  -- none of the numbers up to the next declared test is one
+  none_met : (row : Rows) (start end : ℕ) → HasTests words row → end ≤ words.dict.props → NoneTrue row 2 start end → (n : ℕ) → start ≤ n → n < end → is_met_number words size n ≡ false
+  none_met row start end rows within none n le lt = by (is_met_number words size n) refl
+    where
+      by : (b : Bool) → is_met_number words size n ≡ b → b ≡ false
+      by false met = refl
+      by true met =
+          absurd (both_ways (get row 2 n) (none n le lt) (rows.tests n (omega (arith, lt, within)) ∙ met_is_test (declared_test words.dict words.declared n) size met))
+
+  pub met_past : (old row : Rows) (start end : ℕ) → MetSoFar words t size old row start → start ≤ end → end ≤ words.dict.props → NoneTrue row 2 start end → MetSoFar words t size old row end
+  met_past old row start end was le within none = record { rows = was.rows; within = within; bits = λ n lt. was.bits n lt ∙ ap (λ ns. get old 0 n || is_described t ns n) (sym same) }
+    where
+      same : numbers_where end (is_met_number words size) ≡ numbers_where start (is_met_number words size)
+      same = where_past (is_met_number words size) start end le (none_met row start end was.rows within none)
+
+  pub met_not : (old row : Rows) (k : ℕ) → MetSoFar words t size old row k → k < words.dict.props → is_met_number words size k ≡ false → MetSoFar words t size old row (k + 1)
+  met_not old row k was below unmet =
+      record { rows = was.rows; within = omega (arith, below); bits = λ n lt. was.bits n lt ∙ ap (λ ns. get old 0 n || is_described t ns n) (sym same) }
     where
       same : numbers_where (k + 1) (is_met_number words size) ≡ numbers_where k (is_met_number words size)
       same =
           where_more k (is_met_number words size)
           ∙ (ap (λ b. numbers_where k (is_met_number words size) ++ (if b then k ∷ [] else [])) unmet ∙ append-nil (numbers_where k (is_met_number words size)))
 
-  pub met_more : (old row mid new : Rows) (k : ℕ) → MetSoFar words t size old row k → is_met_number words size k ≡ true → SetsRow row mid 1 (entails t k) → new ≡ with_row mid 0 (λ bit. get mid 0 bit || get mid 1 bit)
-      → MetSoFar words t size old new (k + 1)
-  met_more old row mid new k was met ups joined = subst (λ (r : Rows). MetSoFar words t size old r (k + 1)) (sym joined) (record { shape = second.shape; bits = bits })
+  pub met_more : (old row mid new : Rows) (k : ℕ) → MetSoFar words t size old row k → k < words.dict.props → is_met_number words size k ≡ true → SetsRow row mid 1 (entails t k)
+      → new ≡ with_row mid 0 (λ bit. get mid 0 bit || get mid 1 bit) → MetSoFar words t size old new (k + 1)
+  met_more old row mid new k was lower met ups joined =
+      subst (λ (r : Rows). MetSoFar words t size old r (k + 1)) (sym joined) (record { rows = rows; within = omega (arith, lower); bits = bits })
     where
       below : List ℕ
       below = numbers_where k (is_met_number words size)
 
-      first : SetsBits row mid 2 t.props 1 (entails t k)
-      first = row_sets row mid 2 t.props 1 (entails t k) was.shape (omega arith) ups
+      first : SetsBits row mid 3 words.dict.props 1 (entails t k)
+      first = row_sets row mid 3 words.dict.props 1 (entails t k) was.rows.shape (omega arith) ups
 
-      second : SetsBits mid (with_row mid 0 (λ bit. get mid 0 bit || get mid 1 bit)) 2 t.props 0 (λ bit. get mid 0 bit || get mid 1 bit)
-      second = bits_set mid 2 t.props 0 (λ bit. get mid 0 bit || get mid 1 bit) first.shape (omega arith)
+      second : SetsBits mid (with_row mid 0 (λ bit. get mid 0 bit || get mid 1 bit)) 3 words.dict.props 0 (λ bit. get mid 0 bit || get mid 1 bit)
+      second = bits_set mid 3 words.dict.props 0 (λ bit. get mid 0 bit || get mid 1 bit) first.shape (omega arith)
+
+      rows : HasTests words (with_row mid 0 (λ bit. get mid 0 bit || get mid 1 bit))
+      rows = record { shape = second.shape; tests = λ n lt. second.others 2 n (λ e. omega (arith, e)) ∙ (first.others 2 n (λ e. omega (arith, e)) ∙ was.rows.tests n lt) }
 
       described_more : (n : ℕ) → is_described t (numbers_where (k + 1) (is_met_number words size)) n ≡ (is_described t below n || entails t k n)
       described_more n =
@@ -86,12 +144,13 @@ module _ (words : Words) (t : Taxonomy) (size : ℕ) where
 
       bits : (n : ℕ) → n < t.props → get (with_row mid 0 (λ bit. get mid 0 bit || get mid 1 bit)) 0 n ≡ (get old 0 n || is_described t (numbers_where (k + 1) (is_met_number words size)) n)
       bits n lt =
-          second.at n lt
-          ∙ (ap₂ (λ a b. a || b) (first.others 0 n (λ e. omega (arith, e)) ∙ was.bits n lt) (first.at n lt)
+          let inside : n < words.dict.props = omega (arith, lt, props) in
+          second.at n inside
+          ∙ (ap₂ (λ a b. a || b) (first.others 0 n (λ e. omega (arith, e)) ∙ was.bits n lt) (first.at n inside)
           ∙ (or_assoc (get old 0 n) (is_described t below n) (entails t k n) ∙ ap (λ b. get old 0 n || b) (sym (described_more n))))
 
-  pub met_all : (old row : Rows) (k : ℕ) → MetSoFar words t size old row k → k ≡ words.dict.props → (n : ℕ) → n < t.props → get row 0 n ≡ (get old 0 n || is_described t (met_numbers words size) n)
-  met_all old row k was all n lt = was.bits n lt ∙ ap (λ end. get old 0 n || is_described t (numbers_where end (is_met_number words size)) n) all
+  pub met_all : (old row : Rows) (k : ℕ) → MetSoFar words t size old row k → NoneTrue row 2 k row.bits → (n : ℕ) → n < t.props → get row 0 n ≡ (get old 0 n || is_described t (met_numbers words size) n)
+  met_all old row k was none = (met_past old row k words.dict.props was was.within (omega arith) (subst (λ end. NoneTrue row 2 k end) was.rows.shape.wide none)).bits
 
 -- ---- the numbers of the tests that are met
 module _ (words : Words) (dict : IsDict words.dict) (size : ℕ) where

@@ -1,5 +1,6 @@
 -- Slots and the values that they spell.
-use Rattle.std.proofs.Common.{◌≡◌, ◌∙◌, sym, ap, ℕ, ◌<◌, Bool, Option, Some, None, List, [], IsTrue}
+use Rattle.std.proofs.Common.{◌≡◌, ◌∙◌, sym, ap, ℕ, ◌*◌, ◌^◌, ◌<◌, ◌≤◌, Bool, Option, Some, None, List, [], IsTrue, arith}
+use Rattle.std.proofs.Math.Nat.{mul-le-mul_left}
 use Rattle.std.specs.Option.{IfSome}
 use Rattle.lis_journal.specs.Record.{Entry}
 use Rattle.lis_journal.specs.Phases.{looked}
@@ -8,8 +9,18 @@ use Rattle.lis_fields.specs.declared.slots.PropSlot.{PropSlot}
 use Rattle.lis_fields.specs.declared.slots.FileSlot.{FileSlot}
 use Rattle.lis_fields.proofs.OneSpelling.{prop_once, file_once}
 use Rattle.lis_model.specs.declared.limits.Limits.{Limits}
+use Rattle.lis_model.specs.Ranges.{are_in_range}
+use Rattle.lis_model.specs.Image.{image_blocks}
+use Rattle.lis_kept.proofs.InArea.{few_files, few_properties, few_blocks as few_data}
 use Rattle.lis_open.specs.Checks.{IsProperty, IsFile}
 use Rattle.lis_open.specs.Reading.{IsReadAs}
+
+-- the blocks of an image have numbers of 32 bits
+pub few_blocks : (limits : Limits) (blocks : ℕ) → IsTrue (are_in_range limits) → blocks ≡ image_blocks limits → blocks < 2 ^ 32
+few_blocks limits blocks range is =
+    let files = few_files limits range in
+    let bits : limits.props * limits.files ≤ limits.props * 4096 = mul-le-mul_left limits.props files in
+    omega (arith, is, bits, files, few_properties limits range, few_data limits range)
 
 -- what is read of a slot where nothing is staged
 pub slot_read : (slots : Slots) (staged : List Entry) (kept : ℕ → List ℕ) (n : ℕ) (bytes : List ℕ) → staged ≡ [] → bytes ≡ slot slots (looked staged kept) n → bytes ≡ slot slots kept n

@@ -10,10 +10,12 @@ use Rattle.lis_journal.specs.Images.{Fits}
 use Rattle.lis_slots.specs.Slots.{slot}
 use Rattle.lis_blockmap.specs.Bitmap.{is_taken}
 use Rattle.lis_dict.specs.Dict.{IsDict, number_of, word_of}
-use Rattle.lis_dict.proofs.Laws.{word_from_number, number_from_word, number_below, word_of-with_entry}
+use Rattle.lis_dict.proofs.Laws.{word_from_number, number_from_word, number_below, word_of-with_entry, length-with_entry, kept_with_entry}
 use Rattle.lis_fields.specs.Layouts.{prop_bytes, is_prop}
+use Rattle.lis_fields.proofs.Parts.{undeclared_word, declarable_word}
 use Rattle.lis_fields.specs.declared.slots.PropSlot.{PropSlot}
 use Rattle.lis_fields.specs.declared.slots.PropSlot.TheVariants.{Free as FreeProp, Known, Declared}
+use Rattle.lis_words.specs.Words.{is_property}
 use Rattle.lis_model.specs.Ranges.{are_in_range}
 use Rattle.lis_model.specs.declared.limits.Limits.{Limits}
 use Rattle.lis_model.specs.declared.spot.Spot.{Spot}
@@ -77,11 +79,16 @@ module _ (words : Words) (number : ℕ) (word : List ℕ) (is_declared : Bool) (
       has m bit (inl same) = ap (λ k. is_some (word_of with_it.dict k)) same ∙ ap is_some word_here
       has m bit (inr differ) = ap is_some (word_there m differ) ∙ are.flagged m (sym (bit_there m differ) ∙ bit)
 
-  first_more : (limits : Limits) → AreFirstWords limits words number → IsDict with_it.dict → IsTrue (is_prop (property_by (Some word) is_declared)) → AreFirstWords limits with_it (number + 1)
-  first_more limits first kept form = record {
-    are = are_more kept form;
+  -- each word so far has a slot, so that there is room for it
+  dict_more : (limits : Limits) → AreFirstWords limits words number → IsTrue (is_property word) → IsDict with_it.dict
+  dict_more limits first form = kept_with_entry words.dict word number new are.dict form below free (omega (arith, length-with_entry words.dict word number new, first.counted, below))
+
+  first_more : (limits : Limits) → AreFirstWords limits words number → IsTrue (is_property word) → IsTrue (is_prop (property_by (Some word) is_declared)) → AreFirstWords limits with_it (number + 1)
+  first_more limits first form here = record {
+    are = are_more (dict_more limits first form) here;
     props = first.props;
     rest = λ n le. word_there n (λ e. omega arith) ∙ first.rest n (omega arith);
+    counted = omega (arith, length-with_entry words.dict word number new, first.counted);
   }
 
   spelled_more : (limits : Limits) (at : ℕ → List ℕ) → WordsAreSpelled limits at words number → slot (property_slots limits) at number ≡ prop_bytes (property_by (Some word) is_declared) → WordsAreSpelled limits at with_it (number + 1)
@@ -101,17 +108,17 @@ module _ (limits : Limits) (words : Words) (number : ℕ) (first : AreFirstWords
   free : word_of words.dict number ≡ None
   free = first.rest number (omega arith)
 
-  pub first_on : (found : Option PropSlot) (next : Words) → IfSome found (λ property. IsTrue (is_prop property)) → may_take_property words found ≡ true → IsDict next.dict → next ≡ with_property words number found
+  pub first_on : (found : Option PropSlot) (next : Words) → IfSome found (λ property. IsTrue (is_prop property)) → may_take_property words found ≡ true → next ≡ with_property words number found
       → AreFirstWords limits next (number + 1)
-  first_on None next form may kept is = absurd cc
-  first_on (Some FreeProp) next form may kept is =
-      subst (λ (w : Words). AreFirstWords limits w (number + 1)) (sym is) (record { are = first.are; props = first.props; rest = λ n le. first.rest n (omega arith) })
-  first_on (Some (Known w)) next form may kept is =
+  first_on None next form may is = absurd cc
+  first_on (Some FreeProp) next form may is =
+      subst (λ (w : Words). AreFirstWords limits w (number + 1)) (sym is) (record { are = first.are; props = first.props; rest = λ n le. first.rest n (omega arith); counted = omega (arith, first.counted) })
+  first_on (Some (Known w)) next form may is =
       subst (λ (w : Words). AreFirstWords limits w (number + 1)) (sym is)
-      (first_more words number w false first.are in_dict free (new_from (number_of words.dict w) may) limits first (subst (λ (w : Words). IsDict w.dict) is kept) form)
-  first_on (Some (Declared w)) next form may kept is =
+      (first_more words number w false first.are in_dict free (new_from (number_of words.dict w) may) limits first (undeclared_word w form) form)
+  first_on (Some (Declared w)) next form may is =
       subst (λ (w : Words). AreFirstWords limits w (number + 1)) (sym is)
-      (first_more words number w true first.are in_dict free (new_from (number_of words.dict w) may) limits first (subst (λ (w : Words). IsDict w.dict) is kept) form)
+      (first_more words number w true first.are in_dict free (new_from (number_of words.dict w) may) limits first (declarable_word w form) form)
 
   module _ (at : ℕ → List ℕ) (spelled : WordsAreSpelled limits at words number) where
     pub spelled_on : (found : Option PropSlot) (next : Words) → may_take_property words found ≡ true → next ≡ with_property words number found → IsReadAs prop_bytes is_prop (property_slots limits) at number found
@@ -244,6 +251,7 @@ no_words_yet limits range = record {
   };
   props = refl;
   rest = λ n le. refl;
+  counted = omega arith;
 }
 
 -- where the words are those that nothing was read of

@@ -35,7 +35,7 @@ pub record IsEmptyRoom (limits : Limits) (room : Room) : Type 0 where
   pub words : room.words ≡ no_words limits
   pub axioms : AreNoAxioms limits room.axioms
   pub files : room.files ≡ no_files limits
-  pub row : HasShape room.row 2 limits.props
+  pub row : HasShape room.row 3 limits.props
   pub marks : AreNoMarks limits room.marks
 
 -- what memory keeps of what was read

@@ -2,6 +2,7 @@
 use Rattle.std.specs.Prelude.{◌≡◌, ℕ, ◌≤◌, ◌<◌, nat_le, Bool, true, false, not, ◌&&◌, ◌||◌, is_some, Option, Some, None, List, [], ◌++◌, length, replicate, slice_set, IsTrue}
 use Rattle.std.specs.Option.{option_to_list}
 use Rattle.std.specs.List.{list_all, list_any, flat_map, Contains}
+use Rattle.lis_bits.specs.Rows.{Rows, HasShape, get}
 use Rattle.lis_slots.specs.Slots.{slot}
 use Rattle.lis_blockmap.specs.Bitmap.{is_taken}
 use Rattle.lis_content.specs.Content.{marked, are_free, are_distinct, has_number}
@@ -27,7 +28,7 @@ use Rattle.lis_kept.specs.Telling.{words_told, bytes_told, blocks_told, HasIndex
 use Rattle.lis_open.specs.declared.words.Words.{Words}
 use Rattle.lis_open.specs.declared.axioms.Axioms.{Axioms}
 use Rattle.lis_open.specs.declared.files.Files.{Files}
-use Rattle.lis_open.specs.ReadWords.{declared_words, kept_words, is_met_number}
+use Rattle.lis_open.specs.ReadWords.{declared_words, kept_words, is_test_number, is_met_number}
 
 unfoldable pub no_files : Limits → Files
 no_files limits = record {
@@ -58,6 +59,11 @@ found_words words name bytes = derived_words name bytes ++ met_tests (declared_w
 -- the numbers of the declared tests that so many bytes meet
 abbrev pub met_numbers : Words → ℕ → List ℕ
 met_numbers words size = numbers_where words.dict.props (is_met_number words size)
+
+-- Rows for a description: the first two are for what its numbers entail, and the third one has the numbers of the declared tests.
+pub record HasTests (words : Words) (row : Rows) : Type 0 where
+  pub shape : HasShape row 3 words.dict.props
+  pub tests : (n : ℕ) → n < words.dict.props → get row 2 n ≡ is_test_number words n
 
 -- The numbers of what a file has by itself: those that it was given, and those of the words that are found in it.
 unfoldable pub own_numbers : Dict → List ℕ → List (List ℕ) → List ℕ
@@ -140,7 +146,6 @@ AreItsBlocks limits at taken rec (Some blocks) = HasIndex limits at rec × (bloc
 -- the file is in the slot, its blocks are taken, and the slot has these numbers
 pub record TakesNumbers (slot : ℕ) (rec : FileRecord) (blocks numbers : List ℕ) (old new : Files) : Type 0 where
   pub catalog : new.catalog ≡ with_filed old.catalog slot rec
-  pub kept : IsCatalog new.catalog
   pub map : new.map ≡ marked old.map blocks
   pub props : new.ext.props ≡ old.ext.props
   pub sets : new.ext.sets ≡ slice_set old.ext.sets slot numbers
@@ -188,6 +193,7 @@ pub record AreFirstFiles (limits : Limits) (words : Words) (axioms : Axioms) (fi
   pub records : (slot : ℕ) (rec : FileRecord) → rec_at files.catalog slot ≡ Some rec → IsTrue (is_sound_record limits.version words.dict limits.blocks rec)
   pub given : (slot : ℕ) (rec : FileRecord) → rec_at files.catalog slot ≡ Some rec → IsTrue (list_all (is_assignable_number words) rec.tags)
   pub rest : (n : ℕ) → end ≤ n → rec_at files.catalog n ≡ None
+  pub counted : length files.catalog.entries ≤ end
   pub blocks : length files.map ≡ limits.blocks
   pub props : files.ext.props ≡ limits.props
   pub count : length files.ext.sets ≡ limits.files

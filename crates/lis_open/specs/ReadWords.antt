@@ -66,6 +66,7 @@ pub record AreFirstWords (limits : Limits) (words : Words) (end : ℕ) : Type 0 
   pub are : AreWords words
   pub props : words.dict.props ≡ limits.props
   pub rest : (n : ℕ) → end ≤ n → word_of words.dict n ≡ None
+  pub counted : length words.dict.entries ≤ end
 
 -- the slots below the end are spelled by them
 abbrev pub WordsAreSpelled : Limits → (ℕ → List ℕ) → Words → ℕ → Type 0
@@ -99,6 +100,10 @@ pub record LinksTests (words : Words) (end : ℕ) (t : Taxonomy) : Type 0 where
   pub edges : (p q : ℕ) → has_edge t p q ≡ (is_head_by (word_of words.dict p) (word_of words.dict q) || (nat_lt p end && is_test_link words.dict words.declared p q))
 
 -- ---- tests
+-- the number has a declared test
+abbrev pub is_test_number : Words → ℕ → Bool
+is_test_number words n = is_some {T = Bool × ℕ} (declared_test words.dict words.declared n)
+
 -- the number has a declared test that so many bytes meet
 abbrev pub is_met_number : Words → ℕ → ℕ → Bool
 is_met_number words size n = is_met (declared_test words.dict words.declared n) size

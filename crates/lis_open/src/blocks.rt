@@ -1,6 +1,6 @@
 //! Slots of an image, each block read once.
 
-ghost use Rattle.std.specs.Prelude.{◌≡◌, ◌+◌, ◌*◌, ◌/◌, ◌%◌, ◌<◌, ◌≤◌, ℕ, List, [], None, Some, false, length, OnOk};
+ghost use Rattle.std.specs.Prelude.{◌≡◌, ◌+◌, ◌*◌, ◌/◌, ◌%◌, ◌^◌, ◌<◌, ◌≤◌, ℕ, List, [], None, Some, false, length, OnOk};
 ghost use Rattle.lis_ports.specs.Calls.{HasCause};
 ghost use Rattle.lis_journal.specs.Images.{Fits};
 ghost use Rattle.lis_slots.specs.Slots.{slot};
@@ -63,6 +63,7 @@ impl LastBlock {
         requires divides { 4096 % length buf.old ≡ 0 }
         requires home { 578 ≤ first }
         requires within { first + k / (4096 / length buf.old) < journal.now.blocks }
+        requires few { journal.now.blocks < 2 ^ 32 }
         requires clean { journal.now.staged ≡ [] }
         requires unbroken { journal.now.is_broken ≡ false }
         requires long { 4096 * journal.now.blocks ≤ (D.meaning disk.old).len }
@@ -75,8 +76,6 @@ impl LastBlock {
             → Recalls self.old kept → Recalls self.new kept }
     {
         let width = buf.len();
-        // A journal's blocks have numbers of 32 bits.
-        let _blocks = journal.blocks();
         let per_block = (BLOCK_LEN / width) as u32;
         self.turn_to(disk, journal, first + k / per_block)?;
         let at = width * (k % per_block) as usize;

@@ -40,8 +40,8 @@ const MAX_ROW: usize = 512;
 // Marks the left side of an axiom, and its head where it is valued.
 fn mark_left(words: &Words, row: &mut Rows, slot: AxiomSlot)
     requires words { AreWords words.now }
-    requires shape { HasShape row.old 2 words.now.dict.props }
-    ensures shape { HasShape row.new 2 words.now.dict.props }
+    requires shape { HasShape row.old 3 words.now.dict.props }
+    ensures shape { HasShape row.new 3 words.now.dict.props }
     ensures bits { (n : ℕ) → n < words.now.dict.props → is_some (word_of words.now.dict n) ≡ true
         → get row.new 0 n ≡ (get row.old 0 n || (is_left_of n slot || is_left_head_of words.now.dict n slot)) }
 {
@@ -64,8 +64,8 @@ fn mark_left(words: &Words, row: &mut Rows, slot: AxiomSlot)
 // Makes a row of the left sides of axioms, and of the heads of those that are valued.
 fn mark_lefts(words: &Words, axioms: &Axioms, row: &mut Rows)
     requires words { AreWords words.now }
-    requires shape { HasShape row.old 2 words.now.dict.props }
-    ensures shape { HasShape row.new 2 words.now.dict.props }
+    requires shape { HasShape row.old 3 words.now.dict.props }
+    ensures shape { HasShape row.new 3 words.now.dict.props }
     ensures bits { (n : ℕ) → n < words.now.dict.props → is_some (word_of words.now.dict n) ≡ true
         → get row.new 0 n ≡ list_any (λ slot. is_left_of n slot || is_left_head_of words.now.dict n slot) axioms.now.slots.items }
 {
@@ -79,7 +79,7 @@ fn mark_lefts(words: &Words, axioms: &Axioms, row: &mut Rows)
 fn is_stray(words: &Words, ext: &Ext, lefts: &Rows, number: u16) -> bool
     requires words { AreWords words.now }
     requires props { ext.now.props ≡ words.now.dict.props }
-    requires shape { HasShape lefts.now 2 words.now.dict.props }
+    requires shape { HasShape lefts.now 3 words.now.dict.props }
     requires below { number < words.now.dict.props }
     ensures { result ≡ (is_some (word_of words.now.dict number)
         && not (is_taken words.now.declared number || is_had ext.now number || get lefts.now 0 number)) }
@@ -109,7 +109,7 @@ pub fn check_words(
     requires words { AreFirstWords limits.now words.now limits.now.props }
     requires axioms { AreFirstAxioms limits.now words.now axioms.now (axiom_slots limits.now).count }
     requires files { AreFirstFiles limits.now words.now axioms.now files.now limits.now.files }
-    requires shape { HasShape row.old 2 limits.now.props }
+    requires shape { HasShape row.old 3 limits.now.props }
     ensures { (marks : List Bool) → WordsChecked (kept_in limits.now words.now axioms.now files.now marks) result }
 {
     mark_lefts(words, axioms, row);

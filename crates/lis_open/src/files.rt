@@ -19,13 +19,13 @@ ghost use Rattle.lis_model.specs.Image.{image_blocks};
 ghost use Rattle.lis_kept.specs.Areas.{file_slots, axiom_slots};
 ghost use Rattle.lis_open.specs.Reading.{OnlyReads, HasPartCause, Recalls, IsReadAs, Ends};
 ghost use Rattle.lis_open.specs.ReadWords.{AreWords, AreFirstWords, AreFirstAxioms, WordsAreSpelled, AxiomsAreSpelled};
-ghost use Rattle.lis_open.specs.ReadFiles.{no_files, is_described, AreListed, found_words, met_numbers, is_numbered, own_numbers, AreDescribed, may_file, TakesNumbers, TakesRecord, TakesFile, RecordFault, HasSlotFault, AreFirstFiles, FilesAreTold};
+ghost use Rattle.lis_open.specs.ReadFiles.{no_files, is_described, AreListed, found_words, met_numbers, HasTests, is_numbered, own_numbers, AreDescribed, may_file, TakesNumbers, TakesRecord, TakesFile, RecordFault, HasSlotFault, AreFirstFiles, FilesAreTold};
 
 use crate::axioms::Axioms;
 use crate::blocks::LastBlock;
 use crate::indexes::free_blocks;
 use crate::mounting::OpenFault;
-use crate::naming::{are_assignable, is_met_number, numbered};
+use crate::naming::{are_assignable, is_met_number, is_test_number, numbered};
 use crate::words::Words;
 use arrayvec::ArrayVec;
 use lis_bits::Rows;
@@ -105,12 +105,24 @@ fn mark_all(map: &mut BlockMap, blocks: &[u16])
     }
 }
 
+// Makes the third row one of the declared tests.
+fn mark_tests(words: &Words, row: &mut Rows)
+    requires are { AreWords words.now }
+    requires shape { HasShape row.old 3 words.now.dict.props }
+    ensures { HasTests words.now row.new }
+{
+    for number in 0..words.declared.len() {
+        row.put(2, number, is_test_number(words, number));
+    }
+}
+
 // Makes a row of all that the numbers entail. The row behind it is for what one of them entails.
 fn gather(taxonomy: &Taxonomy, tags: &[u16], row: &mut Rows)
-    requires shape { HasShape row.old 2 taxonomy.now.props }
+    requires shape { HasShape row.old 3 taxonomy.now.props }
     requires below { IsTrue (list_all (λ n. nat_lt n taxonomy.now.props) tags.now) }
-    ensures shape { HasShape row.new 2 taxonomy.now.props }
+    ensures shape { HasShape row.new 3 taxonomy.now.props }
     ensures bits { (n : ℕ) → n < taxonomy.now.props → get row.new 0 n ≡ is_described taxonomy.now tags.now n }
+    ensures tests { (n : ℕ) → get row.new 2 n ≡ get row.old 2 n }
 {
     row.fill(0, false);
     for tag in tags {
@@ -119,25 +131,28 @@ fn gather(taxonomy: &Taxonomy, tags: &[u16], row: &mut Rows)
     }
 }
 
-// Adds to the row all that the declared tests that so many bytes meet entail. The row behind it is for what one of them entails.
+// Adds to the row all that the declared tests that so many bytes meet entail. The row behind it is for what one of them entails, and the
+// third one says which numbers are to be looked at.
 fn gather_met(words: &Words, taxonomy: &Taxonomy, size: u64, row: &mut Rows)
     requires are { AreWords words.now }
     requires props { taxonomy.now.props ≡ words.now.dict.props }
-    requires shape { HasShape row.old 2 taxonomy.now.props }
-    ensures shape { HasShape row.new 2 taxonomy.now.props }
+    requires rows { HasTests words.now row.old }
+    ensures rows { HasTests words.now row.new }
     ensures bits { (n : ℕ) → n < taxonomy.now.props → get row.new 0 n ≡ (get row.old 0 n || is_described taxonomy.now (met_numbers words.now size) n) }
 {
-    for number in 0..words.declared.len() {
+    let mut start = 0;
+    while let Some(number) = row.next(2, start) {
         if is_met_number(words, number, size) {
             taxonomy.ups(number, row, 1);
             row.or(0, 1);
         }
+        start = number + 1;
     }
 }
 
 // The numbers of the row, as they rise. None comes where there are more than a description may have.
 fn list_numbers(row: &Rows) -> Option<ArrayVec<u16, MAX_WORDS>>
-    requires shape { HasShape row.now 2 row.now.bits }
+    requires shape { HasShape row.now 3 row.now.bits }
     requires few { row.now.bits ≤ 8192 }
     ensures { AreListed (numbers_where row.now.bits (get row.now 0)) (option_map (λ listed. listed.items) result) }
 {
@@ -194,9 +209,9 @@ fn describe(
     requires given { length rec.now.tags ≤ 16 }
     requires props { taxonomy.now.props ≡ words.now.dict.props }
     requires few { taxonomy.now.props ≤ 8192 }
-    requires shape { HasShape row.old 2 taxonomy.now.props }
+    requires rows { HasTests words.now row.old }
     requires below { IsTrue (list_all (λ n. nat_lt n taxonomy.now.props) rec.now.tags) }
-    ensures shape { HasShape row.new 2 taxonomy.now.props }
+    ensures rows { HasTests words.now row.new }
     ensures described { AreDescribed words.now taxonomy.now rec.now (found_words words.now rec.now.name bytes.now)
         (option_map (λ listed. listed.items) result) }
 {
@@ -235,64 +250,74 @@ fn file(files: &mut Files, slot: u16, rec: FileRec, blocks: &[u16], numbers: &[u
 {
     mark_all(&mut files.map, blocks);
     files.catalog.place(slot, rec);
-    // Its length tells what holds of every catalog.
-    let _files = files.catalog.len();
     files.ext.set_file(u32::from(slot), &[], numbers);
     files.ext.settle();
+}
+
+// What the reader of a file only looks at.
+#[derive(Clone, Copy)]
+struct Known<'a> {
+    journal: &'a Journal,
+    limits: &'a Limits,
+    words: &'a Words,
+    axioms: &'a Axioms,
 }
 
 // Takes the file of a record where it may be taken, and answers whether it is so. Its bytes are read where nothing else speaks
 // against it.
 fn take_record<D: Disk>(
     disk: &mut D,
-    journal: &Journal,
-    limits: &Limits,
-    words: &Words,
-    axioms: &Axioms,
+    known: Known,
     files: &mut Files,
     row: &mut Rows,
     bytes: &mut Buffer,
     slot: u16,
     rec: FileRec,
 ) -> Result<bool, Failed>
-    requires range { IsTrue (are_in_range limits.now) }
-    requires image { journal.now.blocks ≡ image_blocks limits.now }
-    requires clean { journal.now.staged ≡ [] }
-    requires unbroken { journal.now.is_broken ≡ false }
-    requires long { 4096 * journal.now.blocks ≤ (D.meaning disk.old).len }
-    requires are { AreWords words.now }
-    requires form { IsTrue (is_record limits.now.version rec) }
-    requires props { axioms.now.taxonomy.props ≡ words.now.dict.props }
-    requires rows { files.old.ext.props ≡ words.now.dict.props }
-    requires map { length files.old.map ≡ limits.now.blocks }
-    requires shape { HasShape row.old 2 words.now.dict.props }
+    requires range { IsTrue (are_in_range known.limits.now) }
+    requires image { known.journal.now.blocks ≡ image_blocks known.limits.now }
+    requires clean { known.journal.now.staged ≡ [] }
+    requires unbroken { known.journal.now.is_broken ≡ false }
+    requires long { 4096 * known.journal.now.blocks ≤ (D.meaning disk.old).len }
+    requires are { AreWords known.words.now }
+    requires form { IsTrue (is_record known.limits.now.version rec) }
+    requires props { known.axioms.now.taxonomy.props ≡ known.words.now.dict.props }
+    requires ext { files.old.ext.props ≡ known.words.now.dict.props }
+    requires map { length files.old.map ≡ known.limits.now.blocks }
+    requires rows { HasTests known.words.now row.old }
     requires below { slot < files.old.catalog.files }
     requires free { rec_at files.old.catalog slot ≡ None }
     requires undescribed { set_of files.old.ext slot ≡ [] }
     requires within { slot < length files.old.ext.sets }
     ensures reads { OnlyReads (D.meaning disk.old) (D.meaning disk.new) }
     ensures cause { HasCause (D.meaning disk.old).disk_faults (D.meaning disk.new).disk_faults result }
-    ensures shape { HasShape row.new 2 words.now.dict.props }
+    ensures rows { HasTests known.entry.words.now row.new }
     ensures taken { IfOk result (λ taken. OnTrue taken
-        (TakesRecord limits.now (Fits journal.now (D.meaning disk.old)) words.now axioms.now.taxonomy slot rec files.old files.new)) }
+        (TakesRecord known.entry.limits.now (Fits known.entry.journal.now (D.meaning disk.old)) known.entry.words.now known.entry.axioms.now.taxonomy slot rec files.old files.new)) }
     ensures refused { IfOk result (λ taken. OnFalse taken ((files.new ≡ files.old)
-        × ((kept : ℕ → List ℕ) → Fits journal.now (D.meaning disk.old) kept
-        → RecordFault limits.now kept words.now axioms.now.taxonomy files.old rec))) }
+        × ((kept : ℕ → List ℕ) → Fits known.entry.journal.now (D.meaning disk.old) kept
+        → RecordFault known.entry.limits.now kept known.entry.words.now known.entry.axioms.now.taxonomy files.old rec))) }
 {
-    if !may_file(words, files, &rec) {
+    if !may_file(known.words, files, &rec) {
         return Ok(false);
     }
-    let Some(blocks) = free_blocks(disk, journal, limits, &files.map, &rec)? else {
+    let Some(blocks) = free_blocks(disk, known.journal, known.limits, &files.map, &rec)? else {
         return Ok(false);
     };
     bytes.read(
-        journal,
+        known.journal,
         disk,
-        data_start(limits),
+        data_start(known.limits),
         rec.blocks.as_slice(),
         rec.size,
     )?;
-    match describe(words, &axioms.taxonomy, &rec, bytes.bytes(), row) {
+    match describe(
+        known.words,
+        &known.axioms.taxonomy,
+        &rec,
+        bytes.bytes(),
+        row,
+    ) {
         None => Ok(false),
         Some(numbers) => {
             file(files, slot, rec, &blocks, numbers.as_slice());
@@ -304,46 +329,41 @@ fn take_record<D: Disk>(
 // Takes the file of a slot where the slot is in its layout and the file may be taken, and answers whether it is so.
 fn take_file<D: Disk>(
     disk: &mut D,
-    journal: &Journal,
-    limits: &Limits,
-    words: &Words,
-    axioms: &Axioms,
+    known: Known,
     files: &mut Files,
     row: &mut Rows,
     bytes: &mut Buffer,
     slot: u16,
     found: Option<FileSlot>,
 ) -> Result<bool, Failed>
-    requires range { IsTrue (are_in_range limits.now) }
-    requires image { journal.now.blocks ≡ image_blocks limits.now }
-    requires clean { journal.now.staged ≡ [] }
-    requires unbroken { journal.now.is_broken ≡ false }
-    requires long { 4096 * journal.now.blocks ≤ (D.meaning disk.old).len }
-    requires are { AreWords words.now }
-    requires form { IfSome found (λ file. IsTrue (is_file limits.now.version file)) }
-    requires props { axioms.now.taxonomy.props ≡ words.now.dict.props }
-    requires rows { files.old.ext.props ≡ words.now.dict.props }
-    requires map { length files.old.map ≡ limits.now.blocks }
-    requires shape { HasShape row.old 2 words.now.dict.props }
+    requires range { IsTrue (are_in_range known.limits.now) }
+    requires image { known.journal.now.blocks ≡ image_blocks known.limits.now }
+    requires clean { known.journal.now.staged ≡ [] }
+    requires unbroken { known.journal.now.is_broken ≡ false }
+    requires long { 4096 * known.journal.now.blocks ≤ (D.meaning disk.old).len }
+    requires are { AreWords known.words.now }
+    requires form { IfSome found (λ file. IsTrue (is_file known.limits.now.version file)) }
+    requires props { known.axioms.now.taxonomy.props ≡ known.words.now.dict.props }
+    requires ext { files.old.ext.props ≡ known.words.now.dict.props }
+    requires map { length files.old.map ≡ known.limits.now.blocks }
+    requires rows { HasTests known.words.now row.old }
     requires below { slot < files.old.catalog.files }
     requires free { rec_at files.old.catalog slot ≡ None }
     requires undescribed { set_of files.old.ext slot ≡ [] }
     requires within { slot < length files.old.ext.sets }
     ensures reads { OnlyReads (D.meaning disk.old) (D.meaning disk.new) }
     ensures cause { HasCause (D.meaning disk.old).disk_faults (D.meaning disk.new).disk_faults result }
-    ensures shape { HasShape row.new 2 words.now.dict.props }
+    ensures rows { HasTests known.entry.words.now row.new }
     ensures taken { IfOk result (λ taken. OnTrue taken
-        (TakesFile limits.now (Fits journal.now (D.meaning disk.old)) words.now axioms.now.taxonomy slot found files.old files.new)) }
+        (TakesFile known.entry.limits.now (Fits known.entry.journal.now (D.meaning disk.old)) known.entry.words.now known.entry.axioms.now.taxonomy slot found files.old files.new)) }
     ensures refused { IfOk result (λ taken. OnFalse taken ((files.new ≡ files.old)
-        × ((kept : ℕ → List ℕ) → Fits journal.now (D.meaning disk.old) kept
-        → HasSlotFault limits.now kept words.now axioms.now.taxonomy files.old found))) }
+        × ((kept : ℕ → List ℕ) → Fits known.entry.journal.now (D.meaning disk.old) kept
+        → HasSlotFault known.entry.limits.now kept known.entry.words.now known.entry.axioms.now.taxonomy files.old found))) }
 {
     match found {
         None => Ok(false),
         Some(FileSlot::Free) => Ok(true),
-        Some(FileSlot::Used(rec)) => take_record(
-            disk, journal, limits, words, axioms, files, row, bytes, slot, rec,
-        ),
+        Some(FileSlot::Used(rec)) => take_record(disk, known, files, row, bytes, slot, rec),
     }
 }
 
@@ -363,12 +383,12 @@ pub fn read_files<D: Disk>(
     requires words { AreFirstWords limits.now words.now limits.now.props }
     requires axioms { AreFirstAxioms limits.now words.now axioms.now (axiom_slots limits.now).count }
     requires none { files.old ≡ no_files limits.now }
-    requires shape { HasShape row.old 2 limits.now.props }
+    requires shape { HasShape row.old 3 limits.now.props }
     requires image { journal.now.blocks ≡ image_blocks limits.now }
     requires clean { journal.now.staged ≡ [] }
     requires unbroken { journal.now.is_broken ≡ false }
     requires long { 4096 * journal.now.blocks ≤ (D.meaning disk.old).len }
-    ensures shape { HasShape row.new 2 limits.now.props }
+    ensures shape { HasShape row.new 3 limits.now.props }
     ensures reads { OnlyReads (D.meaning disk.old) (D.meaning disk.new) }
     ensures cause { HasPartCause (D.meaning disk.old).disk_faults (D.meaning disk.new).disk_faults result }
     ensures read { OnOk result (AreFirstFiles limits.now words.now axioms.now files.new limits.now.files) }
@@ -378,20 +398,16 @@ pub fn read_files<D: Disk>(
         → AxiomsAreSpelled limits.now kept axioms.now (axiom_slots limits.now).count
         → Ends limits.now kept 4 (FilesAreTold limits.now kept words.now axioms.now files.new) result }
 {
+    mark_tests(words, row);
+    let known = Known {
+        journal,
+        limits,
+        words,
+        axioms,
+    };
     for slot in 0..limits.files {
         let found = read_slot(last, disk, journal, limits, slot)?;
-        let is_taken = take_file(
-            disk,
-            journal,
-            limits,
-            words,
-            axioms,
-            files,
-            row,
-            bytes,
-            slot as u16,
-            found,
-        )?;
+        let is_taken = take_file(disk, known, files, row, bytes, slot as u16, found)?;
         if !is_taken {
             return Err(OpenFault::Damaged(Spot::File(slot)));
         }

@@ -5,7 +5,8 @@ ghost use Rattle.std.specs.List.{list_all};
 ghost use Rattle.lis_dict.specs.Dict.{number_of, word_of};
 ghost use Rattle.lis_words.specs.Words.{has_word, is_valued, head_bytes};
 ghost use Rattle.lis_model.specs.State.{is_assignable, is_nameable, is_known_head};
-ghost use Rattle.lis_open.specs.ReadWords.{AreWords, declared_words, is_met_number, is_left, is_right};
+ghost use Rattle.lis_kept.specs.TestEdges.{declared_test};
+ghost use Rattle.lis_open.specs.ReadWords.{AreWords, declared_words, is_test_number, is_met_number, is_left, is_right};
 ghost use Rattle.lis_open.specs.ReadFiles.{is_assignable_number, is_numbered};
 
 use crate::words::Words;
@@ -121,19 +122,35 @@ pub fn is_left(words: &Words, number: u32) -> bool
     }
 }
 
+// The test that the word of a number is, where this is declared.
+fn declared_test(words: &Words, number: u32) -> Option<(bool, u64)>
+    requires are { AreWords words.now }
+    requires number { number < words.now.dict.props }
+    ensures { result ≡ declared_test words.now.dict words.now.declared number }
+{
+    if !words.declared.get(number) {
+        return None;
+    }
+    let word = word_at(words, number)?;
+    test_of(&word)
+}
+
+/// Whether a number has a declared test.
+pub fn is_test_number(words: &Words, number: u32) -> bool
+    requires are { AreWords words.now }
+    requires number { number < words.now.dict.props }
+    ensures { result ≡ is_test_number words.now number }
+{
+    declared_test(words, number).is_some()
+}
+
 /// Whether a number has a declared test that so many bytes meet.
 pub fn is_met_number(words: &Words, number: u32, size: u64) -> bool
     requires are { AreWords words.now }
     requires number { number < words.now.dict.props }
     ensures { result ≡ is_met_number words.now size number }
 {
-    if !words.declared.get(number) {
-        return false;
-    }
-    let Some(word) = word_at(words, number) else {
-        return false;
-    };
-    is_met(test_of(&word), size)
+    is_met(declared_test(words, number), size)
 }
 
 // Whether the number is that of a word that files may be given.

@@ -46,7 +46,7 @@ fn read_parts<D: Disk>(
     requires no_words { words.old ≡ no_words limits.now }
     requires no_axioms { AreNoAxioms limits.now axioms.old }
     requires no_files { files.old ≡ no_files limits.now }
-    requires shape { HasShape row.old 2 limits.now.props }
+    requires shape { HasShape row.old 3 limits.now.props }
     ensures reads { OnlyReads (D.meaning disk.old) (D.meaning disk.new) }
     ensures cause { HasPartCause (D.meaning disk.old).disk_faults (D.meaning disk.new).disk_faults result }
     ensures read { OnOk result ((marks : List Bool) → AreRead limits.now words.new axioms.new files.new marks) }

@@ -19,7 +19,7 @@ pub struct Room {
     pub words: Words,
     pub axioms: Axioms,
     pub files: Files,
-    /// Two rows of numbers, which each reader uses as it likes.
+    /// Three rows of numbers. Files are read with the declared tests in the third one; else each reader uses them as it likes.
     pub row: Rows,
     /// The bytes of the file that is read.
     pub bytes: Buffer,
@@ -36,7 +36,7 @@ pub fn take_room(alloc: Global, limits: &Limits) -> Result<Room, AllocError>
         words: no_words(alloc, limits)?,
         axioms: no_axioms(alloc, limits)?,
         files: no_files(alloc, limits)?,
-        row: Rows::new(alloc, 2, limits.props)?,
+        row: Rows::new(alloc, 3, limits.props)?,
         bytes: Buffer::new(alloc)?,
         marks: Flags::new(alloc, 64 * data_start(limits).div_ceil(64))?,
     })

@@ -4,7 +4,7 @@ ghost use Rattle.std.specs.Prelude.{◌≡◌, ◌*◌, ◌<◌, ◌≤◌, ℕ,
 ghost use Rattle.std.specs.Bool.{OnTrue, OnFalse};
 ghost use Rattle.lis_ports.specs.Calls.{HasCause};
 ghost use Rattle.lis_journal.specs.Images.{Fits};
-ghost use Rattle.lis_dict.specs.Dict.{IsDict, word_of};
+ghost use Rattle.lis_dict.specs.Dict.{word_of};
 ghost use Rattle.lis_fields.specs.Layouts.{prop_bytes, is_prop};
 ghost use Rattle.lis_model.specs.Ranges.{are_in_range};
 ghost use Rattle.lis_model.specs.Image.{image_blocks};
@@ -78,7 +78,6 @@ fn take_word(words: &mut Words, number: u16, word: &Word, is_declared: bool) -> 
     requires free { word_of words.old.dict number ≡ None }
     ensures answer { result ≡ is_new_word words.old word.now }
     ensures taken { OnTrue result (words.new ≡ with_word words.old number word.now is_declared) }
-    ensures kept { OnTrue result (IsDict words.new.dict) }
     ensures refused { OnFalse result (words.new ≡ words.old) }
 {
     if words.dict.id_of(word).is_some() {
@@ -86,8 +85,6 @@ fn take_word(words: &mut Words, number: u16, word: &Word, is_declared: bool) -> 
     }
     words.dict.place(number, word);
     words.declared.put(u32::from(number), is_declared);
-    // Its length tells what holds of every dictionary.
-    let _words = words.dict.len();
     true
 }
 
@@ -98,7 +95,6 @@ fn take_property(words: &mut Words, number: u16, found: Option<PropSlot>) -> boo
     requires free { word_of words.old.dict number ≡ None }
     ensures answer { result ≡ may_take_property words.old found }
     ensures taken { OnTrue result (words.new ≡ with_property words.old number found) }
-    ensures kept { OnTrue result (IsDict words.new.dict) }
     ensures refused { OnFalse result (words.new ≡ words.old) }
 {
     match found {

@@ -1,7 +1,10 @@
 use Rattle.lis_fields.specs.Layouts.{axiom_bytes, is_axiom}
 use Rattle.lis_kept.specs.Areas.{axiom_slots}
-use Rattle.lis_open.proofs.Slots.{read_as}
+use Rattle.lis_open.proofs.Slots.{few_blocks, read_as}
 use Rattle.lis_open.proofs.axioms.read_axiom_slot.Goals as goal
+
+pub read_slot-requires-clause-few : goal.read_slot-requires-clause-few
+read_slot-requires-clause-few g c = few_blocks c.args.limits.now _ c.requires.range c.requires.image
 
 pub returns-clause-read : goal.returns-clause-read
 returns-clause-read g c = λ kept fits recalls.

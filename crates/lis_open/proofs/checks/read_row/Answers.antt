@@ -1,8 +1,12 @@
 use Rattle.std.proofs.Common.{arith}
 use Rattle.std.proofs.lemmas.List.{length-take-le}
 use Rattle.lis_kept.proofs.InArea.{few_files}
+use Rattle.lis_open.proofs.Slots.{few_blocks}
 use Rattle.lis_open.proofs.ZeroRows.{row_read}
 use Rattle.lis_open.proofs.checks.read_row.Goals as goal
+
+pub read_slot-requires-clause-few : goal.read_slot-requires-clause-few
+read_slot-requires-clause-few g c = few_blocks c.args.limits.now _ c.requires.range c.requires.image
 
 pub returns-clause-read : goal.returns-clause-read
 returns-clause-read g c = λ kept fits recalls.

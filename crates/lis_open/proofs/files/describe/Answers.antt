@@ -7,7 +7,7 @@ use Rattle.lis_model.specs.Tests.{met_tests}
 use Rattle.lis_open.specs.ReadWords.{declared_words}
 use Rattle.lis_open.specs.ReadFiles.{is_described, met_numbers, own_numbers, may_describe, AreDescribed}
 use Rattle.lis_open.proofs.OwnNumbers.{undescribed, listed_described, own_below}
-use Rattle.lis_open.proofs.Gathering.{listed_are}
+use Rattle.lis_open.proofs.Gathering.{as_wide, still_tests, listed_are}
 use Rattle.lis_open.proofs.MetTests.{described_found, found_numbered}
 use Rattle.lis_open.proofs.files.describe.Goals as goal
 
@@ -36,6 +36,13 @@ gather-requires-clause-below c =
     let own = c.as_slice-2.ensures.value ∙ (c.in-Some.ensures.1 ∙ ap (λ ts. own_numbers words.dict ts derived) tags) in
     subst (λ ns. list_all (λ n. nat_lt n props) ns ≡ _) (sym own) (own_below words.dict rec.tags derived props c.requires.are.dict c.requires.props c.requires.below)
 
+pub gather-requires-clause-shape : goal.gather-requires-clause-shape
+gather-requires-clause-shape c = as_wide c.args.words.now c.args.taxonomy.now.props c.args.row.now c.requires.props c.requires.rows
+
+pub gather_met-requires-clause-rows : goal.gather_met-requires-clause-rows
+gather_met-requires-clause-rows c =
+    still_tests c.args.words.now c.args.taxonomy.now.props c.args.row.now c.gather.new.row c.requires.props c.requires.rows c.gather.ensures.shape c.gather.ensures.tests
+
 pub returns-clause-described : goal.returns-clause-described
 returns-clause-described c =
     let words = c.args.words.now in
@@ -51,7 +58,7 @@ returns-clause-described c =
     subst (λ ws. AreDescribed words t rec (ws ++ met_tests (declared_words words) size) (option_map (λ listed. listed.items) c.list_numbers.result))
     (c.derive_words-derived.ensures ∙ ap (λ (r : FileRecord). derived_words r.name bytes) c.rec.view_is)
     (listed_described words t rec found _ (found_numbered words dict size derived ∙ c.in-Some.ensures.0)
-    (listed_are t (own_numbers words.dict rec.tags found) c.gather_met.new.row _ c.gather_met.ensures.shape (λ n lt.
+    (listed_are t (own_numbers words.dict rec.tags found) c.gather_met.new.row _ (as_wide words t.props c.gather_met.new.row c.requires.props c.gather_met.ensures.rows) (λ n lt.
     c.gather_met.ensures.bits n lt
     ∙ (ap (λ b. b || is_described t (met_numbers words size) n) (c.gather.ensures.bits n lt ∙ ap (λ ns. is_described t ns n) own)
     ∙ sym (described_found words dict size t rec.tags derived n))) c.list_numbers.ensures))

@@ -9,7 +9,7 @@ loop-tag-init c = gathered_none c.args.taxonomy.now c.args.tags.now c.args.row.n
 
 pub loop-tag-preserved : goal.loop-tag-preserved
 loop-tag-preserved c =
-    gathered_more c.args.taxonomy.now c.args.tags.now c.loop-tag.row c.ups.new.to c.or.new.self c.loop-tag.tag-index c.from.result c.loop-tag.invariant c.loop-tag-test.true c.from.ensures
+    gathered_more c.args.taxonomy.now c.args.tags.now c.args.row.now c.loop-tag.row c.ups.new.to c.or.new.self c.loop-tag.tag-index c.from.result c.loop-tag.invariant c.loop-tag-test.true c.from.ensures
     c.ups.ensures.row c.or.ensures
 
 pub returns : goal.returns
@@ -19,4 +19,5 @@ returns c =
     record {
       shape = l.invariant.shape;
       bits = λ n lt. l.invariant.bits n lt ∙ ap (λ tags. is_described c.args.taxonomy.now tags n) all;
+      tests = l.invariant.tests;
     }

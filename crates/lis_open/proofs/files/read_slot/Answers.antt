@@ -2,11 +2,14 @@ use Rattle.std.proofs.Common.{arith}
 use Rattle.lis_fields.specs.Layouts.{file_bytes, is_file}
 use Rattle.lis_kept.specs.Areas.{file_slots}
 use Rattle.lis_kept.proofs.InArea.{whole_files}
-use Rattle.lis_open.proofs.Slots.{read_as}
+use Rattle.lis_open.proofs.Slots.{few_blocks, read_as}
 use Rattle.lis_open.proofs.files.read_slot.Goals as goal
 
 pub read_slot-requires-clause-within : goal.read_slot-requires-clause-within
 read_slot-requires-clause-within g c = omega (arith, whole_files c.args.limits.now c.requires.range, c.files_start.ensures, c.requires.slot, c.requires.image)
+
+pub read_slot-requires-clause-few : goal.read_slot-requires-clause-few
+read_slot-requires-clause-few g c = few_blocks c.args.limits.now _ c.requires.range c.requires.image
 
 pub returns-clause-read : goal.returns-clause-read
 returns-clause-read g c = λ kept fits recalls.

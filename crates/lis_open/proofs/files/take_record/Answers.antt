@@ -12,31 +12,31 @@ use Rattle.lis_open.proofs.files.take_record.Goals as goal
 
 pub read-requires-clause-within : goal.read-requires-clause-within
 read-requires-clause-within g c =
-    blocks_within c.args.limits.now c.args.files.now.map c.args.rec c.as_slice.result.now c.data_start.result _ c.data_start.ensures.start c.requires.image c.requires.map c.rec.view_is
+    blocks_within c.args.known.limits.now c.args.files.now.map c.args.rec c.as_slice.result.now c.data_start.result _ c.data_start.ensures.start c.requires.image c.requires.map c.rec.view_is
     c.as_slice.ensures.value (rw c.in-Some.is at c.in_ok-blocks.ensures.usable).own
 
 pub read-requires-clause-short : goal.read-requires-clause-short
-read-requires-clause-short g c = size_of_form c.args.limits.now.version c.args.rec c.requires.form c.rec.view_is
+read-requires-clause-short g c = size_of_form c.args.known.limits.now.version c.args.rec c.requires.form c.rec.view_is
 
 pub read-requires-clause-count : goal.read-requires-clause-count
-read-requires-clause-count g c = slot_of_form c.args.limits.now.version c.args.rec c.as_slice.result.now c.requires.form c.rec.view_is c.as_slice.ensures.value
+read-requires-clause-count g c = slot_of_form c.args.known.limits.now.version c.args.rec c.as_slice.result.now c.requires.form c.rec.view_is c.as_slice.ensures.value
 
 pub describe-requires-clause-given : goal.describe-requires-clause-given
-describe-requires-clause-given g c = few_tags c.args.rec.tags (record_tests c.args.limits.now.version c.args.rec c.requires.form).tags
+describe-requires-clause-given g c = few_tags c.args.rec.tags (record_tests c.args.known.limits.now.version c.args.rec c.requires.form).tags
 
 pub describe-requires-clause-below : goal.describe-requires-clause-below
 describe-requires-clause-below g c =
-    tags_below c.args.words.now c.args.files.now c.args.rec c.args.axioms.now.taxonomy.props c.requires.are c.requires.props (sym c.if-not-may_file.ensures)
+    tags_below c.args.known.words.now c.args.files.now c.args.rec c.args.known.axioms.now.taxonomy.props c.requires.are c.requires.props (sym c.if-not-may_file.ensures)
 
 pub file-requires-clause-rise : goal.file-requires-clause-rise
 file-requires-clause-rise g c =
-    described_rise c.args.axioms.now.taxonomy (own_numbers c.args.words.now.dict c.args.rec.tags (found_words c.args.words.now c.args.rec.name c.bytes.result.now)) c.as_slice-in-Some-describe.result.now
+    described_rise c.args.known.axioms.now.taxonomy (own_numbers c.args.known.words.now.dict c.args.rec.tags (found_words c.args.known.words.now c.args.rec.name c.bytes.result.now)) c.as_slice-in-Some-describe.result.now
     (c.as_slice-in-Some-describe.ensures.value ∙ c.in-Some-describe.ensures.described.1)
 
 pub file-requires-clause-in_range : goal.file-requires-clause-in_range
 file-requires-clause-in_range g c =
-    described_in c.args.axioms.now.taxonomy (own_numbers c.args.words.now.dict c.args.rec.tags (found_words c.args.words.now c.args.rec.name c.bytes.result.now)) c.as_slice-in-Some-describe.result.now
-    c.args.files.now.ext.props (c.requires.rows ∙ sym c.requires.props) (c.as_slice-in-Some-describe.ensures.value ∙ c.in-Some-describe.ensures.described.1)
+    described_in c.args.known.axioms.now.taxonomy (own_numbers c.args.known.words.now.dict c.args.rec.tags (found_words c.args.known.words.now c.args.rec.name c.bytes.result.now)) c.as_slice-in-Some-describe.result.now
+    c.args.files.now.ext.props (c.requires.ext ∙ sym c.requires.props) (c.as_slice-in-Some-describe.ensures.value ∙ c.in-Some-describe.ensures.described.1)
 
 pub returns-in_default-clause-refused : goal.returns-in_default-clause-refused
 returns-in_default-clause-refused g c = (refl, λ kept fits. NoBlocks (rw c.in_default.is at (c.in_ok-blocks.ensures.found kept fits)))
@@ -48,17 +48,17 @@ returns-in-None-clause-reads g c =
 
 pub returns-in-None-clause-refused : goal.returns-in-None-clause-refused
 returns-in-None-clause-refused g c =
-    let limits = c.args.limits.now in
-    let words = c.args.words.now in
+    let limits = c.args.known.limits.now in
+    let words = c.args.known.words.now in
     let rec = c.args.rec in
     let usable = rw c.in-Some.is at c.in_ok-blocks.ensures.usable in (
       refl,
       λ kept fits.
           let found = rw c.in-Some.is at (c.in_ok-blocks.ensures.found kept fits) in
-          let told = read_are_told limits c.args.files.now.map rec _ c.as_slice.result.now c.args.journal.now.staged kept c.data_start.result _ c.read.new.self
+          let told = read_are_told limits c.args.files.now.map rec _ c.as_slice.result.now c.args.known.journal.now.staged kept c.data_start.result _ c.read.new.self
           c.data_start.ensures.start c.requires.image c.requires.map c.requires.clean c.rec.view_is c.as_slice.ensures.value usable.free found.1
-          (c.in_ok-read.ensures.read kept (fits_after c.args.journal.now kept c.in_ok-blocks.ensures.reads fits)) in
-          NotDescribed (subst (λ bytes. may_describe words c.args.axioms.now.taxonomy rec (found_words words rec.name bytes) ≡ false) (c.bytes.ensures.bytes ∙ told) c.in-None.ensures.described),
+          (c.in_ok-read.ensures.read kept (fits_after c.args.known.journal.now kept c.in_ok-blocks.ensures.reads fits)) in
+          NotDescribed (subst (λ bytes. may_describe words c.args.known.axioms.now.taxonomy rec (found_words words rec.name bytes) ≡ false) (c.bytes.ensures.bytes ∙ told) c.in-None.ensures.described),
     )
 
 pub returns-in-Some-describe-clause-reads : goal.returns-in-Some-describe-clause-reads
@@ -68,7 +68,7 @@ returns-in-Some-describe-clause-reads g c =
 
 pub returns-in-Some-describe-clause-taken : goal.returns-in-Some-describe-clause-taken
 returns-in-Some-describe-clause-taken g c =
-    let limits = c.args.limits.now in
+    let limits = c.args.known.limits.now in
     let rec = c.args.rec in
     let files = c.args.files.now in
     let blocks = c.deref.result.now in
@@ -87,9 +87,9 @@ returns-in-Some-describe-clause-taken g c =
           let found = rw c.in-Some.is at (c.in_ok-blocks.ensures.found kept fits) in
           record {
             bytes_are = c.bytes.ensures.bytes ∙
-                read_are_told limits files.map rec _ c.as_slice.result.now c.args.journal.now.staged kept c.data_start.result _ c.read.new.self
+                read_are_told limits files.map rec _ c.as_slice.result.now c.args.known.journal.now.staged kept c.data_start.result _ c.read.new.self
                 c.data_start.ensures.start c.requires.image c.requires.map c.requires.clean c.rec.view_is c.as_slice.ensures.value usable.free found.1
-                (c.in_ok-read.ensures.read kept (fits_after c.args.journal.now kept c.in_ok-blocks.ensures.reads fits));
+                (c.in_ok-read.ensures.read kept (fits_after c.args.known.journal.now kept c.in_ok-blocks.ensures.reads fits));
             indexed = found.0;
             blocks_are = same ∙ found.1;
           };

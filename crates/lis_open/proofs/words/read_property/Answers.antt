@@ -2,11 +2,14 @@ use Rattle.std.proofs.Common.{arith}
 use Rattle.lis_fields.specs.Layouts.{prop_bytes, is_prop}
 use Rattle.lis_kept.specs.Areas.{property_slots}
 use Rattle.lis_kept.proofs.InArea.{whole_properties}
-use Rattle.lis_open.proofs.Slots.{read_as}
+use Rattle.lis_open.proofs.Slots.{few_blocks, read_as}
 use Rattle.lis_open.proofs.words.read_property.Goals as goal
 
 pub read_slot-requires-clause-within : goal.read_slot-requires-clause-within
 read_slot-requires-clause-within g c = omega (arith, whole_properties c.args.limits.now c.requires.range, c.requires.number, c.requires.image)
+
+pub read_slot-requires-clause-few : goal.read_slot-requires-clause-few
+read_slot-requires-clause-few g c = few_blocks c.args.limits.now _ c.requires.range c.requires.image
 
 pub returns-clause-read : goal.returns-clause-read
 returns-clause-read g c = λ kept fits recalls.

@@ -28,7 +28,7 @@ loop-number-preserved g c =
     record {
       reads = reads_then l.invariant.reads c.read_property.ensures.reads;
       faults = c.in_ok-found.ensures.cause.stays ∙ l.invariant.faults;
-      first = first_on limits l.words l.number l.invariant.first c.loop-number-test.true c.in_ok-found.found next c.in_ok-found.ensures.form may c.if-not-take_property.ensures.kept
+      first = first_on limits l.words l.number l.invariant.first c.loop-number-test.true c.in_ok-found.found next c.in_ok-found.ensures.form may
           c.if-not-take_property.ensures.taken;
       recalls = λ kept fits recalled.
           c.read_property.ensures.recalls kept (fits_after c.args.journal.now kept l.invariant.reads fits) (l.invariant.recalls kept fits recalled);
