@@ -23,7 +23,6 @@ use Rattle.lis_fields.specs.declared.slots.AxiomSlot.TheVariants.{Free as FreeAx
 use Rattle.lis_laws.proofs.Apart.{plain_not_valued}
 use Rattle.lis_laws.proofs.Chains.{acyclic_within, acyclic_cons, acyclic_decides}
 use Rattle.lis_laws.proofs.Members.{pair_exact}
-use Rattle.lis_laws.proofs.Locals.{same_tests}
 use Rattle.lis_model.specs.declared.limits.Limits.{Limits}
 use Rattle.lis_model.specs.State.{Entails, Acyclic, pair_cmp}
 use Rattle.lis_kept.specs.Kept.{axiom_at}
