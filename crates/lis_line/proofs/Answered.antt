@@ -4,11 +4,12 @@ use Rattle.std.specs.Io.KnownBytes.{prepend_known, Consumes, IsAtEnd}
 use Rattle.std.proofs.Math.Seq.{take-append_seam}
 use Rattle.lis_model.specs.Step.{Item, Payload}
 use Rattle.lis_model.specs.Step.Item.{Do, Bad as Refused}
-use Rattle.lis_model.specs.Script.{all_items, whole_items, script}
+use Rattle.lis_model.specs.Script.{all_items, whole_items}
 use Rattle.lis_line.specs.declared.reader.Item.{Item as Said}
 use Rattle.lis_line.specs.declared.reader.Item.TheVariants.{Command, Bad, End, Limit}
 use Rattle.lis_line.specs.Stock.{stream_of}
 use Rattle.lis_line.specs.Taking.{TakesFew}
+use Rattle.lis_line.specs.Endings.{AllTaken, LimitTaken, WholeTaken}
 use Rattle.lis_line.specs.Reading.{Reading, GaveWhole, GaveLast, Gives, GaveItem, Closes, Says, asked_by}
 use Rattle.lis_line.proofs.Bytes.{consumes_then}
 use Rattle.lis_line.proofs.Given.{ReadSoFar, Goes, Ends, NextSaid, next_said, read_item, few_so_far, few_gave, known_split, input_is, script_short, script_long, stream_taken}
@@ -48,12 +49,6 @@ item_taken limit left_before left left_after old new first payload (Bad refusal)
 item_taken limit left_before left left_after old new first payload End result read says told few some = absurd (some refl)
 item_taken limit left_before left left_after old new first payload Limit result read says told few some = absurd (some refl)
 
--- the input has ended, and the items that were read are all of its items
-pub record AllTaken (limit : ℕ) (input : List ℕ) (left : Option (List ℕ)) (first : List Item) : Type 0 where
-  pub short : length input ≤ limit
-  pub at_end : IsAtEnd left
-  pub is : script input limit ≡ first
-
 end_now : (input : List ℕ) (left : Option (List ℕ)) (ahead total : List ℕ) (limit rest : ℕ) (first : List Item)
     → Consumes (Some input) (prepend_known ahead left) total → ahead ≡ [] → IsAtEnd left → length total + rest ≡ limit + 1 → 0 < rest → all_items total ≡ first
     → AllTaken limit input left first
@@ -81,11 +76,6 @@ all_taken {E} limit input left left_after old new first payload result read says
         let here = end_now input left old.stock.ahead read.bytes limit old.stock.rest first read.took closed.0.nothing_ahead closed.0.at_end read.rest read.within closed.0.all in
         record { short = here.short; at_end = end; is = here.is }
 
--- the byte past the limit was taken, and the items that were read are those that are whole within it
-pub record LimitTaken (limit : ℕ) (input : List ℕ) (first : List Item) : Type 0 where
-  pub long : limit < length input
-  pub is : script input limit ≡ first
-
 pub limit_taken : {E : Type 0} (limit : ℕ) (input : List ℕ) (left left_after : Option (List ℕ)) (old new : Reading) (first : List Item) (payload : Payload) (result : Result Said E)
     → ReadSoFar limit (Some input) left old first → Says old new left left_after payload result → result ≡ Ok Limit
     → LimitTaken limit input first
@@ -112,13 +102,6 @@ limit_taken {E} limit input left left_after old new first payload result read sa
           is = script_long input limit long ∙ ap (λ n. whole_items (take n input)) (sym size) ∙ ap (λ xs. whole_items (take (length front) xs)) is_input
               ∙ ap whole_items (take-append_seam front behind) ∙ going.0.whole over.bytes ∙ ap (λ items. first ++ items) over.none_whole ∙ append-nil first;
         }
-
--- a call of the source failed, and the items that were read are those that are whole in the bytes taken
-pub record WholeTaken (limit : ℕ) (input : List ℕ) (left : Option (List ℕ)) (first : List Item) : Type 0 where
-  pub taken : List ℕ
-  pub consumed : Consumes (Some input) left taken
-  pub within : length taken ≤ limit
-  pub is : whole_items taken ≡ first
 
 pub whole_taken : {E : Type 0} (limit : ℕ) (input : List ℕ) (left left_after : Option (List ℕ)) (old new : Reading) (first : List Item) (payload : Payload) (result : Result Said E) (failed : E)
     → ReadSoFar limit (Some input) left old first → Says old new left left_after payload result → result ≡ Err failed

@@ -7,3 +7,4 @@ mod Parts
 mod Asking
 pub mod Given
 pub mod Answered
+pub mod Carrying
