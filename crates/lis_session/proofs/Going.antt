@@ -141,17 +141,17 @@ module _ {start now next : Situated} {entry mid m : Meaning} {first : List Item}
   }
 
 -- an item that was asked for, however it ended
-pub has_carried : {start now next : Situated} {entry mid m : Meaning} {first : List Item} (asked : Option Item) (result : Result (Unit {0}) End)
+pub has_carried : {start now : Situated} {entry mid m : Meaning} {first : List Item} (next : Situated) (asked : Option Item) (result : Result (Unit {0}) End)
     → HasDone start entry first now mid → IsSameStation mid m
     → IfSome asked (CarriesOut (StoreFits now.store mid) now.place mid m result (StoreFits next.store m) next.place)
     → HasEndCause mid m result → StoreLeft now.store next.store result
     → IfSome asked (λ item. MatchResult result (λ _. HasDone start entry (first ++ item ∷ []) next m) (λ fault. HasStopped start entry first item fault next m))
-has_carried None result done same carries cause left = tt
-has_carried (Some item) (Ok u) done same carries cause left = has_done_more item done same u carries cause left
-has_carried (Some item) (Err fault) done same carries cause left = has_stopped item done same fault carries cause left
+has_carried next None result done same carries cause left = tt
+has_carried next (Some item) (Ok u) done same carries cause left = has_done_more item done same u carries cause left
+has_carried next (Some item) (Err fault) done same carries cause left = has_stopped item done same fault carries cause left
 
 -- it can carry out the next one
-pub is_ready_after : {now next : Situated} {mid m : Meaning} (result : Result (Unit {0}) End) → IsReady now mid → IsSameStation mid m → StoreLeft now.store next.store result
+pub is_ready_after : {now : Situated} {mid m : Meaning} (next : Situated) (result : Result (Unit {0}) End) → IsReady now mid → IsSameStation mid m → StoreLeft now.store next.store result
     → IfOk result (λ _. IsReady next m)
-is_ready_after (Ok u) ready same left = record { unbroken = left.unbroken (λ e. cc e); long = omega (arith, left.image, same.len, ready.long) }
-is_ready_after (Err fault) ready same left = tt
+is_ready_after next (Ok u) ready same left = record { unbroken = left.unbroken (λ e. cc e); long = omega (arith, left.image, same.len, ready.long) }
+is_ready_after next (Err fault) ready same left = tt

@@ -39,11 +39,7 @@ pub fn mkdir<T: Station>(
 }
 
 /// Takes the declaration of the word back, whatever the place.
-pub fn rmdir<T: Station>(
-    store: &mut Store,
-    word: &Word,
-    station: &mut T,
-) -> Result<(), End>
+pub fn rmdir<T: Station>(store: &mut Store, word: &Word, station: &mut T) -> Result<(), End>
     requires unbroken { store.old.is_broken ≡ false }
     requires long { 4096 * store.old.journal.blocks ≤ (T.meaning station.old).len }
     ensures carries { (place : List Formula) → Does (λ now. rmdir now word.now) (StoreFits store.old (T.meaning station.old)) place

@@ -146,25 +146,17 @@ pub(crate) fn tally_command<D: Disk>(
         Command::Mkdir(word) => concluded(store.declare(disk, place, word)),
         Command::Rmdir(word) => concluded(store.undeclare(disk, word)),
         Command::Axiom(left, right) => concluded(store.axiom(disk, scratch, left, right)),
-        Command::Unaxiom(left, right) => {
-            concluded(store.unaxiom(disk, scratch, left, right))
-        }
+        Command::Unaxiom(left, right) => { concluded(store.unaxiom(disk, scratch, left, right)) }
         Command::Create(name, tags) => {
             // To create a file is to add one without bytes.
             create_is_add();
-            concluded(
-                store.add_file(disk, scratch, place, name, tags, &[], 0),
-            )
+            concluded(store.add_file(disk, scratch, place, name, tags, &[], 0))
         }
-        Command::Add(name, tags) => concluded(
-            store.add_file(disk, scratch, place, name, tags, bytes, size),
-        ),
-        Command::Write(name) => concluded(
-            store.write(disk, scratch, place, name, bytes, size),
-        ),
-        Command::Mv(name, text) => {
-            concluded(store.retag(disk, scratch, place, name, text))
-        }
+        Command::Add(name, tags) => concluded(store.add_file(
+            disk, scratch, place, name, tags, bytes, size,
+        )),
+        Command::Write(name) => concluded(store.write(disk, scratch, place, name, bytes, size)),
+        Command::Mv(name, text) => { concluded(store.retag(disk, scratch, place, name, text)) }
         Command::Rename(name, other) => {
             concluded(store.rename(disk, scratch, place, name, other))
         }

@@ -5,7 +5,7 @@ use Rattle.lis_model.specs.State.{State}
 use Rattle.lis_model.specs.Step.{Situation, Item, situation_after}
 use Rattle.lis_model.specs.Script.{script}
 use Rattle.lis_line.specs.declared.carrier.Halt.{Halt}
-use Rattle.lis_line.specs.declared.carrier.Halt.TheVariants.{End as InputEnd, Limit, InputFault as InputFailed, Stopped}
+use Rattle.lis_line.specs.declared.carrier.Halt.TheVariants.{End as AtEnd, Limit as AtLimit, InputFault as AtFault, Stopped}
 use Rattle.lis_line.specs.Endings.{HasEnded, HasHaltCause}
 use Rattle.lis_store.specs.Stored.{StoreFits}
 use Rattle.lis_session.specs.declared.end.End.{End}
@@ -21,9 +21,9 @@ use Rattle.lis_shell.specs.Causes.{Counts, counts, HasStatusCause}
 use Rattle.lis_shell.specs.Runs.{serve_status, IsSessionStatus, InputRead, GoesOn, Served}
 
 pub only_served : (halt : Halt End) → IsSessionStatus (serve_status halt)
-only_served InputEnd = tt
-only_served Limit = tt
-only_served InputFailed = tt
+only_served AtEnd = tt
+only_served AtLimit = tt
+only_served AtFault = tt
 only_served (Stopped DiskFailed) = tt
 only_served (Stopped OutputFailed) = tt
 
@@ -40,53 +40,53 @@ module _ (limit : ℕ) (left_before left : Option (List ℕ)) (start now : Situa
 
   -- ---- whatever the state
   pub served_same : (halt : Halt End) → Ended halt → IsSameStation entry m
-  served_same InputEnd ended = ended.done.same
-  served_same Limit ended = ended.done.same
-  served_same InputFailed ended = ended.done.same
+  served_same AtEnd ended = ended.done.same
+  served_same AtLimit ended = ended.done.same
+  served_same AtFault ended = ended.done.same
   served_same (Stopped fault) ended = ended.1.done.same
 
   pub served_limits : (halt : Halt End) → Ended halt → now.store.parts.limits ≡ start.store.parts.limits
-  served_limits InputEnd ended = ended.done.limits
-  served_limits Limit ended = ended.done.limits
-  served_limits InputFailed ended = ended.done.limits
+  served_limits AtEnd ended = ended.done.limits
+  served_limits AtLimit ended = ended.done.limits
+  served_limits AtFault ended = ended.done.limits
   served_limits (Stopped fault) ended = ended.1.done.limits
 
   pub served_image : (halt : Halt End) → Ended halt → now.store.journal.blocks ≡ start.store.journal.blocks
-  served_image InputEnd ended = ended.done.image
-  served_image Limit ended = ended.done.image
-  served_image InputFailed ended = ended.done.image
+  served_image AtEnd ended = ended.done.image
+  served_image AtLimit ended = ended.done.image
+  served_image AtFault ended = ended.done.image
   served_image (Stopped fault) ended = ended.1.done.image
 
   pub served_unbroken : (halt : Halt End) → Ended halt → serve_status halt ≢ DiskFault → now.store.is_broken ≡ false
-  served_unbroken InputEnd ended other = ended.done.unbroken
-  served_unbroken Limit ended other = ended.done.unbroken
-  served_unbroken InputFailed ended other = ended.done.unbroken
+  served_unbroken AtEnd ended other = ended.done.unbroken
+  served_unbroken AtLimit ended other = ended.done.unbroken
+  served_unbroken AtFault ended other = ended.done.unbroken
   served_unbroken (Stopped DiskFailed) ended other = absurd (other refl)
   served_unbroken (Stopped OutputFailed) ended other = ended.1.done.unbroken (λ e. cc e)
 
   pub served_cause : (before after : ℕ) (halt : Halt End) → Ended halt → HasHaltCause before after halt
       → HasStatusCause (counts entry before) (counts m after) (serve_status halt)
-  served_cause before after InputEnd ended cause = none_rose entry m before after ended.done.disk_faults cause ended.done.show_faults
-  served_cause before after Limit ended cause = none_rose entry m before after ended.done.disk_faults cause ended.done.show_faults
-  served_cause before after InputFailed ended cause = (cause, ended.done.disk_faults, ended.done.show_faults)
+  served_cause before after AtEnd ended cause = none_rose entry m before after ended.done.disk_faults cause ended.done.show_faults
+  served_cause before after AtLimit ended cause = none_rose entry m before after ended.done.disk_faults cause ended.done.show_faults
+  served_cause before after AtFault ended cause = (cause, ended.done.disk_faults, ended.done.show_faults)
   served_cause before after (Stopped DiskFailed) ended cause = let why = ended.1.done.cause in (why.0, cause, why.1)
   served_cause before after (Stopped OutputFailed) ended cause = let why = ended.1.done.cause in (why.1, why.0, cause)
 
   -- ---- where the input was known
   module _ (input : List ℕ) (told : left_before ≡ Some input) where
     pub served_input : (halt : Halt End) → Ended halt → InputRead limit input left (serve_status halt)
-    served_input InputEnd ended = let read = ended.read input told in (read.short, read.at_end)
-    served_input Limit ended = (ended.read input told).long
-    served_input InputFailed ended = tt
+    served_input AtEnd ended = let read = ended.read input told in (read.short, read.at_end)
+    served_input AtLimit ended = (ended.read input told).long
+    served_input AtFault ended = tt
     served_input (Stopped DiskFailed) ended = tt
     served_input (Stopped OutputFailed) ended = tt
 
     module _ (state : State) (fitting : FitsAt (StoreFits start.store entry) entry state) where
       pub serves_so : (halt : Halt End) → Ended halt
           → Serves (situation_at start state) (script input limit) entry m (Served (situation_at start state) limit input left entry.shown m (serve_status halt))
-      serves_so InputEnd ended = serves_all start entry ended.first now m state fitting limit input ended.done left (ended.read input told)
-      serves_so Limit ended = serves_to_limit start entry ended.first now m state fitting limit input ended.done (ended.read input told)
-      serves_so InputFailed ended =
+      serves_so AtEnd ended = serves_all start entry ended.first now m state fitting limit input ended.done left (ended.read input told)
+      serves_so AtLimit ended = serves_to_limit start entry ended.first now m state fitting limit input ended.done (ended.read input told)
+      serves_so AtFault ended =
           let read = ended.read input told in
           serves_whole start entry ended.first now m state fitting limit input ended.done left read.0 read.1
       serves_so (Stopped DiskFailed) ended =
@@ -95,8 +95,8 @@ module _ (limit : ℕ) (left_before left : Option (List ℕ)) (start now : Situa
           serves_stopped start entry ended.1.first now m state fitting limit input ended.0 OutputFailed ended.1.done (ended.1.read input told)
 
       pub goes_on_so : (halt : Halt End) → Ended halt → GoesOn (situation_after (situation_at start state) (script input limit)) now.store now.place m (serve_status halt)
-      goes_on_so InputEnd ended = reached start entry ended.first now m state fitting limit input ended.done (ended.read input told).is
-      goes_on_so Limit ended = reached start entry ended.first now m state fitting limit input ended.done (ended.read input told).is
-      goes_on_so InputFailed ended = tt
+      goes_on_so AtEnd ended = reached start entry ended.first now m state fitting limit input ended.done (ended.read input told).is
+      goes_on_so AtLimit ended = reached start entry ended.first now m state fitting limit input ended.done (ended.read input told).is
+      goes_on_so AtFault ended = tt
       goes_on_so (Stopped DiskFailed) ended = tt
       goes_on_so (Stopped OutputFailed) ended = tt

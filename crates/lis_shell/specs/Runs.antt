@@ -17,7 +17,7 @@ use Rattle.lis_store.specs.Stored.{Stored, StoreFits}
 use Rattle.lis_open.specs.Opens.{HasSuper, IsNeeded, IsLongEnough, RefusedLeft, InOpening}
 use Rattle.lis_open.specs.Checks.{FailsFirst}
 use Rattle.lis_line.specs.declared.carrier.Halt.{Halt}
-use Rattle.lis_line.specs.declared.carrier.Halt.TheVariants.{End as InputEnd, Limit, InputFault as InputFailed, Stopped}
+use Rattle.lis_line.specs.declared.carrier.Halt.TheVariants.{End as AtEnd, Limit as AtLimit, InputFault as AtFault, Stopped}
 use Rattle.lis_session.specs.declared.end.End.{End}
 use Rattle.lis_session.specs.declared.end.End.TheVariants.{DiskFault as DiskFailed, OutputFault as OutputFailed}
 use Rattle.lis_session.specs.Session.{root_of}
@@ -40,9 +40,9 @@ IsSessionStatus NoMemory = ⊥
 
 -- what the end of a session over an image is to the program
 abbrev pub serve_status : Halt End → Status
-serve_status InputEnd = Done
-serve_status Limit = InputLimit
-serve_status InputFailed = InputFault
+serve_status AtEnd = Done
+serve_status AtLimit = InputLimit
+serve_status AtFault = InputFault
 serve_status (Stopped DiskFailed) = DiskFault
 serve_status (Stopped OutputFailed) = OutputFault
 

@@ -5,7 +5,7 @@ use Rattle.lis_model.specs.Listing.{increments, locals}
 use Rattle.lis_model.specs.Replies.{body_line, content_lines}
 use Rattle.lis_model.specs.Route.{route}
 use Rattle.lis_model.specs.State.{description}
-use Rattle.lis_model.specs.Step.{Situation, Outcome, no_payload, entry_at, ls}
+use Rattle.lis_model.specs.Step.{Situation, Outcome, no_payload, entry_at, ls, pwd, stat}
 use Rattle.lis_model.specs.Table.{Table, table}
 use Rattle.lis_store.specs.Changes.{Changes}
 use Rattle.lis_store.proofs.Facts.{table_told}
@@ -115,3 +115,15 @@ returns-in-Ls-clause-tallies g c =
     let told = table_told c.args.store.now (g.D.Disk.meaning c.args.disk.now) state c.requires.sound fitting.own in
     tallied_still (ls now) _ c.args.place.now _ fitting refl refl (sym (listing_no_refusal (increments (table state) c.args.place.now) (locals (table state) c.args.place.now)))
     (ap (λ (t : Table). length (increments t c.args.place.now) + length (locals t c.args.place.now)) told))
+
+pub returns-in-Pwd-clause-tallies : goal.returns-in-Pwd-clause-tallies
+returns-in-Pwd-clause-tallies g c =
+    rw (c.in-Pwd.is, c.no_listing.ensures) (λ state fitting.
+    let now : Situation = record { state = state; place = c.args.place.now } in
+    tallied_still (pwd now) 0 c.args.place.now _ fitting refl refl refl refl)
+
+pub returns-in-Stat-clause-tallies : goal.returns-in-Stat-clause-tallies
+returns-in-Stat-clause-tallies g c =
+    rw (c.in-Stat.is, c.no_listing-in-Stat.ensures) (λ state fitting.
+    let now : Situation = record { state = state; place = c.args.place.now } in
+    tallied_still (stat now) 0 c.args.place.now _ fitting refl refl refl refl)
