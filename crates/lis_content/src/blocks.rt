@@ -10,13 +10,11 @@ ghost use Rattle.lis_content.specs.Content.{padded};
 use lis_journal::{BLOCK_LEN, Journal};
 use lis_ports::{Disk, Failed};
 
-/// The home of a data block.
-pub fn home(journal: &Journal, base: u32, n: u16) -> u32
-    requires { base + n < journal.now.blocks }
+/// The home of a data block, in an image of so many blocks.
+pub fn home(blocks: u32, base: u32, n: u16) -> u32
+    requires { base + n < blocks }
     ensures { result ≡ base + n }
 {
-    // A journal's blocks have numbers of 32 bits.
-    let _blocks = journal.blocks();
     base + u32::from(n)
 }
 

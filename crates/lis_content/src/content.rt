@@ -70,7 +70,7 @@ fn stage_bytes(
     while !rest.is_empty() {
         let (front, behind) = rest.split_at(rest.len().min(BLOCK_LEN));
         let Some(n) = map.take() else { unreachable!() };
-        stage_front(journal, home(journal, base, n), front);
+        stage_front(journal, home(journal.blocks(), base, n), front);
         taken.push(n);
         rest = behind;
     }
@@ -105,7 +105,12 @@ pub fn read<D: Disk>(
     for (k, n) in blocks.iter().enumerate() {
         let at = k * BLOCK_LEN;
         let end = buf.len().min(at + BLOCK_LEN);
-        read_front(journal, disk, home(journal, base, *n), &mut buf[at..end])?;
+        read_front(
+            journal,
+            disk,
+            home(journal.blocks(), base, *n),
+            &mut buf[at..end],
+        )?;
     }
     Ok(())
 }

@@ -96,7 +96,12 @@ fn number_of<D: Disk>(
     ensures cause { HasCause (D.meaning disk.old).disk_faults (D.meaning disk.new).disk_faults result }
 {
     if is_large(size) {
-        return read_number(journal, disk, home(journal, base, blocks[0]), n as usize);
+        return read_number(
+            journal,
+            disk,
+            home(journal.blocks(), base, blocks[0]),
+            n as usize,
+        );
     }
     Ok(blocks[n as usize])
 }
@@ -278,7 +283,7 @@ pub fn read_content<D: Disk>(
         return read(journal, disk, base, slot, size, buf);
     }
     let count = size.div_ceil(BLOCK_LEN as u32) as usize;
-    let numbers = read_index(journal, disk, home(journal, base, slot[0]), count)?;
+    let numbers = read_index(journal, disk, home(journal.blocks(), base, slot[0]), count)?;
     if !are_within(journal, base, &numbers) {
         buf.fill(0);
         return Ok(());
@@ -320,7 +325,12 @@ pub fn drop_large<D: Disk>(
         return Ok(());
     }
     let count = size.div_ceil(BLOCK_LEN as u32) as usize;
-    let numbers = read_index(journal, disk, home(journal, base, blocks[0]), count)?;
+    let numbers = read_index(
+        journal,
+        disk,
+        home(journal.blocks(), base, blocks[0]),
+        count,
+    )?;
     give_all(map, &numbers);
     give_all(map, blocks);
     Ok(())

@@ -80,7 +80,7 @@ fn place_block<D: Disk>(
     ensures cause { HasCause (D.meaning disk.old).disk_faults (D.meaning disk.new).disk_faults result }
 {
     let Some(n) = map.take() else { unreachable!() };
-    place_front(journal, disk, home(journal, base, n), bytes)?;
+    place_front(journal, disk, home(journal.blocks(), base, n), bytes)?;
     Ok(n)
 }
 

@@ -2,7 +2,7 @@ ghost use Rattle.std.specs.Prelude.{◌≡◌, ℕ, ◌<◌, ◌≤◌, List, []
 ghost use Rattle.std.specs.List.{HoldsAt};
 ghost use Rattle.std.specs.List.Sorted.{IsSearchInRange, IsPartitionPoint};
 ghost use Rattle.std.specs.declared.cmp.Ordering.TheVariants.{Less, Greater};
-ghost use Rattle.lis_words.specs.Words.{word_cmp};
+ghost use Rattle.lis_words.specs.Words.{is_property, word_cmp};
 ghost use Rattle.lis_model.specs.Ranges.{is_props_limit};
 ghost use Rattle.lis_dict.specs.Dict.{number_of, word_of, with_entry, without_word, IsDict, Adds};
 ghost use Rattle.lis_dict.specs.Inside.{dict_of};
@@ -59,8 +59,10 @@ fn search(entries: &[Entry], word: &Word) -> Result<usize, usize>
     ensures bound { IsSearchInRange result (length entries.now) }
     ensures found { IfOk result (HoldsAt (λ e. e.0 ≡ word.now) entries.now) }
     ensures absent { IfErr result (IsPartitionPoint (λ e. word_cmp e.0 word.now ≡ Less) (λ e. word_cmp e.0 word.now ≡ Greater) entries.now) }
+    ensures word { IsTrue (is_property word.now) }
 {
-    entries.binary_search_by(|entry| entry.word.cmp(word))
+    let bytes = word.bytes();
+    entries.binary_search_by(|entry| entry.word.bytes().cmp(bytes))
 }
 
 // The first number that no word has.
@@ -151,8 +153,6 @@ impl Dict {
         requires new { number_of self.old word.now ≡ None }
         ensures { self.new ≡ with_entry self.old word.now number }
     {
-        // Only its bytes tell that a word has a word's form.
-        let _bytes = word.bytes();
         let Err(place) = search(&self.entries, word) else {
             unreachable!()
         };

@@ -17,6 +17,7 @@ use Rattle.lis_fields.specs.declared.slots.AxiomSlot.TheVariants.{Free as FreeAx
 use Rattle.lis_fields.specs.Layouts.{is_axiom, is_file, is_record}
 use Rattle.lis_kept.specs.Kept.{Kept, axiom_at, file_by, record_at}
 use Rattle.lis_kept.specs.Sound.{AreSound, is_sound_record, FreeSlotsAreEmpty}
+use Rattle.lis_kept.specs.Inside.{IsShort}
 use Rattle.lis_kept.specs.Links.{TellsLinks, AreHeld}
 use Rattle.lis_kept.proofs.InArea.{few_properties}
 use Rattle.lis_kept.proofs.Filing.{among_from_number}
@@ -32,6 +33,13 @@ module _ (k : Kept) (sound : AreSound k) where
       let found = some_word (word_of k.dict n) some in
       let below = number_below k.dict sound.dict found.0 n (number_from_word k.dict sound.dict found.0 n found.1) in
       omega (arith, below, sound.numbers)
+
+  -- and so its number has 16 bits
+  pub short_dict : IsShort k.dict
+  short_dict = record {
+    dict = sound.dict;
+    short = λ n some. let below = named_below n some in let few = few_properties k.limits sound.range in omega (arith, below, few);
+  }
 
   pub axioms_formed : (n : ℕ) → is_axiom (axiom_at k.axioms n) ≡ true
   axioms_formed n = by (slice_get k.axioms n) refl

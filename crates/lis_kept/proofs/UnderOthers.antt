@@ -1,5 +1,5 @@
 -- A word that is declared under others.
-use Rattle.std.proofs.Common.{◌≡◌, ℕ, zero, suc, ◌+◌, ◌==◌, ◌&&◌, ◌||◌, true, false, List, [], ◌∷◌, ◌++◌, length, Some, is_some, refl, sym, ap, ◌∙◌, subst, arith, append-nil, append_assoc}
+use Rattle.std.proofs.Common.{◌≡◌, ℕ, zero, suc, ◌+◌, ◌==◌, ◌||◌, true, false, List, [], ◌∷◌, ◌++◌, length, Some, is_some, refl, sym, ap, ◌∙◌, subst, arith, append-nil, append_assoc}
 use Rattle.std.specs.List.{fold}
 use Rattle.std.proofs.lemmas.Bool.{both_ways, false_from_ne_true, or_right}
 use Rattle.lis_graph.specs.Graph.{Chain}

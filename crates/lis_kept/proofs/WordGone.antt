@@ -1,5 +1,5 @@
 -- What a word leaves that loses its number.
-use Rattle.std.proofs.Common.{◌≡◌, ◌⊎◌, refl, sym, ap, ap₂, ◌∙◌, subst, inl, inr, ℕ, ◌<◌, ◌==◌, if◌then◌else◌, ◌&&◌, ◌||◌, nat_lt, Bool, true, false, List, [], ◌∷◌, length, map, set, Some, None, is_some, IsSome, slice_get, arith, length-set}
+use Rattle.std.proofs.Common.{◌≡◌, ◌⊎◌, refl, sym, ap, ap₂, ◌∙◌, subst, inl, inr, ℕ, ◌<◌, ◌==◌, if◌then◌else◌, ◌&&◌, nat_lt, Bool, true, false, List, [], length, map, set, Some, None, is_some, IsSome, slice_get, arith, length-set}
 use Rattle.std.specs.Option.{option_to_list}
 use Rattle.std.specs.BTreeSet.{insert_key}
 use Rattle.std.specs.List.{list_all, list_any, fold}

@@ -33,6 +33,21 @@ use Rattle.lis_kept.proofs.WordMore.{OthersStay, sorted_declared, declared_there
 use Rattle.lis_kept.proofs.WordGone.{GoneWord, word_then, word_gone, word_other, not_gone, number_then, dict_kept, sound_then, marks_then, axioms_then, files_then}
 use Rattle.lis_kept.proofs.WordLess.{any_same, had_from}
 
+-- edges lead from and to numbers below the limit alone, as no other number has a word
+pub edges_within : (k : Kept) (t : Taxonomy) → AreHeld k t → (p q : ℕ) → has_edge t p q ≡ true → (p < k.limits.props) × (q < k.limits.props)
+edges_within k t held p q edge =
+    let linked = sym (held.links.edges p q) ∙ edge in (
+      below p (λ none. both_ways (is_linked k p q) (unnamed_from k held.sound p none q) linked),
+      below q (λ none. both_ways (is_linked k p q) (unnamed_to k held.sound q none p) linked),
+    )
+  where
+    below : (n : ℕ) → (word_of k.dict n ≡ None → ⊥) → n < k.limits.props
+    below n named = by (word_of k.dict n) refl
+      where
+        by : (o : Option (List ℕ)) → word_of k.dict n ≡ o → n < k.limits.props
+        by None is = absurd (named is)
+        by (Some w) is = named_below k held.sound n (ap is_some is)
+
 module _ (p : Kept) (t : Taxonomy) (held : AreHeld p t) {number : ℕ} (may : MayUndeclare number p) {word : List ℕ} (there : word_of p.dict number ≡ Some word) where
   abbrev less : Dict
   less = without_word p.dict word

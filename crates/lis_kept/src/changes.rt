@@ -11,7 +11,7 @@ ghost use Rattle.lis_model.specs.Image.{data_start};
 ghost use Rattle.lis_model.specs.Ranges.{are_in_range};
 ghost use Rattle.lis_kept.specs.Areas.{block_of};
 ghost use Rattle.lis_kept.specs.Areas.Area.{Files as FileArea, Rows};
-ghost use Rattle.lis_kept.specs.Sound.{is_sound_record, FreeSlotsAreEmpty};
+ghost use Rattle.lis_kept.specs.Sound.{AreSound, is_sound_record, FreeSlotsAreEmpty};
 ghost use Rattle.lis_kept.specs.Changes.{Describes, Drops, Files};
 
 mod blocks;
@@ -64,7 +64,8 @@ impl Parts {
         requires was { set_of self.old.ext slot ≡ old.now }
         requires rising { IsStrictlyIncreasing new.now }
         requires named { IsTrue (list_all (λ n. is_some (word_of self.old.dict n)) new.now) }
-        ensures { Describes slot new.now self.old self.new }
+        ensures describes { Describes slot new.now self.old self.new }
+        ensures sound { AreSound self.new }
     {
         // Only its rows tell that each file's numbers are below the limit.
         let _rows = self.ext.rows();
@@ -76,7 +77,8 @@ impl Parts {
     /// Takes the record out of its slot, and answers it. Its blocks stay taken.
     pub fn drop_record(&mut self, slot: u16) -> FileRec
         requires there { IsSome (rec_at self.old.catalog slot) }
-        ensures { Drops slot result self.old self.new }
+        ensures drops { Drops slot result self.old self.new }
+        ensures sound { AreSound self.new }
     {
         let Some(rec) = self.catalog.remove(slot) else {
             unreachable!()
@@ -92,7 +94,8 @@ impl Parts {
         requires room { length self.old.catalog.entries < self.old.limits.files }
         requires sound { IsTrue (is_sound_record self.old.limits.version self.old.dict self.old.limits.blocks rec) }
         requires empty { FreeSlotsAreEmpty self.old }
-        ensures { Files result rec self.old self.new }
+        ensures files { Files result rec self.old self.new }
+        ensures sound { AreSound self.new }
     {
         let Ok(slot) = self.catalog.add(rec) else {
             unreachable!()
@@ -108,7 +111,8 @@ impl Parts {
         requires described { (n : ℕ) → has self.old.ext n slot ≡ true → IsSome (word_of self.old.dict n) }
         requires new { slot_of self.old.catalog rec.name ≡ None }
         requires sound { IsTrue (is_sound_record self.old.limits.version self.old.dict self.old.limits.blocks rec) }
-        ensures { Files slot rec self.old self.new }
+        ensures files { Files slot rec self.old self.new }
+        ensures sound { AreSound self.new }
     {
         self.catalog.place(slot, rec);
         mark_file(&mut self.marks, &self.limits, slot);

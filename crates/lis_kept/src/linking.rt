@@ -7,6 +7,7 @@ ghost use Rattle.lis_model.specs.Ranges.{are_in_range};
 ghost use Rattle.lis_kept.specs.Areas.{block_of};
 ghost use Rattle.lis_kept.specs.Areas.Area.{Axioms};
 ghost use Rattle.lis_kept.specs.Links.{is_pair, has_pair};
+ghost use Rattle.lis_kept.specs.Sound.{AreSound};
 ghost use Rattle.lis_kept.specs.Linking.{is_free, is_filled, MayLink, Links, MayUnlink, Unlinks};
 
 use crate::parts::Parts;
@@ -97,7 +98,8 @@ impl Parts {
     /// Adds the axiom that leads from the word of one number to that of another.
     pub fn link(&mut self, left: u16, right: u16)
         requires { MayLink left right self.old }
-        ensures { Links left right self.old self.new }
+        ensures links { Links left right self.old self.new }
+        ensures sound { AreSound self.new }
     {
         let Some(slot) = free_slot(self.axioms.as_slice()) else {
             unreachable!()
@@ -113,7 +115,8 @@ impl Parts {
     /// Takes the axiom that leads from the word of one number to that of another away.
     pub fn unlink(&mut self, left: u16, right: u16)
         requires { MayUnlink left right self.old }
-        ensures { Unlinks left right self.old self.new }
+        ensures unlinks { Unlinks left right self.old self.new }
+        ensures sound { AreSound self.new }
     {
         let (left, right) = (u32::from(left), u32::from(right));
         let Some(slot) = slot_of_pair(self.axioms.as_slice(), left, right) else {

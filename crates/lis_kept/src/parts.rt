@@ -87,7 +87,8 @@ impl Parts {
 
     /// Takes all marks away, as what is marked was written.
     pub fn settle(&mut self)
-        ensures { self.new ≡ record self.old { marks = replicate (length self.old.marks) false } }
+        ensures settled { self.new ≡ record self.old { marks = replicate (length self.old.marks) false } }
+        ensures sound { AreSound self.new }
     {
         self.marks.fill(false);
     }
@@ -144,8 +145,6 @@ impl Parts {
             write_files(&self.catalog, self.limits.version, first, block);
             return;
         }
-        // Only its rows tell that each file's numbers are below the limit.
-        let _rows = self.ext.rows();
         let width = self.limits.files / 8;
         let count = BLOCK_LEN as u32 / width;
         write_rows(

@@ -1,7 +1,6 @@
 //! The bytes of rows of bits.
 
-ghost use Rattle.std.specs.Prelude.{◌≡◌, ℕ, ◌+◌, ◌*◌, ◌<◌, ◌≤◌, false, length};
-ghost use Rattle.lis_ext.specs.Ext.{has};
+ghost use Rattle.std.specs.Prelude.{◌≡◌, ℕ, ◌+◌, ◌*◌, ◌<◌, ◌≤◌, length};
 ghost use Rattle.lis_ports.specs.Bytes.{part};
 ghost use Rattle.lis_kept.specs.Rows.{row_bytes};
 
@@ -10,12 +9,12 @@ use lis_ext::Ext;
 // Writes the row of a number, which is empty past the last one.
 fn write_row(ext: &Ext, props: u32, number: u32, row: &mut [u8])
     requires props { props ≡ ext.now.props }
-    requires past { (n slot : ℕ) → props ≤ n → has ext.now n slot ≡ false }
     requires whole { 8 * length row.old ≡ length ext.now.sets }
     ensures { row.new ≡ row_bytes ext.now number }
 {
+    let rows = ext.rows();
     if number < props {
-        ext.row_bytes(number, row);
+        rows.row_bytes(number, row);
         return;
     }
     row.fill(0);
@@ -24,7 +23,6 @@ fn write_row(ext: &Ext, props: u32, number: u32, row: &mut [u8])
 /// Writes so many rows, from that of a number on.
 pub fn write_rows(ext: &Ext, props: u32, first: u32, width: usize, count: u32, block: &mut [u8])
     requires props { props ≡ ext.now.props }
-    requires past { (n slot : ℕ) → props ≤ n → has ext.now n slot ≡ false }
     requires width { 8 * width ≡ length ext.now.sets }
     requires whole { width * count ≡ 4096 }
     requires few { first + count ≤ 2000000 }

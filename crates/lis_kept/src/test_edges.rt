@@ -1,6 +1,6 @@
 //! The edges between tests: one leads from each declared test to each that is weaker.
 
-ghost use Rattle.std.specs.Prelude.{◌≡◌, ◌≤◌, ◌<◌, ℕ, Bool, true, false, Some, is_some, length};
+ghost use Rattle.std.specs.Prelude.{◌≡◌, ◌≤◌, ◌<◌, ℕ, Bool, true, false, Some, is_some, length, IsTrue};
 ghost use Rattle.lis_dict.specs.Dict.{IsDict};
 ghost use Rattle.lis_model.specs.Tests.{is_weaker, are_weaker};
 ghost use Rattle.lis_taxonomy.specs.Taxonomy.{has_edge};
@@ -92,6 +92,7 @@ pub(crate) fn link_stronger(
     number: u32,
 )
     requires props { props ≡ taxonomy.old.props }
+    requires few { props ≤ 8192 }
     requires number { number < props }
     requires dict { IsDict dict.now }
     requires names { dict.now.props ≡ props }
@@ -100,8 +101,6 @@ pub(crate) fn link_stronger(
     requires new { (p : ℕ) → has_edge taxonomy.old p number ≡ false }
     ensures { LinksStronger dict.now declared.now number taxonomy.old taxonomy.new }
 {
-    // Only its rows tell that there are few words.
-    let _rows = taxonomy.rows();
     let Some(test) = declared_test(dict, declared, number) else {
         return;
     };
@@ -118,13 +117,12 @@ pub(crate) fn link_stronger(
 pub(crate) fn unlink_all(taxonomy: &mut Taxonomy, props: u32, number: u32)
     requires props { props ≡ taxonomy.old.props }
     requires number { number < props }
+    requires within { (p q : ℕ) → IsTrue (has_edge taxonomy.old p q) → (p < props) × (q < props) }
     ensures { UnlinksAll number taxonomy.old taxonomy.new }
 {
-    // Only its rows tell that edges lead from and to numbers below the limit.
-    let _rows = taxonomy.rows();
     for other in 0..props {
         // Most are not there.
-        let _from = taxonomy.remove(number, other);
-        let _to = taxonomy.remove(other, number);
+        let _ = taxonomy.remove(number, other);
+        let _ = taxonomy.remove(other, number);
     }
 }

@@ -3,6 +3,7 @@
 ghost use Rattle.std.specs.Prelude.{◌≡◌, ◌<◌, None, length, IsTrue};
 ghost use Rattle.lis_dict.specs.Dict.{number_of};
 ghost use Rattle.lis_model.specs.State.{is_declarable};
+ghost use Rattle.lis_kept.specs.Sound.{AreSound};
 ghost use Rattle.lis_kept.specs.Under.{MayStandUnder, DeclaresUnder};
 
 use crate::parts::Parts;
@@ -15,16 +16,11 @@ impl Parts {
         requires new { number_of self.old.dict word.now ≡ None }
         requires room { length self.old.dict.entries < self.old.limits.props }
         requires places { MayStandUnder places.now self.old }
-        ensures { DeclaresUnder word.now places.now self.old self.new }
+        ensures declares_under { DeclaresUnder word.now places.now self.old self.new }
+        ensures sound { AreSound self.new }
     {
-        // Only the limits tell that memory is in form, before and then at each axiom.
-        let _before = self.limits();
-        self.declare(word);
-        let Some(number) = self.number_of(word) else {
-            unreachable!()
-        };
+        let number = self.declare_word(word);
         for place in places {
-            let _now = self.limits();
             self.link(number, *place);
         }
     }

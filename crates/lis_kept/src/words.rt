@@ -2,7 +2,7 @@
 
 ghost use Rattle.std.specs.Prelude.{◌≡◌, ◌≢◌, ℕ, ◌<◌, ◌≤◌, true, false, ◌||◌, ◌==◌, Some, None, length, slice_set, IsTrue, IsSome, IfSome};
 ghost use Rattle.std.specs.List.{list_any};
-ghost use Rattle.lis_dict.specs.Dict.{number_of, word_of};
+ghost use Rattle.lis_dict.specs.Dict.{IsDict, number_of, word_of};
 ghost use Rattle.lis_fields.specs.Layouts.{is_undeclared};
 ghost use Rattle.lis_model.specs.Image.{data_start};
 ghost use Rattle.lis_model.specs.Ranges.{are_in_range};
@@ -12,9 +12,11 @@ ghost use Rattle.lis_words.specs.Words.{is_valued, head_bytes};
 ghost use Rattle.lis_kept.specs.Areas.{block_of};
 ghost use Rattle.lis_kept.specs.Edges.{head_number, with_edge_to, without_edge_to};
 ghost use Rattle.lis_kept.specs.Forgetting.{MayGo, MayForget};
+ghost use Rattle.lis_kept.specs.Inside.{IsShort};
 ghost use Rattle.lis_kept.specs.Passes.{is_of_pass, is_due, ForgetsWhere, ForgetsDue};
 ghost use Rattle.lis_kept.specs.Areas.Area.{Properties};
 ghost use Rattle.lis_kept.specs.Changes.{Declares, Learns, Forgets};
+ghost use Rattle.lis_kept.specs.Sound.{AreSound};
 ghost use Rattle.lis_kept.specs.Telling.{is_left_of, is_head_by, is_left_head_of, is_had, is_used};
 
 mod undeclaring;
@@ -97,13 +99,12 @@ fn is_had(ext: &Ext, number: u16) -> bool
 
 // Whether the word of a number is valued, and another number is that of its head.
 fn has_head(dict: &Dict, number: u16, head: u16) -> bool
+    requires { IsDict dict.now }
     ensures { result ≡ is_head_by (word_of dict.now number) (word_of dict.now head) }
 {
     let Some(word) = dict.word_of(number) else {
         return false;
     };
-    // Only its length tells that a dictionary has a number for one word.
-    let _len = dict.len();
     match head_number(dict, &word) {
         None => false,
         Some(found) => found == head,
@@ -112,7 +113,7 @@ fn has_head(dict: &Dict, number: u16, head: u16) -> bool
 
 // Whether a number is that of an axiom's left side, or of its head.
 fn is_on_left(dict: &Dict, slot: AxiomSlot, number: u16) -> bool
-    requires { (n : ℕ) → IsSome (word_of dict.now n) → n < 65536 }
+    requires { IsShort dict.now }
     ensures { result ≡ (is_left_of number slot || is_left_head_of dict.now number slot) }
 {
     let AxiomSlot::Pair(left, _) = slot else {
@@ -126,7 +127,7 @@ fn is_on_left(dict: &Dict, slot: AxiomSlot, number: u16) -> bool
 
 // Whether a number is the left side of an axiom, or the head of one.
 fn is_named_left(dict: &Dict, axioms: &[AxiomSlot], number: u16) -> bool
-    requires { (n : ℕ) → IsSome (word_of dict.now n) → n < 65536 }
+    requires { IsShort dict.now }
     ensures { result ≡ list_any (λ slot. is_left_of number slot || is_left_head_of dict.now number slot) axioms.now }
 {
     axioms.iter().any(|slot| is_on_left(dict, *slot, number))
@@ -149,10 +150,22 @@ impl Parts {
         requires form { IsTrue (is_declarable word.now) }
         requires new { number_of self.old.dict word.now ≡ None }
         requires room { length self.old.dict.entries < self.old.limits.props }
-        ensures { Declares word.now self.old self.new }
+        ensures declares { Declares word.now self.old self.new }
+        ensures sound { AreSound self.new }
     {
-        // Only its bytes tell that a word has a word's form.
-        let _bytes = word.bytes();
+        self.declare_word(word);
+    }
+
+    // The same, and answers the number.
+    pub(crate) fn declare_word(&mut self, word: &Word) -> u16
+        requires form { IsTrue (is_declarable word.now) }
+        requires new { number_of self.old.dict word.now ≡ None }
+        requires room { length self.old.dict.entries < self.old.limits.props }
+        ensures declares { Declares word.now self.old self.new }
+        ensures number { number_of self.new.dict word.now ≡ Some result }
+        ensures was_sound { AreSound self.old }
+        ensures sound { AreSound self.new }
+    {
         let Ok(number) = self.dict.add(word) else {
             unreachable!()
         };
@@ -162,6 +175,7 @@ impl Parts {
         link_weaker(&self.dict, &self.declared, &mut self.taxonomy, props, at);
         link_stronger(&self.dict, &self.declared, &mut self.taxonomy, props, at);
         mark_property(&mut self.marks, &self.limits, number);
+        number
     }
 
     /// The number of a word that is known and not declared: the one that it has, or else a free one that it gets.
@@ -170,7 +184,8 @@ impl Parts {
         requires headed { number_of self.old.dict word.now ≡ None → IsTrue (is_valued word.now)
             → IsSome (number_of self.old.dict (head_bytes word.now)) }
         requires room { number_of self.old.dict word.now ≡ None → length self.old.dict.entries < self.old.limits.props }
-        ensures { Learns word.now result self.old self.new }
+        ensures learns { Learns word.now result self.old self.new }
+        ensures sound { AreSound self.new }
     {
         let head = head_number(&self.dict, word);
         if let Some(number) = self.dict.id_of(word) {
@@ -187,7 +202,8 @@ impl Parts {
     // Forgets the word of a number that may go, if it has one.
     fn forget(&mut self, number: u16)
         requires { IsSome (word_of self.old.dict number) → MayGo number self.old }
-        ensures { ForgetsWhere (λ n. number == n) 1 self.old self.new }
+        ensures forgets { ForgetsWhere (λ n. number == n) 1 self.old self.new }
+        ensures sound { AreSound self.new }
     {
         let Some(word) = self.dict.word_of(number) else {
             return;
@@ -201,7 +217,8 @@ impl Parts {
     /// Forgets the words of those numbers that are not in use.
     pub fn forget_unused(&mut self, numbers: &[u16])
         requires { MayForget numbers.now self.old }
-        ensures { Forgets numbers.now self.old self.new }
+        ensures forgets { Forgets numbers.now self.old self.new }
+        ensures sound { AreSound self.new }
     {
         // The head of a known word keeps its number, so valued words go before heads.
         self.forget_due(numbers, true, None);
@@ -212,8 +229,11 @@ impl Parts {
     // the others.
     fn forget_due(&mut self, numbers: &[u16], valued: bool, slot: Option<u16>)
         requires { (n : ℕ) → is_due slot self.old valued n ≡ true → MayGo n self.old }
-        ensures { ForgetsDue slot valued numbers.now self.old self.new }
+        ensures forgets { ForgetsDue slot valued numbers.now self.old self.new }
+        ensures sound { AreSound self.new }
     {
+        // Without numbers memory is read for nothing else, and is in form all the same.
+        let _ = &self.limits;
         for number in numbers {
             if self.is_due(*number, valued, slot) {
                 self.forget(*number);

@@ -73,13 +73,11 @@ impl Slots {
         BLOCK_LEN as u32 / self.width
     }
 
-    // The block of slot k.
-    fn home(&self, journal: &Journal, k: u32) -> u32
-        requires { home self.now k < journal.now.blocks }
+    // The block of slot k, in an image of so many blocks.
+    fn home(&self, blocks: u32, k: u32) -> u32
+        requires { home self.now k < blocks }
         ensures { result ≡ home self.now k }
     {
-        // A journal's blocks have numbers of 32 bits.
-        let _blocks = journal.blocks();
         self.first + k / self.per_block()
     }
 
@@ -117,7 +115,7 @@ impl Slots {
             → Fits journal.now (D.meaning disk.new) kept }
     {
         let mut block = [0; BLOCK_LEN];
-        journal.read(disk, self.home(journal, k), &mut block)?;
+        journal.read(disk, self.home(journal.blocks(), k), &mut block)?;
         let at = self.place(k);
         buf.copy_from_slice(&block[at..at + buf.len()]);
         Ok(())
@@ -149,7 +147,7 @@ impl Slots {
             → Fits journal.old (D.meaning disk.new) kept }
     {
         let mut block = [0; BLOCK_LEN];
-        let home = self.home(journal, k);
+        let home = self.home(journal.blocks(), k);
         journal.read(disk, home, &mut block)?;
         overwrite(&mut block, self.place(k), bytes);
         journal.stage(home, &block);

@@ -11,6 +11,7 @@ ghost use Rattle.lis_model.specs.Image.{bitmap_start, data_start, image_blocks};
 ghost use Rattle.lis_model.specs.Ranges.{are_in_range};
 ghost use Rattle.lis_model.specs.State.{blocks_taken, file_limit};
 ghost use Rattle.lis_kept.specs.Changes.{Gives, Puts, PutTorn};
+ghost use Rattle.lis_kept.specs.Sound.{AreSound};
 
 use crate::parts::Parts;
 use crate::places::{bitmap_start, data_start};
@@ -50,6 +51,7 @@ impl Parts {
             (λ numbers. Puts bytes.now numbers.items self.old self.new journal.old journal.new (D.meaning disk.old) (D.meaning disk.new))
             (λ _. PutTorn self.old self.new journal.old journal.new (D.meaning disk.old) (D.meaning disk.new)) }
         ensures torn { OnErr result (self.old.limits.version ≡ 2) }
+        ensures sound { AreSound self.new }
         ensures run { IsDiskRun (D.meaning disk.old) (D.meaning disk.new) }
         ensures cause { HasCause (D.meaning disk.old).disk_faults (D.meaning disk.new).disk_faults result }
     {
@@ -80,6 +82,7 @@ impl Parts {
         requires long { 4096 * journal.now.blocks ≤ (D.meaning disk.old).len }
         ensures gives { OnOk result ((rec : FileRecord) → rec_at self.old.catalog slot ≡ Some rec → Gives rec self.old self.new journal.now (D.meaning disk.old)) }
         ensures stays { OnErr result (self.new ≡ self.old) }
+        ensures sound { AreSound self.new }
         ensures run { IsDiskRun (D.meaning disk.old) (D.meaning disk.new) }
         ensures cause { HasCause (D.meaning disk.old).disk_faults (D.meaning disk.new).disk_faults result }
         ensures same { IsTrue (D.meaning disk.old).is_honest → IsUnchanged (D.meaning disk.old) (D.meaning disk.new) }

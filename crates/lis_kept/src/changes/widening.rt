@@ -3,6 +3,7 @@
 ghost use Rattle.std.specs.Prelude.{◌≡◌, ℕ, ◌<◌, true, length, IsSome};
 ghost use Rattle.lis_bits.specs.Rows.{get};
 ghost use Rattle.lis_dict.specs.Dict.{word_of};
+ghost use Rattle.lis_kept.specs.Sound.{AreSound};
 ghost use Rattle.lis_kept.specs.Widening.{Widens};
 
 use crate::changes::mark_rows;
@@ -16,7 +17,8 @@ impl Parts {
         requires row { row < length ups.now.rows }
         requires bits { ups.now.bits ≡ self.old.limits.props }
         requires named { (n : ℕ) → n < self.old.limits.props → get ups.now row n ≡ true → IsSome (word_of self.old.dict n) }
-        ensures { Widens left (get ups.now row) self.old self.new }
+        ensures widens { Widens left (get ups.now row) self.old self.new }
+        ensures sound { AreSound self.new }
     {
         // Only its rows tell that each file's numbers are below the limit.
         let _rows = self.ext.rows();

@@ -3,6 +3,8 @@
 ghost use Rattle.std.specs.Prelude.{◌≡◌, ℕ, ◌<◌, Bool, is_some, IsSome};
 ghost use Rattle.std.specs.List.{list_any};
 ghost use Rattle.lis_dict.specs.Dict.{word_of};
+ghost use Rattle.lis_kept.specs.Inside.{IsShort};
+ghost use Rattle.lis_kept.specs.Sound.{AreSound};
 ghost use Rattle.lis_kept.specs.TestEdges.{test_by};
 ghost use Rattle.lis_kept.specs.Undeclaring.{is_right_of, is_named_by, is_needed, MayUndeclare, Undeclares};
 
@@ -25,7 +27,7 @@ fn is_right_of(slot: AxiomSlot, number: u16) -> bool
 
 // Whether an axiom names a number's word, or has it as the head of its left side.
 fn is_named_by(dict: &Dict, slot: AxiomSlot, number: u16) -> bool
-    requires { (n : ℕ) → IsSome (word_of dict.now n) → n < 65536 }
+    requires { IsShort dict.now }
     ensures { result ≡ is_named_by dict.now number slot }
 {
     is_on_left(dict, slot, number) || is_right_of(slot, number)
@@ -33,7 +35,7 @@ fn is_named_by(dict: &Dict, slot: AxiomSlot, number: u16) -> bool
 
 // Whether some axiom does.
 fn is_named(dict: &Dict, axioms: &[AxiomSlot], number: u16) -> bool
-    requires { (n : ℕ) → IsSome (word_of dict.now n) → n < 65536 }
+    requires { IsShort dict.now }
     ensures { result ≡ list_any (is_named_by dict.now number) axioms.now }
 {
     axioms.iter().any(|slot| is_named_by(dict, *slot, number))
@@ -64,7 +66,8 @@ impl Parts {
     /// Takes the declaration of a word back, and with it its number.
     pub fn undeclare(&mut self, number: u16)
         requires { MayUndeclare number self.old }
-        ensures { Undeclares number self.old self.new }
+        ensures undeclares { Undeclares number self.old self.new }
+        ensures sound { AreSound self.new }
     {
         let Some(word) = self.dict.word_of(number) else {
             unreachable!()

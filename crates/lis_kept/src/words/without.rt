@@ -4,6 +4,7 @@ ghost use Rattle.std.specs.Prelude.{◌≡◌, ◌<◌, None, [], slice_set, IsS
 ghost use Rattle.lis_dict.specs.Dict.{word_of};
 ghost use Rattle.lis_catalog.specs.Catalog.{rec_at};
 ghost use Rattle.lis_kept.specs.Forgetting.{emptied, MayForget, ForgetsWithout};
+ghost use Rattle.lis_kept.specs.Sound.{AreSound};
 ghost use Rattle.lis_kept.specs.Telling.{is_had, is_used};
 
 use crate::parts::Parts;
@@ -41,7 +42,8 @@ impl Parts {
         requires slot { slot < self.old.limits.files }
         requires empty { rec_at self.old.catalog slot ≡ None }
         requires may { MayForget numbers.now (emptied self.old slot) }
-        ensures { ForgetsWithout slot numbers.now self.old self.new }
+        ensures forgets { ForgetsWithout slot numbers.now self.old self.new }
+        ensures sound { AreSound self.new }
     {
         // As in `forget_unused`.
         self.forget_due(numbers, true, Some(slot));

@@ -7,4 +7,4 @@ pub returns-in_default-try_from : goal.returns-in_default-try_from
 returns-in_default-try_from c =
     let n = c.args.number in
     let d = c.args.dict.now in
-    sym (ap (λ slot. is_left_of n slot || is_left_head_of d n slot) c.in-Pair.is ∙ not_on_left d c.requires c.in-Pair.left n (omega (arith, c.ranges.number.fits)) (λ lt. c.in_default-try_from.ensures lt))
+    sym (ap (λ slot. is_left_of n slot || is_left_head_of d n slot) c.in-Pair.is ∙ not_on_left d c.requires.short c.in-Pair.left n (omega (arith, c.ranges.number.fits)) (λ lt. c.in_default-try_from.ensures lt))

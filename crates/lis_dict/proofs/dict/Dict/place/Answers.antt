@@ -31,7 +31,7 @@ invariant_of-self c =
     let gap = subst (λ (es : List Entry). IsGap es word k) c.deref.ensures.value c.in-Err.ensures.absent in
     let same = c.in-Ok.ensures.items ∙ (ap (λ w. insert m.entries.items k (w, c.args.number)) c.copied.ensures ∙ insert_gap m.entries.items word c.args.number k (omega (arith, c.in-Err.ensures.bound, ap length c.deref.ensures.value)) gap) in
     rw (c.from.ensures, c.copied-2.ensures)
-    (sound_with_entry m.entries.items c.insert.new.self.items m.holders.items m.props _ _ c.self.invariant word c.args.number c.insert.ensures.capacity (rw (← c.self.view_is) at c.requires.below) (rw (← c.self.view_is) at c.requires.free) (rw (← c.self.view_is) at c.requires.new) c.bytes-bytes.ensures.word same (ap length c.in-Ok.ensures.items ∙ length-insert m.entries.items k (c.copied.result, c.args.number) (omega (arith, c.in-Err.ensures.bound, ap length c.deref.ensures.value))))
+    (sound_with_entry m.entries.items c.insert.new.self.items m.holders.items m.props _ _ c.self.invariant word c.args.number c.insert.ensures.capacity (rw (← c.self.view_is) at c.requires.below) (rw (← c.self.view_is) at c.requires.free) (rw (← c.self.view_is) at c.requires.new) c.search.ensures.word same (ap length c.in-Ok.ensures.items ∙ length-insert m.entries.items k (c.copied.result, c.args.number) (omega (arith, c.in-Err.ensures.bound, ap length c.deref.ensures.value))))
 
 pub returns : goal.returns
 returns c =

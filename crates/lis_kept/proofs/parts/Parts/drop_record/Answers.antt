@@ -13,5 +13,6 @@ invariant_of-self c =
 
 pub returns : goal.returns
 returns c =
-    (drops c.args.self.now (the_view c.self.inside) c.self.inside.taxonomy c.args.slot c.in-Some.rec c.remove.new.self c.mark_file.new.marks
-    c.self.view_is c.self.invariant (sym c.remove.ensures.was ∙ c.in-Some.is) c.remove.ensures.gone c.mark_file.ensures).1
+    let both = drops c.args.self.now (the_view c.self.inside) c.self.inside.taxonomy c.args.slot c.in-Some.rec c.remove.new.self c.mark_file.new.marks
+    c.self.view_is c.self.invariant (sym c.remove.ensures.was ∙ c.in-Some.is) c.remove.ensures.gone c.mark_file.ensures in
+    record { drops = both.1; sound = both.0.sound }

@@ -1,6 +1,7 @@
 use Rattle.std.proofs.Common.{◌∙◌, ◌+◌, ◌<◌, sym, subst, length, take, get_or, arith}
 use Rattle.lis_kept.specs.Kept.{Kept}
 use Rattle.lis_kept.specs.Passes.{ForgetsDue}
+use Rattle.lis_kept.specs.Sound.{AreSound}
 use Rattle.lis_kept.proofs.Forgotten.{may_still, due_before, due_more, due_past}
 use Rattle.lis_kept.proofs.parts.Parts.forget_due.Goals as goal
 use Rattle.lis_kept.proofs.parts.Parts.forget_due.Goals.{then-is_due, else-is_due}
@@ -11,7 +12,7 @@ forget-requires c = λ there.
     let q = c.loop-number.self in
     let number = get_or c.args.numbers.now c.loop-number.number-index 0 in
     let due = sym c.is_due.ensures ∙ c.if-is_due.true in
-    may_still _ _ p q c.loop-number.invariant c.args.slot c.args.valued number due (c.requires number (due_before _ _ p q c.loop-number.invariant c.args.slot c.args.valued number due))
+    may_still _ _ p q c.loop-number.invariant.forgets c.args.slot c.args.valued number due (c.requires number (due_before _ _ p q c.loop-number.invariant.forgets c.args.slot c.args.valued number due))
 
 pub loop-number-preserved : goal.loop-number-preserved
 loop-number-preserved c =
@@ -23,6 +24,13 @@ loop-number-preserved c =
     let lt : i < length numbers = omega (arith, c.loop-number-test.true, c.loop-number.auto.number-index-end) in
     elim c.if-is_due.branch [
       | then-is_due w ↦
-          subst P (sym w.self-is) (due_more c.args.slot c.args.valued numbers i p q lt c.loop-number.invariant w.forget.new.self (sym c.is_due.ensures ∙ w.if-is_due.true) w.forget.ensures)
-      | else-is_due w ↦ subst P (sym w.self-is) (due_past c.args.slot c.args.valued numbers i p q lt c.loop-number.invariant (sym c.is_due.ensures ∙ w.if-is_due.false))
+          record {
+            forgets = subst P (sym w.self-is) (due_more c.args.slot c.args.valued numbers i p q lt c.loop-number.invariant.forgets w.forget.new.self (sym c.is_due.ensures ∙ w.if-is_due.true) w.forget.ensures.forgets);
+            sound = subst AreSound (sym w.self-is) w.forget.ensures.sound;
+          }
+      | else-is_due w ↦
+          record {
+            forgets = subst P (sym w.self-is) (due_past c.args.slot c.args.valued numbers i p q lt c.loop-number.invariant.forgets (sym c.is_due.ensures ∙ w.if-is_due.false));
+            sound = subst AreSound (sym w.self-is) c.loop-number.invariant.sound;
+          }
     ]

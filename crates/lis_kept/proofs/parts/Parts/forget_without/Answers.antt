@@ -7,9 +7,13 @@ forget_due-requires c = first_may (Some c.args.slot) c.args.numbers.now c.args.s
 
 pub forget_due-requires-2 : goal.forget_due-requires-2
 forget_due-requires-2 c =
-    second_may (Some c.args.slot) c.args.numbers.now c.args.self.now c.forget_due.new.self c.forget_due.ensures c.requires.empty c.requires.may
+    second_may (Some c.args.slot) c.args.numbers.now c.args.self.now c.forget_due.new.self c.forget_due.ensures.forgets c.requires.empty c.requires.may
 
 pub returns : goal.returns
 returns c =
-    forgets_beside c.args.slot c.args.numbers.now c.args.self.now c.forget_due-2.new.self
-    (both_forget (Some c.args.slot) c.args.numbers.now c.args.self.now c.forget_due.new.self c.forget_due.ensures c.forget_due-2.new.self c.forget_due-2.ensures)
+    record {
+      forgets =
+          forgets_beside c.args.slot c.args.numbers.now c.args.self.now c.forget_due-2.new.self
+          (both_forget (Some c.args.slot) c.args.numbers.now c.args.self.now c.forget_due.new.self c.forget_due.ensures.forgets c.forget_due-2.new.self c.forget_due-2.ensures.forgets);
+      sound = c.forget_due-2.ensures.sound;
+    }

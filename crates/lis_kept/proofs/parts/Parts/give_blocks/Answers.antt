@@ -44,3 +44,7 @@ drop_large-requires-clause-count g c =
 pub invariant_of-self-2 : goal.invariant_of-self-2
 invariant_of-self-2 g c =
     (takes c.args.self.now (the_view c.self.inside) c.self.inside.taxonomy c.drop_large.new.map c.mark_bitmap.new.marks c.self.view_is c.self.invariant c.drop_large.ensures.len c.mark_bitmap.ensures).0
+
+pub returns-clause-sound : goal.returns-clause-sound
+returns-clause-sound g c =
+    (takes c.args.self.now (the_view c.self.inside) c.self.inside.taxonomy c.drop_large.new.map c.mark_bitmap.new.marks c.self.view_is c.self.invariant c.drop_large.ensures.len c.mark_bitmap.ensures).0.sound

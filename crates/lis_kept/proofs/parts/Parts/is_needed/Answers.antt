@@ -5,8 +5,7 @@ use Rattle.lis_kept.specs.Kept.{Kept}
 use Rattle.lis_kept.specs.TestEdges.{test_by}
 use Rattle.lis_kept.specs.Telling.{is_had}
 use Rattle.lis_kept.specs.Undeclaring.{is_named_by, is_needed}
-use Rattle.lis_kept.proofs.InArea.{few_properties}
-use Rattle.lis_kept.proofs.Formed.{named_below}
+use Rattle.lis_kept.proofs.Formed.{named_below, short_dict}
 use Rattle.lis_kept.specs.contracts.parts.Parts.{the_view}
 use Rattle.lis_kept.proofs.parts.Parts.is_needed.Goals as goal
 use Rattle.lis_kept.proofs.parts.Parts.is_needed.Goals.{else-not-is_test-via-then-not-is_test+else-is_had, else-not-is_test-via-else-not-is_test}
@@ -18,9 +17,7 @@ is_had-requires c =
     omega (arith, below, c.self.invariant.sound.rows)
 
 pub is_named-requires : goal.is_named-requires
-is_named-requires c = λ n there.
-    let sound = c.self.invariant.sound in
-    omega (arith, named_below (the_view c.self.inside) sound n there, few_properties c.self.inside.limits sound.range)
+is_named-requires c = short_dict (the_view c.self.inside) c.self.invariant.sound
 
 pub returns-then-is_had : goal.returns-then-is_had
 returns-then-is_had c =

@@ -4,8 +4,7 @@ use Rattle.std.proofs.lemmas.Bool.{both_ways}
 use Rattle.lis_dict.specs.Dict.{word_of}
 use Rattle.lis_kept.specs.Kept.{Kept}
 use Rattle.lis_kept.specs.Telling.{is_left_of, is_left_head_of, is_used}
-use Rattle.lis_kept.proofs.InArea.{few_properties}
-use Rattle.lis_kept.proofs.Formed.{named_below}
+use Rattle.lis_kept.proofs.Formed.{named_below, short_dict}
 use Rattle.lis_kept.proofs.Used.{any_or, used_on_left}
 use Rattle.lis_kept.proofs.Without.{left_out}
 use Rattle.lis_kept.specs.contracts.parts.Parts.{the_view}
@@ -27,9 +26,7 @@ is_had_without-requires c =
     omega (arith, below, c.self.invariant.sound.rows)
 
 pub is_named_left-requires : goal.is_named_left-requires
-is_named_left-requires c = λ n there.
-    let sound = c.self.invariant.sound in
-    omega (arith, named_below (the_view c.self.inside) sound n there, few_properties c.self.inside.limits sound.range)
+is_named_left-requires c = short_dict (the_view c.self.inside) c.self.invariant.sound
 
 pub returns-else-is_had_without : goal.returns-else-is_had_without
 returns-else-is_had_without c =

@@ -4,6 +4,7 @@ use Rattle.lis_fields.specs.Layouts.{is_undeclared}
 use Rattle.lis_words.specs.Words.{is_valued, head_bytes}
 use Rattle.lis_kept.specs.Kept.{Kept}
 use Rattle.lis_kept.specs.Edges.{with_edge_to}
+use Rattle.lis_kept.specs.Sound.{AreSound}
 use Rattle.lis_kept.proofs.WordMore.{added_word}
 use Rattle.lis_kept.proofs.WordLearnt.{head_below, head_apart, none_to, none_from, learns_new, learns_there}
 use Rattle.lis_kept.specs.contracts.parts.Parts.{the_view}
@@ -16,7 +17,10 @@ record Premises (word : List ℕ) (k : Kept) : Type 0 where
 
 pub returns-in-Some : goal.returns-in-Some
 returns-in-Some c =
-    learns_there c.args.self.now (the_view c.self.inside) c.self.inside.taxonomy c.args.word.now c.in-Some.number c.self.view_is c.self.invariant (sym c.id_of.ensures ∙ c.in-Some.is)
+    record {
+      learns = learns_there c.args.self.now (the_view c.self.inside) c.self.inside.taxonomy c.args.word.now c.in-Some.number c.self.view_is c.self.invariant (sym c.id_of.ensures ∙ c.in-Some.is);
+      sound = subst AreSound c.self.view_is c.self.invariant.sound;
+    }
 
 pub link_head-requires-clause-head : goal.link_head-requires-clause-head
 link_head-requires-clause-head c =
@@ -56,6 +60,7 @@ returns c =
     let none = sym c.id_of.ensures ∙ c.in_default.is in
     let pre = subst (Premises c.args.word.now) (sym c.self.view_is) (record { form = c.requires.form; headed = c.requires.headed; room = c.requires.room }) in
     let added = added_word c.self.inside.dict c.add.new.self c.args.word.now c.in-Ok.number c.in-Ok.ensures none in
-    (learns_new c.args.self.now v c.self.inside.taxonomy c.link_head.new.taxonomy c.args.word.now c.in-Ok.number c.add.new.self c.mark_property.new.marks
+    let both = learns_new c.args.self.now v c.self.inside.taxonomy c.link_head.new.taxonomy c.args.word.now c.in-Ok.number c.add.new.self c.mark_property.new.marks
     c.self.view_is c.self.invariant (pre.form none) (pre.headed none) none (pre.room none) added.0 added.1 added.2
-    (c.link_head.ensures ∙ ap (with_edge_to c.self.inside.taxonomy c.in-Ok.number) c.head_number-head.ensures) c.mark_property.ensures).1
+    (c.link_head.ensures ∙ ap (with_edge_to c.self.inside.taxonomy c.in-Ok.number) c.head_number-head.ensures) c.mark_property.ensures in
+    record { learns = both.1; sound = both.0.sound }

@@ -55,7 +55,8 @@ returns c =
     let may = subst (MayLink c.args.left c.args.right) (sym c.self.view_is) c.requires in
     let place = ap (position is_free) (sym c.as_slice.ensures.value) ∙ (sym c.free_slot.ensures ∙ c.in-Some.is) in
     let below : c.in-Some.slot < v.limits.props = omega (arith, first_no_later is_free v.axioms may.slot c.in-Some.slot FreeAxiom may.free refl place, may.below) in
-    (links c.args.self.now v c.self.inside.taxonomy c.add.new.self c.args.left c.args.right c.in-Some.slot (set v.axioms c.in-Some.slot (Pair c.from-left.result c.from-right.result)) c.mark_axiom.new.marks
+    let both = links c.args.self.now v c.self.inside.taxonomy c.add.new.self c.args.left c.args.right c.in-Some.slot (set v.axioms c.in-Some.slot (Pair c.from-left.result c.from-right.result)) c.mark_axiom.new.marks
     c.self.view_is c.self.invariant may below (free_place v.axioms c.in-Some.slot place)
     (ap₂ (λ (x y : ℕ). set v.axioms c.in-Some.slot (Pair x y)) c.from-left.ensures c.from-right.ensures)
-    (c.in-Ok.ensures.ok ∙ ap₂ (λ (x y : ℕ). with_edge c.self.inside.taxonomy x y) c.from-left.ensures c.from-right.ensures) c.mark_axiom.ensures).1
+    (c.in-Ok.ensures.ok ∙ ap₂ (λ (x y : ℕ). with_edge c.self.inside.taxonomy x y) c.from-left.ensures c.from-right.ensures) c.mark_axiom.ensures in
+    record { links = both.1; sound = both.0.sound }

@@ -7,3 +7,7 @@ use Rattle.lis_kept.proofs.parts.Parts.settle.Goals as goal
 pub invariant_of-self : goal.invariant_of-self
 invariant_of-self c =
     held_marks (the_view c.self.inside) c.self.inside.taxonomy c.fill.new.self c.self.invariant (ap length c.fill.ensures ∙ length-replicate (length c.self.inside.marks) false)
+
+pub returns-clause-sound : goal.returns-clause-sound
+returns-clause-sound c =
+    (held_marks (the_view c.self.inside) c.self.inside.taxonomy c.fill.new.self c.self.invariant (ap length c.fill.ensures ∙ length-replicate (length c.self.inside.marks) false)).sound

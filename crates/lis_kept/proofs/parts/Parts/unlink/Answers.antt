@@ -52,6 +52,7 @@ returns c =
     let v = the_view c.self.inside in
     let may = subst (MayUnlink c.args.left c.args.right) (sym c.self.view_is) c.requires in
     let at = pair_placed v.axioms _ c.args.left c.args.right c.from-left.result c.from-right.result c.in-Some.slot c.as_slice.ensures.value c.from-left.ensures c.from-right.ensures (sym c.slot_of_pair.ensures ∙ c.in-Some.is) in
-    (unlinks c.args.self.now v c.self.inside.taxonomy c.remove.new.self c.args.left c.args.right c.in-Some.slot (set v.axioms c.in-Some.slot FreeAxiom) c.mark_axiom.new.marks
+    let both = unlinks c.args.self.now v c.self.inside.taxonomy c.remove.new.self c.args.left c.args.right c.in-Some.slot (set v.axioms c.in-Some.slot FreeAxiom) c.mark_axiom.new.marks
     c.self.view_is c.self.invariant may at refl
-    (c.in-Ok.ensures.ok ∙ ap₂ (λ (x y : ℕ). without_edge c.self.inside.taxonomy x y) c.from-left.ensures c.from-right.ensures) c.mark_axiom.ensures).1
+    (c.in-Ok.ensures.ok ∙ ap₂ (λ (x y : ℕ). without_edge c.self.inside.taxonomy x y) c.from-left.ensures c.from-right.ensures) c.mark_axiom.ensures in
+    record { unlinks = both.1; sound = both.0.sound }

@@ -5,7 +5,7 @@ use Rattle.lis_fields.specs.declared.slots.AxiomSlot.{AxiomSlot}
 use Rattle.lis_kept.specs.Kept.{Kept, axiom_at}
 use Rattle.lis_kept.specs.Inside.{IsBlock}
 use Rattle.lis_kept.specs.contracts.parts.Parts.{the_view}
-use Rattle.lis_kept.proofs.Formed.{axioms_formed, records_formed, none_past}
+use Rattle.lis_kept.proofs.Formed.{axioms_formed, records_formed}
 use Rattle.lis_kept.proofs.Spelled.{properties_block, axioms_block, files_block, rows_block}
 use Rattle.lis_kept.proofs.parts.Parts.write_block.Goals as goal
 
@@ -36,10 +36,6 @@ returns-then-n-rows c =
     subst P c.self.view_is
     (files_block (the_view c.self.inside) c.self.invariant.sound.range c.args.n c.write_files.new.block _ c.files_start-files.ensures
     (omega (arith, c.if-n-files.false, c.files_start-files.ensures)) (omega (arith, c.if-n-rows.true, c.rows_start-rows.ensures)) c.write_files.ensures)
-
-pub write_rows-requires-clause-past : goal.write_rows-requires-clause-past
-write_rows-requires-clause-past c = λ n slot past.
-    none_past c.self.inside.ext c.rows-rows.ensures.in_range n slot (omega (arith, past, c.self.invariant.sound.rows))
 
 pub returns : goal.returns
 returns c =
