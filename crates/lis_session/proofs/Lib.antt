@@ -8,6 +8,7 @@ pub mod Pieces
 pub mod Blocks
 pub mod Tallying
 pub mod Going
+pub mod Served
 pub mod Whole
 pub mod InTurn
 pub mod Described

@@ -1,6 +1,8 @@
 pub mod Session
+pub mod Codes
 pub mod Item
 pub mod Runs
+pub mod Served
 pub mod Parts
 pub mod Described
 pub mod Counting

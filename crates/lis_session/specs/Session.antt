@@ -1,25 +1,24 @@
 -- What a stop may leave of a session over an image.
-use Rattle.std.specs.Prelude.{◌≡◌, ◌⊎◌, ℕ, ◌+◌, ◌-◌, ◌≤◌, ◌<◌, List, [], length, take, refl}
-use Rattle.std.specs.Coded.{Coded, code_by, coded×, coded_list}
+use Rattle.std.specs.Prelude.{◌≡◌, ◌⊎◌, ℕ, ◌+◌, ◌-◌, ◌≤◌, ◌<◌, List, [], length, take}
 use Rattle.lis_ports.specs.Meaning.{Meaning, Now}
 use Rattle.lis_ports.specs.Since.{Begins, Since}
 use Rattle.lis_grammar.specs.Formula.{Formula}
-use Rattle.lis_grammar.specs.Codes.{formula_code}
-use Rattle.lis_model.specs.declared.limits.Limits.{Limits}
-use Rattle.lis_model.specs.Codes.{limits_code}
 use Rattle.lis_model.specs.State.{State}
 use Rattle.lis_model.specs.Step.{Situation, Item, replies, situation_after}
+use Rattle.lis_eval.specs.declared.scratch.Scratch.{Scratch}
+use Rattle.lis_eval.specs.Room.{HasRoom}
 use Rattle.lis_store.specs.Stands.{Stands}
+use Rattle.lis_store.specs.Stored.{Stored, IsSound}
 
--- a session: the place at which its commands are said, and the limits for which it has room to work
+-- a session: the store that it carries out commands on, and the place at which they are said
 pub record Situated : Type 0 where
+  pub store : Stored
   pub place : List Formula
-  pub limits : Limits
 
-abbrev pub situated_code : Coded Situated
-situated_code =
-    code_by (List Formula × Limits) (coded× (coded_list formula_code) limits_code) (λ s. (s.place, s.limits)) (λ p. record { place = p.0; limits = p.1 })
-    (λ _. refl)
+-- the store is sound, and the memory to work in is enough for its limits
+pub record CanWork (store : Stored) (scratch : Scratch) : Type 0 where
+  pub sound : IsSound store
+  pub room : HasRoom scratch store.parts.limits
 
 -- a state, with the root as the place
 abbrev pub root_of : State → Situation

@@ -1,9 +1,10 @@
 //! Commands that change the store.
 
-ghost use Rattle.std.specs.Prelude.{◌≡◌, ◌*◌, ◌≤◌, false};
+ghost use Rattle.std.specs.Prelude.{◌≡◌, ◌*◌, ◌≤◌, List, false};
 ghost use Rattle.lis_eval.specs.Room.{HasRoom};
+ghost use Rattle.lis_grammar.specs.Formula.{Formula};
 ghost use Rattle.lis_model.specs.Step.{mkdir, rmdir, add_axiom, unaxiom, create, add, write, mv, rename, rm};
-ghost use Rattle.lis_store.specs.Stored.{StoreFits};
+ghost use Rattle.lis_store.specs.Stored.{IsSound, StoreFits};
 ghost use Rattle.lis_session.specs.Item.{StoreLeft};
 ghost use Rattle.lis_session.specs.Parts.{Does, Ends};
 
@@ -31,36 +32,30 @@ pub fn mkdir<T: Station>(
         (T.meaning station.old) (T.meaning station.new) result (StoreFits store.new (T.meaning station.new)) place.now }
     ensures ends { Ends (T.meaning station.old) (T.meaning station.new) result }
     ensures left { StoreLeft store.old store.new result }
+    ensures sound { IsSound store.new }
 {
     let changed = store.declare(station, place, word);
-    conclude(store, station, changed)
+    conclude(station, changed)
 }
 
-/// Takes the declaration of the word back.
-pub fn rmdir<T: Station>(
-    store: &mut Store,
-    place: &Place,
-    word: &Word,
-    station: &mut T,
-) -> Result<(), End>
+/// Takes the declaration of the word back, whatever the place.
+pub fn rmdir<T: Station>(store: &mut Store, word: &Word, station: &mut T) -> Result<(), End>
     requires unbroken { store.old.is_broken ≡ false }
     requires long { 4096 * store.old.journal.blocks ≤ (T.meaning station.old).len }
-    ensures carries { Does (λ now. rmdir now word.now) (StoreFits store.old (T.meaning station.old)) place.now
-        (T.meaning station.old) (T.meaning station.new) result (StoreFits store.new (T.meaning station.new)) place.now }
+    ensures carries { (place : List Formula) → Does (λ now. rmdir now word.now) (StoreFits store.old (T.meaning station.old)) place
+        (T.meaning station.old) (T.meaning station.new) result (StoreFits store.new (T.meaning station.new)) place }
     ensures ends { Ends (T.meaning station.old) (T.meaning station.new) result }
     ensures left { StoreLeft store.old store.new result }
+    ensures sound { IsSound store.new }
 {
-    // The place tells where the command was said.
-    let _place = place;
     let changed = store.undeclare(station, word);
-    conclude(store, station, changed)
+    conclude(station, changed)
 }
 
-/// Adds the axiom that leads from the left word to the right one.
+/// Adds the axiom that leads from the left word to the right one, whatever the place.
 pub fn axiom<T: Station>(
     store: &mut Store,
     scratch: &mut Scratch,
-    place: &Place,
     left: &Word,
     right: &Word,
     station: &mut T,
@@ -69,22 +64,20 @@ pub fn axiom<T: Station>(
     requires unbroken { store.old.is_broken ≡ false }
     requires long { 4096 * store.old.journal.blocks ≤ (T.meaning station.old).len }
     ensures scratch { HasRoom scratch.new store.old.parts.limits }
-    ensures carries { Does (λ now. add_axiom now (left.now, right.now)) (StoreFits store.old (T.meaning station.old)) place.now
-        (T.meaning station.old) (T.meaning station.new) result (StoreFits store.new (T.meaning station.new)) place.now }
+    ensures carries { (place : List Formula) → Does (λ now. add_axiom now (left.now, right.now)) (StoreFits store.old (T.meaning station.old)) place
+        (T.meaning station.old) (T.meaning station.new) result (StoreFits store.new (T.meaning station.new)) place }
     ensures ends { Ends (T.meaning station.old) (T.meaning station.new) result }
     ensures left { StoreLeft store.old store.new result }
+    ensures sound { IsSound store.new }
 {
-    // The place tells where the command was said.
-    let _place = place;
     let changed = store.axiom(station, scratch, left, right);
-    conclude(store, station, changed)
+    conclude(station, changed)
 }
 
-/// Takes this axiom back.
+/// Takes this axiom back, whatever the place.
 pub fn unaxiom<T: Station>(
     store: &mut Store,
     scratch: &mut Scratch,
-    place: &Place,
     left: &Word,
     right: &Word,
     station: &mut T,
@@ -93,15 +86,14 @@ pub fn unaxiom<T: Station>(
     requires unbroken { store.old.is_broken ≡ false }
     requires long { 4096 * store.old.journal.blocks ≤ (T.meaning station.old).len }
     ensures scratch { HasRoom scratch.new store.old.parts.limits }
-    ensures carries { Does (λ now. unaxiom now (left.now, right.now)) (StoreFits store.old (T.meaning station.old)) place.now
-        (T.meaning station.old) (T.meaning station.new) result (StoreFits store.new (T.meaning station.new)) place.now }
+    ensures carries { (place : List Formula) → Does (λ now. unaxiom now (left.now, right.now)) (StoreFits store.old (T.meaning station.old)) place
+        (T.meaning station.old) (T.meaning station.new) result (StoreFits store.new (T.meaning station.new)) place }
     ensures ends { Ends (T.meaning station.old) (T.meaning station.new) result }
     ensures left { StoreLeft store.old store.new result }
+    ensures sound { IsSound store.new }
 {
-    // The place tells where the command was said.
-    let _place = place;
     let changed = store.unaxiom(station, scratch, left, right);
-    conclude(store, station, changed)
+    conclude(station, changed)
 }
 
 /// Makes an empty file.
@@ -121,11 +113,12 @@ pub fn create<T: Station>(
         (T.meaning station.old) (T.meaning station.new) result (StoreFits store.new (T.meaning station.new)) place.now }
     ensures ends { Ends (T.meaning station.old) (T.meaning station.new) result }
     ensures left { StoreLeft store.old store.new result }
+    ensures sound { IsSound store.new }
 {
     // To create a file is to add one without bytes.
     create_is_add();
     let changed = store.add_file(station, scratch, place, name, tags, &[], 0);
-    conclude(store, station, changed)
+    conclude(station, changed)
 }
 
 /// Makes a file of the payload's bytes.
@@ -146,11 +139,12 @@ pub fn add<T: Station>(
         (T.meaning station.old) (T.meaning station.new) result (StoreFits store.new (T.meaning station.new)) place.now }
     ensures ends { Ends (T.meaning station.old) (T.meaning station.new) result }
     ensures left { StoreLeft store.old store.new result }
+    ensures sound { IsSound store.new }
 {
     let bytes = payload.bytes();
     let size = payload.size();
     let changed = store.add_file(station, scratch, place, name, tags, bytes, size);
-    conclude(store, station, changed)
+    conclude(station, changed)
 }
 
 /// Gives the file of that name the payload's bytes.
@@ -170,11 +164,12 @@ pub fn write<T: Station>(
         (T.meaning station.old) (T.meaning station.new) result (StoreFits store.new (T.meaning station.new)) place.now }
     ensures ends { Ends (T.meaning station.old) (T.meaning station.new) result }
     ensures left { StoreLeft store.old store.new result }
+    ensures sound { IsSound store.new }
 {
     let bytes = payload.bytes();
     let size = payload.size();
     let changed = store.write(station, scratch, place, name, bytes, size);
-    conclude(store, station, changed)
+    conclude(station, changed)
 }
 
 /// Takes the file to the place to which the text leads.
@@ -194,9 +189,10 @@ pub fn mv<T: Station>(
         (T.meaning station.old) (T.meaning station.new) result (StoreFits store.new (T.meaning station.new)) place.now }
     ensures ends { Ends (T.meaning station.old) (T.meaning station.new) result }
     ensures left { StoreLeft store.old store.new result }
+    ensures sound { IsSound store.new }
 {
     let changed = store.retag(station, scratch, place, name, text);
-    conclude(store, station, changed)
+    conclude(station, changed)
 }
 
 /// Gives the file of that name another name.
@@ -216,9 +212,10 @@ pub fn rename<T: Station>(
         (T.meaning station.old) (T.meaning station.new) result (StoreFits store.new (T.meaning station.new)) place.now }
     ensures ends { Ends (T.meaning station.old) (T.meaning station.new) result }
     ensures left { StoreLeft store.old store.new result }
+    ensures sound { IsSound store.new }
 {
     let changed = store.rename(station, scratch, place, name, other);
-    conclude(store, station, changed)
+    conclude(station, changed)
 }
 
 /// Removes the file of that name.
@@ -237,7 +234,8 @@ pub fn rm<T: Station>(
         (T.meaning station.old) (T.meaning station.new) result (StoreFits store.new (T.meaning station.new)) place.now }
     ensures ends { Ends (T.meaning station.old) (T.meaning station.new) result }
     ensures left { StoreLeft store.old store.new result }
+    ensures sound { IsSound store.new }
 {
     let changed = store.remove(station, scratch, place, name);
-    conclude(store, station, changed)
+    conclude(station, changed)
 }

@@ -76,6 +76,7 @@ pub fn cat<T: Station>(
     name: &Name,
     station: &mut T,
 ) -> Result<(), End>
+    requires sound { IsSound store.now }
     requires scratch { HasRoom scratch.old store.now.parts.limits }
     requires unbroken { store.now.is_broken ≡ false }
     requires long { 4096 * store.now.journal.blocks ≤ (T.meaning station.old).len }
@@ -84,8 +85,6 @@ pub fn cat<T: Station>(
         (T.meaning station.old) (T.meaning station.new) result (StoreFits store.now (T.meaning station.new)) place.now }
     ensures ends { Ends (T.meaning station.old) (T.meaning station.new) result }
 {
-    // The limits tell that the store is sound, so that it shows the state's table.
-    let _limits = store.limits();
     let Some(slot) = store.slot_here(scratch, place, name) else {
         return answer_refusal(station, &Refusal::NoFileHere);
     };

@@ -1,15 +1,15 @@
 //! Showing how much there is.
 
-ghost use Rattle.std.specs.Prelude.{◌≡◌, ◌++◌};
+ghost use Rattle.std.specs.Prelude.{◌≡◌, ◌++◌, List};
+ghost use Rattle.lis_grammar.specs.Formula.{Formula};
 ghost use Rattle.lis_model.specs.Replies.{ok_line};
 ghost use Rattle.lis_model.specs.Step.{stat};
-ghost use Rattle.lis_store.specs.Stored.{StoreFits};
+ghost use Rattle.lis_store.specs.Stored.{IsSound, StoreFits};
 ghost use Rattle.lis_session.specs.Parts.{Answers, Does, Ends};
 ghost use Rattle.lis_session.specs.Counting.{counts_text};
 
 use crate::end::End;
 use crate::replies::{answer_count, answer_ok};
-use lis_place::Place;
 use lis_ports::Station;
 use lis_store::{Counts, Store};
 
@@ -24,14 +24,12 @@ fn answer_counts<T: Station>(station: &mut T, counts: &Counts) -> Result<(), End
     answer_ok(station)
 }
 
-/// Shows how many files, known words, axioms and free blocks there are.
-pub fn stat<T: Station>(store: &Store, place: &Place, station: &mut T) -> Result<(), End>
-    ensures carries { Does stat (StoreFits store.now (T.meaning station.old)) place.now
-        (T.meaning station.old) (T.meaning station.new) result (StoreFits store.now (T.meaning station.new)) place.now }
+/// Shows how many files, known words, axioms and free blocks there are, whatever the place.
+pub fn stat<T: Station>(store: &Store, station: &mut T) -> Result<(), End>
+    requires { IsSound store.now }
+    ensures carries { (place : List Formula) → Does stat (StoreFits store.now (T.meaning station.old)) place
+        (T.meaning station.old) (T.meaning station.new) result (StoreFits store.now (T.meaning station.new)) place }
     ensures ends { Ends (T.meaning station.old) (T.meaning station.new) result }
 {
-    // The limits tell that the store is sound, so that it counts what the state has. The place tells where the command was said.
-    let _limits = store.limits();
-    let _place = place;
     answer_counts(station, &store.counts())
 }

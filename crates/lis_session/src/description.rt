@@ -66,14 +66,13 @@ pub fn props<T: Station>(
     name: &Name,
     station: &mut T,
 ) -> Result<(), End>
+    requires sound { IsSound store.now }
     requires scratch { HasRoom scratch.old store.now.parts.limits }
     ensures scratch { HasRoom scratch.new store.now.parts.limits }
     ensures carries { Does (λ now. props now name.now) (StoreFits store.now (T.meaning station.old)) place.now
         (T.meaning station.old) (T.meaning station.new) result (StoreFits store.now (T.meaning station.new)) place.now }
     ensures ends { Ends (T.meaning station.old) (T.meaning station.new) result }
 {
-    // The limits tell that the store is sound, so that it shows the state's table.
-    let _limits = store.limits();
     let Some(slot) = store.slot_here(scratch, place, name) else {
         return answer_refusal(station, &Refusal::NoFileHere);
     };

@@ -3,6 +3,7 @@
 
 ghost use Rattle.lis_session.specs.Session.{OneForm};
 
+mod carrying;
 mod changes;
 mod content;
 mod counting;

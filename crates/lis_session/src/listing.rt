@@ -7,7 +7,7 @@ ghost use Rattle.lis_model.specs.Listing.{increments, locals};
 ghost use Rattle.lis_model.specs.Replies.{listing_lines, ok_line};
 ghost use Rattle.lis_model.specs.Step.{ls};
 ghost use Rattle.lis_store.specs.Seen.{table_of};
-ghost use Rattle.lis_store.specs.Stored.{StoreFits};
+ghost use Rattle.lis_store.specs.Stored.{IsSound, StoreFits};
 ghost use Rattle.lis_session.specs.Parts.{shown_line, Answers, Does, Ends};
 
 use crate::end::End;
@@ -62,13 +62,12 @@ pub fn ls<T: Station>(
     place: &Place,
     station: &mut T,
 ) -> Result<(), End>
-    requires { HasRoom scratch.old store.now.parts.limits }
+    requires sound { IsSound store.now }
+    requires scratch { HasRoom scratch.old store.now.parts.limits }
     ensures room { HasRoom scratch.new store.now.parts.limits }
     ensures carries { Does ls (StoreFits store.now (T.meaning station.old)) place.now
         (T.meaning station.old) (T.meaning station.new) result (StoreFits store.now (T.meaning station.new)) place.now }
     ensures ends { Ends (T.meaning station.old) (T.meaning station.new) result }
 {
-    // The limits tell that the store is sound, so that it shows the state's table.
-    let _limits = store.limits();
     answer_listing(store, scratch, place, station)
 }

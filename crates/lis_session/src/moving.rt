@@ -8,7 +8,6 @@ ghost use Rattle.lis_grammar.specs.Formula.{Formula};
 ghost use Rattle.lis_grammar.specs.Places.{resolved, text_words};
 ghost use Rattle.lis_grammar.specs.Places.Resolution.{NewPlace};
 ghost use Rattle.lis_place.specs.Nodes.{node_words};
-ghost use Rattle.lis_store.specs.Stored.{IsSound};
 ghost use Rattle.lis_session.specs.Parts.{led_to};
 
 use lis_eval::View;
@@ -47,11 +46,8 @@ fn knows_text(store: &Store, text: &[u8]) -> bool
 
 /// The place to which a text leads, or why it is refused.
 pub fn led_to(store: &Store, place: &Place, text: &Text) -> Result<Place, Refusal>
-    ensures led { result ≡ led_to (words store.now.parts.dict) text.now (resolved place.now text.now) }
-    ensures sound { IsSound store.now }
+    ensures { result ≡ led_to (words store.now.parts.dict) text.now (resolved place.now text.now) }
 {
-    // The limits tell that the store is sound.
-    let _limits = store.limits();
     let next = match resolve(place, text.bytes()) {
         Ok(next) => next,
         Err(FormulaFault::Syntax(_)) => return Err(Refusal::BadFormula),

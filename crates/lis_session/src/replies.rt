@@ -3,7 +3,6 @@
 ghost use Rattle.std.specs.Prelude.{◌≡◌, ◌++◌, codes};
 ghost use Rattle.lis_grammar.specs.Printing.{printed};
 ghost use Rattle.lis_model.specs.Replies.{body_line, number_line, ok_line, refusal_line};
-ghost use Rattle.lis_store.specs.Stored.{IsSound};
 ghost use Rattle.lis_session.specs.Parts.{Answers, Concludes};
 
 use crate::end::End;
@@ -12,7 +11,7 @@ use lis_model::refusal::Refusal;
 use lis_place::Place;
 use lis_ports::Station;
 use lis_reply::{show_all, show_line, show_number, show_ok, show_refusal};
-use lis_store::{Change, Store};
+use lis_store::Change;
 
 /// Shows bytes of a reply.
 pub fn answer_bytes<T: Station>(station: &mut T, bytes: &[u8]) -> Result<(), End>
@@ -71,16 +70,9 @@ pub fn answer_place<T: Station>(station: &mut T, place: &Place) -> Result<(), En
 }
 
 /// Shows what a change of the store comes to.
-pub fn conclude<T: Station>(
-    store: &Store,
-    station: &mut T,
-    changed: Result<(), Change>,
-) -> Result<(), End>
-    ensures concludes { Concludes T.meaning station.old station.new changed result }
-    ensures sound { IsSound store.now }
+pub fn conclude<T: Station>(station: &mut T, changed: Result<(), Change>) -> Result<(), End>
+    ensures { Concludes T.meaning station.old station.new changed result }
 {
-    // The limits tell that the store is sound.
-    let _limits = store.limits();
     match changed {
         Ok(()) => answer_ok(station),
         Err(Change::Refused(refusal)) => answer_refusal(station, &refusal),

@@ -7,7 +7,7 @@ ghost use Rattle.lis_incr.specs.Left.{words_left, HasRoute};
 ghost use Rattle.lis_model.specs.Replies.{body_line, ok_line};
 ghost use Rattle.lis_model.specs.Step.{way};
 ghost use Rattle.lis_store.specs.Seen.{seen_of};
-ghost use Rattle.lis_store.specs.Stored.{StoreFits};
+ghost use Rattle.lis_store.specs.Stored.{IsSound, StoreFits};
 ghost use Rattle.lis_session.specs.Parts.{Answers, Does, Ends};
 
 use crate::end::End;
@@ -48,14 +48,13 @@ pub fn way<T: Station>(
     name: &Name,
     station: &mut T,
 ) -> Result<(), End>
+    requires sound { IsSound store.now }
     requires scratch { HasRoom scratch.old store.now.parts.limits }
     ensures scratch { HasRoom scratch.new store.now.parts.limits }
     ensures carries { Does (λ now. way now name.now) (StoreFits store.now (T.meaning station.old)) place.now
         (T.meaning station.old) (T.meaning station.new) result (StoreFits store.now (T.meaning station.new)) place.now }
     ensures ends { Ends (T.meaning station.old) (T.meaning station.new) result }
 {
-    // The limits tell that the store is sound, so that it shows the state's table.
-    let _limits = store.limits();
     if !make_route(store, scratch, place, name) {
         return answer_refusal(station, &Refusal::NoFileHere);
     }

@@ -1,13 +1,12 @@
-//! A session over an image: a place, and one item after another.
+//! A session over an image: its store, a place, and one item after another.
 
-ghost use Rattle.std.specs.Prelude.{◌≡◌, ◌+◌, ◌*◌, ◌≤◌, [], false, IsTrue, IfOk, IfSome, IsSome};
+ghost use Rattle.std.specs.Prelude.{◌≡◌, ◌+◌, ◌*◌, ◌≤◌, [], false, IfOk, IfSome, IsSome};
 ghost use Rattle.lis_ports.specs.Runs.{IsDiskRun};
 ghost use Rattle.lis_ports.specs.Calls.{HasCause};
 ghost use Rattle.lis_eval.specs.Room.{HasRoom};
 ghost use Rattle.lis_line.specs.Reading.{asked_by};
-ghost use Rattle.lis_model.specs.Ranges.{are_in_range};
-ghost use Rattle.lis_model.specs.Step.{refused, cd, pwd, done};
-ghost use Rattle.lis_store.specs.Stored.{Stored, StoreFits};
+ghost use Rattle.lis_model.specs.Step.{cd, pwd, done};
+ghost use Rattle.lis_store.specs.Stored.{Stored, IsSound, StoreFits};
 ghost use Rattle.lis_session.specs.Item.{CarriesOut, HasEndCause, IsSameStation, StoreLeft};
 ghost use Rattle.lis_session.specs.Parts.{Does, Ends};
 ghost use Rattle.lis_session.specs.Tally.{TalliesItem};
@@ -25,43 +24,44 @@ use crate::tally::{Tally, no_listing, tally_command};
 use lis_eval::Scratch;
 use lis_line::reader::{Item, Payload};
 use lis_model::command::Command;
-use lis_model::limits::Limits;
-use lis_model::refusal::Refusal;
 use lis_place::{Place, Text};
 use lis_ports::{Disk, Failed, Station};
 use lis_store::Store;
 use std::alloc::{AllocError, Global};
 use std::marker::Model;
 
-/// A session: the place at which its commands are said, and the memory in which they work.
+/// A session: the store that it carries out commands on, the place at which they are said, and the memory in which they work.
 #[derive(Drop)]
 pub struct Session {
+    store: Store,
     place: Place,
     scratch: Scratch,
 }
 
 impl Model for Session {
-    ghost use Rattle.lis_eval.specs.Room.{HasRoom};
-    ghost use Rattle.lis_session.specs.Session.{Situated, situated_code};
+    ghost use Rattle.lis_session.specs.Session.{Situated, CanWork};
+    ghost use Rattle.lis_session.specs.Codes.{situated_code};
 
     ghost Value = { Situated };
 
     ghost coded = { situated_code };
 
-    ghost view = { λ s. record { place = s.place; limits = s.scratch.limits } };
+    ghost view = { λ s. record { store = s.store; place = s.place } };
 
-    ghost invariant = { λ s. HasRoom s.scratch s.scratch.limits };
+    ghost invariant = { λ s. CanWork s.store s.scratch };
 }
 
 impl Session {
-    /// A session at the root, over stores of these limits. No other call of it takes memory.
-    pub fn new(alloc: Global, limits: &Limits) -> Result<Session, AllocError>
-        requires { IsTrue (are_in_range limits.now) }
-        ensures { IfOk result (λ session. session ≡ record { place = []; limits = limits.now }) }
+    /// A session at the root, over the store. No other call of it takes memory.
+    pub fn new(alloc: Global, store: Store) -> Result<Session, AllocError>
+        ensures made { IfOk result (λ session. session ≡ record { store = store; place = [] }) }
+        ensures sound { IsSound store }
     {
+        let scratch = Scratch::new(alloc, &store.limits())?;
         Ok(Session {
+            store,
             place: Place::root(),
-            scratch: Scratch::new(alloc, limits)?,
+            scratch,
         })
     }
 
@@ -71,17 +71,14 @@ impl Session {
     {
         &self.place
     }
-}
 
-// Refuses a command. No store is looked at, so any one fits as before.
-fn refuse<T: Station>(place: &Place, refusal: &Refusal, station: &mut T) -> Result<(), End>
-    ensures carries { (k : Stored) → Does (λ now. refused now refusal.now) (StoreFits k (T.meaning station.old)) place.now
-        (T.meaning station.old) (T.meaning station.new) result (StoreFits k (T.meaning station.new)) place.now }
-    ensures ends { Ends (T.meaning station.old) (T.meaning station.new) result }
-{
-    // The place tells where the command was said.
-    let _place = place;
-    answer_refusal(station, refusal)
+    /// The store, as the commands so far have left it.
+    pub fn store(&self) -> &Store
+        ensures value { result.now ≡ self.now.store }
+        ensures sound { IsSound self.now.store }
+    {
+        &self.store
+    }
 }
 
 // Shows the place. No store is looked at, so any one fits as before.
@@ -95,6 +92,7 @@ fn pwd<T: Station>(place: &Place, station: &mut T) -> Result<(), End>
 
 // Goes to the place to which the text leads.
 fn cd<T: Station>(store: &Store, place: &mut Place, text: &Text, station: &mut T) -> Result<(), End>
+    requires { IsSound store.now }
     ensures carries { Does (λ now. cd now text.now) (StoreFits store.now (T.meaning station.old)) place.old
         (T.meaning station.old) (T.meaning station.new) result (StoreFits store.now (T.meaning station.new)) place.new }
     ensures ends { Ends (T.meaning station.old) (T.meaning station.new) result }
@@ -117,9 +115,11 @@ fn carry_out<T: Station>(
     payload: &Payload,
     station: &mut T,
 ) -> Result<(), End>
+    requires sound { IsSound store.old }
     requires scratch { HasRoom scratch.old store.old.parts.limits }
     requires unbroken { store.old.is_broken ≡ false }
     requires long { 4096 * store.old.journal.blocks ≤ (T.meaning station.old).len }
+    ensures sound { IsSound store.new }
     ensures scratch { HasRoom scratch.new store.old.parts.limits }
     ensures carries { Does (λ now. done now command.now payload.now) (StoreFits store.old (T.meaning station.old)) place.old
         (T.meaning station.old) (T.meaning station.new) result (StoreFits store.new (T.meaning station.new)) place.new }
@@ -128,9 +128,9 @@ fn carry_out<T: Station>(
 {
     match command {
         Command::Mkdir(word) => mkdir(store, place, word, station),
-        Command::Rmdir(word) => rmdir(store, place, word, station),
-        Command::Axiom(left, right) => axiom(store, scratch, place, left, right, station),
-        Command::Unaxiom(left, right) => unaxiom(store, scratch, place, left, right, station),
+        Command::Rmdir(word) => rmdir(store, word, station),
+        Command::Axiom(left, right) => axiom(store, scratch, left, right, station),
+        Command::Unaxiom(left, right) => unaxiom(store, scratch, left, right, station),
         Command::Create(name, tags) => create(store, scratch, place, name, tags, station),
         Command::Add(name, tags) => add(store, scratch, place, name, tags, payload, station),
         Command::Write(name) => write(store, scratch, place, name, payload, station),
@@ -143,31 +143,30 @@ fn carry_out<T: Station>(
         Command::Ls => ls(store, scratch, place, station),
         Command::Props(name) => props(store, scratch, place, name, station),
         Command::Way(name) => way(store, scratch, place, name, station),
-        Command::Stat => stat(store, place, station),
+        Command::Stat => stat(store, station),
     }
 }
 
 impl Session {
-    /// Carries out one item over the store, and shows its reply.
+    /// Carries out one item, and shows its reply.
     pub fn step<T: Station>(
         &mut self,
-        store: &mut Store,
         item: &Item,
         payload: &Payload,
         station: &mut T,
     ) -> Result<(), End>
         requires asked { IsSome (asked_by item.now payload.now) }
-        requires limits { self.old.limits ≡ store.old.parts.limits }
-        requires unbroken { store.old.is_broken ≡ false }
-        requires long { 4096 * store.old.journal.blocks ≤ (T.meaning station.old).len }
+        requires unbroken { self.old.store.is_broken ≡ false }
+        requires long { 4096 * self.old.store.journal.blocks ≤ (T.meaning station.old).len }
         ensures carries { IfSome (asked_by item.now payload.now)
-            (CarriesOut (StoreFits store.old (T.meaning station.old)) self.old.place (T.meaning station.old) (T.meaning station.new) result
-            (StoreFits store.new (T.meaning station.new)) self.new.place) }
+            (CarriesOut (StoreFits self.old.store (T.meaning station.old)) self.old.place (T.meaning station.old) (T.meaning station.new) result
+            (StoreFits self.new.store (T.meaning station.new)) self.new.place) }
         ensures cause { HasEndCause (T.meaning station.old) (T.meaning station.new) result }
-        ensures left { StoreLeft store.old store.new result }
+        ensures left { StoreLeft self.old.store self.new.store result }
         ensures same { IsSameStation (T.meaning station.old) (T.meaning station.new) }
-        ensures limits { self.new.limits ≡ self.old.limits }
+        ensures sound { IsSound self.new.store }
     {
+        let store = &mut self.store;
         match item {
             Item::Command(command) => carry_out(
                 store,
@@ -181,29 +180,29 @@ impl Session {
             Item::End | Item::Limit => unreachable!(),
         }
     }
-    /// Carries out one item over the store. Its reply is tallied, and not shown.
+
+    /// Carries out one item. Its reply is tallied, and not shown.
     pub fn tally<D: Disk>(
         &mut self,
-        store: &mut Store,
         item: &Item,
         payload: &Payload,
         disk: &mut D,
     ) -> Result<Tally, Failed>
         requires asked { IsSome (asked_by item.now payload.now) }
-        requires limits { self.old.limits ≡ store.old.parts.limits }
-        requires unbroken { store.old.is_broken ≡ false }
-        requires long { 4096 * store.old.journal.blocks ≤ (D.meaning disk.old).len }
+        requires unbroken { self.old.store.is_broken ≡ false }
+        requires long { 4096 * self.old.store.journal.blocks ≤ (D.meaning disk.old).len }
         ensures tallies { IfSome (asked_by item.now payload.now)
-            (TalliesItem (StoreFits store.old (D.meaning disk.old)) self.old.place (D.meaning disk.old) (D.meaning disk.new) result
-            (StoreFits store.new (D.meaning disk.new)) self.new.place) }
+            (TalliesItem (StoreFits self.old.store (D.meaning disk.old)) self.old.place (D.meaning disk.old) (D.meaning disk.new) result
+            (StoreFits self.new.store (D.meaning disk.new)) self.new.place) }
         ensures run { IsDiskRun (D.meaning disk.old) (D.meaning disk.new) }
         ensures cause { HasCause (D.meaning disk.old).disk_faults (D.meaning disk.new).disk_faults result }
-        ensures limits { store.new.parts.limits ≡ store.old.parts.limits }
-        ensures image { store.new.journal.blocks ≡ store.old.journal.blocks }
-        ensures unbroken { IfOk result (λ _. store.new.is_broken ≡ false) }
-        ensures few { IfOk result (λ tally. tally.listed ≤ store.old.parts.limits.props + store.old.parts.limits.files) }
-        ensures room { self.new.limits ≡ self.old.limits }
+        ensures limits { self.new.store.parts.limits ≡ self.old.store.parts.limits }
+        ensures image { self.new.store.journal.blocks ≡ self.old.store.journal.blocks }
+        ensures unbroken { IfOk result (λ _. self.new.store.is_broken ≡ false) }
+        ensures few { IfOk result (λ tally. tally.listed ≤ self.old.store.parts.limits.props + self.old.store.parts.limits.files) }
+        ensures sound { IsSound self.new.store }
     {
+        let store = &mut self.store;
         match item {
             Item::Command(command) => tally_command(
                 store,

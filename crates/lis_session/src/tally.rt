@@ -42,12 +42,9 @@ pub(crate) fn no_listing(refused: bool) -> Tally
 }
 
 // What a change of the store comes to.
-fn concluded(changed: Result<(), Change>, store: &Store) -> Result<Tally, Failed>
-    ensures tally { Concluded changed result }
-    ensures sound { IsSound store.now }
+fn concluded(changed: Result<(), Change>) -> Result<Tally, Failed>
+    ensures { Concluded changed result }
 {
-    // The limits tell that the store is sound.
-    let _limits = store.limits();
     match changed {
         Ok(()) => Ok(no_listing(false)),
         Err(Change::Refused(_)) => Ok(no_listing(true)),
@@ -69,14 +66,12 @@ fn count_lines(mut listing: Listing<'_, Store>) -> u64
 
 // How many lines the listing of the place has.
 fn count_listing(store: &Store, scratch: &mut Scratch, place: &Place) -> u64
-    requires { HasRoom scratch.old store.now.parts.limits }
+    requires sound { IsSound store.now }
+    requires scratch { HasRoom scratch.old store.now.parts.limits }
     ensures room { HasRoom scratch.new store.now.parts.limits }
     ensures count { result ≡ length (increments (table_of store.now.parts) place.now) + length (locals (table_of store.now.parts) place.now) }
     ensures few { result ≤ store.now.parts.limits.props + store.now.parts.limits.files }
-    ensures sound { IsSound store.now }
 {
-    // The limits tell that the store is sound.
-    let _limits = store.limits();
     make_listing(store, scratch, place);
     count_lines(lines(store, scratch))
 }
@@ -85,7 +80,6 @@ fn count_listing(store: &Store, scratch: &mut Scratch, place: &Place) -> u64
 fn go(store: &Store, place: &mut Place, text: &Text) -> Tally
     ensures lists { result.listed ≡ 0 }
     ensures went { Went (led_to (words store.now.parts.dict) text.now (resolved place.old text.now)) place.old place.new result }
-    ensures sound { IsSound store.now }
 {
     match led_to(store, place, text) {
         Ok(next) => {
@@ -101,22 +95,19 @@ fn look(store: &Store, scratch: &mut Scratch, place: &Place, name: &Name) -> Tal
     requires { HasRoom scratch.old store.now.parts.limits }
     ensures room { HasRoom scratch.new store.now.parts.limits }
     ensures here { result ≡ record { refused = not (is_among store.now.parts place.now name.now); listed = 0 } }
-    ensures sound { IsSound store.now }
 {
-    // The limits tell that the store is sound, so that it shows the state's table.
-    let _limits = store.limits();
     no_listing(store.slot_here(scratch, place, name).is_none())
 }
 
 // Lists the place.
 fn list(store: &Store, scratch: &mut Scratch, place: &Place) -> Tally
-    requires { HasRoom scratch.old store.now.parts.limits }
+    requires sound { IsSound store.now }
+    requires scratch { HasRoom scratch.old store.now.parts.limits }
     ensures room { HasRoom scratch.new store.now.parts.limits }
     ensures listed { result ≡ record {
       refused = false;
       listed = length (increments (table_of store.now.parts) place.now) + length (locals (table_of store.now.parts) place.now);
     } }
-    ensures sound { IsSound store.now }
     ensures few { result.listed ≤ store.now.parts.limits.props + store.now.parts.limits.files }
 {
     Tally {
@@ -134,9 +125,11 @@ pub(crate) fn tally_command<D: Disk>(
     payload: &Payload,
     disk: &mut D,
 ) -> Result<Tally, Failed>
+    requires sound { IsSound store.old }
     requires scratch { HasRoom scratch.old store.old.parts.limits }
     requires unbroken { store.old.is_broken ≡ false }
     requires long { 4096 * store.old.journal.blocks ≤ (D.meaning disk.old).len }
+    ensures sound { IsSound store.new }
     ensures scratch { HasRoom scratch.new store.old.parts.limits }
     ensures tallies { Tallies (λ now. done now command.now payload.now) (λ now. lines_listed now command.now) (StoreFits store.old (D.meaning disk.old)) place.old
         (D.meaning disk.old) (D.meaning disk.new) result (StoreFits store.new (D.meaning disk.new)) place.new }
@@ -150,35 +143,24 @@ pub(crate) fn tally_command<D: Disk>(
     let bytes = payload.bytes();
     let size = payload.size();
     match command {
-        Command::Mkdir(word) => concluded(store.declare(disk, place, word), store),
-        Command::Rmdir(word) => concluded(store.undeclare(disk, word), store),
-        Command::Axiom(left, right) => concluded(store.axiom(disk, scratch, left, right), store),
-        Command::Unaxiom(left, right) => {
-            concluded(store.unaxiom(disk, scratch, left, right), store)
-        }
+        Command::Mkdir(word) => concluded(store.declare(disk, place, word)),
+        Command::Rmdir(word) => concluded(store.undeclare(disk, word)),
+        Command::Axiom(left, right) => concluded(store.axiom(disk, scratch, left, right)),
+        Command::Unaxiom(left, right) => { concluded(store.unaxiom(disk, scratch, left, right)) }
         Command::Create(name, tags) => {
             // To create a file is to add one without bytes.
             create_is_add();
-            concluded(
-                store.add_file(disk, scratch, place, name, tags, &[], 0),
-                store,
-            )
+            concluded(store.add_file(disk, scratch, place, name, tags, &[], 0))
         }
-        Command::Add(name, tags) => concluded(
-            store.add_file(disk, scratch, place, name, tags, bytes, size),
-            store,
-        ),
-        Command::Write(name) => concluded(
-            store.write(disk, scratch, place, name, bytes, size),
-            store,
-        ),
-        Command::Mv(name, text) => {
-            concluded(store.retag(disk, scratch, place, name, text), store)
-        }
+        Command::Add(name, tags) => concluded(store.add_file(
+            disk, scratch, place, name, tags, bytes, size,
+        )),
+        Command::Write(name) => concluded(store.write(disk, scratch, place, name, bytes, size)),
+        Command::Mv(name, text) => { concluded(store.retag(disk, scratch, place, name, text)) }
         Command::Rename(name, other) => {
-            concluded(store.rename(disk, scratch, place, name, other), store)
+            concluded(store.rename(disk, scratch, place, name, other))
         }
-        Command::Rm(name) => concluded(store.remove(disk, scratch, place, name), store),
+        Command::Rm(name) => concluded(store.remove(disk, scratch, place, name)),
         Command::Cat(name) => Ok(look(store, scratch, place, name)),
         Command::Props(name) => Ok(look(store, scratch, place, name)),
         Command::Way(name) => Ok(look(store, scratch, place, name)),

@@ -1,77 +1,102 @@
 -- How a session over an image ends, told by its status.
-use Rattle.std.proofs.Common.{◌≡◌, ℕ, List, Option, Some, Result, Ok, sym, subst}
+use Rattle.std.proofs.Common.{◌≡◌, ◌≢◌, ℕ, List, ◌∷◌, [], ◌++◌, Option, Some, Err, false, ap, refl, subst, ◌∙◌}
 use Rattle.lis_ports.specs.Meaning.{Meaning}
-use Rattle.lis_grammar.specs.Formula.{Formula}
 use Rattle.lis_model.specs.State.{State}
-use Rattle.lis_model.specs.Step.{Situation, Item, Payload, situation_after}
+use Rattle.lis_model.specs.Step.{Situation, Item, situation_after}
 use Rattle.lis_model.specs.Script.{script}
-use Rattle.lis_line.specs.declared.reader.Item.{Item as Said}
-use Rattle.lis_line.specs.declared.reader.Item.TheVariants.{Command, Bad, End, Limit}
-use Rattle.lis_line.specs.Reading.{Reading, Says}
-use Rattle.lis_session.specs.Item.{FitsAt}
+use Rattle.lis_line.specs.declared.carrier.Halt.{Halt}
+use Rattle.lis_line.specs.declared.carrier.Halt.TheVariants.{End as AtEnd, Limit as AtLimit, InputFault as AtFault, Stopped}
+use Rattle.lis_line.specs.Endings.{HasEnded, HasHaltCause}
+use Rattle.lis_store.specs.Stored.{StoreFits}
+use Rattle.lis_session.specs.declared.end.End.{End}
+use Rattle.lis_session.specs.declared.end.End.TheVariants.{DiskFault as DiskFailed, OutputFault as OutputFailed}
+use Rattle.lis_session.specs.Session.{Situated}
+use Rattle.lis_session.specs.Item.{FitsAt, IsSameStation}
 use Rattle.lis_session.specs.Runs.{Serves}
-use Rattle.lis_line.proofs.Given.{ReadSoFar}
-use Rattle.lis_line.proofs.Answered.{all_taken, limit_taken}
-use Rattle.lis_store.specs.Stored.{Stored, StoreFits}
-use Rattle.lis_session.proofs.Going.{SoFar, DoneSoFar, ends_done, ends_limit}
+use Rattle.lis_session.specs.Served.{HasDone, HasStopped, situation_at}
+use Rattle.lis_session.proofs.Served.{serves_all, serves_to_limit, serves_whole, serves_stopped, reached}
 use Rattle.lis_shell.specs.declared.status.Status.{Status}
-use Rattle.lis_shell.specs.declared.status.Status.TheVariants.{Done, InputLimit}
-use Rattle.lis_shell.specs.Tries.{ending_of}
-use Rattle.lis_shell.specs.Runs.{InputRead, GoesOn, Served}
+use Rattle.lis_shell.specs.declared.status.Status.TheVariants.{DiskFault}
+use Rattle.lis_shell.specs.Causes.{Counts, counts, HasStatusCause}
+use Rattle.lis_shell.specs.Runs.{serve_status, IsSessionStatus, InputRead, GoesOn, Served}
 
--- the end or the limit, as it is said
-pub ends_said : {E : Type 0} {limit : ℕ} {left_before left left_after : Option (List ℕ)} {reading next : Reading} {place_before : List Formula} {fits_before : State → Type 0} {old now : Meaning} {fits : State → Type 0} {place : List Formula} {payload : Payload} {result : Result Said E} (said : Said) (end : Status) (input : List ℕ) (state : State)
-    → SoFar limit left_before left reading place_before fits_before old now fits place → left_before ≡ Some input → Says reading next left left_after payload result → result ≡ Ok said
-    → ending_of said ≡ Some end → FitsAt fits_before old state
-    → Serves (record { state = state; place = place_before }) (script input limit) old now (Served (record { state = state; place = place_before }) limit input left_after old.shown now end)
-ends_said (Command command) end input state so_far told says is ends fitting = absurd (cc)
-ends_said (Bad refusal) end input state so_far told says is ends fitting = absurd (cc)
-ends_said {limit = limit} {left_after = left_after} {place_before = place_before} {old = old} {now = now} End end input state so_far told says is ends fitting =
-    let start : Situation = record { state = state; place = place_before } in
-    let same : Done ≡ end = cc in
-    subst (λ s. Serves start (script input limit) old now (Served start limit input left_after old.shown now s)) same (ends_done input state so_far told says is fitting)
-ends_said {limit = limit} {left_after = left_after} {place_before = place_before} {old = old} {now = now} Limit end input state so_far told says is ends fitting =
-    let start : Situation = record { state = state; place = place_before } in
-    let same : InputLimit ≡ end = cc in
-    subst (λ s. Serves start (script input limit) old now (Served start limit input left_after old.shown now s)) same (ends_limit input state so_far told says is fitting)
+pub only_served : (halt : Halt End) → IsSessionStatus (serve_status halt)
+only_served AtEnd = tt
+only_served AtLimit = tt
+only_served AtFault = tt
+only_served (Stopped DiskFailed) = tt
+only_served (Stopped OutputFailed) = tt
 
--- what the end and the limit say of the input
-pub input_said : {E : Type 0} {limit : ℕ} {left_before left left_after : Option (List ℕ)} {reading next : Reading} {place_before : List Formula} {fits_before : State → Type 0} {old now : Meaning} {fits : State → Type 0} {place : List Formula} {payload : Payload} {result : Result Said E} (said : Said) (end : Status) (input : List ℕ)
-    → SoFar limit left_before left reading place_before fits_before old now fits place → left_before ≡ Some input → Says reading next left left_after payload result → result ≡ Ok said
-    → ending_of said ≡ Some end → InputRead limit input left_after end
-input_said (Command command) end input so_far told says is ends = absurd (cc)
-input_said (Bad refusal) end input so_far told says is ends = absurd (cc)
-input_said {limit = limit} {left_before = left_before} {left = left} {left_after = left_after} {reading = reading} {next = next} {payload = payload} {result = result} End end input so_far told says is ends =
-    let same : Done ≡ end = cc in
-    let read = subst (λ known. ReadSoFar limit known left reading so_far.first) told so_far.read in
-    let all = all_taken limit input left left_after reading next so_far.first payload result read says is in
-    subst (λ s. InputRead limit input left_after s) same (all.short, all.at_end)
-input_said {limit = limit} {left_before = left_before} {left = left} {left_after = left_after} {reading = reading} {next = next} {payload = payload} {result = result} Limit end input so_far told says is ends =
-    let same : InputLimit ≡ end = cc in
-    let read = subst (λ known. ReadSoFar limit known left reading so_far.first) told so_far.read in
-    subst (λ s. InputRead limit input left_after s) same (limit_taken limit input left left_after reading next so_far.first payload result read says is).long
+-- no count rose
+none_rose : (entry m : Meaning) (before after : ℕ) → m.disk_faults ≡ entry.disk_faults → after ≡ before → m.show_faults ≡ entry.show_faults → counts m after ≡ counts entry before
+none_rose entry m before after disk input show =
+    let made : ℕ → ℕ → ℕ → Counts = λ a b c. record { disk = a; input = b; show = c } in
+    ap (λ n. made n after m.show_faults) disk ∙ (ap (λ n. made entry.disk_faults n m.show_faults) input ∙ ap (λ n. made entry.disk_faults before n) show)
 
--- what can go on after them
-reached : (start : Situation) (first items : List Item) (store : Stored) (old now : Meaning) (place : List Formula) → DoneSoFar start first old now (StoreFits store now) place → items ≡ first
-    → StoreFits store now (situation_after start items).state × (place ≡ (situation_after start items).place)
-reached start first items store old now place done is =
-    subst (λ (list : List Item). StoreFits store now (situation_after start list).state × (place ≡ (situation_after start list).place)) (sym is) (done.fitting.own, done.at)
+module _ (limit : ℕ) (left_before left : Option (List ℕ)) (start now : Situated) (entry m : Meaning) where
+  abbrev pub Ended : Halt End → Type 0
+  Ended halt =
+      HasEnded limit left_before left (λ first. HasDone start entry first now m) (λ first item fault. HasStopped start entry first item fault now m) halt
 
-pub goes_on_said : {E : Type 0} {limit : ℕ} {left_before left left_after : Option (List ℕ)} {reading next : Reading} {place_before : List Formula} {fits_before : State → Type 0} {old now : Meaning} {place : List Formula} {payload : Payload} {result : Result Said E} (said : Said) (end : Status) (input : List ℕ) (state : State) (store : Stored)
-    → SoFar limit left_before left reading place_before fits_before old now (StoreFits store now) place → left_before ≡ Some input → Says reading next left left_after payload result → result ≡ Ok said
-    → ending_of said ≡ Some end → FitsAt fits_before old state
-    → GoesOn (situation_after (record { state = state; place = place_before }) (script input limit)) store place now end
-goes_on_said (Command command) end input state store so_far told says is ends fitting = absurd (cc)
-goes_on_said (Bad refusal) end input state store so_far told says is ends fitting = absurd (cc)
-goes_on_said {limit = limit} {left_before = left_before} {left = left} {left_after = left_after} {reading = reading} {next = next} {place_before = place_before} {old = old} {now = now} {place = place} {payload = payload} {result = result} End end input state store so_far told says is ends fitting =
-    let start : Situation = record { state = state; place = place_before } in
-    let same : Done ≡ end = cc in
-    let read = subst (λ known. ReadSoFar limit known left reading so_far.first) told so_far.read in
-    let all = all_taken limit input left left_after reading next so_far.first payload result read says is in
-    subst (λ s. GoesOn (situation_after start (script input limit)) store place now s) same (reached start so_far.first (script input limit) store old now place (so_far.done state fitting) all.is)
-goes_on_said {limit = limit} {left_before = left_before} {left = left} {left_after = left_after} {reading = reading} {next = next} {place_before = place_before} {old = old} {now = now} {place = place} {payload = payload} {result = result} Limit end input state store so_far told says is ends fitting =
-    let start : Situation = record { state = state; place = place_before } in
-    let same : InputLimit ≡ end = cc in
-    let read = subst (λ known. ReadSoFar limit known left reading so_far.first) told so_far.read in
-    let over = limit_taken limit input left left_after reading next so_far.first payload result read says is in
-    subst (λ s. GoesOn (situation_after start (script input limit)) store place now s) same (reached start so_far.first (script input limit) store old now place (so_far.done state fitting) over.is)
+  -- ---- whatever the state
+  pub served_same : (halt : Halt End) → Ended halt → IsSameStation entry m
+  served_same AtEnd ended = ended.done.same
+  served_same AtLimit ended = ended.done.same
+  served_same AtFault ended = ended.done.same
+  served_same (Stopped fault) ended = ended.1.done.same
+
+  pub served_limits : (halt : Halt End) → Ended halt → now.store.parts.limits ≡ start.store.parts.limits
+  served_limits AtEnd ended = ended.done.limits
+  served_limits AtLimit ended = ended.done.limits
+  served_limits AtFault ended = ended.done.limits
+  served_limits (Stopped fault) ended = ended.1.done.limits
+
+  pub served_image : (halt : Halt End) → Ended halt → now.store.journal.blocks ≡ start.store.journal.blocks
+  served_image AtEnd ended = ended.done.image
+  served_image AtLimit ended = ended.done.image
+  served_image AtFault ended = ended.done.image
+  served_image (Stopped fault) ended = ended.1.done.image
+
+  pub served_unbroken : (halt : Halt End) → Ended halt → serve_status halt ≢ DiskFault → now.store.is_broken ≡ false
+  served_unbroken AtEnd ended other = ended.done.unbroken
+  served_unbroken AtLimit ended other = ended.done.unbroken
+  served_unbroken AtFault ended other = ended.done.unbroken
+  served_unbroken (Stopped DiskFailed) ended other = absurd (other refl)
+  served_unbroken (Stopped OutputFailed) ended other = ended.1.done.unbroken (λ e. cc e)
+
+  pub served_cause : (before after : ℕ) (halt : Halt End) → Ended halt → HasHaltCause before after halt
+      → HasStatusCause (counts entry before) (counts m after) (serve_status halt)
+  served_cause before after AtEnd ended cause = none_rose entry m before after ended.done.disk_faults cause ended.done.show_faults
+  served_cause before after AtLimit ended cause = none_rose entry m before after ended.done.disk_faults cause ended.done.show_faults
+  served_cause before after AtFault ended cause = (cause, ended.done.disk_faults, ended.done.show_faults)
+  served_cause before after (Stopped DiskFailed) ended cause = let why = ended.1.done.cause in (why.0, cause, why.1)
+  served_cause before after (Stopped OutputFailed) ended cause = let why = ended.1.done.cause in (why.1, why.0, cause)
+
+  -- ---- where the input was known
+  module _ (input : List ℕ) (told : left_before ≡ Some input) where
+    pub served_input : (halt : Halt End) → Ended halt → InputRead limit input left (serve_status halt)
+    served_input AtEnd ended = let read = ended.read input told in (read.short, read.at_end)
+    served_input AtLimit ended = (ended.read input told).long
+    served_input AtFault ended = tt
+    served_input (Stopped DiskFailed) ended = tt
+    served_input (Stopped OutputFailed) ended = tt
+
+    module _ (state : State) (fitting : FitsAt (StoreFits start.store entry) entry state) where
+      pub serves_so : (halt : Halt End) → Ended halt
+          → Serves (situation_at start state) (script input limit) entry m (Served (situation_at start state) limit input left entry.shown m (serve_status halt))
+      serves_so AtEnd ended = serves_all start entry ended.first now m state fitting limit input ended.done left (ended.read input told)
+      serves_so AtLimit ended = serves_to_limit start entry ended.first now m state fitting limit input ended.done (ended.read input told)
+      serves_so AtFault ended =
+          let read = ended.read input told in
+          serves_whole start entry ended.first now m state fitting limit input ended.done left read.0 read.1
+      serves_so (Stopped DiskFailed) ended =
+          serves_stopped start entry ended.1.first now m state fitting limit input ended.0 DiskFailed ended.1.done (ended.1.read input told)
+      serves_so (Stopped OutputFailed) ended =
+          serves_stopped start entry ended.1.first now m state fitting limit input ended.0 OutputFailed ended.1.done (ended.1.read input told)
+
+      pub goes_on_so : (halt : Halt End) → Ended halt → GoesOn (situation_after (situation_at start state) (script input limit)) now.store now.place m (serve_status halt)
+      goes_on_so AtEnd ended = reached start entry ended.first now m state fitting limit input ended.done (ended.read input told).is
+      goes_on_so AtLimit ended = reached start entry ended.first now m state fitting limit input ended.done (ended.read input told).is
+      goes_on_so AtFault ended = tt
+      goes_on_so (Stopped DiskFailed) ended = tt
+      goes_on_so (Stopped OutputFailed) ended = tt

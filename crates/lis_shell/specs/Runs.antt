@@ -16,6 +16,10 @@ use Rattle.lis_store.specs.Stands.{Stands}
 use Rattle.lis_store.specs.Stored.{Stored, StoreFits}
 use Rattle.lis_open.specs.Opens.{HasSuper, IsNeeded, IsLongEnough, RefusedLeft, InOpening}
 use Rattle.lis_open.specs.Checks.{FailsFirst}
+use Rattle.lis_line.specs.declared.carrier.Halt.{Halt}
+use Rattle.lis_line.specs.declared.carrier.Halt.TheVariants.{End as AtEnd, Limit as AtLimit, InputFault as AtFault, Stopped}
+use Rattle.lis_session.specs.declared.end.End.{End}
+use Rattle.lis_session.specs.declared.end.End.TheVariants.{DiskFault as DiskFailed, OutputFault as OutputFailed}
 use Rattle.lis_session.specs.Session.{root_of}
 use Rattle.lis_session.specs.Runs.{Carried, CarriedAll, CarriedToLimit, CarriedWhole, StopsAt}
 use Rattle.lis_shell.specs.Causes.{Counts}
@@ -33,6 +37,14 @@ IsSessionStatus InputFault = Unit {0}
 IsSessionStatus OutputFault = Unit {0}
 IsSessionStatus InputLimit = Unit {0}
 IsSessionStatus NoMemory = ⊥
+
+-- what the end of a session over an image is to the program
+abbrev pub serve_status : Halt End → Status
+serve_status AtEnd = Done
+serve_status AtLimit = InputLimit
+serve_status AtFault = InputFault
+serve_status (Stopped DiskFailed) = DiskFault
+serve_status (Stopped OutputFailed) = OutputFault
 
 -- How it ended, by the status, where the source had these bytes left. After a fault of the disk the moments tell what stands.
 abbrev pub Served : Situation → ℕ → List ℕ → Option (List ℕ) → Option (List ℕ) → Meaning → Status → Type 0

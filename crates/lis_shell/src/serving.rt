@@ -5,65 +5,30 @@ ghost use Rattle.lis_line.specs.Taking.{TakesFew};
 ghost use Rattle.lis_model.specs.State.{State};
 ghost use Rattle.lis_model.specs.Step.{situation_after};
 ghost use Rattle.lis_model.specs.Script.{script};
-ghost use Rattle.lis_store.specs.Stored.{IsSound, StoreFits};
+ghost use Rattle.lis_store.specs.Stored.{StoreFits};
 ghost use Rattle.lis_session.specs.Item.{IsSameStation};
 ghost use Rattle.lis_session.specs.Runs.{Serves};
 ghost use Rattle.lis_session.specs.Session.{FullHeadline};
 ghost use Rattle.lis_shell.specs.Causes.{counts, HasStatusCause};
-ghost use Rattle.lis_shell.specs.Runs.{IsSessionStatus, InputRead, GoesOn, Served};
+ghost use Rattle.lis_shell.specs.Runs.{serve_status, IsSessionStatus, InputRead, GoesOn, Served};
 
-use crate::session::ending;
 use crate::status::Status;
-use lis_line::reader::{LineReader, Payload};
+use lis_line::carrier::{Halt, carry_all};
+use lis_line::reader::Payload;
 use lis_ports::{Source, Station};
 use lis_session::end::End;
 use lis_session::session::Session;
-use lis_store::Store;
 
-// The session, without its headline.
-fn carry_out<S: Source, T: Station>(
-    store: &mut Store,
-    session: &mut Session,
-    payload: &mut Payload,
-    input: &mut S,
-    station: &mut T,
-    limit: u64,
-) -> Status
-    requires limit { limit ≤ 2 ^ 40 }
-    requires sound { IsSound store.old }
-    requires session { session.old.limits ≡ store.old.parts.limits }
-    requires unbroken { store.old.is_broken ≡ false }
-    requires long { 4096 * store.old.journal.blocks ≤ (T.meaning station.old).len }
-    ensures only { IsSessionStatus result }
-    ensures same { IsSameStation (T.meaning station.old) (T.meaning station.new) }
-    ensures cause { HasStatusCause (counts (T.meaning station.old) (S.faults input.old)) (counts (T.meaning station.new) (S.faults input.new)) result }
-    ensures few { TakesFew limit (S.left input.old) (S.left input.new) }
-    ensures input { (bytes : List ℕ) → S.left input.old ≡ Some bytes → InputRead limit bytes (S.left input.new) result }
-    ensures limits { store.new.parts.limits ≡ store.old.parts.limits }
-    ensures session { session.new.limits ≡ store.new.parts.limits }
-    ensures image { store.new.journal.blocks ≡ store.old.journal.blocks }
-    ensures unbroken { result ≢ Status.DiskFault → store.new.is_broken ≡ false }
-    ensures serves { (state : State) (bytes : List ℕ) → StoreFits store.old (T.meaning station.old) state → S.left input.old ≡ Some bytes
-        → Serves (record { state = state; place = session.old.place }) (script bytes limit) (T.meaning station.old) (T.meaning station.new)
-        (Served (record { state = state; place = session.old.place }) limit bytes (S.left input.new) (T.meaning station.old).shown (T.meaning station.new) result) }
-    ensures goes_on { (state : State) (bytes : List ℕ) → StoreFits store.old (T.meaning station.old) state → S.left input.old ≡ Some bytes
-        → GoesOn (situation_after (record { state = state; place = session.old.place }) (script bytes limit)) store.new session.new.place (T.meaning station.new) result }
+// What the end of a session is to the program.
+fn serve_status(halt: Halt<End>) -> Status
+    ensures { result ≡ serve_status halt }
 {
-    let mut reader = LineReader::new(limit);
-    loop {
-        let item = match reader.next(input, payload) {
-            Ok(item) => item,
-            Err(_) => return Status::InputFault,
-        };
-        match ending(&item) {
-            None => {}
-            Some(status) => return status,
-        }
-        match session.step(store, &item, payload, station) {
-            Ok(()) => {}
-            Err(End::DiskFault) => return Status::DiskFault,
-            Err(End::OutputFault) => return Status::OutputFault,
-        }
+    match halt {
+        Halt::End => Status::Done,
+        Halt::Limit => Status::InputLimit,
+        Halt::InputFault => Status::InputFault,
+        Halt::Stopped(End::DiskFault) => Status::DiskFault,
+        Halt::Stopped(End::OutputFault) => Status::OutputFault,
     }
 }
 
@@ -73,7 +38,6 @@ fn carry_out<S: Source, T: Station>(
 /// Stopped at any moment, the image stands for the state after some first items, and what was shown is a front of their replies that
 /// lacks at most the last one: no reply runs ahead of the image, and no change whose reply was begun is lost.
 pub fn serve<S: Source, T: Station>(
-    store: &mut Store,
     session: &mut Session,
     payload: &mut Payload,
     input: &mut S,
@@ -81,27 +45,25 @@ pub fn serve<S: Source, T: Station>(
     limit: u64,
 ) -> Status
     requires limit { limit ≤ 2 ^ 40 }
-    requires session { session.old.limits ≡ store.old.parts.limits }
-    requires unbroken { store.old.is_broken ≡ false }
-    requires long { 4096 * store.old.journal.blocks ≤ (T.meaning station.old).len }
+    requires unbroken { session.old.store.is_broken ≡ false }
+    requires long { 4096 * session.old.store.journal.blocks ≤ (T.meaning station.old).len }
     ensures only { IsSessionStatus result }
     ensures same { IsSameStation (T.meaning station.old) (T.meaning station.new) }
     ensures cause { HasStatusCause (counts (T.meaning station.old) (S.faults input.old)) (counts (T.meaning station.new) (S.faults input.new)) result }
     ensures few { TakesFew limit (S.left input.old) (S.left input.new) }
     ensures input { (bytes : List ℕ) → S.left input.old ≡ Some bytes → InputRead limit bytes (S.left input.new) result }
-    ensures limits { store.new.parts.limits ≡ store.old.parts.limits }
-    ensures session { session.new.limits ≡ store.new.parts.limits }
-    ensures image { store.new.journal.blocks ≡ store.old.journal.blocks }
-    ensures unbroken { result ≢ Status.DiskFault → store.new.is_broken ≡ false }
-    ensures serves { (state : State) (bytes : List ℕ) → StoreFits store.old (T.meaning station.old) state → S.left input.old ≡ Some bytes
+    ensures limits { session.new.store.parts.limits ≡ session.old.store.parts.limits }
+    ensures image { session.new.store.journal.blocks ≡ session.old.store.journal.blocks }
+    ensures unbroken { result ≢ Status.DiskFault → session.new.store.is_broken ≡ false }
+    ensures serves { (state : State) (bytes : List ℕ) → StoreFits session.old.store (T.meaning station.old) state → S.left input.old ≡ Some bytes
         → Serves (record { state = state; place = session.old.place }) (script bytes limit) (T.meaning station.old) (T.meaning station.new)
         (Served (record { state = state; place = session.old.place }) limit bytes (S.left input.new) (T.meaning station.old).shown (T.meaning station.new) result) }
-    ensures goes_on { (state : State) (bytes : List ℕ) → StoreFits store.old (T.meaning station.old) state → S.left input.old ≡ Some bytes
-        → GoesOn (situation_after (record { state = state; place = session.old.place }) (script bytes limit)) store.new session.new.place (T.meaning station.new) result }
-    ensures headline { (state : State) (bytes : List ℕ) → StoreFits store.old (T.meaning station.old) state → S.left input.old ≡ Some bytes
+    ensures goes_on { (state : State) (bytes : List ℕ) → StoreFits session.old.store (T.meaning station.old) state → S.left input.old ≡ Some bytes
+        → GoesOn (situation_after (record { state = state; place = session.old.place }) (script bytes limit)) session.new.store session.new.place (T.meaning station.new) result }
+    ensures headline { (state : State) (bytes : List ℕ) → StoreFits session.old.store (T.meaning station.old) state → S.left input.old ≡ Some bytes
         → FullHeadline (record { state = state; place = session.old.place }) (script bytes limit) (T.meaning station.old) (T.meaning station.new) }
 {
-    // The limits tell that the store is sound.
-    let _limits = store.limits();
-    carry_out(store, session, payload, input, station, limit)
+    // The session tells that its store is sound.
+    let _store = session.store();
+    serve_status(carry_all(session, payload, input, station, limit))
 }

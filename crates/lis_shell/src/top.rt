@@ -69,25 +69,22 @@ fn make_image<T: Station>(limits: &Limits, station: &mut T) -> Status
 }
 
 // A session over the store, and room for a payload: all the memory that the commands need.
-fn session_over(alloc: Global, store: &Store) -> Result<(Session, Payload), AllocError>
-    ensures sound { IsSound store.now }
-    ensures session { IfOk result (λ made. made.0 ≡ record { place = []; limits = store.now.parts.limits }) }
+fn session_over(alloc: Global, store: Store) -> Result<(Session, Payload), AllocError>
+    ensures sound { IsSound store }
+    ensures session { IfOk result (λ made. made.0 ≡ record { store = store; place = [] }) }
 {
-    let session = Session::new(alloc, &store.limits())?;
+    let session = Session::new(alloc, store)?;
     let payload = Payload::new(alloc)?;
     Ok((session, payload))
 }
 
-// Gives back the memory of a store. It has many parts, so that this takes long to check where a contract looks on.
-fn end_store(_store: Store) {}
-
-// Gives back the memory of a session.
+// Gives back the memory of a session. Its store has many parts, so that this takes long to check where a contract looks on.
 fn end_session(_session: Session, _payload: Payload) {}
 
 // Carries out the items of the input on an opened image.
 fn run_store<S: Source, T: Station>(
     alloc: Global,
-    mut store: Store,
+    store: Store,
     input: &mut S,
     station: &mut T,
 ) -> Status
@@ -103,20 +100,11 @@ fn run_store<S: Source, T: Station>(
         → Serves (root_of state) (script bytes (2 ^ 40)) (T.meaning station.old) (T.meaning station.new)
         (Ran state (2 ^ 40) bytes (S.left input.new) (T.meaning station.old).shown (T.meaning station.new) result) }
 {
-    let Ok((mut session, mut payload)) = session_over(alloc, &store) else {
-        end_store(store);
+    let Ok((mut session, mut payload)) = session_over(alloc, store) else {
         return Status::NoMemory;
     };
-    let status = serve(
-        &mut store,
-        &mut session,
-        &mut payload,
-        input,
-        station,
-        INPUT_LIMIT,
-    );
+    let status = serve(&mut session, &mut payload, input, station, INPUT_LIMIT);
     end_session(session, payload);
-    end_store(store);
     status
 }
 
@@ -169,7 +157,7 @@ fn grow_status(ended: Result<(), End>) -> Status
 }
 
 // Carries out the session that is made of the number on an opened image.
-fn grow_store<T: Station>(alloc: Global, mut store: Store, station: &mut T, n: u32) -> Status
+fn grow_store<T: Station>(alloc: Global, store: Store, station: &mut T, n: u32) -> Status
     requires unbroken { store.is_broken ≡ false }
     requires long { 4096 * store.journal.blocks ≤ (T.meaning station.old).len }
     ensures only { result ≢ Status.NoMemory → IsSessionStatus result }
@@ -181,13 +169,11 @@ fn grow_store<T: Station>(alloc: Global, mut store: Store, station: &mut T, n: u
         → Grows (root_of state) (grow_items n) (T.meaning station.old) (T.meaning station.new)
         (GrowRan state (grow_items n) (T.meaning station.old).shown (T.meaning station.new) result) }
 {
-    let Ok((mut session, mut payload)) = session_over(alloc, &store) else {
-        end_store(store);
+    let Ok((mut session, mut payload)) = session_over(alloc, store) else {
         return Status::NoMemory;
     };
-    let ended = grow_session(&mut store, &mut session, &mut payload, station, n);
+    let ended = grow_session(&mut session, &mut payload, station, n);
     end_session(session, payload);
-    end_store(store);
     grow_status(ended)
 }
 

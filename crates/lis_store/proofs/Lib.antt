@@ -51,7 +51,6 @@ pub mod Steps
 pub mod Torn
 pub mod RemoveFile
 pub mod AddFile
-pub mod Sizes
 pub mod Counted
 mod TagWords
 pub mod Described

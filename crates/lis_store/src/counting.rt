@@ -5,6 +5,7 @@ ghost use Rattle.lis_blockmap.specs.Bitmap.{free_count};
 ghost use Rattle.lis_kept.specs.Linking.{is_filled};
 ghost use Rattle.lis_kept.specs.Telling.{axioms_of};
 ghost use Rattle.lis_model.specs.Changes.{has_axiom};
+ghost use Rattle.lis_store.specs.Stored.{IsSound};
 
 use crate::store::Store;
 use lis_words::Word;
@@ -25,6 +26,7 @@ impl Store {
         ensures known { result.known ≡ length self.now.parts.dict.entries }
         ensures axioms { result.axioms ≡ count_by is_filled self.now.parts.axioms }
         ensures free { result.free ≡ free_count self.now.parts.taken }
+        ensures sound { IsSound self.now }
     {
         let parts = self.parts();
         Counts {

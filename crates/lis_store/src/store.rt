@@ -120,7 +120,8 @@ impl Store {
 
     /// Whether the word is declared.
     pub fn is_declared(&self, word: &Word) -> bool
-        ensures { result ≡ is_declared self.now.parts word.now }
+        ensures value { result ≡ is_declared self.now.parts word.now }
+        ensures sound { IsSound self.now }
     {
         self.parts.is_declared(word)
     }
@@ -146,6 +147,7 @@ impl Store {
         ensures any_moment { IsTrue (D.meaning disk.old).is_honest
             → Leaves (D.meaning disk.old) (D.meaning disk.new) (D.meaning disk.old).images }
         ensures fits { (s : State) → StoreFits self.now (D.meaning disk.old) s → StoreFits self.now (D.meaning disk.new) s }
+        ensures sound { IsSound self.now }
     {
         let base = data_start(self.parts.limits());
         let Some(rec) = self.parts.rec(slot) else {
@@ -168,6 +170,7 @@ impl Store {
         ensures room { HasRoom scratch.new self.now.parts.limits }
         ensures here { is_some result ≡ is_among self.now.parts place.now name.now }
         ensures slot { IfSome result (λ slot. slot_of self.now.parts.catalog name.now ≡ Some slot) }
+        ensures sound { IsSound self.now }
     {
         let Some(slot) = self.parts.slot_of(name) else {
             return None;
@@ -205,6 +208,7 @@ impl Store {
         ensures image { self.new.journal.blocks ≡ self.old.journal.blocks }
         ensures left { ChangeLeft self.old self.new result }
         ensures edits { EditsFew self.old self.new }
+        ensures sound { IsSound self.new }
         ensures run { IsDiskRun (D.meaning disk.old) (D.meaning disk.new) }
         ensures cause { HasChangeCause (D.meaning disk.old).disk_faults (D.meaning disk.new).disk_faults result }
     {
@@ -254,6 +258,7 @@ impl Store {
         ensures image { self.new.journal.blocks ≡ self.old.journal.blocks }
         ensures left { ChangeLeft self.old self.new result }
         ensures edits { EditsFew self.old self.new }
+        ensures sound { IsSound self.new }
         ensures run { IsDiskRun (D.meaning disk.old) (D.meaning disk.new) }
         ensures cause { HasChangeCause (D.meaning disk.old).disk_faults (D.meaning disk.new).disk_faults result }
     {

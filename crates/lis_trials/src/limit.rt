@@ -12,41 +12,32 @@ use lis_open::mount;
 use lis_session::session::Session;
 use lis_shell::serving::serve;
 use lis_shell::status::Status;
-use lis_store::Store;
 use std::alloc::{AllocError, Global};
 use std::test::Fail;
 
-// How a session over an opened image ends.
+// How a session ends that begins with an opened image.
 fn serve_row(
     alloc: Global,
-    store: &mut Store,
+    session: &mut Session,
     row: &str,
     station: &mut MemStation,
     limit: u64,
 ) -> Result<Status, AllocError>
     requires limit { limit ≤ 2 ^ 40 }
-    requires unbroken { store.old.is_broken ≡ false }
-    requires long { 4096 * store.old.journal.blocks ≤ (meaning_of station.old).len }
+    requires unbroken { session.old.store.is_broken ≡ false }
+    requires long { 4096 * session.old.store.journal.blocks ≤ (meaning_of station.old).len }
 {
-    let mut session = Session::new(alloc, &store.limits())?;
     let mut payload = Payload::new(alloc)?;
     let mut input = source(alloc, row, &SOUND)?;
-    Ok(serve(
-        store,
-        &mut session,
-        &mut payload,
-        &mut input,
-        station,
-        limit,
-    ))
+    Ok(serve(session, &mut payload, &mut input, station, limit))
 }
 
-fn opened(alloc: Global, station: &mut MemStation) -> Result<Store, Fail>
-    ensures unbroken { IfOk result (λ store. store.is_broken ≡ false) }
-    ensures long { IfOk result (λ store. 4096 * store.journal.blocks ≤ (meaning_of station.new).len) }
+fn opened(alloc: Global, station: &mut MemStation) -> Result<Session, Fail>
+    ensures unbroken { IfOk result (λ session. session.store.is_broken ≡ false) }
+    ensures long { IfOk result (λ session. 4096 * session.store.journal.blocks ≤ (meaning_of station.new).len) }
 {
     match mount(alloc, station) {
-        Ok(store) => Ok(store),
+        Ok(store) => Ok(Session::new(alloc, store)?),
         Err(_) => Err("the image was not opened".into()),
     }
 }
@@ -60,9 +51,9 @@ fn serve_image(
 ) -> Result<Status, Fail>
     requires limit { limit ≤ 2 ^ 40 }
 {
-    let mut store = opened(alloc, station)?;
-    let status = serve_row(alloc, &mut store, row, station, limit);
-    drop(store);
+    let mut session = opened(alloc, station)?;
+    let status = serve_row(alloc, &mut session, row, station, limit);
+    drop(session);
     Ok(status?)
 }
 
@@ -88,10 +79,10 @@ fn a_session_ends_at_its_limit(rt: HostRuntime) -> Result<(), Fail> {
 
 // How often bits of extension rows were changed by a session over an empty image.
 fn edits_by(alloc: Global, row: &str, station: &mut MemStation) -> Result<u64, Fail> {
-    let mut store = opened(alloc, station)?;
-    let status = serve_row(alloc, &mut store, row, station, 1_000);
-    let edits = store.descriptions().rows().edits();
-    drop(store);
+    let mut session = opened(alloc, station)?;
+    let status = serve_row(alloc, &mut session, row, station, 1_000);
+    let edits = session.store().descriptions().rows().edits();
+    drop(session);
     status?;
     Ok(edits)
 }

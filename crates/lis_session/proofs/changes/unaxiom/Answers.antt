@@ -4,7 +4,7 @@ use Rattle.lis_session.proofs.Answering.{change_item}
 use Rattle.lis_session.proofs.changes.unaxiom.Goals as goal
 
 pub returns-clause-carries : goal.returns-clause-carries
-returns-clause-carries g c = λ state fitting.
-    let now : Situation = record { state = state; place = c.args.place.now } in
-    change_item g.T.Disk.meaning c.unaxiom-changed.new.disk c.conclude.new.station c.unaxiom-changed.result (unaxiom_stays now (c.args.left.now, c.args.right.now)) c.conclude.ensures.sound
-    (c.unaxiom-changed.ensures.changes now fitting.own) c.conclude.ensures.concludes
+returns-clause-carries g c = λ place state fitting.
+    let now : Situation = record { state = state; place = place } in
+    change_item g.T.Disk.meaning c.unaxiom-changed.new.disk c.conclude.new.station c.unaxiom-changed.result (unaxiom_stays now (c.args.left.now, c.args.right.now)) c.unaxiom-changed.ensures.sound
+    (c.unaxiom-changed.ensures.changes now fitting.own) c.conclude.ensures

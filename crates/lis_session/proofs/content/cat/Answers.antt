@@ -14,7 +14,7 @@ file_size-size-requires g c = (c.args.name.now, rw c.in-Some.is at c.slot_here.e
 pub returns-in_default-clause-carries : goal.returns-in_default-clause-carries
 returns-in_default-clause-carries g c = λ state fitting.
     let now : Situation = record { state = state; place = c.args.place.now } in
-    let nowhere = found_here now c.args.name.now c.slot_here.result c.limits-limits.ensures.sound fitting.own c.slot_here.ensures.here ∙ ap is_some c.in_default.is in
+    let nowhere = found_here now c.args.name.now c.slot_here.result c.requires.sound fitting.own c.slot_here.ensures.here ∙ ap is_some c.in_default.is in
     shows_item (cat now c.args.name.now) c.args.place.now fitting c.answer_refusal.ensures (refused_nowhere now c.args.name.now (content_lines (file_of state.files c.args.name.now).bytes) nowhere)
 
 pub returns-in_err-answer_size-clause-carries : goal.returns-in_err-answer_size-clause-carries
@@ -22,8 +22,8 @@ returns-in_err-answer_size-clause-carries g c = λ state fitting.
     let now : Situation = record { state = state; place = c.args.place.now } in
     let name = c.args.name.now in
     let slot_is = rw c.in-Some.is at c.slot_here.ensures.slot in
-    let here = found_here now name c.slot_here.result c.limits-limits.ensures.sound fitting.own c.slot_here.ensures.here ∙ ap is_some c.in-Some.is in
-    let len = size_is name c.in-Some.slot c.file_size-size.result c.limits-limits.ensures.sound fitting.own slot_is c.file_size-size.ensures in
+    let here = found_here now name c.slot_here.result c.requires.sound fitting.own c.slot_here.ensures.here ∙ ap is_some c.in-Some.is in
+    let len = size_is name c.in-Some.slot c.file_size-size.result c.requires.sound fitting.own slot_is c.file_size-size.ensures.size in
     let p = err_from_is_err_and c.from_residual.result c.from_residual.ensures.1 in
     let broke = size_broke now (file_of state.files name).bytes c.file_size-size.result len fitting c.in_err-answer_size.field-0.0 c.in_err-answer_size.ensures in
     rw (p.1, p.2) (as_cat now name here broke)
@@ -33,8 +33,8 @@ returns-in_err-show_content-clause-carries g c = λ state fitting.
     let now : Situation = record { state = state; place = c.args.place.now } in
     let name = c.args.name.now in
     let slot_is = rw c.in-Some.is at c.slot_here.ensures.slot in
-    let here = found_here now name c.slot_here.result c.limits-limits.ensures.sound fitting.own c.slot_here.ensures.here ∙ ap is_some c.in-Some.is in
-    let len = size_is name c.in-Some.slot c.file_size-size.result c.limits-limits.ensures.sound fitting.own slot_is c.file_size-size.ensures in
+    let here = found_here now name c.slot_here.result c.requires.sound fitting.own c.slot_here.ensures.here ∙ ap is_some c.in-Some.is in
+    let len = size_is name c.in-Some.slot c.file_size-size.result c.requires.sound fitting.own slot_is c.file_size-size.ensures.size in
     let p = err_from_is_err_and c.from_residual-in_err-show_content.result c.from_residual-in_err-show_content.ensures.1 in
     let bytes = (file_of state.files name).bytes in
     let fits = size_fits now bytes c.file_size-size.result len fitting c.in_ok-answer_size.field-0 c.in_ok-answer_size.ensures in
@@ -47,8 +47,8 @@ returns-clause-carries g c = λ state fitting.
     let now : Situation = record { state = state; place = c.args.place.now } in
     let name = c.args.name.now in
     let slot_is = rw c.in-Some.is at c.slot_here.ensures.slot in
-    let here = found_here now name c.slot_here.result c.limits-limits.ensures.sound fitting.own c.slot_here.ensures.here ∙ ap is_some c.in-Some.is in
-    let len = size_is name c.in-Some.slot c.file_size-size.result c.limits-limits.ensures.sound fitting.own slot_is c.file_size-size.ensures in
+    let here = found_here now name c.slot_here.result c.requires.sound fitting.own c.slot_here.ensures.here ∙ ap is_some c.in-Some.is in
+    let len = size_is name c.in-Some.slot c.file_size-size.result c.requires.sound fitting.own slot_is c.file_size-size.ensures.size in
     let bytes = (file_of state.files name).bytes in
     let fits = size_fits now bytes c.file_size-size.result len fitting c.in_ok-answer_size.field-0 c.in_ok-answer_size.ensures in
     let item = bytes_item now bytes c.file_size-size.result len fitting c.in_ok-answer_size.field-0 c.in_ok-answer_size.ensures c.in_ok-show_content.field-0 c.answer_bytes.result

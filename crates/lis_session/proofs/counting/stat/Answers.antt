@@ -6,9 +6,9 @@ use Rattle.lis_session.proofs.Counted.{counts_shown}
 use Rattle.lis_session.proofs.counting.stat.Goals as goal
 
 pub returns-clause-carries : goal.returns-clause-carries
-returns-clause-carries g c = λ state fitting.
-    let now : Situation = record { state = state; place = c.args.place.now } in
-    let told = counts_state (g.T.Disk.meaning c.args.station.now) c.args.store.now state c.limits-limits.ensures.sound fitting.own in
+returns-clause-carries g c = λ place state fitting.
+    let now : Situation = record { state = state; place = place } in
+    let told = counts_state (g.T.Disk.meaning c.args.station.now) c.args.store.now state c.requires fitting.own in
     let counts = c.counts.ensures in
     let is = counts_shown state c.counts.result (counts.files ∙ told.files) (counts.known ∙ told.known) (counts.axioms ∙ told.axioms) (counts.free ∙ told.free) in
-    shows_item (stat now) c.args.place.now fitting (rw is at c.answer_counts.ensures) refl
+    shows_item (stat now) place fitting (rw is at c.answer_counts.ensures) refl

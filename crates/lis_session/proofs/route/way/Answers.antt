@@ -14,7 +14,7 @@ pub returns-then-not-make_route-clause-carries : goal.returns-then-not-make_rout
 returns-then-not-make_route-clause-carries g c = λ state fitting.
     let now : Situation = record { state = state; place = c.args.place.now } in
     let name = c.args.name.now in
-    let nowhere = no_way now name c.limits-limits.ensures.sound fitting.own (c.make_route.ensures.none c.if-not-make_route.true) in
+    let nowhere = no_way now name c.requires.sound fitting.own (c.make_route.ensures.none c.if-not-make_route.true) in
     shows_item (way now name) c.args.place.now fitting c.answer_refusal.ensures
     (refused_nowhere now name (flat_map (body_line 100) (route (table state) c.args.place.now (entry_at state name))) nowhere)
 
@@ -22,7 +22,7 @@ pub returns-clause-carries : goal.returns-clause-carries
 returns-clause-carries g c = λ state fitting.
     let now : Situation = record { state = state; place = c.args.place.now } in
     let name = c.args.name.now in
-    let sound = c.limits-limits.ensures.sound in
+    let sound = c.requires.sound in
     let is = c.make_route.ensures.way c.if-not-make_route.false in
     let words = way_is now name sound fitting.own (words_left (seen_of c.args.store.now.parts) c.make_route.new.scratch 0) is in
     shows_item (way now name) c.args.place.now fitting (rw words at c.answer_route.ensures)

@@ -4,13 +4,13 @@ pub returns-in-Mkdir-clause-carries : goal.returns-in-Mkdir-clause-carries
 returns-in-Mkdir-clause-carries g c = rw c.in-Mkdir.is c.mkdir.ensures.carries
 
 pub returns-in-Rmdir-clause-carries : goal.returns-in-Rmdir-clause-carries
-returns-in-Rmdir-clause-carries g c = rw c.in-Rmdir.is c.rmdir.ensures.carries
+returns-in-Rmdir-clause-carries g c = rw c.in-Rmdir.is (c.rmdir.ensures.carries c.args.place.now)
 
 pub returns-in-Axiom-clause-carries : goal.returns-in-Axiom-clause-carries
-returns-in-Axiom-clause-carries g c = rw c.in-Axiom.is c.axiom.ensures.carries
+returns-in-Axiom-clause-carries g c = rw c.in-Axiom.is (c.axiom.ensures.carries c.args.place.now)
 
 pub returns-in-Unaxiom-clause-carries : goal.returns-in-Unaxiom-clause-carries
-returns-in-Unaxiom-clause-carries g c = rw c.in-Unaxiom.is c.unaxiom.ensures.carries
+returns-in-Unaxiom-clause-carries g c = rw c.in-Unaxiom.is (c.unaxiom.ensures.carries c.args.place.now)
 
 pub returns-in-Create-clause-carries : goal.returns-in-Create-clause-carries
 returns-in-Create-clause-carries g c = rw c.in-Create.is c.create.ensures.carries
@@ -43,7 +43,7 @@ pub returns-in-Way-clause-carries : goal.returns-in-Way-clause-carries
 returns-in-Way-clause-carries g c = rw c.in-Way.is c.way.ensures.carries
 
 pub returns-in-Stat-clause-carries : goal.returns-in-Stat-clause-carries
-returns-in-Stat-clause-carries g c = rw c.in-Stat.is c.stat.ensures.carries
+returns-in-Stat-clause-carries g c = rw c.in-Stat.is (c.stat.ensures.carries c.args.place.now)
 
 pub returns-in-Pwd-clause-carries : goal.returns-in-Pwd-clause-carries
 returns-in-Pwd-clause-carries g c = rw c.in-Pwd.is (c.pwd.ensures.carries c.args.store.now)

@@ -7,7 +7,7 @@ use Rattle.lis_session.proofs.tally.count_listing.Goals as goal
 pub count_lines-requires : goal.count_lines-requires
 count_lines-requires c =
     let limits = c.args.store.now.parts.limits in
-    let range = c.limits-limits.ensures.sound.parts.range in
+    let range = c.requires.sound.parts.range in
     let few = few_lines (seen_of c.args.store.now.parts) c.make_listing.new.scratch.increments c.make_listing.new.scratch.locals 0 0 c.make_listing.ensures.kept in
     omega (arith, ap length c.lines.ensures, few, few_properties limits range, few_files limits range)
 

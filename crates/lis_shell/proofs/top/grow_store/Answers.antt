@@ -1,5 +1,6 @@
-use Rattle.std.proofs.Common.{refl, ap, sym, subst, ◌∙◌}
+use Rattle.std.proofs.Common.{refl, ap, sym, subst, ◌∙◌, arith}
 use Rattle.lis_grow.specs.Session.{grow_items, Grows}
+use Rattle.lis_store.specs.Stored.{Stored, StoreFits}
 use Rattle.lis_session.specs.Session.{Situated, root_of}
 use Rattle.lis_session.proofs.Fitting.{store_fits_at, same_none}
 use Rattle.lis_shell.specs.declared.status.Status.{Status}
@@ -17,6 +18,12 @@ pub returns-in_default-clause-grows : goal.returns-in_default-clause-grows
 returns-in_default-clause-grows g c = λ state fits.
     let m = g.T.Disk.meaning c.args.station.now in
     grows_none state (grow_items c.args.n) m (GrowRan state (grow_items c.args.n) m.shown m NoMemory) (refl, (store_fits_at c.session_over.ensures.sound fits).stands.reads)
+
+pub grow_session-ended-requires-clause-unbroken : goal.grow_session-ended-requires-clause-unbroken
+grow_session-ended-requires-clause-unbroken g c = ap (λ (s : Situated). s.store.is_broken) c.in-Ok.ensures.session ∙ c.requires.unbroken
+
+pub grow_session-ended-requires-clause-long : goal.grow_session-ended-requires-clause-long
+grow_session-ended-requires-clause-long g c = omega (arith, ap (λ (s : Situated). s.store.journal.blocks) c.in-Ok.ensures.session, c.requires.long)
 
 pub returns-clause-only : goal.returns-clause-only
 returns-clause-only g c = λ e. subst IsSessionStatus (sym c.grow_status.ensures) (session_status c.grow_session-ended.result)
@@ -43,4 +50,4 @@ returns-clause-grows g c = λ state fits.
     let items = grow_items c.args.n in
     subst (λ (s : Status). Grows (root_of state) items old new (GrowRan state items old.shown new s)) (sym c.grow_status.ensures)
     (grow_served state c.in-Ok.session.place items old.shown c.grow_session-ended.result (ap (λ (s : Situated). s.place) c.in-Ok.ensures.session)
-    (c.grow_session-ended.ensures.grows state fits))
+    (c.grow_session-ended.ensures.grows state (subst (λ (k : Stored). StoreFits k old state) (sym (ap (λ (s : Situated). s.store) c.in-Ok.ensures.session)) fits)))

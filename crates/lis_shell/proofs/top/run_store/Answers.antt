@@ -1,5 +1,6 @@
-use Rattle.std.proofs.Common.{refl, ap}
+use Rattle.std.proofs.Common.{refl, ap, sym, subst, ◌∙◌, arith}
 use Rattle.lis_model.specs.Script.{script}
+use Rattle.lis_store.specs.Stored.{Stored, StoreFits}
 use Rattle.lis_session.specs.Session.{Situated}
 use Rattle.lis_session.proofs.Fitting.{store_fits_at, same_none}
 use Rattle.lis_shell.specs.declared.status.Status.TheVariants.{NoMemory}
@@ -20,6 +21,12 @@ returns-in_default-clause-runs g c = λ state bytes fits told.
     serves_none state (script bytes 1099511627776) m (Ran state 1099511627776 bytes (g.S.Source.left c.args.input.now) m.shown m NoMemory)
     (refl, told, (store_fits_at c.session_over.ensures.sound fits).stands.reads)
 
+pub serve-status-requires-clause-unbroken : goal.serve-status-requires-clause-unbroken
+serve-status-requires-clause-unbroken g c = ap (λ (s : Situated). s.store.is_broken) c.in-Ok.ensures.session ∙ c.requires.unbroken
+
+pub serve-status-requires-clause-long : goal.serve-status-requires-clause-long
+serve-status-requires-clause-long g c = omega (arith, ap (λ (s : Situated). s.store.journal.blocks) c.in-Ok.ensures.session, c.requires.long)
+
 pub returns-clause-only : goal.returns-clause-only
 returns-clause-only g c = λ e. c.serve-status.ensures.only
 
@@ -39,4 +46,4 @@ pub returns-clause-runs : goal.returns-clause-runs
 returns-clause-runs g c = λ state bytes fits told.
     let old = g.T.Disk.meaning c.args.station.now in
     run_served state c.in-Ok.session.place 1099511627776 bytes (g.S.Source.left c.serve-status.new.input) old.shown c.serve-status.result (ap (λ (s : Situated). s.place) c.in-Ok.ensures.session)
-    (c.serve-status.ensures.serves state bytes fits told)
+    (c.serve-status.ensures.serves state bytes (subst (λ (k : Stored). StoreFits k old state) (sym (ap (λ (s : Situated). s.store) c.in-Ok.ensures.session)) fits) told)

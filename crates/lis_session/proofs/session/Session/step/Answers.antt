@@ -7,12 +7,15 @@ use Rattle.lis_session.proofs.session.Session.step.Goals as goal
 pub returns-in-Command-clause-carries : goal.returns-in-Command-clause-carries
 unfolding step
 returns-in-Command-clause-carries g c =
-    let here : c.self.inside.place ≡ c.args.self.now.place = ap (λ (s : Situated). s.place) c.self.view_is in
-    rw c.in-Command.is (rw here at c.carry_out.ensures.carries)
+    let store : c.self.inside.store ≡ c.args.self.now.store = ap (λ (s : Situated). s.store) c.self.view_is in
+    let place : c.self.inside.place ≡ c.args.self.now.place = ap (λ (s : Situated). s.place) c.self.view_is in
+    rw c.in-Command.is (rw (store, place) at c.carry_out.ensures.carries)
 
 pub returns-in-Bad-clause-carries : goal.returns-in-Bad-clause-carries
 unfolding step
 returns-in-Bad-clause-carries g c =
-    rw c.in-Bad.is (λ state fitting.
+    let store : c.self.inside.store ≡ c.args.self.now.store = ap (λ (s : Situated). s.store) c.self.view_is in
+    let place : c.self.inside.place ≡ c.args.self.now.place = ap (λ (s : Situated). s.place) c.self.view_is in
+    rw (c.in-Bad.is, store, place) (λ state fitting.
     let now : Situation = record { state = state; place = c.args.self.now.place } in
     shows_item (refused now c.in-Bad.refusal) c.args.self.now.place fitting c.answer_refusal.ensures refl)

@@ -44,6 +44,13 @@ invariant_of-self g c =
     let placed = g.D.Disk.meaning c.put_content.new.disk in
     lost_sound (ArrayVec ℕ) old c.self.invariant c.args.payload.now c.put_content.new.parts c.put_content.new.journal c.put_content.new.is_broken c.in_err-blocks.field-0.0 m placed c.in_err-blocks.ensures.put c.in_err-blocks.ensures.ended c.put_content.ensures.sound
 
+pub returns-in_err-blocks-clause-sound : goal.returns-in_err-blocks-clause-sound
+returns-in_err-blocks-clause-sound g c =
+    let old : Stored = record { parts = c.self.inside.parts; journal = c.self.inside.journal; is_broken = c.self.inside.is_broken } in
+    let m = g.D.Disk.meaning c.args.disk.now in
+    let placed = g.D.Disk.meaning c.put_content.new.disk in
+    lost_sound (ArrayVec ℕ) old c.self.invariant c.args.payload.now c.put_content.new.parts c.put_content.new.journal c.put_content.new.is_broken c.in_err-blocks.field-0.0 m placed c.in_err-blocks.ensures.put c.in_err-blocks.ensures.ended c.put_content.ensures.sound
+
 pub returns-in_err-blocks-clause-changes : goal.returns-in_err-blocks-clause-changes
 returns-in_err-blocks-clause-changes g c = λ s fits.
     let old : Stored = record { parts = c.self.inside.parts; journal = c.self.inside.journal; is_broken = c.self.inside.is_broken } in

@@ -1,13 +1,12 @@
-use Rattle.std.proofs.Common.{arith}
-use Rattle.lis_store.proofs.Sizes.{file_seen, size_is_small, size_of_rec}
+use Rattle.std.proofs.Common.{◌∙◌, sym, ap}
+use Rattle.lis_catalog.specs.Catalog.{rec_at}
+use Rattle.lis_catalog.proofs.Laws.{rec_at-slot_of}
+use Rattle.lis_kept.specs.Kept.{Kept}
 use Rattle.lis_store.proofs.store.Store.file_size.Goals as goal
 
-pub size_of-requires : goal.size_of-requires
-size_of-requires c = file_seen c.args.self.now c.requires.0 c.args.slot c.limits-limits.ensures.sound c.requires.1
-
-pub overflow_cast-result : goal.overflow_cast-result
-overflow_cast-result c =
-    omega (arith, size_is_small c.args.self.now c.requires.0 c.args.slot c.limits-limits.ensures.sound c.requires.1 c.size_of.result c.size_of.ensures)
-
-pub returns : goal.returns
-returns c = size_of_rec c.args.self.now c.requires.0 c.args.slot c.limits-limits.ensures.sound c.requires.1 c.size_of.result c.size_of.ensures
+pub unreachable-requires : goal.unreachable-requires
+unreachable-requires c =
+    let found = rec_at-slot_of c.args.self.now.parts.catalog c.requires.0 c.args.slot c.parts.ensures.sound.parts.catalog c.requires.1 in
+    let none = ap (λ (k : Kept). rec_at k.catalog c.args.slot) (sym c.parts.ensures.value) ∙ c.in_default.ensures in
+    let both = sym found.1 ∙ none in
+    cc

@@ -29,6 +29,13 @@ invariant_of-self g c =
     lost_sound (Unit {0}) old c.in-Some.slot c.args.name.now c.self.invariant named c.give_content.new.parts c.give_content.new.is_broken c.in_err-give_content.field-0.0 (g.D.Disk.meaning c.args.disk.now)
     (g.D.Disk.meaning c.give_content.new.disk) c.in_err-give_content.ensures.given c.in_err-give_content.ensures.ended
 
+pub returns-in_err-give_content-clause-sound : goal.returns-in_err-give_content-clause-sound
+returns-in_err-give_content-clause-sound g c =
+    let old : Stored = record { parts = c.self.inside.parts; journal = c.self.inside.journal; is_broken = c.self.inside.is_broken } in
+    let named = ap (λ (k : Stored). slot_of k.parts.catalog c.args.name.now) c.self.view_is ∙ c.in-Some.ensures.slot in
+    lost_sound (Unit {0}) old c.in-Some.slot c.args.name.now c.self.invariant named c.give_content.new.parts c.give_content.new.is_broken c.in_err-give_content.field-0.0 (g.D.Disk.meaning c.args.disk.now)
+    (g.D.Disk.meaning c.give_content.new.disk) c.in_err-give_content.ensures.given c.in_err-give_content.ensures.ended
+
 pub returns-in_err-give_content-clause-changes : goal.returns-in_err-give_content-clause-changes
 returns-in_err-give_content-clause-changes g c = λ s fits.
     let old : Stored = record { parts = c.self.inside.parts; journal = c.self.inside.journal; is_broken = c.self.inside.is_broken } in

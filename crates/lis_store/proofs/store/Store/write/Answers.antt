@@ -278,6 +278,17 @@ invariant_of-self g c =
     let S : Bool → Type 0 = λ b. IsSound (record { parts = c.put_instead.new.parts; journal = c.put_instead.new.journal; is_broken = b }) in
     subst S (sym (ended_broken ℕ c.put_instead.new.is_broken c.in_err-blocks.field-0.0 c.in_err-blocks.ensures.ended)) (torn_sound old c.put_instead.new.parts c.put_instead.new.journal c.self.invariant before after torn.1 c.put_instead.ensures.sound)
 
+pub returns-in_err-blocks-clause-sound : goal.returns-in_err-blocks-clause-sound
+returns-in_err-blocks-clause-sound g c =
+    let old : Stored = record { parts = c.self.inside.parts; journal = c.self.inside.journal; is_broken = c.self.inside.is_broken } in
+    let named = ap (λ (k : Stored). slot_of k.parts.catalog c.args.name.now) c.self.view_is ∙ c.in-Some.ensures.slot in
+    let found = rec_at-slot_of c.self.inside.parts.catalog c.args.name.now c.in-Some.slot c.self.invariant.parts.catalog named in
+    let before = g.D.Disk.meaning c.args.disk.now in
+    let after = g.D.Disk.meaning c.put_instead.new.disk in
+    let torn = renewed_torn old c.put_instead.new.parts c.put_instead.new.journal found.0 c.args.payload.now c.self.invariant before after c.in_err-blocks.field-0.0 (c.in_err-blocks.ensures.renewed found.0 found.1) in
+    let S : Bool → Type 0 = λ b. IsSound (record { parts = c.put_instead.new.parts; journal = c.put_instead.new.journal; is_broken = b }) in
+    subst S (sym (ended_broken ℕ c.put_instead.new.is_broken c.in_err-blocks.field-0.0 c.in_err-blocks.ensures.ended)) (torn_sound old c.put_instead.new.parts c.put_instead.new.journal c.self.invariant before after torn.1 c.put_instead.ensures.sound)
+
 pub returns-in_err-blocks-clause-limits : goal.returns-in_err-blocks-clause-limits
 returns-in_err-blocks-clause-limits g c =
     let old : Stored = record { parts = c.self.inside.parts; journal = c.self.inside.journal; is_broken = c.self.inside.is_broken } in

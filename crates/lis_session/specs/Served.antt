@@ -1,0 +1,60 @@
+-- What a session over an image has come to since a start, where it carries out the items of an input.
+use Rattle.std.specs.Prelude.{◌≡◌, ◌≢◌, ℕ, ◌*◌, ◌≤◌, List, [], ◌∷◌, ◌++◌, Err, false}
+use Rattle.std.specs.Io.KnownBytes.{append_known}
+use Rattle.lis_ports.specs.Meaning.{Meaning}
+use Rattle.lis_ports.specs.Runs.{Adds}
+use Rattle.lis_ports.specs.Since.{Since}
+use Rattle.lis_journal.specs.Images.{KeepsPast}
+use Rattle.lis_grammar.specs.Formula.{Formula}
+use Rattle.lis_model.specs.Image.{image_blocks}
+use Rattle.lis_model.specs.State.{State}
+use Rattle.lis_model.specs.Step.{Situation, Item, replies, situation_after}
+use Rattle.lis_store.specs.Stored.{StoreFits}
+use Rattle.lis_session.specs.declared.end.End.{End}
+use Rattle.lis_session.specs.declared.end.End.TheVariants.{DiskFault, OutputFault}
+use Rattle.lis_session.specs.Session.{Situated, SessionMoment}
+use Rattle.lis_session.specs.Item.{FitsAt, HasEndCause, IsSameStation}
+use Rattle.lis_session.specs.Runs.{StopsAt, Serves}
+
+-- The store is not broken, and the station is long enough for its image.
+pub record IsReady (session : Situated) (m : Meaning) : Type 0 where
+  pub unbroken : session.store.is_broken ≡ false
+  pub long : 4096 * session.store.journal.blocks ≤ m.len
+
+-- these items were carried out, and all their replies were shown
+pub record DoneSoFar (start : Situation) (first : List Item) (old now : Meaning) (fits : State → Type 0) (place : List Formula) : Type 0 where
+  pub moments : Adds old now (Since old.shown (SessionMoment start first))
+  pub past : KeepsPast (image_blocks start.state.limits) old now
+  pub shown : now.shown ≡ append_known old.shown (replies start first)
+  pub fitting : FitsAt fits now (situation_after start first).state
+  pub at : place ≡ (situation_after start first).place
+
+-- a state, at the place of the session
+abbrev pub situation_at : Situated → State → Situation
+situation_at session state = record { state = state; place = session.place }
+
+-- Since the start these items were carried out, from any state that fitted then, and no call failed.
+pub record HasDone (start : Situated) (entry : Meaning) (first : List Item) (now : Situated) (m : Meaning) : Type 0 where
+  pub limits : now.store.parts.limits ≡ start.store.parts.limits
+  pub image : now.store.journal.blocks ≡ start.store.journal.blocks
+  pub unbroken : now.store.is_broken ≡ false
+  pub same : IsSameStation entry m
+  pub disk_faults : m.disk_faults ≡ entry.disk_faults
+  pub show_faults : m.show_faults ≡ entry.show_faults
+  pub done : (state : State) → FitsAt (StoreFits start.store entry) entry state
+      → DoneSoFar (situation_at start state) first entry m (StoreFits now.store m) now.place
+
+-- where a fault leaves a session: after one of the disk the moments tell what stands
+abbrev pub StoppedAt : Situation → List Item → Meaning → Meaning → End → Type 0
+StoppedAt start items entry m DiskFault = Unit {0}
+StoppedAt start items entry m OutputFault = StopsAt start items entry.shown m
+
+-- Since the start these items were carried out, from any state that fitted then, and in the next one there was this fault.
+pub record HasStopped (start : Situated) (entry : Meaning) (first : List Item) (item : Item) (fault : End) (now : Situated) (m : Meaning) : Type 0 where
+  pub limits : now.store.parts.limits ≡ start.store.parts.limits
+  pub image : now.store.journal.blocks ≡ start.store.journal.blocks
+  pub same : IsSameStation entry m
+  pub cause : HasEndCause entry m (Err fault)
+  pub unbroken : fault ≢ DiskFault → now.store.is_broken ≡ false
+  pub serves : (state : State) → FitsAt (StoreFits start.store entry) entry state
+      → Serves (situation_at start state) (first ++ item ∷ []) entry m (StoppedAt (situation_at start state) (first ++ item ∷ []) entry m fault)

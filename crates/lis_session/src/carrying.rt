@@ -1,0 +1,28 @@
+//! A session carries out the items of an input, one after another.
+
+ghost use Rattle.lis_session.specs.Served.{IsReady, HasDone, HasStopped};
+
+use crate::end::End;
+use crate::session::Session;
+use lis_line::carrier::Carrier;
+use lis_line::reader::{Item, Payload};
+use lis_ports::Station;
+
+impl Carrier for Session {
+    type Fault = End;
+
+    ghost is_ready = { IsReady };
+
+    ghost has_done = { HasDone };
+
+    ghost has_stopped = { HasStopped };
+
+    fn carry<T: Station>(
+        &mut self,
+        item: &Item,
+        payload: &Payload,
+        station: &mut T,
+    ) -> Result<(), End> {
+        self.step(item, payload, station)
+    }
+}
