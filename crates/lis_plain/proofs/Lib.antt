@@ -1,2 +1,3 @@
 mod Entries
 mod Rows
+pub mod Trying

@@ -2,6 +2,7 @@
 #![tactic(auto)]
 
 mod axioms;
+mod carrying;
 mod content;
 pub mod end;
 mod file;

@@ -28,7 +28,7 @@ HasStatusCause old new OutputFault = Rose old.show new.show × (new.disk ≡ old
 HasStatusCause old new InputLimit = new ≡ old
 HasStatusCause old new NoMemory = new ≡ old
 
--- the statuses of a session that makes no disk call
+-- the statuses of a session over a plain state
 abbrev pub IsTryStatus : Status → Type 0
 IsTryStatus Done = Unit {0}
 IsTryStatus Usage = ⊥

@@ -6,6 +6,10 @@ use Rattle.lis_model.specs.Step.{Situation, Item, step, replies, situation_after
 use Rattle.lis_model.specs.Script.{script, whole_items}
 use Rattle.lis_line.specs.declared.reader.Item.{Item as Said}
 use Rattle.lis_line.specs.declared.reader.Item.TheVariants.{Command, Bad, End, Limit}
+use Rattle.lis_line.specs.declared.carrier.Halt.{Halt}
+use Rattle.lis_line.specs.declared.carrier.Halt.TheVariants.{End as AtEnd, Limit as AtLimit, InputFault as AtFault, Stopped}
+use Rattle.lis_plain.specs.declared.end.PlainEnd.{PlainEnd}
+use Rattle.lis_plain.specs.declared.end.PlainEnd.TheVariants.{OutputFault as ShowFailed, NoMemory as NoRoom}
 use Rattle.lis_shell.specs.declared.status.Status.{Status}
 use Rattle.lis_shell.specs.declared.status.Status.TheVariants.{Done, Usage, NotAnImage, TooShort, DiskFault, InputFault, OutputFault, InputLimit, NoMemory}
 
@@ -47,6 +51,14 @@ Tries start limit bytes left before now end Usage = ⊥
 Tries start limit bytes left before now end (NotAnImage spot) = ⊥
 Tries start limit bytes left before now end (TooShort len need) = ⊥
 Tries start limit bytes left before now end DiskFault = ⊥
+
+-- the status at which it ends, by where its items ended
+abbrev pub try_status : Halt PlainEnd → Status
+try_status AtEnd = Done
+try_status AtLimit = InputLimit
+try_status AtFault = InputFault
+try_status (Stopped ShowFailed) = OutputFault
+try_status (Stopped NoRoom) = NoMemory
 
 -- the item at which a session ends, if it is one
 abbrev pub ending_of : Said → Option Status

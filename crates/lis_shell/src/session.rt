@@ -4,10 +4,11 @@ ghost use Rattle.std.specs.Prelude.{◌≡◌, ℕ, ◌≤◌, ◌^◌, List, So
 ghost use Rattle.lis_ports.specs.Calls.{IsShowCall};
 ghost use Rattle.lis_line.specs.Taking.{TakesFew};
 ghost use Rattle.lis_shell.specs.Causes.{counts, HasStatusCause, IsTryStatus};
-ghost use Rattle.lis_shell.specs.Tries.{Tries, ending_of};
+ghost use Rattle.lis_shell.specs.Tries.{Tries, try_status, ending_of};
 
 use crate::status::Status;
-use lis_line::reader::{Item, LineReader, Payload};
+use lis_line::carrier::{Halt, carry_all};
+use lis_line::reader::{Item, Payload};
 use lis_plain::end::PlainEnd;
 use lis_plain::plain::Plain;
 use lis_ports::{Source, Station};
@@ -24,8 +25,21 @@ pub fn ending(item: &Item) -> Option<Status>
     }
 }
 
+// The status at which a session over a plain state ends.
+fn status_at(halt: Halt<PlainEnd>) -> Status
+    ensures { result ≡ try_status halt }
+{
+    match halt {
+        Halt::End => Status::Done,
+        Halt::Limit => Status::InputLimit,
+        Halt::InputFault => Status::InputFault,
+        Halt::Stopped(PlainEnd::OutputFault) => Status::OutputFault,
+        Halt::Stopped(PlainEnd::NoMemory) => Status::NoMemory,
+    }
+}
+
 /// Carries out the items of the input on a plain state, up to its end, its limit or the first fault. It takes at most one
-/// byte past the limit, and makes no call of the disk.
+/// byte past the limit. What an honest disk reads as, and what a crash leaves of it, stays.
 pub fn try_session<S: Source, T: Station>(
     plain: &mut Plain,
     payload: &mut Payload,
@@ -41,20 +55,6 @@ pub fn try_session<S: Source, T: Station>(
     ensures tries { (bytes : List ℕ) → S.left input.old ≡ Some bytes
         → Tries plain.old limit bytes (S.left input.new) (T.meaning station.old).shown (T.meaning station.new).shown plain.new result }
 {
-    let mut reader = LineReader::new(limit);
-    loop {
-        let item = match reader.next(input, payload) {
-            Ok(item) => item,
-            Err(_) => return Status::InputFault,
-        };
-        match ending(&item) {
-            None => {}
-            Some(status) => return status,
-        }
-        match plain.step(&item, payload, station) {
-            Ok(()) => {}
-            Err(PlainEnd::OutputFault) => return Status::OutputFault,
-            Err(PlainEnd::NoMemory) => return Status::NoMemory,
-        }
-    }
+    let halt = carry_all(plain, payload, input, station, limit);
+    status_at(halt)
 }

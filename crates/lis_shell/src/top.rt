@@ -215,13 +215,13 @@ fn carry_task<S: Source, T: Station>(
 
 /// Does what the words after the program's name ask for.
 ///
-/// `try FILES PROPS BLOCKS` carries out the commands of the input on a state that begins empty, and shows the replies; it makes no call of
-/// the disk. `make IMAGE FILES PROPS BLOCKS` makes an image of the empty state; it reads no input and shows nothing. With `v2` behind the
-/// words of these two the state is of version 2, and else of version 1. `run IMAGE` opens the image, carries out the commands of the input
-/// on it and shows the replies. `upgrade IMAGE` makes the image one of version 2; it reads no input and shows nothing. `grow IMAGE N` opens
-/// the image and carries out the large session that is made of the number, below 2^31; it reads no input, and shows a summary in place of
-/// the replies. IMAGE is not looked at here: the station is the image. Any other words are `Usage`, which is judged before anything is read
-/// or taken.
+/// `try FILES PROPS BLOCKS` carries out the commands of the input on a state that begins empty, and shows the replies; what the disk reads
+/// as, and what a crash leaves of it, stays. `make IMAGE FILES PROPS BLOCKS` makes an image of the empty state; it reads no input and shows
+/// nothing. With `v2` behind the words of these two the state is of version 2, and else of version 1. `run IMAGE` opens the image, carries
+/// out the commands of the input on it and shows the replies. `upgrade IMAGE` makes the image one of version 2; it reads no input and shows
+/// nothing. `grow IMAGE N` opens the image and carries out the large session that is made of the number, below 2^31; it reads no input, and
+/// shows a summary in place of the replies. IMAGE is not looked at here: the station is the image. Any other words are `Usage`, which is
+/// judged before anything is read or taken.
 ///
 /// Want of memory in `run`, `grow` and `upgrade` comes at the opening alone, with nothing shown; in `try` it may come between two commands.
 pub fn lisfs<S: Source, T: Station>(
