@@ -1,8 +1,8 @@
 -- How a session over an image ends, told by its status.
-use Rattle.std.proofs.Common.{◌≡◌, ◌≢◌, ℕ, List, ◌∷◌, [], ◌++◌, Option, Some, Err, false, ap, refl, subst, ◌∙◌}
+use Rattle.std.proofs.Common.{◌≡◌, ◌≢◌, ℕ, List, Option, Some, false, ap, refl, ◌∙◌}
 use Rattle.lis_ports.specs.Meaning.{Meaning}
 use Rattle.lis_model.specs.State.{State}
-use Rattle.lis_model.specs.Step.{Situation, Item, situation_after}
+use Rattle.lis_model.specs.Step.{situation_after}
 use Rattle.lis_model.specs.Script.{script}
 use Rattle.lis_line.specs.declared.carrier.Halt.{Halt}
 use Rattle.lis_line.specs.declared.carrier.Halt.TheVariants.{End as AtEnd, Limit as AtLimit, InputFault as AtFault, Stopped}
@@ -15,7 +15,6 @@ use Rattle.lis_session.specs.Item.{FitsAt, IsSameStation}
 use Rattle.lis_session.specs.Runs.{Serves}
 use Rattle.lis_session.specs.Served.{HasDone, HasStopped, situation_at}
 use Rattle.lis_session.proofs.Served.{serves_all, serves_to_limit, serves_whole, serves_stopped, reached}
-use Rattle.lis_shell.specs.declared.status.Status.{Status}
 use Rattle.lis_shell.specs.declared.status.Status.TheVariants.{DiskFault}
 use Rattle.lis_shell.specs.Causes.{Counts, counts, HasStatusCause}
 use Rattle.lis_shell.specs.Runs.{serve_status, IsSessionStatus, InputRead, GoesOn, Served}
