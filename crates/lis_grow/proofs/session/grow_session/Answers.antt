@@ -15,7 +15,7 @@ returns-clause-grows g c = λ state fits.
     let start : Situation = record { state = state; place = c.args.session.now.place } in
     let items = grow_items c.args.n in
     let summed = c.in-Ok.ensures.carries state fits in
-    let told = counts_state (g.T.Disk.meaning c.carry_out.new.disk) c.carry_out.new.store (situation_after start items).state c.limits-limits-2.ensures.sound summed.ended.fitting.own in
+    let told = counts_state (g.T.Disk.meaning c.carry_out.new.disk) c.carry_out.new.session.store (situation_after start items).state c.store-store.ensures.sound summed.ended.fitting.own in
     grows_shown start items c.in-Ok.sum summed (g.T.Disk.meaning c.show_summary.new.station) c.show_summary.result _
     (summary_is start items c.in-Ok.sum c.counts.result summed.ended.replies summed.ended.refused summed.ended.listed (c.counts.ensures.files ∙ told.files) (c.counts.ensures.axioms ∙ told.axioms)
     (c.counts.ensures.free ∙ told.free)) c.show_summary.ensures
