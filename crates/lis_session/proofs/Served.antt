@@ -13,7 +13,7 @@ use Rattle.lis_session.specs.declared.end.End.{End}
 use Rattle.lis_session.specs.declared.end.End.TheVariants.{DiskFault, OutputFault}
 use Rattle.lis_session.specs.Session.{Situated, SessionMoment}
 use Rattle.lis_session.specs.Item.{FitsAt}
-use Rattle.lis_session.specs.Runs.{Carried, CarriedAll, CarriedToLimit, CarriedWhole, StopsAt, Serves}
+use Rattle.lis_session.specs.Runs.{Carried, CarriedAll, CarriedToLimit, CarriedWhole, Serves}
 use Rattle.lis_session.specs.Served.{DoneSoFar, HasDone, HasStopped, StoppedAt, situation_at}
 use Rattle.lis_session.proofs.Moments.{moment_more, session_more}
 

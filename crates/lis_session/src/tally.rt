@@ -146,7 +146,7 @@ pub(crate) fn tally_command<D: Disk>(
         Command::Mkdir(word) => concluded(store.declare(disk, place, word)),
         Command::Rmdir(word) => concluded(store.undeclare(disk, word)),
         Command::Axiom(left, right) => concluded(store.axiom(disk, scratch, left, right)),
-        Command::Unaxiom(left, right) => { concluded(store.unaxiom(disk, scratch, left, right)) }
+        Command::Unaxiom(left, right) => concluded(store.unaxiom(disk, scratch, left, right)),
         Command::Create(name, tags) => {
             // To create a file is to add one without bytes.
             create_is_add();
@@ -156,10 +156,8 @@ pub(crate) fn tally_command<D: Disk>(
             disk, scratch, place, name, tags, bytes, size,
         )),
         Command::Write(name) => concluded(store.write(disk, scratch, place, name, bytes, size)),
-        Command::Mv(name, text) => { concluded(store.retag(disk, scratch, place, name, text)) }
-        Command::Rename(name, other) => {
-            concluded(store.rename(disk, scratch, place, name, other))
-        }
+        Command::Mv(name, text) => concluded(store.retag(disk, scratch, place, name, text)),
+        Command::Rename(name, other) => concluded(store.rename(disk, scratch, place, name, other)),
         Command::Rm(name) => concluded(store.remove(disk, scratch, place, name)),
         Command::Cat(name) => Ok(look(store, scratch, place, name)),
         Command::Props(name) => Ok(look(store, scratch, place, name)),

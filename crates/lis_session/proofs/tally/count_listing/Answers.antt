@@ -1,7 +1,7 @@
-use Rattle.std.proofs.Common.{◌≤◌, length, subst, sym, ap, arith}
+use Rattle.std.proofs.Common.{length, ap, arith}
 use Rattle.lis_kept.proofs.InArea.{few_files, few_properties}
 use Rattle.lis_store.specs.Seen.{seen_of}
-use Rattle.lis_session.proofs.Tallying.{few_lines, listing_length}
+use Rattle.lis_session.proofs.Tallying.{few_lines}
 use Rattle.lis_session.proofs.tally.count_listing.Goals as goal
 
 pub count_lines-requires : goal.count_lines-requires

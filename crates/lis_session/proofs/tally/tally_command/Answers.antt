@@ -1,4 +1,4 @@
-use Rattle.std.proofs.Common.{◌≡◌, ◌+◌, ℕ, List, length, is_some, not, refl, ap, sym, subst, ◌∙◌, arith}
+use Rattle.std.proofs.Common.{◌≡◌, ◌+◌, length, refl, ap, sym, subst, arith}
 use Rattle.std.specs.List.{flat_map}
 use Rattle.lis_model.specs.Changes.{file_of}
 use Rattle.lis_model.specs.Listing.{increments, locals}
@@ -12,7 +12,7 @@ use Rattle.lis_store.proofs.Facts.{table_told}
 use Rattle.lis_session.proofs.Laws.{mkdir_stays, rmdir_stays, axiom_stays, unaxiom_stays, add_stays, write_stays, mv_stays, rename_stays, rm_stays}
 use Rattle.lis_session.proofs.Answering.{cd_arrives}
 use Rattle.lis_session.proofs.Blocks.{looked_for}
-use Rattle.lis_session.proofs.Tallying.{tally_with, tallied_change, tallied_still, tallied_look, tallied_cd, no_refusal, listing_no_refusal}
+use Rattle.lis_session.proofs.Tallying.{tallied_change, tallied_still, tallied_look, tallied_cd, no_refusal, listing_no_refusal}
 use Rattle.lis_session.proofs.tally.tally_command.Goals as goal
 
 pub returns-in-Mkdir-clause-tallies : goal.returns-in-Mkdir-clause-tallies
