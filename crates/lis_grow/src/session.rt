@@ -17,7 +17,6 @@ use lis_line::reader::{Item, LineReader, Payload};
 use lis_ports::{Disk, Failed, Station};
 use lis_session::end::End;
 use lis_session::session::Session;
-use lis_store::Store;
 
 /// A session has fewer bytes.
 const LIMIT: u64 = 1 << 17;
@@ -36,24 +35,21 @@ fn is_asked(item: &Item) -> bool
 
 // Carries out all items, and shows nothing.
 fn carry_out<D: Disk>(
-    store: &mut Store,
     session: &mut Session,
     payload: &mut Payload,
     disk: &mut D,
     n: u32,
 ) -> Result<Sum, Failed>
-    requires sound { IsSound store.old }
-    requires session { session.old.limits ≡ store.old.parts.limits }
-    requires unbroken { store.old.is_broken ≡ false }
-    requires long { 4096 * store.old.journal.blocks ≤ (D.meaning disk.old).len }
-    ensures carries { (state : State) → StoreFits store.old (D.meaning disk.old) state
-        → Summed (record { state = state; place = session.old.place }) (grow_items n) (D.meaning disk.old) (D.meaning disk.new) result (StoreFits store.new (D.meaning disk.new)) }
+    requires sound { IsSound session.old.store }
+    requires unbroken { session.old.store.is_broken ≡ false }
+    requires long { 4096 * session.old.store.journal.blocks ≤ (D.meaning disk.old).len }
+    ensures carries { (state : State) → StoreFits session.old.store (D.meaning disk.old) state
+        → Summed (record { state = state; place = session.old.place }) (grow_items n) (D.meaning disk.old) (D.meaning disk.new) result (StoreFits session.new.store (D.meaning disk.new)) }
     ensures run { IsDiskRun (D.meaning disk.old) (D.meaning disk.new) }
     ensures cause { HasCause (D.meaning disk.old).disk_faults (D.meaning disk.new).disk_faults result }
-    ensures limits { store.new.parts.limits ≡ store.old.parts.limits }
-    ensures image { store.new.journal.blocks ≡ store.old.journal.blocks }
-    ensures unbroken { IfOk result (λ _. store.new.is_broken ≡ false) }
-    ensures session { session.new.limits ≡ session.old.limits }
+    ensures limits { session.new.store.parts.limits ≡ session.old.store.parts.limits }
+    ensures image { session.new.store.journal.blocks ≡ session.old.store.journal.blocks }
+    ensures unbroken { IfOk result (λ _. session.new.store.is_broken ≡ false) }
 {
     let mut source = GrowSource::new(n);
     let mut reader = LineReader::new(LIMIT);
@@ -65,7 +61,7 @@ fn carry_out<D: Disk>(
         if !is_asked(&item) {
             return Ok(sum);
         }
-        let tally = session.tally(store, &item, payload, disk)?;
+        let tally = session.tally(&item, payload, disk)?;
         sum.add(&tally);
     }
 }
@@ -75,28 +71,23 @@ fn carry_out<D: Disk>(
 /// Stopped at any moment, the image stands for the state after some first items, and what was shown is a front of the summary, which is
 /// begun once all items were carried out.
 pub fn grow_session<T: Station>(
-    store: &mut Store,
     session: &mut Session,
     payload: &mut Payload,
     station: &mut T,
     n: u32,
 ) -> Result<(), End>
-    requires session { session.old.limits ≡ store.old.parts.limits }
-    requires unbroken { store.old.is_broken ≡ false }
-    requires long { 4096 * store.old.journal.blocks ≤ (T.meaning station.old).len }
-    ensures grows { (state : State) → StoreFits store.old (T.meaning station.old) state
+    requires sound { IsSound session.old.store }
+    requires unbroken { session.old.store.is_broken ≡ false }
+    requires long { 4096 * session.old.store.journal.blocks ≤ (T.meaning station.old).len }
+    ensures grows { (state : State) → StoreFits session.old.store (T.meaning station.old) state
         → Grows (record { state = state; place = session.old.place }) (grow_items n) (T.meaning station.old) (T.meaning station.new)
         (GrowEnded (record { state = state; place = session.old.place }) (grow_items n) (T.meaning station.old).shown (T.meaning station.new) result) }
     ensures cause { HasEndCause (T.meaning station.old) (T.meaning station.new) result }
     ensures same { IsSameStation (T.meaning station.old) (T.meaning station.new) }
-    ensures left { StoreLeft store.old store.new result }
-    ensures session { session.new.limits ≡ session.old.limits }
+    ensures left { StoreLeft session.old.store session.new.store result }
 {
-    // The limits tell that the store is sound.
-    let _limits = store.limits();
-    let Ok(sum) = carry_out(store, session, payload, station, n) else {
+    let Ok(sum) = carry_out(session, payload, station, n) else {
         return Err(End::DiskFault);
     };
-    let _limits = store.limits();
-    show_summary(station, &sum, &store.counts())
+    show_summary(station, &sum, &session.store().counts())
 }

@@ -17,7 +17,6 @@ pub loop-item-init : goal.loop-item-init
 loop-item-init g c = record {
   image = refl;
   limits = refl;
-  session = refl;
   unbroken = c.requires.unbroken;
   run = run_none (g.D.Disk.meaning c.args.disk.now);
   disk_faults = refl;
@@ -40,7 +39,7 @@ returns-in_err-tally-clause-carries g c = λ state fits.
     let read = item_read c.loop-item.invariant.so_far c.next.ensures.says c.in-Ok.is c.next.ensures.few some in
     let p = err_from_is_err_and c.from_residual.result c.from_residual.ensures.1 in
     rw (p.1, p.2)
-    (ends_disk (g.D.Disk.meaning c.tally.new.disk) c.in_err-tally.field-0.0 (StoreFits c.tally.new.store (g.D.Disk.meaning c.tally.new.disk)) c.tally.new.self.place (grow_bytes c.args.n) state
+    (ends_disk (g.D.Disk.meaning c.tally.new.disk) c.in_err-tally.field-0.0 (StoreFits c.tally.new.self.store (g.D.Disk.meaning c.tally.new.disk)) c.tally.new.self.place (grow_bytes c.args.n) state
     read refl c.in_err-tally.ensures.tallies (grow_short c.args.n) (store_fits_at c.requires.sound fits))
 
 pub loop-item-preserved : goal.loop-item-preserved
@@ -48,12 +47,11 @@ loop-item-preserved g c =
     let kept = c.loop-item.invariant in
     let some = asks_some c.in-Ok.item c.next.new.payload (c.is_asked.ensures c.next.new.payload ∙ c.if-not-is_asked.false) in
     let read = item_read kept.so_far c.next.ensures.says c.in-Ok.is c.next.ensures.few some in
-    let limits = c.args.store.now.parts.limits in
+    let limits = c.args.session.now.store.parts.limits in
     let range = c.requires.sound.parts.range in
     record {
       image = c.in_ok-tally.ensures.image ∙ kept.image;
       limits = c.in_ok-tally.ensures.limits ∙ kept.limits;
-      session = c.in_ok-tally.ensures.room ∙ kept.session;
       unbroken = c.in_ok-tally.ensures.unbroken;
       run = run_then kept.run c.in_ok-tally.ensures.run;
       disk_faults = c.in_ok-tally.ensures.cause.stays ∙ kept.disk_faults;

@@ -7,13 +7,12 @@ use Rattle.lis_grow.proofs.session.carry_out.Given as goal
 
 abbrev pub invariant-loop-item : goal.invariant-loop-item
 invariant-loop-item g l = record {
-  image : l.store.journal.blocks ≡ l.fn.store.journal.blocks;
-  limits : l.store.parts.limits ≡ l.fn.store.parts.limits;
-  session : l.session.limits ≡ l.fn.session.limits;
-  unbroken : l.store.is_broken ≡ false;
+  image : l.session.store.journal.blocks ≡ l.fn.session.store.journal.blocks;
+  limits : l.session.store.parts.limits ≡ l.fn.session.store.parts.limits;
+  unbroken : l.session.store.is_broken ≡ false;
   run : IsDiskRun (g.D.Disk.meaning l.fn.disk) (g.D.Disk.meaning l.disk);
   disk_faults : (g.D.Disk.meaning l.disk).disk_faults ≡ (g.D.Disk.meaning l.fn.disk).disk_faults;
-  so_far : SoFar 131072 (Some (grow_bytes l.n)) (Some l.source) l.reader l.fn.session.place (StoreFits l.fn.store (g.D.Disk.meaning l.fn.disk)) (g.D.Disk.meaning l.fn.disk) (g.D.Disk.meaning l.disk) (StoreFits l.store (g.D.Disk.meaning l.disk)) l.session.place l.sum;
+  so_far : SoFar 131072 (Some (grow_bytes l.n)) (Some l.source) l.reader l.fn.session.place (StoreFits l.fn.session.store (g.D.Disk.meaning l.fn.disk)) (g.D.Disk.meaning l.fn.disk) (g.D.Disk.meaning l.disk) (StoreFits l.session.store (g.D.Disk.meaning l.disk)) l.session.place l.sum;
   replies : l.sum.replies + l.reader.stock.rest ≤ 131073;
   refused : l.sum.refused ≤ l.sum.replies;
   listed : l.sum.listed ≤ 12288 * l.sum.replies;
