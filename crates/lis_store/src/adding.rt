@@ -39,7 +39,8 @@ fn learn_head(parts: &mut Parts, word: &Word)
 pub(crate) fn learn_word(parts: &mut Parts, word: &Word)
     requires form { IsTrue (may_learn parts.old word.now) }
     requires room { HasWordRoom parts.old (behind_head word.now) }
-    ensures { LearnsAll (behind_head word.now) parts.old parts.new }
+    ensures learns { LearnsAll (behind_head word.now) parts.old parts.new }
+    ensures sound { AreSound parts.new }
 {
     learn_head(parts, word);
     parts.learn(word);

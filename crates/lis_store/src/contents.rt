@@ -41,10 +41,7 @@ pub(crate) fn put_content<D: Disk>(
     ensures run { IsDiskRun (D.meaning disk.old) (D.meaning disk.new) }
     ensures cause { HasChangeCause (D.meaning disk.old).disk_faults (D.meaning disk.new).disk_faults result }
 {
-    let put = parts.put_content(journal, disk, payload);
-    // Only its limits tell that memory is in form.
-    let _limits = parts.limits();
-    match put {
+    match parts.put_content(journal, disk, payload) {
         Ok(numbers) => Ok(numbers),
         Err(fault) => {
             *is_broken = true;
@@ -69,6 +66,7 @@ pub(crate) fn give_content<D: Disk>(
     ensures given { (rec : FileRecord) → rec_at parts.old.catalog slot ≡ Some rec
         → ContentGiven rec parts.old parts.new journal.now (D.meaning disk.old) (D.meaning disk.new) result }
     ensures ended { ContentEnded is_broken.new result }
+    ensures sound { AreSound parts.new }
     ensures run { IsDiskRun (D.meaning disk.old) (D.meaning disk.new) }
     ensures cause { HasChangeCause (D.meaning disk.old).disk_faults (D.meaning disk.new).disk_faults result }
 {
@@ -126,8 +124,6 @@ pub(crate) fn put_instead<D: Disk>(
     if parts.limits().version == 2 {
         let numbers = put_content(parts, journal, is_broken, disk, payload)?;
         give_content(parts, journal, is_broken, disk, slot)?;
-        // Only its limits tell that memory is in form.
-        let _limits = parts.limits();
         return Ok(numbers);
     }
     give_content(parts, journal, is_broken, disk, slot)?;

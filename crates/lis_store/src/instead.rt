@@ -9,6 +9,7 @@ ghost use Rattle.lis_ext.specs.Ext.{has};
 ghost use Rattle.lis_fields.specs.Records.{FileRecord};
 ghost use Rattle.lis_model.specs.Changes.{new_file};
 ghost use Rattle.lis_eval.specs.Room.{HasRoom};
+ghost use Rattle.lis_kept.specs.Sound.{AreSound};
 ghost use Rattle.lis_kept.specs.Telling.{words_told, is_used, AreUsed};
 ghost use Rattle.lis_store.specs.Admitting.{described_by};
 ghost use Rattle.lis_store.specs.Assigning.{Takes};
@@ -64,8 +65,6 @@ pub(crate) fn assigned_in(parts: &Parts, slot: u16) -> ArrayVec<Word, 16>
     ensures words { (rec : FileRecord) → rec_at parts.now.catalog slot ≡ Some rec → result.items ≡ words_told parts.now.dict rec.tags }
     ensures few { length result.items ≤ 16 }
 {
-    // Only the limits tell that no file was given more.
-    let _limits = parts.limits();
     let Some(rec) = parts.rec(slot) else {
         unreachable!()
     };
@@ -86,14 +85,13 @@ fn free_instead(parts: &Parts, slot: u16) -> u64
 
 // Whether the description in a slot has a number which is not in the row, and which nothing else uses.
 fn is_leaving(parts: &Parts, row: &Rows, slot: u16, number: u16) -> bool
+    requires sound { AreSound parts.now }
     requires there { IsSome (rec_at parts.now.catalog slot) }
     requires slot { slot < length parts.now.ext.sets }
     requires number { number < parts.now.limits.props }
     requires shape { HasShape row.now 1 parts.now.limits.props }
     ensures { result ≡ (has parts.now.ext number slot && not (get row.now 0 number) && not (is_used (emptied parts.now slot) number)) }
 {
-    // Only the limits tell that each number of a description has a word.
-    let _limits = parts.limits();
     if !parts.ext().rows().get(u32::from(number), u32::from(slot)) {
         return false;
     }
@@ -129,6 +127,7 @@ fn measure_instead(
     words: &[Word],
     payload: &[u8],
 ) -> Known
+    requires sound { AreSound parts.now }
     requires slot { slot < length parts.now.ext.sets }
     requires there { IsSome (rec_at parts.now.catalog slot) }
     requires used { AreUsed parts.now }
@@ -138,8 +137,6 @@ fn measure_instead(
     ensures words { result.words ≡ length (described_by parts.now (new_file name.now words.now payload.now)) }
     ensures known { result.known ≡ length (known_instead parts.now slot (new_file name.now words.now payload.now)) }
 {
-    // Only the limits tell that the parts are in form.
-    let _limits = parts.limits();
     let extent = measure(parts, row, name, words, payload);
     let gone = leaving(parts, row, slot);
     Known {

@@ -5,6 +5,7 @@ ghost use Rattle.lis_dict.specs.Dict.{number_of};
 ghost use Rattle.lis_model.specs.State.{is_declarable};
 ghost use Rattle.lis_model.specs.Step.{words_at};
 ghost use Rattle.lis_words.specs.Words.{is_property};
+ghost use Rattle.lis_kept.specs.Sound.{AreSound};
 ghost use Rattle.lis_store.specs.Changes.{Judges};
 ghost use Rattle.lis_store.specs.Judging.{word_checks, undeclare_checks};
 ghost use Rattle.lis_store.specs.Placing.{AreNumbersOf};
@@ -23,6 +24,7 @@ pub(crate) fn may_declare(
     place: &Place,
     word: &Word,
 ) -> Result<ArrayVec<u16, 64>, Refusal>
+    requires sound { AreSound parts.now }
     ensures row { Judges (word_checks parts.now place.now word.now) result }
     ensures form { OnOk result (IsTrue (is_declarable word.now)) }
     ensures word { IsTrue (is_property word.now) }
@@ -60,11 +62,10 @@ pub(crate) fn may_declare(
 
 /// The number of a word whose declaration may be taken back.
 pub(crate) fn may_undeclare(parts: &Parts, word: &Word) -> Result<u16, Refusal>
+    requires sound { AreSound parts.now }
     ensures row { Judges (undeclare_checks parts.now word.now) result }
     ensures number { IfOk result (λ number. number_of parts.now.dict word.now ≡ Some number) }
 {
-    // Only the limits tell that memory is in form.
-    let _limits = parts.limits();
     if is_builtin(word) {
         return Err(Refusal::BuiltIn);
     }

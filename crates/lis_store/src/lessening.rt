@@ -24,11 +24,10 @@ use lis_words::{Word, head_of, is_plain_word};
 
 /// The numbers of the two words of an axiom, if it is kept. Its right word is plain.
 pub(crate) fn axiom_numbers(parts: &Parts, left: &Word, right: &Word) -> Option<(u16, u16)>
+    requires sound { AreSound parts.now }
     ensures there { is_some result ≡ is_axiom parts.now left.now right.now }
     ensures numbers { IfSome result (λ pair. IsAxiomAt parts.now left.now right.now pair.0 pair.1) }
 {
-    // The limits tell that the parts are sound.
-    let _limits = parts.limits();
     if !is_plain_word(right.bytes()) {
         return None;
     }
@@ -132,6 +131,7 @@ fn lessen(parts: &mut Parts, row: &mut Rows, left: u16, right: u16, slot: u16)
     requires few { length (remaining_at parts.old right slot) ≤ 128 }
     ensures shape { HasShape row.new 1 parts.old.limits.props }
     ensures lessened { Gives slot (lessened parts.old left right slot) parts.old parts.new }
+    ensures sound { AreSound parts.new }
 {
     let props = parts.limits().props;
     if !parts.ext().rows().get(u32::from(left), u32::from(slot)) {
@@ -152,6 +152,7 @@ fn lessen_all(parts: &mut Parts, row: &mut Rows, left: u16, right: u16)
     requires few { (slot : ℕ) → length (remaining_at parts.old right slot) ≤ 128 }
     ensures shape { HasShape row.new 1 parts.old.limits.props }
     ensures lessened { Redescribes (lessened parts.old left right) parts.old.limits.files parts.old parts.new }
+    ensures sound { AreSound parts.new }
 {
     let files = parts.limits().files;
     for slot in 0..files {
@@ -180,6 +181,7 @@ fn with_head(parts: &Parts, left: u16) -> ArrayVec<u16, 2>
 
 /// Takes an axiom away, with all that descriptions have by it alone, and with the words that nothing uses any more.
 pub(crate) fn take_axiom(parts: &mut Parts, scratch: &mut Scratch, left: u16, right: u16)
+    requires sound { AreSound parts.old }
     requires may { MayUnlink left right parts.old }
     requires free { FreeSlotsAreEmpty parts.old }
     requires closed { AreClosed parts.old }
@@ -189,12 +191,8 @@ pub(crate) fn take_axiom(parts: &mut Parts, scratch: &mut Scratch, left: u16, ri
     ensures scratch { HasRoom scratch.new parts.old.limits }
     ensures taken { TakesAxiom left right parts.old parts.new }
 {
-    // Only the limits tell that the parts are sound, before and then at each change.
-    let _before = parts.limits();
     let numbers = with_head(parts, left);
     parts.unlink(left, right);
-    let _unlinked = parts.limits();
     lessen_all(parts, &mut scratch.candidates, left, right);
-    let _lessened = parts.limits();
     parts.forget_unused(numbers.as_slice());
 }

@@ -6,6 +6,7 @@ ghost use Rattle.lis_content.specs.Content.{has_number};
 ghost use Rattle.lis_place.specs.Nodes.{node_words};
 ghost use Rattle.lis_model.specs.Places.{place_words};
 ghost use Rattle.lis_model.specs.Step.{is_plain_place, words_at};
+ghost use Rattle.lis_kept.specs.Sound.{AreSound};
 ghost use Rattle.lis_kept.specs.Telling.{is_declared};
 ghost use Rattle.lis_store.specs.Placing.{is_plain_conjunct, declared_number, AreNumbersOf, TakesNumbers};
 
@@ -61,11 +62,10 @@ fn has_number(numbers: &[u16], number: u16) -> bool
 
 // Puts the number of a word to others, if it is declared.
 fn take_number(parts: &Parts, numbers: &mut ArrayVec<u16, 64>, word: &Word) -> bool
-    requires { length numbers.old.items < 64 }
+    requires sound { AreSound parts.now }
+    requires room { length numbers.old.items < 64 }
     ensures { TakesNumbers parts.now (word.now ∷ []) numbers.old.items numbers.new.items result }
 {
-    // Only the limits tell that memory is in form.
-    let _limits = parts.limits();
     let Some(number) = declared_number(parts, word) else {
         return false;
     };
@@ -78,7 +78,8 @@ fn take_number(parts: &Parts, numbers: &mut ArrayVec<u16, 64>, word: &Word) -> b
 
 // Puts the number of a node's word to others, if it is declared.
 fn take_node(parts: &Parts, numbers: &mut ArrayVec<u16, 64>, node: &Node) -> bool
-    requires { length numbers.old.items < 64 }
+    requires sound { AreSound parts.now }
+    requires room { length numbers.old.items < 64 }
     ensures { TakesNumbers parts.now (node_words node.now) numbers.old.items numbers.new.items result }
 {
     let Node::Word(word) = node else {
@@ -89,7 +90,8 @@ fn take_node(parts: &Parts, numbers: &mut ArrayVec<u16, 64>, node: &Node) -> boo
 
 /// The numbers of the words of the place, each once. None comes exactly where some word is not declared.
 pub(crate) fn place_numbers(parts: &Parts, place: &Place) -> Option<ArrayVec<u16, 64>>
-    requires { IsSome (place_words place.now) }
+    requires sound { AreSound parts.now }
+    requires place { IsSome (place_words place.now) }
     ensures numbers { MatchOption result (list_all (is_declared parts.now) (words_at place.now) ≡ false)
         (λ numbers. AreNumbersOf parts.now (words_at place.now) numbers.items) }
     ensures few { IfSome result (λ numbers. length numbers.items ≤ 64) }

@@ -186,11 +186,10 @@ fn has_overfull(parts: &Parts, left: &Word, right: &Word, number: u16) -> bool
 
 // The number of the right word, or what the two words are refused for.
 fn may_pair(parts: &Parts, left: &Word, right: &Word) -> Result<u16, Refusal>
+    requires sound { AreSound parts.now }
     ensures row { Judges (pair_checks parts.now left.now right.now) result }
     ensures number { IfOk result (λ number. number_of parts.now.dict right.now ≡ Some number) }
 {
-    // Only the limits tell that memory is in form.
-    let _limits = parts.limits();
     if !is_plain_word(right.bytes()) {
         return Err(Refusal::NotAssignable);
     }
@@ -229,6 +228,7 @@ fn has_room(parts: &Parts, left: &Word, right: &Word, number: u16) -> Result<(),
 
 /// What an axiom from the left word to the right one is refused for.
 pub(crate) fn may_relate(parts: &Parts, left: &Word, right: &Word) -> Result<(), Refusal>
+    requires sound { AreSound parts.now }
     ensures row { Judges (axiom_checks_of parts.now left.now right.now) result }
 {
     let number = may_pair(parts, left, right)?;

@@ -16,14 +16,12 @@ use lis_words::Word;
 
 // Sets a row to the numbers of all that a word entails.
 fn show_entailed(parts: &Parts, word: &Word, number: u16, row: &mut Rows)
+    requires sound { AreSound parts.now }
     requires shape { HasShape row.old 1 parts.now.limits.props }
     requires number { number_of parts.now.dict word.now ≡ Some number }
     ensures shape { HasShape row.new 1 parts.now.limits.props }
     ensures bits { (n : ℕ) → n < parts.now.limits.props → get row.new 0 n ≡ entails_number parts.now word.now n }
-    ensures sound { AreSound parts.now }
 {
-    // Only its limits tell that memory is in form.
-    let _limits = parts.limits();
     // Rows of other rows are taken from a row, so it has at first what is not entailed.
     row.fill(0, true);
     and_not_row(parts.taxonomy().rows(), u32::from(number), row, 0);

@@ -21,13 +21,6 @@ use lis_fields::FileRec;
 use lis_kept::Parts;
 use lis_words::{Name, Word};
 
-// What memory keeps is in form, whatever is marked.
-fn note_form(parts: &Parts)
-    ensures { AreSound parts.now }
-{
-    let _limits = parts.limits();
-}
-
 // The numbers of the words that a file is given, and those of its description.
 #[derive(Drop)]
 struct Numbers {
@@ -45,9 +38,7 @@ fn vacate(parts: &mut Parts, slot: u16) -> ArrayVec<u16, 128>
 {
     let numbers = numbers_at(parts.ext(), parts.limits().props, slot);
     parts.drop_record(slot);
-    note_form(parts);
     parts.forget_without(slot, numbers.as_slice());
-    note_form(parts);
     numbers
 }
 
@@ -99,7 +90,6 @@ fn make_way(
     let old = vacate(parts, slot);
     let numbers = learn_own(parts, scratch, name, assigned, payload);
     parts.describe(slot, old.as_slice(), numbers.all.as_slice());
-    note_form(parts);
     numbers.tags
 }
 

@@ -20,7 +20,7 @@ fn put_number(parts: &Parts, words: &mut ArrayVec<Word, 16>, number: u16)
     ensures few { length words.new.items ≤ length words.old.items + 1 }
 {
     if let Some(word) = parts.word_of(number) {
-        let _fits = put_word(words, &word);
+        let _ = put_word(words, &word);
     }
 }
 

@@ -90,6 +90,7 @@ fn describe_all(parts: &mut Parts, test: (bool, u64), number: u16, numbers: &[u1
 /// Declares a new word, with an axiom from it to the word of each of these numbers. A test comes into the descriptions of the
 /// files that meet it.
 pub(crate) fn declare_tested(parts: &mut Parts, word: &Word, places: &[u16])
+    requires sound { AreSound parts.old }
     requires form { IsTrue (is_declarable word.now) }
     requires new { number_of parts.old.dict word.now ≡ None }
     requires room { length parts.old.dict.entries < parts.old.limits.props }
@@ -100,10 +101,7 @@ pub(crate) fn declare_tested(parts: &mut Parts, word: &Word, places: &[u16])
     requires few { has_crowded parts.old (test_of word.now) (is_gained parts.old places.now) ≡ false }
     ensures { DeclaresTested word.now places.now parts.old parts.new }
 {
-    // Only the limits tell that memory is in form, before and then at the descriptions.
-    let _before = parts.limits();
     parts.declare_under(word, places);
-    let _declared = parts.limits();
     let Some(test) = test_of(word) else {
         return;
     };
@@ -133,7 +131,8 @@ fn describe_without(parts: &mut Parts, number: u16, slot: u16)
     requires slot { slot < parts.old.limits.files }
     requires had { (n : ℕ) → has parts.old.ext n slot ≡ true → IsSome (word_of parts.old.dict n) }
     requires short { length (set_of parts.old.ext slot) ≤ 128 }
-    ensures { Gives slot (without_number parts.old number slot) parts.old parts.new }
+    ensures gives { Gives slot (without_number parts.old number slot) parts.old parts.new }
+    ensures sound { AreSound parts.new }
 {
     let props = parts.limits().props;
     if !parts.ext().has(u32::from(number), u32::from(slot)) {
@@ -149,7 +148,8 @@ fn describe_all_without(parts: &mut Parts, number: u16)
     requires number { IsSome (word_of parts.old.dict number) }
     requires free { FreeSlotsAreEmpty parts.old }
     requires short { DescriptionsAreShort parts.old }
-    ensures { Redescribes (without_number parts.old number) parts.old.limits.files parts.old parts.new }
+    ensures redescribes { Redescribes (without_number parts.old number) parts.old.limits.files parts.old parts.new }
+    ensures sound { AreSound parts.new }
 {
     let files = parts.limits().files;
     for slot in 0..files {
@@ -159,15 +159,13 @@ fn describe_all_without(parts: &mut Parts, number: u16)
 
 /// Takes the declaration of a word back, and its number out of all descriptions.
 pub(crate) fn undeclare_unmet(parts: &mut Parts, number: u16)
+    requires sound { AreSound parts.old }
     requires number { IsSome (word_of parts.old.dict number) }
     requires may { MayUndeclare number (undescribed parts.old) }
     requires free { FreeSlotsAreEmpty parts.old }
     requires short { DescriptionsAreShort parts.old }
     ensures { UndeclaresUnmet number parts.old parts.new }
 {
-    // Only the limits tell that memory is in form, before and then without the number.
-    let _before = parts.limits();
     describe_all_without(parts, number);
-    let _unmet = parts.limits();
     parts.undeclare(number);
 }

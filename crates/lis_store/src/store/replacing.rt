@@ -170,6 +170,7 @@ impl Store {
         ensures run { IsDiskRun (D.meaning disk.old) (D.meaning disk.new) }
         ensures cause { HasChangeCause (D.meaning disk.old).disk_faults (D.meaning disk.new).disk_faults result }
     {
+        // As before each change, no call of the disk has failed.
         prove!(!self.is_broken);
         let next = led_by(place, text)?;
         let Some(slot) = self.slot_here(scratch, place, name) else {

@@ -15,7 +15,7 @@ learn-requires-clause-room c = head_room c.args.parts.now c.args.word.now c.requ
 
 pub returns-in-Some : goal.returns-in-Some
 returns-in-Some c =
-    heads_learnt c.args.parts.now c.args.word.now c.requires.form c.requires.room c.learn.new.self c.in-Some.head c.learn.result c.in-Some.ensures.head (c.in-Some.ensures.valued.0 refl) c.learn.ensures
+    heads_learnt c.args.parts.now c.args.word.now c.requires.form c.requires.room c.learn.new.self c.in-Some.head c.learn.result c.in-Some.ensures.head (c.in-Some.ensures.valued.0 refl) c.learn.ensures.learns
 
 pub returns-in_default : goal.returns-in_default
 returns-in_default c =

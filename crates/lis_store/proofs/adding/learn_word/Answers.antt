@@ -10,5 +10,5 @@ learn-requires-clause-headed c = λ none valued. word_headed c.args.parts.now c.
 pub learn-requires-clause-room : goal.learn-requires-clause-room
 learn-requires-clause-room c = word_room c.args.parts.now c.args.word.now c.requires.form c.requires.room c.learn_head.new.parts c.learn_head.ensures
 
-pub returns : goal.returns
-returns c = word_learnt c.args.parts.now c.args.word.now c.requires.form c.requires.room c.learn_head.new.parts c.learn_head.ensures c.learn.new.self c.learn.result c.learn.ensures
+pub returns-clause-learns : goal.returns-clause-learns
+returns-clause-learns c = word_learnt c.args.parts.now c.args.word.now c.requires.form c.requires.room c.learn_head.new.parts c.learn_head.ensures c.learn.new.self c.learn.result c.learn.ensures.learns

@@ -12,4 +12,4 @@ learn_word-requires-clause-room c =
 pub loop-word-preserved : goal.loop-word-preserved
 loop-word-preserved c =
     next_learnt c.args.parts.now c.loop-word.parts c.args.words.now c.loop-word.word-index c.loop-word-test.true c.word-item.result c.word-item.is c.loop-word.invariant
-    c.learn_word.new.parts c.learn_word.ensures
+    c.learn_word.new.parts c.learn_word.ensures.learns

@@ -108,7 +108,7 @@ pub overflow_cast-payload : goal.overflow_cast-payload
 overflow_cast-payload c = omega (arith, size_fits c.args.parts.now.limits.version (length c.args.payload.now) c.requires.admitted.small)
 
 pub describe-requires-clause-slot : goal.describe-requires-clause-slot
-describe-requires-clause-slot c = omega (arith, c.add_record-slot.ensures.below, ap (λ (k : Kept). k.limits.files) c.add_record-slot.ensures.parts)
+describe-requires-clause-slot c = omega (arith, c.add_record-slot.ensures.files.below, ap (λ (k : Kept). k.limits.files) c.add_record-slot.ensures.files.parts)
 
 pub describe-requires-clause-was : goal.describe-requires-clause-was
 describe-requires-clause-was c =
@@ -117,7 +117,7 @@ describe-requires-clause-was c =
     let learns = both_learnt p c.requires.sound c.args.name.now c.args.assigned.now c.args.payload.now
     (may_come c.args.parts.now (new_file c.args.name.now c.args.assigned.now c.args.payload.now) c.requires.admitted)
     c.learn_words.new.parts r c.as_slice.result.now c.learn_words.ensures (c.as_slice.ensures.words ∙ c.derive_words-derived.ensures) c.learn_words-2.ensures in
-    slot_was_empty p r c.add_record-slot.new.self _ c.add_record-slot.result _ c.requires.free learns c.add_record-slot.ensures
+    slot_was_empty p r c.add_record-slot.new.self _ c.add_record-slot.result _ c.requires.free learns c.add_record-slot.ensures.files
 
 pub describe-requires-clause-rising : goal.describe-requires-clause-rising
 describe-requires-clause-rising c =
@@ -131,7 +131,7 @@ describe-requires-clause-named c =
     let r = c.learn_words-2.new.parts in
     let all = numbers_named r.dict (all_up (declared_of r) (axioms_of r) (c.args.assigned.now ++ c.as_slice-2.result.now ++ met_tests (declared_of r) (length c.args.payload.now))) in
     ap (list_all (λ n. is_some (word_of c.add_record-slot.new.self.dict n))) (c.as_slice-3.ensures.value ∙ c.numbers_entailed-numbers.ensures.numbers)
-    ∙ (ap (λ (k : Kept). list_all (λ n. is_some (word_of k.dict n)) all) c.add_record-slot.ensures.parts
+    ∙ (ap (λ (k : Kept). list_all (λ n. is_some (word_of k.dict n)) all) c.add_record-slot.ensures.files.parts
     ∙ named_worded r c.numbers_of-tags.ensures.sound (all_up (declared_of r) (axioms_of r) (c.args.assigned.now ++ c.as_slice-2.result.now ++ met_tests (declared_of r) (length c.args.payload.now))))
 
 pub returns-clause-put : goal.returns-clause-put
@@ -158,6 +158,6 @@ returns-clause-put c =
       few = omega (arith, named_few r.dict c.numbers_of-tags.ensures.sound.dict (described_by p (new_file c.args.name.now c.args.assigned.now c.args.payload.now)), c.requires.admitted.short);
       slot = c.add_record-slot.result;
       filed = c.add_record-slot.new.self;
-      files = subst (F c.args.name.now) c.numbers_of-tags.ensures.numbers (subst (λ name. F name c.numbers_of-tags.result.items) c.copied.ensures c.add_record-slot.ensures);
-      describes = subst D numbers c.describe.ensures;
+      files = subst (F c.args.name.now) c.numbers_of-tags.ensures.numbers (subst (λ name. F name c.numbers_of-tags.result.items) c.copied.ensures c.add_record-slot.ensures.files);
+      describes = subst D numbers c.describe.ensures.describes;
     }

@@ -79,4 +79,4 @@ returns-clause-lessened c =
     let new = c.as_slice-3.ensures.value ∙ (c.remaining_at-rest.ensures.numbers ∙ ap (remaining p c.args.right (tags_at p slot)) are) in
     let P : List ℕ → Type 0 = λ ns. Describes slot ns p c.describe.new.self in
     let whole = ap (λ b. if b then remaining_at p c.args.right slot else set_of p.ext slot) (had ∙ c.if-not-get.false) in
-    inl (subst P (new ∙ sym whole) c.describe.ensures)
+    inl (subst P (new ∙ sym whole) c.describe.ensures.describes)

@@ -36,6 +36,7 @@ loop-slot-preserved c =
     let one = subst Q (lessened_same c.args.left c.args.right n p q c.loop-slot.invariant.1) c.lessen.ensures.lessened in (
       subst P c.loop-slot.invariant.1.parts c.lessen.ensures.shape,
       redescribed_more (lessened p c.args.left c.args.right) n p q c.loop-slot.invariant.1 c.lessen.new.parts inside one,
+      c.lessen.ensures.sound,
     )
 
 pub returns-clause-lessened : goal.returns-clause-lessened
@@ -45,4 +46,4 @@ returns-clause-lessened c =
     subst (λ (n : ℕ). Redescribes (lessened p c.args.left c.args.right) n p c.loop-slot.parts) all c.loop-slot.invariant.1
 
 pub loop-slot-init : goal.loop-slot-init
-loop-slot-init c = (c.requires.shape, redescribed_none (lessened c.args.parts.now c.args.left c.args.right) c.args.parts.now)
+loop-slot-init c = (c.requires.shape, redescribed_none (lessened c.args.parts.now c.args.left c.args.right) c.args.parts.now, c.limits.ensures.sound)

@@ -14,10 +14,10 @@ numbers_at-numbers-requires-clause-slot c =
 pub describe-requires-clause-slot : goal.describe-requires-clause-slot
 describe-requires-clause-slot c =
     let sound = c.limits.ensures.sound in
-    omega (arith, slot_is_below c.args.parts.now.catalog c.args.slot sound.catalog c.requires.there, sound.slots, ap (λ (k : Kept). k.limits.files) c.drop_record.ensures.parts)
+    omega (arith, slot_is_below c.args.parts.now.catalog c.args.slot sound.catalog c.requires.there, sound.slots, ap (λ (k : Kept). k.limits.files) c.drop_record.ensures.drops.parts)
 
 pub forget_unused-requires : goal.forget_unused-requires
 forget_unused-requires c =
     let here = c.as_slice-2.ensures.value ∙ (c.numbers_at-numbers.ensures.numbers ∙ ap (λ (e : Ext). set_of e c.args.slot) c.ext.ensures) in
     subst (λ ns. MayForget ns c.describe.new.self) (sym here)
-    (emptied_may_forget c.args.slot c.drop_record.result c.args.parts.now c.drop_record.new.self c.describe.new.self c.limits.ensures.sound c.requires.in_use c.requires.closed c.drop_record.ensures c.describe.ensures)
+    (emptied_may_forget c.args.slot c.drop_record.result c.args.parts.now c.drop_record.new.self c.describe.new.self c.limits.ensures.sound c.requires.in_use c.requires.closed c.drop_record.ensures.drops c.describe.ensures.describes)

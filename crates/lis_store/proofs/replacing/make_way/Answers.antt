@@ -67,8 +67,8 @@ returns-clause-way c =
       vacates = c.vacate-old.ensures.vacated found.0 found.1;
       learnt = c.learn_own-numbers.new.parts;
       learns = subst L own.numbered own;
-      describes = subst D (c.as_slice-2.ensures.value ∙ own.numbered) c.describe.ensures;
-      form = c.note_form.ensures;
+      describes = subst D (c.as_slice-2.ensures.value ∙ own.numbered) c.describe.ensures.describes;
+      form = c.describe.ensures.sound;
     }
 
 pub returns-clause-scratch : goal.returns-clause-scratch

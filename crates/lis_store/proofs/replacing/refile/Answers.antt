@@ -41,5 +41,5 @@ returns-clause-refiled c =
       tags = c.make_way-tags.result.items;
       described = c.make_way-tags.new.parts;
       way = c.make_way-tags.ensures.way;
-      files = subst F c.copied.ensures c.place_record.ensures;
+      files = subst F c.copied.ensures c.place_record.ensures.files;
     }

@@ -16,17 +16,17 @@ numbers_at-numbers-requires-clause-slot c =
 
 pub forget_without-requires-clause-slot : goal.forget_without-requires-clause-slot
 forget_without-requires-clause-slot c =
-    below_dropped c.args.parts.now c.drop_record.new.self c.args.slot c.drop_record.result c.requires.form c.drop_record.ensures c.note_form.ensures
+    below_dropped c.args.parts.now c.drop_record.new.self c.args.slot c.drop_record.result c.requires.form c.drop_record.ensures.drops c.drop_record.ensures.sound
 
 pub forget_without-requires-clause-empty : goal.forget_without-requires-clause-empty
 forget_without-requires-clause-empty c =
-    free_dropped c.args.parts.now c.drop_record.new.self c.args.slot c.drop_record.result c.requires.form c.drop_record.ensures c.note_form.ensures
+    free_dropped c.args.parts.now c.drop_record.new.self c.args.slot c.drop_record.result c.requires.form c.drop_record.ensures.drops c.drop_record.ensures.sound
 
 pub forget_without-requires-clause-may : goal.forget_without-requires-clause-may
 forget_without-requires-clause-may c =
     let here = c.as_slice.ensures.value ∙ (c.numbers_at-numbers.ensures.numbers ∙ ap (λ (x : Ext). numbers_at x c.args.slot) c.ext.ensures) in
     subst (λ ns. MayForget ns (emptied c.drop_record.new.self c.args.slot)) (sym here)
-    (may_forget_dropped c.args.parts.now c.drop_record.new.self c.args.slot c.drop_record.result c.requires.form c.drop_record.ensures c.note_form.ensures)
+    (may_forget_dropped c.args.parts.now c.drop_record.new.self c.args.slot c.drop_record.result c.requires.form c.drop_record.ensures.drops c.drop_record.ensures.sound)
 
 pub returns-clause-vacated : goal.returns-clause-vacated
 returns-clause-vacated c = λ rec is.
@@ -34,14 +34,14 @@ returns-clause-vacated c = λ rec is.
     let R : Ext → Type 0 = λ x. IsStrictlyIncreasing (numbers_at x c.args.slot) in
     let F : List ℕ → Type 0 = λ ns. ForgetsWithout c.args.slot ns c.drop_record.new.self c.forget_without.new.self in
     let D : FileRecord → Type 0 = λ r. Drops c.args.slot r c.args.parts.now c.drop_record.new.self in
-    let same : c.drop_record.result ≡ rec = same_Some c.drop_record.result rec (sym c.drop_record.ensures.there ∙ is) in
+    let same : c.drop_record.result ≡ rec = same_Some c.drop_record.result rec (sym c.drop_record.ensures.drops.there ∙ is) in
     record {
       rising = subst R c.ext.ensures c.numbers_at-numbers.ensures.rising;
       dropped = c.drop_record.new.self;
-      drops = subst D same c.drop_record.ensures;
-      form_dropped = c.note_form.ensures;
-      forgets = subst F here c.forget_without.ensures;
-      form = c.note_form-2.ensures;
+      drops = subst D same c.drop_record.ensures.drops;
+      form_dropped = c.drop_record.ensures.sound;
+      forgets = subst F here c.forget_without.ensures.forgets;
+      form = c.forget_without.ensures.sound;
     }
 
 pub returns-clause-numbers : goal.returns-clause-numbers

@@ -25,7 +25,7 @@ returns-clause-sound g c =
     let staged = c.stage.ensures.staged in
     let done = c.in_default.ensures.done in
     sound_saved c.args.parts.now c.args.journal.now c.commit.new.self (c.requires.sound c.stage.ensures.sound)
-    (ap (λ (h : Held). h.blocks) done ∙ staged.image) c.settle.new.self c.args.is_broken.now c.settle.ensures
+    (ap (λ (h : Held). h.blocks) done ∙ staged.image) c.settle.new.self c.args.is_broken.now c.settle.ensures.settled
     (ap (λ (h : Held). h.is_broken) done ∙ (staged.broken ∙ c.requires.unbroken))
     (ap (λ (h : Held). h.staged) done)
     (none_placed c.args.parts.now c.args.journal.now c.stage.new.journal c.requires.placed staged c.commit.new.self.placed
@@ -36,4 +36,4 @@ returns-clause-saves g c = λ now outcome t kept fits limits stood ready is.
     let sound = c.stage.ensures.sound in
     saved_kept change_stands c.args.parts.now c.args.journal.now c.stage.new.journal (g.D.Disk.meaning c.args.disk.now) (g.D.Disk.meaning c.commit.new.disk)
     c.stage.ensures.staged sound (c.requires.sound sound) c.requires.image c.commit.ensures.any_moment c.commit.ensures.past
-    now outcome t kept fits limits stood (ready sound) is c.settle.new.self c.commit.new.self c.args.is_broken.now _ c.settle.ensures c.requires.whole c.in_default.ensures.kept
+    now outcome t kept fits limits stood (ready sound) is c.settle.new.self c.commit.new.self c.args.is_broken.now _ c.settle.ensures.settled c.requires.whole c.in_default.ensures.kept

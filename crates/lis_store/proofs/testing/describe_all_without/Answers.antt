@@ -12,12 +12,14 @@ loop-slot-preserved c =
     let p = c.args.parts.now in
     let q = c.loop-slot.parts in
     let inside : n < length p.ext.sets = omega (arith, c.loop-slot-test.true, c.limits.ensures.sound.files, ap (λ (l : Limits). l.files) c.limits.ensures.value) in
-    let Q : List ℕ → Type 0 = λ ns. Gives n ns q c.describe_without.new.parts in
-    redescribed_more (without_number p c.args.number) n p q c.loop-slot.invariant c.describe_without.new.parts inside
-    (subst Q (without_same c.args.number n p q c.loop-slot.invariant) c.describe_without.ensures)
+    let Q : List ℕ → Type 0 = λ ns. Gives n ns q c.describe_without.new.parts in (
+      redescribed_more (without_number p c.args.number) n p q c.loop-slot.invariant.0 c.describe_without.new.parts inside
+          (subst Q (without_same c.args.number n p q c.loop-slot.invariant.0) c.describe_without.ensures.gives),
+      c.describe_without.ensures.sound,
+    )
 
-pub returns : goal.returns
-returns c =
+pub returns-clause-redescribes : goal.returns-clause-redescribes
+returns-clause-redescribes c =
     let p = c.args.parts.now in
     let all : c.loop-slot.slot ≡ p.limits.files = omega (arith, c.loop-slot.auto.slot-end, c.loop-slot-test.false, ap (λ (l : Limits). l.files) c.limits.ensures.value) in
-    subst (λ (n : ℕ). Redescribes (without_number p c.args.number) n p c.loop-slot.parts) all c.loop-slot.invariant
+    subst (λ (n : ℕ). Redescribes (without_number p c.args.number) n p c.loop-slot.parts) all c.loop-slot.invariant.0

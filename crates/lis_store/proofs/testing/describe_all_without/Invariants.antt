@@ -1,7 +1,8 @@
+use Rattle.lis_kept.specs.Sound.{AreSound}
 use Rattle.lis_store.specs.Redescribing.{Redescribes}
 use Rattle.lis_store.specs.Testing.{without_number}
 use Rattle.lis_store.proofs.testing.describe_all_without.Given as goal
 
--- the slots so far have the number no more
+-- the slots so far have the number no more, and memory is in form
 abbrev pub invariant-loop-slot : goal.invariant-loop-slot
-invariant-loop-slot l = Redescribes (without_number l.initial.parts l.number) l.slot l.initial.parts l.parts
+invariant-loop-slot l = Redescribes (without_number l.initial.parts l.number) l.slot l.initial.parts l.parts × AreSound l.parts

@@ -13,8 +13,8 @@ has-requires-clause-prop c =
     let sound = c.limits.ensures.sound in
     omega (arith, named_below c.args.parts.now sound c.args.number c.requires.number, sound.rows, ap (λ (e : Ext). e.props) c.ext.ensures, c.from.ensures)
 
-pub returns-then-not-has : goal.returns-then-not-has
-returns-then-not-has c =
+pub returns-then-not-has-clause-gives : goal.returns-then-not-has-clause-gives
+returns-then-not-has-clause-gives c =
     let p = c.args.parts.now in
     let none : has p.ext c.args.number c.args.slot ≡ false =
     ap (λ (x : Ext). has x c.args.number c.args.slot) (sym c.ext.ensures)
@@ -35,10 +35,10 @@ describe-requires-clause-named c =
     ap (list_all (λ n. is_some (word_of p.dict n))) (c.as_slice-3.ensures.value ∙ (c.numbers_without-new.ensures ∙ ap (filter (is_other c.args.number)) are))
     ∙ without_named p c.args.number (set_of p.ext c.args.slot) c.requires.had
 
-pub returns : goal.returns
-returns c =
+pub returns-clause-gives : goal.returns-clause-gives
+returns-clause-gives c =
     let p = c.args.parts.now in
     let are = c.as_slice.ensures.value ∙ (c.numbers_at-old.ensures.numbers ∙ ap (λ (e : Ext). set_of e c.args.slot) c.ext-2.ensures) in
     let new = c.as_slice-3.ensures.value ∙ (c.numbers_without-new.ensures ∙ ap (filter (is_other c.args.number)) are) in
     let P : List ℕ → Type 0 = λ ns. Describes c.args.slot ns p c.describe.new.self in
-    inl (subst P new c.describe.ensures)
+    inl (subst P new c.describe.ensures.describes)
