@@ -1,27 +1,17 @@
 -- How a session over a plain state ends, told by its status.
-use Rattle.std.proofs.Common.{◌≡◌, ℕ, List, ◌∷◌, [], Option, Some, None, ap, sym, ◌∙◌, append_assoc}
+use Rattle.std.proofs.Common.{◌≡◌, ℕ, List, ◌∷◌, [], Option, Some, ap, sym, ◌∙◌, append_assoc}
 use Rattle.std.specs.Io.KnownBytes.{append_known}
 use Rattle.lis_ports.specs.Meaning.{Meaning}
 use Rattle.lis_ports.specs.Calls.{IsShowCall}
-use Rattle.lis_model.specs.Step.{Situation, Payload, replies, situation_after}
-use Rattle.lis_line.specs.declared.reader.Item.{Item as Said}
-use Rattle.lis_line.specs.declared.reader.Item.TheVariants.{Command, Bad, End, Limit}
+use Rattle.lis_model.specs.Step.{Situation, replies, situation_after}
 use Rattle.lis_line.specs.declared.carrier.Halt.{Halt}
 use Rattle.lis_line.specs.declared.carrier.Halt.TheVariants.{End as AtEnd, Limit as AtLimit, InputFault as AtFault, Stopped}
-use Rattle.lis_line.specs.Reading.{asked_by}
 use Rattle.lis_line.specs.Endings.{HasEnded, HasHaltCause}
 use Rattle.lis_plain.specs.Tried.{Tried, TriedInto}
 use Rattle.lis_plain.specs.declared.end.PlainEnd.{PlainEnd}
 use Rattle.lis_plain.specs.declared.end.PlainEnd.TheVariants.{OutputFault, NoMemory}
 use Rattle.lis_shell.specs.Causes.{counts, HasStatusCause, IsTryStatus}
-use Rattle.lis_shell.specs.Tries.{Tries, try_status, ending_of}
-
--- what ends no session asks for an item
-pub asks_some : (said : Said) (payload : Payload) → ending_of said ≡ None → asked_by said payload ≡ None → ⊥
-asks_some (Command command) payload none no_item = cc no_item
-asks_some (Bad refusal) payload none no_item = cc no_item
-asks_some End payload none no_item = cc none
-asks_some Limit payload none no_item = cc none
+use Rattle.lis_shell.specs.Tries.{Tries, try_status}
 
 pub is_try : (halt : Halt PlainEnd) → IsTryStatus (try_status halt)
 is_try AtEnd = tt
@@ -42,7 +32,8 @@ only_showed limit before left start now entry m AtLimit ended = ended.done.call
 only_showed limit before left start now entry m AtFault ended = ended.done.call
 only_showed limit before left start now entry m (Stopped fault) ended = ended.1.done.call
 
-counts_stay : (entry m : Meaning) (input_before input : ℕ) → m.disk_faults ≡ entry.disk_faults → input ≡ input_before → m.show_faults ≡ entry.show_faults
+-- no count of faults rose
+pub counts_stay : (entry m : Meaning) (input_before input : ℕ) → m.disk_faults ≡ entry.disk_faults → input ≡ input_before → m.show_faults ≡ entry.show_faults
     → counts m input ≡ counts entry input_before
 counts_stay entry m input_before input disk same show = cc
 

@@ -1,5 +1,5 @@
 -- How a session over an image ends, told by its status.
-use Rattle.std.proofs.Common.{◌≡◌, ◌≢◌, ℕ, List, Option, Some, false, ap, refl, ◌∙◌}
+use Rattle.std.proofs.Common.{◌≡◌, ◌≢◌, ℕ, List, Option, Some, false, refl}
 use Rattle.lis_ports.specs.Meaning.{Meaning}
 use Rattle.lis_model.specs.State.{State}
 use Rattle.lis_model.specs.Step.{situation_after}
@@ -16,8 +16,9 @@ use Rattle.lis_session.specs.Runs.{Serves}
 use Rattle.lis_session.specs.Served.{HasDone, HasStopped, situation_at}
 use Rattle.lis_session.proofs.Served.{serves_all, serves_to_limit, serves_whole, serves_stopped, reached}
 use Rattle.lis_shell.specs.declared.status.Status.TheVariants.{DiskFault}
-use Rattle.lis_shell.specs.Causes.{Counts, counts, HasStatusCause}
+use Rattle.lis_shell.specs.Causes.{counts, HasStatusCause}
 use Rattle.lis_shell.specs.Runs.{serve_status, IsSessionStatus, InputRead, GoesOn, Served}
+use Rattle.lis_shell.proofs.Going.{counts_stay}
 
 pub only_served : (halt : Halt End) → IsSessionStatus (serve_status halt)
 only_served AtEnd = tt
@@ -25,12 +26,6 @@ only_served AtLimit = tt
 only_served AtFault = tt
 only_served (Stopped DiskFailed) = tt
 only_served (Stopped OutputFailed) = tt
-
--- no count rose
-none_rose : (entry m : Meaning) (before after : ℕ) → m.disk_faults ≡ entry.disk_faults → after ≡ before → m.show_faults ≡ entry.show_faults → counts m after ≡ counts entry before
-none_rose entry m before after disk input show =
-    let made : ℕ → ℕ → ℕ → Counts = λ a b c. record { disk = a; input = b; show = c } in
-    ap (λ n. made n after m.show_faults) disk ∙ (ap (λ n. made entry.disk_faults n m.show_faults) input ∙ ap (λ n. made entry.disk_faults before n) show)
 
 module _ (limit : ℕ) (left_before left : Option (List ℕ)) (start now : Situated) (entry m : Meaning) where
   abbrev pub Ended : Halt End → Type 0
@@ -65,8 +60,8 @@ module _ (limit : ℕ) (left_before left : Option (List ℕ)) (start now : Situa
 
   pub served_cause : (before after : ℕ) (halt : Halt End) → Ended halt → HasHaltCause before after halt
       → HasStatusCause (counts entry before) (counts m after) (serve_status halt)
-  served_cause before after AtEnd ended cause = none_rose entry m before after ended.done.disk_faults cause ended.done.show_faults
-  served_cause before after AtLimit ended cause = none_rose entry m before after ended.done.disk_faults cause ended.done.show_faults
+  served_cause before after AtEnd ended cause = counts_stay entry m before after ended.done.disk_faults cause ended.done.show_faults
+  served_cause before after AtLimit ended cause = counts_stay entry m before after ended.done.disk_faults cause ended.done.show_faults
   served_cause before after AtFault ended cause = (cause, ended.done.disk_faults, ended.done.show_faults)
   served_cause before after (Stopped DiskFailed) ended cause = let why = ended.1.done.cause in (why.0, cause, why.1)
   served_cause before after (Stopped OutputFailed) ended cause = let why = ended.1.done.cause in (why.1, why.0, cause)

@@ -1,11 +1,9 @@
 -- How a session over a plain state ends.
-use Rattle.std.specs.Prelude.{◌≡◌, ℕ, ◌<◌, ◌≤◌, List, ◌∷◌, ◌++◌, length, Option, Some, None}
+use Rattle.std.specs.Prelude.{◌≡◌, ℕ, ◌<◌, ◌≤◌, List, ◌∷◌, ◌++◌, length, Option, Some}
 use Rattle.std.specs.Io.KnownBytes.{append_known, Consumes, IsAtEnd}
 use Rattle.lis_ports.specs.Shown.{AppendsFront}
 use Rattle.lis_model.specs.Step.{Situation, Item, step, replies, situation_after}
 use Rattle.lis_model.specs.Script.{script, whole_items}
-use Rattle.lis_line.specs.declared.reader.Item.{Item as Said}
-use Rattle.lis_line.specs.declared.reader.Item.TheVariants.{Command, Bad, End, Limit}
 use Rattle.lis_line.specs.declared.carrier.Halt.{Halt}
 use Rattle.lis_line.specs.declared.carrier.Halt.TheVariants.{End as AtEnd, Limit as AtLimit, InputFault as AtFault, Stopped}
 use Rattle.lis_plain.specs.declared.end.PlainEnd.{PlainEnd}
@@ -59,10 +57,3 @@ try_status AtLimit = InputLimit
 try_status AtFault = InputFault
 try_status (Stopped ShowFailed) = OutputFault
 try_status (Stopped NoRoom) = NoMemory
-
--- the item at which a session ends, if it is one
-abbrev pub ending_of : Said → Option Status
-ending_of (Command command) = None
-ending_of (Bad refusal) = None
-ending_of End = Some Done
-ending_of Limit = Some InputLimit

@@ -1,29 +1,17 @@
 //! A session over a plain state.
 
-ghost use Rattle.std.specs.Prelude.{◌≡◌, ℕ, ◌≤◌, ◌^◌, List, Some, false};
+ghost use Rattle.std.specs.Prelude.{◌≡◌, ℕ, ◌≤◌, ◌^◌, List, Some};
 ghost use Rattle.lis_ports.specs.Calls.{IsShowCall};
 ghost use Rattle.lis_line.specs.Taking.{TakesFew};
 ghost use Rattle.lis_shell.specs.Causes.{counts, HasStatusCause, IsTryStatus};
-ghost use Rattle.lis_shell.specs.Tries.{Tries, try_status, ending_of};
+ghost use Rattle.lis_shell.specs.Tries.{Tries, try_status};
 
 use crate::status::Status;
 use lis_line::carrier::{Halt, carry_all};
-use lis_line::reader::{Item, Payload};
+use lis_line::reader::Payload;
 use lis_plain::end::PlainEnd;
 use lis_plain::plain::Plain;
 use lis_ports::{Source, Station};
-
-/// The status at which a session ends by this item, if it does.
-pub fn ending(item: &Item) -> Option<Status>
-    ensures { result ≡ ending_of item.now }
-{
-    match item {
-        Item::Command(_) => None,
-        Item::Bad(_) => None,
-        Item::End => Some(Status::Done),
-        Item::Limit => Some(Status::InputLimit),
-    }
-}
 
 // The status at which a session over a plain state ends.
 fn status_at(halt: Halt<PlainEnd>) -> Status
