@@ -1,6 +1,6 @@
 use Rattle.std.proofs.Common.{refl, ap, sym, subst, ◌∙◌, arith}
 use Rattle.lis_grow.specs.Session.{grow_items, Grows}
-use Rattle.lis_store.specs.Stored.{Stored, StoreFits}
+use Rattle.lis_store.specs.Stored.{Stored, IsSound, StoreFits}
 use Rattle.lis_session.specs.Session.{Situated, root_of}
 use Rattle.lis_session.proofs.Fitting.{store_fits_at, same_none}
 use Rattle.lis_shell.specs.declared.status.Status.{Status}
@@ -18,6 +18,9 @@ pub returns-in_default-clause-grows : goal.returns-in_default-clause-grows
 returns-in_default-clause-grows g c = λ state fits.
     let m = g.T.Disk.meaning c.args.station.now in
     grows_none state (grow_items c.args.n) m (GrowRan state (grow_items c.args.n) m.shown m NoMemory) (refl, (store_fits_at c.session_over.ensures.sound fits).stands.reads)
+
+pub grow_session-ended-requires-clause-sound : goal.grow_session-ended-requires-clause-sound
+grow_session-ended-requires-clause-sound g c = subst IsSound (sym (ap (λ (s : Situated). s.store) c.in-Ok.ensures.session)) c.in-Ok.ensures.sound
 
 pub grow_session-ended-requires-clause-unbroken : goal.grow_session-ended-requires-clause-unbroken
 grow_session-ended-requires-clause-unbroken g c = ap (λ (s : Situated). s.store.is_broken) c.in-Ok.ensures.session ∙ c.requires.unbroken
