@@ -1,4 +1,4 @@
--- What crates above need to know of the bitmap's block: it is a block of bytes, and blocks that are the same tell the same.
+-- What crates above need to know of the bitmap's block: it is a block of bytes, and its bits are those that are told.
 use Rattle.std.proofs.Common.{◌≡◌, ℕ, zero, suc, ◌+◌, ◌*◌, ◌/◌, ◌%◌, ◌^◌, ◌<◌, ◌≤◌, ◌==◌, Bool, true, false, List, [], ◌∷◌, length, get_or, take, drop, refl, sym, ap, subst, ◌∙◌, arith, get_or-take, get_or-drop}
 use Rattle.std.specs.Int.{bit_at}
 use Rattle.std.proofs.lemmas.Bool.{eqb-true, eqb-false}
@@ -82,32 +82,3 @@ bitmap_from_bits taken bytes long small same =
         subst (λ j. (bit_at (get_or bytes k 0) j == 1) ≡ (bit_at (get_or (bitmap_bytes taken) k 0) j == 1)) bit
         (subst (λ j. (bit_at (get_or bytes j 0) (n % 8) == 1) ≡ (bit_at (get_or (bitmap_bytes taken) j 0) (n % 8) == 1)) byte told) in
         same_bit (bit_at (get_or bytes k 0) i) (bit_at (get_or (bitmap_bytes taken) k 0) i) (bit_at-lt (get_or bytes k 0) i) (bit_at-lt (get_or (bitmap_bytes taken) k 0) i) here
-
--- ---- the same bytes tell the same
-same_number : (some more : List Bool) → length some ≡ length more → bits_number some ≡ bits_number more → some ≡ more
-same_number [] [] long same = refl
-same_number [] (b ∷ more) long same = absurd (omega (arith, long))
-same_number (a ∷ some) [] long same = absurd (omega (arith, long))
-same_number (true ∷ some) (true ∷ more) long same = ap (λ bits. true ∷ bits) (same_number some more (omega (arith, long)) (omega (arith, same)))
-same_number (false ∷ some) (false ∷ more) long same = ap (λ bits. false ∷ bits) (same_number some more (omega (arith, long)) (omega (arith, same)))
-same_number (true ∷ some) (false ∷ more) long same = absurd (omega (arith, same))
-same_number (false ∷ some) (true ∷ more) long same = absurd (omega (arith, same))
-
-module _ (some more : List Bool) (long : length some ≡ length more) (few : length some ≤ 32768) (same : bitmap_bytes some ≡ bitmap_bytes more) where
-  same_eight : (k : ℕ) → k < 4096 → take 8 (drop (8 * k) some) ≡ take 8 (drop (8 * k) more)
-  same_eight k lt =
-      same_number (take 8 (drop (8 * k) some)) (take 8 (drop (8 * k) more))
-      (omega (arith, long, length-take 8 (drop (8 * k) some), length-take 8 (drop (8 * k) more), length-drop (8 * k) some, length-drop (8 * k) more))
-      (sym (byte-bitmap_bytes some k lt) ∙ (ap (λ bytes. get_or bytes k 0) same ∙ byte-bitmap_bytes more k lt))
-
-  pub same_taken : some ≡ more
-  same_taken = same_lists some more long at
-    where
-      at : (n : ℕ) (d : Bool) → n < length some → get_or some n d ≡ get_or more n d
-      at n d lt =
-          let in_block : n / 8 < 4096 = omega arith in
-          let in_more : n < length more = omega (arith, long) in
-          get_or_default some n d false lt
-          ∙ (bit_of some n
-          ∙ (ap (λ bits. get_or bits (n % 8) false) (same_eight (n / 8) in_block)
-          ∙ (sym (bit_of more n) ∙ sym (get_or_default more n d false in_more))))

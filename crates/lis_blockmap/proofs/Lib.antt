@@ -1,4 +1,4 @@
-mod Taken
+pub mod Taken
 mod Bytes
 mod Examples
 pub mod Laws

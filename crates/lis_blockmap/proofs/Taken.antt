@@ -24,7 +24,7 @@ one_more taken n lt held =
     let none = ap {B = ℕ} (λ v. cond (not v) 1 0) held in
     omega (arith, sum, none)
 
-all_free : (n : ℕ) → free_count (replicate n false) ≡ n
+pub all_free : (n : ℕ) → free_count (replicate n false) ≡ n
 all_free n = omega (arith, sum_by-replicate (λ v. cond (not v) 1 0) n false)
 
 none_free : (taken : List Bool) → ((k : ℕ) → k < length taken → get_or taken k false ≡ true) → free_count taken ≡ 0

@@ -114,7 +114,7 @@ apart_from x xs none apart =
     and_from (not (list_any (λ m. m == x.slot) (slot_list xs))) (are_distinct (slot_list xs))
     (not_from_false (list_any (λ m. m == x.slot) (slot_list xs)) (any_map (λ m. m == x.slot) (λ (f : Filed). f.slot) xs ∙ none)) apart
 
-turned : (a b : ℕ) → (a == b) ≡ false → (b == a) ≡ false
+pub turned : (a b : ℕ) → (a == b) ≡ false → (b == a) ≡ false
 turned a b ne = ne_eqb b a (λ e. eqb-false a b ne (sym e))
 
 pub apart_insert : (k : ℕ) (es : List Filed) (f : Filed) → are_distinct (slot_list es) ≡ true → has_slot es f.slot ≡ false → are_distinct (slot_list (insert es k f)) ≡ true

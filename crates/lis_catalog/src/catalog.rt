@@ -132,9 +132,10 @@ impl Catalog {
         self.entries.len() as u32
     }
 
-    /// The slot of the file that has the name.
+    /// The slot of the file that has the name, which is in the form of names.
     pub fn slot_of(&self, name: &Name) -> Option<u16>
-        ensures { result ≡ slot_of self.now name.now }
+        ensures slot { result ≡ slot_of self.now name.now }
+        ensures name { IsTrue (is_file_name name.now) }
     {
         self.holder(name)
     }
@@ -142,6 +143,7 @@ impl Catalog {
     // The same, with what holds of every catalog.
     fn holder(&self, name: &Name) -> Option<u16>
         ensures slot { result ≡ slot_of self.now name.now }
+        ensures name { IsTrue (is_file_name name.now) }
         ensures kept { IsCatalog self.now }
     {
         match find(&self.entries, name) {

@@ -37,7 +37,7 @@ pub homes_more : (base : ℕ) (blocks : List ℕ) (n : ℕ) → homes_of base (b
 homes_more base [] n = refl
 homes_more base (b ∷ blocks) n = ap (λ hs. (base + b) ∷ hs) (homes_more base blocks n)
 
-home_new : (base : ℕ) (blocks : List ℕ) (n : ℕ) → has_number blocks n ≡ false → has_home base blocks (base + n) ≡ false
+pub home_new : (base : ℕ) (blocks : List ℕ) (n : ℕ) → has_number blocks n ≡ false → has_home base blocks (base + n) ≡ false
 home_new base [] n new = refl
 home_new base (b ∷ blocks) n new =
     let parts = neither (eqb b n) (has_number blocks n) new in

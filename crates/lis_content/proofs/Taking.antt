@@ -60,25 +60,6 @@ pub record Filling (base : ℕ) (bytes rest : List ℕ) (start now_taken : List 
   pub others : (n : ℕ) (was : List ℕ) → has_home base blocks n ≡ false → look now.staged n was ≡ look before.staged n was
   pub few : length now.staged ≤ length before.staged + length blocks
 
-pub filling_none : (base : ℕ) (bytes : List ℕ) (start : List Bool) (before : Held) → blocks_needed (length bytes) ≤ free_count start → Filling base bytes bytes start start before before []
-filling_none base bytes start before enough = record {
-  distinct = refl;
-  were_free = refl;
-  marks = refl;
-  counted = omega arith;
-  count = omega arith;
-  enough = enough;
-  image = refl;
-  records = refl;
-  placed = refl;
-  broken = refl;
-  left = λ some. omega arith;
-  long = λ kept. refl;
-  holds = λ kept. take_all (length bytes) bytes (omega arith);
-  others = λ n was none. refl;
-  few = omega arith;
-}
-
 pub filling_done : (base : ℕ) (bytes rest : List ℕ) (start now_taken : List Bool) (before now : Held) (blocks : List ℕ) → length rest ≡ 0 → Filling base bytes rest start now_taken before now blocks → IsPut base [] bytes start now_taken before now blocks
 filling_done base bytes rest start now_taken before now blocks none was = record {
   count = omega (arith, was.count, none);

@@ -52,12 +52,13 @@ impl Ext {
         })
     }
 
-    /// Makes a file's set a new one, and marks the numbers that are in one of the two and not in both.
+    /// Makes a file's set a new one, and marks the numbers that are in one of the two and not in both. Each set was in range, as always.
     pub fn set_file(&mut self, file: u32, old: &[u16], new: &[u16])
         requires file { file < length self.old.sets }
         requires old_set { set_of self.old file ≡ old.now }
         requires new_rises { IsStrictlyIncreasing new.now }
         requires new_in { All (λ number. number < self.old.props) new.now }
+        ensures in_range { (i : ℕ) → i < length self.old.sets → All (λ p. p < self.old.props) (set_of self.old i) }
         ensures props { self.new.props ≡ self.old.props }
         ensures sets { self.new.sets ≡ slice_set self.old.sets file new.now }
         ensures marks { self.new.marks ≡ with_marks self.old (differs old.now new.now) }
@@ -84,11 +85,12 @@ impl Ext {
     }
 
     /// Adds the numbers of a row to the set of each file that has the left number, and marks those of them that
-    /// some such file lacked.
+    /// some such file lacked. Each set was in range, as always.
     pub fn add_up(&mut self, left: u32, ups: &Rows, row: u32)
         requires left { left < self.old.props }
         requires row { row < length ups.now.rows }
         requires bits { ups.now.bits ≡ self.old.props }
+        ensures in_range { (i : ℕ) → i < length self.old.sets → All (λ p. p < self.old.props) (set_of self.old i) }
         ensures props { self.new.props ≡ self.old.props }
         ensures sets { self.new.sets ≡ widened self.old left (get ups.now row) }
         ensures marks { self.new.marks

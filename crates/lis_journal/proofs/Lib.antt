@@ -7,7 +7,7 @@ mod Gates
 mod Series
 mod Writing
 mod Areas
-mod Phases
+pub mod Phases
 mod Saving
 mod Absorbing
 mod Holding

@@ -1,5 +1,5 @@
 -- The numbers of a file that is gone: of their words those may go that are not in use.
-use Rattle.std.proofs.Common.{◌≡◌, ◌⊎◌, refl, sym, ap, ◌∙◌, subst, inl, inr, ℕ, ◌==◌, if◌then◌else◌, ◌||◌, true, false, List, [], set, get_or, Option, Some, None, arith, get_or-set_same, get_or-set_other}
+use Rattle.std.proofs.Common.{◌≡◌, ◌⊎◌, refl, sym, ap, ◌∙◌, subst, inl, inr, ℕ, ◌<◌, ◌==◌, if◌then◌else◌, ◌||◌, true, false, List, [], length, set, get_or, Option, Some, None, arith, get_or-set_same, get_or-set_other}
 use Rattle.std.specs.List.{list_any}
 use Rattle.std.proofs.lemmas.Bool.{and_parts, both_ways, cases_eq, eq-eqb, ne_eqb, eqb-true, or_cases, or_left, or_right, true_from_ne_false}
 use Rattle.lis_graph.proofs.Members.{Among, among_from_any, any_from_among}
@@ -8,7 +8,7 @@ use Rattle.lis_content.specs.Content.{has_number}
 use Rattle.lis_dict.specs.Dict.{word_of}
 use Rattle.lis_catalog.specs.Catalog.{rec_at, without_slot}
 use Rattle.lis_catalog.proofs.Laws.{rec_at-without_slot}
-use Rattle.lis_ext.specs.Ext.{has, set_of as numbers_at}
+use Rattle.lis_ext.specs.Ext.{Ext, has, set_of as numbers_at}
 use Rattle.lis_fields.specs.Records.{FileRecord}
 use Rattle.lis_fields.specs.Layouts.{is_prop}
 use Rattle.lis_fields.specs.declared.slots.AxiomSlot.{AxiomSlot}
@@ -26,8 +26,7 @@ use Rattle.lis_kept.specs.Forgetting.{MayForget, KeepsInUse}
 use Rattle.lis_kept.specs.Changes.{Drops, Describes}
 use Rattle.lis_kept.proofs.Dropped.{file_slot_below}
 use Rattle.lis_kept.proofs.OwnLinks.{own_head}
-use Rattle.lis_kept.proofs.Used.{had_at}
-use Rattle.lis_kept.proofs.WordLess.{had_from}
+use Rattle.lis_kept.proofs.Used.{had_at, used_flagged, used_had, used_left}
 
 -- the word of a number that is declared is not valued
 pub flagged_not_valued : (k : Kept) → AreSound k → (n : ℕ) (w : List ℕ) → word_of k.dict n ≡ Some w → is_taken k.declared n ≡ true → is_valued w ≡ false
@@ -35,6 +34,20 @@ flagged_not_valued k sound n w is bit =
     let formed : is_declarable w ≡ true =
     sym (ap (λ b. is_prop (property_by (Some w) b)) bit) ∙ (sym (ap (λ o. is_prop (property_by o (is_taken k.declared n))) is) ∙ sound.properties n) in
     declarable_not_valued w formed
+
+-- ---- a slot whose set was emptied
+pub emptied_before : (old new : Ext) (slot : ℕ) → slot < length old.sets → new.sets ≡ set old.sets slot [] → (n at : ℕ) → has new n at ≡ true → (at ≡ slot → ⊥) × (has old n at ≡ true)
+emptied_before old new slot lt sets n at h = by (cases_eq at slot)
+  where
+    here : numbers_at new slot ≡ []
+    here = ap (λ ss. get_or ss slot []) sets ∙ get_or-set_same old.sets slot [] [] lt
+
+    by : (at ≡ slot) ⊎ (at ≡ slot → ⊥) → (at ≡ slot → ⊥) × (has old n at ≡ true)
+    by (inl same) = absurd (both_ways (has new n at) (ap (λ ns. has_number ns n) (ap (numbers_at new) same ∙ here)) h)
+    by (inr differ) = (differ, sym (ap (λ ns. has_number ns n) (ap (λ ss. get_or ss at []) sets ∙ get_or-set_other old.sets slot at [] [] differ)) ∙ h)
+
+pub emptied_stays : (old new : Ext) (slot : ℕ) → new.sets ≡ set old.sets slot [] → (n at : ℕ) → (at ≡ slot → ⊥) → has old n at ≡ true → has new n at ≡ true
+emptied_stays old new slot sets n at differ h = ap (λ ns. has_number ns n) (ap (λ ss. get_or ss at []) sets ∙ get_or-set_other old.sets slot at [] [] differ) ∙ h
 
 module _ (slot : ℕ) (rec : FileRecord) (p dropped q : Kept) (sound : AreSound p) (keeps : KeepsInUse p)
     (closed : (at m n : ℕ) → has p.ext m at ≡ true → is_linked p m n ≡ true → has p.ext n at ≡ true)
@@ -49,41 +62,19 @@ module _ (slot : ℕ) (rec : FileRecord) (p dropped q : Kept) (sound : AreSound 
   sets_are : mid.ext.sets ≡ set p.ext.sets slot []
   sets_are = empties.sets ∙ ap (λ (k : Kept). set k.ext.sets slot []) drops.parts
 
-  had_before : (n at : ℕ) → has mid.ext n at ≡ true → (at ≡ slot → ⊥) × (has p.ext n at ≡ true)
-  had_before n at h = by (cases_eq at slot)
-    where
-      here : numbers_at mid.ext slot ≡ []
-      here = ap (λ ss. get_or ss slot []) sets_are ∙ get_or-set_same p.ext.sets slot [] [] (omega (arith, file_slot_below p sound slot rec drops.there, sound.files))
-
-      by : (at ≡ slot) ⊎ (at ≡ slot → ⊥) → (at ≡ slot → ⊥) × (has p.ext n at ≡ true)
-      by (inl same) = absurd (both_ways (has mid.ext n at) (ap (λ ns. has_number ns n) (ap (numbers_at mid.ext) same ∙ here)) h)
-      by (inr differ) = (differ, sym (ap (λ ns. has_number ns n) (ap (λ ss. get_or ss at []) sets_are ∙ get_or-set_other p.ext.sets slot at [] [] differ)) ∙ h)
-
-  had_stays : (n at : ℕ) → (at ≡ slot → ⊥) → has p.ext n at ≡ true → has mid.ext n at ≡ true
-  had_stays n at differ h = ap (λ ns. has_number ns n) (ap (λ ss. get_or ss at []) sets_are ∙ get_or-set_other p.ext.sets slot at [] [] differ) ∙ h
-
   -- ---- use
-  used_flagged : (n : ℕ) → is_taken p.declared n ≡ true → is_used mid n ≡ true
-  used_flagged n bit = or_left (is_taken p.declared n || is_had mid.ext n) (is_named_left mid n) (or_left (is_taken p.declared n) (is_had mid.ext n) bit)
-
-  used_had : (n at : ℕ) → has mid.ext n at ≡ true → is_used mid n ≡ true
-  used_had n at h = or_left (is_taken p.declared n || is_had mid.ext n) (is_named_left mid n) (or_right (is_taken p.declared n) (is_had mid.ext n) (had_from mid.ext n at h))
-
-  used_left : (n : ℕ) → is_named_left p n ≡ true → is_used mid n ≡ true
-  used_left n left = or_right (is_taken p.declared n || is_had mid.ext n) (is_named_left mid n) left
-
   used_back : (n : ℕ) → is_used p n ≡ true → has p.ext n slot ≡ false → is_used mid n ≡ true
   used_back n used none = by (or_cases (is_taken p.declared n || is_had p.ext n) (is_named_left p n) used)
     where
       first : (is_taken p.declared n ≡ true) ⊎ (is_had p.ext n ≡ true) → is_used mid n ≡ true
-      first (inl bit) = used_flagged n bit
+      first (inl bit) = used_flagged mid n bit
       first (inr h) =
           let at = had_at p.ext n h in
-          used_had n at.0 (had_stays n at.0 (λ same. both_ways (has p.ext n at.0) (ap (λ s. has p.ext n s) same ∙ none) at.2) at.2)
+          used_had mid n at.0 (emptied_stays p.ext mid.ext slot sets_are n at.0 (λ same. both_ways (has p.ext n at.0) (ap (λ s. has p.ext n s) same ∙ none) at.2) at.2)
 
       by : ((is_taken p.declared n || is_had p.ext n) ≡ true) ⊎ (is_named_left p n ≡ true) → is_used mid n ≡ true
       by (inl either) = first (or_cases (is_taken p.declared n) (is_had p.ext n) either)
-      by (inr left) = used_left n left
+      by (inr left) = used_left mid n left
 
   tags_used : (at : ℕ) (r : FileRecord) → rec_at mid.catalog at ≡ Some r → (n : ℕ) → has_number r.tags n ≡ true → is_used mid n ≡ true
   tags_used at r is n tag = by (cases_eq at slot) (sym (rec_at-without_slot p.catalog slot at) ∙ is)
@@ -92,7 +83,7 @@ module _ (slot : ℕ) (rec : FileRecord) (p dropped q : Kept) (sound : AreSound 
       by (inl same) e = let none : ◌≡◌ {A = Option FileRecord} None (Some r) = sym (ap (λ b. if b then None else rec_at p.catalog at) (eq-eqb at slot same)) ∙ e in absurd cc
       by (inr differ) e =
           let before = sym (ap (λ b. if b then None else rec_at p.catalog at) (ne_eqb at slot differ)) ∙ e in
-          used_had n at (had_stays n at differ (keeps.tags at r before n tag))
+          used_had mid n at (emptied_stays p.ext mid.ext slot sets_are n at differ (keeps.tags at r before n tag))
 
   -- ---- heads
   module _ (n head : ℕ) (is_head : is_head_by (word_of p.dict n) (word_of p.dict head) ≡ true) where
@@ -110,9 +101,9 @@ module _ (slot : ℕ) (rec : FileRecord) (p dropped q : Kept) (sound : AreSound 
     had_head : is_had mid.ext n ≡ true → is_used mid head ≡ true
     had_head h =
         let at = had_at mid.ext n h in
-        let before = had_before n at.0 at.2 in
+        let before = emptied_before p.ext mid.ext slot (omega (arith, file_slot_below p sound slot rec drops.there, sound.files)) sets_are n at.0 at.2 in
         let linked = or_left (is_own_link (declared_of p) (word_of p.dict n) (word_of p.dict head)) (has_pair p.axioms n head) (own_head (declared_of p) (word_of p.dict n) (word_of p.dict head) is_head) in
-        used_had head at.0 (had_stays head at.0 before.0 (closed at.0 n head before.1 linked))
+        used_had mid head at.0 (emptied_stays p.ext mid.ext slot sets_are head at.0 before.0 (closed at.0 n head before.1 linked))
 
     left_head : list_any (is_left_of n) p.axioms ≡ true → is_used mid head ≡ true
     left_head h = let found = among_from_any (is_left_of n) p.axioms h in by found.0 found.1 found.2
@@ -120,7 +111,7 @@ module _ (slot : ℕ) (rec : FileRecord) (p dropped q : Kept) (sound : AreSound 
         by : (a : AxiomSlot) → Among p.axioms a → is_left_of n a ≡ true → is_used mid head ≡ true
         by FreeAxiom m is = absurd (both_ways false refl is)
         by (Pair left right) m is =
-            used_left head
+            used_left mid head
             (or_right (list_any (is_left_of head) p.axioms) (list_any (is_left_head_of p.dict head) p.axioms)
             (any_from_among (is_left_head_of p.dict head) p.axioms (Pair left right) m
             (ap (λ k. is_head_by (word_of p.dict k) (word_of p.dict head)) (eqb-true left n is) ∙ is_head)))
@@ -160,6 +151,6 @@ module _ (slot : ℕ) (rec : FileRecord) (p dropped q : Kept) (sound : AreSound 
       (record {
         given = λ n some unused. true_from_ne_false (has p.ext n slot) (λ none. both_ways (is_used mid n) unused (used_back n (keeps.used n some) none));
         tags = tags_used;
-        rights = λ at left right is. used_flagged right (keeps.rights at left right is);
+        rights = λ at left right is. used_flagged mid right (keeps.rights at left right is);
         heads = λ n head used is. head_used n head is used;
       })

@@ -1,7 +1,7 @@
 -- What the tests tell by which numbers in use are found.
 use Rattle.std.proofs.Common.{◌≡◌, refl, sym, ap, ap₂, ◌∙◌, ℕ, ◌<◌, ◌==◌, if◌then◌else◌, ◌&&◌, ◌||◌, Bool, true, false, List, [], ◌∷◌, length, Option, Some, None, is_some, IsSome, IfSome, IfNone, arith}
 use Rattle.std.specs.List.{list_any}
-use Rattle.std.proofs.lemmas.Bool.{and_parts, and_from, both_ways, eq-eqb, ne_eqb, eqb-true, false_from_ne_true}
+use Rattle.std.proofs.lemmas.Bool.{and_parts, and_from, both_ways, eq-eqb, ne_eqb, eqb-true, false_from_ne_true, or_left, or_right}
 use Rattle.std.proofs.lemmas.List.{get_or_default}
 use Rattle.lis_graph.proofs.Members.{among_from_any, contains_from_among}
 use Rattle.lis_bits.specs.Rows.{Rows, HasShape, NoneTrue, get}
@@ -35,6 +35,17 @@ had_by_row e n rows shape values below None bit in_row none =
     both_ways (has e n at.0) (sym (values n at.0 below at.1) ∙ none at.0 (omega arith) (omega (arith, at.1, shape.wide))) at.2))
 had_by_row e n rows shape values below (Some slot) bit in_row none =
     sym (had_from e n slot (sym (values n slot below (omega (arith, in_row, shape.wide))) ∙ bit))
+
+-- ---- why a number is in use
+module _ (k : Kept) where
+  pub used_flagged : (n : ℕ) → is_taken k.declared n ≡ true → is_used k n ≡ true
+  used_flagged n bit = or_left (is_taken k.declared n || is_had k.ext n) (is_named_left k n) (or_left (is_taken k.declared n) (is_had k.ext n) bit)
+
+  pub used_had : (n slot : ℕ) → has k.ext n slot ≡ true → is_used k n ≡ true
+  used_had n slot h = or_left (is_taken k.declared n || is_had k.ext n) (is_named_left k n) (or_right (is_taken k.declared n) (is_had k.ext n) (had_from k.ext n slot h))
+
+  pub used_left : (n : ℕ) → is_named_left k n ≡ true → is_used k n ≡ true
+  used_left n left = or_right (is_taken k.declared n || is_had k.ext n) (is_named_left k n) left
 
 -- ---- by the number of a head
 abbrev pub is_at : Option ℕ → ℕ → Bool

@@ -67,8 +67,6 @@ impl Parts {
         ensures describes { Describes slot new.now self.old self.new }
         ensures sound { AreSound self.new }
     {
-        // Only its rows tell that each file's numbers are below the limit.
-        let _rows = self.ext.rows();
         self.ext.set_file(u32::from(slot), old, new);
         mark_rows(&self.ext, &self.limits, &mut self.marks);
         self.ext.settle();

@@ -1,11 +1,12 @@
 //! What memory keeps, as calls read it.
 
-ghost use Rattle.std.specs.Prelude.{◌≡◌, ◌≤◌, Some, None, MatchOption, length, filter, slice_get, IsSome};
+ghost use Rattle.std.specs.Prelude.{◌≡◌, ◌≤◌, Some, None, MatchOption, length, filter, slice_get, IsSome, IsTrue};
 ghost use Rattle.std.specs.Option.{option_map};
 ghost use Rattle.lis_blockmap.specs.Bitmap.{free_count, is_taken};
 ghost use Rattle.lis_catalog.specs.Catalog.{Filed, slot_of, rec_at};
 ghost use Rattle.lis_dict.specs.Dict.{number_of, word_of};
 ghost use Rattle.lis_fields.specs.Records.{FileRecord};
+ghost use Rattle.lis_words.specs.Words.{is_file_name};
 ghost use Rattle.lis_kept.specs.Links.{TellsLinks};
 ghost use Rattle.lis_kept.specs.Telling.{is_declared};
 
@@ -71,7 +72,8 @@ impl Parts {
 
     /// The slot of the file that has a name.
     pub fn slot_of(&self, name: &Name) -> Option<u16>
-        ensures { result ≡ slot_of self.now.catalog name.now }
+        ensures slot { result ≡ slot_of self.now.catalog name.now }
+        ensures name { IsTrue (is_file_name name.now) }
     {
         self.catalog.slot_of(name)
     }

@@ -61,6 +61,7 @@ fn has_stronger(dict: &Dict, declared: &Flags, number: u32, test: (bool, u64)) -
 /// that is none keeps its edges.
 pub fn link_weaker(dict: &Dict, declared: &Flags, taxonomy: &mut Taxonomy, props: u32, number: u32)
     requires props { props ≡ taxonomy.old.props }
+    requires few { props ≤ 8192 }
     requires number { number < props }
     requires dict { IsDict dict.now }
     requires names { dict.now.props ≡ props }
@@ -69,8 +70,6 @@ pub fn link_weaker(dict: &Dict, declared: &Flags, taxonomy: &mut Taxonomy, props
     requires new { is_some {T = Bool × ℕ} (declared_test dict.now declared.now number) ≡ true → (q : ℕ) → has_edge taxonomy.old number q ≡ false }
     ensures { LinksWeaker dict.now declared.now number taxonomy.old taxonomy.new }
 {
-    // Only its rows tell that there are few words.
-    let _rows = taxonomy.rows();
     let Some(test) = declared_test(dict, declared, number) else {
         return;
     };

@@ -9,6 +9,7 @@ use Rattle.std.specs.List.{flat_map}
 use Rattle.std.proofs.lemmas.Bool.{and_parts, and_cases, or_parts, or_cases, or_left, not-true, not-false, not_from_false, both_ways}
 use Rattle.std.proofs.lemmas.List.Folds.{list_any-append}
 use Rattle.lis_graph.specs.Graph.{is_rising}
+use Rattle.lis_graph.proofs.Filters.{filter_same}
 use Rattle.lis_graph.proofs.Members.{Among, among_from_any, any_from_among, among_filter, filter_among, among_left, among_right, map_among, flat_map_among, among_insert_key, insert_key_old}
 use Rattle.lis_words.specs.Words.{word_cmp, same_word, has_word, head_bytes, is_valued, is_test, is_built_in, built_in_heads, test_of}
 use Rattle.lis_words.proofs.Tests.{valued_not_test}
@@ -45,11 +46,6 @@ has_alike words more w to from =
 
 -- ---- lists that tests leave
 module _ {K : Type 0} where
-  filter_alike : (p q : K → Bool) (xs : List K) → ((x : K) → Among xs x → p x ≡ q x) → filter p xs ≡ filter q xs
-  filter_alike p q [] same = refl
-  filter_alike p q (x ∷ xs) same =
-      ap (λ (b : Bool). cond b (x ∷ filter p xs) (filter p xs)) (same x (inl refl)) ∙ ap (λ (ys : List K). cond (q x) (x ∷ ys) ys) (filter_alike p q xs (λ y m. same y (inr m)))
-
   filter_insert : (cmp : K → K → Ordering) (p : K → Bool) (xs : List K) (k : K) → p k ≡ false → filter p (insert_key cmp xs k) ≡ filter p xs
   filter_insert cmp p [] k e = ap (λ (b : Bool). cond b (k ∷ []) []) e
   filter_insert cmp p (y ∷ ys) k e = by (cmp k y) (filter_insert cmp p ys k e)
@@ -70,7 +66,7 @@ module _ {K : Type 0} where
 -- the same files have a word, by two ways to describe them
 names_alike : (files : List File) (some more : File → List (List ℕ)) (w : List ℕ) → ((file : File) → Among files file → has_word (some file) w ≡ has_word (more file) w)
     → map (λ (file : File). file.name) (filter (λ (file : File). has_word (some file) w) files) ≡ map (λ (file : File). file.name) (filter (λ (file : File). has_word (more file) w) files)
-names_alike files some more w same = ap (λ (fs : List File). map (λ (file : File). file.name) fs) (filter_alike (λ (file : File). has_word (some file) w) (λ (file : File). has_word (more file) w) files same)
+names_alike files some more w same = ap (λ (fs : List File). map (λ (file : File). file.name) fs) (filter_same (λ (file : File). has_word (some file) w) (λ (file : File). has_word (more file) w) files same)
 
 held_among : (s : State) (word : List ℕ) (words : List (List ℕ)) (file : File) (w : List ℕ) → Among s.files file → Among (description s file) word → Among words w → Among (where_held s word words) w
 held_among s word words file w m has there = subst (λ (b : Bool). Among (cond b words []) w) (sym held) there

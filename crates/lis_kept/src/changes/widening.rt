@@ -20,8 +20,6 @@ impl Parts {
         ensures widens { Widens left (get ups.now row) self.old self.new }
         ensures sound { AreSound self.new }
     {
-        // Only its rows tell that each file's numbers are below the limit.
-        let _rows = self.ext.rows();
         self.ext.add_up(u32::from(left), ups, row);
         mark_rows(&self.ext, &self.limits, &mut self.marks);
         self.ext.settle();

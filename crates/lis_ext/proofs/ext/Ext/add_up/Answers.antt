@@ -1,6 +1,12 @@
+use Rattle.std.proofs.Common.{refl, arith}
 use Rattle.lis_bits.specs.Rows.{get}
-use Rattle.lis_ext.proofs.Seen.{sets_widened, marks_widened, edits_widened}
+use Rattle.lis_ext.proofs.Seen.{length-sets_of, set_below, sets_widened, marks_widened, edits_widened}
 use Rattle.lis_ext.proofs.ext.Ext.add_up.Goals as goal
+
+pub returns-clause-in_range : goal.returns-clause-in_range
+returns-clause-in_range c =
+    let e = c.self.inside in
+    rw (← c.self.view_is) (λ i lt. set_below e.rows e.props e.files i _ (omega (arith, length-sets_of e.rows e.props e.files)) refl)
 
 pub returns-clause-sets : goal.returns-clause-sets
 returns-clause-sets c =

@@ -1,3 +1,4 @@
+use Rattle.std.proofs.Common.{refl, arith}
 use Rattle.lis_ext.proofs.Seen.{length-sets_of, set_rises, set_below, each_below, sets_set, marks_set, edits_set}
 use Rattle.lis_ext.proofs.ext.Ext.set_file.Goals as goal
 
@@ -18,6 +19,11 @@ drop_numbers-requires-clause-old_rises c =
     let e = c.self.inside in
     let file_in = rw (← c.self.view_is, length-sets_of e.rows e.props e.files) at c.requires.file in
     set_rises e.rows e.props e.files c.args.file c.args.old.now file_in (rw (← c.self.view_is) at c.requires.old_set)
+
+pub returns-clause-in_range : goal.returns-clause-in_range
+returns-clause-in_range c =
+    let e = c.self.inside in
+    rw (← c.self.view_is) (λ i lt. set_below e.rows e.props e.files i _ (omega (arith, length-sets_of e.rows e.props e.files)) refl)
 
 pub returns-clause-sets : goal.returns-clause-sets
 returns-clause-sets c =

@@ -11,6 +11,9 @@ use Rattle.lis_kept.proofs.WordDeclared.{dict_after, ordered_after, none_from_it
 use Rattle.lis_kept.specs.contracts.parts.Parts.{the_view}
 use Rattle.lis_kept.proofs.parts.Parts.declare_word.Goals as goal
 
+pub link_weaker-requires-clause-few : goal.link_weaker-requires-clause-few
+link_weaker-requires-clause-few c = few_properties c.self.inside.limits c.self.invariant.sound.range
+
 pub link_weaker-requires-clause-dict : goal.link_weaker-requires-clause-dict
 link_weaker-requires-clause-dict c =
     let v = the_view c.self.inside in

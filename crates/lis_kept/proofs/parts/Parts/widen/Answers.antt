@@ -34,7 +34,7 @@ invariant_of-self c =
     let e = c.self.inside.ext in
     let L : ℕ → Type 0 = λ l. AreWidened c.args.self.now (the_view c.self.inside) c.self.inside.taxonomy l ups c.settle.new.self c.mark_rows.new.marks in
     (subst L c.from.ensures
-    (widens c.args.self.now (the_view c.self.inside) c.self.inside.taxonomy c.from.result ups c.settle.new.self c.mark_rows.new.marks c.self.view_is c.self.invariant c.rows-rows.ensures.in_range c.requires.named
+    (widens c.args.self.now (the_view c.self.inside) c.self.inside.taxonomy c.from.result ups c.settle.new.self c.mark_rows.new.marks c.self.view_is c.self.invariant c.add_up.ensures.in_range c.requires.named
     (ap (λ (x : Ext). x.props) c.settle.ensures ∙ c.add_up.ensures.props) (ap (λ (x : Ext). x.sets) c.settle.ensures ∙ c.add_up.ensures.sets) (ap (λ (x : Ext). x.marks) c.settle.ensures)
     (omega (arith, ap (λ (x : Ext). x.edits) c.settle.ensures, c.add_up.ensures.edits))
     (c.mark_rows.ensures ∙ ap (λ ns. marked c.self.inside.marks (map (block_of c.self.inside.limits Rows) ns)) (c.add_up.ensures.marks ∙ marks_lacked e c.from.result ups c.self.invariant.sound.settled)))).0
@@ -45,7 +45,7 @@ returns c =
     let e = c.self.inside.ext in
     let L : ℕ → Type 0 = λ l. AreWidened c.args.self.now (the_view c.self.inside) c.self.inside.taxonomy l ups c.settle.new.self c.mark_rows.new.marks in
     let both = subst L c.from.ensures
-    (widens c.args.self.now (the_view c.self.inside) c.self.inside.taxonomy c.from.result ups c.settle.new.self c.mark_rows.new.marks c.self.view_is c.self.invariant c.rows-rows.ensures.in_range c.requires.named
+    (widens c.args.self.now (the_view c.self.inside) c.self.inside.taxonomy c.from.result ups c.settle.new.self c.mark_rows.new.marks c.self.view_is c.self.invariant c.add_up.ensures.in_range c.requires.named
     (ap (λ (x : Ext). x.props) c.settle.ensures ∙ c.add_up.ensures.props) (ap (λ (x : Ext). x.sets) c.settle.ensures ∙ c.add_up.ensures.sets) (ap (λ (x : Ext). x.marks) c.settle.ensures)
     (omega (arith, ap (λ (x : Ext). x.edits) c.settle.ensures, c.add_up.ensures.edits))
     (c.mark_rows.ensures ∙ ap (λ ns. marked c.self.inside.marks (map (block_of c.self.inside.limits Rows) ns)) (c.add_up.ensures.marks ∙ marks_lacked e c.from.result ups c.self.invariant.sound.settled))) in
