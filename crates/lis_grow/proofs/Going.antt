@@ -23,7 +23,8 @@ use Rattle.lis_session.specs.Item.{FitsAt}
 use Rattle.lis_session.specs.Tally.{is_refusal, listed, Tallied, TalliesItem}
 use Rattle.lis_session.proofs.Laws.{last_situation}
 use Rattle.lis_session.proofs.Moments.{state_front, state_whole}
-use Rattle.lis_session.proofs.Going.{carries_item, past_then}
+use Rattle.lis_line.proofs.Carrying.{of_item}
+use Rattle.lis_session.proofs.Going.{past_then}
 use Rattle.lis_grow.specs.declared.summary.Sum.{Sum}
 use Rattle.lis_grow.specs.Session.{refusals, listings, StandsAmong, SummedAll, Summed}
 
@@ -159,7 +160,7 @@ pub so_far_more : {limit : ℕ} {left_before left : Option (List ℕ)} {reading 
     → SoFar limit left_before left reading place_before fits_before old new fits_after place_after after
 so_far_more {place_before = place_before} {mid = mid} {new = new} {fits = fits} {fits_after = fits_after} {place = place} {place_after = place_after} {after = after} {asked = asked} tally read tallied adds =
     let item = read.taken.item in
-    let tallies = carries_item asked item (TalliesItem fits place mid new (Ok tally) fits_after place_after) read.taken.is tallied in
+    let tallies = of_item asked item (TalliesItem fits place mid new (Ok tally) fits_after place_after) read.taken.is tallied in
     record {
       first = read.first ++ item ∷ [];
       read = read.taken.read;
@@ -201,7 +202,7 @@ ends_disk {limit = limit} {left = left} {reading = reading} {place_before = plac
     let first : List Item = read.first ++ item ∷ [] in
     let front = script_front limit input left reading first (subst (λ l. ReadSoFar limit l left reading first) told read.taken.read) in
     let done = read.done state fitting in
-    let tallies = carries_item asked item (TalliesItem fits place mid new (Err failed) fits_after place_after) read.taken.is tallied in
+    let tallies = of_item asked item (TalliesItem fits place mid new (Err failed) fits_after place_after) read.taken.is tallied in
     let one = one_here new (Err failed) fits_after place_after item done tallies in
     let all : all_items input ≡ first ++ front.0 = sym (script_short input limit short) ∙ front.1 in
     record {

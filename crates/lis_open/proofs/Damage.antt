@@ -49,7 +49,8 @@ use Rattle.lis_open.proofs.Needs.{one_limits, has_super}
 use Rattle.lis_open.proofs.Numbers.{is_taken-marked, distinct_piece}
 use Rattle.lis_open.proofs.ZeroRows.{zero_row}
 use Rattle.lis_open.proofs.WordsTold.{one_of}
-use Rattle.lis_open.proofs.Once.{taken_place, slot_at, value_at, part_once, distinct_apart, apart_by_count, file_there, names-more}
+use Rattle.lis_store.proofs.Declared.{apart_numbers}
+use Rattle.lis_open.proofs.Once.{taken_place, slot_at, value_at, part_once, apart_by_count, file_there, names-more}
 
 -- ---- one value in each slot
 pub one_contents : (limits : Limits) (at : ℕ → List ℕ) (a b : Contents) → AreContents limits at a → AreContents limits at b → a ≡ b
@@ -260,7 +261,7 @@ module _ (limits : Limits) (contents : Contents) (at : ℕ → List ℕ) (spells
       names_of (rec ∷ recs) = ap (λ ns. rec.name ∷ ns) (names_of recs)
 
   blocks_apart : AllApart (flat_map (block_parts limits at) contents.files)
-  blocks_apart = distinct_apart (flat_map (block_parts limits at) contents.files) (ap are_distinct (sym (blocks_same limits at contents.files)) ∙ spells.each_block_once)
+  blocks_apart = apart_numbers (flat_map (block_parts limits at) contents.files) (ap are_distinct (sym (blocks_same limits at contents.files)) ∙ spells.each_block_once)
 
   module _ (n : ℕ) (rec : FileRecord) (is : IsFile limits at n (Used rec)) where
     in_records : Among records rec

@@ -13,7 +13,6 @@ use Rattle.lis_graph.specs.Graph.{with_more}
 use Rattle.lis_graph.proofs.Members.{Among, among_right, among_insert_key, insert_key_old, insert_key_new, with_more_old, flat_map_among}
 use Rattle.lis_graph.proofs.Sets.{sorted_nil, sorted_insert_key, members_le}
 use Rattle.lis_slots.specs.Slots.{Slots}
-use Rattle.lis_content.specs.Content.{are_distinct}
 use Rattle.lis_words.specs.Words.{word_cmp}
 use Rattle.lis_laws.proofs.Counts.{insert_key_le}
 use Rattle.lis_model.specs.Sets.{with_word, with_words}
@@ -23,7 +22,6 @@ use Rattle.lis_store.specs.Stands.{AreSlots}
 use Rattle.lis_store.proofs.Points.{AllApart}
 use Rattle.lis_open.specs.Checks.{IsSlot}
 use Rattle.lis_open.proofs.Counts.{more_le}
-use Rattle.lis_open.proofs.Numbers.{apart_first}
 
 -- ---- places of a list
 -- what is in a front is in the list, in the same place
@@ -66,10 +64,6 @@ part_once {X} parts (x ∷ xs) apart zero (suc n) a b k lt is_a is_b has_a has_b
     apart_between (parts x) (flat_map parts xs) apart k (subst (λ (y : X). Among (parts y) k) (sym same) has_a) (flat_map_among parts xs b k (among_place xs n b is_b) has_b)
 part_once parts (x ∷ xs) apart (suc j) (suc n) a b k lt is_a is_b has_a has_b =
     part_once parts xs (apart_right (parts x) (flat_map parts xs) apart) j n a b k (omega arith) is_a is_b has_a has_b
-
-pub distinct_apart : (ns : List ℕ) → are_distinct ns ≡ true → AllApart ns
-distinct_apart [] distinct = tt
-distinct_apart (n ∷ ns) distinct = let parts = apart_first n ns distinct in (parts.0, distinct_apart ns parts.1)
 
 -- ---- members, as many as their set has
 module _ {K : Type 0} (cmp : K → K → Ordering) (order : IsTotalOrder cmp) (exact : CmpEqualImpliesEq cmp) where

@@ -24,10 +24,6 @@ use Rattle.lis_session.proofs.Fitting.{same_none, same_then}
 use Rattle.lis_session.proofs.Laws.{limits_after, last_reply, last_situation}
 use Rattle.lis_session.proofs.Moments.{moment_in, session_on}
 
--- what carrying out the asked item says of the item itself
-pub carries_item : (asked : Option Item) (item : Item) (P : Item → Type 0) → asked ≡ Some item → IfSome asked P → P item
-carries_item asked item P is holds = subst (λ (a : Option Item). IfSome a P) is holds
-
 pub past_then : (start : Situation) (first : List Item) (old mid new : Meaning) → KeepsPast (image_blocks start.state.limits) old mid
     → KeepsPast (image_blocks (situation_after start first).state.limits) mid new → KeepsPast (image_blocks start.state.limits) old new
 past_then start first old mid new before after =

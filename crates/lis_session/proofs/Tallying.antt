@@ -112,11 +112,6 @@ lines_length words names =
     length-append (map (λ word. Prop word) words) (map (λ name. File name) names)
     ∙ ap₂ ◌+◌ (length-map words (λ word. Prop word)) (length-map names (λ name. File name))
 
-pub listing_length : (t : Table) (place : List Formula) (lines : List Line) → lines ≡ listing t place → length lines ≡ length (increments t place) + length (locals t place)
-listing_length t place lines is =
-    let names : List (List ℕ) = map (λ (e : Entry). e.name) (locals t place) in
-    ap length is ∙ lines_length (increments t place) names ∙ ap (λ n. length (increments t place) + n) (length-map (locals t place) (λ (e : Entry). e.name))
-
 -- a listing has at most as many lines as there are words and files
 pub few_lines : (v : Seen) (marks others : Rows) (word file : ℕ) → IsView v → length (lines_from v marks others word file) ≤ v.limits.props + v.limits.files
 few_lines v marks others word file kept =

@@ -5,7 +5,7 @@ ghost use Rattle.lis_line.specs.Taking.{TakesFew};
 ghost use Rattle.lis_model.specs.State.{State};
 ghost use Rattle.lis_model.specs.Step.{situation_after};
 ghost use Rattle.lis_model.specs.Script.{script};
-ghost use Rattle.lis_store.specs.Stored.{StoreFits};
+ghost use Rattle.lis_store.specs.Stored.{IsSound, StoreFits};
 ghost use Rattle.lis_session.specs.Item.{IsSameStation};
 ghost use Rattle.lis_session.specs.Runs.{Serves};
 ghost use Rattle.lis_session.specs.Session.{FullHeadline};
@@ -45,6 +45,7 @@ pub fn serve<S: Source, T: Station>(
     limit: u64,
 ) -> Status
     requires limit { limit ≤ 2 ^ 40 }
+    requires sound { IsSound session.old.store }
     requires unbroken { session.old.store.is_broken ≡ false }
     requires long { 4096 * session.old.store.journal.blocks ≤ (T.meaning station.old).len }
     ensures only { IsSessionStatus result }
@@ -63,7 +64,5 @@ pub fn serve<S: Source, T: Station>(
     ensures headline { (state : State) (bytes : List ℕ) → StoreFits session.old.store (T.meaning station.old) state → S.left input.old ≡ Some bytes
         → FullHeadline (record { state = state; place = session.old.place }) (script bytes limit) (T.meaning station.old) (T.meaning station.new) }
 {
-    // The session tells that its store is sound.
-    let _store = session.store();
     serve_status(carry_all(session, payload, input, station, limit))
 }

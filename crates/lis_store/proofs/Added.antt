@@ -30,6 +30,7 @@ use Rattle.lis_kept.specs.Forgetting.{KeepsInUse}
 use Rattle.lis_kept.specs.Telling.{declared_of, axioms_of, is_left_of, is_left_head_of, is_head_by, is_had, is_named_left, is_used, AreUsed}
 use Rattle.lis_kept.specs.TestEdges.{test_by}
 use Rattle.lis_kept.proofs.Formed.{some_word, named_all}
+use Rattle.lis_kept.proofs.WordLess.{had_from}
 use Rattle.lis_kept.proofs.Known.{some_number, one_number, word_known, known_word}
 use Rattle.lis_store.specs.Stored.{AreClosed, DescriptionsAreShort, TestsAreMet}
 use Rattle.lis_store.specs.Admitting.{described_by, IsAdmitted}
@@ -43,7 +44,6 @@ use Rattle.lis_store.proofs.PutIn.{may_come, heads_described, entailed_is, decla
 use Rattle.lis_store.proofs.MetTests.{met_numbered}
 use Rattle.lis_store.proofs.FileTests.{test_flagged, assigned_no_test, test_described, flagged_before, tested_word}
 use Rattle.lis_store.proofs.OwnStay.{own_back}
-use Rattle.lis_store.proofs.Removed.{had_there}
 
 has_number_of : (d : Dict) → IsDict d → (word : List ℕ) → (n : ℕ) × (word_of d n ≡ Some word) → IsSome (number_of d word)
 has_number_of d is word found = ap is_some (number_from_word d is word found.0 found.1)
@@ -139,7 +139,7 @@ module _ (p q : Kept) (name : List ℕ) (assigned : List (List ℕ)) (bytes : Li
     -- ---- what is in use
     pub used_had : (n at : ℕ) → has end.ext n at ≡ true → is_used end n ≡ true
     used_had n at h =
-        or_left (is_taken p.declared n || is_had end.ext n) (is_named_left end n) (or_right (is_taken p.declared n) (is_had end.ext n) (had_there end.ext.sets at n h))
+        or_left (is_taken p.declared n || is_had end.ext n) (is_named_left end n) (or_right (is_taken p.declared n) (is_had end.ext n) (had_from end.ext n at h))
 
     head_stays : (a b : ℕ) → is_head_by (word_of p.dict a) (word_of p.dict b) ≡ true → is_head_by (word_of dict a) (word_of dict b) ≡ true
     head_stays a b h = by (word_of p.dict a) (word_of p.dict b) refl refl h

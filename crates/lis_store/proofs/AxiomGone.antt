@@ -23,12 +23,12 @@ use Rattle.lis_kept.specs.Telling.{bit_of, is_declared, declared_of, axioms_of, 
 use Rattle.lis_kept.specs.Forgetting.{MayForget}
 use Rattle.lis_kept.proofs.AxiomSlots.{set_cases}
 use Rattle.lis_kept.proofs.Known.{among_axiom, declared_word, declared_has_number}
-use Rattle.lis_kept.proofs.Used.{is_at, head_by_number}
+use Rattle.lis_kept.proofs.Used.{is_at, head_by_number, used_flagged, used_had, used_left}
 use Rattle.lis_store.specs.Redescribing.{Redescribes}
 use Rattle.lis_store.specs.Stored.{AreClosed, PairsAreApart, DescriptionsAreShort}
 use Rattle.lis_store.specs.Unlinking.{is_entailed, tags_by, tags_at, stays, remaining, remaining_at, lessened, heads_by, with_head}
 use Rattle.lis_kept.proofs.Emptied.{flagged_not_valued}
-use Rattle.lis_store.proofs.HeadsUsed.{used_flagged, used_had, used_left, IsUsedFor, used_for, head_used}
+use Rattle.lis_store.proofs.HeadsUsed.{IsUsedFor, used_for, head_used}
 use Rattle.lis_store.proofs.HeadsUsed.IsUsedFor.{Flagged, HadAt, NamedLeft}
 use Rattle.lis_store.proofs.Redescribed.{same_here, given_then}
 use Rattle.lis_store.proofs.Remaining.{led, remaining_had, remaining_few, stays_remaining, lost_led, remaining_closed}

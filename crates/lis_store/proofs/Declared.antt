@@ -267,6 +267,13 @@ module _ (k : Kept) (sound : AreSound k) (pairs : PairsAreApart k) (at : ℕ →
         by : (file : File) → nat_lt 128 (length (description under_them file)) ≡ false → length (description under_them file) ≤ 128
         by file h = omega (arith, ltb-false 128 (length (description under_them file)) h)
 
+-- no number of these stands twice
+pub apart_numbers : (ns : List ℕ) → are_distinct ns ≡ true → AllApart ns
+apart_numbers [] h = tt
+apart_numbers (n ∷ ns) h =
+    let both = and_parts (not (has_number ns n)) (are_distinct ns) h in
+    ((λ m. both_ways (has_number ns n) (not-true (has_number ns n) both.0) (number_from_among ns n m)), apart_numbers ns both.1)
+
 -- ---- the numbers of the words under which it is declared
 module _ (p : Kept) (sound : AreSound p) (words : List (List ℕ)) (rights : List ℕ) (numbers : AreNumbersOf p words rights) where
   pub right_some : (n : ℕ) → Among rights n → IsSome (word_of p.dict n)
@@ -281,12 +288,6 @@ module _ (p : Kept) (sound : AreSound p) (words : List (List ℕ)) (rights : Lis
   right_declared n has_it =
       let found = right_word n has_it in
       ap (bit_of p.declared) (sym (number_from_word p.dict sound.dict found.0 n found.1)) ∙ all_among (is_declared p) words found.0 numbers.declared found.2
-
-  apart_numbers : (ns : List ℕ) → are_distinct ns ≡ true → AllApart ns
-  apart_numbers [] h = tt
-  apart_numbers (n ∷ ns) h =
-      let both = and_parts (not (has_number ns n)) (are_distinct ns) h in
-      ((λ m. both_ways (has_number ns n) (not-true (has_number ns n) both.0) (number_from_among ns n m)), apart_numbers ns both.1)
 
   pub rights_counted : length rights ≡ length words
   rights_counted = sym (told_counted p sound rights (apart_numbers rights numbers.apart) right_some) ∙ ap length numbers.told

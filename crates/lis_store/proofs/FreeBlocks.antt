@@ -3,11 +3,11 @@ use Rattle.std.proofs.Common.{◌≡◌, refl, sym, ap, ◌∙◌, subst, inl, i
 use Rattle.std.specs.List.{flat_map, list_all}
 use Rattle.std.proofs.lemmas.Bool.{and_parts, and_from, both_ways, lt-ltb, ltb-true, not-true, not_from_false}
 use Rattle.std.proofs.lemmas.List.{length-replicate, get_or-replicate}
-use Rattle.std.proofs.lemmas.List.Folds.{sum_by-replicate}
 use Rattle.std.proofs.lemmas.List.Sums.{sum_by-cons, sum_by-set}
 use Rattle.lis_graph.proofs.Members.{Among, among_from_contains, contains_from_among, among_flat_map, flat_map_among}
 use Rattle.lis_ports.specs.Meaning.{Meaning}
 use Rattle.lis_blockmap.specs.Bitmap.{is_taken, free_count}
+use Rattle.lis_blockmap.proofs.Taken.{all_free}
 use Rattle.lis_content.specs.Content.{marked, has_number, are_distinct, are_free}
 use Rattle.lis_catalog.specs.Catalog.{Filed}
 use Rattle.lis_model.specs.declared.limits.Limits.{Limits}
@@ -42,9 +42,6 @@ free_after_marks taken (b ∷ ns) apart free =
     (lt-ltb n (length (set taken b true)) (omega (arith, ltb-true n (length taken) was.0, length-set taken b true)))
     (ap not (get_or-set_other taken b n true false differ) ∙ was.1)) in
     omega (arith, one, free_after_marks (set taken b true) ns once.1 still)
-
-none_taken : (n : ℕ) → free_count (replicate n false) ≡ n
-none_taken n = sum_by-replicate (λ (b : Bool). cond (not b) 1 0) n false ∙ omega arith
 
 module _ (k : Stored) (m : Meaning) (s : State) (sound : IsSound k) (fits : StoreFits k m s) where
   abbrev told : Filed → File
@@ -115,4 +112,4 @@ module _ (k : Stored) (m : Meaning) (s : State) (sound : IsSound k) (fits : Stor
   pub used_told : used_blocks s + free_count k.parts.taken ≡ s.limits.blocks
   used_told =
       let marks = free_after_marks (replicate k.parts.limits.blocks false) taken_blocks once free_before in
-      omega (arith, used_counted, ap free_count marks_told, marks, none_taken k.parts.limits.blocks, ap (λ (l : Limits). l.blocks) (limits_told k.parts fits.kept s sound.parts sound.free fits.tells))
+      omega (arith, used_counted, ap free_count marks_told, marks, all_free k.parts.limits.blocks, ap (λ (l : Limits). l.blocks) (limits_told k.parts fits.kept s sound.parts sound.free fits.tells))

@@ -13,6 +13,7 @@ use Rattle.lis_words.specs.Words.{same_word, has_word, is_valued, head_bytes}
 use Rattle.lis_model.proofs.NotedLemmas.{are_distinct-push}
 use Rattle.lis_laws.proofs.Members.{same_word_decides, among_from_has_word, has_word_from_among}
 use Rattle.lis_laws.proofs.Chains.{up_from_entails}
+use Rattle.lis_laws.proofs.Few.{heads_le}
 use Rattle.lis_model.specs.State.{heads, up}
 use Rattle.lis_kept.specs.Kept.{Kept}
 use Rattle.lis_kept.specs.Sound.{AreSound}
@@ -200,16 +201,9 @@ headed word valued = ap (λ b. cond b (head_bytes word ∷ []) []) valued
 pub headless : (word : List ℕ) → (is_valued word ≡ true → ⊥) → heads word ≡ []
 headless word not_valued = ap (λ b. cond b (head_bytes word ∷ []) []) (false_from_ne_true (is_valued word) not_valued)
 
-heads_few : (word : List ℕ) → length (heads word) ≤ 1
-heads_few word = by (is_valued word)
-  where
-    by : (b : Bool) → length (cond b (head_bytes word ∷ []) []) ≤ 1
-    by true = omega arith
-    by false = omega arith
-
 pub with_heads_few : (words : List (List ℕ)) → length (with_heads words) ≤ 2 * length words
 with_heads_few [] = omega arith
-with_heads_few (w ∷ words) = omega (arith, heads_few w, length-append (w ∷ heads w) (with_heads words), with_heads_few words)
+with_heads_few (w ∷ words) = omega (arith, heads_le w, length-append (w ∷ heads w) (with_heads words), with_heads_few words)
 
 -- a loop that gathers words
 module _ (k : Kept) (words : List (List ℕ)) (i : ℕ) (word : List ℕ) (lt : i < length words) (is : word ≡ get_or words i word) (p q r : Rows) (f g h : List (List ℕ)) where

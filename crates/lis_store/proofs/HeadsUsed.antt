@@ -16,20 +16,9 @@ use Rattle.lis_kept.specs.Sound.{AreSound}
 use Rattle.lis_kept.specs.Links.{has_pair, is_own_link}
 use Rattle.lis_kept.specs.Telling.{declared_of, is_left_of, is_head_by, is_left_head_of, is_had, is_named_left, is_used}
 use Rattle.lis_kept.proofs.OwnLinks.{own_head}
-use Rattle.lis_kept.proofs.Used.{had_at}
-use Rattle.lis_kept.proofs.WordLess.{had_from}
+use Rattle.lis_kept.proofs.Used.{had_at, used_flagged, used_had, used_left}
 use Rattle.lis_kept.proofs.Emptied.{flagged_not_valued}
 use Rattle.lis_store.specs.Stored.{AreClosed}
-
-module _ (k : Kept) where
-  pub used_flagged : (n : ℕ) → is_taken k.declared n ≡ true → is_used k n ≡ true
-  used_flagged n bit = or_left (is_taken k.declared n || is_had k.ext n) (is_named_left k n) (or_left (is_taken k.declared n) (is_had k.ext n) bit)
-
-  pub used_had : (n slot : ℕ) → has k.ext n slot ≡ true → is_used k n ≡ true
-  used_had n slot h = or_left (is_taken k.declared n || is_had k.ext n) (is_named_left k n) (or_right (is_taken k.declared n) (is_had k.ext n) (had_from k.ext n slot h))
-
-  pub used_left : (n : ℕ) → is_named_left k n ≡ true → is_used k n ≡ true
-  used_left n left = or_right (is_taken k.declared n || is_had k.ext n) (is_named_left k n) left
 
 -- why a number is in use
 pub data IsUsedFor (k : Kept) (n : ℕ) : Type 0 where

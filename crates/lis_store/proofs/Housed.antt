@@ -33,13 +33,6 @@ pub record IsHoused (limits : Limits) (taken now : List Bool) (old blocks bytes 
   pub same : (n : ℕ) → has_home (data_start limits) blocks n ≡ false → there n ≡ at n
   pub marks : (n : ℕ) → n < limits.blocks → is_taken now n ≡ (has_number blocks n || (is_taken taken n && not (has_number old n)))
 
--- the home of a data block is that of one of these only where it is one of them
-pub home_elsewhere : (base : ℕ) (blocks : List ℕ) (b : ℕ) → has_number blocks b ≡ false → has_home base blocks (base + b) ≡ false
-home_elsewhere base blocks b none = false_from_ne_true (has_home base blocks (base + b)) (λ has.
-    let found = among_from_any (λ c. base + c == base + b) blocks has in
-    let same : found.0 ≡ b = omega (arith, eqb-true (base + found.0) (base + b) found.2) in
-    both_ways (has_number blocks b) none (number_from_among blocks b (subst (λ c. Among blocks c) same found.1)))
-
 -- free blocks are blocks that are not taken
 pub free_number : (taken : List Bool) (blocks : List ℕ) (n : ℕ) → are_free taken blocks ≡ true → has_number blocks n ≡ true → (n < length taken) × (is_taken taken n ≡ false)
 free_number taken blocks n free has =
@@ -144,7 +137,7 @@ module _ (k : Kept) (sound : AreSound k) (at there : ℕ → List ℕ) (s : Stat
   old_stays free =
       (same_file k.limits f.rec at there (numbers_counted k sound f m) (λ b among.
       same (data_start k.limits + b)
-      (home_elsewhere (data_start k.limits) blocks b
+      (home_new (data_start k.limits) blocks b
       (false_from_ne_true (has_number blocks b) (λ has. both_ways (is_taken k.taken b) (free_number k.taken blocks b free has).1 (old_taken b (number_from_among old b among))))))).1
 
   pub trades_housed : Trades k.limits f.rec k.taken now blocks at there → IsHoused k.limits k.taken now old blocks bytes numbers at there

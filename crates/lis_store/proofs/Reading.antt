@@ -21,15 +21,11 @@ use Rattle.lis_kept.specs.Telling.{bytes_told}
 use Rattle.lis_kept.proofs.BlocksTaken.{slot_within}
 use Rattle.lis_kept.proofs.Filing.{filed_at_slot}
 use Rattle.lis_store.specs.Stored.{Stored, IsSound, StoreFits}
+use Rattle.lis_dict.proofs.Places.{among_at}
 use Rattle.lis_store.proofs.Elsewhere.{numbers_counted}
 use Rattle.lis_store.proofs.FileBlocks.{content_told, content_among, content_counted}
 use Rattle.lis_store.proofs.Facts.{file_in_slot, block_is_whole, told_below}
 use Rattle.lis_store.proofs.Spelled.{sound_parts}
-
-among_get : {X : Type 0} (xs : List X) (n : ℕ) (d : X) → n < length xs → Among xs (get_or xs n d)
-among_get [] n d lt = absurd (omega arith)
-among_get (x ∷ xs) zero d lt = inl refl
-among_get (x ∷ xs) (suc n) d lt = inr (among_get xs n d (omega arith))
 
 -- ---- pieces of one length
 module _ {X : Type 0} (w : ℕ) (at : X → List ℕ) where
@@ -64,7 +60,7 @@ module _ {X : Type 0} (w : ℕ) (at : X → List ℕ) where
       ap (λ i. drop (w * n) (take i (flat_map at xs))) (let all : size ≡ w * n + left = omega arith in all)
       ∙ (drop-take (w * n) left (flat_map at xs) ∙ ap (take left) (drop_pieces xs n d whole lt)) in
       subst (λ ys. take (length (take w ys)) (at (get_or xs n d)) ≡ take w ys) (sym is)
-      (front_of left (at (get_or xs n d)) (flat_map at (drop (suc n) xs)) (whole (get_or xs n d) (among_get xs n d lt)))
+      (front_of left (at (get_or xs n d)) (flat_map at (drop (suc n) xs)) (whole (get_or xs n d) (among_at xs n d lt)))
 
 -- ---- the n-th block of a file
 -- a slot has this record, with these numbers of blocks and this size, and its file has bytes in an n-th block
@@ -125,7 +121,7 @@ module _ (k : Stored) (slot n : ℕ) (rec : FileRecord) (ns : List ℕ) (size : 
         (part_of_pieces 4096 at numbers n rec.size 0 (λ b among. block_is_whole k m s has.sound fits b (below b among)) in_content (omega arith))
 
     number_within : data_start k.parts.limits + get_or numbers n 0 < k.journal.blocks
-    number_within = omega (arith, below (get_or numbers n 0) (among_get numbers n 0 in_content), has.sound.image)
+    number_within = omega (arith, below (get_or numbers n 0) (among_at numbers n 0 in_content), has.sound.image)
 
   pub block_read : (m : Meaning) (base : ℕ) (buf : List ℕ) → base ≡ data_start k.parts.limits
       → ((kept : ℕ → List ℕ) → Fits k.journal m kept

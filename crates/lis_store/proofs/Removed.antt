@@ -24,6 +24,8 @@ use Rattle.lis_kept.specs.Forgetting.{KeepsInUse}
 use Rattle.lis_kept.specs.Telling.{declared_of, words_told, blocks_told, file_told, state_of, is_had, is_named_left, is_used, AreUsed, IsFileBlock, Tells}
 use Rattle.lis_kept.proofs.Filing.{number_from_among, filed_rec, filed_at_slot}
 use Rattle.lis_kept.proofs.Dropped.{file_slot_below}
+use Rattle.lis_kept.proofs.Used.{used_had}
+use Rattle.lis_kept.proofs.Emptied.{emptied_before, emptied_stays}
 use Rattle.lis_store.specs.Stored.{AreClosed, DescriptionsAreShort, TestsAreMet}
 use Rattle.lis_store.specs.Saving.{IsReady}
 use Rattle.lis_store.specs.ReplacingIn.{AreInForm}
@@ -37,12 +39,6 @@ use Rattle.lis_store.proofs.Told.{words_same}
 use Rattle.lis_store.proofs.OwnStay.{own_before}
 use Rattle.lis_store.proofs.FileTests.{tests_stay}
 use Rattle.lis_store.proofs.Given.{given_taken}
-
--- a set that has a number is one of the sets
-pub had_there : (sets : List (List ℕ)) (at n : ℕ) → has_number (get_or sets at []) n ≡ true → list_any (λ ns. has_number ns n) sets ≡ true
-had_there [] at n h = absurd cc
-had_there (x ∷ xs) zero n h = or_left (has_number x n) (list_any (λ ns. has_number ns n) xs) h
-had_there (x ∷ xs) (suc at) n h = or_right (has_number x n) (list_any (λ ns. has_number ns n) xs) (had_there xs at n h)
 
 -- lists that are told the same are told so one by one
 pub same_map : {X Y : Type 0} (f g : X → Y) (xs : List X) → map f xs ≡ map g xs → (x : X) → Among xs x → f x ≡ g x
@@ -77,21 +73,14 @@ module _ (slot : ℕ) (p q : Kept) (out : TakesOut slot p q) (sound : AreSound p
   sets_are : mid.ext.sets ≡ set p.ext.sets slot []
   sets_are = out.empties.sets ∙ ap (λ (k : Kept). set k.ext.sets slot []) out.drops.parts
 
+  slot_in : slot < length p.ext.sets
+  slot_in = omega (arith, file_slot_below p sound slot rec there, sound.files)
+
   set_here : numbers_at mid.ext slot ≡ []
-  set_here = ap (λ ss. get_or ss slot []) sets_are ∙ get_or-set_same p.ext.sets slot [] [] (omega (arith, file_slot_below p sound slot rec there, sound.files))
+  set_here = ap (λ ss. get_or ss slot []) sets_are ∙ get_or-set_same p.ext.sets slot [] [] slot_in
 
   set_other : (at : ℕ) → (at ≡ slot → ⊥) → numbers_at mid.ext at ≡ numbers_at p.ext at
   set_other at differ = ap (λ ss. get_or ss at []) sets_are ∙ get_or-set_other p.ext.sets slot at [] [] differ
-
-  had_before : (n at : ℕ) → has mid.ext n at ≡ true → (at ≡ slot → ⊥) × (has p.ext n at ≡ true)
-  had_before n at h = by (cases_eq at slot)
-    where
-      by : (at ≡ slot) ⊎ (at ≡ slot → ⊥) → (at ≡ slot → ⊥) × (has p.ext n at ≡ true)
-      by (inl same) = absurd (both_ways (has mid.ext n at) (ap (λ ns. has_number ns n) (ap (numbers_at mid.ext) same ∙ set_here)) h)
-      by (inr differ) = (differ, ap (λ ns. has_number ns n) (sym (set_other at differ)) ∙ h)
-
-  had_stays : (n at : ℕ) → (at ≡ slot → ⊥) → has p.ext n at ≡ true → has mid.ext n at ≡ true
-  had_stays n at differ h = ap (λ ns. has_number ns n) (set_other at differ) ∙ h
 
   -- ---- words
   words_then : (n : ℕ) → word_of q.dict n ≡ (if has_number numbers n && not (is_used mid n) then None else word_of p.dict n)
@@ -103,11 +92,6 @@ module _ (slot : ℕ) (p q : Kept) (out : TakesOut slot p q) (sound : AreSound p
   used_stays : (n : ℕ) → is_used mid n ≡ true → word_of q.dict n ≡ word_of p.dict n
   used_stays = word_stays p.dict q.dict numbers (is_used mid) words_then
 
-  used_had : (n at : ℕ) → has mid.ext n at ≡ true → is_used mid n ≡ true
-  used_had n at h =
-      or_left (is_taken p.declared n || is_had mid.ext n) (is_named_left mid n)
-      (or_right (is_taken p.declared n) (is_had mid.ext n) (had_there mid.ext.sets at n h))
-
   used_back : (n : ℕ) → is_used p n ≡ true → has_number numbers n ≡ false → is_used mid n ≡ true
   used_back n used none = by (or_cases (is_taken p.declared n || is_had p.ext n) (is_named_left p n) used)
     where
@@ -117,7 +101,7 @@ module _ (slot : ℕ) (p q : Kept) (out : TakesOut slot p q) (sound : AreSound p
           let place = contains_from_among p.ext.sets found.0 found.1 in
           let set_in : numbers_at p.ext place.0 ≡ found.0 = get_or_default p.ext.sets place.0 [] found.0 place.1 ∙ place.2 in
           let has_it : has p.ext n place.0 ≡ true = ap (λ ns. has_number ns n) set_in ∙ found.2 in
-          used_had n place.0 (had_stays n place.0 (λ same. both_ways (has p.ext n place.0) (ap (λ at. has p.ext n at) same ∙ none) has_it) has_it)
+          used_had mid n place.0 (emptied_stays p.ext mid.ext slot sets_are n place.0 (λ same. both_ways (has p.ext n place.0) (ap (λ at. has p.ext n at) same ∙ none) has_it) has_it)
 
       first : (is_taken p.declared n ≡ true) ⊎ (is_had p.ext n ≡ true) → is_used mid n ≡ true
       first (inl bit) = or_left (is_taken p.declared n || is_had mid.ext n) (is_named_left mid n) (or_left (is_taken p.declared n) (is_had mid.ext n) bit)
@@ -189,7 +173,7 @@ module _ (slot : ℕ) (p q : Kept) (out : TakesOut slot p q) (sound : AreSound p
             ∙ form.free at (sym (rec_at-without_slot p.catalog slot at ∙ ap (λ c. if c then None else rec_at p.catalog at) (ne_eqb at slot differ)) ∙ none) n
 
     closed_then : AreClosed end
-    closed_then at a c h linked = let before = had_before a at h in had_stays c at before.0 (form.closed at a c before.1 (link_back a c linked))
+    closed_then at a c h linked = let before = emptied_before p.ext mid.ext slot slot_in sets_are a at h in emptied_stays p.ext mid.ext slot sets_are c at before.0 (form.closed at a c before.1 (link_back a c linked))
 
     short_then : DescriptionsAreShort end
     short_then at = by (cases_eq at slot)
@@ -201,7 +185,7 @@ module _ (slot : ℕ) (p q : Kept) (out : TakesOut slot p q) (sound : AreSound p
     in_use_then : KeepsInUse end
     in_use_then = record {
       used = subst (λ (k : Kept). AreUsed k) end_is (used_then form.in_use.used);
-      tags = λ at r is n tag. let before = rec_before at r is in had_stays n at before.0 (form.in_use.tags at r before.1 n tag);
+      tags = λ at r is n tag. let before = rec_before at r is in emptied_stays p.ext mid.ext slot sets_are n at before.0 (form.in_use.tags at r before.1 n tag);
       rights = form.in_use.rights;
     }
 
@@ -304,7 +288,7 @@ module _ (slot : ℕ) (o : Kept) (taken marks : List Bool) (q : Kept) (out : Tak
         let of_p = left slot p q out sound f m in
         let ns = numbers_at o.ext f.slot in
         ap (words_told q.dict) (set_other slot p q out sound f.slot of_p.1)
-        ∙ (words_same o.dict q.dict ns (λ n of. used_stays slot p q out sound n (used_had slot p q out sound n f.slot (had_stays slot p q out sound n f.slot of_p.1 (number_from_among ns n of))))
+        ∙ (words_same o.dict q.dict ns (λ n of. used_stays slot p q out sound n (used_had (mid slot p q out sound) n f.slot (emptied_stays p.ext (mid slot p q out sound).ext slot (sets_are slot p q out sound) n f.slot of_p.1 (number_from_among ns n of))))
         ∙ (tells.described f (was_there f m)
         ∙ ap (description s) (sym (file_then slot p q out sound at f (among_from_contains (end slot p q out sound).catalog.entries f m)))));
     taken = taken_told;

@@ -10,6 +10,7 @@ use Rattle.lis_journal.specs.Record.{block, replayed}
 use Rattle.lis_journal.specs.Phases.{looked}
 use Rattle.lis_journal.specs.Images.{KeepsBut, StandsBut, Fits, KeepsPast, is_among}
 use Rattle.lis_journal.proofs.Fitting.{fits_but}
+use Rattle.lis_journal.proofs.Phases.{stands_less}
 use Rattle.lis_content.specs.Content.{given, marked, are_free, has_home}
 use Rattle.lis_content.specs.Placing.{Asks, homes_of}
 use Rattle.lis_content.proofs.Numbers.{stays_marked}
@@ -36,16 +37,6 @@ stands_same blocks placed kept was image same but = (but.0, by (replayed blocks 
     by : (o : Option (List ℕ)) → IsSomeAnd o (KeepsBut blocks placed kept) → IsSomeAnd o (KeepsBut blocks placed was)
     by None h = h
     by (Some r) h = record { long = h.long; same = λ n out none. h.same n out none ∙ same n none }
-
--- with more placed blocks
-stands_less : (blocks : ℕ) (placed more : List ℕ) (kept : ℕ → List ℕ) (image : List ℕ) → ((n : ℕ) → is_among more n ≡ false → is_among placed n ≡ false)
-    → StandsBut blocks placed kept image → StandsBut blocks more kept image
-unfolding StandsBut
-stands_less blocks placed more kept image fewer but = (but.0, by (replayed blocks image) but.1)
-  where
-    by : (o : Option (List ℕ)) → IsSomeAnd o (KeepsBut blocks placed kept) → IsSomeAnd o (KeepsBut blocks more kept)
-    by None h = h
-    by (Some r) h = record { long = h.long; same = λ n out none. h.same n out (fewer n none) }
 
 -- blocks that are placed among the homes of these
 pub stands_homes : (blocks base : ℕ) (placed some : List ℕ) (kept : ℕ → List ℕ) (image : List ℕ) → ((n : ℕ) → is_among placed n ≡ true → has_home base some n ≡ true)

@@ -35,7 +35,8 @@ use Rattle.lis_store.proofs.Added.{rec_here, set_here, set_other, word_stays, de
 use Rattle.lis_store.proofs.Coming.{ComesIn}
 use Rattle.lis_store.proofs.Elsewhere.{AreFilesSame, blocks_there, index_there, state_there, saved_there, no_home_before}
 use Rattle.lis_store.proofs.Facts.{limits_told, filed_of_file, file_of_filed}
-use Rattle.lis_store.proofs.Housed.{IsHoused, home_elsewhere}
+use Rattle.lis_content.proofs.Laying.{home_new}
+use Rattle.lis_store.proofs.Housed.{IsHoused}
 use Rattle.lis_store.proofs.Naming.{named_told}
 use Rattle.lis_store.proofs.PutIn.{own_numbered}
 use Rattle.lis_store.proofs.Left.{left_is, described_is, word_is_still, state_left}
@@ -128,7 +129,7 @@ module _ (o : Kept) (taken marks : List Bool) (q : Kept) (slot : ℕ) (name : Li
   same_files : AreFilesSame d at there
   same_files g of b among =
       housed.same (data_start o.limits + b)
-      (home_elsewhere (data_start o.limits) held b (not_new g of b (number_from_among (blocks_told o.limits at g.rec) b among)))
+      (home_new (data_start o.limits) held b (not_new g of b (number_from_among (blocks_told o.limits at g.rec) b among)))
 
   blocks_old : (g : Filed) → Among d.catalog.entries g → blocks_told o.limits there g.rec ≡ blocks_told o.limits at g.rec
   blocks_old = blocks_there d at there sound_d same_files

@@ -11,6 +11,8 @@ use Rattle.std.proofs.lemmas.Option.{slice_get_within, get_or_from_slice_get}
 use Rattle.lis_graph.proofs.Members.{Among, among_from_contains, contains_from_among}
 use Rattle.lis_graph.proofs.Ranges.{among_range}
 use Rattle.lis_content.specs.Content.{has_number, are_distinct}
+use Rattle.lis_catalog.proofs.Slots.{turned}
+use Rattle.lis_kept.proofs.Filed.{each_once}
 use Rattle.lis_kept.proofs.WordMore.{flat_all}
 
 -- the k-th slot, where each is given by its number
@@ -41,9 +43,6 @@ IsPermutation-behind xs ys zs all same =
     IsPermutation-trans (xs ++ (ys ++ zs)) (ys ++ (xs ++ zs)) (ys ++ all) moved (IsPermutation-append_right ys (xs ++ zs) all same)
 
 -- ---- numbers that stand once
-turned_test : (a b : ℕ) → (a == b) ≡ false → (b == a) ≡ false
-turned_test a b ne = ne_eqb b a (λ e. eqb-false a b ne (sym e))
-
 eqb_flips : (a b : ℕ) → eqb a b ≡ eqb b a
 eqb_flips a b = by (cases_eq a b)
   where
@@ -51,20 +50,9 @@ eqb_flips a b = by (cases_eq a b)
     by (inl same) = eq-eqb a b same ∙ sym (eq-eqb b a (sym same))
     by (inr differ) = ne_eqb a b differ ∙ sym (ne_eqb b a (λ e. differ (sym e)))
 
-all_unlike : (n : ℕ) (ns : List ℕ) → has_number ns n ≡ false → AllByRecursion (λ m. eqb n m ≡ false) ns
-all_unlike n [] none = tt
-all_unlike n (m ∷ ms) none = let parts = or_parts (m == n) (has_number ms n) none in (turned_test m n parts.0, all_unlike n ms parts.1)
-
 none_alike : (n : ℕ) (ns : List ℕ) → AllByRecursion (λ m. eqb n m ≡ false) ns → has_number ns n ≡ false
 none_alike n [] all = refl
-none_alike n (m ∷ ms) all = or_from (m == n) (has_number ms n) (turned_test n m all.0) (none_alike n ms all.1)
-
-from_distinct : (ns : List ℕ) → are_distinct ns ≡ true → IsDistinct eqb ns
-unfolding IsDistinct
-from_distinct [] apart = tt
-from_distinct (n ∷ ns) apart =
-    let parts = and_parts (not (has_number ns n)) (are_distinct ns) apart in
-    (all_unlike n ns (not-true (has_number ns n) parts.0), from_distinct ns parts.1)
+none_alike n (m ∷ ms) all = or_from (m == n) (has_number ms n) (turned n m all.0) (none_alike n ms all.1)
 
 to_distinct : (ns : List ℕ) → IsDistinct eqb ns → are_distinct ns ≡ true
 unfolding IsDistinct
@@ -72,7 +60,7 @@ to_distinct [] apart = refl
 to_distinct (n ∷ ns) apart = and_from (not (has_number ns n)) (are_distinct ns) (not_from_false (has_number ns n) (none_alike n ns apart.0)) (to_distinct ns apart.1)
 
 pub distinct_permuted : (ns ms : List ℕ) → IsPermutation ns ms → are_distinct ns ≡ true → are_distinct ms ≡ true
-distinct_permuted ns ms same apart = to_distinct ms (IsDistinct-IsPermutation eqb eqb_flips ns ms same (from_distinct ns apart))
+distinct_permuted ns ms same apart = to_distinct ms (IsDistinct-IsPermutation eqb eqb_flips ns ms same (each_once ns apart))
 
 -- ---- one slot more that holds something
 slot_more : {X : Type 0} (g h : ℕ → List X) (k : ℕ) → g k ≡ [] → ((n : ℕ) → (k ≡ n → ⊥) → h n ≡ g n) → (a m : ℕ) → a ≤ k → k < a + m

@@ -48,7 +48,8 @@ use Rattle.lis_store.specs.Stored.{AreClosed, DescriptionsAreShort, TestsAreMet}
 use Rattle.lis_store.specs.Testing.{is_met_by, is_met_at, is_gained, wider, is_crowded, has_crowded, tested}
 use Rattle.lis_store.specs.Unlinking.{is_entailed}
 use Rattle.lis_store.proofs.Declared.{parts_are, dict_is, ext_is, word_other, word_new, told_then, right_word, link_then}
-use Rattle.lis_store.proofs.HeadsUsed.{used_flagged, used_had, used_left, IsUsedFor, used_for}
+use Rattle.lis_kept.proofs.Used.{used_flagged, used_had, used_left}
+use Rattle.lis_store.proofs.HeadsUsed.{IsUsedFor, used_for}
 use Rattle.lis_store.proofs.HeadsUsed.IsUsedFor.{Flagged, HadAt, NamedLeft}
 use Rattle.lis_store.proofs.Edits.{AreEditsFew}
 use Rattle.lis_store.proofs.Redescribed.{same_here, given_then, redescribed_edits}

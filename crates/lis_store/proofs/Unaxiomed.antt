@@ -43,7 +43,7 @@ use Rattle.lis_kept.proofs.Formed.{named_below, named_all}
 use Rattle.lis_kept.proofs.Known.{among_place, number_told, axiom_among, among_axiom}
 use Rattle.lis_kept.proofs.MarkedWithin.{marked_only, marked_within}
 use Rattle.lis_kept.proofs.TestLinks.{none_weaker, test_link, test_linked, linked_by}
-use Rattle.lis_kept.proofs.Used.{had_at}
+use Rattle.lis_kept.proofs.Used.{had_at, used_had}
 use Rattle.lis_kept.proofs.WordLess.{had_from}
 use Rattle.lis_store.specs.Stored.{AreClosed, DescriptionsAreShort, TestsAreMet, IsSound}
 use Rattle.lis_store.specs.Redescribing.{IsTurnedRow}
@@ -54,7 +54,6 @@ use Rattle.lis_store.proofs.Redescribed.{redescribed_edits}
 use Rattle.lis_store.proofs.AxiomGone.{none_past, rights_unlinked, pairs_unlinked, closed_unlinked, tags_unlinked, SetCases, set_then, set_by, had_back, lost, closed_less, tags_less, short_less, free_less, unused_is}
 use Rattle.lis_store.proofs.Cleaned.{none_set, clean_is, sound_clean, in_use_clean, tests_clean}
 use Rattle.lis_store.proofs.Forgot.{word_before, word_stays, known_used}
-use Rattle.lis_store.proofs.HeadsUsed.{used_had}
 use Rattle.lis_store.proofs.Remaining.{led, led_had, few_within, remaining_told}
 use Rattle.lis_store.proofs.Removed.{same_map}
 use Rattle.lis_store.proofs.Told.{words_same}

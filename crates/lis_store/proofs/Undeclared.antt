@@ -48,7 +48,7 @@ use Rattle.lis_kept.proofs.Filing.{among_from_number, number_from_among, filed_r
 use Rattle.lis_kept.proofs.Known.{one_number, among_word, word_among}
 use Rattle.lis_kept.proofs.Numbered.{Numbers, numbers_are}
 use Rattle.lis_kept.proofs.OwnLinks.{own_head, among_slot, unnamed_to}
-use Rattle.lis_kept.proofs.Used.{any_or}
+use Rattle.lis_kept.proofs.Used.{any_or, used_flagged, used_had, used_left}
 use Rattle.lis_kept.proofs.Needed.{may_undeclare}
 use Rattle.lis_kept.proofs.NeededTold.{needed_told}
 use Rattle.lis_store.specs.Stored.{Stored, PairsAreApart, AreClosed, TestsAreMet, IsSound, StoreFits}
@@ -61,7 +61,7 @@ use Rattle.lis_store.specs.declared.change.Change.{Change}
 use Rattle.lis_store.specs.declared.change.Change.TheVariants.{Refused}
 use Rattle.lis_store.proofs.SavedAlone.{saves_alone}
 use Rattle.lis_store.proofs.Facts.{described_told, file_of_filed}
-use Rattle.lis_store.proofs.HeadsUsed.{used_flagged, used_had, used_left, IsUsedFor, used_for}
+use Rattle.lis_store.proofs.HeadsUsed.{IsUsedFor, used_for}
 use Rattle.lis_store.proofs.HeadsUsed.IsUsedFor.{Flagged, HadAt, NamedLeft}
 use Rattle.lis_store.proofs.Judged.{all_pass, judged_refused, judged_done, change_refused}
 use Rattle.lis_store.proofs.Cleaned.{clean_is, sound_clean, in_use_clean, tests_clean, none_marked}

@@ -21,7 +21,8 @@ use Rattle.lis_kept.proofs.Without.{left_out, none_here, same_elsewhere}
 use Rattle.lis_store.specs.Stored.{AreClosed, TestsAreMet}
 use Rattle.lis_store.specs.Replacing.{MayReplace}
 use Rattle.lis_store.specs.ReplacingIn.{AreInForm}
-use Rattle.lis_store.proofs.HeadsUsed.{IsUsedFor, used_flagged, used_had, used_left, used_for, head_used}
+use Rattle.lis_kept.proofs.Used.{used_flagged, used_had, used_left}
+use Rattle.lis_store.proofs.HeadsUsed.{IsUsedFor, used_for, head_used}
 use Rattle.lis_store.proofs.HeadsUsed.IsUsedFor.{Flagged, HadAt, NamedLeft}
 
 -- what is kept without the file, the slot described as before

@@ -1,8 +1,8 @@
 //! What a new file is refused for.
 
-ghost use Rattle.std.specs.Prelude.{◌≡◌, ◌≤◌, length, IfOk};
+ghost use Rattle.std.specs.Prelude.{◌≡◌, ◌≤◌, length, IfOk, IsTrue};
 ghost use Rattle.std.specs.List.{list_any};
-ghost use Rattle.lis_words.specs.Words.{is_built_in};
+ghost use Rattle.lis_words.specs.Words.{is_built_in, is_file_name};
 ghost use Rattle.lis_model.specs.Changes.{new_file};
 ghost use Rattle.lis_model.specs.State.{file_limit, blocks_taken};
 ghost use Rattle.lis_model.specs.Step.{is_head_or_test, assigned_at};
@@ -81,6 +81,7 @@ fn may_name(
         (new_file name.now (assigned_at place.now tags.now) payload.now)) result }
     ensures words { IfOk result (λ words. words.items ≡ assigned_at place.now tags.now) }
     ensures few { IfOk result (λ words. length words.items ≤ 16) }
+    ensures name { IsTrue (is_file_name name.now) }
 {
     if parts.slot_of(name).is_some() {
         return Err(Refusal::NameTaken);
@@ -149,6 +150,7 @@ pub(crate) fn may_add(
     ensures room { HasRoom scratch.new parts.now.limits }
     ensures row { Judges (add_checks_of parts.now place.now name.now tags.now payload.now size) result }
     ensures words { IfOk result (λ words. words.items ≡ assigned_at place.now tags.now) }
+    ensures name { IfOk result (λ words. IsTrue (is_file_name name.now)) }
 {
     if size > file_limit(parts.limits().version) {
         return Err(Refusal::LargeFile);

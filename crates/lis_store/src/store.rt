@@ -212,8 +212,6 @@ impl Store {
         ensures run { IsDiskRun (D.meaning disk.old) (D.meaning disk.new) }
         ensures cause { HasChangeCause (D.meaning disk.old).disk_faults (D.meaning disk.new).disk_faults result }
     {
-        // Only its bytes tell that a name has a name's form.
-        let _name = name.bytes();
         let assigned = may_add(&self.parts, scratch, place, name, tags, payload, size)?;
         let blocks = put_content(
             &mut self.parts,

@@ -2,6 +2,7 @@
 
 ghost use Rattle.std.specs.Prelude.{◌≡◌, ◌*◌, ◌≤◌, ◌^◌, false, IfOk};
 ghost use Rattle.lis_memdisk.specs.MemStation.{meaning_of};
+ghost use Rattle.lis_store.specs.Stored.{IsSound};
 
 use crate::images::{fresh, run, shown_behind};
 use crate::tests::tables::{EDITS, LIMITED};
@@ -24,6 +25,7 @@ fn serve_row(
     limit: u64,
 ) -> Result<Status, AllocError>
     requires limit { limit ≤ 2 ^ 40 }
+    requires sound { IsSound session.old.store }
     requires unbroken { session.old.store.is_broken ≡ false }
     requires long { 4096 * session.old.store.journal.blocks ≤ (meaning_of station.old).len }
 {
@@ -33,6 +35,7 @@ fn serve_row(
 }
 
 fn opened(alloc: Global, station: &mut MemStation) -> Result<Session, Fail>
+    ensures sound { IfOk result (λ session. IsSound session.store) }
     ensures unbroken { IfOk result (λ session. session.store.is_broken ≡ false) }
     ensures long { IfOk result (λ session. 4096 * session.store.journal.blocks ≤ (meaning_of station.new).len) }
 {

@@ -53,17 +53,17 @@ pub returns-clause-serves : goal.returns-clause-serves
 returns-clause-serves g c =
     rw c.serve_status.ensures (λ state bytes fits told.
     serves_so c.args.limit (g.S.Source.left c.args.input.now) (g.S.Source.left c.carry_all.new.input) c.args.session.now c.carry_all.new.carrier
-    (g.T.Disk.meaning c.args.station.now) (g.T.Disk.meaning c.carry_all.new.station) bytes told state (store_fits_at c.store-store.ensures.sound fits) c.carry_all.result c.carry_all.ensures.ended)
+    (g.T.Disk.meaning c.args.station.now) (g.T.Disk.meaning c.carry_all.new.station) bytes told state (store_fits_at c.requires.sound fits) c.carry_all.result c.carry_all.ensures.ended)
 
 pub returns-clause-goes_on : goal.returns-clause-goes_on
 returns-clause-goes_on g c =
     rw c.serve_status.ensures (λ state bytes fits told.
     goes_on_so c.args.limit (g.S.Source.left c.args.input.now) (g.S.Source.left c.carry_all.new.input) c.args.session.now c.carry_all.new.carrier
-    (g.T.Disk.meaning c.args.station.now) (g.T.Disk.meaning c.carry_all.new.station) bytes told state (store_fits_at c.store-store.ensures.sound fits) c.carry_all.result c.carry_all.ensures.ended)
+    (g.T.Disk.meaning c.args.station.now) (g.T.Disk.meaning c.carry_all.new.station) bytes told state (store_fits_at c.requires.sound fits) c.carry_all.result c.carry_all.ensures.ended)
 
 pub returns-clause-headline : goal.returns-clause-headline
 returns-clause-headline g c = λ state bytes fits told.
-    let fitting = store_fits_at c.store-store.ensures.sound fits in
+    let fitting = store_fits_at c.requires.sound fits in
     full_headline (situation_at c.args.session.now state) (script bytes c.args.limit) fitting.stands (g.met.T.Disk.only_now c.args.station.now)
     (serves_so c.args.limit (g.S.Source.left c.args.input.now) (g.S.Source.left c.carry_all.new.input) c.args.session.now c.carry_all.new.carrier
     (g.T.Disk.meaning c.args.station.now) (g.T.Disk.meaning c.carry_all.new.station) bytes told state fitting c.carry_all.result c.carry_all.ensures.ended).moments

@@ -1,6 +1,6 @@
 use Rattle.std.proofs.Common.{refl, ap, sym, subst, ◌∙◌, arith}
 use Rattle.lis_model.specs.Script.{script}
-use Rattle.lis_store.specs.Stored.{Stored, StoreFits}
+use Rattle.lis_store.specs.Stored.{Stored, IsSound, StoreFits}
 use Rattle.lis_session.specs.Session.{Situated}
 use Rattle.lis_session.proofs.Fitting.{store_fits_at, same_none}
 use Rattle.lis_shell.specs.declared.status.Status.TheVariants.{NoMemory}
@@ -20,6 +20,9 @@ returns-in_default-clause-runs g c = λ state bytes fits told.
     let m = g.T.Disk.meaning c.args.station.now in
     serves_none state (script bytes 1099511627776) m (Ran state 1099511627776 bytes (g.S.Source.left c.args.input.now) m.shown m NoMemory)
     (refl, told, (store_fits_at c.session_over.ensures.sound fits).stands.reads)
+
+pub serve-status-requires-clause-sound : goal.serve-status-requires-clause-sound
+serve-status-requires-clause-sound g c = subst IsSound (sym (ap (λ (s : Situated). s.store) c.in-Ok.ensures.session)) c.in-Ok.ensures.sound
 
 pub serve-status-requires-clause-unbroken : goal.serve-status-requires-clause-unbroken
 serve-status-requires-clause-unbroken g c = ap (λ (s : Situated). s.store.is_broken) c.in-Ok.ensures.session ∙ c.requires.unbroken

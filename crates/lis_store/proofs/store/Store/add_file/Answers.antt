@@ -32,10 +32,10 @@ returns-in_err-assigned-clause-changes g c = λ s fits.
     c.in_err-assigned.ensures.row (p.1 ∙ ap Err p.2) s (subst P (sym c.self.view_is) fits))
 
 pub put_content-requires-clause-short : goal.put_content-requires-clause-short
-put_content-requires-clause-short g c = (admitted c.self.inside.parts c.args.place.now c.args.name.now c.args.tags.now c.args.payload.now c.args.size c.bytes-name.ensures.name (whole_inside c.args.payload.now c.args.size c.self.view_is c.requires.whole) c.in_ok-assigned.ensures.row).small
+put_content-requires-clause-short g c = (admitted c.self.inside.parts c.args.place.now c.args.name.now c.args.tags.now c.args.payload.now c.args.size c.in_ok-assigned.ensures.name (whole_inside c.args.payload.now c.args.size c.self.view_is c.requires.whole) c.in_ok-assigned.ensures.row).small
 
 pub put_content-requires-clause-enough : goal.put_content-requires-clause-enough
-put_content-requires-clause-enough g c = enough_free c.self.inside.parts c.args.place.now c.args.name.now c.args.tags.now c.args.payload.now c.args.size c.bytes-name.ensures.name (whole_inside c.args.payload.now c.args.size c.self.view_is c.requires.whole) c.in_ok-assigned.ensures.row
+put_content-requires-clause-enough g c = enough_free c.self.inside.parts c.args.place.now c.args.name.now c.args.tags.now c.args.payload.now c.args.size c.in_ok-assigned.ensures.name (whole_inside c.args.payload.now c.args.size c.self.view_is c.requires.whole) c.in_ok-assigned.ensures.row
 
 pub invariant_of-self : goal.invariant_of-self
 invariant_of-self g c =
@@ -90,7 +90,7 @@ put_in-requires-clause-admitted g c =
     let m = g.D.Disk.meaning c.args.disk.now in
     let placed = g.D.Disk.meaning c.put_content.new.disk in
     let given = assigned_at c.args.place.now c.args.tags.now in
-    let one = admitted c.self.inside.parts c.args.place.now c.args.name.now c.args.tags.now c.args.payload.now c.args.size c.bytes-name.ensures.name (whole_inside c.args.payload.now c.args.size c.self.view_is c.requires.whole) c.in_ok-assigned.ensures.row in
+    let one = admitted c.self.inside.parts c.args.place.now c.args.name.now c.args.tags.now c.args.payload.now c.args.size c.in_ok-assigned.ensures.name (whole_inside c.args.payload.now c.args.size c.self.view_is c.requires.whole) c.in_ok-assigned.ensures.row in
     let put = c.in_ok-blocks.ensures.put in
     let P : List (List ℕ) → Type 0 = λ ws. IsAdmitted c.put_content.new.parts (new_file c.args.name.now ws c.args.payload.now) in
     subst P (sym (c.as_slice.ensures.value ∙ c.in_ok-assigned.ensures.words)) (admitted_put old c.put_content.new.parts c.put_content.new.journal c.args.payload.now c.in_ok-blocks.blocks.items m placed put c.self.invariant c.args.name.now given one)
@@ -101,7 +101,7 @@ put_in-requires-clause-free g c =
     let m = g.D.Disk.meaning c.args.disk.now in
     let placed = g.D.Disk.meaning c.put_content.new.disk in
     let given = assigned_at c.args.place.now c.args.tags.now in
-    let one = admitted c.self.inside.parts c.args.place.now c.args.name.now c.args.tags.now c.args.payload.now c.args.size c.bytes-name.ensures.name (whole_inside c.args.payload.now c.args.size c.self.view_is c.requires.whole) c.in_ok-assigned.ensures.row in
+    let one = admitted c.self.inside.parts c.args.place.now c.args.name.now c.args.tags.now c.args.payload.now c.args.size c.in_ok-assigned.ensures.name (whole_inside c.args.payload.now c.args.size c.self.view_is c.requires.whole) c.in_ok-assigned.ensures.row in
     let put = c.in_ok-blocks.ensures.put in
     (form_put old c.put_content.new.parts c.put_content.new.journal c.args.payload.now c.in_ok-blocks.blocks.items m placed put c.self.invariant).free
 
@@ -111,7 +111,7 @@ put_in-requires-clause-in_form g c =
     let m = g.D.Disk.meaning c.args.disk.now in
     let placed = g.D.Disk.meaning c.put_content.new.disk in
     let given = assigned_at c.args.place.now c.args.tags.now in
-    let one = admitted c.self.inside.parts c.args.place.now c.args.name.now c.args.tags.now c.args.payload.now c.args.size c.bytes-name.ensures.name (whole_inside c.args.payload.now c.args.size c.self.view_is c.requires.whole) c.in_ok-assigned.ensures.row in
+    let one = admitted c.self.inside.parts c.args.place.now c.args.name.now c.args.tags.now c.args.payload.now c.args.size c.in_ok-assigned.ensures.name (whole_inside c.args.payload.now c.args.size c.self.view_is c.requires.whole) c.in_ok-assigned.ensures.row in
     let put = c.in_ok-blocks.ensures.put in
     ap (λ (l : Limits). are_blocks l.version (length c.args.payload.now) c.in_ok-blocks.blocks.items) (limits_put old c.put_content.new.parts c.put_content.new.journal c.args.payload.now c.in_ok-blocks.blocks.items m placed put c.self.invariant) ∙ put.in_form
 
@@ -121,7 +121,7 @@ put_in-requires-clause-below g c =
     let m = g.D.Disk.meaning c.args.disk.now in
     let placed = g.D.Disk.meaning c.put_content.new.disk in
     let given = assigned_at c.args.place.now c.args.tags.now in
-    let one = admitted c.self.inside.parts c.args.place.now c.args.name.now c.args.tags.now c.args.payload.now c.args.size c.bytes-name.ensures.name (whole_inside c.args.payload.now c.args.size c.self.view_is c.requires.whole) c.in_ok-assigned.ensures.row in
+    let one = admitted c.self.inside.parts c.args.place.now c.args.name.now c.args.tags.now c.args.payload.now c.args.size c.in_ok-assigned.ensures.name (whole_inside c.args.payload.now c.args.size c.self.view_is c.requires.whole) c.in_ok-assigned.ensures.row in
     let put = c.in_ok-blocks.ensures.put in
     ap (λ (l : Limits). list_all (λ n. nat_lt n l.blocks) c.in_ok-blocks.blocks.items) (limits_put old c.put_content.new.parts c.put_content.new.journal c.args.payload.now c.in_ok-blocks.blocks.items m placed put c.self.invariant) ∙ put.below
 
@@ -131,7 +131,7 @@ put_in-requires-clause-scratch g c =
     let m = g.D.Disk.meaning c.args.disk.now in
     let placed = g.D.Disk.meaning c.put_content.new.disk in
     let given = assigned_at c.args.place.now c.args.tags.now in
-    let one = admitted c.self.inside.parts c.args.place.now c.args.name.now c.args.tags.now c.args.payload.now c.args.size c.bytes-name.ensures.name (whole_inside c.args.payload.now c.args.size c.self.view_is c.requires.whole) c.in_ok-assigned.ensures.row in
+    let one = admitted c.self.inside.parts c.args.place.now c.args.name.now c.args.tags.now c.args.payload.now c.args.size c.in_ok-assigned.ensures.name (whole_inside c.args.payload.now c.args.size c.self.view_is c.requires.whole) c.in_ok-assigned.ensures.row in
     let put = c.in_ok-blocks.ensures.put in
     subst (λ (l : Limits). HasRoom c.may_add.new.scratch l) (sym (limits_put old c.put_content.new.parts c.put_content.new.journal c.args.payload.now c.in_ok-blocks.blocks.items m placed put c.self.invariant)) c.may_add.ensures.room
 
@@ -141,7 +141,7 @@ save-requires-clause-sound g c =
     let m = g.D.Disk.meaning c.args.disk.now in
     let placed = g.D.Disk.meaning c.put_content.new.disk in
     let given = assigned_at c.args.place.now c.args.tags.now in
-    let one = admitted c.self.inside.parts c.args.place.now c.args.name.now c.args.tags.now c.args.payload.now c.args.size c.bytes-name.ensures.name (whole_inside c.args.payload.now c.args.size c.self.view_is c.requires.whole) c.in_ok-assigned.ensures.row in
+    let one = admitted c.self.inside.parts c.args.place.now c.args.name.now c.args.tags.now c.args.payload.now c.args.size c.in_ok-assigned.ensures.name (whole_inside c.args.payload.now c.args.size c.self.view_is c.requires.whole) c.in_ok-assigned.ensures.row in
     let put = c.in_ok-blocks.ensures.put in
     let unbroken = ap (λ (k : Stored). k.is_broken) c.self.view_is ∙ c.requires.unbroken in
     let P : List (List ℕ) → Type 0 = λ ws. PutsIn (new_file c.args.name.now ws c.args.payload.now) c.in_ok-blocks.blocks.items c.put_content.new.parts c.put_in.new.parts in
@@ -154,7 +154,7 @@ save-requires-clause-image g c =
     let m = g.D.Disk.meaning c.args.disk.now in
     let placed = g.D.Disk.meaning c.put_content.new.disk in
     let given = assigned_at c.args.place.now c.args.tags.now in
-    let one = admitted c.self.inside.parts c.args.place.now c.args.name.now c.args.tags.now c.args.payload.now c.args.size c.bytes-name.ensures.name (whole_inside c.args.payload.now c.args.size c.self.view_is c.requires.whole) c.in_ok-assigned.ensures.row in
+    let one = admitted c.self.inside.parts c.args.place.now c.args.name.now c.args.tags.now c.args.payload.now c.args.size c.in_ok-assigned.ensures.name (whole_inside c.args.payload.now c.args.size c.self.view_is c.requires.whole) c.in_ok-assigned.ensures.row in
     let put = c.in_ok-blocks.ensures.put in
     let unbroken = ap (λ (k : Stored). k.is_broken) c.self.view_is ∙ c.requires.unbroken in
     let P : List (List ℕ) → Type 0 = λ ws. PutsIn (new_file c.args.name.now ws c.args.payload.now) c.in_ok-blocks.blocks.items c.put_content.new.parts c.put_in.new.parts in
@@ -167,7 +167,7 @@ save-requires-clause-unbroken g c =
     let m = g.D.Disk.meaning c.args.disk.now in
     let placed = g.D.Disk.meaning c.put_content.new.disk in
     let given = assigned_at c.args.place.now c.args.tags.now in
-    let one = admitted c.self.inside.parts c.args.place.now c.args.name.now c.args.tags.now c.args.payload.now c.args.size c.bytes-name.ensures.name (whole_inside c.args.payload.now c.args.size c.self.view_is c.requires.whole) c.in_ok-assigned.ensures.row in
+    let one = admitted c.self.inside.parts c.args.place.now c.args.name.now c.args.tags.now c.args.payload.now c.args.size c.in_ok-assigned.ensures.name (whole_inside c.args.payload.now c.args.size c.self.view_is c.requires.whole) c.in_ok-assigned.ensures.row in
     let put = c.in_ok-blocks.ensures.put in
     let unbroken = ap (λ (k : Stored). k.is_broken) c.self.view_is ∙ c.requires.unbroken in
     let P : List (List ℕ) → Type 0 = λ ws. PutsIn (new_file c.args.name.now ws c.args.payload.now) c.in_ok-blocks.blocks.items c.put_content.new.parts c.put_in.new.parts in
@@ -180,7 +180,7 @@ save-requires-clause-placed g c =
     let m = g.D.Disk.meaning c.args.disk.now in
     let placed = g.D.Disk.meaning c.put_content.new.disk in
     let given = assigned_at c.args.place.now c.args.tags.now in
-    let one = admitted c.self.inside.parts c.args.place.now c.args.name.now c.args.tags.now c.args.payload.now c.args.size c.bytes-name.ensures.name (whole_inside c.args.payload.now c.args.size c.self.view_is c.requires.whole) c.in_ok-assigned.ensures.row in
+    let one = admitted c.self.inside.parts c.args.place.now c.args.name.now c.args.tags.now c.args.payload.now c.args.size c.in_ok-assigned.ensures.name (whole_inside c.args.payload.now c.args.size c.self.view_is c.requires.whole) c.in_ok-assigned.ensures.row in
     let put = c.in_ok-blocks.ensures.put in
     let unbroken = ap (λ (k : Stored). k.is_broken) c.self.view_is ∙ c.requires.unbroken in
     let P : List (List ℕ) → Type 0 = λ ws. PutsIn (new_file c.args.name.now ws c.args.payload.now) c.in_ok-blocks.blocks.items c.put_content.new.parts c.put_in.new.parts in
@@ -193,7 +193,7 @@ save-requires-clause-room g c =
     let m = g.D.Disk.meaning c.args.disk.now in
     let placed = g.D.Disk.meaning c.put_content.new.disk in
     let given = assigned_at c.args.place.now c.args.tags.now in
-    let one = admitted c.self.inside.parts c.args.place.now c.args.name.now c.args.tags.now c.args.payload.now c.args.size c.bytes-name.ensures.name (whole_inside c.args.payload.now c.args.size c.self.view_is c.requires.whole) c.in_ok-assigned.ensures.row in
+    let one = admitted c.self.inside.parts c.args.place.now c.args.name.now c.args.tags.now c.args.payload.now c.args.size c.in_ok-assigned.ensures.name (whole_inside c.args.payload.now c.args.size c.self.view_is c.requires.whole) c.in_ok-assigned.ensures.row in
     let put = c.in_ok-blocks.ensures.put in
     let unbroken = ap (λ (k : Stored). k.is_broken) c.self.view_is ∙ c.requires.unbroken in
     let P : List (List ℕ) → Type 0 = λ ws. PutsIn (new_file c.args.name.now ws c.args.payload.now) c.in_ok-blocks.blocks.items c.put_content.new.parts c.put_in.new.parts in
@@ -206,7 +206,7 @@ returns-clause-changes g c = λ s fits.
     let m = g.D.Disk.meaning c.args.disk.now in
     let placed = g.D.Disk.meaning c.put_content.new.disk in
     let given = assigned_at c.args.place.now c.args.tags.now in
-    let one = admitted c.self.inside.parts c.args.place.now c.args.name.now c.args.tags.now c.args.payload.now c.args.size c.bytes-name.ensures.name (whole_inside c.args.payload.now c.args.size c.self.view_is c.requires.whole) c.in_ok-assigned.ensures.row in
+    let one = admitted c.self.inside.parts c.args.place.now c.args.name.now c.args.tags.now c.args.payload.now c.args.size c.in_ok-assigned.ensures.name (whole_inside c.args.payload.now c.args.size c.self.view_is c.requires.whole) c.in_ok-assigned.ensures.row in
     let put = c.in_ok-blocks.ensures.put in
     let unbroken = ap (λ (k : Stored). k.is_broken) c.self.view_is ∙ c.requires.unbroken in
     let P : List (List ℕ) → Type 0 = λ ws. PutsIn (new_file c.args.name.now ws c.args.payload.now) c.in_ok-blocks.blocks.items c.put_content.new.parts c.put_in.new.parts in
@@ -216,7 +216,7 @@ returns-clause-changes g c = λ s fits.
     let payload : Payload = record { size = c.args.size; bytes = c.args.payload.now } in
     let F : Stored → Type 0 = λ k. StoreFits k m s in
     let told = subst F (sym c.self.view_is) fits in
-    added_changes old c.put_content.new.parts c.put_content.new.journal c.args.payload.now c.in_ok-blocks.blocks.items m placed put c.self.invariant c.put_in.new.parts c.args.name.now given unbroken one puts s told (enough_free c.self.inside.parts c.args.place.now c.args.name.now c.args.tags.now c.args.payload.now c.args.size c.bytes-name.ensures.name (whole_inside c.args.payload.now c.args.size c.self.view_is c.requires.whole) c.in_ok-assigned.ensures.row) c.args.place.now new (g.D.Disk.meaning c.save.new.disk) c.save.result (add now c.args.name.now c.args.tags.now payload)
+    added_changes old c.put_content.new.parts c.put_content.new.journal c.args.payload.now c.in_ok-blocks.blocks.items m placed put c.self.invariant c.put_in.new.parts c.args.name.now given unbroken one puts s told (enough_free c.self.inside.parts c.args.place.now c.args.name.now c.args.tags.now c.args.payload.now c.args.size c.in_ok-assigned.ensures.name (whole_inside c.args.payload.now c.args.size c.self.view_is c.requires.whole) c.in_ok-assigned.ensures.row) c.args.place.now new (g.D.Disk.meaning c.save.new.disk) c.save.result (add now c.args.name.now c.args.tags.now payload)
     (add_done old m s c.self.invariant told c.args.place.now c.args.tags.now c.args.name.now payload c.in_ok-assigned.ensures.row) c.save.ensures.saves
 
 pub returns-clause-limits : goal.returns-clause-limits
@@ -225,7 +225,7 @@ returns-clause-limits g c =
     let m = g.D.Disk.meaning c.args.disk.now in
     let placed = g.D.Disk.meaning c.put_content.new.disk in
     let given = assigned_at c.args.place.now c.args.tags.now in
-    let one = admitted c.self.inside.parts c.args.place.now c.args.name.now c.args.tags.now c.args.payload.now c.args.size c.bytes-name.ensures.name (whole_inside c.args.payload.now c.args.size c.self.view_is c.requires.whole) c.in_ok-assigned.ensures.row in
+    let one = admitted c.self.inside.parts c.args.place.now c.args.name.now c.args.tags.now c.args.payload.now c.args.size c.in_ok-assigned.ensures.name (whole_inside c.args.payload.now c.args.size c.self.view_is c.requires.whole) c.in_ok-assigned.ensures.row in
     let put = c.in_ok-blocks.ensures.put in
     let unbroken = ap (λ (k : Stored). k.is_broken) c.self.view_is ∙ c.requires.unbroken in
     let P : List (List ℕ) → Type 0 = λ ws. PutsIn (new_file c.args.name.now ws c.args.payload.now) c.in_ok-blocks.blocks.items c.put_content.new.parts c.put_in.new.parts in
@@ -238,7 +238,7 @@ returns-clause-edits g c =
     let m = g.D.Disk.meaning c.args.disk.now in
     let placed = g.D.Disk.meaning c.put_content.new.disk in
     let given = assigned_at c.args.place.now c.args.tags.now in
-    let one = admitted c.self.inside.parts c.args.place.now c.args.name.now c.args.tags.now c.args.payload.now c.args.size c.bytes-name.ensures.name (whole_inside c.args.payload.now c.args.size c.self.view_is c.requires.whole) c.in_ok-assigned.ensures.row in
+    let one = admitted c.self.inside.parts c.args.place.now c.args.name.now c.args.tags.now c.args.payload.now c.args.size c.in_ok-assigned.ensures.name (whole_inside c.args.payload.now c.args.size c.self.view_is c.requires.whole) c.in_ok-assigned.ensures.row in
     let put = c.in_ok-blocks.ensures.put in
     let unbroken = ap (λ (k : Stored). k.is_broken) c.self.view_is ∙ c.requires.unbroken in
     let P : List (List ℕ) → Type 0 = λ ws. PutsIn (new_file c.args.name.now ws c.args.payload.now) c.in_ok-blocks.blocks.items c.put_content.new.parts c.put_in.new.parts in

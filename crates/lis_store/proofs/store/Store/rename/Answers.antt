@@ -41,7 +41,7 @@ returns-then-is_some-clause-changes g c = λ s fits.
     let now : Situation = record { state = s; place = c.args.place.now } in
     let P : Stored → Type 0 = λ k. StoreFits k m s in
     let Q : Stored → Type 0 = λ k. Changes {T = Unit {0}} now (rename now c.args.name.now c.args.new.now) k m m (Err (Refused NameTaken)) in
-    let taken = sym (c.is_some.ensures ∙ ap is_some c.slot_of.ensures) ∙ c.if-is_some.true in
+    let taken = sym (c.is_some.ensures ∙ ap is_some c.slot_of.ensures.slot) ∙ c.if-is_some.true in
     subst Q c.self.view_is
     (name_taken old c.args.place.now c.args.name.now c.in-Some.slot found.0 c.self.invariant named found.1 here m s (subst P (sym c.self.view_is) fits) c.args.new.now (Err (Refused NameTaken)) taken refl)
 
@@ -97,7 +97,7 @@ refile-requires-clause-may g c =
     let W : List (List ℕ) → Type 0 = λ ws. F ws c.bytes.result.now in
     let V : List ℕ → Type 0 = λ bs. F c.as_slice.result.now bs in
     let size = ap length c.bytes.ensures.bytes ∙ c.in_default-read_file.ensures.size found.0 found.1 in
-    let may = rename_first old c.self.invariant c.args.place.now c.args.name.now c.in-Some.slot found.0 named found.1 here c.args.new.now c.bytes.result.now c.bytes-name.ensures.name size
+    let may = rename_first old c.self.invariant c.args.place.now c.args.name.now c.in-Some.slot found.0 named found.1 here c.args.new.now c.bytes.result.now c.slot_of.ensures.name size
     (c.in_ok-words.ensures.row found.0 found.1) in
     let first = subst (λ o. IsSomeAnd o (λ (x : FileRecord). MayReplace c.self.inside.parts c.in-Some.slot x (new_file c.args.new.now c.as_slice.result.now c.bytes-2.result.now))) (sym found.1)
     (subst V same (subst W (sym words) may)) in
@@ -116,7 +116,7 @@ save-requires-clause-sound g c =
     let W : List (List ℕ) → Type 0 = λ ws. F ws c.bytes.result.now in
     let V : List ℕ → Type 0 = λ bs. F c.as_slice.result.now bs in
     let size = ap length c.bytes.ensures.bytes ∙ c.in_default-read_file.ensures.size found.0 found.1 in
-    let may = rename_first old c.self.invariant c.args.place.now c.args.name.now c.in-Some.slot found.0 named found.1 here c.args.new.now c.bytes.result.now c.bytes-name.ensures.name size
+    let may = rename_first old c.self.invariant c.args.place.now c.args.name.now c.in-Some.slot found.0 named found.1 here c.args.new.now c.bytes.result.now c.slot_of.ensures.name size
     (c.in_ok-words.ensures.row found.0 found.1) in
     let first = subst (λ o. IsSomeAnd o (λ (x : FileRecord). MayReplace c.self.inside.parts c.in-Some.slot x (new_file c.args.new.now c.as_slice.result.now c.bytes-2.result.now))) (sym found.1)
     (subst V same (subst W (sym words) may)) in
@@ -137,7 +137,7 @@ save-requires-clause-image g c =
     let W : List (List ℕ) → Type 0 = λ ws. F ws c.bytes.result.now in
     let V : List ℕ → Type 0 = λ bs. F c.as_slice.result.now bs in
     let size = ap length c.bytes.ensures.bytes ∙ c.in_default-read_file.ensures.size found.0 found.1 in
-    let may = rename_first old c.self.invariant c.args.place.now c.args.name.now c.in-Some.slot found.0 named found.1 here c.args.new.now c.bytes.result.now c.bytes-name.ensures.name size
+    let may = rename_first old c.self.invariant c.args.place.now c.args.name.now c.in-Some.slot found.0 named found.1 here c.args.new.now c.bytes.result.now c.slot_of.ensures.name size
     (c.in_ok-words.ensures.row found.0 found.1) in
     let first = subst (λ o. IsSomeAnd o (λ (x : FileRecord). MayReplace c.self.inside.parts c.in-Some.slot x (new_file c.args.new.now c.as_slice.result.now c.bytes-2.result.now))) (sym found.1)
     (subst V same (subst W (sym words) may)) in
@@ -158,7 +158,7 @@ save-requires-clause-placed g c =
     let W : List (List ℕ) → Type 0 = λ ws. F ws c.bytes.result.now in
     let V : List ℕ → Type 0 = λ bs. F c.as_slice.result.now bs in
     let size = ap length c.bytes.ensures.bytes ∙ c.in_default-read_file.ensures.size found.0 found.1 in
-    let may = rename_first old c.self.invariant c.args.place.now c.args.name.now c.in-Some.slot found.0 named found.1 here c.args.new.now c.bytes.result.now c.bytes-name.ensures.name size
+    let may = rename_first old c.self.invariant c.args.place.now c.args.name.now c.in-Some.slot found.0 named found.1 here c.args.new.now c.bytes.result.now c.slot_of.ensures.name size
     (c.in_ok-words.ensures.row found.0 found.1) in
     let first = subst (λ o. IsSomeAnd o (λ (x : FileRecord). MayReplace c.self.inside.parts c.in-Some.slot x (new_file c.args.new.now c.as_slice.result.now c.bytes-2.result.now))) (sym found.1)
     (subst V same (subst W (sym words) may)) in
@@ -179,7 +179,7 @@ save-requires-clause-room g c =
     let W : List (List ℕ) → Type 0 = λ ws. F ws c.bytes.result.now in
     let V : List ℕ → Type 0 = λ bs. F c.as_slice.result.now bs in
     let size = ap length c.bytes.ensures.bytes ∙ c.in_default-read_file.ensures.size found.0 found.1 in
-    let may = rename_first old c.self.invariant c.args.place.now c.args.name.now c.in-Some.slot found.0 named found.1 here c.args.new.now c.bytes.result.now c.bytes-name.ensures.name size
+    let may = rename_first old c.self.invariant c.args.place.now c.args.name.now c.in-Some.slot found.0 named found.1 here c.args.new.now c.bytes.result.now c.slot_of.ensures.name size
     (c.in_ok-words.ensures.row found.0 found.1) in
     let first = subst (λ o. IsSomeAnd o (λ (x : FileRecord). MayReplace c.self.inside.parts c.in-Some.slot x (new_file c.args.new.now c.as_slice.result.now c.bytes-2.result.now))) (sym found.1)
     (subst V same (subst W (sym words) may)) in
@@ -200,7 +200,7 @@ returns-clause-edits g c =
     let W : List (List ℕ) → Type 0 = λ ws. F ws c.bytes.result.now in
     let V : List ℕ → Type 0 = λ bs. F c.as_slice.result.now bs in
     let size = ap length c.bytes.ensures.bytes ∙ c.in_default-read_file.ensures.size found.0 found.1 in
-    let may = rename_first old c.self.invariant c.args.place.now c.args.name.now c.in-Some.slot found.0 named found.1 here c.args.new.now c.bytes.result.now c.bytes-name.ensures.name size
+    let may = rename_first old c.self.invariant c.args.place.now c.args.name.now c.in-Some.slot found.0 named found.1 here c.args.new.now c.bytes.result.now c.slot_of.ensures.name size
     (c.in_ok-words.ensures.row found.0 found.1) in
     let first = subst (λ o. IsSomeAnd o (λ (x : FileRecord). MayReplace c.self.inside.parts c.in-Some.slot x (new_file c.args.new.now c.as_slice.result.now c.bytes-2.result.now))) (sym found.1)
     (subst V same (subst W (sym words) may)) in
@@ -222,7 +222,7 @@ returns-clause-changes g c = λ s fits.
     let W : List (List ℕ) → Type 0 = λ ws. F ws c.bytes.result.now in
     let V : List ℕ → Type 0 = λ bs. F c.as_slice.result.now bs in
     let size = ap length c.bytes.ensures.bytes ∙ c.in_default-read_file.ensures.size found.0 found.1 in
-    let may = rename_first old c.self.invariant c.args.place.now c.args.name.now c.in-Some.slot found.0 named found.1 here c.args.new.now c.bytes.result.now c.bytes-name.ensures.name size
+    let may = rename_first old c.self.invariant c.args.place.now c.args.name.now c.in-Some.slot found.0 named found.1 here c.args.new.now c.bytes.result.now c.slot_of.ensures.name size
     (c.in_ok-words.ensures.row found.0 found.1) in
     let first = subst (λ o. IsSomeAnd o (λ (x : FileRecord). MayReplace c.self.inside.parts c.in-Some.slot x (new_file c.args.new.now c.as_slice.result.now c.bytes-2.result.now))) (sym found.1)
     (subst V same (subst W (sym words) may)) in
@@ -254,7 +254,7 @@ returns-clause-limits g c =
     let W : List (List ℕ) → Type 0 = λ ws. F ws c.bytes.result.now in
     let V : List ℕ → Type 0 = λ bs. F c.as_slice.result.now bs in
     let size = ap length c.bytes.ensures.bytes ∙ c.in_default-read_file.ensures.size found.0 found.1 in
-    let may = rename_first old c.self.invariant c.args.place.now c.args.name.now c.in-Some.slot found.0 named found.1 here c.args.new.now c.bytes.result.now c.bytes-name.ensures.name size
+    let may = rename_first old c.self.invariant c.args.place.now c.args.name.now c.in-Some.slot found.0 named found.1 here c.args.new.now c.bytes.result.now c.slot_of.ensures.name size
     (c.in_ok-words.ensures.row found.0 found.1) in
     let first = subst (λ o. IsSomeAnd o (λ (x : FileRecord). MayReplace c.self.inside.parts c.in-Some.slot x (new_file c.args.new.now c.as_slice.result.now c.bytes-2.result.now))) (sym found.1)
     (subst V same (subst W (sym words) may)) in
