@@ -6,6 +6,7 @@ use Rattle.lis_blockmap.specs.Bitmap.{is_taken}
 use Rattle.lis_content.specs.Content.{given, marked, are_free, are_distinct, has_number, has_home}
 use Rattle.lis_content.specs.Large.{file_content, file_blocks, IsIndexed}
 use Rattle.lis_content.specs.Placing.{HasFile}
+use Rattle.lis_content.proofs.Laying.{home_new}
 use Rattle.lis_content.proofs.Numbers.{length-given}
 use Rattle.lis_catalog.specs.Catalog.{Filed}
 use Rattle.lis_model.specs.declared.limits.Limits.{Limits}

@@ -24,7 +24,8 @@ use Rattle.lis_store.proofs.Added.{end, end_is, sound_end, used_had, word_from, 
 use Rattle.lis_store.proofs.Cleaned.{clean_is, sound_clean, in_use_clean, tests_clean}
 use Rattle.lis_store.proofs.Coming.{ComesIn, comes_described, comes_over}
 use Rattle.lis_store.proofs.FileTests.{tests_stay}
-use Rattle.lis_store.proofs.HeadsUsed.{IsUsedFor, used_flagged, used_left, used_for}
+use Rattle.lis_kept.proofs.Used.{used_flagged, used_left}
+use Rattle.lis_store.proofs.HeadsUsed.{IsUsedFor, used_for}
 use Rattle.lis_store.proofs.HeadsUsed.IsUsedFor.{Flagged, HadAt, NamedLeft}
 use Rattle.lis_store.proofs.Left as gone
 use Rattle.lis_store.proofs.Naming.{of_one}
