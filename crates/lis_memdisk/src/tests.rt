@@ -21,23 +21,22 @@ fn a_crash_leaves_what_the_pick_takes(rt: HostRuntime) -> Result<(), Fail> {
     assert_eq!(rt; station.calls(), 4);
     assert_eq!(rt; station.shown(), b"ok".as_slice());
     for (call, pick, wanted) in [
-        (0, 0, "abcdefgh"),
-        (1, 0, "abcdefgh"),
-        (1, 1, "abWXYZgh"),
-        (1, 2, "abWdYfgh"),
-        (1, 165, "ab....gh"),
-        (2, 0, "abcdefgh"),
-        (3, 0, "abWXYZgh"),
-        (3, 165, "abWXYZgh"),
-        (4, 0, "abWXYZgh"),
-        (4, 1, "abWXY12h"),
-        (4, 2, "abWXYZ2h"),
-        (4, 165, "abWXY..h"),
+        (0, 0, b"abcdefgh"),
+        (1, 0, b"abcdefgh"),
+        (1, 1, b"abWXYZgh"),
+        (1, 2, b"abWdYfgh"),
+        (1, 165, b"ab\xa5\xa5\xa5\xa5gh"),
+        (2, 0, b"abcdefgh"),
+        (3, 0, b"abWXYZgh"),
+        (3, 165, b"abWXYZgh"),
+        (4, 0, b"abWXYZgh"),
+        (4, 1, b"abWXY12h"),
+        (4, 2, b"abWXYZ2h"),
+        (4, 165, b"abWXY\xa5\xa5h"),
     ] {
         assert!(rt; call <= station.calls());
         let image = station.crash(alloc, call, pick)?;
-        let wanted = wanted.bytes().map(|b| if b == b'.' { 165 } else { b });
-        assert!(rt; image.iter().copied().eq(wanted));
+        assert_eq!(rt; image.as_slice(), wanted.as_slice());
     }
     assert_eq!(rt; station.shown_at(1), 0);
     assert_eq!(rt; station.shown_at(2), 2);
@@ -62,8 +61,12 @@ fn calls_fail_where_they_are_told_to(rt: HostRuntime) -> Result<(), Fail> {
     assert_eq!(rt; station.show(b"c"), Err(Failed));
     assert_eq!(rt; station.calls(), 4);
     assert_eq!(rt; station.shown(), b"b".as_slice());
+    Ok(())
+}
 
-    let mut small = MemStation::new(alloc, b"abcd", 100)?;
+#[test]
+fn calls_fail_where_there_is_no_room(rt: HostRuntime) -> Result<(), Fail> {
+    let mut small = MemStation::new(rt.alloc(), b"abcd", 100)?;
     assert_eq!(rt; small.write_at(0, b"xyzw"), Ok(()));
     assert_eq!(rt; small.write_at(0, b"!"), Err(Failed));
     assert_eq!(rt; small.sync(), Ok(()));

@@ -13,8 +13,6 @@ mod mounting;
 mod naming;
 mod reading;
 mod room;
-#[cfg(test)]
-mod tests;
 mod upgrading;
 mod words;
 

@@ -27,17 +27,18 @@ pub struct Room {
     pub marks: Flags,
 }
 
-/// Takes the memory. Nothing is read yet.
+/// Takes the memory, what has most parts last: each part is given back wherever a later one can't be had, which takes long to check.
+/// Nothing is read yet.
 pub fn take_room(alloc: Global, limits: &Limits) -> Result<Room, AllocError>
     requires { IsTrue (are_in_range limits.now) }
     ensures { IfOk result (IsEmptyRoom limits.now) }
 {
     Ok(Room {
-        words: no_words(alloc, limits)?,
-        axioms: no_axioms(alloc, limits)?,
-        files: no_files(alloc, limits)?,
         row: Rows::new(alloc, 3, limits.props)?,
         bytes: Buffer::new(alloc)?,
         marks: Flags::new(alloc, 64 * data_start(limits).div_ceil(64))?,
+        axioms: no_axioms(alloc, limits)?,
+        words: no_words(alloc, limits)?,
+        files: no_files(alloc, limits)?,
     })
 }

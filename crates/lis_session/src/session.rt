@@ -57,12 +57,22 @@ impl Session {
         ensures made { IfOk result (λ session. session ≡ record { store = store; place = [] }) }
         ensures sound { IsSound store }
     {
-        let scratch = Scratch::new(alloc, &store.limits())?;
-        Ok(Session {
-            store,
-            place: Place::root(),
-            scratch,
-        })
+        match Scratch::new(alloc, &store.limits()) {
+            Ok(scratch) => Ok(Session {
+                store,
+                place: Place::root(),
+                scratch,
+            }),
+            Err(refused) => {
+                store.close();
+                Err(refused)
+            }
+        }
+    }
+
+    /// Gives back its memory.
+    pub fn close(self) {
+        self.store.close();
     }
 
     /// The place at which the next command is said.

@@ -74,12 +74,14 @@ fn session_over(alloc: Global, store: Store) -> Result<(Session, Payload), Alloc
     ensures session { IfOk result (λ made. made.0 ≡ record { store = store; place = [] }) }
 {
     let session = Session::new(alloc, store)?;
-    let payload = Payload::new(alloc)?;
-    Ok((session, payload))
+    match Payload::new(alloc) {
+        Ok(payload) => Ok((session, payload)),
+        Err(refused) => {
+            session.close();
+            Err(refused)
+        }
+    }
 }
-
-// Gives back the memory of a session. Its store has many parts, so that this takes long to check where a contract looks on.
-fn end_session(_session: Session, _payload: Payload) {}
 
 // Carries out the items of the input on an opened image.
 fn run_store<S: Source, T: Station>(
@@ -104,7 +106,7 @@ fn run_store<S: Source, T: Station>(
         return Status::NoMemory;
     };
     let status = serve(&mut session, &mut payload, input, station, INPUT_LIMIT);
-    end_session(session, payload);
+    session.close();
     status
 }
 
@@ -173,7 +175,7 @@ fn grow_store<T: Station>(alloc: Global, store: Store, station: &mut T, n: u32) 
         return Status::NoMemory;
     };
     let ended = grow_session(&mut session, &mut payload, station, n);
-    end_session(session, payload);
+    session.close();
     grow_status(ended)
 }
 

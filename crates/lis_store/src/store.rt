@@ -87,6 +87,10 @@ impl Store {
         }
     }
 
+    /// Gives back its memory. A store has many parts, so that its end takes long to check: those who let one go make this call, and it
+    /// is checked once.
+    pub fn close(self) {}
+
     /// The limits of the image.
     pub fn limits(&self) -> Limits
         ensures value { result ≡ self.now.parts.limits }

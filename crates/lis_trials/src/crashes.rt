@@ -133,17 +133,27 @@ fn left_by_opening(alloc: Global, image: &[u8], fuse: u64) -> Result<Option<Stri
     Ok(Some(left_by(alloc, &station, station.calls(), PICK)?))
 }
 
+// Whether the opening that stops at the call behind the fuse leaves another state. None where it was not stopped.
+fn leaves_another(
+    alloc: Global,
+    image: &[u8],
+    fuse: u64,
+    before: &str,
+) -> Result<Option<bool>, Fail> {
+    match left_by_opening(alloc, image, fuse)? {
+        None => Ok(None),
+        Some(left) => Ok(Some(left.as_str() != before)),
+    }
+}
+
 // The first fuse with which the opening leaves another state than the image has.
 fn wrong_fuse(alloc: Global, image: &[u8]) -> Result<Option<u64>, Fail> {
     let before = looked_at(alloc, image)?;
     for fuse in 0..OPENING_CALLS {
-        match left_by_opening(alloc, image, fuse)? {
+        match leaves_another(alloc, image, fuse, before.as_str())? {
             None => return Ok(None),
-            Some(left) => {
-                if left != before {
-                    return Ok(Some(fuse));
-                }
-            }
+            Some(true) => return Ok(Some(fuse)),
+            Some(false) => {}
         }
     }
     Ok(None)

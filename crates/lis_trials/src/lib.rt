@@ -12,6 +12,8 @@ mod images;
 #[cfg(test)]
 mod limit;
 #[cfg(test)]
+mod openings;
+#[cfg(test)]
 mod tests;
 #[cfg(test)]
 mod versions;

@@ -56,7 +56,7 @@ fn serve_image(
 {
     let mut session = opened(alloc, station)?;
     let status = serve_row(alloc, &mut session, row, station, limit);
-    drop(session);
+    session.close();
     Ok(status?)
 }
 
@@ -85,7 +85,7 @@ fn edits_by(alloc: Global, row: &str, station: &mut MemStation) -> Result<u64, F
     let mut session = opened(alloc, station)?;
     let status = serve_row(alloc, &mut session, row, station, 1_000);
     let edits = session.store().descriptions().rows().edits();
-    drop(session);
+    session.close();
     status?;
     Ok(edits)
 }

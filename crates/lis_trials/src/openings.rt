@@ -1,9 +1,9 @@
 //! What making an image leaves, and what opening answers to each kind of damage.
 
-use crate::{MakeFault, OpenFault, make, mount};
 use lis_memdisk::MemStation;
 use lis_model::limits::Limits;
 use lis_model::spot::Spot;
+use lis_open::{MakeFault, OpenFault, make, mount};
 use lis_ports::Disk;
 use std::alloc::{AllocError, Global};
 use std::process::Abort;
@@ -276,7 +276,10 @@ fn byte_at(disk: &mut MemStation, at: u64) -> Result<u8, Fail> {
 
 fn opening(alloc: Global, disk: &mut MemStation) -> Result<Answer, Fail> {
     match mount(alloc, disk) {
-        Ok(_) => Ok(Answer::Opened),
+        Ok(store) => {
+            store.close();
+            Ok(Answer::Opened)
+        }
         Err(OpenFault::TooShort(len, need)) => Ok(Answer::TooShort(len, need)),
         Err(OpenFault::Damaged(spot)) => Ok(Answer::Damaged(spot)),
         Err(_) => Err(Fail::from("another answer")),
