@@ -1,13 +1,13 @@
 //! The top call.
 
-ghost use Rattle.std.specs.Prelude.{◌≡◌, ◌≢◌, ◌↔◌, ℕ, ◌*◌, ◌≤◌, ◌^◌, List, length, map, None, Some, [], false, IsTrue, IfOk};
+ghost use Rattle.std.specs.Prelude.{◌≡◌, ◌≢◌, ◌↔◌, ℕ, ◌*◌, ◌≤◌, ◌^◌, List, length, map, None, Some, [], false, IsTrue};
 ghost use Rattle.std.specs.String.{string_bytes};
 ghost use Rattle.lis_line.specs.Taking.{TakesFew};
 ghost use Rattle.lis_model.specs.declared.limits.Limits.{Limits as LimitsOf};
 ghost use Rattle.lis_model.specs.Ranges.{are_in_range};
 ghost use Rattle.lis_model.specs.Script.{script};
 ghost use Rattle.lis_model.specs.State.{State};
-ghost use Rattle.lis_store.specs.Stored.{IsSound, StoreFits};
+ghost use Rattle.lis_store.specs.Stored.{StoreFits};
 ghost use Rattle.lis_session.specs.Item.{IsSameStation};
 ghost use Rattle.lis_session.specs.Runs.{Serves};
 ghost use Rattle.lis_session.specs.Session.{root_of, Headline, FullHeadline};
@@ -32,7 +32,7 @@ use lis_ports::{Source, Station};
 use lis_session::end::End;
 use lis_session::session::Session;
 use lis_store::Store;
-use std::alloc::{AllocError, Global};
+use std::alloc::Global;
 
 /// The most bytes of an input.
 const INPUT_LIMIT: u64 = 1 << 40;
@@ -68,21 +68,6 @@ fn make_image<T: Station>(limits: &Limits, station: &mut T) -> Status
     }
 }
 
-// A session over the store, and room for a payload: all the memory that the commands need.
-fn session_over(alloc: Global, store: Store) -> Result<(Session, Payload), AllocError>
-    ensures sound { IsSound store }
-    ensures session { IfOk result (λ made. made.0 ≡ record { store = store; place = [] }) }
-{
-    let session = Session::new(alloc, store)?;
-    match Payload::new(alloc) {
-        Ok(payload) => Ok((session, payload)),
-        Err(refused) => {
-            session.close();
-            Err(refused)
-        }
-    }
-}
-
 // Carries out the items of the input on an opened image.
 fn run_store<S: Source, T: Station>(
     alloc: Global,
@@ -102,7 +87,11 @@ fn run_store<S: Source, T: Station>(
         → Serves (root_of state) (script bytes (2 ^ 40)) (T.meaning station.old) (T.meaning station.new)
         (Ran state (2 ^ 40) bytes (S.left input.new) (T.meaning station.old).shown (T.meaning station.new) result) }
 {
-    let Ok((mut session, mut payload)) = session_over(alloc, store) else {
+    let Ok(mut session) = Session::new(alloc, store) else {
+        return Status::NoMemory;
+    };
+    let Ok(mut payload) = Payload::new(alloc) else {
+        session.close();
         return Status::NoMemory;
     };
     let status = serve(&mut session, &mut payload, input, station, INPUT_LIMIT);
@@ -171,7 +160,11 @@ fn grow_store<T: Station>(alloc: Global, store: Store, station: &mut T, n: u32) 
         → Grows (root_of state) (grow_items n) (T.meaning station.old) (T.meaning station.new)
         (GrowRan state (grow_items n) (T.meaning station.old).shown (T.meaning station.new) result) }
 {
-    let Ok((mut session, mut payload)) = session_over(alloc, store) else {
+    let Ok(mut session) = Session::new(alloc, store) else {
+        return Status::NoMemory;
+    };
+    let Ok(mut payload) = Payload::new(alloc) else {
+        session.close();
         return Status::NoMemory;
     };
     let ended = grow_session(&mut session, &mut payload, station, n);

@@ -17,16 +17,21 @@ returns-in_default-clause-same g c = same_none (g.T.Disk.meaning c.args.station.
 pub returns-in_default-clause-grows : goal.returns-in_default-clause-grows
 returns-in_default-clause-grows g c = λ state fits.
     let m = g.T.Disk.meaning c.args.station.now in
-    grows_none state (grow_items c.args.n) m (GrowRan state (grow_items c.args.n) m.shown m NoMemory) (refl, (store_fits_at c.session_over.ensures.sound fits).stands.reads)
+    grows_none state (grow_items c.args.n) m (GrowRan state (grow_items c.args.n) m.shown m NoMemory) (refl, (store_fits_at c.new.ensures.sound fits).stands.reads)
+
+pub returns-in_default-new-clause-grows : goal.returns-in_default-new-clause-grows
+returns-in_default-new-clause-grows g c = λ state fits.
+    let m = g.T.Disk.meaning c.args.station.now in
+    grows_none state (grow_items c.args.n) m (GrowRan state (grow_items c.args.n) m.shown m NoMemory) (refl, (store_fits_at c.in-Ok.ensures.sound fits).stands.reads)
 
 pub grow_session-ended-requires-clause-sound : goal.grow_session-ended-requires-clause-sound
-grow_session-ended-requires-clause-sound g c = subst IsSound (sym (ap (λ (s : Situated). s.store) c.in-Ok.ensures.session)) c.in-Ok.ensures.sound
+grow_session-ended-requires-clause-sound g c = subst IsSound (sym (ap (λ (s : Situated). s.store) c.in-Ok.ensures.made)) c.in-Ok.ensures.sound
 
 pub grow_session-ended-requires-clause-unbroken : goal.grow_session-ended-requires-clause-unbroken
-grow_session-ended-requires-clause-unbroken g c = ap (λ (s : Situated). s.store.is_broken) c.in-Ok.ensures.session ∙ c.requires.unbroken
+grow_session-ended-requires-clause-unbroken g c = ap (λ (s : Situated). s.store.is_broken) c.in-Ok.ensures.made ∙ c.requires.unbroken
 
 pub grow_session-ended-requires-clause-long : goal.grow_session-ended-requires-clause-long
-grow_session-ended-requires-clause-long g c = omega (arith, ap (λ (s : Situated). s.store.journal.blocks) c.in-Ok.ensures.session, c.requires.long)
+grow_session-ended-requires-clause-long g c = omega (arith, ap (λ (s : Situated). s.store.journal.blocks) c.in-Ok.ensures.made, c.requires.long)
 
 pub returns-clause-only : goal.returns-clause-only
 returns-clause-only g c = λ e. subst IsSessionStatus (sym c.grow_status.ensures) (session_status c.grow_session-ended.result)
@@ -52,5 +57,5 @@ returns-clause-grows g c = λ state fits.
     let new = g.T.Disk.meaning c.grow_session-ended.new.station in
     let items = grow_items c.args.n in
     subst (λ (s : Status). Grows (root_of state) items old new (GrowRan state items old.shown new s)) (sym c.grow_status.ensures)
-    (grow_served state c.in-Ok.session.place items old.shown c.grow_session-ended.result (ap (λ (s : Situated). s.place) c.in-Ok.ensures.session)
-    (c.grow_session-ended.ensures.grows state (subst (λ (k : Stored). StoreFits k old state) (sym (ap (λ (s : Situated). s.store) c.in-Ok.ensures.session)) fits)))
+    (grow_served state c.in-Ok.session.place items old.shown c.grow_session-ended.result (ap (λ (s : Situated). s.place) c.in-Ok.ensures.made)
+    (c.grow_session-ended.ensures.grows state (subst (λ (k : Stored). StoreFits k old state) (sym (ap (λ (s : Situated). s.store) c.in-Ok.ensures.made)) fits)))

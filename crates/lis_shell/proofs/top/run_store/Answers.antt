@@ -19,16 +19,22 @@ pub returns-in_default-clause-runs : goal.returns-in_default-clause-runs
 returns-in_default-clause-runs g c = λ state bytes fits told.
     let m = g.T.Disk.meaning c.args.station.now in
     serves_none state (script bytes 1099511627776) m (Ran state 1099511627776 bytes (g.S.Source.left c.args.input.now) m.shown m NoMemory)
-    (refl, told, (store_fits_at c.session_over.ensures.sound fits).stands.reads)
+    (refl, told, (store_fits_at c.new.ensures.sound fits).stands.reads)
+
+pub returns-in_default-new-clause-runs : goal.returns-in_default-new-clause-runs
+returns-in_default-new-clause-runs g c = λ state bytes fits told.
+    let m = g.T.Disk.meaning c.args.station.now in
+    serves_none state (script bytes 1099511627776) m (Ran state 1099511627776 bytes (g.S.Source.left c.args.input.now) m.shown m NoMemory)
+    (refl, told, (store_fits_at c.in-Ok.ensures.sound fits).stands.reads)
 
 pub serve-status-requires-clause-sound : goal.serve-status-requires-clause-sound
-serve-status-requires-clause-sound g c = subst IsSound (sym (ap (λ (s : Situated). s.store) c.in-Ok.ensures.session)) c.in-Ok.ensures.sound
+serve-status-requires-clause-sound g c = subst IsSound (sym (ap (λ (s : Situated). s.store) c.in-Ok.ensures.made)) c.in-Ok.ensures.sound
 
 pub serve-status-requires-clause-unbroken : goal.serve-status-requires-clause-unbroken
-serve-status-requires-clause-unbroken g c = ap (λ (s : Situated). s.store.is_broken) c.in-Ok.ensures.session ∙ c.requires.unbroken
+serve-status-requires-clause-unbroken g c = ap (λ (s : Situated). s.store.is_broken) c.in-Ok.ensures.made ∙ c.requires.unbroken
 
 pub serve-status-requires-clause-long : goal.serve-status-requires-clause-long
-serve-status-requires-clause-long g c = omega (arith, ap (λ (s : Situated). s.store.journal.blocks) c.in-Ok.ensures.session, c.requires.long)
+serve-status-requires-clause-long g c = omega (arith, ap (λ (s : Situated). s.store.journal.blocks) c.in-Ok.ensures.made, c.requires.long)
 
 pub returns-clause-only : goal.returns-clause-only
 returns-clause-only g c = λ e. c.serve-status.ensures.only
@@ -48,5 +54,5 @@ returns-clause-input g c = c.serve-status.ensures.input
 pub returns-clause-runs : goal.returns-clause-runs
 returns-clause-runs g c = λ state bytes fits told.
     let old = g.T.Disk.meaning c.args.station.now in
-    run_served state c.in-Ok.session.place 1099511627776 bytes (g.S.Source.left c.serve-status.new.input) old.shown c.serve-status.result (ap (λ (s : Situated). s.place) c.in-Ok.ensures.session)
-    (c.serve-status.ensures.serves state bytes (subst (λ (k : Stored). StoreFits k old state) (sym (ap (λ (s : Situated). s.store) c.in-Ok.ensures.session)) fits) told)
+    run_served state c.in-Ok.session.place 1099511627776 bytes (g.S.Source.left c.serve-status.new.input) old.shown c.serve-status.result (ap (λ (s : Situated). s.place) c.in-Ok.ensures.made)
+    (c.serve-status.ensures.serves state bytes (subst (λ (k : Stored). StoreFits k old state) (sym (ap (λ (s : Situated). s.store) c.in-Ok.ensures.made)) fits) told)
