@@ -123,3 +123,6 @@ property_short word h = by (or_cases (is_word word) (is_test word) h)
 
 pub word_is_property : (word : List ℕ) → is_word word ≡ true → is_property word ≡ true
 word_is_property word h = or_left _ _ h
+
+pub valued_is_property : (word : List ℕ) → is_valued word ≡ true → is_property word ≡ true
+valued_is_property word h = or_left _ _ (or_right _ _ h)
