@@ -11,7 +11,7 @@ use Rattle.lis_ports.proofs.Parts.{torn-put, torn_refl, length-put, length-part}
 use Rattle.lis_memdisk.proofs.Picks.{length-picked}
 use Rattle.lis_memdisk.specs.Changes.{Deed, Change, Unsynced, State, fresh, bytes_of, after, replay, state_at, is_by, had_happened, picked, crashed, IsImage, IsLeft, clock_at, time_of, Moment}
 use Rattle.lis_memdisk.specs.Changes.Deed.{Writes, Syncs, Shows}
-use Rattle.lis_memdisk.specs.Seen.{Seen, now_of, clock_of, meaning, is_within, is_counted, IsSound, Did, bytes_after, shown_after}
+use Rattle.lis_memdisk.specs.Seen.{Seen, Faults, now_of, clock_of, meaning, is_within, is_counted, IsSound, Did, bytes_after, shown_after}
 use Rattle.lis_memdisk.specs.Laws.{IsWhole, whole_after, whole_fresh, whole_start, Sound, image_reads}
 
 pub replay-push : (s : State) (cs : List Change) (c : Change) → replay s (cs ++ c ∷ []) ≡ after (replay s cs) c.deed
@@ -97,15 +97,15 @@ sound_did a b deed cost kept sound did within counts =
 shown_now : (a b : Seen) (deed : Deed) (cost : ℕ) → IsSound a → Did a b deed cost → (after (now_of a) deed).shown ≡ b.shown
 shown_now a b deed cost sound did = shows_after (now_of a) deed ∙ (ap (shown_after deed) sound.shows ∙ sym did.shown)
 
-pub adds_did : (a b : Seen) (deed : Deed) (cost : ℕ) (d f e g : ℕ) → Sound a → Did a b deed cost → clock_of a ≤ clock_of b → Adds (meaning a d f) (meaning b e g) (Now (meaning b e g))
-adds_did a b deed cost d f e g sound did later = record {
+pub adds_did : (a b : Seen) (deed : Deed) (cost : ℕ) (f g : Faults) → Sound a → Did a b deed cost → clock_of a ≤ clock_of b → Adds (meaning a f) (meaning b g) (Now (meaning b g))
+adds_did a b deed cost f g sound did later = record {
   later = later;
   only = λ t image bytes le had.
       let kept : IsTrue a.is_kept = sym did.kept ∙ had.0 in
       let change : Change = record { calls = b.calls; shows = b.shows; deed = deed } in
       let was : Moment t (fresh a.start) (a.changes ++ change ∷ []) image bytes =
       subst (λ cs. Moment t (fresh a.start) cs image bytes) (did.changes kept) (subst (λ start. Moment t (fresh start) b.changes image bytes) did.start had.1) in
-      elim (moment_only t (fresh a.start) a.changes change image bytes was) as (λ _. (meaning a d f).moments t image bytes ⊎ Now (meaning b e g) image bytes) [
+      elim (moment_only t (fresh a.start) a.changes change image bytes was) as (λ _. (meaning a f).moments t image bytes ⊎ Now (meaning b g) image bytes) [
         | inl before ↦ inl (kept, before)
         | inr left ↦ inr (
           (had.0, subst (λ s. IsImage s.unsynced s.synced image) (sym (now_after a b deed cost kept did)) left.0),
@@ -127,8 +127,8 @@ image_after a b deed cost image kept did is = subst (λ s. IsImage s.unsynced s.
 image_before : (a b : Seen) (deed : Deed) (cost : ℕ) (image : List ℕ) → IsTrue a.is_kept → Did a b deed cost → IsImage (after (now_of a) deed).unsynced (after (now_of a) deed).synced image → IsImage (now_of b).unsynced (now_of b).synced image
 image_before a b deed cost image kept did is = subst (λ s. IsImage s.unsynced s.synced image) (sym (now_after a b deed cost kept did)) is
 
-pub torn_did : (a b : Seen) (place : ℕ) (bytes : List ℕ) (cost d f e g : ℕ) → Did a b (Writes place bytes) cost → place + length bytes ≤ length a.bytes → IsTorn place (length bytes) (meaning a d f) (meaning b e g)
-torn_did a b place bytes cost d f e g did fits = record {
+pub torn_did : (a b : Seen) (place : ℕ) (bytes : List ℕ) (cost : ℕ) (f g : Faults) → Did a b (Writes place bytes) cost → place + length bytes ≤ length a.bytes → IsTorn place (length bytes) (meaning a f) (meaning b g)
+torn_did a b place bytes cost f g did fits = record {
   bytes = subst (Torn place (length bytes) a.bytes) (sym did.bytes) (torn-put a.bytes place bytes fits);
   only = λ image is.
       let kept : IsTrue a.is_kept = sym did.kept ∙ is.0 in
@@ -138,21 +138,21 @@ torn_did a b place bytes cost d f e g did fits = record {
       (did.kept ∙ kept, image_before a b (Writes place bytes) cost image kept did (image, is.1, torn_refl place (length bytes) image));
 }
 
-pub written_did : (a b : Seen) (place : ℕ) (bytes : List ℕ) (cost d f e g : ℕ) → Did a b (Writes place bytes) cost → IsWritten place bytes (meaning a d f) (meaning b e g)
-written_did a b place bytes cost d f e g did = record {
+pub written_did : (a b : Seen) (place : ℕ) (bytes : List ℕ) (cost : ℕ) (f g : Faults) → Did a b (Writes place bytes) cost → IsWritten place bytes (meaning a f) (meaning b g)
+written_did a b place bytes cost f g did = record {
   reads = did.bytes;
   each = λ kept from image is torn.
       (did.kept ∙ kept, image_before a b (Writes place bytes) cost image kept did (from, is.1, torn));
 }
 
-pub synced_did : (a b : Seen) (cost d f e g : ℕ) → Sound a → Did a b Syncs cost → IsSynced (meaning a d f) (meaning b e g)
-synced_did a b cost d f e g sound did = record {
+pub synced_did : (a b : Seen) (cost : ℕ) (f g : Faults) → Sound a → Did a b Syncs cost → IsSynced (meaning a f) (meaning b g)
+synced_did a b cost f g sound did = record {
   bytes = did.bytes;
   images = record {
     only = λ image is.
         let kept : IsTrue a.is_kept = sym did.kept ∙ is.0 in
         let same : image ≡ a.bytes = image_after a b Syncs cost image kept did is.1 ∙ (sound kept).reads in
-        (subst (meaning a d f).images (sym same) (image_reads a d f sound kept), same);
+        (subst (meaning a f).images (sym same) (image_reads a f sound kept), same);
     each = λ kept image is.
         let was : IsTrue a.is_kept = sym did.kept ∙ kept in
         (kept, image_before a b Syncs cost image was did (is.1 ∙ sym (sound was).reads));
@@ -160,8 +160,8 @@ synced_did a b cost d f e g sound did = record {
 }
 
 -- what a show leaves of the disk
-pub same_did : (a b : Seen) (piece : List ℕ) (cost d f e g : ℕ) → Did a b (Shows piece) cost → IsUnchanged (meaning a d f) (meaning b e g)
-same_did a b piece cost d f e g did = record {
+pub same_did : (a b : Seen) (piece : List ℕ) (cost : ℕ) (f g : Faults) → Did a b (Shows piece) cost → IsUnchanged (meaning a f) (meaning b g)
+same_did a b piece cost f g did = record {
   bytes = did.bytes;
   images = record {
     only = λ image is.
@@ -172,35 +172,35 @@ same_did a b piece cost d f e g did = record {
   };
 }
 
-pub run_write : (a b : Seen) (place : ℕ) (bytes : List ℕ) (cost d f e : ℕ) → Did a b (Writes place bytes) cost → place + length bytes ≤ length a.bytes → clock_of a ≤ clock_of b → d ≤ e → IsDiskRun (meaning a d f) (meaning b e f)
-run_write a b place bytes cost d f e did fits later le = record {
+pub run_write : (a b : Seen) (place : ℕ) (bytes : List ℕ) (cost : ℕ) (f g : Faults) → Did a b (Writes place bytes) cost → place + length bytes ≤ length a.bytes → clock_of a ≤ clock_of b → f.disk ≤ g.disk → g.show ≡ f.show → IsDiskRun (meaning a f) (meaning b g)
+run_write a b place bytes cost f g did fits later le same = record {
   later = later;
   honest = refl;
   len = ap length did.bytes ∙ length-put a.bytes place bytes fits;
   recorded = did.kept;
   shown = ap (λ xs. Some xs) did.shown;
-  show_faults = refl;
+  show_faults = same;
   disk_faults = le;
 }
 
-pub run_sync : (a b : Seen) (cost d f e : ℕ) → Did a b Syncs cost → clock_of a ≤ clock_of b → d ≤ e → IsDiskRun (meaning a d f) (meaning b e f)
-run_sync a b cost d f e did later le = record {
+pub run_sync : (a b : Seen) (cost : ℕ) (f g : Faults) → Did a b Syncs cost → clock_of a ≤ clock_of b → f.disk ≤ g.disk → g.show ≡ f.show → IsDiskRun (meaning a f) (meaning b g)
+run_sync a b cost f g did later le same = record {
   later = later;
   honest = refl;
   len = ap length did.bytes;
   recorded = did.kept;
   shown = ap (λ xs. Some xs) did.shown;
-  show_faults = refl;
+  show_faults = same;
   disk_faults = le;
 }
 
-pub call_show : (a b : Seen) (piece : List ℕ) (cost d f g : ℕ) → Did a b (Shows piece) cost → IsShowCall (meaning a d f) (meaning b d g)
-call_show a b piece cost d f g did = record {
+pub call_show : (a b : Seen) (piece : List ℕ) (cost : ℕ) (f g : Faults) → Did a b (Shows piece) cost → g.disk ≡ f.disk → IsShowCall (meaning a f) (meaning b g)
+call_show a b piece cost f g did stays = record {
   honest = refl;
   len = ap length did.bytes;
   recorded = did.kept;
-  disk_faults = refl;
-  same = λ honest. same_did a b piece cost d f d g did;
+  disk_faults = stays;
+  same = λ honest. same_did a b piece cost f g did;
 }
 
 -- What had not happened when a call answered came later.
@@ -254,8 +254,8 @@ crashed_is pick (w ∷ ws) synced n fits len =
     )
 
 -- The image that a pick takes of the state at a call is a moment since that call.
-pub moment_crashed : (s : Seen) (d f call pick : ℕ) → IsTrue s.is_kept → IsSound s → (meaning s d f).moments (call * 2 ^ 64) (crashed pick (state_at (fresh s.start) call s.changes).unsynced (state_at (fresh s.start) call s.changes).synced) (state_at (fresh s.start) call s.changes).shown
-moment_crashed s d f call pick kept sound =
+pub moment_crashed : (s : Seen) (f : Faults) (call pick : ℕ) → IsTrue s.is_kept → IsSound s → (meaning s f).moments (call * 2 ^ 64) (crashed pick (state_at (fresh s.start) call s.changes).unsynced (state_at (fresh s.start) call s.changes).synced) (state_at (fresh s.start) call s.changes).shown
+moment_crashed s f call pick kept sound =
     let state = state_at (fresh s.start) call s.changes in
     let whole = whole_at (length s.start) call (fresh s.start) s.changes (whole_fresh s.start) sound.within in (
       kept,

@@ -7,7 +7,7 @@ use Rattle.lis_ports.specs.Meaning.{Now}
 use Rattle.lis_ports.proofs.Parts.{torn-put, length-put}
 use Rattle.lis_memdisk.specs.Changes.{Deed, Change, State, fresh, bytes_of, after, replay, IsImage, IsLeft, time_of, Moment}
 use Rattle.lis_memdisk.specs.Changes.Deed.{Writes, Syncs, Shows}
-use Rattle.lis_memdisk.specs.Seen.{Seen, now_of, clock_of, meaning, is_within, IsSound}
+use Rattle.lis_memdisk.specs.Seen.{Seen, Faults, now_of, clock_of, meaning, is_within, IsSound}
 
 -- The last state is a moment since any time.
 pub moment_last : (t : ℕ) (s : State) (cs : List Change) (image bytes : List ℕ) → IsLeft (replay s cs) image bytes → Moment t s cs image bytes
@@ -88,21 +88,21 @@ some_same xs ys e = ap (λ o. unwrap_or o []) e
 abbrev pub Sound : Seen → Type 0
 Sound s = IsTrue s.is_kept → IsSound s
 
-pub now_counts : (s : Seen) (d f : ℕ) → Sound s → (t : ℕ) (image bytes : List ℕ) → IsTrue s.is_kept → Now (meaning s d f) image bytes → (meaning s d f).moments t image bytes
-now_counts s d f sound t image bytes kept now =
+pub now_counts : (s : Seen) (f : Faults) → Sound s → (t : ℕ) (image bytes : List ℕ) → IsTrue s.is_kept → Now (meaning s f) image bytes → (meaning s f).moments t image bytes
+now_counts s f sound t image bytes kept now =
     (kept, moment_last t (fresh s.start) s.changes image bytes (now.0.1, sym (some_same s.shown bytes now.1) ∙ sym (sound kept).shows))
 
-pub now_only : (s : Seen) (d f : ℕ) → Sound s → (image bytes : List ℕ) → (meaning s d f).moments (clock_of s) image bytes → Now (meaning s d f) image bytes
-now_only s d f sound image bytes moment =
+pub now_only : (s : Seen) (f : Faults) → Sound s → (image bytes : List ℕ) → (meaning s f).moments (clock_of s) image bytes → Now (meaning s f) image bytes
+now_only s f sound image bytes moment =
     let left = moment_now (clock_of s) (fresh s.start) s.changes image bytes (sound moment.0).past moment.1 in
     ((moment.0, left.0), ap (λ xs. Some xs) (sym (left.1 ∙ (sound moment.0).shows)))
 
-pub earlier : (s : Seen) (d f t u : ℕ) (image bytes : List ℕ) → t ≤ u → (meaning s d f).moments u image bytes → (meaning s d f).moments t image bytes
-earlier s d f t u image bytes le moment = (moment.0, moment_earlier t u (fresh s.start) s.changes image bytes le moment.1)
+pub earlier : (s : Seen) (f : Faults) (t u : ℕ) (image bytes : List ℕ) → t ≤ u → (meaning s f).moments u image bytes → (meaning s f).moments t image bytes
+earlier s f t u image bytes le moment = (moment.0, moment_earlier t u (fresh s.start) s.changes image bytes le moment.1)
 
-pub image_reads : (s : Seen) (d f : ℕ) → Sound s → IsTrue s.is_kept → (meaning s d f).images s.bytes
-image_reads s d f sound kept =
+pub image_reads : (s : Seen) (f : Faults) → Sound s → IsTrue s.is_kept → (meaning s f).images s.bytes
+image_reads s f sound kept =
     (kept, subst (IsImage (now_of s).unsynced (now_of s).synced) (sound kept).reads (whole_of s (sound kept)).reads)
 
-pub image_length : (s : Seen) (d f : ℕ) → Sound s → (image : List ℕ) → (meaning s d f).images image → length image ≡ length s.bytes
-image_length s d f sound image is = (whole_of s (sound is.0)).images image is.1
+pub image_length : (s : Seen) (f : Faults) → Sound s → (image : List ℕ) → (meaning s f).images image → length image ≡ length s.bytes
+image_length s f sound image is = (whole_of s (sound is.0)).images image is.1

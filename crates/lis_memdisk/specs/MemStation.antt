@@ -4,15 +4,18 @@ use Rattle.std.specs.List.{list_any}
 use Rattle.lis_ports.specs.Meaning.{Meaning}
 use Rattle.lis_memdisk.specs.declared.mem_station.MemStation.{MemStation}
 use Rattle.lis_memdisk.specs.Changes.{State, fresh, state_at}
-use Rattle.lis_memdisk.specs.Seen.{Seen, Passed, meaning, next_of, is_full, cost_of, show_cost_of, first_seen}
+use Rattle.lis_memdisk.specs.Seen.{Seen, Faults, Passed, meaning, next_of, is_full, cost_of, show_cost_of, first_seen}
 use Rattle.lis_memdisk.specs.History.{seen_of}
 
 -- what it holds, whatever it was told
 abbrev pub held : MemStation → Seen
 held m = seen_of m.history
 
+abbrev pub faults_of : MemStation → Faults
+faults_of m = record { disk = m.disk_faults; show = m.show_faults; behind = m.behind }
+
 abbrev pub meaning_of : MemStation → Meaning
-meaning_of m = meaning (held m) m.disk_faults m.show_faults
+meaning_of m = meaning (held m) (faults_of m)
 
 -- The fuse is spent: the number of the next call of the disk is past it. The greatest fuse is never spent.
 abbrev pub is_spent : MemStation → Bool
@@ -43,6 +46,7 @@ pub record IsNew (m : MemStation) (bytes : List ℕ) (room : ℕ) : Type 0 where
   pub held_is : held m ≡ first_seen bytes room
   pub disk_faults : m.disk_faults ≡ 0
   pub show_faults : m.show_faults ≡ 0
+  pub behind : m.behind ≡ 0
   pub fails : m.fails.items ≡ []
   pub show_fails : m.show_fails.items ≡ []
   pub fuse : m.fuse ≡ 2 ^ 64 - 1

@@ -24,9 +24,15 @@ now_of s = replay (fresh s.start) s.changes
 abbrev pub clock_of : Seen → ℕ
 clock_of s = clock_at s.calls s.shows
 
+-- how many calls of the disk and how many that show failed, and how many of both when the last call began
+pub record Faults : Type 0 where
+  pub disk : ℕ
+  pub show : ℕ
+  pub behind : ℕ
+
 -- What it means: it is honest, and tells images and moments where a record is kept.
-abbrev pub meaning : Seen → ℕ → ℕ → Meaning
-meaning s disk_faults show_faults = record {
+abbrev pub meaning : Seen → Faults → Meaning
+meaning s faults = record {
   is_honest = true;
   len = length s.bytes;
   bytes = s.bytes;
@@ -35,8 +41,9 @@ meaning s disk_faults show_faults = record {
   is_recorded = s.is_kept;
   moments = λ t image bytes. IsTrue s.is_kept × Moment t (fresh s.start) s.changes image bytes;
   shown = Some s.shown;
-  disk_faults = disk_faults;
-  show_faults = show_faults;
+  disk_faults = faults.disk;
+  show_faults = faults.show;
+  behind = faults.behind;
 }
 
 -- a write within so many bytes

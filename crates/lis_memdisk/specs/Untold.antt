@@ -2,9 +2,9 @@
 use Rattle.std.specs.Prelude.{ℕ, false, [], None}
 use Rattle.lis_ports.specs.Meaning.{Meaning}
 
--- its length and its two counts of faults, and no more
-abbrev pub untold : ℕ → ℕ → ℕ → Meaning
-untold len disk_faults show_faults = record {
+-- its length, its two counts of faults and how many calls had failed when the last one began, and no more
+abbrev pub untold : ℕ → ℕ → ℕ → ℕ → Meaning
+untold len disk_faults show_faults behind = record {
   is_honest = false;
   len = len;
   bytes = [];
@@ -15,4 +15,5 @@ untold len disk_faults show_faults = record {
   shown = None;
   disk_faults = disk_faults;
   show_faults = show_faults;
+  behind = behind;
 }

@@ -7,6 +7,7 @@ ghost use Rattle.lis_ports.specs.Calls.{HasCause, IsDiskCall, Elapses, IsShowCal
 ghost use Rattle.lis_memdisk.specs.Seen.{next_of};
 ghost use Rattle.lis_memdisk.specs.Untold.{untold};
 
+use crate::counting::failed;
 use lis_ports::{Disk, Failed, Station};
 use std::fs::File;
 use std::io::{Error, ErrorKind, Write};
@@ -22,12 +23,14 @@ pub struct FileStation<W: Write> {
     pub out: W,
     pub disk_faults: u64,
     pub show_faults: u64,
+    /// How many calls had failed, of both, when the last one began.
+    pub behind: u128,
     /// Why the disk failed last. Without a file it stays as it is.
     pub cause: Option<Error>,
 }
 
 impl<W: Write> Disk for FileStation<W> {
-    ghost meaning = { λ s. untold s.len s.disk_faults s.show_faults };
+    ghost meaning = { λ s. untold s.len s.disk_faults s.show_faults s.behind };
 
     ghost counts_now = { λ s t image bytes recorded le now. absurd (false≢true recorded) };
 
@@ -47,10 +50,11 @@ impl<W: Write> Disk for FileStation<W> {
 
     fn read_at(&mut self, at: u64, buf: &mut [u8]) -> Result<(), Failed>
         requires { at + length buf.old ≤ self.old.len }
-        ensures call { IsDiskCall (untold self.old.len self.old.disk_faults self.old.show_faults) (untold self.new.len self.new.disk_faults self.new.show_faults) result }
+        ensures call { IsDiskCall (untold self.old.len self.old.disk_faults self.old.show_faults self.old.behind) (untold self.new.len self.new.disk_faults self.new.show_faults self.new.behind) result }
         ensures one { OnErr result (self.new.disk_faults ≡ next_of self.old.disk_faults) }
         ensures out { self.new.out ≡ self.old.out }
     {
+        self.behind = failed(self.disk_faults, self.show_faults);
         let cause = match &self.file {
             None => self.cause,
             Some(file) => match file.read_at(buf, at) {
@@ -66,10 +70,11 @@ impl<W: Write> Disk for FileStation<W> {
 
     fn write_at(&mut self, at: u64, bytes: &[u8]) -> Result<(), Failed>
         requires { at + length bytes.now ≤ self.old.len }
-        ensures call { IsDiskCall (untold self.old.len self.old.disk_faults self.old.show_faults) (untold self.new.len self.new.disk_faults self.new.show_faults) result }
+        ensures call { IsDiskCall (untold self.old.len self.old.disk_faults self.old.show_faults self.old.behind) (untold self.new.len self.new.disk_faults self.new.show_faults self.new.behind) result }
         ensures one { OnErr result (self.new.disk_faults ≡ next_of self.old.disk_faults) }
         ensures out { self.new.out ≡ self.old.out }
     {
+        self.behind = failed(self.disk_faults, self.show_faults);
         let cause = match &self.file {
             None => self.cause,
             Some(file) => match file.write_at(bytes, at) {
@@ -84,10 +89,11 @@ impl<W: Write> Disk for FileStation<W> {
     }
 
     fn sync(&mut self) -> Result<(), Failed>
-        ensures call { IsDiskCall (untold self.old.len self.old.disk_faults self.old.show_faults) (untold self.new.len self.new.disk_faults self.new.show_faults) result }
+        ensures call { IsDiskCall (untold self.old.len self.old.disk_faults self.old.show_faults self.old.behind) (untold self.new.len self.new.disk_faults self.new.show_faults self.new.behind) result }
         ensures one { OnErr result (self.new.disk_faults ≡ next_of self.old.disk_faults) }
         ensures out { self.new.out ≡ self.old.out }
     {
+        self.behind = failed(self.disk_faults, self.show_faults);
         let cause = match &self.file {
             None => self.cause,
             Some(file) => match file.sync_data() {
@@ -105,13 +111,15 @@ impl<W: Write> Station for FileStation<W> {
     fn show(&mut self, piece: &[u8]) -> Result<usize, Failed>
         requires { 0 < length piece.now }
         ensures count { IfOk result (λ n. (0 < n) × (n ≤ length piece.now)) }
-        ensures call { IsShowCall (untold self.old.len self.old.disk_faults self.old.show_faults) (untold self.new.len self.new.disk_faults self.new.show_faults) }
+        ensures call { IsShowCall (untold self.old.len self.old.disk_faults self.old.show_faults self.old.behind) (untold self.new.len self.new.disk_faults self.new.show_faults self.new.behind) }
         ensures cause { HasCause self.old.show_faults self.new.show_faults result }
+        ensures began { self.new.behind ≡ self.old.disk_faults + self.old.show_faults }
         ensures one { OnErr result (self.new.show_faults ≡ next_of self.old.show_faults) }
 
         // A writer that tells its bytes has just those that were shown.
         ensures written { WriteAppends (W.contents self.old.out) (W.contents self.new.out) result piece.now }
     {
+        self.behind = failed(self.disk_faults, self.show_faults);
         match self.out.write(piece) {
             Ok(count) if count > 0 => Ok(count),
             _ => {

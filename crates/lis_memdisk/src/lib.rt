@@ -2,6 +2,7 @@
 #![tactic(auto)]
 
 mod bytes;
+mod counting;
 mod event;
 mod file_station;
 mod history;

@@ -4,10 +4,12 @@ ghost use Rattle.std.specs.Prelude.{◌≡◌, ◌+◌, ◌*◌, ◌^◌, ◌<�
 ghost use Rattle.std.specs.List.{list_any};
 ghost use Rattle.std.specs.Io.KnownBytes.{append_known};
 ghost use Rattle.lis_ports.specs.Bytes.{part};
+ghost use Rattle.lis_ports.specs.Meaning.{failed};
 ghost use Rattle.lis_ports.specs.Calls.{HasCause, IsDiskCall, Elapses, IsUnchanged, IsTorn, IsWritten, IsSynced, IsUnsynced, IsShowCall};
 ghost use Rattle.lis_memdisk.specs.Seen.{IsNext, IsNextShow};
 ghost use Rattle.lis_memdisk.specs.Changes.{crashed};
 
+use crate::counting::failed;
 use crate::history::History;
 use lis_ports::{Disk, Failed, Station};
 use std::alloc::{AllocError, Global};
@@ -27,6 +29,7 @@ pub struct MemStation {
     history: History,
     disk_faults: u64,
     show_faults: u64,
+    behind: u128,
     pub ghost takes_some: { 0 < step },
 }
 
@@ -53,6 +56,7 @@ impl MemStation {
             history: History::new(alloc, bytes, room)?,
             disk_faults: 0,
             show_faults: 0,
+            behind: 0,
         })
     }
 
@@ -114,23 +118,23 @@ impl MemStation {
 }
 
 impl Disk for MemStation {
-    ghost use Rattle.lis_memdisk.specs.MemStation.{held, meaning_of, is_told, lacks_room, CountsOne, KeepsOrders};
+    ghost use Rattle.lis_memdisk.specs.MemStation.{held, faults_of, meaning_of, is_told, lacks_room, CountsOne, KeepsOrders};
     ghost use Rattle.lis_memdisk.specs.Laws.{now_counts, now_only, earlier, image_reads, image_length};
     ghost use Rattle.std.specs.Prelude.{refl};
 
     ghost meaning = { meaning_of };
 
-    ghost counts_now = { λ m t image bytes recorded le now. now_counts (held m) m.disk_faults m.show_faults m.history.sound t image bytes recorded now };
+    ghost counts_now = { λ m t image bytes recorded le now. now_counts (held m) (faults_of m) m.history.sound t image bytes recorded now };
 
-    ghost only_now = { λ m image bytes moment. now_only (held m) m.disk_faults m.show_faults m.history.sound image bytes moment };
+    ghost only_now = { λ m image bytes moment. now_only (held m) (faults_of m) m.history.sound image bytes moment };
 
-    ghost since_earlier = { λ m t u image bytes le moment. earlier (held m) m.disk_faults m.show_faults t u image bytes le moment };
+    ghost since_earlier = { λ m t u image bytes le moment. earlier (held m) (faults_of m) t u image bytes le moment };
 
-    ghost reads_image = { λ m recorded. image_reads (held m) m.disk_faults m.show_faults m.history.sound recorded };
+    ghost reads_image = { λ m recorded. image_reads (held m) (faults_of m) m.history.sound recorded };
 
     ghost reads_len = { λ m honest. refl };
 
-    ghost image_len = { λ m image honest is. image_length (held m) m.disk_faults m.show_faults m.history.sound image is };
+    ghost image_len = { λ m image honest is. image_length (held m) (faults_of m) m.history.sound image is };
 
     fn len(&self) -> u64 {
         self.history.len()
@@ -148,6 +152,7 @@ impl Disk for MemStation {
         ensures failed { OnErr result (CountsOne self.old self.new self.old.disk_faults self.new.disk_faults) }
         ensures orders { KeepsOrders self.old self.new }
     {
+        self.behind = failed(self.disk_faults, self.show_faults);
         if self.is_told() {
             self.history.pass();
             self.disk_faults = self.disk_faults.saturating_add(1);
@@ -169,6 +174,7 @@ impl Disk for MemStation {
         ensures failed { OnErr result (CountsOne self.old self.new self.old.disk_faults self.new.disk_faults) }
         ensures orders { KeepsOrders self.old self.new }
     {
+        self.behind = failed(self.disk_faults, self.show_faults);
         if self.is_told() {
             self.history.pass();
             self.disk_faults = self.disk_faults.saturating_add(1);
@@ -192,6 +198,7 @@ impl Disk for MemStation {
         ensures failed { OnErr result (CountsOne self.old self.new self.old.disk_faults self.new.disk_faults) }
         ensures orders { KeepsOrders self.old self.new }
     {
+        self.behind = failed(self.disk_faults, self.show_faults);
         if self.is_told() {
             self.history.pass();
             self.disk_faults = self.disk_faults.saturating_add(1);
@@ -216,6 +223,7 @@ impl Station for MemStation {
         ensures call { IsShowCall (meaning_of self.old) (meaning_of self.new) }
         ensures time { Elapses (meaning_of self.old) (meaning_of self.new) }
         ensures cause { HasCause (meaning_of self.old).show_faults (meaning_of self.new).show_faults result }
+        ensures began { (meaning_of self.new).behind ≡ failed (meaning_of self.old) }
         ensures shown { MatchResult result
             (λ n. (meaning_of self.new).shown ≡ append_known (meaning_of self.old).shown (take n piece.now))
             (λ _. (meaning_of self.new).shown ≡ (meaning_of self.old).shown) }
@@ -225,6 +233,7 @@ impl Station for MemStation {
         ensures failed { OnErr result (CountsOne self.old self.new self.old.show_faults self.new.show_faults) }
         ensures orders { KeepsOrders self.old self.new }
     {
+        self.behind = failed(self.disk_faults, self.show_faults);
         if self.is_told_to_show() {
             self.history.pass_show();
             self.show_faults = self.show_faults.saturating_add(1);

@@ -85,6 +85,7 @@ fn a_file_reads_back_what_was_written(rt: HostRuntime) -> Result<(), Fail> {
         out: Vec::new(alloc),
         disk_faults: 0,
         show_faults: 0,
+        behind: 0,
         cause: None,
     };
     assert_eq!(rt; station.write_at(2, b"XY"), Ok(()));
@@ -114,6 +115,7 @@ fn a_file_that_cannot_be_synced_fails(rt: HostRuntime) -> Result<(), Fail> {
         out: Vec::new(alloc),
         disk_faults: 0,
         show_faults: 0,
+        behind: 0,
         cause: None,
     };
     assert_eq!(rt; station.write_at(0, b"ab"), Ok(()));

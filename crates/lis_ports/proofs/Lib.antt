@@ -1,4 +1,5 @@
 pub mod Moments
 pub mod Always
 pub mod Parts
+pub mod Ending
 mod Taking

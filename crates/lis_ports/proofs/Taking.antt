@@ -3,7 +3,7 @@ use Rattle.std.proofs.Common.{◌≡◌, ℕ, ◌+◌, ◌-◌, ◌<◌, ◌≤�
 use Rattle.std.proofs.lemmas.List.{take_at, drop-drop, take-append-drop, length-take-le, drop_all}
 use Rattle.lis_ports.specs.Sources.{IsTake}
 
-pub taken : {E : Type 0} (bytes left buf front : List ℕ) (place step n faults : ℕ) → left ≡ drop place bytes → n ≡ min step (min (length buf) (length left)) → 0 < step → front ≡ take n left → IsTake {E = E} (Some (drop place bytes)) (Some (drop (place + n) bytes)) faults faults (front ++ drop n buf) (Ok n)
+pub taken : {E : Type 0} (bytes left buf front : List ℕ) (place step n faults : ℕ) → left ≡ drop place bytes → n ≡ min step (min (length buf) (length left)) → 0 < step → front ≡ take n left → IsTake {E = E} (Some (drop place bytes)) (Some (drop (place + n) bytes)) faults faults faults (front ++ drop n buf) (Ok n)
 taken bytes left buf front place step n faults is_left is_n some is_front =
     let few : n ≤ length left = omega arith in
     let len : length front ≡ n = ap length is_front ∙ length-take-le n left few in
@@ -20,4 +20,5 @@ taken bytes left buf front place step n faults is_left is_n some is_front =
         λ none has_room. drop_all (place + n) bytes (omega arith),
       );
       cause = record { later = omega arith; stays = refl; rose = tt };
+      began = refl;
     }

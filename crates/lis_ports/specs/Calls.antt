@@ -1,6 +1,6 @@
 -- What one call of a disk or a station does.
-use Rattle.std.specs.Prelude.{◌≡◌, ◌⊎◌, ℕ, ◌+◌, ◌-◌, ◌^◌, ◌≤◌, min, List, length, IsTrue, Result, OnOk, OnErr}
-use Rattle.lis_ports.specs.Meaning.{Meaning, Now}
+use Rattle.std.specs.Prelude.{◌≡◌, ◌⊎◌, ℕ, ◌+◌, ◌-◌, ◌^◌, ◌≤◌, min, max, List, length, IsTrue, Result, OnOk, OnErr}
+use Rattle.lis_ports.specs.Meaning.{Meaning, Now, failed}
 use Rattle.lis_ports.specs.Bytes.{put, Torn}
 use Rattle.lis_ports.specs.Runs.{Adds, IsDiskRun}
 
@@ -14,6 +14,10 @@ pub record HasCause {T E : Type 0} (before now : ℕ) (result : Result T E) : Ty
   pub stays : OnOk result (now ≡ before)
   pub rose : OnErr result (Rose before now)
 
+-- The first fault ends: of a run no call came behind a fault of it. When the last call began, no more calls had failed than at first.
+abbrev pub FaultEnds : ℕ → ℕ → ℕ → Type 0
+FaultEnds failed_at_first before now = now ≤ max before failed_at_first
+
 -- Time goes on: a new moment is one of now.
 abbrev pub Elapses : Meaning → Meaning → Type 0
 Elapses old new = Adds old new (Now new)
@@ -23,6 +27,12 @@ pub record IsDiskCall {T E : Type 0} (old new : Meaning) (result : Result T E) :
   pub run : IsDiskRun old new
   pub time : Elapses old new
   pub cause : HasCause old.disk_faults new.disk_faults result
+  pub began : new.behind ≡ failed old
+
+-- of a run of calls of the disk, that its first fault ends
+pub record DiskFaultEnds (old new : Meaning) : Type 0 where
+  pub shows : new.show_faults ≡ old.show_faults
+  pub ends : FaultEnds (failed old) old.behind new.behind
 
 -- The images of new are those with P. That each of these is one is told by a disk that tells its moments.
 pub record Images (new : Meaning) (P : List ℕ → Type 0) : Type 0 where

@@ -1,5 +1,5 @@
 -- What a disk or a station means: what it reads as, what a crash may leave, and what was shown.
-use Rattle.std.specs.Prelude.{◌≡◌, ℕ, Bool, List, Option, Some}
+use Rattle.std.specs.Prelude.{◌≡◌, ℕ, ◌+◌, Bool, List, Option, Some}
 
 pub record Meaning : Type 1 where
   -- It keeps the rules on content, and nobody else writes it. What is said of bytes and images below is said where this holds.
@@ -21,6 +21,12 @@ pub record Meaning : Type 1 where
   -- how often a call of the disk failed, and how often a call that shows
   pub disk_faults : ℕ
   pub show_faults : ℕ
+  -- how many calls had failed when the last one began
+  pub behind : ℕ
+
+-- how many calls failed, of the disk and of those that show
+abbrev pub failed : Meaning → ℕ
+failed m = m.disk_faults + m.show_faults
 
 -- the moments of now
 abbrev pub Now : Meaning → List ℕ → List ℕ → Type 0

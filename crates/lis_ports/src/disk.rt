@@ -2,7 +2,7 @@
 
 ghost use Rattle.std.specs.Prelude.{◌≡◌, ◌+◌, ◌<◌, ◌≤◌, ℕ, List, length, take, IsTrue, IfOk, OnOk, OnErr, MatchResult};
 ghost use Rattle.std.specs.Io.KnownBytes.{append_known};
-ghost use Rattle.lis_ports.specs.Meaning.{Meaning, Now};
+ghost use Rattle.lis_ports.specs.Meaning.{Meaning, Now, failed};
 ghost use Rattle.lis_ports.specs.Bytes.{part};
 ghost use Rattle.lis_ports.specs.Calls.{HasCause, IsDiskCall, Elapses, IsUnchanged, IsTorn, IsWritten, IsSynced, IsUnsynced, IsShowCall};
 
@@ -71,6 +71,7 @@ pub trait Station: Disk {
         ensures call { IsShowCall (Self.meaning self.old) (Self.meaning self.new) }
         ensures time { Elapses (Self.meaning self.old) (Self.meaning self.new) }
         ensures cause { HasCause (Self.meaning self.old).show_faults (Self.meaning self.new).show_faults result }
+        ensures began { (Self.meaning self.new).behind ≡ failed (Self.meaning self.old) }
         ensures shown { MatchResult result
             (λ n. (Self.meaning self.new).shown ≡ append_known (Self.meaning self.old).shown (take n piece.now))
             (λ _. (Self.meaning self.new).shown ≡ (Self.meaning self.old).shown) };

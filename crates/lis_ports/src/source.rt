@@ -14,9 +14,12 @@ pub trait Source {
     /// How many calls failed. It stands still at its last value, 2^64 - 1.
     ghost faults: { Self → ℕ };
 
+    /// How many calls had failed when the last one began.
+    ghost behind: { Self → ℕ };
+
     /// Takes the next bytes, at most as many as the buffer has, and answers how many.
     fn take(&mut self, buf: &mut [u8]) -> Result<usize, Failed>
-        ensures { IsTake (left self.old) (left self.new) (faults self.old) (faults self.new) buf.new result };
+        ensures { IsTake (left self.old) (left self.new) (faults self.old) (faults self.new) (behind self.new) buf.new result };
 }
 
 /// A source over bytes in memory, for tests: it gives at most `step` bytes a call, and fails the calls at whose
@@ -28,6 +31,8 @@ pub struct MemSource {
     pub step: usize,
     pub fail_at: Option<usize>,
     pub faults: u64,
+    /// How many calls had failed when the last one began.
+    pub behind: u64,
     pub ghost takes_some: { 0 < step },
     pub ghost inside: { place ≤ length bytes.items },
 }
@@ -37,12 +42,15 @@ impl Source for MemSource {
 
     ghost faults = { λ s. s.faults };
 
+    ghost behind = { λ s. s.behind };
+
     fn take(&mut self, buf: &mut [u8]) -> Result<usize, Failed>
-        ensures take { IsTake (Some (drop self.old.place self.old.bytes.items)) (Some (drop self.new.place self.new.bytes.items)) self.old.faults self.new.faults buf.new result }
+        ensures take { IsTake (Some (drop self.old.place self.old.bytes.items)) (Some (drop self.new.place self.new.bytes.items)) self.old.faults self.new.faults self.new.behind buf.new result }
         ensures fails { IsErr result ↔ (self.old.fail_at ≡ Some self.old.place) }
         ensures gives { IfOk result (λ n. n ≡ min self.old.step (min (length buf.old) (length self.old.bytes.items - self.old.place))) }
         ensures stays { (self.new.bytes.items ≡ self.old.bytes.items) × (self.new.step ≡ self.old.step) × (self.new.fail_at ≡ self.old.fail_at) }
     {
+        self.behind = self.faults;
         if self.fail_at == Some(self.place) {
             self.faults = self.faults.saturating_add(1);
             return Err(Failed);
@@ -60,6 +68,8 @@ impl Source for MemSource {
 pub struct StdSource<R: Read> {
     pub reader: R,
     pub faults: u64,
+    /// How many calls had failed when the last one began.
+    pub behind: u64,
 }
 
 impl<R: Read> Source for StdSource<R> {
@@ -67,7 +77,10 @@ impl<R: Read> Source for StdSource<R> {
 
     ghost faults = { λ s. s.faults };
 
+    ghost behind = { λ s. s.behind };
+
     fn take(&mut self, buf: &mut [u8]) -> Result<usize, Failed> {
+        self.behind = self.faults;
         match self.reader.read(buf) {
             Ok(count) => Ok(count),
             Err(_) => {
@@ -119,6 +132,7 @@ mod tests {
                 step,
                 fail_at,
                 faults: 0,
+                behind: 0,
             };
             let all = pieces(alloc, &mut source)?;
             assert_eq!(rt; all.as_slice(), wanted.as_bytes());
@@ -133,6 +147,7 @@ mod tests {
         let mut source = StdSource {
             reader: rt.stdin(),
             faults: 0,
+            behind: 0,
         };
         let mut buf = [0; 0];
         assert_eq!(rt; source.take(&mut buf), Ok(0));
