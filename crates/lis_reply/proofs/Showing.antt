@@ -5,7 +5,7 @@ use Rattle.std.proofs.Math.Seq.{take-add, take-append-add}
 use Rattle.std.proofs.lemmas.List.{take-append-drop, length-drop, take_all, take-append-le}
 use Rattle.lis_ports.specs.Meaning.{Meaning, Now, failed}
 use Rattle.lis_ports.specs.Runs.{Adds}
-use Rattle.lis_ports.specs.Calls.{Rose, HasCause, FaultEnds, Elapses, Images, IsUnchanged, IsShowCall}
+use Rattle.lis_ports.specs.Calls.{Rose, HasCause, StationFaultEnds, Elapses, Images, IsUnchanged, IsShowCall}
 use Rattle.lis_ports.specs.Shown.{AppendsFront, Shows}
 use Rattle.lis_ports.specs.Since.{Begins, Since, IsShowRun}
 use Rattle.lis_ports.proofs.Moments.{adds_then, adds_weaken}
@@ -56,7 +56,7 @@ pub record ShownSoFar (old now : Meaning) (bytes : List ℕ) (place : ℕ) : Typ
   pub within : place ≤ length bytes
   pub call : IsShowCall old now
   pub faults : now.show_faults ≡ old.show_faults
-  pub ends : FaultEnds (failed old) old.behind now.behind
+  pub ends : StationFaultEnds old now
   pub shown : now.shown ≡ append_known old.shown (take place bytes)
   pub moments : IsTrue old.is_honest → Adds old now (Since old.shown (λ image front. old.images image × Begins front bytes))
 

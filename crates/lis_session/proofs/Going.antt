@@ -3,7 +3,7 @@ use Rattle.std.proofs.Common.{◌≡◌, ◌≢◌, ℕ, List, [], ◌∷◌, �
 use Rattle.std.specs.Io.KnownBytes.{append_known}
 use Rattle.std.specs.Option.{IfSome}
 use Rattle.lis_ports.specs.Meaning.{Meaning}
-use Rattle.lis_ports.specs.Calls.{Rose}
+use Rattle.lis_ports.specs.Calls.{Rose, StationFaultEnds}
 use Rattle.lis_ports.proofs.Moments.{adds_none}
 use Rattle.lis_ports.proofs.Always.{always_weaken}
 use Rattle.lis_reply.proofs.Showing.{append_known-append, append_known-nil}
@@ -86,6 +86,7 @@ has_done_none start m unbroken = record {
   same = same_none m;
   disk_faults = refl;
   show_faults = refl;
+  first_fault = omega arith;
   done = λ state fitting. record {
     moments = adds_none m _;
     past = λ n le. refl;
@@ -106,7 +107,10 @@ unbroken_by : (old new : Stored) (fault : End) → StoreLeft old new (Err fault)
 unbroken_by old new DiskFault left other = absurd (other refl)
 unbroken_by old new OutputFault left other = left.unbroken (λ e. cc e)
 
-module _ {start now next : Situated} {entry mid m : Meaning} {first : List Item} (item : Item) (done : HasDone start entry first now mid) (same : IsSameStation mid m) where
+module _ {start now next : Situated} {entry mid m : Meaning} {first : List Item} (item : Item) (done : HasDone start entry first now mid) (same : IsSameStation mid m) (ends : StationFaultEnds mid m) where
+  ends_since : StationFaultEnds entry m
+  ends_since = omega (arith, done.first_fault, done.disk_faults, done.show_faults, ends)
+
   has_done_more : (u : Unit {0}) → CarriesOut (StoreFits now.store mid) now.place mid m (Ok u) (StoreFits next.store m) next.place item
       → HasEndCause mid m (Ok u) → StoreLeft now.store next.store (Ok u) → HasDone start entry (first ++ item ∷ []) next m
   has_done_more u carries cause left = record {
@@ -116,6 +120,7 @@ module _ {start now next : Situated} {entry mid m : Meaning} {first : List Item}
     same = same_then done.same same;
     disk_faults = cause.0 ∙ done.disk_faults;
     show_faults = cause.1 ∙ done.show_faults;
+    first_fault = ends_since;
     done = λ state fitting.
         let so_far = done.done state fitting in
         done_more (situation_at start state) first item entry mid m (StoreFits now.store mid) (StoreFits next.store m) now.place next.place so_far u
@@ -129,6 +134,7 @@ module _ {start now next : Situated} {entry mid m : Meaning} {first : List Item}
     image = left.image ∙ done.image;
     same = same_then done.same same;
     cause = cause_since entry mid m fault done.disk_faults done.show_faults cause;
+    first_fault = ends_since;
     unbroken = unbroken_by now.store next.store fault left;
     serves = λ state fitting.
         let so_far = done.done state fitting in
@@ -138,13 +144,13 @@ module _ {start now next : Situated} {entry mid m : Meaning} {first : List Item}
 
 -- an item that was asked for, however it ended
 pub has_carried : {start now : Situated} {entry mid m : Meaning} {first : List Item} (next : Situated) (asked : Option Item) (result : Result (Unit {0}) End)
-    → HasDone start entry first now mid → IsSameStation mid m
+    → HasDone start entry first now mid → IsSameStation mid m → StationFaultEnds mid m
     → IfSome asked (CarriesOut (StoreFits now.store mid) now.place mid m result (StoreFits next.store m) next.place)
     → HasEndCause mid m result → StoreLeft now.store next.store result
     → IfSome asked (λ item. MatchResult result (λ _. HasDone start entry (first ++ item ∷ []) next m) (λ fault. HasStopped start entry first item fault next m))
-has_carried next None result done same carries cause left = tt
-has_carried next (Some item) (Ok u) done same carries cause left = has_done_more item done same u carries cause left
-has_carried next (Some item) (Err fault) done same carries cause left = has_stopped item done same fault carries cause left
+has_carried next None result done same ends carries cause left = tt
+has_carried next (Some item) (Ok u) done same ends carries cause left = has_done_more item done same ends u carries cause left
+has_carried next (Some item) (Err fault) done same ends carries cause left = has_stopped item done same ends fault carries cause left
 
 -- it can carry out the next one
 pub is_ready_after : {now : Situated} {mid m : Meaning} (next : Situated) (result : Result (Unit {0}) End) → IsReady now mid → IsSameStation mid m → StoreLeft now.store next.store result

@@ -4,6 +4,7 @@ use Rattle.std.specs.Io.KnownBytes.{append_known}
 use Rattle.lis_ports.specs.Meaning.{Meaning}
 use Rattle.lis_ports.specs.Runs.{Adds}
 use Rattle.lis_ports.specs.Since.{Since}
+use Rattle.lis_ports.specs.Calls.{StationFaultEnds}
 use Rattle.lis_journal.specs.Images.{KeepsPast}
 use Rattle.lis_grammar.specs.Formula.{Formula}
 use Rattle.lis_model.specs.Image.{image_blocks}
@@ -41,6 +42,7 @@ pub record HasDone (start : Situated) (entry : Meaning) (first : List Item) (now
   pub same : IsSameStation entry m
   pub disk_faults : m.disk_faults ≡ entry.disk_faults
   pub show_faults : m.show_faults ≡ entry.show_faults
+  pub first_fault : StationFaultEnds entry m
   pub done : (state : State) → FitsAt (StoreFits start.store entry) entry state
       → DoneSoFar (situation_at start state) first entry m (StoreFits now.store m) now.place
 
@@ -55,6 +57,7 @@ pub record HasStopped (start : Situated) (entry : Meaning) (first : List Item) (
   pub image : now.store.journal.blocks ≡ start.store.journal.blocks
   pub same : IsSameStation entry m
   pub cause : HasEndCause entry m (Err fault)
+  pub first_fault : StationFaultEnds entry m
   pub unbroken : fault ≢ DiskFault → now.store.is_broken ≡ false
   pub serves : (state : State) → FitsAt (StoreFits start.store entry) entry state
       → Serves (situation_at start state) (first ++ item ∷ []) entry m (StoppedAt (situation_at start state) (first ++ item ∷ []) entry m fault)

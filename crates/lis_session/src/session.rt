@@ -2,7 +2,7 @@
 
 ghost use Rattle.std.specs.Prelude.{◌≡◌, ◌+◌, ◌*◌, ◌≤◌, [], false, IfOk, IfSome, IsSome};
 ghost use Rattle.lis_ports.specs.Runs.{IsDiskRun};
-ghost use Rattle.lis_ports.specs.Calls.{HasCause, DiskFaultEnds};
+ghost use Rattle.lis_ports.specs.Calls.{HasCause, DiskFaultEnds, StationFaultEnds};
 ghost use Rattle.lis_eval.specs.Room.{HasRoom};
 ghost use Rattle.lis_line.specs.Reading.{asked_by};
 ghost use Rattle.lis_model.specs.Step.{cd, pwd, done};
@@ -172,6 +172,7 @@ impl Session {
             (CarriesOut (StoreFits self.old.store (T.meaning station.old)) self.old.place (T.meaning station.old) (T.meaning station.new) result
             (StoreFits self.new.store (T.meaning station.new)) self.new.place) }
         ensures cause { HasEndCause (T.meaning station.old) (T.meaning station.new) result }
+        ensures first_fault { StationFaultEnds (T.meaning station.old) (T.meaning station.new) }
         ensures left { StoreLeft self.old.store self.new.store result }
         ensures same { IsSameStation (T.meaning station.old) (T.meaning station.new) }
         ensures sound { IsSound self.new.store }
