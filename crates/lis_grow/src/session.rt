@@ -2,7 +2,7 @@
 
 ghost use Rattle.std.specs.Prelude.{◌≡◌, ◌≢◌, ◌*◌, ◌≤◌, ◌<◌, ◌^◌, false, is_some, Err, IfOk};
 ghost use Rattle.lis_ports.specs.Runs.{IsDiskRun};
-ghost use Rattle.lis_ports.specs.Calls.{HasCause, DiskFaultEnds};
+ghost use Rattle.lis_ports.specs.Calls.{HasCause, DiskFaultEnds, StationFaultEnds};
 ghost use Rattle.lis_line.specs.Reading.{asked_by};
 ghost use Rattle.lis_model.specs.State.{State};
 ghost use Rattle.lis_model.specs.Step.{Payload as Told};
@@ -84,6 +84,7 @@ pub fn grow_session<T: Station>(
         → Grows (record { state = state; place = session.old.place }) (grow_items n) (T.meaning station.old) (T.meaning station.new)
         (GrowEnded (record { state = state; place = session.old.place }) (grow_items n) (T.meaning station.old).shown (T.meaning station.new) result) }
     ensures cause { HasEndCause (T.meaning station.old) (T.meaning station.new) result }
+    ensures first_fault { StationFaultEnds (T.meaning station.old) (T.meaning station.new) }
     ensures same { IsSameStation (T.meaning station.old) (T.meaning station.new) }
     ensures left { StoreLeft session.old.store session.new.store result }
 {

@@ -1,6 +1,7 @@
 use Rattle.std.proofs.Common.{ap, refl, ◌∙◌, arith}
 use Rattle.std.proofs.lemmas.Result.{err_from_is_err_and}
 use Rattle.lis_ports.proofs.Moments.{run_none, run_then}
+use Rattle.lis_ports.proofs.Ending.{ends_none, ends_then}
 use Rattle.lis_line.specs.Reading.{Reading}
 use Rattle.lis_model.specs.declared.limits.Limits.{Limits}
 use Rattle.lis_kept.proofs.InArea.{few_files, few_properties}
@@ -20,6 +21,7 @@ loop-item-init g c = record {
   unbroken = c.requires.unbroken;
   run = run_none (g.D.Disk.meaning c.args.disk.now);
   disk_faults = refl;
+  first_fault = ends_none (g.D.Disk.meaning c.args.disk.now);
   so_far = rw c.new-source.ensures (so_far_none c.new-reader.ensures c.none-sum.ensures);
   replies = omega (arith, ap (λ (r : Reading). r.stock.rest) c.new-reader.ensures, ap (λ (s : Sum). s.replies) c.none-sum.ensures);
   refused = omega (arith, ap (λ (s : Sum). s.refused) c.none-sum.ensures);
@@ -55,6 +57,7 @@ loop-item-preserved g c =
       unbroken = c.in_ok-tally.ensures.unbroken;
       run = run_then kept.run c.in_ok-tally.ensures.run;
       disk_faults = c.in_ok-tally.ensures.cause.stays ∙ kept.disk_faults;
+      first_fault = ends_then kept.first_fault kept.disk_faults c.in_ok-tally.ensures.first_fault;
       so_far = so_far_more c.in_ok-tally.tally read c.in_ok-tally.ensures.tallies (record {
         replies = c.add.ensures.replies;
         refused = c.add.ensures.refused;

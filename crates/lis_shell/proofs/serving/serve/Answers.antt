@@ -3,7 +3,7 @@ use Rattle.lis_session.specs.Served.{situation_at}
 use Rattle.lis_session.proofs.Fitting.{store_fits_at}
 use Rattle.lis_session.proofs.Going.{has_done_none}
 use Rattle.lis_session.proofs.Whole.{full_headline}
-use Rattle.lis_shell.proofs.Served.{only_served, served_same, served_limits, served_image, served_unbroken, served_cause, served_input, serves_so, goes_on_so}
+use Rattle.lis_shell.proofs.Served.{only_served, served_same, served_first_fault, served_limits, served_image, served_unbroken, served_cause, served_input, serves_so, goes_on_so}
 use Rattle.lis_shell.proofs.serving.serve.Goals as goal
 
 pub carry_all-requires-clause-ready : goal.carry_all-requires-clause-ready
@@ -67,3 +67,8 @@ returns-clause-headline g c = λ state bytes fits told.
     full_headline (situation_at c.args.session.now state) (script bytes c.args.limit) fitting.stands (g.met.T.Disk.only_now c.args.station.now)
     (serves_so c.args.limit (g.S.Source.left c.args.input.now) (g.S.Source.left c.carry_all.new.input) c.args.session.now c.carry_all.new.carrier
     (g.T.Disk.meaning c.args.station.now) (g.T.Disk.meaning c.carry_all.new.station) bytes told state fitting c.carry_all.result c.carry_all.ensures.ended).moments
+
+pub returns-clause-first_fault : goal.returns-clause-first_fault
+returns-clause-first_fault g c =
+    served_first_fault c.args.limit (g.S.Source.left c.args.input.now) (g.S.Source.left c.carry_all.new.input) c.args.session.now c.carry_all.new.carrier
+    (g.T.Disk.meaning c.args.station.now) (g.T.Disk.meaning c.carry_all.new.station) c.carry_all.result c.carry_all.ensures.ended
