@@ -3,6 +3,7 @@ use Rattle.std.proofs.Common.{List, [], ◌∷◌, ◌++◌, Option, Some, None,
 use Rattle.std.specs.Io.KnownBytes.{append_known}
 use Rattle.lis_ports.specs.Meaning.{Meaning}
 use Rattle.lis_ports.specs.Calls.{IsShowCall, StationFaultEnds}
+use Rattle.lis_ports.proofs.Ending.{station_ends_then}
 use Rattle.lis_reply.proofs.Showing.{append_known-append, append_known-nil, call_none, call_then}
 use Rattle.lis_model.specs.Step.{Situation, Item, step, replies, situation_after}
 use Rattle.lis_model.proofs.Runs.{situation_after-append, replies-append}
@@ -28,10 +29,6 @@ carried_here start entry first now next m n item result tried carried =
     subst (λ known. Carries (step (situation_after start first) item) (situation_after start first) next known n.shown result) tried.shown
     (subst (λ s. Carries (step s item) s next m.shown n.shown result) tried.at carried)
 
--- no fault of the station before the last item
-ends_since : {entry m n : Meaning} → IsShowCall entry m → m.show_faults ≡ entry.show_faults → StationFaultEnds entry m → StationFaultEnds m n → StationFaultEnds entry n
-ends_since call stays before ends = omega (arith, call.disk_faults, stays, before, ends)
-
 -- an item more was carried out
 tried_more : (start : Situation) (entry : Meaning) (first : List Item) (now next : Situation) (m n : Meaning) (item : Item) (u : Unit {0})
     → Tried start entry first now m → Carries (step now item) now next m.shown n.shown (Ok u) → IsShowCall m n → StationFaultEnds m n → HasPlainCause m.show_faults n.show_faults (Ok u)
@@ -46,7 +43,7 @@ tried_more start entry first now next m n item u tried carried call ends cause =
           ∙ ap (append_known entry.shown) (sym (replies-append start first (item ∷ [])));
       call = call_then tried.call call;
       show_faults = cause ∙ tried.show_faults;
-      first_fault = ends_since tried.call tried.show_faults tried.first_fault ends;
+      first_fault = station_ends_then entry m n tried.call.disk_faults tried.show_faults tried.first_fault ends;
     }
 
 -- a fault in an item
@@ -56,7 +53,7 @@ tried_into : (start : Situation) (entry : Meaning) (first : List Item) (now next
 tried_into start entry first now next m n item fault tried carried call ends cause = record {
   carries = carried_here start entry first now next m n item (Err fault) tried carried;
   call = call_then tried.call call;
-  first_fault = ends_since tried.call tried.show_faults tried.first_fault ends;
+  first_fault = station_ends_then entry m n tried.call.disk_faults tried.show_faults tried.first_fault ends;
   cause = subst (λ count. HasPlainCause count n.show_faults (Err fault)) tried.show_faults cause;
 }
 

@@ -6,6 +6,7 @@ use Rattle.lis_ports.specs.Meaning.{Meaning}
 use Rattle.lis_ports.specs.Calls.{Rose, StationFaultEnds}
 use Rattle.lis_ports.proofs.Moments.{adds_none}
 use Rattle.lis_ports.proofs.Always.{always_weaken}
+use Rattle.lis_ports.proofs.Ending.{station_ends_then}
 use Rattle.lis_reply.proofs.Showing.{append_known-append, append_known-nil}
 use Rattle.lis_journal.specs.Images.{KeepsPast}
 use Rattle.lis_grammar.specs.Formula.{Formula}
@@ -108,9 +109,6 @@ unbroken_by old new DiskFault left other = absurd (other refl)
 unbroken_by old new OutputFault left other = left.unbroken (λ e. cc e)
 
 module _ {start now next : Situated} {entry mid m : Meaning} {first : List Item} (item : Item) (done : HasDone start entry first now mid) (same : IsSameStation mid m) (ends : StationFaultEnds mid m) where
-  ends_since : StationFaultEnds entry m
-  ends_since = omega (arith, done.first_fault, done.disk_faults, done.show_faults, ends)
-
   has_done_more : (u : Unit {0}) → CarriesOut (StoreFits now.store mid) now.place mid m (Ok u) (StoreFits next.store m) next.place item
       → HasEndCause mid m (Ok u) → StoreLeft now.store next.store (Ok u) → HasDone start entry (first ++ item ∷ []) next m
   has_done_more u carries cause left = record {
@@ -120,7 +118,7 @@ module _ {start now next : Situated} {entry mid m : Meaning} {first : List Item}
     same = same_then done.same same;
     disk_faults = cause.0 ∙ done.disk_faults;
     show_faults = cause.1 ∙ done.show_faults;
-    first_fault = ends_since;
+    first_fault = station_ends_then entry mid m done.disk_faults done.show_faults done.first_fault ends;
     done = λ state fitting.
         let so_far = done.done state fitting in
         done_more (situation_at start state) first item entry mid m (StoreFits now.store mid) (StoreFits next.store m) now.place next.place so_far u
@@ -134,7 +132,7 @@ module _ {start now next : Situated} {entry mid m : Meaning} {first : List Item}
     image = left.image ∙ done.image;
     same = same_then done.same same;
     cause = cause_since entry mid m fault done.disk_faults done.show_faults cause;
-    first_fault = ends_since;
+    first_fault = station_ends_then entry mid m done.disk_faults done.show_faults done.first_fault ends;
     unbroken = unbroken_by now.store next.store fault left;
     serves = λ state fitting.
         let so_far = done.done state fitting in
