@@ -12,6 +12,7 @@ pub mod Sources
 pub mod Tables
 pub mod Locals
 pub mod Routes
+pub mod Listings
 pub mod Known
 pub mod Reached
 pub mod Growth
