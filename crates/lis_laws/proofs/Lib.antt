@@ -19,6 +19,7 @@ pub mod Growth
 pub mod Forms
 pub mod Named
 pub mod Touched
-pub mod Few
 pub mod Steps
+pub mod Few
+pub mod Touching
 mod Examples

@@ -41,14 +41,18 @@ abbrev pub NoneStands : List (Bool × Refusal) → Type 0
 NoneStands [] = Unit {0}
 NoneStands (check ∷ checks) = (check.0 ≡ false) × NoneStands checks
 
-pub judged_keeps : (P : Situation → Type 0) (now : Situation) (checks : List (Bool × Refusal)) (done : Outcome) → P now → (NoneStands checks → P done.next) → P (judged now checks done).next
-judged_keeps P now [] done h k = k tt
-judged_keeps P now (check ∷ checks) done h k = by check.0 refl (judged_keeps P now checks done h)
+-- how a row ends: refused, or done where no refusal stands
+pub judged_ends : (P : Outcome → Type 0) (now : Situation) (checks : List (Bool × Refusal)) (done : Outcome) → ((refusal : Refusal) → P (refused now refusal)) → (NoneStands checks → P done)
+    → P (judged now checks done)
+judged_ends P now [] done refuse go = go tt
+judged_ends P now (check ∷ checks) done refuse go = by check.0 refl (judged_ends P now checks done refuse)
   where
-    by : (b : Bool) → check.0 ≡ b → ((NoneStands checks → P done.next) → P (judged now checks done).next)
-        → P (cond b (refused now check.1) (judged now checks done)).next
-    by true e rest = h
-    by false e rest = rest (λ none. k (e, none))
+    by : (b : Bool) → check.0 ≡ b → ((NoneStands checks → P done) → P (judged now checks done)) → P (cond b (refused now check.1) (judged now checks done))
+    by true e rest = refuse check.1
+    by false e rest = rest (λ none. go (e, none))
+
+judged_keeps : (P : Situation → Type 0) (now : Situation) (checks : List (Bool × Refusal)) (done : Outcome) → P now → (NoneStands checks → P done.next) → P (judged now checks done).next
+judged_keeps P now checks done before after = judged_ends (λ (outcome : Outcome). P outcome.next) now checks done (λ refusal. before) after
 
 -- none of a row, so none of its parts
 none_in_both : (checks more : List (Bool × Refusal)) → NoneStands (checks ++ more) → NoneStands checks × NoneStands more
