@@ -51,6 +51,7 @@ fn carry_out<D: Disk>(
     ensures limits { session.new.store.parts.limits ≡ session.old.store.parts.limits }
     ensures image { session.new.store.journal.blocks ≡ session.old.store.journal.blocks }
     ensures unbroken { IfOk result (λ _. session.new.store.is_broken ≡ false) }
+    ensures sound { IsSound session.new.store }
 {
     let mut source = GrowSource::new(n);
     let mut reader = LineReader::new(LIMIT);
@@ -87,6 +88,7 @@ pub fn grow_session<T: Station>(
     ensures first_fault { StationFaultEnds (T.meaning station.old) (T.meaning station.new) }
     ensures same { IsSameStation (T.meaning station.old) (T.meaning station.new) }
     ensures left { StoreLeft session.old.store session.new.store result }
+    ensures sound { IsSound session.new.store }
 {
     let Ok(sum) = carry_out(session, payload, station, n) else {
         return Err(End::DiskFault);

@@ -10,7 +10,7 @@ use Rattle.lis_grammar.specs.Formula.{Formula}
 use Rattle.lis_model.specs.Image.{image_blocks}
 use Rattle.lis_model.specs.State.{State}
 use Rattle.lis_model.specs.Step.{Situation, Item, replies, situation_after}
-use Rattle.lis_store.specs.Stored.{StoreFits}
+use Rattle.lis_store.specs.Stored.{IsSound, StoreFits}
 use Rattle.lis_session.specs.declared.end.End.{End}
 use Rattle.lis_session.specs.declared.end.End.TheVariants.{DiskFault, OutputFault}
 use Rattle.lis_session.specs.Session.{Situated, SessionMoment}
@@ -39,6 +39,7 @@ pub record HasDone (start : Situated) (entry : Meaning) (first : List Item) (now
   pub limits : now.store.parts.limits ≡ start.store.parts.limits
   pub image : now.store.journal.blocks ≡ start.store.journal.blocks
   pub unbroken : now.store.is_broken ≡ false
+  pub sound : IsSound now.store
   pub same : IsSameStation entry m
   pub disk_faults : m.disk_faults ≡ entry.disk_faults
   pub show_faults : m.show_faults ≡ entry.show_faults
@@ -55,6 +56,7 @@ StoppedAt start items entry m OutputFault = StopsAt start items entry.shown m
 pub record HasStopped (start : Situated) (entry : Meaning) (first : List Item) (item : Item) (fault : End) (now : Situated) (m : Meaning) : Type 0 where
   pub limits : now.store.parts.limits ≡ start.store.parts.limits
   pub image : now.store.journal.blocks ≡ start.store.journal.blocks
+  pub sound : IsSound now.store
   pub same : IsSameStation entry m
   pub cause : HasEndCause entry m (Err fault)
   pub first_fault : StationFaultEnds entry m

@@ -56,6 +56,7 @@ pub fn serve<S: Source, T: Station>(
     ensures input_first_fault { FaultEnds (S.faults input.old) (S.behind input.old) (S.behind input.new) }
     ensures few { TakesFew limit (S.left input.old) (S.left input.new) }
     ensures input { (bytes : List ℕ) → S.left input.old ≡ Some bytes → InputRead limit bytes (S.left input.new) result }
+    ensures sound { IsSound session.new.store }
     ensures limits { session.new.store.parts.limits ≡ session.old.store.parts.limits }
     ensures image { session.new.store.journal.blocks ≡ session.old.store.journal.blocks }
     ensures unbroken { result ≢ Status.DiskFault → session.new.store.is_broken ≡ false }

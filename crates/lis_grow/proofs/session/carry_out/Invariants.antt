@@ -1,7 +1,7 @@
 use Rattle.std.proofs.Common.{◌≡◌, ◌+◌, ◌*◌, ◌≤◌, false, Some}
 use Rattle.lis_ports.specs.Runs.{IsDiskRun}
 use Rattle.lis_ports.specs.Calls.{DiskFaultEnds}
-use Rattle.lis_store.specs.Stored.{StoreFits}
+use Rattle.lis_store.specs.Stored.{IsSound, StoreFits}
 use Rattle.lis_grow.specs.Grow.{grow_bytes}
 use Rattle.lis_grow.proofs.Going.{SoFar}
 use Rattle.lis_grow.proofs.session.carry_out.Given as goal
@@ -11,6 +11,7 @@ invariant-loop-item g l = record {
   image : l.session.store.journal.blocks ≡ l.fn.session.store.journal.blocks;
   limits : l.session.store.parts.limits ≡ l.fn.session.store.parts.limits;
   unbroken : l.session.store.is_broken ≡ false;
+  sound : IsSound l.session.store;
   run : IsDiskRun (g.D.Disk.meaning l.fn.disk) (g.D.Disk.meaning l.disk);
   disk_faults : (g.D.Disk.meaning l.disk).disk_faults ≡ (g.D.Disk.meaning l.fn.disk).disk_faults;
   first_fault : DiskFaultEnds (g.D.Disk.meaning l.fn.disk) (g.D.Disk.meaning l.disk);
