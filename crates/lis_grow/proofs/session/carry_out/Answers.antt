@@ -45,6 +45,22 @@ returns-in_err-tally-clause-carries g c = λ state fits.
     (ends_disk (g.D.Disk.meaning c.tally.new.disk) c.in_err-tally.field-0.0 (StoreFits c.tally.new.self.store (g.D.Disk.meaning c.tally.new.disk)) c.tally.new.self.place (grow_bytes c.args.n) state
     read refl c.in_err-tally.ensures.tallies (grow_short c.args.n) (store_fits_at c.requires.sound fits))
 
+pub add-requires-clause-listed : goal.add-requires-clause-listed
+add-requires-clause-listed g c =
+    let kept = c.loop-item.invariant in
+    let limits = c.args.session.now.store.parts.limits in
+    let range = c.requires.sound.parts.range in
+    omega (
+      arith,
+      kept.listed,
+      kept.replies,
+      c.in_ok-tally.ensures.few,
+      ap (λ (l : Limits). l.props) kept.limits,
+      ap (λ (l : Limits). l.files) kept.limits,
+      few_properties limits range,
+      few_files limits range,
+    )
+
 pub loop-item-preserved : goal.loop-item-preserved
 loop-item-preserved g c =
     let kept = c.loop-item.invariant in
