@@ -64,6 +64,8 @@ impl Source for GrowSource {
 
     ghost faults = { λ s. 0 };
 
+    ghost behind = { λ s. 0 };
+
     fn take(&mut self, buf: &mut [u8]) -> Result<usize, Failed> {
         if self.place == self.step.piece.bytes().len() {
             self.step = some_step(self.step.part, self.step.x);

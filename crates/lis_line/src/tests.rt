@@ -107,6 +107,7 @@ fn items(alloc: Global, row: &str, limit: u64, step: usize) -> Result<String, Al
         step: step.max(1),
         fail_at: None,
         faults: 0,
+        behind: 0,
     };
     let mut payload = Payload::new(alloc)?;
     let mut reader = LineReader::new(limit.min(99));

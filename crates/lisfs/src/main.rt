@@ -58,6 +58,7 @@ fn run(rt: &HostRuntime, words: &[String]) -> (Status, Option<Error>) {
     let mut input = StdSource {
         reader: rt.reader(),
         faults: 0,
+        behind: 0,
     };
     let standard = image::hold_standard(rt);
     if let Err(error) = &standard {
@@ -78,6 +79,7 @@ fn run(rt: &HostRuntime, words: &[String]) -> (Status, Option<Error>) {
         out: io::writer(rt),
         disk_faults: 0,
         show_faults: 0,
+        behind: 0,
         cause,
     };
     let status = lisfs(rt.alloc(), words, &mut input, &mut station);
