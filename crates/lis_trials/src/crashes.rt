@@ -1,10 +1,10 @@
-//! A script in one session over an image, crashed after each of its calls of the disk and opened again.
+//! Scripts in one session over an image, crashed after each of its calls of the disk and opened again.
 
 ghost use Rattle.std.specs.Prelude.{IfOk, IsTrue};
 ghost use Rattle.lis_memdisk.specs.MemStation.{meaning_of};
 
 use crate::images::{MAKES, made, run, session};
-use crate::tests::tables::{SCRIPT, SCRIPT_STATES};
+use crate::tests::tables::{KINDS, ONE_FILE, Script, TWO_FILES};
 use lis_memdisk::MemStation;
 use lis_shell::status::Status;
 use std::alloc::Global;
@@ -22,12 +22,12 @@ const OPENING_CALLS: u64 = 40;
 /// What is left of bytes that were not synced, where an opening is stopped too.
 const PICK: u8 = 165;
 
-/// How many bytes each reply of the script has: `ok` and a line feed.
+/// How many bytes each reply of a script has: `ok` and a line feed.
 const REPLY_LEN: u64 = 3;
 
 // What a session that looks shows of an image.
-fn looked_at(alloc: Global, image: &[u8]) -> Result<String, Fail> {
-    let (status, shown) = session(alloc, image, "ls;stat;cat m;")?;
+fn looked_at(alloc: Global, script: &Script, image: &[u8]) -> Result<String, Fail> {
+    let (status, shown) = session(alloc, image, script.look)?;
     if status != Status::Done {
         return Err("the image was not opened".into());
     }
@@ -45,10 +45,16 @@ fn crashed(alloc: Global, station: &MemStation, call: u64, pick: u8) -> Result<V
 }
 
 // What such a session shows of it.
-fn left_by(alloc: Global, station: &MemStation, call: u64, pick: u8) -> Result<String, Fail>
+fn left_by(
+    alloc: Global,
+    script: &Script,
+    station: &MemStation,
+    call: u64,
+    pick: u8,
+) -> Result<String, Fail>
     requires { IsTrue (meaning_of station.now).is_recorded }
 {
-    looked_at(alloc, &crashed(alloc, station, call, pick)?)
+    looked_at(alloc, script, &crashed(alloc, station, call, pick)?)
 }
 
 // How many bytes had been shown when the call answered.
@@ -62,26 +68,35 @@ fn shown_at(station: &MemStation, call: u64) -> u64
 }
 
 // Whether this is the state behind so many commands.
-fn is_behind(left: &str, commands: u64) -> bool {
-    match SCRIPT_STATES.get(commands as usize) {
+fn is_behind(script: &Script, left: &str, commands: u64) -> bool {
+    match script.states.get(commands as usize) {
+        None => false,
+        Some(state) => left == *state,
+    }
+}
+
+// Whether this is the state behind all of them.
+fn is_last(script: &Script, left: &str) -> bool {
+    match script.states.last() {
         None => false,
         Some(state) => left == *state,
     }
 }
 
 // It is the state behind the commands whose replies were shown whole, or behind one more; and that one where its reply was begun.
-fn is_allowed(left: &str, shown: u64) -> bool {
+fn is_allowed(script: &Script, left: &str, shown: u64) -> bool {
     let whole = shown / REPLY_LEN;
     let is_begun = shown % REPLY_LEN > 0;
-    is_behind(left, whole.saturating_add(1)) || (!is_begun && is_behind(left, whole))
+    is_behind(script, left, whole.saturating_add(1))
+        || (!is_begun && is_behind(script, left, whole))
 }
 
 // The script over an empty image that these words make.
-fn scripted(alloc: Global, words: &[&str]) -> Result<MemStation, Fail>
+fn scripted(alloc: Global, words: &[&str], script: &Script) -> Result<MemStation, Fail>
     ensures { IfOk result (λ station. IsTrue (meaning_of station).is_recorded) }
 {
     let mut station = MemStation::new(alloc, &made(alloc, words)?, ROOM)?;
-    if run(alloc, SCRIPT, &mut station)? != Status::Done {
+    if run(alloc, script.row, &mut station)? != Status::Done {
         return Err("the script was not carried out".into());
     }
     Ok(station)
@@ -89,22 +104,27 @@ fn scripted(alloc: Global, words: &[&str]) -> Result<MemStation, Fail>
 
 // What the first crash leaves that leaves a state that it must not, by a pick of the bytes that were not synced. A crash may come
 // just after a call, or just before the next one, when more replies were shown.
-fn wrong_state(alloc: Global, station: &MemStation, pick: u8) -> Result<Option<String>, Fail>
+fn wrong_state(
+    alloc: Global,
+    script: &Script,
+    station: &MemStation,
+    pick: u8,
+) -> Result<Option<String>, Fail>
     requires { IsTrue (meaning_of station.now).is_recorded }
 {
     let last = station.calls();
     for call in 0..last {
-        let left = left_by(alloc, station, call, pick)?;
-        let is_right = is_allowed(left.as_str(), shown_at(station, call))
-            && is_allowed(left.as_str(), shown_at(station, call + 1));
+        let left = left_by(alloc, script, station, call, pick)?;
+        let is_right = is_allowed(script, left.as_str(), shown_at(station, call))
+            && is_allowed(script, left.as_str(), shown_at(station, call + 1));
         if !is_right {
             return Ok(Some(left));
         }
     }
 
     // Behind the last call nothing is lost.
-    let left = left_by(alloc, station, last, pick)?;
-    Ok(if is_behind(left.as_str(), 10) {
+    let left = left_by(alloc, script, station, last, pick)?;
+    Ok(if is_last(script, left.as_str()) {
         None
     } else {
         Some(left)
@@ -112,10 +132,15 @@ fn wrong_state(alloc: Global, station: &MemStation, pick: u8) -> Result<Option<S
 }
 
 // The same of the first of these picks that leaves such a state.
-fn wrong_of(alloc: Global, words: &[&str], picks: [u8; 2]) -> Result<Option<String>, Fail> {
-    let station = scripted(alloc, words)?;
+fn wrong_of(
+    alloc: Global,
+    words: &[&str],
+    script: &Script,
+    picks: [u8; 2],
+) -> Result<Option<String>, Fail> {
+    let station = scripted(alloc, words, script)?;
     for pick in picks {
-        let wrong = wrong_state(alloc, &station, pick)?;
+        let wrong = wrong_state(alloc, script, &station, pick)?;
         if wrong.is_some() {
             return Ok(wrong);
         }
@@ -124,36 +149,59 @@ fn wrong_of(alloc: Global, words: &[&str], picks: [u8; 2]) -> Result<Option<Stri
 }
 
 // What a session that looks shows of an image whose opening stopped at the call behind the fuse. None where it was not stopped.
-fn left_by_opening(alloc: Global, image: &[u8], fuse: u64) -> Result<Option<String>, Fail> {
+fn left_by_opening(
+    alloc: Global,
+    script: &Script,
+    image: &[u8],
+    fuse: u64,
+) -> Result<Option<String>, Fail> {
     let mut station = MemStation::new(alloc, image, OPENING_ROOM)?;
     station.fuse = fuse;
     if run(alloc, "", &mut station)? == Status::Done {
         return Ok(None);
     }
-    Ok(Some(left_by(alloc, &station, station.calls(), PICK)?))
+    let left = left_by(alloc, script, &station, station.calls(), PICK)?;
+    Ok(Some(left))
 }
 
 // Whether the opening that stops at the call behind the fuse leaves another state. None where it was not stopped.
 fn leaves_another(
     alloc: Global,
+    script: &Script,
     image: &[u8],
     fuse: u64,
     before: &str,
 ) -> Result<Option<bool>, Fail> {
-    match left_by_opening(alloc, image, fuse)? {
+    match left_by_opening(alloc, script, image, fuse)? {
         None => Ok(None),
         Some(left) => Ok(Some(left.as_str() != before)),
     }
 }
 
 // The first fuse with which the opening leaves another state than the image has.
-fn wrong_fuse(alloc: Global, image: &[u8]) -> Result<Option<u64>, Fail> {
-    let before = looked_at(alloc, image)?;
+fn wrong_fuse(alloc: Global, script: &Script, image: &[u8]) -> Result<Option<u64>, Fail> {
+    let before = looked_at(alloc, script, image)?;
     for fuse in 0..OPENING_CALLS {
-        match leaves_another(alloc, image, fuse, before.as_str())? {
+        match leaves_another(alloc, script, image, fuse, before.as_str())? {
             None => return Ok(None),
             Some(true) => return Ok(Some(fuse)),
             Some(false) => {}
+        }
+    }
+    Ok(None)
+}
+
+// The same of the first of these scripts.
+fn wrong_of_any(
+    alloc: Global,
+    words: &[&str],
+    scripts: &[&Script],
+    picks: [u8; 2],
+) -> Result<Option<String>, Fail> {
+    for script in scripts {
+        let wrong = wrong_of(alloc, words, script, picks)?;
+        if wrong.is_some() {
+            return Ok(wrong);
         }
     }
     Ok(None)
@@ -163,7 +211,7 @@ fn wrong_fuse(alloc: Global, image: &[u8]) -> Result<Option<u64>, Fail> {
 fn a_crash_that_takes_all_or_nothing_leaves_the_state_before_a_command_or_behind_it(
     rt: HostRuntime,
 ) -> Result<(), Fail> {
-    let wrong = wrong_of(rt.alloc(), MAKES[0], [0, 1])?;
+    let wrong = wrong_of_any(rt.alloc(), MAKES[0], &[&ONE_FILE, &TWO_FILES], [0, 1])?;
     assert!(rt; wrong.is_none(), "{wrong:?}");
     Ok(())
 }
@@ -172,7 +220,7 @@ fn a_crash_that_takes_all_or_nothing_leaves_the_state_before_a_command_or_behind
 fn a_crash_that_takes_some_leaves_the_state_before_a_command_or_behind_it(
     rt: HostRuntime,
 ) -> Result<(), Fail> {
-    let wrong = wrong_of(rt.alloc(), MAKES[0], [2, 165])?;
+    let wrong = wrong_of_any(rt.alloc(), MAKES[0], &[&ONE_FILE, &TWO_FILES], [2, 165])?;
     assert!(rt; wrong.is_none(), "{wrong:?}");
     Ok(())
 }
@@ -181,14 +229,14 @@ fn a_crash_that_takes_some_leaves_the_state_before_a_command_or_behind_it(
 fn so_it_is_on_an_image_of_version_2_where_all_or_nothing_is_taken(
     rt: HostRuntime,
 ) -> Result<(), Fail> {
-    let wrong = wrong_of(rt.alloc(), MAKES[1], [0, 1])?;
+    let wrong = wrong_of(rt.alloc(), MAKES[1], &KINDS, [0, 1])?;
     assert!(rt; wrong.is_none(), "{wrong:?}");
     Ok(())
 }
 
 #[test]
 fn and_where_some_is_taken(rt: HostRuntime) -> Result<(), Fail> {
-    let wrong = wrong_of(rt.alloc(), MAKES[1], [2, 165])?;
+    let wrong = wrong_of(rt.alloc(), MAKES[1], &KINDS, [2, 165])?;
     assert!(rt; wrong.is_none(), "{wrong:?}");
     Ok(())
 }
@@ -197,12 +245,12 @@ fn and_where_some_is_taken(rt: HostRuntime) -> Result<(), Fail> {
 #[test]
 fn an_opening_that_is_stopped_leaves_the_state_that_it_found(rt: HostRuntime) -> Result<(), Fail> {
     let alloc = rt.alloc();
-    let station = scripted(alloc, MAKES[0])?;
+    let station = scripted(alloc, MAKES[0], &ONE_FILE)?;
     let mut stops: u32 = 0;
     for call in 0..station.calls() {
         if shown_at(&station, call) == 3 * REPLY_LEN {
             let image = crashed(alloc, &station, call, PICK)?;
-            let wrong = wrong_fuse(alloc, &image)?;
+            let wrong = wrong_fuse(alloc, &ONE_FILE, &image)?;
             assert!(rt; wrong.is_none(), "the call {call} and {wrong:?}");
             stops = stops.saturating_add(1);
         }

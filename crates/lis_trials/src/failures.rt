@@ -1,12 +1,15 @@
-//! A script over an image with one call that fails: of the disk, of the station that shows, or of the source.
+//! The commands on one file over an image, with one call that fails: of the disk, of the station that shows, or of the source.
 
 use crate::images::{MAKES, bytes_of, made, opening_calls, session};
-use crate::tests::tables::{FAILING_PLACES, FAILING_SCRIPT, FAILING_SHOWN, FAILING_STATES};
+use crate::tests::tables::{FAILING_PLACES, ONE_FILE};
 use crate::tests::{Outside, SOUND, call, row_of};
 use lis_memdisk::MemStation;
 use lis_shell::status::Status;
 use std::alloc::Global;
 use std::test::Fail;
+
+/// What the script shows.
+const SHOWN: &str = "ok;ok;ok;ok;ok;ok;ok;ok;";
 
 /// More calls of the disk than the script makes.
 const MANY_CALLS: u64 = 200;
@@ -14,39 +17,43 @@ const MANY_CALLS: u64 = 200;
 /// How many bytes each reply of the script has: `ok` and a line feed.
 const REPLY_LEN: usize = 3;
 
-/// How a run of the script ended, what it showed, and what a session that looks shows of the image that it left.
+/// How a run of the script ended, what it showed, how many calls of the disk it made, and what a session that looks shows of the image
+/// that it left.
 #[derive(Drop)]
 struct Ending {
     status: Status,
     shown: String,
+    calls: u64,
     left: String,
 }
 
 // The script over a station that lets a call fail, and a look over a fresh one with the bytes that the first then reads.
 fn ending_of(alloc: Global, station: &mut MemStation, outside: &Outside) -> Result<Ending, Fail> {
-    let (status, _) = call(alloc, &["run", "i"], FAILING_SCRIPT, outside, station)?;
+    let (status, _) = call(alloc, &["run", "i"], ONE_FILE.row, outside, station)?;
     let shown = row_of(alloc, station.shown())?;
+    let calls = station.calls();
     station.fails.clear();
     let image = bytes_of(alloc, station)?;
-    let (looked, left) = session(alloc, &image, "stat;cat s1;unaxiom rock music;props s1;")?;
+    let (looked, left) = session(alloc, &image, ONE_FILE.look)?;
     if looked != Status::Done {
         return Err("the image was not opened".into());
     }
     Ok(Ending {
         status,
         shown,
+        calls,
         left,
     })
 }
 
 // Whether these are so many first bytes of what the script shows.
 fn is_front(shown: &str, len: usize) -> bool {
-    shown.len() == len && FAILING_SHOWN.starts_with(shown)
+    shown.len() == len && SHOWN.starts_with(shown)
 }
 
 // Whether this is the state behind so many commands.
 fn is_behind(left: &str, commands: usize) -> bool {
-    match FAILING_STATES.get(commands) {
+    match ONE_FILE.states.get(commands) {
         None => false,
         Some(state) => left == *state,
     }
@@ -86,10 +93,11 @@ fn a_failing_call_of_the_disk_leaves_the_state_that_was_shown_or_the_next_one(
             "the call {number}"
         );
         if ended.status == Status::Done {
-            assert!(rt; is_front(ended.shown.as_str(), FAILING_SHOWN.len()));
+            assert!(rt; is_front(ended.shown.as_str(), SHOWN.len()));
             return Ok(());
         }
         assert_eq!(rt; ended.status, Status::DiskFault, "the call {number}");
+        assert_eq!(rt; ended.calls, number, "no call comes behind a failed one");
     }
     Err("the script makes more calls".into())
 }
@@ -101,7 +109,7 @@ fn a_failing_show_leaves_the_state_of_the_reply_that_it_cuts_off(
 ) -> Result<(), Fail> {
     let alloc = rt.alloc();
     let image = made(alloc, MAKES[0])?;
-    for before in 0..FAILING_SHOWN.len() {
+    for before in 0..SHOWN.len() {
         let mut station = MemStation::new(alloc, &image, 0)?;
         station.step = 1;
         station.show_fails.push(before as u64 + 1)?;

@@ -4,7 +4,7 @@ ghost use Rattle.std.specs.Prelude.{◌≡◌};
 ghost use Rattle.lis_memdisk.specs.MemStation.{meaning_of};
 
 use crate::tests::tables::{IMAGE_WORDS, ROWS, SESSIONS};
-use crate::tests::{SOUND, call, crowded_row, row_of, sized_row, tested_row};
+use crate::tests::{SOUND, built_sessions, call, row_of};
 use lis_memdisk::MemStation;
 use lis_ports::Disk;
 use lis_shell::status::Status;
@@ -90,19 +90,15 @@ fn images_show_what_plain_states_show(rt: HostRuntime) -> Result<(), Fail> {
 }
 
 #[test]
-fn words_by_size_and_by_name_come_and_go_in_an_image(rt: HostRuntime) -> Result<(), Fail> {
+fn images_show_the_same_of_long_lines_and_many_words(rt: HostRuntime) -> Result<(), Fail> {
     let alloc = rt.alloc();
+    let sessions = built_sessions(alloc)?;
     for words in &MAKES {
         let image = made(alloc, words)?;
-        let (row, wanted) = sized_row(alloc)?;
-        let (_, shown) = session(alloc, &image, row.as_str())?;
-        assert_eq!(rt; shown.as_str(), wanted, "{words:?}");
-        let (row, wanted) = tested_row(alloc)?;
-        let (_, shown) = session(alloc, &image, row.as_str())?;
-        assert_eq!(rt; shown.as_str(), wanted, "{words:?}");
-        let (row, wanted) = crowded_row(alloc)?;
-        let (_, shown) = session(alloc, &image, row.as_str())?;
-        assert_eq!(rt; shown.as_str(), wanted.as_str(), "{words:?}");
+        for (row, wanted) in &sessions {
+            let (_, shown) = session(alloc, &image, row.as_str())?;
+            assert_eq!(rt; shown.as_str(), wanted.as_str(), "{words:?}");
+        }
     }
     Ok(())
 }

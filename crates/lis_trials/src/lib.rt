@@ -6,6 +6,8 @@ mod crashes;
 #[cfg(test)]
 mod failures;
 #[cfg(test)]
+mod first_fault;
+#[cfg(test)]
 mod growing;
 #[cfg(test)]
 mod images;

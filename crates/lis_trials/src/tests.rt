@@ -1,5 +1,5 @@
 //! What a session shows of its input, whatever pieces it comes in, and how it ends. In rows `;` stands for a line feed, `^` for
-//! a carriage return and `~` for a tab.
+//! a carriage return, `~` for a tab and `%` for a semicolon.
 
 ghost use Rattle.std.specs.Prelude.{◌≡◌};
 ghost use Rattle.lis_memdisk.specs.MemStation.{meaning_of};
@@ -18,8 +18,7 @@ use std::test::Fail;
 pub mod tables;
 
 use tables::{
-    CUT_SESSIONS, FAILING_SHOWS, LARGE_FILES, LONG_LINES, RIGHT_WORDS, SESSIONS, WORDED_SESSIONS,
-    WRONG_WORDS,
+    CUT_SESSIONS, FAILING_SHOWS, LARGE_FILES, LONG_LINES, RIGHT_WORDS, SESSIONS, WRONG_WORDS,
 };
 
 /// The words of most sessions.
@@ -69,6 +68,7 @@ pub fn bytes_of(alloc: Global, row: &str) -> Result<Vec<u8>, AllocError> {
             b';' => b'\n',
             b'^' => b'\r',
             b'~' => b'\t',
+            b'%' => b';',
             _ => byte,
         })?;
     }
@@ -94,6 +94,7 @@ pub fn source(alloc: Global, row: &str, outside: &Outside) -> Result<MemSource, 
         step: outside.step.max(1),
         fail_at: outside.fail_at,
         faults: 0,
+        behind: 0,
     })
 }
 
@@ -163,16 +164,6 @@ fn long_row(alloc: Global, count: usize, behind: &str) -> Result<String, AllocEr
     Ok(row)
 }
 
-#[test]
-fn a_line_is_long_by_its_bytes(rt: HostRuntime) -> Result<(), Fail> {
-    for (count, behind, wanted) in &LONG_LINES {
-        let row = long_row(rt.alloc(), *count, behind)?;
-        let seen = run(rt.alloc(), &WORDS, row.as_str(), &SOUND)?;
-        assert_eq!(rt; seen.shown.as_str(), *wanted, "{count} and {behind}");
-    }
-    Ok(())
-}
-
 /// A line that adds a file of so many bytes, and the bytes.
 pub fn push_file(row: &mut String, line: &str, size: usize) -> Result<(), AllocError> {
     row.push_str(line)?;
@@ -180,15 +171,6 @@ pub fn push_file(row: &mut String, line: &str, size: usize) -> Result<(), AllocE
         row.push('x')?;
     }
     row.push(';')?;
-    Ok(())
-}
-
-#[test]
-fn blocks_are_given_back(rt: HostRuntime) -> Result<(), Fail> {
-    for (words, row, wanted) in &WORDED_SESSIONS {
-        let seen = run(rt.alloc(), words, row, &SOUND)?;
-        assert_eq!(rt; seen.shown.as_str(), *wanted, "{row}");
-    }
     Ok(())
 }
 
@@ -217,8 +199,8 @@ fn files_are_as_large_as_there_are_blocks(rt: HostRuntime) -> Result<(), Fail> {
     Ok(())
 }
 
-/// Two files of about 1,000 bytes, looked at by their size, and what is shown.
-pub fn sized_row(alloc: Global) -> Result<(String, &'static str), AllocError> {
+// Two files of about 1,000 bytes, looked at by their size, and what is shown.
+fn sized_row(alloc: Global) -> Result<(String, &'static str), AllocError> {
     let mut row = String::new(alloc);
     push_file(&mut row, "add a 1000;", 1_000)?;
     push_file(&mut row, "add b 999;", 999)?;
@@ -226,8 +208,8 @@ pub fn sized_row(alloc: Global) -> Result<(String, &'static str), AllocError> {
     Ok((row, "ok;ok;ok;f a;ok;ok;ok;ok;p size:;p size:empty;ok;"))
 }
 
-/// Two tests that are declared, files that meet none, one and both of them, and what is shown.
-pub fn tested_row(alloc: Global) -> Result<(String, &'static str), AllocError> {
+// Two tests that are declared, files that meet none, one and both of them, and what is shown.
+fn tested_row(alloc: Global) -> Result<(String, &'static str), AllocError> {
     let mut row = String::new(alloc);
     row.push_str("mkdir size>=100;mkdir size>=1000;add a 0;;")?;
     push_file(&mut row, "add b 500;", 500)?;
@@ -241,8 +223,8 @@ pub fn tested_row(alloc: Global) -> Result<(String, &'static str), AllocError> {
     ))
 }
 
-/// Files each with a suffix of its own, as many as there is room for their words and one more, and what is shown.
-pub fn crowded_row(alloc: Global) -> Result<(String, String), AllocError> {
+// Files each with a suffix of its own, as many as there is room for their words and one more, and what is shown.
+fn crowded_row(alloc: Global) -> Result<(String, String), AllocError> {
     let mut row = String::new(alloc);
     let mut wanted = String::new(alloc);
     for n in 11..72 {
@@ -254,17 +236,27 @@ pub fn crowded_row(alloc: Global) -> Result<(String, String), AllocError> {
     Ok((row, wanted))
 }
 
+/// Sessions whose rows are put together, and what is shown of each: of long lines, and of words by size and by name that come and go.
+pub fn built_sessions(alloc: Global) -> Result<Vec<(String, String)>, AllocError> {
+    let mut sessions = Vec::new(alloc);
+    for (count, behind, wanted) in &LONG_LINES {
+        let row = long_row(alloc, *count, behind)?;
+        sessions.push((row, String::from_str(alloc, wanted)?))?;
+    }
+    let (row, wanted) = sized_row(alloc)?;
+    sessions.push((row, String::from_str(alloc, wanted)?))?;
+    let (row, wanted) = tested_row(alloc)?;
+    sessions.push((row, String::from_str(alloc, wanted)?))?;
+    sessions.push(crowded_row(alloc)?)?;
+    Ok(sessions)
+}
+
 #[test]
-fn words_by_size_and_by_name_come_and_go(rt: HostRuntime) -> Result<(), Fail> {
-    let (row, wanted) = sized_row(rt.alloc())?;
-    let seen = run(rt.alloc(), &WORDS, row.as_str(), &SOUND)?;
-    assert_eq!(rt; seen.shown.as_str(), wanted);
-    let (row, wanted) = tested_row(rt.alloc())?;
-    let seen = run(rt.alloc(), &WORDS, row.as_str(), &SOUND)?;
-    assert_eq!(rt; seen.shown.as_str(), wanted);
-    let (row, wanted) = crowded_row(rt.alloc())?;
-    let seen = run(rt.alloc(), &WORDS, row.as_str(), &SOUND)?;
-    assert_eq!(rt; seen.shown.as_str(), wanted.as_str());
+fn sessions_of_long_lines_and_many_words_show_the_same(rt: HostRuntime) -> Result<(), Fail> {
+    for (row, wanted) in &built_sessions(rt.alloc())? {
+        let seen = run(rt.alloc(), &WORDS, row.as_str(), &SOUND)?;
+        assert_eq!(rt; seen.shown.as_str(), wanted.as_str());
+    }
     Ok(())
 }
 

@@ -3,7 +3,7 @@
 use lis_model::spot::Spot;
 use lis_shell::status::Status;
 
-pub static SESSIONS: [(&str, &str); 54] = [
+pub static SESSIONS: [(&str, &str); 58] = [
     ("", ""),
     (
         "mkdir music;create a;create b music;ls;",
@@ -181,6 +181,23 @@ pub static SESSIONS: [(&str, &str); 54] = [
         "mkdir source;axiom ext:c source;axiom defines: source;add x.c 35;int f(int (*g)(void)) { return 1} ;;props x.c;unaxiom ext:c source;props x.c;rename x.c x.t;props x.t;",
         "ok;ok;ok;ok;p defines:;p defines:f;p ext:;p ext:c;p size:;p size:small;p source;ok;ok;p defines:;p defines:f;p ext:;p ext:c;p size:;p size:small;p source;ok;ok;p ext:;p ext:t;p size:;p size:small;ok;",
     ),
+    // A mail, sources, and words by both. In a content `%` is a semicolon.
+    (
+        "create m.eml;write m.eml 114;From: Alice <alice@example.org>;To: bob@example.org,; Carol <carol@example.org>;Subject: Re: Lunch plan;;See you.;;props m.eml;",
+        "ok;ok;p ext:;p ext:eml;p from:;p from:alice@example.org;p size:;p size:small;p subject:;p subject:lunch;p subject:plan;p subject:re;p to:;p to:bob@example.org;p to:carol@example.org;ok;",
+    ),
+    (
+        "create x.c;write x.c 121;/* #include \"no.h\" */;#include <stdio.h>;#include \"sub/list.h\";static const char *s = \"{\"%;int main(void) {;  puts(s)%;};;props x.c;",
+        "ok;ok;p defines:;p defines:main;p ext:;p ext:c;p includes:;p includes:list.h;p includes:stdio.h;p size:;p size:small;ok;",
+    ),
+    (
+        "mkdir work;mkdir project;axiom project work;add m.eml 114;From: Alice <alice@example.org>;To: bob@example.org,; Carol <carol@example.org>;Subject: Re: Lunch plan;;See you.;;add x.c 121 project;/* #include \"no.h\" */;#include <stdio.h>;#include \"sub/list.h\";static const char *s = \"{\"%;int main(void) {;  puts(s)%;};;create notes.txt work;ls;cd work;ls;way x.c;",
+        "ok;ok;ok;ok;ok;ok;d defines:;d ext:c;d ext:eml;d ext:txt;d from:;d includes:;d size:empty;d size:small;d subject:;d to:;d work;ok;ok;d defines:;d ext:c;d ext:txt;d includes:;d project;d size:empty;d size:small;ok;d defines:;ok;",
+    ),
+    (
+        "add f.c 39;int f(int (*g)(void)) { return h(1) % };add g.c 8;if (x) {;add h.h 22;# /* */ include \"a/b.h;props f.c;props g.c;props h.h;",
+        "ok;ok;ok;p defines:;p defines:f;p ext:;p ext:c;p size:;p size:small;ok;p ext:;p ext:c;p size:;p size:small;ok;p ext:;p ext:h;p size:;p size:small;ok;",
+    ),
     // Declared tests: files have them by their sizes, and they are given to none.
     (
         "add f 3;xyz;create e;mkdir big;mkdir size<2;cd big;mkdir size>=2;cd size<2;mkdir a;cd /;ls;props f;write e 2;hi;props e;rmdir size<2;rmdir size>=2;unaxiom size>=2 big;rmdir size>=2;props f;axiom big size>=2;create g size>=2;stat;",
@@ -197,22 +214,21 @@ pub static SESSIONS: [(&str, &str); 54] = [
     ),
 ];
 
-/// The words, a session, and what is shown of it.
-pub static WORDED_SESSIONS: [([&str; 4], &str, &str); 2] = [
+/// The words, files and how many bytes each is to have, what stands behind them, and what is shown.
+pub static LARGE_FILES: [(&[&str], &[(&str, usize)], &str, &str); 7] = [
+    // Blocks are given back.
     (
-        ["try", "64", "64", "1"],
+        &["try", "64", "64", "1"],
+        &[],
         "add a 1;x;add b 0;;add c 1;y;rm a;add c 1;z;cat c;",
         "ok;ok;no 24 no space;ok;ok;b 1;z;ok;",
     ),
     (
-        ["try", "64", "64", "2"],
+        &["try", "64", "64", "2"],
+        &[],
         "add a 1;x;add b 1;y;add a 1;z;add c 1;z;rm b;create b;add c 1;z;ls;",
         "ok;ok;no 09 name taken;no 24 no space;ok;ok;ok;d size:empty;d size:small;ok;",
     ),
-];
-
-/// The words, files and how many bytes each is to have, what stands behind them, and what is shown.
-pub static LARGE_FILES: [(&[&str], &[(&str, usize)], &str, &str); 5] = [
     (
         &["try", "64", "64", "16"],
         &[("a", 65_536), ("b", 65_537)],
@@ -497,47 +513,66 @@ pub static EDITS: [(&str, u64); 10] = [
     ),
 ];
 
+/// Commands that are all answered by `ok` alone, what looks at an image, and what that shows before the first command and behind each.
+pub struct Script {
+    pub row: &'static str,
+    pub look: &'static str,
+    pub states: &'static [&'static str],
+}
+
 /// Ten commands, each of another kind but for the first two.
-pub static SCRIPT: &str =
-    "mkdir music;mkdir rock;create s1 rock;add m 5 music;hello;axiom rock music;write m 2;hi;rename s1 s2.c;unaxiom rock music;mv s2.c /music;rm m;";
+pub static KINDS: Script = Script {
+    row: "mkdir music;mkdir rock;create s1 rock;add m 5 music;hello;axiom rock music;write m 2;hi;rename s1 s2.c;unaxiom rock music;mv s2.c /music;rm m;",
+    look: "ls;stat;cat m;",
+    states: &[
+        "ok;s files 0;s known 0;s axioms 0;s free 8;ok;no 10 no such file here;",
+        "ok;s files 0;s known 1;s axioms 0;s free 8;ok;no 10 no such file here;",
+        "ok;s files 0;s known 2;s axioms 0;s free 8;ok;no 10 no such file here;",
+        "f s1;ok;s files 1;s known 4;s axioms 0;s free 8;ok;no 10 no such file here;",
+        "d music;d rock;d size:empty;d size:small;ok;s files 2;s known 5;s axioms 0;s free 7;ok;b 5;hello;ok;",
+        "d rock;d size:empty;d size:small;ok;s files 2;s known 5;s axioms 1;s free 7;ok;b 5;hello;ok;",
+        "d rock;d size:empty;d size:small;ok;s files 2;s known 5;s axioms 1;s free 7;ok;b 2;hi;ok;",
+        "d ext:;d rock;d size:empty;d size:small;ok;s files 2;s known 7;s axioms 1;s free 7;ok;b 2;hi;ok;",
+        "d ext:;d music;d rock;d size:empty;d size:small;ok;s files 2;s known 7;s axioms 0;s free 7;ok;b 2;hi;ok;",
+        "d ext:;d rock;d size:empty;d size:small;ok;s files 2;s known 7;s axioms 0;s free 7;ok;b 2;hi;ok;",
+        "f s2.c;ok;s files 1;s known 6;s axioms 0;s free 8;ok;no 10 no such file here;",
+    ],
+};
 
-/// What `ls;stat;cat m;` shows before the script, and behind each command.
-pub static SCRIPT_STATES: [&str; 11] = [
-    "ok;s files 0;s known 0;s axioms 0;s free 8;ok;no 10 no such file here;",
-    "ok;s files 0;s known 1;s axioms 0;s free 8;ok;no 10 no such file here;",
-    "ok;s files 0;s known 2;s axioms 0;s free 8;ok;no 10 no such file here;",
-    "f s1;ok;s files 1;s known 4;s axioms 0;s free 8;ok;no 10 no such file here;",
-    "d music;d rock;d size:empty;d size:small;ok;s files 2;s known 5;s axioms 0;s free 7;ok;b 5;hello;ok;",
-    "d rock;d size:empty;d size:small;ok;s files 2;s known 5;s axioms 1;s free 7;ok;b 5;hello;ok;",
-    "d rock;d size:empty;d size:small;ok;s files 2;s known 5;s axioms 1;s free 7;ok;b 2;hi;ok;",
-    "d ext:;d rock;d size:empty;d size:small;ok;s files 2;s known 7;s axioms 1;s free 7;ok;b 2;hi;ok;",
-    "d ext:;d music;d rock;d size:empty;d size:small;ok;s files 2;s known 7;s axioms 0;s free 7;ok;b 2;hi;ok;",
-    "d ext:;d rock;d size:empty;d size:small;ok;s files 2;s known 7;s axioms 0;s free 7;ok;b 2;hi;ok;",
-    "f s2.c;ok;s files 1;s known 6;s axioms 0;s free 8;ok;no 10 no such file here;",
-];
+/// Eight commands on one file and its words.
+pub static ONE_FILE: Script = Script {
+    row: "mkdir music;mkdir rock;axiom rock music;add s1 5 rock;hello;write s1 3;bye;mv s1 /music;unaxiom rock music;rm s1;",
+    look: "stat;cat s1;unaxiom rock music;props s1;",
+    states: &[
+        "s files 0;s known 0;s axioms 0;s free 8;ok;no 10 no such file here;no 17 no such axiom;no 10 no such file here;",
+        "s files 0;s known 1;s axioms 0;s free 8;ok;no 10 no such file here;no 17 no such axiom;no 10 no such file here;",
+        "s files 0;s known 2;s axioms 0;s free 8;ok;no 10 no such file here;no 17 no such axiom;no 10 no such file here;",
+        "s files 0;s known 2;s axioms 1;s free 8;ok;no 10 no such file here;ok;no 10 no such file here;",
+        "s files 1;s known 4;s axioms 1;s free 7;ok;b 5;hello;ok;ok;p rock;p size:;p size:small;ok;",
+        "s files 1;s known 4;s axioms 1;s free 7;ok;b 3;bye;ok;ok;p rock;p size:;p size:small;ok;",
+        "s files 1;s known 4;s axioms 1;s free 7;ok;b 3;bye;ok;ok;p music;p rock;p size:;p size:small;ok;",
+        "s files 1;s known 4;s axioms 0;s free 7;ok;b 3;bye;ok;no 17 no such axiom;p music;p rock;p size:;p size:small;ok;",
+        "s files 0;s known 2;s axioms 0;s free 8;ok;no 10 no such file here;no 17 no such axiom;no 10 no such file here;",
+    ],
+};
 
-/// Eight commands on one file and its words. The reply to each is `ok`.
-pub static FAILING_SCRIPT: &str =
-    "mkdir music;mkdir rock;axiom rock music;add s1 5 rock;hello;write s1 3;bye;mv s1 /music;unaxiom rock music;rm s1;";
+/// A word is hidden once it entails another, and a file is listed where no word of the listing has it.
+pub static TWO_FILES: Script = Script {
+    row: "mkdir music;mkdir rock;create s1 rock;create s2 music;axiom rock music;rename s2 s3.c;",
+    look: "ls;",
+    states: &[
+        "ok;",
+        "ok;",
+        "ok;",
+        "f s1;ok;",
+        "d music;d rock;ok;",
+        "d rock;f s2;ok;",
+        "d ext:;d rock;ok;",
+    ],
+};
 
-/// What it shows.
-pub static FAILING_SHOWN: &str = "ok;ok;ok;ok;ok;ok;ok;ok;";
-
-/// What `stat;cat s1;unaxiom rock music;props s1;` shows before it, and behind each command.
-pub static FAILING_STATES: [&str; 9] = [
-    "s files 0;s known 0;s axioms 0;s free 8;ok;no 10 no such file here;no 17 no such axiom;no 10 no such file here;",
-    "s files 0;s known 1;s axioms 0;s free 8;ok;no 10 no such file here;no 17 no such axiom;no 10 no such file here;",
-    "s files 0;s known 2;s axioms 0;s free 8;ok;no 10 no such file here;no 17 no such axiom;no 10 no such file here;",
-    "s files 0;s known 2;s axioms 1;s free 8;ok;no 10 no such file here;ok;no 10 no such file here;",
-    "s files 1;s known 4;s axioms 1;s free 7;ok;b 5;hello;ok;ok;p rock;p size:;p size:small;ok;",
-    "s files 1;s known 4;s axioms 1;s free 7;ok;b 3;bye;ok;ok;p rock;p size:;p size:small;ok;",
-    "s files 1;s known 4;s axioms 1;s free 7;ok;b 3;bye;ok;ok;p music;p rock;p size:;p size:small;ok;",
-    "s files 1;s known 4;s axioms 0;s free 7;ok;b 3;bye;ok;no 17 no such axiom;p music;p rock;p size:;p size:small;ok;",
-    "s files 0;s known 2;s axioms 0;s free 8;ok;no 10 no such file here;no 17 no such axiom;no 10 no such file here;",
-];
-
-/// Places at which the source of it fails at one byte a call, and how many commands are carried out then: the second line is not
-/// whole, or just so; so are a payload and all of it.
+/// Places at which the source of the commands on one file fails at one byte a call, and how many of them are carried out then: the second
+/// line is not whole, or just so; so are a payload and all of it.
 pub static FAILING_PLACES: [(usize, usize); 6] = [
     (0, 0),
     (22, 1),

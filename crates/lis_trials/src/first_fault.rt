@@ -1,0 +1,157 @@
+//! The first call that fails is the last one, of whichever object, in every word of the program.
+
+use crate::images::{bytes_of, fresh, run};
+use crate::tests::{Outside, SOUND, source};
+use lis_memdisk::MemStation;
+use lis_shell::status::Status;
+use lis_shell::top::lisfs;
+use std::alloc::Global;
+use std::test::Fail;
+
+mod log;
+
+use log::{Kind, Log, LoggedSource, LoggedStation};
+
+/// More calls of a kind than any of the words makes.
+const MANY_CALLS: u64 = 1_000;
+
+/// The source and the station in memory give and take so few bytes a call that there are many calls.
+const OUTSIDE: Outside = Outside { step: 7, ..SOUND };
+
+const SHOW_STEP: usize = 7;
+
+/// Words of the program, a session that makes the image with which they begin, and the input.
+type Case = (&'static [&'static str], &'static str, &'static str);
+
+/// The session leaves open records, so that the opening brings them home.
+static CASES: [Case; 6] = [
+    (
+        &["try", "64", "64", "8"],
+        "",
+        "mkdir music;create a music;add m 5;hello;frob;ls;cat m;cd music;pwd;props a;way a;stat;rm a;ls",
+    ),
+    (
+        &["make", "i", "64", "64", "8"],
+        "mkdir old;create o old;",
+        "ls;",
+    ),
+    (
+        &["make", "i", "64", "64", "8", "v2"],
+        "mkdir old;create o old;",
+        "ls;",
+    ),
+    (
+        &["run", "i"],
+        "mkdir old;create o old;",
+        "mkdir music;mkdir rock;create s1 rock;add m 5 music;hello;axiom rock music;ls;cat m;frob;write m 2;hi;rename s1 s2.c;cd music;pwd;props m;way m;stat;cd /;unaxiom rock music;mv s2.c /music;rm m;rmdir nosuch;ls",
+    ),
+    (&["upgrade", "i"], "mkdir old;create o old;", "ls;"),
+    // There is room for the words of the first lines alone: no more files are made.
+    (
+        &["grow", "i", "7"],
+        "mkdir k:;create a k:10 k:11 k:12 k:13 k:14 k:15 k:16 k:17 k:18 k:19 k:20 k:21 k:22 k:23 k:24 k:25;create b k:26 k:27 k:28 k:29 k:30 k:31 k:32 k:33 k:34 k:35 k:36 k:37 k:38 k:39 k:40 k:41;create c k:42 k:43 k:44 k:45 k:46 k:47;",
+        "ls;",
+    ),
+];
+
+/// How words ended of whose calls one was to fail: how many calls there were of both objects, and the number of the one that failed.
+#[derive(Drop)]
+struct Ended {
+    status: Status,
+    calls: u64,
+    failed: u64,
+}
+
+// The bytes of an image on which a session was carried out. Its records are open.
+fn used(alloc: Global, row: &str) -> Result<Vec<u8>, Fail> {
+    let mut station = MemStation::new(alloc, &fresh(alloc)?, 0)?;
+    if run(alloc, row, &mut station)? != Status::Done {
+        return Err("the session did not end".into());
+    }
+    bytes_of(alloc, &mut station)
+}
+
+// What the words do where this call of a kind fails.
+fn ended(
+    alloc: Global,
+    words: &[String],
+    image: &[u8],
+    row: &str,
+    log: &Log,
+) -> Result<Ended, Fail> {
+    let mut input = LoggedSource {
+        source: source(alloc, row, &OUTSIDE)?,
+        log,
+    };
+    let mut station = LoggedStation {
+        station: MemStation::new(alloc, image, 0)?,
+        log,
+    };
+    station.station.step = SHOW_STEP;
+    let status = lisfs(alloc, words, &mut input, &mut station);
+    Ok(Ended {
+        status,
+        calls: log.calls(),
+        failed: log.failed(),
+    })
+}
+
+// The status of a fault of this kind.
+fn named(kind: Kind) -> Status {
+    match kind {
+        Kind::Take => Status::InputFault,
+        Kind::Disk => Status::DiskFault,
+        Kind::Show => Status::OutputFault,
+    }
+}
+
+// The first call of this kind that fails and is not the last one of both objects, or ends the words with another status. 0 where there is
+// none.
+fn first_wrong(alloc: Global, case: &Case, kind: Kind) -> Result<u64, Fail> {
+    let (names, before, row) = case;
+    let mut words = Vec::new(alloc);
+    for name in *names {
+        words.push(String::from_str(alloc, name)?)?;
+    }
+    let image = used(alloc, before)?;
+    for fails in 1..MANY_CALLS {
+        let log = Log::new(kind, fails);
+        let ended = ended(alloc, &words, &image, row, &log)?;
+        if ended.failed == 0 && ended.status == Status::Done {
+            return Ok(0);
+        }
+        if ended.failed != ended.calls || ended.status != named(kind) {
+            return Ok(fails);
+        }
+    }
+    Err("the words make more calls".into())
+}
+
+// A body that mounts again behind a failed sync is refused, and one that takes or shows behind it.
+#[test]
+fn nothing_is_mounted_again_behind_a_failed_sync(rt: HostRuntime) -> Result<(), Fail> {
+    for case in &CASES {
+        let wrong = first_wrong(rt.alloc(), case, Kind::Disk)?;
+        assert_eq!(rt; wrong, 0, "{:?}", case.0);
+    }
+    Ok(())
+}
+
+// So is one that takes input again behind a fault of it, and one that shows or changes more.
+#[test]
+fn nothing_is_taken_again_behind_a_fault_of_the_input(rt: HostRuntime) -> Result<(), Fail> {
+    for case in &CASES {
+        let wrong = first_wrong(rt.alloc(), case, Kind::Take)?;
+        assert_eq!(rt; wrong, 0, "{:?}", case.0);
+    }
+    Ok(())
+}
+
+#[test]
+fn nothing_is_done_behind_a_failed_show(rt: HostRuntime) -> Result<(), Fail> {
+    for case in &CASES {
+        let wrong = first_wrong(rt.alloc(), case, Kind::Show)?;
+        assert_eq!(rt; wrong, 0, "{:?}", case.0);
+    }
+    Ok(())
+}
