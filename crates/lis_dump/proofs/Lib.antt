@@ -1,1 +1,4 @@
+pub mod Rising
+pub mod Led
+pub mod Lower
 mod Examples
