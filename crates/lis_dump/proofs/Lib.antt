@@ -1,4 +1,10 @@
 pub mod Rising
 pub mod Led
 pub mod Lower
+pub mod Mkdirs
+pub mod Axioms
+pub mod Lists
+pub mod Given
+pub mod Paths
+pub mod Adds
 mod Examples

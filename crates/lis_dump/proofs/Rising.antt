@@ -45,12 +45,14 @@ module _ {K : Type 0} (cmp : K → K → Ordering) (order : IsTotalOrder cmp) wh
   front_apart xs ys x h m n = let less = front_below xs ys x x h m n in let level = tied_itself order x in cc
 
   -- what stands behind all members is put in there
+  pub insert_behind : (xs : List K) (k : K) → ((x : K) → Among xs x → cmp x k ≡ Less) → insert_key cmp xs k ≡ xs ++ k ∷ []
+  insert_behind [] k above = refl
+  insert_behind (x ∷ xs) k above =
+      let more : cmp k x ≡ Greater = order.antisymm k x ∙ ap ordering_reverse (above x (inl refl)) in
+      rw more (ap (λ zs. x ∷ zs) (insert_behind xs k (λ y m. above y (inr m))))
+
   pub insert_next : (xs : List K) (k : K) (ys : List K) → is_rising cmp (xs ++ k ∷ ys) ≡ true → insert_key cmp xs k ≡ xs ++ k ∷ []
-  insert_next [] k ys h = refl
-  insert_next (x ∷ xs) k ys h =
-      let less = front_below (x ∷ xs) (k ∷ ys) x k h (inl refl) (inl refl) in
-      let more : cmp k x ≡ Greater = order.antisymm k x ∙ ap ordering_reverse less in
-      rw more (ap (λ zs. x ∷ zs) (insert_next xs k ys (and_parts _ _ h).1))
+  insert_next xs k ys h = insert_behind xs k (λ x m. front_below xs (k ∷ ys) x k h m (inl refl))
 
   pub insert_all_next : (xs ys : List K) → is_rising cmp (xs ++ ys) ≡ true → with_more cmp xs ys ≡ xs ++ ys
   insert_all_next xs [] h = sym (append-nil xs)
