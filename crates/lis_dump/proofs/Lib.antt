@@ -7,4 +7,6 @@ pub mod Lists
 pub mod Given
 pub mod Paths
 pub mod Adds
+pub mod Moves
+pub mod Files
 mod Examples
