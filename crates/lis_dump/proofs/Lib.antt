@@ -4,9 +4,11 @@ pub mod Lower
 pub mod Mkdirs
 pub mod Axioms
 pub mod Lists
+pub mod Joined
 pub mod Given
 pub mod Paths
 pub mod Adds
 pub mod Moves
 pub mod Files
+pub mod Visible
 mod Examples

@@ -24,6 +24,7 @@ use Rattle.lis_model.specs.Step.{tags_at}
 use Rattle.lis_laws.proofs.Members.{word_order, same_word_decides}
 use Rattle.lis_dump.specs.Dump.{joined}
 use Rattle.lis_dump.proofs.Rising.{insert_all_next}
+use Rattle.lis_dump.proofs.Joined.{joined_short}
 use Rattle.lis_dump.proofs.Lists.{filter_all}
 use Rattle.lis_dump.proofs.Given.{IsGiven, given_tag}
 
@@ -51,16 +52,8 @@ words_fit : (words : List (List ℕ)) → ((w : List ℕ) → Among words w → 
 words_fit [] given = tt
 words_fit (word ∷ words) given = ((given word (inl refl)).form, words_fit words (λ w m. given w (inr m)))
 
-behind_short : (words : List (List ℕ)) → ((w : List ℕ) → Among words w → IsGiven w) → length (flat_map (λ word. 47 ∷ word) words) ≤ 61 * length words
-behind_short [] given = omega arith
-behind_short (word ∷ words) given =
-    omega (arith, behind_short words (λ w m. given w (inr m)), length-append (47 ∷ word) (flat_map (λ other. 47 ∷ other) words),
-    property_short word (word_is_property word (given word (inl refl)).form))
-
-pub path_short : (word : List ℕ) (words : List (List ℕ)) → ((w : List ℕ) → Among (word ∷ words) w → IsGiven w) → length (joined 47 (word ∷ words)) ≤ 60 + 61 * length words
-path_short word words given =
-    omega (arith, behind_short words (λ w m. given w (inr m)), length-append word (flat_map (λ other. 47 ∷ other) words),
-    property_short word (word_is_property word (given word (inl refl)).form))
+pub path_short : (words : List (List ℕ)) → ((w : List ℕ) → Among words w → IsGiven w) → length (joined 47 words) ≤ 61 * length words
+path_short words given = joined_short 47 words (λ w m. property_short w (word_is_property w (given w m).form))
 
 -- the words as a path: at most eight, in order
 pub record IsPath (word : List ℕ) (words : List (List ℕ)) : Type 0 where
@@ -80,8 +73,8 @@ module _ (word : List ℕ) (words : List (List ℕ)) (path : IsPath word words) 
       ap (λ bytes. text_steps bytes) (sym (printed_is word words))
       ∙ reads_complete (printed steps) false steps (from_here (printed steps) steps (path_printed (Has word) (steps_for words) (words_fit (word ∷ words) path.given)))
 
-  short : length text ≤ 487
-  short = omega (arith, path_short word words path.given, path.few)
+  short : length text ≤ 488
+  short = omega (arith, path_short (word ∷ words) path.given, path.few)
 
   is_one : IsPlace steps
   is_one = record {
