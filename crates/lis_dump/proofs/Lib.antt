@@ -11,4 +11,5 @@ pub mod Adds
 pub mod Moves
 pub mod Files
 pub mod Visible
+pub mod Spelled
 mod Examples
