@@ -12,4 +12,5 @@ pub mod Moves
 pub mod Files
 pub mod Visible
 pub mod Spelled
+pub mod Lines
 mod Examples
