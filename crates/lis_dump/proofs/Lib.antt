@@ -13,4 +13,6 @@ pub mod Files
 pub mod Visible
 pub mod Spelled
 pub mod Lines
+pub mod Sizes
+pub mod Whole
 mod Examples

@@ -19,7 +19,7 @@ use Rattle.lis_laws.proofs.Apart.Declarable.{Plain, Test, Head}
 use Rattle.lis_laws.proofs.Sources.{rights_are, right_plain}
 use Rattle.lis_dump.specs.Dump.{joined, words_line, mkdir_line, axiom_line, first_words, other_words, add_lines, mv_lines, file_lines}
 use Rattle.lis_dump.proofs.Lists.{among_take, among_drop}
-use Rattle.lis_dump.proofs.Joined.{joined_short}
+use Rattle.lis_dump.proofs.Joined.{behind, joined_short}
 use Rattle.lis_dump.proofs.Given.{given_words}
 use Rattle.lis_dump.proofs.Paths.{path_short}
 use Rattle.lis_dump.proofs.Mkdirs.{mkdir_item}
@@ -76,23 +76,28 @@ command_visible : (first : List ℕ) → 0 < length first → list_all is_visibl
 command_visible first some bytes short = (record { some = some; bytes = bytes }, short)
 
 -- ---- mkdir and axiom
-pub mkdir_spells : (word : List ℕ) → is_property word ≡ true → Spells (mkdir_line word) (mkdir_item word ∷ [])
-mkdir_spells word form = spells_line (codes "mkdir") (word ∷ []) (are_words (codes "mkdir") (word ∷ []) (omega arith) each) (mkdir_item word) refl (rw form refl)
+pub mkdir_words : (word : List ℕ) → is_property word ≡ true → AreWords (codes "mkdir") (word ∷ [])
+mkdir_words word form = are_words (codes "mkdir") (word ∷ []) (omega arith) each
   where
     each : (w : List ℕ) → Among (codes "mkdir" ∷ word ∷ []) w → IsShortWord w
     each w (inl same) = first_fits (codes "mkdir") (command_visible (codes "mkdir") (omega arith) refl (omega arith)) w same
     each w (inr (inl same)) = first_fits word (property_fits word form) w same
     each w (inr (inr none)) = absurd none
 
-pub axiom_spells : (pair : List ℕ × List ℕ) → is_property pair.0 ≡ true → is_property pair.1 ≡ true → Spells (axiom_line pair) (axiom_item pair ∷ [])
-axiom_spells pair left right =
-    spells_line (codes "axiom") (pair.0 ∷ pair.1 ∷ []) (are_words (codes "axiom") (pair.0 ∷ pair.1 ∷ []) (omega arith) each) (axiom_item pair) refl (rw (left, right) refl)
+pub mkdir_spells : (word : List ℕ) → is_property word ≡ true → Spells (mkdir_line word) (mkdir_item word ∷ [])
+mkdir_spells word form = spells_line (codes "mkdir") (word ∷ []) (mkdir_words word form) (mkdir_item word) refl (rw form refl)
+
+pub axiom_words : (pair : List ℕ × List ℕ) → is_property pair.0 ≡ true → is_property pair.1 ≡ true → AreWords (codes "axiom") (pair.0 ∷ pair.1 ∷ [])
+axiom_words pair left right = are_words (codes "axiom") (pair.0 ∷ pair.1 ∷ []) (omega arith) each
   where
     each : (w : List ℕ) → Among (codes "axiom" ∷ pair.0 ∷ pair.1 ∷ []) w → IsShortWord w
     each w (inl same) = first_fits (codes "axiom") (command_visible (codes "axiom") (omega arith) refl (omega arith)) w same
     each w (inr (inl same)) = first_fits pair.0 (property_fits pair.0 left) w same
     each w (inr (inr (inl same))) = first_fits pair.1 (property_fits pair.1 right) w same
     each w (inr (inr (inr none))) = absurd none
+
+pub axiom_spells : (pair : List ℕ × List ℕ) → is_property pair.0 ≡ true → is_property pair.1 ≡ true → Spells (axiom_line pair) (axiom_item pair ∷ [])
+axiom_spells pair left right = spells_line (codes "axiom") (pair.0 ∷ pair.1 ∷ []) (axiom_words pair left right) (axiom_item pair) refl (rw (left, right) refl)
 
 pub axiom_in_form : (t : State) → WellFormed t → (pair : List ℕ × List ℕ) → Among t.axioms pair → (is_property pair.0 ≡ true) × (is_property pair.1 ≡ true)
 axiom_in_form t formed pair m = (
@@ -154,6 +159,9 @@ module _ (file : File) (formed : IsFileInForm file) where
       first_fits (decimal (length file.bytes)) (decimal_visible (length file.bytes) small, omega (arith, length-decimal-le 12 (length file.bytes) (omega arith) small (omega (arith, small)))) w same
   add_each w (inr (inr (inr m))) = property_fits w (first_in_form w m)
 
+  pub add_are : AreWords (codes "add") add_words
+  add_are = are_words (codes "add") add_words (omega (arith, length-take 8 file.assigned)) add_each
+
   tags_are : tags_form (first_words file) ≡ Ok (first_words file)
   tags_are =
       let properties : list_all is_property (first_words file) ≡ true = all_from is_property (first_words file) first_in_form in
@@ -168,14 +176,13 @@ module _ (file : File) (formed : IsFileInForm file) where
 
   add_spells : Spells (add_lines file) (add_item file ∷ [])
   add_spells =
-      spells_payload (codes "add") add_words (are_words (codes "add") add_words (omega (arith, length-take 8 file.assigned)) add_each) file.bytes (add_item file)
+      spells_payload (codes "add") add_words add_are file.bytes (add_item file)
       (rw (count_is (length file.bytes) small) (ap (λ n. Some n) (count_value (length file.bytes) small))) add_item_is
 
-  -- the line of the other words, if there are any
-  mv_spells : (words : List (List ℕ)) → length words ≤ 8 → ((w : List ℕ) → Among words w → is_word w ≡ true) → Spells (mv_lines file.name words) (mv_items file.name words)
-  mv_spells [] few each = spells_nothing
-  mv_spells (word ∷ words) few each =
-      spells_line (codes "mv") (file.name ∷ path ∷ []) (record { visible = visible; short = short }) (mv_item file.name (word ∷ words)) refl (rw formed.name refl)
+  -- the line of the other words
+  pub mv_are : (word : List ℕ) (words : List (List ℕ)) → length (word ∷ words) ≤ 8 → ((w : List ℕ) → Among (word ∷ words) w → is_word w ≡ true)
+      → AreWords (codes "mv") (file.name ∷ joined 47 (word ∷ words) ∷ [])
+  mv_are word words few each = record { visible = visible; short = short }
     where
       path : List ℕ
       path = joined 47 (word ∷ words)
@@ -189,7 +196,12 @@ module _ (file : File) (formed : IsFileInForm file) where
       short : length (joined 32 (codes "mv" ∷ file.name ∷ path ∷ [])) ≤ 1024
       short =
           omega (arith, few, name_short file.name formed.name, joined_short 47 (word ∷ words) (λ w m. property_short w (word_is_property w (each w m))),
-          length-append (codes "mv") (flat_map (λ other. 32 ∷ other) (file.name ∷ path ∷ [])), length-append (32 ∷ file.name) (flat_map (λ other. 32 ∷ other) (path ∷ [])), length-append (32 ∷ path) [])
+          length-append (codes "mv") (behind 32 (file.name ∷ path ∷ [])), length-append (32 ∷ file.name) (behind 32 (path ∷ [])), length-append (32 ∷ path) [])
+
+  mv_spells : (words : List (List ℕ)) → length words ≤ 8 → ((w : List ℕ) → Among words w → is_word w ≡ true) → Spells (mv_lines file.name words) (mv_items file.name words)
+  mv_spells [] few each = spells_nothing
+  mv_spells (word ∷ words) few each =
+      spells_line (codes "mv") (file.name ∷ joined 47 (word ∷ words) ∷ []) (mv_are word words few each) (mv_item file.name (word ∷ words)) refl (rw formed.name refl)
 
   pub file_spells : Spells (file_lines file) (file_items file)
   file_spells =
