@@ -1,7 +1,6 @@
 -- The lines of `add` make a file with its bytes and its first eight words, where the files before it are there.
-use Rattle.std.proofs.Common.{◌≡◌, ◌⊎◌, ℕ, ◌+◌, ◌-◌, ◌≤◌, nat_lt, nat_le, Bool, true, false, not, ◌||◌, List, [], ◌∷◌, ◌++◌, length, map, take, drop, refl, sym, ap, subst, ◌∙◌, inl, inr, length-append, arith}
+use Rattle.std.proofs.Common.{◌≡◌, ◌⊎◌, ℕ, ◌+◌, ◌≤◌, nat_lt, nat_le, true, false, not, List, [], ◌∷◌, ◌++◌, length, refl, sym, ap, subst, ◌∙◌, inl, inr, length-append, arith}
 use Rattle.std.specs.List.{list_any, list_all}
-use Rattle.std.specs.declared.cmp.Ordering.{Ordering}
 use Rattle.std.specs.declared.cmp.Ordering.TheVariants.{Less}
 use Rattle.std.specs.Cmp.{tied_itself}
 use Rattle.std.specs.BTreeSet.{insert_key}
@@ -11,10 +10,9 @@ use Rattle.lis_graph.specs.Graph.{is_rising}
 use Rattle.lis_graph.proofs.Members.{Among, among_from_any, among_left, among_right, among_insert_key}
 use Rattle.lis_words.specs.Words.{word_cmp, same_word, is_built_in}
 use Rattle.lis_model.specs.declared.command.Command.TheVariants.{Add}
-use Rattle.lis_model.specs.Sets.{with_words}
 use Rattle.lis_model.specs.State.{State, File, WellFormed, is_assignable, file_cmp, file_limit, blocks_taken, used_blocks}
-use Rattle.lis_model.specs.Changes.{new_file, has_name, file_added}
-use Rattle.lis_model.specs.Step.{Situation, Item, Payload, Outcome, step, changed, is_head_or_test, is_large, free_blocks, add_checks, add_with}
+use Rattle.lis_model.specs.Changes.{new_file, has_name}
+use Rattle.lis_model.specs.Step.{Situation, Item, Payload, step, changed, exceeds_known, exceeds_words, is_head_or_test, is_large, free_blocks, add_checks, add_with}
 use Rattle.lis_model.specs.Step.Item.{Do}
 use Rattle.lis_laws.proofs.Members.{word_order, same_word_decides}
 use Rattle.lis_laws.proofs.Counts.{all_among, all_from}
@@ -97,9 +95,7 @@ module _ (t : State) (formed : WellFormed t) where
 
   none_stands : (front : List File) (file : File) → IsNext front file
       → NoneStands (add_checks (at_root (by_files front)) (first_words file) (begun file) (by_files (insert_key file_cmp front (begun file))) (length file.bytes))
-  none_stands front file next =
-      (small, (name_new front file next, (refl, (own, (fit, (assignable, (few, (room,
-      (room_words made t formed lower, (room_known made t formed lower formed.declared_set, (space, tt)))))))))))
+  none_stands front file next = (small, (new, (refl, (own, (fit, (assignable, (few, (room, (described, (known, (space, tt)))))))))))
     where
       made : State
       made = by_files (insert_key file_cmp front (begun file))
@@ -109,6 +105,9 @@ module _ (t : State) (formed : WellFormed t) where
 
       given : (w : List ℕ) → Among (first_words file) w → IsGiven w
       given w m = given_words t formed file member w (among_take 8 file.assigned w m)
+
+      new : has_name front file.name ≡ false
+      new = name_new front file next
 
       small : is_large (by_files front) (length file.bytes) ≡ false
       small = false_from_ne_true (is_large (by_files front) (length file.bytes))
@@ -131,6 +130,12 @@ module _ (t : State) (formed : WellFormed t) where
 
       lower : IsLower made t
       lower = files_lower front file (begun file) next (begun_barer file) (insert_key file_cmp front (begun file)) (among_insert_key file_cmp front (begun file))
+
+      described : exceeds_words made ≡ false
+      described = room_words made t formed lower
+
+      known : exceeds_known made ≡ false
+      known = room_known made t formed lower formed.declared_set
 
       space : nat_lt (free_blocks (by_files front)) (blocks_taken t.limits.version (length file.bytes)) ≡ false
       space = false_from_ne_true (nat_lt (free_blocks (by_files front)) (blocks_taken t.limits.version (length file.bytes))) (λ h. omega (arith, ltb-true _ _ h, next.blocks, formed.few_blocks))

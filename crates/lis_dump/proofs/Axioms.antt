@@ -1,5 +1,5 @@
 -- The lines of `axiom` add all axioms of a state, in their order, where its words and files are there.
-use Rattle.std.proofs.Common.{◌≡◌, ◌⊎◌, ℕ, ◌+◌, ◌≤◌, Bool, true, false, not, ◌&&◌, List, [], ◌∷◌, ◌++◌, length, map, refl, sym, ap, subst, ◌∙◌, inl, inr, append_assoc, append-nil, length-append, arith}
+use Rattle.std.proofs.Common.{◌≡◌, ℕ, ◌+◌, ◌≤◌, true, false, not, ◌&&◌, List, [], ◌∷◌, ◌++◌, length, map, refl, sym, ap, subst, ◌∙◌, inl, inr, append_assoc, append-nil, length-append, arith}
 use Rattle.std.proofs.lemmas.Bool.{and_parts, and_from, false_from_ne_true, not_from_true, ltb-true}
 use Rattle.lis_graph.specs.Graph.{is_rising}
 use Rattle.lis_graph.proofs.Members.{Among, among_from_any, among_left, among_right, among_insert_key}
@@ -7,7 +7,7 @@ use Rattle.lis_words.specs.Words.{has_word, same_word, is_plain_word}
 use Rattle.lis_model.specs.declared.command.Command.TheVariants.{Axiom}
 use Rattle.lis_model.specs.State.{State, WellFormed, up, is_nameable, pair_cmp}
 use Rattle.lis_model.specs.Changes.{with_axiom, has_axiom, same_pair}
-use Rattle.lis_model.specs.Step.{Item, no_payload, step, changed, axiom_checks, exceeds_axioms}
+use Rattle.lis_model.specs.Step.{Item, no_payload, step, changed, axiom_checks, exceeds_axioms, exceeds_known, exceeds_words}
 use Rattle.lis_model.specs.Step.Item.{Do}
 use Rattle.lis_laws.proofs.Members.{pair_order, same_word_decides}
 use Rattle.lis_laws.proofs.Chains.{Pairs, up_decides, acyclic_within}
@@ -43,9 +43,7 @@ module _ (t : State) (formed : WellFormed t) where
     few : length front + 1 ≤ length t.axioms
 
   none_stands : (front : Pairs) (pair : List ℕ × List ℕ) → IsNext front pair → NoneStands (axiom_checks (by_axioms front) pair (by_axioms (with_axiom front pair)))
-  none_stands front pair next =
-      (not_from_true _ right.0, (not_from_true _ (and_from _ _ right.1 left), (new, (no_circle, (few,
-      (room_known made t formed lower formed.declared_set, (room_words made t formed lower, tt)))))))
+  none_stands front pair next = (plain, (there_both, (new, (no_circle, (few, (known, (described, tt)))))))
     where
       made : State
       made = by_axioms (with_axiom front pair)
@@ -61,6 +59,12 @@ module _ (t : State) (formed : WellFormed t) where
 
       left : is_nameable t.declared pair.0 ≡ true
       left = all_among (λ (e : List ℕ × List ℕ). is_nameable t.declared e.0) t.axioms pair formed.axioms.lefts member
+
+      plain : not (is_plain_word pair.1) ≡ false
+      plain = not_from_true _ right.0
+
+      there_both : not (has_word t.declared pair.1 && is_nameable t.declared pair.0) ≡ false
+      there_both = not_from_true _ (and_from _ _ right.1 left)
 
       there_already : has_axiom front pair ≡ true → ⊥
       there_already has =
@@ -91,6 +95,12 @@ module _ (t : State) (formed : WellFormed t) where
         axioms = within;
         files = λ f m. (f, m, barer_itself f);
       }
+
+      known : exceeds_known made ≡ false
+      known = room_known made t formed lower formed.declared_set
+
+      described : exceeds_words made ≡ false
+      described = room_words made t formed lower
 
   axiom_steps : (front : Pairs) (pair : List ℕ × List ℕ) → IsNext front pair → step (at_root (by_axioms front)) (axiom_item pair) ≡ said_ok (at_root (by_axioms (with_axiom front pair)))
   unfolding step

@@ -1,5 +1,5 @@
 -- The words that files are given: plain and valued ones, none of them built in.
-use Rattle.std.proofs.Common.{◌≡◌, ℕ, true, false, not, ◌&&◌, ◌||◌, List, sym, ap, ◌∙◌}
+use Rattle.std.proofs.Common.{◌≡◌, ℕ, true, false, ◌||◌, List}
 use Rattle.std.proofs.lemmas.Bool.{or_left, or_right, and_from, not_from_false, false_from_ne_true, both_ways}
 use Rattle.lis_graph.proofs.Members.{Among}
 use Rattle.lis_words.specs.Words.{head_bytes, is_plain_word, is_head, is_valued, is_word, is_test, is_built_in}

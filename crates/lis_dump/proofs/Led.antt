@@ -1,8 +1,8 @@
 -- Items that are answered by `ok` alone, one after another, and where they lead.
-use Rattle.std.proofs.Common.{◌≡◌, Bool, true, false, cond, List, [], ◌∷◌, ◌++◌, refl, ap, subst, sym, ◌∙◌}
+use Rattle.std.proofs.Common.{◌≡◌, Bool, List, [], ◌∷◌, ◌++◌, refl, ap, subst, sym, ◌∙◌}
 use Rattle.lis_model.specs.declared.refusal.Refusal.{Refusal}
 use Rattle.lis_model.specs.Replies.{ok_line}
-use Rattle.lis_model.specs.Step.{Situation, Outcome, Item, step, judged, refused, situation_after}
+use Rattle.lis_model.specs.Step.{Situation, Outcome, Item, step, judged, situation_after}
 use Rattle.lis_dump.specs.Law.{AnswersOk}
 use Rattle.lis_laws.proofs.Steps.{NoneStands}
 

@@ -1,6 +1,6 @@
 -- Each line of a dump spells its item.
-use Rattle.std.proofs.Common.{◌≡◌, ◌⊎◌, ℕ, ◌+◌, ◌*◌, ◌<◌, ◌≤◌, ◌^◌, ◌==◌, nat_lt, nat_le, Bool, true, false, cond, ◌&&◌, ◌||◌, Option, Some, None, Ok, Err, List, [], ◌∷◌, ◌++◌, length, take, drop, codes, decimal, refl, sym, ap, subst, ◌∙◌, inl, inr, length-append, arith}
-use Rattle.std.specs.List.{list_all, flat_map}
+use Rattle.std.proofs.Common.{◌≡◌, ◌⊎◌, ℕ, ◌<◌, ◌≤◌, ◌^◌, ◌==◌, nat_lt, nat_le, Bool, true, false, cond, ◌&&◌, ◌||◌, Some, Ok, List, [], ◌∷◌, length, codes, decimal, refl, ap, subst, ◌∙◌, inl, inr, length-append, arith}
+use Rattle.std.specs.List.{list_all}
 use Rattle.std.proofs.lemmas.Bool.{and_parts, and_from, or_cases, or_left, or_right, false_from_ne_true, leb-true, le-leb, lt-ltb, ltb-true}
 use Rattle.std.proofs.lemmas.Fmt.{digits_decimal, digits_value-decimal, decimal_nonempty, length-decimal-le}
 use Rattle.std.proofs.lemmas.List.{length-take, length-drop}
@@ -10,18 +10,17 @@ use Rattle.lis_words.proofs.Tests.{property_short, word_is_property}
 use Rattle.lis_grammar.proofs.Printed.{numerals}
 use Rattle.lis_model.specs.declared.command.Command.TheVariants.{Add}
 use Rattle.lis_model.specs.State.{State, File, WellFormed, is_declarable, is_known_head, is_nameable, file_limit}
-use Rattle.lis_model.specs.Step.{Payload, Item, no_payload}
+use Rattle.lis_model.specs.Step.{Payload}
 use Rattle.lis_model.specs.Step.Item.{Do}
-use Rattle.lis_model.specs.Script.{tags_form, add_named, item_of_words, size_of_words, payload_limit, payload_of}
+use Rattle.lis_model.specs.Script.{tags_form, add_named, item_of_words, payload_limit, payload_of}
 use Rattle.lis_laws.proofs.Counts.{all_among, all_from}
 use Rattle.lis_laws.proofs.Apart.{Declarable, declarable_cases}
 use Rattle.lis_laws.proofs.Apart.Declarable.{Plain, Test, Head}
 use Rattle.lis_laws.proofs.Sources.{rights_are, right_plain}
-use Rattle.lis_dump.specs.Dump.{joined, words_line, mkdir_line, axiom_line, first_words, other_words, add_lines, mv_lines, file_lines}
+use Rattle.lis_dump.specs.Dump.{joined, mkdir_line, axiom_line, first_words, other_words, add_lines, mv_lines, file_lines}
 use Rattle.lis_dump.proofs.Lists.{among_take, among_drop}
 use Rattle.lis_dump.proofs.Joined.{behind, joined_short}
 use Rattle.lis_dump.proofs.Given.{given_words}
-use Rattle.lis_dump.proofs.Paths.{path_short}
 use Rattle.lis_dump.proofs.Mkdirs.{mkdir_item}
 use Rattle.lis_dump.proofs.Axioms.{axiom_item}
 use Rattle.lis_dump.proofs.Adds.{payload_with, add_item}
@@ -195,8 +194,15 @@ module _ (file : File) (formed : IsFileInForm file) where
 
       short : length (joined 32 (codes "mv" ∷ file.name ∷ path ∷ [])) ≤ 1024
       short =
-          omega (arith, few, name_short file.name formed.name, joined_short 47 (word ∷ words) (λ w m. property_short w (word_is_property w (each w m))),
-          length-append (codes "mv") (behind 32 (file.name ∷ path ∷ [])), length-append (32 ∷ file.name) (behind 32 (path ∷ [])), length-append (32 ∷ path) [])
+          omega (
+            arith,
+            few,
+            name_short file.name formed.name,
+            joined_short 47 (word ∷ words) (λ w m. property_short w (word_is_property w (each w m))),
+            length-append (codes "mv") (behind 32 (file.name ∷ path ∷ [])),
+            length-append (32 ∷ file.name) (behind 32 (path ∷ [])),
+            length-append (32 ∷ path) [],
+          )
 
   mv_spells : (words : List (List ℕ)) → length words ≤ 8 → ((w : List ℕ) → Among words w → is_word w ≡ true) → Spells (mv_lines file.name words) (mv_items file.name words)
   mv_spells [] few each = spells_nothing

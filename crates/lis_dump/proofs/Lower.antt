@@ -1,6 +1,5 @@
 -- A state that is on its way to another one: all that it has is there too, but its files may have fewer words.
-use Rattle.std.proofs.Common.{◌≡◌, ◌⊎◌, ℕ, ◌≤◌, nat_lt, nat_le, Bool, true, false, List, length, refl, sym, ap, subst, ◌∙◌, inl, inr, arith}
-use Rattle.std.specs.List.{list_any}
+use Rattle.std.proofs.Common.{◌≡◌, ℕ, ◌≤◌, nat_lt, nat_le, true, false, List, length, refl, ap, subst, arith}
 use Rattle.std.proofs.lemmas.Bool.{leb-true, ltb-true, false_from_ne_true}
 use Rattle.lis_graph.specs.Graph.{is_rising}
 use Rattle.lis_graph.proofs.Members.{Among, among_from_any}
@@ -10,7 +9,7 @@ use Rattle.lis_model.specs.declared.limits.Limits.{Limits}
 use Rattle.lis_model.specs.Tests.{is_met}
 use Rattle.lis_model.specs.Derived.{derived_words}
 use Rattle.lis_model.specs.State.{State, File, WellFormed, own_words, description, known}
-use Rattle.lis_model.specs.Step.{exceeds_axioms, exceeds_known, exceeds_words}
+use Rattle.lis_model.specs.Step.{exceeds_known, exceeds_words}
 use Rattle.lis_laws.proofs.Members.{word_order}
 use Rattle.lis_laws.proofs.Counts.{all_among}
 use Rattle.lis_laws.proofs.Closures.{IsLess, all_up_within, all_up_le}

@@ -1,5 +1,5 @@
 -- The lines of `mkdir` declare all words of a state, in their order.
-use Rattle.std.proofs.Common.{◌≡◌, ◌⊎◌, ℕ, Bool, true, false, not, List, [], ◌∷◌, ◌++◌, map, refl, sym, ap, subst, ◌∙◌, inl, inr, append_assoc, append-nil, arith}
+use Rattle.std.proofs.Common.{◌≡◌, ℕ, true, false, List, [], ◌∷◌, ◌++◌, map, refl, sym, ap, subst, ◌∙◌, inl, inr, append_assoc, append-nil, arith}
 use Rattle.std.proofs.lemmas.Bool.{false_from_ne_true, ltb-true}
 use Rattle.lis_graph.specs.Graph.{is_rising}
 use Rattle.lis_graph.proofs.Members.{Among, among_left, among_right, among_insert_key}
@@ -7,7 +7,7 @@ use Rattle.lis_words.specs.Words.{word_cmp, has_word, is_built_in, is_valued}
 use Rattle.lis_model.specs.declared.command.Command.TheVariants.{Mkdir}
 use Rattle.lis_model.specs.Sets.{with_word}
 use Rattle.lis_model.specs.State.{State, File, WellFormed, is_declarable}
-use Rattle.lis_model.specs.Step.{Situation, Item, no_payload, step, changed, mkdir_checks, exceeds_axioms}
+use Rattle.lis_model.specs.Step.{Situation, Item, no_payload, step, changed, mkdir_checks, exceeds_axioms, exceeds_known, exceeds_words}
 use Rattle.lis_model.specs.Step.Item.{Do}
 use Rattle.lis_laws.proofs.Members.{word_order, among_from_has_word}
 use Rattle.lis_laws.proofs.Counts.{all_among, rising_insert_key}
@@ -36,12 +36,16 @@ module _ (t : State) (formed : WellFormed t) where
 
   none_stands : (front : List (List ℕ)) (word : List ℕ) → IsNext front word
       → NoneStands (mkdir_checks (at_root (with_these t front [] [])) word (with_these t (with_word front word) [] []))
-  none_stands front word next =
-      (declarable_not_built_in word form, (declarable_not_valued word form, (new, (refl, (refl, (few,
-      (room_known made t formed lower (rising_insert_key word_cmp word_order front word next.rising), (room_words made t formed lower, tt))))))))
+  none_stands front word next = (own, (not_valued, (new, (refl, (refl, (few, (known, (described, tt))))))))
     where
       form : is_declarable word ≡ true
       form = all_among is_declarable t.declared word formed.declared (next.there word (inl refl))
+
+      own : is_built_in word ≡ false
+      own = declarable_not_built_in word form
+
+      not_valued : is_valued word ≡ false
+      not_valued = declarable_not_valued word form
 
       new : has_word front word ≡ false
       new = false_from_ne_true (has_word front word) (λ has. next.new (among_from_has_word front word has))
@@ -59,6 +63,12 @@ module _ (t : State) (formed : WellFormed t) where
         axioms = λ e m. absurd m;
         files = λ f m. absurd m;
       }
+
+      known : exceeds_known made ≡ false
+      known = room_known made t formed lower (rising_insert_key word_cmp word_order front word next.rising)
+
+      described : exceeds_words made ≡ false
+      described = room_words made t formed lower
 
   mkdir_steps : (front : List (List ℕ)) (word : List ℕ) → IsNext front word
       → step (at_root (with_these t front [] [])) (mkdir_item word) ≡ said_ok (at_root (with_these t (with_word front word) [] []))

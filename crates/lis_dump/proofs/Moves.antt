@@ -1,23 +1,22 @@
 -- A line of `mv` gives a file the words that its `add` left out.
-use Rattle.std.proofs.Common.{◌≡◌, ◌⊎◌, ℕ, ◌≤◌, nat_lt, nat_le, Bool, true, false, cond, not, ◌&&◌, ◌||◌, is_some, Option, Some, None, List, [], ◌∷◌, ◌++◌, length, map, filter, take, drop, refl, sym, ap, subst, ◌∙◌, inl, inr, arith}
+use Rattle.std.proofs.Common.{◌≡◌, ◌⊎◌, ℕ, ◌≤◌, nat_lt, nat_le, Bool, true, false, cond, not, ◌&&◌, ◌||◌, is_some, List, [], ◌∷◌, ◌++◌, length, filter, refl, sym, ap, subst, ◌∙◌, inl, inr, arith}
 use Rattle.std.specs.BTreeSet.{insert_key}
 use Rattle.std.specs.List.{list_any, list_all}
-use Rattle.std.proofs.lemmas.Bool.{and_from, false_from_ne_true, not_from_true, not_from_false, leb-true, ltb-true}
+use Rattle.std.proofs.lemmas.Bool.{false_from_ne_true, not_from_true, leb-true, ltb-true}
 use Rattle.std.proofs.lemmas.List.{take-append-drop, length-drop}
 use Rattle.lis_graph.specs.Graph.{is_rising}
-use Rattle.lis_graph.proofs.Members.{Among, among_append, among_left, among_right, any_from_among, filter_among, map_among}
+use Rattle.lis_graph.proofs.Members.{Among, among_append, among_right, any_from_among, filter_among, map_among}
 use Rattle.lis_words.specs.Words.{word_cmp, same_word, has_word, is_head, is_built_in}
 use Rattle.lis_grammar.specs.Formula.{Formula}
-use Rattle.lis_grammar.specs.Places.{Resolution, resolved, text_words}
-use Rattle.lis_grammar.specs.Places.Resolution.{NewPlace}
+use Rattle.lis_grammar.specs.Places.{resolved}
 use Rattle.lis_model.specs.declared.command.Command.TheVariants.{Mv}
 use Rattle.lis_model.specs.Sets.{with_words}
 use Rattle.lis_model.specs.State.{State, File, WellFormed, is_assignable, file_cmp}
-use Rattle.lis_model.specs.Changes.{new_file, has_name, file_of, file_removed, file_replaced}
-use Rattle.lis_model.specs.Places.{place_words, is_tag}
+use Rattle.lis_model.specs.Changes.{new_file, has_name, file_of, file_replaced}
+use Rattle.lis_model.specs.Places.{place_words}
 use Rattle.lis_model.specs.Table.{Entry, entry_of, table}
 use Rattle.lis_model.specs.Listing.{extension, holds_all}
-use Rattle.lis_model.specs.Step.{Situation, Item, Outcome, no_payload, step, changed, is_here, here_checks, tags_at, retagged, mv_checks, mv_made, mv_with, mv_to}
+use Rattle.lis_model.specs.Step.{Situation, Item, no_payload, step, changed, exceeds_known, exceeds_words, is_here, here_checks, tags_at, retagged, mv_checks, mv_made, mv_with, mv_to}
 use Rattle.lis_model.specs.Step.Item.{Do}
 use Rattle.lis_laws.proofs.Members.{word_order, same_word_decides}
 use Rattle.lis_laws.proofs.Counts.{all_among, all_from}
@@ -125,7 +124,7 @@ module _ (t : State) (formed : WellFormed t) (front : List File) (file : File) (
       by f (inr (inr none)) = absurd none
 
   none_stands : NoneStands (here_checks now file.name ++ mv_checks now place (word ∷ words) file made)
-  none_stands = (here, (known_place, (own, (no_heads, (assignable, (not_many, (room_words made t formed lower, (room_known made t formed lower formed.declared_set, tt))))))))
+  none_stands = (here, (known_place, (own, (no_heads, (assignable, (not_many, (described, (known, tt))))))))
     where
       here : not (is_here now file.name) ≡ false
       here = not_from_true _ (at_root_here now.state (begun file) (among_right front (begun file ∷ []) (begun file) (inl refl)))
@@ -146,6 +145,12 @@ module _ (t : State) (formed : WellFormed t) (front : List File) (file : File) (
 
       not_many : nat_lt 16 (length file.assigned) ≡ false
       not_many = false_from_ne_true (nat_lt 16 (length file.assigned)) (λ h. omega (arith, ltb-true _ _ h, few))
+
+      described : exceeds_words made ≡ false
+      described = room_words made t formed lower
+
+      known : exceeds_known made ≡ false
+      known = room_known made t formed lower formed.declared_set
 
   pub mv_steps : step now (mv_item file.name (word ∷ words)) ≡ said_ok (at_root made)
   unfolding step

@@ -1,5 +1,5 @@
 -- A path of at most eight words that files are given: what it reads to, and its words.
-use Rattle.std.proofs.Common.{◌≡◌, ℕ, ◌+◌, ◌*◌, ◌<◌, ◌≤◌, nat_lt, Bool, true, false, cond, Option, Some, None, List, [], ◌∷◌, ◌++◌, length, map, filter, codes, refl, sym, ap, ◌∙◌, inl, inr, arith, length-append, append-nil}
+use Rattle.std.proofs.Common.{◌≡◌, ℕ, ◌*◌, ◌≤◌, nat_lt, true, false, Option, Some, List, [], ◌∷◌, ◌++◌, length, map, filter, codes, refl, sym, ap, ◌∙◌, inl, inr, arith}
 use Rattle.std.specs.Prelude.{sum_by, option_map, unwrap_or}
 use Rattle.std.specs.List.{flat_map}
 use Rattle.std.proofs.lemmas.Bool.{false_from_ne_true, ltb-true}
@@ -13,8 +13,8 @@ use Rattle.lis_grammar.specs.Formula.Formula.{Has}
 use Rattle.lis_grammar.specs.Grammar.Reads.{from_here}
 use Rattle.lis_grammar.specs.Machine.{text_steps}
 use Rattle.lis_grammar.specs.Printing.{printed_behind, printed}
-use Rattle.lis_grammar.specs.Places.{tree_nodes, AreFit, IsPlace, is_place, Resolution, within_limits, resolved_path, resolved, path_words, text_words}
-use Rattle.lis_grammar.specs.Places.Resolution.{NewPlace, BeyondLimits}
+use Rattle.lis_grammar.specs.Places.{tree_nodes, AreFit, IsPlace, resolved, path_words, text_words}
+use Rattle.lis_grammar.specs.Places.Resolution.{NewPlace}
 use Rattle.lis_grammar.proofs.Printed.{path_printed}
 use Rattle.lis_grammar.proofs.Forth.{reads_complete}
 use Rattle.lis_grammar.proofs.Placed.{test_from_place}

@@ -1,15 +1,15 @@
 -- Rising lists: what stands above all members is put in behind them.
-use Rattle.std.proofs.Common.{◌≡◌, Bool, true, false, ◌&&◌, List, [], ◌∷◌, ◌++◌, refl, sym, ap, subst, ◌∙◌, inl, inr, append_assoc, append-nil}
+use Rattle.std.proofs.Common.{◌≡◌, true, List, [], ◌∷◌, ◌++◌, refl, sym, ap, subst, ◌∙◌, inl, inr, append_assoc, append-nil}
 use Rattle.std.specs.declared.cmp.Ordering.{Ordering}
 use Rattle.std.specs.declared.cmp.Ordering.TheVariants.{Less, Equal, Greater}
-use Rattle.std.specs.Ordering.{match_ordering, ordering_reverse, is_lt}
+use Rattle.std.specs.Ordering.{ordering_reverse, is_lt}
 use Rattle.std.specs.Cmp.{IsTotalOrder, tied_itself}
 use Rattle.std.specs.BTreeSet.{insert_key}
 use Rattle.std.specs.List.{list_all}
 use Rattle.std.proofs.lemmas.Bool.{and_parts, and_from}
 use Rattle.std.proofs.lemmas.List.Folds.{list_all-append}
 use Rattle.lis_graph.specs.Graph.{is_rising, with_more}
-use Rattle.lis_graph.proofs.Members.{Among, among_left, among_right}
+use Rattle.lis_graph.proofs.Members.{Among, among_right}
 use Rattle.lis_laws.proofs.Counts.{all_among}
 
 module _ {K : Type 0} (cmp : K → K → Ordering) (order : IsTotalOrder cmp) where

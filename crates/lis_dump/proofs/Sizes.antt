@@ -1,5 +1,5 @@
 -- How long a dump is: far below the length at which an input is cut.
-use Rattle.std.proofs.Common.{◌≡◌, ℕ, ◌+◌, ◌*◌, ◌≤◌, ◌^◌, ◌==◌, ◌%◌, suc, nat_le, Bool, true, false, ◌&&◌, List, [], ◌∷◌, ◌++◌, length, drop, codes, decimal, refl, ap, inl, inr, length-append, arith}
+use Rattle.std.proofs.Common.{◌≡◌, ℕ, ◌*◌, ◌≤◌, ◌^◌, ◌==◌, ◌%◌, nat_le, true, ◌&&◌, List, [], ◌∷◌, ◌++◌, length, codes, decimal, refl, inl, inr, length-append, arith}
 use Rattle.std.specs.List.{flat_map}
 use Rattle.std.proofs.Math.Nat.{mul-suc}
 use Rattle.std.proofs.lemmas.Bool.{and_parts, leb-true}
@@ -8,8 +8,7 @@ use Rattle.std.proofs.lemmas.List.{length-drop}
 use Rattle.lis_graph.proofs.Members.{Among}
 use Rattle.lis_graph.proofs.Sets.{sorted_from_rising, members_le}
 use Rattle.lis_words.specs.Words.{word_cmp, is_word}
-use Rattle.lis_model.specs.declared.limits.Limits.{Limits}
-use Rattle.lis_model.specs.Ranges.{is_files_limit, is_props_limit, is_blocks_limit, is_version, are_in_range}
+use Rattle.lis_model.specs.Ranges.{is_files_limit, is_props_limit, is_blocks_limit, is_version}
 use Rattle.lis_model.specs.Replies.{line}
 use Rattle.lis_model.specs.State.{State, File, WellFormed, is_declarable, description, known, left_words}
 use Rattle.lis_laws.proofs.Members.{word_order, with_words_old}
@@ -60,13 +59,22 @@ line_short word words are = omega (arith, are.short, length-append (joined 32 (w
 
 file_short : (file : File) → IsFileInForm file → length (file_lines file) ≤ 1050627
 file_short file formed =
-    omega (arith, add_short, mv_short (other_words file) (omega (arith, formed.few, length-drop 8 file.assigned)) (λ w m. formed.words w (among_drop 8 file.assigned w m)),
-    length-append (add_lines file) (mv_lines file.name (other_words file)))
+    omega (
+      arith,
+      add_short,
+      mv_short (other_words file) (omega (arith, formed.few, length-drop 8 file.assigned)) (λ w m. formed.words w (among_drop 8 file.assigned w m)),
+      length-append (add_lines file) (mv_lines file.name (other_words file)),
+    )
   where
     add_short : length (add_lines file) ≤ 1049602
     add_short =
-        omega (arith, formed.short, line_short (codes "add") (file.name ∷ decimal (length file.bytes) ∷ first_words file) (add_are file formed),
-        length-append (words_line (codes "add" ∷ file.name ∷ decimal (length file.bytes) ∷ first_words file)) (line file.bytes), length-append file.bytes (10 ∷ []))
+        omega (
+          arith,
+          formed.short,
+          line_short (codes "add") (file.name ∷ decimal (length file.bytes) ∷ first_words file) (add_are file formed),
+          length-append (words_line (codes "add" ∷ file.name ∷ decimal (length file.bytes) ∷ first_words file)) (line file.bytes),
+          length-append file.bytes (10 ∷ []),
+        )
 
     mv_short : (words : List (List ℕ)) → length words ≤ 8 → ((w : List ℕ) → Among words w → is_word w ≡ true) → length (mv_lines file.name words) ≤ 1025
     mv_short [] few each = omega arith
@@ -75,8 +83,17 @@ file_short file formed =
 pub dump_short : (s : State) → WellFormed s → length (dump_of s) ≤ 2 ^ 40
 unfolding dump_of
 dump_short s formed =
-    omega (arith, small.declared, small.axioms, small.files, mkdirs, files, axioms,
-    length-append (flat_map mkdir_line s.declared ++ flat_map file_lines s.files) (flat_map axiom_line s.axioms), length-append (flat_map mkdir_line s.declared) (flat_map file_lines s.files))
+    omega (
+      arith,
+      small.declared,
+      small.axioms,
+      small.files,
+      mkdirs,
+      files,
+      axioms,
+      length-append (flat_map mkdir_line s.declared ++ flat_map file_lines s.files) (flat_map axiom_line s.axioms),
+      length-append (flat_map mkdir_line s.declared) (flat_map file_lines s.files),
+    )
   where
     small : IsSmall s
     small = small_state s formed

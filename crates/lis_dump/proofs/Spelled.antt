@@ -1,13 +1,13 @@
 -- Which items a text spells, and that a line of words is read back to its words.
-use Rattle.std.proofs.Common.{◌≡◌, ◌⊎◌, ℕ, ◌<◌, ◌≤◌, ◌==◌, nat_lt, nat_le, Bool, true, false, cond, ◌||◌, Option, Some, None, List, [], ◌∷◌, ◌++◌, length, filter, refl, sym, ap, ◌∙◌, inl, inr, append_assoc, append-nil, length-append, arith}
+use Rattle.std.proofs.Common.{◌≡◌, ℕ, ◌≤◌, ◌==◌, nat_le, Bool, true, false, ◌||◌, Option, Some, None, List, [], ◌∷◌, ◌++◌, length, filter, refl, sym, ap, ◌∙◌, inl, inr, append_assoc, append-nil, length-append, arith}
 use Rattle.std.specs.Option.{option_to_list}
-use Rattle.std.specs.List.{list_any, list_all, flat_map}
-use Rattle.std.proofs.lemmas.Bool.{and_parts, and_from, false_from_ne_true, le-leb, lt-ltb, leb-true, ltb-true, eqb-true}
+use Rattle.std.specs.List.{list_all, flat_map}
+use Rattle.std.proofs.lemmas.Bool.{and_parts, false_from_ne_true, lt-ltb, ltb-true}
 use Rattle.std.proofs.lemmas.Bool.Decides.{nat_tests}
 use Rattle.lis_graph.proofs.Members.{Among}
 use Rattle.lis_model.specs.Replies.{line}
 use Rattle.lis_model.specs.Step.{Item, no_payload}
-use Rattle.lis_model.specs.Script.{is_feed, is_blank, is_some_bytes, without_return, pieces_on, line_words, is_long, item_of_words, item_of, size_of_words, payload_size, payload_of, First, first_of, all_items}
+use Rattle.lis_model.specs.Script.{is_feed, is_blank, is_some_bytes, without_return, pieces_on, line_words, is_long, item_of_words, item_of, size_of_words, payload_size, payload_of, all_items}
 use Rattle.lis_model.proofs.Lines.{IsOneLine, all_items_of, line_alone, line_with, with_payload}
 use Rattle.lis_laws.proofs.Counts.{all_among, all_weaker}
 use Rattle.lis_dump.specs.Dump.{joined, words_line}

@@ -1,10 +1,10 @@
 -- The dump of a well-formed state makes it again.
-use Rattle.std.proofs.Common.{◌≡◌, ℕ, ◌^◌, nat_le, Bool, true, cond, List, [], ◌∷◌, ◌++◌, length, map, take, refl, sym, ap, subst, ◌∙◌, append-nil}
+use Rattle.std.proofs.Common.{◌≡◌, ℕ, ◌^◌, Bool, cond, List, [], ◌∷◌, ◌++◌, length, map, take, refl, sym, ap, subst, ◌∙◌, append-nil}
 use Rattle.std.specs.List.{flat_map}
 use Rattle.std.proofs.lemmas.Bool.{le-leb}
 use Rattle.std.proofs.lemmas.List.Concat.{flat_map_single}
 use Rattle.lis_graph.proofs.Members.{Among}
-use Rattle.lis_model.specs.State.{State, File, WellFormed, is_declarable}
+use Rattle.lis_model.specs.State.{State, WellFormed, is_declarable}
 use Rattle.lis_model.specs.Step.{Situation, Item, start_of}
 use Rattle.lis_model.specs.Script.{all_items, whole_items, script}
 use Rattle.lis_model.proofs.Lines.{all_items_none}
