@@ -83,19 +83,27 @@ empty_dump : dump_of (empty_state small) ≡ []
 unfolding dump_of
 empty_dump = refl
 
--- ---- a declared test, and bytes with line feeds in them
-abbrev tested : State
-tested = record {
+-- ---- a declared test with an axiom, bytes with line feeds in them, and ten words
+abbrev mixed : State
+mixed = record {
   limits = small;
-  declared = codes "big" ∷ codes "size>=3" ∷ [];
+  declared = codes "big" ∷ codes "k:" ∷ codes "size>=3" ∷ [];
   axioms = (codes "size>=3", codes "big") ∷ [];
-  files = file (codes "a") (codes "x\ny\n") (codes "big" ∷ []) ∷ [];
+  files = file (codes "a") (codes "x\ny\n") (codes "big" ∷ [])
+      ∷ file (codes "f") []
+      (codes "k:0" ∷ codes "k:1" ∷ codes "k:2" ∷ codes "k:3" ∷ codes "k:4" ∷ codes "k:5" ∷ codes "k:6" ∷ codes "k:7" ∷ codes "k:8" ∷ codes "k:9" ∷ [])
+      ∷ [];
 }
 
-tested_dump : dump_of tested ≡ codes "mkdir big\nmkdir size>=3\nadd a 4 big\nx\ny\n\naxiom size>=3 big\n"
-unfolding dump_of digits
-tested_dump = refl
-
-tested_again : after (codes "mkdir big\nmkdir size>=3\nadd a 4 big\nx\ny\n\naxiom size>=3 big\n") ≡ tested
+mixed_comes : after (codes "mkdir size>=3\nmkdir k:\nmkdir big\naxiom size>=3 big\ncreate f k:9 k:8 k:7 k:6 k:5 k:4 k:3 k:2 k:1 k:0\nadd a 4 big\nx\ny\n\n") ≡ mixed
 unfolding all_items whole_items step
-tested_again = refl
+mixed_comes = refl
+
+mixed_dump : dump_of mixed
+    ≡ codes "mkdir big\nmkdir k:\nmkdir size>=3\nadd a 4 big\nx\ny\n\nadd f 0 k:0 k:1 k:2 k:3 k:4 k:5 k:6 k:7\n\nmv f k:8/k:9\naxiom size>=3 big\n"
+unfolding dump_of digits
+mixed_dump = refl
+
+mixed_again : after (codes "mkdir big\nmkdir k:\nmkdir size>=3\nadd a 4 big\nx\ny\n\nadd f 0 k:0 k:1 k:2 k:3 k:4 k:5 k:6 k:7\n\nmv f k:8/k:9\naxiom size>=3 big\n") ≡ mixed
+unfolding all_items whole_items step resolved text_words text_steps printed is_place
+mixed_again = refl

@@ -20,9 +20,6 @@ use Rattle.lis_dump.proofs.Spelled.{AreWords}
 use Rattle.lis_dump.proofs.Lines.{declarable_property, axiom_in_form, IsFileInForm, file_in_form, mkdir_words, axiom_words, add_are, mv_are}
 
 -- ---- limits
-files_small : (n : ℕ) → is_files_limit n ≡ true → n ≤ 4096
-files_small n h = grind (arith, nat_tests)
-
 -- a state has no more of each than these
 record IsSmall (s : State) : Type 0 where
   declared : length s.declared ≤ 8192
@@ -35,7 +32,8 @@ small_state s formed =
     let two = and_parts (is_files_limit s.limits.files && is_props_limit s.limits.props) (is_blocks_limit s.limits.blocks) three.0 in
     let one = and_parts (is_files_limit s.limits.files) (is_props_limit s.limits.props) two.0 in
     let props = and_parts (nat_le 64 s.limits.props && nat_le s.limits.props 8192) (s.limits.props % 64 == 0) one.1 in
-    let files_most = files_small s.limits.files one.0 in
+    let files : is_files_limit s.limits.files ≡ true = one.0 in
+    let files_most : s.limits.files ≤ 4096 = grind (arith, nat_tests, files) in
     let props_most = leb-true s.limits.props 8192 (and_parts (nat_le 64 s.limits.props) (nat_le s.limits.props 8192) props.0).1 in
     record {
       declared = omega (arith, declared_le, formed.few_known, props_most);
