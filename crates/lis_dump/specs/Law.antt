@@ -16,6 +16,6 @@ pub record Makes (s : State) (items : List Item) : Type 0 where
   pub answers : AnswersOk (start_of s.limits) items
   pub made : situation_after (start_of s.limits) items ≡ record { state = s; place = [] }
 
--- The dump of a well-formed state makes it again, whole.
+-- The dump of a well-formed state makes it again, whole, within the limit of an input, which is 2^40 bytes.
 abbrev pub DumpsMake : Type 0
 DumpsMake = (s : State) → WellFormed s → Makes s (script (dump_of s) (2 ^ 40))
