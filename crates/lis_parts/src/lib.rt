@@ -1,0 +1,5 @@
+//! Parts of a file: the lines that satisfy a formula, and what an edited view of them means for the file.
+//! So far definitions, and the laws that they keep, each the contract of a function with nothing to do.
+#![tactic(auto)]
+
+ghost use Rattle.lis_parts.specs.Laws.{OneCut};
