@@ -3,3 +3,8 @@
 #![tactic(auto)]
 
 ghost use Rattle.lis_parts.specs.Laws.{OneCut};
+
+/// Each content is that of exactly one list of texts without line feeds, of which the last may lack its own.
+pub fn contents_are_cut()
+    ensures { OneCut }
+{}
