@@ -1,3 +1,6 @@
 pub mod Cutting
 pub mod Marks
+pub mod Pieces
+pub mod Ends
+pub mod Backs
 mod Examples
