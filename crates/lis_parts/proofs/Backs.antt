@@ -1,13 +1,13 @@
 -- What an edited view means: the texts of its pieces.
-use Rattle.std.proofs.Common.{◌≡◌, ℕ, zero, suc, ◌+◌, ◌<◌, ◌==◌, Bool, true, false, not, cond, ◌&&◌, ◌||◌, List, [], ◌∷◌, ◌++◌, map, filter, flat_map, refl, sym, ap, subst, ◌∙◌, arith, eqb-true, ne_eqb}
+use Rattle.std.proofs.Common.{◌≡◌, ℕ, ◌+◌, ◌<◌, Bool, true, false, cond, ◌||◌, List, [], ◌∷◌, ◌++◌, map, filter, flat_map, refl, sym, ap, subst, ◌∙◌, arith, eqb-true}
 use Rattle.std.specs.List.{list_all}
 use Rattle.std.specs.Cmp.Lexicographic.{pointwise}
-use Rattle.std.proofs.lemmas.Bool.{and_parts, and_from, or_cases, false_from_ne_true}
+use Rattle.std.proofs.lemmas.Bool.{and_parts, and_from}
 use Rattle.lis_words.specs.Words.{same_word}
-use Rattle.lis_transducers.specs.Bytes.{begins_with, but_first}
+use Rattle.lis_transducers.specs.Bytes.{but_first}
 use Rattle.lis_parts.specs.Views.{Piece, texts_in, runs_of, mark_of, piece_lines}
 use Rattle.lis_parts.specs.Views.Piece.{Shown, Hidden}
-use Rattle.lis_parts.specs.Edits.{is_kept, is_mark, is_edited, marked, run_at, texts_at, new_texts, has_marks}
+use Rattle.lis_parts.specs.Edits.{is_kept, is_mark, is_edited, marked, run_at, new_texts}
 use Rattle.lis_parts.proofs.Marks.{same_true, same_from, marks_apart}
 
 -- each of these runs stands at its mark

@@ -1,10 +1,8 @@
 -- Each content has exactly one list of lines.
-use Rattle.std.proofs.Common.{◌≡◌, ◌==◌, ℕ, Bool, true, false, not, cond, ◌&&◌, ◌||◌, List, [], ◌∷◌, ◌++◌, refl, sym, ap, ◌∙◌, append_assoc, eqb-true}
+use Rattle.std.proofs.Common.{◌≡◌, ℕ, Bool, true, false, not, cond, ◌||◌, List, [], ◌∷◌, ◌++◌, refl, sym, ap, ◌∙◌, append_assoc, eqb-true}
 use Rattle.std.specs.List.{list_all}
 use Rattle.std.proofs.lemmas.Bool.{and_parts, and_from, not-true, not_from_false, or_right}
-use Rattle.lis_transducers.specs.Bytes.{is_feed, is_no_feed}
-use Rattle.lis_transducers.specs.Lines.{is_some_bytes}
-use Rattle.lis_model.specs.Replies.{line}
+use Rattle.lis_transducers.specs.Bytes.{is_feed}
 use Rattle.lis_parts.specs.Lines.{Lines, joined, content_of, has_no_feed, ends_in_some, are_lines, byte_before, before, lines_of, IsCut}
 
 abbrev pub lines : List (List ℕ) → Bool → Lines

@@ -1,10 +1,9 @@
 -- Views and what edited views mean, worked by the definitions alone.
-use Rattle.std.proofs.Common.{◌≡◌, ℕ, true, false, Option, Some, None, Bool, List, [], ◌∷◌, ◌++◌, codes, refl}
+use Rattle.std.proofs.Common.{◌≡◌, ℕ, true, false, Option, Some, None, Bool, List, [], ◌∷◌, codes, refl}
 use Rattle.lis_grammar.specs.Formula.{Formula}
 use Rattle.lis_grammar.specs.Machine.{text_steps}
-use Rattle.lis_model.specs.Replies.{line}
-use Rattle.lis_parts.specs.Lines.{lines_of, content_of}
-use Rattle.lis_parts.specs.Truth.{line_words, line_holds}
+use Rattle.lis_parts.specs.Lines.{lines_of}
+use Rattle.lis_parts.specs.Truth.{line_words}
 use Rattle.lis_parts.specs.Views.{view_of}
 use Rattle.lis_parts.specs.Edits.{back_of, Back}
 use Rattle.lis_parts.specs.Edits.Back.{NotAView, WrongMarks, Content}

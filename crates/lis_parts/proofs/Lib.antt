@@ -3,4 +3,5 @@ pub mod Marks
 pub mod Pieces
 pub mod Ends
 pub mod Backs
+pub mod Edits
 mod Examples

@@ -1,17 +1,17 @@
 -- The marks of runs are in form, and different numbers make different marks.
-use Rattle.std.proofs.Common.{◌≡◌, ℕ, zero, suc, ◌+◌, ◌-◌, ◌<◌, ◌≤◌, ◌==◌, Bool, true, false, not, cond, ◌&&◌, nat_le, List, [], ◌∷◌, ◌++◌, length, get_or, map, refl, sym, ap, ◌∙◌, arith, leb-true, le-leb, ne_eqb}
+use Rattle.std.proofs.Common.{◌≡◌, ℕ, ◌+◌, ◌-◌, ◌<◌, ◌≤◌, Bool, true, false, List, [], ◌∷◌, ◌++◌, length, get_or, map, refl, sym, ap, ◌∙◌, arith, leb-true, le-leb, ne_eqb}
 use Rattle.std.specs.List.{list_all}
 use Rattle.std.specs.Char.{is_ascii_digit}
 use Rattle.std.specs.Int.Digits.{digits_of, AllBelowBase}
-use Rattle.std.proofs.lemmas.Bool.{and_parts, and_from, not-true, not_from_false, false_from_ne_true}
+use Rattle.std.proofs.lemmas.Bool.{and_parts, and_from, not_from_false, false_from_ne_true}
 use Rattle.std.proofs.lemmas.Int.Digits.{all_below_base_digits_of, first_digits_of, same_from_digits_of}
 use Rattle.std.proofs.lemmas.List.Folds.{list_all-append}
 use Rattle.std.proofs.lemmas.Slice.Eq.{bytes_eq-Decides}
-use Rattle.lis_words.specs.Words.{same_word, begins_with_zero}
-use Rattle.lis_transducers.specs.Bytes.{is_no_feed, front, past, begins_with, but_first}
+use Rattle.lis_words.specs.Words.{same_word}
+use Rattle.lis_transducers.specs.Bytes.{is_no_feed, front, past, but_first}
 use Rattle.lis_parts.specs.Lines.{has_no_feed}
 use Rattle.lis_parts.specs.Views.{numeral, mark_of}
-use Rattle.lis_parts.specs.Edits.{is_numeral, is_no_space, are_numerals, is_mark, is_edited}
+use Rattle.lis_parts.specs.Edits.{is_numeral, is_no_space, is_mark}
 
 -- ---- words that are the same
 pub same_true : (a b : List ℕ) → a ≡ b → same_word a b ≡ true

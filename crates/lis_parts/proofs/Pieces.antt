@@ -1,12 +1,12 @@
 -- The pieces of a content: their texts, their runs, and the lines that show them.
-use Rattle.std.proofs.Common.{◌≡◌, ℕ, zero, suc, ◌+◌, ◌<◌, Bool, true, false, not, cond, ◌&&◌, ◌||◌, List, [], ◌∷◌, ◌++◌, length, map, filter, flat_map, codes, refl, sym, ap, ◌∙◌, append_assoc, arith}
+use Rattle.std.proofs.Common.{◌≡◌, ℕ, ◌+◌, ◌<◌, Bool, true, false, not, cond, List, [], ◌∷◌, length, map, filter, flat_map, refl, sym, ap, ◌∙◌, arith}
 use Rattle.std.specs.List.{list_all, AllByRecursion}
-use Rattle.std.proofs.lemmas.Bool.{and_parts, and_from, or_left, or_right}
+use Rattle.std.proofs.lemmas.Bool.{and_parts, and_from}
 use Rattle.std.proofs.lemmas.List.Folds.{list_all-append}
 use Rattle.lis_parts.specs.Lines.{has_no_feed}
 use Rattle.lis_parts.specs.Views.{Piece, hidden_before, pieces_by, texts_in, runs_of, mark_of, piece_lines}
 use Rattle.lis_parts.specs.Views.Piece.{Shown, Hidden}
-use Rattle.lis_parts.specs.Edits.{is_kept, is_mark, is_edited, marked}
+use Rattle.lis_parts.specs.Edits.{is_mark, is_edited, marked}
 use Rattle.lis_parts.proofs.Marks.{mark_formed, mark_no_feed}
 
 -- each run has a text

@@ -2,9 +2,26 @@
 //! So far definitions, and the laws that they keep, each the contract of a function with nothing to do.
 #![tactic(auto)]
 
-ghost use Rattle.lis_parts.specs.Laws.{OneCut};
+ghost use Rattle.lis_parts.specs.Laws.{OneCut, UnchangedStays, HiddenStay, EditsStand};
 
 /// Each content is that of exactly one list of texts without line feeds, of which the last may lack its own.
 pub fn contents_are_cut()
     ensures { OneCut }
+{}
+
+/// A view that is put back unchanged gives the same bytes.
+pub fn unchanged_stays()
+    ensures { UnchangedStays }
+{}
+
+/// Where an edited view gives new bytes, the hidden texts stand in them in their order, at their marks, and all other texts
+/// are those of the input in order.
+pub fn hidden_stay()
+    ensures { HiddenStay }
+{}
+
+/// An edited view with the marks of the view, each once and in order, gives new bytes, unless their last text would be an
+/// empty one without a line feed.
+pub fn edits_stand()
+    ensures { EditsStand }
 {}
