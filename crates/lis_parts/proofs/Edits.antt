@@ -56,17 +56,14 @@ stands marks texts is_open formed same =
     ∙ ap (λ t. chosen true t (joined is_open (new_texts marks texts))) same
 
 -- ---- pieces with the same runs
-module _ (bytes : List ℕ) (place : List Formula) (kept : List Piece) (is_open : Bool) (same : runs_of kept ≡ runs_of (pieces bytes place))
+module _ (bytes : List ℕ) (place : List Formula) (input : List ℕ) (kept : List Piece) (is_open : Bool)
+    (given : (lines_of input).texts ≡ view_lines kept is_open) (same : runs_of kept ≡ runs_of (pieces bytes place))
     (formed : Formed (flat_map texts_in kept) is_open) where
   kept_some : AreSome (runs_of kept)
   kept_some = subst AreSome (sym same) (view_some bytes place)
 
   kept_edited : list_all is_edited (piece_lines 1 kept) ≡ true
   kept_edited = lines_edited 1 kept (omega arith) kept_some
-
-  kept_cut : lines_of (flat_map line (view_lines kept is_open)) ≡ lines (view_lines kept is_open) false
-  kept_cut = lines_cut (view_lines kept is_open)
-      (list_all-append has_no_feed (piece_lines 1 kept) (ending is_open) ∙ and_from _ _ (lines_no_feed 1 kept formed.no_feeds) (ending_no_feed is_open))
 
   kept_mean : new_texts (view_marks bytes place) (piece_lines 1 kept) ≡ flat_map texts_in kept
   kept_mean = pieces_mean (runs_of (pieces bytes place)) kept same
@@ -77,20 +74,39 @@ module _ (bytes : List ℕ) (place : List Formula) (kept : List Piece) (is_open 
       (lines_marks 1 kept (omega arith) kept_some ∙ ap (λ runs. map (λ (pair : List ℕ × List (List ℕ)). pair.0) (marked 1 runs)) same)
       ∙ all_same (map (λ pair. pair.0) (view_marks bytes place))
 
-  pub edits_stand : back_of bytes place (flat_map line (view_lines kept is_open)) ≡ Content (joined is_open (flat_map texts_in kept))
-  edits_stand =
-      ap (λ (cut : Lines). back_by (view_marks bytes place) (before_end cut.texts) (has_end cut.texts)) kept_cut
+  edit_stands : back_of bytes place input ≡ Content (joined is_open (flat_map texts_in kept))
+  edit_stands =
+      ap (λ texts. back_by (view_marks bytes place) (before_end texts) (has_end texts)) given
       ∙ ap (λ texts. back_by (view_marks bytes place) texts (has_end (view_lines kept is_open))) (ending_dropped (piece_lines 1 kept) is_open kept_edited)
       ∙ ap (λ o. back_by (view_marks bytes place) (piece_lines 1 kept) o) (ending_seen (piece_lines 1 kept) is_open kept_edited)
       ∙ stands (view_marks bytes place) (piece_lines 1 kept) is_open
       (and_from _ _ kept_edited (ap (λ texts. not is_open || ends_in_some texts) kept_mean ∙ formed.end)) kept_marks
       ∙ ap (λ texts. Content (joined is_open texts)) kept_mean
 
+pub edits_stand : (bytes : List ℕ) (place : List Formula) (input new : List ℕ) → IsEdit bytes place input new → back_of bytes place input ≡ Content new
+edits_stand bytes place input new e =
+    edit_stands bytes place input e.edited (lines_of new).is_open e.lines e.runs
+    (subst (λ texts. Formed texts (lines_of new).is_open) e.texts (formed_parts (lines_of new).texts (lines_of new).is_open (cut_formed new)))
+    ∙ ap (λ texts. Content (joined (lines_of new).is_open texts)) (sym e.texts)
+    ∙ ap Content (cut_content new)
+
+-- ---- a view is an edit of itself
+view_no_feed : (bytes : List ℕ) (place : List Formula) → list_all has_no_feed (view_lines (pieces bytes place) (lines_of bytes).is_open) ≡ true
+view_no_feed bytes place =
+    list_all-append has_no_feed (piece_lines 1 (pieces bytes place)) (ending (lines_of bytes).is_open)
+    ∙ and_from _ _ (lines_no_feed 1 (pieces bytes place) (view_formed bytes place).no_feeds) (ending_no_feed (lines_of bytes).is_open)
+
+view_edit : (bytes : List ℕ) (place : List Formula) → IsEdit bytes place (view_of bytes place) bytes
+view_edit bytes place = record {
+  edited = pieces bytes place;
+  lines = ap (λ (cut : Lines). cut.texts) (lines_cut (view_lines (pieces bytes place) (lines_of bytes).is_open) (view_no_feed bytes place));
+  runs = refl;
+  hidden = pieces_hidden (line_holds place) (lines_of bytes).texts;
+  texts = sym (view_texts bytes place);
+}
+
 pub unchanged_stays : (bytes : List ℕ) (place : List Formula) → back_of bytes place (view_of bytes place) ≡ Content bytes
-unchanged_stays bytes place =
-    edits_stand bytes place (pieces bytes place) (lines_of bytes).is_open refl (view_formed bytes place)
-    ∙ ap (λ texts. Content (joined (lines_of bytes).is_open texts)) (view_texts bytes place)
-    ∙ ap Content (cut_content bytes)
+unchanged_stays bytes place = edits_stand bytes place (view_of bytes place) bytes (view_edit bytes place)
 
 -- ---- what an input is that is not refused
 module _ (bytes : List ℕ) (place : List Formula) (input new : List ℕ) where

@@ -1,17 +1,21 @@
 -- The laws of parts of a file.
-use Rattle.std.specs.Prelude.{◌≡◌, ℕ, Bool, not, List, IsTrue}
+use Rattle.std.specs.Prelude.{◌≡◌, ℕ, not, List}
 use Rattle.std.specs.List.{flat_map, filter}
 use Rattle.lis_grammar.specs.Formula.{Formula}
-use Rattle.lis_model.specs.Replies.{line}
-use Rattle.lis_parts.specs.Lines.{lines_of, joined, are_lines, IsCut}
+use Rattle.lis_parts.specs.Lines.{lines_of, IsCut}
 use Rattle.lis_parts.specs.Truth.{line_holds}
-use Rattle.lis_parts.specs.Views.{Piece, pieces, texts_in, runs_of, view_lines, view_of}
+use Rattle.lis_parts.specs.Views.{Piece, IsParted, pieces, texts_in, runs_of, view_lines, view_of}
 use Rattle.lis_parts.specs.Edits.{back_of}
 use Rattle.lis_parts.specs.Edits.Back.{Content}
 
 -- each content has exactly one list of texts and flag
 abbrev pub OneCut : Type 0
 OneCut = (bytes : List ℕ) → IsCut bytes (lines_of bytes)
+
+-- each content has exactly one list of pieces under a formula
+abbrev pub OneParting : Type 0
+OneParting = (bytes : List ℕ) (place : List Formula) → IsParted place (lines_of bytes).texts (pieces bytes place)
+    × ((others : List Piece) → IsParted place (lines_of bytes).texts others → others ≡ pieces bytes place)
 
 -- a view that is put back as it is leaves the bytes as they were
 abbrev pub UnchangedStays : Type 0
@@ -33,8 +37,6 @@ pub record IsEdit (bytes : List ℕ) (place : List Formula) (input new : List �
 abbrev pub HiddenStay : Type 0
 HiddenStay = (bytes : List ℕ) (place : List Formula) (input new : List ℕ) → back_of bytes place input ≡ Content new → IsEdit bytes place input new
 
--- The view of pieces with the same runs gives their texts, where these are lines.
+-- Every such input gives these bytes.
 abbrev pub EditsStand : Type 0
-EditsStand = (bytes : List ℕ) (place : List Formula) (edited : List Piece) (is_open : Bool) → runs_of edited ≡ runs_of (pieces bytes place)
-    → IsTrue (are_lines (record { texts = flat_map texts_in edited; is_open = is_open }))
-    → back_of bytes place (flat_map line (view_lines edited is_open)) ≡ Content (joined is_open (flat_map texts_in edited))
+EditsStand = (bytes : List ℕ) (place : List Formula) (input new : List ℕ) → IsEdit bytes place input new → back_of bytes place input ≡ Content new
