@@ -1,14 +1,15 @@
 -- What an edited view means: the texts of its pieces.
-use Rattle.std.proofs.Common.{◌≡◌, ℕ, ◌+◌, ◌<◌, Bool, true, false, cond, ◌||◌, List, [], ◌∷◌, ◌++◌, map, filter, flat_map, refl, sym, ap, subst, ◌∙◌, arith, eqb-true}
+use Rattle.std.proofs.Common.{◌≡◌, ℕ, ◌+◌, ◌<◌, Bool, true, false, cond, ◌||◌, List, [], ◌∷◌, ◌++◌, map, filter, flat_map, Decides, refl, sym, ap, subst, ◌∙◌, arith, eqb-true}
 use Rattle.std.specs.List.{list_all}
 use Rattle.std.specs.Cmp.Lexicographic.{pointwise}
-use Rattle.std.proofs.lemmas.Bool.{and_parts, and_from}
+use Rattle.std.proofs.lemmas.Bool.{and_parts}
+use Rattle.std.proofs.lemmas.Slice.Eq.{bytes_eq-Decides, slice_eq-Decides}
 use Rattle.lis_words.specs.Words.{same_word}
 use Rattle.lis_transducers.specs.Bytes.{but_first}
 use Rattle.lis_parts.specs.Views.{Piece, texts_in, runs_of, mark_of, piece_lines}
 use Rattle.lis_parts.specs.Views.Piece.{Shown, Hidden}
 use Rattle.lis_parts.specs.Edits.{is_kept, is_mark, is_edited, marked, run_at, new_texts}
-use Rattle.lis_parts.proofs.Marks.{same_true, same_from, marks_apart}
+use Rattle.lis_parts.proofs.Marks.{marks_apart}
 
 -- each of these runs stands at its mark
 abbrev Stand : List (List ℕ × List (List ℕ)) → ℕ → List (List (List ℕ)) → Type 0
@@ -25,7 +26,7 @@ stand_behind marks m first n (run ∷ runs) below stand = (
 pub marked_stand : (n : ℕ) (runs : List (List (List ℕ))) → Stand (marked n runs) n runs
 marked_stand n [] = tt
 marked_stand n (run ∷ runs) = (
-  ap (λ t. cond t run (run_at (marked (n + 1) runs) (mark_of n run))) (same_true (mark_of n run) (mark_of n run) refl),
+  ap (λ t. cond t run (run_at (marked (n + 1) runs) (mark_of n run))) ((bytes_eq-Decides (mark_of n run) (mark_of n run)).1 refl),
   stand_behind (marked (n + 1) runs) n run (n + 1) runs (omega arith) (marked_stand (n + 1) runs),
 )
 
@@ -39,18 +40,8 @@ texts_new marks n (Hidden run ∷ pieces) stand =
 pub pieces_mean : (runs : List (List (List ℕ))) (pieces : List Piece) → runs_of pieces ≡ runs → new_texts (marked 1 runs) (piece_lines 1 pieces) ≡ flat_map texts_in pieces
 pieces_mean runs pieces same = texts_new (marked 1 runs) 1 pieces (subst (λ rs. Stand (marked 1 runs) 1 rs) (sym same) (marked_stand 1 runs))
 
--- ---- lists of words that are the same
-pub all_same : (words : List (List ℕ)) → pointwise same_word words words ≡ true
-all_same [] = refl
-all_same (word ∷ words) = and_from _ _ (same_true word word refl) (all_same words)
-
-pub all_from : (words others : List (List ℕ)) → pointwise same_word words others ≡ true → words ≡ others
-all_from [] [] h = refl
-all_from [] (other ∷ others) h = absurd cc
-all_from (word ∷ words) [] h = absurd cc
-all_from (word ∷ words) (other ∷ others) h =
-    let parts = and_parts (same_word word other) (pointwise same_word words others) h in
-    ap (λ w. w ∷ words) (same_from word other parts.0) ∙ ap (λ ws. other ∷ ws) (all_from words others parts.1)
+pub words_decide : (words others : List (List ℕ)) → Decides (pointwise same_word words others) (words ≡ others)
+words_decide words others = slice_eq-Decides bytes_eq-Decides words others (pointwise same_word words others) refl
 
 -- ---- lines with the marks of some runs show pieces with these runs
 kept_text : (text : List ℕ) → is_kept text ≡ true → 43 ∷ but_first text ≡ text

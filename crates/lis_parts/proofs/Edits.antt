@@ -1,5 +1,5 @@
 -- A view that is put back unchanged gives the same bytes, and hidden texts stay.
-use Rattle.std.proofs.Common.{◌≡◌, ℕ, Bool, true, false, not, cond, ◌||◌, List, [], ◌∷◌, ◌++◌, map, flat_map, refl, sym, ap, subst, ◌∙◌, append_assoc, arith}
+use Rattle.std.proofs.Common.{◌≡◌, ℕ, Bool, true, false, not, cond, ◌||◌, List, [], ◌∷◌, ◌++◌, map, filter, flat_map, refl, sym, ap, subst, ◌∙◌, append_assoc, arith}
 use Rattle.std.specs.List.{list_all}
 use Rattle.std.specs.Cmp.Lexicographic.{pointwise}
 use Rattle.std.proofs.lemmas.Bool.{and_parts, and_from}
@@ -10,13 +10,13 @@ use Rattle.lis_model.specs.Replies.{line}
 use Rattle.lis_parts.specs.Lines.{Lines, joined, has_no_feed, ends_in_some, lines_of}
 use Rattle.lis_parts.specs.Truth.{line_holds}
 use Rattle.lis_parts.specs.Views.{Piece, pieces, texts_in, runs_of, piece_lines, view_lines, view_of}
-use Rattle.lis_parts.specs.Edits.{Back, is_edited, has_end, before_end, marked, new_texts, has_marks, is_in_form, back_by, view_marks, back_of}
+use Rattle.lis_parts.specs.Edits.{Back, is_mark, is_edited, has_end, before_end, marked, new_texts, has_marks, is_in_form, back_by, view_marks, back_of}
 use Rattle.lis_parts.specs.Edits.Back.{NotAView, WrongMarks, Content}
 use Rattle.lis_parts.specs.Laws.{IsEdit}
 use Rattle.lis_parts.proofs.Cutting.{lines, Formed, formed_parts, cut_formed, cut_content, line_cut, joined_cut}
 use Rattle.lis_parts.proofs.Pieces.{AreSome, AreWhole, pieces_texts, pieces_some, pieces_hidden, lines_edited, lines_marks, lines_no_feed, runs_no_feed, texts_no_feed}
 use Rattle.lis_parts.proofs.Ends.{ending, ending_dropped, ending_seen, ending_back}
-use Rattle.lis_parts.proofs.Backs.{pieces_mean, all_same, all_from, Edited, edited}
+use Rattle.lis_parts.proofs.Backs.{pieces_mean, words_decide, Edited, edited}
 
 -- ---- the lines of a view are cut where it ends them
 lines_cut : (texts : List (List ℕ)) → list_all has_no_feed texts ≡ true → lines_of (flat_map line texts) ≡ lines texts false
@@ -72,7 +72,7 @@ module _ (bytes : List ℕ) (place : List Formula) (input : List ℕ) (kept : Li
   kept_marks =
       ap (λ marks. pointwise same_word marks (map (λ pair. pair.0) (view_marks bytes place)))
       (lines_marks 1 kept (omega arith) kept_some ∙ ap (λ runs. map (λ (pair : List ℕ × List (List ℕ)). pair.0) (marked 1 runs)) same)
-      ∙ all_same (map (λ pair. pair.0) (view_marks bytes place))
+      ∙ (words_decide (map (λ pair. pair.0) (view_marks bytes place)) (map (λ pair. pair.0) (view_marks bytes place))).1 refl
 
   edit_stands : back_of bytes place input ≡ Content (joined is_open (flat_map texts_in kept))
   edit_stands =
@@ -153,4 +153,4 @@ module _ (bytes : List ℕ) (place : List Formula) (input new : List ℕ) where
       by true false formed same e = absurd cc
       by true true formed same e =
           let parts = and_parts (list_all is_edited given) (not ended || ends_in_some (new_texts (view_marks bytes place) given)) formed in
-          edit_from (edited 1 given (runs_of (pieces bytes place)) parts.0 (all_from _ _ same)) parts.1 cc
+          edit_from (edited 1 given (runs_of (pieces bytes place)) parts.0 ((words_decide (filter is_mark given) (map (λ pair. pair.0) (view_marks bytes place))).0 same)) parts.1 cc

@@ -2,14 +2,14 @@
 use Rattle.std.proofs.Common.{◌≡◌, ℕ, Bool, true, false, cond, List, [], ◌∷◌, ◌++◌, codes, refl, ap, subst}
 use Rattle.std.specs.List.{list_all}
 use Rattle.std.proofs.lemmas.Bool.{and_parts, false_from_ne_true}
+use Rattle.std.proofs.lemmas.Slice.Eq.{bytes_eq-Decides}
 use Rattle.lis_parts.specs.Edits.{is_edited, is_end, has_end, before_end}
-use Rattle.lis_parts.proofs.Marks.{same_from}
 
 abbrev pub ending : Bool → List (List ℕ)
 ending is_open = cond is_open (codes "!" ∷ []) []
 
 edited_no_end : (text : List ℕ) → is_edited text ≡ true → is_end text ≡ false
-edited_no_end text edited = false_from_ne_true _ (λ end. let same = subst (λ t. is_edited t ≡ true) (same_from text (codes "!") end) edited in absurd cc)
+edited_no_end text edited = false_from_ne_true _ (λ end. let same = subst (λ t. is_edited t ≡ true) ((bytes_eq-Decides text (codes "!")).0 end) edited in absurd cc)
 
 pub ending_dropped : (texts : List (List ℕ)) (is_open : Bool) → list_all is_edited texts ≡ true → before_end (texts ++ ending is_open) ≡ texts
 ending_dropped [] true h = refl
@@ -32,6 +32,6 @@ ending_back [] = refl
 ending_back (text ∷ []) = by (is_end text) refl
   where
     by : (t : Bool) → is_end text ≡ t → text ∷ [] ≡ cond t [] (text ∷ []) ++ ending t
-    by true e = ap (λ t. t ∷ []) (same_from text (codes "!") e)
+    by true e = ap (λ t. t ∷ []) ((bytes_eq-Decides text (codes "!")).0 e)
     by false e = refl
 ending_back (text ∷ next ∷ texts) = ap (λ ts. text ∷ ts) (ending_back (next ∷ texts))

@@ -1,5 +1,5 @@
 -- The marks of runs are in form, and different numbers make different marks.
-use Rattle.std.proofs.Common.{◌≡◌, ℕ, ◌+◌, ◌-◌, ◌<◌, ◌≤◌, Bool, true, false, List, [], ◌∷◌, ◌++◌, length, get_or, map, refl, sym, ap, ◌∙◌, arith, leb-true, le-leb, ne_eqb}
+use Rattle.std.proofs.Common.{◌≡◌, ℕ, ◌+◌, ◌-◌, ◌<◌, ◌≤◌, Bool, true, false, List, [], ◌∷◌, ◌++◌, length, get_or, map, refl, sym, ap, ◌∙◌, arith, le-leb, ne_eqb}
 use Rattle.std.specs.List.{list_all}
 use Rattle.std.specs.Char.{is_ascii_digit}
 use Rattle.std.specs.Int.Digits.{digits_of, AllBelowBase}
@@ -13,39 +13,22 @@ use Rattle.lis_parts.specs.Lines.{has_no_feed}
 use Rattle.lis_parts.specs.Views.{numeral, mark_of}
 use Rattle.lis_parts.specs.Edits.{is_numeral, is_no_space, is_mark}
 
--- ---- words that are the same
-pub same_true : (a b : List ℕ) → a ≡ b → same_word a b ≡ true
-same_true a b e = (bytes_eq-Decides a b).1 e
+-- ---- numerals: what holds of every digit holds of all their bytes
+glyphs : (test : ℕ → Bool) → ((b : ℕ) → 48 ≤ b → b < 58 → test b ≡ true) → (digits : List ℕ) → AllBelowBase 10 digits → list_all test (map (λ digit. 48 + digit) digits) ≡ true
+glyphs test holds [] h = refl
+glyphs test holds (digit ∷ digits) h = and_from _ _ (holds (48 + digit) (omega arith) (omega (arith, h.0))) (glyphs test holds digits h.1)
 
-pub same_from : (a b : List ℕ) → same_word a b ≡ true → a ≡ b
-same_from a b e = (bytes_eq-Decides a b).0 e
-
-pub same_false : (a b : List ℕ) → (a ≡ b → ⊥) → same_word a b ≡ false
-same_false a b differ = false_from_ne_true _ (λ e. differ (same_from a b e))
-
--- ---- numerals
-weaker : (p q : ℕ → Bool) → ((b : ℕ) → p b ≡ true → q b ≡ true) → (bytes : List ℕ) → list_all p bytes ≡ true → list_all q bytes ≡ true
-weaker p q implies [] h = refl
-weaker p q implies (b ∷ bytes) h = let parts = and_parts _ _ h in and_from _ _ (implies b parts.0) (weaker p q implies bytes parts.1)
-
-glyphs : (digits : List ℕ) → AllBelowBase 10 digits → list_all is_ascii_digit (map (λ digit. 48 + digit) digits) ≡ true
-glyphs [] h = refl
-glyphs (digit ∷ digits) h = and_from _ _ (and_from _ _ (le-leb 48 (48 + digit) (omega arith)) (le-leb (48 + digit) 57 (omega (arith, h.0)))) (glyphs digits h.1)
+numeral_all : (test : ℕ → Bool) → ((b : ℕ) → 48 ≤ b → b < 58 → test b ≡ true) → (n : ℕ) → list_all test (numeral n) ≡ true
+numeral_all test holds n = glyphs test holds (digits_of 10 n) (all_below_base_digits_of 10 n (omega arith))
 
 numeral_digits : (n : ℕ) → list_all is_ascii_digit (numeral n) ≡ true
-numeral_digits n = glyphs (digits_of 10 n) (all_below_base_digits_of 10 n (omega arith))
-
-digit_no_space : (b : ℕ) → is_ascii_digit b ≡ true → is_no_space b ≡ true
-digit_no_space b h = let parts = and_parts _ _ h in let low : 48 ≤ b = leb-true _ _ parts.0 in not_from_false _ (ne_eqb b 32 (omega arith))
-
-digit_no_feed : (b : ℕ) → is_ascii_digit b ≡ true → is_no_feed b ≡ true
-digit_no_feed b h = let parts = and_parts _ _ h in let low : 48 ≤ b = leb-true _ _ parts.0 in not_from_false _ (ne_eqb b 10 (omega arith))
+numeral_digits = numeral_all is_ascii_digit (λ b low high. and_from _ _ (le-leb 48 b low) (le-leb b 57 (omega arith)))
 
 numeral_no_space : (n : ℕ) → list_all is_no_space (numeral n) ≡ true
-numeral_no_space n = weaker is_ascii_digit is_no_space digit_no_space (numeral n) (numeral_digits n)
+numeral_no_space = numeral_all is_no_space (λ b low high. not_from_false _ (ne_eqb b 32 (omega arith)))
 
 numeral_no_feed : (n : ℕ) → list_all is_no_feed (numeral n) ≡ true
-numeral_no_feed n = weaker is_ascii_digit is_no_feed digit_no_feed (numeral n) (numeral_digits n)
+numeral_no_feed = numeral_all is_no_feed (λ b low high. not_from_false _ (ne_eqb b 10 (omega arith)))
 
 numeral_formed : (n : ℕ) → 0 < n → is_numeral (numeral n) ≡ true
 numeral_formed n some = by (digits_of 10 n) (first_digits_of 10 n (omega arith) some) (numeral_digits n)
@@ -93,4 +76,5 @@ mark_number : (m n : ℕ) (run other : List (List ℕ)) → mark_of m run ≡ ma
 mark_number m n run other e = numeral_number m n (sym (mark_front m run) ∙ ap (λ mark. front is_no_space (but_first mark)) e ∙ mark_front n other)
 
 pub marks_apart : (m n : ℕ) (run other : List (List ℕ)) → m < n → same_word (mark_of m run) (mark_of n other) ≡ false
-marks_apart m n run other below = same_false _ _ (λ e. let same : m ≡ n = mark_number m n run other e in omega arith)
+marks_apart m n run other below =
+    false_from_ne_true _ (λ e. let same : m ≡ n = mark_number m n run other ((bytes_eq-Decides (mark_of m run) (mark_of n other)).0 e) in omega arith)
