@@ -1,5 +1,5 @@
 -- A row after its words were joined with those of another.
-use Rattle.std.proofs.Common.{◌≡◌, ℕ, ◌+◌, ◌*◌, ◌/◌, ◌%◌, ◌^◌, ◌<◌, ◌≤◌, ◌⊎◌, inl, inr, ◌==◌, if◌then◌else◌, Bool, false, List, [], length, get_or, set, replicate, Some, unwrap_or, sym, ap, ◌∙◌, arith, eq-eqb, get_or-set_same, get_or-set_other}
+use Rattle.std.proofs.Common.{◌≡◌, ℕ, ◌+◌, ◌*◌, ◌/◌, ◌%◌, ◌^◌, ◌<◌, ◌≤◌, ◌⊎◌, inl, inr, ◌==◌, if◌then◌else◌, min, ◌-◌, Bool, false, List, [], length, get_or, set, replicate, Some, unwrap_or, sym, ap, ◌∙◌, arith, eq-eqb, get_or-set_same, get_or-set_other}
 use Rattle.std.proofs.lemmas.Bool.{cases_eq, ne_eqb}
 use Rattle.lis_region.specs.Region.{Region, get, with_frame, empty_region}
 use Rattle.lis_region.proofs.Frames.{refill_same, frame_in_range, get-with_frame_same}
@@ -41,13 +41,14 @@ module _ (old new : List ℕ) (rows width to : ℕ) (op : ℕ → ℕ → ℕ �
 
 -- what a contract sees after a row's words were written in the lent frame
 pub seen_written : (r : Region ℕ) (frame rows width row edits edits' : ℕ) (value : ℕ → Bool) (old new : List ℕ) → get r frame ≡ Some old → length old ≡ r.width → length new ≡ length old
-    → rows_of new rows width ≡ set (rows_of old rows width) row (row_of (64 * width) value) → edits' ≡ one_more edits
+    → rows_of new rows width ≡ set (rows_of old rows width) row (row_of (64 * width) value) → edits < 2 ^ 64 → edits' ≡ min (edits + 1) (2 ^ 64 - 1)
     → seen (with_frame r frame (Some (refill r.width (words_of r frame) new))) frame rows width edits' ≡ with_row (seen r frame rows width edits) row value
-seen_written r frame rows width row edits edits' value old new some long same written counted =
+seen_written r frame rows width row edits edits' value old new some long same written fits counted =
+    let one : edits' ≡ one_more edits = omega arith in
     let was = ap (λ o. unwrap_or o []) some in
     let lent = words_lent r frame old new some long same in
     let after = ap (λ words. rows_of words rows width) lent ∙ (written ∙ ap (λ words. set (rows_of words rows width) row (row_of (64 * width) value)) (sym was)) in
-    ap (λ rows. record { bits = 64 * width; rows = rows; edits = edits' }) after ∙ ap (λ n. record { bits = 64 * width; rows = set (rows_of (words_of r frame) rows width) row (row_of (64 * width) value); edits = n }) counted
+    ap (λ rows. record { bits = 64 * width; rows = rows; edits = edits' }) after ∙ ap (λ n. record { bits = 64 * width; rows = set (rows_of (words_of r frame) rows width) row (row_of (64 * width) value); edits = n }) one
 
 -- what a contract sees of new rows
 pub seen_new : (made r : Region ℕ) (frame rows bits : ℕ) → made ≡ empty_region 1 (rows * (bits / 64)) 0 → r ≡ with_frame made frame (Some (replicate made.width made.fill)) → frame < length made.frames → bits % 64 ≡ 0

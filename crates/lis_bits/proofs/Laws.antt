@@ -2,7 +2,7 @@
 use Rattle.std.proofs.Common.{◌≡◌, ◌≢◌, ℕ, ◌<◌, ◌≤◌, ◌⊎◌, inl, inr, Bool, false, [], length, get_or, set, replicate, ap, ◌∙◌, arith, length-set, get_or-set_same, get_or-set_other}
 use Rattle.std.proofs.lemmas.List.{get_or-replicate, length-replicate, get_or_past}
 use Rattle.std.proofs.lemmas.Bool.{cases_lt}
-use Rattle.lis_bits.specs.Rows.{Rows, HasShape, get, row_at, row_of, with_row, empty_rows, SetsRow, SetsBits}
+use Rattle.lis_bits.specs.Rows.{Rows, HasShape, get, row_at, row_of, with_row, one_more, empty_rows, SetsBits}
 use Rattle.lis_bits.proofs.View.{get-row_of, row_same}
 
 pub get-with_row_same : (r : Rows) (row bit : ℕ) (value : ℕ → Bool) → row < length r.rows → bit < r.bits → get (with_row r row value) row bit ≡ value bit
@@ -34,19 +34,9 @@ get-empty_rows rows bits row bit = go (cases_lt row rows)
 pub length-empty_rows : (rows bits : ℕ) → length (empty_rows rows bits).rows ≡ rows
 length-empty_rows rows bits = length-replicate rows (replicate bits false)
 
--- ---- the same after a row was set by any number of edits
-pub get-sets_row_same : (old new : Rows) (row bit : ℕ) (value : ℕ → Bool) → SetsRow old new row value → row < length old.rows → bit < old.bits → get new row bit ≡ value bit
-get-sets_row_same old new row bit value sets in_rows in_row = ap (λ rows. get_or (get_or rows row []) bit false) sets.rows ∙ get-with_row_same old row bit value in_rows in_row
-
-pub get-sets_row_other : (old new : Rows) (row other bit : ℕ) (value : ℕ → Bool) → SetsRow old new row value → other ≢ row → get new other bit ≡ get old other bit
-get-sets_row_other old new row other bit value sets differ = ap (λ rows. get_or (get_or rows other []) bit false) sets.rows ∙ get-with_row_other old row other bit value differ
-
-pub length-sets_row : (old new : Rows) (row : ℕ) (value : ℕ → Bool) → SetsRow old new row value → length new.rows ≡ length old.rows
-length-sets_row old new row value sets = ap length sets.rows ∙ length-set old.rows row (row_of old.bits value)
-
 -- other truth values that are the same at each bit of a row
-pub sets_row_same : (old new : Rows) (row : ℕ) (f g : ℕ → Bool) → SetsRow old new row f → ((bit : ℕ) → bit < old.bits → f bit ≡ g bit) → SetsRow old new row g
-sets_row_same old new row f g sets same = record { bits = sets.bits; rows = sets.rows ∙ ap (λ values. set old.rows row values) (row_same old.bits f g same) }
+pub with_row_same : (r : Rows) (row : ℕ) (f g : ℕ → Bool) → ((bit : ℕ) → bit < r.bits → f bit ≡ g bit) → with_row r row f ≡ with_row r row g
+with_row_same r row f g same = ap (λ values. record { bits = r.bits; rows = set r.rows row values; edits = one_more r.edits }) (row_same r.bits f g same)
 
 -- ---- rows of one shape, of which one row is set
 pub shaped : (r : Rows) (rows bits row : ℕ) (value : ℕ → Bool) → HasShape r rows bits → HasShape (with_row r row value) rows bits
@@ -63,12 +53,8 @@ bits_set old rows bits row value shape lt = record {
   others = λ other bit differ. get-with_row_other old row other bit value differ;
 }
 
-pub row_sets : (old new : Rows) (rows bits row : ℕ) (value : ℕ → Bool) → HasShape old rows bits → row < rows → SetsRow old new row value → SetsBits old new rows bits row value
-row_sets old new rows bits row value shape lt sets = record {
-  shape = record { tall = length-sets_row old new row value sets ∙ shape.tall; wide = sets.bits ∙ shape.wide };
-  at = λ bit in_row. get-sets_row_same old new row bit value sets (omega (arith, shape.tall)) (omega (arith, shape.wide));
-  others = λ other bit differ. get-sets_row_other old new row other bit value sets differ;
-}
+pub row_sets : (old new : Rows) (rows bits row : ℕ) (value : ℕ → Bool) → HasShape old rows bits → row < rows → new ≡ with_row old row value → SetsBits old new rows bits row value
+row_sets old new rows bits row value shape lt sets = rw sets (bits_set old rows bits row value shape lt)
 
 pub bits_again : (old mid new : Rows) (rows bits row : ℕ) (f g : ℕ → Bool) → SetsBits old mid rows bits row f → SetsBits mid new rows bits row g → SetsBits old new rows bits row g
 bits_again old mid new rows bits row f g first second = record {

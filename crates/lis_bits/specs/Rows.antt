@@ -21,11 +21,11 @@ get r row bit = slice_index_or (row_at r row) bit false
 unfoldable pub row_of : ℕ → (ℕ → Bool) → List Bool
 row_of bits value = map value (range_with_len 0 bits)
 
--- one edit more, as the counter has it
+-- one edit more, and none where the counter is at its last value: it never falls
 abbrev pub one_more : ℕ → ℕ
-one_more edits = min (edits + 1) (2 ^ 64 - 1)
+one_more edits = edits + min 1 (2 ^ 64 - 1 - edits)
 
--- one row is set to these truth values, bit by bit; every other row stays
+-- one row is set to these truth values, bit by bit, by one edit; every other row stays
 abbrev pub with_row : Rows → ℕ → (ℕ → Bool) → Rows
 with_row r row value = record { bits = r.bits; rows = slice_set r.rows row (row_of r.bits value); edits = one_more r.edits }
 
@@ -40,11 +40,6 @@ true_count r row = count_by (λ value. value) (row_at r row)
 -- no bit from the first number up to the second is true
 abbrev pub NoneTrue : Rows → ℕ → ℕ → ℕ → Type 0
 NoneTrue r row start end = (bit : ℕ) → start ≤ bit → bit < end → get r row bit ≡ false
-
--- the new rows are the old ones with one row set to these truth values, by any number of edits
-pub record SetsRow (old new : Rows) (row : ℕ) (value : ℕ → Bool) : Type 0 where
-  pub bits : new.bits ≡ old.bits
-  pub rows : new.rows ≡ slice_set old.rows row (row_of old.bits value)
 
 -- so many rows of so many bits
 pub record HasShape (r : Rows) (rows bits : ℕ) : Type 0 where

@@ -1,5 +1,5 @@
 ghost use Rattle.std.specs.Prelude.{◌≡◌, ℕ, ◌<◌, ◌↔◌, ◌&&◌, not, length, IsTrue};
-ghost use Rattle.lis_bits.specs.Rows.{get, with_row, SetsRow, Meets};
+ghost use Rattle.lis_bits.specs.Rows.{get, with_row, Meets};
 
 use crate::{Rows, words};
 
@@ -8,7 +8,7 @@ pub fn copy_row(from: &Rows, row: u32, to: &mut Rows, at: u32)
     requires row { row < length from.now.rows }
     requires at { at < length to.old.rows }
     requires bits { from.now.bits ≡ to.old.bits }
-    ensures { SetsRow to.old to.new at (get from.now row) }
+    ensures { to.new ≡ with_row to.old at (get from.now row) }
 {
     to.join_with(at, from, row, |_, b| b);
 }

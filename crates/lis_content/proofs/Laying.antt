@@ -8,6 +8,8 @@ use Rattle.std.proofs.lemmas.List.Folds.{list_any-append}
 use Rattle.byteorder.specs.Endian.{little_bytes}
 use Rattle.lis_ports.specs.Meaning.{Meaning}
 use Rattle.lis_ports.specs.Runs.{IsDiskRun}
+use Rattle.lis_ports.specs.Calls.{DiskFaultEnds}
+use Rattle.lis_ports.proofs.Ending.{ends_then}
 use Rattle.lis_ports.proofs.Moments.{run_then, leaves_then, leaves_weaken}
 use Rattle.lis_model.specs.State.{blocks_needed}
 use Rattle.lis_journal.specs.Record.{replayed}
@@ -152,15 +154,17 @@ pub record Laying (base : ℕ) (bytes rest : List ℕ) (start now_taken : List B
   pub lays : Lays base start now_taken before now old new blocks (IsPart base bytes rest blocks)
   pub run : IsDiskRun old new
   pub faults : new.disk_faults ≡ old.disk_faults
+  pub first_fault : DiskFaultEnds old new
   pub count : length blocks + blocks_needed (length rest) ≡ blocks_needed (length bytes)
   pub enough : blocks_needed (length rest) ≤ free_count now_taken
   pub left : 0 < length rest → 4096 * length blocks + length rest ≡ length bytes
 
-pub laying_more : (base : ℕ) (bytes rest front behind : List ℕ) (start now_taken next_taken : List Bool) (before now next : Held) {old mid new : Meaning} (blocks : List ℕ) (n : ℕ) → Laying base bytes rest start now_taken before now old mid blocks → 0 < length rest → front ++ behind ≡ rest → length front ≡ min (length rest) 4096 → OnePlaced base front now_taken next_taken now next mid new n → IsDiskRun mid new → new.disk_faults ≡ mid.disk_faults → Laying base bytes behind start next_taken before next old new (blocks ++ n ∷ [])
-laying_more base bytes rest front behind start now_taken next_taken before now next blocks n was some parts size one run faults = record {
+pub laying_more : (base : ℕ) (bytes rest front behind : List ℕ) (start now_taken next_taken : List Bool) (before now next : Held) {old mid new : Meaning} (blocks : List ℕ) (n : ℕ) → Laying base bytes rest start now_taken before now old mid blocks → 0 < length rest → front ++ behind ≡ rest → length front ≡ min (length rest) 4096 → OnePlaced base front now_taken next_taken now next mid new n → IsDiskRun mid new → new.disk_faults ≡ mid.disk_faults → DiskFaultEnds mid new → Laying base bytes behind start next_taken before next old new (blocks ++ n ∷ [])
+laying_more base bytes rest front behind start now_taken next_taken before now next blocks n was some parts size one run faults no_more = record {
   lays = lays_more base start now_taken next_taken before now next blocks n front _ _ was.lays one part;
   run = run_then was.run run;
   faults = faults ∙ was.faults;
+  first_fault = ends_then was.first_fault was.faults no_more;
   count = omega (arith, was.count, longer, size, some, both);
   enough = omega (arith, was.enough, one.takes.fewer, size, some, both);
   left = λ more. omega (arith, was.left some, longer, size, both, more);

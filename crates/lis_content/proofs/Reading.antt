@@ -7,7 +7,7 @@ use Rattle.std.proofs.lemmas.Grind.{flat_map-append}
 use Rattle.std.proofs.lemmas.List.{append-nil, take_all, take_at, take_more, drop_all, drop-drop, length-take-le}
 use Rattle.lis_ports.specs.Meaning.{Meaning}
 use Rattle.lis_ports.specs.Runs.{IsDiskRun, Leaves}
-use Rattle.lis_ports.specs.Calls.{IsUnchanged}
+use Rattle.lis_ports.specs.Calls.{DiskFaultEnds, IsUnchanged}
 use Rattle.lis_model.specs.State.{blocks_needed}
 use Rattle.lis_journal.specs.Journal.{Held}
 use Rattle.lis_journal.specs.Images.{Fits}
@@ -37,6 +37,7 @@ pub record IsFilled (at : ℕ → List ℕ) (ns : List ℕ) (k size : ℕ) (buf 
 pub record SoFar (old now : Meaning) (journal : Held) (base : ℕ) (ns : List ℕ) (k size : ℕ) (buf : List ℕ) : Type 0 where
   pub run : IsDiskRun old now
   pub faults : now.disk_faults ≡ old.disk_faults
+  pub first_fault : DiskFaultEnds old now
   pub same : IsTrue old.is_honest → IsUnchanged old now
   pub moments : IsTrue old.is_honest → Leaves old now old.images
   pub fits : (kept : ℕ → List ℕ) → Fits journal old kept → Fits journal now kept

@@ -2,7 +2,7 @@
 
 ghost use Rattle.std.specs.Prelude.{◌≡◌, ◌*◌, ◌≤◌, ℕ, List, [], false, length, take, IsTrue, IfOk, OnOk};
 ghost use Rattle.lis_ports.specs.Runs.{IsDiskRun, Leaves};
-ghost use Rattle.lis_ports.specs.Calls.{HasCause, IsUnchanged};
+ghost use Rattle.lis_ports.specs.Calls.{HasCause, IsUnchanged, DiskFaultEnds};
 ghost use Rattle.lis_journal.specs.Images.{Fits};
 ghost use Rattle.lis_journal.specs.Phases.{looked};
 ghost use Rattle.lis_content.specs.Content.{are_within};
@@ -59,6 +59,7 @@ fn read_front<D: Disk>(
         → take size items.new ≡ file_content base blocks.now size (looked journal.now.staged kept)) }
     ensures run { IsDiskRun (D.meaning disk.old) (D.meaning disk.new) }
     ensures cause { HasCause (D.meaning disk.old).disk_faults (D.meaning disk.new).disk_faults result }
+    ensures first_fault { DiskFaultEnds (D.meaning disk.old) (D.meaning disk.new) }
     ensures same { IsTrue (D.meaning disk.old).is_honest → IsUnchanged (D.meaning disk.old) (D.meaning disk.new) }
     ensures any_moment { IsTrue (D.meaning disk.old).is_honest
         → Leaves (D.meaning disk.old) (D.meaning disk.new) (D.meaning disk.old).images }
@@ -97,6 +98,7 @@ fn read_frame<D: Disk>(
         → kept_bytes region.new frame.now size ≡ file_content base blocks.now size (looked journal.now.staged kept)) }
     ensures run { IsDiskRun (D.meaning disk.old) (D.meaning disk.new) }
     ensures cause { HasCause (D.meaning disk.old).disk_faults (D.meaning disk.new).disk_faults result }
+    ensures first_fault { DiskFaultEnds (D.meaning disk.old) (D.meaning disk.new) }
     ensures same { IsTrue (D.meaning disk.old).is_honest → IsUnchanged (D.meaning disk.old) (D.meaning disk.new) }
     ensures any_moment { IsTrue (D.meaning disk.old).is_honest
         → Leaves (D.meaning disk.old) (D.meaning disk.new) (D.meaning disk.old).images }
@@ -152,6 +154,7 @@ impl Buffer {
         ensures size { OnOk result (length self.new ≡ size) }
         ensures run { IsDiskRun (D.meaning disk.old) (D.meaning disk.new) }
         ensures cause { HasCause (D.meaning disk.old).disk_faults (D.meaning disk.new).disk_faults result }
+        ensures first_fault { DiskFaultEnds (D.meaning disk.old) (D.meaning disk.new) }
         ensures same { IsTrue (D.meaning disk.old).is_honest → IsUnchanged (D.meaning disk.old) (D.meaning disk.new) }
         ensures any_moment { IsTrue (D.meaning disk.old).is_honest
             → Leaves (D.meaning disk.old) (D.meaning disk.new) (D.meaning disk.old).images }

@@ -3,7 +3,7 @@
 ghost use Rattle.std.specs.Prelude.{◌≡◌, ◌+◌, ◌*◌, ◌<◌, ◌≤◌, ◌==◌, ℕ, List, None, false, length, slice_index, slice_set, IsTrue, IfOk, IfSome, OnOk, OnErr};
 ghost use Rattle.std.specs.List.{list_all};
 ghost use Rattle.lis_ports.specs.Runs.{IsDiskRun, Leaves};
-ghost use Rattle.lis_ports.specs.Calls.{HasCause, IsUnchanged};
+ghost use Rattle.lis_ports.specs.Calls.{HasCause, IsUnchanged, DiskFaultEnds};
 ghost use Rattle.lis_model.specs.State.{blocks_needed, blocks_taken};
 ghost use Rattle.lis_journal.specs.Images.{Fits, look};
 ghost use Rattle.lis_journal.specs.Phases.{looked};
@@ -53,6 +53,7 @@ fn read_home<D: Disk>(journal: &Journal, disk: &mut D, n: u32, buf: &mut [u8]) -
         → buf.new ≡ look journal.now.staged n (kept n)) }
     ensures asks { Asks journal.now (D.meaning disk.old) (D.meaning disk.new) }
     ensures cause { HasCause (D.meaning disk.old).disk_faults (D.meaning disk.new).disk_faults result }
+    ensures first_fault { DiskFaultEnds (D.meaning disk.old) (D.meaning disk.new) }
 {
     journal.read(disk, n, buf)
 }
@@ -68,6 +69,7 @@ fn read_number<D: Disk>(journal: &Journal, disk: &mut D, n: u32, k: usize) -> Re
         → number ≡ number_at (look journal.now.staged n (kept n)) k) }
     ensures asks { Asks journal.now (D.meaning disk.old) (D.meaning disk.new) }
     ensures cause { HasCause (D.meaning disk.old).disk_faults (D.meaning disk.new).disk_faults result }
+    ensures first_fault { DiskFaultEnds (D.meaning disk.old) (D.meaning disk.new) }
 {
     let mut block = [0; BLOCK_LEN];
     read_home(journal, disk, n, &mut block)?;
@@ -94,6 +96,7 @@ fn number_of<D: Disk>(
         → number ≡ slice_index (content_blocks base blocks.now size (looked journal.now.staged kept)) n) }
     ensures asks { Asks journal.now (D.meaning disk.old) (D.meaning disk.new) }
     ensures cause { HasCause (D.meaning disk.old).disk_faults (D.meaning disk.new).disk_faults result }
+    ensures first_fault { DiskFaultEnds (D.meaning disk.old) (D.meaning disk.new) }
 {
     if is_large(size) {
         return read_number(
@@ -123,6 +126,7 @@ fn read_within<D: Disk>(
         → buf.new ≡ block_within base journal.now.blocks (looked journal.now.staged kept) number) }
     ensures asks { Asks journal.now (D.meaning disk.old) (D.meaning disk.new) }
     ensures cause { HasCause (D.meaning disk.old).disk_faults (D.meaning disk.new).disk_faults result }
+    ensures first_fault { DiskFaultEnds (D.meaning disk.old) (D.meaning disk.new) }
 {
     if u32::from(number) >= journal.blocks() - base {
         fill(buf, &[]);
@@ -155,6 +159,7 @@ pub fn read_block<D: Disk>(
         (slice_index (content_blocks base blocks.now size (looked journal.now.staged kept)) n)) }
     ensures run { IsDiskRun (D.meaning disk.old) (D.meaning disk.new) }
     ensures cause { HasCause (D.meaning disk.old).disk_faults (D.meaning disk.new).disk_faults result }
+    ensures first_fault { DiskFaultEnds (D.meaning disk.old) (D.meaning disk.new) }
     ensures same { IsTrue (D.meaning disk.old).is_honest → IsUnchanged (D.meaning disk.old) (D.meaning disk.new) }
     ensures any_moment { IsTrue (D.meaning disk.old).is_honest
         → Leaves (D.meaning disk.old) (D.meaning disk.new) (D.meaning disk.old).images }
@@ -214,6 +219,7 @@ fn read_index<D: Disk>(
     ensures count { IfOk result (λ numbers. length numbers.items ≡ count) }
     ensures asks { Asks journal.now (D.meaning disk.old) (D.meaning disk.new) }
     ensures cause { HasCause (D.meaning disk.old).disk_faults (D.meaning disk.new).disk_faults result }
+    ensures first_fault { DiskFaultEnds (D.meaning disk.old) (D.meaning disk.new) }
 {
     let mut block = [0; BLOCK_LEN];
     read_home(journal, disk, n, &mut block)?;
@@ -273,6 +279,7 @@ pub fn read_content<D: Disk>(
         → buf.new ≡ file_content base slot.now size (looked journal.now.staged kept)) }
     ensures run { IsDiskRun (D.meaning disk.old) (D.meaning disk.new) }
     ensures cause { HasCause (D.meaning disk.old).disk_faults (D.meaning disk.new).disk_faults result }
+    ensures first_fault { DiskFaultEnds (D.meaning disk.old) (D.meaning disk.new) }
     ensures same { IsTrue (D.meaning disk.old).is_honest → IsUnchanged (D.meaning disk.old) (D.meaning disk.new) }
     ensures any_moment { IsTrue (D.meaning disk.old).is_honest
         → Leaves (D.meaning disk.old) (D.meaning disk.new) (D.meaning disk.old).images }
@@ -314,6 +321,7 @@ pub fn drop_large<D: Disk>(
     ensures stays { OnErr result (map.new ≡ map.old) }
     ensures run { IsDiskRun (D.meaning disk.old) (D.meaning disk.new) }
     ensures cause { HasCause (D.meaning disk.old).disk_faults (D.meaning disk.new).disk_faults result }
+    ensures first_fault { DiskFaultEnds (D.meaning disk.old) (D.meaning disk.new) }
     ensures same { IsTrue (D.meaning disk.old).is_honest → IsUnchanged (D.meaning disk.old) (D.meaning disk.new) }
     ensures any_moment { IsTrue (D.meaning disk.old).is_honest
         → Leaves (D.meaning disk.old) (D.meaning disk.new) (D.meaning disk.old).images }

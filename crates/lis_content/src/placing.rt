@@ -4,7 +4,7 @@ ghost use Rattle.std.specs.Prelude.{◌≡◌, ◌+◌, ◌*◌, ◌<◌, ◌≤
 ghost use Rattle.std.specs.List.{flat_map};
 ghost use Rattle.byteorder.specs.Endian.{little_bytes};
 ghost use Rattle.lis_ports.specs.Runs.{IsDiskRun, Leaves};
-ghost use Rattle.lis_ports.specs.Calls.{HasCause};
+ghost use Rattle.lis_ports.specs.Calls.{HasCause, DiskFaultEnds};
 ghost use Rattle.lis_model.specs.State.{blocks_needed, blocks_taken};
 ghost use Rattle.lis_journal.specs.Images.{StandsBut, Fits, KeepsPast, with_placed, with_kept};
 ghost use Rattle.lis_journal.specs.Staging.{has_entry};
@@ -45,6 +45,7 @@ fn place_front<D: Disk>(
         → KeepsPast journal.old.blocks (D.meaning disk.old) (D.meaning disk.new) }
     ensures run { IsDiskRun (D.meaning disk.old) (D.meaning disk.new) }
     ensures cause { HasCause (D.meaning disk.old).disk_faults (D.meaning disk.new).disk_faults result }
+    ensures first_fault { DiskFaultEnds (D.meaning disk.old) (D.meaning disk.new) }
     ensures done { OnOk result (journal.new
         ≡ record journal.old { records = journal.new.records; placed = with_placed journal.old.placed n }) }
     ensures broken { OnErr result (journal.new ≡ record journal.old { records = journal.new.records; is_broken = true }) }
@@ -78,6 +79,7 @@ fn place_block<D: Disk>(
         (λ _. OneTorn base map.old map.new journal.old journal.new (D.meaning disk.old) (D.meaning disk.new)) }
     ensures run { IsDiskRun (D.meaning disk.old) (D.meaning disk.new) }
     ensures cause { HasCause (D.meaning disk.old).disk_faults (D.meaning disk.new).disk_faults result }
+    ensures first_fault { DiskFaultEnds (D.meaning disk.old) (D.meaning disk.new) }
 {
     let Some(n) = map.take() else { unreachable!() };
     place_front(journal, disk, home(journal.blocks(), base, n), bytes)?;
@@ -105,6 +107,7 @@ fn place_bytes<D: Disk>(
         (λ _. IsTornOff base map.old map.new journal.old journal.new (D.meaning disk.old) (D.meaning disk.new)) }
     ensures run { IsDiskRun (D.meaning disk.old) (D.meaning disk.new) }
     ensures cause { HasCause (D.meaning disk.old).disk_faults (D.meaning disk.new).disk_faults result }
+    ensures first_fault { DiskFaultEnds (D.meaning disk.old) (D.meaning disk.new) }
 {
     let mut taken = ArrayVec::new();
     let mut rest = bytes;
@@ -140,6 +143,7 @@ fn place_index<D: Disk>(
     ensures short { IsTrue (are_short numbers.now) }
     ensures run { IsDiskRun (D.meaning disk.old) (D.meaning disk.new) }
     ensures cause { HasCause (D.meaning disk.old).disk_faults (D.meaning disk.new).disk_faults result }
+    ensures first_fault { DiskFaultEnds (D.meaning disk.old) (D.meaning disk.new) }
 {
     let mut held = [0; 512];
     let (used, _) = held.split_at_mut(2 * numbers.len());
@@ -178,6 +182,7 @@ fn place_all<D: Disk>(
         (λ _. IsTornOff base map.old map.new journal.old journal.new (D.meaning disk.old) (D.meaning disk.new)) }
     ensures run { IsDiskRun (D.meaning disk.old) (D.meaning disk.new) }
     ensures cause { HasCause (D.meaning disk.old).disk_faults (D.meaning disk.new).disk_faults result }
+    ensures first_fault { DiskFaultEnds (D.meaning disk.old) (D.meaning disk.new) }
 {
     let numbers = place_bytes(map, journal, disk, base, bytes)?;
     if !is_large(bytes.len() as u32) {
@@ -209,6 +214,7 @@ pub fn place_file<D: Disk>(
     ensures refused { result ≡ Err NoSpace → disk.new ≡ disk.old }
     ensures run { IsDiskRun (D.meaning disk.old) (D.meaning disk.new) }
     ensures cause { HasPlaceCause (D.meaning disk.old).disk_faults (D.meaning disk.new).disk_faults result }
+    ensures first_fault { DiskFaultEnds (D.meaning disk.old) (D.meaning disk.new) }
 {
     if map.free() < blocks_taken(bytes.len() as u32) {
         return Err(PutFault::NoSpace);

@@ -23,6 +23,7 @@ changes_more old now old_marks marks props files touched touched' value value' q
   bits = λ p i p_in i_in. bit p i p_in i_in (cases_eq p q);
   marks = λ p p_in. new_row marks 1 props 0 p (λ k. if k == q then true else get marks 0 k) h.marks_shape (omega arith) p_in ∙ mark p p_in (cases_eq p q);
   edits = omega (arith, h.edits, numbers_more props touched touched' q q_in fresh marked (λ p p_in was. kept p p_in was (cases_eq p q)));
+  no_fewer = omega (arith, h.no_fewer);
 }
   where
     bit : (p i : ℕ) → p < props → i < files → (p ≡ q) ⊎ (p ≡ q → ⊥) → get (with_row now q f) p i ≡ value' p i
@@ -46,6 +47,7 @@ changes_same old now old_marks marks props files touched touched' value value' h
   bits = λ p i p_in i_in. h.bits p i p_in i_in ∙ sym (same_value p i p_in i_in);
   marks = λ p p_in. h.marks p p_in ∙ ap (λ b. get old_marks 0 p || b) (sym (same_touched p p_in));
   edits = omega (arith, h.edits, numbers_le props touched touched' (λ p p_in was. same_touched p p_in ∙ was));
+  no_fewer = h.no_fewer;
 }
 
 -- ---- tests of the next number of a list

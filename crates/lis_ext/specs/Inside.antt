@@ -5,13 +5,15 @@ use Rattle.lis_bits.specs.Rows.{Rows, HasShape, get}
 use Rattle.lis_ext.specs.Numbers.{has_number, numbers_where}
 use Rattle.lis_ext.specs.Ext.{Ext}
 
--- the rows have these bits, the numbers that pass the test are marked, and no more edits were made than there are such
+-- the rows have these bits, the numbers that pass the test are marked, and no more edits were made than there are such;
+-- the count of edits does not fall
 pub record Changes (old new old_marks new_marks : Rows) (props files : ℕ) (touched : ℕ → Bool) (value : ℕ → ℕ → Bool) : Type 0 where
   pub rows_shape : HasShape new props files
   pub marks_shape : HasShape new_marks 1 props
   pub bits : (p i : ℕ) → p < props → i < files → get new p i ≡ value p i
   pub marks : (p : ℕ) → p < props → get new_marks 0 p ≡ (get old_marks 0 p || touched p)
   pub edits : new.edits ≤ old.edits + length (numbers_where props touched)
+  pub no_fewer : old.edits ≤ new.edits
 
 -- the file has the numbers of the list too
 abbrev pub AddsNumbers : Rows → Rows → Rows → Rows → ℕ → ℕ → ℕ → List ℕ → Type 0

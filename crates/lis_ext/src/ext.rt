@@ -1,6 +1,6 @@
 ghost use Rattle.std.specs.Prelude.{◌≡◌, ℕ, ◌+◌, ◌*◌, ◌%◌, ◌<◌, ◌≤◌, All, ◌&&◌, [], length, slice_get, slice_set, IfOk};
 ghost use Rattle.std.specs.List.Sorted.{IsStrictlyIncreasing};
-ghost use Rattle.lis_bits.specs.Rows.{HasShape, get, SetsRow};
+ghost use Rattle.lis_bits.specs.Rows.{HasShape, get, with_row};
 ghost use Rattle.lis_bits.specs.Bytes.{bits_bytes};
 ghost use Rattle.lis_ext.specs.Numbers.{differs, numbers_where};
 
@@ -64,6 +64,7 @@ impl Ext {
         ensures marks { self.new.marks ≡ with_marks self.old (differs old.now new.now) }
         ensures edits { self.new.edits
             ≤ self.old.edits + length (numbers_where self.old.props (differs old.now new.now)) }
+        ensures no_fewer { self.old.edits ≤ self.new.edits }
     {
         tables::add_numbers(
             &mut self.rows,
@@ -97,6 +98,7 @@ impl Ext {
             ≡ with_marks self.old (λ p. get ups.now row p && is_lacked self.old left p) }
         ensures edits { self.new.edits ≤ self.old.edits
             + length (numbers_where self.old.props (λ p. get ups.now row p && is_lacked self.old left p)) }
+        ensures no_fewer { self.old.edits ≤ self.new.edits }
     {
         tables::widen(
             &mut self.rows,
@@ -123,7 +125,7 @@ impl Ext {
         requires prop { prop < self.now.props }
         requires bits { to.old.bits ≡ length self.now.sets }
         requires row { row < length to.old.rows }
-        ensures { SetsRow to.old to.new row (has self.now prop) }
+        ensures { to.new ≡ with_row to.old row (has self.now prop) }
     {
         copy_row(&self.rows, prop, to, row);
     }

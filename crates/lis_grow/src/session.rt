@@ -2,7 +2,7 @@
 
 ghost use Rattle.std.specs.Prelude.{◌≡◌, ◌≢◌, ◌*◌, ◌≤◌, ◌<◌, ◌^◌, false, is_some, Err, IfOk};
 ghost use Rattle.lis_ports.specs.Runs.{IsDiskRun};
-ghost use Rattle.lis_ports.specs.Calls.{HasCause};
+ghost use Rattle.lis_ports.specs.Calls.{HasCause, DiskFaultEnds, StationFaultEnds};
 ghost use Rattle.lis_line.specs.Reading.{asked_by};
 ghost use Rattle.lis_model.specs.State.{State};
 ghost use Rattle.lis_model.specs.Step.{Payload as Told};
@@ -47,9 +47,11 @@ fn carry_out<D: Disk>(
         → Summed (record { state = state; place = session.old.place }) (grow_items n) (D.meaning disk.old) (D.meaning disk.new) result (StoreFits session.new.store (D.meaning disk.new)) }
     ensures run { IsDiskRun (D.meaning disk.old) (D.meaning disk.new) }
     ensures cause { HasCause (D.meaning disk.old).disk_faults (D.meaning disk.new).disk_faults result }
+    ensures first_fault { DiskFaultEnds (D.meaning disk.old) (D.meaning disk.new) }
     ensures limits { session.new.store.parts.limits ≡ session.old.store.parts.limits }
     ensures image { session.new.store.journal.blocks ≡ session.old.store.journal.blocks }
     ensures unbroken { IfOk result (λ _. session.new.store.is_broken ≡ false) }
+    ensures sound { IsSound session.new.store }
 {
     let mut source = GrowSource::new(n);
     let mut reader = LineReader::new(LIMIT);
@@ -83,8 +85,10 @@ pub fn grow_session<T: Station>(
         → Grows (record { state = state; place = session.old.place }) (grow_items n) (T.meaning station.old) (T.meaning station.new)
         (GrowEnded (record { state = state; place = session.old.place }) (grow_items n) (T.meaning station.old).shown (T.meaning station.new) result) }
     ensures cause { HasEndCause (T.meaning station.old) (T.meaning station.new) result }
+    ensures first_fault { StationFaultEnds (T.meaning station.old) (T.meaning station.new) }
     ensures same { IsSameStation (T.meaning station.old) (T.meaning station.new) }
     ensures left { StoreLeft session.old.store session.new.store result }
+    ensures sound { IsSound session.new.store }
 {
     let Ok(sum) = carry_out(session, payload, station, n) else {
         return Err(End::DiskFault);

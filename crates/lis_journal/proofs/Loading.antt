@@ -4,7 +4,8 @@ use Rattle.std.proofs.lemmas.Bool.{le-leb, lt-leb}
 use Rattle.lis_ports.specs.Meaning.{Meaning}
 use Rattle.lis_ports.specs.Bytes.{part}
 use Rattle.lis_ports.specs.Runs.{IsDiskRun}
-use Rattle.lis_ports.specs.Calls.{Elapses, IsUnchanged}
+use Rattle.lis_ports.specs.Calls.{DiskFaultEnds, Elapses, IsUnchanged}
+use Rattle.lis_ports.proofs.Ending.{ends_then}
 use Rattle.lis_ports.proofs.Moments.{run_then, leaves_none, leaves_call, leaves_then, leaves_weaken}
 use Rattle.lis_journal.specs.Record.{block, word, words, count_of, homes_of, rises, is_header, record_end, is_record, entries_from, recorded, first_bad, all_recorded, behind}
 use Rattle.lis_journal.specs.Images.{look}
@@ -74,6 +75,7 @@ entries-snoc m (h ∷ hs) home a =
 pub record Loaded (old now : Meaning) (before after : Staging) (h : List ℕ) (b k : ℕ) : Type 0 where
   pub run : IsDiskRun old now
   pub faults : now.disk_faults ≡ old.disk_faults
+  pub first_fault : DiskFaultEnds old now
   pub quiet : IsTrue old.is_honest → OnlyReads old now
   pub blocks_are : after.blocks ≡ before.blocks
   pub few : length after.entries ≤ length before.entries + k
@@ -83,8 +85,8 @@ pub quiet_on : {old now next : Meaning} → IsDiskRun old now → (IsTrue old.is
 quiet_on run quiet run_next time unchanged honest =
     reads_then (quiet honest) (reads_call run_next time (unchanged (run.honest ∙ honest)))
 
-pub load_on : {old now next : Meaning} (b k home : ℕ) (before s t : Staging) (h buf : List ℕ) → Loaded old now before s h b k → home ≡ word (k + 1) h → IsDiskRun now next → Elapses now next → next.disk_faults ≡ now.disk_faults → (IsTrue now.is_honest → IsUnchanged now next) → (IsTrue now.is_honest → buf ≡ part (4096 * (b + 1 + k)) 4096 now.bytes) → t.blocks ≡ s.blocks → length t.entries ≤ length s.entries + 1 → ((m : ℕ) (old : List ℕ) → look t.entries m old ≡ cond (m == home) buf (look s.entries m old)) → Loaded old next before t h b (k + 1)
-load_on {old} {now} {next} b k home before s t h buf so_far is_home run time faults unchanged read blocks few looks =
+pub load_on : {old now next : Meaning} (b k home : ℕ) (before s t : Staging) (h buf : List ℕ) → Loaded old now before s h b k → home ≡ word (k + 1) h → IsDiskRun now next → Elapses now next → next.disk_faults ≡ now.disk_faults → DiskFaultEnds now next → (IsTrue now.is_honest → IsUnchanged now next) → (IsTrue now.is_honest → buf ≡ part (4096 * (b + 1 + k)) 4096 now.bytes) → t.blocks ≡ s.blocks → length t.entries ≤ length s.entries + 1 → ((m : ℕ) (old : List ℕ) → look t.entries m old ≡ cond (m == home) buf (look s.entries m old)) → Loaded old next before t h b (k + 1)
+load_on {old} {now} {next} b k home before s t h buf so_far is_home run time faults ends unchanged read blocks few looks =
     let next_k : k + 1 ≡ suc k = omega arith in
     let one : 1 + k ≡ k + 1 = omega arith in
     let spelled : words 1 (k + 1) h ≡ words 1 k h ++ home ∷ [] =
@@ -92,6 +94,7 @@ load_on {old} {now} {next} b k home before s t h buf so_far is_home run time fau
     record {
       run = run_then so_far.run run;
       faults = faults ∙ so_far.faults;
+      first_fault = ends_then so_far.first_fault so_far.faults ends;
       quiet = quiet_on so_far.run so_far.quiet run time unchanged;
       blocks_are = blocks ∙ so_far.blocks_are;
       few = omega (arith, few, so_far.few);
@@ -143,6 +146,7 @@ recorded_read b bytes head is = ap (λ header. entries_from (b + 1) (homes_of he
 pub record Through (old now : Meaning) (before after : Staging) (first k : ℕ) : Type 0 where
   pub run : IsDiskRun old now
   pub faults : now.disk_faults ≡ old.disk_faults
+  pub first_fault : DiskFaultEnds old now
   pub quiet : IsTrue old.is_honest → OnlyReads old now
   pub blocks_are : after.blocks ≡ before.blocks
   pub room : length after.entries + 2 ≤ first
@@ -151,12 +155,13 @@ pub record Through (old now : Meaning) (before after : Staging) (first k : ℕ) 
   pub ends : IsTrue old.is_honest → first ≡ behind 2 k old.bytes
   pub latest : IsTrue old.is_honest → Absorbs [] (all_recorded 2 k old.bytes) after.entries
 
-pub through_on : {old now next : Meaning} (before s t : Staging) (first last k : ℕ) → Through old now before s first k → IsDiskRun now next → next.disk_faults ≡ now.disk_faults → (IsTrue now.is_honest → OnlyReads now next) → t.blocks ≡ s.blocks → length t.entries + 2 ≤ last → last ≤ 578 → (IsTrue now.is_honest → (is_record s.blocks first now.bytes ≡ true) × (last ≡ record_end first now.bytes) × Absorbs s.entries (recorded first now.bytes) t.entries) → Through old next before t last (k + 1)
-through_on {old} {now} {next} before s t first last k so_far run faults quiet blocks room within read =
+pub through_on : {old now next : Meaning} (before s t : Staging) (first last k : ℕ) → Through old now before s first k → IsDiskRun now next → next.disk_faults ≡ now.disk_faults → DiskFaultEnds now next → (IsTrue now.is_honest → OnlyReads now next) → t.blocks ≡ s.blocks → length t.entries + 2 ≤ last → last ≤ 578 → (IsTrue now.is_honest → (is_record s.blocks first now.bytes ≡ true) × (last ≡ record_end first now.bytes) × Absorbs s.entries (recorded first now.bytes) t.entries) → Through old next before t last (k + 1)
+through_on {old} {now} {next} before s t first last k so_far run faults ends quiet blocks room within read =
     let one : suc k ≡ k + 1 = omega arith in
     record {
       run = run_then so_far.run run;
       faults = faults ∙ so_far.faults;
+      first_fault = ends_then so_far.first_fault so_far.faults ends;
       quiet = λ honest. reads_then (so_far.quiet honest) (quiet (so_far.run.honest ∙ honest));
       blocks_are = blocks ∙ so_far.blocks_are;
       room = room;

@@ -6,7 +6,8 @@ use Rattle.std.proofs.lemmas.List.{take_more, take_all}
 use Rattle.lis_ports.specs.Meaning.{Meaning}
 use Rattle.lis_ports.specs.Bytes.{put}
 use Rattle.lis_ports.specs.Runs.{IsDiskRun}
-use Rattle.lis_ports.specs.Calls.{Elapses, IsTorn, IsWritten}
+use Rattle.lis_ports.specs.Calls.{DiskFaultEnds, Elapses, IsTorn, IsWritten}
+use Rattle.lis_ports.proofs.Ending.{ends_none}
 use Rattle.lis_ports.proofs.Moments.{run_none}
 use Rattle.lis_journal.specs.Record.{Entry, homes, rises, apply}
 use Rattle.lis_journal.specs.Spreads.{Spreads, Touched}
@@ -53,6 +54,7 @@ apply-more ps k d image lt = ap (λ es. apply es image) (take_more ps k d lt) �
 pub record SoFar (old now : Meaning) (ps : List Entry) (k : ℕ) : Type 0 where
   pub run : IsDiskRun old now
   pub faults : now.disk_faults ≡ old.disk_faults
+  pub first_fault : DiskFaultEnds old now
   pub spreads : IsTrue old.is_honest → Spreads old now (Touched ps)
   pub written : IsTrue old.is_honest → now.bytes ≡ apply (take k ps) old.bytes
 
@@ -60,6 +62,7 @@ pub begin : (m : Meaning) (ps : List Entry) → SoFar m m ps 0
 begin m ps = record {
   run = run_none m;
   faults = refl;
+  first_fault = ends_none m;
   spreads = λ honest. spreads_none m (Touched ps) (touched_refl ps);
   written = λ honest. refl;
 }

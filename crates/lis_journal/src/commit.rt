@@ -3,7 +3,7 @@
 ghost use Rattle.std.specs.Prelude.{[], ◌∷◌, ◌≡◌, ◌+◌, ◌*◌, ◌<◌, ◌≤◌, ℕ, List, length, replicate, true, IsTrue, OnOk, slice_index_or};
 ghost use Rattle.lis_ports.specs.Bytes.{put, Torn};
 ghost use Rattle.lis_ports.specs.Runs.{IsDiskRun, Leaves, IsSettled};
-ghost use Rattle.lis_ports.specs.Calls.{HasCause};
+ghost use Rattle.lis_ports.specs.Calls.{HasCause, DiskFaultEnds};
 ghost use Rattle.lis_journal.specs.Record.{Entry, gates_closed, apply, homes, homes_of, is_header};
 ghost use Rattle.lis_journal.specs.Journal.{records_of, no_records};
 ghost use Rattle.lis_journal.specs.Images.{StandsBut, StandsForAllOrNone, FitsAt};
@@ -53,6 +53,7 @@ fn write_blocks<D: Disk>(disk: &mut D, stage: &Stage, target: Target) -> Result<
     requires room { HasRoom target (length stage.now.entries) }
     ensures run { IsDiskRun (D.meaning disk.old) (D.meaning disk.new) }
     ensures cause { HasCause (D.meaning disk.old).disk_faults (D.meaning disk.new).disk_faults result }
+    ensures first_fault { DiskFaultEnds (D.meaning disk.old) (D.meaning disk.new) }
     ensures staging { IsStaging stage.now }
     ensures spreads { IsTrue (D.meaning disk.old).is_honest
         → Spreads (D.meaning disk.old) (D.meaning disk.new) (Touched (at_target target stage.now.entries)) }
@@ -72,6 +73,7 @@ fn write_synced<D: Disk>(disk: &mut D, stage: &Stage, target: Target) -> Result<
     requires room { HasRoom target (length stage.now.entries) }
     ensures run { IsDiskRun (D.meaning disk.old) (D.meaning disk.new) }
     ensures cause { HasCause (D.meaning disk.old).disk_faults (D.meaning disk.new).disk_faults result }
+    ensures first_fault { DiskFaultEnds (D.meaning disk.old) (D.meaning disk.new) }
     ensures staging { IsStaging stage.now }
     ensures spreads { IsTrue (D.meaning disk.old).is_honest
         → Spreads (D.meaning disk.old) (D.meaning disk.new) (Touched (at_target target stage.now.entries)) }
@@ -88,6 +90,7 @@ fn write_gate<D: Disk>(disk: &mut D, gate: u32, value: u8) -> Result<(), Failed>
     requires long { 8192 ≤ (D.meaning disk.old).len }
     ensures run { IsDiskRun (D.meaning disk.old) (D.meaning disk.new) }
     ensures cause { HasCause (D.meaning disk.old).disk_faults (D.meaning disk.new).disk_faults result }
+    ensures first_fault { DiskFaultEnds (D.meaning disk.old) (D.meaning disk.new) }
     ensures spreads { IsTrue (D.meaning disk.old).is_honest
         → Spreads (D.meaning disk.old) (D.meaning disk.new) (Torn (4096 + gate) 1) }
     ensures settled { OnOk result (IsTrue (D.meaning disk.old).is_honest
@@ -102,6 +105,7 @@ pub fn close_others<D: Disk>(disk: &mut D) -> Result<(), Failed>
     requires { 8192 ≤ (D.meaning disk.old).len }
     ensures run { IsDiskRun (D.meaning disk.old) (D.meaning disk.new) }
     ensures cause { HasCause (D.meaning disk.old).disk_faults (D.meaning disk.new).disk_faults result }
+    ensures first_fault { DiskFaultEnds (D.meaning disk.old) (D.meaning disk.new) }
     ensures spreads { IsTrue (D.meaning disk.old).is_honest
         → Spreads (D.meaning disk.old) (D.meaning disk.new) (Torn 4097 63) }
     ensures settled { OnOk result (IsTrue (D.meaning disk.old).is_honest
@@ -124,6 +128,7 @@ fn write_record<D: Disk>(
     requires room { first + length stage.now.entries + 1 ≤ 578 }
     ensures run { IsDiskRun (D.meaning disk.old) (D.meaning disk.new) }
     ensures cause { HasCause (D.meaning disk.old).disk_faults (D.meaning disk.new).disk_faults result }
+    ensures first_fault { DiskFaultEnds (D.meaning disk.old) (D.meaning disk.new) }
     ensures spreads { IsTrue (D.meaning disk.old).is_honest
         → Spreads (D.meaning disk.old) (D.meaning disk.new) (Torn (4096 * first) (4096 * (length stage.now.entries + 1))) }
     ensures settled { OnOk result (IsTrue (D.meaning disk.old).is_honest → IsSettled (D.meaning disk.new)
@@ -151,6 +156,7 @@ pub fn append<D: Disk>(
     requires room { next + length stage.now.entries + 1 ≤ 578 }
     ensures run { IsDiskRun (D.meaning disk.old) (D.meaning disk.new) }
     ensures cause { HasCause (D.meaning disk.old).disk_faults (D.meaning disk.new).disk_faults result }
+    ensures first_fault { DiskFaultEnds (D.meaning disk.old) (D.meaning disk.new) }
     ensures any_moment { (latest : List Entry) (placed : List ℕ) (kept : ℕ → List ℕ)
         → FitsAt stage.now.blocks (records_of count next latest) placed (D.meaning disk.old) kept
         → Leaves (D.meaning disk.old) (D.meaning disk.new)
@@ -173,6 +179,7 @@ pub fn checkpoint<D: Disk>(disk: &mut D, latest: &Stage) -> Result<(), Failed>
     requires long { 4096 * latest.now.blocks ≤ (D.meaning disk.old).len }
     ensures run { IsDiskRun (D.meaning disk.old) (D.meaning disk.new) }
     ensures cause { HasCause (D.meaning disk.old).disk_faults (D.meaning disk.new).disk_faults result }
+    ensures first_fault { DiskFaultEnds (D.meaning disk.old) (D.meaning disk.new) }
     ensures staging { IsStaging latest.now }
     ensures any_moment { (count next : ℕ) (placed : List ℕ) (kept : ℕ → List ℕ)
         → IsOpened latest.now.blocks (records_of count next latest.now.entries) placed (D.meaning disk.old) kept

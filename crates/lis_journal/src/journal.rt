@@ -2,7 +2,7 @@
 
 ghost use Rattle.std.specs.Prelude.{[], ◌≡◌, ◌⊎◌, ◌+◌, ◌*◌, ◌<◌, ◌≤◌, ◌∷◌, ℕ, List, length, true, false, IsTrue, IfOk, IfSome, IfNone, OnOk, OnErr, Ok, Err, if◌then◌else◌, ◌==◌};
 ghost use Rattle.lis_ports.specs.Runs.{IsDiskRun, Leaves, IsSettled};
-ghost use Rattle.lis_ports.specs.Calls.{HasCause, IsUnchanged};
+ghost use Rattle.lis_ports.specs.Calls.{HasCause, IsUnchanged, DiskFaultEnds};
 ghost use Rattle.lis_journal.specs.Record.{recovered};
 ghost use Rattle.lis_journal.specs.Images.{StandsBut, StandsForAllOrNone, Fits, KeepsPast, look, is_among, with_placed, with_kept};
 ghost use Rattle.lis_journal.specs.Staging.{with_entry, has_entry};
@@ -88,6 +88,7 @@ impl Journal {
             ≡ record { blocks = blocks; staged = []; records = no_records; placed = []; is_broken = false }) }
         ensures run { IsDiskRun (D.meaning disk.old) (D.meaning disk.new) }
         ensures cause { HasMountCause (D.meaning disk.old).disk_faults (D.meaning disk.new).disk_faults result }
+        ensures first_fault { DiskFaultEnds (D.meaning disk.old) (D.meaning disk.new) }
 
         // Out of memory, it made no call of the disk.
         ensures memory { result ≡ Err NoMemory → disk.new ≡ disk.old }
@@ -177,6 +178,7 @@ impl Journal {
             → buf.new ≡ look self.now.staged n (kept n)) }
         ensures run { IsDiskRun (D.meaning disk.old) (D.meaning disk.new) }
         ensures cause { HasCause (D.meaning disk.old).disk_faults (D.meaning disk.new).disk_faults result }
+        ensures first_fault { DiskFaultEnds (D.meaning disk.old) (D.meaning disk.new) }
         ensures same { IsTrue (D.meaning disk.old).is_honest → IsUnchanged (D.meaning disk.old) (D.meaning disk.new) }
         ensures any_moment { IsTrue (D.meaning disk.old).is_honest
             → Leaves (D.meaning disk.old) (D.meaning disk.new) (D.meaning disk.old).images }
@@ -231,6 +233,7 @@ impl Journal {
             → KeepsPast self.old.blocks (D.meaning disk.old) (D.meaning disk.new) }
         ensures run { IsDiskRun (D.meaning disk.old) (D.meaning disk.new) }
         ensures cause { HasCause (D.meaning disk.old).disk_faults (D.meaning disk.new).disk_faults result }
+        ensures first_fault { DiskFaultEnds (D.meaning disk.old) (D.meaning disk.new) }
         ensures done { OnOk result (self.new
             ≡ record self.old { staged = []; records = self.new.records; placed = self.new.placed }) }
         ensures none_placed { OnOk result (0 < length self.old.staged → self.new.placed ≡ []) }
@@ -288,6 +291,7 @@ impl Journal {
             → KeepsPast self.old.blocks (D.meaning disk.old) (D.meaning disk.new) }
         ensures run { IsDiskRun (D.meaning disk.old) (D.meaning disk.new) }
         ensures cause { HasCause (D.meaning disk.old).disk_faults (D.meaning disk.new).disk_faults result }
+        ensures first_fault { DiskFaultEnds (D.meaning disk.old) (D.meaning disk.new) }
         ensures done { OnOk result (self.new
             ≡ record self.old { records = self.new.records; placed = with_placed self.old.placed n }) }
         ensures broken { OnErr result (self.new ≡ record self.old { records = self.new.records; is_broken = true }) }

@@ -3,7 +3,7 @@
 ghost use Rattle.std.specs.Prelude.{[], ◌∷◌, ◌≡◌, ◌+◌, ◌*◌, ◌<◌, ◌≤◌, ◌==◌, ℕ, List, Option, None, length, true, false, IsTrue, IfOk, IfSome, OnOk, MatchOption};
 ghost use Rattle.std.specs.List.{list_any, prefix_len};
 ghost use Rattle.lis_ports.specs.Runs.{IsDiskRun};
-ghost use Rattle.lis_ports.specs.Calls.{HasCause};
+ghost use Rattle.lis_ports.specs.Calls.{HasCause, DiskFaultEnds};
 ghost use Rattle.lis_journal.specs.Record.{gates, is_header, is_record, record_end, recorded, homes_of, entries_from, first_bad, all_recorded};
 ghost use Rattle.lis_journal.specs.Images.{look};
 ghost use Rattle.lis_journal.specs.Spreads.{OnlyReads};
@@ -21,6 +21,7 @@ fn read_gates<D: Disk>(disk: &mut D) -> Result<[u8; 64], Failed>
     requires { 8192 ≤ (D.meaning disk.old).len }
     ensures run { IsDiskRun (D.meaning disk.old) (D.meaning disk.new) }
     ensures cause { HasCause (D.meaning disk.old).disk_faults (D.meaning disk.new).disk_faults result }
+    ensures first_fault { DiskFaultEnds (D.meaning disk.old) (D.meaning disk.new) }
     ensures quiet { IsTrue (D.meaning disk.old).is_honest → OnlyReads (D.meaning disk.old) (D.meaning disk.new) }
     ensures gates { IfOk result (λ found. IsTrue (D.meaning disk.old).is_honest → found ≡ gates (D.meaning disk.old).bytes) }
 {
@@ -69,6 +70,7 @@ fn load<D: Disk>(
     requires whole { length block.old ≡ 4096 }
     ensures run { IsDiskRun (D.meaning disk.old) (D.meaning disk.new) }
     ensures cause { HasCause (D.meaning disk.old).disk_faults (D.meaning disk.new).disk_faults result }
+    ensures first_fault { DiskFaultEnds (D.meaning disk.old) (D.meaning disk.new) }
     ensures quiet { IsTrue (D.meaning disk.old).is_honest → OnlyReads (D.meaning disk.old) (D.meaning disk.new) }
     ensures blocks { latest.new.blocks ≡ latest.old.blocks }
     ensures few { length latest.new.entries ≤ length latest.old.entries + length (homes_of header.now) }
@@ -103,6 +105,7 @@ fn read_record<D: Disk>(
     requires whole { length block.old ≡ 4096 }
     ensures run { IsDiskRun (D.meaning disk.old) (D.meaning disk.new) }
     ensures cause { HasCause (D.meaning disk.old).disk_faults (D.meaning disk.new).disk_faults result }
+    ensures first_fault { DiskFaultEnds (D.meaning disk.old) (D.meaning disk.new) }
     ensures quiet { IsTrue (D.meaning disk.old).is_honest → OnlyReads (D.meaning disk.old) (D.meaning disk.new) }
     ensures blocks { latest.new.blocks ≡ latest.old.blocks }
     ensures form { IfOk result (λ end. IsTrue (D.meaning disk.old).is_honest → MatchOption end
@@ -139,6 +142,7 @@ fn load_records<D: Disk>(
     requires whole { length block.old ≡ 4096 }
     ensures run { IsDiskRun (D.meaning disk.old) (D.meaning disk.new) }
     ensures cause { HasCause (D.meaning disk.old).disk_faults (D.meaning disk.new).disk_faults result }
+    ensures first_fault { DiskFaultEnds (D.meaning disk.old) (D.meaning disk.new) }
     ensures quiet { IsTrue (D.meaning disk.old).is_honest → OnlyReads (D.meaning disk.old) (D.meaning disk.new) }
     ensures blocks { latest.new.blocks ≡ latest.old.blocks }
     ensures form { IfOk result (λ bad. IsTrue (D.meaning disk.old).is_honest
@@ -162,6 +166,7 @@ fn close_gates<D: Disk>(disk: &mut D, count: u32, latest: &Stage) -> Result<(), 
     requires long { 4096 * latest.now.blocks ≤ (D.meaning disk.old).len }
     ensures run { IsDiskRun (D.meaning disk.old) (D.meaning disk.new) }
     ensures cause { HasCause (D.meaning disk.old).disk_faults (D.meaning disk.new).disk_faults result }
+    ensures first_fault { DiskFaultEnds (D.meaning disk.old) (D.meaning disk.new) }
     ensures closes { IsLoaded latest.now.blocks count latest.now.entries (D.meaning disk.old)
         → Closes latest.now.blocks count (D.meaning disk.old) (D.meaning disk.new) result }
 {
@@ -186,6 +191,7 @@ pub fn recover<D: Disk>(
     requires whole { length block.old ≡ 4096 }
     ensures run { IsDiskRun (D.meaning disk.old) (D.meaning disk.new) }
     ensures cause { HasCause (D.meaning disk.old).disk_faults (D.meaning disk.new).disk_faults result }
+    ensures first_fault { DiskFaultEnds (D.meaning disk.old) (D.meaning disk.new) }
     ensures blocks { latest.new.blocks ≡ latest.old.blocks }
     ensures recovers { IsTrue (D.meaning disk.old).is_honest
         → Recovers latest.old.blocks (D.meaning disk.old) (D.meaning disk.new) result }

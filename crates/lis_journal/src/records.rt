@@ -2,7 +2,7 @@
 
 ghost use Rattle.std.specs.Prelude.{[], ◌∷◌, ◌≡◌, ◌⊎◌, ◌+◌, ◌*◌, ◌<◌, ◌≤◌, ℕ, List, length, true, false, IsTrue, OnOk, OnErr, IfSome, IfNone};
 ghost use Rattle.lis_ports.specs.Runs.{IsDiskRun, Leaves};
-ghost use Rattle.lis_ports.specs.Calls.{HasCause};
+ghost use Rattle.lis_ports.specs.Calls.{HasCause, DiskFaultEnds};
 ghost use Rattle.lis_journal.specs.Record.{homes, homes_of, is_header};
 ghost use Rattle.lis_journal.specs.Images.{StandsBut, StandsForAllOrNone, FitsAt, with_kept, look};
 ghost use Rattle.lis_journal.specs.Spreads.{Spreads, SamePast};
@@ -93,6 +93,7 @@ impl Records {
         requires some { 0 < self.old.records.count }
         ensures run { IsDiskRun (D.meaning disk.old) (D.meaning disk.new) }
         ensures cause { HasCause (D.meaning disk.old).disk_faults (D.meaning disk.new).disk_faults result }
+        ensures first_fault { DiskFaultEnds (D.meaning disk.old) (D.meaning disk.new) }
         ensures any_moment { (placed : List ℕ) (kept : ℕ → List ℕ)
             → FitsAt self.old.blocks self.old.records placed (D.meaning disk.old) kept
             → Leaves (D.meaning disk.old) (D.meaning disk.new) (StandsBut self.old.blocks placed kept) }
@@ -117,6 +118,7 @@ impl Records {
         requires few { blocks ≤ 575 }
         ensures run { IsDiskRun (D.meaning disk.old) (D.meaning disk.new) }
         ensures cause { HasCause (D.meaning disk.old).disk_faults (D.meaning disk.new).disk_faults result }
+        ensures first_fault { DiskFaultEnds (D.meaning disk.old) (D.meaning disk.new) }
         ensures any_moment { (placed : List ℕ) (kept : ℕ → List ℕ)
             → FitsAt self.old.blocks self.old.records placed (D.meaning disk.old) kept
             → Leaves (D.meaning disk.old) (D.meaning disk.new) (StandsBut self.old.blocks placed kept) }
@@ -146,6 +148,7 @@ impl Records {
         requires room { self.old.records.next + length stage.now.entries + 1 ≤ 578 }
         ensures run { IsDiskRun (D.meaning disk.old) (D.meaning disk.new) }
         ensures cause { HasCause (D.meaning disk.old).disk_faults (D.meaning disk.new).disk_faults result }
+        ensures first_fault { DiskFaultEnds (D.meaning disk.old) (D.meaning disk.new) }
         ensures any_moment { (placed : List ℕ) (kept : ℕ → List ℕ)
             → FitsAt self.old.blocks self.old.records placed (D.meaning disk.old) kept
             → Leaves (D.meaning disk.old) (D.meaning disk.new)
@@ -179,6 +182,7 @@ impl Records {
         requires homes { homes_of header.now ≡ homes stage.now.entries }
         ensures run { IsDiskRun (D.meaning disk.old) (D.meaning disk.new) }
         ensures cause { HasCause (D.meaning disk.old).disk_faults (D.meaning disk.new).disk_faults result }
+        ensures first_fault { DiskFaultEnds (D.meaning disk.old) (D.meaning disk.new) }
         ensures any_moment { (placed : List ℕ) (kept : ℕ → List ℕ)
             → FitsAt self.old.blocks self.old.records placed (D.meaning disk.old) kept
             → Leaves (D.meaning disk.old) (D.meaning disk.new)
@@ -199,6 +203,7 @@ impl Records {
         requires { 4096 * self.old.blocks ≤ (D.meaning disk.old).len }
         ensures run { IsDiskRun (D.meaning disk.old) (D.meaning disk.new) }
         ensures cause { HasCause (D.meaning disk.old).disk_faults (D.meaning disk.new).disk_faults result }
+        ensures first_fault { DiskFaultEnds (D.meaning disk.old) (D.meaning disk.new) }
         ensures any_moment { (placed : List ℕ) (kept : ℕ → List ℕ)
             → FitsAt self.old.blocks self.old.records placed (D.meaning disk.old) kept
             → Leaves (D.meaning disk.old) (D.meaning disk.new) (StandsBut self.old.blocks placed kept) }
@@ -224,6 +229,7 @@ impl Records {
         requires whole { length bytes.now ≡ 4096 }
         ensures run { IsDiskRun (D.meaning disk.old) (D.meaning disk.new) }
         ensures cause { HasCause (D.meaning disk.old).disk_faults (D.meaning disk.new).disk_faults result }
+        ensures first_fault { DiskFaultEnds (D.meaning disk.old) (D.meaning disk.new) }
         ensures any_moment { (placed : List ℕ) (kept : ℕ → List ℕ)
             → FitsAt self.old.blocks self.old.records placed (D.meaning disk.old) kept
             → Leaves (D.meaning disk.old) (D.meaning disk.new) (StandsBut self.old.blocks (n ∷ placed) kept) }

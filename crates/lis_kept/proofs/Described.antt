@@ -51,7 +51,7 @@ where_below props limit test ns is same =
 module _ (p : Kept) (t : Taxonomy) (held : AreHeld p t) (slot : ℕ) (old new : List ℕ) (e : Ext) (marks : List Bool)
     (within : AreWithin p.ext) (below : slot < p.limits.files) (is_old : set_of p.ext slot ≡ old) (named : list_all (λ n. is_some (word_of p.dict n)) new ≡ true)
     (props : e.props ≡ p.ext.props) (sets : e.sets ≡ set p.ext.sets slot new) (settled : e.marks ≡ [])
-    (edits : e.edits ≤ p.ext.edits + length (numbers_where p.ext.props (differs old new)))
+    (edits : e.edits ≤ p.ext.edits + length (numbers_where p.ext.props (differs old new))) (no_fewer : p.ext.edits ≤ e.edits)
     (are_marks : marks ≡ marked p.marks (map (block_of p.limits Rows) (numbers_where p.ext.props (differs old new)))) where
   abbrev described : Kept
   described = record p { ext = e; marks = marks }
@@ -116,6 +116,7 @@ module _ (p : Kept) (t : Taxonomy) (held : AreHeld p t) (slot : ℕ) (old new : 
       sets = sets;
       settled = settled;
       edits = λ was is. subst (λ ns. e.edits ≤ p.ext.edits + length (numbers_where p.ext.props (differs ns new))) (sym is_old ∙ sym is) edits;
+      no_fewer = no_fewer;
       touched = λ was is. subst (λ ns. marks ≡ marked p.marks (map (block_of p.limits Rows) (numbers_where p.ext.props (differs ns new)))) (sym is_old ∙ sym is) are_marks;
       marks = λ was is. subst (λ ns. Marks (length (numbers_where p.ext.props (differs ns new))) p described) (sym is_old ∙ sym is) (rows_marked p held.sound (differs old new) e marks as_many are_marks same_row);
     },
@@ -131,10 +132,10 @@ numbers_below k p ns is sound named i d lt =
 -- the same, over what memory kept
 pub describes : (k p : Kept) (t : Taxonomy) (slot : ℕ) (old new : List ℕ) (e : Ext) (marks : List Bool) → p ≡ k → AreHeld p t → AreWithin p.ext
     → slot < k.limits.files → set_of k.ext slot ≡ old → list_all (λ n. is_some (word_of k.dict n)) new ≡ true
-    → e.props ≡ p.ext.props → e.sets ≡ set p.ext.sets slot new → e.marks ≡ [] → e.edits ≤ p.ext.edits + length (numbers_where p.ext.props (differs old new))
+    → e.props ≡ p.ext.props → e.sets ≡ set p.ext.sets slot new → e.marks ≡ [] → e.edits ≤ p.ext.edits + length (numbers_where p.ext.props (differs old new)) → p.ext.edits ≤ e.edits
     → marks ≡ marked p.marks (map (block_of p.limits Rows) (numbers_where p.ext.props (differs old new)))
     → AreHeld (record p { ext = e; marks = marks }) t × Describes slot new k (record p { ext = e; marks = marks })
-describes k p t slot old new e marks is held within below is_old named props sets settled edits are_marks =
+describes k p t slot old new e marks is held within below is_old named props sets settled edits no_fewer are_marks =
     let P : Kept → Type 0 = λ q. slot < q.limits.files → set_of q.ext slot ≡ old → list_all (λ n. is_some (word_of q.dict n)) new ≡ true
     → AreHeld (record p { ext = e; marks = marks }) t × Describes slot new q (record p { ext = e; marks = marks }) in
-    subst P is (λ b o n. described_made p t held slot old new e marks within b o n props sets settled edits are_marks) below is_old named
+    subst P is (λ b o n. described_made p t held slot old new e marks within b o n props sets settled edits no_fewer are_marks) below is_old named

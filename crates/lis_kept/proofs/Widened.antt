@@ -59,7 +59,7 @@ marks_lacked e left ups none = ap (λ ms. numbers_where e.props (λ n. has_numbe
 module _ (p : Kept) (t : Taxonomy) (held : AreHeld p t) (left : ℕ) (ups : ℕ → Bool) (e : Ext) (marks : List Bool)
     (within : AreWithin p.ext) (named : (n : ℕ) → n < p.limits.props → ups n ≡ true → IsSome (word_of p.dict n))
     (props : e.props ≡ p.ext.props) (sets : e.sets ≡ widened p.ext left ups) (settled : e.marks ≡ [])
-    (edits : e.edits ≤ p.ext.edits + length (lacked_numbers p.ext left ups))
+    (edits : e.edits ≤ p.ext.edits + length (lacked_numbers p.ext left ups)) (no_fewer : p.ext.edits ≤ e.edits)
     (are_marks : marks ≡ marked p.marks (map (block_of p.limits Rows) (lacked_numbers p.ext left ups))) where
   abbrev wide_parts : Kept
   wide_parts = record p { ext = e; marks = marks }
@@ -175,6 +175,7 @@ module _ (p : Kept) (t : Taxonomy) (held : AreHeld p t) (left : ℕ) (ups : ℕ 
       rows = row_then;
       settled = settled;
       edits = edits;
+      no_fewer = no_fewer;
       marks = rows_marked p held.sound (λ n. ups n && is_lacked p.ext left n) e marks as_many are_marks same_row;
       within = marked_within;
     },
@@ -187,10 +188,10 @@ AreWidened k p t left ups e marks = AreHeld (record p { ext = e; marks = marks }
 -- the same, over what memory kept
 pub widens : (k p : Kept) (t : Taxonomy) (left : ℕ) (ups : ℕ → Bool) (e : Ext) (marks : List Bool) → p ≡ k → AreHeld p t → AreWithin p.ext
     → ((n : ℕ) → n < k.limits.props → ups n ≡ true → IsSome (word_of k.dict n))
-    → e.props ≡ p.ext.props → e.sets ≡ widened p.ext left ups → e.marks ≡ [] → e.edits ≤ p.ext.edits + length (lacked_numbers p.ext left ups)
+    → e.props ≡ p.ext.props → e.sets ≡ widened p.ext left ups → e.marks ≡ [] → e.edits ≤ p.ext.edits + length (lacked_numbers p.ext left ups) → p.ext.edits ≤ e.edits
     → marks ≡ marked p.marks (map (block_of p.limits Rows) (lacked_numbers p.ext left ups))
     → AreWidened k p t left ups e marks
-widens k p t left ups e marks is held within named props sets settled edits are_marks =
+widens k p t left ups e marks is held within named props sets settled edits no_fewer are_marks =
     let P : Kept → Type 0 = λ q. ((n : ℕ) → n < q.limits.props → ups n ≡ true → IsSome (word_of q.dict n))
     → AreWidened q p t left ups e marks in
-    subst P is (λ worded. wide_made p t held left ups e marks within worded props sets settled edits are_marks) named
+    subst P is (λ worded. wide_made p t held left ups e marks within worded props sets settled edits no_fewer are_marks) named

@@ -67,13 +67,15 @@ pub record Forgets (numbers : List ℕ) (p q : Kept) : Type 0 where
   pub used : (n : ℕ) → is_some (word_of q.dict n) ≡ true → is_used q n ≡ is_used p n
 
 -- ---- descriptions
--- The file slot has these numbers now. As many bits of rows are edited as differ, and of exactly these rows the blocks are marked.
+-- The file slot has these numbers now. At most as many bits of rows are edited as differ, the count of edits does not fall, and of exactly
+-- these rows the blocks are marked.
 pub record Describes (slot : ℕ) (numbers : List ℕ) (p q : Kept) : Type 0 where
   pub parts : q ≡ record p { ext = q.ext; marks = q.marks }
   pub props : q.ext.props ≡ p.ext.props
   pub sets : q.ext.sets ≡ slice_set p.ext.sets slot numbers
   pub settled : q.ext.marks ≡ []
   pub edits : (old : List ℕ) → old ≡ set_of p.ext slot → q.ext.edits ≤ p.ext.edits + length (numbers_where p.ext.props (differs old numbers))
+  pub no_fewer : p.ext.edits ≤ q.ext.edits
   pub touched : (old : List ℕ) → old ≡ set_of p.ext slot → q.marks ≡ marked p.marks (map (block_of p.limits Rows) (numbers_where p.ext.props (differs old numbers)))
   pub marks : (old : List ℕ) → old ≡ set_of p.ext slot → Marks (length (numbers_where p.ext.props (differs old numbers))) p q
 

@@ -1,17 +1,17 @@
 -- The laws on chains of links, at words: what a word leads to by itself is an order, what it entails, and axioms that lead in no circle.
-use Rattle.std.proofs.Common.{◌≡◌, ◌⊎◌, ℕ, Bool, true, false, not, ◌&&◌, ◌||◌, cond, Option, Some, None, is_some, List, [], ◌∷◌, ◌++◌, length, filter, Decides, refl, sym, ap, subst, ◌∙◌, nat_lt, inl, inr, arith}
-use Rattle.std.proofs.lemmas.Bool.{and_from, both_ways, or_right, lt-ltb, ltb-true}
+use Rattle.std.proofs.Common.{◌≡◌, ◌⊎◌, ℕ, Bool, true, false, not, ◌&&◌, cond, Option, Some, None, is_some, List, [], ◌∷◌, length, filter, Decides, refl, sym, ap, subst, ◌∙◌, nat_lt, inl, inr, arith}
+use Rattle.std.proofs.lemmas.Bool.{both_ways, or_right, lt-ltb, ltb-true}
 use Rattle.std.specs.List.{list_any, list_all}
 use Rattle.std.specs.List.Sorted.{IsStrictlySortedBy}
 use Rattle.std.proofs.lemmas.List.Folds.{list_any-append}
-use Rattle.lis_graph.specs.Graph.{Linked, Chain, IsOrdered}
+use Rattle.lis_graph.specs.Graph.{IsOrdered}
 use Rattle.lis_graph.proofs.Graph as graph
 use Rattle.lis_graph.proofs.Graph.{IsLinkedWithin}
 use Rattle.lis_graph.proofs.Members.{Among, among_filter, filter_among, among_append, among_left, among_right, among_from_contains, contains_from_among}
 use Rattle.lis_words.specs.Words.{word_cmp, same_word, has_word, has_stem, stem, is_colon, is_plain_byte, is_valued, head_bytes, is_test, test_of}
 use Rattle.lis_words.proofs.Head.{value_joined}
 use Rattle.lis_words.proofs.Tests.{test_no_colon, valued_not_test}
-use Rattle.lis_model.specs.Tests.{is_weaker, are_weaker, weaker_tests}
+use Rattle.lis_model.specs.Tests.{are_weaker, weaker_tests}
 use Rattle.lis_model.specs.State.{heads, links, Entails, Acyclic, up, is_acyclic}
 use Rattle.lis_laws.proofs.Members.{same_word_decides, word_exact, word_order, among_from_has_word, has_word_from_among}
 

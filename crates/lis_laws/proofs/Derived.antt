@@ -1,10 +1,10 @@
 -- The words that are derived from a file are built in, and 48 at most.
-use Rattle.std.proofs.Common.{◌≡◌, ◌⊎◌, ℕ, ◌≤◌, ◌==◌, nat_lt, Bool, true, false, ◌&&◌, ◌||◌, cond, Option, Some, None, List, [], ◌∷◌, ◌++◌, length, map, filter, codes, refl, sym, ap, subst, ◌∙◌, inl, inr, arith, eqb-true, append-nil, length-append}
-use Rattle.std.specs.List.{fold, flat_map, list_all}
+use Rattle.std.proofs.Common.{◌≡◌, ◌⊎◌, ℕ, ◌≤◌, ◌==◌, nat_lt, Bool, true, false, ◌&&◌, ◌||◌, cond, Option, Some, None, List, [], ◌∷◌, ◌++◌, length, filter, codes, refl, sym, ap, subst, ◌∙◌, inl, inr, arith, eqb-true, append-nil, length-append}
+use Rattle.std.specs.List.{flat_map, list_all}
 use Rattle.std.specs.Str.{str_to_ascii_lowercase}
 use Rattle.std.proofs.lemmas.Bool.{and_parts, and_from, or_cases, or_left, or_right, both_ways, ltb-true}
 use Rattle.lis_graph.proofs.Members.{Among, among_append, among_filter, among_map, among_flat_map}
-use Rattle.lis_words.specs.Words.{has_word, same_word, head_bytes, value, is_plain_byte, is_plain_word, is_head, is_valued, is_word, is_built_in, built_in_heads}
+use Rattle.lis_words.specs.Words.{has_word, head_bytes, value, is_plain_byte, is_plain_word, is_head, is_valued, is_word, is_built_in, built_in_heads}
 use Rattle.lis_transducers.specs.declared.field.FieldKind.{FieldKind}
 use Rattle.lis_transducers.specs.declared.field.FieldKind.TheVariants.{From, To, Subject, Other}
 use Rattle.lis_transducers.specs.declared.piece.Kind.{Kind}

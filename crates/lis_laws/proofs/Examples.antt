@@ -1,12 +1,17 @@
--- The laws at small states: a listing and a route, states that are well formed, and axioms in a circle, where the laws fail.
+-- The laws at small states: a listing and a route, what steps touch, states that are well formed, and axioms in a circle, where the laws fail.
 use Rattle.std.proofs.Common.{◌≡◌, ℕ, true, false, List, [], ◌∷◌, codes, refl, arith}
 use Rattle.lis_grammar.specs.Formula.Formula.{Has, SizeAtLeast}
 use Rattle.lis_model.specs.declared.limits.Limits.{Limits}
+use Rattle.lis_model.specs.declared.command.Command.{Command}
+use Rattle.lis_model.specs.declared.command.Command.TheVariants.{Mkdir, Rmdir, Axiom, Unaxiom, Rm}
 use Rattle.lis_model.specs.State.{State, File, WellFormed, is_acyclic, description}
 use Rattle.lis_model.specs.Table.{table, entry_of}
 use Rattle.lis_model.specs.Listing.{increments, locals}
 use Rattle.lis_model.specs.Route.{route}
+use Rattle.lis_model.specs.Step.{no_payload, step}
+use Rattle.lis_model.specs.Step.Item.{Do}
 use Rattle.lis_laws.specs.Steps.{is_payload}
+use Rattle.lis_laws.specs.Touching.{TouchedWords, no_words, both_kinds, touched}
 use Rattle.lis_laws.proofs.Chains.{acyclic_decides}
 
 abbrev small : Limits
@@ -61,6 +66,41 @@ s1_route = refl
 
 n1_route : route (table tree) [] (entry_of tree.declared tree.axioms (file (codes "n1") [])) ≡ []
 n1_route = refl
+
+-- ---- what steps touch
+abbrev asked : Command → TouchedWords
+asked command = touched (record { state = tree; place = [] }) (Do command no_payload)
+
+rock_becomes_jazz : asked (Axiom (codes "rock") (codes "jazz")) ≡ record { changed = codes "jazz" ∷ codes "music" ∷ []; learned = codes "rock" ∷ [] }
+unfolding step
+rock_becomes_jazz = refl
+
+-- no file is large
+large_becomes_rock : asked (Axiom (codes "size:large") (codes "rock")) ≡ record { changed = []; learned = codes "size:large" ∷ codes "size:" ∷ [] }
+unfolding step
+large_becomes_rock = refl
+
+jazz_no_music : asked (Unaxiom (codes "jazz") (codes "music")) ≡ record { changed = codes "music" ∷ []; learned = codes "jazz" ∷ [] }
+unfolding step
+jazz_no_music = refl
+
+loud_is_new : asked (Mkdir (codes "loud")) ≡ record { changed = []; learned = codes "loud" ∷ [] }
+unfolding step
+loud_is_new = refl
+
+-- all files are empty
+small_is_new : asked (Mkdir (codes "size<9")) ≡ both_kinds (codes "size<9" ∷ [])
+unfolding step
+small_is_new = refl
+
+s1_goes : asked (Rm (codes "s1")) ≡ both_kinds (codes "music" ∷ codes "rock" ∷ codes "size:" ∷ codes "size:empty" ∷ [])
+unfolding step
+s1_goes = refl
+
+-- it is in use, so that it is refused
+rock_stays : asked (Rmdir (codes "rock")) ≡ no_words
+unfolding step
+rock_stays = refl
 
 -- ---- declared tests: the stronger one entails the weaker one, and the way to a file leads through its size and a test
 abbrev sized : List ℕ → List ℕ → File

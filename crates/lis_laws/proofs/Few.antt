@@ -1,35 +1,31 @@
--- A step touches few words, command by command.
-use Rattle.std.proofs.Common.{◌≡◌, ℕ, ◌≤◌, nat_le, Bool, true, false, not, cond, List, [], ◌∷◌, ◌++◌, length, refl, ap, subst, ◌∙◌, inr, arith, length-append}
-use Rattle.std.specs.List.{list_all, flat_map}
-use Rattle.std.proofs.lemmas.Bool.{and_parts, not-false, leb-true}
-use Rattle.lis_graph.proofs.Members.{Among, among_from_any, insert_key_old, insert_key_new}
+-- The words that a change touches, as the command says them, and that they are few.
+use Rattle.std.proofs.Common.{◌≡◌, ℕ, ◌≤◌, nat_le, Bool, true, false, not, cond, List, [], ◌∷◌, ◌++◌, length, refl, sym, ap, subst, ◌∙◌, inr, arith, length-append}
+use Rattle.std.specs.List.{list_all}
+use Rattle.std.proofs.lemmas.Bool.{and_parts, leb-true}
+use Rattle.lis_graph.proofs.Members.{Among, among_from_any, any_from_among, insert_key_old, insert_key_new}
 use Rattle.lis_graph.proofs.Sets.{members_le}
-use Rattle.lis_words.specs.Words.{word_cmp, same_word, has_word, head_bytes, is_valued, is_property, is_file_name}
-use Rattle.lis_grammar.specs.Places.{Resolution, resolved, text_words}
-use Rattle.lis_grammar.specs.Places.Resolution.{NewPlace, BeyondLimits, Unreadable}
-use Rattle.lis_model.specs.declared.refusal.Refusal.TheVariants.{UnknownProperty}
-use Rattle.lis_model.specs.declared.command.Command.{Command}
-use Rattle.lis_model.specs.declared.command.Command.TheVariants.{Mkdir, Rmdir, Axiom, Unaxiom, Create, Add, Write, Cat, Mv, Rename, Rm, Cd, Pwd, Ls, Props, Way, Stat}
-use Rattle.lis_model.specs.State.{State, File, WellFormed, heads, up, description, known, pair_cmp}
-use Rattle.lis_model.specs.Changes.{same_pair, has_axiom, declared_under, undeclared, axiom_added, axiom_removed, new_file, has_name, file_of, file_added, file_removed, file_replaced}
-use Rattle.lis_model.specs.Table.{table}
-use Rattle.lis_model.specs.Route.{route}
-use Rattle.lis_model.specs.Replies.{body_line, content_lines}
-use Rattle.lis_model.specs.Step.{Situation, Payload, Item, refused, changed, shown, words_at, tags_at, here_checks, mkdir, mkdir_checks, is_in_use, rmdir, rmdir_checks, add_axiom, axiom_checks, unaxiom, unaxiom_checks, assigned_at, create, create_checks, add, add_checks, write, write_checks, retagged, mv_to, mv_checks, rename, rename_checks, rm, shown_here, entry_at, moved, cd_to, done, step}
-use Rattle.lis_model.specs.Step.Item.{Do, Bad}
-use Rattle.lis_laws.specs.Changes.{WordFits, AxiomFits}
-use Rattle.lis_laws.specs.Steps.{has_forms, is_payload, is_formed, IsInForm}
-use Rattle.lis_laws.specs.Touches.{is_held, where_held, TouchesFew}
-use Rattle.lis_laws.proofs.Members.{same_word_decides, word_order, pair_exact, among_from_has_word}
-use Rattle.lis_laws.proofs.Chains.{Pairs, up_wider, sorted_up}
+use Rattle.lis_words.specs.Words.{word_cmp, same_word, has_word, head_bytes, is_valued, test_of}
+use Rattle.lis_model.specs.declared.command.Command.TheVariants.{Mkdir, Axiom, Unaxiom}
+use Rattle.lis_model.specs.Tests.{is_met}
+use Rattle.lis_model.specs.State.{State, File, WellFormed, heads, up, description, pair_cmp}
+use Rattle.lis_model.specs.Changes.{same_pair, has_axiom, declared_under, undeclared, axiom_added, axiom_removed, has_name, file_of, file_added, file_removed, file_replaced}
+use Rattle.lis_model.specs.Step.{is_in_use}
+use Rattle.lis_laws.specs.Changes.{WordFits, AxiomFits, FileFits}
+use Rattle.lis_laws.specs.Touches.{Touches, is_held, where_held}
+use Rattle.lis_laws.specs.Touching.{TouchedWords, no_words, both_kinds, described, is_met_there, touched_by}
+use Rattle.lis_laws.proofs.Members.{same_word_decides, word_order, word_exact, pair_exact, among_from_has_word, has_word_from_among}
+use Rattle.lis_laws.proofs.Chains.{Pairs, up_self, up_wider, sorted_up}
 use Rattle.lis_laws.proofs.Closures.{all_up_closed, sorted_all_up}
 use Rattle.lis_laws.proofs.Counts.{all_among}
-use Rattle.lis_laws.proofs.Forms.{axiom_removed_within}
-use Rattle.lis_laws.proofs.Named.{file_of_name, file_of_there, here_named}
+use Rattle.lis_laws.proofs.Sources.{file_has, test_had}
+use Rattle.lis_laws.proofs.Sources.OwnWord.{Met}
+use Rattle.lis_laws.proofs.Tables.{same_tests}
+use Rattle.lis_laws.proofs.Forms.{axiom_removed_within, declares, adds_file, replaces_file}
+use Rattle.lis_laws.proofs.Named.{named, file_there, file_of_name, file_of_there}
 use Rattle.lis_laws.proofs.Known.{IsWithin, described_within}
 use Rattle.lis_laws.proofs.Reached.{described_link}
-use Rattle.lis_laws.proofs.Touched.{declares_touches, undeclares_touches, adds_axiom_touches, removes_axiom_touches, adds_file_touches, removes_file_touches, replaces_file_touches}
-use Rattle.lis_laws.proofs.Steps.{NoneStands, judged_keeps, mkdir_fits, rmdir_unused, axiom_fits, create_fits, add_fits, Replaces, file_here, write_replaces, mv_replaces, rename_replaces}
+use Rattle.lis_laws.proofs.Touched.{one_of_name, declares_touches, brought_is_test, undeclares_touches, adds_axiom_touches, removes_axiom_touches, adds_file_touches, removes_file_touches, replaces_file_touches}
+use Rattle.lis_laws.proofs.Steps.{Replaces}
 
 -- ---- what some file has is few
 abbrev AreFew : State → Type 0
@@ -64,17 +60,38 @@ heads_le word = by (is_valued word)
     by false = omega arith
 
 -- ---- changes
-touches_none : (s : State) → TouchesFew s s
-touches_none s = record { changed = []; learned = []; touches = (λ w none. refl, λ w none. refl); few_changed = omega arith; few_learned = omega arith }
+-- these words at most are touched, and they are few
+pub record IsFew (s t : State) (words : TouchedWords) : Type 0 where
+  pub touches : Touches s t words.changed words.learned
+  pub few_changed : length words.changed ≤ 256
+  pub few_learned : length words.learned ≤ 256
 
-declares_few : (s : State) → WellFormed s → (word : List ℕ) (words : List (List ℕ)) → WordFits s word words → TouchesFew s (declared_under s word words)
-declares_few s formed word words fits = record {
-  changed = where_held t word (up t.declared t.axioms word);
-  learned = word ∷ [];
-  touches = declares_touches s formed word words (record { form = fits.form; over = fits.over });
-  few_changed = omega (arith, where_few t word (up t.declared t.axioms word) (λ file m has. entailed_few t t same fits.few_words file m word has));
-  few_learned = omega arith;
-}
+pub touches_none : (s : State) → IsFew s s no_words
+touches_none s = record { touches = (λ w none. refl, λ w none. refl); few_changed = omega arith; few_learned = omega arith }
+
+-- a new word is had exactly where it is a test that some file meets
+held_is_met : (s : State) → WellFormed s → (word : List ℕ) (words : List (List ℕ)) → WordFits s word words → is_held (declared_under s word words) word ≡ is_met_there (declared_under s word words) word
+held_is_met s formed word words fits = same_tests (is_held t word) (is_met_there t word) to from
+  where
+    t : State
+    t = declared_under s word words
+
+    to : is_held t word ≡ true → is_met_there t word ≡ true
+    to held =
+        let found = among_from_any (λ (f : File). has_word (description t f) word) t.files held in
+        let test = brought_is_test s formed word words (record { form = fits.form; over = fits.over }) fits.new held in
+        let met = test_had t (declares s formed word words fits) found.0 found.1 word test (among_from_has_word (description t found.0) word found.2) in
+        any_from_among (λ (f : File). is_met (test_of word) (length f.bytes)) t.files found.0 found.1 met.met
+
+    from : is_met_there t word ≡ true → is_held t word ≡ true
+    from met =
+        let found = among_from_any (λ (f : File). is_met (test_of word) (length f.bytes)) t.files met in
+        let has = file_has t found.0 word word (Met (insert_key_new word_cmp word_exact s.declared word) found.2) (up_self t.declared t.axioms word) in
+        any_from_among (λ (f : File). has_word (description t f) word) t.files found.0 found.1 (has_word_from_among (description t found.0) word has)
+
+pub declares_few : (s : State) → WellFormed s → (word : List ℕ) (words : List (List ℕ)) → WordFits s word words
+    → IsFew s (declared_under s word words) (touched_by s (declared_under s word words) (Mkdir word))
+declares_few s formed word words fits = by (is_met_there t word) (held_is_met s formed word words fits)
   where
     t : State
     t = declared_under s word words
@@ -82,14 +99,18 @@ declares_few s formed word words fits = record {
     same : IsWithin t t
     same = record { declared = λ w m. m; axioms = λ e m. m; files = λ f m. m }
 
-undeclares_few : (s : State) → WellFormed s → (word : List ℕ) → not (is_in_use s word) ≡ true → TouchesFew s (undeclared s word)
-undeclares_few s formed word unused = record {
-  changed = word ∷ [];
-  learned = word ∷ [];
-  touches = undeclares_touches s formed word unused;
-  few_changed = omega arith;
-  few_learned = omega arith;
-}
+    held : IsFew s t (record { changed = where_held t word (up t.declared t.axioms word); learned = word ∷ [] })
+    held = record {
+      touches = declares_touches s formed word words (record { form = fits.form; over = fits.over });
+      few_changed = omega (arith, where_few t word (up t.declared t.axioms word) (λ file m has. entailed_few t t same fits.few_words file m word has));
+      few_learned = omega arith;
+    }
+
+    by : (met : Bool) → is_held t word ≡ met → IsFew s t (record { changed = cond met (up t.declared t.axioms word) []; learned = word ∷ [] })
+    by met e = subst (λ (b : Bool). IsFew s t (record { changed = cond b (up t.declared t.axioms word) []; learned = word ∷ [] })) e held
+
+pub undeclares_few : (s : State) → WellFormed s → (word : List ℕ) → not (is_in_use s word) ≡ true → IsFew s (undeclared s word) (both_kinds (word ∷ []))
+undeclares_few s formed word unused = record { touches = undeclares_touches s formed word unused; few_changed = omega arith; few_learned = omega arith }
 
 -- what an axiom of a state adds to the others, where some file has its left side
 right_few : (s t : State) → IsWithin s t → AreFew t → (l r : List ℕ) → Among t.axioms (l, r) → length (where_held s l (up s.declared s.axioms r)) ≤ 128
@@ -109,10 +130,8 @@ axiom_among axioms pair h = by (among_from_any (λ p. same_pair p pair) axioms h
     by : (e : List ℕ × List ℕ) × Among axioms e × (same_pair e pair ≡ true) → Among axioms pair
     by found = subst (λ (k : List ℕ × List ℕ). Among axioms k) (same found.0 found.2) found.1
 
-adds_axiom_few : (s : State) → WellFormed s → (l r : List ℕ) → AxiomFits s (l, r) → TouchesFew s (axiom_added s (l, r))
+pub adds_axiom_few : (s : State) → WellFormed s → (l r : List ℕ) → AxiomFits s (l, r) → IsFew s (axiom_added s (l, r)) (touched_by s (axiom_added s (l, r)) (Axiom l r))
 adds_axiom_few s formed l r fits = record {
-  changed = where_held s l (up s.declared s.axioms r);
-  learned = l ∷ heads l;
   touches = adds_axiom_touches s formed l r fits.right;
   few_changed = omega (arith, right_few s (axiom_added s (l, r)) within fits.few_words l r (insert_key_new pair_cmp pair_exact s.axioms (l, r)));
   few_learned = omega (arith, heads_le l);
@@ -121,163 +140,44 @@ adds_axiom_few s formed l r fits = record {
     within : IsWithin s (axiom_added s (l, r))
     within = record { declared = λ w m. m; axioms = insert_key_old pair_cmp s.axioms (l, r); files = λ f m. m }
 
-removes_axiom_few : (s : State) → WellFormed s → (l r : List ℕ) → has_axiom s.axioms (l, r) ≡ true → TouchesFew s (axiom_removed s (l, r))
+pub removes_axiom_few : (s : State) → WellFormed s → (l r : List ℕ) → has_axiom s.axioms (l, r) ≡ true → IsFew s (axiom_removed s (l, r)) (touched_by s (axiom_removed s (l, r)) (Unaxiom l r))
 removes_axiom_few s formed l r there = record {
-  changed = where_held t l (up t.declared t.axioms r);
-  learned = l ∷ heads l;
   touches = removes_axiom_touches s formed l r;
-  few_changed = omega (arith, right_few t s (axiom_removed_within s (l, r)) formed.files.few_words l r (axiom_among s.axioms (l, r) there));
+  few_changed = omega (arith, right_few (axiom_removed s (l, r)) s (axiom_removed_within s (l, r)) formed.files.few_words l r (axiom_among s.axioms (l, r) there));
   few_learned = omega (arith, heads_le l);
 }
+
+-- ---- files, found by their names
+-- a file is the one of its name
+file_is : (t : State) → WellFormed t → (file : File) → Among t.files file → file_of t.files file.name ≡ file
+file_is t formed file m =
+    one_of_name t.files formed.file_set (file_of t.files file.name) file (file_of_there t.files file.name (named t.files file file.name m refl)) m (file_of_name t.files file.name)
+
+pub adds_file_few : (s : State) → WellFormed s → (file : File) → FileFits s file → has_name s.files file.name ≡ false
+    → IsFew s (file_added s file) (both_kinds (described (file_added s file) file.name))
+adds_file_few s formed file fits new =
+    subst (λ (f : File). IsFew s t (both_kinds (description s f))) (sym (file_is t (adds_file s formed file fits) file (file_there s file new)))
+    (record { touches = adds_file_touches s formed.declared_set file new; few_changed = omega (arith, fits.few_words); few_learned = omega (arith, fits.few_words) })
   where
     t : State
-    t = axiom_removed s (l, r)
+    t = file_added s file
 
-adds_file_few : (s : State) → WellFormed s → (file : File) → has_name s.files file.name ≡ false → length (description s file) ≤ 128 → TouchesFew s (file_added s file)
-adds_file_few s formed file new few = record {
-  changed = description s file;
-  learned = description s file;
-  touches = adds_file_touches s formed.declared_set file new;
-  few_changed = omega (arith, few);
-  few_learned = omega (arith, few);
-}
-
-removes_file_few : (s : State) → WellFormed s → (file : File) → Among s.files file → TouchesFew s (file_removed s file.name)
+pub removes_file_few : (s : State) → WellFormed s → (file : File) → Among s.files file → IsFew s (file_removed s file.name) (both_kinds (description s file))
 removes_file_few s formed file m = record {
-  changed = description s file;
-  learned = description s file;
   touches = removes_file_touches s formed file m;
   few_changed = omega (arith, few_of s formed.files.few_words file m);
   few_learned = omega (arith, few_of s formed.files.few_words file m);
 }
 
-replaces_file_few : (s : State) → WellFormed s → (old new : File) → Replaces s old new → TouchesFew s (file_replaced s old.name new)
-replaces_file_few s formed old new r = record {
-  changed = description s old ++ description s new;
-  learned = description s old ++ description s new;
-  touches = replaces_file_touches s formed old new r.there r.free;
-  few_changed = both;
-  few_learned = both;
-}
+pub replaces_file_few : (s : State) → WellFormed s → (old new : File) → Replaces s old new
+    → IsFew s (file_replaced s old.name new) (both_kinds (description s old ++ described (file_replaced s old.name new) new.name))
+replaces_file_few s formed old new r =
+    subst (λ (f : File). IsFew s t (both_kinds (description s old ++ description s f)))
+    (sym (file_is t (replaces_file s formed old new r.there r.fits) new (file_there (file_removed s old.name) new r.free)))
+    (record { touches = replaces_file_touches s formed old new r.there r.free; few_changed = both; few_learned = both })
   where
+    t : State
+    t = file_replaced s old.name new
+
     both : length (description s old ++ description s new) ≤ 256
     both = omega (arith, length-append (description s old) (description s new), few_of s formed.files.few_words old r.there, r.fits.few_words)
-
--- ---- commands
-abbrev IsFew : Situation → Situation → Type 0
-IsFew now next = TouchesFew now.state next.state
-
-mkdir_few : (now : Situation) (word : List ℕ) → WellFormed now.state → is_property word ≡ true → IsFew now (mkdir now word).next
-mkdir_few now word formed form =
-    judged_keeps (IsFew now) now (mkdir_checks now word (declared_under now.state word (words_at now.place))) (changed now (declared_under now.state word (words_at now.place))) (touches_none now.state)
-    (λ none. declares_few now.state formed word (words_at now.place) (mkdir_fits now word form none))
-
-rmdir_few : (now : Situation) (word : List ℕ) → WellFormed now.state → IsFew now (rmdir now word).next
-rmdir_few now word formed =
-    judged_keeps (IsFew now) now (rmdir_checks now.state word) (changed now (undeclared now.state word)) (touches_none now.state)
-    (λ none. undeclares_few now.state formed word (rmdir_unused now.state word none))
-
-axiom_few : (now : Situation) (l r : List ℕ) → WellFormed now.state → IsFew now (add_axiom now (l, r)).next
-axiom_few now l r formed =
-    judged_keeps (IsFew now) now (axiom_checks now.state (l, r) (axiom_added now.state (l, r))) (changed now (axiom_added now.state (l, r))) (touches_none now.state)
-    (λ none. adds_axiom_few now.state formed l r (axiom_fits now.state (l, r) none))
-
-unaxiom_few : (now : Situation) (l r : List ℕ) → WellFormed now.state → IsFew now (unaxiom now (l, r)).next
-unaxiom_few now l r formed =
-    judged_keeps (IsFew now) now (unaxiom_checks now.state (l, r)) (changed now (axiom_removed now.state (l, r))) (touches_none now.state)
-    (λ none. removes_axiom_few now.state formed l r (not-false _ none.0))
-
-create_few : (now : Situation) (name : List ℕ) (words : List (List ℕ)) → IsInForm now → is_file_name name ≡ true → IsFew now (create now name words).next
-create_few now name words before named =
-    judged_keeps (IsFew now) now (create_checks now words file (file_added now.state file)) (changed now (file_added now.state file)) (touches_none now.state)
-    (λ none. adds_file_few now.state before.state file none.0 (create_fits now name words before named none).few_words)
-  where
-    file : File
-    file = new_file name (assigned_at now.place words) []
-
-add_few : (now : Situation) (name : List ℕ) (words : List (List ℕ)) (payload : Payload) → IsInForm now → is_file_name name ≡ true → is_payload payload ≡ true → IsFew now (add now name words payload).next
-add_few now name words payload before named sized =
-    judged_keeps (IsFew now) now (add_checks now words file (file_added now.state file) payload.size) (changed now (file_added now.state file)) (touches_none now.state)
-    (λ none. let fits = add_fits now name words payload before named sized none in adds_file_few now.state before.state file fits.1 fits.0.few_words)
-  where
-    file : File
-    file = new_file name (assigned_at now.place words) payload.bytes
-
-write_few : (now : Situation) (name : List ℕ) (payload : Payload) → IsInForm now → is_payload payload ≡ true → IsFew now (write now name payload).next
-write_few now name payload before sized =
-    judged_keeps (IsFew now) now (write_checks now old (file_replaced now.state old.name new) payload.size) (changed now (file_replaced now.state old.name new)) (touches_none now.state)
-    (λ none. replaces_file_few now.state before.state old new (write_replaces now old payload before sized (file_here now name) none))
-  where
-    old : File
-    old = file_of now.state.files name
-
-    new : File
-    new = new_file old.name old.assigned payload.bytes
-
-mv_few : (now : Situation) (name text : List ℕ) (r : Resolution) → IsInForm now → IsFew now (mv_to now (file_of now.state.files name) text r).next
-mv_few now name text (Unreadable k) before = touches_none now.state
-mv_few now name text BeyondLimits before = touches_none now.state
-mv_few now name text (NewPlace place) before =
-    judged_keeps (IsFew now) now (here_checks now old.name ++ mv_checks now place (text_words text) new (file_replaced now.state old.name new)) (changed now (file_replaced now.state old.name new)) (touches_none now.state)
-    (λ none. replaces_file_few now.state before.state old new (mv_replaces now place (text_words text) old before (file_here now name) none))
-  where
-    old : File
-    old = file_of now.state.files name
-
-    new : File
-    new = new_file old.name (retagged old.assigned (tags_at now.place) (tags_at place)) old.bytes
-
-rename_few : (now : Situation) (name other : List ℕ) → IsInForm now → is_file_name other ≡ true → IsFew now (rename now name other).next
-rename_few now name other before named =
-    judged_keeps (IsFew now) now (rename_checks now old.name new (file_replaced now.state old.name new)) (changed now (file_replaced now.state old.name new)) (touches_none now.state)
-    (λ none. replaces_file_few now.state before.state old new (rename_replaces now old other before named (file_here now name) none))
-  where
-    old : File
-    old = file_of now.state.files name
-
-    new : File
-    new = new_file other old.assigned old.bytes
-
-rm_few : (now : Situation) (name : List ℕ) → WellFormed now.state → IsFew now (rm now name).next
-rm_few now name formed = judged_keeps (IsFew now) now (here_checks now name) (changed now (file_removed now.state name)) (touches_none now.state) gone
-  where
-    gone : NoneStands (here_checks now name) → TouchesFew now.state (file_removed now.state name)
-    gone none =
-        subst (λ (n : List ℕ). TouchesFew now.state (file_removed now.state n)) (file_of_name now.state.files name)
-        (removes_file_few now.state formed (file_of now.state.files name) (file_of_there now.state.files name (here_named now name (not-false _ none.0))))
-
-shown_few : (now : Situation) (name body : List ℕ) → IsFew now (shown_here now name body).next
-shown_few now name body = judged_keeps (IsFew now) now (here_checks now name) (shown now body) (touches_none now.state) (λ none. touches_none now.state)
-
-cd_few : (now : Situation) (text : List ℕ) (r : Resolution) → IsFew now (cd_to now text r).next
-cd_few now text (Unreadable k) = touches_none now.state
-cd_few now text BeyondLimits = touches_none now.state
-cd_few now text (NewPlace place) = by (list_all (has_word (known now.state)) (text_words text))
-  where
-    by : (b : Bool) → IsFew now (cond b (moved now place) (refused now UnknownProperty)).next
-    by true = touches_none now.state
-    by false = touches_none now.state
-
-command_few : (now : Situation) (command : Command) (payload : Payload) → IsInForm now → has_forms command ≡ true → is_payload payload ≡ true → IsFew now (done now command payload).next
-command_few now (Mkdir word) payload before form sized = mkdir_few now word before.state form
-command_few now (Rmdir word) payload before form sized = rmdir_few now word before.state
-command_few now (Axiom left right) payload before form sized = axiom_few now left right before.state
-command_few now (Unaxiom left right) payload before form sized = unaxiom_few now left right before.state
-command_few now (Create name words) payload before form sized = create_few now name words before (and_parts _ _ form).0
-command_few now (Add name words) payload before form sized = add_few now name words payload before (and_parts _ _ form).0 sized
-command_few now (Write name) payload before form sized = write_few now name payload before sized
-command_few now (Cat name) payload before form sized = shown_few now name (content_lines (file_of now.state.files name).bytes)
-command_few now (Mv name text) payload before form sized = mv_few now name text (resolved now.place text) before
-command_few now (Rename name other) payload before form sized = rename_few now name other before (and_parts (is_file_name name) (is_file_name other) form).1
-command_few now (Rm name) payload before form sized = rm_few now name before.state
-command_few now (Cd text) payload before form sized = cd_few now text (resolved now.place text)
-command_few now Pwd payload before form sized = touches_none now.state
-command_few now Ls payload before form sized = touches_none now.state
-command_few now (Props name) payload before form sized = shown_few now name (flat_map (body_line 112) (description now.state (file_of now.state.files name)))
-command_few now (Way name) payload before form sized = shown_few now name (flat_map (body_line 100) (route (table now.state) now.place (entry_at now.state name)))
-command_few now Stat payload before form sized = touches_none now.state
-
-pub step_few : (now : Situation) (item : Item) → IsInForm now → is_formed item ≡ true → TouchesFew now.state (step now item).next.state
-unfolding step
-step_few now (Do command payload) before form = let parts = and_parts (has_forms command) (is_payload payload) form in command_few now command payload before parts.0 parts.1
-step_few now (Bad refusal) before form = touches_none now.state

@@ -1,26 +1,26 @@
 -- What keeps a state well formed: words, axioms and files that come and go.
-use Rattle.std.proofs.Common.{◌≡◌, ◌⊎◌, ℕ, ◌≤◌, nat_le, Bool, true, false, not, ◌&&◌, ◌||◌, List, [], ◌∷◌, ◌++◌, length, map, filter, refl, sym, subst, inl, inr, arith}
+use Rattle.std.proofs.Common.{◌≡◌, ◌⊎◌, ℕ, nat_le, Bool, true, false, not, ◌&&◌, ◌||◌, List, [], ◌∷◌, ◌++◌, length, map, filter, refl, sym, subst, inl, inr, arith}
 use Rattle.std.specs.Cmp.{IsTotalOrder}
 use Rattle.std.specs.List.{flat_map, list_all, fold}
 use Rattle.std.proofs.lemmas.Cmp.{on_total}
 use Rattle.std.proofs.lemmas.Bool.{and_parts, and_from, or_cases, or_left, or_right, or_parts, and_cases, not-true, not-false, not_from_false, not_from_true, false_from_ne_true, both_ways, le-leb, leb-true}
 use Rattle.lis_graph.specs.Graph.{is_rising}
 use Rattle.lis_graph.proofs.Members.{Among, among_filter, filter_among, among_insert_key, insert_key_old, insert_key_new, among_left, among_right, map_among, flat_map_among}
-use Rattle.lis_words.specs.Words.{word_cmp, same_word, has_word, head_bytes, is_plain_word, is_head, is_valued, is_test, is_built_in}
+use Rattle.lis_words.specs.Words.{word_cmp, same_word, has_word, head_bytes, is_plain_word, is_valued, is_test}
 use Rattle.lis_words.proofs.Tests.{plain_not_test, valued_not_test}
 use Rattle.lis_model.specs.Sets.{with_word}
-use Rattle.lis_model.specs.State.{State, File, WellFormed, Entails, Acyclic, AxiomsAreFormed, heads, up, description, known, is_declarable, is_assignable, is_known_head, is_nameable, pair_cmp, file_cmp, blocks_taken}
+use Rattle.lis_model.specs.State.{State, File, WellFormed, Entails, Acyclic, AxiomsAreFormed, heads, description, is_declarable, is_assignable, is_known_head, is_nameable, pair_cmp, file_cmp, blocks_taken}
 use Rattle.lis_model.specs.Changes.{with_axiom, declared_under, undeclared, axiom_added, axiom_removed, same_pair, file_added, file_removed, file_replaced}
 use Rattle.lis_model.specs.Step.{is_side, is_had, is_in_use}
 use Rattle.lis_laws.specs.Changes.{WordFits, AxiomFits, FileFits, FileReplaces}
-use Rattle.lis_laws.proofs.Members.{word_order, word_exact, pair_order, pair_exact, same_word_decides, among_from_has_word, has_word_from_among}
+use Rattle.lis_laws.proofs.Members.{word_order, word_exact, pair_order, same_word_decides, among_from_has_word, has_word_from_among}
 use Rattle.lis_laws.proofs.Chains.{Pairs, up_self, up_own, up_decides, links_head, acyclic_within, heads_of_valued, head_no_test}
 use Rattle.lis_laws.proofs.Axioms.{acyclic_with_axiom}
 use Rattle.lis_laws.proofs.Counts.{all_among, all_from, all_weaker, all_filter, all_insert_key, rising_insert_key, rising_filter, filter_le, filter_sum_le, filter_drops, filter_sum_drops, insert_key_le, insert_key_sum_le}
 use Rattle.lis_laws.proofs.Apart.{Declarable, declarable_cases}
 use Rattle.lis_laws.proofs.Apart.Declarable.{Plain, Test, Head}
 use Rattle.lis_laws.proofs.Leads.{right_leads, acyclic_by}
-use Rattle.lis_laws.proofs.Sources.{is_right, right_plain, right_declared, rights_are, file_has, Assignable, assignable_cases, assigned_are}
+use Rattle.lis_laws.proofs.Sources.{is_right, right_plain, rights_are, file_has, Assignable, assignable_cases, assigned_are}
 use Rattle.lis_laws.proofs.Sources.Assignable.{Plain as PlainOne, Valued as ValuedOne}
 use Rattle.lis_laws.proofs.Sources.OwnWord.{Assigned}
 use Rattle.lis_laws.proofs.Known.{IsWithin, described_le, known_le}

@@ -12,12 +12,14 @@ pub mod Sources
 pub mod Tables
 pub mod Locals
 pub mod Routes
+pub mod Listings
 pub mod Known
 pub mod Reached
 pub mod Growth
 pub mod Forms
 pub mod Named
 pub mod Touched
-pub mod Few
 pub mod Steps
+pub mod Few
+pub mod Touching
 mod Examples

@@ -1,5 +1,5 @@
 -- A file has a candidate among its words exactly where it has an increment.
-use Rattle.std.proofs.Common.{◌≡◌, ◌⊎◌, ◌↔◌, ℕ, Bool, true, false, not, ◌&&◌, List, [], filter, refl, sym, ap, subst, ◌∙◌, inl, inr}
+use Rattle.std.proofs.Common.{◌≡◌, ◌⊎◌, ◌↔◌, ℕ, Bool, true, false, not, ◌&&◌, List, filter, refl, sym, ap, subst, ◌∙◌, inl, inr}
 use Rattle.std.specs.List.{list_any, Contains}
 use Rattle.std.proofs.lemmas.Bool.{and_parts, and_from, not-true, not_from_false, false_from_ne_true}
 use Rattle.lis_graph.proofs.Members.{Among, among_from_any, any_from_among, among_filter, filter_among, among_from_contains, contains_from_among}
@@ -23,10 +23,10 @@ above_level t files p = by (entails t p p) (is_candidate files p) (same_word p p
     by true c true h = refl
     by false c true h = refl
 
-record Above (t : Table) (files : List Entry) (p q : List ℕ) : Type 0 where
-  entailed : entails t p q ≡ true
-  other : same_word q p ≡ false
-  candidate : is_candidate files q ≡ true
+pub record Above (t : Table) (files : List Entry) (p q : List ℕ) : Type 0 where
+  pub entailed : entails t p q ≡ true
+  pub other : same_word q p ≡ false
+  pub candidate : is_candidate files q ≡ true
 
 above_parts : (t : Table) (files : List Entry) (p q : List ℕ) → is_above t files p q ≡ true → Above t files p q
 above_parts t files p q h =
@@ -34,7 +34,7 @@ above_parts t files p q h =
     let inner = and_parts _ _ outer.0 in
     record { entailed = inner.0; other = not-true _ inner.1; candidate = outer.1 }
 
-above_from : (t : Table) (files : List Entry) (p q : List ℕ) → Above t files p q → is_above t files p q ≡ true
+pub above_from : (t : Table) (files : List Entry) (p q : List ℕ) → Above t files p q → is_above t files p q ≡ true
 above_from t files p q a = and_from _ _ (and_from _ _ a.entailed (not_from_false _ a.other)) a.candidate
 
 above_transitive : (t : Table) → Sound t → (files : List Entry) (p q r : List ℕ) → is_above t files p q ≡ true → is_above t files q r ≡ true → is_above t files p r ≡ true
@@ -52,27 +52,42 @@ above_transitive t sound files p q r h k = by (above_parts t files p q h) (above
             cc
 
 -- ---- candidates and increments
--- a candidate among the words of a file leads to an increment among them
-covered : (t : Table) → Sound t → (files : List Entry) (file : Entry) → Among t.files file → (p : List ℕ) → Among file.words p → is_candidate files p ≡ true
-    → (q : List ℕ) × Among (filter (is_increment t files) t.known) q × Among file.words q
+-- an increment at or above a candidate among the words of a file, and so among them too
+pub record Cover (t : Table) (files : List Entry) (file : Entry) (p : List ℕ) : Type 0 where
+  pub cover : List ℕ
+  pub listed : Among (filter (is_increment t files) t.known) cover
+  pub from : (p ≡ cover) ⊎ (entails t p cover ≡ true)
+  pub has : Among file.words cover
+
+pub covered : (t : Table) → Sound t → (files : List Entry) (file : Entry) → Among t.files file → (p : List ℕ) → Among file.words p → is_candidate files p ≡ true → Cover t files file p
 covered t sound files file m p has candidate = by (topmost (is_above t files) (above_level t files) (above_transitive t sound files) t.known p)
   where
-    holds_above : (q : List ℕ) → (p ≡ q) ⊎ (is_above t files p q ≡ true) → Among file.words q × (is_candidate files q ≡ true)
-    holds_above q (inl same) = (subst (λ w. Among file.words w) same has, subst (λ w. is_candidate files w ≡ true) same candidate)
+    holds_above : (q : List ℕ) → (p ≡ q) ⊎ (is_above t files p q ≡ true) → ((p ≡ q) ⊎ (entails t p q ≡ true)) × Among file.words q × (is_candidate files q ≡ true)
+    holds_above q (inl same) = (inl same, subst (λ w. Among file.words w) same has, subst (λ w. is_candidate files w ≡ true) same candidate)
     holds_above q (inr above) =
         let parts = above_parts t files p q above in
-        (sound.closed file m p q has parts.entailed, parts.candidate)
+        (inr parts.entailed, sound.closed file m p q has parts.entailed, parts.candidate)
 
-    by : Top (is_above t files) (above_level t files) (above_transitive t sound files) t.known p → (q : List ℕ) × Among (filter (is_increment t files) t.known) q × Among file.words q
+    by : Top (is_above t files) (above_level t files) (above_transitive t sound files) t.known p → Cover t files file p
     by top =
         let found = holds_above top.top top.from in
-        (top.top, filter_among (is_increment t files) t.known top.top (sound.in_known file m top.top found.0) (and_from _ _ found.1 (not_from_false _ top.none)), found.0)
+        record {
+          cover = top.top;
+          listed = filter_among (is_increment t files) t.known top.top (sound.in_known file m top.top found.1) (and_from _ _ found.2 (not_from_false _ top.none));
+          from = found.0;
+          has = found.1;
+        }
 
 pub candidate_of_increment : (t : Table) (files : List Entry) (p : List ℕ) → Among (filter (is_increment t files) t.known) p → is_candidate files p ≡ true
 candidate_of_increment t files p m = (and_parts _ _ (among_filter (is_increment t files) t.known p m).1).0
 
 pub in_table : (t : Table) (place : List Formula) (file : Entry) → Among (extension t place) file → Among t.files file
 in_table t place file m = (among_filter (holds_all place) t.files file m).0
+
+pub candidate_known : (t : Table) → Sound t → (place : List Formula) (p : List ℕ) → is_candidate (extension t place) p ≡ true → Among t.known p
+candidate_known t sound place p h =
+    let found = among_from_any (λ (file : Entry). has_word file.words p) (extension t place) (and_parts _ _ h).0 in
+    sound.in_known found.0 (in_table t place found.0 found.1) p (among_from_has_word found.0.words p found.2)
 
 -- no candidate covers a file exactly where no increment does
 pub local_is : (t : Table) → Sound t → (place : List Formula) (file : Entry) → Among (extension t place) file
@@ -83,7 +98,7 @@ local_is t sound place file m = ap (λ b. not b) (same_tests _ _ to from)
     to h =
         let found = among_from_any (is_candidate (extension t place)) file.words h in
         let top = covered t sound (extension t place) file (in_table t place file m) found.0 found.1 found.2 in
-        any_from_among (has_word file.words) (increments t place) top.0 top.1 (has_word_from_among file.words top.0 top.2)
+        any_from_among (has_word file.words) (increments t place) top.cover top.listed (has_word_from_among file.words top.cover top.has)
 
     from : list_any (has_word file.words) (increments t place) ≡ true → list_any (is_candidate (extension t place)) file.words ≡ true
     from h =

@@ -9,10 +9,10 @@ use Rattle.lis_words.specs.Words.{has_word}
 use Rattle.lis_grammar.specs.Formula.{Formula}
 use Rattle.lis_model.specs.Tests.{step_of}
 use Rattle.lis_model.specs.Table.{Table, Entry}
-use Rattle.lis_model.specs.Listing.{holds, holds_all, extension, is_increment, increments, is_local, locals}
+use Rattle.lis_model.specs.Listing.{holds, holds_all, extension, is_candidate, is_increment, increments, is_local, locals}
 use Rattle.lis_model.specs.Route.{first_increment, word_then, route_within, route, IsRoute, Leads}
 use Rattle.lis_laws.proofs.Tables.{Sound}
-use Rattle.lis_laws.proofs.Locals.{local_is, candidate_of_increment}
+use Rattle.lis_laws.proofs.Locals.{local_is, candidate_known, candidate_of_increment}
 
 -- ---- the first member that passes a test
 find_some : {K : Type 0} (f : K → Bool) (xs : List K) → list_any f xs ≡ true → (x : K) × (find f xs ≡ Some x)
@@ -50,11 +50,10 @@ extension_further t sound place p there =
 pub increment_known : (t : Table) (place : List Formula) (p : List ℕ) → Among (increments t place) p → Among t.known p
 increment_known t place p m = (among_filter (is_increment t (extension t place)) t.known p m).0
 
--- with an increment there are fewer files
-pub further_fewer : (t : Table) → Sound t → (place : List Formula) (p : List ℕ) → Among (increments t place) p → length (extension t (place ++ step_of p ∷ [])) < length (extension t place)
-further_fewer t sound place p m =
-    let candidate = and_parts _ _ (candidate_of_increment t (extension t place) p m) in
-    rw (extension_further t sound place p (increment_known t place p m)) (filter_fewer (λ (file : Entry). has_word file.words p) (extension t place) candidate.1)
+-- with a candidate there are fewer files
+pub further_fewer : (t : Table) → Sound t → (place : List Formula) (p : List ℕ) → is_candidate (extension t place) p ≡ true → length (extension t (place ++ step_of p ∷ [])) < length (extension t place)
+further_fewer t sound place p candidate =
+    rw (extension_further t sound place p (candidate_known t sound place p candidate)) (filter_fewer (λ (file : Entry). has_word file.words p) (extension t place) (and_parts _ _ candidate).1)
 
 -- a file that has the word stays
 pub further_inside : (t : Table) → Sound t → (place : List Formula) (p : List ℕ) → Among t.known p → (file : Entry) → Among (extension t place) file → has_word file.words p ≡ true
@@ -62,7 +61,7 @@ pub further_inside : (t : Table) → Sound t → (place : List Formula) (p : Lis
 further_inside t sound place p there file m has =
     rw (extension_further t sound place p there) (filter_among (λ (f : Entry). has_word f.words p) (extension t place) file m has)
 
-some_files : (t : Table) (place : List Formula) (file : Entry) → Among (extension t place) file → 0 < length (extension t place)
+pub some_files : (t : Table) (place : List Formula) (file : Entry) → Among (extension t place) file → 0 < length (extension t place)
 some_files t place file m = by (extension t place) m
   where
     by : (files : List Entry) → Among files file → 0 < length files
@@ -87,7 +86,7 @@ reaches_on t sound place file p words m covered first rest =
     record {
       is_route = (not_from_false _ covered, first, rest.is_route);
       leads = (contains_from_among (extension t place) file m, contains_from_among (increments t place) p found.0, rest.leads);
-      shorter = omega (arith, rest.shorter, further_fewer t sound place p found.0);
+      shorter = omega (arith, rest.shorter, further_fewer t sound place p (candidate_of_increment t (extension t place) p found.0));
     }
 
 within_reaches : (t : Table) → Sound t → (n : ℕ) (place : List Formula) (file : Entry) → Among (extension t place) file → length (extension t place) ≤ n
@@ -109,7 +108,7 @@ within_reaches t sound (suc n) place file m few = by (is_local (extension t plac
         on next =
             let found = find_among (has_word file.words) (increments t place) next.0 next.1 in
             let further = place ++ step_of next.0 ∷ [] in
-            let fewer = further_fewer t sound place next.0 found.0 in
+            let fewer = further_fewer t sound place next.0 (candidate_of_increment t (extension t place) next.0 found.0) in
             let rest = more further file (further_inside t sound place next.0 (increment_known t place next.0 found.0) file m found.1) (omega arith) in
             subst (λ (first : Option (List ℕ)). Reaches t place file (word_then first (λ p. route_within n t (place ++ step_of p ∷ []) file))) (sym next.1)
             (reaches_on t sound place file next.0 (route_within n t further file) m e next.1 rest)
@@ -121,7 +120,7 @@ within_only t sound zero place file m few words is = absurd (omega (arith, some_
 within_only t sound (suc n) place file m few [] is = sym (ap (λ b. cond b [] (word_then (first_increment t place file) (λ p. route_within n t (place ++ step_of p ∷ []) file))) is)
 within_only t sound (suc n) place file m few (p ∷ words) is =
     let found = find_among (has_word file.words) (increments t place) p is.1 in
-    let fewer = further_fewer t sound place p found.0 in
+    let fewer = further_fewer t sound place p (candidate_of_increment t (extension t place) p found.0) in
     let rest = within_only t sound n (place ++ step_of p ∷ []) file (further_inside t sound place p (increment_known t place p found.0) file m found.1) (omega arith) words is.2 in
     ap (λ ws. p ∷ ws) rest
     ∙ sym (ap (λ (b : Bool). cond b [] (word_then (first_increment t place file) (λ q. route_within n t (place ++ step_of q ∷ []) file))) (not-true _ is.0)

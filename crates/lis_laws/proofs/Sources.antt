@@ -1,14 +1,14 @@
 -- Where the words of files, and the known words, come from.
-use Rattle.std.proofs.Common.{◌≡◌, ◌⊎◌, ℕ, ◌≤◌, Bool, true, false, not, ◌&&◌, ◌||◌, nat_lt, nat_le, cond, Option, Some, None, List, [], ◌∷◌, ◌++◌, length, map, refl, sym, ap, subst, ◌∙◌, inl, inr, arith}
+use Rattle.std.proofs.Common.{◌≡◌, ◌⊎◌, ℕ, Bool, true, false, not, ◌&&◌, ◌||◌, nat_lt, nat_le, cond, Option, Some, None, List, ◌++◌, length, map, sym, subst, inl, inr, arith}
 use Rattle.std.specs.List.{flat_map, list_all}
-use Rattle.std.proofs.lemmas.Bool.{and_parts, and_from, or_cases, both_ways, ltb-true, lt-ltb, leb-true, le-leb}
+use Rattle.std.proofs.lemmas.Bool.{and_parts, or_cases, both_ways, ltb-true, lt-ltb, leb-true, le-leb}
 use Rattle.lis_graph.proofs.Members.{Among, among_append, among_left, among_right, among_filter, filter_among, among_map, map_among, among_flat_map, flat_map_among}
 use Rattle.lis_words.specs.Words.{has_word, head_bytes, is_plain_word, is_head, is_valued, is_test, test_of}
 use Rattle.lis_words.proofs.Tests.{plain_not_test, head_not_test, valued_not_test}
-use Rattle.lis_model.specs.Tests.{is_weaker, are_weaker, is_met, met_tests}
+use Rattle.lis_model.specs.Tests.{are_weaker, is_met, met_tests}
 use Rattle.lis_model.specs.Derived.{derived_words}
 use Rattle.lis_model.specs.State.{State, File, WellFormed, heads, up, own_words, description, known, left_words, is_assignable, is_known_head, is_nameable}
-use Rattle.lis_laws.proofs.Members.{among_from_has_word, has_word_from_among, among_with_words, with_words_old, with_words_new}
+use Rattle.lis_laws.proofs.Members.{among_from_has_word, among_with_words, with_words_old, with_words_new}
 use Rattle.lis_laws.proofs.Chains.{IsWeakerIn, weaker_tests_are, among_heads, head_no_test, entails_from_up}
 use Rattle.lis_laws.proofs.Counts.{all_among}
 use Rattle.lis_laws.proofs.Closures.{entailing, entailed_in}

@@ -1,11 +1,11 @@
 -- A step keeps states well formed and places within their limits.
-use Rattle.std.proofs.Common.{◌≡◌, ◌⊎◌, ◌==◌, ℕ, ◌+◌, ◌-◌, ◌/◌, ◌≤◌, nat_lt, nat_le, Bool, true, false, not, ◌&&◌, ◌||◌, cond, Option, Some, None, is_some, List, [], ◌∷◌, ◌++◌, length, filter, map, refl, sym, ap, subst, ◌∙◌, inl, inr, arith}
+use Rattle.std.proofs.Common.{◌≡◌, ◌⊎◌, ◌==◌, ℕ, ◌+◌, ◌≤◌, nat_lt, nat_le, Bool, true, false, not, ◌&&◌, cond, Option, Some, None, List, [], ◌∷◌, ◌++◌, length, filter, refl, subst, inl, inr, arith}
 use Rattle.std.specs.Prelude.{option_map, unwrap_or}
-use Rattle.std.specs.List.{list_any, list_all, flat_map}
-use Rattle.std.proofs.lemmas.Bool.{and_parts, and_from, not-true, not-false, not_from_false, false_from_ne_true, both_ways, ltb-false, ltb-true, leb-false, leb-true, le-leb, lt-ltb, eqb-true}
+use Rattle.std.specs.List.{list_all, flat_map}
+use Rattle.std.proofs.lemmas.Bool.{and_parts, and_from, not-false, not_from_false, false_from_ne_true, both_ways, ltb-false, ltb-true, leb-false, leb-true, le-leb, eqb-true}
 use Rattle.lis_graph.specs.Graph.{is_rising}
 use Rattle.lis_graph.proofs.Members.{Among, among_filter, any_from_among}
-use Rattle.lis_words.specs.Words.{word_cmp, has_word, is_plain_word, is_valued, is_property, is_built_in, is_file_name}
+use Rattle.lis_words.specs.Words.{word_cmp, has_word, is_plain_word, is_property, is_file_name}
 use Rattle.lis_grammar.specs.Formula.{Formula}
 use Rattle.lis_grammar.specs.Places.{Resolution, resolved, text_words}
 use Rattle.lis_grammar.proofs.Placed.{resolved_is_place, root_is_place}
@@ -19,12 +19,12 @@ use Rattle.lis_model.specs.Ranges.{are_in_range}
 use Rattle.lis_model.specs.Sets.{with_words, set_of}
 use Rattle.lis_model.specs.State.{State, File, WellFormed, empty_state, description, known, is_assignable, is_nameable, file_limit, blocks_needed, blocks_taken, used_blocks}
 use Rattle.lis_model.specs.Changes.{declared_under, undeclared, axiom_added, axiom_removed, new_file, has_name, file_of, file_added, file_removed, file_replaced}
-use Rattle.lis_model.specs.Places.{all_conjuncts, place_words, place_tags, is_tag}
+use Rattle.lis_model.specs.Places.{all_conjuncts, place_words, is_tag}
 use Rattle.lis_model.specs.Table.{table}
 use Rattle.lis_model.specs.Route.{route}
 use Rattle.lis_model.specs.Replies.{body_line, content_lines}
 use Rattle.lis_model.specs.Script.{payload_limit}
-use Rattle.lis_model.specs.Step.{Situation, Payload, situation_after, start_of, Outcome, Item, refused, changed, shown, judged, exceeds_axioms, exceeds_known, exceeds_words, words_at, tags_at, free_blocks, is_large, is_here, here_checks, room_checks, is_plain_place, mkdir, mkdir_checks, is_in_use, rmdir, rmdir_checks, add_axiom, axiom_checks, unaxiom, unaxiom_checks, assigned_at, create, create_checks, add, add_checks, blocks_for, write, write_with, write_checks, retagged, mv, mv_to, mv_checks, rename, rename_as, rename_checks, rm, shown_here, entry_at, moved, cd_to, done, step}
+use Rattle.lis_model.specs.Step.{Situation, Payload, situation_after, start_of, Outcome, Item, refused, changed, shown, judged, exceeds_axioms, exceeds_known, exceeds_words, words_at, tags_at, free_blocks, is_here, here_checks, is_plain_place, mkdir, mkdir_checks, is_in_use, rmdir, rmdir_checks, add_axiom, axiom_checks, unaxiom, unaxiom_checks, assigned_at, create, create_checks, add, add_checks, blocks_for, write, write_checks, retagged, mv_to, mv_checks, rename, rename_checks, rm, shown_here, entry_at, moved, cd_to, done, step}
 use Rattle.lis_model.specs.Step.Item.{Do, Bad}
 use Rattle.lis_laws.specs.Changes.{WordFits, AxiomFits, FileFits, FileReplaces}
 use Rattle.lis_laws.specs.Steps.{has_forms, is_payload, is_formed, IsInForm}
@@ -41,14 +41,18 @@ abbrev pub NoneStands : List (Bool × Refusal) → Type 0
 NoneStands [] = Unit {0}
 NoneStands (check ∷ checks) = (check.0 ≡ false) × NoneStands checks
 
-pub judged_keeps : (P : Situation → Type 0) (now : Situation) (checks : List (Bool × Refusal)) (done : Outcome) → P now → (NoneStands checks → P done.next) → P (judged now checks done).next
-judged_keeps P now [] done h k = k tt
-judged_keeps P now (check ∷ checks) done h k = by check.0 refl (judged_keeps P now checks done h)
+-- how a row ends: refused, or done where no refusal stands
+pub judged_ends : (P : Outcome → Type 0) (now : Situation) (checks : List (Bool × Refusal)) (done : Outcome) → ((refusal : Refusal) → P (refused now refusal)) → (NoneStands checks → P done)
+    → P (judged now checks done)
+judged_ends P now [] done refuse go = go tt
+judged_ends P now (check ∷ checks) done refuse go = by check.0 refl (judged_ends P now checks done refuse)
   where
-    by : (b : Bool) → check.0 ≡ b → ((NoneStands checks → P done.next) → P (judged now checks done).next)
-        → P (cond b (refused now check.1) (judged now checks done)).next
-    by true e rest = h
-    by false e rest = rest (λ none. k (e, none))
+    by : (b : Bool) → check.0 ≡ b → ((NoneStands checks → P done) → P (judged now checks done)) → P (cond b (refused now check.1) (judged now checks done))
+    by true e rest = refuse check.1
+    by false e rest = rest (λ none. go (e, none))
+
+judged_keeps : (P : Situation → Type 0) (now : Situation) (checks : List (Bool × Refusal)) (done : Outcome) → P now → (NoneStands checks → P done.next) → P (judged now checks done).next
+judged_keeps P now checks done before after = judged_ends (λ (outcome : Outcome). P outcome.next) now checks done (λ refusal. before) after
 
 -- none of a row, so none of its parts
 none_in_both : (checks more : List (Bool × Refusal)) → NoneStands (checks ++ more) → NoneStands checks × NoneStands more

@@ -1,9 +1,8 @@
 -- What a table keeps: its entailment has no ties, each file has all that its words entail, and the step of a word asks for the word.
-use Rattle.std.proofs.Common.{◌≡◌, ◌⊎◌, ℕ, Bool, true, false, nat_lt, nat_le, ◌&&◌, cond, Option, Some, None, is_some, List, [], ◌∷◌, ◌++◌, length, refl, sym, ap, subst, ◌∙◌}
+use Rattle.std.proofs.Common.{◌≡◌, ℕ, Bool, true, false, nat_lt, nat_le, ◌&&◌, cond, Option, Some, None, is_some, List, length, refl, sym, ap, subst, ◌∙◌}
 use Rattle.std.proofs.lemmas.Bool.{and_parts, and_from}
 use Rattle.lis_graph.proofs.Members.{Among, among_from_any, any_from_among, among_map, map_among}
 use Rattle.lis_words.specs.Words.{same_word, has_word, test_of, is_test}
-use Rattle.lis_grammar.specs.Formula.{Formula}
 use Rattle.lis_grammar.specs.Formula.Formula.{SizeAtLeast, SizeBelow}
 use Rattle.lis_model.specs.Tests.{is_met, step_by, step_of}
 use Rattle.lis_model.specs.State.{State, File, WellFormed, up, own_words, description, known}
@@ -12,7 +11,7 @@ use Rattle.lis_model.specs.Listing.{holds}
 use Rattle.lis_laws.proofs.Members.{same_word_decides, among_from_has_word, has_word_from_among}
 use Rattle.lis_laws.proofs.Chains.{up_self, up_trans, entails_from_up, no_ties}
 use Rattle.lis_laws.proofs.Closures.{all_up_closed}
-use Rattle.lis_laws.proofs.Sources.{OwnWord, file_has, described_known, IsMetBy, test_had, known_test}
+use Rattle.lis_laws.proofs.Sources.{file_has, described_known, test_had, known_test}
 use Rattle.lis_laws.proofs.Sources.OwnWord.{Met}
 
 -- The laws of listings and of routes hold of every such table.

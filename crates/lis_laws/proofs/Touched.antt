@@ -397,7 +397,7 @@ not_below n h = by (word_cmp n n) refl h
     by Greater e below = absurd cc
 
 -- one file of each name
-one_of_name : (files : List File) → is_rising file_cmp files ≡ true → (file other : File) → Among files file → Among files other → file.name ≡ other.name → file ≡ other
+pub one_of_name : (files : List File) → is_rising file_cmp files ≡ true → (file other : File) → Among files file → Among files other → file.name ≡ other.name → file ≡ other
 one_of_name [] rising file other m n same = absurd m
 one_of_name (first ∷ files) rising file other (inl here) (inl there) same = sym here ∙ there
 one_of_name (first ∷ files) rising file other (inl here) (inr n) same =

@@ -4,8 +4,10 @@
 ghost use Rattle.lis_laws.specs.Changes.{ChangesKeepForm};
 ghost use Rattle.lis_laws.specs.Growth.{KnownGrows};
 ghost use Rattle.lis_laws.specs.Laws.{TestsAreChains, NoTies, LocalsAreUncovered, LocalsByFile, RoutesLead, AxiomsAdd, DescriptionsAdd};
+ghost use Rattle.lis_laws.specs.Listings.{ListingsRefine};
 ghost use Rattle.lis_laws.specs.Steps.{ItemsAreFormed, StepsKeepForm, SessionsAreFormed};
 ghost use Rattle.lis_laws.specs.Touches.{ChangesTouch, StepsTouchFew};
+ghost use Rattle.lis_laws.specs.Touching.{StepsTouch};
 
 /// What a word entails, and whether axioms lead in a circle, is what chains of links say.
 pub fn tests_are_chains()
@@ -25,6 +27,11 @@ pub fn locals_are_uncovered()
 /// The same, file by file.
 pub fn locals_by_file()
     ensures { LocalsByFile }
+{}
+
+/// The words of a listing narrow its place, and are the most general of the known words that do.
+pub fn listings_refine()
+    ensures { ListingsRefine }
 {}
 
 /// Increments lead to each file of the extension, and are fewer than its files.
@@ -70,6 +77,11 @@ pub fn known_grows()
 /// Which words gain or lose a file, and which enter or leave the known ones, in each change.
 pub fn changes_touch()
     ensures { ChangesTouch }
+{}
+
+/// Which words a step touches, by cases on the command; what is refused touches none.
+pub fn steps_touch()
+    ensures { StepsTouch }
 {}
 
 /// In one step at most 256 words gain or lose a file, and at most 256 enter or leave the known ones.

@@ -1,6 +1,7 @@
 //! The one loop of a session: an item after another is read, and carried out.
 
 ghost use Rattle.std.specs.Prelude.{◌≡◌, ℕ, ◌≤◌, ◌^◌, List, [], ◌∷◌, ◌++◌, IfOk, IfSome, IsSome, MatchResult};
+ghost use Rattle.lis_ports.specs.Calls.{FaultEnds};
 ghost use Rattle.lis_ports.specs.Meaning.{Meaning};
 ghost use Rattle.lis_model.specs.Step.{Item as Asked};
 ghost use Rattle.lis_line.specs.Reading.{asked_by};
@@ -67,6 +68,7 @@ pub fn carry_all<C: Carrier, S: Source, T: Station>(
     requires start { C.has_done carrier.old (T.meaning station.old) [] carrier.old (T.meaning station.old) }
     ensures few { TakesFew limit (S.left input.old) (S.left input.new) }
     ensures cause { HasHaltCause (S.faults input.old) (S.faults input.new) result }
+    ensures first_fault { FaultEnds (S.faults input.old) (S.behind input.old) (S.behind input.new) }
     ensures ended { HasEnded limit (S.left input.old) (S.left input.new)
         (λ first. C.has_done carrier.old (T.meaning station.old) first carrier.new (T.meaning station.new))
         (λ first item fault. C.has_stopped carrier.old (T.meaning station.old) first item fault carrier.new (T.meaning station.new)) result }

@@ -1,7 +1,7 @@
 //! Parts of the input: a line, and the payload behind it.
 
 ghost use Rattle.std.specs.Prelude.{◌≡◌, ℕ, ◌<◌, ◌≤◌, Some, length};
-ghost use Rattle.lis_ports.specs.Calls.{HasCause};
+ghost use Rattle.lis_ports.specs.Calls.{HasCause, FaultEnds};
 ghost use Rattle.lis_model.specs.Step.{Payload as Told, no_payload};
 ghost use Rattle.lis_model.specs.Script.{item_of, payload_size, first_of, first_with, first_ended};
 ghost use Rattle.lis_line.specs.Parts.{TakesPart, part_asks, first_dropped, first_behind, item_at_end};
@@ -30,6 +30,7 @@ fn drop_line<S: Source>(stock: &mut Stock, source: &mut S) -> Result<Part, Faile
     ensures takes { (payload : Told) → TakesPart first_dropped stock.old stock.new (S.left source.old) (S.left source.new) payload result }
     ensures few { length stock.new.ahead ≤ stock.new.rest }
     ensures cause { HasCause (S.faults source.old) (S.faults source.new) result }
+    ensures first_fault { FaultEnds (S.faults source.old) (S.behind source.old) (S.behind source.new) }
 {
     let mut dropped = ArrayVec::new();
     match read_line(stock, &mut dropped, source)? {
@@ -46,6 +47,7 @@ fn take_end<S: Source>(stock: &mut Stock, line: &[u8], source: &mut S) -> Result
     ensures takes { (payload : Told) → TakesPart (first_ended (item_of line.now payload)) stock.old stock.new (S.left source.old) (S.left source.new) payload result }
     ensures few { length stock.new.ahead ≤ stock.new.rest }
     ensures cause { HasCause (S.faults source.old) (S.faults source.new) result }
+    ensures first_fault { FaultEnds (S.faults source.old) (S.behind source.old) (S.behind source.new) }
 {
     let Some(byte) = stock.next_byte(source)? else {
         return Ok(Part::Last(asked(line)));
@@ -73,6 +75,7 @@ fn take_payload<S: Source>(
     ensures takes { TakesPart (first_with line.now size) stock.old stock.new (S.left source.old) (S.left source.new) payload.new result }
     ensures few { length stock.new.ahead ≤ stock.new.rest }
     ensures cause { HasCause (S.faults source.old) (S.faults source.new) result }
+    ensures first_fault { FaultEnds (S.faults source.old) (S.behind source.old) (S.behind source.new) }
 {
     match fill(stock, payload, size, source)? {
         Filled::All => take_end(stock, line, source),
@@ -94,6 +97,7 @@ fn take_behind<S: Source>(
     ensures takes { TakesPart (first_behind line.now (payload_size line.now)) stock.old stock.new (S.left source.old) (S.left source.new) payload.new result }
     ensures few { length stock.new.ahead ≤ stock.new.rest }
     ensures cause { HasCause (S.faults source.old) (S.faults source.new) result }
+    ensures first_fault { FaultEnds (S.faults source.old) (S.behind source.old) (S.behind source.new) }
 {
     match payload_size(line) {
         None => Ok(Part::Whole(asked(line))),
@@ -121,6 +125,7 @@ pub fn take_part<S: Source>(
     ensures takes { TakesPart first_of stock.old stock.new (S.left source.old) (S.left source.new) payload.new result }
     ensures few { length stock.new.ahead ≤ stock.new.rest }
     ensures cause { HasCause (S.faults source.old) (S.faults source.new) result }
+    ensures first_fault { FaultEnds (S.faults source.old) (S.behind source.old) (S.behind source.new) }
 {
     payload.clear();
     let mut line = ArrayVec::new();

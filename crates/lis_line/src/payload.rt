@@ -1,7 +1,7 @@
 //! The bytes that come behind a command's line.
 
 ghost use Rattle.std.specs.Prelude.{◌≡◌, ℕ, ◌+◌, ◌<◌, ◌≤◌, ◌^◌, [], length, slice_set, IfOk};
-ghost use Rattle.lis_ports.specs.Calls.{HasCause};
+ghost use Rattle.lis_ports.specs.Calls.{HasCause, FaultEnds};
 ghost use Rattle.lis_model.specs.Step.{no_payload};
 ghost use Rattle.lis_model.specs.Script.{payload_limit};
 ghost use Rattle.lis_line.specs.Inside.{frame_bytes, IsKept};
@@ -120,6 +120,7 @@ pub fn fill<S: Source>(
     ensures few { length stock.new.ahead ≤ stock.new.rest }
     ensures fills { Fills stock.old stock.new (S.left source.old) (S.left source.new) size payload.new result }
     ensures cause { HasCause (S.faults source.old) (S.faults source.new) result }
+    ensures first_fault { FaultEnds (S.faults source.old) (S.behind source.old) (S.behind source.new) }
 {
     payload.clear();
     while payload.size() < size {

@@ -1,7 +1,7 @@
 //! The reader of items.
 
 ghost use Rattle.std.specs.Prelude.{◌≡◌, ℕ, ◌^◌, ◌≤◌, false, length};
-ghost use Rattle.lis_ports.specs.Calls.{HasCause};
+ghost use Rattle.lis_ports.specs.Calls.{HasCause, FaultEnds};
 
 pub use crate::payload::Payload;
 use crate::stock::Stock;
@@ -71,6 +71,7 @@ impl LineReader {
         ensures says { Says self.old self.new (S.left source.old) (S.left source.new) payload.new result }
         ensures few { length self.new.stock.ahead ≤ self.new.stock.rest }
         ensures cause { HasCause (S.faults source.old) (S.faults source.new) result }
+        ensures first_fault { FaultEnds (S.faults source.old) (S.behind source.old) (S.behind source.new) }
     {
         if self.is_closed {
             self.is_ended = true;

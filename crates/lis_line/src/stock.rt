@@ -1,7 +1,7 @@
 //! Bytes out of a source, one by one, whatever pieces it gives; and lines out of bytes.
 
 ghost use Rattle.std.specs.Prelude.{◌≡◌, ℕ, ◌+◌, ◌-◌, ◌<◌, ◌≤◌, ◌^◌, List, [], ◌∷◌, ◌↔◌, length, take, drop, IsTrue};
-ghost use Rattle.lis_ports.specs.Calls.{HasCause};
+ghost use Rattle.lis_ports.specs.Calls.{HasCause, FaultEnds};
 ghost use Rattle.lis_model.specs.Script.{is_feed};
 ghost use Rattle.lis_line.specs.Stock.{Stocked, GivesByte, Refills, ReadsLine};
 
@@ -78,6 +78,7 @@ impl Stock {
         requires { 0 < self.old.rest }
         ensures refills { Refills self.old self.new (S.left source.old) (S.left source.new) result }
         ensures cause { HasCause (S.faults source.old) (S.faults source.new) result }
+        ensures first_fault { FaultEnds (S.faults source.old) (S.behind source.old) (S.behind source.new) }
     {
         let room = self.rest.min(PIECE as u64) as usize;
         self.start = 0;
@@ -102,6 +103,7 @@ impl Stock {
         requires { 0 < self.old.rest }
         ensures gives { GivesByte self.old self.new (S.left source.old) (S.left source.new) result }
         ensures cause { HasCause (S.faults source.old) (S.faults source.new) result }
+        ensures first_fault { FaultEnds (S.faults source.old) (S.behind source.old) (S.behind source.new) }
     {
         if !self.is_empty() {
             let byte = self.give();
@@ -133,6 +135,7 @@ pub fn read_line<S: Source>(
     ensures few { length stock.new.ahead ≤ stock.new.rest }
     ensures reads { ReadsLine stock.old stock.new (S.left source.old) (S.left source.new) line.new.items result }
     ensures cause { HasCause (S.faults source.old) (S.faults source.new) result }
+    ensures first_fault { FaultEnds (S.faults source.old) (S.behind source.old) (S.behind source.new) }
 {
     loop {
         let Some(byte) = stock.next_byte(source)? else {

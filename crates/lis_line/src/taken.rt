@@ -1,7 +1,7 @@
 //! What the input asks for, out of a stock of bytes.
 
 ghost use Rattle.std.specs.Prelude.{◌≡◌, ℕ, ◌<◌, ◌≤◌, length};
-ghost use Rattle.lis_ports.specs.Calls.{HasCause};
+ghost use Rattle.lis_ports.specs.Calls.{HasCause, FaultEnds};
 ghost use Rattle.lis_line.specs.Reading.{GivesAsked};
 
 use crate::part::{Part, take_part};
@@ -33,6 +33,7 @@ pub fn take_asked<S: Source>(
     ensures gives { GivesAsked stock.old stock.new (S.left source.old) (S.left source.new) payload.new result }
     ensures few { length stock.new.ahead ≤ stock.new.rest }
     ensures cause { HasCause (S.faults source.old) (S.faults source.new) result }
+    ensures first_fault { FaultEnds (S.faults source.old) (S.behind source.old) (S.behind source.new) }
 {
     loop {
         match take_part(stock, payload, source)? {

@@ -9,6 +9,7 @@ use Rattle.std.proofs.lemmas.Option.{slice_get-get_or, get_or_from_slice_get, sa
 use Rattle.lis_graph.specs.Graph.{Chain}
 use Rattle.lis_graph.proofs.Members.{Among, among_from_any, any_from_among, among_flat_map, flat_map_among, among_with_more, with_more_new}
 use Rattle.lis_ports.specs.Meaning.{Meaning}
+use Rattle.lis_ports.specs.Calls.{DiskFaultEnds}
 use Rattle.lis_journal.specs.Journal.{Held}
 use Rattle.lis_journal.specs.Images.{Fits}
 use Rattle.lis_slots.specs.Slots.{slot}
@@ -269,6 +270,7 @@ module _ (limits : Limits) (words : Words) (first : AreFirstWords limits words l
 pub record AxiomsTurn (journal : Held) (limits : Limits) (old now : Meaning) (before last : LastBlock) (words : Words) (axioms : Axioms) (end : ℕ) : Type 0 where
   pub reads : OnlyReads old now
   pub faults : now.disk_faults ≡ old.disk_faults
+  pub first_fault : DiskFaultEnds old now
   pub first : AreFirstAxioms limits words axioms end
   pub recalls : StillRecalls journal old before last
   pub spelled : (kept : ℕ → List ℕ) → Fits journal old kept → Recalls before kept → AxiomsAreSpelled limits kept axioms end

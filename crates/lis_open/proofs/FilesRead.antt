@@ -6,6 +6,7 @@ use Rattle.std.proofs.lemmas.Bool.{and_parts, and_from, both_ways, or_cases, or_
 use Rattle.std.proofs.lemmas.List.{length-replicate}
 use Rattle.std.proofs.lemmas.Option.{same_Some}
 use Rattle.lis_ports.specs.Meaning.{Meaning}
+use Rattle.lis_ports.specs.Calls.{DiskFaultEnds}
 use Rattle.lis_journal.specs.Journal.{Held}
 use Rattle.lis_journal.specs.Images.{Fits}
 use Rattle.lis_journal.specs.Phases.{looked}
@@ -340,6 +341,7 @@ module _ (limits : Limits) (MayBeKept : (ℕ → List ℕ) → Type 0) (words : 
 pub record FilesTurn (journal : Held) (limits : Limits) (words : Words) (axioms : Axioms) (old now : Meaning) (last_old last : LastBlock) (files : Files) (row : Rows) (end : ℕ) : Type 0 where
   pub reads : OnlyReads old now
   pub faults : now.disk_faults ≡ old.disk_faults
+  pub first_fault : DiskFaultEnds old now
   pub rows : HasTests words row
   pub first : AreFirstFiles limits words axioms files end
   pub recalls : StillRecalls journal old last_old last

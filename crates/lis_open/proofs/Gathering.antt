@@ -9,7 +9,7 @@ use Rattle.std.proofs.lemmas.List.Elements.{Contains-get_or}
 use Rattle.std.proofs.lemmas.List.Folds.{list_any-append}
 use Rattle.std.proofs.lemmas.Map.Keys.{IsStrictlyIncreasing-from_sorted}
 use Rattle.lis_graph.proofs.Members.{Among, among_from_contains}
-use Rattle.lis_bits.specs.Rows.{Rows, HasShape, get, with_row, SetsRow, SetsBits}
+use Rattle.lis_bits.specs.Rows.{Rows, HasShape, get, with_row, SetsBits}
 use Rattle.lis_bits.proofs.Laws.{bits_set, row_sets}
 use Rattle.lis_taxonomy.specs.Taxonomy.{Taxonomy, entails}
 use Rattle.lis_ext.specs.Numbers.{numbers_where}
@@ -30,7 +30,7 @@ gathered_none t tags old row shape is =
     set : SetsBits old (with_row old 0 (λ _. false)) 3 t.props 0 (λ _. false)
     set = bits_set old 3 t.props 0 (λ _. false) shape (omega arith)
 
-pub gathered_more : (t : Taxonomy) (tags : List ℕ) (old row mid new : Rows) (k tag : ℕ) → Gathered t tags old row k → k < length tags → tag ≡ get_or tags k 0 → SetsRow row mid 1 (entails t tag)
+pub gathered_more : (t : Taxonomy) (tags : List ℕ) (old row mid new : Rows) (k tag : ℕ) → Gathered t tags old row k → k < length tags → tag ≡ get_or tags k 0 → mid ≡ with_row row 1 (entails t tag)
     → new ≡ with_row mid 0 (λ bit. get mid 0 bit || get mid 1 bit) → Gathered t tags old new (k + 1)
 gathered_more t tags old row mid new k tag was lt is ups joined =
     subst (λ (r : Rows). Gathered t tags old r (k + 1)) (sym joined) (record { shape = second.shape; bits = bits; tests = tests })

@@ -7,7 +7,7 @@ use Rattle.std.proofs.lemmas.Grind.{flat_map-append}
 use Rattle.std.proofs.lemmas.List.FromFn.{filter_of_map_range_with_len_more}
 use Rattle.std.proofs.lemmas.List.Folds.{list_any-append, list_all-append}
 use Rattle.lis_graph.proofs.Members.{Among, among_from_any, any_from_among, among_filter, filter_among, among_flat_map, flat_map_among}
-use Rattle.lis_bits.specs.Rows.{Rows, HasShape, get, with_row, NoneTrue, SetsRow, SetsBits}
+use Rattle.lis_bits.specs.Rows.{Rows, HasShape, get, with_row, NoneTrue, SetsBits}
 use Rattle.lis_bits.proofs.Laws.{bits_set, row_sets}
 use Rattle.lis_blockmap.specs.Bitmap.{is_taken}
 use Rattle.lis_dict.specs.Dict.{IsDict, number_of, word_of}
@@ -120,7 +120,7 @@ module _ (words : Words) (t : Taxonomy) (size : ℕ) (props : t.props ≡ words.
           where_more k (is_met_number words size)
           ∙ (ap (λ b. numbers_where k (is_met_number words size) ++ (if b then k ∷ [] else [])) unmet ∙ append-nil (numbers_where k (is_met_number words size)))
 
-  pub met_more : (old row mid new : Rows) (k : ℕ) → MetSoFar words t size old row k → k < words.dict.props → is_met_number words size k ≡ true → SetsRow row mid 1 (entails t k)
+  pub met_more : (old row mid new : Rows) (k : ℕ) → MetSoFar words t size old row k → k < words.dict.props → is_met_number words size k ≡ true → mid ≡ with_row row 1 (entails t k)
       → new ≡ with_row mid 0 (λ bit. get mid 0 bit || get mid 1 bit) → MetSoFar words t size old new (k + 1)
   met_more old row mid new k was lower met ups joined =
       subst (λ (r : Rows). MetSoFar words t size old r (k + 1)) (sym joined) (record { rows = rows; within = omega (arith, lower); bits = bits })

@@ -90,6 +90,7 @@ holding image = record {
   shown = None;
   disk_faults = 0;
   show_faults = 0;
+  behind = 0;
 }
 
 pub wiped_stands : (limits : Limits) (image : List ℕ) → IsTrue (are_in_range limits) → IsWiped limits image → first_byte image ≡ 76 → Stands image (empty_state limits)

@@ -5,6 +5,7 @@ use Rattle.std.proofs.lemmas.Bool.{cases_eq, cases_lt, ne_eqb, both_ways, not-tr
 use Rattle.std.proofs.lemmas.List.{length-replicate, get_or-replicate, get_or_past, length-set, get_or-set_same, get_or-set_other}
 use Rattle.std.proofs.lemmas.Option.{same_Some}
 use Rattle.lis_ports.specs.Meaning.{Meaning}
+use Rattle.lis_ports.specs.Calls.{DiskFaultEnds}
 use Rattle.lis_journal.specs.Journal.{Held}
 use Rattle.lis_journal.specs.Images.{Fits}
 use Rattle.lis_slots.specs.Slots.{slot}
@@ -227,6 +228,7 @@ words_pass limits at words first spelled = record { none = none; is = spelled }
 pub record WordsTurn (journal : Held) (limits : Limits) (old now : Meaning) (before last : LastBlock) (words : Words) (end : ℕ) : Type 0 where
   pub reads : OnlyReads old now
   pub faults : now.disk_faults ≡ old.disk_faults
+  pub first_fault : DiskFaultEnds old now
   pub first : AreFirstWords limits words end
   pub recalls : StillRecalls journal old before last
   pub spelled : (kept : ℕ → List ℕ) → Fits journal old kept → Recalls before kept → WordsAreSpelled limits kept words end

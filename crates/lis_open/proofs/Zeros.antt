@@ -4,7 +4,7 @@ use Rattle.std.proofs.lemmas.Bool.{eqb-false}
 use Rattle.lis_ports.specs.Meaning.{Meaning}
 use Rattle.lis_ports.specs.Bytes.{put, Torn}
 use Rattle.lis_ports.specs.Runs.{IsDiskRun}
-use Rattle.lis_ports.specs.Calls.{Elapses, IsTorn, IsWritten}
+use Rattle.lis_ports.specs.Calls.{Elapses, IsTorn, IsWritten, DiskFaultEnds}
 use Rattle.lis_journal.specs.Record.{block}
 use Rattle.lis_journal.specs.Spreads.{Spreads}
 use Rattle.lis_journal.proofs.Entries.{block-put}
@@ -18,6 +18,7 @@ use Rattle.lis_open.proofs.Ranges.{torn_wider}
 pub record HasCleared (old now : Meaning) (first end k : ℕ) : Type 0 where
   pub run : IsDiskRun old now
   pub faults : now.disk_faults ≡ old.disk_faults
+  pub first_fault : DiskFaultEnds old now
   pub spreads : IsTrue old.is_honest → Spreads old now (Torn (4096 * first) (4096 * (end - first)))
   pub torn : IsTrue old.is_honest → Torn (4096 * first) (4096 * (end - first)) old.bytes now.bytes
   pub cleared : IsTrue old.is_honest → AreZeros first k now.bytes

@@ -1,7 +1,7 @@
 //! Slots of an image, each block read once.
 
 ghost use Rattle.std.specs.Prelude.{◌≡◌, ◌+◌, ◌*◌, ◌/◌, ◌%◌, ◌^◌, ◌<◌, ◌≤◌, ℕ, List, [], None, Some, false, length, OnOk};
-ghost use Rattle.lis_ports.specs.Calls.{HasCause};
+ghost use Rattle.lis_ports.specs.Calls.{HasCause, DiskFaultEnds};
 ghost use Rattle.lis_journal.specs.Images.{Fits};
 ghost use Rattle.lis_slots.specs.Slots.{slot};
 ghost use Rattle.lis_open.specs.Reading.{OnlyReads, Recalls};
@@ -37,6 +37,7 @@ impl LastBlock {
         requires long { 4096 * journal.now.blocks ≤ (D.meaning disk.old).len }
         ensures reads { OnlyReads (D.meaning disk.old) (D.meaning disk.new) }
         ensures cause { HasCause (D.meaning disk.old).disk_faults (D.meaning disk.new).disk_faults result }
+        ensures first_fault { DiskFaultEnds (D.meaning disk.old) (D.meaning disk.new) }
         ensures number { OnOk result (self.new.number ≡ Some n) }
         ensures recalls { (kept : ℕ → List ℕ) → Fits journal.now (D.meaning disk.old) kept
             → Recalls self.old kept → Recalls self.new kept }
@@ -69,6 +70,7 @@ impl LastBlock {
         requires long { 4096 * journal.now.blocks ≤ (D.meaning disk.old).len }
         ensures reads { OnlyReads (D.meaning disk.old) (D.meaning disk.new) }
         ensures cause { HasCause (D.meaning disk.old).disk_faults (D.meaning disk.new).disk_faults result }
+        ensures first_fault { DiskFaultEnds (D.meaning disk.old) (D.meaning disk.new) }
         ensures len { length buf.new ≡ length buf.old }
         ensures read { OnOk result ((kept : ℕ → List ℕ) → Fits journal.now (D.meaning disk.old) kept → Recalls self.old kept
             → (count : ℕ) → buf.new ≡ slot (record { first = first; count = count; width = length buf.old }) kept k) }

@@ -2,7 +2,7 @@
 
 ghost use Rattle.std.specs.Prelude.{◌≡◌, ◌↔◌, ◌*◌, ◌/◌, ◌<◌, ◌≤◌, ◌||◌, ◌&&◌, not, is_some, ℕ, Bool, List, [], length, true, false, IsTrue, IfOk};
 ghost use Rattle.std.specs.List.{list_any};
-ghost use Rattle.lis_ports.specs.Calls.{HasCause};
+ghost use Rattle.lis_ports.specs.Calls.{HasCause, DiskFaultEnds};
 ghost use Rattle.lis_journal.specs.Images.{Fits};
 ghost use Rattle.lis_bits.specs.Rows.{HasShape, get};
 ghost use Rattle.lis_blockmap.specs.Bitmap.{is_taken};
@@ -135,6 +135,7 @@ pub fn check_bitmap<D: Disk>(
     requires long { 4096 * journal.now.blocks ≤ (D.meaning disk.old).len }
     ensures reads { OnlyReads (D.meaning disk.old) (D.meaning disk.new) }
     ensures cause { HasPartCause (D.meaning disk.old).disk_faults (D.meaning disk.new).disk_faults result }
+    ensures first_fault { DiskFaultEnds (D.meaning disk.old) (D.meaning disk.new) }
     ensures ended { (kept : ℕ → List ℕ) → Fits journal.now (D.meaning disk.old) kept
         → BitmapChecked (kept (bitmap_start limits.now)) map.now result }
 {
@@ -193,6 +194,7 @@ fn read_row<D: Disk>(
     requires long { 4096 * journal.now.blocks ≤ (D.meaning disk.old).len }
     ensures reads { OnlyReads (D.meaning disk.old) (D.meaning disk.new) }
     ensures cause { HasCause (D.meaning disk.old).disk_faults (D.meaning disk.new).disk_faults result }
+    ensures first_fault { DiskFaultEnds (D.meaning disk.old) (D.meaning disk.new) }
     ensures recalls { (kept : ℕ → List ℕ) → Fits journal.now (D.meaning disk.old) kept → Recalls last.old kept → Recalls last.new kept }
     ensures read { IfOk result (λ is_same. (kept : ℕ → List ℕ) → Fits journal.now (D.meaning disk.old) kept → Recalls last.old kept
         → (IsTrue is_same ↔ IsRowSpelled limits.now kept ext.now p)) }
@@ -221,6 +223,7 @@ pub fn check_rows<D: Disk>(
     requires long { 4096 * journal.now.blocks ≤ (D.meaning disk.old).len }
     ensures reads { OnlyReads (D.meaning disk.old) (D.meaning disk.new) }
     ensures cause { HasPartCause (D.meaning disk.old).disk_faults (D.meaning disk.new).disk_faults result }
+    ensures first_fault { DiskFaultEnds (D.meaning disk.old) (D.meaning disk.new) }
     ensures recalls { (kept : ℕ → List ℕ) → Fits journal.now (D.meaning disk.old) kept → Recalls last.old kept → Recalls last.new kept }
     ensures ended { (kept : ℕ → List ℕ) → Fits journal.now (D.meaning disk.old) kept → Recalls last.old kept
         → RowsChecked limits.now kept ext.now result }

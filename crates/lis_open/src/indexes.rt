@@ -2,7 +2,7 @@
 
 ghost use Rattle.std.specs.Prelude.{◌≡◌, ◌+◌, ◌*◌, ◌<◌, ◌≤◌, ℕ, List, [], ◌++◌, nat_lt, not, ◌&&◌, false, length, IsTrue, IfOk, IfSome};
 ghost use Rattle.std.specs.Option.{option_map};
-ghost use Rattle.lis_ports.specs.Calls.{HasCause};
+ghost use Rattle.lis_ports.specs.Calls.{HasCause, DiskFaultEnds};
 ghost use Rattle.lis_journal.specs.Images.{Fits};
 ghost use Rattle.lis_blockmap.specs.Bitmap.{is_taken};
 ghost use Rattle.lis_content.specs.Content.{are_free, are_distinct, are_within, has_number};
@@ -75,6 +75,7 @@ fn read_numbers<D: Disk>(
     requires long { 4096 * journal.now.blocks ≤ (D.meaning disk.old).len }
     ensures reads { OnlyReads (D.meaning disk.old) (D.meaning disk.new) }
     ensures cause { HasCause (D.meaning disk.old).disk_faults (D.meaning disk.new).disk_faults result }
+    ensures first_fault { DiskFaultEnds (D.meaning disk.old) (D.meaning disk.new) }
     ensures count { IfOk result (λ found. IfSome found (λ numbers. length numbers.items ≡ blocks_needed size)) }
     ensures found { IfOk result (λ found. (kept : ℕ → List ℕ) → Fits journal.now (D.meaning disk.old) kept
         → AreIndexed size (kept home) (option_map (λ numbers. numbers.items) found)) }
@@ -113,6 +114,7 @@ fn all_blocks<D: Disk>(
     requires long { 4096 * journal.now.blocks ≤ (D.meaning disk.old).len }
     ensures reads { OnlyReads (D.meaning disk.old) (D.meaning disk.new) }
     ensures cause { HasCause (D.meaning disk.old).disk_faults (D.meaning disk.new).disk_faults result }
+    ensures first_fault { DiskFaultEnds (D.meaning disk.old) (D.meaning disk.new) }
     ensures found { IfOk result (λ found. (kept : ℕ → List ℕ) → Fits journal.now (D.meaning disk.old) kept
         → AreReadBlocks (data_start limits.now) slot.now size kept (option_map (λ blocks. blocks.items) found)) }
 {
@@ -144,6 +146,7 @@ pub fn free_blocks<D: Disk>(
     requires long { 4096 * journal.now.blocks ≤ (D.meaning disk.old).len }
     ensures reads { OnlyReads (D.meaning disk.old) (D.meaning disk.new) }
     ensures cause { HasCause (D.meaning disk.old).disk_faults (D.meaning disk.new).disk_faults result }
+    ensures first_fault { DiskFaultEnds (D.meaning disk.old) (D.meaning disk.new) }
     ensures usable { IfOk result (λ found. IfSome found (λ blocks. AreUsable map.now rec.now.blocks blocks.items)) }
     ensures found { IfOk result (λ found. (kept : ℕ → List ℕ) → Fits journal.now (D.meaning disk.old) kept
         → AreItsBlocks limits.now kept map.now rec.now (option_map (λ blocks. blocks.items) found)) }

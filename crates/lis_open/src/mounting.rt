@@ -1,6 +1,7 @@
 //! Opening an image.
 
 ghost use Rattle.std.specs.Prelude.{◌≡◌, ◌⊎◌, ◌*◌, ◌≤◌, ◌<◌, ℕ, List, false, IsTrue, IfOk, Err, Ok};
+ghost use Rattle.lis_ports.specs.Calls.{DiskFaultEnds};
 ghost use Rattle.lis_ports.specs.Runs.{IsDiskRun, Leaves};
 ghost use Rattle.lis_journal.specs.Images.{KeepsPast};
 ghost use Rattle.lis_journal.specs.Recovery.{IsSettledPast};
@@ -82,6 +83,7 @@ impl From<JournalFault> for OpenFault {
 fn read_limits<D: Disk>(disk: &mut D) -> Result<Limits, OpenFault>
     ensures reads { OnlyReads (D.meaning disk.old) (D.meaning disk.new) }
     ensures cause { HasOpenCause (D.meaning disk.old).disk_faults (D.meaning disk.new).disk_faults result }
+    ensures first_fault { DiskFaultEnds (D.meaning disk.old) (D.meaning disk.new) }
     ensures small { (D.meaning disk.old).len < 4096
         → (result ≡ Err (TooShort (D.meaning disk.old).len 4096)) × (disk.new ≡ disk.old) }
     ensures numbers { (len need : ℕ) → result ≡ Err (TooShort len need) → (len ≡ (D.meaning disk.old).len) × (len < need) }
@@ -112,6 +114,7 @@ fn mount_image<D: Disk>(alloc: Global, disk: &mut D, limits: Limits) -> Result<S
     requires begins { IsTrue (D.meaning disk.old).is_honest → HasSuper limits (D.meaning disk.old).bytes }
     ensures run { IsDiskRun (D.meaning disk.old) (D.meaning disk.new) }
     ensures cause { HasOpenCause (D.meaning disk.old).disk_faults (D.meaning disk.new).disk_faults result }
+    ensures first_fault { DiskFaultEnds (D.meaning disk.old) (D.meaning disk.new) }
     ensures fits_disk { (len need : ℕ) → result ≡ Err (TooShort len need) → ⊥ }
     ensures opened { IsTrue (D.meaning disk.old).is_honest → Opened (D.meaning disk.old) (D.meaning disk.new) result }
     ensures ready { IfOk result (λ store. store.is_broken ≡ false) }
@@ -132,6 +135,7 @@ fn mount_image<D: Disk>(alloc: Global, disk: &mut D, limits: Limits) -> Result<S
 pub fn mount<D: Disk>(alloc: Global, disk: &mut D) -> Result<Store, OpenFault>
     ensures run { IsDiskRun (D.meaning disk.old) (D.meaning disk.new) }
     ensures cause { HasOpenCause (D.meaning disk.old).disk_faults (D.meaning disk.new).disk_faults result }
+    ensures first_fault { DiskFaultEnds (D.meaning disk.old) (D.meaning disk.new) }
     ensures ended { IsTrue (D.meaning disk.old).is_honest → OpenEnded (D.meaning disk.old) (D.meaning disk.new) result }
 
     // The spot is that of the first check that fails.

@@ -1,6 +1,7 @@
 //! A store out of an image, behind its journal.
 
 ghost use Rattle.std.specs.Prelude.{◌≡◌, ◌*◌, ◌≤◌, ℕ, List, Bool, [], None, false, IsTrue, IfOk, OnOk};
+ghost use Rattle.lis_ports.specs.Calls.{DiskFaultEnds};
 ghost use Rattle.lis_bits.specs.Rows.{HasShape};
 ghost use Rattle.lis_journal.specs.Images.{Fits};
 ghost use Rattle.lis_fields.specs.Layouts.{SpellsSuper};
@@ -49,6 +50,7 @@ fn read_parts<D: Disk>(
     requires shape { HasShape row.old 3 limits.now.props }
     ensures reads { OnlyReads (D.meaning disk.old) (D.meaning disk.new) }
     ensures cause { HasPartCause (D.meaning disk.old).disk_faults (D.meaning disk.new).disk_faults result }
+    ensures first_fault { DiskFaultEnds (D.meaning disk.old) (D.meaning disk.new) }
     ensures read { OnOk result ((marks : List Bool) → AreRead limits.now words.new axioms.new files.new marks) }
     ensures ended { (kept : ℕ → List ℕ) → Fits journal.now (D.meaning disk.old) kept
         → PartsEnded limits.now kept words.new axioms.new files.new result }
@@ -80,6 +82,7 @@ pub fn read_store<D: Disk>(
     requires long { 4096 * journal.blocks ≤ (D.meaning disk.old).len }
     ensures reads { OnlyReads (D.meaning disk.old) (D.meaning disk.new) }
     ensures cause { HasPartCause (D.meaning disk.old).disk_faults (D.meaning disk.new).disk_faults result }
+    ensures first_fault { DiskFaultEnds (D.meaning disk.old) (D.meaning disk.new) }
     ensures sound { IfOk result IsSound }
     ensures journal { IfOk result (λ store. store.journal ≡ journal) }
     ensures unbroken { IfOk result (λ store. store.is_broken ≡ false) }

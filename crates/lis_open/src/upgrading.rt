@@ -2,7 +2,7 @@
 
 ghost use Rattle.std.specs.Prelude.{◌≡◌, ◌⊎◌, ℕ, ◌<◌, ◌≤◌, [], ◌∷◌, Err, IsTrue, OnOk};
 ghost use Rattle.lis_ports.specs.Bytes.{put, Torn};
-ghost use Rattle.lis_ports.specs.Calls.{HasCause};
+ghost use Rattle.lis_ports.specs.Calls.{HasCause, DiskFaultEnds};
 ghost use Rattle.lis_ports.specs.Runs.{IsDiskRun, IsSettled, Leaves};
 ghost use Rattle.lis_journal.specs.Images.{KeepsPast};
 ghost use Rattle.lis_journal.specs.Recovery.{IsSettledPast};
@@ -32,6 +32,7 @@ fn write_gate<D: Disk>(disk: &mut D) -> Result<(), Failed>
     requires { 25 ≤ (D.meaning disk.old).len }
     ensures run { IsDiskRun (D.meaning disk.old) (D.meaning disk.new) }
     ensures cause { HasCause (D.meaning disk.old).disk_faults (D.meaning disk.new).disk_faults result }
+    ensures first_fault { DiskFaultEnds (D.meaning disk.old) (D.meaning disk.new) }
     ensures spreads { IsTrue (D.meaning disk.old).is_honest → Spreads (D.meaning disk.old) (D.meaning disk.new) (Torn 24 1) }
     ensures settled { OnOk result (IsTrue (D.meaning disk.old).is_honest
         → IsSettled (D.meaning disk.new) (put (D.meaning disk.old).bytes 24 (2 ∷ []))) }
@@ -47,6 +48,7 @@ fn write_gate<D: Disk>(disk: &mut D) -> Result<(), Failed>
 pub fn upgrade<D: Disk>(alloc: Global, disk: &mut D) -> Result<(), OpenFault>
     ensures run { IsDiskRun (D.meaning disk.old) (D.meaning disk.new) }
     ensures cause { HasOpenCause (D.meaning disk.old).disk_faults (D.meaning disk.new).disk_faults result }
+    ensures first_fault { DiskFaultEnds (D.meaning disk.old) (D.meaning disk.new) }
     ensures ended { IsTrue (D.meaning disk.old).is_honest → UpgradeEnded (D.meaning disk.old) (D.meaning disk.new) result }
     ensures spot { (spot : SpotOf) → result ≡ Err (Damaged spot) → IsTrue (D.meaning disk.old).is_honest → FailsFirst (D.meaning disk.old).bytes spot }
     ensures moments { (s : State) → IsTrue (D.meaning disk.old).is_honest → Stands (D.meaning disk.old).bytes s

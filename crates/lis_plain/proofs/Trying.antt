@@ -1,8 +1,9 @@
 -- A session over a plain state, on the way.
-use Rattle.std.proofs.Common.{List, [], ◌∷◌, ◌++◌, Option, Some, None, Result, Ok, Err, IfOk, IfSome, MatchResult, ap, sym, subst, ◌∙◌, refl, append-nil}
+use Rattle.std.proofs.Common.{List, [], ◌∷◌, ◌++◌, Option, Some, None, Result, Ok, Err, IfOk, IfSome, MatchResult, ap, sym, subst, ◌∙◌, refl, append-nil, arith}
 use Rattle.std.specs.Io.KnownBytes.{append_known}
 use Rattle.lis_ports.specs.Meaning.{Meaning}
-use Rattle.lis_ports.specs.Calls.{IsShowCall}
+use Rattle.lis_ports.specs.Calls.{IsShowCall, StationFaultEnds}
+use Rattle.lis_ports.proofs.Ending.{station_ends_then}
 use Rattle.lis_reply.proofs.Showing.{append_known-append, append_known-nil, call_none, call_then}
 use Rattle.lis_model.specs.Step.{Situation, Item, step, replies, situation_after}
 use Rattle.lis_model.proofs.Runs.{situation_after-append, replies-append}
@@ -17,6 +18,7 @@ tried_none start m = record {
   shown = sym (append_known-nil m.shown);
   call = call_none m;
   show_faults = refl;
+  first_fault = omega arith;
 }
 
 -- the step at the place where the first items led, and from what they have shown
@@ -29,9 +31,9 @@ carried_here start entry first now next m n item result tried carried =
 
 -- an item more was carried out
 tried_more : (start : Situation) (entry : Meaning) (first : List Item) (now next : Situation) (m n : Meaning) (item : Item) (u : Unit {0})
-    → Tried start entry first now m → Carries (step now item) now next m.shown n.shown (Ok u) → IsShowCall m n → HasPlainCause m.show_faults n.show_faults (Ok u)
+    → Tried start entry first now m → Carries (step now item) now next m.shown n.shown (Ok u) → IsShowCall m n → StationFaultEnds m n → HasPlainCause m.show_faults n.show_faults (Ok u)
     → Tried start entry (first ++ item ∷ []) next n
-tried_more start entry first now next m n item u tried carried call cause =
+tried_more start entry first now next m n item u tried carried call ends cause =
     let here = carried_here start entry first now next m n item (Ok u) tried carried in
     let reply = (step (situation_after start first) item).reply in
     record {
@@ -41,25 +43,27 @@ tried_more start entry first now next m n item u tried carried call cause =
           ∙ ap (append_known entry.shown) (sym (replies-append start first (item ∷ [])));
       call = call_then tried.call call;
       show_faults = cause ∙ tried.show_faults;
+      first_fault = station_ends_then entry m n tried.call.disk_faults tried.show_faults tried.first_fault ends;
     }
 
 -- a fault in an item
 tried_into : (start : Situation) (entry : Meaning) (first : List Item) (now next : Situation) (m n : Meaning) (item : Item) (fault : PlainEnd)
-    → Tried start entry first now m → Carries (step now item) now next m.shown n.shown (Err fault) → IsShowCall m n → HasPlainCause m.show_faults n.show_faults (Err fault)
+    → Tried start entry first now m → Carries (step now item) now next m.shown n.shown (Err fault) → IsShowCall m n → StationFaultEnds m n → HasPlainCause m.show_faults n.show_faults (Err fault)
     → TriedInto start entry first item fault next n
-tried_into start entry first now next m n item fault tried carried call cause = record {
+tried_into start entry first now next m n item fault tried carried call ends cause = record {
   carries = carried_here start entry first now next m n item (Err fault) tried carried;
   call = call_then tried.call call;
+  first_fault = station_ends_then entry m n tried.call.disk_faults tried.show_faults tried.first_fault ends;
   cause = subst (λ count. HasPlainCause count n.show_faults (Err fault)) tried.show_faults cause;
 }
 
 -- the asked item, whatever its step answered
 pub tried_on : (start : Situation) (entry : Meaning) (first : List Item) (now next : Situation) (m n : Meaning) (asked : Option Item) (result : Result (Unit {0}) PlainEnd)
-    → Tried start entry first now m → IfSome asked (λ item. Carries (step now item) now next m.shown n.shown result) → IsShowCall m n → HasPlainCause m.show_faults n.show_faults result
+    → Tried start entry first now m → IfSome asked (λ item. Carries (step now item) now next m.shown n.shown result) → IsShowCall m n → StationFaultEnds m n → HasPlainCause m.show_faults n.show_faults result
     → IfSome asked (λ item. MatchResult result (λ u. Tried start entry (first ++ item ∷ []) next n) (λ fault. TriedInto start entry first item fault next n))
-tried_on start entry first now next m n None result tried carried call cause = tt
-tried_on start entry first now next m n (Some item) (Ok u) tried carried call cause = tried_more start entry first now next m n item u tried carried call cause
-tried_on start entry first now next m n (Some item) (Err fault) tried carried call cause = tried_into start entry first now next m n item fault tried carried call cause
+tried_on start entry first now next m n None result tried carried call ends cause = tt
+tried_on start entry first now next m n (Some item) (Ok u) tried carried call ends cause = tried_more start entry first now next m n item u tried carried call ends cause
+tried_on start entry first now next m n (Some item) (Err fault) tried carried call ends cause = tried_into start entry first now next m n item fault tried carried call ends cause
 
 -- a plain state is ready for any item
 pub always_ready : (result : Result (Unit {0}) PlainEnd) → IfOk result (λ u. Unit {0})

@@ -1,7 +1,7 @@
 //! A state and a place as plain lists, and how an item is carried out.
 
 ghost use Rattle.std.specs.Prelude.{◌≡◌, Bool, List, IfOk, IfSome, IsSome, MatchOption};
-ghost use Rattle.lis_ports.specs.Calls.{IsShowCall};
+ghost use Rattle.lis_ports.specs.Calls.{IsShowCall, StationFaultEnds};
 ghost use Rattle.lis_ports.specs.Since.{IsShowRun};
 ghost use Rattle.lis_model.specs.declared.refusal.Refusal.{Refusal};
 ghost use Rattle.lis_model.specs.declared.refusal.Refusal.TheVariants.{NoFileHere};
@@ -107,6 +107,7 @@ fn end_answer<T: Station>(
     ensures step { (outcome : Outcome) (before after : Situation) → Answers outcome before after answer →
         Carries outcome before after (T.meaning station.old).shown (T.meaning station.new).shown result }
     ensures cause { HasPlainCause (T.meaning station.old).show_faults (T.meaning station.new).show_faults result }
+    ensures first_fault { StationFaultEnds (T.meaning station.old) (T.meaning station.new) }
     ensures call { IsShowCall (T.meaning station.old) (T.meaning station.new) }
 {
     let answer = answer?;
@@ -122,6 +123,7 @@ fn end_reply<T: Station>(
     ensures step { (outcome : Outcome) → IfOk reply (λ bytes. bytes.items ≡ outcome.reply) →
         Carries outcome outcome.next outcome.next (T.meaning station.old).shown (T.meaning station.new).shown result }
     ensures cause { HasPlainCause (T.meaning station.old).show_faults (T.meaning station.new).show_faults result }
+    ensures first_fault { StationFaultEnds (T.meaning station.old) (T.meaning station.new) }
     ensures call { IsShowCall (T.meaning station.old) (T.meaning station.new) }
 {
     let reply = reply?;
@@ -137,6 +139,7 @@ fn end_found<T: Station>(
     ensures step { (outcome : Outcome) (now : Situation) → IfOk found (λ shown. MatchOption shown (outcome ≡ refused now NoFileHere) (λ bytes. outcome ≡ record { next = now; reply = bytes.items })) →
         Carries outcome now now (T.meaning station.old).shown (T.meaning station.new).shown result }
     ensures cause { HasPlainCause (T.meaning station.old).show_faults (T.meaning station.new).show_faults result }
+    ensures first_fault { StationFaultEnds (T.meaning station.old) (T.meaning station.new) }
     ensures call { IsShowCall (T.meaning station.old) (T.meaning station.new) }
 {
     match found? {
@@ -169,6 +172,7 @@ impl Plain {
     ) -> Result<(), PlainEnd>
         ensures step { Carries (done self.old command.now payload.now) self.old self.new (T.meaning station.old).shown (T.meaning station.new).shown result }
         ensures cause { HasPlainCause (T.meaning station.old).show_faults (T.meaning station.new).show_faults result }
+        ensures first_fault { StationFaultEnds (T.meaning station.old) (T.meaning station.new) }
         ensures call { IsShowCall (T.meaning station.old) (T.meaning station.new) }
     {
         match command {
@@ -195,6 +199,7 @@ impl Plain {
     fn refuse<T: Station>(&mut self, refusal: &Refusal, station: &mut T) -> Result<(), PlainEnd>
         ensures step { Carries (refused self.old refusal.now) self.old self.new (T.meaning station.old).shown (T.meaning station.new).shown result }
         ensures cause { HasPlainCause (T.meaning station.old).show_faults (T.meaning station.new).show_faults result }
+        ensures first_fault { StationFaultEnds (T.meaning station.old) (T.meaning station.new) }
         ensures call { IsShowCall (T.meaning station.old) (T.meaning station.new) }
     {
         show_refusal(station, refusal)?;
@@ -212,6 +217,7 @@ impl Plain {
         ensures step { IfSome (asked_by item.now payload.now) (λ asked.
             Carries (step self.old asked) self.old self.new (T.meaning station.old).shown (T.meaning station.new).shown result) }
         ensures cause { HasPlainCause (T.meaning station.old).show_faults (T.meaning station.new).show_faults result }
+        ensures first_fault { StationFaultEnds (T.meaning station.old) (T.meaning station.new) }
         ensures call { IsShowCall (T.meaning station.old) (T.meaning station.new) }
     {
         match item {

@@ -2,7 +2,7 @@
 use Rattle.std.proofs.Common.{◌≡◌, refl, ◌∙◌, arith}
 use Rattle.lis_ports.specs.Meaning.{Meaning}
 use Rattle.lis_ports.specs.Runs.{IsDiskRun}
-use Rattle.lis_ports.specs.Calls.{DiskFaultEnds, IsDiskCall}
+use Rattle.lis_ports.specs.Calls.{StationFaultEnds, DiskFaultEnds, IsDiskCall}
 use Rattle.std.specs.Prelude.{Result}
 
 -- no call at all
@@ -18,3 +18,7 @@ ends_then ab stays bc = record {
   shows = bc.shows ∙ ab.shows;
   ends = omega (arith, ab.ends, ab.shows, stays, bc.ends);
 }
+
+-- the same of a station
+pub station_ends_then : (a b c : Meaning) → b.disk_faults ≡ a.disk_faults → b.show_faults ≡ a.show_faults → StationFaultEnds a b → StationFaultEnds b c → StationFaultEnds a c
+station_ends_then a b c disk show ab bc = omega (arith, disk, show, ab, bc)

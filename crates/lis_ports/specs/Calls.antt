@@ -29,10 +29,14 @@ pub record IsDiskCall {T E : Type 0} (old new : Meaning) (result : Result T E) :
   pub cause : HasCause old.disk_faults new.disk_faults result
   pub began : new.behind ≡ failed old
 
--- of a run of calls of the disk, that its first fault ends
+-- The first fault of a run of calls of a station ends it: behind it comes no call of the disk, and none that shows.
+abbrev pub StationFaultEnds : Meaning → Meaning → Type 0
+StationFaultEnds old new = FaultEnds (failed old) old.behind new.behind
+
+-- the same of a run of calls of the disk alone
 pub record DiskFaultEnds (old new : Meaning) : Type 0 where
   pub shows : new.show_faults ≡ old.show_faults
-  pub ends : FaultEnds (failed old) old.behind new.behind
+  pub ends : StationFaultEnds old new
 
 -- The images of new are those with P. That each of these is one is told by a disk that tells its moments.
 pub record Images (new : Meaning) (P : List ℕ → Type 0) : Type 0 where

@@ -1,9 +1,9 @@
 -- What was shown since a start, and moments told by it.
 use Rattle.std.specs.Prelude.{◌≡◌, ℕ, List, ◌++◌, Option, Some, Result, IsTrue}
 use Rattle.std.specs.Io.KnownBytes.{append_known}
-use Rattle.lis_ports.specs.Meaning.{Meaning, failed}
+use Rattle.lis_ports.specs.Meaning.{Meaning}
 use Rattle.lis_ports.specs.Runs.{Adds}
-use Rattle.lis_ports.specs.Calls.{HasCause, FaultEnds, IsShowCall}
+use Rattle.lis_ports.specs.Calls.{HasCause, StationFaultEnds, IsShowCall}
 use Rattle.lis_ports.specs.Shown.{Shows}
 
 -- the bytes begin with the front
@@ -19,6 +19,6 @@ Since before P image bytes = (shown : List ℕ) × (append_known before shown �
 pub record IsShowRun {T E : Type 0} (old new : Meaning) (piece : List ℕ) (result : Result T E) : Type 0 where
   pub call : IsShowCall old new
   pub cause : HasCause old.show_faults new.show_faults result
-  pub ends : FaultEnds (failed old) old.behind new.behind
+  pub ends : StationFaultEnds old new
   pub shown : Shows old.shown new.shown piece result
   pub moments : IsTrue old.is_honest → Adds old new (Since old.shown (λ image front. old.images image × Begins front piece))

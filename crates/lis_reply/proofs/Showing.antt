@@ -3,9 +3,9 @@ use Rattle.std.proofs.Common.{◌≡◌, ℕ, ◌+◌, ◌≤◌, List, [], ◌+
 use Rattle.std.specs.Io.KnownBytes.{append_known}
 use Rattle.std.proofs.Math.Seq.{take-add, take-append-add}
 use Rattle.std.proofs.lemmas.List.{take-append-drop, length-drop, take_all, take-append-le}
-use Rattle.lis_ports.specs.Meaning.{Meaning, Now}
+use Rattle.lis_ports.specs.Meaning.{Meaning, Now, failed}
 use Rattle.lis_ports.specs.Runs.{Adds}
-use Rattle.lis_ports.specs.Calls.{Rose, HasCause, Elapses, Images, IsUnchanged, IsShowCall}
+use Rattle.lis_ports.specs.Calls.{Rose, HasCause, StationFaultEnds, Elapses, Images, IsUnchanged, IsShowCall}
 use Rattle.lis_ports.specs.Shown.{AppendsFront, Shows}
 use Rattle.lis_ports.specs.Since.{Begins, Since, IsShowRun}
 use Rattle.lis_ports.proofs.Moments.{adds_then, adds_weaken}
@@ -56,6 +56,7 @@ pub record ShownSoFar (old now : Meaning) (bytes : List ℕ) (place : ℕ) : Typ
   pub within : place ≤ length bytes
   pub call : IsShowCall old now
   pub faults : now.show_faults ≡ old.show_faults
+  pub ends : StationFaultEnds old now
   pub shown : now.shown ≡ append_known old.shown (take place bytes)
   pub moments : IsTrue old.is_honest → Adds old now (Since old.shown (λ image front. old.images image × Begins front bytes))
 
@@ -69,9 +70,9 @@ front_moments bytes place honest before call time shown =
     (take place bytes, sym shown ∙ now.1, ((call.same honest).images.only image now.0, record { rest = drop place bytes; is = sym (take-append-drop place bytes) }))))
 
 pub shown_more : {old now next : Meaning} (bytes left : List ℕ) (place n : ℕ) → ShownSoFar old now bytes place → IsShowCall now next → Elapses now next
-    → left ≡ drop place bytes → n ≤ length left → next.show_faults ≡ now.show_faults
+    → next.behind ≡ failed now → left ≡ drop place bytes → n ≤ length left → next.show_faults ≡ now.show_faults
     → next.shown ≡ append_known now.shown (take n left) → ShownSoFar old next bytes (place + n)
-shown_more {old} {now} {next} bytes left place n so_far call time is few faults shown =
+shown_more {old} {now} {next} bytes left place n so_far call time began is few faults shown =
     let both = call_then so_far.call call in
     let all : next.shown ≡ append_known old.shown (take (place + n) bytes) =
     shown ∙ ap (λ xs. append_known now.shown (take n xs)) is ∙ ap (λ known. append_known known (take n (drop place bytes))) so_far.shown
@@ -81,6 +82,7 @@ shown_more {old} {now} {next} bytes left place n so_far call time is few faults 
       within = omega (arith, so_far.within, few, ap length is, length-drop place bytes);
       call = both;
       faults = faults ∙ so_far.faults;
+      ends = omega (arith, began, so_far.faults, so_far.call.disk_faults);
       shown = all;
       moments = λ honest. front_moments bytes (place + n) honest (so_far.moments honest) both time all;
     }
@@ -110,6 +112,7 @@ show_front first more all (Err e) (Ok u) run d bad err is = absurd (cc err)
 show_front {E} {a} {b} first more all (Err e) (Err f) run d bad err is = subst (λ xs. IsShowRun {T = Unit {0}} a b xs (Err f)) is (record {
   call = run.call;
   cause = record { later = run.cause.later; stays = tt; rose = run.cause.rose };
+  ends = run.ends;
   shown = record {
     count = run.shown.count;
     within = omega (arith, run.shown.within, length-append first more);
@@ -128,6 +131,7 @@ show_then {E} {a} {b} {c} first more all (Ok u) q run v good next is =
     subst (λ xs. IsShowRun a c xs q) is (record {
       call = call_then run.call next.call;
       cause = cause_on q stays next.cause;
+      ends = omega (arith, run.ends, next.ends, stays, run.call.disk_faults);
       shown = shown_on a.shown b.shown c.shown q first more shown next.shown;
       moments = λ honest.
           adds_then (adds_weaken _ (run.moments honest) (λ image bytes since. (since.0, since.1, (since.2.0, begins_more since.0 first more since.2.1))))

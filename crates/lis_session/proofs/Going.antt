@@ -3,9 +3,10 @@ use Rattle.std.proofs.Common.{◌≡◌, ◌≢◌, ℕ, List, [], ◌∷◌, �
 use Rattle.std.specs.Io.KnownBytes.{append_known}
 use Rattle.std.specs.Option.{IfSome}
 use Rattle.lis_ports.specs.Meaning.{Meaning}
-use Rattle.lis_ports.specs.Calls.{Rose}
+use Rattle.lis_ports.specs.Calls.{Rose, StationFaultEnds}
 use Rattle.lis_ports.proofs.Moments.{adds_none}
 use Rattle.lis_ports.proofs.Always.{always_weaken}
+use Rattle.lis_ports.proofs.Ending.{station_ends_then}
 use Rattle.lis_reply.proofs.Showing.{append_known-append, append_known-nil}
 use Rattle.lis_journal.specs.Images.{KeepsPast}
 use Rattle.lis_grammar.specs.Formula.{Formula}
@@ -13,7 +14,7 @@ use Rattle.lis_model.specs.declared.limits.Limits.{Limits}
 use Rattle.lis_model.specs.Image.{image_blocks}
 use Rattle.lis_model.specs.State.{State}
 use Rattle.lis_model.specs.Step.{Situation, Item, step, replies, situation_after}
-use Rattle.lis_store.specs.Stored.{Stored, StoreFits}
+use Rattle.lis_store.specs.Stored.{Stored, StoreFits, IsSound}
 use Rattle.lis_session.specs.declared.end.End.{End}
 use Rattle.lis_session.specs.declared.end.End.TheVariants.{DiskFault, OutputFault}
 use Rattle.lis_session.specs.Session.{Situated}
@@ -78,14 +79,16 @@ module _ (start : Situation) (first : List Item) (item : Item) (old mid new : Me
       })
 
 -- ---- from any state that fitted at the start
-pub has_done_none : (start : Situated) (m : Meaning) → start.store.is_broken ≡ false → HasDone start m [] start m
-has_done_none start m unbroken = record {
+pub has_done_none : (start : Situated) (m : Meaning) → start.store.is_broken ≡ false → IsSound start.store → HasDone start m [] start m
+has_done_none start m unbroken sound = record {
   limits = refl;
   image = refl;
   unbroken = unbroken;
+  sound = sound;
   same = same_none m;
   disk_faults = refl;
   show_faults = refl;
+  first_fault = omega arith;
   done = λ state fitting. record {
     moments = adds_none m _;
     past = λ n le. refl;
@@ -106,16 +109,18 @@ unbroken_by : (old new : Stored) (fault : End) → StoreLeft old new (Err fault)
 unbroken_by old new DiskFault left other = absurd (other refl)
 unbroken_by old new OutputFault left other = left.unbroken (λ e. cc e)
 
-module _ {start now next : Situated} {entry mid m : Meaning} {first : List Item} (item : Item) (done : HasDone start entry first now mid) (same : IsSameStation mid m) where
+module _ {start now next : Situated} {entry mid m : Meaning} {first : List Item} (item : Item) (done : HasDone start entry first now mid) (same : IsSameStation mid m) (ends : StationFaultEnds mid m) (sound : IsSound next.store) where
   has_done_more : (u : Unit {0}) → CarriesOut (StoreFits now.store mid) now.place mid m (Ok u) (StoreFits next.store m) next.place item
       → HasEndCause mid m (Ok u) → StoreLeft now.store next.store (Ok u) → HasDone start entry (first ++ item ∷ []) next m
   has_done_more u carries cause left = record {
     limits = left.limits ∙ done.limits;
     image = left.image ∙ done.image;
     unbroken = left.unbroken (λ e. cc e);
+    sound = sound;
     same = same_then done.same same;
     disk_faults = cause.0 ∙ done.disk_faults;
     show_faults = cause.1 ∙ done.show_faults;
+    first_fault = station_ends_then entry mid m done.disk_faults done.show_faults done.first_fault ends;
     done = λ state fitting.
         let so_far = done.done state fitting in
         done_more (situation_at start state) first item entry mid m (StoreFits now.store mid) (StoreFits next.store m) now.place next.place so_far u
@@ -127,8 +132,10 @@ module _ {start now next : Situated} {entry mid m : Meaning} {first : List Item}
   has_stopped fault carries cause left = record {
     limits = left.limits ∙ done.limits;
     image = left.image ∙ done.image;
+    sound = sound;
     same = same_then done.same same;
     cause = cause_since entry mid m fault done.disk_faults done.show_faults cause;
+    first_fault = station_ends_then entry mid m done.disk_faults done.show_faults done.first_fault ends;
     unbroken = unbroken_by now.store next.store fault left;
     serves = λ state fitting.
         let so_far = done.done state fitting in
@@ -138,13 +145,13 @@ module _ {start now next : Situated} {entry mid m : Meaning} {first : List Item}
 
 -- an item that was asked for, however it ended
 pub has_carried : {start now : Situated} {entry mid m : Meaning} {first : List Item} (next : Situated) (asked : Option Item) (result : Result (Unit {0}) End)
-    → HasDone start entry first now mid → IsSameStation mid m
+    → HasDone start entry first now mid → IsSameStation mid m → StationFaultEnds mid m → IsSound next.store
     → IfSome asked (CarriesOut (StoreFits now.store mid) now.place mid m result (StoreFits next.store m) next.place)
     → HasEndCause mid m result → StoreLeft now.store next.store result
     → IfSome asked (λ item. MatchResult result (λ _. HasDone start entry (first ++ item ∷ []) next m) (λ fault. HasStopped start entry first item fault next m))
-has_carried next None result done same carries cause left = tt
-has_carried next (Some item) (Ok u) done same carries cause left = has_done_more item done same u carries cause left
-has_carried next (Some item) (Err fault) done same carries cause left = has_stopped item done same fault carries cause left
+has_carried next None result done same ends sound carries cause left = tt
+has_carried next (Some item) (Ok u) done same ends sound carries cause left = has_done_more item done same ends sound u carries cause left
+has_carried next (Some item) (Err fault) done same ends sound carries cause left = has_stopped item done same ends sound fault carries cause left
 
 -- it can carry out the next one
 pub is_ready_after : {now : Situated} {mid m : Meaning} (next : Situated) (result : Result (Unit {0}) End) → IsReady now mid → IsSameStation mid m → StoreLeft now.store next.store result

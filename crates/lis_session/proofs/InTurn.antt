@@ -35,6 +35,7 @@ answers_none m = record {
   run = record {
     call = call_none m;
     cause = record { later = omega arith; stays = refl; rose = tt };
+    ends = omega arith;
     shown = sym (append_known-nil m.shown);
     moments = λ honest. adds_none m _;
   };

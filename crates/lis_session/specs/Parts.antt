@@ -3,6 +3,7 @@ use Rattle.std.specs.Prelude.{◌≡◌, ℕ, if◌then◌else◌, List, Result,
 use Rattle.std.specs.List.{list_all}
 use Rattle.lis_ports.specs.Meaning.{Meaning}
 use Rattle.lis_ports.specs.Since.{IsShowRun}
+use Rattle.lis_ports.specs.Calls.{StationFaultEnds}
 use Rattle.lis_words.specs.Words.{has_word}
 use Rattle.lis_grammar.specs.Formula.{Formula}
 use Rattle.lis_grammar.specs.Places.{Resolution, text_words}
@@ -33,6 +34,7 @@ Does outcome fits_before place_before old new result fits place =
 -- what an end says of any station
 pub record Ends (old new : Meaning) (result : Result (Unit {0}) End) : Type 0 where
   pub cause : HasEndCause old new result
+  pub first_fault : StationFaultEnds old new
   pub same : IsSameStation old new
 
 -- The bytes were shown whole, or a front of them was, which is an output fault.

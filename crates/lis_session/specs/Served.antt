@@ -4,12 +4,13 @@ use Rattle.std.specs.Io.KnownBytes.{append_known}
 use Rattle.lis_ports.specs.Meaning.{Meaning}
 use Rattle.lis_ports.specs.Runs.{Adds}
 use Rattle.lis_ports.specs.Since.{Since}
+use Rattle.lis_ports.specs.Calls.{StationFaultEnds}
 use Rattle.lis_journal.specs.Images.{KeepsPast}
 use Rattle.lis_grammar.specs.Formula.{Formula}
 use Rattle.lis_model.specs.Image.{image_blocks}
 use Rattle.lis_model.specs.State.{State}
 use Rattle.lis_model.specs.Step.{Situation, Item, replies, situation_after}
-use Rattle.lis_store.specs.Stored.{StoreFits}
+use Rattle.lis_store.specs.Stored.{IsSound, StoreFits}
 use Rattle.lis_session.specs.declared.end.End.{End}
 use Rattle.lis_session.specs.declared.end.End.TheVariants.{DiskFault, OutputFault}
 use Rattle.lis_session.specs.Session.{Situated, SessionMoment}
@@ -38,9 +39,11 @@ pub record HasDone (start : Situated) (entry : Meaning) (first : List Item) (now
   pub limits : now.store.parts.limits ≡ start.store.parts.limits
   pub image : now.store.journal.blocks ≡ start.store.journal.blocks
   pub unbroken : now.store.is_broken ≡ false
+  pub sound : IsSound now.store
   pub same : IsSameStation entry m
   pub disk_faults : m.disk_faults ≡ entry.disk_faults
   pub show_faults : m.show_faults ≡ entry.show_faults
+  pub first_fault : StationFaultEnds entry m
   pub done : (state : State) → FitsAt (StoreFits start.store entry) entry state
       → DoneSoFar (situation_at start state) first entry m (StoreFits now.store m) now.place
 
@@ -53,8 +56,10 @@ StoppedAt start items entry m OutputFault = StopsAt start items entry.shown m
 pub record HasStopped (start : Situated) (entry : Meaning) (first : List Item) (item : Item) (fault : End) (now : Situated) (m : Meaning) : Type 0 where
   pub limits : now.store.parts.limits ≡ start.store.parts.limits
   pub image : now.store.journal.blocks ≡ start.store.journal.blocks
+  pub sound : IsSound now.store
   pub same : IsSameStation entry m
   pub cause : HasEndCause entry m (Err fault)
+  pub first_fault : StationFaultEnds entry m
   pub unbroken : fault ≢ DiskFault → now.store.is_broken ≡ false
   pub serves : (state : State) → FitsAt (StoreFits start.store entry) entry state
       → Serves (situation_at start state) (first ++ item ∷ []) entry m (StoppedAt (situation_at start state) (first ++ item ∷ []) entry m fault)

@@ -2,7 +2,7 @@
 
 ghost use Rattle.std.specs.Prelude.{◌≡◌, ◌+◌, ◌*◌, ◌≤◌, [], false, IfOk, IfSome, IsSome};
 ghost use Rattle.lis_ports.specs.Runs.{IsDiskRun};
-ghost use Rattle.lis_ports.specs.Calls.{HasCause};
+ghost use Rattle.lis_ports.specs.Calls.{HasCause, DiskFaultEnds, StationFaultEnds};
 ghost use Rattle.lis_eval.specs.Room.{HasRoom};
 ghost use Rattle.lis_line.specs.Reading.{asked_by};
 ghost use Rattle.lis_model.specs.Step.{cd, pwd, done};
@@ -172,6 +172,7 @@ impl Session {
             (CarriesOut (StoreFits self.old.store (T.meaning station.old)) self.old.place (T.meaning station.old) (T.meaning station.new) result
             (StoreFits self.new.store (T.meaning station.new)) self.new.place) }
         ensures cause { HasEndCause (T.meaning station.old) (T.meaning station.new) result }
+        ensures first_fault { StationFaultEnds (T.meaning station.old) (T.meaning station.new) }
         ensures left { StoreLeft self.old.store self.new.store result }
         ensures same { IsSameStation (T.meaning station.old) (T.meaning station.new) }
         ensures sound { IsSound self.new.store }
@@ -206,6 +207,7 @@ impl Session {
             (StoreFits self.new.store (D.meaning disk.new)) self.new.place) }
         ensures run { IsDiskRun (D.meaning disk.old) (D.meaning disk.new) }
         ensures cause { HasCause (D.meaning disk.old).disk_faults (D.meaning disk.new).disk_faults result }
+        ensures first_fault { DiskFaultEnds (D.meaning disk.old) (D.meaning disk.new) }
         ensures limits { self.new.store.parts.limits ≡ self.old.store.parts.limits }
         ensures image { self.new.store.journal.blocks ≡ self.old.store.journal.blocks }
         ensures unbroken { IfOk result (λ _. self.new.store.is_broken ≡ false) }

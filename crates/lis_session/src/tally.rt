@@ -2,7 +2,7 @@
 
 ghost use Rattle.std.specs.Prelude.{◌≡◌, ◌+◌, ◌*◌, ◌≤◌, ◌<◌, ◌^◌, length, false, not, IfOk};
 ghost use Rattle.lis_ports.specs.Runs.{IsDiskRun};
-ghost use Rattle.lis_ports.specs.Calls.{HasCause};
+ghost use Rattle.lis_ports.specs.Calls.{HasCause, DiskFaultEnds};
 ghost use Rattle.lis_dict.specs.Dict.{words};
 ghost use Rattle.lis_eval.specs.Room.{HasRoom};
 ghost use Rattle.lis_grammar.specs.Places.{resolved};
@@ -135,6 +135,7 @@ pub(crate) fn tally_command<D: Disk>(
         (D.meaning disk.old) (D.meaning disk.new) result (StoreFits store.new (D.meaning disk.new)) place.new }
     ensures run { IsDiskRun (D.meaning disk.old) (D.meaning disk.new) }
     ensures cause { HasCause (D.meaning disk.old).disk_faults (D.meaning disk.new).disk_faults result }
+    ensures first_fault { DiskFaultEnds (D.meaning disk.old) (D.meaning disk.new) }
     ensures limits { store.new.parts.limits ≡ store.old.parts.limits }
     ensures image { store.new.journal.blocks ≡ store.old.journal.blocks }
     ensures unbroken { IfOk result (λ _. store.new.is_broken ≡ false) }

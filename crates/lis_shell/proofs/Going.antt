@@ -2,7 +2,7 @@
 use Rattle.std.proofs.Common.{◌≡◌, ℕ, List, ◌∷◌, [], Option, Some, ap, sym, ◌∙◌, append_assoc}
 use Rattle.std.specs.Io.KnownBytes.{append_known}
 use Rattle.lis_ports.specs.Meaning.{Meaning}
-use Rattle.lis_ports.specs.Calls.{IsShowCall}
+use Rattle.lis_ports.specs.Calls.{IsShowCall, StationFaultEnds}
 use Rattle.lis_model.specs.Step.{Situation, replies, situation_after}
 use Rattle.lis_line.specs.declared.carrier.Halt.{Halt}
 use Rattle.lis_line.specs.declared.carrier.Halt.TheVariants.{End as AtEnd, Limit as AtLimit, InputFault as AtFault, Stopped}
@@ -31,6 +31,13 @@ only_showed limit before left start now entry m AtEnd ended = ended.done.call
 only_showed limit before left start now entry m AtLimit ended = ended.done.call
 only_showed limit before left start now entry m AtFault ended = ended.done.call
 only_showed limit before left start now entry m (Stopped fault) ended = ended.1.done.call
+
+pub try_first_fault : (limit : ℕ) (before left : Option (List ℕ)) (start now : Situation) (entry m : Meaning) (halt : Halt PlainEnd)
+    → TryEnded limit before left start entry now m halt → StationFaultEnds entry m
+try_first_fault limit before left start now entry m AtEnd ended = ended.done.first_fault
+try_first_fault limit before left start now entry m AtLimit ended = ended.done.first_fault
+try_first_fault limit before left start now entry m AtFault ended = ended.done.first_fault
+try_first_fault limit before left start now entry m (Stopped fault) ended = ended.1.done.first_fault
 
 -- no count of faults rose
 pub counts_stay : (entry m : Meaning) (input_before input : ℕ) → m.disk_faults ≡ entry.disk_faults → input ≡ input_before → m.show_faults ≡ entry.show_faults

@@ -1,13 +1,14 @@
 -- How a session over an image ends, told by its status.
 use Rattle.std.proofs.Common.{◌≡◌, ◌≢◌, ℕ, List, Option, Some, false, refl}
 use Rattle.lis_ports.specs.Meaning.{Meaning}
+use Rattle.lis_ports.specs.Calls.{StationFaultEnds}
 use Rattle.lis_model.specs.State.{State}
 use Rattle.lis_model.specs.Step.{situation_after}
 use Rattle.lis_model.specs.Script.{script}
 use Rattle.lis_line.specs.declared.carrier.Halt.{Halt}
 use Rattle.lis_line.specs.declared.carrier.Halt.TheVariants.{End as AtEnd, Limit as AtLimit, InputFault as AtFault, Stopped}
 use Rattle.lis_line.specs.Endings.{HasEnded, HasHaltCause}
-use Rattle.lis_store.specs.Stored.{StoreFits}
+use Rattle.lis_store.specs.Stored.{IsSound, StoreFits}
 use Rattle.lis_session.specs.declared.end.End.{End}
 use Rattle.lis_session.specs.declared.end.End.TheVariants.{DiskFault as DiskFailed, OutputFault as OutputFailed}
 use Rattle.lis_session.specs.Session.{Situated}
@@ -38,6 +39,18 @@ module _ (limit : ℕ) (left_before left : Option (List ℕ)) (start now : Situa
   served_same AtLimit ended = ended.done.same
   served_same AtFault ended = ended.done.same
   served_same (Stopped fault) ended = ended.1.done.same
+
+  pub served_first_fault : (halt : Halt End) → Ended halt → StationFaultEnds entry m
+  served_first_fault AtEnd ended = ended.done.first_fault
+  served_first_fault AtLimit ended = ended.done.first_fault
+  served_first_fault AtFault ended = ended.done.first_fault
+  served_first_fault (Stopped fault) ended = ended.1.done.first_fault
+
+  pub served_sound : (halt : Halt End) → Ended halt → IsSound now.store
+  served_sound AtEnd ended = ended.done.sound
+  served_sound AtLimit ended = ended.done.sound
+  served_sound AtFault ended = ended.done.sound
+  served_sound (Stopped fault) ended = ended.1.done.sound
 
   pub served_limits : (halt : Halt End) → Ended halt → now.store.parts.limits ≡ start.store.parts.limits
   served_limits AtEnd ended = ended.done.limits

@@ -1,6 +1,7 @@
 //! A session over an image.
 
 ghost use Rattle.std.specs.Prelude.{◌≡◌, ◌≢◌, ℕ, ◌*◌, ◌≤◌, ◌^◌, List, Some, false};
+ghost use Rattle.lis_ports.specs.Calls.{StationFaultEnds, FaultEnds};
 ghost use Rattle.lis_line.specs.Taking.{TakesFew};
 ghost use Rattle.lis_model.specs.State.{State};
 ghost use Rattle.lis_model.specs.Step.{situation_after};
@@ -51,8 +52,11 @@ pub fn serve<S: Source, T: Station>(
     ensures only { IsSessionStatus result }
     ensures same { IsSameStation (T.meaning station.old) (T.meaning station.new) }
     ensures cause { HasStatusCause (counts (T.meaning station.old) (S.faults input.old)) (counts (T.meaning station.new) (S.faults input.new)) result }
+    ensures first_fault { StationFaultEnds (T.meaning station.old) (T.meaning station.new) }
+    ensures input_first_fault { FaultEnds (S.faults input.old) (S.behind input.old) (S.behind input.new) }
     ensures few { TakesFew limit (S.left input.old) (S.left input.new) }
     ensures input { (bytes : List ℕ) → S.left input.old ≡ Some bytes → InputRead limit bytes (S.left input.new) result }
+    ensures sound { IsSound session.new.store }
     ensures limits { session.new.store.parts.limits ≡ session.old.store.parts.limits }
     ensures image { session.new.store.journal.blocks ≡ session.old.store.journal.blocks }
     ensures unbroken { result ≢ Status.DiskFault → session.new.store.is_broken ≡ false }

@@ -1,7 +1,7 @@
 //! A session over a plain state.
 
 ghost use Rattle.std.specs.Prelude.{◌≡◌, ℕ, ◌≤◌, ◌^◌, List, Some};
-ghost use Rattle.lis_ports.specs.Calls.{IsShowCall};
+ghost use Rattle.lis_ports.specs.Calls.{IsShowCall, StationFaultEnds, FaultEnds};
 ghost use Rattle.lis_line.specs.Taking.{TakesFew};
 ghost use Rattle.lis_shell.specs.Causes.{counts, HasStatusCause, IsTryStatus};
 ghost use Rattle.lis_shell.specs.Tries.{Tries, try_status};
@@ -38,6 +38,8 @@ pub fn try_session<S: Source, T: Station>(
     requires { limit ≤ 2 ^ 40 }
     ensures only { IsTryStatus result }
     ensures cause { HasStatusCause (counts (T.meaning station.old) (S.faults input.old)) (counts (T.meaning station.new) (S.faults input.new)) result }
+    ensures first_fault { StationFaultEnds (T.meaning station.old) (T.meaning station.new) }
+    ensures input_first_fault { FaultEnds (S.faults input.old) (S.behind input.old) (S.behind input.new) }
     ensures disk { IsShowCall (T.meaning station.old) (T.meaning station.new) }
     ensures few { TakesFew limit (S.left input.old) (S.left input.new) }
     ensures tries { (bytes : List ℕ) → S.left input.old ≡ Some bytes

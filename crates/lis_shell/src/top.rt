@@ -2,6 +2,7 @@
 
 ghost use Rattle.std.specs.Prelude.{◌≡◌, ◌≢◌, ◌↔◌, ℕ, ◌*◌, ◌≤◌, ◌^◌, List, length, map, None, Some, [], false, IsTrue};
 ghost use Rattle.std.specs.String.{string_bytes};
+ghost use Rattle.lis_ports.specs.Calls.{StationFaultEnds, FaultEnds};
 ghost use Rattle.lis_line.specs.Taking.{TakesFew};
 ghost use Rattle.lis_model.specs.declared.limits.Limits.{Limits as LimitsOf};
 ghost use Rattle.lis_model.specs.Ranges.{are_in_range};
@@ -45,6 +46,8 @@ fn try_from_empty<S: Source, T: Station>(
 ) -> Status
     ensures keeps { TryKeeps limits.now (S.left input.old) (S.left input.new) (T.meaning station.old) (T.meaning station.new) result }
     ensures cause { HasStatusCause (counts (T.meaning station.old) (S.faults input.old)) (counts (T.meaning station.new) (S.faults input.new)) result }
+    ensures first_fault { StationFaultEnds (T.meaning station.old) (T.meaning station.new) }
+    ensures input_first_fault { FaultEnds (S.faults input.old) (S.behind input.old) (S.behind input.new) }
     ensures few { TakesFew (2 ^ 40) (S.left input.old) (S.left input.new) }
 {
     let Ok(mut plain) = Plain::new(alloc, limits) else {
@@ -60,6 +63,7 @@ fn make_image<T: Station>(limits: &Limits, station: &mut T) -> Status
     requires range { IsTrue (are_in_range limits.now) }
     ensures keeps { MakeKeeps limits.now (station.new ≡ station.old) (T.meaning station.old) (T.meaning station.new) result }
     ensures cause { (n : ℕ) → HasStatusCause (counts (T.meaning station.old) n) (counts (T.meaning station.new) n) result }
+    ensures first_fault { StationFaultEnds (T.meaning station.old) (T.meaning station.new) }
 {
     match make(station, limits) {
         Ok(()) => Status::Done,
@@ -80,6 +84,8 @@ fn run_store<S: Source, T: Station>(
     ensures only { result ≢ Status.NoMemory → IsSessionStatus result }
     ensures same { IsSameStation (T.meaning station.old) (T.meaning station.new) }
     ensures cause { HasStatusCause (counts (T.meaning station.old) (S.faults input.old)) (counts (T.meaning station.new) (S.faults input.new)) result }
+    ensures first_fault { StationFaultEnds (T.meaning station.old) (T.meaning station.new) }
+    ensures input_first_fault { FaultEnds (S.faults input.old) (S.behind input.old) (S.behind input.new) }
     ensures few { TakesFew (2 ^ 40) (S.left input.old) (S.left input.new) }
     ensures input { (bytes : List ℕ) → S.left input.old ≡ Some bytes → InputRead (2 ^ 40) bytes (S.left input.new) result }
     ensures idle { result ≡ Status.NoMemory → (input.new ≡ input.old) × (station.new ≡ station.old) }
@@ -115,6 +121,8 @@ fn status_of(fault: OpenFault) -> Status
 fn run_image<S: Source, T: Station>(alloc: Global, input: &mut S, station: &mut T) -> Status
     ensures same { IsSameStation (T.meaning station.old) (T.meaning station.new) }
     ensures cause { HasStatusCause (counts (T.meaning station.old) (S.faults input.old)) (counts (T.meaning station.new) (S.faults input.new)) result }
+    ensures first_fault { StationFaultEnds (T.meaning station.old) (T.meaning station.new) }
+    ensures input_first_fault { FaultEnds (S.faults input.old) (S.behind input.old) (S.behind input.new) }
     ensures few { TakesFew (2 ^ 40) (S.left input.old) (S.left input.new) }
     ensures keeps { RunKeeps (input.new ≡ input.old) (station.new ≡ station.old) (S.left input.old) (S.left input.new)
         (T.meaning station.old) (T.meaning station.new) result }
@@ -129,6 +137,7 @@ fn run_image<S: Source, T: Station>(alloc: Global, input: &mut S, station: &mut 
 fn upgrade_image<T: Station>(alloc: Global, station: &mut T) -> Status
     ensures keeps { UpgradeKeeps (station.new ≡ station.old) (T.meaning station.old) (T.meaning station.new) result }
     ensures cause { (n : ℕ) → HasStatusCause (counts (T.meaning station.old) n) (counts (T.meaning station.new) n) result }
+    ensures first_fault { StationFaultEnds (T.meaning station.old) (T.meaning station.new) }
 {
     match upgrade(alloc, station) {
         Ok(()) => Status::Done,
@@ -155,6 +164,7 @@ fn grow_store<T: Station>(alloc: Global, store: Store, station: &mut T, n: u32) 
     ensures unread { IsGrowStatus result }
     ensures same { IsSameStation (T.meaning station.old) (T.meaning station.new) }
     ensures cause { (k : ℕ) → HasStatusCause (counts (T.meaning station.old) k) (counts (T.meaning station.new) k) result }
+    ensures first_fault { StationFaultEnds (T.meaning station.old) (T.meaning station.new) }
     ensures idle { result ≡ Status.NoMemory → station.new ≡ station.old }
     ensures grows { (state : State) → StoreFits store (T.meaning station.old) state
         → Grows (root_of state) (grow_items n) (T.meaning station.old) (T.meaning station.new)
@@ -176,6 +186,7 @@ fn grow_store<T: Station>(alloc: Global, store: Store, station: &mut T, n: u32) 
 fn grow_image<T: Station>(alloc: Global, station: &mut T, n: u32) -> Status
     ensures same { IsSameStation (T.meaning station.old) (T.meaning station.new) }
     ensures cause { (k : ℕ) → HasStatusCause (counts (T.meaning station.old) k) (counts (T.meaning station.new) k) result }
+    ensures first_fault { StationFaultEnds (T.meaning station.old) (T.meaning station.new) }
     ensures keeps { GrowKeeps n (station.new ≡ station.old) (T.meaning station.old) (T.meaning station.new) result }
 {
     match mount(alloc, station) {
@@ -194,6 +205,8 @@ fn carry_task<S: Source, T: Station>(
     requires range { (limits : LimitsOf) → task ≡ Some (Make limits) → IsTrue (are_in_range limits) }
     ensures same { IsSameStation (T.meaning station.old) (T.meaning station.new) }
     ensures cause { HasStatusCause (counts (T.meaning station.old) (S.faults input.old)) (counts (T.meaning station.new) (S.faults input.new)) result }
+    ensures first_fault { StationFaultEnds (T.meaning station.old) (T.meaning station.new) }
+    ensures input_first_fault { FaultEnds (S.faults input.old) (S.behind input.old) (S.behind input.new) }
     ensures few { TakesFew (2 ^ 40) (S.left input.old) (S.left input.new) }
     ensures keeps { TaskKeeps task (input.new ≡ input.old) (station.new ≡ station.old) (S.left input.old) (S.left input.new)
         (T.meaning station.old) (T.meaning station.new) result }
@@ -229,6 +242,8 @@ pub fn lisfs<S: Source, T: Station>(
     ensures unused { result ≡ Status.Usage → (input.new ≡ input.old) × (station.new ≡ station.old) }
     ensures same { IsSameStation (T.meaning station.old) (T.meaning station.new) }
     ensures cause { HasStatusCause (counts (T.meaning station.old) (S.faults input.old)) (counts (T.meaning station.new) (S.faults input.new)) result }
+    ensures first_fault { StationFaultEnds (T.meaning station.old) (T.meaning station.new) }
+    ensures input_first_fault { FaultEnds (S.faults input.old) (S.behind input.old) (S.behind input.new) }
     ensures few { TakesFew (2 ^ 40) (S.left input.old) (S.left input.new) }
 
     // `run`: stopped at any moment, the image stands for the model's state after some first items, and what was shown is a front of

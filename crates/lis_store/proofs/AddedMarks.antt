@@ -93,4 +93,5 @@ module _ (p q : Kept) (name : List ℕ) (assigned : List (List ℕ)) (bytes bloc
       let made = subst (λ (e : Ext). q.ext.edits ≤ e.edits + length (numbers_where e.props (differs [] numbers))) ext_before (puts.describes.edits [] (sym was_empty)) in
       let slot_in : slot < length p.ext.sets = omega (arith, below_files p q name assigned bytes sound may comes, sound.files) in
       let before : numbers_at p.ext slot ≡ [] = none_has (numbers_at p.ext slot) (free slot (free_slot p q name assigned bytes sound may comes)) in
-      edits_at p.ext q.ext slot [] numbers slot_in before (set_here p q name assigned bytes sound may comes) made
+      let no_fewer = subst (λ (e : Ext). e.edits ≤ q.ext.edits) ext_before puts.describes.no_fewer in
+      edits_at p.ext q.ext slot [] numbers slot_in before (set_here p q name assigned bytes sound may comes) no_fewer made

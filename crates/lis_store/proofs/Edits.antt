@@ -1,4 +1,4 @@
--- How often rows are edited: at most as often as bits of them differ.
+-- How often rows are edited: at most as often as bits of them differ, and the count does not fall.
 use Rattle.std.proofs.Common.{◌≡◌, sym, ap, ap₂, subst, inl, inr, ℕ, ◌+◌, ◌<◌, ◌≤◌, List, [], ◌∷◌, length, map, sum, arith}
 use Rattle.std.specs.List.{range_with_len}
 use Rattle.std.proofs.lemmas.List.Sums.{sum_by-cons}
@@ -12,7 +12,7 @@ use Rattle.lis_store.specs.Changes.{differing_bits}
 
 -- as the contracts say it of stores
 abbrev pub AreEditsFew : Ext → Ext → Type 0
-AreEditsFew p q = q.edits ≤ p.edits + differing_bits p q
+AreEditsFew p q = (p.edits ≤ q.edits) × (q.edits ≤ p.edits + differing_bits p q)
 
 -- a sum is no less than one of its terms
 sum_has : (f : ℕ → ℕ) (xs : List ℕ) (x : ℕ) → Among xs x → f x ≤ sum (map f xs)
@@ -22,12 +22,16 @@ sum_has f (y ∷ ys) x (inr m) = omega (arith, sum_has f ys x m, sum_by-cons (λ
 
 -- where the set of one slot came to be another
 pub edits_at : (p q : Ext) (slot : ℕ) (before now : List ℕ) → slot < length p.sets → numbers_at p slot ≡ before → numbers_at q slot ≡ now
-    → q.edits ≤ p.edits + length (numbers_where p.props (differs before now)) → AreEditsFew p q
-edits_at p q slot before now slot_in was is made =
+    → p.edits ≤ q.edits → q.edits ≤ p.edits + length (numbers_where p.props (differs before now)) → AreEditsFew p q
+edits_at p q slot before now slot_in was is no_fewer made =
     let f : ℕ → ℕ = λ at. length (numbers_where p.props (differs (numbers_at p at) (numbers_at q at))) in
     let one = sum_has f (range_with_len 0 (length p.sets)) slot (range_among 0 (length p.sets) slot (omega arith) (omega (arith, slot_in))) in
     let bits : f slot ≡ length (numbers_where p.props (differs before now)) = ap₂ (λ a b. length (numbers_where p.props (differs a b))) was is in
-    omega (arith, made, one, bits)
+    (no_fewer, omega (arith, made, one, bits))
+
+-- where no row was edited
+pub edits_same : (p q : Ext) → q ≡ p → AreEditsFew p q
+edits_same p q is = let same = ap (λ (e : Ext). e.edits) is in (omega (arith, same), omega (arith, same))
 
 -- saving parts edits no row
 pub edits_saved : {was old : Stored} {saved : Kept} (made : Kept) → was ≡ old → saved ≡ record made { marks = saved.marks } → AreEditsFew was.parts.ext made.ext → AreEditsFew old.parts.ext saved.ext

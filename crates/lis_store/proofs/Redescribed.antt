@@ -29,6 +29,7 @@ redescribed_none sets p = record {
   saved = λ at saved. saved;
   within = λ block is. inl is;
   edits = omega arith;
+  no_fewer = omega arith;
 }
 
 module _ (sets : ℕ → List ℕ) (n : ℕ) (p q : Kept) (so_far : Redescribes sets n p q) where
@@ -47,6 +48,7 @@ module _ (sets : ℕ → List ℕ) (n : ℕ) (p q : Kept) (so_far : Redescribes 
       saved : (at : ℕ → List ℕ) → IsSaved q at → IsSaved r at
       within : (block : ℕ) → is_marked r block ≡ true → (is_marked q block ≡ true) ⊎ IsTurnedRow p sets block
       edits : r.ext.edits ≤ q.ext.edits + length (turned_at p sets n)
+      no_fewer : q.ext.edits ≤ r.ext.edits
 
     module _ (describes : Describes n (sets n) q r) where
       turned_is : numbers_where q.ext.props (differs (numbers_at q.ext n) (sets n)) ≡ turned_at p sets n
@@ -65,6 +67,7 @@ module _ (sets : ℕ → List ℕ) (n : ℕ) (p q : Kept) (so_far : Redescribes 
             (marked_only (map (block_of q.limits Rows) (numbers_where q.ext.props (differs (numbers_at q.ext n) (sets n)))) q.marks block
             (ap (λ ms. is_taken ms block) (sym (describes.touched (numbers_at q.ext n) refl)) ∙ is));
         edits = subst (λ (ns : List ℕ). r.ext.edits ≤ q.ext.edits + length ns) turned_is (describes.edits (numbers_at q.ext n) refl);
+        no_fewer = describes.no_fewer;
       }
         where
           by : (block : ℕ) → (is_marked q block ≡ true) ⊎ Among (map (block_of q.limits Rows) (numbers_where q.ext.props (differs (numbers_at q.ext n) (sets n)))) block
@@ -91,6 +94,7 @@ module _ (sets : ℕ → List ℕ) (n : ℕ) (p q : Kept) (so_far : Redescribes 
       saved = λ at saved. subst (λ (k : Kept). IsSaved k at) (sym is) saved;
       within = λ block marked_so. inl (ap (λ (k : Kept). is_marked k block) (sym is) ∙ marked_so);
       edits = let same = ap (λ (k : Kept). k.ext.edits) is in omega (arith, same);
+      no_fewer = let same = ap (λ (k : Kept). k.ext.edits) is in omega (arith, same);
     }
 
     turn : Turn
@@ -112,6 +116,7 @@ module _ (sets : ℕ → List ℕ) (n : ℕ) (p q : Kept) (so_far : Redescribes 
       edits =
           let sums = sum_by-map-range_with_len_more (λ (m : ℕ). m) (λ slot. length (turned_at p sets slot)) 0 n n (omega arith) in
           omega (arith, turn.edits, so_far.edits, sums);
+      no_fewer = omega (arith, turn.no_fewer, so_far.no_fewer);
     }
       where
         below : (slot : ℕ) → slot < n + 1 → (slot ≡ n) ⊎ (slot ≡ n → ⊥) → numbers_at r.ext slot ≡ sets slot
@@ -135,7 +140,7 @@ module _ (sets : ℕ → List ℕ) (files : ℕ) (p q : Kept) (all : Redescribes
       by (inl lt) = all.done slot lt
       by (inr le) = all.others slot le ∙ sym (past slot le)
 
-  -- rows are edited at most as often as their bits differ
+  -- rows are edited at most as often as their bits differ, and the count does not fall
   pub redescribed_edits : AreEditsFew p.ext q.ext
   redescribed_edits =
       let f : ℕ → ℕ = λ slot. length (turned_at p sets slot) in
@@ -143,4 +148,4 @@ module _ (sets : ℕ → List ℕ) (files : ℕ) (p q : Kept) (all : Redescribes
       let each : (slot : ℕ) → f slot ≡ g slot = λ slot. ap (λ ns. length (numbers_where p.ext.props (differs (numbers_at p.ext slot) ns))) (sym (given_then slot)) in
       let total : sum (map f (range_with_len 0 files)) ≡ differing_bits p.ext q.ext =
       ap (λ n. sum (map f (range_with_len 0 n))) (sym count) ∙ ap sum (map_all f g (range_with_len 0 (length p.ext.sets)) (λ slot of. each slot)) in
-      omega (arith, all.edits, total)
+      (all.no_fewer, omega (arith, all.edits, total))

@@ -127,4 +127,5 @@ module _ (p q : Kept) (left right : List ℕ) (relates : RelatesIn left right p 
   pub few_edits : AreEditsFew p.ext q.ext
   few_edits =
       let made = subst (λ (e : Ext). q.ext.edits ≤ e.edits + length (lacked_numbers e from ups)) (ext_before p q left right relates sound may) relates.widens.edits in
-      omega (arith, made, lacked_spread)
+      let no_fewer = subst (λ (e : Ext). e.edits ≤ q.ext.edits) (ext_before p q left right relates sound may) relates.widens.no_fewer in
+      (no_fewer, omega (arith, made, lacked_spread))

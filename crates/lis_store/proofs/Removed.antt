@@ -235,7 +235,9 @@ module _ (slot : ℕ) (p q : Kept) (out : TakesOut slot p q) (sound : AreSound p
       let slot_in : slot < length p.ext.sets = omega (arith, file_slot_below p sound slot rec there, sound.files) in
       let ext_is : q.ext ≡ out.emptied.ext = ap (λ (k : Kept). k.ext) end_is in
       let here : numbers_at q.ext slot ≡ [] = ap (λ (e : Ext). numbers_at e slot) ext_is ∙ set_here in
-      edits_at p.ext q.ext slot numbers [] slot_in refl here (omega (arith, made, ap (λ (e : Ext). e.edits) ext_is))
+      let same = ap (λ (e : Ext). e.edits) ext_is in
+      let no_fewer = subst (λ (k : Kept). k.ext.edits ≤ out.emptied.ext.edits) out.drops.parts out.empties.no_fewer in
+      edits_at p.ext q.ext slot numbers [] slot_in refl here (omega (arith, no_fewer, same)) (omega (arith, made, same))
 
 -- ---- the state that it tells
 -- Memory tells s, and the blocks of the file in the slot are given back before it is taken out.

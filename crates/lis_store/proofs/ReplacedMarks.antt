@@ -164,4 +164,6 @@ module _ (p q : Kept) (slot : ℕ) (name : List ℕ) (assigned : List (List ℕ)
       let ext_is : q.ext ≡ r.described.ext = ap (λ (x : Kept). x.ext) r.files.parts in
       let sets_are : q.ext.sets ≡ set p.ext.sets slot numbers = ap (λ (e : Ext). e.sets) ext_is ∙ (r.way.describes.sets ∙ ap (λ (e : Ext). set e.sets slot numbers) ext_before) in
       let now : numbers_at q.ext slot ≡ numbers = ap (λ ss. get_or ss slot []) sets_are ∙ get_or-set_same p.ext.sets slot numbers [] slot_in in
-      edits_at p.ext q.ext slot before numbers slot_in refl now (omega (arith, edited, ap (λ (e : Ext). e.edits) ext_is))
+      let same = ap (λ (e : Ext). e.edits) ext_is in
+      let no_fewer = subst (λ (e : Ext). e.edits ≤ r.described.ext.edits) ext_before r.way.describes.no_fewer in
+      edits_at p.ext q.ext slot before numbers slot_in refl now (omega (arith, no_fewer, same)) (omega (arith, edited, same))

@@ -149,6 +149,7 @@ untested_same k word number rights no_test = record {
   saved = λ at saved. saved;
   within = λ block is. inl is;
   edits = omega arith;
+  no_fewer = omega arith;
 }
   where
     never : (o : Option FileRecord) → is_met_by None o ≡ false

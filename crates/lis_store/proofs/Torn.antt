@@ -1,8 +1,7 @@
 -- A fault of the disk while a call puts contents or gives them back: the store is broken, and tells what it did.
-use Rattle.std.proofs.Common.{◌≡◌, sym, ap, ◌∙◌, subst, true, false, Bool, Result, Err, arith}
+use Rattle.std.proofs.Common.{◌≡◌, sym, ap, ◌∙◌, subst, true, false, Bool, Result, Err}
 use Rattle.lis_ports.specs.Meaning.{Meaning}
 use Rattle.lis_journal.specs.Journal.{Held}
-use Rattle.lis_ext.specs.Ext.{Ext}
 use Rattle.lis_model.specs.Step.{Situation, Outcome}
 use Rattle.lis_kept.specs.Kept.{Kept}
 use Rattle.lis_kept.specs.Sound.{AreSound}
@@ -12,7 +11,7 @@ use Rattle.lis_store.specs.declared.change.Change.TheVariants.{Refused, Disk}
 use Rattle.lis_store.specs.Stored.{Stored, IsSound, StoreFits}
 use Rattle.lis_store.specs.Changes.{Changes}
 use Rattle.lis_store.specs.Contents.{ContentEnded}
-use Rattle.lis_store.proofs.Edits.{AreEditsFew}
+use Rattle.lis_store.proofs.Edits.{AreEditsFew, edits_same}
 use Rattle.lis_store.proofs.Replaced.{retaken, form_retaken, in_form}
 use Rattle.lis_store.proofs.Steps.{sound_lost, changes_lost, fills_stand, fills_past}
 
@@ -30,7 +29,7 @@ module _ (old : Stored) (q : Kept) (j : Held) (sound : IsSound old) (before afte
   torn_ext = ap (λ (x : Kept). x.ext) torn.parts
 
   pub torn_edits : AreEditsFew old.parts.ext q.ext
-  torn_edits = omega (arith, ap (λ (e : Ext). e.edits) torn_ext)
+  torn_edits = edits_same old.parts.ext q.ext torn_ext
 
   pub torn_changes : {T : Type 0} (now : Situation) (outcome : Outcome) (new : Stored) (result : Result T Change) → StoreFits old before now.state → new.is_broken ≡ true → result ≡ Err Disk
       → Changes now outcome new before after result

@@ -54,6 +54,7 @@ abbrev pub differing_bits : Ext → Ext → ℕ
 differing_bits old new =
     sum (map (λ slot. length (numbers_where old.props (differs (set_of old slot) (set_of new slot)))) (range_with_len 0 (length old.sets)))
 
--- Whatever the answer, the rows are edited at most as often as bits of them differ.
+-- Whatever the answer, the count of edits does not fall, and the rows are edited at most as often as bits of them differ.
 abbrev pub EditsFew : Stored → Stored → Type 0
-EditsFew old new = new.parts.ext.edits ≤ old.parts.ext.edits + differing_bits old.parts.ext new.parts.ext
+EditsFew old new =
+    (old.parts.ext.edits ≤ new.parts.ext.edits) × (new.parts.ext.edits ≤ old.parts.ext.edits + differing_bits old.parts.ext new.parts.ext)

@@ -24,7 +24,7 @@ pub record IsTurnedRow (k : Kept) (sets : ℕ → List ℕ) (block : ℕ) : Type
   pub turned : differs (numbers_at k.ext slot) (sets slot) number ≡ true
   pub is : block ≡ block_of k.limits Rows number
 
--- The slots below the count have these numbers, and the others what they had.
+-- The slots below the count have these numbers, and the others what they had. The count of edits does not fall.
 pub record Redescribes (sets : ℕ → List ℕ) (count : ℕ) (p q : Kept) : Type 0 where
   pub parts : q ≡ record p { ext = q.ext; marks = q.marks }
   pub props : q.ext.props ≡ p.ext.props
@@ -34,3 +34,4 @@ pub record Redescribes (sets : ℕ → List ℕ) (count : ℕ) (p q : Kept) : Ty
   pub saved : (at : ℕ → List ℕ) → IsSaved p at → IsSaved q at
   pub within : (block : ℕ) → is_marked q block ≡ true → (is_marked p block ≡ true) ⊎ IsTurnedRow p sets block
   pub edits : q.ext.edits ≤ p.ext.edits + sum (map (λ slot. length (turned_at p sets slot)) (range_with_len 0 count))
+  pub no_fewer : p.ext.edits ≤ q.ext.edits

@@ -1,6 +1,7 @@
 //! Contents of files that are put on the disk, put in the place of others, and given back. A fault of the disk breaks the store.
 
 ghost use Rattle.std.specs.Prelude.{◌≡◌, ◌*◌, ◌≤◌, ℕ, List, Bool, Some, true, false, [], length, IsSome, IsTrue, OnOk, OnErr, Ok};
+ghost use Rattle.lis_ports.specs.Calls.{DiskFaultEnds};
 ghost use Rattle.lis_ports.specs.Runs.{IsDiskRun};
 ghost use Rattle.lis_blockmap.specs.Bitmap.{free_count};
 ghost use Rattle.lis_catalog.specs.Catalog.{rec_at};
@@ -40,6 +41,7 @@ pub(crate) fn put_content<D: Disk>(
     ensures torn { OnErr result (parts.old.limits.version ≡ 2) }
     ensures run { IsDiskRun (D.meaning disk.old) (D.meaning disk.new) }
     ensures cause { HasChangeCause (D.meaning disk.old).disk_faults (D.meaning disk.new).disk_faults result }
+    ensures first_fault { DiskFaultEnds (D.meaning disk.old) (D.meaning disk.new) }
 {
     match parts.put_content(journal, disk, payload) {
         Ok(numbers) => Ok(numbers),
@@ -69,6 +71,7 @@ pub(crate) fn give_content<D: Disk>(
     ensures sound { AreSound parts.new }
     ensures run { IsDiskRun (D.meaning disk.old) (D.meaning disk.new) }
     ensures cause { HasChangeCause (D.meaning disk.old).disk_faults (D.meaning disk.new).disk_faults result }
+    ensures first_fault { DiskFaultEnds (D.meaning disk.old) (D.meaning disk.new) }
 {
     match parts.give_blocks(journal, disk, slot) {
         Ok(()) => Ok(()),
@@ -120,6 +123,7 @@ pub(crate) fn put_instead<D: Disk>(
     ensures sound { AreSound parts.new }
     ensures run { IsDiskRun (D.meaning disk.old) (D.meaning disk.new) }
     ensures cause { HasChangeCause (D.meaning disk.old).disk_faults (D.meaning disk.new).disk_faults result }
+    ensures first_fault { DiskFaultEnds (D.meaning disk.old) (D.meaning disk.new) }
 {
     if parts.limits().version == 2 {
         let numbers = put_content(parts, journal, is_broken, disk, payload)?;

@@ -2,7 +2,7 @@
 
 ghost use Rattle.std.specs.Prelude.{◌≡◌, ◌*◌, ◌≤◌, ℕ, List, Some, false, length, IsSome, IsTrue, OnOk};
 ghost use Rattle.lis_ports.specs.Runs.{IsDiskRun, Leaves};
-ghost use Rattle.lis_ports.specs.Calls.{HasCause, IsUnchanged};
+ghost use Rattle.lis_ports.specs.Calls.{HasCause, IsUnchanged, DiskFaultEnds};
 ghost use Rattle.lis_journal.specs.Images.{Fits};
 ghost use Rattle.lis_journal.specs.Phases.{looked};
 ghost use Rattle.lis_catalog.specs.Catalog.{rec_at};
@@ -33,6 +33,7 @@ pub(crate) fn read_file<D: Disk>(
     ensures size { OnOk result ((rec : FileRecord) → rec_at parts.now.catalog slot ≡ Some rec → length bytes.new ≡ rec.size) }
     ensures run { IsDiskRun (D.meaning disk.old) (D.meaning disk.new) }
     ensures cause { HasCause (D.meaning disk.old).disk_faults (D.meaning disk.new).disk_faults result }
+    ensures first_fault { DiskFaultEnds (D.meaning disk.old) (D.meaning disk.new) }
     ensures same { IsTrue (D.meaning disk.old).is_honest → IsUnchanged (D.meaning disk.old) (D.meaning disk.new) }
     ensures any_moment { IsTrue (D.meaning disk.old).is_honest
         → Leaves (D.meaning disk.old) (D.meaning disk.new) (D.meaning disk.old).images }

@@ -1,6 +1,7 @@
 //! The one end of every command.
 
 ghost use Rattle.std.specs.Prelude.{◌≡◌, ℕ, ◌+◌, ◌*◌, ◌≤◌, false, [], length};
+ghost use Rattle.lis_ports.specs.Calls.{DiskFaultEnds};
 ghost use Rattle.lis_ports.specs.Runs.{IsDiskRun};
 ghost use Rattle.lis_model.specs.Image.{image_blocks};
 ghost use Rattle.lis_kept.specs.Areas.{marked_count};
@@ -36,6 +37,7 @@ pub(crate) fn save<D: Disk>(
     ensures image { journal.new.blocks ≡ journal.old.blocks }
     ensures run { IsDiskRun (D.meaning disk.old) (D.meaning disk.new) }
     ensures cause { HasChangeCause (D.meaning disk.old).disk_faults (D.meaning disk.new).disk_faults result }
+    ensures first_fault { DiskFaultEnds (D.meaning disk.old) (D.meaning disk.new) }
 {
     parts.stage(journal);
     if let Err(fault) = journal.commit(disk) {

@@ -3,7 +3,7 @@
 ghost use Rattle.std.specs.Prelude.{◌≡◌, ℕ, ◌*◌, ◌<◌, ◌≤◌, List, false, is_some, length, take, Some, Err, IsTrue, OnOk, IfSome, IsSomeAnd};
 ghost use Rattle.lis_ports.specs.Bytes.{part};
 ghost use Rattle.lis_ports.specs.Runs.{IsDiskRun, Leaves};
-ghost use Rattle.lis_ports.specs.Calls.{HasCause, IsUnchanged};
+ghost use Rattle.lis_ports.specs.Calls.{HasCause, IsUnchanged, DiskFaultEnds};
 ghost use Rattle.lis_catalog.specs.Catalog.{slot_of, rec_at};
 ghost use Rattle.lis_fields.specs.Records.{FileRecord};
 ghost use Rattle.lis_model.specs.declared.refusal.Refusal.{Refusal};
@@ -147,6 +147,7 @@ impl Store {
         ensures len { length buf.new ≡ 4096 }
         ensures run { IsDiskRun (D.meaning disk.old) (D.meaning disk.new) }
         ensures cause { HasCause (D.meaning disk.old).disk_faults (D.meaning disk.new).disk_faults result }
+        ensures first_fault { DiskFaultEnds (D.meaning disk.old) (D.meaning disk.new) }
         ensures same { IsTrue (D.meaning disk.old).is_honest → IsUnchanged (D.meaning disk.old) (D.meaning disk.new) }
         ensures any_moment { IsTrue (D.meaning disk.old).is_honest
             → Leaves (D.meaning disk.old) (D.meaning disk.new) (D.meaning disk.old).images }
@@ -215,6 +216,7 @@ impl Store {
         ensures sound { IsSound self.new }
         ensures run { IsDiskRun (D.meaning disk.old) (D.meaning disk.new) }
         ensures cause { HasChangeCause (D.meaning disk.old).disk_faults (D.meaning disk.new).disk_faults result }
+        ensures first_fault { DiskFaultEnds (D.meaning disk.old) (D.meaning disk.new) }
     {
         let assigned = may_add(&self.parts, scratch, place, name, tags, payload, size)?;
         let blocks = put_content(
@@ -263,6 +265,7 @@ impl Store {
         ensures sound { IsSound self.new }
         ensures run { IsDiskRun (D.meaning disk.old) (D.meaning disk.new) }
         ensures cause { HasChangeCause (D.meaning disk.old).disk_faults (D.meaning disk.new).disk_faults result }
+        ensures first_fault { DiskFaultEnds (D.meaning disk.old) (D.meaning disk.new) }
     {
         let Some(slot) = self.slot_here(scratch, place, name) else {
             return Err(Change::Refused(Refusal::NoFileHere));

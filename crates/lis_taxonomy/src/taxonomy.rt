@@ -1,5 +1,5 @@
 ghost use Rattle.std.specs.Prelude.{◌≡◌, ◌≢◌, ℕ, ◌%◌, ◌<◌, ◌≤◌, ◌↔◌, false, length, IfOk, OnOk, OnErr, IsTrue, Err};
-ghost use Rattle.lis_bits.specs.Rows.{HasShape, get, SetsRow};
+ghost use Rattle.lis_bits.specs.Rows.{HasShape, get, with_row};
 
 use crate::tables;
 use lis_bits::{Rows, copy_row};
@@ -133,7 +133,7 @@ impl Taxonomy {
         requires bits { to.old.bits ≡ self.now.props }
         requires row { row < length to.old.rows }
         ensures bits { (q : ℕ) → q < self.now.props → (IsTrue (get to.new row q) ↔ Entails self.now p q) }
-        ensures row { SetsRow to.old to.new row (entails self.now p) }
+        ensures row { to.new ≡ with_row to.old row (entails self.now p) }
     {
         copy_row(&self.reached, p, to, row);
     }

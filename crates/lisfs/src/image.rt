@@ -30,7 +30,8 @@ fn hold_input(rt: &HostRuntime) -> io::Result<Option<File>> {
 }
 
 /// Takes the numbers of standard input, output and error where these are closed, as long as the files are held. Else the file of an
-/// image would get one, and replies would be written into it. Nothing can be read or shown through these.
+/// image would get one, and replies would be written into it. Nothing can be read or shown through these. Where it fails, the numbers stay
+/// free, and `open` refuses a file that gets one.
 pub fn hold_standard(rt: &HostRuntime) -> io::Result<Vec<File>> {
     let mut held = Vec::new(rt.alloc());
     if let Some(input) = hold_input(rt)? {

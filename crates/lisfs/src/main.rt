@@ -14,15 +14,11 @@ use std::io::{Error, ErrorKind};
 use std::process::ExitCode;
 use std::{env, io};
 
-fn is_no_memory(error: &Error) -> bool {
-    error.kind() == ErrorKind::OutOfMemory
-}
-
 /// The words after the program's name, or the status of a program that can't have them.
 fn words(rt: &HostRuntime) -> Result<Vec<String>, Status> {
     let all = match env::args(rt) {
         Ok(all) => all,
-        Err(error) if is_no_memory(&error) => return Err(Status::NoMemory),
+        Err(error) if error.kind() == ErrorKind::OutOfMemory => return Err(Status::NoMemory),
         Err(_) => return Err(Status::Usage),
     };
     let mut words = Vec::new(rt.alloc());
@@ -42,11 +38,11 @@ fn path_of(words: &[String]) -> &str {
     }
 }
 
-/// The image that the words name, if they name one.
-fn image_of(rt: &HostRuntime, words: &[String]) -> io::Result<Option<ImageFile>> {
-    match task_of(words) {
-        None | Some(Task::Try(_)) => Ok(None),
-        Some(Task::Make(_) | Task::Run | Task::Upgrade | Task::Grow(_)) => {
+/// The image that the task is about, if it is about one.
+fn image_of(rt: &HostRuntime, task: &Task, words: &[String]) -> io::Result<Option<ImageFile>> {
+    match task {
+        Task::Try(_) => Ok(None),
+        Task::Make(_) | Task::Run | Task::Upgrade | Task::Grow(_) => {
             let image = image::open(rt, path_of(words), make_len(words))?;
             Ok(Some(image))
         }
@@ -55,23 +51,21 @@ fn image_of(rt: &HostRuntime, words: &[String]) -> io::Result<Option<ImageFile>>
 
 /// How the run ended, and why the disk failed where it did.
 fn run(rt: &HostRuntime, words: &[String]) -> (Status, Option<Error>) {
+    // Wrong words end the run whatever else is amiss, so no stream, file or memory is asked for before.
+    let Some(task) = task_of(words) else {
+        return (Status::Usage, None);
+    };
+    let _standard = image::hold_standard(rt);
+    // Without a file every call of the disk fails.
+    let (file, len, cause) = match image_of(rt, &task, words) {
+        Ok(Some(image)) => (Some(image.file), image.len, None),
+        Ok(None) => (None, u64::MAX, None),
+        Err(error) => (None, u64::MAX, Some(error)),
+    };
     let mut input = StdSource {
         reader: rt.reader(),
         faults: 0,
         behind: 0,
-    };
-    let standard = image::hold_standard(rt);
-    if let Err(error) = &standard {
-        if is_no_memory(error) {
-            return (Status::NoMemory, None);
-        }
-    }
-    // Without a file every call of the disk fails.
-    let (file, len, cause) = match image_of(rt, words) {
-        Ok(None) => (None, u64::MAX, None),
-        Ok(Some(image)) => (Some(image.file), image.len, None),
-        Err(error) if is_no_memory(&error) => return (Status::NoMemory, None),
-        Err(error) => (None, u64::MAX, Some(error)),
     };
     let mut station = FileStation {
         file,

@@ -31,9 +31,15 @@ fn words_of(text: &str) -> &str {
     }
 }
 
-fn write_cause(rt: &HostRuntime, error: &mut impl Write, cause: &Error) -> io::Result<()> {
+// The line of a cause. Where there is no memory for it, nothing of it is printed.
+fn write_cause(
+    rt: &HostRuntime,
+    error: &mut impl Write,
+    path: &str,
+    cause: &Error,
+) -> io::Result<()> {
     let text = format!(in rt.alloc(); "{cause}")?;
-    writeln!(error, "{}", words_of(text.as_str()))
+    writeln!(error, "{path}: {}", words_of(text.as_str()))
 }
 
 /// Prints the text of a status, and below it what more is known of its cause.
@@ -58,10 +64,7 @@ pub fn print(
         }
         Status::TooShort(len, need) => writeln!(error, "{path}: {len} bytes of {need}"),
         Status::DiskFault => match cause {
-            Some(cause) => {
-                write!(error, "{path}: ")?;
-                write_cause(rt, &mut error, &cause)
-            }
+            Some(cause) => write_cause(rt, &mut error, path, &cause),
             None => Ok(()),
         },
         _ => Ok(()),

@@ -2,7 +2,7 @@
 
 ghost use Rattle.std.specs.Prelude.{◌≡◌, ℕ, ◌*◌, ◌≤◌, true, false, [], List, Some, length, slice_set, IsSome, IsTrue, OnOk, OnErr, MatchResult};
 ghost use Rattle.lis_ports.specs.Runs.{IsDiskRun, Leaves};
-ghost use Rattle.lis_ports.specs.Calls.{HasCause, IsUnchanged};
+ghost use Rattle.lis_ports.specs.Calls.{HasCause, IsUnchanged, DiskFaultEnds};
 ghost use Rattle.lis_journal.specs.Images.{Fits};
 ghost use Rattle.lis_blockmap.specs.Bitmap.{free_count};
 ghost use Rattle.lis_catalog.specs.Catalog.{rec_at};
@@ -54,6 +54,7 @@ impl Parts {
         ensures sound { AreSound self.new }
         ensures run { IsDiskRun (D.meaning disk.old) (D.meaning disk.new) }
         ensures cause { HasCause (D.meaning disk.old).disk_faults (D.meaning disk.new).disk_faults result }
+        ensures first_fault { DiskFaultEnds (D.meaning disk.old) (D.meaning disk.new) }
     {
         let base = data_start(&self.limits);
         mark_bitmap(&mut self.marks, &self.limits);
@@ -85,6 +86,7 @@ impl Parts {
         ensures sound { AreSound self.new }
         ensures run { IsDiskRun (D.meaning disk.old) (D.meaning disk.new) }
         ensures cause { HasCause (D.meaning disk.old).disk_faults (D.meaning disk.new).disk_faults result }
+        ensures first_fault { DiskFaultEnds (D.meaning disk.old) (D.meaning disk.new) }
         ensures same { IsTrue (D.meaning disk.old).is_honest → IsUnchanged (D.meaning disk.old) (D.meaning disk.new) }
         ensures any_moment { IsTrue (D.meaning disk.old).is_honest
             → Leaves (D.meaning disk.old) (D.meaning disk.new) (D.meaning disk.old).images }

@@ -1,6 +1,7 @@
 //! `unaxiom`.
 
 ghost use Rattle.std.specs.Prelude.{◌≡◌, ◌*◌, ◌≤◌, false, Err};
+ghost use Rattle.lis_ports.specs.Calls.{DiskFaultEnds};
 ghost use Rattle.lis_ports.specs.Runs.{IsDiskRun};
 ghost use Rattle.lis_model.specs.declared.refusal.Refusal.{Refusal};
 ghost use Rattle.lis_model.specs.Step.{Situation, unaxiom};
@@ -41,6 +42,7 @@ impl Store {
         ensures sound { IsSound self.new }
         ensures run { IsDiskRun (D.meaning disk.old) (D.meaning disk.new) }
         ensures cause { HasChangeCause (D.meaning disk.old).disk_faults (D.meaning disk.new).disk_faults result }
+        ensures first_fault { DiskFaultEnds (D.meaning disk.old) (D.meaning disk.new) }
     {
         let Some((from, to)) = axiom_numbers(&self.parts, left, right) else {
             return Err(Change::Refused(Refusal::NoAxiom));

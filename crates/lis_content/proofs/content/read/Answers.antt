@@ -1,5 +1,6 @@
 use Rattle.std.proofs.Common.{◌≡◌, ◌+◌, ◌-◌, ◌*◌, min, length, get_or, sym, ◌∙◌, ap, take, drop, length-drop, arith}
 use Rattle.std.proofs.lemmas.List.{length-take-le}
+use Rattle.lis_ports.proofs.Ending.{ends_then}
 use Rattle.lis_ports.proofs.Moments.{run_then, leaves_then, leaves_weaken}
 use Rattle.lis_journal.specs.Images.{look}
 use Rattle.lis_journal.specs.Phases.{looked}
@@ -13,6 +14,7 @@ loop-k-preserved g c =
     record {
       run = run_then was.run read.run;
       faults = read.cause.stays ∙ was.faults;
+      first_fault = ends_then was.first_fault was.faults read.first_fault;
       same = λ honest. unchanged_then read.run (was.same honest) (read.same (was.run.honest ∙ honest));
       moments = λ honest. leaves_then (was.moments honest) (leaves_weaken _ (read.any_moment (was.run.honest ∙ honest)) (λ image is. (was.same honest).images.only image is));
       fits = λ kept fits. read.fits kept (was.fits kept fits);

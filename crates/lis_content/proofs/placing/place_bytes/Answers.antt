@@ -19,7 +19,7 @@ loop-rest-preserved g c =
     let differ : length rest ≡ 0 → ⊥ = eqb-false (length rest) 0 (sym c.is_empty.ensures ∙ c.loop-rest-test.true) in
     let parts : front ++ c.split_at.result.1.now ≡ rest = sym c.split_at.ensures.by_index.0 in
     let size : length front ≡ min (length rest) 4096 = c.split_at.ensures.front_len ∙ c.min.ensures in
-    let more = laying_more c.args.base c.args.bytes.now rest front c.split_at.result.1.now c.args.map.now c.loop-rest.map c.place_block.new.map c.args.journal.now c.loop-rest.journal c.place_block.new.journal c.loop-rest.taken.items c.in_ok-n.n c.loop-rest.invariant (omega (arith, differ)) parts size c.in_ok-n.ensures.ended c.place_block.ensures.run c.in_ok-n.ensures.cause.stays in
+    let more = laying_more c.args.base c.args.bytes.now rest front c.split_at.result.1.now c.args.map.now c.loop-rest.map c.place_block.new.map c.args.journal.now c.loop-rest.journal c.place_block.new.journal c.loop-rest.taken.items c.in_ok-n.n c.loop-rest.invariant (omega (arith, differ)) parts size c.in_ok-n.ensures.ended c.place_block.ensures.run c.in_ok-n.ensures.cause.stays c.place_block.ensures.first_fault in
     rw c.push.ensures.items more
 
 pub returns-clause-ended : goal.returns-clause-ended

@@ -1,5 +1,6 @@
 use Rattle.std.proofs.Common.{◌<◌, length, sym, ◌∙◌, [], arith}
 use Rattle.lis_ports.proofs.Moments.{run_then}
+use Rattle.lis_ports.proofs.Ending.{ends_call, ends_then}
 use Rattle.lis_journal.specs.Record.{Entry}
 use Rattle.lis_journal.specs.Phases.{at_target}
 use Rattle.lis_journal.proofs.Writing.{length-target, target-bytes, spread_on, write_on, all_written}
@@ -24,6 +25,7 @@ loop-k-preserved g c =
     record {
       run = run_then inv.run c.write_at.ensures.call.run;
       faults = c.in_ok-write_at.ensures.call.cause.stays ∙ inv.faults;
+      first_fault = ends_then inv.first_fault inv.faults (ends_call c.write_at.ensures.call);
       spreads = spread_on ps k nothing _ _ lt (c.address.ensures.address nothing) c.bytes.ensures.whole inv.spreads inv.run c.write_at.ensures.call.run c.write_at.ensures.call.time c.write_at.ensures.torn;
       written = write_on ps k nothing _ _ lt (c.address.ensures.address nothing) (c.bytes.ensures.bytes nothing ∙ sym (target-bytes c.args.target es k nothing less)) inv.run inv.written c.in_ok-write_at.ensures.written;
     }

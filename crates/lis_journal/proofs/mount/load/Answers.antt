@@ -1,5 +1,6 @@
 use Rattle.std.proofs.Common.{◌≡◌, ◌+◌, ◌*◌, IsTrue, length, ◌∙◌, ap, inr, arith}
 use Rattle.lis_ports.specs.Bytes.{part}
+use Rattle.lis_ports.proofs.Ending.{ends_call}
 use Rattle.lis_journal.specs.Record.{count_of}
 use Rattle.lis_journal.specs.Staging.{Staging}
 use Rattle.lis_journal.proofs.Entries.{length-with_entry}
@@ -37,7 +38,7 @@ loop-k-preserved g c =
     let len : length c.loop-k.block ≡ 4096 = omega (arith, c.loop-k.auto.block, c.requires.whole) in
     let read : IsTrue now.is_honest → c.read_at.new.buf ≡ part (4096 * (b + 1 + k)) 4096 now.bytes =
     λ honest. c.in_ok-read_at.ensures.read honest ∙ (ap (λ m. part ((c.from.result + 1 + c.from-in-loop-k.result) * 4096) m now.bytes) len ∙ ap (λ p. part p 4096 now.bytes) at) in
-    load_on b k c.word.result _ c.loop-k.latest c.put.new.self h c.read_at.new.buf c.loop-k.invariant c.word.ensures c.read_at.ensures.call.run c.read_at.ensures.call.time c.in_ok-read_at.ensures.call.cause.stays c.read_at.ensures.same read
+    load_on b k c.word.result _ c.loop-k.latest c.put.new.self h c.read_at.new.buf c.loop-k.invariant c.word.ensures c.read_at.ensures.call.run c.read_at.ensures.call.time c.in_ok-read_at.ensures.call.cause.stays (ends_call c.read_at.ensures.call) c.read_at.ensures.same read
     (ap (λ (s : Staging). s.blocks) c.put.ensures.put)
     (omega (arith, ap (λ (s : Staging). length s.entries) c.put.ensures.put, length-with_entry c.loop-k.latest.entries c.word.result c.read_at.new.buf))
     c.put.ensures.looks

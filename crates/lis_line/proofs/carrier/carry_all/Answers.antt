@@ -1,4 +1,4 @@
-use Rattle.std.proofs.Common.{Ok, ap, ◌∙◌, refl}
+use Rattle.std.proofs.Common.{Ok, ap, ◌∙◌, refl, arith}
 use Rattle.lis_line.proofs.Answered.{few_said}
 use Rattle.lis_line.proofs.Carrying.{so_far_none, so_far_more, next_taken, went_all, went_to_limit, went_whole, went_into}
 use Rattle.lis_line.proofs.carrier.carry_all.Goals as goal
@@ -8,6 +8,7 @@ loop-item-init g c = record {
   so_far = so_far_none (λ first. g.C.Carrier.has_done c.args.carrier.now (g.T.Disk.meaning c.args.station.now) first c.args.carrier.now (g.T.Disk.meaning c.args.station.now)) c.new-reader.ensures c.requires.start;
   ready = c.requires.ready;
   input_faults = refl;
+  first_fault = omega arith;
 }
 
 pub returns-in_default-clause-few : goal.returns-in_default-clause-few
@@ -55,4 +56,5 @@ loop-item-preserved g c = record {
       (c.in_default-carry.ensures.carried c.args.carrier.now c.args.station.now c.loop-item.invariant.so_far.first c.loop-item.invariant.so_far.done);
   ready = c.in_default-carry.ensures.ready;
   input_faults = c.in-Ok.ensures.cause.stays ∙ c.loop-item.invariant.input_faults;
+  first_fault = omega (arith, c.loop-item.invariant.first_fault, c.loop-item.invariant.input_faults, c.in-Ok.ensures.first_fault);
 }

@@ -10,4 +10,5 @@ loop-stock-preserved g c =
           given.0 given.1 (omega arith) (omega arith) c.push.ensures;
       few = c.rest.ensures.few;
       faults = c.in_ok-byte.ensures.cause.stays ∙ c.loop-stock.invariant.faults;
+      first_fault = omega (arith, c.loop-stock.invariant.first_fault, c.loop-stock.invariant.faults, c.in_ok-byte.ensures.first_fault);
     }

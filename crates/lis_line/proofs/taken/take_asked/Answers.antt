@@ -1,4 +1,4 @@
-use Rattle.std.proofs.Common.{◌∙◌}
+use Rattle.std.proofs.Common.{◌∙◌, arith}
 use Rattle.std.proofs.lemmas.Result.{err_from_is_err_and}
 use Rattle.lis_line.specs.Reading.{item_with}
 use Rattle.lis_line.proofs.Asking.{some_taken, skip_more, skip_whole, skip_last, skip_end, skip_past, skip_failed}
@@ -25,6 +25,7 @@ loop-asked-preserved g c =
     record {
       skipping = skip_more _ c.loop-asked.stock _ _ (g.S.Source.left c.loop-asked.source) _ c.loop-asked.invariant.skipping part;
       faults = c.in_ok-asked.ensures.cause.stays ∙ c.loop-asked.invariant.faults;
+      first_fault = omega (arith, c.loop-asked.invariant.first_fault, c.loop-asked.invariant.faults, c.in_ok-asked.ensures.first_fault);
     }
 
 pub returns-in-Last-Some-clause-gives : goal.returns-in-Last-Some-clause-gives

@@ -1,4 +1,5 @@
 use Rattle.std.proofs.Common.{◌≡◌, refl, subst, ◌∙◌, arith}
+use Rattle.lis_ports.proofs.Ending.{ends_none, ends_then}
 use Rattle.lis_kept.specs.Areas.{axiom_slots}
 use Rattle.lis_open.specs.ReadWords.{AreFirstAxioms, AxiomsAreSpelled}
 use Rattle.lis_open.proofs.Quiet.{reads_none, reads_then, fits_after}
@@ -10,6 +11,7 @@ pub loop-k-init : goal.loop-k-init
 loop-k-init g c = record {
   reads = reads_none (g.D.Disk.meaning c.args.disk.now);
   faults = refl;
+  first_fault = ends_none (g.D.Disk.meaning c.args.disk.now);
   first = no_axioms_yet c.args.limits.now c.args.words.now c.requires.words c.args.axioms.now.slots.items c.link_tests.new.taxonomy c.requires.none.slots c.link_tests.ensures _ refl refl;
   recalls = λ kept fits recalled. recalled;
   spelled = λ kept fits recalled n lt. absurd (omega (arith, lt));
@@ -31,6 +33,7 @@ loop-k-preserved g c =
     record {
       reads = reads_then l.invariant.reads c.read_axiom_slot.ensures.reads;
       faults = c.in_ok-found.ensures.cause.stays ∙ l.invariant.faults;
+      first_fault = ends_then l.invariant.first_fault l.invariant.faults c.in_ok-found.ensures.first_fault;
       first = axiom_on limits c.args.words.now c.requires.words l.axioms l.k l.invariant.first c.in_ok-found.found next (omega (arith, c.loop-k-test.true, c.slot_count-k-end.ensures)) c.if-not-take_axiom.ensures.taken;
       recalls = λ kept fits recalled.
           c.read_axiom_slot.ensures.recalls kept (fits_after c.args.journal.now kept l.invariant.reads fits) (l.invariant.recalls kept fits recalled);

@@ -1,4 +1,5 @@
 use Rattle.std.proofs.Common.{◌∙◌, ◌<◌, subst, below_more}
+use Rattle.lis_ports.proofs.Ending.{ends_then}
 use Rattle.lis_kept.specs.Areas.{row_slots}
 use Rattle.lis_open.proofs.Quiet.{reads_then, fits_after}
 use Rattle.lis_open.proofs.ZeroRows.{first_row}
@@ -20,6 +21,7 @@ loop-p-preserved g c =
     record {
       reads = reads_then l.invariant.reads c.read_row.ensures.reads;
       faults = c.in_ok-read_row.ensures.cause.stays ∙ l.invariant.faults;
+      first_fault = ends_then l.invariant.first_fault l.invariant.faults c.in_ok-read_row.ensures.first_fault;
       recalls = λ kept fits recalls. c.read_row.ensures.recalls kept (fits_after journal kept l.invariant.reads fits) (l.invariant.recalls kept fits recalls);
       same = λ kept fits recalls.
           let there = fits_after journal kept l.invariant.reads fits in

@@ -1,4 +1,5 @@
 use Rattle.std.proofs.Common.{◌≡◌, ℕ, ◌<◌, List}
+use Rattle.lis_ports.specs.Calls.{DiskFaultEnds}
 use Rattle.lis_journal.specs.Images.{Fits}
 use Rattle.lis_open.specs.Reading.{OnlyReads, Recalls}
 use Rattle.lis_open.specs.ReadAll.{IsRowSpelled}
@@ -11,6 +12,7 @@ invariant-loop-p g l =
     record {
       reads : OnlyReads start now;
       faults : now.disk_faults ≡ start.disk_faults;
+      first_fault : DiskFaultEnds start now;
       recalls : (kept : ℕ → List ℕ) → Fits l.journal start kept → Recalls l.initial.last kept → Recalls l.last kept;
       same : (kept : ℕ → List ℕ) → Fits l.journal start kept → Recalls l.initial.last kept → (q : ℕ) → q < l.p → IsRowSpelled l.limits kept l.ext q;
     }

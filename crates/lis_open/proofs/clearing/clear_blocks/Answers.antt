@@ -1,6 +1,7 @@
 use Rattle.std.proofs.Common.{◌≡◌, ℕ, ◌*◌, ◌<◌, ◌≤◌, ◌∙◌, replicate, length, arith}
 use Rattle.std.proofs.lemmas.List.{length-replicate}
 use Rattle.lis_ports.proofs.Moments.{run_then}
+use Rattle.lis_ports.proofs.Ending.{ends_call, ends_then}
 use Rattle.lis_open.proofs.Zeros.{zeros_are, clearing_spreads, clearing_torn, clearing_zeros}
 use Rattle.lis_open.proofs.clearing.clear_blocks.Goals as goal
 
@@ -21,6 +22,7 @@ loop-n-preserved g c =
     record {
       run = run_then inv.run c.write_at.ensures.call.run;
       faults = c.in_ok-write_at.ensures.call.cause.stays ∙ inv.faults;
+      first_fault = ends_then inv.first_fault inv.faults (ends_call c.write_at.ensures.call);
       spreads = clearing_spreads c.args.first c.args.end k (c.from.result * 4096) (length {A = ℕ} (replicate 4096 0)) low high is_at (length-replicate {A = ℕ} 4096 0) inv
           c.write_at.ensures.call.run c.write_at.ensures.call.time c.write_at.ensures.torn;
       torn = clearing_torn c.args.first c.args.end k (c.from.result * 4096) (replicate 4096 0) low high is_at (zeros_are 4096) inv c.write_at.ensures.torn;

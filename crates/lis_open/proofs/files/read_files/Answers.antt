@@ -1,5 +1,6 @@
 use Rattle.std.proofs.Common.{◌≡◌, ℕ, List, refl, sym, subst, ◌∙◌, arith}
 use Rattle.std.proofs.lemmas.Bool.{OnTrue_at, OnFalse_at}
+use Rattle.lis_ports.proofs.Ending.{ends_none, ends_then}
 use Rattle.lis_graph.proofs.Members.{among_from_contains}
 use Rattle.lis_journal.specs.Images.{Fits}
 use Rattle.lis_kept.proofs.Filing.{filed_rec}
@@ -14,6 +15,7 @@ pub loop-slot-init : goal.loop-slot-init
 loop-slot-init g c = record {
   reads = reads_none (g.D.Disk.meaning c.args.disk.now);
   faults = refl;
+  first_fault = ends_none (g.D.Disk.meaning c.args.disk.now);
   rows = c.mark_tests.ensures;
   first = subst (λ (files : Files). AreFirstFiles c.args.limits.now c.args.words.now c.args.axioms.now files 0) (sym c.requires.none) (no_files_yet c.args.limits.now c.args.words.now c.args.axioms.now);
   recalls = λ kept fits recalls. recalls;
@@ -48,6 +50,8 @@ loop-slot-preserved g c =
     record {
       reads = reads_then to_found c.in_ok-is_taken.ensures.reads;
       faults = c.in_ok-is_taken.ensures.cause.stays ∙ (c.in_ok-found.ensures.cause.stays ∙ l.invariant.faults);
+      first_fault = ends_then (ends_then l.invariant.first_fault l.invariant.faults c.in_ok-found.ensures.first_fault)
+          (c.in_ok-found.ensures.cause.stays ∙ l.invariant.faults) c.in_ok-is_taken.ensures.first_fault;
       rows = c.in_ok-is_taken.ensures.rows;
       first = files_on limits MayBeKept words axioms l.files l.slot l.invariant.first below found next form taken;
       recalls = λ kept fits recalls. c.in_ok-found.ensures.recalls kept (fits_after c.args.journal.now kept l.invariant.reads fits) (l.invariant.recalls kept fits recalls);

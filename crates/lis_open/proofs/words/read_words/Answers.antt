@@ -1,4 +1,5 @@
 use Rattle.std.proofs.Common.{◌≡◌, refl, sym, subst, ◌∙◌, arith}
+use Rattle.lis_ports.proofs.Ending.{ends_none, ends_then}
 use Rattle.lis_open.specs.ReadWords.{AreFirstWords, WordsAreSpelled}
 use Rattle.lis_open.proofs.Quiet.{reads_none, reads_then, fits_after}
 use Rattle.lis_open.proofs.WordsRead.{first_on, spelled_on, property_fails, words_pass, first_words}
@@ -8,6 +9,7 @@ pub loop-number-init : goal.loop-number-init
 loop-number-init g c = record {
   reads = reads_none (g.D.Disk.meaning c.args.disk.now);
   faults = refl;
+  first_fault = ends_none (g.D.Disk.meaning c.args.disk.now);
   first = first_words c.args.limits.now c.args.words.now c.requires.range c.requires.none;
   recalls = λ kept fits recalled. recalled;
   spelled = λ kept fits recalled n lt. absurd (omega (arith, lt));
@@ -28,6 +30,7 @@ loop-number-preserved g c =
     record {
       reads = reads_then l.invariant.reads c.read_property.ensures.reads;
       faults = c.in_ok-found.ensures.cause.stays ∙ l.invariant.faults;
+      first_fault = ends_then l.invariant.first_fault l.invariant.faults c.in_ok-found.ensures.first_fault;
       first = first_on limits l.words l.number l.invariant.first c.loop-number-test.true c.in_ok-found.found next c.in_ok-found.ensures.form may
           c.if-not-take_property.ensures.taken;
       recalls = λ kept fits recalled.

@@ -16,7 +16,11 @@ loop-n-preserved g c =
     let was = c.loop-n.invariant.ends in
     let here = c.in_ok-show_block.ensures.ends in
     record {
-      ends = record { cause = (here.cause.0 ∙ was.cause.0, here.cause.1 ∙ was.cause.1); same = same_then was.same here.same };
+      ends = record {
+        cause = (here.cause.0 ∙ was.cause.0, here.cause.1 ∙ was.cause.1);
+        first_fault = omega (arith, was.first_fault, was.cause.0, was.cause.1, here.first_fault);
+        same = same_then was.same here.same;
+      };
       whole = c.in_ok-show_block.ensures.whole;
       shown = blocks_more c.args.store.now c.args.slot c.loop-n.n (g.T.Disk.meaning c.args.station.now) (g.T.Disk.meaning c.loop-n.station) (g.T.Disk.meaning c.show_block.new.station) c.in_ok-show_block.field-0
           c.loop-n.invariant.shown c.in_ok-show_block.ensures.shows;

@@ -2,7 +2,7 @@ use Rattle.std.proofs.Common.{sym, subst}
 use Rattle.lis_plain.proofs.Trying.{tried_none}
 use Rattle.lis_shell.specs.Causes.{counts, HasStatusCause, IsTryStatus}
 use Rattle.lis_shell.specs.Tries.{Tries}
-use Rattle.lis_shell.proofs.Going.{is_try, only_showed, try_cause, tries}
+use Rattle.lis_shell.proofs.Going.{is_try, only_showed, try_first_fault, try_cause, tries}
 use Rattle.lis_shell.proofs.session.try_session.Goals as goal
 
 pub carry_all-halt-requires-clause-start : goal.carry_all-halt-requires-clause-start
@@ -29,3 +29,8 @@ returns-clause-tries g c = λ bytes known.
     (sym c.status_at.ensures)
     (tries c.args.limit (g.S.Source.left c.args.input.now) (g.S.Source.left c.carry_all-halt.new.input) c.args.plain.now c.carry_all-halt.new.carrier (g.T.Disk.meaning c.args.station.now) (g.T.Disk.meaning c.carry_all-halt.new.station)
     bytes c.carry_all-halt.result c.carry_all-halt.ensures.ended known)
+
+pub returns-clause-first_fault : goal.returns-clause-first_fault
+returns-clause-first_fault g c =
+    try_first_fault c.args.limit (g.S.Source.left c.args.input.now) (g.S.Source.left c.carry_all-halt.new.input) c.args.plain.now c.carry_all-halt.new.carrier (g.T.Disk.meaning c.args.station.now) (g.T.Disk.meaning c.carry_all-halt.new.station)
+    c.carry_all-halt.result c.carry_all-halt.ensures.ended

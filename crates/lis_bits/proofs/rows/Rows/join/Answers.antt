@@ -31,4 +31,4 @@ returns g c = λ join bitwise.
     let was = ap (λ o. unwrap_or o []) some in
     let rows = rows_joined old new inside.rows inside.width c.args.to _ join (λ i. get_or old (c.args.from * inside.width + i) 0) (λ b. get_or (get_or (rows_of old inside.rows inside.width) c.args.from []) b false)
     to_in c.join.ensures.fit (λ i. c.join.ensures.fit (c.args.from * inside.width + i)) c.join.ensures.joined.joined c.join.ensures.joined.others bitwise (λ b lt. get-rows_of old inside.rows inside.width c.args.from b from_in lt) in
-    rw (← c.self.view_is) (seen_written inside.region inside.frame inside.rows inside.width c.args.to inside.edits _ _ old new some c.items_mut.ensures.width c.join.auto.words (rw was rows) c.saturating_add-self-inside.ensures)
+    rw (← c.self.view_is) (seen_written inside.region inside.frame inside.rows inside.width c.args.to inside.edits _ _ old new some c.items_mut.ensures.width c.join.auto.words (rw was rows) (omega arith) c.saturating_add-self-inside.ensures)

@@ -27,4 +27,4 @@ returns g c = λ join bitwise.
     let joined = rw wide at c.join_with.ensures.joined in
     let rows = rows_joined old new inside.rows inside.width c.args.to _ join (λ i. get_or others i 0) (get c.args.other.now c.args.from)
     to_in c.join_with.ensures.fit c.words-others.ensures.fit joined.joined joined.around bitwise (λ b lt. c.words-others.ensures.words b (omega arith)) in
-    rw (← c.self.view_is) (seen_written inside.region inside.frame inside.rows inside.width c.args.to inside.edits _ _ old new some c.items_mut.ensures.width c.join_with.auto.words (rw was rows) c.saturating_add-self-inside.ensures)
+    rw (← c.self.view_is) (seen_written inside.region inside.frame inside.rows inside.width c.args.to inside.edits _ _ old new some c.items_mut.ensures.width c.join_with.auto.words (rw was rows) (omega arith) c.saturating_add-self-inside.ensures)

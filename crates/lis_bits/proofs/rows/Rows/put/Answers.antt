@@ -30,4 +30,4 @@ returns c =
     let some = c.items_mut.ensures.value in
     let was = ap (λ o. unwrap_or o []) some in
     let rows = rows_put old inside.rows inside.width c.args.row c.args.bit c.with_bit.result c.args.value lt in_row there c.with_bit.ensures in
-    rw (← c.self.view_is) (seen_written inside.region inside.frame inside.rows inside.width c.args.row inside.edits _ _ old _ some c.items_mut.ensures.width (length-set old place c.with_bit.result) (rw was rows) c.saturating_add-self-inside.ensures)
+    rw (← c.self.view_is) (seen_written inside.region inside.frame inside.rows inside.width c.args.row inside.edits _ _ old _ some c.items_mut.ensures.width (length-set old place c.with_bit.result) (rw was rows) (omega arith) c.saturating_add-self-inside.ensures)

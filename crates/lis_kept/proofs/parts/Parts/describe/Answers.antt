@@ -26,7 +26,7 @@ invariant_of-self c =
     (describes c.args.self.now (the_view c.self.inside) c.self.inside.taxonomy c.args.slot c.args.old.now c.args.new.now c.settle.new.self c.mark_rows.new.marks
     c.self.view_is c.self.invariant c.set_file.ensures.in_range c.requires.slot c.requires.was c.requires.named
     (ap (λ (e : Ext). e.props) c.settle.ensures ∙ c.set_file.ensures.props) (ap (λ (e : Ext). e.sets) c.settle.ensures ∙ (c.set_file.ensures.sets ∙ ap (λ s. set c.self.inside.ext.sets s c.args.new.now) c.from.ensures)) (ap (λ (e : Ext). e.marks) c.settle.ensures)
-    (omega (arith, ap (λ (e : Ext). e.edits) c.settle.ensures, c.set_file.ensures.edits))
+    (omega (arith, ap (λ (e : Ext). e.edits) c.settle.ensures, c.set_file.ensures.edits)) (omega (arith, ap (λ (e : Ext). e.edits) c.settle.ensures, c.set_file.ensures.no_fewer))
     (c.mark_rows.ensures ∙ ap (λ ns. marked c.self.inside.marks (map (block_of c.self.inside.limits Rows) ns)) (c.set_file.ensures.marks ∙ marks_differ c.self.inside.ext c.args.old.now c.args.new.now c.self.invariant.sound.settled))).0
 
 pub returns : goal.returns
@@ -34,6 +34,6 @@ returns c =
     let both = describes c.args.self.now (the_view c.self.inside) c.self.inside.taxonomy c.args.slot c.args.old.now c.args.new.now c.settle.new.self c.mark_rows.new.marks
     c.self.view_is c.self.invariant c.set_file.ensures.in_range c.requires.slot c.requires.was c.requires.named
     (ap (λ (e : Ext). e.props) c.settle.ensures ∙ c.set_file.ensures.props) (ap (λ (e : Ext). e.sets) c.settle.ensures ∙ (c.set_file.ensures.sets ∙ ap (λ s. set c.self.inside.ext.sets s c.args.new.now) c.from.ensures)) (ap (λ (e : Ext). e.marks) c.settle.ensures)
-    (omega (arith, ap (λ (e : Ext). e.edits) c.settle.ensures, c.set_file.ensures.edits))
+    (omega (arith, ap (λ (e : Ext). e.edits) c.settle.ensures, c.set_file.ensures.edits)) (omega (arith, ap (λ (e : Ext). e.edits) c.settle.ensures, c.set_file.ensures.no_fewer))
     (c.mark_rows.ensures ∙ ap (λ ns. marked c.self.inside.marks (map (block_of c.self.inside.limits Rows) ns)) (c.set_file.ensures.marks ∙ marks_differ c.self.inside.ext c.args.old.now c.args.new.now c.self.invariant.sound.settled)) in
     record { describes = both.1; sound = both.0.sound }

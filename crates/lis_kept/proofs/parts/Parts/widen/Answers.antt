@@ -36,7 +36,7 @@ invariant_of-self c =
     (subst L c.from.ensures
     (widens c.args.self.now (the_view c.self.inside) c.self.inside.taxonomy c.from.result ups c.settle.new.self c.mark_rows.new.marks c.self.view_is c.self.invariant c.add_up.ensures.in_range c.requires.named
     (ap (λ (x : Ext). x.props) c.settle.ensures ∙ c.add_up.ensures.props) (ap (λ (x : Ext). x.sets) c.settle.ensures ∙ c.add_up.ensures.sets) (ap (λ (x : Ext). x.marks) c.settle.ensures)
-    (omega (arith, ap (λ (x : Ext). x.edits) c.settle.ensures, c.add_up.ensures.edits))
+    (omega (arith, ap (λ (x : Ext). x.edits) c.settle.ensures, c.add_up.ensures.edits)) (omega (arith, ap (λ (x : Ext). x.edits) c.settle.ensures, c.add_up.ensures.no_fewer))
     (c.mark_rows.ensures ∙ ap (λ ns. marked c.self.inside.marks (map (block_of c.self.inside.limits Rows) ns)) (c.add_up.ensures.marks ∙ marks_lacked e c.from.result ups c.self.invariant.sound.settled)))).0
 
 pub returns : goal.returns
@@ -47,6 +47,6 @@ returns c =
     let both = subst L c.from.ensures
     (widens c.args.self.now (the_view c.self.inside) c.self.inside.taxonomy c.from.result ups c.settle.new.self c.mark_rows.new.marks c.self.view_is c.self.invariant c.add_up.ensures.in_range c.requires.named
     (ap (λ (x : Ext). x.props) c.settle.ensures ∙ c.add_up.ensures.props) (ap (λ (x : Ext). x.sets) c.settle.ensures ∙ c.add_up.ensures.sets) (ap (λ (x : Ext). x.marks) c.settle.ensures)
-    (omega (arith, ap (λ (x : Ext). x.edits) c.settle.ensures, c.add_up.ensures.edits))
+    (omega (arith, ap (λ (x : Ext). x.edits) c.settle.ensures, c.add_up.ensures.edits)) (omega (arith, ap (λ (x : Ext). x.edits) c.settle.ensures, c.add_up.ensures.no_fewer))
     (c.mark_rows.ensures ∙ ap (λ ns. marked c.self.inside.marks (map (block_of c.self.inside.limits Rows) ns)) (c.add_up.ensures.marks ∙ marks_lacked e c.from.result ups c.self.invariant.sound.settled))) in
     record { widens = both.1; sound = both.0.sound }

@@ -8,4 +8,4 @@ returns-clause-ready g c = always_ready c.step.result
 pub returns-clause-carried : goal.returns-clause-carried
 returns-clause-carried g c = λ start entry first tried.
     tried_on start (g.T.Disk.meaning entry) first c.args.self.now c.step.new.self (g.T.Disk.meaning c.args.station.now) (g.T.Disk.meaning c.step.new.station) (asked_by c.args.item.now c.args.payload.now) c.step.result
-    tried c.step.ensures.step c.step.ensures.call c.step.ensures.cause
+    tried c.step.ensures.step c.step.ensures.call c.step.ensures.first_fault c.step.ensures.cause

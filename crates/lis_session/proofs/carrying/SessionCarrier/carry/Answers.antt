@@ -13,4 +13,4 @@ returns-clause-ready g c = is_ready_after c.step.new.self c.step.result c.requir
 
 pub returns-clause-carried : goal.returns-clause-carried
 returns-clause-carried g c = λ start entry first done.
-    has_carried c.step.new.self (asked_by c.args.item.now c.args.payload.now) c.step.result done c.step.ensures.same c.step.ensures.carries c.step.ensures.cause c.step.ensures.left
+    has_carried c.step.new.self (asked_by c.args.item.now c.args.payload.now) c.step.result done c.step.ensures.same c.step.ensures.first_fault c.step.ensures.sound c.step.ensures.carries c.step.ensures.cause c.step.ensures.left

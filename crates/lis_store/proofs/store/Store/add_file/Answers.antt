@@ -1,8 +1,7 @@
-use Rattle.std.proofs.Common.{◌∙◌, nat_lt, List, ℕ, length, Err, sym, ap, subst, arith, ◌≡◌}
+use Rattle.std.proofs.Common.{◌∙◌, nat_lt, List, ℕ, length, Err, sym, ap, subst, ◌≡◌}
 use Rattle.std.specs.List.{list_all}
 use Rattle.std.proofs.lemmas.Result.{err_from_is_err_and}
 use Rattle.arrayvec.specs.ArrayVec.{ArrayVec}
-use Rattle.lis_ext.specs.Ext.{Ext}
 use Rattle.lis_fields.specs.Layouts.{are_blocks}
 use Rattle.lis_model.specs.declared.limits.Limits.{Limits}
 use Rattle.lis_model.specs.Changes.{new_file}
@@ -13,7 +12,7 @@ use Rattle.lis_store.specs.Admitting.{IsAdmitted}
 use Rattle.lis_store.specs.Stored.{Stored, StoreFits}
 use Rattle.lis_store.specs.Changes.{Changes}
 use Rattle.lis_store.specs.Adding.{PutsIn}
-use Rattle.lis_store.proofs.Edits.{edits_saved}
+use Rattle.lis_store.proofs.Edits.{edits_same, edits_saved}
 use Rattle.lis_store.proofs.AddFile.{form_put, limits_put, admitted_put, limits_then, added_sound, added_image, added_placed, added_marks, added_edits, added_changes, lost_sound, lost_limits, lost_ext, lost_image, lost_changes}
 use Rattle.lis_store.proofs.Admitted.{whole_inside, admitted, enough_free, add_done, added_refused}
 use Rattle.lis_store.proofs.store.Store.add_file.Goals as goal
@@ -82,7 +81,7 @@ returns-in_err-blocks-clause-edits g c =
     let m = g.D.Disk.meaning c.args.disk.now in
     let placed = g.D.Disk.meaning c.put_content.new.disk in
     let is : c.put_content.new.parts.ext ≡ c.args.self.now.parts.ext = lost_ext (ArrayVec ℕ) old c.self.invariant c.args.payload.now c.put_content.new.parts c.put_content.new.journal c.put_content.new.is_broken c.in_err-blocks.field-0.0 m placed c.in_err-blocks.ensures.put c.in_err-blocks.ensures.ended ∙ ap (λ (k : Stored). k.parts.ext) c.self.view_is in
-    omega (arith, ap (λ (e : Ext). e.edits) is)
+    edits_same c.args.self.now.parts.ext c.put_content.new.parts.ext is
 
 pub put_in-requires-clause-admitted : goal.put_in-requires-clause-admitted
 put_in-requires-clause-admitted g c =

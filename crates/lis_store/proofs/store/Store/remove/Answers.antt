@@ -1,13 +1,12 @@
-use Rattle.std.proofs.Common.{◌≡◌, ◌∙◌, refl, sym, ap, subst, is_some, Err, arith}
+use Rattle.std.proofs.Common.{◌≡◌, ◌∙◌, refl, sym, ap, subst, is_some, Err}
 use Rattle.std.proofs.lemmas.Result.{err_from_is_err_and}
 use Rattle.lis_catalog.specs.Catalog.{slot_of}
 use Rattle.lis_catalog.proofs.Laws.{rec_at-slot_of}
 use Rattle.lis_store.specs.Stored.{Stored, IsSound, StoreFits}
 use Rattle.lis_store.specs.Judging.{is_among}
 use Rattle.lis_model.specs.Image.{image_blocks}
-use Rattle.lis_ext.specs.Ext.{Ext}
 use Rattle.lis_kept.specs.Kept.{Kept}
-use Rattle.lis_store.proofs.Edits.{edits_saved}
+use Rattle.lis_store.proofs.Edits.{edits_same, edits_saved}
 use Rattle.lis_store.proofs.RemoveFile.{removed_refused, lost_parts, lost_sound, lost_changes, form_given, there_given, same_limits, removed_sound, removed_placed, removed_marks, removed_edits, removed_changes}
 use Rattle.lis_store.proofs.store.Store.remove.Goals as goal
 
@@ -59,7 +58,7 @@ returns-in_err-give_content-clause-edits g c =
     let same = lost_parts (Unit {0}) old c.in-Some.slot c.args.name.now c.self.invariant named c.give_content.new.parts c.give_content.new.is_broken c.in_err-give_content.field-0.0 (g.D.Disk.meaning c.args.disk.now)
     (g.D.Disk.meaning c.give_content.new.disk) c.in_err-give_content.ensures.given c.in_err-give_content.ensures.ended in
     let is : c.give_content.new.parts.ext ≡ c.args.self.now.parts.ext = ap (λ (k : Kept). k.ext) same ∙ ap (λ (k : Stored). k.parts.ext) c.self.view_is in
-    omega (arith, ap (λ (e : Ext). e.edits) is)
+    edits_same c.args.self.now.parts.ext c.give_content.new.parts.ext is
 
 pub take_out-requires-clause-there : goal.take_out-requires-clause-there
 take_out-requires-clause-there g c =

@@ -1,0 +1,8 @@
+use Rattle.std.proofs.lemmas.Bool.{not-true}
+use Rattle.lis_laws.proofs.Touching.{step_told}
+use Rattle.lis_laws.proofs.steps_touch.Goals as goal
+
+pub returns : goal.returns
+returns c now item before form =
+    let told = step_told now item before form in
+    record { touches = told.few.touches; kept = λ other. told.kept (not-true _ other) }
