@@ -72,7 +72,7 @@ fn used(alloc: Global, row: &str) -> Result<Vec<u8>, Fail> {
 }
 
 // What the words do where this call of a kind fails.
-fn ended(
+fn carried(
     alloc: Global,
     words: &[String],
     image: &[u8],
@@ -116,7 +116,7 @@ fn first_wrong(alloc: Global, case: &Case, kind: Kind) -> Result<u64, Fail> {
     let image = used(alloc, before)?;
     for fails in 1..MANY_CALLS {
         let log = Log::new(kind, fails);
-        let ended = ended(alloc, &words, &image, row, &log)?;
+        let ended = carried(alloc, &words, &image, row, &log)?;
         if ended.failed == 0 && ended.status == Status::Done {
             return Ok(0);
         }
