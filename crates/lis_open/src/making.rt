@@ -52,6 +52,7 @@ fn write_image<D: Disk>(disk: &mut D, limits: &Limits) -> Result<(), Failed>
         → Leaves (D.meaning disk.old) (D.meaning disk.new) (InMaking limits.now (D.meaning disk.old).bytes) }
     ensures left { OnOk result (IsTrue (D.meaning disk.old).is_honest
         → Always (D.meaning disk.new) (IsMade limits.now (D.meaning disk.old).bytes)) }
+    ensures settled { OnOk result (IsTrue (D.meaning disk.old).is_honest → IsSettled (D.meaning disk.new) (D.meaning disk.new).bytes) }
     ensures spare { (n : ℕ) → IsTrue (D.meaning disk.old).is_honest → IsSpare limits.now n
         → OnErr result (IsSettledAt (D.meaning disk.old) n)
         → block n (D.meaning disk.new).bytes ≡ block n (D.meaning disk.old).bytes }
@@ -83,6 +84,9 @@ pub fn make<D: Disk>(disk: &mut D, limits: &Limits) -> Result<(), MakeFault>
     // was. Where the disk failed, each of these reads as before that a crash at entry left as it read.
     ensures left { OnOk result (IsTrue (D.meaning disk.old).is_honest
         → Always (D.meaning disk.new) (IsMade limits.now (D.meaning disk.old).bytes)) }
+
+    // Nothing of it is unsynced then: a crash leaves the bytes as they read.
+    ensures settled { OnOk result (IsTrue (D.meaning disk.old).is_honest → IsSettled (D.meaning disk.new) (D.meaning disk.new).bytes) }
     ensures spare { (n : ℕ) → IsTrue (D.meaning disk.old).is_honest → IsSpare limits.now n
         → (result ≡ Err DiskFailed → IsSettledAt (D.meaning disk.old) n)
         → block n (D.meaning disk.new).bytes ≡ block n (D.meaning disk.old).bytes }

@@ -6,3 +6,4 @@ pub mod Runs
 pub mod Grows
 pub mod MakesImage
 pub mod Keeps
+pub mod Agree

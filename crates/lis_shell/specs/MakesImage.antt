@@ -1,7 +1,7 @@
 -- How making an image ends.
 use Rattle.std.specs.Prelude.{◌≡◌, ◌*◌, ◌≤◌, ◌<◌, IsTrue}
 use Rattle.lis_ports.specs.Meaning.{Meaning}
-use Rattle.lis_ports.specs.Runs.{Always}
+use Rattle.lis_ports.specs.Runs.{Always, IsSettled}
 use Rattle.lis_model.specs.declared.limits.Limits.{Limits}
 use Rattle.lis_model.specs.Image.{image_blocks}
 use Rattle.lis_model.specs.State.{empty_state}
@@ -10,10 +10,11 @@ use Rattle.lis_open.specs.Makes.{IsMade}
 use Rattle.lis_shell.specs.declared.status.Status.{Status}
 use Rattle.lis_shell.specs.declared.status.Status.TheVariants.{Done, Usage, NotAnImage, TooShort, DiskFault, InputFault, OutputFault, InputLimit, NoMemory}
 
--- Done, and each image stands for the empty state and is as making leaves it; too short, exactly where there are fewer bytes than the image takes; or the disk failed.
+-- Done: each image stands for the empty state and is as making leaves it, and a crash then leaves the bytes as they read; too short, exactly where there are fewer bytes than the image takes; or the disk failed.
 abbrev pub MadeImage : Limits → Meaning → Meaning → Status → Type 0
 MadeImage limits old new Done =
-    (4096 * image_blocks limits ≤ old.len) × (IsTrue old.is_honest → Always new (λ image. Stands image (empty_state limits) × IsMade limits old.bytes image))
+    (4096 * image_blocks limits ≤ old.len)
+    × (IsTrue old.is_honest → Always new (λ image. Stands image (empty_state limits) × IsMade limits old.bytes image) × IsSettled new new.bytes)
 MadeImage limits old new (TooShort len need) = (len ≡ old.len) × (need ≡ 4096 * image_blocks limits) × (len < need)
 MadeImage limits old new DiskFault = 4096 * image_blocks limits ≤ old.len
 MadeImage limits old new Usage = ⊥

@@ -1,6 +1,7 @@
 //! The top call: the words of the command line, and a session over a state.
 #![tactic(auto)]
 
+pub mod laws;
 pub mod serving;
 pub mod session;
 pub mod status;

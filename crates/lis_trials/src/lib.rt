@@ -1,8 +1,9 @@
-//! The program's sessions as tables: what goes in, and what must be shown. The tests are all there is here.
+//! The program's sessions as tables: what goes in, and what must be shown. But for what a session begins with, all here are tests.
 #![tactic(auto)]
 
 #[cfg(test)]
 mod crashes;
+pub mod entry;
 #[cfg(test)]
 mod failures;
 #[cfg(test)]

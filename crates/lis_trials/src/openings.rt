@@ -1,5 +1,6 @@
 //! What making an image leaves, and what opening answers to each kind of damage.
 
+use crate::entry;
 use lis_memdisk::MemStation;
 use lis_model::limits::Limits;
 use lis_model::spot::Spot;
@@ -244,9 +245,10 @@ fn making(disk: &mut MemStation) -> Result<(), MakeFault> {
 }
 
 fn empty_image(alloc: Global) -> Result<MemStation, Fail> {
-    let mut disk = disk_of(alloc, 0, IMAGE_LEN)?;
-    making(&mut disk)?;
-    Ok(disk)
+    match entry::empty_image(alloc, &LIMITS, 0)? {
+        None => Err("no image was made".into()),
+        Some(disk) => Ok(disk),
+    }
 }
 
 fn put(disk: &mut MemStation, at: u64, bytes: &[u8]) -> Result<(), Fail> {

@@ -1,4 +1,4 @@
-use Rattle.std.proofs.Common.{◌∙◌}
+use Rattle.std.proofs.Common.{refl, sym, ◌∙◌}
 use Rattle.std.proofs.lemmas.Result.{err_from_is_err_and, IfErr-at_err, on_ok_weaker}
 use Rattle.lis_ports.proofs.Moments.{leaves_then}
 use Rattle.lis_open.specs.Makes.{IsSettledAt}
@@ -63,6 +63,12 @@ returns-clause-left g c = on_ok_weaker c.write_first.result (λ written. λ hone
     let honest2 = c.wipe.ensures.run.honest ∙ honest1 in
     made_all c.args.limits.now (g.D.Disk.meaning c.args.disk.now).bytes (c.in_ok-take_name.ensures.torn honest) (c.wipe.ensures.spreads honest1)
     (c.in_ok-wipe.ensures.wiped honest1) (written honest2) (c.write_first.ensures.spreads honest2))
+    c.write_first.ensures.settled
+
+pub returns-clause-settled : goal.returns-clause-settled
+returns-clause-settled g c = on_ok_weaker c.write_first.result (λ written. λ honest.
+    let settled = written (c.wipe.ensures.run.honest ∙ (c.take_name.ensures.run.honest ∙ honest)) in
+    record { reads = refl; only = λ image is. settled.only image is ∙ sym settled.reads })
     c.write_first.ensures.settled
 
 pub returns-clause-spare : goal.returns-clause-spare

@@ -11,8 +11,10 @@ returns-in-Ok-clause-keeps g c = record {
     c.in-Ok.ensures.short,
     λ honest.
         let stands = c.in-Ok.ensures.made honest in
-        let left = c.in-Ok.ensures.left honest in
-        record { reads = (stands.reads, left.reads); leaves = λ image there. (stands.leaves image there, left.leaves image there) },
+        let left = c.in-Ok.ensures.left honest in (
+          record { reads = (stands.reads, left.reads); leaves = λ image there. (stands.leaves image there, left.leaves image there) },
+          c.in-Ok.ensures.settled honest,
+        ),
   );
   run = c.in-Ok.ensures.run;
   making = c.in-Ok.ensures.any_moment;
