@@ -65,7 +65,7 @@ struct Ended {
 // The bytes of an image on which a session was carried out. Its records are open.
 fn used(alloc: Global, row: &str) -> Result<Vec<u8>, Fail> {
     let mut station = MemStation::new(alloc, &fresh(alloc)?, 0)?;
-    if run(alloc, row, &mut station)? != Status::Done {
+    if run(alloc, row, &mut station)? != Status::DONE {
         return Err("the session did not end".into());
     }
     bytes_of(alloc, &mut station)
@@ -96,12 +96,12 @@ fn ended(
     })
 }
 
-// The status of a fault of this kind.
-fn named(kind: Kind) -> Status {
+// Whether the status is that of a fault of this kind.
+fn is_named(status: &Status, kind: Kind) -> bool {
     match kind {
-        Kind::Take => Status::InputFault,
-        Kind::Disk => Status::DiskFault,
-        Kind::Show => Status::OutputFault,
+        Kind::Take => *status == Status::INPUT_FAULT,
+        Kind::Disk => status.is_disk_fault(),
+        Kind::Show => *status == Status::OUTPUT_FAULT,
     }
 }
 
@@ -117,10 +117,10 @@ fn first_wrong(alloc: Global, case: &Case, kind: Kind) -> Result<u64, Fail> {
     for fails in 1..MANY_CALLS {
         let log = Log::new(kind, fails);
         let ended = ended(alloc, &words, &image, row, &log)?;
-        if ended.failed == 0 && ended.status == Status::Done {
+        if ended.failed == 0 && ended.status == Status::DONE {
             return Ok(0);
         }
-        if ended.failed != ended.calls || ended.status != named(kind) {
+        if ended.failed != ended.calls || !is_named(&ended.status, kind) {
             return Ok(fails);
         }
     }
