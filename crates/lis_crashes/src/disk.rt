@@ -147,7 +147,16 @@ pub fn image_after(alloc: Global, disk: &MemStation, call: u64, pick: u8) -> Res
     Ok(image)
 }
 
-/// What a mount reads after a crash just after a call, which a stop at any call of that mount does not change.
+/// What a mount reads after a crash just after a call.
+pub fn fills_left(alloc: Global, disk: &MemStation, call: u64, pick: u8) -> Result<[u8; 2], Fail>
+    requires { IsTrue (meaning_of disk.now).is_recorded }
+{
+    let image = image_after(alloc, disk, call, pick)?;
+    let (mut again, journal) = mounted(alloc, &image)?;
+    fills_of(alloc, &mut again, &journal)
+}
+
+/// The same, which a stop at any call of that mount does not change.
 pub fn fills_after(alloc: Global, disk: &MemStation, call: u64, pick: u8) -> Result<[u8; 2], Fail>
     requires { IsTrue (meaning_of disk.now).is_recorded }
 {

@@ -4,7 +4,7 @@ ghost use Rattle.std.specs.Prelude.{[], ◌≡◌, ◌≤◌, false, OnOk, IsTru
 ghost use Rattle.lis_memdisk.specs.MemStation.{meaning_of};
 ghost use Rattle.lis_crashes.specs.Idle.{IsIdle, IsSameDisk};
 
-use crate::disk::{commit, fills_after, keep, mounted, place_nines, zeros};
+use crate::disk::{commit, fills_after, fills_left, keep, mounted, place_nines, zeros};
 use lis_journal::Journal;
 use lis_memdisk::MemStation;
 use std::alloc::Global;
@@ -45,7 +45,7 @@ fn a_stop_in_a_commit_leaves_all_or_none(rt: HostRuntime) -> Result<(), Fail> {
     are_read(alloc, &disk, [start, disk.calls()], [[0, 0], [7, 7]])
 }
 
-// Commits the first home block so many times.
+// Commits the first home block so many times, filled with 1, 2 and so on. A mount after a crash behind each of them reads what it kept.
 fn keep_all(
     alloc: Global,
     disk: &mut MemStation,
@@ -54,27 +54,33 @@ fn keep_all(
 ) -> Result<(), Fail>
     requires idle { IsIdle 594 journal.old }
     requires long { 2433024 ≤ (meaning_of disk.old).len }
+    requires recorded { IsTrue (meaning_of disk.old).is_recorded }
     ensures idle { OnOk result (IsIdle 594 journal.new) }
     ensures same { IsSameDisk (meaning_of disk.old) (meaning_of disk.new) }
 {
-    for fill in 0..count {
+    for number in 0..count {
+        let fill = number.saturating_add(1);
         keep(alloc, disk, journal, [Some(fill), None])?;
+        if fills_left(alloc, disk, disk.calls(), 165)? != [fill, 0] {
+            return Err("a stop behind a commit lost it".into());
+        }
     }
     Ok(())
 }
 
-// 64 commits make five calls each: two writes, a sync, a write, and a sync. The next one needs a checkpoint, and the later record wins.
+// 64 commits of a block make five calls each: two writes, a sync, a write, and a sync. The next one needs a checkpoint, and the last record
+// wins.
 #[test]
 fn a_stop_in_a_checkpoint_changes_nothing(rt: HostRuntime) -> Result<(), Fail> {
     let alloc = rt.alloc();
     let (mut disk, mut journal) = mounted(alloc, &zeros(alloc)?)?;
     let opened = disk.calls();
-    keep(alloc, &mut disk, &mut journal, [None, Some(3)])?;
-    keep_all(alloc, &mut disk, &mut journal, 63)?;
+    keep_all(alloc, &mut disk, &mut journal, 64)?;
     let start = disk.calls();
     assert_eq!(rt; start.saturating_sub(opened), 64 * 5);
     keep(alloc, &mut disk, &mut journal, [Some(70), Some(4)])?;
-    are_read(alloc, &disk, [start, disk.calls()], [[62, 3], [70, 4]])
+    assert!(rt; disk.calls().saturating_sub(start) > 6);
+    are_read(alloc, &disk, [start, disk.calls()], [[64, 0], [70, 4]])
 }
 
 // The block that is placed is in open records, so that a checkpoint comes first.

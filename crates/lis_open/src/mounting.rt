@@ -130,8 +130,7 @@ fn mount_image<D: Disk>(alloc: Global, disk: &mut D, limits: Limits) -> Result<S
     read_store(disk, limits, journal, room)
 }
 
-/// Opens the image on a disk. It writes nothing but what unfinished records ask for, and before its first sync nothing. All memory is
-/// taken before that.
+/// Opens the image on a disk. It writes nothing but what unfinished records ask for.
 pub fn mount<D: Disk>(alloc: Global, disk: &mut D) -> Result<Store, OpenFault>
     ensures run { IsDiskRun (D.meaning disk.old) (D.meaning disk.new) }
     ensures cause { HasOpenCause (D.meaning disk.old).disk_faults (D.meaning disk.new).disk_faults result }

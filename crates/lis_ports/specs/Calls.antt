@@ -14,7 +14,8 @@ pub record HasCause {T E : Type 0} (before now : ℕ) (result : Result T E) : Ty
   pub stays : OnOk result (now ≡ before)
   pub rose : OnErr result (Rose before now)
 
--- The first fault ends: of a run no call came behind a fault of it. When the last call began, no more calls had failed than at first.
+-- The first fault ends: of a run no call came behind a fault of it. When the last call began, no more calls had failed than at first, or than
+-- when the last call before the run began.
 abbrev pub FaultEnds : ℕ → ℕ → ℕ → Type 0
 FaultEnds failed_at_first before now = now ≤ max before failed_at_first
 

@@ -129,7 +129,7 @@ pub fn lisfs<S: Source, T: Station>(
     ensures few { TakesFew (2 ^ 40) (S.left input.old) (S.left input.new) }
 
     // `run`: stopped at any moment, the image stands for the model's state after some first items, and what was shown is a front of
-    // exactly their replies. Until the first sync a stop leaves what it could have left at entry, with nothing shown.
+    // exactly their replies; or it is what a stop could have left at entry, with nothing shown since.
     ensures headline { task_of (map string_bytes words.now) ≡ Some Run → (state : State) (bytes : List ℕ)
         → Entry (T.meaning station.old) (S.left input.old) state bytes
         → Headline state (script bytes (2 ^ 40)) (T.meaning station.old) (T.meaning station.new) }
@@ -143,7 +143,7 @@ pub fn lisfs<S: Source, T: Station>(
         → IsComplete state (2 ^ 40) bytes (S.left input.new) (T.meaning station.old).shown (T.meaning station.new) result }
 
     // `grow`: stopped at any moment, the image stands for the model's state after some first items of the session, and what was shown is a
-    // front of its summary: nothing before all items were carried out. Until the first sync a stop leaves what it could have left at entry.
+    // front of its summary: nothing before all items were carried out; or it is what a stop could have left at entry.
     ensures grow_headline { (n : ℕ) → task_of (map string_bytes words.now) ≡ Some (Grow n) → (state : State)
         → GrowEntry (T.meaning station.old) state
         → GrowHeadline state (grow_items n) (T.meaning station.old) (T.meaning station.new) }

@@ -191,14 +191,9 @@ fn wrong_fuse(alloc: Global, script: &Script, image: &[u8]) -> Result<Option<u64
     Ok(None)
 }
 
-// The same of the first of these scripts.
-fn wrong_of_any(
-    alloc: Global,
-    words: &[&str],
-    scripts: &[&Script],
-    picks: [u8; 2],
-) -> Result<Option<String>, Fail> {
-    for script in scripts {
+// The same of the first of the scripts.
+fn wrong_of_any(alloc: Global, words: &[&str], picks: [u8; 2]) -> Result<Option<String>, Fail> {
+    for script in [&KINDS, &ONE_FILE, &TWO_FILES] {
         let wrong = wrong_of(alloc, words, script, picks)?;
         if wrong.is_some() {
             return Ok(wrong);
@@ -211,7 +206,7 @@ fn wrong_of_any(
 fn a_crash_that_takes_all_or_nothing_leaves_the_state_before_a_command_or_behind_it(
     rt: HostRuntime,
 ) -> Result<(), Fail> {
-    let wrong = wrong_of_any(rt.alloc(), MAKES[0], &[&ONE_FILE, &TWO_FILES], [0, 1])?;
+    let wrong = wrong_of_any(rt.alloc(), MAKES[0], [0, 1])?;
     assert!(rt; wrong.is_none(), "{wrong:?}");
     Ok(())
 }
@@ -220,7 +215,7 @@ fn a_crash_that_takes_all_or_nothing_leaves_the_state_before_a_command_or_behind
 fn a_crash_that_takes_some_leaves_the_state_before_a_command_or_behind_it(
     rt: HostRuntime,
 ) -> Result<(), Fail> {
-    let wrong = wrong_of_any(rt.alloc(), MAKES[0], &[&ONE_FILE, &TWO_FILES], [2, 165])?;
+    let wrong = wrong_of_any(rt.alloc(), MAKES[0], [2, 165])?;
     assert!(rt; wrong.is_none(), "{wrong:?}");
     Ok(())
 }
@@ -229,14 +224,14 @@ fn a_crash_that_takes_some_leaves_the_state_before_a_command_or_behind_it(
 fn so_it_is_on_an_image_of_version_2_where_all_or_nothing_is_taken(
     rt: HostRuntime,
 ) -> Result<(), Fail> {
-    let wrong = wrong_of(rt.alloc(), MAKES[1], &KINDS, [0, 1])?;
+    let wrong = wrong_of_any(rt.alloc(), MAKES[1], [0, 1])?;
     assert!(rt; wrong.is_none(), "{wrong:?}");
     Ok(())
 }
 
 #[test]
 fn and_where_some_is_taken(rt: HostRuntime) -> Result<(), Fail> {
-    let wrong = wrong_of(rt.alloc(), MAKES[1], &KINDS, [2, 165])?;
+    let wrong = wrong_of_any(rt.alloc(), MAKES[1], [2, 165])?;
     assert!(rt; wrong.is_none(), "{wrong:?}");
     Ok(())
 }

@@ -20,8 +20,13 @@ const OUTSIDE: Outside = Outside { step: 7, ..SOUND };
 
 const SHOW_STEP: usize = 7;
 
-/// Words of the program, a session that makes the image with which they begin, and the input.
-type Case = (&'static [&'static str], &'static str, &'static str);
+/// Words of the program, a session that makes the image with which they begin, the input, and the kinds of calls that they make.
+type Case = (
+    &'static [&'static str],
+    &'static str,
+    &'static str,
+    &'static [Kind],
+);
 
 /// The session leaves open records, so that the opening brings them home.
 static CASES: [Case; 6] = [
@@ -29,28 +34,38 @@ static CASES: [Case; 6] = [
         &["try", "64", "64", "8"],
         "",
         "mkdir music;create a music;add m 5;hello;frob;ls;cat m;cd music;pwd;props a;way a;stat;rm a;ls",
+        &[Kind::Take, Kind::Show],
     ),
     (
         &["make", "i", "64", "64", "8"],
         "mkdir old;create o old;",
         "ls;",
+        &[Kind::Disk],
     ),
     (
         &["make", "i", "64", "64", "8", "v2"],
         "mkdir old;create o old;",
         "ls;",
+        &[Kind::Disk],
     ),
     (
         &["run", "i"],
         "mkdir old;create o old;",
         "mkdir music;mkdir rock;create s1 rock;add m 5 music;hello;axiom rock music;ls;cat m;frob;write m 2;hi;rename s1 s2.c;cd music;pwd;props m;way m;stat;cd /;unaxiom rock music;mv s2.c /music;rm m;rmdir nosuch;ls",
+        &[Kind::Take, Kind::Disk, Kind::Show],
     ),
-    (&["upgrade", "i"], "mkdir old;create o old;", "ls;"),
+    (
+        &["upgrade", "i"],
+        "mkdir old;create o old;",
+        "ls;",
+        &[Kind::Disk],
+    ),
     // There is room for the words of the first lines alone: no more files are made.
     (
         &["grow", "i", "7"],
         "mkdir k:;create a k:10 k:11 k:12 k:13 k:14 k:15 k:16 k:17 k:18 k:19 k:20 k:21 k:22 k:23 k:24 k:25;create b k:26 k:27 k:28 k:29 k:30 k:31 k:32 k:33 k:34 k:35 k:36 k:37 k:38 k:39 k:40 k:41;create c k:42 k:43 k:44 k:45 k:46 k:47;",
         "ls;",
+        &[Kind::Disk, Kind::Show],
     ),
 ];
 
@@ -72,7 +87,7 @@ fn used(alloc: Global, row: &str) -> Result<Vec<u8>, Fail> {
 }
 
 // What the words do where this call of a kind fails.
-fn ended(
+fn carried(
     alloc: Global,
     words: &[String],
     image: &[u8],
@@ -106,9 +121,9 @@ fn is_named(status: &Status, kind: Kind) -> bool {
 }
 
 // The first call of this kind that fails and is not the last one of both objects, or ends the words with another status. 0 where there is
-// none.
+// none, and they make calls of this kind just where they are to.
 fn first_wrong(alloc: Global, case: &Case, kind: Kind) -> Result<u64, Fail> {
-    let (names, before, row) = case;
+    let (names, before, row, kinds) = case;
     let mut words = Vec::new(alloc);
     for name in *names {
         words.push(String::from_str(alloc, name)?)?;
@@ -116,9 +131,10 @@ fn first_wrong(alloc: Global, case: &Case, kind: Kind) -> Result<u64, Fail> {
     let image = used(alloc, before)?;
     for fails in 1..MANY_CALLS {
         let log = Log::new(kind, fails);
-        let ended = ended(alloc, &words, &image, row, &log)?;
+        let ended = carried(alloc, &words, &image, row, &log)?;
         if ended.failed == 0 && ended.status == Status::DONE {
-            return Ok(0);
+            let is_made = kinds.iter().any(|made| *made == kind);
+            return Ok(if is_made == (fails > 1) { 0 } else { fails });
         }
         if ended.failed != ended.calls || !is_named(&ended.status, kind) {
             return Ok(fails);
