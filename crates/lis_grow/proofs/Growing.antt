@@ -16,7 +16,7 @@ use Rattle.lis_store.specs.Stands.{Stands}
 use Rattle.lis_session.specs.declared.end.End.{End}
 use Rattle.lis_session.specs.declared.end.End.TheVariants.{DiskFault, OutputFault}
 use Rattle.lis_session.specs.Parts.{Answers}
-use Rattle.lis_session.proofs.Moments.{begins_nothing, front_begins, state_whole}
+use Rattle.lis_session.proofs.Moments.{begins_nothing, front_begins, state_whole, take_none}
 use Rattle.lis_grow.specs.declared.summary.Sum.{Sum}
 use Rattle.lis_grow.specs.Summary.{summary_text}
 use Rattle.lis_grow.specs.Session.{refusals, listings, summary, StandsAmong, Summed, GrowMoment, GrowEnded, Grows}
@@ -55,6 +55,16 @@ last_moment start items image shown stands begins = record {
   stands = subst (λ s. Stands image s) (sym (state_whole start items)) stands;
   front = begins;
   quiet = λ less. absurd (omega (arith, less));
+}
+
+-- before anything was carried out
+pub grow_none : (start : Situation) (items : List Item) (image : List ℕ) → Stands image start.state → GrowMoment start items image []
+grow_none start items image stands = record {
+  count = 0;
+  within = omega arith;
+  stands = subst (λ xs. Stands image (situation_after start xs).state) (sym (take_none items)) stands;
+  front = begins_nothing _;
+  quiet = λ less. refl;
 }
 
 -- a fault of the disk

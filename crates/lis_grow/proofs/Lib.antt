@@ -2,5 +2,5 @@ pub mod Comings
 pub mod Takings
 mod Short
 mod Going
-mod Growing
+pub mod Growing
 mod Showing

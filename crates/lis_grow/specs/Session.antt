@@ -2,8 +2,8 @@
 use Rattle.std.specs.Prelude.{◌≡◌, ℕ, ◌+◌, ◌≤◌, ◌<◌, if◌then◌else◌, List, [], ◌∷◌, length, Option, Result, Ok, Err, IfOk}
 use Rattle.std.specs.Io.KnownBytes.{append_known}
 use Rattle.lis_ports.specs.Meaning.{Meaning}
-use Rattle.lis_ports.specs.Runs.{Adds, Leaves, Always}
-use Rattle.lis_ports.specs.Since.{Begins, Since}
+use Rattle.lis_ports.specs.Runs.{Leaves, Always}
+use Rattle.lis_ports.specs.Since.{Begins}
 use Rattle.lis_ports.specs.declared.disk.Failed.{Failed}
 use Rattle.lis_journal.specs.Images.{KeepsPast}
 use Rattle.lis_model.specs.Image.{image_blocks}
@@ -15,6 +15,7 @@ use Rattle.lis_session.specs.declared.end.End.{End}
 use Rattle.lis_session.specs.declared.end.End.TheVariants.{DiskFault, OutputFault}
 use Rattle.lis_session.specs.Item.{FitsAt}
 use Rattle.lis_session.specs.Session.{state_after}
+use Rattle.lis_session.specs.Runs.{Goes}
 use Rattle.lis_session.specs.Tally.{is_refusal, listed}
 use Rattle.lis_grow.specs.Grow.{grow_bytes}
 use Rattle.lis_grow.specs.Summary.{summary_text}
@@ -81,8 +82,6 @@ GrowEnded start items before new (Ok done) = GrewAll start items before new (sum
 GrowEnded start items before new (Err OutputFault) = (shown : List ℕ) × Begins shown (summary start items) × GrewAll start items before new shown
 GrowEnded start items before new (Err DiskFault) = new.shown ≡ before
 
--- the session: its moments, that the blocks past the image stay, and how it ended
-pub record Grows (start : Situation) (items : List Item) (old new : Meaning) (end : Type 0) : Type 0 where
-  pub moments : Adds old new (Since old.shown (GrowMoment start items))
-  pub past : KeepsPast (image_blocks start.state.limits) old new
-  pub ended : end
+-- the session
+abbrev pub Grows : Situation → List Item → Meaning → Meaning → Type 0 → Type 0
+Grows start items old new end = Goes (GrowMoment start items) start.state.limits old new end

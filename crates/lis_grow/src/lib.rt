@@ -7,6 +7,7 @@ mod piece;
 pub mod session;
 mod source;
 pub mod summary;
+mod summing;
 
 pub use source::GrowSource;
 

@@ -33,6 +33,7 @@ pub record ReadSoFar (limit : ℕ) (left_before left : Option (List ℕ)) (readi
   pub took : Consumes left_before (stream_of reading.stock left) bytes
   pub rest : length bytes + reading.stock.rest ≡ limit + 1
   pub within : 0 < reading.stock.rest
+  pub each_some : length first ≤ length bytes
   pub going : reading.is_ended ≡ false
   pub few : length reading.stock.ahead ≤ reading.stock.rest
   pub is : ((reading.is_closed ≡ false) × Goes bytes first) ⊎ ((reading.is_closed ≡ true) × Ends bytes first reading left)
@@ -48,6 +49,7 @@ read_none limit left reading is = subst (λ r. ReadSoFar limit left left r []) (
   took = unread left;
   rest = omega arith;
   within = omega arith;
+  each_some = omega arith;
   going = refl;
   few = omega arith;
   is = inl (refl, record { all = λ more. refl; whole = λ more. refl });
@@ -96,6 +98,7 @@ read_whole limit left_before left left_after old new first item read goes going 
   took = consumes_then left_before (stream_of old.stock left) _ read.bytes gave.bytes read.took gave.gave.took;
   rest = omega (arith, read.rest, gave.gave.rest, length-append read.bytes gave.bytes);
   within = gave.within;
+  each_some = omega (arith, read.each_some, gave.some, length-append read.bytes gave.bytes, length-append first (item ∷ []));
   going = going;
   few = few;
   is = inl (opened, goes_more read.bytes gave.bytes first item goes gave.is);
@@ -110,6 +113,7 @@ read_last limit left_before left left_after old new first item read goes going g
   took = consumes_then left_before (stream_of old.stock left) _ read.bytes gave.bytes read.took gave.gave.took;
   rest = omega (arith, read.rest, gave.gave.rest, length-append read.bytes gave.bytes);
   within = gave.within;
+  each_some = omega (arith, read.each_some, gave.some, length-append read.bytes gave.bytes, length-append first (item ∷ []));
   going = going;
   few = few;
   is = inr (closed, record { all = goes.all gave.bytes ∙ ap (λ items. first ++ items) gave.is.all; nothing_ahead = gave.nothing_ahead; at_end = gave.at_end });

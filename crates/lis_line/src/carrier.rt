@@ -1,6 +1,6 @@
 //! The one loop of a session: an item after another is read, and carried out.
 
-ghost use Rattle.std.specs.Prelude.{◌≡◌, ℕ, ◌≤◌, ◌^◌, List, [], ◌∷◌, ◌++◌, IfOk, IfSome, IsSome, MatchResult};
+ghost use Rattle.std.specs.Prelude.{◌≡◌, ℕ, ◌+◌, ◌≤◌, ◌^◌, List, [], ◌∷◌, ◌++◌, IfOk, IfSome, IsSome, MatchResult};
 ghost use Rattle.lis_ports.specs.Calls.{FaultEnds};
 ghost use Rattle.lis_ports.specs.Meaning.{Meaning};
 ghost use Rattle.lis_model.specs.Step.{Item as Asked};
@@ -16,8 +16,8 @@ pub trait Carrier {
     /// Why an item could not be carried out.
     type Fault;
 
-    /// Whether it can carry out an item on such a station.
-    ghost is_ready: { Self → Meaning → Type 0 };
+    /// Whether it can carry out so many items more on such a station.
+    ghost is_ready: { Self → Meaning → ℕ → Type 0 };
 
     /// What it and the station have come to since a start: these items were carried out, in this order.
     ghost has_done: { Self → Meaning → List Asked → Self → Meaning → Type 0 };
@@ -33,8 +33,9 @@ pub trait Carrier {
         station: &mut T,
     ) -> Result<(), Self::Fault>
         requires asked { IsSome (asked_by item.now payload.now) }
-        requires ready { is_ready self.old (T.meaning station.old) }
-        ensures ready { IfOk result (λ _. is_ready self.new (T.meaning station.new)) }
+        requires ready { (more : ℕ) × is_ready self.old (T.meaning station.old) (more + 1) }
+        ensures ready { (more : ℕ) → is_ready self.old (T.meaning station.old) (more + 1)
+            → IfOk result (λ _. is_ready self.new (T.meaning station.new) more) }
         ensures carried { (start : Self) (entry : T) (first : List Asked) → has_done start (T.meaning entry) first self.old (T.meaning station.old)
             → IfSome (asked_by item.now payload.now) (λ asked. MatchResult result
             (λ _. has_done start (T.meaning entry) (first ++ asked ∷ []) self.new (T.meaning station.new))
@@ -55,7 +56,7 @@ pub enum Halt<F> {
 }
 
 /// Carries out the items of an input of at most `limit` bytes, up to its end, its limit or the first fault. It takes at most one byte past
-/// the limit.
+/// the limit. Each item takes a byte at least, so there are at most `limit` items.
 pub fn carry_all<C: Carrier, S: Source, T: Station>(
     carrier: &mut C,
     payload: &mut Payload,
@@ -64,7 +65,7 @@ pub fn carry_all<C: Carrier, S: Source, T: Station>(
     limit: u64,
 ) -> Halt<C::Fault>
     requires limit { limit ≤ 2 ^ 40 }
-    requires ready { C.is_ready carrier.old (T.meaning station.old) }
+    requires ready { C.is_ready carrier.old (T.meaning station.old) limit }
     requires start { C.has_done carrier.old (T.meaning station.old) [] carrier.old (T.meaning station.old) }
     ensures few { TakesFew limit (S.left input.old) (S.left input.new) }
     ensures cause { HasHaltCause (S.faults input.old) (S.faults input.new) result }

@@ -28,7 +28,7 @@ use std::alloc::{AllocError, Global};
 use thiserror::Error;
 
 /// Why an image was not opened.
-#[derive(Debug, Drop, Error)]
+#[derive(Clone, Copy, Debug, PartialEq, Eq, Error)]
 pub enum OpenFault {
     /// How many bytes the disk has, and how many are needed.
     #[error("the disk has {0} bytes, and {1} are needed")]

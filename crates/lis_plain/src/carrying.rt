@@ -11,8 +11,8 @@ use lis_ports::Station;
 impl Carrier for Plain {
     type Fault = PlainEnd;
 
-    // It takes any item, on any station.
-    ghost is_ready = { λ plain m. Unit {0} };
+    // It takes any items, on any station.
+    ghost is_ready = { λ plain m more. Unit {0} };
 
     ghost has_done = { Tried };
 

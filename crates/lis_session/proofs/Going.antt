@@ -19,8 +19,8 @@ use Rattle.lis_session.specs.declared.end.End.{End}
 use Rattle.lis_session.specs.declared.end.End.TheVariants.{DiskFault, OutputFault}
 use Rattle.lis_session.specs.Session.{Situated}
 use Rattle.lis_session.specs.Item.{FitsAt, OneItem, CarriesOut, HasEndCause, StoreLeft, IsSameStation}
-use Rattle.lis_session.specs.Runs.{StopsAt, Serves}
-use Rattle.lis_session.specs.Served.{IsReady, DoneSoFar, HasDone, HasStopped, StoppedAt, situation_at}
+use Rattle.lis_session.specs.Runs.{StopsAt, StoppedAt, Serves}
+use Rattle.lis_session.specs.Served.{IsReady, DoneSoFar, HasDone, HasStopped, situation_at}
 use Rattle.lis_session.proofs.Fitting.{same_none, same_then}
 use Rattle.lis_session.proofs.Laws.{limits_after, last_reply, last_situation}
 use Rattle.lis_session.proofs.Moments.{moment_in, session_on}
@@ -67,7 +67,7 @@ module _ (start : Situation) (first : List Item) (item : Item) (old mid new : Me
   }
 
   stopped_in : (fault : End) → OneItem (situation_after start first) (step (situation_after start first) item) mid new (Err fault) fits_after place_after
-      → Serves start (first ++ item ∷ []) old new (StoppedAt start (first ++ item ∷ []) old new fault)
+      → Serves start (first ++ item ∷ []) old new (StoppedAt start (first ++ item ∷ []) old.shown new fault)
   stopped_in DiskFault one = serves_item DiskFault (Unit {0}) one tt
   stopped_in OutputFault one =
       let said = one.ended in

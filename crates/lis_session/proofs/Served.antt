@@ -13,17 +13,17 @@ use Rattle.lis_session.specs.declared.end.End.{End}
 use Rattle.lis_session.specs.declared.end.End.TheVariants.{DiskFault, OutputFault}
 use Rattle.lis_session.specs.Session.{Situated, SessionMoment}
 use Rattle.lis_session.specs.Item.{FitsAt}
-use Rattle.lis_session.specs.Runs.{Carried, CarriedAll, CarriedToLimit, CarriedWhole, Serves}
-use Rattle.lis_session.specs.Served.{DoneSoFar, HasDone, HasStopped, StoppedAt, situation_at}
+use Rattle.lis_session.specs.Runs.{Carried, CarriedAll, CarriedToLimit, CarriedWhole, StoppedAt, Serves}
+use Rattle.lis_session.specs.Served.{DoneSoFar, HasDone, HasStopped, situation_at}
 use Rattle.lis_session.proofs.Moments.{moment_more, session_more}
 
 carried_so_far : {start : Situation} {first : List Item} {old now : Meaning} {fits : State → Type 0} {place : List _} → DoneSoFar start first old now fits place → Carried start first old.shown now
 carried_so_far done = record { shown = done.shown; stands = done.fitting.stands }
 
 -- a fault in an item of a longer script
-stopped_more : (start : Situation) (items first others : List Item) (entry m : Meaning) (fault : End) → items ≡ first ++ others → StoppedAt start first entry m fault → StoppedAt start items entry m fault
-stopped_more start items first others entry m DiskFault all stop = tt
-stopped_more start items first others entry m OutputFault all stop = record {
+stopped_more : (start : Situation) (items first others : List Item) (before : Option (List ℕ)) (m : Meaning) (fault : End) → items ≡ first ++ others → StoppedAt start first before m fault → StoppedAt start items before m fault
+stopped_more start items first others before m DiskFault all stop = tt
+stopped_more start items first others before m OutputFault all stop = record {
   bytes = stop.bytes;
   shown = stop.shown;
   moment = always_weaken _ stop.moment (λ image moment.
@@ -83,11 +83,11 @@ module _ (start : Situated) (entry : Meaning) (first : List Item) (now : Situate
 
   -- at a fault in an item
   pub serves_stopped : (item : Item) (fault : End) → HasStopped start entry first item fault now m → IsFront (script input limit) (first ++ item ∷ [])
-      → Serves (situation_at start state) (script input limit) entry m (StoppedAt (situation_at start state) (script input limit) entry m fault)
+      → Serves (situation_at start state) (script input limit) entry m (StoppedAt (situation_at start state) (script input limit) entry.shown m fault)
   serves_stopped item fault has front =
       let served = has.serves state fitting in
       record {
         moments = session_more (situation_at start state) (script input limit) (first ++ item ∷ []) front.0 front.1 served.moments;
         past = served.past;
-        ended = stopped_more (situation_at start state) (script input limit) (first ++ item ∷ []) front.0 entry m fault front.1 served.ended;
+        ended = stopped_more (situation_at start state) (script input limit) (first ++ item ∷ []) front.0 entry.shown m fault front.1 served.ended;
       }

@@ -8,14 +8,12 @@ use Rattle.lis_ports.specs.declared.disk.Failed.{Failed}
 use Rattle.lis_ports.proofs.Moments.{leaves_none}
 use Rattle.lis_grammar.specs.Formula.{Formula}
 use Rattle.lis_model.specs.declared.refusal.Refusal.{Refusal}
-use Rattle.lis_model.specs.Listing.{increments, locals}
 use Rattle.lis_model.specs.Replies.{body_line, ok_line, listing_lines}
-use Rattle.lis_model.specs.Table.{Table, Entry}
+use Rattle.lis_model.specs.Table.{Entry}
 use Rattle.lis_model.specs.Step.{Situation, Outcome, shown, shown_here, is_here, cd}
 use Rattle.lis_bits.specs.Rows.{Rows, get}
 use Rattle.lis_eval.specs.View.{Placed, Seen, IsView}
-use Rattle.lis_incr.specs.Lines.{lines_of, listing, words_from, names_from, lines_from}
-use Rattle.lis_incr.specs.declared.listing.Line.{Line}
+use Rattle.lis_incr.specs.Lines.{lines_of, words_from, names_from, lines_from}
 use Rattle.lis_incr.specs.declared.listing.Line.TheVariants.{Prop, File}
 use Rattle.lis_store.specs.declared.change.Change.{Change}
 use Rattle.lis_store.specs.declared.change.Change.TheVariants.{Refused, Disk}

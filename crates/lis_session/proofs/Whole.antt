@@ -1,18 +1,19 @@
--- A whole run: an opening, and the session behind it.
-use Rattle.std.proofs.Common.{◌≡◌, ◌⊎◌, ℕ, ◌≤◌, List, [], length, Option, Some, ap, sym, subst, ◌∙◌, inl, inr, arith}
+-- An opening, and what is done behind it.
+use Rattle.std.proofs.Common.{◌≡◌, ◌⊎◌, ℕ, ◌≤◌, List, [], length, Option, Some, refl, ap, sym, subst, ◌∙◌, inl, inr, arith}
 use Rattle.std.specs.Io.KnownBytes.{append_known, IsAtEnd}
 use Rattle.lis_ports.specs.Meaning.{Meaning, Now}
 use Rattle.lis_ports.specs.Runs.{Adds, Leaves, Always}
 use Rattle.lis_ports.specs.Since.{Since}
-use Rattle.lis_ports.proofs.Moments.{adds_then, adds_weaken, each_moment}
+use Rattle.lis_ports.proofs.Moments.{adds_none, adds_then, adds_weaken, each_moment}
 use Rattle.lis_reply.proofs.Showing.{append_known-nil}
+use Rattle.lis_model.specs.declared.limits.Limits.{Limits}
 use Rattle.lis_model.specs.State.{State}
 use Rattle.lis_model.specs.Step.{Situation, Item}
 use Rattle.lis_model.specs.Script.{all_items}
 use Rattle.lis_line.proofs.Given.{script_short}
 use Rattle.lis_store.specs.Stands.{Stands}
-use Rattle.lis_session.specs.Session.{root_of, SessionMoment, RunMoment, Headline, FullHeadline}
-use Rattle.lis_session.specs.Runs.{Carried, CarriedAll, CarriedToLimit, Serves, RunsImage}
+use Rattle.lis_session.specs.Session.{root_of, SessionMoment, OpenedMoment, EachMoment, FullHeadline}
+use Rattle.lis_session.specs.Runs.{Carried, CarriedAll, CarriedToLimit, Goes, OpensInto}
 use Rattle.lis_session.proofs.Moments.{moment_none}
 
 -- the law of a disk on moments since now
@@ -33,47 +34,39 @@ full_headline {old} start items always only_now adds = λ image bytes had.
       | inr since ↦ since
     ]
 
--- the moments of an opening, told by the session behind it
-pub opening_moments : {old mid : Meaning} (state : State) (items : List Item) → Leaves old mid (λ image. old.images image ⊎ Stands image state)
-    → Adds old mid (RunMoment old state items)
-opening_moments {old} {mid} state items opening = adds_weaken _ opening.adds (λ image bytes had. by image bytes had.0 had.1)
-  where
-    by : (image bytes : List ℕ) → old.images image ⊎ Stands image state → old.shown ≡ Some bytes → RunMoment old state items image bytes
-    by image bytes (inl there) told = inl (there, told)
-    by image bytes (inr stands) told = inr (since_none old.shown (root_of state) items image bytes stands told)
+-- what is done behind an opening, which left the images of its start or ones with Q, where P holds of these with nothing shown
+module _ {old mid : Meaning} (P : List ℕ → List ℕ → Type 0) where
+  pub opening_moments : {Q : List ℕ → Type 0} → ((image : List ℕ) → Q image → P image []) → Leaves old mid (λ image. old.images image ⊎ Q image) → Adds old mid (OpenedMoment old P)
+  opening_moments {Q} quiet opening = adds_weaken _ opening.adds (λ image bytes had. by image bytes had.0 had.1)
+    where
+      by : (image bytes : List ℕ) → old.images image ⊎ Q image → old.shown ≡ Some bytes → OpenedMoment old P image bytes
+      by image bytes (inl there) told = inl (there, told)
+      by image bytes (inr stood) told = inr ([], append_known-nil old.shown ∙ told, quiet image stood)
 
-pub run_moments : {old mid new : Meaning} (state : State) (items : List Item) → Leaves old mid (λ image. old.images image ⊎ Stands image state)
-    → Adds mid new (Since mid.shown (SessionMoment (root_of state) items)) → Adds old new (RunMoment old state items)
-run_moments {old} {mid} {new} state items opening session =
-    adds_then (opening_moments state items opening)
-    (adds_weaken _ session (λ image bytes since. inr (since.0, ap (λ known. append_known known since.0) (sym opening.run.shown) ∙ since.1, since.2)))
+  pub opens_into : {new : Meaning} {limits : Limits} (end : Option (List ℕ) → Type 0) → mid.shown ≡ old.shown → Adds old mid (OpenedMoment old P)
+      → Goes P limits mid new (end mid.shown) → OpensInto P old new (end old.shown)
+  opens_into end same opening goes = record {
+    moments = adds_then opening (adds_weaken _ goes.moments (λ image bytes since. inr (since.0, ap (λ known. append_known known since.0) (sym same) ∙ since.1, since.2)));
+    ended = subst end same goes.ended;
+  }
 
--- an opening, and the session behind it
-pub run_session : {old mid new : Meaning} (state : State) (items : List Item) (end : Option (List ℕ) → Type 0) → Leaves old mid (λ image. old.images image ⊎ Stands image state)
-    → Serves (root_of state) items mid new (end mid.shown) → RunsImage state items old new (end old.shown)
-run_session {old} {mid} {new} state items end opening session = record {
-  moments = run_moments state items opening session.moments;
-  ended = subst end opening.run.shown session.ended;
-}
+-- nothing was done
+pub goes_none : (P : List ℕ → List ℕ → Type 0) (limits : Limits) (m : Meaning) (end : Type 0) → end → Goes P limits m m end
+goes_none P limits m end ended = record { moments = adds_none m _; past = λ n le. refl; ended = ended }
 
--- an opening with no session behind it
-pub run_none : {old mid : Meaning} (state : State) (items : List Item) (end : Type 0) → Leaves old mid (λ image. old.images image ⊎ Stands image state)
-    → end → RunsImage state items old mid end
-run_none state items end opening ended = record { moments = opening_moments state items opening; ended = ended }
-
-pub headline : {old new : Meaning} (state : State) (items : List Item) → OnlyNow old → Adds old new (RunMoment old state items) → Headline state items old new
-headline {old} {new} state items only_now adds = λ image bytes had.
-    elim (each_moment adds only_now image bytes had) as (λ _. RunMoment old state items image bytes) [
+pub headline : {old new : Meaning} (P : List ℕ → List ℕ → Type 0) → OnlyNow old → Adds old new (OpenedMoment old P) → EachMoment old new (OpenedMoment old P)
+headline {old} P only_now adds = λ image bytes had.
+    elim (each_moment adds only_now image bytes had) as (λ _. OpenedMoment old P image bytes) [
       | inl now ↦ inl now
       | inr moment ↦ moment
     ]
 
 -- where nothing is unsynced at the start there is no exception
 pub headline_settled : {old new : Meaning} (state : State) (items : List Item) → Stands old.bytes state → ((image : List ℕ) → old.images image → image ≡ old.bytes) → OnlyNow old
-    → Adds old new (RunMoment old state items) → FullHeadline (root_of state) items old new
-headline_settled {old} {new} state items stands settled only_now adds = λ image bytes had. by image bytes (headline state items only_now adds image bytes had)
+    → Adds old new (OpenedMoment old (SessionMoment (root_of state) items)) → FullHeadline (root_of state) items old new
+headline_settled {old} {new} state items stands settled only_now adds = λ image bytes had. by image bytes (headline (SessionMoment (root_of state) items) only_now adds image bytes had)
   where
-    by : (image bytes : List ℕ) → RunMoment old state items image bytes → Since old.shown (SessionMoment (root_of state) items) image bytes
+    by : (image bytes : List ℕ) → OpenedMoment old (SessionMoment (root_of state) items) image bytes → Since old.shown (SessionMoment (root_of state) items) image bytes
     by image bytes (inl now) =
         since_none old.shown (root_of state) items image bytes (subst (λ xs. Stands xs state) (sym (settled image now.0)) stands) now.1
     by image bytes (inr since) = since

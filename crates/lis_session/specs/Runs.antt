@@ -5,12 +5,14 @@ use Rattle.lis_ports.specs.Meaning.{Meaning}
 use Rattle.lis_ports.specs.Runs.{Adds, Always}
 use Rattle.lis_ports.specs.Since.{Since}
 use Rattle.lis_journal.specs.Images.{KeepsPast}
+use Rattle.lis_model.specs.declared.limits.Limits.{Limits}
 use Rattle.lis_model.specs.Image.{image_blocks}
-use Rattle.lis_model.specs.State.{State}
 use Rattle.lis_model.specs.Step.{Situation, Item, replies, situation_after}
 use Rattle.lis_model.specs.Script.{whole_items, script}
 use Rattle.lis_store.specs.Stands.{Stands}
-use Rattle.lis_session.specs.Session.{SessionMoment, RunMoment}
+use Rattle.lis_session.specs.declared.end.End.{End}
+use Rattle.lis_session.specs.declared.end.End.TheVariants.{DiskFault, OutputFault}
+use Rattle.lis_session.specs.Session.{SessionMoment, OpenedMoment}
 
 -- These items were carried out, and their replies were shown, whole.
 pub record Carried (start : Situation) (items : List Item) (before : Option (List ℕ)) (new : Meaning) : Type 0 where
@@ -41,13 +43,22 @@ pub record StopsAt (start : Situation) (items : List Item) (before : Option (Lis
   pub shown : new.shown ≡ append_known before bytes
   pub moment : Always new (λ image. SessionMoment start items image bytes)
 
--- a session: its moments, that the blocks past the image stay, and how it ended
-pub record Serves (start : Situation) (items : List Item) (old new : Meaning) (end : Type 0) : Type 0 where
-  pub moments : Adds old new (Since old.shown (SessionMoment start items))
-  pub past : KeepsPast (image_blocks start.state.limits) old new
+-- at a fault in an item; after one of the disk the moments tell what stands
+abbrev pub StoppedAt : Situation → List Item → Option (List ℕ) → Meaning → End → Type 0
+StoppedAt start items before new DiskFault = Unit {0}
+StoppedAt start items before new OutputFault = StopsAt start items before new
+
+-- What is done on an image of these limits: P of its moments, that the blocks past the image stay, and how it ended.
+pub record Goes (P : List ℕ → List ℕ → Type 0) (limits : Limits) (old new : Meaning) (end : Type 0) : Type 0 where
+  pub moments : Adds old new (Since old.shown P)
+  pub past : KeepsPast (image_blocks limits) old new
   pub ended : end
 
--- the same from the root, with an opening before it
-pub record RunsImage (state : State) (items : List Item) (old new : Meaning) (end : Type 0) : Type 0 where
-  pub moments : Adds old new (RunMoment old state items)
+-- the same with an opening before it
+pub record OpensInto (P : List ℕ → List ℕ → Type 0) (old new : Meaning) (end : Type 0) : Type 0 where
+  pub moments : Adds old new (OpenedMoment old P)
   pub ended : end
+
+-- a session
+abbrev pub Serves : Situation → List Item → Meaning → Meaning → Type 0 → Type 0
+Serves start items old new end = Goes (SessionMoment start items) start.state.limits old new end

@@ -12,10 +12,10 @@ use Rattle.lis_model.specs.State.{State}
 use Rattle.lis_model.specs.Step.{Situation, Item, replies, situation_after}
 use Rattle.lis_store.specs.Stored.{IsSound, StoreFits}
 use Rattle.lis_session.specs.declared.end.End.{End}
-use Rattle.lis_session.specs.declared.end.End.TheVariants.{DiskFault, OutputFault}
+use Rattle.lis_session.specs.declared.end.End.TheVariants.{DiskFault}
 use Rattle.lis_session.specs.Session.{Situated, SessionMoment}
 use Rattle.lis_session.specs.Item.{FitsAt, HasEndCause, IsSameStation}
-use Rattle.lis_session.specs.Runs.{StopsAt, Serves}
+use Rattle.lis_session.specs.Runs.{StoppedAt, Serves}
 
 -- The store is not broken, and the station is long enough for its image.
 pub record IsReady (session : Situated) (m : Meaning) : Type 0 where
@@ -47,11 +47,6 @@ pub record HasDone (start : Situated) (entry : Meaning) (first : List Item) (now
   pub done : (state : State) → FitsAt (StoreFits start.store entry) entry state
       → DoneSoFar (situation_at start state) first entry m (StoreFits now.store m) now.place
 
--- where a fault leaves a session: after one of the disk the moments tell what stands
-abbrev pub StoppedAt : Situation → List Item → Meaning → Meaning → End → Type 0
-StoppedAt start items entry m DiskFault = Unit {0}
-StoppedAt start items entry m OutputFault = StopsAt start items entry.shown m
-
 -- Since the start these items were carried out, from any state that fitted then, and in the next one there was this fault.
 pub record HasStopped (start : Situated) (entry : Meaning) (first : List Item) (item : Item) (fault : End) (now : Situated) (m : Meaning) : Type 0 where
   pub limits : now.store.parts.limits ≡ start.store.parts.limits
@@ -62,4 +57,4 @@ pub record HasStopped (start : Situated) (entry : Meaning) (first : List Item) (
   pub first_fault : StationFaultEnds entry m
   pub unbroken : fault ≢ DiskFault → now.store.is_broken ≡ false
   pub serves : (state : State) → FitsAt (StoreFits start.store entry) entry state
-      → Serves (situation_at start state) (first ++ item ∷ []) entry m (StoppedAt (situation_at start state) (first ++ item ∷ []) entry m fault)
+      → Serves (situation_at start state) (first ++ item ∷ []) entry m (StoppedAt (situation_at start state) (first ++ item ∷ []) entry.shown m fault)

@@ -60,15 +60,18 @@ pub record SaysTheSame (start : Situation) (items : List Item) (image shown : Li
 abbrev pub OneForm : Type 0
 OneForm = (start : Situation) (items : List Item) (image shown : List ℕ) → SaysTheSame start items image shown
 
--- a moment of the session from the root, or an image that a crash at its start could have left, with nothing shown since
-abbrev pub RunMoment : Meaning → State → List Item → List ℕ → List ℕ → Type 0
-RunMoment old state items image bytes = Now old image bytes ⊎ Since old.shown (SessionMoment (root_of state) items) image bytes
+-- P of an image and of what was shown since an opening began; or a crash at its start could have left the image, with nothing shown since
+abbrev pub OpenedMoment : Meaning → (List ℕ → List ℕ → Type 0) → List ℕ → List ℕ → Type 0
+OpenedMoment old P image bytes = Now old image bytes ⊎ Since old.shown P image bytes
 
--- each moment since the start is one of these
+-- each moment since the start has Q
+abbrev pub EachMoment : Meaning → Meaning → (List ℕ → List ℕ → Type 0) → Type 0
+EachMoment old new Q = (image bytes : List ℕ) → new.moments old.clock image bytes → Q image bytes
+
+-- an opening, and a session from the root behind it
 abbrev pub Headline : State → List Item → Meaning → Meaning → Type 0
-Headline state items old new = (image bytes : List ℕ) → new.moments old.clock image bytes → RunMoment old state items image bytes
+Headline state items old new = EachMoment old new (OpenedMoment old (SessionMoment (root_of state) items))
 
 -- the same with no exception
 abbrev pub FullHeadline : Situation → List Item → Meaning → Meaning → Type 0
-FullHeadline start items old new =
-    (image bytes : List ℕ) → new.moments old.clock image bytes → Since old.shown (SessionMoment start items) image bytes
+FullHeadline start items old new = EachMoment old new (Since old.shown (SessionMoment start items))

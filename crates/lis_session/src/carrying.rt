@@ -11,7 +11,7 @@ use lis_ports::Station;
 impl Carrier for Session {
     type Fault = End;
 
-    ghost is_ready = { IsReady };
+    ghost is_ready = { λ session m more. IsReady session m };
 
     ghost has_done = { HasDone };
 

@@ -12,14 +12,12 @@ use Rattle.lis_shell.specs.Words.{limits_of, grow_number_of, task_of_two, task_o
 
 -- as many words as no form has
 pub no_form : (words : List (List ℕ)) → (length words ≡ 2 → ⊥) → (length words ≡ 3 → ⊥) → (length words ≡ 4 → ⊥) → (length words ≡ 5 → ⊥) → (length words ≡ 6 → ⊥) → task_of words ≡ None
-no_form [] two three four five six = refl
-no_form (a ∷ []) two three four five six = refl
 no_form (a ∷ b ∷ []) two three four five six = absurd (two refl)
 no_form (a ∷ b ∷ c ∷ []) two three four five six = absurd (three refl)
 no_form (a ∷ b ∷ c ∷ d ∷ []) two three four five six = absurd (four refl)
 no_form (a ∷ b ∷ c ∷ d ∷ e ∷ []) two three four five six = absurd (five refl)
 no_form (a ∷ b ∷ c ∷ d ∷ e ∷ f ∷ []) two three four five six = absurd (six refl)
-no_form (a ∷ b ∷ c ∷ d ∷ e ∷ f ∷ g ∷ words) two three four five six = refl
+no_form words two three four five six = refl
 
 module _ {W : Type 0} (bytes : W → List ℕ) where
   pub no_words : (words : List W) → (length words ≡ 2 → ⊥) → (length words ≡ 3 → ⊥) → (length words ≡ 4 → ⊥) → (length words ≡ 5 → ⊥) → (length words ≡ 6 → ⊥) → task_of (map bytes words) ≡ None
@@ -28,45 +26,32 @@ module _ {W : Type 0} (bytes : W → List ℕ) where
       no_form (map bytes words) (λ e. two (sym same ∙ e)) (λ e. three (sym same ∙ e)) (λ e. four (sym same ∙ e)) (λ e. five (sym same ∙ e)) (λ e. six (sym same ∙ e))
 
   pub two_words : (words : List W) (word : W) → length words ≡ 2 → word ≡ slice_index_or words 0 word → task_of (map bytes words) ≡ task_of_two (bytes word)
-  two_words [] word two is_word = absurd (omega arith)
-  two_words (a ∷ []) word two is_word = absurd (omega arith)
   two_words (a ∷ b ∷ []) word two is_word = ap (λ w. task_of_two (bytes w)) (sym is_word)
-  two_words (a ∷ b ∷ c ∷ words) word two is_word = absurd (omega arith)
+  two_words words word two is_word = absurd (omega arith)
 
   pub five_words : (words : List W) (word second third fourth last : W) → length words ≡ 5 → word ≡ slice_index_or words 0 word
       → second ≡ slice_index_or words 1 second → third ≡ slice_index_or words 2 third → fourth ≡ slice_index_or words 3 fourth
       → last ≡ slice_index_or words 4 last
       → task_of (map bytes words) ≡ task_of_five (bytes word) (bytes second) (bytes third) (bytes fourth) (bytes last)
-  five_words [] word second third fourth last five is_word is_second is_third is_fourth is_last = absurd (omega arith)
-  five_words (a ∷ []) word second third fourth last five is_word is_second is_third is_fourth is_last = absurd (omega arith)
-  five_words (a ∷ b ∷ []) word second third fourth last five is_word is_second is_third is_fourth is_last = absurd (omega arith)
-  five_words (a ∷ b ∷ c ∷ []) word second third fourth last five is_word is_second is_third is_fourth is_last = absurd (omega arith)
-  five_words (a ∷ b ∷ c ∷ d ∷ []) word second third fourth last five is_word is_second is_third is_fourth is_last = absurd (omega arith)
   five_words (a ∷ b ∷ c ∷ d ∷ e ∷ []) word second third fourth last five is_word is_second is_third is_fourth is_last =
       ap (λ x. task_of_five (bytes x) (bytes b) (bytes c) (bytes d) (bytes e)) (sym is_word)
       ∙ (ap (λ x. task_of_five (bytes word) (bytes x) (bytes c) (bytes d) (bytes e)) (sym is_second)
       ∙ (ap (λ x. task_of_five (bytes word) (bytes second) (bytes x) (bytes d) (bytes e)) (sym is_third)
       ∙ (ap (λ x. task_of_five (bytes word) (bytes second) (bytes third) (bytes x) (bytes e)) (sym is_fourth)
       ∙ ap (λ x. task_of_five (bytes word) (bytes second) (bytes third) (bytes fourth) (bytes x)) (sym is_last))))
-  five_words (a ∷ b ∷ c ∷ d ∷ e ∷ f ∷ words) word second third fourth last five is_word is_second is_third is_fourth is_last = absurd (omega arith)
+  five_words words word second third fourth last five is_word is_second is_third is_fourth is_last = absurd (omega arith)
 
   pub six_words : (words : List W) (word files props blocks last : W) → length words ≡ 6 → word ≡ slice_index_or words 0 word
       → files ≡ slice_index_or words 2 files → props ≡ slice_index_or words 3 props → blocks ≡ slice_index_or words 4 blocks
       → last ≡ slice_index_or words 5 last
       → task_of (map bytes words) ≡ task_of_six (bytes word) (bytes files) (bytes props) (bytes blocks) (bytes last)
-  six_words [] word files props blocks last six is_word is_files is_props is_blocks is_last = absurd (omega arith)
-  six_words (a ∷ []) word files props blocks last six is_word is_files is_props is_blocks is_last = absurd (omega arith)
-  six_words (a ∷ b ∷ []) word files props blocks last six is_word is_files is_props is_blocks is_last = absurd (omega arith)
-  six_words (a ∷ b ∷ c ∷ []) word files props blocks last six is_word is_files is_props is_blocks is_last = absurd (omega arith)
-  six_words (a ∷ b ∷ c ∷ d ∷ []) word files props blocks last six is_word is_files is_props is_blocks is_last = absurd (omega arith)
-  six_words (a ∷ b ∷ c ∷ d ∷ e ∷ []) word files props blocks last six is_word is_files is_props is_blocks is_last = absurd (omega arith)
   six_words (a ∷ b ∷ c ∷ d ∷ e ∷ f ∷ []) word files props blocks last six is_word is_files is_props is_blocks is_last =
       ap (λ x. task_of_six (bytes x) (bytes c) (bytes d) (bytes e) (bytes f)) (sym is_word)
       ∙ (ap (λ x. task_of_six (bytes word) (bytes x) (bytes d) (bytes e) (bytes f)) (sym is_files)
       ∙ (ap (λ x. task_of_six (bytes word) (bytes files) (bytes x) (bytes e) (bytes f)) (sym is_props)
       ∙ (ap (λ x. task_of_six (bytes word) (bytes files) (bytes props) (bytes x) (bytes f)) (sym is_blocks)
       ∙ ap (λ x. task_of_six (bytes word) (bytes files) (bytes props) (bytes blocks) (bytes x)) (sym is_last))))
-  six_words (a ∷ b ∷ c ∷ d ∷ e ∷ f ∷ g ∷ words) word files props blocks last six is_word is_files is_props is_blocks is_last = absurd (omega arith)
+  six_words words word files props blocks last six is_word is_files is_props is_blocks is_last = absurd (omega arith)
 
 -- ---- limits are in range
 held : (t : Bool) (all limits : Limits) → cond t (Some all) None ≡ Some limits → (t ≡ true) × (all ≡ limits)
@@ -121,8 +106,6 @@ record AreSaid (limits : Limits) : Type 0 where
   are : limits_of version files props blocks ≡ Some limits
 
 made_limits : (words : List (List ℕ)) (limits : Limits) → task_of words ≡ Some (Make limits) → AreSaid limits
-made_limits [] limits e = absurd (cc)
-made_limits (a ∷ []) limits e = absurd (cc)
 made_limits (a ∷ b ∷ []) limits e = absurd (not_of_two (same_word a (codes "run")) (same_word a (codes "upgrade")) limits e)
 made_limits (a ∷ b ∷ c ∷ []) limits e = absurd (not_grown (same_word a (codes "grow")) (grow_number_of c) limits e)
 made_limits (a ∷ b ∷ c ∷ d ∷ []) limits e = absurd (not_tried (same_word a (codes "try")) (limits_of 1 b c d) limits e)
@@ -143,7 +126,7 @@ made_limits (a ∷ b ∷ c ∷ d ∷ f ∷ g ∷ []) limits e = record {
   versioned = refl;
   are = made_by (same_word a (codes "make") && same_word g (codes "v2")) (limits_of 2 c d f) None limits (λ is. cc is) e;
 }
-made_limits (a ∷ b ∷ c ∷ d ∷ f ∷ g ∷ h ∷ words) limits e = absurd (cc)
+made_limits words limits e = absurd (cc)
 
 pub made_in_range : (words : List (List ℕ)) (limits : Limits) → task_of words ≡ Some (Make limits) → IsTrue (are_in_range limits)
 made_in_range words limits e =

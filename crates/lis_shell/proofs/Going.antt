@@ -27,17 +27,13 @@ TryEnded limit before left start entry now m halt =
 
 pub only_showed : (limit : ℕ) (before left : Option (List ℕ)) (start now : Situation) (entry m : Meaning) (halt : Halt PlainEnd)
     → TryEnded limit before left start entry now m halt → IsShowCall entry m
-only_showed limit before left start now entry m AtEnd ended = ended.done.call
-only_showed limit before left start now entry m AtLimit ended = ended.done.call
-only_showed limit before left start now entry m AtFault ended = ended.done.call
 only_showed limit before left start now entry m (Stopped fault) ended = ended.1.done.call
+only_showed limit before left start now entry m halt ended = ended.done.call
 
 pub try_first_fault : (limit : ℕ) (before left : Option (List ℕ)) (start now : Situation) (entry m : Meaning) (halt : Halt PlainEnd)
     → TryEnded limit before left start entry now m halt → StationFaultEnds entry m
-try_first_fault limit before left start now entry m AtEnd ended = ended.done.first_fault
-try_first_fault limit before left start now entry m AtLimit ended = ended.done.first_fault
-try_first_fault limit before left start now entry m AtFault ended = ended.done.first_fault
 try_first_fault limit before left start now entry m (Stopped fault) ended = ended.1.done.first_fault
+try_first_fault limit before left start now entry m halt ended = ended.done.first_fault
 
 -- no count of faults rose
 pub counts_stay : (entry m : Meaning) (input_before input : ℕ) → m.disk_faults ≡ entry.disk_faults → input ≡ input_before → m.show_faults ≡ entry.show_faults

@@ -3,6 +3,4 @@ mod Going
 mod Served
 mod Refused
 mod Opened
-mod Grown
-mod Upgraded
 mod Tasks

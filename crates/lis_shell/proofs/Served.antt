@@ -1,4 +1,4 @@
--- How a session over an image ends, told by its status.
+-- How a session over an image ends, told by its end.
 use Rattle.std.proofs.Common.{◌≡◌, ◌≢◌, ℕ, List, Option, Some, false, refl}
 use Rattle.lis_ports.specs.Meaning.{Meaning}
 use Rattle.lis_ports.specs.Calls.{StationFaultEnds}
@@ -16,63 +16,44 @@ use Rattle.lis_session.specs.Item.{FitsAt, IsSameStation}
 use Rattle.lis_session.specs.Runs.{Serves}
 use Rattle.lis_session.specs.Served.{HasDone, HasStopped, situation_at}
 use Rattle.lis_session.proofs.Served.{serves_all, serves_to_limit, serves_whole, serves_stopped, reached}
-use Rattle.lis_shell.specs.declared.status.Status.TheVariants.{DiskFault}
+use Rattle.lis_shell.specs.declared.status.Status.TheVariants.{Ended}
 use Rattle.lis_shell.specs.Causes.{counts, HasStatusCause}
-use Rattle.lis_shell.specs.Runs.{serve_status, IsSessionStatus, InputRead, GoesOn, Served}
+use Rattle.lis_shell.specs.Runs.{InputRead, GoesOn, Served}
 use Rattle.lis_shell.proofs.Going.{counts_stay}
 
-pub only_served : (halt : Halt End) → IsSessionStatus (serve_status halt)
-only_served AtEnd = tt
-only_served AtLimit = tt
-only_served AtFault = tt
-only_served (Stopped DiskFailed) = tt
-only_served (Stopped OutputFailed) = tt
-
 module _ (limit : ℕ) (left_before left : Option (List ℕ)) (start now : Situated) (entry m : Meaning) where
-  abbrev pub Ended : Halt End → Type 0
-  Ended halt =
+  abbrev pub Halted : Halt End → Type 0
+  Halted halt =
       HasEnded limit left_before left (λ first. HasDone start entry first now m) (λ first item fault. HasStopped start entry first item fault now m) halt
 
   -- ---- whatever the state
-  pub served_same : (halt : Halt End) → Ended halt → IsSameStation entry m
-  served_same AtEnd ended = ended.done.same
-  served_same AtLimit ended = ended.done.same
-  served_same AtFault ended = ended.done.same
+  pub served_same : (halt : Halt End) → Halted halt → IsSameStation entry m
   served_same (Stopped fault) ended = ended.1.done.same
+  served_same halt ended = ended.done.same
 
-  pub served_first_fault : (halt : Halt End) → Ended halt → StationFaultEnds entry m
-  served_first_fault AtEnd ended = ended.done.first_fault
-  served_first_fault AtLimit ended = ended.done.first_fault
-  served_first_fault AtFault ended = ended.done.first_fault
+  pub served_first_fault : (halt : Halt End) → Halted halt → StationFaultEnds entry m
   served_first_fault (Stopped fault) ended = ended.1.done.first_fault
+  served_first_fault halt ended = ended.done.first_fault
 
-  pub served_sound : (halt : Halt End) → Ended halt → IsSound now.store
-  served_sound AtEnd ended = ended.done.sound
-  served_sound AtLimit ended = ended.done.sound
-  served_sound AtFault ended = ended.done.sound
+  pub served_sound : (halt : Halt End) → Halted halt → IsSound now.store
   served_sound (Stopped fault) ended = ended.1.done.sound
+  served_sound halt ended = ended.done.sound
 
-  pub served_limits : (halt : Halt End) → Ended halt → now.store.parts.limits ≡ start.store.parts.limits
-  served_limits AtEnd ended = ended.done.limits
-  served_limits AtLimit ended = ended.done.limits
-  served_limits AtFault ended = ended.done.limits
+  pub served_limits : (halt : Halt End) → Halted halt → now.store.parts.limits ≡ start.store.parts.limits
   served_limits (Stopped fault) ended = ended.1.done.limits
+  served_limits halt ended = ended.done.limits
 
-  pub served_image : (halt : Halt End) → Ended halt → now.store.journal.blocks ≡ start.store.journal.blocks
-  served_image AtEnd ended = ended.done.image
-  served_image AtLimit ended = ended.done.image
-  served_image AtFault ended = ended.done.image
+  pub served_image : (halt : Halt End) → Halted halt → now.store.journal.blocks ≡ start.store.journal.blocks
   served_image (Stopped fault) ended = ended.1.done.image
+  served_image halt ended = ended.done.image
 
-  pub served_unbroken : (halt : Halt End) → Ended halt → serve_status halt ≢ DiskFault → now.store.is_broken ≡ false
-  served_unbroken AtEnd ended other = ended.done.unbroken
-  served_unbroken AtLimit ended other = ended.done.unbroken
-  served_unbroken AtFault ended other = ended.done.unbroken
+  pub served_unbroken : (halt : Halt End) → Halted halt → halt ≢ Stopped DiskFailed → now.store.is_broken ≡ false
   served_unbroken (Stopped DiskFailed) ended other = absurd (other refl)
   served_unbroken (Stopped OutputFailed) ended other = ended.1.done.unbroken (λ e. cc e)
+  served_unbroken halt ended other = ended.done.unbroken
 
-  pub served_cause : (before after : ℕ) (halt : Halt End) → Ended halt → HasHaltCause before after halt
-      → HasStatusCause (counts entry before) (counts m after) (serve_status halt)
+  pub served_cause : (before after : ℕ) (halt : Halt End) → Halted halt → HasHaltCause before after halt
+      → HasStatusCause (counts entry before) (counts m after) (Ended halt)
   served_cause before after AtEnd ended cause = counts_stay entry m before after ended.done.disk_faults cause ended.done.show_faults
   served_cause before after AtLimit ended cause = counts_stay entry m before after ended.done.disk_faults cause ended.done.show_faults
   served_cause before after AtFault ended cause = (cause, ended.done.disk_faults, ended.done.show_faults)
@@ -81,29 +62,23 @@ module _ (limit : ℕ) (left_before left : Option (List ℕ)) (start now : Situa
 
   -- ---- where the input was known
   module _ (input : List ℕ) (told : left_before ≡ Some input) where
-    pub served_input : (halt : Halt End) → Ended halt → InputRead limit input left (serve_status halt)
+    pub served_input : (halt : Halt End) → Halted halt → InputRead limit input left halt
     served_input AtEnd ended = let read = ended.read input told in (read.short, read.at_end)
     served_input AtLimit ended = (ended.read input told).long
-    served_input AtFault ended = tt
-    served_input (Stopped DiskFailed) ended = tt
-    served_input (Stopped OutputFailed) ended = tt
+    served_input halt ended = tt
 
     module _ (state : State) (fitting : FitsAt (StoreFits start.store entry) entry state) where
-      pub serves_so : (halt : Halt End) → Ended halt
-          → Serves (situation_at start state) (script input limit) entry m (Served (situation_at start state) limit input left entry.shown m (serve_status halt))
+      pub serves_so : (halt : Halt End) → Halted halt
+          → Serves (situation_at start state) (script input limit) entry m (Served (situation_at start state) limit input left entry.shown m halt)
       serves_so AtEnd ended = serves_all start entry ended.first now m state fitting limit input ended.done left (ended.read input told)
       serves_so AtLimit ended = serves_to_limit start entry ended.first now m state fitting limit input ended.done (ended.read input told)
       serves_so AtFault ended =
           let read = ended.read input told in
           serves_whole start entry ended.first now m state fitting limit input ended.done left read.0 read.1
-      serves_so (Stopped DiskFailed) ended =
-          serves_stopped start entry ended.1.first now m state fitting limit input ended.0 DiskFailed ended.1.done (ended.1.read input told)
-      serves_so (Stopped OutputFailed) ended =
-          serves_stopped start entry ended.1.first now m state fitting limit input ended.0 OutputFailed ended.1.done (ended.1.read input told)
+      serves_so (Stopped fault) ended =
+          serves_stopped start entry ended.1.first now m state fitting limit input ended.0 fault ended.1.done (ended.1.read input told)
 
-      pub goes_on_so : (halt : Halt End) → Ended halt → GoesOn (situation_after (situation_at start state) (script input limit)) now.store now.place m (serve_status halt)
+      pub goes_on_so : (halt : Halt End) → Halted halt → GoesOn (situation_after (situation_at start state) (script input limit)) now.store now.place m halt
       goes_on_so AtEnd ended = reached start entry ended.first now m state fitting limit input ended.done (ended.read input told).is
       goes_on_so AtLimit ended = reached start entry ended.first now m state fitting limit input ended.done (ended.read input told).is
-      goes_on_so AtFault ended = tt
-      goes_on_so (Stopped DiskFailed) ended = tt
-      goes_on_so (Stopped OutputFailed) ended = tt
+      goes_on_so halt ended = tt

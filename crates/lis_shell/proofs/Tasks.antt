@@ -1,97 +1,34 @@
 -- What is kept by each task, and by words that ask for none.
-use Rattle.std.proofs.Common.{◌≡◌, ℕ, List, Option, Some, None, refl, sym, ap, subst, ◌∙◌}
+use Rattle.std.proofs.Common.{◌≡◌, ℕ, List, Option, Some, None, refl, subst}
 use Rattle.lis_ports.specs.Meaning.{Meaning}
-use Rattle.lis_model.specs.declared.limits.Limits.{Limits}
+use Rattle.lis_line.specs.declared.carrier.Halt.{Halt}
+use Rattle.lis_open.specs.declared.mounting.OpenFault.{OpenFault}
+use Rattle.lis_session.specs.declared.end.End.{End}
 use Rattle.lis_shell.specs.declared.status.Status.{Status}
 use Rattle.lis_shell.specs.declared.status.Status.TheVariants.{Usage}
 use Rattle.lis_shell.specs.declared.words.Task.{Task}
 use Rattle.lis_shell.specs.declared.words.Task.TheVariants.{Try, Make, Run, Upgrade, Grow}
-use Rattle.lis_shell.specs.Causes.{IsTryStatus}
+use Rattle.lis_shell.specs.Causes.{ByOpening, IsTryStatus}
 use Rattle.lis_shell.specs.MakesImage.{MadeImage}
-use Rattle.lis_shell.specs.Runs.{IsIdle}
-use Rattle.lis_shell.specs.Grows.{IsGrowStatus}
-use Rattle.lis_shell.specs.Keeps.{TryKeeps, MakeKeeps, RunKeeps, GrowKeeps, UpgradeKeeps, TaskKeeps}
+use Rattle.lis_shell.specs.Keeps.{KeptBy, TaskKeeps}
 
-one_try : (a b : Limits) → ◌≡◌ {A = Option Task} (Some (Try a)) (Some (Try b)) → a ≡ b
-one_try a b is = cc
+not_usage : (opening : OpenFault → Type 0) (ended : Halt End → Type 0) (status : Status) → ByOpening opening ended status → status ≡ Usage → ⊥
+not_usage opening ended status at is = subst (ByOpening opening ended) is at
 
-one_make : (a b : Limits) → ◌≡◌ {A = Option Task} (Some (Make a)) (Some (Make b)) → a ≡ b
-one_make a b is = cc
+module _ (untouched unmoved : Type 0) (left left_after : Option (List ℕ)) (old new : Meaning) (status : Status) where
+  kept_unasked : (task : Option Task) → KeptBy task untouched unmoved left left_after old new status → status ≡ Usage → (task ≡ None) × untouched × unmoved
+  kept_unasked None kept is = (refl, kept.1, kept.2)
+  kept_unasked (Some (Try limits)) kept is = absurd (subst IsTryStatus is kept.only)
+  kept_unasked (Some (Make limits)) kept is = absurd (subst (MadeImage limits old new) is kept.0.made)
+  kept_unasked (Some Run) kept is = absurd (not_usage _ _ status kept.only is)
+  kept_unasked (Some (Grow n)) kept is = absurd (not_usage _ _ status kept.0.only is)
+  kept_unasked (Some Upgrade) kept is = absurd (not_usage _ _ status kept.0.image.only is)
 
-one_grow : (a b : ℕ) → ◌≡◌ {A = Option Task} (Some (Grow a)) (Some (Grow b)) → a ≡ b
-one_grow a b is = cc
+module _ {task : Option Task} {untouched unmoved : Type 0} {left left_after : Option (List ℕ)} {old new : Meaning} {status : Status} where
+  -- the words are refused only where they ask for nothing
+  pub unasked : TaskKeeps task untouched unmoved left left_after old new status → status ≡ Usage → (task ≡ None) × untouched × unmoved
+  unasked keeps is = kept_unasked untouched unmoved left left_after old new status task keeps.kept is
 
-pub is_task : {task : Option Task} (found one : Task) → task ≡ Some found → found ≡ one → task ≡ Some one
-is_task found one is same = is ∙ ap Some same
-
-module _ {task : Option Task} {untouched unmoved : Type 0} {left left_after : Option (List ℕ)} {old new : Meaning} where
-  pub task_none : task ≡ None → untouched → unmoved → TaskKeeps task untouched unmoved left left_after old new Usage
-  task_none is still same = record {
-    usage = (λ e. is, λ e. refl);
-    unused = λ e. (still, same);
-    tries = λ limits e. absurd (cc);
-    makes = λ limits e. absurd (cc);
-    runs = λ e. absurd (cc);
-    grows = λ n e. absurd (cc);
-    upgrades = λ e. absurd (cc);
-  }
-
-  pub task_tried : {status : Status} (limits : Limits) → task ≡ Some (Try limits) → TryKeeps limits left left_after old new status
-      → TaskKeeps task untouched unmoved left left_after old new status
-  task_tried {status} limits is keeps = record {
-    usage = (λ e. absurd (subst IsTryStatus e keeps.only), λ e. absurd (cc));
-    unused = λ e. absurd (subst IsTryStatus e keeps.only);
-    tries = λ said e. subst (λ (l : Limits). TryKeeps l left left_after old new status) (one_try limits said (sym is ∙ e)) keeps;
-    makes = λ limits e. absurd (cc);
-    runs = λ e. absurd (cc);
-    grows = λ n e. absurd (cc);
-    upgrades = λ e. absurd (cc);
-  }
-
-  pub task_made : {status : Status} (limits : Limits) → task ≡ Some (Make limits) → MakeKeeps limits unmoved old new status → untouched
-      → TaskKeeps task untouched unmoved left left_after old new status
-  task_made {status} limits is keeps still = record {
-    usage = (λ e. absurd (subst (MadeImage limits old new) e keeps.made), λ e. absurd (cc));
-    unused = λ e. absurd (subst (MadeImage limits old new) e keeps.made);
-    tries = λ limits e. absurd (cc);
-    makes = λ said e. (subst (λ (l : Limits). MakeKeeps l unmoved old new status) (one_make limits said (sym is ∙ e)) keeps, still);
-    runs = λ e. absurd (cc);
-    grows = λ n e. absurd (cc);
-    upgrades = λ e. absurd (cc);
-  }
-
-  pub task_run : {status : Status} → task ≡ Some Run → RunKeeps untouched unmoved left left_after old new status
-      → TaskKeeps task untouched unmoved left left_after old new status
-  task_run is keeps = record {
-    usage = (λ e. absurd (subst (IsIdle untouched old new) e keeps.idle), λ e. absurd (cc));
-    unused = λ e. absurd (subst (IsIdle untouched old new) e keeps.idle);
-    tries = λ limits e. absurd (cc);
-    makes = λ limits e. absurd (cc);
-    runs = λ e. keeps;
-    grows = λ n e. absurd (cc);
-    upgrades = λ e. absurd (cc);
-  }
-
-  pub task_grown : {status : Status} (n : ℕ) → task ≡ Some (Grow n) → GrowKeeps n unmoved old new status → untouched
-      → TaskKeeps task untouched unmoved left left_after old new status
-  task_grown {status} n is keeps still = record {
-    usage = (λ e. absurd (subst IsGrowStatus e keeps.only), λ e. absurd (cc));
-    unused = λ e. absurd (subst IsGrowStatus e keeps.only);
-    tries = λ limits e. absurd (cc);
-    makes = λ limits e. absurd (cc);
-    runs = λ e. absurd (cc);
-    grows = λ said e. (subst (λ (k : ℕ). GrowKeeps k unmoved old new status) (one_grow n said (sym is ∙ e)) keeps, still);
-    upgrades = λ e. absurd (cc);
-  }
-
-  pub task_upgraded : {status : Status} → task ≡ Some Upgrade → UpgradeKeeps unmoved old new status → untouched
-      → TaskKeeps task untouched unmoved left left_after old new status
-  task_upgraded is keeps still = record {
-    usage = (λ e. absurd (subst (IsIdle (Unit {0}) old new) e keeps.idle), λ e. absurd (cc));
-    unused = λ e. absurd (subst (IsIdle (Unit {0}) old new) e keeps.idle);
-    tries = λ limits e. absurd (cc);
-    makes = λ limits e. absurd (cc);
-    runs = λ e. absurd (cc);
-    grows = λ n e. absurd (cc);
-    upgrades = λ e. (keeps, still);
-  }
+  pub kept_by : (one : Option Task) → TaskKeeps task untouched unmoved left left_after old new status → task ≡ one
+      → KeptBy one untouched unmoved left left_after old new status
+  kept_by one keeps is = subst (λ (asked : Option Task). KeptBy asked untouched unmoved left left_after old new status) is keeps.kept

@@ -2,6 +2,7 @@ pub mod Words
 pub mod Causes
 pub mod Endings
 pub mod Tries
+pub mod Image
 pub mod Runs
 pub mod Grows
 pub mod MakesImage

@@ -6,20 +6,18 @@ use Rattle.lis_model.specs.declared.limits.Limits.{Limits}
 use Rattle.lis_model.specs.Image.{image_blocks}
 use Rattle.lis_model.specs.State.{empty_state}
 use Rattle.lis_store.specs.Stands.{Stands}
+use Rattle.lis_line.specs.declared.carrier.Halt.TheVariants.{End as AtEnd}
+use Rattle.lis_open.specs.declared.mounting.OpenFault.TheVariants.{TooShort, DiskFault}
 use Rattle.lis_open.specs.Makes.{IsMade}
 use Rattle.lis_shell.specs.declared.status.Status.{Status}
-use Rattle.lis_shell.specs.declared.status.Status.TheVariants.{Done, Usage, NotAnImage, TooShort, DiskFault, InputFault, OutputFault, InputLimit, NoMemory}
+use Rattle.lis_shell.specs.declared.status.Status.TheVariants.{Opening, Ended}
 
--- Done: each image stands for the empty state and is as making leaves it, and a crash then leaves the bytes as they read; too short, exactly where there are fewer bytes than the image takes; or the disk failed.
+-- It ended: each image stands for the empty state and is as making leaves it, and a crash then leaves the bytes as they read. Or the disk is too
+-- short, exactly where it has fewer bytes than the image takes; or it failed.
 abbrev pub MadeImage : Limits → Meaning → Meaning → Status → Type 0
-MadeImage limits old new Done =
+MadeImage limits old new (Ended AtEnd) =
     (4096 * image_blocks limits ≤ old.len)
     × (IsTrue old.is_honest → Always new (λ image. Stands image (empty_state limits) × IsMade limits old.bytes image) × IsSettled new new.bytes)
-MadeImage limits old new (TooShort len need) = (len ≡ old.len) × (need ≡ 4096 * image_blocks limits) × (len < need)
-MadeImage limits old new DiskFault = 4096 * image_blocks limits ≤ old.len
-MadeImage limits old new Usage = ⊥
-MadeImage limits old new (NotAnImage spot) = ⊥
-MadeImage limits old new InputFault = ⊥
-MadeImage limits old new OutputFault = ⊥
-MadeImage limits old new InputLimit = ⊥
-MadeImage limits old new NoMemory = ⊥
+MadeImage limits old new (Opening (TooShort len need)) = (len ≡ old.len) × (need ≡ 4096 * image_blocks limits) × (len < need)
+MadeImage limits old new (Opening DiskFault) = 4096 * image_blocks limits ≤ old.len
+MadeImage limits old new status = ⊥

@@ -6,10 +6,12 @@ use Rattle.lis_model.specs.Step.{Situation, Item, step, replies, situation_after
 use Rattle.lis_model.specs.Script.{script, whole_items}
 use Rattle.lis_line.specs.declared.carrier.Halt.{Halt}
 use Rattle.lis_line.specs.declared.carrier.Halt.TheVariants.{End as AtEnd, Limit as AtLimit, InputFault as AtFault, Stopped}
+use Rattle.lis_open.specs.declared.mounting.OpenFault.TheVariants.{NoMemory}
+use Rattle.lis_session.specs.declared.end.End.TheVariants.{OutputFault}
 use Rattle.lis_plain.specs.declared.end.PlainEnd.{PlainEnd}
 use Rattle.lis_plain.specs.declared.end.PlainEnd.TheVariants.{OutputFault as ShowFailed, NoMemory as NoRoom}
 use Rattle.lis_shell.specs.declared.status.Status.{Status}
-use Rattle.lis_shell.specs.declared.status.Status.TheVariants.{Done, Usage, NotAnImage, TooShort, DiskFault, InputFault, OutputFault, InputLimit, NoMemory}
+use Rattle.lis_shell.specs.declared.status.Status.TheVariants.{Opening, Ended}
 
 -- Of the bytes taken, none of which lies past the limit, the items that are whole were carried out, and their replies were shown.
 pub record ShowsWhole (start : Situation) (limit : ℕ) (bytes : List ℕ) (left before now : Option (List ℕ)) (end : Situation) : Type 0 where
@@ -38,22 +40,19 @@ pub record ShowsFront (start : Situation) (items : List Item) (before now : Opti
 
 -- what was shown and where the session ended, by the status, where the source had these bytes left
 abbrev pub Tries : Situation → ℕ → List ℕ → Option (List ℕ) → Option (List ℕ) → Option (List ℕ) → Situation → Status → Type 0
-Tries start limit bytes left before now end Done =
+Tries start limit bytes left before now end (Ended AtEnd) =
     (length bytes ≤ limit) × IsAtEnd left × (now ≡ append_known before (replies start (script bytes limit))) × (end ≡ situation_after start (script bytes limit))
-Tries start limit bytes left before now end InputLimit =
+Tries start limit bytes left before now end (Ended AtLimit) =
     (limit < length bytes) × (now ≡ append_known before (replies start (script bytes limit))) × (end ≡ situation_after start (script bytes limit))
-Tries start limit bytes left before now end InputFault = ShowsWhole start limit bytes left before now end
-Tries start limit bytes left before now end OutputFault = ShowsFront start (script bytes limit) before now end
-Tries start limit bytes left before now end NoMemory = ShowsFirst start (script bytes limit) before now end
-Tries start limit bytes left before now end Usage = ⊥
-Tries start limit bytes left before now end (NotAnImage spot) = ⊥
-Tries start limit bytes left before now end (TooShort len need) = ⊥
-Tries start limit bytes left before now end DiskFault = ⊥
+Tries start limit bytes left before now end (Ended AtFault) = ShowsWhole start limit bytes left before now end
+Tries start limit bytes left before now end (Ended (Stopped OutputFault)) = ShowsFront start (script bytes limit) before now end
+Tries start limit bytes left before now end (Opening NoMemory) = ShowsFirst start (script bytes limit) before now end
+Tries start limit bytes left before now end status = ⊥
 
--- the status at which it ends, by where its items ended
+-- where its items ended, as a session over an image would end; want of memory is one of the opening, wherever it comes
 abbrev pub try_status : Halt PlainEnd → Status
-try_status AtEnd = Done
-try_status AtLimit = InputLimit
-try_status AtFault = InputFault
-try_status (Stopped ShowFailed) = OutputFault
-try_status (Stopped NoRoom) = NoMemory
+try_status AtEnd = Ended AtEnd
+try_status AtLimit = Ended AtLimit
+try_status AtFault = Ended AtFault
+try_status (Stopped ShowFailed) = Ended (Stopped OutputFault)
+try_status (Stopped NoRoom) = Opening NoMemory

@@ -2,36 +2,30 @@
 
 ghost use Rattle.std.specs.Prelude.{◌≡◌, ◌≢◌, ℕ, ◌*◌, ◌≤◌, ◌^◌, List, Some, false};
 ghost use Rattle.lis_ports.specs.Calls.{StationFaultEnds, FaultEnds};
+ghost use Rattle.lis_line.specs.declared.carrier.Halt.TheVariants.{Stopped};
 ghost use Rattle.lis_line.specs.Taking.{TakesFew};
 ghost use Rattle.lis_model.specs.State.{State};
 ghost use Rattle.lis_model.specs.Step.{situation_after};
 ghost use Rattle.lis_model.specs.Script.{script};
 ghost use Rattle.lis_store.specs.Stored.{IsSound, StoreFits};
+ghost use Rattle.lis_session.specs.declared.end.End.TheVariants.{DiskFault};
 ghost use Rattle.lis_session.specs.Item.{IsSameStation};
 ghost use Rattle.lis_session.specs.Runs.{Serves};
-ghost use Rattle.lis_session.specs.Session.{FullHeadline};
+ghost use Rattle.lis_session.specs.Session.{root_of, FullHeadline};
+ghost use Rattle.lis_session.proofs.Moments.{moment_none};
 ghost use Rattle.lis_shell.specs.Causes.{counts, HasStatusCause};
-ghost use Rattle.lis_shell.specs.Runs.{serve_status, IsSessionStatus, InputRead, GoesOn, Served};
+ghost use Rattle.lis_shell.specs.declared.status.Status.TheVariants.{Ended};
+ghost use Rattle.lis_shell.specs.Runs.{InputRead, GoesOn, Served, running};
 
-use crate::status::Status;
+use crate::image::ImageWork;
 use lis_line::carrier::{Halt, carry_all};
 use lis_line::reader::Payload;
 use lis_ports::{Source, Station};
 use lis_session::end::End;
 use lis_session::session::Session;
 
-// What the end of a session is to the program.
-fn serve_status(halt: Halt<End>) -> Status
-    ensures { result ≡ serve_status halt }
-{
-    match halt {
-        Halt::End => Status::Done,
-        Halt::Limit => Status::InputLimit,
-        Halt::InputFault => Status::InputFault,
-        Halt::Stopped(End::DiskFault) => Status::DiskFault,
-        Halt::Stopped(End::OutputFault) => Status::OutputFault,
-    }
-}
+/// The most bytes of an input.
+pub const INPUT_LIMIT: u64 = 1 << 40;
 
 /// Carries out the items of the input on the image, up to its end, its limit or the first fault. It takes at most one byte past the
 /// limit, and no memory: the session has made room for any state within the limits.
@@ -44,14 +38,13 @@ pub fn serve<S: Source, T: Station>(
     input: &mut S,
     station: &mut T,
     limit: u64,
-) -> Status
+) -> Halt<End>
     requires limit { limit ≤ 2 ^ 40 }
     requires sound { IsSound session.old.store }
     requires unbroken { session.old.store.is_broken ≡ false }
     requires long { 4096 * session.old.store.journal.blocks ≤ (T.meaning station.old).len }
-    ensures only { IsSessionStatus result }
     ensures same { IsSameStation (T.meaning station.old) (T.meaning station.new) }
-    ensures cause { HasStatusCause (counts (T.meaning station.old) (S.faults input.old)) (counts (T.meaning station.new) (S.faults input.new)) result }
+    ensures cause { HasStatusCause (counts (T.meaning station.old) (S.faults input.old)) (counts (T.meaning station.new) (S.faults input.new)) (Ended result) }
     ensures first_fault { StationFaultEnds (T.meaning station.old) (T.meaning station.new) }
     ensures input_first_fault { FaultEnds (S.faults input.old) (S.behind input.old) (S.behind input.new) }
     ensures few { TakesFew limit (S.left input.old) (S.left input.new) }
@@ -59,7 +52,7 @@ pub fn serve<S: Source, T: Station>(
     ensures sound { IsSound session.new.store }
     ensures limits { session.new.store.parts.limits ≡ session.old.store.parts.limits }
     ensures image { session.new.store.journal.blocks ≡ session.old.store.journal.blocks }
-    ensures unbroken { result ≢ Status.DiskFault → session.new.store.is_broken ≡ false }
+    ensures unbroken { result ≢ Stopped DiskFault → session.new.store.is_broken ≡ false }
     ensures serves { (state : State) (bytes : List ℕ) → StoreFits session.old.store (T.meaning station.old) state → S.left input.old ≡ Some bytes
         → Serves (record { state = state; place = session.old.place }) (script bytes limit) (T.meaning station.old) (T.meaning station.new)
         (Served (record { state = state; place = session.old.place }) limit bytes (S.left input.new) (T.meaning station.old).shown (T.meaning station.new) result) }
@@ -68,5 +61,25 @@ pub fn serve<S: Source, T: Station>(
     ensures headline { (state : State) (bytes : List ℕ) → StoreFits session.old.store (T.meaning station.old) state → S.left input.old ≡ Some bytes
         → FullHeadline (record { state = state; place = session.old.place }) (script bytes limit) (T.meaning station.old) (T.meaning station.new) }
 {
-    serve_status(carry_all(session, payload, input, station, limit))
+    carry_all(session, payload, input, station, limit)
+}
+
+/// `run`: the session of the commands of the input.
+#[derive(Clone, Copy)]
+pub struct Running;
+
+impl ImageWork for Running {
+    ghost says = { λ _. running };
+
+    ghost quiet = { λ _ state bytes image stands. moment_none (root_of state) (script bytes (2 ^ 40)) image stands };
+
+    fn carry_on<S: Source, T: Station>(
+        &self,
+        session: &mut Session,
+        payload: &mut Payload,
+        input: &mut S,
+        station: &mut T,
+    ) -> Halt<End> {
+        serve(session, payload, input, station, INPUT_LIMIT)
+    }
 }

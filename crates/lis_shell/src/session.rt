@@ -9,20 +9,22 @@ ghost use Rattle.lis_shell.specs.Tries.{Tries, try_status};
 use crate::status::Status;
 use lis_line::carrier::{Halt, carry_all};
 use lis_line::reader::Payload;
+use lis_open::OpenFault;
 use lis_plain::end::PlainEnd;
 use lis_plain::plain::Plain;
 use lis_ports::{Source, Station};
+use lis_session::end::End;
 
 // The status at which a session over a plain state ends.
 fn status_at(halt: Halt<PlainEnd>) -> Status
     ensures { result ≡ try_status halt }
 {
     match halt {
-        Halt::End => Status::Done,
-        Halt::Limit => Status::InputLimit,
-        Halt::InputFault => Status::InputFault,
-        Halt::Stopped(PlainEnd::OutputFault) => Status::OutputFault,
-        Halt::Stopped(PlainEnd::NoMemory) => Status::NoMemory,
+        Halt::End => Status::Ended(Halt::End),
+        Halt::Limit => Status::Ended(Halt::Limit),
+        Halt::InputFault => Status::Ended(Halt::InputFault),
+        Halt::Stopped(PlainEnd::OutputFault) => Status::Ended(Halt::Stopped(End::OutputFault)),
+        Halt::Stopped(PlainEnd::NoMemory) => Status::Opening(OpenFault::NoMemory),
     }
 }
 

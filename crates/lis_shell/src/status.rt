@@ -1,33 +1,49 @@
 //! How the program ends.
 
 ghost use Rattle.std.specs.Prelude.{◌≡◌, ◌≤◌, length};
+ghost use Rattle.lis_shell.specs.Causes.{is_disk_fault};
 ghost use Rattle.lis_shell.specs.Endings.{exit_code_of, status_text_of};
 
-use lis_model::spot::Spot;
+use lis_line::carrier::Halt;
+use lis_open::OpenFault;
 use lis_place::Text;
+use lis_session::end::End;
 
 /// How a run of the program ended.
 #[derive(Clone, Copy, Debug, PartialEq, Eq)]
 pub enum Status {
-    /// `run` and `try`: the input was read to its end, and every item has its reply shown. `grow`: every item of its session was carried out,
-    /// and the summary was shown. `make`: the image was made. `upgrade`: the image is of version 2.
-    Done,
     /// The words are in no form, or a limit or the number of `grow` is out of range. Nothing was read.
     Usage,
-    /// The disk holds no image. The spot is where the first check failed.
-    NotAnImage(Spot),
-    /// The disk has fewer bytes than needed: its length, and what it would need.
-    TooShort(u64, u64),
-    /// A call of the disk failed.
-    DiskFault,
-    /// A call of the source failed.
-    InputFault,
-    /// A call that shows failed.
-    OutputFault,
-    /// The input is longer than 2^40 bytes.
-    InputLimit,
+    /// The image was not opened, or `make` or `upgrade` did not make it. Or there was no memory for what follows an opening: in `try` that may
+    /// come between two commands.
+    Opening(OpenFault),
+    /// How what follows the opening ended. At the end of `run` and `try` every item of the input has its reply shown; of `grow`, every item of
+    /// its session was carried out, and the summary was shown; of `make`, the image was made; of `upgrade`, the image is of version 2.
+    Ended(Halt<End>),
+}
+
+impl Status {
+    /// All was done.
+    pub const DONE: Status = Status::Ended(Halt::End);
     /// There is no memory.
-    NoMemory,
+    pub const NO_MEMORY: Status = Status::Opening(OpenFault::NoMemory);
+    /// The input is longer than 2^40 bytes.
+    pub const INPUT_LIMIT: Status = Status::Ended(Halt::Limit);
+    /// A call of the source failed.
+    pub const INPUT_FAULT: Status = Status::Ended(Halt::InputFault);
+    /// A call that shows failed.
+    pub const OUTPUT_FAULT: Status = Status::Ended(Halt::Stopped(End::OutputFault));
+
+    /// Whether a call of the disk failed, in an opening or behind it.
+    pub fn is_disk_fault(&self) -> bool
+        ensures { result ≡ is_disk_fault self.now }
+    {
+        match self {
+            Status::Opening(OpenFault::DiskFault) => true,
+            Status::Ended(Halt::Stopped(End::DiskFault)) => true,
+            _ => false,
+        }
+    }
 }
 
 /// The exit code of the program.
@@ -35,15 +51,16 @@ pub fn exit_code(status: &Status) -> u8
     ensures { result ≡ exit_code_of status.now }
 {
     match status {
-        Status::Done => 0,
+        Status::Ended(Halt::End) => 0,
         Status::Usage => 1,
-        Status::NotAnImage(_) => 2,
-        Status::TooShort(_, _) => 2,
-        Status::DiskFault => 3,
-        Status::InputFault => 4,
-        Status::OutputFault => 5,
-        Status::NoMemory => 6,
-        Status::InputLimit => 7,
+        Status::Opening(OpenFault::Damaged(_)) => 2,
+        Status::Opening(OpenFault::TooShort(_, _)) => 2,
+        Status::Opening(OpenFault::DiskFault) => 3,
+        Status::Ended(Halt::Stopped(End::DiskFault)) => 3,
+        Status::Ended(Halt::InputFault) => 4,
+        Status::Ended(Halt::Stopped(End::OutputFault)) => 5,
+        Status::Opening(OpenFault::NoMemory) => 6,
+        Status::Ended(Halt::Limit) => 7,
     }
 }
 
@@ -52,15 +69,16 @@ fn message(status: &Status) -> &'static [u8]
     ensures short { length result.now ≤ 1024 }
 {
     match status {
-        Status::Done => b"",
+        Status::Ended(Halt::End) => b"",
         Status::Usage => b"lisfs: usage",
-        Status::NotAnImage(_) => b"lisfs: not an image",
-        Status::TooShort(_, _) => b"lisfs: image too short",
-        Status::DiskFault => b"lisfs: disk fault",
-        Status::InputFault => b"lisfs: input fault",
-        Status::OutputFault => b"lisfs: output fault",
-        Status::NoMemory => b"lisfs: out of memory",
-        Status::InputLimit => b"lisfs: input too long",
+        Status::Opening(OpenFault::Damaged(_)) => b"lisfs: not an image",
+        Status::Opening(OpenFault::TooShort(_, _)) => b"lisfs: image too short",
+        Status::Opening(OpenFault::DiskFault) => b"lisfs: disk fault",
+        Status::Ended(Halt::Stopped(End::DiskFault)) => b"lisfs: disk fault",
+        Status::Ended(Halt::InputFault) => b"lisfs: input fault",
+        Status::Ended(Halt::Stopped(End::OutputFault)) => b"lisfs: output fault",
+        Status::Opening(OpenFault::NoMemory) => b"lisfs: out of memory",
+        Status::Ended(Halt::Limit) => b"lisfs: input too long",
     }
 }
 

@@ -1,6 +1,6 @@
 //! The top call.
 
-ghost use Rattle.std.specs.Prelude.{◌≡◌, ◌≢◌, ◌↔◌, ℕ, ◌*◌, ◌≤◌, ◌^◌, List, length, map, None, Some, [], false, IsTrue};
+ghost use Rattle.std.specs.Prelude.{◌≡◌, ◌↔◌, ℕ, ◌≤◌, ◌^◌, List, length, map, None, Some, IsTrue};
 ghost use Rattle.std.specs.String.{string_bytes};
 ghost use Rattle.lis_ports.specs.Calls.{StationFaultEnds, FaultEnds};
 ghost use Rattle.lis_line.specs.Taking.{TakesFew};
@@ -8,35 +8,29 @@ ghost use Rattle.lis_model.specs.declared.limits.Limits.{Limits as LimitsOf};
 ghost use Rattle.lis_model.specs.Ranges.{are_in_range};
 ghost use Rattle.lis_model.specs.Script.{script};
 ghost use Rattle.lis_model.specs.State.{State};
-ghost use Rattle.lis_store.specs.Stored.{StoreFits};
 ghost use Rattle.lis_session.specs.Item.{IsSameStation};
-ghost use Rattle.lis_session.specs.Runs.{Serves};
 ghost use Rattle.lis_session.specs.Session.{root_of, Headline, FullHeadline};
-ghost use Rattle.lis_grow.specs.Session.{grow_items, Grows};
+ghost use Rattle.lis_grow.specs.Session.{grow_items};
 ghost use Rattle.lis_shell.specs.Words.{task_of};
 ghost use Rattle.lis_shell.specs.declared.words.Task.TheVariants.{Try, Make, Run, Upgrade, Grow};
-ghost use Rattle.lis_shell.specs.Causes.{counts, HasStatusCause, status_of};
-ghost use Rattle.lis_shell.specs.Runs.{IsSessionStatus, Entry, Ran, NoFault, IsComplete, InputRead};
-ghost use Rattle.lis_shell.specs.Grows.{IsGrowStatus, grow_status, GrowRan, GrowHeadline, GrowEntry, IsGrown};
+ghost use Rattle.lis_shell.specs.Causes.{counts, HasStatusCause, NoFault};
+ghost use Rattle.lis_shell.specs.Runs.{Entry, IsComplete};
+ghost use Rattle.lis_shell.specs.Grows.{GrowHeadline, GrowEntry, IsGrown};
 ghost use Rattle.lis_shell.specs.Keeps.{TryKeeps, MakeKeeps, RunKeeps, GrowKeeps, UpgradeKeeps, TaskKeeps};
 
-use crate::serving::serve;
+use crate::growing::Growing;
+use crate::image::work_on_image;
+use crate::serving::{INPUT_LIMIT, Running};
 use crate::session::try_session;
 use crate::status::Status;
 use crate::words::{Task, task_of};
-use lis_grow::session::grow_session;
+use lis_line::carrier::Halt;
 use lis_line::reader::Payload;
 use lis_model::limits::Limits;
-use lis_open::{MakeFault, OpenFault, make, mount, upgrade};
+use lis_open::{MakeFault, OpenFault, make, upgrade};
 use lis_plain::plain::Plain;
 use lis_ports::{Source, Station};
-use lis_session::end::End;
-use lis_session::session::Session;
-use lis_store::Store;
 use std::alloc::Global;
-
-/// The most bytes of an input.
-const INPUT_LIMIT: u64 = 1 << 40;
 
 fn try_from_empty<S: Source, T: Station>(
     alloc: Global,
@@ -51,10 +45,10 @@ fn try_from_empty<S: Source, T: Station>(
     ensures few { TakesFew (2 ^ 40) (S.left input.old) (S.left input.new) }
 {
     let Ok(mut plain) = Plain::new(alloc, limits) else {
-        return Status::NoMemory;
+        return Status::Opening(OpenFault::NoMemory);
     };
     let Ok(mut payload) = Payload::new(alloc) else {
-        return Status::NoMemory;
+        return Status::Opening(OpenFault::NoMemory);
     };
     try_session(&mut plain, &mut payload, input, station, INPUT_LIMIT)
 }
@@ -66,70 +60,9 @@ fn make_image<T: Station>(limits: &Limits, station: &mut T) -> Status
     ensures first_fault { StationFaultEnds (T.meaning station.old) (T.meaning station.new) }
 {
     match make(station, limits) {
-        Ok(()) => Status::Done,
-        Err(MakeFault::TooShort(len, need)) => Status::TooShort(len, need),
-        Err(MakeFault::DiskFault) => Status::DiskFault,
-    }
-}
-
-// Carries out the items of the input on an opened image.
-fn run_store<S: Source, T: Station>(
-    alloc: Global,
-    store: Store,
-    input: &mut S,
-    station: &mut T,
-) -> Status
-    requires unbroken { store.is_broken ≡ false }
-    requires long { 4096 * store.journal.blocks ≤ (T.meaning station.old).len }
-    ensures only { result ≢ Status.NoMemory → IsSessionStatus result }
-    ensures same { IsSameStation (T.meaning station.old) (T.meaning station.new) }
-    ensures cause { HasStatusCause (counts (T.meaning station.old) (S.faults input.old)) (counts (T.meaning station.new) (S.faults input.new)) result }
-    ensures first_fault { StationFaultEnds (T.meaning station.old) (T.meaning station.new) }
-    ensures input_first_fault { FaultEnds (S.faults input.old) (S.behind input.old) (S.behind input.new) }
-    ensures few { TakesFew (2 ^ 40) (S.left input.old) (S.left input.new) }
-    ensures input { (bytes : List ℕ) → S.left input.old ≡ Some bytes → InputRead (2 ^ 40) bytes (S.left input.new) result }
-    ensures idle { result ≡ Status.NoMemory → (input.new ≡ input.old) × (station.new ≡ station.old) }
-    ensures runs { (state : State) (bytes : List ℕ) → StoreFits store (T.meaning station.old) state → S.left input.old ≡ Some bytes
-        → Serves (root_of state) (script bytes (2 ^ 40)) (T.meaning station.old) (T.meaning station.new)
-        (Ran state (2 ^ 40) bytes (S.left input.new) (T.meaning station.old).shown (T.meaning station.new) result) }
-{
-    let Ok(mut session) = Session::new(alloc, store) else {
-        return Status::NoMemory;
-    };
-    let Ok(mut payload) = Payload::new(alloc) else {
-        session.close();
-        return Status::NoMemory;
-    };
-    let status = serve(&mut session, &mut payload, input, station, INPUT_LIMIT);
-    session.close();
-    status
-}
-
-// What a refusal of opening is to the program.
-fn status_of(fault: OpenFault) -> Status
-    ensures { result ≡ status_of fault }
-{
-    match fault {
-        OpenFault::TooShort(len, need) => Status::TooShort(len, need),
-        OpenFault::Damaged(spot) => Status::NotAnImage(spot),
-        OpenFault::DiskFault => Status::DiskFault,
-        OpenFault::NoMemory => Status::NoMemory,
-    }
-}
-
-// Opens the image, and carries out the items of the input on it.
-fn run_image<S: Source, T: Station>(alloc: Global, input: &mut S, station: &mut T) -> Status
-    ensures same { IsSameStation (T.meaning station.old) (T.meaning station.new) }
-    ensures cause { HasStatusCause (counts (T.meaning station.old) (S.faults input.old)) (counts (T.meaning station.new) (S.faults input.new)) result }
-    ensures first_fault { StationFaultEnds (T.meaning station.old) (T.meaning station.new) }
-    ensures input_first_fault { FaultEnds (S.faults input.old) (S.behind input.old) (S.behind input.new) }
-    ensures few { TakesFew (2 ^ 40) (S.left input.old) (S.left input.new) }
-    ensures keeps { RunKeeps (input.new ≡ input.old) (station.new ≡ station.old) (S.left input.old) (S.left input.new)
-        (T.meaning station.old) (T.meaning station.new) result }
-{
-    match mount(alloc, station) {
-        Ok(store) => run_store(alloc, store, input, station),
-        Err(fault) => status_of(fault),
+        Ok(()) => Status::Ended(Halt::End),
+        Err(MakeFault::TooShort(len, need)) => Status::Opening(OpenFault::TooShort(len, need)),
+        Err(MakeFault::DiskFault) => Status::Opening(OpenFault::DiskFault),
     }
 }
 
@@ -140,84 +73,33 @@ fn upgrade_image<T: Station>(alloc: Global, station: &mut T) -> Status
     ensures first_fault { StationFaultEnds (T.meaning station.old) (T.meaning station.new) }
 {
     match upgrade(alloc, station) {
-        Ok(()) => Status::Done,
-        Err(fault) => status_of(fault),
-    }
-}
-
-// What the end of a large session is to the program.
-fn grow_status(ended: Result<(), End>) -> Status
-    ensures { result ≡ grow_status ended }
-{
-    match ended {
-        Ok(()) => Status::Done,
-        Err(End::DiskFault) => Status::DiskFault,
-        Err(End::OutputFault) => Status::OutputFault,
-    }
-}
-
-// Carries out the session that is made of the number on an opened image.
-fn grow_store<T: Station>(alloc: Global, store: Store, station: &mut T, n: u32) -> Status
-    requires unbroken { store.is_broken ≡ false }
-    requires long { 4096 * store.journal.blocks ≤ (T.meaning station.old).len }
-    ensures only { result ≢ Status.NoMemory → IsSessionStatus result }
-    ensures unread { IsGrowStatus result }
-    ensures same { IsSameStation (T.meaning station.old) (T.meaning station.new) }
-    ensures cause { (k : ℕ) → HasStatusCause (counts (T.meaning station.old) k) (counts (T.meaning station.new) k) result }
-    ensures first_fault { StationFaultEnds (T.meaning station.old) (T.meaning station.new) }
-    ensures idle { result ≡ Status.NoMemory → station.new ≡ station.old }
-    ensures grows { (state : State) → StoreFits store (T.meaning station.old) state
-        → Grows (root_of state) (grow_items n) (T.meaning station.old) (T.meaning station.new)
-        (GrowRan state (grow_items n) (T.meaning station.old).shown (T.meaning station.new) result) }
-{
-    let Ok(mut session) = Session::new(alloc, store) else {
-        return Status::NoMemory;
-    };
-    let Ok(mut payload) = Payload::new(alloc) else {
-        session.close();
-        return Status::NoMemory;
-    };
-    let ended = grow_session(&mut session, &mut payload, station, n);
-    session.close();
-    grow_status(ended)
-}
-
-// Opens the image, and carries out the session that is made of the number on it.
-fn grow_image<T: Station>(alloc: Global, station: &mut T, n: u32) -> Status
-    ensures same { IsSameStation (T.meaning station.old) (T.meaning station.new) }
-    ensures cause { (k : ℕ) → HasStatusCause (counts (T.meaning station.old) k) (counts (T.meaning station.new) k) result }
-    ensures first_fault { StationFaultEnds (T.meaning station.old) (T.meaning station.new) }
-    ensures keeps { GrowKeeps n (station.new ≡ station.old) (T.meaning station.old) (T.meaning station.new) result }
-{
-    match mount(alloc, station) {
-        Ok(store) => grow_store(alloc, store, station, n),
-        Err(fault) => status_of(fault),
+        Ok(()) => Status::Ended(Halt::End),
+        Err(fault) => Status::Opening(fault),
     }
 }
 
 // Carries out the task that the words ask for, if any.
 fn carry_task<S: Source, T: Station>(
     alloc: Global,
-    task: Option<Task>,
+    words: &[String],
     input: &mut S,
     station: &mut T,
 ) -> Status
-    requires range { (limits : LimitsOf) → task ≡ Some (Make limits) → IsTrue (are_in_range limits) }
     ensures same { IsSameStation (T.meaning station.old) (T.meaning station.new) }
     ensures cause { HasStatusCause (counts (T.meaning station.old) (S.faults input.old)) (counts (T.meaning station.new) (S.faults input.new)) result }
     ensures first_fault { StationFaultEnds (T.meaning station.old) (T.meaning station.new) }
     ensures input_first_fault { FaultEnds (S.faults input.old) (S.behind input.old) (S.behind input.new) }
     ensures few { TakesFew (2 ^ 40) (S.left input.old) (S.left input.new) }
-    ensures keeps { TaskKeeps task (input.new ≡ input.old) (station.new ≡ station.old) (S.left input.old) (S.left input.new)
+    ensures keeps { TaskKeeps (task_of (map string_bytes words.now)) (input.new ≡ input.old) (station.new ≡ station.old) (S.left input.old) (S.left input.new)
         (T.meaning station.old) (T.meaning station.new) result }
 {
-    match task {
+    match task_of(words) {
         None => Status::Usage,
         Some(Task::Try(limits)) => try_from_empty(alloc, &limits, input, station),
         Some(Task::Make(limits)) => make_image(&limits, station),
-        Some(Task::Run) => run_image(alloc, input, station),
+        Some(Task::Run) => work_on_image(alloc, &Running, input, station),
         Some(Task::Upgrade) => upgrade_image(alloc, station),
-        Some(Task::Grow(n)) => grow_image(alloc, station, n),
+        Some(Task::Grow(n)) => work_on_image(alloc, &Growing(n), input, station),
     }
 }
 
@@ -279,10 +161,10 @@ pub fn lisfs<S: Source, T: Station>(
         → RunKeeps (input.new ≡ input.old) (station.new ≡ station.old) (S.left input.old) (S.left input.new)
         (T.meaning station.old) (T.meaning station.new) result }
     ensures grows { (n : ℕ) → task_of (map string_bytes words.now) ≡ Some (Grow n)
-        → GrowKeeps n (station.new ≡ station.old) (T.meaning station.old) (T.meaning station.new) result × (input.new ≡ input.old) }
+        → GrowKeeps n (input.new ≡ input.old) (station.new ≡ station.old) (S.left input.old) (S.left input.new)
+        (T.meaning station.old) (T.meaning station.new) result × (input.new ≡ input.old) }
     ensures upgrades { task_of (map string_bytes words.now) ≡ Some Upgrade
         → UpgradeKeeps (station.new ≡ station.old) (T.meaning station.old) (T.meaning station.new) result × (input.new ≡ input.old) }
 {
-    let task = task_of(words);
-    carry_task(alloc, task, input, station)
+    carry_task(alloc, words, input, station)
 }

@@ -28,7 +28,7 @@ const REPLY_LEN: u64 = 3;
 // What a session that looks shows of an image.
 fn looked_at(alloc: Global, script: &Script, image: &[u8]) -> Result<String, Fail> {
     let (status, shown) = session(alloc, image, script.look)?;
-    if status != Status::Done {
+    if status != Status::DONE {
         return Err("the image was not opened".into());
     }
     Ok(shown)
@@ -96,7 +96,7 @@ fn scripted(alloc: Global, words: &[&str], script: &Script) -> Result<MemStation
     ensures { IfOk result (λ station. IsTrue (meaning_of station).is_recorded) }
 {
     let mut station = MemStation::new(alloc, &made(alloc, words)?, ROOM)?;
-    if run(alloc, script.row, &mut station)? != Status::Done {
+    if run(alloc, script.row, &mut station)? != Status::DONE {
         return Err("the script was not carried out".into());
     }
     Ok(station)
@@ -157,7 +157,7 @@ fn left_by_opening(
 ) -> Result<Option<String>, Fail> {
     let mut station = MemStation::new(alloc, image, OPENING_ROOM)?;
     station.fuse = fuse;
-    if run(alloc, "", &mut station)? == Status::Done {
+    if run(alloc, "", &mut station)? == Status::DONE {
         return Ok(None);
     }
     let left = left_by(alloc, script, &station, station.calls(), PICK)?;

@@ -35,7 +35,7 @@ fn ending_of(alloc: Global, station: &mut MemStation, outside: &Outside) -> Resu
     station.fails.clear();
     let image = bytes_of(alloc, station)?;
     let (looked, left) = session(alloc, &image, ONE_FILE.look)?;
-    if looked != Status::Done {
+    if looked != Status::DONE {
         return Err("the image was not opened".into());
     }
     Ok(Ending {
@@ -92,11 +92,11 @@ fn a_failing_call_of_the_disk_leaves_the_state_that_was_shown_or_the_next_one(
             number > opening || is_unchanged(&ended),
             "the call {number}"
         );
-        if ended.status == Status::Done {
+        if ended.status == Status::DONE {
             assert!(rt; is_front(ended.shown.as_str(), SHOWN.len()));
             return Ok(());
         }
-        assert_eq!(rt; ended.status, Status::DiskFault, "the call {number}");
+        assert!(rt; ended.status.is_disk_fault(), "the call {number}");
         assert_eq!(rt; ended.calls, number, "no call comes behind a failed one");
     }
     Err("the script makes more calls".into())
@@ -114,7 +114,7 @@ fn a_failing_show_leaves_the_state_of_the_reply_that_it_cuts_off(
         station.step = 1;
         station.show_fails.push(before as u64 + 1)?;
         let ended = ending_of(alloc, &mut station, &SOUND)?;
-        assert_eq!(rt; ended.status, Status::OutputFault, "behind {before}");
+        assert_eq!(rt; ended.status, Status::OUTPUT_FAULT, "behind {before}");
         assert!(rt; is_front(ended.shown.as_str(), before), "behind {before}");
         assert!(rt;
             is_behind(ended.left.as_str(), before / REPLY_LEN + 1),
@@ -136,7 +136,7 @@ fn a_failing_source_leaves_the_state_of_what_came_whole(rt: HostRuntime) -> Resu
             ..SOUND
         };
         let ended = ending_of(alloc, &mut station, &outside)?;
-        assert_eq!(rt; ended.status, Status::InputFault, "at {place}");
+        assert_eq!(rt; ended.status, Status::INPUT_FAULT, "at {place}");
         assert!(rt;
             is_front(ended.shown.as_str(), commands.saturating_mul(REPLY_LEN)),
             "at {place}"

@@ -80,7 +80,7 @@ struct Ended {
 // The bytes of an image on which a session was carried out. Its records are open.
 fn used(alloc: Global, row: &str) -> Result<Vec<u8>, Fail> {
     let mut station = MemStation::new(alloc, &fresh(alloc)?, 0)?;
-    if run(alloc, row, &mut station)? != Status::Done {
+    if run(alloc, row, &mut station)? != Status::DONE {
         return Err("the session did not end".into());
     }
     bytes_of(alloc, &mut station)
@@ -111,12 +111,12 @@ fn carried(
     })
 }
 
-// The status of a fault of this kind.
-fn named(kind: Kind) -> Status {
+// Whether the status is that of a fault of this kind.
+fn is_named(status: &Status, kind: Kind) -> bool {
     match kind {
-        Kind::Take => Status::InputFault,
-        Kind::Disk => Status::DiskFault,
-        Kind::Show => Status::OutputFault,
+        Kind::Take => *status == Status::INPUT_FAULT,
+        Kind::Disk => status.is_disk_fault(),
+        Kind::Show => *status == Status::OUTPUT_FAULT,
     }
 }
 
@@ -132,11 +132,11 @@ fn first_wrong(alloc: Global, case: &Case, kind: Kind) -> Result<u64, Fail> {
     for fails in 1..MANY_CALLS {
         let log = Log::new(kind, fails);
         let ended = carried(alloc, &words, &image, row, &log)?;
-        if ended.failed == 0 && ended.status == Status::Done {
+        if ended.failed == 0 && ended.status == Status::DONE {
             let is_made = kinds.iter().any(|made| *made == kind);
             return Ok(if is_made == (fails > 1) { 0 } else { fails });
         }
-        if ended.failed != ended.calls || ended.status != named(kind) {
+        if ended.failed != ended.calls || !is_named(&ended.status, kind) {
             return Ok(fails);
         }
     }

@@ -57,7 +57,7 @@ pub fn made(alloc: Global, words: &[&str]) -> Result<Vec<u8>, Fail> {
     let len = len_of(alloc, words)?;
     let mut station = MemStation::new(alloc, &zeros(alloc, len)?, 0)?;
     let (status, _) = call(alloc, words, "", &SOUND, &mut station)?;
-    if status != Status::Done {
+    if status != Status::DONE {
         return Err("no image was made".into());
     }
     bytes_of(alloc, &mut station)
@@ -83,7 +83,7 @@ fn images_show_what_plain_states_show(rt: HostRuntime) -> Result<(), Fail> {
         for (row, wanted) in &SESSIONS {
             let (status, shown) = session(alloc, &image, row)?;
             assert_eq!(rt; shown.as_str(), *wanted, "{row}");
-            assert_eq!(rt; status, Status::Done, "{row}");
+            assert_eq!(rt; status, Status::DONE, "{row}");
         }
     }
     Ok(())
@@ -119,7 +119,7 @@ fn words_and_images_are_judged(rt: HostRuntime) -> Result<(), Fail> {
 fn with_file(alloc: Global) -> Result<Vec<u8>, Fail> {
     let mut station = MemStation::new(alloc, &fresh(alloc)?, 0)?;
     for row in ["mkdir music;create s music;", ""] {
-        if run(alloc, row, &mut station)? != Status::Done {
+        if run(alloc, row, &mut station)? != Status::DONE {
             return Err("the session did not end".into());
         }
     }
@@ -138,7 +138,7 @@ fn rows_tell_which_file_has_which_word(rt: HostRuntime) -> Result<(), Fail> {
         }
         let (status, shown) = session(alloc, &bytes, "ls;")?;
         assert_eq!(rt; status, *wanted, "{byte} at {at}");
-        assert_eq!(rt; shown.is_empty(), status != Status::Done, "{byte} at {at}");
+        assert_eq!(rt; shown.is_empty(), status != Status::DONE, "{byte} at {at}");
     }
     Ok(())
 }
@@ -158,7 +158,7 @@ fn a_failing_show_leaves_what_was_carried_out(rt: HostRuntime) -> Result<(), Fai
     let mut station = MemStation::new(alloc, &fresh(alloc)?, 0)?;
     station.show_fails.push(2)?;
     let status = run(alloc, "create a;create b;ls;", &mut station)?;
-    assert_eq!(rt; status, Status::OutputFault);
+    assert_eq!(rt; status, Status::OUTPUT_FAULT);
     let shown = row_of(alloc, station.shown())?;
     assert!(rt; "ok;".starts_with(shown.as_str()));
     station.show_fails.clear();
@@ -192,18 +192,14 @@ fn a_failing_sync_shows_nothing(rt: HostRuntime) -> Result<(), Fail> {
         let mut station = MemStation::new(alloc, &image, 0)?;
         station.fails.push(opened.saturating_add(behind))?;
         let status = run(alloc, "mkdir a;", &mut station)?;
-        let wanted = if status == Status::DiskFault {
-            ""
-        } else {
-            "ok;"
-        };
+        let wanted = if status.is_disk_fault() { "" } else { "ok;" };
         let shown = row_of(alloc, station.shown())?;
         assert_eq!(rt; shown.as_str(), wanted, "the call {behind}");
         station.fails.clear();
         let again = run(alloc, "mkdir a;", &mut station)?;
-        assert_eq!(rt; again, Status::Done, "the call {behind}");
+        assert_eq!(rt; again, Status::DONE, "the call {behind}");
         let reply = shown_behind(alloc, &station, shown.len())?;
-        let is_new = status == Status::DiskFault && reply.as_str() == "ok;";
+        let is_new = status.is_disk_fault() && reply.as_str() == "ok;";
         assert!(rt;
             is_new || reply.as_str() == "no 11 already declared;",
             "the call {behind}"
@@ -221,7 +217,7 @@ fn want_of_memory_comes_before_anything_is_shown(rt: HostRuntime) -> Result<(), 
         &fresh(alloc)?,
         "mkdir a;create x a;add y 1 a;z;ls;rm x;",
     )?;
-    let wanted = if status == Status::NoMemory {
+    let wanted = if status == Status::NO_MEMORY {
         ""
     } else {
         "ok;ok;ok;d size:empty;d size:small;ok;ok;"

@@ -31,7 +31,8 @@ fn serve_row(
 {
     let mut payload = Payload::new(alloc)?;
     let mut input = source(alloc, row, &SOUND)?;
-    Ok(serve(session, &mut payload, &mut input, station, limit))
+    let halt = serve(session, &mut payload, &mut input, station, limit);
+    Ok(Status::Ended(halt))
 }
 
 fn opened(alloc: Global, station: &mut MemStation) -> Result<Session, Fail>

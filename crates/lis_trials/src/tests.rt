@@ -147,7 +147,7 @@ fn sessions_show_the_same_in_any_pieces(rt: HostRuntime) -> Result<(), Fail> {
             };
             let seen = run(rt.alloc(), words, row, &outside)?;
             assert_eq!(rt; seen.shown.as_str(), *wanted, "{row}");
-            assert_eq!(rt; seen.status, Status::Done, "{row}");
+            assert_eq!(rt; seen.status, Status::DONE, "{row}");
             assert_eq!(rt; seen.taken, row.len(), "{row}");
             assert_eq!(rt; seen.calls, 0, "{row}");
         }
@@ -270,7 +270,7 @@ fn words_are_judged_before_anything_is_taken_or_shown(rt: HostRuntime) -> Result
     }
     for words in &RIGHT_WORDS {
         let seen = run(rt.alloc(), words, "mkdir a;", &SOUND)?;
-        assert_eq!(rt; seen.status, Status::Done, "{words:?}");
+        assert_eq!(rt; seen.status, Status::DONE, "{words:?}");
         assert_eq!(rt; seen.shown.as_str(), "ok;", "{words:?}");
     }
     Ok(())
@@ -294,7 +294,7 @@ fn a_failing_show_ends_behind_a_front_of_the_replies(rt: HostRuntime) -> Result<
         ..SOUND
     };
     let seen = run(rt.alloc(), &WORDS, "create a;create b;ls;", &outside)?;
-    assert_eq!(rt; seen.status, Status::OutputFault);
+    assert_eq!(rt; seen.status, Status::OUTPUT_FAULT);
     assert!(rt; "ok;".starts_with(seen.shown.as_str()));
     Ok(())
 }
@@ -339,7 +339,7 @@ fn a_cut_session_leaves_what_it_had_carried_out(rt: HostRuntime) -> Result<(), F
         assert_eq!(rt; seen.status, *status, "{row}");
         assert_eq!(rt; seen.shown.as_str(), *shown, "{row}");
         let seen = go_on(rt.alloc(), &mut plain, 99, then, &SOUND)?;
-        assert_eq!(rt; seen.status, Status::Done, "{then} after {row}");
+        assert_eq!(rt; seen.status, Status::DONE, "{then} after {row}");
         assert_eq!(rt; seen.shown.as_str(), *then_shown, "{then} after {row}");
     }
     Ok(())

@@ -8,6 +8,7 @@ use crate::tests::tables::LARGE_FILES;
 use crate::tests::{SOUND, call, files_row, push_file, row_of};
 use lis_memdisk::MemStation;
 use lis_model::spot::Spot;
+use lis_open::OpenFault;
 use lis_shell::status::Status;
 use std::alloc::{AllocError, Global};
 use std::test::Fail;
@@ -100,7 +101,7 @@ fn refused(alloc: Global) -> Result<Vec<u8>, Fail> {
     let mut station = MemStation::new(alloc, &made(alloc, &SMALL)?, 0)?;
     let mut row = String::new(alloc);
     push_file(&mut row, "add a 65537;", 65_537)?;
-    if run(alloc, row.as_str(), &mut station)? != Status::Done {
+    if run(alloc, row.as_str(), &mut station)? != Status::DONE {
         return Err("the session did not end".into());
     }
     if row_of(alloc, station.shown())?.as_str() != "no 20 file too large;" {
@@ -117,7 +118,7 @@ fn files_of_images_are_as_large_as_there_are_blocks(rt: HostRuntime) -> Result<(
         let row = files_row(alloc, files, behind)?;
         let (status, shown) = session(alloc, &image, row.as_str())?;
         assert_eq!(rt; shown.as_str(), *wanted, "{words:?}");
-        assert_eq!(rt; status, Status::Done, "{words:?}");
+        assert_eq!(rt; status, Status::DONE, "{words:?}");
     }
     Ok(())
 }
@@ -129,14 +130,14 @@ fn an_upgraded_image_takes_larger_files(rt: HostRuntime) -> Result<(), Fail> {
     let mut station = MemStation::new(alloc, &refused(alloc)?, 0)?;
     for _ in 0..2 {
         let (status, taken) = upgrade(alloc, &mut station)?;
-        assert_eq!(rt; status, Status::Done);
+        assert_eq!(rt; status, Status::DONE);
         assert_eq!(rt; taken, 0);
         assert!(rt; station.shown().is_empty());
     }
     let mut row = String::new(alloc);
     push_file(&mut row, "add a 65537;", 65_537)?;
     row.push_str("stat;")?;
-    assert_eq!(rt; run(alloc, row.as_str(), &mut station)?, Status::Done);
+    assert_eq!(rt; run(alloc, row.as_str(), &mut station)?, Status::DONE);
     let shown = shown_behind(alloc, &station, 0)?;
     assert_eq!(rt;
         shown.as_str(),
@@ -151,7 +152,7 @@ fn recorded(alloc: Global) -> Result<MemStation, Fail>
 {
     let mut station = MemStation::new(alloc, &refused(alloc)?, ROOM)?;
     let (status, _) = upgrade(alloc, &mut station)?;
-    if status != Status::Done {
+    if status != Status::DONE {
         return Err("the image was not upgraded".into());
     }
     Ok(station)
@@ -180,7 +181,7 @@ fn a_crash_of_an_upgrade_leaves_an_image_that_opens(rt: HostRuntime) -> Result<(
     for call in 0..=station.calls() {
         for pick in [0, 1, 2, 165] {
             let (status, shown) = left_by(alloc, &station, call, pick)?;
-            assert_eq!(rt; status, Status::Done, "the call {call} and the pick {pick}");
+            assert_eq!(rt; status, Status::DONE, "the call {call} and the pick {pick}");
             assert_eq!(rt;
                 shown.as_str(),
                 "ok;",
@@ -197,7 +198,7 @@ fn with_files(alloc: Global) -> Result<Vec<u8>, Fail> {
     let mut station = MemStation::new(alloc, &made(alloc, &words)?, 0)?;
     let row = files_row(alloc, &[("a", 65_537), ("b", 1)], "")?;
     for row in [row.as_str(), ""] {
-        if run(alloc, row, &mut station)? != Status::Done {
+        if run(alloc, row, &mut station)? != Status::DONE {
             return Err("the session did not end".into());
         }
     }
@@ -259,12 +260,16 @@ fn damaged_index_blocks_are_named(rt: HostRuntime) -> Result<(), Fail> {
     let alloc = rt.alloc();
     let image = with_files(alloc)?;
     let (status, _) = session(alloc, &image, "ls;")?;
-    assert_eq!(rt; status, Status::Done);
+    assert_eq!(rt; status, Status::DONE);
     for (place, what, spot) in &DAMAGES {
         let mut bytes = image.clone()?;
         assert!(rt; damage(&image, &mut bytes, *place, *what), "{place:?}");
         let (status, shown) = session(alloc, &bytes, "ls;")?;
-        assert_eq!(rt; status, Status::NotAnImage(*spot), "{place:?} {what:?}");
+        assert_eq!(rt;
+            status,
+            Status::Opening(OpenFault::Damaged(*spot)),
+            "{place:?} {what:?}"
+        );
         assert!(rt; shown.is_empty(), "{place:?} {what:?}");
     }
     Ok(())
@@ -288,7 +293,7 @@ fn the_gate_of_a_version_may_have_any_value(rt: HostRuntime) -> Result<(), Fail>
         } else {
             "no 20 file too large;"
         };
-        assert_eq!(rt; status, Status::Done, "{gate}");
+        assert_eq!(rt; status, Status::DONE, "{gate}");
         assert_eq!(rt; shown.as_str(), wanted, "{gate}");
     }
     Ok(())

@@ -18,13 +18,13 @@ use std::{env, io};
 fn words(rt: &HostRuntime) -> Result<Vec<String>, Status> {
     let all = match env::args(rt) {
         Ok(all) => all,
-        Err(error) if error.kind() == ErrorKind::OutOfMemory => return Err(Status::NoMemory),
+        Err(error) if error.kind() == ErrorKind::OutOfMemory => return Err(Status::NO_MEMORY),
         Err(_) => return Err(Status::Usage),
     };
     let mut words = Vec::new(rt.alloc());
     for word in all.skip(1) {
         let Ok(()) = words.push(word) else {
-            return Err(Status::NoMemory);
+            return Err(Status::NO_MEMORY);
         };
     }
     Ok(words)

@@ -1,6 +1,7 @@
 //! What standard error says of a run.
 
 use lis_model::spot::Spot;
+use lis_open::OpenFault;
 use lis_shell::status::{Status, status_text};
 use std::io;
 use std::io::{Error, Write};
@@ -58,15 +59,16 @@ pub fn print(
     error.write_all(b"\n")?;
     match status {
         Status::Usage => error.write_all(FORMS),
-        Status::NotAnImage(spot) => {
+        Status::Opening(OpenFault::Damaged(spot)) => {
             write!(error, "{path}: ")?;
             write_spot(&mut error, spot)
         }
-        Status::TooShort(len, need) => writeln!(error, "{path}: {len} bytes of {need}"),
-        Status::DiskFault => match cause {
-            Some(cause) => write_cause(rt, &mut error, path, &cause),
-            None => Ok(()),
+        Status::Opening(OpenFault::TooShort(len, need)) => {
+            writeln!(error, "{path}: {len} bytes of {need}")
+        }
+        _ => match cause {
+            Some(cause) if status.is_disk_fault() => write_cause(rt, &mut error, path, &cause),
+            _ => Ok(()),
         },
-        _ => Ok(()),
     }
 }

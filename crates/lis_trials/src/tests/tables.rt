@@ -1,6 +1,7 @@
 //! The rows. What is wanted was worked out by hand from the rules of commands and listings.
 
 use lis_model::spot::Spot;
+use lis_open::OpenFault;
 use lis_shell::status::Status;
 
 pub static SESSIONS: [(&str, &str); 58] = [
@@ -328,12 +329,12 @@ pub static RIGHT_WORDS: [&[&str]; 5] = [
 
 /// The number of the failing call, what is shown at one byte a call, and how the session ends.
 pub static FAILING_SHOWS: [(u64, &str, Status); 6] = [
-    (1, "", Status::OutputFault),
-    (2, "o", Status::OutputFault),
-    (4, "ok;", Status::OutputFault),
-    (9, "ok;ok;f ", Status::OutputFault),
-    (17, "ok;ok;f a;f b;ok", Status::OutputFault),
-    (18, "ok;ok;f a;f b;ok;", Status::Done),
+    (1, "", Status::OUTPUT_FAULT),
+    (2, "o", Status::OUTPUT_FAULT),
+    (4, "ok;", Status::OUTPUT_FAULT),
+    (9, "ok;ok;f ", Status::OUTPUT_FAULT),
+    (17, "ok;ok;f a;f b;ok", Status::OUTPUT_FAULT),
+    (18, "ok;ok;f a;f b;ok;", Status::DONE),
 ];
 
 /// The limit, the bytes of a piece and the failing place; a session that they cut off, what it shows and how it ends; and
@@ -351,28 +352,28 @@ pub static CUT_SESSIONS: [Cut; 15] = [
         99,
         8,
         Some(8),
-        ("mkdir a;mkdir b;", "ok;", Status::InputFault),
+        ("mkdir a;mkdir b;", "ok;", Status::INPUT_FAULT),
         ("mkdir b;mkdir a;", "ok;no 11 already declared;"),
     ),
     (
         99,
         8,
         Some(0),
-        ("mkdir a;mkdir b;", "", Status::InputFault),
+        ("mkdir a;mkdir b;", "", Status::INPUT_FAULT),
         ("mkdir a;", "ok;"),
     ),
     (
         99,
         8,
         Some(16),
-        ("mkdir a;mkdir b;", "ok;ok;", Status::InputFault),
+        ("mkdir a;mkdir b;", "ok;ok;", Status::INPUT_FAULT),
         ("mkdir b;", "no 11 already declared;"),
     ),
     (
         99,
         8,
         Some(9),
-        ("mkdir a;mkdir b;", "ok;ok;", Status::Done),
+        ("mkdir a;mkdir b;", "ok;ok;", Status::DONE),
         ("mkdir b;", "no 11 already declared;"),
     ),
     // A line that is not whole at the fault is not carried out.
@@ -380,21 +381,21 @@ pub static CUT_SESSIONS: [Cut; 15] = [
         99,
         1,
         Some(7),
-        ("mkdir a;mkdir b;", "", Status::InputFault),
+        ("mkdir a;mkdir b;", "", Status::INPUT_FAULT),
         ("mkdir a;", "ok;"),
     ),
     (
         99,
         1,
         Some(15),
-        ("mkdir a;mkdir b;", "ok;", Status::InputFault),
+        ("mkdir a;mkdir b;", "ok;", Status::INPUT_FAULT),
         ("mkdir b;", "ok;"),
     ),
     (
         99,
         7,
         Some(7),
-        ("mkdir a", "", Status::InputFault),
+        ("mkdir a", "", Status::INPUT_FAULT),
         ("mkdir a;", "ok;"),
     ),
     // The input is one byte longer than its limit, or just as long.
@@ -402,51 +403,51 @@ pub static CUT_SESSIONS: [Cut; 15] = [
         10,
         7,
         None,
-        ("mkdir abcd;", "", Status::InputLimit),
+        ("mkdir abcd;", "", Status::INPUT_LIMIT),
         ("mkdir abcd;", "ok;"),
     ),
     (
         10,
         7,
         None,
-        ("mkdir abc;", "ok;", Status::Done),
+        ("mkdir abc;", "ok;", Status::DONE),
         ("mkdir abc;", "no 11 already declared;"),
     ),
     (
         10,
         1,
         None,
-        ("mkdir a;ls;", "ok;", Status::InputLimit),
+        ("mkdir a;ls;", "ok;", Status::INPUT_LIMIT),
         ("mkdir a;", "no 11 already declared;"),
     ),
-    (0, 7, None, (";", "", Status::InputLimit), ("ls;", "ok;")),
+    (0, 7, None, (";", "", Status::INPUT_LIMIT), ("ls;", "ok;")),
     // A payload is whole with its line feed, within the limit and before a fault.
     (
         10,
         3,
         None,
-        ("add a 1;x;ls", "ok;", Status::InputLimit),
+        ("add a 1;x;ls", "ok;", Status::INPUT_LIMIT),
         ("cat a;", "b 1;x;ok;"),
     ),
     (
         9,
         3,
         None,
-        ("add a 1;x;ls", "", Status::InputLimit),
+        ("add a 1;x;ls", "", Status::INPUT_LIMIT),
         ("cat a;", "no 10 no such file here;"),
     ),
     (
         99,
         3,
         Some(9),
-        ("add a 1;x;ls;", "", Status::InputFault),
+        ("add a 1;x;ls;", "", Status::INPUT_FAULT),
         ("ls;", "ok;"),
     ),
     (
         99,
         10,
         Some(10),
-        ("add a 1;x;ls;", "ok;", Status::InputFault),
+        ("add a 1;x;ls;", "ok;", Status::INPUT_FAULT),
         ("cat a;", "b 1;x;ok;"),
     ),
 ];
@@ -457,32 +458,52 @@ pub static IMAGE_WORDS: [(&[&str], usize, Status); 12] = [
     (&["run", "i", "j"], 100, Status::Usage),
     (&["make", "i", "63", "64", "8"], 100, Status::Usage),
     (&["make", "i", "64", "64"], 100, Status::Usage),
-    (&["run", "i"], 100, Status::TooShort(100, 4_096)),
-    (&["run", "i"], 0, Status::TooShort(0, 4_096)),
-    (&["run", "i"], 2_433_024, Status::NotAnImage(Spot::Super)),
+    (
+        &["run", "i"],
+        100,
+        Status::Opening(OpenFault::TooShort(100, 4_096)),
+    ),
+    (
+        &["run", "i"],
+        0,
+        Status::Opening(OpenFault::TooShort(0, 4_096)),
+    ),
+    (
+        &["run", "i"],
+        2_433_024,
+        Status::Opening(OpenFault::Damaged(Spot::Super)),
+    ),
     (
         &["make", "i", "64", "64", "8"],
         2_433_023,
-        Status::TooShort(2_433_023, 2_433_024),
+        Status::Opening(OpenFault::TooShort(2_433_023, 2_433_024)),
     ),
     (
         &["make", "i", "64", "64", "8", "v2"],
         2_433_023,
-        Status::TooShort(2_433_023, 2_433_024),
+        Status::Opening(OpenFault::TooShort(2_433_023, 2_433_024)),
     ),
-    (&["upgrade", "i"], 100, Status::TooShort(100, 4_096)),
-    (&["upgrade", "i"], 0, Status::TooShort(0, 4_096)),
+    (
+        &["upgrade", "i"],
+        100,
+        Status::Opening(OpenFault::TooShort(100, 4_096)),
+    ),
+    (
+        &["upgrade", "i"],
+        0,
+        Status::Opening(OpenFault::TooShort(0, 4_096)),
+    ),
     (
         &["upgrade", "i"],
         2_433_024,
-        Status::NotAnImage(Spot::Super),
+        Status::Opening(OpenFault::Damaged(Spot::Super)),
     ),
 ];
 
 /// Inputs at a limit of ten bytes: how the session ends, what it shows, and what the same input shows then in a run.
 pub static LIMITED: [(&str, Status, &str, &str); 2] = [
-    ("mkdir abcd;", Status::InputLimit, "", "ok;"),
-    ("mkdir abc;", Status::Done, "ok;", "no 11 already declared;"),
+    ("mkdir abcd;", Status::INPUT_LIMIT, "", "ok;"),
+    ("mkdir abc;", Status::DONE, "ok;", "no 11 already declared;"),
 ];
 
 /// Sessions on an empty image, and how many bits of its extension rows they edit: a bit for each word that a file gains or loses, its
@@ -584,13 +605,17 @@ pub static FAILING_PLACES: [(usize, usize); 6] = [
 
 /// A byte of the rows of an image in which file 0 has the words 0, 1 and 2, what it is changed to, and how a run ends then.
 pub static ROWS: [(usize, u8, Status); 8] = [
-    (0, 1, Status::Done),
-    (0, 0, Status::NotAnImage(Spot::Row(0))),
-    (0, 3, Status::NotAnImage(Spot::Row(0))),
-    (8, 0, Status::NotAnImage(Spot::Row(1))),
-    (24, 1, Status::NotAnImage(Spot::Row(3))),
-    (511, 128, Status::NotAnImage(Spot::Row(63))),
+    (0, 1, Status::DONE),
+    (0, 0, Status::Opening(OpenFault::Damaged(Spot::Row(0)))),
+    (0, 3, Status::Opening(OpenFault::Damaged(Spot::Row(0)))),
+    (8, 0, Status::Opening(OpenFault::Damaged(Spot::Row(1)))),
+    (24, 1, Status::Opening(OpenFault::Damaged(Spot::Row(3)))),
+    (511, 128, Status::Opening(OpenFault::Damaged(Spot::Row(63)))),
     // Behind the last row.
-    (512, 1, Status::NotAnImage(Spot::Row(64))),
-    (4_095, 128, Status::NotAnImage(Spot::Row(64))),
+    (512, 1, Status::Opening(OpenFault::Damaged(Spot::Row(64)))),
+    (
+        4_095,
+        128,
+        Status::Opening(OpenFault::Damaged(Spot::Row(64))),
+    ),
 ];

@@ -16,8 +16,8 @@ returns-clause-grows g c = λ state fits.
     let start : Situation = record { state = state; place = c.args.session.now.place } in
     let items = grow_items c.args.n in
     let summed = c.in-Ok.ensures.carries state fits in
-    let own = subst (λ store. StoreFits store (g.T.Disk.meaning c.carry_out.new.disk) (situation_after start items).state) (sym c.store.ensures.value) summed.ended.fitting.own in
-    let told = counts_state (g.T.Disk.meaning c.carry_out.new.disk) c.store.result.now (situation_after start items).state
+    let own = subst (λ store. StoreFits store (g.T.Disk.meaning c.carry_out.new.station) (situation_after start items).state) (sym c.store.ensures.value) summed.ended.fitting.own in
+    let told = counts_state (g.T.Disk.meaning c.carry_out.new.station) c.store.result.now (situation_after start items).state
     (subst IsSound (sym c.store.ensures.value) c.store.ensures.sound) own in
     grows_shown start items c.in-Ok.sum summed (g.T.Disk.meaning c.show_summary.new.station) c.show_summary.result _
     (summary_is start items c.in-Ok.sum c.counts.result summed.ended.replies summed.ended.refused summed.ended.listed (c.counts.ensures.files ∙ told.files) (c.counts.ensures.axioms ∙ told.axioms)

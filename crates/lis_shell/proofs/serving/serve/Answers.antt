@@ -3,7 +3,7 @@ use Rattle.lis_session.specs.Served.{situation_at}
 use Rattle.lis_session.proofs.Fitting.{store_fits_at}
 use Rattle.lis_session.proofs.Going.{has_done_none}
 use Rattle.lis_session.proofs.Whole.{full_headline}
-use Rattle.lis_shell.proofs.Served.{only_served, served_same, served_first_fault, served_sound, served_limits, served_image, served_unbroken, served_cause, served_input, serves_so, goes_on_so}
+use Rattle.lis_shell.proofs.Served.{served_same, served_first_fault, served_sound, served_limits, served_image, served_unbroken, served_cause, served_input, serves_so, goes_on_so}
 use Rattle.lis_shell.proofs.serving.serve.Goals as goal
 
 pub carry_all-requires-clause-ready : goal.carry_all-requires-clause-ready
@@ -11,9 +11,6 @@ carry_all-requires-clause-ready g c = record { unbroken = c.requires.unbroken; l
 
 pub carry_all-requires-clause-start : goal.carry_all-requires-clause-start
 carry_all-requires-clause-start g c = has_done_none c.args.session.now (g.T.Disk.meaning c.args.station.now) c.requires.unbroken c.requires.sound
-
-pub returns-clause-only : goal.returns-clause-only
-returns-clause-only g c = rw c.serve_status.ensures (only_served c.carry_all.result)
 
 pub returns-clause-same : goal.returns-clause-same
 returns-clause-same g c =
@@ -32,32 +29,30 @@ returns-clause-image g c =
 
 pub returns-clause-unbroken : goal.returns-clause-unbroken
 returns-clause-unbroken g c =
-    rw c.serve_status.ensures
     (served_unbroken c.args.limit (g.S.Source.left c.args.input.now) (g.S.Source.left c.carry_all.new.input) c.args.session.now c.carry_all.new.carrier
     (g.T.Disk.meaning c.args.station.now) (g.T.Disk.meaning c.carry_all.new.station) c.carry_all.result c.carry_all.ensures.ended)
 
 pub returns-clause-cause : goal.returns-clause-cause
 returns-clause-cause g c =
-    rw c.serve_status.ensures
     (served_cause c.args.limit (g.S.Source.left c.args.input.now) (g.S.Source.left c.carry_all.new.input) c.args.session.now c.carry_all.new.carrier
     (g.T.Disk.meaning c.args.station.now) (g.T.Disk.meaning c.carry_all.new.station) (g.S.Source.faults c.args.input.now) (g.S.Source.faults c.carry_all.new.input)
     c.carry_all.result c.carry_all.ensures.ended c.carry_all.ensures.cause)
 
 pub returns-clause-input : goal.returns-clause-input
 returns-clause-input g c =
-    rw c.serve_status.ensures (λ bytes told.
+    (λ bytes told.
     served_input c.args.limit (g.S.Source.left c.args.input.now) (g.S.Source.left c.carry_all.new.input) c.args.session.now c.carry_all.new.carrier
     (g.T.Disk.meaning c.args.station.now) (g.T.Disk.meaning c.carry_all.new.station) bytes told c.carry_all.result c.carry_all.ensures.ended)
 
 pub returns-clause-serves : goal.returns-clause-serves
 returns-clause-serves g c =
-    rw c.serve_status.ensures (λ state bytes fits told.
+    (λ state bytes fits told.
     serves_so c.args.limit (g.S.Source.left c.args.input.now) (g.S.Source.left c.carry_all.new.input) c.args.session.now c.carry_all.new.carrier
     (g.T.Disk.meaning c.args.station.now) (g.T.Disk.meaning c.carry_all.new.station) bytes told state (store_fits_at c.requires.sound fits) c.carry_all.result c.carry_all.ensures.ended)
 
 pub returns-clause-goes_on : goal.returns-clause-goes_on
 returns-clause-goes_on g c =
-    rw c.serve_status.ensures (λ state bytes fits told.
+    (λ state bytes fits told.
     goes_on_so c.args.limit (g.S.Source.left c.args.input.now) (g.S.Source.left c.carry_all.new.input) c.args.session.now c.carry_all.new.carrier
     (g.T.Disk.meaning c.args.station.now) (g.T.Disk.meaning c.carry_all.new.station) bytes told state (store_fits_at c.requires.sound fits) c.carry_all.result c.carry_all.ensures.ended)
 

@@ -3,7 +3,7 @@ use Rattle.lis_plain.proofs.Trying.{tried_on, always_ready}
 use Rattle.lis_plain.proofs.carrying.PlainCarrier.carry.Goals as goal
 
 pub returns-clause-ready : goal.returns-clause-ready
-returns-clause-ready g c = always_ready c.step.result
+returns-clause-ready g c = λ more ready. always_ready c.step.result
 
 pub returns-clause-carried : goal.returns-clause-carried
 returns-clause-carried g c = λ start entry first tried.

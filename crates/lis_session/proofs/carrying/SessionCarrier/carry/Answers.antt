@@ -3,13 +3,13 @@ use Rattle.lis_session.proofs.Going.{has_carried, is_ready_after}
 use Rattle.lis_session.proofs.carrying.SessionCarrier.carry.Goals as goal
 
 pub step-requires-clause-unbroken : goal.step-requires-clause-unbroken
-step-requires-clause-unbroken g c = c.requires.ready.unbroken
+step-requires-clause-unbroken g c = c.requires.ready.1.unbroken
 
 pub step-requires-clause-long : goal.step-requires-clause-long
-step-requires-clause-long g c = c.requires.ready.long
+step-requires-clause-long g c = c.requires.ready.1.long
 
 pub returns-clause-ready : goal.returns-clause-ready
-returns-clause-ready g c = is_ready_after c.step.new.self c.step.result c.requires.ready c.step.ensures.same c.step.ensures.left
+returns-clause-ready g c = λ more ready. is_ready_after c.step.new.self c.step.result ready c.step.ensures.same c.step.ensures.left
 
 pub returns-clause-carried : goal.returns-clause-carried
 returns-clause-carried g c = λ start entry first done.

@@ -1,0 +1,47 @@
+use Rattle.std.proofs.Common.{arith}
+use Rattle.std.proofs.lemmas.Result.{err_from_is_err_and}
+use Rattle.lis_line.specs.Reading.{asked_by}
+use Rattle.lis_kept.proofs.InArea.{few_files, few_properties}
+use Rattle.lis_grow.proofs.Going.{sums_more, sums_into, one_at_most}
+use Rattle.lis_grow.proofs.summing.SummingCarrier.carry.Goals as goal
+
+pub returns-in_err-tally-clause-carried : goal.returns-in_err-tally-clause-carried
+returns-in_err-tally-clause-carried g c = λ start entry first done.
+    let p = err_from_is_err_and c.from_residual.result c.from_residual.ensures.1 in
+    rw (p.1, p.2)
+    (sums_into done.0 done.1 (asked_by c.args.item.now c.args.payload.now) c.in_err-tally.field-0.0 (record {
+      limits = c.in_err-tally.ensures.limits;
+      image = c.in_err-tally.ensures.image;
+      sound = c.in_err-tally.ensures.sound;
+      run = c.in_err-tally.ensures.run;
+      cause = c.in_err-tally.ensures.cause;
+      first_fault = c.in_err-tally.ensures.first_fault;
+    }) c.in_err-tally.ensures.tallies)
+
+pub returns-clause-ready : goal.returns-clause-ready
+returns-clause-ready g c = λ more ready.
+    let limits = c.args.self.now.session.now.store.parts.limits in
+    let range = ready.sound.parts.range in
+    record {
+      sound = c.in_ok-tally.ensures.sound;
+      unbroken = c.in_ok-tally.ensures.unbroken;
+      long = omega (arith, c.in_ok-tally.ensures.image, c.in_ok-tally.ensures.run.len, ready.long);
+      replies = omega (arith, c.add.ensures.replies, ready.replies);
+      refused = omega (arith, c.add.ensures.refused, ready.refused, one_at_most c.in_ok-tally.tally.refused);
+      listed = omega (arith, c.add.ensures.listed, ready.listed, c.in_ok-tally.ensures.few, few_properties limits range, few_files limits range);
+    }
+
+pub returns-clause-carried : goal.returns-clause-carried
+returns-clause-carried g c = λ start entry first done.
+    sums_more done.0 done.1 (asked_by c.args.item.now c.args.payload.now) c.in_ok-tally.tally c.add.new.self (record {
+      limits = c.in_ok-tally.ensures.limits;
+      image = c.in_ok-tally.ensures.image;
+      sound = c.in_ok-tally.ensures.sound;
+      run = c.in_ok-tally.ensures.run;
+      cause = c.in_ok-tally.ensures.cause;
+      first_fault = c.in_ok-tally.ensures.first_fault;
+    }) c.in_ok-tally.ensures.unbroken c.in_ok-tally.ensures.tallies (record {
+      replies = c.add.ensures.replies;
+      refused = c.add.ensures.refused;
+      listed = c.add.ensures.listed;
+    })

@@ -1,0 +1,42 @@
+-- A session that is carried out with nothing shown: what it has come to since a start, and the sum of its replies.
+-- No public clause cites this module.
+use Rattle.std.specs.Prelude.{◌≡◌, ℕ, ◌+◌, ◌*◌, ◌^◌, ◌≤◌, ◌<◌, List, [], ◌∷◌, ◌++◌, Result, Ok, Err, IfOk, false}
+use Rattle.lis_ports.specs.Meaning.{Meaning}
+use Rattle.lis_ports.specs.Runs.{IsDiskRun}
+use Rattle.lis_ports.specs.Calls.{HasCause, DiskFaultEnds}
+use Rattle.lis_ports.specs.declared.disk.Failed.{Failed}
+use Rattle.lis_model.specs.State.{State}
+use Rattle.lis_model.specs.Step.{Item, situation_after}
+use Rattle.lis_store.specs.Stored.{IsSound, StoreFits}
+use Rattle.lis_session.specs.Item.{FitsAt}
+use Rattle.lis_session.specs.Served.{situation_at}
+use Rattle.lis_session.specs.Session.{Situated}
+use Rattle.lis_grow.specs.Session.{Summed}
+use Rattle.lis_grow.specs.declared.summary.Sum.{Sum}
+
+-- The session can be carried on, and so many replies more can be summed: none lists more than 12,288 words and files.
+pub record CanSum (session : Situated) (sum : Sum) (m : Meaning) (more : ℕ) : Type 0 where
+  pub sound : IsSound session.store
+  pub unbroken : session.store.is_broken ≡ false
+  pub long : 4096 * session.store.journal.blocks ≤ m.len
+  pub replies : sum.replies + more < 2 ^ 32
+  pub refused : sum.refused + more < 2 ^ 32
+  pub listed : sum.listed + 12288 * more < 2 ^ 64
+
+-- Since the start these items were carried out, from any state that fitted then; or all but the last one, where a call of the disk failed.
+pub record SumsTo (start : Situated) (entry : Meaning) (items : List Item) (now : Situated) (m : Meaning) (result : Result Sum Failed) : Type 0 where
+  pub limits : now.store.parts.limits ≡ start.store.parts.limits
+  pub image : now.store.journal.blocks ≡ start.store.journal.blocks
+  pub unbroken : IfOk result (λ sum. now.store.is_broken ≡ false)
+  pub sound : IsSound now.store
+  pub run : IsDiskRun entry m
+  pub cause : HasCause entry.disk_faults m.disk_faults result
+  pub first_fault : DiskFaultEnds entry m
+  pub at : (state : State) → FitsAt (StoreFits start.store entry) entry state → IfOk result (λ sum. now.place ≡ (situation_after (situation_at start state) items).place)
+  pub summed : (state : State) → FitsAt (StoreFits start.store entry) entry state → Summed (situation_at start state) items entry m result (StoreFits now.store m)
+
+abbrev pub Sums : Situated → Meaning → List Item → Situated → Sum → Meaning → Type 0
+Sums start entry first now sum m = SumsTo start entry first now m (Ok sum)
+
+abbrev pub SumsInto : Situated → Meaning → List Item → Item → Situated → Meaning → Type 0
+SumsInto start entry first item now m = SumsTo start entry (first ++ item ∷ []) now m (Err (record {}))

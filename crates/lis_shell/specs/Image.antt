@@ -1,0 +1,99 @@
+-- What every word keeps that opens an image and does one work on it behind the opening.
+use Rattle.std.specs.Prelude.{◌≡◌, ℕ, ◌<◌, List, Bool, true, false, Option, Some, Err, IsTrue}
+use Rattle.lis_ports.specs.Meaning.{Meaning}
+use Rattle.lis_ports.specs.Calls.{IsUnchanged}
+use Rattle.lis_ports.specs.Runs.{Leaves}
+use Rattle.lis_journal.specs.Images.{KeepsPast}
+use Rattle.lis_journal.specs.Recovery.{IsSettledPast}
+use Rattle.lis_line.specs.declared.carrier.Halt.{Halt}
+use Rattle.lis_line.specs.declared.carrier.Halt.TheVariants.{End as AtEnd}
+use Rattle.lis_model.specs.declared.limits.Limits.{Limits}
+use Rattle.lis_model.specs.declared.spot.Spot.{Spot}
+use Rattle.lis_model.specs.Image.{image_blocks}
+use Rattle.lis_model.specs.State.{State}
+use Rattle.lis_store.specs.Stands.{Stands}
+use Rattle.lis_open.specs.declared.mounting.OpenFault.{OpenFault}
+use Rattle.lis_open.specs.declared.mounting.OpenFault.TheVariants.{TooShort, Damaged, DiskFault, NoMemory}
+use Rattle.lis_open.specs.Checks.{FailsFirst}
+use Rattle.lis_open.specs.Opens.{HasSuper, IsLongEnough, OpenEnded, OpenLeft, InOpening}
+use Rattle.lis_session.specs.declared.end.End.{End}
+use Rattle.lis_session.specs.Runs.{OpensInto}
+use Rattle.lis_shell.specs.declared.status.Status.{Status}
+use Rattle.lis_shell.specs.declared.status.Status.TheVariants.{Opening, Ended}
+use Rattle.lis_shell.specs.Causes.{ByOpening, IsDiskFault}
+
+-- What is done on an opened image that stands for a state, where the source had the bytes left. Of the input a work says something only where
+-- it takes some.
+pub record Work : Type 1 where
+  pub takes_input : Bool
+  -- how it may end, whatever the disk does
+  pub may_end : Halt End → Type 0
+  -- what its end says of the input, whatever the disk does
+  pub input : List ℕ → Option (List ℕ) → Halt End → Type 0
+  -- what a stop may leave: an image, and what was shown since the start
+  pub moment : State → List ℕ → List ℕ → List ℕ → Type 0
+  -- how it ended: what the source has left, and what had been shown at the start
+  pub ended : State → List ℕ → Option (List ℕ) → Option (List ℕ) → Meaning → Halt End → Type 0
+
+-- the bytes that the source has left, told to a work that takes input
+abbrev pub Told : Bool → Option (List ℕ) → List ℕ → Type 0
+Told true left bytes = left ≡ Some bytes
+Told false left bytes = Unit {0}
+
+-- The station is honest, its image stands for the state, and the source tells what it has left.
+pub record EntryWith (m : Meaning) (known : Type 0) (state : State) : Type 0 where
+  pub honest : IsTrue m.is_honest
+  pub stands : Stands m.bytes state
+  pub told : known
+
+-- An image that stands for a state is refused for want of memory alone, or because the disk failed. No input was taken and nothing was shown,
+-- and where there was no memory the image stands for the same state.
+abbrev pub Refused : Type 0 → State → Option (List ℕ) → Meaning → OpenFault → Type 0
+Refused told state before new NoMemory = (new.shown ≡ before) × told × Stands new.bytes state
+Refused told state before new DiskFault = (new.shown ≡ before) × told
+Refused told state before new fault = ⊥
+
+-- how an opening and the work behind it ended on such an image
+abbrev pub WorkEnded : Work → State → List ℕ → Option (List ℕ) → Option (List ℕ) → Meaning → Status → Type 0
+WorkEnded work state bytes left before new status =
+    ByOpening (Refused (Told work.takes_input left bytes) state before new) (work.ended state bytes left before new) status
+
+-- Where no call failed: it came to its end, with this. Or there was no memory at the opening.
+abbrev pub Completes : Type 0 → Type 0 → State → Option (List ℕ) → Meaning → Status → Type 0
+Completes told done state before new (Ended AtEnd) = done
+Completes told done state before new (Opening NoMemory) = Refused told state before new NoMemory
+Completes told done state before new status = ⊥
+
+-- The answers of opening are exact, and what was opened stands for a state.
+abbrev pub IsJudged : Meaning → Meaning → Status → Type 0
+IsJudged old new status = ByOpening (λ fault. OpenEnded old new (Err fault)) (λ halt. IsLongEnough old × ((s : State) × Stands old.bytes s)) status
+
+-- how the answer goes with the length of the disk
+pub record IsMeasured (old new : Meaning) (status : Status) (idle : Type 0) : Type 0 where
+  pub small : old.len < 4096 → (status ≡ Opening (TooShort old.len 4096)) × idle
+  pub numbers : (len need : ℕ) → status ≡ Opening (TooShort len need) → (len ≡ old.len) × (len < need)
+  pub same : (len need : ℕ) → status ≡ Opening (TooShort len need) → IsTrue old.is_honest → IsUnchanged old new
+
+-- An image that stands for no state is refused, and nothing is written but what an open gate asks for. What lies past the image stays; where the
+-- disk failed, if a crash at entry left it as it read.
+pub record Barred (old new : Meaning) (status : Status) : Type 0 where
+  pub fault : OpenFault
+  pub is : status ≡ Opening fault
+  pub left : OpenLeft old new (Err fault)
+  pub moments : Leaves old new (InOpening old)
+  pub past : (limits : Limits) → HasSuper limits old.bytes → (IsDiskFault status → IsSettledPast (image_blocks limits) old) → KeepsPast (image_blocks limits) old new
+
+-- An opening, and the work behind it. `untouched` says that no input was taken, and `unmoved` that the station is as it was. A refusal leaves
+-- the input alone and shows nothing. What lies past the image stays; where the disk failed, if a crash at entry left it as it read.
+pub record ImageKeeps (work : Work) (untouched unmoved : Type 0) (left left_after : Option (List ℕ)) (old new : Meaning) (status : Status) : Type 0 where
+  pub only : ByOpening (λ fault. Unit {0}) work.may_end status
+  pub runs : (state : State) (bytes : List ℕ) → EntryWith old (Told work.takes_input left bytes) state
+      → OpensInto (work.moment state bytes) old new (WorkEnded work state bytes left_after old.shown new status)
+  pub past : (state : State) (bytes : List ℕ) → EntryWith old (Told work.takes_input left bytes) state
+      → (IsDiskFault status → IsSettledPast (image_blocks state.limits) old) → KeepsPast (image_blocks state.limits) old new
+  pub judged : IsTrue old.is_honest → IsJudged old new status
+  pub spot : (spot : Spot) → status ≡ Opening (Damaged spot) → IsTrue old.is_honest → FailsFirst old.bytes spot
+  pub idle : (fault : OpenFault) → status ≡ Opening fault → untouched × (new.shown ≡ old.shown)
+  pub input : (bytes : List ℕ) → left ≡ Some bytes → ByOpening (λ fault. Unit {0}) (work.input bytes left_after) status
+  pub measured : IsMeasured old new status (untouched × unmoved)
+  pub barred : IsTrue old.is_honest → ((state : State) → Stands old.bytes state → ⊥) → Barred old new status
