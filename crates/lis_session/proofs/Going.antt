@@ -20,7 +20,7 @@ use Rattle.lis_session.specs.declared.end.End.TheVariants.{DiskFault, OutputFaul
 use Rattle.lis_session.specs.Session.{Situated}
 use Rattle.lis_session.specs.Item.{FitsAt, OneItem, CarriesOut, HasEndCause, StoreLeft, IsSameStation}
 use Rattle.lis_session.specs.Runs.{StopsAt, StoppedAt, Serves}
-use Rattle.lis_session.specs.Served.{IsReady, DoneSoFar, HasDone, HasStopped, situation_at}
+use Rattle.lis_session.specs.Served.{IsReady, DoneSoFar, SessionKeeps, HasDone, HasStopped, situation_at}
 use Rattle.lis_session.proofs.Fitting.{same_none, same_then}
 use Rattle.lis_session.proofs.Laws.{limits_after, last_reply, last_situation}
 use Rattle.lis_session.proofs.Moments.{moment_in, session_on}
@@ -81,14 +81,10 @@ module _ (start : Situation) (first : List Item) (item : Item) (old mid new : Me
 -- ---- from any state that fitted at the start
 pub has_done_none : (start : Situated) (m : Meaning) → start.store.is_broken ≡ false → IsSound start.store → HasDone start m [] start m
 has_done_none start m unbroken sound = record {
-  limits = refl;
-  image = refl;
+  keeps = record { limits = refl; image = refl; sound = sound; same = same_none m; first_fault = omega arith };
   unbroken = unbroken;
-  sound = sound;
-  same = same_none m;
   disk_faults = refl;
   show_faults = refl;
-  first_fault = omega arith;
   done = λ state fitting. record {
     moments = adds_none m _;
     past = λ n le. refl;
@@ -110,17 +106,22 @@ unbroken_by old new DiskFault left other = absurd (other refl)
 unbroken_by old new OutputFault left other = left.unbroken (λ e. cc e)
 
 module _ {start now next : Situated} {entry mid m : Meaning} {first : List Item} (item : Item) (done : HasDone start entry first now mid) (same : IsSameStation mid m) (ends : StationFaultEnds mid m) (sound : IsSound next.store) where
+  keeps_more : {result : Result (Unit {0}) End} → StoreLeft now.store next.store result → SessionKeeps start entry next m
+  keeps_more left = record {
+    limits = left.limits ∙ done.keeps.limits;
+    image = left.image ∙ done.keeps.image;
+    sound = sound;
+    same = same_then done.keeps.same same;
+    first_fault = station_ends_then entry mid m done.disk_faults done.show_faults done.keeps.first_fault ends;
+  }
+
   has_done_more : (u : Unit {0}) → CarriesOut (StoreFits now.store mid) now.place mid m (Ok u) (StoreFits next.store m) next.place item
       → HasEndCause mid m (Ok u) → StoreLeft now.store next.store (Ok u) → HasDone start entry (first ++ item ∷ []) next m
   has_done_more u carries cause left = record {
-    limits = left.limits ∙ done.limits;
-    image = left.image ∙ done.image;
+    keeps = keeps_more left;
     unbroken = left.unbroken (λ e. cc e);
-    sound = sound;
-    same = same_then done.same same;
     disk_faults = cause.0 ∙ done.disk_faults;
     show_faults = cause.1 ∙ done.show_faults;
-    first_fault = station_ends_then entry mid m done.disk_faults done.show_faults done.first_fault ends;
     done = λ state fitting.
         let so_far = done.done state fitting in
         done_more (situation_at start state) first item entry mid m (StoreFits now.store mid) (StoreFits next.store m) now.place next.place so_far u
@@ -130,12 +131,8 @@ module _ {start now next : Situated} {entry mid m : Meaning} {first : List Item}
   has_stopped : (fault : End) → CarriesOut (StoreFits now.store mid) now.place mid m (Err fault) (StoreFits next.store m) next.place item
       → HasEndCause mid m (Err fault) → StoreLeft now.store next.store (Err fault) → HasStopped start entry first item fault next m
   has_stopped fault carries cause left = record {
-    limits = left.limits ∙ done.limits;
-    image = left.image ∙ done.image;
-    sound = sound;
-    same = same_then done.same same;
+    keeps = keeps_more left;
     cause = cause_since entry mid m fault done.disk_faults done.show_faults cause;
-    first_fault = station_ends_then entry mid m done.disk_faults done.show_faults done.first_fault ends;
     unbroken = unbroken_by now.store next.store fault left;
     serves = λ state fitting.
         let so_far = done.done state fitting in

@@ -34,27 +34,27 @@ pub record DoneSoFar (start : Situation) (first : List Item) (old now : Meaning)
 abbrev pub situation_at : Situated → State → Situation
 situation_at session state = record { state = state; place = session.place }
 
--- Since the start these items were carried out, from any state that fitted then, and no call failed.
-pub record HasDone (start : Situated) (entry : Meaning) (first : List Item) (now : Situated) (m : Meaning) : Type 0 where
+-- what a session and its station keep, whatever was carried out
+pub record SessionKeeps (start : Situated) (entry : Meaning) (now : Situated) (m : Meaning) : Type 0 where
   pub limits : now.store.parts.limits ≡ start.store.parts.limits
   pub image : now.store.journal.blocks ≡ start.store.journal.blocks
-  pub unbroken : now.store.is_broken ≡ false
   pub sound : IsSound now.store
   pub same : IsSameStation entry m
+  pub first_fault : StationFaultEnds entry m
+
+-- Since the start these items were carried out, from any state that fitted then, and no call failed.
+pub record HasDone (start : Situated) (entry : Meaning) (first : List Item) (now : Situated) (m : Meaning) : Type 0 where
+  pub keeps : SessionKeeps start entry now m
+  pub unbroken : now.store.is_broken ≡ false
   pub disk_faults : m.disk_faults ≡ entry.disk_faults
   pub show_faults : m.show_faults ≡ entry.show_faults
-  pub first_fault : StationFaultEnds entry m
   pub done : (state : State) → FitsAt (StoreFits start.store entry) entry state
       → DoneSoFar (situation_at start state) first entry m (StoreFits now.store m) now.place
 
 -- Since the start these items were carried out, from any state that fitted then, and in the next one there was this fault.
 pub record HasStopped (start : Situated) (entry : Meaning) (first : List Item) (item : Item) (fault : End) (now : Situated) (m : Meaning) : Type 0 where
-  pub limits : now.store.parts.limits ≡ start.store.parts.limits
-  pub image : now.store.journal.blocks ≡ start.store.journal.blocks
-  pub sound : IsSound now.store
-  pub same : IsSameStation entry m
+  pub keeps : SessionKeeps start entry now m
   pub cause : HasEndCause entry m (Err fault)
-  pub first_fault : StationFaultEnds entry m
   pub unbroken : fault ≢ DiskFault → now.store.is_broken ≡ false
   pub serves : (state : State) → FitsAt (StoreFits start.store entry) entry state
       → Serves (situation_at start state) (first ++ item ∷ []) entry m (StoppedAt (situation_at start state) (first ++ item ∷ []) entry.shown m fault)

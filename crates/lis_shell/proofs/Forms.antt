@@ -75,60 +75,37 @@ limits_in_range version files props blocks limits versioned e =
     both : {a b c : Bool} → a ≡ true → b ≡ true → c ≡ true → IsTrue (a && b && c)
     both e f g = cc
 
-not_tried : (t : Bool) (found : Option Limits) (limits : Limits) → cond t (option_map Try found) None ≡ Some (Make limits) → ⊥
-not_tried true (Some x) limits e = cc
-not_tried true None limits e = cc
-not_tried false found limits e = cc
+-- what is made is in range
+abbrev MakesInRange : Option Task → Type 0
+MakesInRange (Some (Make limits)) = IsTrue (are_in_range limits)
+MakesInRange task = Unit {0}
 
-not_of_two : (t u : Bool) (limits : Limits) → cond t (Some Run) (cond u (Some Upgrade) None) ≡ Some (Make limits) → ⊥
-not_of_two true u limits e = cc
-not_of_two false true limits e = cc
-not_of_two false false limits e = cc
+either : (t : Bool) (one other : Option Task) → MakesInRange one → MakesInRange other → MakesInRange (cond t one other)
+either true one other first second = first
+either false one other first second = second
 
-not_grown : (t : Bool) (found : Option ℕ) (limits : Limits) → cond t (option_map Grow found) None ≡ Some (Make limits) → ⊥
-not_grown true (Some x) limits e = cc
-not_grown true None limits e = cc
-not_grown false found limits e = cc
+tried : (found : Option Limits) → MakesInRange (option_map Try found)
+tried (Some limits) = tt
+tried None = tt
 
-made_by : (t : Bool) (found : Option Limits) (other : Option Task) (limits : Limits) → (other ≡ Some (Make limits) → ⊥)
-    → cond t (option_map Make found) other ≡ Some (Make limits) → found ≡ Some limits
-made_by true (Some x) other limits no_other e = cc
-made_by true None other limits no_other e = absurd (cc)
-made_by false found other limits no_other e = absurd (no_other e)
+grown : (found : Option ℕ) → MakesInRange (option_map Grow found)
+grown (Some n) = tt
+grown None = tt
 
--- limits that three words tell
-record AreSaid (limits : Limits) : Type 0 where
-  version : ℕ
-  files : List ℕ
-  props : List ℕ
-  blocks : List ℕ
-  versioned : IsTrue (is_version version)
-  are : limits_of version files props blocks ≡ Some limits
+made : (found : Option Limits) → ((limits : Limits) → found ≡ Some limits → IsTrue (are_in_range limits)) → MakesInRange (option_map Make found)
+made (Some limits) range = range limits refl
+made None range = tt
 
-made_limits : (words : List (List ℕ)) (limits : Limits) → task_of words ≡ Some (Make limits) → AreSaid limits
-made_limits (a ∷ b ∷ []) limits e = absurd (not_of_two (same_word a (codes "run")) (same_word a (codes "upgrade")) limits e)
-made_limits (a ∷ b ∷ c ∷ []) limits e = absurd (not_grown (same_word a (codes "grow")) (grow_number_of c) limits e)
-made_limits (a ∷ b ∷ c ∷ d ∷ []) limits e = absurd (not_tried (same_word a (codes "try")) (limits_of 1 b c d) limits e)
-made_limits (a ∷ b ∷ c ∷ d ∷ f ∷ []) limits e = record {
-  version = 1;
-  files = c;
-  props = d;
-  blocks = f;
-  versioned = refl;
-  are = made_by (same_word a (codes "make")) (limits_of 1 c d f) (cond (same_word a (codes "try") && same_word f (codes "v2")) (option_map Try (limits_of 2 b c d)) None) limits
-      (not_tried (same_word a (codes "try") && same_word f (codes "v2")) (limits_of 2 b c d) limits) e;
-}
-made_limits (a ∷ b ∷ c ∷ d ∷ f ∷ g ∷ []) limits e = record {
-  version = 2;
-  files = c;
-  props = d;
-  blocks = f;
-  versioned = refl;
-  are = made_by (same_word a (codes "make") && same_word g (codes "v2")) (limits_of 2 c d f) None limits (λ is. cc is) e;
-}
-made_limits words limits e = absurd (cc)
+makes_in_range : (words : List (List ℕ)) → MakesInRange (task_of words)
+makes_in_range (a ∷ b ∷ []) = either (same_word a (codes "run")) (Some Run) _ tt (either (same_word a (codes "upgrade")) (Some Upgrade) None tt tt)
+makes_in_range (a ∷ b ∷ c ∷ []) = either (same_word a (codes "grow")) _ None (grown (grow_number_of c)) tt
+makes_in_range (a ∷ b ∷ c ∷ d ∷ []) = either (same_word a (codes "try")) _ None (tried (limits_of 1 b c d)) tt
+makes_in_range (a ∷ b ∷ c ∷ d ∷ e ∷ []) =
+    either (same_word a (codes "make")) _ _ (made (limits_of 1 c d e) (λ limits. limits_in_range 1 c d e limits refl))
+    (either (same_word a (codes "try") && same_word e (codes "v2")) _ None (tried (limits_of 2 b c d)) tt)
+makes_in_range (a ∷ b ∷ c ∷ d ∷ e ∷ f ∷ []) =
+    either (same_word a (codes "make") && same_word f (codes "v2")) _ None (made (limits_of 2 c d e) (λ limits. limits_in_range 2 c d e limits refl)) tt
+makes_in_range words = tt
 
 pub made_in_range : (words : List (List ℕ)) (limits : Limits) → task_of words ≡ Some (Make limits) → IsTrue (are_in_range limits)
-made_in_range words limits e =
-    let said = made_limits words limits e in
-    limits_in_range said.version said.files said.props said.blocks limits said.versioned said.are
+made_in_range words limits is = subst MakesInRange is (makes_in_range words)

@@ -1,20 +1,19 @@
 -- How a session over an image ends, told by its end.
 use Rattle.std.proofs.Common.{◌≡◌, ◌≢◌, ℕ, List, Option, Some, false, refl}
 use Rattle.lis_ports.specs.Meaning.{Meaning}
-use Rattle.lis_ports.specs.Calls.{StationFaultEnds}
 use Rattle.lis_model.specs.State.{State}
 use Rattle.lis_model.specs.Step.{situation_after}
 use Rattle.lis_model.specs.Script.{script}
 use Rattle.lis_line.specs.declared.carrier.Halt.{Halt}
 use Rattle.lis_line.specs.declared.carrier.Halt.TheVariants.{End as AtEnd, Limit as AtLimit, InputFault as AtFault, Stopped}
 use Rattle.lis_line.specs.Endings.{HasEnded, HasHaltCause}
-use Rattle.lis_store.specs.Stored.{IsSound, StoreFits}
+use Rattle.lis_store.specs.Stored.{StoreFits}
 use Rattle.lis_session.specs.declared.end.End.{End}
 use Rattle.lis_session.specs.declared.end.End.TheVariants.{DiskFault as DiskFailed, OutputFault as OutputFailed}
 use Rattle.lis_session.specs.Session.{Situated}
-use Rattle.lis_session.specs.Item.{FitsAt, IsSameStation}
+use Rattle.lis_session.specs.Item.{FitsAt}
 use Rattle.lis_session.specs.Runs.{Serves}
-use Rattle.lis_session.specs.Served.{HasDone, HasStopped, situation_at}
+use Rattle.lis_session.specs.Served.{SessionKeeps, HasDone, HasStopped, situation_at}
 use Rattle.lis_session.proofs.Served.{serves_all, serves_to_limit, serves_whole, serves_stopped, reached}
 use Rattle.lis_shell.specs.declared.status.Status.TheVariants.{Ended}
 use Rattle.lis_shell.specs.Causes.{counts, HasStatusCause}
@@ -27,25 +26,9 @@ module _ (limit : ℕ) (left_before left : Option (List ℕ)) (start now : Situa
       HasEnded limit left_before left (λ first. HasDone start entry first now m) (λ first item fault. HasStopped start entry first item fault now m) halt
 
   -- ---- whatever the state
-  pub served_same : (halt : Halt End) → Halted halt → IsSameStation entry m
-  served_same (Stopped fault) ended = ended.1.done.same
-  served_same halt ended = ended.done.same
-
-  pub served_first_fault : (halt : Halt End) → Halted halt → StationFaultEnds entry m
-  served_first_fault (Stopped fault) ended = ended.1.done.first_fault
-  served_first_fault halt ended = ended.done.first_fault
-
-  pub served_sound : (halt : Halt End) → Halted halt → IsSound now.store
-  served_sound (Stopped fault) ended = ended.1.done.sound
-  served_sound halt ended = ended.done.sound
-
-  pub served_limits : (halt : Halt End) → Halted halt → now.store.parts.limits ≡ start.store.parts.limits
-  served_limits (Stopped fault) ended = ended.1.done.limits
-  served_limits halt ended = ended.done.limits
-
-  pub served_image : (halt : Halt End) → Halted halt → now.store.journal.blocks ≡ start.store.journal.blocks
-  served_image (Stopped fault) ended = ended.1.done.image
-  served_image halt ended = ended.done.image
+  pub served_keeps : (halt : Halt End) → Halted halt → SessionKeeps start entry now m
+  served_keeps (Stopped fault) ended = ended.1.done.keeps
+  served_keeps halt ended = ended.done.keeps
 
   pub served_unbroken : (halt : Halt End) → Halted halt → halt ≢ Stopped DiskFailed → now.store.is_broken ≡ false
   served_unbroken (Stopped DiskFailed) ended other = absurd (other refl)

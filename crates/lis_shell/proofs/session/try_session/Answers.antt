@@ -8,29 +8,26 @@ use Rattle.lis_shell.proofs.session.try_session.Goals as goal
 pub carry_all-halt-requires-clause-start : goal.carry_all-halt-requires-clause-start
 carry_all-halt-requires-clause-start g c = tried_none c.args.plain.now (g.T.Disk.meaning c.args.station.now)
 
-pub returns-clause-only : goal.returns-clause-only
-returns-clause-only g c = subst IsTryStatus (sym c.status_at.ensures) (is_try c.carry_all-halt.result)
-
-pub returns-clause-cause : goal.returns-clause-cause
-returns-clause-cause g c =
-    subst (HasStatusCause (counts (g.T.Disk.meaning c.args.station.now) (g.S.Source.faults c.args.input.now)) (counts (g.T.Disk.meaning c.carry_all-halt.new.station) (g.S.Source.faults c.carry_all-halt.new.input)))
-    (sym c.status_at.ensures)
-    (try_cause c.args.limit (g.S.Source.left c.args.input.now) (g.S.Source.left c.carry_all-halt.new.input) c.args.plain.now c.carry_all-halt.new.carrier (g.T.Disk.meaning c.args.station.now) (g.T.Disk.meaning c.carry_all-halt.new.station)
-    (g.S.Source.faults c.args.input.now) (g.S.Source.faults c.carry_all-halt.new.input) c.carry_all-halt.result c.carry_all-halt.ensures.ended c.carry_all-halt.ensures.cause)
-
-pub returns-clause-disk : goal.returns-clause-disk
-returns-clause-disk g c =
-    only_showed c.args.limit (g.S.Source.left c.args.input.now) (g.S.Source.left c.carry_all-halt.new.input) c.args.plain.now c.carry_all-halt.new.carrier (g.T.Disk.meaning c.args.station.now) (g.T.Disk.meaning c.carry_all-halt.new.station)
-    c.carry_all-halt.result c.carry_all-halt.ensures.ended
-
-pub returns-clause-tries : goal.returns-clause-tries
-returns-clause-tries g c = λ bytes known.
-    subst (λ status. Tries c.args.plain.now c.args.limit bytes (g.S.Source.left c.carry_all-halt.new.input) (g.T.Disk.meaning c.args.station.now).shown (g.T.Disk.meaning c.carry_all-halt.new.station).shown c.carry_all-halt.new.carrier status)
-    (sym c.status_at.ensures)
-    (tries c.args.limit (g.S.Source.left c.args.input.now) (g.S.Source.left c.carry_all-halt.new.input) c.args.plain.now c.carry_all-halt.new.carrier (g.T.Disk.meaning c.args.station.now) (g.T.Disk.meaning c.carry_all-halt.new.station)
-    bytes c.carry_all-halt.result c.carry_all-halt.ensures.ended known)
-
-pub returns-clause-first_fault : goal.returns-clause-first_fault
-returns-clause-first_fault g c =
-    try_first_fault c.args.limit (g.S.Source.left c.args.input.now) (g.S.Source.left c.carry_all-halt.new.input) c.args.plain.now c.carry_all-halt.new.carrier (g.T.Disk.meaning c.args.station.now) (g.T.Disk.meaning c.carry_all-halt.new.station)
-    c.carry_all-halt.result c.carry_all-halt.ensures.ended
+pub returns : goal.returns
+returns g c =
+    let limit = c.args.limit in
+    let before = g.S.Source.left c.args.input.now in
+    let left = g.S.Source.left c.carry_all-halt.new.input in
+    let faults = g.S.Source.faults c.args.input.now in
+    let faults_after = g.S.Source.faults c.carry_all-halt.new.input in
+    let start = c.args.plain.now in
+    let now = c.carry_all-halt.new.carrier in
+    let entry = g.T.Disk.meaning c.args.station.now in
+    let m = g.T.Disk.meaning c.carry_all-halt.new.station in
+    let halt = c.carry_all-halt.result in
+    let ended = c.carry_all-halt.ensures.ended in
+    let is = sym c.status_at.ensures in
+    record {
+      only = subst IsTryStatus is (is_try halt);
+      cause = subst (HasStatusCause (counts entry faults) (counts m faults_after)) is (try_cause limit before left start now entry m faults faults_after halt ended c.carry_all-halt.ensures.cause);
+      first_fault = try_first_fault limit before left start now entry m halt ended;
+      input_first_fault = c.carry_all-halt.ensures.first_fault;
+      disk = only_showed limit before left start now entry m halt ended;
+      few = c.carry_all-halt.ensures.few;
+      tries = λ bytes known. subst (Tries start limit bytes left entry.shown m.shown now) is (tries limit before left start now entry m bytes halt ended known);
+    }

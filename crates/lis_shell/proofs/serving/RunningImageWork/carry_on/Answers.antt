@@ -5,12 +5,6 @@ use Rattle.lis_session.specs.Runs.{Serves}
 use Rattle.lis_shell.specs.Runs.{Served}
 use Rattle.lis_shell.proofs.serving.RunningImageWork.carry_on.Goals as goal
 
-pub returns-clause-only : goal.returns-clause-only
-returns-clause-only g c = tt
-
-pub returns-clause-untaken : goal.returns-clause-untaken
-returns-clause-untaken g c = λ e. absurd (cc)
-
 pub returns-clause-goes : goal.returns-clause-goes
 returns-clause-goes g c = λ state bytes fits told.
     let old = g.T.Disk.meaning c.args.station.now in
