@@ -41,7 +41,7 @@ stem_no_colon (c ∷ a) b h = by (is_colon c) h (stem_no_colon a b)
     by true h more = absurd (cc)
     by false h more = ap (λ xs. c ∷ xs) (more h)
 
-split_at_colon : (text : List ℕ) → list_any is_colon text ≡ true → text ≡ stem text ++ 58 ∷ value text
+pub split_at_colon : (text : List ℕ) → list_any is_colon text ≡ true → text ≡ stem text ++ 58 ∷ value text
 split_at_colon [] h = absurd (false≢true h)
 split_at_colon (c ∷ text) h = by (is_colon c) refl h (split_at_colon text)
   where

@@ -21,13 +21,13 @@ use Rattle.lis_grammar.specs.Places.{IsFit, AreFit}
 pub numerals : IsNumeralModel (λ ds. list_all is_ascii_digit ds ≡ true) count_of
 numerals = numerals_by_fold _ (search rules) (fold with_digit) (search (rules, arith))
 
-decimal_count : (n : ℕ) → n < 10 ^ 12 → is_count (decimal n) ≡ true
+pub decimal_count : (n : ℕ) → n < 10 ^ 12 → is_count (decimal n) ≡ true
 decimal_count n small =
     let some : nat_lt 0 (length (decimal n)) ≡ true = lt-ltb _ _ (decimal_nonempty n (omega arith)) in
     let short : nat_le (length (decimal n)) 12 ≡ true = le-leb _ _ (length-decimal-le 12 n (omega arith) small (omega arith)) in
     and_from (nat_lt 0 (length (decimal n)) && nat_le (length (decimal n)) 12) _ (and_from _ _ some short) (digits_decimal numerals n (omega arith))
 
-decimal_value : (n : ℕ) → n < 10 ^ 12 → count_of (decimal n) ≡ n
+pub decimal_value : (n : ℕ) → n < 10 ^ 12 → count_of (decimal n) ≡ n
 decimal_value n small = digits_value-decimal numerals n (omega arith)
 
 at_least_reads : (n : ℕ) → n < 10 ^ 12 → Neg (codes "size>=" ++ decimal n) (SizeAtLeast n)

@@ -10,7 +10,7 @@ use Rattle.lis_ports.proofs.Moments.{run_none, run_then, leaves_none, leaves_wea
 use Rattle.lis_grammar.specs.Formula.{Formula}
 use Rattle.lis_model.specs.Step.{Situation, Item, step, situation_after}
 use Rattle.lis_model.specs.State.{State}
-use Rattle.lis_model.specs.Script.{all_items, script}
+use Rattle.lis_model.specs.Script.{all_items, script, session_cut}
 use Rattle.lis_line.specs.Endings.{AllTaken, LimitTaken, IsFront, Went}
 use Rattle.lis_line.proofs.Given.{script_short}
 use Rattle.lis_store.specs.Stands.{Stands}
@@ -20,9 +20,10 @@ use Rattle.lis_session.specs.Item.{FitsAt}
 use Rattle.lis_session.specs.Served.{situation_at}
 use Rattle.lis_session.specs.Session.{Situated}
 use Rattle.lis_session.specs.Tally.{is_refusal, listed, Tallied, TalliesItem}
-use Rattle.lis_session.proofs.Laws.{last_situation}
+use Rattle.lis_laws.proofs.Regular.{step_regular, last_situation}
 use Rattle.lis_session.proofs.Moments.{state_front, state_whole}
 use Rattle.lis_session.proofs.Going.{past_then}
+use Rattle.lis_session.proofs.Tallying.{tallied_leaves}
 use Rattle.lis_grow.specs.declared.summary.Sum.{Sum}
 use Rattle.lis_grow.specs.Session.{refusals, listings, StandsAmong, Summed}
 use Rattle.lis_grow.specs.Summing.{Sums, SumsInto}
@@ -44,14 +45,14 @@ stands_all : (start : Situation) (items : List Item) (image : List ℕ) → Stan
 stands_all start items image stands = record {
   count = length items;
   within = omega arith;
-  stands = subst (λ s. Stands image s) (sym (state_whole start items)) stands;
+  stands = subst (λ s. Stands image s) (sym (state_whole step start items)) stands;
 }
 
 stands_more : (start : Situation) (first others : List Item) (image : List ℕ) → StandsAmong start first image → StandsAmong start (first ++ others) image
 stands_more start first others image m = record {
   count = m.count;
   within = omega (arith, m.within, length-append first others);
-  stands = subst (λ s. Stands image s) (sym (state_front start first others m.count m.within)) m.stands;
+  stands = subst (λ s. Stands image s) (sym (state_front step start first others m.count m.within)) m.stands;
 }
 
 -- ---- from one state
@@ -68,32 +69,32 @@ module _ (start : Situation) (first : List Item) (item : Item) (old mid new : Me
   abbrev Next : Result Tally Failed → Type 0
   Next result = Tallied last (step last item) (listed last item) mid new result fits_after place
 
-  more_moments : (result : Result Tally Failed) → Leaves old mid (StandsAmong start first) → Next result → Leaves old new (StandsAmong start (first ++ item ∷ []))
-  more_moments result before one =
+  more_moments : (result : Result Tally Failed) → Leaves old mid (StandsAmong start first) → IsDiskRun mid new → Next result → Leaves old new (StandsAmong start (first ++ item ∷ []))
+  more_moments result before run one =
       leaves_then (leaves_weaken _ before (stands_more start first (item ∷ [])))
-      (leaves_weaken _ one.moments (λ image stands.
+      (leaves_weaken _ (tallied_leaves run one) (λ image stands.
       elim stands as (λ _. StandsAmong start (first ++ item ∷ []) image) [
         | inl same ↦ stands_more start first (item ∷ []) image (stands_all start first image same)
-        | inr next ↦ stands_all start (first ++ item ∷ []) image (subst (λ (s : Situation). Stands image s.state) (sym (last_situation start first item)) next)
+        | inr next ↦ stands_all start (first ++ item ∷ []) image (subst (λ (s : Situation). Stands image s.state) (sym (last_situation step start first item)) next)
       ]))
 
   module _ (sum : Sum) (done : Summed start first old mid (Ok sum) fits) where
-    summed_into : (failed : Failed) → Next (Err failed) → Summed start (first ++ item ∷ []) old new (Err failed) fits_after
-    summed_into failed one = record {
-      moments = more_moments (Err failed) done.moments one;
-      past = past_then start first old mid new done.past one.past;
+    summed_into : (failed : Failed) → IsDiskRun mid new → Next (Err failed) → Summed start (first ++ item ∷ []) old new (Err failed) fits_after
+    summed_into failed run one = record {
+      moments = more_moments (Err failed) done.moments run one;
+      past = past_then step step_regular start first old mid new done.past one.made.past;
       ended = tt;
     }
 
-    summed_more : (tally : Tally) (after : Sum) → Next (Ok tally) → AddsTo tally sum after → Summed start (first ++ item ∷ []) old new (Ok after) fits_after
-    summed_more tally after one adds = record {
-      moments = more_moments (Ok tally) done.moments one;
-      past = past_then start first old mid new done.past one.past;
+    summed_more : (tally : Tally) (after : Sum) → IsDiskRun mid new → Next (Ok tally) → AddsTo tally sum after → Summed start (first ++ item ∷ []) old new (Ok after) fits_after
+    summed_more tally after run one adds = record {
+      moments = more_moments (Ok tally) done.moments run one;
+      past = past_then step step_regular start first old mid new done.past one.made.past;
       ended = record {
-        fitting = subst (λ (s : Situation). FitsAt fits_after new s.state) (sym (last_situation start first item)) one.ended.fitting;
+        fitting = subst (λ (s : Situation). FitsAt fits_after new s.state) (sym (last_situation step start first item)) one.made.ended.fitting;
         replies = omega (arith, adds.replies, done.ended.replies, length-append first (item ∷ []));
-        refused = adds.refused ∙ (ap (λ n. n + cond tally.refused 1 0) done.ended.refused ∙ (ap (λ (b : Bool). refusals start first + cond b 1 0) one.ended.refused ∙ sym (refusals_more start first item)));
-        listed = adds.listed ∙ (ap (λ n. n + tally.listed) done.ended.listed ∙ (ap (λ n. listings start first + n) one.ended.listed ∙ sym (listings_more start first item)));
+        refused = adds.refused ∙ (ap (λ n. n + cond tally.refused 1 0) done.ended.refused ∙ (ap (λ (tally : Tally). refusals start first + cond tally.refused 1 0) one.tally ∙ sym (refusals_more start first item)));
+        listed = adds.listed ∙ (ap (λ n. n + tally.listed) done.ended.listed ∙ (ap (λ (tally : Tally). listings start first + tally.listed) one.tally ∙ sym (listings_more start first item)));
       };
     }
 
@@ -154,9 +155,9 @@ module _ {start now next : Situated} {entry mid m : Meaning} {first : List Item}
       cause = record { later = omega (arith, called.cause.later, done.cause.later); stays = called.cause.stays ∙ done.cause.stays; rose = tt };
       first_fault = ends_then done.first_fault done.cause.stays called.first_fault;
       at = λ state fitting.
-          (next_here item (Ok tally) state fitting tallies).ended.at ∙ ap (λ (s : Situation). s.place) (sym (last_situation (situation_at start state) first item));
+          (next_here item (Ok tally) state fitting tallies).made.ended.at ∙ ap (λ (s : Situation). s.place) (sym (last_situation step (situation_at start state) first item));
       summed = λ state fitting.
-          summed_more (situation_at start state) first item entry mid m (StoreFits now.store mid) (StoreFits next.store m) next.place sum (done.summed state fitting) tally after
+          summed_more (situation_at start state) first item entry mid m (StoreFits now.store mid) (StoreFits next.store m) next.place sum (done.summed state fitting) tally after called.run
           (next_here item (Ok tally) state fitting tallies) adds;
     },
     same,
@@ -178,7 +179,7 @@ module _ {start now next : Situated} {entry mid m : Meaning} {first : List Item}
       first_fault = ends_then done.first_fault done.cause.stays called.first_fault;
       at = λ state fitting. tt;
       summed = λ state fitting.
-          summed_into (situation_at start state) first item entry mid m (StoreFits now.store mid) (StoreFits next.store m) next.place sum (done.summed state fitting) failed
+          summed_into (situation_at start state) first item entry mid m (StoreFits now.store mid) (StoreFits next.store m) next.place sum (done.summed state fitting) failed called.run
           (next_here item (Err failed) state fitting tallies);
     },
     same,
@@ -190,15 +191,15 @@ one_at_most false = omega arith
 
 -- ---- how it ends
 -- the input is short, so that its items are all that are whole within its limit
-pub never_past : {limit : ℕ} {told : List ℕ} {carried : List Item → Type 0} → length told ≤ limit → Went (Some told) carried (λ known first. LimitTaken limit known first) → ⊥
+pub never_past : {limit : ℕ} {told : List ℕ} {carried : List Item → Type 0} → length told ≤ limit → Went (Some told) carried (λ known first. LimitTaken session_cut limit known first) → ⊥
 never_past {told = told} short went = omega (arith, short, (went.read told refl).long)
 
 pub summed_all : {start now : Situated} {entry m : Meaning} {sum : Sum} {left : Option (List ℕ)} {Same : Type 0} {limit : ℕ} {told : List ℕ} {kept : Stored} (input : List ℕ) (state : State) → told ≡ input → length input ≤ limit
-    → Went (Some told) (λ first. Sums start entry first now sum m × Same) (λ known first. AllTaken limit known left first)
+    → Went (Some told) (λ first. Sums start entry first now sum m × Same) (λ known first. AllTaken session_cut limit known left first)
     → now.store ≡ kept → FitsAt (StoreFits start.store entry) entry state → Summed (situation_at start state) (all_items input) entry m (Ok sum) (StoreFits kept m)
 summed_all {start = start} {now = now} {entry = entry} {m = m} {sum = sum} {limit = limit} input state is short went same fitting =
     subst (λ (k : Stored). Summed (situation_at start state) (all_items input) entry m (Ok sum) (StoreFits k m)) same
-    (subst (λ items. Summed (situation_at start state) items entry m (Ok sum) (StoreFits now.store m)) (sym (went.read input (ap Some is)).is ∙ script_short input limit short)
+    (subst (λ items. Summed (situation_at start state) items entry m (Ok sum) (StoreFits now.store m)) (sym (went.read input (ap Some is)).is ∙ script_short session_cut input limit short)
     (went.done.0.summed state fitting))
 
 pub summed_front : {start now : Situated} {entry m : Meaning} {Same : Type 0} {limit : ℕ} {told : List ℕ} {kept : Stored} (input : List ℕ) (item : Item) (failed : Failed) (state : State) → told ≡ input → length input ≤ limit
@@ -208,7 +209,7 @@ summed_front {start = start} {entry = entry} {m = m} {limit = limit} input item 
     let first : List Item = went.first ++ item ∷ [] in
     let front = went.read input (ap Some is) in
     let summed = went.done.0.summed state fitting in
-    let all : all_items input ≡ first ++ front.0 = sym (script_short input limit short) ∙ front.1 in
+    let all : all_items input ≡ first ++ front.0 = sym (script_short session_cut input limit short) ∙ front.1 in
     record {
       moments = leaves_weaken _ summed.moments (λ image stands.
           subst (λ items. StandsAmong (situation_at start state) items image) (sym all) (stands_more (situation_at start state) first front.0 image stands));

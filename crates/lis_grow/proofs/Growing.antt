@@ -10,7 +10,7 @@ use Rattle.lis_ports.proofs.Always.{always_unchanged}
 use Rattle.lis_reply.proofs.Showing.{append_known-nil}
 use Rattle.lis_journal.specs.Record.{block}
 use Rattle.lis_model.specs.State.{State}
-use Rattle.lis_model.specs.Step.{Situation, Item, situation_after, free_blocks}
+use Rattle.lis_model.specs.Step.{Situation, Item, step, situation_after, free_blocks}
 use Rattle.lis_store.specs.declared.counting.Counts.{Counts}
 use Rattle.lis_store.specs.Stands.{Stands}
 use Rattle.lis_session.specs.declared.end.End.{End}
@@ -52,7 +52,7 @@ last_moment : (start : Situation) (items : List Item) (image shown : List ℕ) �
 last_moment start items image shown stands begins = record {
   count = length items;
   within = omega arith;
-  stands = subst (λ s. Stands image s) (sym (state_whole start items)) stands;
+  stands = subst (λ s. Stands image s) (sym (state_whole step start items)) stands;
   front = begins;
   quiet = λ less. absurd (omega (arith, less));
 }

@@ -46,7 +46,7 @@ summary start items = summary_in (situation_after start items).state (length ite
 pub record StandsAmong (start : Situation) (items : List Item) (image : List ℕ) : Type 0 where
   pub count : ℕ
   pub within : count ≤ length items
-  pub stands : Stands image (state_after start items count)
+  pub stands : Stands image (state_after step start items count)
 
 -- all items were carried out, with nothing shown, and this is their sum
 pub record SummedAll (start : Situation) (items : List Item) (new : Meaning) (fits : State → Type 0) (sum : Sum) : Type 0 where
@@ -66,7 +66,7 @@ pub record Summed (start : Situation) (items : List Item) (old new : Meaning) (r
 pub record GrowMoment (start : Situation) (items : List Item) (image shown : List ℕ) : Type 0 where
   pub count : ℕ
   pub within : count ≤ length items
-  pub stands : Stands image (state_after start items count)
+  pub stands : Stands image (state_after step start items count)
   pub front : Begins shown (summary start items)
   pub quiet : count < length items → shown ≡ []
 

@@ -17,6 +17,8 @@ pub(crate) struct Summing<'a> {
 }
 
 impl Carrier for Summing<'_> {
+    type Item = Item;
+
     type Fault = Failed;
 
     ghost is_ready = { λ s m more. CanSum s.session.now s.sum m more };

@@ -173,21 +173,21 @@ first_formed bytes = by (payload_size (before_feed bytes))
 both_formed : (items more : List Item) → list_all is_formed items ≡ true → list_all is_formed more ≡ true → list_all is_formed (items ++ more) ≡ true
 both_formed items more h k = list_all-append is_formed items more ∙ and_from _ _ h k
 
-within_formed : (n : ℕ) (bytes : List ℕ) → list_all is_formed (items_within n bytes) ≡ true
+within_formed : (n : ℕ) (bytes : List ℕ) → list_all is_formed (items_within first_of n bytes) ≡ true
 within_formed zero bytes = refl
 within_formed (suc n) [] = refl
 within_formed (suc n) (b ∷ bytes) =
-    both_formed (option_to_list (first_of (b ∷ bytes)).item) (items_within n (first_of (b ∷ bytes)).rest)
+    both_formed (option_to_list (first_of (b ∷ bytes)).item) (items_within first_of n (first_of (b ∷ bytes)).rest)
     (first_formed (b ∷ bytes)) (within_formed n (first_of (b ∷ bytes)).rest)
 
-whole_within_formed : (n : ℕ) (bytes : List ℕ) → list_all is_formed (whole_within n bytes) ≡ true
+whole_within_formed : (n : ℕ) (bytes : List ℕ) → list_all is_formed (whole_within first_of n bytes) ≡ true
 whole_within_formed zero bytes = refl
 whole_within_formed (suc n) [] = refl
 whole_within_formed (suc n) (b ∷ bytes) = by (first_of (b ∷ bytes)).is_whole (whole_within_formed n (first_of (b ∷ bytes)).rest)
   where
-    by : (w : Bool) → list_all is_formed (whole_within n (first_of (b ∷ bytes)).rest) ≡ true
-        → list_all is_formed (cond w (option_to_list (first_of (b ∷ bytes)).item ++ whole_within n (first_of (b ∷ bytes)).rest) []) ≡ true
-    by true rest = both_formed (option_to_list (first_of (b ∷ bytes)).item) (whole_within n (first_of (b ∷ bytes)).rest) (first_formed (b ∷ bytes)) rest
+    by : (w : Bool) → list_all is_formed (whole_within first_of n (first_of (b ∷ bytes)).rest) ≡ true
+        → list_all is_formed (cond w (option_to_list (first_of (b ∷ bytes)).item ++ whole_within first_of n (first_of (b ∷ bytes)).rest) []) ≡ true
+    by true rest = both_formed (option_to_list (first_of (b ∷ bytes)).item) (whole_within first_of n (first_of (b ∷ bytes)).rest) (first_formed (b ∷ bytes)) rest
     by false rest = refl
 
 pub all_formed : (bytes : List ℕ) → list_all is_formed (all_items bytes) ≡ true

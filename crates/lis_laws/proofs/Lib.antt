@@ -20,6 +20,7 @@ pub mod Forms
 pub mod Named
 pub mod Touched
 pub mod Steps
+pub mod Regular
 pub mod Few
 pub mod Touching
 mod Examples

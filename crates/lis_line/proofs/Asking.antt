@@ -1,140 +1,208 @@
 -- Parts taken one after another, up to the first that asks for something.
-use Rattle.std.proofs.Common.{◌≡◌, ℕ, ◌<◌, true, false, cond, List, [], ◌∷◌, ◌++◌, length, Option, Some, None, ap, sym, subst, ◌∙◌, refl, arith, append_assoc, append-nil, length-append}
-use Rattle.std.specs.Option.{option_to_list}
-use Rattle.lis_model.specs.Step.{Item}
-use Rattle.lis_model.specs.Script.{First, first_of, all_items, whole_items}
-use Rattle.lis_model.proofs.Lines.{all_items_of, whole_items_of, all_items_none, whole_items_none}
-use Rattle.lis_line.specs.Stock.{Stocked}
-use Rattle.lis_line.specs.Reading.{Gave, GaveWhole, GaveLast, GaveEnd, Overran, GaveRest}
-use Rattle.lis_line.specs.Parts.{WholePart, LastPart, PartPast, PartFailed}
-use Rattle.lis_line.proofs.Bytes.{gave_then}
+use Rattle.std.proofs.Common.{◌≡◌, ℕ, ◌<◌, true, false, cond, List, [], ◌∷◌, ◌++◌, length, Option, Some, None, Result, Ok, Err, ap, sym, subst, ◌∙◌, refl, arith, append_assoc, append-nil, length-append}
+use Rattle.std.specs.Option.{option_map, option_to_list}
+use Rattle.lis_ports.specs.declared.disk.Failed.{Failed}
+use Rattle.lis_model.specs.Script.{FirstOf, Cut}
+use Rattle.lis_model.proofs.Lines.{CutsBy}
+use Rattle.lis_line.specs.declared.input.Part.{Part}
+use Rattle.lis_line.specs.declared.input.Part.TheVariants.{Whole, Last, PastLimit}
+use Rattle.lis_line.specs.declared.stock.LineEnd.TheVariants.{Feed, Last as LastLine, Spent}
+use Rattle.lis_line.specs.Stock.{Stocked, ReadsLine}
+use Rattle.lis_line.specs.Reading.{IsWhole, Gave, GaveWhole, GaveLast, GaveEnd, Overran, GaveRest, GivesPart}
+use Rattle.lis_line.specs.Parts.{TakesPart}
+use Rattle.lis_line.proofs.Bytes.{gave_then, gave_line}
+use Rattle.lis_line.proofs.Kept.{ByLines}
+use Rattle.lis_line.proofs.Parts.{part_behind}
 
--- these bytes ask for nothing, whatever follows
-pub record IsBlank (bytes : List ℕ) : Type 0 where
-  pub all : (more : List ℕ) → all_items (bytes ++ more) ≡ all_items more
-  pub whole : (more : List ℕ) → whole_items (bytes ++ more) ≡ whole_items more
+-- ---- what a part gives, by the first part of its bytes
+module _ {I : Type 0} {cut : Cut I} {first : List ℕ → FirstOf I} (cuts : CutsBy cut first) (lines : ByLines first) where
+  whole_some : (bytes : List ℕ) (item : Option I) → ((more : List ℕ) → first (bytes ++ more) ≡ record { item = item; rest = more; is_whole = true })
+      → 0 < length bytes
+  whole_some [] item is =
+      let no : false ≡ true = ap (λ (f : FirstOf I). f.is_whole) (sym lines.none ∙ is []) in
+      absurd (cc)
+  whole_some (b ∷ bytes) item is = omega arith
 
--- what stands before each part
-pub record Skipping (old now : Stocked) (left_before left : Option (List ℕ)) : Type 0 where
+  last_some : (bytes : List ℕ) (item : I) → first bytes ≡ record { item = Some item; rest = []; is_whole = false } → 0 < length bytes
+  last_some [] item is =
+      let none : None ≡ Some item = ap (λ (f : FirstOf I). f.item) (sym lines.none ∙ is) in
+      absurd (cc)
+  last_some (b ∷ bytes) item is = omega arith
+
+  last_items : (bytes : List ℕ) (item : Option I) → first bytes ≡ record { item = item; rest = []; is_whole = false } → cut.all bytes ≡ option_to_list item
+  last_items [] item is = cuts.all_none ∙ ap option_to_list (ap (λ (f : FirstOf I). f.item) (sym lines.none ∙ is))
+  last_items (b ∷ bytes) item is =
+      cuts.all (b ∷ bytes) _ (omega arith) is ∙ ap (λ items. option_to_list item ++ items) cuts.all_none ∙ append-nil (option_to_list item)
+
+  not_whole_items : (bytes : List ℕ) → (first bytes).is_whole ≡ false → cut.whole bytes ≡ []
+  not_whole_items [] none = cuts.whole_none
+  not_whole_items (b ∷ bytes) none =
+      cuts.whole (b ∷ bytes) (first (b ∷ bytes)) (omega arith) refl
+      ∙ ap (λ whole. cond whole (option_to_list (first (b ∷ bytes)).item ++ cut.whole (first (b ∷ bytes)).rest) []) none
+
+  pub part_given : {R E : Type 0} (asks : R → I) (old new : Stocked) (left_before left : Option (List ℕ)) (result : Result (Part R) E)
+      → TakesPart first asks old new left_before left result → GivesPart cut asks old new left_before left result
+  part_given asks old new left_before left (Ok (Whole asked)) part =
+      let some = whole_some part.bytes (option_map asks asked) part.is in
+      record {
+        bytes = part.bytes;
+        gave = part.gave;
+        some = some;
+        within = part.within;
+        is = record {
+          all = λ more. cuts.all (part.bytes ++ more) _ (omega (arith, some, length-append part.bytes more)) (part.is more);
+          whole = λ more. cuts.whole (part.bytes ++ more) _ (omega (arith, some, length-append part.bytes more)) (part.is more);
+        };
+      }
+  part_given asks old new left_before left (Ok (Last (Some asked))) part = record {
+    bytes = part.bytes;
+    gave = part.gave;
+    some = last_some part.bytes (asks asked) part.is;
+    within = part.within;
+    is = record {
+      all = last_items part.bytes (Some (asks asked)) part.is;
+      whole = not_whole_items part.bytes (ap (λ (f : FirstOf I). f.is_whole) part.is);
+    };
+    nothing_ahead = part.nothing_ahead;
+    at_end = part.at_end;
+  }
+  part_given asks old new left_before left (Ok (Last None)) part = record {
+    bytes = part.bytes;
+    gave = part.gave;
+    within = part.within;
+    none_left = last_items part.bytes None part.is;
+    nothing_ahead = part.nothing_ahead;
+    at_end = part.at_end;
+  }
+  part_given asks old new left_before left (Ok PastLimit) part = record {
+    bytes = part.bytes;
+    byte = part.byte;
+    gave = part.gave;
+    spent = part.spent;
+    none_whole = not_whole_items part.bytes part.not_whole;
+  }
+  part_given asks old new left_before left (Err failed) part = record {
+    bytes = part.bytes;
+    gave = part.gave;
+    within = part.within;
+    none_whole = not_whole_items part.bytes part.not_whole;
+    nothing_ahead = part.nothing_ahead;
+  }
+
+  -- ---- by the line that was read, of which `kept` was kept
+  pub feed_given : {R : Type 0} {old now : Stocked} {left_before left : Option (List ℕ)} {line kept : List ℕ} (asks : R → I) (next : Stocked) (left_after : Option (List ℕ)) (result : Result (Part R) Failed)
+      → ReadsLine {E = Failed} old now left_before left kept (Ok Feed) → line ≡ kept
+      → TakesPart (λ more. first (line ++ 10 ∷ more)) asks now next left left_after result → GivesPart cut asks old next left_before left_after result
+  feed_given {R} {old} {now} {left_before} {left} {line} {kept} asks next left_after result reads is takes =
+      let text = reads.0 in
+      part_given asks old next left_before left_after result
+      (part_behind first (λ more. first (line ++ 10 ∷ more)) asks old now next left_before left left_after (text ++ 10 ∷ []) result
+      (gave_line old now left_before left kept text (text ++ 10 ∷ []) reads.1)
+      (λ more. ap first (append_assoc text (10 ∷ []) more) ∙ lines.kept text more reads.1.one_line ∙ ap (λ xs. first (xs ++ 10 ∷ more)) (sym (is ∙ reads.1.kept))) takes)
+
+  -- the last line, without a line feed
+  pub last_given : {R : Type 0} {old new : Stocked} {left_before left : Option (List ℕ)} {line kept : List ℕ} (asks : R → I) (asked : Option R)
+      → ReadsLine {E = Failed} old new left_before left kept (Ok LastLine) → line ≡ kept → option_map asks asked ≡ (first line).item
+      → GivesPart {E = Failed} cut asks old new left_before left (Ok (Last asked))
+  last_given {R} {old} {new} {left_before} {left} {line} {kept} asks asked reads is tells =
+      part_given {E = Failed} asks old new left_before left (Ok (Last asked)) (record {
+        bytes = reads.0;
+        gave = gave_line old new left_before left kept reads.0 reads.0 reads.1;
+        within = reads.2;
+        is = lines.last reads.0 reads.1.one_line ∙ ap (λ item. record { item = item; rest = []; is_whole = false }) (sym (tells ∙ ap (λ xs. (first xs).item) (is ∙ reads.1.kept)));
+        nothing_ahead = reads.3;
+        at_end = reads.4;
+      })
+
+  -- the byte past the limit, or a fault, inside of a line
+  pub past_given : {old new : Stocked} {left_before left : Option (List ℕ)} {kept : List ℕ} → ReadsLine {E = Failed} old new left_before left kept (Ok Spent) → Overran cut old new left_before left
+  past_given {old} {new} {left_before} {left} {kept} reads = record {
+    bytes = reads.0;
+    byte = reads.1;
+    gave = gave_line old new left_before left kept reads.0 (reads.0 ++ reads.1 ∷ []) reads.2;
+    spent = reads.3;
+    none_whole = not_whole_items reads.0 (ap (λ (f : FirstOf I). f.is_whole) (lines.last reads.0 reads.2.one_line));
+  }
+
+  pub failed_given : {old new : Stocked} {left_before left : Option (List ℕ)} {kept : List ℕ} (failed : Failed) → ReadsLine old new left_before left kept (Err failed) → GaveRest cut old new left_before left
+  failed_given {old} {new} {left_before} {left} {kept} failed reads = record {
+    bytes = reads.0;
+    gave = gave_line old new left_before left kept reads.0 reads.0 reads.1;
+    within = reads.2;
+    none_whole = not_whole_items reads.0 (ap (λ (f : FirstOf I). f.is_whole) (lines.last reads.0 reads.1.one_line));
+    nothing_ahead = reads.3;
+  }
+
+-- ---- behind parts that ask for nothing
+pub whole_then : {I : Type 0} {cut : Cut I} {bytes more : List ℕ} {items others : List I} → IsWhole cut bytes items → IsWhole cut more others
+    → IsWhole cut (bytes ++ more) (items ++ others)
+whole_then {cut = cut} {bytes} {more} {items} {others} are then = record {
+  all = λ rest. ap cut.all (append_assoc bytes more rest) ∙ are.all (more ++ rest) ∙ ap (λ xs. items ++ xs) (then.all rest) ∙ sym (append_assoc items others (cut.all rest));
+  whole = λ rest. ap cut.whole (append_assoc bytes more rest) ∙ are.whole (more ++ rest) ∙ ap (λ xs. items ++ xs) (then.whole rest) ∙ sym (append_assoc items others (cut.whole rest));
+}
+
+pub record Skipping {I : Type 0} (cut : Cut I) (old now : Stocked) (left_before left : Option (List ℕ)) : Type 0 where
   pub bytes : List ℕ
   pub gave : Gave old now left_before left bytes
-  pub blank : IsBlank bytes
+  pub blank : IsWhole cut bytes []
   pub some : 0 < now.rest
 
--- a whole part, by itself and behind what asks for nothing
-whole_some : (bytes : List ℕ) (item : Option Item) → ((more : List ℕ) → first_of (bytes ++ more) ≡ record { item = item; rest = more; is_whole = true })
-    → 0 < length bytes
-whole_some [] item is =
-    let no : false ≡ true = ap (λ (f : First). f.is_whole) (is []) in
-    absurd (cc)
-whole_some (b ∷ bytes) item is = omega arith
+module _ {I : Type 0} {cut : Cut I} {old now next : Stocked} {left_before left left_after : Option (List ℕ)} (skipping : Skipping cut old now left_before left) where
+  then_gave : (bytes : List ℕ) → Gave now next left left_after bytes → Gave old next left_before left_after (skipping.bytes ++ bytes)
+  then_gave bytes gave = gave_then old now next left_before left left_after skipping.bytes bytes skipping.gave gave
 
-pub some_taken : (now next : Stocked) (left left_after : Option (List ℕ)) (item : Option Item) → WholePart first_of now next left left_after item → next.rest < now.rest
-some_taken now next left left_after item part = omega (arith, part.gave.rest, whole_some part.bytes item part.is)
+  pub skip_more : GaveWhole cut now next left left_after [] → Skipping cut old next left_before left_after
+  skip_more part = record {
+    bytes = skipping.bytes ++ part.bytes;
+    gave = then_gave part.bytes part.gave;
+    blank = whole_then skipping.blank part.is;
+    some = part.within;
+  }
 
-all_behind : (first bytes more : List ℕ) (item : Option Item) → IsBlank first
-    → ((more : List ℕ) → first_of (bytes ++ more) ≡ record { item = item; rest = more; is_whole = true })
-    → all_items ((first ++ bytes) ++ more) ≡ option_to_list item ++ all_items more
-all_behind first bytes more item blank is =
-    ap all_items (append_assoc first bytes more) ∙ blank.all (bytes ++ more)
-    ∙ all_items_of (bytes ++ more) _ (omega (arith, whole_some bytes item is, length-append bytes more)) (is more)
+  pub skip_whole : (item : I) → GaveWhole cut now next left left_after (item ∷ []) → GaveWhole cut old next left_before left_after (item ∷ [])
+  skip_whole item part = record {
+    bytes = skipping.bytes ++ part.bytes;
+    gave = then_gave part.bytes part.gave;
+    some = omega (arith, part.some, length-append skipping.bytes part.bytes);
+    within = part.within;
+    is = whole_then skipping.blank part.is;
+  }
 
-whole_behind : (first bytes more : List ℕ) (item : Option Item) → IsBlank first
-    → ((more : List ℕ) → first_of (bytes ++ more) ≡ record { item = item; rest = more; is_whole = true })
-    → whole_items ((first ++ bytes) ++ more) ≡ option_to_list item ++ whole_items more
-whole_behind first bytes more item blank is =
-    ap whole_items (append_assoc first bytes more) ∙ blank.whole (bytes ++ more)
-    ∙ whole_items_of (bytes ++ more) _ (omega (arith, whole_some bytes item is, length-append bytes more)) (is more)
+  pub skip_last : (item : I) → GaveLast cut now next left left_after item → GaveLast cut old next left_before left_after item
+  skip_last item part = record {
+    bytes = skipping.bytes ++ part.bytes;
+    gave = then_gave part.bytes part.gave;
+    some = omega (arith, part.some, length-append skipping.bytes part.bytes);
+    within = part.within;
+    is = record { all = skipping.blank.all part.bytes ∙ part.is.all; whole = skipping.blank.whole part.bytes ∙ part.is.whole };
+    nothing_ahead = part.nothing_ahead;
+    at_end = part.at_end;
+  }
 
-pub skip_more : (old now next : Stocked) (left_before left left_after : Option (List ℕ))
-    → Skipping old now left_before left → WholePart first_of now next left left_after None → Skipping old next left_before left_after
-skip_more old now next left_before left left_after skipping part = record {
-  bytes = skipping.bytes ++ part.bytes;
-  gave = gave_then old now next left_before left left_after skipping.bytes part.bytes skipping.gave part.gave;
-  blank = record {
-    all = λ more. all_behind skipping.bytes part.bytes more None skipping.blank part.is;
-    whole = λ more. whole_behind skipping.bytes part.bytes more None skipping.blank part.is;
-  };
-  some = part.within;
-}
+  pub skip_end : GaveEnd cut now next left left_after → GaveEnd cut old next left_before left_after
+  skip_end part = record {
+    bytes = skipping.bytes ++ part.bytes;
+    gave = then_gave part.bytes part.gave;
+    within = part.within;
+    none_left = skipping.blank.all part.bytes ∙ part.none_left;
+    nothing_ahead = part.nothing_ahead;
+    at_end = part.at_end;
+  }
 
-pub skip_whole : (old now next : Stocked) (left_before left left_after : Option (List ℕ)) (item : Item)
-    → Skipping old now left_before left → WholePart first_of now next left left_after (Some item) → GaveWhole old next left_before left_after item
-skip_whole old now next left_before left left_after item skipping part = record {
-  bytes = skipping.bytes ++ part.bytes;
-  gave = gave_then old now next left_before left left_after skipping.bytes part.bytes skipping.gave part.gave;
-  some = omega (arith, whole_some part.bytes (Some item) part.is, length-append skipping.bytes part.bytes);
-  within = part.within;
-  is = record {
-    all = λ more. all_behind skipping.bytes part.bytes more (Some item) skipping.blank part.is;
-    whole = λ more. whole_behind skipping.bytes part.bytes more (Some item) skipping.blank part.is;
-  };
-}
+  pub skip_past : Overran cut now next left left_after → Overran cut old next left_before left_after
+  skip_past part = record {
+    bytes = skipping.bytes ++ part.bytes;
+    byte = part.byte;
+    gave = subst (λ xs. Gave old next left_before left_after xs) (sym (append_assoc skipping.bytes part.bytes (part.byte ∷ []))) (then_gave (part.bytes ++ part.byte ∷ []) part.gave);
+    spent = part.spent;
+    none_whole = skipping.blank.whole part.bytes ∙ part.none_whole;
+  }
 
--- the last part
-last_items : (bytes : List ℕ) (item : Option Item) → first_of bytes ≡ record { item = item; rest = []; is_whole = false } → all_items bytes ≡ option_to_list item
-last_items [] item is =
-    let none : None ≡ item = ap (λ (f : First). f.item) is in
-    all_items_none ∙ ap option_to_list none
-last_items (b ∷ bytes) item is =
-    all_items_of (b ∷ bytes) _ (omega arith) is ∙ ap (λ items. option_to_list item ++ items) all_items_none ∙ append-nil (option_to_list item)
-
-not_whole_items : (bytes : List ℕ) → (first_of bytes).is_whole ≡ false → whole_items bytes ≡ []
-not_whole_items [] none = whole_items_none
-not_whole_items (b ∷ bytes) none =
-    whole_items_of (b ∷ bytes) (first_of (b ∷ bytes)) (omega arith) refl
-    ∙ ap (λ whole. cond whole (option_to_list (first_of (b ∷ bytes)).item ++ whole_items (first_of (b ∷ bytes)).rest) []) none
-
-last_some : (bytes : List ℕ) (item : Item) → first_of bytes ≡ record { item = Some item; rest = []; is_whole = false } → 0 < length bytes
-last_some [] item is =
-    let none : None ≡ Some item = ap (λ (f : First). f.item) is in
-    absurd (cc)
-last_some (b ∷ bytes) item is = omega arith
-
-pub skip_last : (old now next : Stocked) (left_before left left_after : Option (List ℕ)) (item : Item)
-    → Skipping old now left_before left → LastPart first_of now next left left_after (Some item) → GaveLast old next left_before left_after item
-skip_last old now next left_before left left_after item skipping part = record {
-  bytes = skipping.bytes ++ part.bytes;
-  gave = gave_then old now next left_before left left_after skipping.bytes part.bytes skipping.gave part.gave;
-  some = omega (arith, last_some part.bytes item part.is, length-append skipping.bytes part.bytes);
-  within = part.within;
-  is = record {
-    all = skipping.blank.all part.bytes ∙ last_items part.bytes (Some item) part.is;
-    whole = skipping.blank.whole part.bytes ∙ not_whole_items part.bytes (ap (λ (f : First). f.is_whole) part.is);
-  };
-  nothing_ahead = part.nothing_ahead;
-  at_end = part.at_end;
-}
-
-pub skip_end : (old now next : Stocked) (left_before left left_after : Option (List ℕ))
-    → Skipping old now left_before left → LastPart first_of now next left left_after None → GaveEnd old next left_before left_after
-skip_end old now next left_before left left_after skipping part = record {
-  bytes = skipping.bytes ++ part.bytes;
-  gave = gave_then old now next left_before left left_after skipping.bytes part.bytes skipping.gave part.gave;
-  within = part.within;
-  none_left = skipping.blank.all part.bytes ∙ last_items part.bytes None part.is;
-  nothing_ahead = part.nothing_ahead;
-  at_end = part.at_end;
-}
-
--- no part was whole
-pub skip_past : (old now next : Stocked) (left_before left left_after : Option (List ℕ))
-    → Skipping old now left_before left → PartPast first_of now next left left_after → Overran old next left_before left_after
-skip_past old now next left_before left left_after skipping part = record {
-  bytes = skipping.bytes ++ part.bytes;
-  byte = part.byte;
-  gave = subst (λ xs. Gave old next left_before left_after xs) (sym (append_assoc skipping.bytes part.bytes (part.byte ∷ [])))
-      (gave_then old now next left_before left left_after skipping.bytes (part.bytes ++ part.byte ∷ []) skipping.gave part.gave);
-  spent = part.spent;
-  none_whole = skipping.blank.whole part.bytes ∙ not_whole_items part.bytes part.not_whole;
-}
-
-pub skip_failed : (old now next : Stocked) (left_before left left_after : Option (List ℕ))
-    → Skipping old now left_before left → PartFailed first_of now next left left_after → GaveRest old next left_before left_after
-skip_failed old now next left_before left left_after skipping part = record {
-  bytes = skipping.bytes ++ part.bytes;
-  gave = gave_then old now next left_before left left_after skipping.bytes part.bytes skipping.gave part.gave;
-  within = part.within;
-  none_whole = skipping.blank.whole part.bytes ∙ not_whole_items part.bytes part.not_whole;
-  nothing_ahead = part.nothing_ahead;
-}
+  pub skip_rest : GaveRest cut now next left left_after → GaveRest cut old next left_before left_after
+  skip_rest part = record {
+    bytes = skipping.bytes ++ part.bytes;
+    gave = then_gave part.bytes part.gave;
+    within = part.within;
+    none_whole = skipping.blank.whole part.bytes ∙ part.none_whole;
+    nothing_ahead = part.nothing_ahead;
+  }

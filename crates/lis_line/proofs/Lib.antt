@@ -1,8 +1,12 @@
+mod Examples
 mod Bytes
 mod Words
 mod Tags
+mod Rooms
+mod Saying
 mod Payloads
-pub mod Sized
+mod Sized
+pub mod Kept
 mod Parts
 mod Asking
 pub mod Given

@@ -1,39 +1,17 @@
 -- What a line asks for, where a payload follows it.
-use Rattle.std.proofs.Common.{◌≡◌, ℕ, ◌≤◌, nat_lt, Bool, true, false, cond, ◌||◌, ◌&&◌, List, [], ◌∷◌, length, take, codes, Option, Some, None, Result, Ok, Err, ap, sym, ◌∙◌, refl, inl, inr, arith}
-use Rattle.std.proofs.lemmas.List.{take_all, length-take}
-use Rattle.std.proofs.lemmas.Bool.{cases_lt, le-leb}
+use Rattle.std.proofs.Common.{◌≡◌, ℕ, Bool, true, false, cond, ◌||◌, ◌&&◌, List, [], ◌∷◌, codes, Option, Some, None, Result, Ok, Err, ap, sym, ◌∙◌, refl}
+use Rattle.std.specs.Option.{option_map}
 use Rattle.std.proofs.lemmas.Slice.Eq.{bytes_eq-Decides}
 use Rattle.lis_words.specs.Words.{same_word, is_file_name, is_count, count_of}
 use Rattle.lis_model.specs.declared.refusal.Refusal.{Refusal}
 use Rattle.lis_model.specs.declared.refusal.Refusal.TheVariants.{LongLine}
 use Rattle.lis_model.specs.declared.command.Command.{Command}
-use Rattle.lis_model.specs.declared.command.Command.TheVariants.{Mkdir, Rmdir, Axiom, Unaxiom, Create, Add, Write, Cat, Mv, Rename, Rm, Cd, Pwd, Ls, Props, Way, Stat}
+use Rattle.lis_model.specs.declared.command.Command.TheVariants.{Add, Write, Stat}
 use Rattle.lis_model.specs.Step.{Item, Payload, no_payload}
 use Rattle.lis_model.specs.Step.Item.{Do, Bad}
 use Rattle.lis_model.specs.Script.{bad_line, tags_form, add_named, add_form, write_form, form_of, item_of, item_of_words, is_long, line_words, size_of_words, payload_size}
 use Rattle.lis_line.specs.Forms.{command_with, line_asks}
-use Rattle.lis_line.specs.Parts.{part_asks}
-
--- of a long line its first bytes tell as much
-pub item_kept : (text : List ℕ) (payload : Payload) → item_of (take 1025 text) payload ≡ item_of text payload
-item_kept text payload = elim (cases_lt 1025 (length text)) as (λ _. item_of (take 1025 text) payload ≡ item_of text payload) [
-  | inl more ↦
-      let front : 1025 ≤ length (take 1025 text) = omega (arith, more, length-take 1025 text) in
-      let long : nat_lt 1024 (length (take 1025 text)) ≡ true = le-leb 1025 (length (take 1025 text)) front in
-      let all : nat_lt 1024 (length text) ≡ true = le-leb 1025 (length text) (omega (arith, more)) in
-      rw (long, all) refl
-  | inr le ↦ ap (λ xs. item_of xs payload) (take_all 1025 text le)
-]
-
-pub size_kept : (text : List ℕ) → payload_size (take 1025 text) ≡ payload_size text
-size_kept text = elim (cases_lt 1025 (length text)) as (λ _. payload_size (take 1025 text) ≡ payload_size text) [
-  | inl more ↦
-      let front : 1025 ≤ length (take 1025 text) = omega (arith, more, length-take 1025 text) in
-      let long : nat_lt 1024 (length (take 1025 text)) ≡ true = le-leb 1025 (length (take 1025 text)) front in
-      let all : nat_lt 1024 (length text) ≡ true = le-leb 1025 (length text) (omega (arith, more)) in
-      rw (long, all) refl
-  | inr le ↦ ap payload_size (take_all 1025 text le)
-]
+use Rattle.lis_line.specs.Reading.{item_with}
 
 -- the command of a line that a payload follows has that payload
 named_with : (name : List ℕ) (payload other : Payload) (words : Result (List (List ℕ)) Refusal) (command : Command)
@@ -99,49 +77,20 @@ line_with line size payload other command = by (is_long line)
 -- a command is said with its payload, where that is the only one that it can have
 payload_said : (payload : Payload) (command : Command) → ((other : Payload) → command_with payload command ≡ Do command other → other ≡ payload)
     → command_with payload command ≡ Do command payload
-payload_said payload (Mkdir word) only = ap (λ p. Do (Mkdir word) p) (only no_payload refl)
-payload_said payload (Rmdir word) only = ap (λ p. Do (Rmdir word) p) (only no_payload refl)
-payload_said payload (Axiom left right) only = ap (λ p. Do (Axiom left right) p) (only no_payload refl)
-payload_said payload (Unaxiom left right) only = ap (λ p. Do (Unaxiom left right) p) (only no_payload refl)
-payload_said payload (Create name words) only = ap (λ p. Do (Create name words) p) (only no_payload refl)
 payload_said payload (Add name words) only = refl
 payload_said payload (Write name) only = refl
-payload_said payload (Cat name) only = ap (λ p. Do (Cat name) p) (only no_payload refl)
-payload_said payload (Mv name text) only = ap (λ p. Do (Mv name text) p) (only no_payload refl)
-payload_said payload (Rename name other) only = ap (λ p. Do (Rename name other) p) (only no_payload refl)
-payload_said payload (Rm name) only = ap (λ p. Do (Rm name) p) (only no_payload refl)
-payload_said payload (Cd text) only = ap (λ p. Do (Cd text) p) (only no_payload refl)
-payload_said payload Pwd only = ap (λ p. Do Pwd p) (only no_payload refl)
-payload_said payload Ls only = ap (λ p. Do Ls p) (only no_payload refl)
-payload_said payload (Props name) only = ap (λ p. Do (Props name) p) (only no_payload refl)
-payload_said payload (Way name) only = ap (λ p. Do (Way name) p) (only no_payload refl)
-payload_said payload Stat only = ap (λ p. Do Stat p) (only no_payload refl)
+payload_said payload command only = ap (λ p. Do command p) (only no_payload refl)
 
 -- where a payload follows a line, it is the payload of the command
 pub asks_with : (line : List ℕ) (size : ℕ) (payload : Payload) (asked : Option (Result Command Refusal))
-    → payload_size line ≡ Some size → line_asks payload asked ≡ item_of line payload → item_of line payload ≡ part_asks payload asked
+    → payload_size line ≡ Some size → line_asks payload asked ≡ item_of line payload → item_of line payload ≡ option_map (item_with payload) asked
 asks_with line size payload None sized is = sym is
 asks_with line size payload (Some (Err refusal)) sized is = sym is
 asks_with line size payload (Some (Ok command)) sized is = sym is ∙ ap Some (payload_said payload command (λ other said. line_with line size payload other command sized (sym is ∙ ap Some said)))
 
 -- and where none follows, there is none
-pub asks_alone : (asked : Option (Result Command Refusal)) → line_asks no_payload asked ≡ part_asks no_payload asked
+pub asks_alone : (asked : Option (Result Command Refusal)) → line_asks no_payload asked ≡ option_map (item_with no_payload) asked
 asks_alone None = refl
 asks_alone (Some (Err refusal)) = refl
-asks_alone (Some (Ok (Mkdir word))) = refl
-asks_alone (Some (Ok (Rmdir word))) = refl
-asks_alone (Some (Ok (Axiom left right))) = refl
-asks_alone (Some (Ok (Unaxiom left right))) = refl
-asks_alone (Some (Ok (Create name words))) = refl
-asks_alone (Some (Ok (Add name words))) = refl
-asks_alone (Some (Ok (Write name))) = refl
-asks_alone (Some (Ok (Cat name))) = refl
-asks_alone (Some (Ok (Mv name text))) = refl
-asks_alone (Some (Ok (Rename name other))) = refl
-asks_alone (Some (Ok (Rm name))) = refl
-asks_alone (Some (Ok (Cd text))) = refl
-asks_alone (Some (Ok Pwd)) = refl
-asks_alone (Some (Ok Ls)) = refl
-asks_alone (Some (Ok (Props name))) = refl
-asks_alone (Some (Ok (Way name))) = refl
 asks_alone (Some (Ok Stat)) = refl
+asks_alone (Some (Ok command)) = refl

@@ -1,8 +1,10 @@
 -- The words of a text, one after another.
-use Rattle.std.proofs.Common.{◌≡◌, ◌==◌, ℕ, ◌+◌, ◌-◌, ◌≤◌, ◌<◌, Bool, true, false, not, cond, List, [], ◌∷◌, ◌++◌, length, take, drop, filter, get_or, suc, ap, sym, ◌∙◌, refl, arith, append_assoc, append-nil, length-append}
+use Rattle.std.proofs.Common.{◌≡◌, ◌==◌, ℕ, ◌+◌, ◌-◌, ◌≤◌, ◌<◌, Bool, true, false, not, cond, List, [], ◌∷◌, ◌++◌, length, take, drop, filter, get_or, suc, ap, sym, ◌∙◌, refl, inl, inr, arith, length-take, append_assoc, append-nil, length-append}
 use Rattle.std.specs.List.{prefix_len}
+use Rattle.std.proofs.lemmas.Grind.{common_steps}
 use Rattle.std.proofs.lemmas.List.Sums.{prefix_len-le-length}
-use Rattle.std.proofs.lemmas.Bool.{cond-true, cond-false, le-leb}
+use Rattle.std.proofs.lemmas.Bool.{cond-true, cond-false, le-leb, cases_lt}
+use Rattle.lis_line.specs.Tagged.{after_blanks}
 use Rattle.lis_line.proofs.Bytes.{differs, same}
 use Rattle.lis_model.specs.Script.{is_blank, is_some_bytes, pieces_on, words_of, without_return}
 
@@ -15,24 +17,22 @@ blanks text = prefix_len is_blank text
 abbrev pub word_len : List ℕ → ℕ
 word_len text = prefix_len (λ b. not (is_blank b)) text
 
--- blanks at the front make no word
-pub words_past_blanks : (text : List ℕ) → words_of text ≡ words_of (drop (blanks text) text)
-words_past_blanks [] = refl
-words_past_blanks (b ∷ text) = by (is_blank b) refl (words_past_blanks text)
+pub blanks_dropped : (text : List ℕ) → drop (blanks text) text ≡ after_blanks text
+blanks_dropped [] = refl
+blanks_dropped (b ∷ text) = by (is_blank b) (blanks_dropped text)
   where
-    by : (t : Bool) → is_blank b ≡ t → words_of text ≡ words_of (drop (blanks text) text)
-        → words_of (b ∷ text) ≡ words_of (drop (cond t (1 + blanks text) 0) (b ∷ text))
-    by true e more = rw (one_more (blanks text), e) more
-    by false e more = refl
+    by : (t : Bool) → drop (blanks text) text ≡ after_blanks text → drop (cond t (1 + blanks text) 0) (b ∷ text) ≡ cond t (after_blanks text) (b ∷ text)
+    by true more = rw (one_more (blanks text)) more
+    by false more = refl
 
-no_blank_left : (text : List ℕ) → blanks (drop (blanks text) text) ≡ 0
+-- blanks at the front make no word
+words_past_blanks : (text : List ℕ) → words_of text ≡ words_of (after_blanks text)
+words_past_blanks [] = refl
+words_past_blanks (b ∷ text) = grind (arith, common_steps, words_past_blanks text)
+
+no_blank_left : (text : List ℕ) → blanks (after_blanks text) ≡ 0
 no_blank_left [] = refl
-no_blank_left (b ∷ text) = by (is_blank b) refl (no_blank_left text)
-  where
-    by : (t : Bool) → is_blank b ≡ t → blanks (drop (blanks text) text) ≡ 0
-        → blanks (drop (cond t (1 + blanks text) 0) (b ∷ text)) ≡ 0
-    by true e more = rw (one_more (blanks text)) more
-    by false e more = rw e refl
+no_blank_left (b ∷ text) = grind (arith, common_steps, no_blank_left text)
 
 -- a word that began, and what stands behind it
 pieces_front : (piece text : List ℕ) → is_some_bytes piece ≡ true
@@ -64,19 +64,32 @@ words_first (b ∷ text) some none = by (is_blank b) refl none (pieces_front (b 
     by true e none more = absurd (omega arith)
     by false e none more = rw (one_more (word_len text)) more
 
-pub no_words : (text : List ℕ) → length (drop (blanks text) text) ≡ 0 → words_of text ≡ []
-no_words text none = words_past_blanks text ∙ empty (drop (blanks text) text) none
+pub no_words : (text : List ℕ) → length (after_blanks text) ≡ 0 → words_of text ≡ []
+no_words text none = words_past_blanks text ∙ empty (after_blanks text) none
   where
     empty : (rest : List ℕ) → length rest ≡ 0 → words_of rest ≡ []
     empty [] e = refl
     empty (b ∷ rest) e = absurd (omega arith)
 
-pub one_word : (text rest : List ℕ) (n : ℕ) → rest ≡ drop (blanks text) text → 0 < length rest → n ≡ word_len rest
+pub one_word : (text rest : List ℕ) (n : ℕ) → rest ≡ after_blanks text → 0 < length rest → n ≡ word_len rest
     → words_of text ≡ take n rest ∷ words_of (drop n rest)
 one_word text rest n is some at =
     words_past_blanks text ∙ ap words_of (sym is)
     ∙ words_first rest some (ap blanks is ∙ no_blank_left text)
     ∙ ap (λ k. take k rest ∷ words_of (drop k rest)) (sym at)
+
+-- a first word is no longer than what stands behind the blanks
+pub word_fits : (text word : List ℕ) (words : List (List ℕ)) → words_of text ≡ word ∷ words → length word ≤ length (after_blanks text)
+word_fits text word words is = elim (cases_lt 0 (length (after_blanks text))) as (λ _. length word ≤ length (after_blanks text)) [
+  | inl some ↦
+      let first = one_word text (after_blanks text) (word_len (after_blanks text)) refl some refl in
+      let same : word ≡ take (word_len (after_blanks text)) (after_blanks text) = cc in
+      omega (arith, ap length same, length-take (word_len (after_blanks text)) (after_blanks text))
+  | inr none ↦
+      let empty = no_words text (omega (arith, none)) in
+      let no : [] ≡ word ∷ words = sym empty ∙ is in
+      absurd (cc)
+]
 
 pub blanks_within : (text : List ℕ) (n : ℕ) → n ≡ blanks text → n ≤ length text
 blanks_within text n at = rw at (prefix_len-le-length is_blank text)
@@ -103,7 +116,7 @@ no_return (b ∷ c ∷ line) other =
     let other' = rw (shorter (length line)) at other in
     ap (λ xs. b ∷ xs) (no_return (c ∷ line) other')
 
-pub some_word : (text rest : List ℕ) (n : ℕ) → rest ≡ drop (blanks text) text → 0 < length rest → n ≡ word_len rest → 0 < n
+pub some_word : (text rest : List ℕ) (n : ℕ) → rest ≡ after_blanks text → 0 < length rest → n ≡ word_len rest → 0 < n
 some_word text rest n is some at = rw at (first rest some (ap blanks is ∙ no_blank_left text))
   where
     first : (rest : List ℕ) → 0 < length rest → blanks rest ≡ 0 → 0 < word_len rest

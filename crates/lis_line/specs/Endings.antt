@@ -1,47 +1,47 @@
--- How a session ends: what was taken of its input, and what was done.
+-- How the loop over an input ends: what was taken of the input, and what was done.
 use Rattle.std.specs.Prelude.{◌≡◌, ℕ, ◌≤◌, ◌<◌, List, [], ◌∷◌, ◌++◌, length, Option, Some}
 use Rattle.std.specs.Io.KnownBytes.{Consumes, IsAtEnd}
 use Rattle.lis_ports.specs.Calls.{Rose}
-use Rattle.lis_model.specs.Step.{Item}
-use Rattle.lis_model.specs.Script.{whole_items, script}
+use Rattle.lis_model.specs.Script.{Cut, script_by}
 use Rattle.lis_line.specs.declared.carrier.Halt.{Halt}
 use Rattle.lis_line.specs.declared.carrier.Halt.TheVariants.{End, Limit, InputFault, Stopped}
 
 -- the input has ended, and these are all of its items
-pub record AllTaken (limit : ℕ) (input : List ℕ) (left : Option (List ℕ)) (first : List Item) : Type 0 where
+pub record AllTaken {I : Type 0} (cut : Cut I) (limit : ℕ) (input : List ℕ) (left : Option (List ℕ)) (first : List I) : Type 0 where
   pub short : length input ≤ limit
   pub at_end : IsAtEnd left
-  pub is : script input limit ≡ first
+  pub is : script_by cut input limit ≡ first
 
 -- the byte past the limit was taken, and these are the items that are whole within it
-pub record LimitTaken (limit : ℕ) (input : List ℕ) (first : List Item) : Type 0 where
+pub record LimitTaken {I : Type 0} (cut : Cut I) (limit : ℕ) (input : List ℕ) (first : List I) : Type 0 where
   pub long : limit < length input
-  pub is : script input limit ≡ first
+  pub is : script_by cut input limit ≡ first
 
 -- a call of the source failed, and these are the items that are whole in the bytes taken
-pub record WholeTaken (limit : ℕ) (input : List ℕ) (left : Option (List ℕ)) (first : List Item) : Type 0 where
+pub record WholeTaken {I : Type 0} (cut : Cut I) (limit : ℕ) (input : List ℕ) (left : Option (List ℕ)) (first : List I) : Type 0 where
   pub taken : List ℕ
   pub consumed : Consumes (Some input) left taken
   pub within : length taken ≤ limit
-  pub is : whole_items taken ≡ first
+  pub is : cut.whole taken ≡ first
 
 -- some first ones of these items
-abbrev pub IsFront : List Item → List Item → Type 0
-IsFront all first = (others : List Item) × (all ≡ first ++ others)
+abbrev pub IsFront : {I : Type 0} → List I → List I → Type 0
+IsFront {I} all first = (others : List I) × (all ≡ first ++ others)
 
 -- These items were carried out, and of a known input it is told which they are.
-pub record Went (left_before : Option (List ℕ)) (carried : List Item → Type 0) (are : List ℕ → List Item → Type 0) : Type 0 where
-  pub first : List Item
+pub record Went {I : Type 0} (left_before : Option (List ℕ)) (carried : List I → Type 0) (are : List ℕ → List I → Type 0) : Type 0 where
+  pub first : List I
   pub done : carried first
   pub read : (input : List ℕ) → left_before ≡ Some input → are input first
 
 -- how it ended: at the end of the input, past its limit, at a fault of the source, or in an item
-abbrev pub HasEnded : {F : Type 0} → ℕ → Option (List ℕ) → Option (List ℕ) → (List Item → Type 0) → (List Item → Item → F → Type 0) → Halt F → Type 0
-HasEnded limit before left done stopped End = Went before done (λ input first. AllTaken limit input left first)
-HasEnded limit before left done stopped Limit = Went before done (λ input first. LimitTaken limit input first)
-HasEnded limit before left done stopped InputFault = Went before done (λ input first. WholeTaken limit input left first × IsFront (script input limit) first)
-HasEnded limit before left done stopped (Stopped fault) =
-    (item : Item) × Went before (λ first. stopped first item fault) (λ input first. IsFront (script input limit) (first ++ item ∷ []))
+abbrev pub HasEnded : {I F : Type 0} → Cut I → ℕ → Option (List ℕ) → Option (List ℕ) → (List I → Type 0) → (List I → I → F → Type 0) → Halt F → Type 0
+HasEnded cut limit before left done stopped End = Went before done (λ input first. AllTaken cut limit input left first)
+HasEnded cut limit before left done stopped Limit = Went before done (λ input first. LimitTaken cut limit input first)
+HasEnded cut limit before left done stopped InputFault =
+    Went before done (λ input first. WholeTaken cut limit input left first × IsFront (script_by cut input limit) first)
+HasEnded {I} cut limit before left done stopped (Stopped fault) =
+    (item : I) × Went before (λ first. stopped first item fault) (λ input first. IsFront (script_by cut input limit) (first ++ item ∷ []))
 
 -- it ends at a fault of the source only where its count rose, and else the count stays
 abbrev pub HasHaltCause : {F : Type 0} → ℕ → ℕ → Halt F → Type 0

@@ -5,3 +5,5 @@ pub mod Reading
 pub mod Taking
 pub mod Endings
 pub mod Parts
+pub mod Tagged
+pub mod Spoken

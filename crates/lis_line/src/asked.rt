@@ -15,8 +15,11 @@ use lis_model::command::Command;
 use lis_model::refusal::Refusal;
 use lis_words::read_count;
 
+/// What a line asks for, without the payload behind it.
+pub type Request = Result<Command, Refusal>;
+
 /// What a line asks for by its first word and what stands behind it.
-fn command_of(first: &[u8], rest: &[u8]) -> Result<Command, Refusal>
+fn command_of(first: &[u8], rest: &[u8]) -> Request
     requires { length rest.now ≤ 1024 }
     ensures { (payload : Payload) → asked_of payload result ≡ form_of first.now (words_of rest.now) payload }
 {
@@ -75,7 +78,7 @@ fn command_of(first: &[u8], rest: &[u8]) -> Result<Command, Refusal>
 }
 
 /// What a line asks for, given what stands before its line feed; None for a line without words.
-pub fn asked(line: &[u8]) -> Option<Result<Command, Refusal>>
+pub fn asked(line: &[u8]) -> Option<Request>
     ensures { (payload : Payload) → line_asks payload result ≡ item_of line.now payload }
 {
     if is_long(line) {

@@ -1,18 +1,20 @@
-//! The one loop of a session: an item after another is read, and carried out.
+//! The one loop over an input: an item after another is read, and carried out.
 
 ghost use Rattle.std.specs.Prelude.{◌≡◌, ℕ, ◌+◌, ◌≤◌, ◌^◌, List, [], ◌∷◌, ◌++◌, IfOk, IfSome, IsSome, MatchResult};
 ghost use Rattle.lis_ports.specs.Calls.{FaultEnds};
 ghost use Rattle.lis_ports.specs.Meaning.{Meaning};
-ghost use Rattle.lis_model.specs.Step.{Item as Asked};
-ghost use Rattle.lis_line.specs.Reading.{asked_by};
 ghost use Rattle.lis_line.specs.Taking.{TakesFew};
 ghost use Rattle.lis_line.specs.Endings.{HasEnded, HasHaltCause};
 
-use crate::reader::{Item, LineReader, Payload};
+use crate::input::InputItem;
+use crate::reader::{LineReader, Next, Payload};
 use lis_ports::{Source, Station};
 
-/// What carries out the items of a session on a station.
+/// What carries out the items of an input on a station.
 pub trait Carrier {
+    /// What the input is made of.
+    type Item: InputItem;
+
     /// Why an item could not be carried out.
     type Fault;
 
@@ -20,29 +22,30 @@ pub trait Carrier {
     ghost is_ready: { Self → Meaning → ℕ → Type 0 };
 
     /// What it and the station have come to since a start: these items were carried out, in this order.
-    ghost has_done: { Self → Meaning → List Asked → Self → Meaning → Type 0 };
+    ghost has_done: { Self → Meaning → List Self.Item.Asked → Self → Meaning → Type 0 };
 
     /// What they have come to since a start, where these items were carried out and then there was a fault in this one.
-    ghost has_stopped: { Self → Meaning → List Asked → Asked → Self.Fault → Self → Meaning → Type 0 };
+    ghost has_stopped: { Self → Meaning → List Self.Item.Asked → Self.Item.Asked → Self.Fault → Self → Meaning → Type 0 };
 
     /// Carries out an item.
     fn carry<T: Station>(
         &mut self,
-        item: &Item,
+        item: &Self::Item,
         payload: &Payload,
         station: &mut T,
     ) -> Result<(), Self::Fault>
-        requires asked { IsSome (asked_by item.now payload.now) }
+        requires asked { IsSome (Self.Item.asked item.now payload.now) }
+        requires said { Self.Item.is_said item.now }
         requires ready { (more : ℕ) × is_ready self.old (T.meaning station.old) (more + 1) }
         ensures ready { (more : ℕ) → is_ready self.old (T.meaning station.old) (more + 1)
             → IfOk result (λ _. is_ready self.new (T.meaning station.new) more) }
-        ensures carried { (start : Self) (entry : T) (first : List Asked) → has_done start (T.meaning entry) first self.old (T.meaning station.old)
-            → IfSome (asked_by item.now payload.now) (λ asked. MatchResult result
+        ensures carried { (start : Self) (entry : T) (first : List Self.Item.Asked) → has_done start (T.meaning entry) first self.old (T.meaning station.old)
+            → IfSome (Self.Item.asked item.now payload.now) (λ asked. MatchResult result
             (λ _. has_done start (T.meaning entry) (first ++ asked ∷ []) self.new (T.meaning station.new))
             (λ fault. has_stopped start (T.meaning entry) first asked fault self.new (T.meaning station.new))) };
 }
 
-/// Where a session ended.
+/// Where the loop over an input ended.
 #[derive(Clone, Copy, Debug, PartialEq, Eq)]
 pub enum Halt<F> {
     /// The input has ended.
@@ -70,20 +73,18 @@ pub fn carry_all<C: Carrier, S: Source, T: Station>(
     ensures few { TakesFew limit (S.left input.old) (S.left input.new) }
     ensures cause { HasHaltCause (S.faults input.old) (S.faults input.new) result }
     ensures first_fault { FaultEnds (S.faults input.old) (S.behind input.old) (S.behind input.new) }
-    ensures ended { HasEnded limit (S.left input.old) (S.left input.new)
+    ensures ended { HasEnded C.Item.cut limit (S.left input.old) (S.left input.new)
         (λ first. C.has_done carrier.old (T.meaning station.old) first carrier.new (T.meaning station.new))
         (λ first item fault. C.has_stopped carrier.old (T.meaning station.old) first item fault carrier.new (T.meaning station.new)) result }
 {
     let mut reader = LineReader::new(limit);
     loop {
-        let Ok(item) = reader.next(input, payload) else {
-            return Halt::InputFault;
+        let item = match reader.read::<C::Item, S>(input, payload) {
+            Ok(Next::Item(request)) => C::Item::of(request),
+            Ok(Next::End) => return Halt::End,
+            Ok(Next::Limit) => return Halt::Limit,
+            Err(_) => return Halt::InputFault,
         };
-        match item {
-            Item::End => return Halt::End,
-            Item::Limit => return Halt::Limit,
-            Item::Command(_) | Item::Bad(_) => {}
-        }
         if let Err(fault) = carrier.carry(&item, payload, station) {
             return Halt::Stopped(fault);
         }

@@ -4,11 +4,14 @@
 mod asked;
 pub mod carrier;
 mod forms;
+pub mod input;
 mod line;
 pub mod part;
 pub mod payload;
 pub mod reader;
+pub mod room;
 pub mod stock;
+pub mod tagged;
 pub mod taken;
 #[cfg(test)]
 mod tests;

@@ -3,6 +3,7 @@
 ghost use Rattle.std.specs.Prelude.{◌≡◌, ◌≢◌, ◌↔◌, ℕ, ◌+◌, ◌<◌, ◌≤◌, List, [], ◌∷◌, not, length, MatchOption, IfSome, IsTrue};
 ghost use Rattle.std.specs.List.{prefix_len};
 ghost use Rattle.lis_model.specs.Script.{is_blank, without_return, words_of, is_long};
+ghost use Rattle.lis_line.specs.Tagged.{after_blanks};
 
 /// The most bytes of a line before its line feed.
 const MAX_LINE: usize = 1_024;
@@ -24,6 +25,15 @@ fn blanks(text: &[u8]) -> usize
     ensures { result ≡ prefix_len is_blank text.now }
 {
     text.iter().take_while(|byte| is_blank(**byte)).count()
+}
+
+/// A text without the blanks at its front.
+pub fn after_blanks(text: &[u8]) -> &[u8]
+    ensures text { result.now ≡ after_blanks text.now }
+    ensures shorter { length result.now ≤ length text.now }
+{
+    let (_, rest) = text.split_at(blanks(text));
+    rest
 }
 
 fn word_len(text: &[u8]) -> usize
@@ -51,7 +61,7 @@ pub fn next_word(text: &[u8]) -> Option<(&[u8], &[u8])>
     ensures shorter { IfSome result (λ found. length found.0.now + length found.1.now ≤ length text.now) }
     ensures some { IfSome result (λ found. 0 < length found.0.now) }
 {
-    let (_, text) = text.split_at(blanks(text));
+    let text = after_blanks(text);
     if text.is_empty() {
         return None;
     }

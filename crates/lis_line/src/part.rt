@@ -1,33 +1,27 @@
-//! Parts of the input: a line, and the payload behind it.
+//! Parts of a session's input: a line, and the payload behind it.
 
-ghost use Rattle.std.specs.Prelude.{◌≡◌, ℕ, ◌<◌, ◌≤◌, Some, length};
+ghost use Rattle.std.specs.Prelude.{◌≡◌, ℕ, ◌<◌, ◌≤◌, ◌∷◌, ◌++◌, false, Some, length};
+ghost use Rattle.std.specs.Option.{option_map};
+ghost use Rattle.std.specs.List.{list_any};
 ghost use Rattle.lis_ports.specs.Calls.{HasCause, FaultEnds};
 ghost use Rattle.lis_model.specs.Step.{Payload as Told, no_payload};
-ghost use Rattle.lis_model.specs.Script.{item_of, payload_size, first_of, first_with, first_ended};
-ghost use Rattle.lis_line.specs.Parts.{TakesPart, part_asks, first_dropped, first_behind, item_at_end};
+ghost use Rattle.lis_model.specs.Script.{is_feed, item_of, payload_size, first_of, first_with, first_ended, session_cut};
+ghost use Rattle.lis_line.specs.Reading.{item_with, asked_by};
+ghost use Rattle.lis_line.specs.Parts.{TakesPart, first_dropped};
 
-use crate::asked::{asked, payload_size};
+use crate::asked::{Request, asked, payload_size};
+use crate::input::{InputItem, Part};
 use crate::payload::{Filled, Payload, fill};
+use crate::reader::{AskedItem, Item};
 use crate::stock::{LineEnd, Stock, is_feed, read_line};
 use arrayvec::ArrayVec;
-use lis_model::command::Command;
 use lis_model::refusal::Refusal;
 use lis_ports::{Failed, Source};
 
-/// What was taken of the input, and what it asks for; None for a line without words.
-pub enum Part {
-    /// A part with its own line feed.
-    Whole(Option<Result<Command, Refusal>>),
-    /// The last part, at the end of the input.
-    Last(Option<Result<Command, Refusal>>),
-    /// The byte past the limit.
-    PastLimit,
-}
-
 /// Drops all up to the next line feed, behind a byte that ends no payload.
-fn drop_line<S: Source>(stock: &mut Stock, source: &mut S) -> Result<Part, Failed>
+fn drop_line<S: Source>(stock: &mut Stock, source: &mut S) -> Result<Part<Request>, Failed>
     requires { 0 < stock.old.rest }
-    ensures takes { (payload : Told) → TakesPart first_dropped stock.old stock.new (S.left source.old) (S.left source.new) payload result }
+    ensures takes { (payload : Told) → TakesPart first_dropped (item_with payload) stock.old stock.new (S.left source.old) (S.left source.new) result }
     ensures few { length stock.new.ahead ≤ stock.new.rest }
     ensures cause { HasCause (S.faults source.old) (S.faults source.new) result }
     ensures first_fault { FaultEnds (S.faults source.old) (S.behind source.old) (S.behind source.new) }
@@ -41,10 +35,14 @@ fn drop_line<S: Source>(stock: &mut Stock, source: &mut S) -> Result<Part, Faile
 }
 
 /// Takes what is to end a payload: one line feed, or nothing at the end of the input.
-fn take_end<S: Source>(stock: &mut Stock, line: &[u8], source: &mut S) -> Result<Part, Failed>
+fn take_end<S: Source>(
+    stock: &mut Stock,
+    line: &[u8],
+    source: &mut S,
+) -> Result<Part<Request>, Failed>
     requires some { 0 < stock.old.rest }
     requires sized { (size : ℕ) × (payload_size line.now ≡ Some size) }
-    ensures takes { (payload : Told) → TakesPart (first_ended (item_of line.now payload)) stock.old stock.new (S.left source.old) (S.left source.new) payload result }
+    ensures takes { (payload : Told) → TakesPart (first_ended (item_of line.now payload)) (item_with payload) stock.old stock.new (S.left source.old) (S.left source.new) result }
     ensures few { length stock.new.ahead ≤ stock.new.rest }
     ensures cause { HasCause (S.faults source.old) (S.faults source.new) result }
     ensures first_fault { FaultEnds (S.faults source.old) (S.behind source.old) (S.behind source.new) }
@@ -68,11 +66,11 @@ fn take_payload<S: Source>(
     line: &[u8],
     size: u64,
     source: &mut S,
-) -> Result<Part, Failed>
+) -> Result<Part<Request>, Failed>
     requires some { 0 < stock.old.rest }
     requires few { length stock.old.ahead ≤ stock.old.rest }
     requires sized { payload_size line.now ≡ Some size }
-    ensures takes { TakesPart (first_with line.now size) stock.old stock.new (S.left source.old) (S.left source.new) payload.new result }
+    ensures takes { TakesPart (first_with line.now size) (item_with payload.new) stock.old stock.new (S.left source.old) (S.left source.new) result }
     ensures few { length stock.new.ahead ≤ stock.new.rest }
     ensures cause { HasCause (S.faults source.old) (S.faults source.new) result }
     ensures first_fault { FaultEnds (S.faults source.old) (S.behind source.old) (S.behind source.new) }
@@ -85,16 +83,17 @@ fn take_payload<S: Source>(
 }
 
 /// Takes what follows a line and its line feed.
-fn take_behind<S: Source>(
+pub fn take_behind<S: Source>(
     stock: &mut Stock,
     payload: &mut Payload,
     line: &[u8],
     source: &mut S,
-) -> Result<Part, Failed>
+) -> Result<Part<Request>, Failed>
     requires some { 0 < stock.old.rest }
     requires few { length stock.old.ahead ≤ stock.old.rest }
     requires empty { payload.old ≡ no_payload }
-    ensures takes { TakesPart (first_behind line.now (payload_size line.now)) stock.old stock.new (S.left source.old) (S.left source.new) payload.new result }
+    requires one_line { list_any is_feed line.now ≡ false }
+    ensures takes { TakesPart (λ more. first_of (line.now ++ 10 ∷ more)) (item_with payload.new) stock.old stock.new (S.left source.old) (S.left source.new) result }
     ensures few { length stock.new.ahead ≤ stock.new.rest }
     ensures cause { HasCause (S.faults source.old) (S.faults source.new) result }
     ensures first_fault { FaultEnds (S.faults source.old) (S.behind source.old) (S.behind source.new) }
@@ -106,32 +105,45 @@ fn take_behind<S: Source>(
 }
 
 /// What a last line without a line feed asks for.
-fn asked_last(line: &[u8]) -> Option<Result<Command, Refusal>>
-    ensures { part_asks no_payload result ≡ item_at_end line.now (payload_size line.now) }
+pub fn asked_last(line: &[u8]) -> Option<Request>
+    requires { list_any is_feed line.now ≡ false }
+    ensures { option_map (item_with no_payload) result ≡ (first_of line.now).item }
 {
-    match payload_size(line) {
-        None | Some(0) => asked(line),
-        Some(_) => Some(Err(Refusal::CutPayload)),
+    if payload_size(line).unwrap_or(0) > 0 {
+        return Some(Err(Refusal::CutPayload));
     }
+    asked(line)
 }
 
-/// Takes a line, and the payload that follows it.
-pub fn take_part<S: Source>(
-    stock: &mut Stock,
-    payload: &mut Payload,
-    source: &mut S,
-) -> Result<Part, Failed>
-    requires { 0 < stock.old.rest }
-    ensures takes { TakesPart first_of stock.old stock.new (S.left source.old) (S.left source.new) payload.new result }
-    ensures few { length stock.new.ahead ≤ stock.new.rest }
-    ensures cause { HasCause (S.faults source.old) (S.faults source.new) result }
-    ensures first_fault { FaultEnds (S.faults source.old) (S.behind source.old) (S.behind source.new) }
-{
-    payload.clear();
-    let mut line = ArrayVec::new();
-    match read_line(stock, &mut line, source)? {
-        LineEnd::Feed => take_behind(stock, payload, line.as_slice(), source),
-        LineEnd::Last => Ok(Part::Last(asked_last(line.as_slice()))),
-        LineEnd::Spent => Ok(Part::PastLimit),
+impl InputItem for Item {
+    type Asked = AskedItem;
+
+    type Request = Request;
+
+    ghost cut = { session_cut };
+
+    ghost asks = { item_with };
+
+    ghost asked = { asked_by };
+
+    fn take_part<S: Source>(
+        stock: &mut Stock,
+        payload: &mut Payload,
+        source: &mut S,
+    ) -> Result<Part<Request>, Failed> {
+        payload.clear();
+        let mut line = ArrayVec::new();
+        match read_line(stock, &mut line, source)? {
+            LineEnd::Feed => take_behind(stock, payload, line.as_slice(), source),
+            LineEnd::Last => Ok(Part::Last(asked_last(line.as_slice()))),
+            LineEnd::Spent => Ok(Part::PastLimit),
+        }
+    }
+
+    fn of(request: Request) -> Item {
+        match request {
+            Ok(command) => Item::Command(command),
+            Err(refusal) => Item::Bad(refusal),
+        }
     }
 }

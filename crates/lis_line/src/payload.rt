@@ -1,11 +1,11 @@
 //! The bytes that come behind a command's line.
 
-ghost use Rattle.std.specs.Prelude.{◌≡◌, ℕ, ◌+◌, ◌<◌, ◌≤◌, ◌^◌, [], length, slice_set, IfOk};
+ghost use Rattle.std.specs.Prelude.{◌≡◌, ℕ, ◌+◌, ◌<◌, ◌≤◌, ◌^◌, [], ◌++◌, length, take, drop, slice_set, IfOk};
 ghost use Rattle.lis_ports.specs.Calls.{HasCause, FaultEnds};
 ghost use Rattle.lis_model.specs.Step.{no_payload};
 ghost use Rattle.lis_model.specs.Script.{payload_limit};
 ghost use Rattle.lis_line.specs.Inside.{frame_bytes, IsKept};
-ghost use Rattle.lis_line.specs.Parts.{with_byte, Fills};
+ghost use Rattle.lis_line.specs.Parts.{with_byte, with_bytes, Fills};
 
 use crate::stock::Stock;
 use lis_ports::{Failed, Source};
@@ -42,6 +42,16 @@ fn set(region: &mut Region<u8>, frame: &Frame, place: usize, byte: u8)
     ensures bytes { frame_bytes region.new frame.now ≡ slice_set (frame_bytes region.old frame.now) place byte }
 {
     region.items_mut(frame)[place] = byte;
+}
+
+fn write(region: &mut Region<u8>, frame: &Frame, place: usize, bytes: &[u8])
+    requires kept { IsKept region.old frame.now }
+    requires room { place + length bytes.now ≤ payload_limit }
+    ensures kept { IsKept region.new frame.now }
+    ensures bytes { frame_bytes region.new frame.now
+        ≡ take place (frame_bytes region.old frame.now) ++ bytes.now ++ drop (place + length bytes.now) (frame_bytes region.old frame.now) }
+{
+    region.items_mut(frame)[place..place + bytes.len()].copy_from_slice(bytes);
 }
 
 impl Payload {
@@ -95,6 +105,18 @@ impl Payload {
             set(&mut self.region, &self.frame, self.size as usize, byte);
         }
         self.size += 1;
+    }
+
+    /// Puts the bytes behind those that it has.
+    pub fn append(&mut self, bytes: &[u8])
+        requires { self.old.size + length bytes.now < 2 ^ 64 }
+        ensures { self.new ≡ with_bytes self.old bytes.now }
+    {
+        let size = self.size + bytes.len() as u64;
+        if size <= ROOM as u64 {
+            write(&mut self.region, &self.frame, self.size as usize, bytes);
+        }
+        self.size = size;
     }
 }
 

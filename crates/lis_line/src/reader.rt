@@ -1,23 +1,49 @@
 //! The reader of items.
 
-ghost use Rattle.std.specs.Prelude.{◌≡◌, ℕ, ◌^◌, ◌≤◌, false, length};
+ghost use Rattle.std.specs.Prelude.{◌≡◌, ℕ, ◌^◌, ◌≤◌, false, length, IfOk};
 ghost use Rattle.lis_ports.specs.Calls.{HasCause, FaultEnds};
+ghost use Rattle.lis_model.specs.Script.{session_cut};
 
+use crate::input::InputItem;
 pub use crate::payload::Payload;
 use crate::stock::Stock;
+use crate::tagged::Tagged;
 use crate::taken::{Taken, take_asked};
 use lis_model::command::Command;
 use lis_model::refusal::Refusal;
 use lis_ports::{Failed, Source};
 use std::marker::Model;
 
-/// What the input says next.
+/// What the input of a session says next.
 #[derive(Drop, Debug)]
 pub enum Item {
     /// A command. The payload behind its line stands in the `Payload` that `next` was handed.
     Command(Command),
     /// A part of the input that can't be done.
     Bad(Refusal),
+    /// The end of the input.
+    End,
+    /// The input is longer than its limit.
+    Limit,
+}
+
+/// What an item of a session asks for, as clauses have it. Code has no use for its value.
+pub struct AskedItem;
+
+impl Model for AskedItem {
+    ghost use Rattle.lis_model.specs.Step.{Item};
+    ghost use Rattle.lis_model.specs.Script.{bad_line};
+
+    ghost Value = { Item };
+
+    ghost view = { λ _. bad_line };
+}
+
+/// What an input says next.
+#[derive(Drop)]
+pub enum Next<R> {
+    /// What is asked for.
+    Item(R),
     /// The end of the input.
     End,
     /// The input is longer than its limit.
@@ -44,7 +70,9 @@ impl Model for LineReader {
 }
 
 impl LineReader {
-    ghost use Rattle.lis_line.specs.Reading.{fresh, Says};
+    ghost use Rattle.lis_line.specs.Reading.{fresh, Says, told, next_map, says_by};
+    ghost use Rattle.lis_line.specs.Tagged.{tagged_cut};
+    ghost use Rattle.lis_line.specs.Spoken.{says_tagged, IsTagged};
 
     /// A reader that gives the items of an input of at most `limit` bytes.
     pub fn new(limit: u64) -> LineReader
@@ -65,41 +93,81 @@ impl LineReader {
         self.is_ended
     }
 
-    /// The next item, with its payload. Lines without words are skipped.
-    pub fn next<S: Source>(&mut self, source: &mut S, payload: &mut Payload) -> Result<Item, Failed>
+    /// What the next item asks for, of an input of any kind, with its payload. Parts that ask for nothing are skipped.
+    pub fn read<I: InputItem, S: Source>(
+        &mut self,
+        source: &mut S,
+        payload: &mut Payload,
+    ) -> Result<Next<I::Request>, Failed>
         requires { self.old.is_ended ≡ false }
-        ensures says { Says self.old self.new (S.left source.old) (S.left source.new) payload.new result }
+        ensures says { Says I.cut self.old self.new (S.left source.old) (S.left source.new) (told (next_map (I.asks payload.new)) result) }
         ensures few { length self.new.stock.ahead ≤ self.new.stock.rest }
         ensures cause { HasCause (S.faults source.old) (S.faults source.new) result }
         ensures first_fault { FaultEnds (S.faults source.old) (S.behind source.old) (S.behind source.new) }
     {
         if self.is_closed {
             self.is_ended = true;
-            return Ok(Item::End);
+            return Ok(Next::End);
         }
-        match take_asked(&mut self.stock, payload, source) {
-            Ok(Taken::Whole(Ok(command))) => Ok(Item::Command(command)),
-            Ok(Taken::Whole(Err(refusal))) => Ok(Item::Bad(refusal)),
-            Ok(Taken::Last(Ok(command))) => {
+        match take_asked::<I, S>(&mut self.stock, payload, source) {
+            Ok(Taken::Whole(asked)) => Ok(Next::Item(asked)),
+            Ok(Taken::Last(asked)) => {
                 self.is_closed = true;
-                Ok(Item::Command(command))
-            }
-            Ok(Taken::Last(Err(refusal))) => {
-                self.is_closed = true;
-                Ok(Item::Bad(refusal))
+                Ok(Next::Item(asked))
             }
             Ok(Taken::NoMore) => {
                 self.is_ended = true;
-                Ok(Item::End)
+                Ok(Next::End)
             }
             Ok(Taken::PastLimit) => {
                 self.is_ended = true;
-                Ok(Item::Limit)
+                Ok(Next::Limit)
             }
             Err(failed) => {
                 self.is_ended = true;
                 Err(failed)
             }
+        }
+    }
+
+    /// The next item of a session, with its payload. Lines without words are skipped.
+    pub fn next<S: Source>(&mut self, source: &mut S, payload: &mut Payload) -> Result<Item, Failed>
+        requires { self.old.is_ended ≡ false }
+        ensures says { Says session_cut self.old self.new (S.left source.old) (S.left source.new) (told (says_by payload.new) result) }
+        ensures few { length self.new.stock.ahead ≤ self.new.stock.rest }
+        ensures cause { HasCause (S.faults source.old) (S.faults source.new) result }
+        ensures first_fault { FaultEnds (S.faults source.old) (S.behind source.old) (S.behind source.new) }
+    {
+        match self.read::<Item, S>(source, payload)? {
+            Next::Item(request) => Ok(Item::of(request)),
+            Next::End => Ok(Item::End),
+            Next::Limit => Ok(Item::Limit),
+        }
+    }
+
+    /// The next item of an input of rooms, with its payload. Lines without words are skipped.
+    pub fn next_tagged<S: Source>(
+        &mut self,
+        source: &mut S,
+        payload: &mut Payload,
+    ) -> Result<Tagged, Failed>
+        requires { self.old.is_ended ≡ false }
+        ensures says { Says tagged_cut self.old self.new (S.left source.old) (S.left source.new) (told (says_tagged payload.new) result) }
+        ensures said { IfOk result IsTagged }
+        ensures few { length self.new.stock.ahead ≤ self.new.stock.rest }
+        ensures cause { HasCause (S.faults source.old) (S.faults source.new) result }
+        ensures first_fault { FaultEnds (S.faults source.old) (S.behind source.old) (S.behind source.new) }
+    {
+        match self.read::<Tagged, S>(source, payload)? {
+            Next::Item(spoken) => Ok(Tagged::of(spoken)),
+            Next::End => Ok(Tagged {
+                room: None,
+                item: Item::End,
+            }),
+            Next::Limit => Ok(Tagged {
+                room: None,
+                item: Item::Limit,
+            }),
         }
     }
 }

@@ -4,19 +4,17 @@ ghost use Rattle.std.specs.Prelude.{◌≡◌, ℕ, ◌<◌, ◌≤◌, length};
 ghost use Rattle.lis_ports.specs.Calls.{HasCause, FaultEnds};
 ghost use Rattle.lis_line.specs.Reading.{GivesAsked};
 
-use crate::part::{Part, take_part};
+use crate::input::{InputItem, Part};
 use crate::payload::Payload;
 use crate::stock::Stock;
-use lis_model::command::Command;
-use lis_model::refusal::Refusal;
 use lis_ports::{Failed, Source};
 
 /// What was taken of the input.
-pub enum Taken {
+pub enum Taken<R> {
     /// A part with its own line feed, and what it asks for.
-    Whole(Result<Command, Refusal>),
+    Whole(R),
     /// The last part, which has no line feed of its own.
-    Last(Result<Command, Refusal>),
+    Last(R),
     /// The end of the input.
     NoMore,
     /// The byte past the limit.
@@ -24,19 +22,19 @@ pub enum Taken {
 }
 
 /// Takes parts up to the first that asks for something.
-pub fn take_asked<S: Source>(
+pub fn take_asked<I: InputItem, S: Source>(
     stock: &mut Stock,
     payload: &mut Payload,
     source: &mut S,
-) -> Result<Taken, Failed>
+) -> Result<Taken<I::Request>, Failed>
     requires { 0 < stock.old.rest }
-    ensures gives { GivesAsked stock.old stock.new (S.left source.old) (S.left source.new) payload.new result }
+    ensures gives { GivesAsked I.cut (I.asks payload.new) stock.old stock.new (S.left source.old) (S.left source.new) result }
     ensures few { length stock.new.ahead ≤ stock.new.rest }
     ensures cause { HasCause (S.faults source.old) (S.faults source.new) result }
     ensures first_fault { FaultEnds (S.faults source.old) (S.behind source.old) (S.behind source.new) }
 {
     loop {
-        match take_part(stock, payload, source)? {
+        match I::take_part(stock, payload, source)? {
             Part::Whole(Some(asked)) => return Ok(Taken::Whole(asked)),
             Part::Whole(None) => {}
             Part::Last(Some(asked)) => return Ok(Taken::Last(asked)),

@@ -65,6 +65,26 @@ static INPUTS: [(&str, u64, &str); 28] = [
     ),
 ];
 
+/// An input of rooms, its limit, and its items, each behind the digit of its room, or `-`.
+static ROOMS: [(&str, u64, &str); 8] = [
+    (
+        "@0 mkdir a;@0 cd a;@1 create x;@1 pwd;@0 ls;ls;",
+        99,
+        "0other,0other,1other,1other,0other,-1,-end,",
+    ),
+    (
+        "@7 add f 2;hi;@7 cat f;@8 ls;@3;",
+        99,
+        "7add 2 hi,7other,-1,31,-end,",
+    ),
+    ("add a 3;abc; ;@1 ls", 99, "-1,-1,1other,-end,"),
+    ("@2 add f 3;hi", 99, "23,-end,"),
+    ("@2 write f 1;hi;@5 ls;", 99, "24,5other,-end,"),
+    ("@3^; @3 ls^;@33 ls;@3ls;@;", 99, "31,3other,-1,-1,-1,-end,"),
+    ("@1 ls;@2 add f 1;x;", 18, "1other,-limit,"),
+    ("@1 ls;@2 add f 1;x;", 19, "1other,2add 1 x,-end,"),
+];
+
 fn bytes_of(alloc: Global, row: &str) -> Result<Vec<u8>, AllocError> {
     let mut bytes = Vec::new(alloc);
     for byte in row.bytes() {
@@ -100,15 +120,19 @@ fn note(row: &mut String, item: &Item, payload: &Payload) -> Result<(), AllocErr
     }
 }
 
-fn items(alloc: Global, row: &str, limit: u64, step: usize) -> Result<String, AllocError> {
-    let mut input = MemSource {
+fn input_of(alloc: Global, row: &str, step: usize) -> Result<MemSource, AllocError> {
+    Ok(MemSource {
         bytes: bytes_of(alloc, row)?,
         place: 0,
         step: step.max(1),
         fail_at: None,
         faults: 0,
         behind: 0,
-    };
+    })
+}
+
+fn items(alloc: Global, row: &str, limit: u64, step: usize) -> Result<String, AllocError> {
+    let mut input = input_of(alloc, row, step)?;
     let mut payload = Payload::new(alloc)?;
     let mut reader = LineReader::new(limit.min(99));
     let mut seen = String::new(alloc);
@@ -124,11 +148,45 @@ fn items(alloc: Global, row: &str, limit: u64, step: usize) -> Result<String, Al
     Ok(seen)
 }
 
+fn tagged_items(alloc: Global, row: &str, limit: u64, step: usize) -> Result<String, AllocError> {
+    let mut input = input_of(alloc, row, step)?;
+    let mut payload = Payload::new(alloc)?;
+    let mut reader = LineReader::new(limit.min(99));
+    let mut seen = String::new(alloc);
+    for _ in 0..99 {
+        if reader.is_ended() {
+            break;
+        }
+        match reader.next_tagged(&mut input, &mut payload) {
+            Ok(tagged) => {
+                match tagged.room {
+                    Some(room) => write!(seen, "{room}")?,
+                    None => seen.push('-')?,
+                }
+                note(&mut seen, &tagged.item, &payload)?;
+            }
+            Err(_) => seen.push_str("fault,")?,
+        }
+    }
+    Ok(seen)
+}
+
 #[test]
 fn items_are_the_same_in_any_pieces(rt: HostRuntime) -> Result<(), Fail> {
     for (row, limit, wanted) in &INPUTS {
         for step in [1, 2, 4_096] {
             let seen = items(rt.alloc(), row, *limit, step)?;
+            assert_eq!(rt; seen.as_str(), *wanted, "{row}");
+        }
+    }
+    Ok(())
+}
+
+#[test]
+fn items_of_rooms_are_the_same_in_any_pieces(rt: HostRuntime) -> Result<(), Fail> {
+    for (row, limit, wanted) in &ROOMS {
+        for step in [1, 2, 4_096] {
+            let seen = tagged_items(rt.alloc(), row, *limit, step)?;
             assert_eq!(rt; seen.as_str(), *wanted, "{row}");
         }
     }

@@ -10,7 +10,7 @@ use Rattle.std.specs.List.{list_any}
 use Rattle.lis_model.specs.declared.refusal.Refusal.TheVariants.{CutPayload, PayloadEnd}
 use Rattle.lis_model.specs.Step.{Item, no_payload}
 use Rattle.lis_model.specs.Step.Item.{Bad}
-use Rattle.lis_model.specs.Script.{is_feed, before_feed, after_feed, item_of, payload_size, payload_of, First, first_ended, first_with, first_by, first_of, items_within, all_items, whole_within, whole_items}
+use Rattle.lis_model.specs.Script.{is_feed, before_feed, after_feed, item_of, payload_size, payload_of, FirstOf, First, Cut, session_cut, first_ended, first_with, first_by, first_of, items_within, all_items, whole_within, whole_items}
 
 -- a text with no line feed in it
 abbrev pub IsOneLine : List ℕ → Type 0
@@ -58,62 +58,72 @@ rest_shorter b bytes = by (payload_size (before_feed (b ∷ bytes))) (feed_short
     by None more = more
     by (Some n) more = omega (arith, more, with_shorter (before_feed (b ∷ bytes)) n (after_feed (b ∷ bytes)))
 
+-- ---- items one after another, where each part takes a byte at least
+abbrev pub TakesSome : {I : Type 0} → (List ℕ → FirstOf I) → Type 0
+TakesSome first = (b : ℕ) (bytes : List ℕ) → length (first (b ∷ bytes)).rest ≤ length bytes
+
 -- more turns than there are bytes change nothing
-items_fuel : (n m : ℕ) (bytes : List ℕ) → length bytes ≤ n → length bytes ≤ m → items_within n bytes ≡ items_within m bytes
-items_fuel zero zero bytes h k = refl
-items_fuel zero (suc m) [] h k = refl
-items_fuel zero (suc m) (b ∷ bytes) h k = absurd (omega arith)
-items_fuel (suc n) zero [] h k = refl
-items_fuel (suc n) zero (b ∷ bytes) h k = absurd (omega arith)
-items_fuel (suc n) (suc m) [] h k = refl
-items_fuel (suc n) (suc m) (b ∷ bytes) h k =
-    ap (λ items. option_to_list (first_of (b ∷ bytes)).item ++ items)
-    (items_fuel n m (first_of (b ∷ bytes)).rest (omega (arith, rest_shorter b bytes)) (omega (arith, rest_shorter b bytes)))
+items_fuel : {I : Type 0} (first : List ℕ → FirstOf I) → TakesSome first → (n m : ℕ) (bytes : List ℕ) → length bytes ≤ n → length bytes ≤ m → items_within first n bytes ≡ items_within first m bytes
+items_fuel first some zero zero bytes h k = refl
+items_fuel first some zero (suc m) [] h k = refl
+items_fuel first some zero (suc m) (b ∷ bytes) h k = absurd (omega arith)
+items_fuel first some (suc n) zero [] h k = refl
+items_fuel first some (suc n) zero (b ∷ bytes) h k = absurd (omega arith)
+items_fuel first some (suc n) (suc m) [] h k = refl
+items_fuel first some (suc n) (suc m) (b ∷ bytes) h k =
+    ap (λ items. option_to_list (first (b ∷ bytes)).item ++ items)
+    (items_fuel first some n m (first (b ∷ bytes)).rest (omega (arith, some b bytes)) (omega (arith, some b bytes)))
 
-whole_fuel : (n m : ℕ) (bytes : List ℕ) → length bytes ≤ n → length bytes ≤ m → whole_within n bytes ≡ whole_within m bytes
-whole_fuel zero zero bytes h k = refl
-whole_fuel zero (suc m) [] h k = refl
-whole_fuel zero (suc m) (b ∷ bytes) h k = absurd (omega arith)
-whole_fuel (suc n) zero [] h k = refl
-whole_fuel (suc n) zero (b ∷ bytes) h k = absurd (omega arith)
-whole_fuel (suc n) (suc m) [] h k = refl
-whole_fuel (suc n) (suc m) (b ∷ bytes) h k =
-    ap (λ items. cond (first_of (b ∷ bytes)).is_whole (option_to_list (first_of (b ∷ bytes)).item ++ items) [])
-    (whole_fuel n m (first_of (b ∷ bytes)).rest (omega (arith, rest_shorter b bytes)) (omega (arith, rest_shorter b bytes)))
+whole_fuel : {I : Type 0} (first : List ℕ → FirstOf I) → TakesSome first → (n m : ℕ) (bytes : List ℕ) → length bytes ≤ n → length bytes ≤ m → whole_within first n bytes ≡ whole_within first m bytes
+whole_fuel first some zero zero bytes h k = refl
+whole_fuel first some zero (suc m) [] h k = refl
+whole_fuel first some zero (suc m) (b ∷ bytes) h k = absurd (omega arith)
+whole_fuel first some (suc n) zero [] h k = refl
+whole_fuel first some (suc n) zero (b ∷ bytes) h k = absurd (omega arith)
+whole_fuel first some (suc n) (suc m) [] h k = refl
+whole_fuel first some (suc n) (suc m) (b ∷ bytes) h k =
+    ap (λ items. cond (first (b ∷ bytes)).is_whole (option_to_list (first (b ∷ bytes)).item ++ items) [])
+    (whole_fuel first some n m (first (b ∷ bytes)).rest (omega (arith, some b bytes)) (omega (arith, some b bytes)))
 
-all_items_first : (b : ℕ) (bytes : List ℕ)
-    → all_items (b ∷ bytes) ≡ option_to_list (first_of (b ∷ bytes)).item ++ all_items (first_of (b ∷ bytes)).rest
-unfolding all_items
-all_items_first b bytes =
-    ap (λ items. option_to_list (first_of (b ∷ bytes)).item ++ items)
-    (items_fuel (length bytes) (length (first_of (b ∷ bytes)).rest) (first_of (b ∷ bytes)).rest (rest_shorter b bytes) (omega arith))
+-- A cut of inputs by their first parts: what the first part asks for, and then the items of the rest.
+pub record CutsBy {I : Type 0} (cut : Cut I) (first : List ℕ → FirstOf I) : Type 0 where
+  pub all_none : cut.all [] ≡ []
+  pub whole_none : cut.whole [] ≡ []
+  pub all : (bytes : List ℕ) (part : FirstOf I) → 0 < length bytes → first bytes ≡ part → cut.all bytes ≡ option_to_list part.item ++ cut.all part.rest
+  pub whole : (bytes : List ℕ) (part : FirstOf I) → 0 < length bytes → first bytes ≡ part
+      → cut.whole bytes ≡ cond part.is_whole (option_to_list part.item ++ cut.whole part.rest) []
 
-whole_items_first : (b : ℕ) (bytes : List ℕ)
-    → whole_items (b ∷ bytes) ≡ cond (first_of (b ∷ bytes)).is_whole (option_to_list (first_of (b ∷ bytes)).item ++ whole_items (first_of (b ∷ bytes)).rest) []
-unfolding whole_items
-whole_items_first b bytes =
-    ap (λ items. cond (first_of (b ∷ bytes)).is_whole (option_to_list (first_of (b ∷ bytes)).item ++ items) [])
-    (whole_fuel (length bytes) (length (first_of (b ∷ bytes)).rest) (first_of (b ∷ bytes)).rest (rest_shorter b bytes) (omega arith))
+pub cuts_by : {I : Type 0} (first : List ℕ → FirstOf I) → TakesSome first
+    → CutsBy (record { all = λ bytes. items_within first (length bytes) bytes; whole = λ bytes. whole_within first (length bytes) bytes }) first
+cuts_by {I} first some = record { all_none = refl; whole_none = refl; all = all; whole = whole }
+  where
+    all : (bytes : List ℕ) (part : FirstOf I) → 0 < length bytes → first bytes ≡ part
+        → items_within first (length bytes) bytes ≡ option_to_list part.item ++ items_within first (length part.rest) part.rest
+    all [] part h is = absurd (omega arith)
+    all (b ∷ bytes) part h is =
+        ap (λ items. option_to_list (first (b ∷ bytes)).item ++ items)
+        (items_fuel first some (length bytes) (length (first (b ∷ bytes)).rest) (first (b ∷ bytes)).rest (some b bytes) (omega arith))
+        ∙ ap (λ (f : FirstOf I). option_to_list f.item ++ items_within first (length f.rest) f.rest) is
 
--- the items of an input: what its first part asks for, and then those of the rest
+    whole : (bytes : List ℕ) (part : FirstOf I) → 0 < length bytes → first bytes ≡ part
+        → whole_within first (length bytes) bytes ≡ cond part.is_whole (option_to_list part.item ++ whole_within first (length part.rest) part.rest) []
+    whole [] part h is = absurd (omega arith)
+    whole (b ∷ bytes) part h is =
+        ap (λ items. cond (first (b ∷ bytes)).is_whole (option_to_list (first (b ∷ bytes)).item ++ items) [])
+        (whole_fuel first some (length bytes) (length (first (b ∷ bytes)).rest) (first (b ∷ bytes)).rest (some b bytes) (omega arith))
+        ∙ ap (λ (f : FirstOf I). cond f.is_whole (option_to_list f.item ++ whole_within first (length f.rest) f.rest) []) is
+
+pub session_cuts : CutsBy session_cut first_of
+unfolding all_items whole_items
+session_cuts = cuts_by first_of rest_shorter
+
+-- the items of a session: what the first part of its input asks for, and then those of the rest
 pub all_items_of : (bytes : List ℕ) (first : First) → 0 < length bytes → first_of bytes ≡ first
     → all_items bytes ≡ option_to_list first.item ++ all_items first.rest
-all_items_of [] first some is = absurd (omega arith)
-all_items_of (b ∷ bytes) first some is = all_items_first b bytes ∙ ap (λ (f : First). option_to_list f.item ++ all_items f.rest) is
-
-pub whole_items_of : (bytes : List ℕ) (first : First) → 0 < length bytes → first_of bytes ≡ first
-    → whole_items bytes ≡ cond first.is_whole (option_to_list first.item ++ whole_items first.rest) []
-whole_items_of [] first some is = absurd (omega arith)
-whole_items_of (b ∷ bytes) first some is =
-    whole_items_first b bytes ∙ ap (λ (f : First). cond f.is_whole (option_to_list f.item ++ whole_items f.rest) []) is
+all_items_of bytes first some is = session_cuts.all bytes first some is
 
 pub all_items_none : all_items [] ≡ []
-unfolding all_items
-all_items_none = refl
-
-pub whole_items_none : whole_items [] ≡ []
-unfolding whole_items
-whole_items_none = refl
+all_items_none = session_cuts.all_none
 
 before_feed_at : (text more : List ℕ) → IsOneLine text → before_feed (text ++ 10 ∷ more) ≡ text
 before_feed_at [] more h = refl

@@ -1,15 +1,15 @@
 -- Items carried out one after another.
-use Rattle.std.proofs.Common.{◌≡◌, List, [], ◌∷◌, ◌++◌, refl, ap, sym, ◌∙◌, append_assoc}
-use Rattle.lis_model.specs.Step.{Situation, Item, step, replies, situation_after}
+use Rattle.std.proofs.Common.{◌≡◌, ℕ, List, [], ◌∷◌, ◌++◌, refl, ap, sym, ◌∙◌, append_assoc}
+use Rattle.lis_model.specs.Step.{SituationOf, OutcomeOf, replies_by, after_by}
 
-pub situation_after-append : (now : Situation) (first others : List Item)
-    → situation_after now (first ++ others) ≡ situation_after (situation_after now first) others
-situation_after-append now [] others = refl
-situation_after-append now (item ∷ first) others = situation_after-append (step now item).next first others
+module _ {P I : Type 0} (by : SituationOf P → I → OutcomeOf P) where
+  pub after-append : (now : SituationOf P) (first others : List I) → after_by by now (first ++ others) ≡ after_by by (after_by by now first) others
+  after-append now [] others = refl
+  after-append now (item ∷ first) others = after-append (by now item).next first others
 
-pub replies-append : (now : Situation) (first others : List Item)
-    → replies now (first ++ others) ≡ replies now first ++ replies (situation_after now first) others
-replies-append now [] others = refl
-replies-append now (item ∷ first) others =
-    ap (λ bytes. (step now item).reply ++ bytes) (replies-append (step now item).next first others)
-    ∙ sym (append_assoc (step now item).reply (replies (step now item).next first) (replies (situation_after (step now item).next first) others))
+  pub replies-append : (now : SituationOf P) (first others : List I)
+      → replies_by by now (first ++ others) ≡ replies_by by now first ++ replies_by by (after_by by now first) others
+  replies-append now [] others = refl
+  replies-append now (item ∷ first) others =
+      ap (λ bytes. (by now item).reply ++ bytes) (replies-append (by now item).next first others)
+      ∙ sym (append_assoc (by now item).reply (replies_by by (by now item).next first) (replies_by by (after_by by (by now item).next first) others))

@@ -180,10 +180,13 @@ abbrev pub payload_of : ℕ → List ℕ → Payload
 payload_of size bytes = record { size = size; bytes = if nat_le size payload_limit then bytes else [] }
 
 -- the first part of an input: what it asks for, what is left behind it, and whether it ended with its own line feed
-pub record First : Type 0 where
-  pub item : Option Item
+pub record FirstOf (I : Type 0) : Type 0 where
+  pub item : Option I
   pub rest : List ℕ
   pub is_whole : Bool
+
+abbrev pub First : Type 0
+First = FirstOf Item
 
 -- Behind a payload: nothing, at the end of the input; or a line feed. Else all is dropped up to the next line feed, and with it.
 abbrev pub first_ended : Option Item → List ℕ → First
@@ -209,27 +212,40 @@ first_by (Some size) bytes = first_with (before_feed bytes) size (after_feed byt
 abbrev pub first_of : List ℕ → First
 first_of bytes = first_by (payload_size (before_feed bytes)) bytes
 
--- The items of an input, taken one after another, at most as many as there are bytes: each takes one byte at least.
-abbrev pub items_within : ℕ → List ℕ → List Item
-items_within zero bytes = []
-items_within (suc n) [] = []
-items_within (suc n) (b ∷ bytes) =
-    option_to_list (first_of (b ∷ bytes)).item ++ items_within n (first_of (b ∷ bytes)).rest
-
-unfoldable pub all_items : List ℕ → List Item
-all_items bytes = items_within (length bytes) bytes
+-- The items of an input, taken one after another, where `first` tells its first part: at most as many as there are bytes, since each takes one
+-- byte at least.
+abbrev pub items_within : {I : Type 0} → (List ℕ → FirstOf I) → ℕ → List ℕ → List I
+items_within first zero bytes = []
+items_within first (suc n) [] = []
+items_within first (suc n) (b ∷ bytes) =
+    option_to_list (first (b ∷ bytes)).item ++ items_within first n (first (b ∷ bytes)).rest
 
 -- the same, up to the first part that has no line feed of its own
-abbrev pub whole_within : ℕ → List ℕ → List Item
-whole_within zero bytes = []
-whole_within (suc n) [] = []
-whole_within (suc n) (b ∷ bytes) =
-    if (first_of (b ∷ bytes)).is_whole then option_to_list (first_of (b ∷ bytes)).item ++ whole_within n (first_of (b ∷ bytes)).rest
+abbrev pub whole_within : {I : Type 0} → (List ℕ → FirstOf I) → ℕ → List ℕ → List I
+whole_within first zero bytes = []
+whole_within first (suc n) [] = []
+whole_within first (suc n) (b ∷ bytes) =
+    if (first (b ∷ bytes)).is_whole then option_to_list (first (b ∷ bytes)).item ++ whole_within first n (first (b ∷ bytes)).rest
     else []
 
-unfoldable pub whole_items : List ℕ → List Item
-whole_items bytes = whole_within (length bytes) bytes
+-- how inputs are cut: into all of their items, and into those that are whole
+pub record Cut (I : Type 0) : Type 0 where
+  pub all : List ℕ → List I
+  pub whole : List ℕ → List I
 
 -- All items, where the input has at most `limit` bytes; else those that are whole in the first `limit` bytes.
+abbrev pub script_by : {I : Type 0} → Cut I → List ℕ → ℕ → List I
+script_by cut bytes limit = if nat_le (length bytes) limit then cut.all bytes else cut.whole (take limit bytes)
+
+-- the items of a session
+unfoldable pub all_items : List ℕ → List Item
+all_items bytes = items_within first_of (length bytes) bytes
+
+unfoldable pub whole_items : List ℕ → List Item
+whole_items bytes = whole_within first_of (length bytes) bytes
+
+abbrev pub session_cut : Cut Item
+session_cut = record { all = all_items; whole = whole_items }
+
 abbrev pub script : List ℕ → ℕ → List Item
-script bytes limit = if nat_le (length bytes) limit then all_items bytes else whole_items (take limit bytes)
+script bytes limit = script_by session_cut bytes limit

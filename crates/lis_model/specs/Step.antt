@@ -21,14 +21,21 @@ use Rattle.lis_model.specs.Listing.{extension, increments, locals}
 use Rattle.lis_model.specs.Route.{route}
 use Rattle.lis_model.specs.Replies.{body_line, number_line, ok_line, refusal_line, listing_lines, content_lines}
 
--- a state, and the place at which commands are said
-pub record Situation : Type 0 where
+-- a state, and the place at which commands are said, or the places where there are several
+pub record SituationOf (P : Type 0) : Type 0 where
   pub state : State
-  pub place : List Formula
+  pub place : P
 
-pub record Outcome : Type 0 where
-  pub next : Situation
+pub record OutcomeOf (P : Type 0) : Type 0 where
+  pub next : SituationOf P
   pub reply : List ℕ
+
+-- one place
+abbrev pub Situation : Type 0
+Situation = SituationOf (List Formula)
+
+abbrev pub Outcome : Type 0
+Outcome = OutcomeOf (List Formula)
 
 -- the bytes that come behind a command's line: how many, and the bytes themselves where they are at most `payload_limit`
 pub record Payload : Type 0 where
@@ -359,12 +366,19 @@ unfoldable pub step : Situation → Item → Outcome
 step now (Do command payload) = done now command payload
 step now (Bad refusal) = refused now refusal
 
--- all replies to these items, one after another
-abbrev pub replies : Situation → List Item → List ℕ
-replies now [] = []
-replies now (item ∷ items) = (step now item).reply ++ replies (step now item).next items
+-- all replies to these items, one after another, where `by` tells what each of them does
+abbrev pub replies_by : {P I : Type 0} → (SituationOf P → I → OutcomeOf P) → SituationOf P → List I → List ℕ
+replies_by by now [] = []
+replies_by by now (item ∷ items) = (by now item).reply ++ replies_by by (by now item).next items
 
 -- where these items lead
+abbrev pub after_by : {P I : Type 0} → (SituationOf P → I → OutcomeOf P) → SituationOf P → List I → SituationOf P
+after_by by now [] = now
+after_by by now (item ∷ items) = after_by by (by now item).next items
+
+-- the same of a session
+abbrev pub replies : Situation → List Item → List ℕ
+replies now items = replies_by step now items
+
 abbrev pub situation_after : Situation → List Item → Situation
-situation_after now [] = now
-situation_after now (item ∷ items) = situation_after (step now item).next items
+situation_after now items = after_by step now items

@@ -41,13 +41,17 @@ abbrev pub IsLongEnough : Meaning → Type 0
 IsLongEnough m = (need : ℕ) → IsNeeded m.bytes need → need ≤ m.len
 
 -- It is too short exactly where there are fewer bytes than are needed. An image is refused exactly where it is long enough and stands for no
--- state, and opened exactly where it stands for one, which the store then fits.
+-- state.
+abbrev pub OpenRefused : Meaning → Meaning → OpenFault → Type 0
+OpenRefused old new (TooShort len need) = (len ≡ old.len) × (len < need) × IsNeeded old.bytes need
+OpenRefused old new (Damaged spot) = IsLongEnough old × ((s : State) → Stands old.bytes s → ⊥)
+OpenRefused old new DiskFault = Unit {0}
+OpenRefused old new NoMemory = IsLongEnough old × ((limits : Limits) × HasSuper limits old.bytes) × ((s : State) → Stands old.bytes s → Stands new.bytes s)
+
+-- And it is opened exactly where it stands for one, which the store then fits.
 abbrev pub OpenEnded : Meaning → Meaning → Result Stored OpenFault → Type 0
 OpenEnded old new (Ok store) = IsLongEnough old × ((s : State) × Stands old.bytes s × StoreFits store new s)
-OpenEnded old new (Err (TooShort len need)) = (len ≡ old.len) × (len < need) × IsNeeded old.bytes need
-OpenEnded old new (Err (Damaged spot)) = IsLongEnough old × ((s : State) → Stands old.bytes s → ⊥)
-OpenEnded old new (Err DiskFault) = Unit {0}
-OpenEnded old new (Err NoMemory) = IsLongEnough old × ((limits : Limits) × HasSuper limits old.bytes) × ((s : State) → Stands old.bytes s → Stands new.bytes s)
+OpenEnded old new (Err fault) = OpenRefused old new fault
 
 -- Its journal was recovered, by the limits that the super block tells: it reads as what a recovery makes of it, and a crash leaves just this.
 abbrev pub Recovers : Meaning → Meaning → Type 0
@@ -59,12 +63,15 @@ RefusedLeft old new = (((limits : Limits) → HasSuper limits old.bytes → ⊥)
 
 -- What opening leaves where the disk did not fail: it writes nothing but what the journal of the image asks for, and nothing before it has
 -- its memory.
+abbrev pub FaultLeft : Meaning → Meaning → OpenFault → Type 0
+FaultLeft old new (TooShort len need) = IsUnchanged old new
+FaultLeft old new (Damaged spot) = RefusedLeft old new
+FaultLeft old new DiskFault = Unit {0}
+FaultLeft old new NoMemory = IsUnchanged old new
+
 abbrev pub OpenLeft : Meaning → Meaning → Result Stored OpenFault → Type 0
 OpenLeft old new (Ok store) = Recovers old new
-OpenLeft old new (Err (TooShort len need)) = IsUnchanged old new
-OpenLeft old new (Err (Damaged spot)) = RefusedLeft old new
-OpenLeft old new (Err DiskFault) = Unit {0}
-OpenLeft old new (Err NoMemory) = IsUnchanged old new
+OpenLeft old new (Err fault) = FaultLeft old new fault
 
 -- what a crash in opening leaves: what it could have left before, or an image on which records are being brought home
 abbrev pub InOpening : Meaning → List ℕ → Type 0

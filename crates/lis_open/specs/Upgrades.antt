@@ -9,7 +9,7 @@ use Rattle.lis_model.specs.Image.{image_blocks}
 use Rattle.lis_model.specs.State.{State}
 use Rattle.lis_store.specs.Stands.{Stands}
 use Rattle.lis_open.specs.declared.mounting.OpenFault.{OpenFault}
-use Rattle.lis_open.specs.Opens.{HasSuper, IsLongEnough, OpenEnded, OpenLeft}
+use Rattle.lis_open.specs.Opens.{HasSuper, IsLongEnough, OpenRefused, FaultLeft}
 
 -- the same state in an image of version 2
 abbrev pub upgraded : State → State
@@ -18,7 +18,7 @@ upgraded s = record s { limits = record s.limits { version = 2 } }
 -- The image stood for a state, and every image stands for it in version 2. Or it is refused as opening refuses it.
 abbrev pub UpgradeEnded : {T : Type 0} → Meaning → Meaning → Result T OpenFault → Type 0
 UpgradeEnded old new (Ok done) = IsLongEnough old × ((s : State) × Stands old.bytes s × Always new (λ image. Stands image (upgraded s)))
-UpgradeEnded old new (Err fault) = OpenEnded old new (Err fault)
+UpgradeEnded old new (Err fault) = OpenRefused old new fault
 
 -- what becomes of the bytes of an image with these limits: of version 1 its gate is put, and of version 2 all stay
 abbrev pub with_gate : Limits → List ℕ → List ℕ
@@ -31,4 +31,4 @@ GateLeft old new = (limits : Limits) × HasSuper limits old.bytes × IsSettled n
 -- what is left; where it is refused, that is what opening leaves
 abbrev pub UpgradeLeft : {T : Type 0} → Meaning → Meaning → Result T OpenFault → Type 0
 UpgradeLeft old new (Ok done) = GateLeft old new
-UpgradeLeft old new (Err fault) = OpenLeft old new (Err fault)
+UpgradeLeft old new (Err fault) = FaultLeft old new fault

@@ -10,6 +10,7 @@ ghost use Rattle.lis_model.specs.declared.limits.Limits.{Limits as LimitsOf};
 ghost use Rattle.lis_model.specs.Image.{image_blocks};
 ghost use Rattle.lis_model.specs.State.{State};
 ghost use Rattle.lis_store.specs.Stands.{Stands};
+ghost use Rattle.lis_store.specs.Stored.{IsSound};
 ghost use Rattle.lis_open.specs.Opens.{HasOpenCause, HasSuper, OpenEnded, OpenLeft, InOpening};
 ghost use Rattle.lis_open.specs.Checks.{FailsFirst};
 ghost use Rattle.lis_open.specs.Reading.{OnlyReads, Opened, LimitsRead};
@@ -117,6 +118,7 @@ fn mount_image<D: Disk>(alloc: Global, disk: &mut D, limits: Limits) -> Result<S
     ensures first_fault { DiskFaultEnds (D.meaning disk.old) (D.meaning disk.new) }
     ensures fits_disk { (len need : ℕ) → result ≡ Err (TooShort len need) → ⊥ }
     ensures opened { IsTrue (D.meaning disk.old).is_honest → Opened (D.meaning disk.old) (D.meaning disk.new) result }
+    ensures sound { IfOk result IsSound }
     ensures ready { IfOk result (λ store. store.is_broken ≡ false) }
     ensures long { IfOk result (λ store. 4096 * store.journal.blocks ≤ (D.meaning disk.new).len) }
     ensures any_moment { IsTrue (D.meaning disk.old).is_honest
@@ -145,6 +147,7 @@ pub fn mount<D: Disk>(alloc: Global, disk: &mut D) -> Result<Store, OpenFault>
     ensures numbers { (len need : ℕ) → result ≡ Err (TooShort len need) → (len ≡ (D.meaning disk.old).len) × (len < need) }
     ensures small { (D.meaning disk.old).len < 4096
         → (result ≡ Err (TooShort (D.meaning disk.old).len 4096)) × (disk.new ≡ disk.old) }
+    ensures sound { IfOk result IsSound }
     ensures ready { IfOk result (λ store. store.is_broken ≡ false) }
     ensures long { IfOk result (λ store. 4096 * store.journal.blocks ≤ (D.meaning disk.new).len) }
 

@@ -6,7 +6,7 @@ use Rattle.lis_ports.specs.Calls.{IsShowCall, StationFaultEnds}
 use Rattle.lis_ports.proofs.Ending.{station_ends_then}
 use Rattle.lis_reply.proofs.Showing.{append_known-append, append_known-nil, call_none, call_then}
 use Rattle.lis_model.specs.Step.{Situation, Item, step, replies, situation_after}
-use Rattle.lis_model.proofs.Runs.{situation_after-append, replies-append}
+use Rattle.lis_model.proofs.Runs.{after-append, replies-append}
 use Rattle.lis_plain.specs.Carries.{Carries, HasPlainCause}
 use Rattle.lis_plain.specs.Tried.{Tried, TriedInto}
 use Rattle.lis_plain.specs.declared.end.PlainEnd.{PlainEnd}
@@ -37,10 +37,10 @@ tried_more start entry first now next m n item u tried carried call ends cause =
     let here = carried_here start entry first now next m n item (Ok u) tried carried in
     let reply = (step (situation_after start first) item).reply in
     record {
-      at = here.0 ∙ sym (situation_after-append start first (item ∷ []));
+      at = here.0 ∙ sym (after-append step start first (item ∷ []));
       shown = here.1 ∙ append_known-append entry.shown (replies start first) reply
           ∙ ap (λ bytes. append_known entry.shown (replies start first ++ bytes)) (sym (append-nil reply))
-          ∙ ap (append_known entry.shown) (sym (replies-append start first (item ∷ [])));
+          ∙ ap (append_known entry.shown) (sym (replies-append step start first (item ∷ [])));
       call = call_then tried.call call;
       show_faults = cause ∙ tried.show_faults;
       first_fault = station_ends_then entry m n tried.call.disk_faults tried.show_faults tried.first_fault ends;

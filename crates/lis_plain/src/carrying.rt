@@ -9,6 +9,8 @@ use lis_line::reader::{Item, Payload};
 use lis_ports::Station;
 
 impl Carrier for Plain {
+    type Item = Item;
+
     type Fault = PlainEnd;
 
     // It takes any items, on any station.

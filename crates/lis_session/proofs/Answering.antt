@@ -1,72 +1,56 @@
--- What is shown of an item whose change is made, and items that change nothing.
-use Rattle.std.proofs.Common.{◌≡◌, ℕ, List, ◌++◌, Result, Ok, Err, ap, refl, sym, subst, ◌∙◌}
+-- What is shown of an item whose change is made.
+use Rattle.std.proofs.Common.{◌≡◌, ℕ, List, [], Result, Ok, Err, ap, sym, subst}
 use Rattle.lis_ports.specs.Meaning.{Meaning}
-use Rattle.lis_ports.specs.Since.{Begins}
-use Rattle.lis_grammar.specs.Formula.{Formula}
-use Rattle.lis_grammar.specs.Places.{resolved}
-use Rattle.lis_model.specs.declared.refusal.Refusal.{Refusal}
 use Rattle.lis_model.specs.State.{State, known}
-use Rattle.lis_model.specs.Table.{Table}
-use Rattle.lis_model.specs.Step.{Situation, Outcome, cd}
+use Rattle.lis_model.specs.Replies.{ok_line, refusal_line}
+use Rattle.lis_model.specs.Step.{Situation, Outcome}
 use Rattle.lis_dict.specs.Dict.{words}
 use Rattle.lis_store.specs.declared.change.Change.{Change}
 use Rattle.lis_store.specs.declared.change.Change.TheVariants.{Refused, Disk}
 use Rattle.lis_store.specs.Stored.{Stored, IsSound, StoreFits}
 use Rattle.lis_store.specs.Changes.{Changes}
-use Rattle.lis_store.proofs.Facts.{table_told}
+use Rattle.lis_store.proofs.Facts.{known_told}
 use Rattle.lis_session.specs.declared.end.End.{End}
-use Rattle.lis_session.specs.declared.end.End.TheVariants.{DiskFault, OutputFault}
-use Rattle.lis_session.specs.Item.{FitsAt, OneItem}
-use Rattle.lis_session.specs.Parts.{Answers, Concludes, led_to}
-use Rattle.lis_session.proofs.Laws.{arrived, cd_led}
-use Rattle.lis_session.proofs.Moments.{begins_whole}
-use Rattle.lis_session.proofs.Fitting.{store_fits_at, store_shown}
-use Rattle.lis_session.proofs.Saying.{SaidSoFar, said_none, said_change, said_more, said_all, show_broke, change_broke}
+use Rattle.lis_session.specs.declared.end.End.TheVariants.{DiskFault}
+use Rattle.lis_session.specs.Item.{OneItem}
+use Rattle.lis_session.specs.Parts.{Concludes}
+use Rattle.lis_session.specs.Tally.{quiet}
+use Rattle.lis_session.proofs.Fitting.{store_fits_at}
+use Rattle.lis_session.proofs.Saying.{quiet_broke, quiet_done, item_shows}
 
--- what was to be shown next was not shown whole
-pub said_broke : {before : Situation} {outcome : Outcome} {old now next : Meaning} {fits : State → Type 0} {said piece : List ℕ} (fits_next : State → Type 0) (place : List Formula) (end : End)
-    → SaidSoFar before outcome old now fits said → Answers now next piece (Err end) → Begins (said ++ piece) outcome.reply → fits_next outcome.next.state → place ≡ outcome.next.place
-    → OneItem before outcome old next (Err end) fits_next place
-said_broke fits_next place OutputFault so_far answers begins own at = show_broke fits_next place so_far answers.run begins own at
-said_broke fits_next place DiskFault so_far answers begins own at = absurd (let no : ◌≡◌ {A = End} DiskFault OutputFault = answers.fault in cc)
+-- a store that fits has the words of the state
+pub words_known : {k : Stored} {m : Meaning} (state : State) → IsSound k → StoreFits k m state → known state ≡ words k.parts.dict
+words_known {k} state sound fits = sym (known_told k.parts fits.kept state sound.parts sound.free fits.tells)
 
--- the rest of a reply is shown
-pub said_last : {before : Situation} {outcome : Outcome} {old now next : Meaning} {fits : State → Type 0} {said piece : List ℕ} (fits_next : State → Type 0) (place : List Formula) (result : Result (Unit {0}) End)
-    → SaidSoFar before outcome old now fits said → Answers now next piece result → said ++ piece ≡ outcome.reply → fits_next outcome.next.state → place ≡ outcome.next.place
-    → OneItem before outcome old next result fits_next place
-said_last {outcome = outcome} fits_next place (Ok u) so_far answers all own at =
-    said_all place u (said_more {fits_next = fits_next} u so_far answers.run (subst (λ xs. Begins xs outcome.reply) (sym all) (begins_whole outcome.reply)) own) all at
-said_last {outcome = outcome} fits_next place (Err end) so_far answers all own at =
-    said_broke fits_next place end so_far answers (subst (λ xs. Begins xs outcome.reply) (sym all) (begins_whole outcome.reply)) own at
+-- ---- changes
+-- whether the store did its part
+abbrev pub kept_up : Result (Unit {0}) Change → Result (Unit {0}) End
+kept_up (Ok done) = Ok tt
+kept_up (Err (Refused refusal)) = Ok tt
+kept_up (Err Disk) = Err DiskFault
 
--- a whole reply is shown, and the state stays
-pub shows_item : {k : Stored} {old new : Meaning} {now : Situation} {reply : List ℕ} {result : Result (Unit {0}) End} (outcome : Outcome) (place : List Formula)
-    → FitsAt (StoreFits k old) old now.state → Answers old new reply result → outcome ≡ record { next = record { state = now.state; place = place }; reply = reply }
-    → OneItem now outcome old new result (StoreFits k new) place
-shows_item {k} {old} {new} {now} {reply} {result} outcome place fitting answers is =
-    let shows : Outcome = record { next = record { state = now.state; place = place }; reply = reply } in
-    subst (λ (o : Outcome). OneItem now o old new result (StoreFits k new) place) (sym is)
-    (said_last (StoreFits k new) place result (said_none now shows fitting) answers refl (store_shown fitting.own answers.run.call) refl)
+module _ {k : Stored} {old : Meaning} {now : Situation} {outcome : Outcome} (stays : outcome.next.place ≡ now.place) (sound : IsSound k) where
+  -- what a change of the store comes to, before its answer is shown
+  pub changed_item : {mid : Meaning} (changed : Result (Unit {0}) Change) → Changes now outcome k old mid changed → OneItem now (quiet outcome) old mid (kept_up changed) (StoreFits k mid) now.place
+  changed_item (Ok u) changes = quiet_done changes.moments changes.past (store_fits_at sound changes.ended.1) (sym stays)
+  changed_item {mid} (Err (Refused refusal)) changes =
+      quiet_done changes.moments changes.past (store_fits_at sound (subst (λ (o : Outcome). StoreFits k mid o.next.state) (sym changes.ended.0) changes.ended.1)) (sym stays)
+  changed_item {mid} (Err Disk) changes = quiet_broke changes.moments changes.past [] (StoreFits k mid) now.place
 
--- where a text leads, by the words of a store that fits
-pub cd_arrives : {k : Stored} {m : Meaning} (now : Situation) (text : List ℕ) (judged : Result (List Formula) Refusal) → IsSound k → StoreFits k m now.state
-    → judged ≡ led_to (words k.parts.dict) text (resolved now.place text) → cd now text ≡ arrived now judged
-cd_arrives {k} {m} now text judged sound fits is =
-    let told : known now.state ≡ words k.parts.dict = sym (ap (λ (t : Table). t.known) (table_told k m now.state sound fits)) in
-    cd_led now text ∙ ap (λ ws. arrived now (led_to ws text (resolved now.place text))) told ∙ ap (arrived now) (sym is)
+  -- and when it was
+  pub change_item : {D : Type 0} {result : Result (Unit {0}) End} (meaning : D → Meaning) (mid new : D) (changed : Result (Unit {0}) Change) → Changes now outcome k old (meaning mid) changed
+      → Concludes meaning mid new changed result → OneItem now outcome old (meaning new) result (StoreFits k (meaning new)) now.place
+  change_item {result = result} meaning mid new changed changes ends = by changed changes ends
+    where
+      answered : (reply : List ℕ) → outcome.reply ≡ reply → OneItem now (record { next = outcome.next; reply = reply }) old (meaning new) result (StoreFits k (meaning new)) now.place
+          → OneItem now outcome old (meaning new) result (StoreFits k (meaning new)) now.place
+      answered reply is item = subst (λ r. OneItem now (record { next = outcome.next; reply = r }) old (meaning new) result (StoreFits k (meaning new)) now.place) (sym is) item
 
--- what a change of the store comes to
-pub change_item : {D : Type 0} {k : Stored} {old : Meaning} {now : Situation} {outcome : Outcome} {result : Result (Unit {0}) End} (meaning : D → Meaning) (mid new : D) (changed : Result (Unit {0}) Change)
-    → outcome.next.place ≡ now.place → IsSound k → Changes now outcome k old (meaning mid) changed → Concludes meaning mid new changed result
-    → OneItem now outcome old (meaning new) result (StoreFits k (meaning new)) now.place
-change_item {k = k} {now = now} {outcome = outcome} {result = result} meaning mid new (Ok u) stays sound changes answers =
-    said_last (StoreFits k (meaning new)) now.place result (said_change now outcome changes.moments changes.past (store_fits_at sound changes.ended.1)) answers (sym changes.ended.0)
-    (store_shown changes.ended.1 answers.run.call) (sym stays)
-change_item {k = k} {now = now} {outcome = outcome} {result = result} meaning mid new (Err (Refused refusal)) stays sound changes answers =
-    let fits = subst (λ (o : Outcome). StoreFits k (meaning mid) o.next.state) (sym changes.ended.0) changes.ended.1 in
-    said_last (StoreFits k (meaning new)) now.place result (said_change now outcome changes.moments changes.past (store_fits_at sound fits)) answers (sym (ap (λ (o : Outcome). o.reply) changes.ended.0))
-    (store_shown fits answers.run.call) (sym stays)
-change_item {k = k} {old = old} {now = now} {outcome = outcome} meaning mid new (Err Disk) stays sound changes ends =
-    subst (λ r. OneItem now outcome old (meaning new) r (StoreFits k (meaning new)) now.place) (sym ends.1)
-    (subst (λ d. OneItem now outcome old (meaning d) (Err DiskFault) (StoreFits k (meaning d)) now.place) (sym ends.0)
-    (change_broke now outcome (StoreFits k (meaning mid)) now.place changes.moments changes.past))
+      by : (changed : Result (Unit {0}) Change) → Changes now outcome k old (meaning mid) changed → Concludes meaning mid new changed result
+          → OneItem now outcome old (meaning new) result (StoreFits k (meaning new)) now.place
+      by (Ok u) changes answers = answered ok_line changes.ended.0 (item_shows result (changed_item (Ok u) changes) answers)
+      by (Err (Refused refusal)) changes answers =
+          answered (refusal_line refusal) (ap (λ (o : Outcome). o.reply) changes.ended.0) (item_shows result (changed_item (Err (Refused refusal)) changes) answers)
+      by (Err Disk) changes ends =
+          subst (λ r. OneItem now outcome old (meaning new) r (StoreFits k (meaning new)) now.place) (sym ends.1)
+          (subst (λ d. OneItem now outcome old (meaning d) (Err DiskFault) (StoreFits k (meaning d)) now.place) (sym ends.0) (quiet_broke changes.moments changes.past outcome.reply (StoreFits k (meaning mid)) now.place))

@@ -1,8 +1,10 @@
 -- The words that a file has, and the route to it.
-use Rattle.std.proofs.Common.{◌≡◌, ℕ, ◌+◌, cond, Bool, true, false, Option, Some, None, is_some, option_to_list, List, [], ◌∷◌, ◌++◌, map, filter, drop, slice_get, refl, sym, ap, ◌∙◌, arith, append_assoc, append-nil, ◌<◌}
+use Rattle.std.proofs.Common.{◌≡◌, ℕ, ◌+◌, Bool, Option, Some, None, is_some, option_to_list, List, [], ◌∷◌, ◌++◌, filter, drop, slice_get, refl, sym, ap, ◌∙◌, arith, ◌<◌}
 use Rattle.std.specs.List.{flat_map}
 use Rattle.std.proofs.lemmas.Cmp.{nat_list_cmp_total}
-use Rattle.std.proofs.lemmas.List.{drop_more, drop_all}
+use Rattle.std.proofs.lemmas.Grind.{flat_map-append}
+use Rattle.std.proofs.lemmas.List.{drop_more, drop_all, map-append}
+use Rattle.std.proofs.lemmas.List.Elements.{filter-append}
 use Rattle.std.proofs.lemmas.Option.{slice_get_within, get_or_from_slice_get}
 use Rattle.lis_graph.proofs.Members.{among_filter, filter_among, among_map, map_among}
 use Rattle.lis_graph.proofs.Sets.{sorted_from_rising}
@@ -17,7 +19,7 @@ use Rattle.lis_model.specs.Changes.{file_of}
 use Rattle.lis_model.specs.Table.{Table, Entry, table}
 use Rattle.lis_model.specs.Listing.{extension}
 use Rattle.lis_model.specs.Route.{route}
-use Rattle.lis_model.specs.Step.{Situation, is_here, entry_at}
+use Rattle.lis_model.specs.Step.{Situation, entry_at}
 use Rattle.lis_eval.proofs.Members.{past_end}
 use Rattle.lis_incr.specs.Ways.{IsWay, file_here}
 use Rattle.lis_kept.specs.Kept.{Kept}
@@ -28,19 +30,20 @@ use Rattle.lis_kept.proofs.Known.{among_place}
 use Rattle.lis_kept.proofs.Numbered.{Numbers, numbers_are}
 use Rattle.lis_store.specs.Stored.{Stored, IsSound, StoreFits}
 use Rattle.lis_store.specs.Seen.{table_of}
+use Rattle.lis_store.specs.Judging.{is_among}
 use Rattle.lis_store.proofs.Facts.{any_is_found, table_told}
 use Rattle.lis_store.proofs.Described.{description_told, entry_found}
 use Rattle.lis_session.specs.Described.{words_had}
 
 -- ---- a list from a place on
-split_at : {X : Type 0} (xs : List X) (n : ℕ) → drop n xs ≡ option_to_list (slice_get xs n) ++ drop (n + 1) xs
+pub split_at : {X : Type 0} (xs : List X) (n : ℕ) → drop n xs ≡ option_to_list (slice_get xs n) ++ drop (n + 1) xs
 split_at xs n = by (slice_get xs n) refl
   where
     by : (o : Option _) → slice_get xs n ≡ o → drop n xs ≡ option_to_list o ++ drop (n + 1) xs
     by None none = let past = past_end xs n none in drop_all n xs past ∙ sym (drop_all (n + 1) xs (omega (arith, past)))
     by (Some x) at = drop_more xs n x (slice_get_within xs n x at) ∙ ap (λ y. y ∷ drop (n + 1) xs) (get_or_from_slice_get xs n x x at)
 
-drop_none : {X : Type 0} (xs : List X) → drop 0 xs ≡ xs
+pub drop_none : {X : Type 0} (xs : List X) → drop 0 xs ≡ xs
 drop_none [] = refl
 drop_none (x ∷ xs) = refl
 
@@ -49,37 +52,16 @@ module _ (k : Kept) (slot : ℕ) where
   Numbered = List ℕ × ℕ
 
   had_of_both : (xs ys : List Numbered) → flat_map (body_line 112) (words_had k slot (xs ++ ys)) ≡ flat_map (body_line 112) (words_had k slot xs) ++ flat_map (body_line 112) (words_had k slot ys)
-  had_of_both [] ys = refl
-  had_of_both (x ∷ xs) ys = by (has k.ext x.1 slot) (had_of_both xs ys)
-    where
-      by : (b : Bool) → flat_map (body_line 112) (words_had k slot (xs ++ ys)) ≡ flat_map (body_line 112) (words_had k slot xs) ++ flat_map (body_line 112) (words_had k slot ys)
-          → flat_map (body_line 112) (map (λ (w : Numbered). w.0) (cond b (x ∷ filter (λ (w : Numbered). has k.ext w.1 slot) (xs ++ ys)) (filter (λ (w : Numbered). has k.ext w.1 slot) (xs ++ ys))))
-          ≡ flat_map (body_line 112) (map (λ (w : Numbered). w.0) (cond b (x ∷ filter (λ (w : Numbered). has k.ext w.1 slot) xs) (filter (λ (w : Numbered). has k.ext w.1 slot) xs))) ++ flat_map (body_line 112) (words_had k slot ys)
-      by true rest = ap (λ text. body_line 112 x.0 ++ text) rest ∙ sym (append_assoc (body_line 112 x.0) (flat_map (body_line 112) (words_had k slot xs)) (flat_map (body_line 112) (words_had k slot ys)))
-      by false rest = rest
+  had_of_both xs ys = simp (filter-append, map-append, flat_map-append)
 
   -- ---- the word of one place
   abbrev pub text_at : ℕ → List ℕ
   text_at n = flat_map (body_line 112) (words_had k slot (option_to_list (slice_get k.dict.entries n)))
 
-  pub text_past : (n : ℕ) → slice_get k.dict.entries n ≡ None → text_at n ≡ []
-  text_past n none = ap (λ o. flat_map (body_line 112) (words_had k slot (option_to_list o))) none
-
-  module _ (n : ℕ) (word : List ℕ) (number : ℕ) (at : slice_get k.dict.entries n ≡ Some (word, number)) where
-    text_if : text_at n ≡ flat_map (body_line 112) (map (λ (w : Numbered). w.0) (cond (has k.ext number slot) ((word, number) ∷ []) []))
-    text_if = ap (λ (o : Option Numbered). flat_map (body_line 112) (words_had k slot (option_to_list o))) at
-
-    pub text_lacks : has k.ext number slot ≡ false → text_at n ≡ []
-    text_lacks lacks = text_if ∙ ap (λ b. flat_map (body_line 112) (map (λ (w : Numbered). w.0) (cond b ((word, number) ∷ []) []))) lacks
-
-    pub text_had : has k.ext number slot ≡ true → text_at n ≡ body_line 112 word
-    text_had has_it =
-        text_if ∙ (ap (λ b. flat_map (body_line 112) (map (λ (w : Numbered). w.0) (cond b ((word, number) ∷ []) []))) has_it ∙ append-nil (body_line 112 word))
-
-    -- its number is one of the rows
-    pub number_in : AreSound k → number < k.ext.props
-    number_in sound =
-        omega (arith, number_below k.dict sound.dict word number (number_from_among k.dict sound.dict word number (among_place k.dict.entries n (word, number) at)), sound.numbers, sound.rows)
+  -- the number of a word is one of the rows
+  pub number_in : (n : ℕ) (word : List ℕ) (number : ℕ) → slice_get k.dict.entries n ≡ Some (word, number) → AreSound k → number < k.ext.props
+  number_in n word number at sound =
+      omega (arith, number_below k.dict sound.dict word number (number_from_among k.dict sound.dict word number (among_place k.dict.entries n (word, number) at)), sound.numbers, sound.rows)
 
   -- ---- the words from a place on
   abbrev pub text_from : ℕ → List ℕ
@@ -119,22 +101,11 @@ module _ {k : Stored} {m : Meaning} (now : Situation) (name : List ℕ) (sound :
   had_described slot is = had_told k.parts slot sound.parts ∙ description_told m k now.state sound fits name slot is
 
   -- ---- the route to a file
-  told : table_of k.parts ≡ table now.state
-  told = table_told k m now.state sound fits
+  pub way_here : is_among k.parts now.place name ≡ is_some (file_here (table_of k.parts) now.place name)
+  way_here = any_is_found (λ (e : Entry). same_word e.name name) (extension (table_of k.parts) now.place)
 
-  here_is_found : is_here now name ≡ is_some (file_here (table_of k.parts) now.place name)
-  here_is_found =
-      any_is_found (λ (e : Entry). same_word e.name name) (extension (table now.state) now.place)
-      ∙ ap (λ (t : Table). is_some (file_here t now.place name)) (sym told)
-
-  pub no_way : file_here (table_of k.parts) now.place name ≡ None → is_here now name ≡ false
-  no_way none = here_is_found ∙ ap is_some none
-
-  module _ (words : List (List ℕ)) (is : IsWay (table_of k.parts) now.place name words) where
-    pub way_here : is_here now name ≡ true
-    way_here = here_is_found ∙ ap is_some is.here
-
-    pub way_is : words ≡ route (table now.state) now.place (entry_at now.state name)
-    way_is =
-        let entry = entry_found m k now.state sound fits now.place name is.file (ap (λ (t : Table). file_here t now.place name) (sym told) ∙ is.here) in
-        is.steps ∙ (ap (λ (t : Table). route t now.place is.file) told ∙ ap (route (table now.state) now.place) entry)
+  pub way_is : (words : List (List ℕ)) → IsWay (table_of k.parts) now.place name words → words ≡ route (table now.state) now.place (entry_at now.state name)
+  way_is words is =
+      let told = table_told k m now.state sound fits in
+      let entry = entry_found m k now.state sound fits now.place name is.file (ap (λ (t : Table). file_here t now.place name) (sym told) ∙ is.here) in
+      is.steps ∙ (ap (λ (t : Table). route t now.place is.file) told ∙ ap (route (table now.state) now.place) entry)

@@ -16,7 +16,7 @@ abbrev session : List Item
 session = Do (Mkdir (codes "a")) no_payload ∷ Do Pwd no_payload ∷ []
 
 -- nothing was shown: the image may stand for the state before the first command
-before_all : (image : List ℕ) → Stands image (state_after start session 0) → SessionMoment start session image []
+before_all : (image : List ℕ) → Stands image (state_after step start session 0) → SessionMoment step start session image []
 unfolding step
 before_all image stands = record {
   count = 0;
@@ -27,7 +27,7 @@ before_all image stands = record {
 }
 
 -- or for the state after it, whose reply was lost
-reply_lost : (image : List ℕ) → Stands image (state_after start session 1) → SessionMoment start session image []
+reply_lost : (image : List ℕ) → Stands image (state_after step start session 1) → SessionMoment step start session image []
 unfolding step
 reply_lost image stands = record {
   count = 1;
@@ -38,7 +38,7 @@ reply_lost image stands = record {
 }
 
 -- one byte of the reply is enough: the first command is done
-one_byte : (image : List ℕ) → Stands image (state_after start session 1) → SessionMoment start session image (codes "o")
+one_byte : (image : List ℕ) → Stands image (state_after step start session 1) → SessionMoment step start session image (codes "o")
 unfolding step
 one_byte image stands = record {
   count = 1;
@@ -49,7 +49,7 @@ one_byte image stands = record {
 }
 
 -- in the midst of the second reply
-second_reply : (image : List ℕ) → Stands image (state_after start session 2) → SessionMoment start session image (line (codes "ok") ++ codes "w ")
+second_reply : (image : List ℕ) → Stands image (state_after step start session 2) → SessionMoment step start session image (line (codes "ok") ++ codes "w ")
 unfolding step printed
 second_reply image stands = record {
   count = 2;

@@ -1,8 +1,8 @@
 -- A store that fits a station, and what shows leave of it.
-use Rattle.std.proofs.Common.{refl, sym, ◌∙◌, subst, []}
+use Rattle.std.proofs.Common.{sym, ◌∙◌, subst, []}
 use Rattle.lis_ports.specs.Meaning.{Meaning}
 use Rattle.lis_ports.specs.Calls.{IsShowCall}
-use Rattle.lis_ports.specs.Runs.{IsDiskRun}
+use Rattle.lis_ports.proofs.Always.{always_unchanged}
 use Rattle.lis_journal.specs.Images.{IsAtRest}
 use Rattle.lis_model.specs.State.{State}
 use Rattle.lis_store.specs.Stored.{Stored, IsSound, StoreFits}
@@ -17,34 +17,26 @@ store_fits_at {k} {m} {state} sound fits = record {
 }
 
 -- a show
-pub store_shown : {k : Stored} {old new : Meaning} {state : State} → StoreFits k old state → IsShowCall old new → StoreFits k new state
-store_shown {k} fits call =
-    let same = call.same fits.journal.honest in
+pub store_shown : {k : Stored} {old new : Meaning} {state : State} → FitsAt (StoreFits k old) old state → IsShowCall old new → FitsAt (StoreFits k new) new state
+store_shown {k} fitting call =
+    let same = call.same fitting.honest in
+    let fits = fitting.own in
     record {
-      kept = fits.kept;
-      journal = record {
-        honest = call.honest ∙ fits.journal.honest;
-        reads = subst (IsAtRest k.journal.blocks k.journal.records [] fits.kept) (sym same.bytes) fits.journal.reads;
-        leaves = λ image is. fits.journal.leaves image (same.images.only image is);
+      honest = call.honest ∙ fitting.honest;
+      stands = always_unchanged fitting.stands same;
+      own = record {
+        kept = fits.kept;
+        journal = record {
+          honest = call.honest ∙ fits.journal.honest;
+          reads = subst (IsAtRest k.journal.blocks k.journal.records [] fits.kept) (sym same.bytes) fits.journal.reads;
+          leaves = λ image is. fits.journal.leaves image (same.images.only image is);
+        };
+        unbroken = fits.unbroken;
+        tells = fits.tells;
+        written = fits.written;
       };
-      unbroken = fits.unbroken;
-      tells = fits.tells;
-      written = fits.written;
     }
 
--- ---- what no call changes of a station
-pub same_none : (m : Meaning) → IsSameStation m m
-same_none m = record { honest = refl; len = refl; recorded = refl }
-
+-- what no call changes of a station
 pub same_then : {a b c : Meaning} → IsSameStation a b → IsSameStation b c → IsSameStation a c
-same_then first second = record {
-  honest = second.honest ∙ first.honest;
-  len = second.len ∙ first.len;
-  recorded = second.recorded ∙ first.recorded;
-}
-
-pub same_run : {old new : Meaning} → IsDiskRun old new → IsSameStation old new
-same_run run = record { honest = run.honest; len = run.len; recorded = run.recorded }
-
-pub same_shown : {old new : Meaning} → IsShowCall old new → IsSameStation old new
-same_shown call = record { honest = call.honest; len = call.len; recorded = call.recorded }
+same_then first second = record { honest = second.honest ∙ first.honest; len = second.len ∙ first.len; recorded = second.recorded ∙ first.recorded }

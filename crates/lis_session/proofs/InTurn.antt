@@ -1,6 +1,7 @@
 -- Pieces of a reply that are shown in turn, and lines of a listing.
-use Rattle.std.proofs.Common.{◌≡◌, ℕ, List, [], ◌∷◌, ◌++◌, map, Result, Ok, Err, refl, ap, sym, subst, ◌∙◌, append_assoc, arith}
+use Rattle.std.proofs.Common.{◌≡◌, ℕ, List, [], ◌∷◌, ◌++◌, map, Result, Ok, Err, refl, ap, sym, ◌∙◌, append_assoc, arith}
 use Rattle.std.specs.List.{flat_map}
+use Rattle.std.specs.Result.{IsErrAnd}
 use Rattle.lis_ports.specs.Meaning.{Meaning}
 use Rattle.lis_ports.proofs.Moments.{adds_none}
 use Rattle.lis_reply.proofs.Showing.{append_known-nil, call_none, show_front, show_then}
@@ -29,6 +30,14 @@ answers_front first more end front = record {
   fault = front.fault;
 }
 
+-- the same of a text that they are, where `?` goes on, and where it passes the fault on
+pub in_a_row : {a b c : Meaning} {first more all : List ℕ} {u : Unit {0}} {result : Result (Unit {0}) End} → Answers a b first (Ok u) → Answers b c more result → all ≡ first ++ more → Answers a c all result
+in_a_row {first = first} {more} {u = u} {result} front next is = rw is (answers_then first more u result front next)
+
+pub passed_on : {a b : Meaning} {first all : List ℕ} {end : End} {result : Result (Unit {0}) End} (more : List ℕ) → Answers a b first (Err end) → IsErrAnd result (λ e. e ≡ end) → all ≡ first ++ more → Answers a b all result
+passed_on {result = Ok u} more front same is = absurd same
+passed_on {first = first} {end = end} {result = Err e} more front same is = rw (same, is) (answers_front first more end front)
+
 -- no piece
 pub answers_none : (m : Meaning) → Answers m m [] (Ok tt)
 answers_none m = record {
@@ -49,23 +58,19 @@ pub record TextSoFar (all left : List ℕ) (old now : Meaning) : Type 0 where
   pub answers : Answers old now said (Ok tt)
   pub is : all ≡ said ++ left
 
-pub text_none : (all : List ℕ) (m : Meaning) → TextSoFar all all m m
-text_none all m = record { said = []; answers = answers_none m; is = refl }
+pub text_none : {all left : List ℕ} (m : Meaning) → all ≡ left → TextSoFar all left m m
+text_none m is = record { said = []; answers = answers_none m; is = is }
 
-pub text_more : {all left rest : List ℕ} {old now next : Meaning} (piece : List ℕ) (u : Unit {0}) → TextSoFar all left old now → left ≡ piece ++ rest → Answers now next piece (Ok u)
-    → TextSoFar all rest old next
-text_more {rest = rest} piece u so_far splits answers = record {
+pub text_more : {all left rest piece : List ℕ} {old now next : Meaning} {u : Unit {0}} → TextSoFar all left old now → left ≡ piece ++ rest → Answers now next piece (Ok u) → TextSoFar all rest old next
+text_more {rest = rest} {piece} so_far splits answers = record {
   said = so_far.said ++ piece;
-  answers = answers_then so_far.said piece tt (Ok tt) so_far.answers answers;
+  answers = in_a_row so_far.answers answers refl;
   is = so_far.is ∙ ap (λ text. so_far.said ++ text) splits ∙ sym (append_assoc so_far.said piece rest);
 }
 
-pub text_broke : {all left : List ℕ} {old now next : Meaning} (piece rest : List ℕ) (end : End) → TextSoFar all left old now → left ≡ piece ++ rest → Answers now next piece (Err end)
-    → Answers old next all (Err end)
-text_broke {old = old} {next = after} piece rest end so_far splits answers =
-    let front = answers_front piece rest end answers in
-    subst (λ bytes. Answers old after bytes (Err end)) (sym (so_far.is ∙ ap (λ text. so_far.said ++ text) splits))
-    (answers_then so_far.said (piece ++ rest) tt (Err end) so_far.answers front)
+pub text_broke : {all left piece : List ℕ} {old now next : Meaning} {end : End} {result : Result (Unit {0}) End} (rest : List ℕ) → TextSoFar all left old now → left ≡ piece ++ rest → Answers now next piece (Err end)
+    → IsErrAnd result (λ e. e ≡ end) → Answers old next all result
+text_broke rest so_far splits answers same = in_a_row so_far.answers (passed_on rest answers same splits) so_far.is
 
 -- ---- lines
 names_shown : (files : List Entry) → flat_map shown_line (map (λ name. File name) (map (λ (e : Entry). e.name) files)) ≡ flat_map (λ (e : Entry). body_line 102 e.name) files

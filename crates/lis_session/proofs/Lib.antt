@@ -4,7 +4,6 @@ mod Same
 pub mod Fitting
 pub mod Saying
 pub mod Answering
-pub mod Pieces
 pub mod Blocks
 pub mod Tallying
 pub mod Going
@@ -15,3 +14,5 @@ pub mod Described
 pub mod Counted
 mod TextWords
 mod Examples
+pub mod Ending
+mod Staying

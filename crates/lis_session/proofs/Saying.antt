@@ -1,165 +1,133 @@
--- One item on the way: the image stands for the next state, and so much of the reply was shown.
-use Rattle.std.proofs.Common.{◌≡◌, ◌⊎◌, ℕ, List, [], ◌++◌, Result, Ok, Err, ap, sym, ◌∙◌, refl, inl, inr}
+-- Items in parts: a change or a read of the disk, with nothing shown, and pieces of the reply, one after another.
+use Rattle.std.proofs.Common.{◌≡◌, ◌⊎◌, ℕ, List, [], ◌++◌, Result, Ok, Err, ap, sym, subst, ◌∙◌, refl, inl, inr}
 use Rattle.std.specs.Io.KnownBytes.{append_known}
+use Rattle.std.specs.Result.{IsErrAnd}
 use Rattle.lis_ports.specs.Meaning.{Meaning}
-use Rattle.lis_ports.specs.Runs.{Adds, Leaves}
-use Rattle.lis_ports.specs.Calls.{IsShowCall}
-use Rattle.lis_ports.specs.Since.{Begins, Since, IsShowRun}
+use Rattle.lis_ports.specs.Runs.{Leaves}
+use Rattle.lis_ports.specs.Calls.{IsUnchanged}
+use Rattle.lis_ports.specs.Since.{Begins}
 use Rattle.lis_ports.proofs.Moments.{adds_none, adds_then, adds_weaken}
-use Rattle.lis_ports.proofs.Always.{always_unchanged}
-use Rattle.lis_reply.proofs.Showing.{append_known-append, append_known-nil, begins_behind}
+use Rattle.lis_reply.proofs.Showing.{append_known-append, append_known-nil, begins_behind, begins_more}
 use Rattle.lis_journal.specs.Record.{block}
 use Rattle.lis_journal.specs.Images.{KeepsPast}
-use Rattle.lis_grammar.specs.Formula.{Formula}
 use Rattle.lis_model.specs.Image.{image_blocks}
 use Rattle.lis_model.specs.State.{State}
-use Rattle.lis_model.specs.Step.{Situation, Outcome}
+use Rattle.lis_model.specs.Step.{SituationOf, OutcomeOf}
 use Rattle.lis_store.specs.Stands.{Stands}
+use Rattle.lis_store.specs.Stored.{Stored, StoreFits}
+use Rattle.lis_session.specs.declared.end.End.{End}
 use Rattle.lis_session.specs.declared.end.End.TheVariants.{DiskFault, OutputFault}
-use Rattle.lis_session.specs.Item.{InItem, FitsAt, OneItem}
-use Rattle.lis_session.proofs.Moments.{begins_nothing, begins_trans, front_begins, since_later}
+use Rattle.lis_session.specs.Session.{root_of}
+use Rattle.lis_session.specs.Item.{InItem, FitsAt, Replied, ItemEnded, OneItem}
+use Rattle.lis_session.specs.Parts.{only_shows, Answers}
+use Rattle.lis_session.proofs.Fitting.{store_shown}
+use Rattle.lis_session.proofs.Moments.{begins_nothing, front_begins, adds_since, adds_later}
 
--- the image stands for the state before an item or for the one after it
-abbrev pub OldOrNext : Situation → Outcome → List ℕ → Type 0
-OldOrNext before outcome image = Stands image before.state ⊎ Stands image outcome.next.state
+-- a piece is shown as an item that changes nothing, wherever
+abbrev pub Shows : State → List ℕ → Meaning → Meaning → Result (Unit {0}) End → (State → Type 0) → Type 0
+Shows state piece old new result fits = OneItem (root_of state) (only_shows piece (root_of state)) old new result fits []
 
-pub record SaidSoFar (before : Situation) (outcome : Outcome) (old now : Meaning) (fits : State → Type 0) (said : List ℕ) : Type 0 where
-  pub moments : Adds old now (Since old.shown (InItem before.state outcome))
-  pub past : KeepsPast (image_blocks before.state.limits) old now
-  pub shown : now.shown ≡ append_known old.shown said
-  pub begins : Begins said outcome.reply
-  pub fitting : FitsAt fits now outcome.next.state
+-- the blocks past an image stay where nothing is written
+pub unchanged_past : {old new : Meaning} → IsUnchanged old new → (blocks : ℕ) → KeepsPast blocks old new
+unchanged_past same blocks = λ n le. ap (λ xs. block n xs) same.bytes
 
--- the item changes no state, and nothing was shown yet
-pub said_none : {m : Meaning} {fits : State → Type 0} (before : Situation) (outcome : Outcome) → FitsAt fits m outcome.next.state
-    → SaidSoFar before outcome m m fits []
-said_none {m} before outcome fitting = record {
-  moments = adds_none m _;
-  past = λ n le. refl;
-  shown = sym (append_known-nil m.shown);
-  begins = begins_nothing outcome.reply;
-  fitting = fitting;
+-- a longer reply
+in_more : {P : Type 0} (before : State) (next : SituationOf P) (said more image shown : List ℕ) → InItem before (record { next = next; reply = said }) image shown → InItem before (record { next = next; reply = said ++ more }) image shown
+in_more before next said more image shown (inl quiet) = inl quiet
+in_more before next said more image shown (inr front) = inr (begins_more shown said more front.0, front.1)
+
+replied_then : {P : Type 0} {next : SituationOf P} {old mid new : Meaning} {fits fits_new : State → Type 0} {place : P} (said : List ℕ) {more : List ℕ} → Replied next old mid fits place said
+    → Replied (root_of next.state) mid new fits_new [] more → Replied next old new fits_new place (said ++ more)
+replied_then {old = old} said {more} first second = record {
+  shown = second.shown ∙ ap (λ known. append_known known more) first.shown ∙ append_known-append old.shown said more;
+  fitting = second.fitting;
+  at = first.at;
 }
 
--- the moments of a call of the store, before anything was shown
-quiet_moments : {old new : Meaning} (before : Situation) (outcome : Outcome) → Leaves old new (OldOrNext before outcome)
-    → Adds old new (Since old.shown (InItem before.state outcome))
-quiet_moments {old} {new} before outcome change = adds_weaken _ change.adds (λ image bytes had. ([], append_known-nil old.shown ∙ had.1, by image had.0))
+module _ {P : Type 0} {before next : SituationOf P} where
+  -- ---- nothing is shown
+  module _ {old new : Meaning} (leaves : Leaves old new (λ image. Stands image before.state ⊎ Stands image next.state)) (past : KeepsPast (image_blocks before.state.limits) old new) where
+    -- there was a fault of the disk
+    pub quiet_broke : (reply : List ℕ) (fits : State → Type 0) (place : P) → OneItem before (record { next = next; reply = reply }) old new (Err DiskFault) fits place
+    quiet_broke reply fits place = record {
+      moments = adds_weaken _ leaves.adds (λ image bytes had. ([], append_known-nil old.shown ∙ had.1, by image had.0));
+      past = past;
+      ended = tt;
+    }
+      where
+        by : (image : List ℕ) → Stands image before.state ⊎ Stands image next.state → InItem before.state (record { next = next; reply = reply }) image []
+        by image (inl stays) = inl (refl, stays)
+        by image (inr made) = inr (begins_nothing reply, made)
+
+    -- all was done
+    pub quiet_done : {fits : State → Type 0} {place : P} → FitsAt fits new next.state → place ≡ next.place → OneItem before (record { next = next; reply = [] }) old new (Ok tt) fits place
+    quiet_done {fits} {place} fitting at = record {
+      moments = (quiet_broke [] fits place).moments;
+      past = past;
+      ended = record { shown = leaves.run.shown ∙ sym (append_known-nil old.shown); fitting = fitting; at = at };
+    }
+
+  -- ---- pieces of a reply
+  -- the first piece was not shown whole, and `?` passes the fault on
+  pub item_front : {old new : Meaning} {fits : State → Type 0} {place : P} {said : List ℕ} {end : End} {result : Result (Unit {0}) End} (more : List ℕ)
+      → OneItem before (record { next = next; reply = said }) old new (Err end) fits place → IsErrAnd result (λ e. e ≡ end) → OneItem before (record { next = next; reply = said ++ more }) old new result fits place
+  item_front {result = Ok u} more first same = absurd same
+  item_front {old} {new} {fits} {place} {said} {end} {result = Err e} more first same =
+      rw same (record { moments = adds_since old.shown (in_more before.state next said more) first.moments; past = first.past; ended = by end first.ended })
+    where
+      by : (end : End) → ItemEnded (record { next = next; reply = said }) old new fits place (Err end) → ItemEnded (record { next = next; reply = said ++ more }) old new fits place (Err end)
+      by DiskFault ended = tt
+      by OutputFault ended = (ended.0, begins_more ended.0 said more ended.1, ended.2)
+
+  -- it was, and then there is another one
+  pub item_then : {old mid new : Meaning} {fits fits_new : State → Type 0} {place : P} {said piece : List ℕ} (result : Result (Unit {0}) End) → OneItem before (record { next = next; reply = said }) old mid (Ok tt) fits place
+      → KeepsPast (image_blocks before.state.limits) mid new → Shows next.state piece mid new result fits_new → OneItem before (record { next = next; reply = said ++ piece }) old new result fits_new place
+  item_then {old} {mid} {new} {fits} {fits_new} {place} {said} {piece} result first past second = record {
+    moments = adds_then (adds_since old.shown (in_more before.state next said piece) first.moments) (adds_later old.shown said first.ended.shown by second.moments);
+    past = λ n le. past n le ∙ first.past n le;
+    ended = ends result second.ended;
+  }
+    where
+      by : (image shown : List ℕ) → InItem next.state (only_shows piece (root_of next.state)) image shown → InItem before.state (record { next = next; reply = said ++ piece }) image (said ++ shown)
+      by image shown (inl quiet) = inr (begins_behind shown said piece (subst (λ xs. Begins xs piece) (sym quiet.0) (begins_nothing piece)), quiet.1)
+      by image shown (inr front) = inr (begins_behind shown said piece front.0, front.1)
+
+      ends : (result : Result (Unit {0}) End) → ItemEnded (only_shows piece (root_of next.state)) mid new fits_new [] result → ItemEnded (record { next = next; reply = said ++ piece }) old new fits_new place result
+      ends (Ok u) ended = replied_then said first.ended ended
+      ends (Err DiskFault) ended = tt
+      ends (Err OutputFault) ended = (said ++ ended.0, begins_behind ended.0 said piece ended.1, replied_then said first.ended ended.2)
+
+-- nothing was done yet
+pub item_none : {P : Type 0} {m : Meaning} {fits : State → Type 0} (now : SituationOf P) → FitsAt fits m now.state → OneItem now (only_shows [] now) m m (Ok tt) fits now.place
+item_none {m = m} now fitting = record { moments = adds_none m _; past = λ n le. refl; ended = record { shown = sym (append_known-nil m.shown); fitting = fitting; at = refl } }
+
+-- a whole reply is shown, and the state stays
+pub shows_item : {P : Type 0} {k : Stored} {old new : Meaning} {now : SituationOf P} {reply : List ℕ} {result : Result (Unit {0}) End} (outcome : OutcomeOf P) (place : P)
+    → FitsAt (StoreFits k old) old now.state → Answers old new reply result → outcome ≡ record { next = record { state = now.state; place = place }; reply = reply }
+    → OneItem now outcome old new result (StoreFits k new) place
+shows_item {P} {k} {old} {new} {now} {reply} {result} outcome place fitting answers is = subst (λ (o : OutcomeOf P). OneItem now o old new result (StoreFits k new) place) (sym is) (record {
+  moments = adds_since old.shown (λ image shown front. inr (front.1, fitting.stands.leaves image front.0)) (answers.run.moments fitting.honest);
+  past = unchanged_past (answers.run.call.same fitting.honest) (image_blocks now.state.limits);
+  ended = by result answers;
+})
   where
-    by : (image : List ℕ) → OldOrNext before outcome image → InItem before.state outcome image []
-    by image (inl stays) = inl (refl, stays)
-    by image (inr next) = inr (begins_nothing outcome.reply, next)
+    shows : OutcomeOf P
+    shows = record { next = record { state = now.state; place = place }; reply = reply }
 
--- the store made the next state, or refused, where the next state is the old one
-pub said_change : {old new : Meaning} {fits : State → Type 0} (before : Situation) (outcome : Outcome) → Leaves old new (OldOrNext before outcome)
-    → KeepsPast (image_blocks before.state.limits) old new → FitsAt fits new outcome.next.state → SaidSoFar before outcome old new fits []
-said_change {old} {new} before outcome change past fitting = record {
-  moments = quiet_moments before outcome change;
-  past = past;
-  shown = change.run.shown ∙ sym (append_known-nil old.shown);
-  begins = begins_nothing outcome.reply;
-  fitting = fitting;
-}
+    by : (result : Result (Unit {0}) End) → Answers old new reply result → ItemEnded shows old new (StoreFits k new) place result
+    by (Ok u) answers = record { shown = answers.run.shown; fitting = store_shown fitting answers.run.call; at = refl }
+    by (Err DiskFault) answers = absurd (let no : ◌≡◌ {A = End} DiskFault OutputFault = answers.fault in cc)
+    by (Err OutputFault) answers =
+        let front = front_begins old.shown new.shown reply answers.run.shown in
+        (front.0, front.1, record { shown = front.2; fitting = store_shown fitting answers.run.call; at = refl })
 
--- the moments of a disk read between two shows
-read_moments : {before : Situation} {outcome : Outcome} {old now next : Meaning} {fits : State → Type 0} {said : List ℕ} → SaidSoFar before outcome old now fits said
-    → Leaves now next (λ image. Stands image outcome.next.state) → Adds old next (Since old.shown (InItem before.state outcome))
-read_moments {said = said} so_far read =
-    adds_then so_far.moments (adds_weaken _ read.adds (λ image bytes had. (said, sym so_far.shown ∙ had.1, inr (so_far.begins, had.0))))
+-- and so are bytes alone
+pub shows_bytes : {k : Stored} {old new : Meaning} {state : State} {piece : List ℕ} {result : Result (Unit {0}) End} → FitsAt (StoreFits k old) old state → Answers old new piece result → Shows state piece old new result (StoreFits k new)
+shows_bytes {state = state} {piece} fitting answers = shows_item (only_shows piece (root_of state)) [] fitting answers refl
 
-pub said_read : {before : Situation} {outcome : Outcome} {old now next : Meaning} {fits fits_next : State → Type 0} {said : List ℕ} → SaidSoFar before outcome old now fits said
-    → Leaves now next (λ image. Stands image outcome.next.state) → KeepsPast (image_blocks before.state.limits) now next → FitsAt fits_next next outcome.next.state
-    → SaidSoFar before outcome old next fits_next said
-said_read so_far read past fitting = record {
-  moments = read_moments so_far read;
-  past = λ n le. past n le ∙ so_far.past n le;
-  shown = read.run.shown ∙ so_far.shown;
-  begins = so_far.begins;
-  fitting = fitting;
-}
-
--- what a show leaves of the state that stands
-shown_fits : {fits : State → Type 0} {now next : Meaning} (fits_next : State → Type 0) (state : State) → FitsAt fits now state → IsShowCall now next → fits_next state
-    → FitsAt fits_next next state
-shown_fits fits_next state fitting call own = record {
-  honest = call.honest ∙ fitting.honest;
-  stands = always_unchanged fitting.stands (call.same fitting.honest);
-  own = own;
-}
-
--- the moments of a show of a piece, whole or not
-show_moments : {E : Type 0} {before : Situation} {outcome : Outcome} {old now next : Meaning} {fits : State → Type 0} {said : List ℕ} (piece : List ℕ) (result : Result (Unit {0}) E)
-    → SaidSoFar before outcome old now fits said → IsShowRun now next piece result → Begins (said ++ piece) outcome.reply
-    → Adds old next (Since old.shown (InItem before.state outcome))
-show_moments {outcome = outcome} {old = old} {now = now} {said = said} piece result so_far run begins =
-    adds_then so_far.moments (adds_weaken _ (run.moments so_far.fitting.honest) (λ image bytes since. (
-      said ++ since.0,
-      since_later old.shown now.shown said since.0 bytes so_far.shown since.1,
-      inr (begins_trans (said ++ since.0) (said ++ piece) outcome.reply (begins_behind since.0 said piece since.2.1) begins, so_far.fitting.stands.leaves image since.2.0),
-    )))
-
-show_past : {before : Situation} {outcome : Outcome} {old now next : Meaning} {fits : State → Type 0} {said : List ℕ}
-    → SaidSoFar before outcome old now fits said → IsShowCall now next → KeepsPast (image_blocks before.state.limits) old next
-show_past so_far call = λ n le. ap (λ xs. block n xs) (call.same so_far.fitting.honest).bytes ∙ so_far.past n le
-
--- a piece more was shown
-pub said_more : {E : Type 0} {before : Situation} {outcome : Outcome} {old now next : Meaning} {fits fits_next : State → Type 0} {said piece : List ℕ} (u : Unit {0})
-    → SaidSoFar before outcome old now fits said → IsShowRun {E = E} now next piece (Ok u) → Begins (said ++ piece) outcome.reply → fits_next outcome.next.state
-    → SaidSoFar before outcome old next fits_next (said ++ piece)
-said_more {E} {before = before} {outcome = outcome} {old = old} {now = now} {next = next} {fits = fits} {fits_next = fits_next} {said = said} {piece = piece} u so_far run begins own =
-    let shown : next.shown ≡ append_known now.shown piece = run.shown in
-    record {
-      moments = show_moments piece (Ok u) so_far run begins;
-      past = show_past so_far run.call;
-      shown = shown ∙ ap (λ known. append_known known piece) so_far.shown ∙ append_known-append old.shown said piece;
-      begins = begins;
-      fitting = shown_fits fits_next outcome.next.state so_far.fitting run.call own;
-    }
-
--- the whole reply was shown
-pub said_all : {before : Situation} {outcome : Outcome} {old now : Meaning} {fits : State → Type 0} {said : List ℕ} (place : List Formula) (u : Unit {0})
-    → SaidSoFar before outcome old now fits said → said ≡ outcome.reply → place ≡ outcome.next.place → OneItem before outcome old now (Ok u) fits place
-said_all {before = before} {outcome = outcome} {old = old} {now = now} {fits = fits} {said = said} place u so_far all at = record {
-  moments = so_far.moments;
-  past = so_far.past;
-  ended = (record { shown = so_far.shown ∙ ap (append_known old.shown) all; fitting = so_far.fitting }, at);
-}
-
--- a show failed
-pub show_broke : {E : Type 0} {before : Situation} {outcome : Outcome} {old now next : Meaning} {fits : State → Type 0} {said piece : List ℕ} {failed : E} (fits_next : State → Type 0) (place : List Formula)
-    → SaidSoFar before outcome old now fits said → IsShowRun {T = Unit {0}} now next piece (Err failed) → Begins (said ++ piece) outcome.reply → fits_next outcome.next.state → place ≡ outcome.next.place
-    → OneItem before outcome old next (Err OutputFault) fits_next place
-show_broke {E} {before = before} {outcome = outcome} {old = old} {now = now} {next = next} {said = said} {piece = piece} {failed = failed} fits_next place so_far run begins own at =
-    let front = front_begins now.shown next.shown piece run.shown in
-    record {
-      moments = show_moments piece (Err failed) so_far run begins;
-      past = show_past so_far run.call;
-      ended = (
-        said ++ front.0,
-        begins_trans (said ++ front.0) (said ++ piece) outcome.reply (begins_behind front.0 said piece front.1) begins,
-        record {
-          shown = front.2 ∙ ap (λ known. append_known known front.0) so_far.shown ∙ append_known-append old.shown said front.0;
-          fitting = shown_fits fits_next outcome.next.state so_far.fitting run.call own;
-        },
-        at,
-      );
-    }
-
--- a read failed between two shows
-pub read_broke : {before : Situation} {outcome : Outcome} {old now next : Meaning} {fits : State → Type 0} {said : List ℕ} (fits_next : State → Type 0) (place : List Formula)
-    → SaidSoFar before outcome old now fits said → Leaves now next (λ image. Stands image outcome.next.state) → KeepsPast (image_blocks before.state.limits) now next
-    → OneItem before outcome old next (Err DiskFault) fits_next place
-read_broke fits_next place so_far read past = record {
-  moments = read_moments so_far read;
-  past = λ n le. past n le ∙ so_far.past n le;
-  ended = tt;
-}
-
--- a call of the store failed
-pub change_broke : {old new : Meaning} (before : Situation) (outcome : Outcome) (fits : State → Type 0) (place : List Formula) → Leaves old new (OldOrNext before outcome)
-    → KeepsPast (image_blocks before.state.limits) old new → OneItem before outcome old new (Err DiskFault) fits place
-change_broke before outcome fits place change past = record {
-  moments = quiet_moments before outcome change;
-  past = past;
-  ended = tt;
-}
+-- a piece more is shown
+pub item_shows : {P : Type 0} {k : Stored} {before next : SituationOf P} {old mid new : Meaning} {place : P} {said piece : List ℕ} (result : Result (Unit {0}) End)
+    → OneItem before (record { next = next; reply = said }) old mid (Ok tt) (StoreFits k mid) place → Answers mid new piece result
+    → OneItem before (record { next = next; reply = said ++ piece }) old new result (StoreFits k new) place
+item_shows {before = before} result first answers =
+    item_then result first (unchanged_past (answers.run.call.same first.ended.fitting.honest) (image_blocks before.state.limits)) (shows_bytes first.ended.fitting answers)

@@ -1,38 +1,23 @@
 -- An opening, and what is done behind it.
-use Rattle.std.proofs.Common.{◌≡◌, ◌⊎◌, ℕ, ◌≤◌, List, [], length, Option, Some, refl, ap, sym, subst, ◌∙◌, inl, inr, arith}
+use Rattle.std.proofs.Common.{◌≡◌, ◌⊎◌, ℕ, ◌≤◌, if◌then◌else◌, List, [], length, take, Option, Some, ap, sym, subst, ◌∙◌, inl, inr, arith}
 use Rattle.std.specs.Io.KnownBytes.{append_known, IsAtEnd}
+use Rattle.std.proofs.lemmas.Bool.{le-leb}
 use Rattle.lis_ports.specs.Meaning.{Meaning, Now}
 use Rattle.lis_ports.specs.Runs.{Adds, Leaves, Always}
 use Rattle.lis_ports.specs.Since.{Since}
-use Rattle.lis_ports.proofs.Moments.{adds_none, adds_then, adds_weaken, each_moment}
+use Rattle.lis_ports.proofs.Moments.{adds_then, adds_weaken, each_moment}
 use Rattle.lis_reply.proofs.Showing.{append_known-nil}
 use Rattle.lis_model.specs.declared.limits.Limits.{Limits}
-use Rattle.lis_model.specs.State.{State}
-use Rattle.lis_model.specs.Step.{Situation, Item}
-use Rattle.lis_model.specs.Script.{all_items}
-use Rattle.lis_line.proofs.Given.{script_short}
+use Rattle.lis_model.specs.Step.{SituationOf, OutcomeOf}
+use Rattle.lis_model.specs.Script.{Cut, script_by}
 use Rattle.lis_store.specs.Stands.{Stands}
-use Rattle.lis_session.specs.Session.{root_of, SessionMoment, OpenedMoment, EachMoment, FullHeadline}
+use Rattle.lis_session.specs.Session.{SessionMoment, OpenedMoment, EachMoment, FullHeadline}
 use Rattle.lis_session.specs.Runs.{Carried, CarriedAll, CarriedToLimit, Goes, OpensInto}
 use Rattle.lis_session.proofs.Moments.{moment_none}
 
 -- the law of a disk on moments since now
 abbrev pub OnlyNow : Meaning → Type 0
 OnlyNow m = (image bytes : List ℕ) → m.moments m.clock image bytes → Now m image bytes
-
--- nothing was shown since, and the image stands for the state at the start
-pub since_none : (before : Option (List ℕ)) (start : Situation) (items : List Item) (image bytes : List ℕ) → Stands image start.state → before ≡ Some bytes
-    → Since before (SessionMoment start items) image bytes
-since_none before start items image bytes stands told = ([], append_known-nil before ∙ told, moment_none start items image stands)
-
--- a session whose store fits at its start has no exception
-pub full_headline : {old new : Meaning} (start : Situation) (items : List Item) → Always old (λ image. Stands image start.state) → OnlyNow old
-    → Adds old new (Since old.shown (SessionMoment start items)) → FullHeadline start items old new
-full_headline {old} start items always only_now adds = λ image bytes had.
-    elim (each_moment adds only_now image bytes had) as (λ _. Since old.shown (SessionMoment start items) image bytes) [
-      | inl now ↦ since_none old.shown start items image bytes (always.leaves image now.0) now.1
-      | inr since ↦ since
-    ]
 
 -- what is done behind an opening, which left the images of its start or ones with Q, where P holds of these with nothing shown
 module _ {old mid : Meaning} (P : List ℕ → List ℕ → Type 0) where
@@ -50,10 +35,6 @@ module _ {old mid : Meaning} (P : List ℕ → List ℕ → Type 0) where
     ended = subst end same goes.ended;
   }
 
--- nothing was done
-pub goes_none : (P : List ℕ → List ℕ → Type 0) (limits : Limits) (m : Meaning) (end : Type 0) → end → Goes P limits m m end
-goes_none P limits m end ended = record { moments = adds_none m _; past = λ n le. refl; ended = ended }
-
 pub headline : {old new : Meaning} (P : List ℕ → List ℕ → Type 0) → OnlyNow old → Adds old new (OpenedMoment old P) → EachMoment old new (OpenedMoment old P)
 headline {old} P only_now adds = λ image bytes had.
     elim (each_moment adds only_now image bytes had) as (λ _. OpenedMoment old P image bytes) [
@@ -61,22 +42,30 @@ headline {old} P only_now adds = λ image bytes had.
       | inr moment ↦ moment
     ]
 
--- where nothing is unsynced at the start there is no exception
-pub headline_settled : {old new : Meaning} (state : State) (items : List Item) → Stands old.bytes state → ((image : List ℕ) → old.images image → image ≡ old.bytes) → OnlyNow old
-    → Adds old new (OpenedMoment old (SessionMoment (root_of state) items)) → FullHeadline (root_of state) items old new
-headline_settled {old} {new} state items stands settled only_now adds = λ image bytes had. by image bytes (headline (SessionMoment (root_of state) items) only_now adds image bytes had)
-  where
-    by : (image bytes : List ℕ) → OpenedMoment old (SessionMoment (root_of state) items) image bytes → Since old.shown (SessionMoment (root_of state) items) image bytes
-    by image bytes (inl now) =
-        since_none old.shown (root_of state) items image bytes (subst (λ xs. Stands xs state) (sym (settled image now.0)) stands) now.1
-    by image bytes (inr since) = since
+-- where each image at the start stands for the state there is no exception
+module _ {P I : Type 0} (by : SituationOf P → I → OutcomeOf P) {old new : Meaning} (start : SituationOf P) (items : List I) where
+  stands_at_start : ((image : List ℕ) → old.images image → Stands image start.state) → OnlyNow old → Adds old new (OpenedMoment old (SessionMoment by start items)) → FullHeadline by start items old new
+  stands_at_start stands only_now adds = λ image bytes had. at image bytes (headline (SessionMoment by start items) only_now adds image bytes had)
+    where
+      at : (image bytes : List ℕ) → OpenedMoment old (SessionMoment by start items) image bytes → Since old.shown (SessionMoment by start items) image bytes
+      at image bytes (inl now) = ([], append_known-nil old.shown ∙ now.1, moment_none by start items image (stands image now.0))
+      at image bytes (inr since) = since
+
+  -- a store that fits there
+  pub full_headline : Always old (λ image. Stands image start.state) → OnlyNow old → Adds old new (Since old.shown (SessionMoment by start items)) → FullHeadline by start items old new
+  full_headline always only_now adds = stands_at_start always.leaves only_now (adds_weaken _ adds (λ image bytes since. inr since))
+
+  -- nothing unsynced there
+  pub headline_settled : Stands old.bytes start.state → ((image : List ℕ) → old.images image → image ≡ old.bytes) → OnlyNow old
+      → Adds old new (OpenedMoment old (SessionMoment by start items)) → FullHeadline by start items old new
+  headline_settled stands settled = stands_at_start (λ image is. subst (λ xs. Stands xs start.state) (sym (settled image is)) stands)
 
 -- an input that is not longer than the limit ends with all of its items, and not at the limit
-pub complete : {start : Situation} {limit : ℕ} {bytes : List ℕ} {left before : Option (List ℕ)} {new : Meaning}
-    → CarriedAll start limit bytes left before new → IsAtEnd left × Carried start (all_items bytes) before new
-complete {start} {limit} {bytes} {left} {before} {new} all =
-    (all.at_end, subst (λ items. Carried start items before new) (script_short bytes limit all.short) all.carried)
+module _ {P I : Type 0} {by : SituationOf P → I → OutcomeOf P} {cut : Cut I} {start : SituationOf P} {limit : ℕ} {bytes : List ℕ} {before : Option (List ℕ)} {new : Meaning} where
+  pub complete : {left : Option (List ℕ)} → CarriedAll by cut start limit bytes left before new → IsAtEnd left × Carried by start (cut.all bytes) before new
+  complete all =
+      let short : script_by cut bytes limit ≡ cut.all bytes = ap (λ t. if t then cut.all bytes else cut.whole (take limit bytes)) (le-leb (length bytes) limit all.short) in
+      (all.at_end, subst (λ items. Carried by start items before new) short all.carried)
 
-pub no_limit : {start : Situation} {limit : ℕ} {bytes : List ℕ} {before : Option (List ℕ)} {new : Meaning}
-    → length bytes ≤ limit → CarriedToLimit start limit bytes before new → ⊥
-no_limit short past = omega (arith, short, past.long)
+  pub no_limit : length bytes ≤ limit → CarriedToLimit by cut start limit bytes before new → ⊥
+  no_limit short past = omega (arith, short, past.long)

@@ -1,4 +1,4 @@
--- What carrying out one item does to an image and to what was shown.
+-- What carrying out one item does to an image and to what was shown, at one place or at several.
 use Rattle.std.specs.Prelude.{◌≡◌, ◌≢◌, ◌⊎◌, ℕ, List, [], Result, Ok, Err, false, IsTrue}
 use Rattle.std.specs.Io.KnownBytes.{append_known}
 use Rattle.lis_ports.specs.Meaning.{Meaning}
@@ -6,17 +6,16 @@ use Rattle.lis_ports.specs.Runs.{Adds, Always}
 use Rattle.lis_ports.specs.Calls.{Rose}
 use Rattle.lis_ports.specs.Since.{Begins, Since}
 use Rattle.lis_journal.specs.Images.{KeepsPast}
-use Rattle.lis_grammar.specs.Formula.{Formula}
 use Rattle.lis_model.specs.Image.{image_blocks}
 use Rattle.lis_model.specs.State.{State}
-use Rattle.lis_model.specs.Step.{Situation, Item, Outcome, step}
+use Rattle.lis_model.specs.Step.{SituationOf, OutcomeOf}
 use Rattle.lis_store.specs.Stands.{Stands}
 use Rattle.lis_store.specs.Stored.{Stored}
 use Rattle.lis_session.specs.declared.end.End.{End}
 use Rattle.lis_session.specs.declared.end.End.TheVariants.{DiskFault, OutputFault}
 
 -- Nothing was shown and the image stands for the state before, or a front of the reply was and it stands for the state after.
-abbrev pub InItem : State → Outcome → List ℕ → List ℕ → Type 0
+abbrev pub InItem : {P : Type 0} → State → OutcomeOf P → List ℕ → List ℕ → Type 0
 InItem before outcome image shown =
     ((shown ≡ []) × Stands image before) ⊎ (Begins shown outcome.reply × Stands image outcome.next.state)
 
@@ -26,29 +25,34 @@ pub record FitsAt (fits : State → Type 0) (m : Meaning) (state : State) : Type
   pub stands : Always m (λ image. Stands image state)
   pub own : fits state
 
--- so much was shown since the start, and the state is that after the item
-pub record Replied (outcome : Outcome) (old new : Meaning) (fits : State → Type 0) (reply : List ℕ) : Type 0 where
+-- so much was shown since the start, and the next state and place are reached
+pub record Replied {P : Type 0} (next : SituationOf P) (old new : Meaning) (fits : State → Type 0) (place : P) (reply : List ℕ) : Type 0 where
   pub shown : new.shown ≡ append_known old.shown reply
-  pub fitting : FitsAt fits new outcome.next.state
+  pub fitting : FitsAt fits new next.state
+  pub at : place ≡ next.place
 
 -- At Ok the reply was shown whole, and after a fault of showing a front of it; the step was made. After a fault of the disk the moments
 -- tell what stands.
-abbrev pub ItemEnded : Outcome → Meaning → Meaning → (State → Type 0) → List Formula → Result (Unit {0}) End → Type 0
-ItemEnded outcome old new fits place (Ok done) = Replied outcome old new fits outcome.reply × (place ≡ outcome.next.place)
+abbrev pub ItemEnded : {P : Type 0} → OutcomeOf P → Meaning → Meaning → (State → Type 0) → P → Result (Unit {0}) End → Type 0
+ItemEnded outcome old new fits place (Ok done) = Replied outcome.next old new fits place outcome.reply
 ItemEnded outcome old new fits place (Err DiskFault) = Unit {0}
-ItemEnded outcome old new fits place (Err OutputFault) = (shown : List ℕ) × Begins shown outcome.reply × Replied outcome old new fits shown × (place ≡ outcome.next.place)
+ItemEnded outcome old new fits place (Err OutputFault) = (shown : List ℕ) × Begins shown outcome.reply × Replied outcome.next old new fits place shown
 
 -- One item with this outcome: what each moment in the call leaves, that the blocks past the image stay, and how it ended.
-pub record OneItem (before : Situation) (outcome : Outcome) (old new : Meaning) (result : Result (Unit {0}) End) (fits : State → Type 0) (place : List Formula) : Type 0 where
+pub record OneItem {P : Type 0} (before : SituationOf P) (outcome : OutcomeOf P) (old new : Meaning) (result : Result (Unit {0}) End) (fits : State → Type 0) (place : P) : Type 0 where
   pub moments : Adds old new (Since old.shown (InItem before.state outcome))
   pub past : KeepsPast (image_blocks before.state.limits) old new
   pub ended : ItemEnded outcome old new fits place result
 
--- An item is carried out at a place, whichever state fits; the values in memory fit it as `fits_before` and `fits` say.
-abbrev pub CarriesOut : (State → Type 0) → List Formula → Meaning → Meaning → Result (Unit {0}) End → (State → Type 0) → List Formula → Item → Type 0
-CarriesOut fits_before place_before old new result fits place item =
+-- What a command comes to is carried out at a place, whichever state fits; the values in memory fit it as `fits_before` and `fits` say.
+abbrev pub Does : {P : Type 0} → (SituationOf P → OutcomeOf P) → (State → Type 0) → P → Meaning → Meaning → Result (Unit {0}) End → (State → Type 0) → P → Type 0
+Does outcome fits_before place_before old new result fits place =
     (state : State) → FitsAt fits_before old state
-    → OneItem (record { state = state; place = place_before }) (step (record { state = state; place = place_before }) item) old new result fits place
+    → OneItem (record { state = state; place = place_before }) (outcome (record { state = state; place = place_before })) old new result fits place
+
+-- the same of an item, where `by` tells what each item does
+abbrev pub CarriesOut : {P I : Type 0} → (SituationOf P → I → OutcomeOf P) → (State → Type 0) → P → Meaning → Meaning → Result (Unit {0}) End → (State → Type 0) → P → I → Type 0
+CarriesOut by fits_before place_before old new result fits place item = Does (λ now. by now item) fits_before place_before old new result fits place
 
 -- a fault comes only where its count rose; the other count stays
 abbrev pub HasEndCause : Meaning → Meaning → Result (Unit {0}) End → Type 0

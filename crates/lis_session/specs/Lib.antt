@@ -7,3 +7,4 @@ pub mod Parts
 pub mod Described
 pub mod Counting
 pub mod Tally
+pub mod Ending

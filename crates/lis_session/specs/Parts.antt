@@ -1,5 +1,5 @@
 -- How the parts of carrying out an item end.
-use Rattle.std.specs.Prelude.{◌≡◌, ℕ, if◌then◌else◌, List, Result, Ok, Err, IfErr}
+use Rattle.std.specs.Prelude.{◌≡◌, ℕ, Bool, true, false, if◌then◌else◌, List, Result, Ok, Err, IfErr}
 use Rattle.std.specs.List.{list_all}
 use Rattle.lis_ports.specs.Meaning.{Meaning}
 use Rattle.lis_ports.specs.Since.{IsShowRun}
@@ -8,28 +8,26 @@ use Rattle.lis_words.specs.Words.{has_word}
 use Rattle.lis_grammar.specs.Formula.{Formula}
 use Rattle.lis_grammar.specs.Places.{Resolution, text_words}
 use Rattle.lis_grammar.specs.Places.Resolution.{NewPlace, BeyondLimits, Unreadable}
+use Rattle.lis_model.specs.declared.command.Command.{Command}
+use Rattle.lis_model.specs.declared.command.Command.TheVariants.{Mkdir, Rmdir, Axiom, Unaxiom, Create, Add, Write, Mv, Rename, Rm}
 use Rattle.lis_model.specs.declared.refusal.Refusal.{Refusal}
 use Rattle.lis_model.specs.declared.refusal.Refusal.TheVariants.{BadFormula, UnknownProperty, LargeFormula}
 use Rattle.lis_model.specs.Replies.{body_line, ok_line, refusal_line}
 use Rattle.lis_model.specs.State.{State}
-use Rattle.lis_model.specs.Step.{Situation, Outcome}
+use Rattle.lis_model.specs.Step.{SituationOf, OutcomeOf, Situation, Outcome}
 use Rattle.lis_incr.specs.declared.listing.Line.{Line}
 use Rattle.lis_incr.specs.declared.listing.Line.TheVariants.{Prop, File}
+use Rattle.lis_store.specs.Changes.{Changes}
+use Rattle.lis_store.specs.Stored.{Stored, StoreFits}
 use Rattle.lis_store.specs.declared.change.Change.{Change}
 use Rattle.lis_store.specs.declared.change.Change.TheVariants.{Refused, Disk as DiskChange}
 use Rattle.lis_session.specs.declared.end.End.{End}
 use Rattle.lis_session.specs.declared.end.End.TheVariants.{DiskFault, OutputFault}
-use Rattle.lis_session.specs.Item.{FitsAt, OneItem, HasEndCause, IsSameStation}
+use Rattle.lis_session.specs.Item.{HasEndCause, IsSameStation}
 
 -- nothing changes, and these bytes are shown
-abbrev pub only_shows : List ℕ → Situation → Outcome
+abbrev pub only_shows : {P : Type 0} → List ℕ → SituationOf P → OutcomeOf P
 only_shows bytes now = record { next = now; reply = bytes }
-
--- What a command comes to is carried out at a place, whichever state fits.
-abbrev pub Does : (Situation → Outcome) → (State → Type 0) → List Formula → Meaning → Meaning → Result (Unit {0}) End → (State → Type 0) → List Formula → Type 0
-Does outcome fits_before place_before old new result fits place =
-    (state : State) → FitsAt fits_before old state
-    → OneItem (record { state = state; place = place_before }) (outcome (record { state = state; place = place_before })) old new result fits place
 
 -- what an end says of any station
 pub record Ends (old new : Meaning) (result : Result (Unit {0}) End) : Type 0 where
@@ -41,6 +39,11 @@ pub record Ends (old new : Meaning) (result : Result (Unit {0}) End) : Type 0 wh
 pub record Answers (old new : Meaning) (bytes : List ℕ) (result : Result (Unit {0}) End) : Type 0 where
   pub run : IsShowRun old new bytes result
   pub fault : IfErr result (λ end. end ≡ OutputFault)
+
+-- what is answered where nothing is shown but `ok` or a refusal
+abbrev pub answer_of : Result (Unit {0}) Refusal → List ℕ
+answer_of (Ok done) = ok_line
+answer_of (Err refusal) = refusal_line refusal
 
 -- What a change of the store is answered. After a fault of the disk nothing is shown.
 abbrev pub Concludes : {D : Type 0} → (D → Meaning) → D → D → Result (Unit {0}) Change → Result (Unit {0}) End → Type 0
@@ -58,3 +61,23 @@ abbrev pub led_to : List (List ℕ) → List ℕ → Resolution → Result (List
 led_to known text (Unreadable k) = Err BadFormula
 led_to known text BeyondLimits = Err LargeFormula
 led_to known text (NewPlace place) = if list_all (has_word known) (text_words text) then Ok place else Err UnknownProperty
+
+-- The store is changed as a command asks at a place, whichever state fits it.
+abbrev pub Makes : (Situation → Outcome) → List Formula → Stored → Stored → Meaning → Meaning → Result (Unit {0}) Change → Type 0
+Makes outcome place old new before after changed =
+    (state : State) → StoreFits old before state
+    → Changes (record { state = state; place = place }) (outcome (record { state = state; place = place })) new before after changed
+
+-- whether a command asks for a change of the store
+abbrev pub is_change : Command → Bool
+is_change (Mkdir word) = true
+is_change (Rmdir word) = true
+is_change (Axiom left right) = true
+is_change (Unaxiom left right) = true
+is_change (Create name words) = true
+is_change (Add name words) = true
+is_change (Write name) = true
+is_change (Mv name text) = true
+is_change (Rename name other) = true
+is_change (Rm name) = true
+is_change command = false

@@ -1,60 +1,46 @@
 -- What a session over an image has come to since a start, where it carries out the items of an input.
-use Rattle.std.specs.Prelude.{◌≡◌, ◌≢◌, ◌*◌, ◌≤◌, List, [], ◌∷◌, ◌++◌, Err, false}
-use Rattle.std.specs.Io.KnownBytes.{append_known}
+use Rattle.std.specs.Prelude.{◌≡◌, ◌*◌, ◌≤◌, List, [], ◌∷◌, ◌++◌, Result, Ok, Err, false}
 use Rattle.lis_ports.specs.Meaning.{Meaning}
-use Rattle.lis_ports.specs.Runs.{Adds}
-use Rattle.lis_ports.specs.Since.{Since}
-use Rattle.lis_ports.specs.Calls.{StationFaultEnds}
-use Rattle.lis_journal.specs.Images.{KeepsPast}
-use Rattle.lis_grammar.specs.Formula.{Formula}
-use Rattle.lis_model.specs.Image.{image_blocks}
 use Rattle.lis_model.specs.State.{State}
-use Rattle.lis_model.specs.Step.{Situation, Item, replies, situation_after}
+use Rattle.lis_model.specs.Step.{SituationOf, OutcomeOf, replies_by, after_by}
 use Rattle.lis_store.specs.Stored.{IsSound, StoreFits}
 use Rattle.lis_session.specs.declared.end.End.{End}
-use Rattle.lis_session.specs.declared.end.End.TheVariants.{DiskFault}
-use Rattle.lis_session.specs.Session.{Situated, SessionMoment}
-use Rattle.lis_session.specs.Item.{FitsAt, HasEndCause, IsSameStation}
+use Rattle.lis_session.specs.Session.{SituatedOf}
+use Rattle.lis_session.specs.Item.{FitsAt, Replied, StoreLeft}
+use Rattle.lis_session.specs.Parts.{Ends}
 use Rattle.lis_session.specs.Runs.{StoppedAt, Serves}
 
 -- The store is not broken, and the station is long enough for its image.
-pub record IsReady (session : Situated) (m : Meaning) : Type 0 where
+pub record IsReady {P : Type 0} (session : SituatedOf P) (m : Meaning) : Type 0 where
   pub unbroken : session.store.is_broken ≡ false
   pub long : 4096 * session.store.journal.blocks ≤ m.len
 
--- these items were carried out, and all their replies were shown
-pub record DoneSoFar (start : Situation) (first : List Item) (old now : Meaning) (fits : State → Type 0) (place : List Formula) : Type 0 where
-  pub moments : Adds old now (Since old.shown (SessionMoment start first))
-  pub past : KeepsPast (image_blocks start.state.limits) old now
-  pub shown : now.shown ≡ append_known old.shown (replies start first)
-  pub fitting : FitsAt fits now (situation_after start first).state
-  pub at : place ≡ (situation_after start first).place
-
 -- a state, at the place of the session
-abbrev pub situation_at : Situated → State → Situation
+abbrev pub situation_at : {P : Type 0} → SituatedOf P → State → SituationOf P
 situation_at session state = record { state = state; place = session.place }
 
--- what a session and its station keep, whatever was carried out
-pub record SessionKeeps (start : Situated) (entry : Meaning) (now : Situated) (m : Meaning) : Type 0 where
-  pub limits : now.store.parts.limits ≡ start.store.parts.limits
-  pub image : now.store.journal.blocks ≡ start.store.journal.blocks
+-- what a session and its station keep, whatever was carried out, and why it stopped
+pub record SessionKeeps {P : Type 0} (start : SituatedOf P) (entry : Meaning) (now : SituatedOf P) (m : Meaning) (result : Result (Unit {0}) End) : Type 0 where
+  pub left : StoreLeft start.store now.store result
   pub sound : IsSound now.store
-  pub same : IsSameStation entry m
-  pub first_fault : StationFaultEnds entry m
+  pub ends : Ends entry m result
 
--- Since the start these items were carried out, from any state that fitted then, and no call failed.
-pub record HasDone (start : Situated) (entry : Meaning) (first : List Item) (now : Situated) (m : Meaning) : Type 0 where
-  pub keeps : SessionKeeps start entry now m
-  pub unbroken : now.store.is_broken ≡ false
-  pub disk_faults : m.disk_faults ≡ entry.disk_faults
-  pub show_faults : m.show_faults ≡ entry.show_faults
-  pub done : (state : State) → FitsAt (StoreFits start.store entry) entry state
-      → DoneSoFar (situation_at start state) first entry m (StoreFits now.store m) now.place
+module _ {P I : Type 0} (by : SituationOf P → I → OutcomeOf P) where
+  -- all these items were carried out, or there was this fault in the last one
+  abbrev pub LastEnded : SituationOf P → List I → Meaning → Meaning → (State → Type 0) → P → Result (Unit {0}) End → Type 0
+  LastEnded start items old new fits place (Ok done) = Replied (after_by by start items) old new fits place (replies_by by start items)
+  LastEnded start items old new fits place (Err fault) = StoppedAt by start items old.shown new fault
 
--- Since the start these items were carried out, from any state that fitted then, and in the next one there was this fault.
-pub record HasStopped (start : Situated) (entry : Meaning) (first : List Item) (item : Item) (fault : End) (now : Situated) (m : Meaning) : Type 0 where
-  pub keeps : SessionKeeps start entry now m
-  pub cause : HasEndCause entry m (Err fault)
-  pub unbroken : fault ≢ DiskFault → now.store.is_broken ≡ false
-  pub serves : (state : State) → FitsAt (StoreFits start.store entry) entry state
-      → Serves (situation_at start state) (first ++ item ∷ []) entry m (StoppedAt (situation_at start state) (first ++ item ∷ []) entry.shown m fault)
+  -- Since the start these items were carried out, from any state that fitted then; or all but the last one, in which there was a fault.
+  pub record HasGone (start : SituatedOf P) (entry : Meaning) (items : List I) (now : SituatedOf P) (m : Meaning) (result : Result (Unit {0}) End) : Type 0 where
+    pub keeps : SessionKeeps start entry now m result
+    pub serves : (state : State) → FitsAt (StoreFits start.store entry) entry state
+        → Serves by (situation_at start state) items entry m (LastEnded (situation_at start state) items entry m (StoreFits now.store m) now.place result)
+
+  -- these were carried out
+  abbrev pub HasDone : SituatedOf P → Meaning → List I → SituatedOf P → Meaning → Type 0
+  HasDone start entry first now m = HasGone start entry first now m (Ok tt)
+
+  -- these were, and in the next one there was this fault
+  abbrev pub HasStopped : SituatedOf P → Meaning → List I → I → End → SituatedOf P → Meaning → Type 0
+  HasStopped start entry first item fault now m = HasGone start entry (first ++ item ∷ []) now m (Err fault)

@@ -4,16 +4,19 @@ use Rattle.lis_ports.specs.Meaning.{Meaning, Now}
 use Rattle.lis_ports.specs.Since.{Begins, Since}
 use Rattle.lis_grammar.specs.Formula.{Formula}
 use Rattle.lis_model.specs.State.{State}
-use Rattle.lis_model.specs.Step.{Situation, Item, replies, situation_after}
+use Rattle.lis_model.specs.Step.{SituationOf, OutcomeOf, Situation, Item, step, replies_by, after_by}
 use Rattle.lis_eval.specs.declared.scratch.Scratch.{Scratch}
 use Rattle.lis_eval.specs.Room.{HasRoom}
 use Rattle.lis_store.specs.Stands.{Stands}
 use Rattle.lis_store.specs.Stored.{Stored, IsSound}
 
--- a session: the store that it carries out commands on, and the place at which they are said
-pub record Situated : Type 0 where
+-- a session: the store that it carries out commands on, and the place at which they are said, or the places where there are several
+pub record SituatedOf (P : Type 0) : Type 0 where
   pub store : Stored
-  pub place : List Formula
+  pub place : P
+
+abbrev pub Situated : Type 0
+Situated = SituatedOf (List Formula)
 
 -- the store is sound, and the memory to work in is enough for its limits
 pub record CanWork (store : Stored) (scratch : Scratch) : Type 0 where
@@ -24,41 +27,43 @@ pub record CanWork (store : Stored) (scratch : Scratch) : Type 0 where
 abbrev pub root_of : State → Situation
 root_of state = record { state = state; place = [] }
 
--- the replies to so many first items, one after another
-abbrev pub out : Situation → List Item → ℕ → List ℕ
-out start items count = replies start (take count items)
+-- ---- moments of a session from a start, over these items, where `by` tells what each of them does
+module _ {P I : Type 0} (by : SituationOf P → I → OutcomeOf P) (start : SituationOf P) (items : List I) where
+  -- the replies to so many first items, one after another
+  abbrev pub out : ℕ → List ℕ
+  out count = replies_by by start (take count items)
 
--- the state after so many first items
-abbrev pub state_after : Situation → List Item → ℕ → State
-state_after start items count = (situation_after start (take count items)).state
+  -- the state after so many first items
+  abbrev pub state_after : ℕ → State
+  state_after count = (after_by by start (take count items)).state
 
--- The image stands for the state after some first items. All their replies but the last were shown, and nothing past them.
-pub record SessionMoment (start : Situation) (items : List Item) (image shown : List ℕ) : Type 0 where
-  pub count : ℕ
-  pub within : count ≤ length items
-  pub stands : Stands image (state_after start items count)
-  pub no_more : Begins shown (out start items count)
-  pub no_less : Begins (out start items (count - 1)) shown
+  -- The image stands for the state after some first items. All their replies but the last were shown, and nothing past them.
+  pub record SessionMoment (image shown : List ℕ) : Type 0 where
+    pub count : ℕ
+    pub within : count ≤ length items
+    pub stands : Stands image (state_after count)
+    pub no_more : Begins shown (out count)
+    pub no_less : Begins (out (count - 1)) shown
 
--- The same by what was shown. Of the items whose replies were shown whole `whole` is the greatest count, and the image stands for the
--- state after so many items or after one more.
-pub record ShownMoment (start : Situation) (items : List Item) (image shown : List ℕ) : Type 0 where
-  pub whole : ℕ
-  pub within : whole ≤ length items
-  pub is_shown : Begins (out start items whole) shown
-  pub greatest : (more : ℕ) → more ≤ length items → Begins (out start items more) shown → more ≤ whole
-  pub count : ℕ
-  pub which : (count ≡ whole) ⊎ ((count ≡ whole + 1) × (whole < length items))
-  pub stands : Stands image (state_after start items count)
-  pub no_more : Begins shown (out start items count)
+  -- The same by what was shown. Of the items whose replies were shown whole `whole` is the greatest count, and the image stands for the
+  -- state after so many items or after one more.
+  pub record ShownMoment (image shown : List ℕ) : Type 0 where
+    pub whole : ℕ
+    pub within : whole ≤ length items
+    pub is_shown : Begins (out whole) shown
+    pub greatest : (more : ℕ) → more ≤ length items → Begins (out more) shown → more ≤ whole
+    pub count : ℕ
+    pub which : (count ≡ whole) ⊎ ((count ≡ whole + 1) × (whole < length items))
+    pub stands : Stands image (state_after count)
+    pub no_more : Begins shown (out count)
 
--- the two say the same
-pub record SaysTheSame (start : Situation) (items : List Item) (image shown : List ℕ) : Type 0 where
-  pub by_shown : SessionMoment start items image shown → ShownMoment start items image shown
-  pub by_count : ShownMoment start items image shown → SessionMoment start items image shown
+  -- the two say the same
+  pub record SaysTheSame (image shown : List ℕ) : Type 0 where
+    pub by_shown : SessionMoment image shown → ShownMoment image shown
+    pub by_count : ShownMoment image shown → SessionMoment image shown
 
 abbrev pub OneForm : Type 0
-OneForm = (start : Situation) (items : List Item) (image shown : List ℕ) → SaysTheSame start items image shown
+OneForm = (start : Situation) (items : List Item) (image shown : List ℕ) → SaysTheSame step start items image shown
 
 -- P of an image and of what was shown since an opening began; or a crash at its start could have left the image, with nothing shown since
 abbrev pub OpenedMoment : Meaning → (List ℕ → List ℕ → Type 0) → List ℕ → List ℕ → Type 0
@@ -70,8 +75,8 @@ EachMoment old new Q = (image bytes : List ℕ) → new.moments old.clock image 
 
 -- an opening, and a session from the root behind it
 abbrev pub Headline : State → List Item → Meaning → Meaning → Type 0
-Headline state items old new = EachMoment old new (OpenedMoment old (SessionMoment (root_of state) items))
+Headline state items old new = EachMoment old new (OpenedMoment old (SessionMoment step (root_of state) items))
 
--- the same with no exception
-abbrev pub FullHeadline : Situation → List Item → Meaning → Meaning → Type 0
-FullHeadline start items old new = EachMoment old new (Since old.shown (SessionMoment start items))
+-- a session with no opening, and with no exception
+abbrev pub FullHeadline : {P I : Type 0} → (SituationOf P → I → OutcomeOf P) → SituationOf P → List I → Meaning → Meaning → Type 0
+FullHeadline by start items old new = EachMoment old new (Since old.shown (SessionMoment by start items))

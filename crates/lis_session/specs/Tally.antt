@@ -1,24 +1,21 @@
 -- What carrying out an item without showing its reply does to an image, and what is kept of the reply.
-use Rattle.std.specs.Prelude.{◌≡◌, ◌⊎◌, ℕ, ◌+◌, ◌==◌, Bool, true, false, List, [], ◌∷◌, length, Result, Ok, Err, IfOk}
+use Rattle.std.specs.Prelude.{◌≡◌, ℕ, ◌+◌, ◌==◌, Bool, true, false, List, [], ◌∷◌, length, Result, Ok, Err, IfOk}
 use Rattle.lis_ports.specs.Meaning.{Meaning}
-use Rattle.lis_ports.specs.Runs.{Leaves}
 use Rattle.lis_ports.specs.declared.disk.Failed.{Failed}
-use Rattle.lis_journal.specs.Images.{KeepsPast}
 use Rattle.lis_grammar.specs.Formula.{Formula}
-use Rattle.lis_model.specs.declared.refusal.Refusal.{Refusal}
 use Rattle.lis_model.specs.declared.command.Command.{Command}
-use Rattle.lis_model.specs.declared.command.Command.TheVariants.{Mkdir, Rmdir, Axiom, Unaxiom, Create, Add, Write, Cat, Mv, Rename, Rm, Cd, Pwd, Ls, Props, Way, Stat}
-use Rattle.lis_model.specs.Image.{image_blocks}
+use Rattle.lis_model.specs.declared.command.Command.TheVariants.{Ls}
 use Rattle.lis_model.specs.Listing.{increments, locals}
 use Rattle.lis_model.specs.State.{State}
 use Rattle.lis_model.specs.Table.{table}
-use Rattle.lis_model.specs.Step.{Situation, Item, Outcome, step}
+use Rattle.lis_model.specs.Step.{OutcomeOf, Situation, Item, Outcome, step}
 use Rattle.lis_model.specs.Step.Item.{Do, Bad}
 use Rattle.lis_store.specs.declared.change.Change.{Change}
 use Rattle.lis_store.specs.declared.change.Change.TheVariants.{Refused, Disk}
-use Rattle.lis_store.specs.Stands.{Stands}
+use Rattle.lis_session.specs.declared.end.End.{End}
+use Rattle.lis_session.specs.declared.end.End.TheVariants.{DiskFault}
 use Rattle.lis_session.specs.declared.tally.Tally.{Tally}
-use Rattle.lis_session.specs.Item.{FitsAt}
+use Rattle.lis_session.specs.Item.{FitsAt, OneItem}
 
 -- A reply is a refusal where it begins with `n`: every other one is `ok`, or begins with a line of another letter.
 abbrev pub is_refusal : List ℕ → Bool
@@ -31,41 +28,26 @@ listed_lines now = length (increments (table now.state) now.place) + length (loc
 
 -- the same where the command is `ls`; every other command lists nothing
 abbrev pub lines_listed : Situation → Command → ℕ
-lines_listed now (Mkdir word) = 0
-lines_listed now (Rmdir word) = 0
-lines_listed now (Axiom left right) = 0
-lines_listed now (Unaxiom left right) = 0
-lines_listed now (Create name words) = 0
-lines_listed now (Add name words) = 0
-lines_listed now (Write name) = 0
-lines_listed now (Cat name) = 0
-lines_listed now (Mv name text) = 0
-lines_listed now (Rename name other) = 0
-lines_listed now (Rm name) = 0
-lines_listed now (Cd text) = 0
-lines_listed now Pwd = 0
 lines_listed now Ls = listed_lines now
-lines_listed now (Props name) = 0
-lines_listed now (Way name) = 0
-lines_listed now Stat = 0
+lines_listed now command = 0
 
 abbrev pub listed : Situation → Item → ℕ
 listed now (Do command payload) = lines_listed now command
 listed now (Bad refusal) = 0
 
--- The step was made, nothing was shown, and the tally is that of the reply.
-pub record TalliedAll (outcome : Outcome) (lines : ℕ) (new : Meaning) (fits : State → Type 0) (place : List Formula) (tally : Tally) : Type 0 where
-  pub fitting : FitsAt fits new outcome.next.state
-  pub at : place ≡ outcome.next.place
-  pub refused : tally.refused ≡ is_refusal outcome.reply
-  pub listed : tally.listed ≡ lines
+-- the same step, with nothing shown
+abbrev pub quiet : {P : Type 0} → OutcomeOf P → OutcomeOf P
+quiet outcome = record { next = outcome.next; reply = [] }
 
--- One item with this outcome, whose reply lists so many lines: at each moment the image stands for the state before or for the one after,
--- with nothing shown, and blocks past the image stay.
+-- what shows nothing has no fault but of the disk
+abbrev pub quietly : Result Tally Failed → Result (Unit {0}) End
+quietly (Ok tally) = Ok tt
+quietly (Err failed) = Err DiskFault
+
+-- One item with this outcome, whose reply lists so many lines: its step is made with nothing shown, and the tally is that of its reply.
 pub record Tallied (before : Situation) (outcome : Outcome) (lines : ℕ) (old new : Meaning) (result : Result Tally Failed) (fits : State → Type 0) (place : List Formula) : Type 0 where
-  pub moments : Leaves old new (λ image. Stands image before.state ⊎ Stands image outcome.next.state)
-  pub past : KeepsPast (image_blocks before.state.limits) old new
-  pub ended : IfOk result (TalliedAll outcome lines new fits place)
+  pub made : OneItem before (quiet outcome) old new (quietly result) fits place
+  pub tally : IfOk result (λ tally. tally ≡ record { refused = is_refusal outcome.reply; listed = lines })
 
 -- What a command comes to is tallied at a place, whichever state fits; the values in memory fit it as `fits_before` and `fits` say.
 abbrev pub Tallies : (Situation → Outcome) → (Situation → ℕ) → (State → Type 0) → List Formula → Meaning → Meaning → Result Tally Failed → (State → Type 0) → List Formula → Type 0
@@ -83,8 +65,3 @@ abbrev pub Concluded : Result (Unit {0}) Change → Result Tally Failed → Type
 Concluded (Ok done) result = result ≡ Ok (record { refused = false; listed = 0 })
 Concluded (Err (Refused refusal)) result = result ≡ Ok (record { refused = true; listed = 0 })
 Concluded (Err Disk) result = result ≡ Err (record {})
-
--- where a text led to another place, and where it was refused
-abbrev pub Went : Result (List Formula) Refusal → List Formula → List Formula → Tally → Type 0
-Went (Ok next) before place tally = (place ≡ next) × (tally ≡ record { refused = false; listed = 0 })
-Went (Err refusal) before place tally = (place ≡ before) × (tally ≡ record { refused = true; listed = 0 })

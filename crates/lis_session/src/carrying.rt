@@ -1,5 +1,6 @@
 //! A session carries out the items of an input, one after another.
 
+ghost use Rattle.lis_model.specs.Step.{step};
 ghost use Rattle.lis_session.specs.Served.{IsReady, HasDone, HasStopped};
 
 use crate::end::End;
@@ -9,13 +10,15 @@ use lis_line::reader::{Item, Payload};
 use lis_ports::Station;
 
 impl Carrier for Session {
+    type Item = Item;
+
     type Fault = End;
 
     ghost is_ready = { λ session m more. IsReady session m };
 
-    ghost has_done = { HasDone };
+    ghost has_done = { HasDone step };
 
-    ghost has_stopped = { HasStopped };
+    ghost has_stopped = { HasStopped step };
 
     fn carry<T: Station>(
         &mut self,

@@ -6,9 +6,11 @@ ghost use Rattle.lis_eval.specs.Room.{HasRoom};
 ghost use Rattle.lis_catalog.specs.Catalog.{slot_of, rec_at};
 ghost use Rattle.lis_fields.specs.Records.{FileRecord};
 ghost use Rattle.lis_model.specs.Changes.{file_of};
-ghost use Rattle.lis_model.specs.Step.{cat};
+ghost use Rattle.lis_model.specs.Replies.{content_lines};
+ghost use Rattle.lis_model.specs.Step.{Situation, shown, cat};
 ghost use Rattle.lis_store.specs.Stored.{IsSound, StoreFits};
-ghost use Rattle.lis_session.specs.Parts.{only_shows, Does, Ends};
+ghost use Rattle.lis_session.specs.Item.{Does};
+ghost use Rattle.lis_session.specs.Parts.{only_shows, Ends};
 
 use crate::end::End;
 use crate::replies::{answer_bytes, answer_refusal, answer_size};
@@ -38,7 +40,7 @@ fn show_block<T: Station>(
     requires unbroken { store.now.is_broken ≡ false }
     requires long { 4096 * store.now.journal.blocks ≤ (T.meaning station.old).len }
     ensures shows { (name : List ℕ) → slot_of store.now.parts.catalog name ≡ Some slot
-        → Does (λ now. only_shows (part (4096 * n) 4096 (file_of now.state.files name).bytes) now) (StoreFits store.now (T.meaning station.old)) []
+        → Does (λ (now : Situation). only_shows (part (4096 * n) 4096 (file_of now.state.files name).bytes) now) (StoreFits store.now (T.meaning station.old)) []
         (T.meaning station.old) (T.meaning station.new) result (StoreFits store.now (T.meaning station.new)) [] }
     ensures ends { Ends (T.meaning station.old) (T.meaning station.new) result }
     ensures whole { length block.new ≡ 4096 }
@@ -50,14 +52,19 @@ fn show_block<T: Station>(
     answer_bytes(station, &block[..rest.min(BLOCK_LEN)])
 }
 
-// Shows the bytes of the file in the slot, block by block.
-fn show_content<T: Station>(store: &Store, slot: u16, size: u32, station: &mut T) -> Result<(), End>
+/// Shows the bytes of the file in the slot, block by block.
+pub fn show_content<T: Station>(
+    store: &Store,
+    slot: u16,
+    size: u32,
+    station: &mut T,
+) -> Result<(), End>
     requires sound { IsSound store.now }
     requires size { IsSomeAnd (rec_at store.now.parts.catalog slot) (λ (rec : FileRecord). size ≡ rec.size) }
     requires unbroken { store.now.is_broken ≡ false }
     requires long { 4096 * store.now.journal.blocks ≤ (T.meaning station.old).len }
     ensures shows { (name : List ℕ) → slot_of store.now.parts.catalog name ≡ Some slot
-        → Does (λ now. only_shows (file_of now.state.files name).bytes now) (StoreFits store.now (T.meaning station.old)) []
+        → Does (λ (now : Situation). only_shows (file_of now.state.files name).bytes now) (StoreFits store.now (T.meaning station.old)) []
         (T.meaning station.old) (T.meaning station.new) result (StoreFits store.now (T.meaning station.new)) [] }
     ensures ends { Ends (T.meaning station.old) (T.meaning station.new) result }
 {
@@ -66,6 +73,23 @@ fn show_content<T: Station>(store: &Store, slot: u16, size: u32, station: &mut T
         show_block(store, slot, size, n, &mut block, station)?;
     }
     Ok(())
+}
+
+// Shows the file in the slot: its size, its bytes, and a line feed behind them.
+fn show_file<T: Station>(store: &Store, slot: u16, station: &mut T) -> Result<(), End>
+    requires sound { IsSound store.now }
+    requires slot { (name : List ℕ) × (slot_of store.now.parts.catalog name ≡ Some slot) }
+    requires unbroken { store.now.is_broken ≡ false }
+    requires long { 4096 * store.now.journal.blocks ≤ (T.meaning station.old).len }
+    ensures shows { (name : List ℕ) → slot_of store.now.parts.catalog name ≡ Some slot
+        → Does (λ (now : Situation). shown now (content_lines (file_of now.state.files name).bytes)) (StoreFits store.now (T.meaning station.old)) []
+        (T.meaning station.old) (T.meaning station.new) result (StoreFits store.now (T.meaning station.new)) [] }
+    ensures ends { Ends (T.meaning station.old) (T.meaning station.new) result }
+{
+    let size = store.file_size(slot);
+    answer_size(station, size)?;
+    show_content(store, slot, size, station)?;
+    answer_bytes(station, b"\nok\n")
 }
 
 /// Shows the file of that name: its size, its bytes, and a line feed behind them.
@@ -88,8 +112,5 @@ pub fn cat<T: Station>(
     let Some(slot) = store.slot_here(scratch, place, name) else {
         return answer_refusal(station, &Refusal::NoFileHere);
     };
-    let size = store.file_size(slot);
-    answer_size(station, size)?;
-    show_content(store, slot, size, station)?;
-    answer_bytes(station, b"\nok\n")
+    show_file(store, slot, station)
 }

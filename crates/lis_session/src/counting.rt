@@ -1,12 +1,12 @@
 //! Showing how much there is.
 
-ghost use Rattle.std.specs.Prelude.{◌≡◌, ◌++◌, List};
+ghost use Rattle.std.specs.Prelude.{List};
 ghost use Rattle.lis_grammar.specs.Formula.{Formula};
-ghost use Rattle.lis_model.specs.Replies.{ok_line};
 ghost use Rattle.lis_model.specs.Step.{stat};
 ghost use Rattle.lis_store.specs.Stored.{IsSound, StoreFits};
-ghost use Rattle.lis_session.specs.Parts.{Answers, Does, Ends};
-ghost use Rattle.lis_session.specs.Counting.{counts_text};
+ghost use Rattle.lis_session.specs.Item.{Does};
+ghost use Rattle.lis_session.specs.Parts.{Answers, Ends};
+ghost use Rattle.lis_session.specs.Counting.{counts_reply};
 
 use crate::end::End;
 use crate::replies::{answer_count, answer_ok};
@@ -15,7 +15,7 @@ use lis_store::{Counts, Store};
 
 // Shows the counts, a line each, and that the command was done.
 fn answer_counts<T: Station>(station: &mut T, counts: &Counts) -> Result<(), End>
-    ensures { Answers (T.meaning station.old) (T.meaning station.new) (counts_text counts.now ++ ok_line) result }
+    ensures { Answers (T.meaning station.old) (T.meaning station.new) (counts_reply counts.now) result }
 {
     answer_count(station, b"s files", counts.files)?;
     answer_count(station, b"s known", counts.known)?;

@@ -6,7 +6,8 @@ ghost use Rattle.lis_eval.specs.Room.{HasRoom};
 ghost use Rattle.lis_model.specs.Replies.{body_line, ok_line};
 ghost use Rattle.lis_model.specs.Step.{props};
 ghost use Rattle.lis_store.specs.Stored.{IsSound, StoreFits};
-ghost use Rattle.lis_session.specs.Parts.{Answers, Does, Ends};
+ghost use Rattle.lis_session.specs.Item.{Does};
+ghost use Rattle.lis_session.specs.Parts.{Answers, Ends};
 ghost use Rattle.lis_session.specs.Described.{words_had};
 
 use crate::end::End;

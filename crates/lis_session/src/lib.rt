@@ -5,13 +5,13 @@ ghost use Rattle.lis_session.specs.Session.{OneForm};
 
 mod carrying;
 mod changes;
-mod content;
+pub mod content;
 mod counting;
 mod description;
 pub mod end;
 mod listing;
 mod moving;
-mod replies;
+pub mod replies;
 mod route;
 pub mod session;
 pub mod tally;

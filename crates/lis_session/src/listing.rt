@@ -8,7 +8,8 @@ ghost use Rattle.lis_model.specs.Replies.{listing_lines, ok_line};
 ghost use Rattle.lis_model.specs.Step.{ls};
 ghost use Rattle.lis_store.specs.Seen.{table_of};
 ghost use Rattle.lis_store.specs.Stored.{IsSound, StoreFits};
-ghost use Rattle.lis_session.specs.Parts.{shown_line, Answers, Does, Ends};
+ghost use Rattle.lis_session.specs.Item.{Does};
+ghost use Rattle.lis_session.specs.Parts.{shown_line, Answers, Ends};
 
 use crate::end::End;
 use crate::replies::{answer_line, answer_ok};

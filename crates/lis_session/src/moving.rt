@@ -8,7 +8,9 @@ ghost use Rattle.lis_grammar.specs.Formula.{Formula};
 ghost use Rattle.lis_grammar.specs.Places.{resolved, text_words};
 ghost use Rattle.lis_grammar.specs.Places.Resolution.{NewPlace};
 ghost use Rattle.lis_place.specs.Nodes.{node_words};
-ghost use Rattle.lis_session.specs.Parts.{led_to};
+ghost use Rattle.lis_model.specs.State.{State, known};
+ghost use Rattle.lis_model.specs.Step.{cd};
+ghost use Rattle.lis_session.specs.Parts.{answer_of, led_to};
 
 use lis_eval::View;
 use lis_formula::{FormulaFault, read_formula, resolve};
@@ -44,8 +46,8 @@ fn knows_text(store: &Store, text: &[u8]) -> bool
     }
 }
 
-/// The place to which a text leads, or why it is refused.
-pub fn led_to(store: &Store, place: &Place, text: &Text) -> Result<Place, Refusal>
+// The place to which a text leads, or why it is refused.
+fn led_to(store: &Store, place: &Place, text: &Text) -> Result<Place, Refusal>
     ensures { result ≡ led_to (words store.now.parts.dict) text.now (resolved place.now text.now) }
 {
     let next = match resolve(place, text.bytes()) {
@@ -57,4 +59,14 @@ pub fn led_to(store: &Store, place: &Place, text: &Text) -> Result<Place, Refusa
         return Ok(next);
     }
     Err(Refusal::UnknownProperty)
+}
+
+/// Goes to the place to which the text leads.
+pub fn go(store: &Store, place: &mut Place, text: &Text) -> Result<(), Refusal>
+    ensures { (state : State) → known state ≡ words store.now.parts.dict
+        → cd (record { state = state; place = place.old }) text.now ≡ record { next = record { state = state; place = place.new }; reply = answer_of result } }
+{
+    let next = led_to(store, place, text)?;
+    *place = next;
+    Ok(())
 }

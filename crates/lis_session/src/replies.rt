@@ -3,7 +3,7 @@
 ghost use Rattle.std.specs.Prelude.{◌≡◌, ◌++◌, codes};
 ghost use Rattle.lis_grammar.specs.Printing.{printed};
 ghost use Rattle.lis_model.specs.Replies.{body_line, number_line, ok_line, refusal_line};
-ghost use Rattle.lis_session.specs.Parts.{Answers, Concludes};
+ghost use Rattle.lis_session.specs.Parts.{answer_of, Answers, Concludes};
 
 use crate::end::End;
 use lis_formula::print;
@@ -59,6 +59,16 @@ pub fn answer_refusal<T: Station>(station: &mut T, refusal: &Refusal) -> Result<
 {
     show_refusal(station, refusal)?;
     Ok(())
+}
+
+/// Shows whether a command was done, or why it is refused.
+pub fn answer_result<T: Station>(station: &mut T, answer: Result<(), Refusal>) -> Result<(), End>
+    ensures { Answers (T.meaning station.old) (T.meaning station.new) (answer_of answer) result }
+{
+    match answer {
+        Ok(()) => answer_ok(station),
+        Err(refusal) => answer_refusal(station, &refusal),
+    }
 }
 
 /// Shows the place.

@@ -8,7 +8,8 @@ ghost use Rattle.lis_model.specs.Replies.{body_line, ok_line};
 ghost use Rattle.lis_model.specs.Step.{way};
 ghost use Rattle.lis_store.specs.Seen.{seen_of};
 ghost use Rattle.lis_store.specs.Stored.{IsSound, StoreFits};
-ghost use Rattle.lis_session.specs.Parts.{Answers, Does, Ends};
+ghost use Rattle.lis_session.specs.Item.{Does};
+ghost use Rattle.lis_session.specs.Parts.{Answers, Ends};
 
 use crate::end::End;
 use crate::replies::{answer_line, answer_ok, answer_refusal};

@@ -2,29 +2,30 @@
 
 ghost use Rattle.std.specs.Prelude.{◌≡◌, ◌+◌, ◌*◌, ◌≤◌, [], false, IfOk, IfSome, IsSome};
 ghost use Rattle.lis_ports.specs.Runs.{IsDiskRun};
-ghost use Rattle.lis_ports.specs.Calls.{HasCause, DiskFaultEnds, StationFaultEnds};
+ghost use Rattle.lis_ports.specs.Calls.{HasCause, DiskFaultEnds};
 ghost use Rattle.lis_eval.specs.Room.{HasRoom};
 ghost use Rattle.lis_line.specs.Reading.{asked_by};
-ghost use Rattle.lis_model.specs.Step.{cd, pwd, done};
-ghost use Rattle.lis_store.specs.Stored.{Stored, IsSound, StoreFits};
-ghost use Rattle.lis_session.specs.Item.{CarriesOut, HasEndCause, IsSameStation, StoreLeft};
-ghost use Rattle.lis_session.specs.Parts.{Does, Ends};
+ghost use Rattle.lis_model.specs.Step.{done, step};
+ghost use Rattle.lis_store.specs.Stored.{IsSound, StoreFits};
+ghost use Rattle.lis_session.specs.Item.{CarriesOut, Does, StoreLeft};
+ghost use Rattle.lis_session.specs.Parts.{Ends};
+ghost use Rattle.lis_session.specs.Served.{SessionKeeps};
 ghost use Rattle.lis_session.specs.Tally.{TalliesItem};
 
-use crate::changes::{add, axiom, create, mkdir, mv, rename, rm, rmdir, unaxiom, write};
+use crate::changes::change;
 use crate::content::cat;
 use crate::counting::stat;
 use crate::description::props;
 use crate::end::End;
 use crate::listing::ls;
-use crate::moving::led_to;
-use crate::replies::{answer_ok, answer_place, answer_refusal};
+use crate::moving::go;
+use crate::replies::{answer_place, answer_refusal, answer_result, conclude};
 use crate::route::way;
 use crate::tally::{Tally, no_listing, tally_command};
 use lis_eval::Scratch;
 use lis_line::reader::{Item, Payload};
 use lis_model::command::Command;
-use lis_place::{Place, Text};
+use lis_place::Place;
 use lis_ports::{Disk, Failed, Station};
 use lis_store::Store;
 use std::alloc::{AllocError, Global};
@@ -91,33 +92,8 @@ impl Session {
     }
 }
 
-// Shows the place. No store is looked at, so any one fits as before.
-fn pwd<T: Station>(place: &Place, station: &mut T) -> Result<(), End>
-    ensures carries { (k : Stored) → Does pwd (StoreFits k (T.meaning station.old)) place.now
-        (T.meaning station.old) (T.meaning station.new) result (StoreFits k (T.meaning station.new)) place.now }
-    ensures ends { Ends (T.meaning station.old) (T.meaning station.new) result }
-{
-    answer_place(station, place)
-}
-
-// Goes to the place to which the text leads.
-fn cd<T: Station>(store: &Store, place: &mut Place, text: &Text, station: &mut T) -> Result<(), End>
-    requires { IsSound store.now }
-    ensures carries { Does (λ now. cd now text.now) (StoreFits store.now (T.meaning station.old)) place.old
-        (T.meaning station.old) (T.meaning station.new) result (StoreFits store.now (T.meaning station.new)) place.new }
-    ensures ends { Ends (T.meaning station.old) (T.meaning station.new) result }
-{
-    match led_to(store, place, text) {
-        Ok(next) => {
-            *place = next;
-            answer_ok(station)
-        }
-        Err(refusal) => answer_refusal(station, &refusal),
-    }
-}
-
 // Carries out a command.
-fn carry_out<T: Station>(
+fn carry_command<T: Station>(
     store: &mut Store,
     scratch: &mut Scratch,
     place: &mut Place,
@@ -137,23 +113,55 @@ fn carry_out<T: Station>(
     ensures left { StoreLeft store.old store.new result }
 {
     match command {
-        Command::Mkdir(word) => mkdir(store, place, word, station),
-        Command::Rmdir(word) => rmdir(store, word, station),
-        Command::Axiom(left, right) => axiom(store, scratch, left, right, station),
-        Command::Unaxiom(left, right) => unaxiom(store, scratch, left, right, station),
-        Command::Create(name, tags) => create(store, scratch, place, name, tags, station),
-        Command::Add(name, tags) => add(store, scratch, place, name, tags, payload, station),
-        Command::Write(name) => write(store, scratch, place, name, payload, station),
         Command::Cat(name) => cat(store, scratch, place, name, station),
-        Command::Mv(name, text) => mv(store, scratch, place, name, text, station),
-        Command::Rename(name, other) => rename(store, scratch, place, name, other, station),
-        Command::Rm(name) => rm(store, scratch, place, name, station),
-        Command::Cd(text) => cd(store, place, text, station),
-        Command::Pwd => pwd(place, station),
+        Command::Cd(text) => answer_result(station, go(store, place, text)),
+        Command::Pwd => answer_place(station, place),
         Command::Ls => ls(store, scratch, place, station),
         Command::Props(name) => props(store, scratch, place, name, station),
         Command::Way(name) => way(store, scratch, place, name, station),
         Command::Stat => stat(store, station),
+        Command::Mkdir(_)
+        | Command::Rmdir(_)
+        | Command::Axiom(..)
+        | Command::Unaxiom(..)
+        | Command::Create(..)
+        | Command::Add(..)
+        | Command::Write(_)
+        | Command::Mv(..)
+        | Command::Rename(..)
+        | Command::Rm(_) => {
+            let changed = change(store, scratch, place, command, payload, station);
+            conclude(station, changed)
+        }
+    }
+}
+
+/// Carries out one item on a store, at a place, and shows its reply.
+pub fn carry_out<T: Station>(
+    store: &mut Store,
+    scratch: &mut Scratch,
+    place: &mut Place,
+    item: &Item,
+    payload: &Payload,
+    station: &mut T,
+) -> Result<(), End>
+    requires asked { IsSome (asked_by item.now payload.now) }
+    requires sound { IsSound store.old }
+    requires scratch { HasRoom scratch.old store.old.parts.limits }
+    requires unbroken { store.old.is_broken ≡ false }
+    requires long { 4096 * store.old.journal.blocks ≤ (T.meaning station.old).len }
+    ensures carries { IfSome (asked_by item.now payload.now)
+        (CarriesOut step (StoreFits store.old (T.meaning station.old)) place.old (T.meaning station.old) (T.meaning station.new) result
+        (StoreFits store.new (T.meaning station.new)) place.new) }
+    ensures ends { Ends (T.meaning station.old) (T.meaning station.new) result }
+    ensures left { StoreLeft store.old store.new result }
+    ensures sound { IsSound store.new }
+    ensures scratch { HasRoom scratch.new store.old.parts.limits }
+{
+    match item {
+        Item::Command(command) => carry_command(store, scratch, place, command, payload, station),
+        Item::Bad(refusal) => answer_refusal(station, refusal),
+        Item::End | Item::Limit => unreachable!(),
     }
 }
 
@@ -169,27 +177,18 @@ impl Session {
         requires unbroken { self.old.store.is_broken ≡ false }
         requires long { 4096 * self.old.store.journal.blocks ≤ (T.meaning station.old).len }
         ensures carries { IfSome (asked_by item.now payload.now)
-            (CarriesOut (StoreFits self.old.store (T.meaning station.old)) self.old.place (T.meaning station.old) (T.meaning station.new) result
+            (CarriesOut step (StoreFits self.old.store (T.meaning station.old)) self.old.place (T.meaning station.old) (T.meaning station.new) result
             (StoreFits self.new.store (T.meaning station.new)) self.new.place) }
-        ensures cause { HasEndCause (T.meaning station.old) (T.meaning station.new) result }
-        ensures first_fault { StationFaultEnds (T.meaning station.old) (T.meaning station.new) }
-        ensures left { StoreLeft self.old.store self.new.store result }
-        ensures same { IsSameStation (T.meaning station.old) (T.meaning station.new) }
-        ensures sound { IsSound self.new.store }
+        ensures keeps { SessionKeeps self.old (T.meaning station.old) self.new (T.meaning station.new) result }
     {
-        let store = &mut self.store;
-        match item {
-            Item::Command(command) => carry_out(
-                store,
-                &mut self.scratch,
-                &mut self.place,
-                command,
-                payload,
-                station,
-            ),
-            Item::Bad(refusal) => answer_refusal(station, refusal),
-            Item::End | Item::Limit => unreachable!(),
-        }
+        carry_out(
+            &mut self.store,
+            &mut self.scratch,
+            &mut self.place,
+            item,
+            payload,
+            station,
+        )
     }
 
     /// Carries out one item. Its reply is tallied, and not shown.

@@ -3,25 +3,22 @@
 ghost use Rattle.std.specs.Prelude.{◌≡◌, ◌+◌, ◌*◌, ◌≤◌, ◌<◌, ◌^◌, length, false, not, IfOk};
 ghost use Rattle.lis_ports.specs.Runs.{IsDiskRun};
 ghost use Rattle.lis_ports.specs.Calls.{HasCause, DiskFaultEnds};
-ghost use Rattle.lis_dict.specs.Dict.{words};
 ghost use Rattle.lis_eval.specs.Room.{HasRoom};
-ghost use Rattle.lis_grammar.specs.Places.{resolved};
 ghost use Rattle.lis_model.specs.Listing.{increments, locals};
 ghost use Rattle.lis_model.specs.Step.{done};
 ghost use Rattle.lis_store.specs.Seen.{table_of};
 ghost use Rattle.lis_store.specs.Judging.{is_among};
 ghost use Rattle.lis_store.specs.Stored.{IsSound, StoreFits};
-ghost use Rattle.lis_session.specs.Parts.{led_to};
-ghost use Rattle.lis_session.specs.Tally.{lines_listed, Concluded, Tallies, Went};
+ghost use Rattle.lis_session.specs.Tally.{lines_listed, Concluded, Tallies};
 
-use crate::moving::led_to;
+use crate::changes::change;
+use crate::moving::go;
 use lis_eval::Scratch;
 use lis_incr::{Listing, lines, make_listing};
 use lis_line::reader::Payload;
 use lis_model::command::Command;
-use lis_place::{Place, Text};
+use lis_place::Place;
 use lis_ports::{Disk, Failed};
-use lis_store::laws::create_is_add;
 use lis_store::{Change, Store};
 use lis_words::Name;
 
@@ -76,20 +73,6 @@ fn count_listing(store: &Store, scratch: &mut Scratch, place: &Place) -> u64
     count_lines(lines(store, scratch))
 }
 
-// Goes to the place to which the text leads.
-fn go(store: &Store, place: &mut Place, text: &Text) -> Tally
-    ensures lists { result.listed ≡ 0 }
-    ensures went { Went (led_to (words store.now.parts.dict) text.now (resolved place.old text.now)) place.old place.new result }
-{
-    match led_to(store, place, text) {
-        Ok(next) => {
-            *place = next;
-            no_listing(false)
-        }
-        Err(_) => no_listing(true),
-    }
-}
-
 // Whether there is the file of which something is to be shown.
 fn look(store: &Store, scratch: &mut Scratch, place: &Place, name: &Name) -> Tally
     requires { HasRoom scratch.old store.now.parts.limits }
@@ -141,31 +124,23 @@ pub(crate) fn tally_command<D: Disk>(
     ensures unbroken { IfOk result (λ _. store.new.is_broken ≡ false) }
     ensures few { IfOk result (λ tally. tally.listed ≤ store.old.parts.limits.props + store.old.parts.limits.files) }
 {
-    let bytes = payload.bytes();
-    let size = payload.size();
     match command {
-        Command::Mkdir(word) => concluded(store.declare(disk, place, word)),
-        Command::Rmdir(word) => concluded(store.undeclare(disk, word)),
-        Command::Axiom(left, right) => concluded(store.axiom(disk, scratch, left, right)),
-        Command::Unaxiom(left, right) => concluded(store.unaxiom(disk, scratch, left, right)),
-        Command::Create(name, tags) => {
-            // To create a file is to add one without bytes.
-            create_is_add();
-            concluded(store.add_file(disk, scratch, place, name, tags, &[], 0))
-        }
-        Command::Add(name, tags) => concluded(store.add_file(
-            disk, scratch, place, name, tags, bytes, size,
-        )),
-        Command::Write(name) => concluded(store.write(disk, scratch, place, name, bytes, size)),
-        Command::Mv(name, text) => concluded(store.retag(disk, scratch, place, name, text)),
-        Command::Rename(name, other) => concluded(store.rename(disk, scratch, place, name, other)),
-        Command::Rm(name) => concluded(store.remove(disk, scratch, place, name)),
         Command::Cat(name) => Ok(look(store, scratch, place, name)),
         Command::Props(name) => Ok(look(store, scratch, place, name)),
         Command::Way(name) => Ok(look(store, scratch, place, name)),
-        Command::Cd(text) => Ok(go(store, place, text)),
+        Command::Cd(text) => Ok(no_listing(go(store, place, text).is_err())),
         Command::Ls => Ok(list(store, scratch, place)),
         Command::Pwd => Ok(no_listing(false)),
         Command::Stat => Ok(no_listing(false)),
+        Command::Mkdir(_)
+        | Command::Rmdir(_)
+        | Command::Axiom(..)
+        | Command::Unaxiom(..)
+        | Command::Create(..)
+        | Command::Add(..)
+        | Command::Write(_)
+        | Command::Mv(..)
+        | Command::Rename(..)
+        | Command::Rm(_) => concluded(change(store, scratch, place, command, payload, disk)),
     }
 }

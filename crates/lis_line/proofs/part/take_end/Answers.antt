@@ -1,5 +1,6 @@
 use Rattle.std.proofs.Common.{[], ◌∷◌, sym, ◌∙◌, arith, refl}
 use Rattle.lis_model.specs.Script.{item_of, first_ended}
+use Rattle.lis_line.specs.Reading.{item_with}
 use Rattle.lis_line.specs.Parts.{first_dropped}
 use Rattle.lis_line.proofs.Bytes.{gave_none, gave_stopped}
 use Rattle.lis_line.proofs.Parts.{ended_whole, ended_last, part_behind}
@@ -25,5 +26,5 @@ returns-then-is_feed-clause-takes g c = λ payload.
 pub returns-clause-takes : goal.returns-clause-takes
 returns-clause-takes g c = λ payload.
     let given = rw c.in-Some.is at c.in_ok-byte.ensures.gives in
-    part_behind (first_ended (item_of c.args.line.now payload)) first_dropped _ c.next_byte.new.self _ _ (g.S.Source.left c.next_byte.new.source) _ (c.in-Some.byte ∷ []) payload
+    part_behind (first_ended (item_of c.args.line.now payload)) first_dropped (item_with payload) _ c.next_byte.new.self _ _ (g.S.Source.left c.next_byte.new.source) _ (c.in-Some.byte ∷ [])
     c.drop_line.result (record { took = given.0; rest = omega arith }) (λ more. rw (sym c.is_feed.ensures ∙ c.if-is_feed.false) refl) (c.drop_line.ensures.takes payload)

@@ -5,7 +5,7 @@ use Rattle.lis_line.proofs.taken.take_asked.Given as goal
 
 abbrev pub invariant-loop-asked : goal.invariant-loop-asked
 invariant-loop-asked g l = record {
-  skipping : Skipping l.fn.stock l.stock (g.S.Source.left l.fn.source) (g.S.Source.left l.source);
+  skipping : Skipping g.I.InputItem.cut l.fn.stock l.stock (g.S.Source.left l.fn.source) (g.S.Source.left l.source);
   faults : g.S.Source.faults l.source ≡ g.S.Source.faults l.fn.source;
   first_fault : FaultEnds (g.S.Source.faults l.fn.source) (g.S.Source.behind l.fn.source) (g.S.Source.behind l.source);
 }

@@ -1,7 +1,7 @@
 use Rattle.std.proofs.Common.{refl, ◌∙◌}
 use Rattle.lis_model.specs.Step.{Situation, stat}
 use Rattle.lis_store.proofs.Counted.{counts_state}
-use Rattle.lis_session.proofs.Answering.{shows_item}
+use Rattle.lis_session.proofs.Saying.{shows_item}
 use Rattle.lis_session.proofs.Counted.{counts_shown}
 use Rattle.lis_session.proofs.counting.stat.Goals as goal
 

@@ -18,4 +18,4 @@ returns-in-Bad-clause-tallies g c =
     let place : c.self.inside.place ≡ c.args.self.now.place = ap (λ (s : Situated). s.place) c.self.view_is in
     rw (c.in-Bad.is, c.no_listing.ensures, store, place) (λ state fitting.
     let now : Situation = record { state = state; place = c.args.self.now.place } in
-    tallied_still (refused now c.in-Bad.field-0) 0 c.args.self.now.place _ fitting refl refl refl refl)
+    tallied_still (refused now c.in-Bad.field-0) 0 c.args.self.now.place _ _ fitting refl refl)

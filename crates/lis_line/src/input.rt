@@ -1,0 +1,59 @@
+//! Inputs of any kind of items, taken part by part.
+
+ghost use Rattle.std.specs.Prelude.{◌≡◌, ℕ, ◌<◌, ◌≤◌, length, Option, Some, ⊤};
+ghost use Rattle.lis_ports.specs.Calls.{HasCause, FaultEnds};
+ghost use Rattle.lis_model.specs.Step.{Payload as Told};
+ghost use Rattle.lis_model.specs.Script.{Cut};
+ghost use Rattle.lis_line.specs.Reading.{GivesPart};
+
+use crate::payload::Payload;
+use crate::stock::Stock;
+use lis_ports::{Failed, Source};
+
+/// What was taken of the input, and what it asks for; None where it asks for nothing.
+pub enum Part<R> {
+    /// A part with its own line feed.
+    Whole(Option<R>),
+    /// The last part, at the end of the input.
+    Last(Option<R>),
+    /// The byte past the limit.
+    PastLimit,
+}
+
+/// An item of some kind of input.
+pub trait InputItem: Drop {
+    /// What an item asks for, as clauses have it.
+    type Asked;
+
+    /// What a part asks for, without its payload.
+    type Request: Drop;
+
+    /// How an input is cut into items.
+    ghost cut: { Cut Self.Asked };
+
+    /// What a part asks for, with its payload.
+    ghost asks: { Told → Self.Request → Self.Asked };
+
+    /// What an item asks for, with its payload; the end and the limit ask for nothing.
+    ghost asked: { Self → Told → Option Self.Asked };
+
+    /// Whether a reader may give this.
+    ghost is_said: { Self → Type 0 } = { λ _. ⊤ };
+
+    /// Takes a line, and what belongs to it.
+    fn take_part<S: Source>(
+        stock: &mut Stock,
+        payload: &mut Payload,
+        source: &mut S,
+    ) -> Result<Part<Self::Request>, Failed>
+        requires { 0 < stock.old.rest }
+        ensures gives { GivesPart cut (asks payload.new) stock.old stock.new (S.left source.old) (S.left source.new) result }
+        ensures few { length stock.new.ahead ≤ stock.new.rest }
+        ensures cause { HasCause (S.faults source.old) (S.faults source.new) result }
+        ensures first_fault { FaultEnds (S.faults source.old) (S.behind source.old) (S.behind source.new) };
+
+    /// The item that asks for this.
+    fn of(request: Self::Request) -> Self
+        ensures asks { (payload : Told) → asked result payload ≡ Some (asks payload request) }
+        ensures said { is_said result };
+}
