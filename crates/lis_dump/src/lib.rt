@@ -1,9 +1,11 @@
-//! The dump of a state: the session that makes the state again, as text.
+//! The dump of the state for which an image stands, shown: the session that makes the state again, as text.
 #![tactic(auto)]
 
-ghost use Rattle.lis_dump.specs.Law.{DumpsMake};
+mod axioms;
+mod dump;
+mod files;
+mod lines;
+mod showing;
+mod words;
 
-/// From the empty state of the same limits the session is answered by `ok` alone, and makes the state again.
-pub fn dumps_make()
-    ensures { DumpsMake }
-{}
+pub use dump::dump_state;

@@ -42,3 +42,4 @@ pub mod UnderOthers
 pub mod StandsUnder
 pub mod AxiomTaken
 pub mod NeededTold
+pub mod FirstRight

@@ -15,3 +15,4 @@ pub mod Undeclaring
 pub mod TestEdges
 pub mod Widening
 pub mod Under
+pub mod Behind

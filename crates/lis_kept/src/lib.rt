@@ -3,6 +3,7 @@
 //! Each change of memory marks the blocks that it touches, and one loop stages all marked blocks, each spelled whole.
 #![tactic(auto)]
 
+mod behind;
 mod changes;
 mod joining;
 mod linking;

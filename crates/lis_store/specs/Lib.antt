@@ -23,3 +23,4 @@ pub mod Testing
 pub mod ReplacingIn
 pub mod Instead
 pub mod Retagging
+pub mod Codes

@@ -1,7 +1,10 @@
-//! How much a store has.
+//! How much a store has, and its axioms.
 
 ghost use Rattle.std.specs.Prelude.{◌≡◌, length, count_by};
+ghost use Rattle.std.specs.List.{find};
+ghost use Rattle.std.specs.Option.{option_map};
 ghost use Rattle.lis_blockmap.specs.Bitmap.{free_count};
+ghost use Rattle.lis_kept.specs.Behind.{rights_of, is_behind};
 ghost use Rattle.lis_kept.specs.Linking.{is_filled};
 ghost use Rattle.lis_kept.specs.Telling.{axioms_of};
 ghost use Rattle.lis_model.specs.Changes.{has_axiom};
@@ -49,5 +52,13 @@ impl Store {
             return false;
         };
         parts.has_axiom(from, to)
+    }
+
+    /// Of the words to which axioms lead from a word, the first in byte order that comes behind the last one, where one is given: so
+    /// a loop takes the axioms of a word in order. It looks once at each slot of an axiom.
+    pub fn axiom_behind(&self, left: &Word, last: Option<&Word>) -> Option<Word>
+        ensures { result ≡ find (is_behind (option_map (λ w. w.now) last.entry)) (rights_of (axioms_of self.now.parts) left.now) }
+    {
+        self.parts().axiom_behind(left, last)
     }
 }

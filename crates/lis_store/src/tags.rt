@@ -37,17 +37,26 @@ fn words_of(parts: &Parts, numbers: &[u16]) -> ArrayVec<Word, 16>
 }
 
 impl Store {
+    /// The words, in byte order, that the file in a slot was given.
+    pub fn tags(&self, slot: u16) -> ArrayVec<Word, 16>
+        requires { IsSome (rec_at self.now.parts.catalog slot) }
+        ensures { IsSomeAnd (rec_at self.now.parts.catalog slot)
+            (λ (rec : FileRecord). result.items ≡ words_told self.now.parts.dict rec.tags) }
+    {
+        let parts = self.parts();
+        let Some(rec) = parts.rec(slot) else {
+            unreachable!()
+        };
+        words_of(parts, rec.tags.as_slice())
+    }
+
     /// The k-th word, in byte order, that the file in a slot was given.
     pub fn tag_at(&self, slot: u16, k: u32) -> Option<Word>
         requires { IsSome (rec_at self.now.parts.catalog slot) }
         ensures { IsSomeAnd (rec_at self.now.parts.catalog slot)
             (λ (rec : FileRecord). result ≡ slice_get (words_told self.now.parts.dict rec.tags) k) }
     {
-        let parts = self.parts();
-        let Some(rec) = parts.rec(slot) else {
-            unreachable!()
-        };
-        let words = words_of(parts, rec.tags.as_slice());
+        let words = self.tags(slot);
         match words.as_slice().get(k as usize) {
             None => None,
             Some(word) => Some(word.copied()),

@@ -1,0 +1,30 @@
+//! The whole dump.
+
+ghost use Rattle.std.specs.Prelude.{◌≡◌, ◌*◌, ◌≤◌, List, [], false};
+ghost use Rattle.lis_grammar.specs.Formula.{Formula};
+ghost use Rattle.lis_replay.specs.Dump.{dump_of};
+ghost use Rattle.lis_store.specs.Stored.{IsSound, StoreFits};
+ghost use Rattle.lis_session.specs.Item.{Does};
+ghost use Rattle.lis_session.specs.Parts.{only_shows, Ends};
+
+use crate::axioms::show_axioms;
+use crate::files::show_files;
+use crate::words::show_words;
+use lis_ports::Station;
+use lis_session::end::End;
+use lis_store::Store;
+
+/// Shows the dump of the state for which the image stands: each line by one call, and the bytes of each file block by block. It takes
+/// no memory.
+pub fn dump_state<T: Station>(store: &Store, station: &mut T) -> Result<(), End>
+    requires sound { IsSound store.now }
+    requires unbroken { store.now.is_broken ≡ false }
+    requires long { 4096 * store.now.journal.blocks ≤ (T.meaning station.old).len }
+    ensures shows { Does {P = List Formula} (λ now. only_shows (dump_of now.state) now) (StoreFits store.now (T.meaning station.old)) []
+        (T.meaning station.old) (T.meaning station.new) result (StoreFits store.now (T.meaning station.new)) [] }
+    ensures ends { Ends (T.meaning station.old) (T.meaning station.new) result }
+{
+    show_words(store, station)?;
+    show_files(store, station)?;
+    show_axioms(store, station)
+}

@@ -1,0 +1,24 @@
+use Rattle.std.proofs.Common.{sym, ap, ◌∙◌, arith}
+use Rattle.std.specs.Option.{option_map}
+use Rattle.lis_kept.proofs.FirstRight.{taken, first_more, is_taken, not_behind, not_before}
+use Rattle.lis_kept.proofs.behind.first_right.Goals as goal
+use Rattle.lis_kept.proofs.behind.first_right.Goals.{in-Some+then-is_behind+then-is_before, in-Some+else-is_behind, else-is_behind-via-then-is_behind+else-is_before, else-is_behind-via-else-is_behind, in_default}
+
+pub loop-slot-preserved : goal.loop-slot-preserved
+loop-slot-preserved c =
+    let last = option_map (λ w. w.now) c.args.last in
+    let first = c.loop-slot.first in
+    first_more c.args.dict.now c.args.left last first c.right_of.result c.match-right_of.first c.args.axioms.now c.loop-slot.slot-index c.requires
+    (omega (arith, c.loop-slot-test.true, c.loop-slot.auto.slot-index-end)) c.right_of.ensures
+    (elim c.match-right_of.branch [
+      | in-Some+then-is_behind+then-is_before w ↦
+          w.first-is ∙ (is_taken last first w.in-Some.word (sym w.is_behind.ensures ∙ w.if-is_behind.true) (sym w.is_before.ensures ∙ w.if-is_before.true) ∙ ap (taken last first) (sym w.in-Some.is))
+      | in-Some+else-is_behind w ↦
+          w.first-is ∙ (elim w.else-is_behind.branch [
+            | else-is_behind-via-then-is_behind+else-is_before v ↦
+                not_before last first w.in-Some.word (sym w.is_behind.ensures ∙ v.if-is_behind.true) (sym v.is_before.ensures ∙ v.if-is_before.false)
+            | else-is_behind-via-else-is_behind v ↦ not_behind last first w.in-Some.word (sym w.is_behind.ensures ∙ v.if-is_behind.false)
+          ] ∙ ap (taken last first) (sym w.in-Some.is))
+      | in_default w ↦ w.first-is ∙ ap (taken last first) (sym w.in_default.is)
+    ])
+    c.loop-slot.invariant

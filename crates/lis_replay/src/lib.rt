@@ -1,0 +1,9 @@
+//! The dump of a state: the session that makes the state again, as text.
+#![tactic(auto)]
+
+ghost use Rattle.lis_replay.specs.Law.{DumpsMake};
+
+/// From the empty state of the same limits the session is answered by `ok` alone, and makes the state again.
+pub fn dumps_make()
+    ensures { DumpsMake }
+{}

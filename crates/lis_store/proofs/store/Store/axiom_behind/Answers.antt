@@ -1,0 +1,11 @@
+use Rattle.std.proofs.Common.{ap, ◌∙◌}
+use Rattle.std.specs.List.{find}
+use Rattle.std.specs.Option.{option_map}
+use Rattle.lis_kept.specs.Behind.{rights_of, is_behind}
+use Rattle.lis_kept.specs.Kept.{Kept}
+use Rattle.lis_kept.specs.Telling.{axioms_of}
+use Rattle.lis_store.proofs.store.Store.axiom_behind.Goals as goal
+
+pub returns : goal.returns
+returns c =
+    c.axiom_behind.ensures ∙ ap (λ (k : Kept). find (is_behind (option_map (λ w. w.now) c.args.last)) (rights_of (axioms_of k) c.args.left.now)) c.parts.ensures.value
