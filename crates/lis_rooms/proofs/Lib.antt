@@ -1,0 +1,6 @@
+pub mod States
+pub mod Steps
+pub mod Follows
+pub mod Quiet
+pub mod Carried
+mod Examples
