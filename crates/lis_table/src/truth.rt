@@ -2,15 +2,44 @@
 
 ghost use Rattle.std.specs.Prelude.{◌≡◌, ℕ, ◌+◌, ◌<◌, ◌≤◌, Bool, List, [], ◌∷◌, filter, fold, length, IfOk};
 ghost use Rattle.std.specs.List.{list_all};
+ghost use Rattle.lis_words.specs.Words as words;
 ghost use Rattle.lis_model.specs.Listing.{holds_all};
+ghost use Rattle.lis_model.specs.Table.{Entry};
 ghost use Rattle.lis_table.specs.Truth.{last_value, below_last, with_value};
 
 use crate::entry::Entry;
 use crate::words::has_word;
 use arrayvec::ArrayVec;
 use lis_place::{Node, Place};
+use lis_words::Word;
 use std::alloc::{AllocError, Global};
 use std::marker::Model;
+
+/// What formulas are true of.
+pub trait Described {
+    /// The entry of a file with these words and of this size.
+    ghost entry: { Self → Entry };
+
+    /// Whether it has the word.
+    fn has_word(&self, word: &Word) -> bool
+        ensures { result ≡ words.has_word (entry self.now).words word.now };
+
+    /// How many bytes it has.
+    fn size(&self) -> u64
+        ensures { result ≡ (entry self.now).size };
+}
+
+impl Described for Entry {
+    ghost entry = { λ file. file };
+
+    fn has_word(&self, word: &Word) -> bool {
+        has_word(&self.words, word)
+    }
+
+    fn size(&self) -> u64 {
+        self.size
+    }
+}
 
 // Truth values of trees, seen as a stack, the last first.
 #[derive(Drop)]
@@ -63,15 +92,15 @@ impl Values {
     }
 
     // The truth of one more node.
-    fn put(&mut self, node: &Node, file: &Entry)
+    fn put<D: Described>(&mut self, node: &Node, described: &D)
         requires { length self.old < 64 }
-        ensures value { self.new ≡ with_value file.now self.old node.now }
+        ensures value { self.new ≡ with_value (D.entry described.now) self.old node.now }
         ensures count { length self.new ≤ length self.old + 1 }
     {
         match node {
-            Node::Word(word) => self.push(has_word(&file.words, word)),
-            Node::AtLeast(size) => self.push(*size <= file.size),
-            Node::Below(size) => self.push(file.size < *size),
+            Node::Word(word) => self.push(described.has_word(word)),
+            Node::AtLeast(size) => self.push(*size <= described.size()),
+            Node::Below(size) => self.push(described.size() < *size),
             Node::Not => {
                 let value = self.pop();
                 self.push(!value);
@@ -90,22 +119,22 @@ impl Values {
     }
 }
 
-fn values_of(nodes: &[Node], file: &Entry) -> Values
+fn values_of<D: Described>(nodes: &[Node], described: &D) -> Values
     requires { length nodes.now ≤ 64 }
-    ensures { result ≡ fold (with_value file.now) [] nodes.now }
+    ensures { result ≡ fold (with_value (D.entry described.now)) [] nodes.now }
 {
     let mut values = Values::new();
     for node in nodes {
-        values.put(node, file);
+        values.put(node, described);
     }
     values
 }
 
-/// Whether all steps of the place hold of the file.
-pub fn holds_all(place: &Place, file: &Entry) -> bool
-    ensures { result ≡ holds_all place.now file.now }
+/// Whether all steps of the place hold of what is described.
+pub fn holds_all<D: Described>(place: &Place, described: &D) -> bool
+    ensures { result ≡ holds_all place.now (D.entry described.now) }
 {
-    let values = values_of(place.nodes(), file);
+    let values = values_of(place.nodes(), described);
     values.are_all_true()
 }
 

@@ -1,0 +1,8 @@
+//! Parts of a file over bytes in memory: its lines and which of them a formula holds of, its view, and what an edited view makes of it.
+#![tactic(auto)]
+
+pub mod back;
+mod forms;
+mod lines;
+mod stretches;
+mod truth;
