@@ -4,6 +4,7 @@ use Rattle.std.specs.Io.KnownBytes.{append_known}
 use Rattle.lis_ports.specs.Meaning.{Meaning}
 use Rattle.lis_ports.specs.Calls.{IsShowCall, StationFaultEnds}
 use Rattle.lis_model.specs.Step.{Situation, replies, situation_after}
+use Rattle.lis_model.specs.Script.{session_cut}
 use Rattle.lis_line.specs.declared.carrier.Halt.{Halt}
 use Rattle.lis_line.specs.declared.carrier.Halt.TheVariants.{End as AtEnd, Limit as AtLimit, InputFault as AtFault, Stopped}
 use Rattle.lis_line.specs.Endings.{HasEnded, HasHaltCause}
@@ -23,7 +24,7 @@ is_try (Stopped NoMemory) = tt
 -- how the loop over the items ends, over a plain state
 abbrev pub TryEnded : ℕ → Option (List ℕ) → Option (List ℕ) → Situation → Meaning → Situation → Meaning → Halt PlainEnd → Type 0
 TryEnded limit before left start entry now m halt =
-    HasEnded limit before left (λ first. Tried start entry first now m) (λ first item fault. TriedInto start entry first item fault now m) halt
+    HasEnded session_cut limit before left (λ first. Tried start entry first now m) (λ first item fault. TriedInto start entry first item fault now m) halt
 
 pub only_showed : (limit : ℕ) (before left : Option (List ℕ)) (start now : Situation) (entry m : Meaning) (halt : Halt PlainEnd)
     → TryEnded limit before left start entry now m halt → IsShowCall entry m

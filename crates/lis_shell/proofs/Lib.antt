@@ -1,6 +1,6 @@
 mod Forms
 mod Going
-mod Served
 mod Refused
 mod Opened
+mod Steps
 mod Tasks

@@ -1,5 +1,5 @@
 -- What is kept where an image was opened, and the work behind it ended.
-use Rattle.std.proofs.Common.{◌≡◌, ◌⊎◌, ℕ, List, [], Option, Some, Ok, Err, IsTrue, refl, subst, ◌∙◌}
+use Rattle.std.proofs.Common.{◌≡◌, ◌⊎◌, ℕ, List, [], Option, Some, Result, Ok, Err, IsTrue, refl, sym, subst, ◌∙◌}
 use Rattle.lis_ports.specs.Meaning.{Meaning}
 use Rattle.lis_ports.specs.Runs.{Leaves}
 use Rattle.lis_journal.specs.Images.{KeepsPast}
@@ -8,20 +8,24 @@ use Rattle.lis_line.specs.declared.carrier.Halt.TheVariants.{End as AtEnd, Limit
 use Rattle.lis_model.specs.Image.{image_blocks}
 use Rattle.lis_model.specs.State.{State}
 use Rattle.lis_store.specs.Stands.{Stands}
-use Rattle.lis_store.specs.Stored.{Stored, StoreFits}
+use Rattle.lis_store.specs.Stored.{Stored, IsSound, StoreFits}
 use Rattle.lis_store.proofs.OneState.{one_state}
 use Rattle.lis_open.specs.declared.mounting.OpenFault.TheVariants.{DiskFault, NoMemory}
 use Rattle.lis_open.specs.Opens.{IsLongEnough, OpenEnded}
 use Rattle.lis_open.proofs.Needs.{has_super}
 use Rattle.lis_session.specs.declared.end.End.{End}
 use Rattle.lis_session.specs.declared.end.End.TheVariants.{DiskFault as DiskFailed, OutputFault}
+use Rattle.lis_line.specs.Endings.{HasHaltCause}
 use Rattle.lis_session.specs.Item.{HasEndCause}
+use Rattle.lis_session.specs.Ending.{result_of}
 use Rattle.lis_session.specs.Runs.{Goes, OpensInto}
+use Rattle.lis_session.proofs.Fitting.{store_fits_at}
 use Rattle.lis_session.proofs.Whole.{opening_moments, opens_into}
 use Rattle.lis_shell.specs.declared.status.Status.{Status}
 use Rattle.lis_shell.specs.declared.status.Status.TheVariants.{Opening, Ended}
 use Rattle.lis_shell.specs.Causes.{Counts, counts, HasStatusCause, NoFault}
-use Rattle.lis_shell.specs.Image.{Work, Told, EntryWith, WorkEnded, Completes, ImageKeeps}
+use Rattle.lis_shell.specs.Image.{Work, Told, halted, ByResult, EntryWith, WorkEnded, Completes, ComesToEnd, ImageKeeps}
+use Rattle.lis_shell.proofs.Going.{counts_stay}
 use Rattle.lis_shell.proofs.Refused.{IsOpening}
 
 -- the law of a work before anything was shown
@@ -74,14 +78,14 @@ module _ {old mid : Meaning} {unmoved : Type 0} (work : Work) (quiet : IsQuiet w
       (opening_moments (work.moment state bytes) (quiet state bytes) (moments state entry.honest entry.stands)) (did state bytes (fits state entry.honest entry.stands) entry.told))
       (λ state bytes entry n le. (did state bytes (fits state entry.honest entry.stands) entry.told).past n le ∙ opened_past store opening state entry.honest entry.stands n le)
 
-  -- there was no memory behind the opening
-  pub word_crowded : {untouched unmoved_by : Type 0} {left : Option (List ℕ)} → untouched → ((state : State) → StoreFits store mid state → Stands mid.bytes state)
-      → ImageKeeps work untouched unmoved_by left left old mid (Opening NoMemory)
-  word_crowded {untouched} {unmoved_by} {left} still stands_then = record {
+  -- there was no memory behind the opening, and nothing was done
+  pub word_crowded : {new : Meaning} {untouched unmoved_by : Type 0} {left left_after : Option (List ℕ)} → new ≡ mid → left_after ≡ left → untouched → IsSound store
+      → ImageKeeps work untouched unmoved_by left left_after old new (Opening NoMemory)
+  word_crowded {new} {untouched} {unmoved_by} {left} {left_after} same kept still sound = subst (λ m. ImageKeeps work untouched unmoved_by left left_after old m (Opening NoMemory)) (sym same) (record {
     only = tt;
     runs = λ state bytes entry. record {
       moments = opening_moments (work.moment state bytes) (quiet state bytes) (moments state entry.honest entry.stands);
-      ended = (opening.run.shown, entry.told, stands_then state (fits state entry.honest entry.stands));
+      ended = (opening.run.shown, subst (λ known. Told work.takes_input known bytes) (sym kept) entry.told, stands_then state (fits state entry.honest entry.stands));
     };
     past = λ state bytes entry settled. opened_past store opening state entry.honest entry.stands;
     judged = λ honest.
@@ -92,23 +96,48 @@ module _ {old mid : Meaning} {unmoved : Type 0} (work : Work) (quiet : IsQuiet w
     input = λ bytes told. tt;
     measured = record { small = λ less. absurd (cc (opening.small less).0); numbers = λ len need is. absurd (cc); same = λ len need is. absurd (cc) };
     barred = λ honest none. let at = ended honest in absurd (none at.1.0 at.1.1);
-  }
+  })
+    where
+      stands_then : (state : State) → StoreFits store mid state → Stands mid.bytes state
+      stands_then state own = (store_fits_at sound own).stands.reads
 
 -- the cause of an end of a work that takes no input
-pub end_cause : (old new : Meaning) (input : ℕ) (end : End) → HasEndCause old new (Err end) → HasStatusCause (counts old input) (counts new input) (Ended (Stopped end))
-end_cause old new input DiskFailed cause = (cause.0, refl, cause.1)
-end_cause old new input OutputFault cause = (cause.1, cause.0, refl)
+pub halted_cause : (old new : Meaning) (input : ℕ) (result : Result (Unit {0}) End) → HasEndCause old new result → HasStatusCause (counts old input) (counts new input) (Ended (halted result))
+halted_cause old new input (Ok done) cause = counts_stay old new input input cause.0 refl cause.1
+halted_cause old new input (Err DiskFailed) cause = (cause.0, refl, cause.1)
+halted_cause old new input (Err OutputFault) cause = (cause.1, cause.0, refl)
 
--- Where no call failed a work comes to its end, unless its input is too long or there was no memory at the opening.
-pub completes : (work : Work) (state : State) (bytes : List ℕ) (left before : Option (List ℕ)) (new : Meaning) (done : Type 0) (faults faults_after : Counts) (status : Status)
-    → (work.ended state bytes left before new AtEnd → done) → (work.ended state bytes left before new Limit → ⊥)
+-- the same of a session of the items of an input
+pub session_cause : (old new : Meaning) (before after : ℕ) (halt : Halt End) → HasEndCause old new (result_of halt) → HasHaltCause before after halt
+    → HasStatusCause (counts old before) (counts new after) (Ended halt)
+session_cause old new before after AtEnd cause input = counts_stay old new before after cause.0 input cause.1
+session_cause old new before after Limit cause input = counts_stay old new before after cause.0 input cause.1
+session_cause old new before after InputFault cause input = (input, cause.0, cause.1)
+session_cause old new before after (Stopped DiskFailed) cause input = (cause.0, input, cause.1)
+session_cause old new before after (Stopped OutputFault) cause input = (cause.1, cause.0, input)
+
+pub by_halted : (P : Result (Unit {0}) End → Type 0) (result : Result (Unit {0}) End) → P result → ByResult P (halted result)
+by_halted P (Ok done) is = is
+by_halted P (Err end) is = is
+
+-- Where no call failed a work comes to its end, or to the limit of its input, or there was no memory at the opening.
+pub comes_to_end : (work : Work) (state : State) (bytes : List ℕ) (left before : Option (List ℕ)) (new : Meaning) (faults faults_after : Counts) (status : Status)
     → WorkEnded work state bytes left before new status → HasStatusCause faults faults_after status → NoFault faults faults_after
-    → Completes (Told work.takes_input left bytes) done state before new status
-completes work state bytes left before new done faults faults_after (Ended AtEnd) by no_limit ended cause none = by ended
-completes work state bytes left before new done faults faults_after (Ended Limit) by no_limit ended cause none = absurd (no_limit ended)
-completes work state bytes left before new done faults faults_after (Ended InputFault) by no_limit ended cause none = absurd (none.input cause.0)
-completes work state bytes left before new done faults faults_after (Ended (Stopped DiskFailed)) by no_limit ended cause none = absurd (none.disk cause.0)
-completes work state bytes left before new done faults faults_after (Ended (Stopped OutputFault)) by no_limit ended cause none = absurd (none.show cause.0)
-completes work state bytes left before new done faults faults_after (Opening NoMemory) by no_limit ended cause none = ended
-completes work state bytes left before new done faults faults_after (Opening DiskFault) by no_limit ended cause none = absurd (none.disk cause.0)
-completes work state bytes left before new done faults faults_after status by no_limit ended cause none = absurd ended
+    → ComesToEnd work state bytes left before new status
+comes_to_end work state bytes left before new faults faults_after (Ended AtEnd) ended cause none = ended
+comes_to_end work state bytes left before new faults faults_after (Ended Limit) ended cause none = ended
+comes_to_end work state bytes left before new faults faults_after (Ended InputFault) ended cause none = absurd (none.input cause.0)
+comes_to_end work state bytes left before new faults faults_after (Ended (Stopped DiskFailed)) ended cause none = absurd (none.disk cause.0)
+comes_to_end work state bytes left before new faults faults_after (Ended (Stopped OutputFault)) ended cause none = absurd (none.show cause.0)
+comes_to_end work state bytes left before new faults faults_after (Opening NoMemory) ended cause none = ended
+comes_to_end work state bytes left before new faults faults_after (Opening DiskFault) ended cause none = absurd (none.disk cause.0)
+comes_to_end work state bytes left before new faults faults_after status ended cause none = absurd ended
+
+-- the same where no input is too long
+pub completes : (work : Work) (state : State) (bytes : List ℕ) (left before : Option (List ℕ)) (new : Meaning) (done : Type 0) (status : Status)
+    → (work.ended state bytes left before new AtEnd → done) → (work.ended state bytes left before new Limit → ⊥)
+    → ComesToEnd work state bytes left before new status → Completes (Told work.takes_input left bytes) done state before new status
+completes work state bytes left before new done (Ended AtEnd) by no_limit ended = by ended
+completes work state bytes left before new done (Ended Limit) by no_limit ended = absurd (no_limit ended)
+completes work state bytes left before new done (Opening NoMemory) by no_limit ended = ended
+completes work state bytes left before new done status by no_limit ended = absurd ended

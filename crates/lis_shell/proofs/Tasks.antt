@@ -7,7 +7,7 @@ use Rattle.lis_session.specs.declared.end.End.{End}
 use Rattle.lis_shell.specs.declared.status.Status.{Status}
 use Rattle.lis_shell.specs.declared.status.Status.TheVariants.{Usage}
 use Rattle.lis_shell.specs.declared.words.Task.{Task}
-use Rattle.lis_shell.specs.declared.words.Task.TheVariants.{Try, Make, Run, Upgrade, Grow}
+use Rattle.lis_shell.specs.declared.words.Task.TheVariants.{Try, Make, Upgrade, OnImage}
 use Rattle.lis_shell.specs.Causes.{ByOpening, IsTryStatus}
 use Rattle.lis_shell.specs.MakesImage.{MadeImage}
 use Rattle.lis_shell.specs.Keeps.{KeptBy, TaskKeeps}
@@ -20,8 +20,7 @@ module _ (untouched unmoved : Type 0) (left left_after : Option (List ℕ)) (old
   kept_unasked None kept is = (refl, kept.1, kept.2)
   kept_unasked (Some (Try limits)) kept is = absurd (subst IsTryStatus is kept.only)
   kept_unasked (Some (Make limits)) kept is = absurd (subst (MadeImage limits old new) is kept.0.made)
-  kept_unasked (Some Run) kept is = absurd (not_usage _ _ status kept.only is)
-  kept_unasked (Some (Grow n)) kept is = absurd (not_usage _ _ status kept.0.only is)
+  kept_unasked (Some (OnImage task)) kept is = absurd (not_usage _ _ status kept.0.only is)
   kept_unasked (Some Upgrade) kept is = absurd (not_usage _ _ status kept.0.image.only is)
 
 module _ {task : Option Task} {untouched unmoved : Type 0} {left left_after : Option (List ℕ)} {old new : Meaning} {status : Status} where

@@ -1,27 +1,12 @@
 -- What `grow` keeps: the large session that is made of a number.
-use Rattle.std.specs.Prelude.{ℕ, List, false, Option, Ok, Err}
+use Rattle.std.specs.Prelude.{ℕ, List, false, Option}
 use Rattle.lis_ports.specs.Meaning.{Meaning}
-use Rattle.lis_line.specs.declared.carrier.Halt.{Halt}
-use Rattle.lis_line.specs.declared.carrier.Halt.TheVariants.{End as AtEnd, Limit, InputFault, Stopped}
 use Rattle.lis_model.specs.State.{State}
-use Rattle.lis_model.specs.Step.{Situation, Item}
-use Rattle.lis_session.specs.declared.end.End.{End}
+use Rattle.lis_model.specs.Step.{Item}
 use Rattle.lis_session.specs.Session.{root_of, EachMoment, OpenedMoment}
 use Rattle.lis_grow.specs.Session.{grow_items, GrowMoment, GrowEnded, GrewAll, summary}
 use Rattle.lis_shell.specs.declared.status.Status.{Status}
-use Rattle.lis_shell.specs.Image.{Work, EntryWith, Completes}
-
--- no input is taken
-abbrev pub IsUnread : Halt End → Type 0
-IsUnread Limit = ⊥
-IsUnread InputFault = ⊥
-IsUnread halt = Unit {0}
-
--- how the session ended
-abbrev pub GrowHalted : Situation → List Item → Option (List ℕ) → Meaning → Halt End → Type 0
-GrowHalted start items before new AtEnd = GrowEnded start items before new (Ok tt)
-GrowHalted start items before new (Stopped fault) = GrowEnded start items before new (Err fault)
-GrowHalted start items before new halt = ⊥
+use Rattle.lis_shell.specs.Image.{Work, ByResult, IsUnread, EntryWith, Completes}
 
 -- `grow`: the session from the root
 abbrev pub growing : ℕ → Work
@@ -30,7 +15,7 @@ growing n = record {
   may_end = IsUnread;
   input = λ bytes left halt. Unit {0};
   moment = λ state bytes. GrowMoment (root_of state) (grow_items n);
-  ended = λ state bytes left. GrowHalted (root_of state) (grow_items n);
+  ended = λ state bytes left before new. ByResult (GrowEnded (root_of state) (grow_items n) before new);
 }
 
 -- The station is honest, and its image stands for the state.

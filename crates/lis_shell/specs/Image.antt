@@ -1,12 +1,12 @@
 -- What every word keeps that opens an image and does one work on it behind the opening.
-use Rattle.std.specs.Prelude.{◌≡◌, ℕ, ◌<◌, List, Bool, true, false, Option, Some, Err, IsTrue}
+use Rattle.std.specs.Prelude.{◌≡◌, ℕ, ◌<◌, List, Bool, true, false, Option, Some, Result, Ok, Err, IsTrue}
 use Rattle.lis_ports.specs.Meaning.{Meaning}
 use Rattle.lis_ports.specs.Calls.{IsUnchanged}
 use Rattle.lis_ports.specs.Runs.{Leaves}
 use Rattle.lis_journal.specs.Images.{KeepsPast}
 use Rattle.lis_journal.specs.Recovery.{IsSettledPast}
 use Rattle.lis_line.specs.declared.carrier.Halt.{Halt}
-use Rattle.lis_line.specs.declared.carrier.Halt.TheVariants.{End as AtEnd}
+use Rattle.lis_line.specs.declared.carrier.Halt.TheVariants.{End as AtEnd, Limit, InputFault, Stopped}
 use Rattle.lis_model.specs.declared.limits.Limits.{Limits}
 use Rattle.lis_model.specs.declared.spot.Spot.{Spot}
 use Rattle.lis_model.specs.Image.{image_blocks}
@@ -15,7 +15,7 @@ use Rattle.lis_store.specs.Stands.{Stands}
 use Rattle.lis_open.specs.declared.mounting.OpenFault.{OpenFault}
 use Rattle.lis_open.specs.declared.mounting.OpenFault.TheVariants.{TooShort, Damaged, DiskFault, NoMemory}
 use Rattle.lis_open.specs.Checks.{FailsFirst}
-use Rattle.lis_open.specs.Opens.{HasSuper, IsLongEnough, OpenEnded, OpenLeft, InOpening}
+use Rattle.lis_open.specs.Opens.{HasSuper, IsLongEnough, OpenRefused, FaultLeft, InOpening}
 use Rattle.lis_session.specs.declared.end.End.{End}
 use Rattle.lis_session.specs.Runs.{OpensInto}
 use Rattle.lis_shell.specs.declared.status.Status.{Status}
@@ -34,6 +34,25 @@ pub record Work : Type 1 where
   pub moment : State → List ℕ → List ℕ → List ℕ → Type 0
   -- how it ended: what the source has left, and what had been shown at the start
   pub ended : State → List ℕ → Option (List ℕ) → Option (List ℕ) → Meaning → Halt End → Type 0
+
+-- a work that takes no input ends where it is done, or where a call of the station failed
+abbrev pub halted : Result (Unit {0}) End → Halt End
+halted (Ok done) = AtEnd
+halted (Err end) = Stopped end
+
+abbrev pub ByResult : (Result (Unit {0}) End → Type 0) → Halt End → Type 0
+ByResult P AtEnd = P (Ok tt)
+ByResult P (Stopped end) = P (Err end)
+ByResult P Limit = ⊥
+ByResult P InputFault = ⊥
+
+abbrev pub IsUnread : Halt End → Type 0
+IsUnread halt = ByResult (λ result. Unit {0}) halt
+
+-- how an opening ended, and what was done behind it, where there was memory for that
+abbrev pub status_of : {E : Type 0} → Result (Halt End) E → Status
+status_of (Ok halt) = Ended halt
+status_of (Err refused) = Opening NoMemory
 
 -- the bytes that the source has left, told to a work that takes input
 abbrev pub Told : Bool → Option (List ℕ) → List ℕ → Type 0
@@ -64,9 +83,16 @@ Completes told done state before new (Ended AtEnd) = done
 Completes told done state before new (Opening NoMemory) = Refused told state before new NoMemory
 Completes told done state before new status = ⊥
 
+-- Where no call failed: it came to its end, or to the limit of its input. Or there was no memory at the opening.
+abbrev pub ComesToEnd : Work → State → List ℕ → Option (List ℕ) → Option (List ℕ) → Meaning → Status → Type 0
+ComesToEnd work state bytes left before new (Ended AtEnd) = work.ended state bytes left before new AtEnd
+ComesToEnd work state bytes left before new (Ended Limit) = work.ended state bytes left before new Limit
+ComesToEnd work state bytes left before new (Opening NoMemory) = Refused (Told work.takes_input left bytes) state before new NoMemory
+ComesToEnd work state bytes left before new status = ⊥
+
 -- The answers of opening are exact, and what was opened stands for a state.
 abbrev pub IsJudged : Meaning → Meaning → Status → Type 0
-IsJudged old new status = ByOpening (λ fault. OpenEnded old new (Err fault)) (λ halt. IsLongEnough old × ((s : State) × Stands old.bytes s)) status
+IsJudged old new status = ByOpening (OpenRefused old new) (λ halt. IsLongEnough old × ((s : State) × Stands old.bytes s)) status
 
 -- how the answer goes with the length of the disk
 pub record IsMeasured (old new : Meaning) (status : Status) (idle : Type 0) : Type 0 where
@@ -79,7 +105,7 @@ pub record IsMeasured (old new : Meaning) (status : Status) (idle : Type 0) : Ty
 pub record Barred (old new : Meaning) (status : Status) : Type 0 where
   pub fault : OpenFault
   pub is : status ≡ Opening fault
-  pub left : OpenLeft old new (Err fault)
+  pub left : FaultLeft old new fault
   pub moments : Leaves old new (InOpening old)
   pub past : (limits : Limits) → HasSuper limits old.bytes → (IsDiskFault status → IsSettledPast (image_blocks limits) old) → KeepsPast (image_blocks limits) old new
 

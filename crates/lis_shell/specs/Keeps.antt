@@ -12,19 +12,22 @@ use Rattle.lis_model.specs.Step.{Situation, start_of}
 use Rattle.lis_store.specs.Stands.{Stands}
 use Rattle.lis_open.specs.declared.mounting.OpenFault.TheVariants.{TooShort}
 use Rattle.lis_open.specs.Makes.{InMaking, IsSettledAt, IsSpare}
-use Rattle.lis_open.specs.Opens.{OpenLeft}
+use Rattle.lis_open.specs.Opens.{FaultLeft}
 use Rattle.lis_open.specs.Upgrades.{upgraded, GateLeft}
 use Rattle.lis_session.specs.declared.end.End.{End}
 use Rattle.lis_shell.specs.declared.status.Status.{Status}
 use Rattle.lis_shell.specs.declared.status.Status.TheVariants.{Usage, Opening}
 use Rattle.lis_shell.specs.declared.words.Task.{Task}
-use Rattle.lis_shell.specs.declared.words.Task.TheVariants.{Try, Make, Run, Upgrade, Grow}
+use Rattle.lis_shell.specs.declared.words.Task.TheVariants.{Try, Make, Upgrade, OnImage}
+use Rattle.lis_shell.specs.declared.words.ImageTask.{ImageTask}
+use Rattle.lis_shell.specs.declared.words.ImageTask.TheVariants.{Run, Rooms, Dump, Grow}
 use Rattle.lis_shell.specs.Causes.{ByOpening, IsDiskFault, IsTryStatus}
 use Rattle.lis_shell.specs.Image.{Work, ImageKeeps}
 use Rattle.lis_shell.specs.Tries.{Tries}
 use Rattle.lis_shell.specs.MakesImage.{MadeImage}
-use Rattle.lis_shell.specs.Runs.{running}
+use Rattle.lis_shell.specs.Runs.{running, rooming}
 use Rattle.lis_shell.specs.Grows.{growing, GrowEntry}
+use Rattle.lis_shell.specs.Steps.{dumping}
 
 -- `try`: what was shown is what the model replies to the items of the input. The bytes of an honest
 -- disk, and what a crash leaves of it, are as before.
@@ -48,9 +51,12 @@ pub record MakeKeeps (limits : Limits) (unmoved : Type 0) (old new : Meaning) (s
 abbrev pub RunKeeps : Type 0 → Type 0 → Option (List ℕ) → Option (List ℕ) → Meaning → Meaning → Status → Type 0
 RunKeeps untouched unmoved left left_after old new status = ImageKeeps running untouched unmoved left left_after old new status
 
--- `grow`: the session that is made of the number
-abbrev pub GrowKeeps : ℕ → Type 0 → Type 0 → Option (List ℕ) → Option (List ℕ) → Meaning → Meaning → Status → Type 0
-GrowKeeps n untouched unmoved left left_after old new status = ImageKeeps (growing n) untouched unmoved left left_after old new status
+-- the work that each task on an image is; what it keeps is `ImageKeeps` of it
+abbrev pub work_of : ImageTask → Work
+work_of Run = running
+work_of Rooms = rooming
+work_of Dump = dumping
+work_of (Grow n) = growing n
 
 -- the image stands for the state, or for the same in version 2
 abbrev pub UpgradeMoment : State → List ℕ → Type 0
@@ -76,7 +82,7 @@ upgrading = record {
 pub record UpgradeKeeps (unmoved : Type 0) (old new : Meaning) (status : Status) : Type 0 where
   pub image : ImageKeeps upgrading (Unit {0}) unmoved None None old new status
   pub run : IsDiskRun old new
-  pub left : IsTrue old.is_honest → ByOpening (λ fault. OpenLeft old new (Err fault)) (λ halt. GateLeft old new) status
+  pub left : IsTrue old.is_honest → ByOpening (FaultLeft old new) (λ halt. GateLeft old new) status
   pub settled_moments : (state : State) → GrowEntry old state → IsSettled old old.bytes → Leaves old new (UpgradeMoment state)
 
 -- what is kept by each task, and by words that ask for none
@@ -84,8 +90,8 @@ abbrev pub KeptBy : Option Task → Type 0 → Type 0 → Option (List ℕ) → 
 KeptBy None untouched unmoved left left_after old new status = (status ≡ Usage) × untouched × unmoved
 KeptBy (Some (Try limits)) untouched unmoved left left_after old new status = TryKeeps limits left left_after old new status
 KeptBy (Some (Make limits)) untouched unmoved left left_after old new status = MakeKeeps limits unmoved old new status × untouched
-KeptBy (Some Run) untouched unmoved left left_after old new status = RunKeeps untouched unmoved left left_after old new status
-KeptBy (Some (Grow n)) untouched unmoved left left_after old new status = GrowKeeps n untouched unmoved left left_after old new status × untouched
+KeptBy (Some (OnImage task)) untouched unmoved left left_after old new status =
+    ImageKeeps (work_of task) untouched unmoved left left_after old new status × ((work_of task).takes_input ≡ false → untouched)
 KeptBy (Some Upgrade) untouched unmoved left left_after old new status = UpgradeKeeps unmoved old new status × untouched
 
 -- what is kept by the words of the command line, by the task that they ask for

@@ -3,6 +3,7 @@ pub mod Causes
 pub mod Endings
 pub mod Tries
 pub mod Image
+pub mod Steps
 pub mod Runs
 pub mod Grows
 pub mod MakesImage

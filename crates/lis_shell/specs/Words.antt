@@ -5,7 +5,9 @@ use Rattle.lis_model.specs.declared.limits.Limits.{Limits}
 use Rattle.lis_model.specs.Ranges.{is_files_limit, is_props_limit, is_blocks_limit}
 use Rattle.lis_model.specs.Image.{image_blocks}
 use Rattle.lis_shell.specs.declared.words.Task.{Task}
-use Rattle.lis_shell.specs.declared.words.Task.TheVariants.{Try, Make, Run, Upgrade, Grow}
+use Rattle.lis_shell.specs.declared.words.Task.TheVariants.{Try, Make, Upgrade, OnImage}
+use Rattle.lis_shell.specs.declared.words.ImageTask.{ImageTask}
+use Rattle.lis_shell.specs.declared.words.ImageTask.TheVariants.{Run, Rooms, Dump, Grow}
 use Rattle.std.specs.Option.{option_map}
 
 -- three counts that are limits in range, of the version
@@ -19,39 +21,50 @@ limits_of version files props blocks =
 abbrev pub grow_number_of : List ℕ → Option ℕ
 grow_number_of digits = if is_count digits && nat_lt (count_of digits) 2147483648 then Some (count_of digits) else None
 
--- `make` with an image and three limits, or `try` with three limits and `v2`
-abbrev pub task_of_five : List ℕ → List ℕ → List ℕ → List ℕ → List ℕ → Option Task
-task_of_five word second third fourth last =
-    if same_word word (codes "make") then option_map Make (limits_of 1 third fourth last)
-    else if same_word word (codes "try") && same_word last (codes "v2") then option_map Try (limits_of 2 second third fourth)
+-- three limits, with `v2` behind them or not: what begins with them is of version 2 or 1
+abbrev pub limits_in : List (List ℕ) → Option Limits
+limits_in [] = None
+limits_in (files ∷ []) = None
+limits_in (files ∷ props ∷ []) = None
+limits_in (files ∷ props ∷ blocks ∷ []) = limits_of 1 files props blocks
+limits_in (files ∷ props ∷ blocks ∷ last ∷ []) = if same_word last (codes "v2") then limits_of 2 files props blocks else None
+limits_in (files ∷ props ∷ blocks ∷ last ∷ more ∷ words) = None
+
+-- the words with nothing behind their image
+abbrev pub work_alone : List ℕ → Option ImageTask
+work_alone word =
+    if same_word word (codes "run") then Some Run
+    else if same_word word (codes "rooms") then Some Rooms
+    else if same_word word (codes "dump") then Some Dump
     else None
 
--- `make` with an image, three limits and `v2`
-abbrev pub task_of_six : List ℕ → List ℕ → List ℕ → List ℕ → List ℕ → Option Task
-task_of_six word files props blocks last =
-    if same_word word (codes "make") && same_word last (codes "v2") then option_map Make (limits_of 2 files props blocks) else None
+-- what is to be done on an image that is there, by the first word and by those behind the image
+abbrev pub work_named : List ℕ → List (List ℕ) → Option ImageTask
+work_named word [] = work_alone word
+work_named word (number ∷ []) = if same_word word (codes "grow") then option_map Grow (grow_number_of number) else None
+work_named word (second ∷ third ∷ words) = None
 
--- `run` or `upgrade`
-abbrev pub task_of_two : List ℕ → Option Task
-task_of_two word = if same_word word (codes "run") then Some Run else if same_word word (codes "upgrade") then Some Upgrade else None
+abbrev pub upgrade_alone : List (List ℕ) → Option Task
+upgrade_alone [] = Some Upgrade
+upgrade_alone (word ∷ words) = None
 
--- `try` and three limits, or `make` with an image and three limits, with `v2` behind them or not; `run` or `upgrade` and an image; or `grow`
--- with an image and a number. An image is any text. `try` and `make` begin with version 2 where `v2` stands, and else with version 1.
+-- the same, or to make an image or to upgrade one
+abbrev pub task_with : List ℕ → List (List ℕ) → Option Task
+task_with word words =
+    if same_word word (codes "make") then option_map Make (limits_in words)
+    else if same_word word (codes "upgrade") then upgrade_alone words
+    else option_map OnImage (work_named word words)
+
+-- `try` and three limits; or a word, an image, which is any text, and what the word asks for behind it
 abbrev pub task_of : List (List ℕ) → Option Task
 task_of [] = None
 task_of (word ∷ []) = None
-task_of (word ∷ image ∷ []) = task_of_two word
-task_of (word ∷ image ∷ number ∷ []) = if same_word word (codes "grow") then option_map Grow (grow_number_of number) else None
-task_of (word ∷ files ∷ props ∷ blocks ∷ []) = if same_word word (codes "try") then option_map Try (limits_of 1 files props blocks) else None
-task_of (word ∷ second ∷ third ∷ fourth ∷ last ∷ []) = task_of_five word second third fourth last
-task_of (word ∷ image ∷ files ∷ props ∷ blocks ∷ last ∷ []) = task_of_six word files props blocks last
-task_of (word ∷ second ∷ third ∷ fourth ∷ last ∷ more ∷ one ∷ words) = None
+task_of (word ∷ second ∷ words) = if same_word word (codes "try") then option_map Try (limits_in (second ∷ words)) else task_with word words
 
 -- how many bytes an image takes that is to be made
 abbrev pub length_for : Option Task → Option ℕ
 length_for None = None
 length_for (Some (Try limits)) = None
 length_for (Some (Make limits)) = Some (4096 * image_blocks limits)
-length_for (Some Run) = None
 length_for (Some Upgrade) = None
-length_for (Some (Grow n)) = None
+length_for (Some (OnImage work)) = None

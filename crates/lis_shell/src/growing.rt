@@ -5,13 +5,13 @@ ghost use Rattle.lis_grow.proofs.Growing.{grow_none};
 ghost use Rattle.lis_session.specs.Session.{root_of};
 ghost use Rattle.lis_shell.specs.Grows.{growing};
 
-use crate::image::ImageWork;
+use crate::image::{ImageWork, halted, open_session};
 use lis_grow::session::grow_session;
 use lis_line::carrier::Halt;
-use lis_line::reader::Payload;
 use lis_ports::{Source, Station};
 use lis_session::end::End;
-use lis_session::session::Session;
+use lis_store::Store;
+use std::alloc::{AllocError, Global};
 
 /// `grow`: the session that is made of the number. It takes no input.
 #[derive(Clone, Copy)]
@@ -24,14 +24,14 @@ impl ImageWork for Growing {
 
     fn carry_on<S: Source, T: Station>(
         &self,
-        session: &mut Session,
-        payload: &mut Payload,
+        alloc: Global,
+        store: Store,
         _input: &mut S,
         station: &mut T,
-    ) -> Halt<End> {
-        match grow_session(session, payload, station, self.0) {
-            Ok(()) => Halt::End,
-            Err(end) => Halt::Stopped(end),
-        }
+    ) -> Result<Halt<End>, AllocError> {
+        let (mut session, mut payload) = open_session(alloc, store)?;
+        let done = grow_session(&mut session, &mut payload, station, self.0);
+        session.close();
+        Ok(halted(done))
     }
 }

@@ -14,7 +14,7 @@ use lis_ports::{Source, Station};
 /// `try` and `run` show the same: where both are done with the same input, and the image of `run` stood for the empty state of the limits
 /// of `try`, each showed the model's replies to all commands of the input, behind what had been shown before.
 ///
-/// The premises are what `lisfs` says of the two words (`tries`, `runs`), of any two sources and stations.
+/// The premises are what `lisfs` says of the two words (`tries`, and `works` of `run`), of any two sources and stations.
 pub fn try_and_run_agree<R: Source, S: Source, T: Station, U: Station>()
     ensures { (limits : LimitsOf) (bytes : List ℕ)
         → (typed typed_after : R) (plain plain_after : T) (piped piped_after : S) (image image_after : U)

@@ -1,9 +1,11 @@
-//! The top call: the words of the command line, and a session over a state.
+//! The top call: the words of the command line, a session over a state, and the works on an image.
 #![tactic(auto)]
 
-pub mod growing;
+pub mod dumping;
+mod growing;
 pub mod image;
 pub mod laws;
+pub mod rooming;
 pub mod serving;
 pub mod session;
 pub mod status;

@@ -1,28 +1,29 @@
 //! A session over an image.
 
-ghost use Rattle.std.specs.Prelude.{◌≡◌, ◌≢◌, ℕ, ◌*◌, ◌≤◌, ◌^◌, List, Some, false};
-ghost use Rattle.lis_ports.specs.Calls.{StationFaultEnds, FaultEnds};
-ghost use Rattle.lis_line.specs.declared.carrier.Halt.TheVariants.{Stopped};
+ghost use Rattle.std.specs.Prelude.{◌≡◌, ℕ, ◌*◌, ◌≤◌, ◌^◌, List, Some, false};
+ghost use Rattle.lis_ports.specs.Calls.{FaultEnds};
 ghost use Rattle.lis_line.specs.Taking.{TakesFew};
 ghost use Rattle.lis_model.specs.State.{State};
-ghost use Rattle.lis_model.specs.Step.{situation_after};
-ghost use Rattle.lis_model.specs.Script.{script};
+ghost use Rattle.lis_model.specs.Step.{step, situation_after};
+ghost use Rattle.lis_model.specs.Script.{script, session_cut};
 ghost use Rattle.lis_store.specs.Stored.{IsSound, StoreFits};
-ghost use Rattle.lis_session.specs.declared.end.End.TheVariants.{DiskFault};
-ghost use Rattle.lis_session.specs.Item.{IsSameStation};
+ghost use Rattle.lis_session.specs.Ending.{result_of, InputRead, GoesOn, Served};
+ghost use Rattle.lis_session.specs.Served.{SessionKeeps};
 ghost use Rattle.lis_session.specs.Runs.{Serves};
 ghost use Rattle.lis_session.specs.Session.{root_of, FullHeadline};
 ghost use Rattle.lis_session.proofs.Moments.{moment_none};
 ghost use Rattle.lis_shell.specs.Causes.{counts, HasStatusCause};
 ghost use Rattle.lis_shell.specs.declared.status.Status.TheVariants.{Ended};
-ghost use Rattle.lis_shell.specs.Runs.{InputRead, GoesOn, Served, running};
+ghost use Rattle.lis_shell.specs.Runs.{running};
 
-use crate::image::ImageWork;
+use crate::image::{ImageWork, open_session};
 use lis_line::carrier::{Halt, carry_all};
 use lis_line::reader::Payload;
 use lis_ports::{Source, Station};
 use lis_session::end::End;
 use lis_session::session::Session;
+use lis_store::Store;
+use std::alloc::{AllocError, Global};
 
 /// The most bytes of an input.
 pub const INPUT_LIMIT: u64 = 1 << 40;
@@ -43,23 +44,18 @@ pub fn serve<S: Source, T: Station>(
     requires sound { IsSound session.old.store }
     requires unbroken { session.old.store.is_broken ≡ false }
     requires long { 4096 * session.old.store.journal.blocks ≤ (T.meaning station.old).len }
-    ensures same { IsSameStation (T.meaning station.old) (T.meaning station.new) }
+    ensures keeps { SessionKeeps session.old (T.meaning station.old) session.new (T.meaning station.new) (result_of result) }
     ensures cause { HasStatusCause (counts (T.meaning station.old) (S.faults input.old)) (counts (T.meaning station.new) (S.faults input.new)) (Ended result) }
-    ensures first_fault { StationFaultEnds (T.meaning station.old) (T.meaning station.new) }
     ensures input_first_fault { FaultEnds (S.faults input.old) (S.behind input.old) (S.behind input.new) }
     ensures few { TakesFew limit (S.left input.old) (S.left input.new) }
     ensures input { (bytes : List ℕ) → S.left input.old ≡ Some bytes → InputRead limit bytes (S.left input.new) result }
-    ensures sound { IsSound session.new.store }
-    ensures limits { session.new.store.parts.limits ≡ session.old.store.parts.limits }
-    ensures image { session.new.store.journal.blocks ≡ session.old.store.journal.blocks }
-    ensures unbroken { result ≢ Stopped DiskFault → session.new.store.is_broken ≡ false }
     ensures serves { (state : State) (bytes : List ℕ) → StoreFits session.old.store (T.meaning station.old) state → S.left input.old ≡ Some bytes
-        → Serves (record { state = state; place = session.old.place }) (script bytes limit) (T.meaning station.old) (T.meaning station.new)
-        (Served (record { state = state; place = session.old.place }) limit bytes (S.left input.new) (T.meaning station.old).shown (T.meaning station.new) result) }
+        → Serves step (record { state = state; place = session.old.place }) (script bytes limit) (T.meaning station.old) (T.meaning station.new)
+        (Served step session_cut (record { state = state; place = session.old.place }) limit bytes (S.left input.new) (T.meaning station.old).shown (T.meaning station.new) result) }
     ensures goes_on { (state : State) (bytes : List ℕ) → StoreFits session.old.store (T.meaning station.old) state → S.left input.old ≡ Some bytes
         → GoesOn (situation_after (record { state = state; place = session.old.place }) (script bytes limit)) session.new.store session.new.place (T.meaning station.new) result }
     ensures headline { (state : State) (bytes : List ℕ) → StoreFits session.old.store (T.meaning station.old) state → S.left input.old ≡ Some bytes
-        → FullHeadline (record { state = state; place = session.old.place }) (script bytes limit) (T.meaning station.old) (T.meaning station.new) }
+        → FullHeadline step (record { state = state; place = session.old.place }) (script bytes limit) (T.meaning station.old) (T.meaning station.new) }
 {
     carry_all(session, payload, input, station, limit)
 }
@@ -71,15 +67,18 @@ pub struct Running;
 impl ImageWork for Running {
     ghost says = { λ _. running };
 
-    ghost quiet = { λ _ state bytes image stands. moment_none (root_of state) (script bytes (2 ^ 40)) image stands };
+    ghost quiet = { λ _ state bytes image stands. moment_none step (root_of state) (script bytes (2 ^ 40)) image stands };
 
     fn carry_on<S: Source, T: Station>(
         &self,
-        session: &mut Session,
-        payload: &mut Payload,
+        alloc: Global,
+        store: Store,
         input: &mut S,
         station: &mut T,
-    ) -> Halt<End> {
-        serve(session, payload, input, station, INPUT_LIMIT)
+    ) -> Result<Halt<End>, AllocError> {
+        let (mut session, mut payload) = open_session(alloc, store)?;
+        let halt = serve(&mut session, &mut payload, input, station, INPUT_LIMIT);
+        session.close();
+        Ok(halt)
     }
 }

@@ -17,8 +17,8 @@ pub enum Status {
     /// The image was not opened, or `make` or `upgrade` did not make it. Or there was no memory for what follows an opening: in `try` that may
     /// come between two commands.
     Opening(OpenFault),
-    /// How what follows the opening ended. At the end of `run` and `try` every item of the input has its reply shown; of `grow`, every item of
-    /// its session was carried out, and the summary was shown; of `make`, the image was made; of `upgrade`, the image is of version 2.
+    /// How what follows the opening ended. At the end of `run`, `rooms` and `try` every item of the input has its reply shown; of `dump`, the
+    /// dump was shown; of `grow`, every item of its session was carried out, and the summary was shown; of `make`, the image was made; of `upgrade`, the image is of version 2.
     Ended(Halt<End>),
 }
 

@@ -1,29 +1,35 @@
 //! The top call.
 
-ghost use Rattle.std.specs.Prelude.{◌≡◌, ◌↔◌, ℕ, ◌≤◌, ◌^◌, List, length, map, None, Some, IsTrue};
+ghost use Rattle.std.specs.Prelude.{◌≡◌, ◌↔◌, ℕ, ◌≤◌, ◌^◌, List, length, map, None, Some, false, IsTrue};
 ghost use Rattle.std.specs.String.{string_bytes};
 ghost use Rattle.lis_ports.specs.Calls.{StationFaultEnds, FaultEnds};
 ghost use Rattle.lis_line.specs.Taking.{TakesFew};
 ghost use Rattle.lis_model.specs.declared.limits.Limits.{Limits as LimitsOf};
 ghost use Rattle.lis_model.specs.Ranges.{are_in_range};
+ghost use Rattle.lis_model.specs.Step.{step};
 ghost use Rattle.lis_model.specs.Script.{script};
 ghost use Rattle.lis_model.specs.State.{State};
 ghost use Rattle.lis_session.specs.Item.{IsSameStation};
-ghost use Rattle.lis_session.specs.Session.{root_of, Headline, FullHeadline};
+ghost use Rattle.lis_session.specs.Session.{root_of, EachMoment, OpenedMoment, Headline, FullHeadline};
 ghost use Rattle.lis_grow.specs.Session.{grow_items};
 ghost use Rattle.lis_shell.specs.Words.{task_of};
-ghost use Rattle.lis_shell.specs.declared.words.Task.TheVariants.{Try, Make, Run, Upgrade, Grow};
+ghost use Rattle.lis_shell.specs.declared.words.Task.TheVariants.{Try, Make, Upgrade, OnImage};
+ghost use Rattle.lis_shell.specs.declared.words.ImageTask.{ImageTask as WorkNamed};
+ghost use Rattle.lis_shell.specs.declared.words.ImageTask.TheVariants.{Run, Grow};
 ghost use Rattle.lis_shell.specs.Causes.{counts, HasStatusCause, NoFault};
 ghost use Rattle.lis_shell.specs.Runs.{Entry, IsComplete};
 ghost use Rattle.lis_shell.specs.Grows.{GrowHeadline, GrowEntry, IsGrown};
-ghost use Rattle.lis_shell.specs.Keeps.{TryKeeps, MakeKeeps, RunKeeps, GrowKeeps, UpgradeKeeps, TaskKeeps};
+ghost use Rattle.lis_shell.specs.Image.{Told, EntryWith, ComesToEnd, ImageKeeps};
+ghost use Rattle.lis_shell.specs.Keeps.{TryKeeps, MakeKeeps, UpgradeKeeps, work_of, TaskKeeps};
 
+use crate::dumping::Dumping;
 use crate::growing::Growing;
 use crate::image::work_on_image;
+use crate::rooming::Rooming;
 use crate::serving::{INPUT_LIMIT, Running};
 use crate::session::try_session;
 use crate::status::Status;
-use crate::words::{Task, task_of};
+use crate::words::{ImageTask, Task, task_of};
 use lis_line::carrier::Halt;
 use lis_line::reader::Payload;
 use lis_model::limits::Limits;
@@ -97,9 +103,13 @@ fn carry_task<S: Source, T: Station>(
         None => Status::Usage,
         Some(Task::Try(limits)) => try_from_empty(alloc, &limits, input, station),
         Some(Task::Make(limits)) => make_image(&limits, station),
-        Some(Task::Run) => work_on_image(alloc, &Running, input, station),
         Some(Task::Upgrade) => upgrade_image(alloc, station),
-        Some(Task::Grow(n)) => work_on_image(alloc, &Growing(n), input, station),
+        Some(Task::OnImage(ImageTask::Run)) => work_on_image(alloc, &Running, input, station),
+        Some(Task::OnImage(ImageTask::Rooms)) => work_on_image(alloc, &Rooming, input, station),
+        Some(Task::OnImage(ImageTask::Dump)) => work_on_image(alloc, &Dumping, input, station),
+        Some(Task::OnImage(ImageTask::Grow(n))) => {
+            work_on_image(alloc, &Growing(n), input, station)
+        }
     }
 }
 
@@ -108,12 +118,14 @@ fn carry_task<S: Source, T: Station>(
 /// `try FILES PROPS BLOCKS` carries out the commands of the input on a state that begins empty, and shows the replies; what the disk reads
 /// as, and what a crash leaves of it, stays. `make IMAGE FILES PROPS BLOCKS` makes an image of the empty state; it reads no input and shows
 /// nothing. With `v2` behind the words of these two the state is of version 2, and else of version 1. `run IMAGE` opens the image, carries
-/// out the commands of the input on it and shows the replies. `upgrade IMAGE` makes the image one of version 2; it reads no input and shows
-/// nothing. `grow IMAGE N` opens the image and carries out the large session that is made of the number, below 2^31; it reads no input, and
+/// out the commands of the input on it and shows the replies. `rooms IMAGE` does so for up to eight sessions in one stream, each at a
+/// place of its own: the tag of a line, `@0` to `@7`, says whose it is, and stands behind the reply. `upgrade IMAGE` makes the image one of version 2; it reads no input and shows
+/// nothing. `dump IMAGE` opens the image and shows the session that makes its state again; it reads no input and changes nothing.
+/// `grow IMAGE N` opens the image and carries out the large session that is made of the number, below 2^31; it reads no input, and
 /// shows a summary in place of the replies. IMAGE is not looked at here: the station is the image. Any other words are `Usage`, which is
 /// judged before anything is read or taken.
 ///
-/// Want of memory in `run`, `grow` and `upgrade` comes at the opening alone, with nothing shown; in `try` it may come between two commands.
+/// Want of memory in a word that opens an image comes at the opening alone, with nothing shown; in `try` it may come between two commands.
 pub fn lisfs<S: Source, T: Station>(
     alloc: Global,
     words: &[String],
@@ -130,39 +142,45 @@ pub fn lisfs<S: Source, T: Station>(
 
     // `run`: stopped at any moment, the image stands for the model's state after some first items, and what was shown is a front of
     // exactly their replies; or it is what a stop could have left at entry, with nothing shown since.
-    ensures headline { task_of (map string_bytes words.now) ≡ Some Run → (state : State) (bytes : List ℕ)
+    ensures headline { task_of (map string_bytes words.now) ≡ Some (OnImage Run) → (state : State) (bytes : List ℕ)
         → Entry (T.meaning station.old) (S.left input.old) state bytes
         → Headline state (script bytes (2 ^ 40)) (T.meaning station.old) (T.meaning station.new) }
-    ensures headline_settled { task_of (map string_bytes words.now) ≡ Some Run → (state : State) (bytes : List ℕ)
+    ensures headline_settled { task_of (map string_bytes words.now) ≡ Some (OnImage Run) → (state : State) (bytes : List ℕ)
         → Entry (T.meaning station.old) (S.left input.old) state bytes
         → ((image : List ℕ) → (T.meaning station.old).images image → image ≡ (T.meaning station.old).bytes)
-        → FullHeadline (root_of state) (script bytes (2 ^ 40)) (T.meaning station.old) (T.meaning station.new) }
-    ensures complete { task_of (map string_bytes words.now) ≡ Some Run → (state : State) (bytes : List ℕ)
+        → FullHeadline step (root_of state) (script bytes (2 ^ 40)) (T.meaning station.old) (T.meaning station.new) }
+    ensures complete { task_of (map string_bytes words.now) ≡ Some (OnImage Run) → (state : State) (bytes : List ℕ)
         → Entry (T.meaning station.old) (S.left input.old) state bytes → length bytes ≤ 2 ^ 40
         → NoFault (counts (T.meaning station.old) (S.faults input.old)) (counts (T.meaning station.new) (S.faults input.new))
         → IsComplete state (2 ^ 40) bytes (S.left input.new) (T.meaning station.old).shown (T.meaning station.new) result }
 
     // `grow`: stopped at any moment, the image stands for the model's state after some first items of the session, and what was shown is a
     // front of its summary: nothing before all items were carried out; or it is what a stop could have left at entry.
-    ensures grow_headline { (n : ℕ) → task_of (map string_bytes words.now) ≡ Some (Grow n) → (state : State)
+    ensures grow_headline { (n : ℕ) → task_of (map string_bytes words.now) ≡ Some (OnImage (Grow n)) → (state : State)
         → GrowEntry (T.meaning station.old) state
         → GrowHeadline state (grow_items n) (T.meaning station.old) (T.meaning station.new) }
-    ensures grow_complete { (n : ℕ) → task_of (map string_bytes words.now) ≡ Some (Grow n) → (state : State)
+    ensures grow_complete { (n : ℕ) → task_of (map string_bytes words.now) ≡ Some (OnImage (Grow n)) → (state : State)
         → GrowEntry (T.meaning station.old) state
         → NoFault (counts (T.meaning station.old) (S.faults input.old)) (counts (T.meaning station.new) (S.faults input.new))
         → IsGrown state (grow_items n) (T.meaning station.old).shown (T.meaning station.new) result }
 
-    // What each task keeps. `make`, `grow` and `upgrade` leave the input alone.
+    // What each task keeps. `make` and `upgrade` leave the input alone, and so does each work on an image that takes none.
     ensures tries { (limits : LimitsOf) → task_of (map string_bytes words.now) ≡ Some (Try limits)
         → TryKeeps limits (S.left input.old) (S.left input.new) (T.meaning station.old) (T.meaning station.new) result }
     ensures makes { (limits : LimitsOf) → task_of (map string_bytes words.now) ≡ Some (Make limits)
         → MakeKeeps limits (station.new ≡ station.old) (T.meaning station.old) (T.meaning station.new) result × (input.new ≡ input.old) }
-    ensures runs { task_of (map string_bytes words.now) ≡ Some Run
-        → RunKeeps (input.new ≡ input.old) (station.new ≡ station.old) (S.left input.old) (S.left input.new)
-        (T.meaning station.old) (T.meaning station.new) result }
-    ensures grows { (n : ℕ) → task_of (map string_bytes words.now) ≡ Some (Grow n)
-        → GrowKeeps n (input.new ≡ input.old) (station.new ≡ station.old) (S.left input.old) (S.left input.new)
-        (T.meaning station.old) (T.meaning station.new) result × (input.new ≡ input.old) }
+    // Each work on an image: stopped at any moment, it is a moment of the work; or it is what a stop could have left at entry, with nothing
+    // shown since.
+    ensures headlines { (task : WorkNamed) → task_of (map string_bytes words.now) ≡ Some (OnImage task) → (state : State) (bytes : List ℕ)
+        → EntryWith (T.meaning station.old) (Told (work_of task).takes_input (S.left input.old) bytes) state
+        → EachMoment (T.meaning station.old) (T.meaning station.new) (OpenedMoment (T.meaning station.old) ((work_of task).moment state bytes)) }
+    ensures works { (task : WorkNamed) → task_of (map string_bytes words.now) ≡ Some (OnImage task)
+        → ImageKeeps (work_of task) (input.new ≡ input.old) (station.new ≡ station.old) (S.left input.old) (S.left input.new)
+        (T.meaning station.old) (T.meaning station.new) result × ((work_of task).takes_input ≡ false → input.new ≡ input.old) }
+    ensures completes { (task : WorkNamed) → task_of (map string_bytes words.now) ≡ Some (OnImage task) → (state : State) (bytes : List ℕ)
+        → EntryWith (T.meaning station.old) (Told (work_of task).takes_input (S.left input.old) bytes) state
+        → NoFault (counts (T.meaning station.old) (S.faults input.old)) (counts (T.meaning station.new) (S.faults input.new))
+        → ComesToEnd (work_of task) state bytes (S.left input.new) (T.meaning station.old).shown (T.meaning station.new) result }
     ensures upgrades { task_of (map string_bytes words.now) ≡ Some Upgrade
         → UpgradeKeeps (station.new ≡ station.old) (T.meaning station.old) (T.meaning station.new) result × (input.new ≡ input.old) }
 {

@@ -3,7 +3,7 @@
 ghost use Rattle.std.specs.Prelude.{◌≡◌, map};
 ghost use Rattle.std.specs.String.{string_bytes};
 ghost use Rattle.lis_words.specs.Words.{same_word};
-ghost use Rattle.lis_shell.specs.Words.{limits_of, grow_number_of, task_of_two, task_of_five, task_of_six, task_of, length_for};
+ghost use Rattle.lis_shell.specs.Words.{limits_of, grow_number_of, limits_in, work_alone, work_named, upgrade_alone, task_with, task_of, length_for};
 
 use lis_model::limits::{Limits, image_blocks, is_blocks_limit, is_files_limit, is_props_limit};
 use lis_words::read_count;
@@ -14,6 +14,16 @@ const BLOCK_LEN: u64 = 4_096;
 /// Large sessions are made of the numbers below.
 const GROW_END: u64 = 1 << 31;
 
+/// The forms of the words, one a line.
+pub const FORMS: &[u8] = b"lisfs try FILES PROPS BLOCKS [v2]
+lisfs make IMAGE FILES PROPS BLOCKS [v2]
+lisfs run IMAGE
+lisfs rooms IMAGE
+lisfs dump IMAGE
+lisfs upgrade IMAGE
+lisfs grow IMAGE N
+";
+
 /// What the words of the command line ask for.
 #[derive(Clone, Copy, Debug, PartialEq, Eq)]
 pub enum Task {
@@ -21,11 +31,22 @@ pub enum Task {
     Try(Limits),
     /// `make IMAGE FILES PROPS BLOCKS`, with `v2` behind it or not: an empty image, of version 2 or 1.
     Make(Limits),
-    /// `run IMAGE`: a session over an image.
-    Run,
     /// `upgrade IMAGE`: an image of version 2.
     Upgrade,
-    /// `grow IMAGE N`: on an image, the large session that is made of the number.
+    /// One work on an image that is there.
+    OnImage(ImageTask),
+}
+
+/// A work on an image that is there.
+#[derive(Clone, Copy, Debug, PartialEq, Eq)]
+pub enum ImageTask {
+    /// `run IMAGE`: a session.
+    Run,
+    /// `rooms IMAGE`: up to eight sessions in one stream.
+    Rooms,
+    /// `dump IMAGE`: the session that makes the state again, as text.
+    Dump,
+    /// `grow IMAGE N`: the large session that is made of the number.
     Grow(u32),
 }
 
@@ -68,58 +89,75 @@ fn grow_number_of(digits: &[u8]) -> Option<u32>
     Some(number as u32)
 }
 
-fn task_of_two(word: &String) -> Option<Task>
-    ensures { result ≡ task_of_two (string_bytes word.now) }
+fn limits_in(words: &[String]) -> Option<Limits>
+    ensures { result ≡ limits_in (map string_bytes words.now) }
+{
+    match words {
+        [files, props, blocks] => {
+            limits_of(1, files.as_bytes(), props.as_bytes(), blocks.as_bytes())
+        }
+        [files, props, blocks, last] => {
+            if !is_word(last, b"v2") {
+                return None;
+            }
+            limits_of(2, files.as_bytes(), props.as_bytes(), blocks.as_bytes())
+        }
+        _ => None,
+    }
+}
+
+fn work_alone(word: &String) -> Option<ImageTask>
+    ensures { result ≡ work_alone (string_bytes word.now) }
 {
     if is_word(word, b"run") {
-        return Some(Task::Run);
+        return Some(ImageTask::Run);
     }
-    if is_word(word, b"upgrade") {
-        return Some(Task::Upgrade);
+    if is_word(word, b"rooms") {
+        return Some(ImageTask::Rooms);
+    }
+    if is_word(word, b"dump") {
+        return Some(ImageTask::Dump);
     }
     None
 }
 
-fn task_of_five(
-    word: &String,
-    second: &String,
-    third: &String,
-    fourth: &String,
-    last: &String,
-) -> Option<Task>
-    ensures { result ≡ task_of_five (string_bytes word.now) (string_bytes second.now) (string_bytes third.now) (string_bytes fourth.now) (string_bytes last.now) }
+fn work_named(word: &String, words: &[String]) -> Option<ImageTask>
+    ensures { result ≡ work_named (string_bytes word.now) (map string_bytes words.now) }
 {
-    if is_word(word, b"make") {
-        let limits = limits_of(1, third.as_bytes(), fourth.as_bytes(), last.as_bytes())?;
-        return Some(Task::Make(limits));
+    match words {
+        [] => work_alone(word),
+        [number] => {
+            if !is_word(word, b"grow") {
+                return None;
+            }
+            let number = grow_number_of(number.as_bytes())?;
+            Some(ImageTask::Grow(number))
+        }
+        _ => None,
     }
-    if !is_word(word, b"try") {
-        return None;
-    }
-    if !is_word(last, b"v2") {
-        return None;
-    }
-    let limits = limits_of(2, second.as_bytes(), third.as_bytes(), fourth.as_bytes())?;
-    Some(Task::Try(limits))
 }
 
-fn task_of_six(
-    word: &String,
-    files: &String,
-    props: &String,
-    blocks: &String,
-    last: &String,
-) -> Option<Task>
-    ensures { result ≡ task_of_six (string_bytes word.now) (string_bytes files.now) (string_bytes props.now) (string_bytes blocks.now) (string_bytes last.now) }
+fn upgrade_alone(words: &[String]) -> Option<Task>
+    ensures { result ≡ upgrade_alone (map string_bytes words.now) }
 {
-    if !is_word(word, b"make") {
+    if !words.is_empty() {
         return None;
     }
-    if !is_word(last, b"v2") {
-        return None;
+    Some(Task::Upgrade)
+}
+
+fn task_with(word: &String, words: &[String]) -> Option<Task>
+    ensures { result ≡ task_with (string_bytes word.now) (map string_bytes words.now) }
+{
+    if is_word(word, b"make") {
+        let limits = limits_in(words)?;
+        return Some(Task::Make(limits));
     }
-    let limits = limits_of(2, files.as_bytes(), props.as_bytes(), blocks.as_bytes())?;
-    Some(Task::Make(limits))
+    if is_word(word, b"upgrade") {
+        return upgrade_alone(words);
+    }
+    let work = work_named(word, words)?;
+    Some(Task::OnImage(work))
 }
 
 /// What the words after the program's name ask for. None comes exactly where they are in none of the forms, or a number is out of range.
@@ -127,23 +165,13 @@ pub fn task_of(words: &[String]) -> Option<Task>
     ensures { result ≡ task_of (map string_bytes words.now) }
 {
     match words {
-        [word, _] => task_of_two(word),
-        [word, _, number] => {
-            if !is_word(word, b"grow") {
-                return None;
-            }
-            let number = grow_number_of(number.as_bytes())?;
-            Some(Task::Grow(number))
-        }
-        [word, files, props, blocks] => {
+        [word, _, ..] => {
             if !is_word(word, b"try") {
-                return None;
+                return task_with(word, &words[2..]);
             }
-            let limits = limits_of(1, files.as_bytes(), props.as_bytes(), blocks.as_bytes())?;
+            let limits = limits_in(&words[1..])?;
             Some(Task::Try(limits))
         }
-        [word, second, third, fourth, last] => task_of_five(word, second, third, fourth, last),
-        [word, _, files, props, blocks, last] => task_of_six(word, files, props, blocks, last),
         _ => None,
     }
 }

@@ -29,7 +29,7 @@ type Case = (
 );
 
 /// The session leaves open records, so that the opening brings them home.
-static CASES: [Case; 6] = [
+static CASES: [Case; 8] = [
     (
         &["try", "64", "64", "8"],
         "",
@@ -53,6 +53,18 @@ static CASES: [Case; 6] = [
         "mkdir old;create o old;",
         "mkdir music;mkdir rock;create s1 rock;add m 5 music;hello;axiom rock music;ls;cat m;frob;write m 2;hi;rename s1 s2.c;cd music;pwd;props m;way m;stat;cd /;unaxiom rock music;mv s2.c /music;rm m;rmdir nosuch;ls",
         &[Kind::Take, Kind::Disk, Kind::Show],
+    ),
+    (
+        &["rooms", "i"],
+        "mkdir old;create o old;",
+        "@0 cd old;@7 mkdir music;@0 create p music;@0 pwd;@7 pwd;@7 ls;@3;ls;@1 add m 5 music;hello;@0 cat m;@7 rm o;@0 way p;@1 stat",
+        &[Kind::Take, Kind::Disk, Kind::Show],
+    ),
+    (
+        &["dump", "i"],
+        "mkdir old;mkdir k:;mkdir new;axiom old new;create o old;add f 5 k:1 k:2 k:3 k:4 k:5 k:6 k:7 k:8 k:9;hello;",
+        "ls;",
+        &[Kind::Disk, Kind::Show],
     ),
     (
         &["upgrade", "i"],

@@ -2,34 +2,12 @@
 
 use crate::tests::{SOUND, call, row_of};
 use lis_memdisk::MemStation;
-use lis_open::OpenFault;
 use lis_shell::status::Status;
 use std::alloc::{AllocError, Global};
 use std::test::Fail;
 
 /// How many bytes an image of `1024 192 128` takes.
 const IMAGE_LEN: usize = 3_198_976;
-
-/// Words that are judged, how many bytes the disk has, and the answer. Nothing is shown.
-static WORDS: [(&[&str], usize, Status); 9] = [
-    (&["grow"], 100, Status::Usage),
-    (&["grow", "i"], 100, Status::Usage),
-    (&["grow", "i", "7", "8"], 100, Status::Usage),
-    (&["grow", "i", ""], 100, Status::Usage),
-    (&["grow", "i", "-1"], 100, Status::Usage),
-    (&["grow", "i", "2147483648"], 100, Status::Usage),
-    (&["grows", "i", "7"], 100, Status::Usage),
-    (
-        &["grow", "i", "2147483647"],
-        100,
-        Status::Opening(OpenFault::TooShort(100, 4_096)),
-    ),
-    (
-        &["grow", "i", "0"],
-        0,
-        Status::Opening(OpenFault::TooShort(0, 4_096)),
-    ),
-];
 
 fn grow(alloc: Global, number: &str, station: &mut MemStation) -> Result<Status, AllocError> {
     let (status, taken) = call(alloc, &["grow", "i", number], "mkdir a;", &SOUND, station)?;
@@ -49,19 +27,6 @@ fn fresh(alloc: Global) -> Result<MemStation, Fail> {
         return Err("no image was made".into());
     }
     Ok(station)
-}
-
-#[test]
-fn words_are_judged(rt: HostRuntime) -> Result<(), Fail> {
-    let alloc = rt.alloc();
-    for (words, len, wanted) in &WORDS {
-        let mut station = MemStation::new(alloc, &vec![in alloc; 0; *len]?, 0)?;
-        let (status, taken) = call(alloc, words, "mkdir a;", &SOUND, &mut station)?;
-        assert_eq!(rt; status, *wanted, "{words:?}");
-        assert_eq!(rt; taken, 0, "{words:?}");
-        assert!(rt; station.shown().is_empty(), "{words:?}");
-    }
-    Ok(())
 }
 
 #[test]

@@ -3,9 +3,10 @@
 ghost use Rattle.std.specs.Prelude.{◌≡◌};
 ghost use Rattle.lis_memdisk.specs.MemStation.{meaning_of};
 
-use crate::tests::tables::{IMAGE_WORDS, ROWS, SESSIONS};
+use crate::tests::tables::{OPENING_WORDS, ROWS, SESSIONS, ZEROS};
 use crate::tests::{SOUND, built_sessions, call, row_of};
 use lis_memdisk::MemStation;
+use lis_open::OpenFault;
 use lis_ports::Disk;
 use lis_shell::status::Status;
 use lis_shell::words::make_len;
@@ -104,12 +105,28 @@ fn images_show_the_same_of_long_lines_and_many_words(rt: HostRuntime) -> Result<
 }
 
 #[test]
-fn words_and_images_are_judged(rt: HostRuntime) -> Result<(), Fail> {
+fn each_word_that_opens_an_image_judges_it(rt: HostRuntime) -> Result<(), Fail> {
     let alloc = rt.alloc();
-    for (words, len, wanted) in &IMAGE_WORDS {
-        let mut station = MemStation::new(alloc, &zeros(alloc, *len)?, 0)?;
+    for words in &OPENING_WORDS {
+        for (len, wanted) in &ZEROS {
+            let mut station = MemStation::new(alloc, &zeros(alloc, *len)?, 0)?;
+            let (status, taken) = call(alloc, words, "mkdir a;", &SOUND, &mut station)?;
+            assert_eq!(rt; status, *wanted, "{words:?}");
+            assert_eq!(rt; taken, 0, "{words:?}");
+            assert!(rt; station.shown().is_empty(), "{words:?}");
+        }
+    }
+    Ok(())
+}
+
+#[test]
+fn no_image_is_made_of_a_byte_less(rt: HostRuntime) -> Result<(), Fail> {
+    let alloc = rt.alloc();
+    for words in &MAKES {
+        let mut station = MemStation::new(alloc, &zeros(alloc, 2_433_023)?, 0)?;
         let (status, _) = call(alloc, words, "mkdir a;", &SOUND, &mut station)?;
-        assert_eq!(rt; status, *wanted, "{words:?}");
+        let wanted = Status::Opening(OpenFault::TooShort(2_433_023, 2_433_024));
+        assert_eq!(rt; status, wanted, "{words:?}");
         assert!(rt; station.shown().is_empty(), "{words:?}");
     }
     Ok(())

@@ -267,6 +267,7 @@ fn words_are_judged_before_anything_is_taken_or_shown(rt: HostRuntime) -> Result
         assert_eq!(rt; seen.status, Status::Usage, "{words:?}");
         assert_eq!(rt; seen.shown.as_str(), "", "{words:?}");
         assert_eq!(rt; seen.taken, 0, "{words:?}");
+        assert_eq!(rt; seen.calls, 0, "{words:?}");
     }
     for words in &RIGHT_WORDS {
         let seen = run(rt.alloc(), words, "mkdir a;", &SOUND)?;

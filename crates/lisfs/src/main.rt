@@ -42,7 +42,7 @@ fn path_of(words: &[String]) -> &str {
 fn image_of(rt: &HostRuntime, task: &Task, words: &[String]) -> io::Result<Option<ImageFile>> {
     match task {
         Task::Try(_) => Ok(None),
-        Task::Make(_) | Task::Run | Task::Upgrade | Task::Grow(_) => {
+        Task::Make(_) | Task::Upgrade | Task::OnImage(_) => {
             let image = image::open(rt, path_of(words), make_len(words))?;
             Ok(Some(image))
         }

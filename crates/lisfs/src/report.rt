@@ -3,12 +3,9 @@
 use lis_model::spot::Spot;
 use lis_open::OpenFault;
 use lis_shell::status::{Status, status_text};
+use lis_shell::words::FORMS;
 use std::io;
 use std::io::{Error, Write};
-
-/// The forms of the words, one a line.
-const FORMS: &[u8] =
-    b"lisfs try FILES PROPS BLOCKS [v2]\nlisfs make IMAGE FILES PROPS BLOCKS [v2]\nlisfs run IMAGE\nlisfs upgrade IMAGE\nlisfs grow IMAGE N\n";
 
 // The part of an image that is damaged.
 fn write_spot(error: &mut impl Write, spot: &Spot) -> io::Result<()> {

@@ -276,7 +276,7 @@ pub static LONG_LINES: [(usize, &str, &str); 4] = [
     (1_023, "^;", "no 01 bad line;"),
 ];
 
-pub static WRONG_WORDS: [&[&str]; 40] = [
+pub static WRONG_WORDS: [&[&str]; 55] = [
     &[],
     &["try"],
     &["try", "64", "64"],
@@ -314,9 +314,24 @@ pub static WRONG_WORDS: [&[&str]; 40] = [
     &["make", "x", "64", "64", "8", "V2"],
     &["make", "x", "64", "64", "8", "v2", "v2"],
     &["make", "64", "64", "8", "v2"],
+    &["make", "x", "63", "64", "8"],
+    &["make", "x", "64", "64"],
     &["upgrade"],
     &["upgrade", "x", "y"],
     &["Upgrade", "x"],
+    &["rooms"],
+    &["rooms", "x", "y"],
+    &["room", "x"],
+    &["dump"],
+    &["dump", "x", "y"],
+    &["dumps", "x"],
+    &["grow"],
+    &["grow", "x"],
+    &["grow", "x", "7", "8"],
+    &["grow", "x", ""],
+    &["grow", "x", "-1"],
+    &["grow", "x", "2147483648"],
+    &["grows", "x", "7"],
 ];
 
 pub static RIGHT_WORDS: [&[&str]; 5] = [
@@ -452,52 +467,22 @@ pub static CUT_SESSIONS: [Cut; 15] = [
     ),
 ];
 
-/// Words, the length of the disk, and how a run over zeros ends.
-pub static IMAGE_WORDS: [(&[&str], usize, Status); 12] = [
-    (&["run"], 100, Status::Usage),
-    (&["run", "i", "j"], 100, Status::Usage),
-    (&["make", "i", "63", "64", "8"], 100, Status::Usage),
-    (&["make", "i", "64", "64"], 100, Status::Usage),
-    (
-        &["run", "i"],
-        100,
-        Status::Opening(OpenFault::TooShort(100, 4_096)),
-    ),
-    (
-        &["run", "i"],
-        0,
-        Status::Opening(OpenFault::TooShort(0, 4_096)),
-    ),
-    (
-        &["run", "i"],
-        2_433_024,
-        Status::Opening(OpenFault::Damaged(Spot::Super)),
-    ),
-    (
-        &["make", "i", "64", "64", "8"],
-        2_433_023,
-        Status::Opening(OpenFault::TooShort(2_433_023, 2_433_024)),
-    ),
-    (
-        &["make", "i", "64", "64", "8", "v2"],
-        2_433_023,
-        Status::Opening(OpenFault::TooShort(2_433_023, 2_433_024)),
-    ),
-    (
-        &["upgrade", "i"],
-        100,
-        Status::Opening(OpenFault::TooShort(100, 4_096)),
-    ),
-    (
-        &["upgrade", "i"],
-        0,
-        Status::Opening(OpenFault::TooShort(0, 4_096)),
-    ),
-    (
-        &["upgrade", "i"],
-        2_433_024,
-        Status::Opening(OpenFault::Damaged(Spot::Super)),
-    ),
+/// The words that open an image.
+pub static OPENING_WORDS: [&[&str]; 7] = [
+    &["run", "i"],
+    &["rooms", "i"],
+    &["dump", "i"],
+    &["upgrade", "i"],
+    &["grow", "i", "0"],
+    &["grow", "i", "7"],
+    &["grow", "i", "2147483647"],
+];
+
+/// How many bytes a disk of zeros has, and how each of these ends over it.
+pub static ZEROS: [(usize, Status); 3] = [
+    (0, Status::Opening(OpenFault::TooShort(0, 4_096))),
+    (100, Status::Opening(OpenFault::TooShort(100, 4_096))),
+    (2_433_024, Status::Opening(OpenFault::Damaged(Spot::Super))),
 ];
 
 /// Inputs at a limit of ten bytes: how the session ends, what it shows, and what the same input shows then in a run.

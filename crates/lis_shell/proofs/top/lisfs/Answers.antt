@@ -1,12 +1,15 @@
 use Rattle.std.proofs.Common.{[], Some, None}
+use Rattle.lis_model.specs.Step.{step}
 use Rattle.lis_model.specs.Script.{script}
 use Rattle.lis_session.specs.Session.{root_of, SessionMoment}
 use Rattle.lis_session.proofs.Whole.{headline, headline_settled, complete, no_limit}
 use Rattle.lis_grow.specs.Session.{grow_items, GrowMoment}
-use Rattle.lis_shell.specs.declared.words.Task.TheVariants.{Try, Make, Run, Upgrade, Grow}
+use Rattle.lis_shell.specs.declared.words.Task.TheVariants.{Try, Make, Upgrade, OnImage}
+use Rattle.lis_shell.specs.declared.words.ImageTask.TheVariants.{Run, Grow}
 use Rattle.lis_shell.specs.Runs.{running}
 use Rattle.lis_shell.specs.Grows.{growing}
-use Rattle.lis_shell.proofs.Opened.{completes}
+use Rattle.lis_shell.specs.Keeps.{work_of}
+use Rattle.lis_shell.proofs.Opened.{comes_to_end, completes}
 use Rattle.lis_shell.proofs.Tasks.{unasked, kept_by}
 use Rattle.lis_shell.proofs.top.lisfs.Goals as goal
 
@@ -16,27 +19,32 @@ returns-clause-usage g c = (λ e. (unasked c.carry_task.ensures.keeps e).0, λ e
 pub returns-clause-unused : goal.returns-clause-unused
 returns-clause-unused g c = λ e. let none = unasked c.carry_task.ensures.keeps e in (none.1, none.2)
 
+pub returns-clause-completes : goal.returns-clause-completes
+returns-clause-completes g c = λ task is state bytes entry none.
+    comes_to_end (work_of task) state bytes (g.S.Source.left c.carry_task.new.input) (g.T.Disk.meaning c.args.station.now).shown (g.T.Disk.meaning c.carry_task.new.station) _ _
+    c.carry_task.result ((kept_by (Some (OnImage task)) c.carry_task.ensures.keeps is).0.runs state bytes entry).ended c.carry_task.ensures.cause none
+
 pub returns-clause-headline : goal.returns-clause-headline
 returns-clause-headline g c = λ is state bytes entry.
-    headline (SessionMoment (root_of state) (script bytes 1099511627776)) (g.met.T.Disk.only_now c.args.station.now) ((kept_by (Some Run) c.carry_task.ensures.keeps is).runs state bytes entry).moments
+    headline (SessionMoment step (root_of state) (script bytes 1099511627776)) (g.met.T.Disk.only_now c.args.station.now) ((kept_by (Some (OnImage Run)) c.carry_task.ensures.keeps is).0.runs state bytes entry).moments
 
 pub returns-clause-headline_settled : goal.returns-clause-headline_settled
 returns-clause-headline_settled g c = λ is state bytes entry settled.
-    headline_settled state (script bytes 1099511627776) entry.stands settled (g.met.T.Disk.only_now c.args.station.now) ((kept_by (Some Run) c.carry_task.ensures.keeps is).runs state bytes entry).moments
+    headline_settled step (root_of state) (script bytes 1099511627776) entry.stands settled (g.met.T.Disk.only_now c.args.station.now) ((kept_by (Some (OnImage Run)) c.carry_task.ensures.keeps is).0.runs state bytes entry).moments
 
 pub returns-clause-complete : goal.returns-clause-complete
 returns-clause-complete g c = λ is state bytes entry short none.
-    completes running state bytes (g.S.Source.left c.carry_task.new.input) (g.T.Disk.meaning c.args.station.now).shown (g.T.Disk.meaning c.carry_task.new.station) _ _ _
-    c.carry_task.result (λ all. complete all) (λ over. no_limit short over) ((kept_by (Some Run) c.carry_task.ensures.keeps is).runs state bytes entry).ended c.carry_task.ensures.cause none
+    completes running state bytes (g.S.Source.left c.carry_task.new.input) (g.T.Disk.meaning c.args.station.now).shown (g.T.Disk.meaning c.carry_task.new.station) _
+    c.carry_task.result (λ all. complete all) (λ over. no_limit short over) (returns-clause-completes g c Run is state bytes entry none)
 
 pub returns-clause-grow_headline : goal.returns-clause-grow_headline
 returns-clause-grow_headline g c = λ n is state entry.
-    headline (GrowMoment (root_of state) (grow_items n)) (g.met.T.Disk.only_now c.args.station.now) ((kept_by (Some (Grow n)) c.carry_task.ensures.keeps is).0.runs state [] entry).moments
+    headline (GrowMoment (root_of state) (grow_items n)) (g.met.T.Disk.only_now c.args.station.now) ((kept_by (Some (OnImage (Grow n))) c.carry_task.ensures.keeps is).0.runs state [] entry).moments
 
 pub returns-clause-grow_complete : goal.returns-clause-grow_complete
 returns-clause-grow_complete g c = λ n is state entry none.
-    completes (growing n) state [] (g.S.Source.left c.carry_task.new.input) (g.T.Disk.meaning c.args.station.now).shown (g.T.Disk.meaning c.carry_task.new.station) _ _ _
-    c.carry_task.result (λ all. all) (λ over. over) ((kept_by (Some (Grow n)) c.carry_task.ensures.keeps is).0.runs state [] entry).ended c.carry_task.ensures.cause none
+    completes (growing n) state [] (g.S.Source.left c.carry_task.new.input) (g.T.Disk.meaning c.args.station.now).shown (g.T.Disk.meaning c.carry_task.new.station) _
+    c.carry_task.result (λ all. all) (λ over. over) (returns-clause-completes g c (Grow n) is state [] entry none)
 
 pub returns-clause-tries : goal.returns-clause-tries
 returns-clause-tries g c = λ limits is. kept_by (Some (Try limits)) c.carry_task.ensures.keeps is
@@ -44,11 +52,12 @@ returns-clause-tries g c = λ limits is. kept_by (Some (Try limits)) c.carry_tas
 pub returns-clause-makes : goal.returns-clause-makes
 returns-clause-makes g c = λ limits is. kept_by (Some (Make limits)) c.carry_task.ensures.keeps is
 
-pub returns-clause-runs : goal.returns-clause-runs
-returns-clause-runs g c = λ is. kept_by (Some Run) c.carry_task.ensures.keeps is
+pub returns-clause-headlines : goal.returns-clause-headlines
+returns-clause-headlines g c = λ task is state bytes entry.
+    headline ((work_of task).moment state bytes) (g.met.T.Disk.only_now c.args.station.now) ((kept_by (Some (OnImage task)) c.carry_task.ensures.keeps is).0.runs state bytes entry).moments
 
-pub returns-clause-grows : goal.returns-clause-grows
-returns-clause-grows g c = λ n is. kept_by (Some (Grow n)) c.carry_task.ensures.keeps is
+pub returns-clause-works : goal.returns-clause-works
+returns-clause-works g c = λ task is. kept_by (Some (OnImage task)) c.carry_task.ensures.keeps is
 
 pub returns-clause-upgrades : goal.returns-clause-upgrades
 returns-clause-upgrades g c = λ is. kept_by (Some Upgrade) c.carry_task.ensures.keeps is
