@@ -1,0 +1,90 @@
+"""What an image holds, read out of the session that makes it again, as `lisfs dump IMAGE` shows it."""
+import os
+import signal
+
+from lisfs_client import PROGRAM, Program, shown
+
+
+class NotADump(ValueError):
+    """The session has a line that no dump has."""
+
+
+class Dump:
+    """The declared words, the axioms as pairs, and of each file by its name the size and the words that it was given."""
+
+    def __init__(self):
+        self.declared, self.axioms, self.files = set(), set(), {}
+
+
+def read_dump(stream):
+    """Reads a dump out of a binary stream: `mkdir`, `add`, `mv` and `axiom` lines.
+
+    The bytes of files are passed over, so that a large image takes little memory. A `mv` is read as a dump has it: from the root, and to a
+    place of words.
+    """
+    dump = Dump()
+    while line := stream.readline():
+        words = line.split()
+        if not line.endswith(b"\n") or not words:
+            raise NotADump(f"{line[:80]!r} is no line of a dump")
+        command, given = words[0], words[1:]
+        if command == b"mkdir" and len(given) == 1:
+            dump.declared.add(given[0])
+        elif command == b"axiom" and len(given) == 2:
+            dump.axioms.add(tuple(given))
+        elif command == b"add" and len(given) >= 2 and given[1].isdigit():
+            dump.files[given[0]] = int(given[1]), frozenset(given[2:])
+            pass_over(stream, int(given[1]))
+        elif command == b"mv" and len(given) == 2 and given[0] in dump.files:
+            size, had = dump.files[given[0]]
+            dump.files[given[0]] = size, had | frozenset(given[1].split(b"/"))
+        else:
+            raise NotADump(f"{line[:80]!r} is no line of a dump")
+    return dump
+
+
+def pass_over(stream, size):
+    """A payload, and its line feed."""
+    while size:
+        read = stream.read(min(size, 65_536))
+        if not read:
+            raise NotADump("it ends within the bytes of a file")
+        size -= len(read)
+    if stream.read(1) != b"\n":
+        raise NotADump("another byte than a line feed behind the bytes of a file")
+
+
+def dumped(image):
+    """What an image holds."""
+    with shown([PROGRAM, "dump", image]) as stream:
+        return read_dump(stream)
+
+
+def opened(image, tries=8):
+    """A session that runs over an image, and what the image holds.
+
+    Nobody has the lock between the end of the dump and the session's first reply. So the image's time of change tells whether somebody
+    else wrote it meanwhile; it is then dumped again. The opening itself may write, where it ends what a stop left in the middle.
+    """
+    for _ in range(tries):
+        dump = dumped(image)
+        before = os.stat(image)
+        program = started(image)
+        counts = dict(text.split() for _, text in program.stat().body)
+        after = os.stat(image)
+        if (before.st_ctime_ns, before.st_mtime_ns, before.st_ino) == (after.st_ctime_ns, after.st_mtime_ns, after.st_ino) \
+                and int(counts[b"files"]) == len(dump.files):
+            return program, dump
+        program.close()
+    raise NotADump(f"{image} changes all the time")
+
+
+def started(image):
+    """A stop from the terminal is for the mount, which then lets the program come to its end."""
+    numbers = (signal.SIGINT, signal.SIGHUP)
+    before = {number: signal.signal(number, signal.SIG_IGN) for number in numbers}
+    try:
+        return Program([PROGRAM, "run", image])
+    finally:
+        for number, handler in before.items():
+            signal.signal(number, handler)
