@@ -1,0 +1,109 @@
+"""The words of the program, a row each: what a script must know of one to try it. A further word is a row here.
+
+A row speaks of the sample image, of LIMITS, on which SAMPLE was carried out. The forms of the words stand in the usage text of the program
+alone (`forms_of`). `.ci/edges`, `bench/crashes`, `bench/memory` and `bench/hostile` read both.
+"""
+import re
+import typing
+
+LIMITS = ("64", "64", "8")
+NOTES = b"alpha one\nbeta\n\nalpha two"
+SAMPLE = b"mkdir music\nmkdir rock\nmkdir year:\naxiom rock music\ncreate song rock year:2003\nadd notes.txt 25\n" + NOTES + b"\n"
+
+# A session that looks at what the rows change.
+LOOK = b"ls\nstat\ncat notes.txt\nprops notes.txt\nprops tune\n"
+
+# What becomes of the image: there is none; it is an empty one; it is as any opening leaves it, and so but for the byte of its version; or
+# its state is another one.
+NO_IMAGE, MADE, OPENED, UPGRADED, CHANGED = "no image", "an empty image", "an opened image", "an image of version 2", "a changed image"
+# What an input is: a session, one of several rooms, or an edited view.
+SESSION, ROOMS, VIEW = "session", "rooms", "view"
+
+
+class Word(typing.NamedTuple):
+    """A word, the words behind it or behind its image, and what comes of them."""
+    name: str
+    leaves: str
+    behind: tuple = ()
+    # What the input is, and its parts, each of which is carried out before the next one is looked at; nothing where no input is taken.
+    reads: str = ""
+    parts: tuple = ()
+    shows: bytes = b""
+    # How many parts are carried out at most before the first of their replies begins to show.
+    ahead: int = 1
+    # A session that looks at what was changed, and what it shows.
+    look: bytes = b"stat\n"
+    looks: bytes = b""
+    # Words behind it, or behind its image, that are in no form.
+    wrong: tuple = ()
+
+    @property
+    def opens(self):
+        """Whether it opens an image."""
+        return self.leaves not in (NO_IMAGE, MADE)
+
+    @property
+    def input(self):
+        return b"".join(self.parts)
+
+    def words(self, image):
+        return [self.name, *([] if self.leaves == NO_IMAGE else [image]), *self.behind]
+
+    def wrongs(self, image):
+        """Words that are in no form, each from those that are in form by one change."""
+        right = self.words(image)
+        yield from (right[:number] for number in range(1, len(right)))
+        yield right + ["x"]
+        yield [self.name.capitalize(), *right[1:]]
+        yield from ([*right[:len(right) - len(self.behind)], *behind] for behind in self.wrong)
+
+
+NO_LIMITS = (("65", "64", "8"), ("8192", "64", "8"), ("64", "63", "8"), ("64", "64", "0"), ("64", "64", "32769"), ("64", "64", "x"),
+             ("64", "64", "-1"), ("000000000064", "64", "0000000000008"), (*LIMITS, "V2"), (*LIMITS, "v2", "v2"), ("v2", *LIMITS))
+NO_NAMES = (("", "f"), (".", "f"), ("..", "f"), ("a/b", "f"), ("a b", "f"), ("a" * 61, "f"))
+WORDS = (
+    Word("try", NO_IMAGE, LIMITS, SESSION, (b"mkdir music\n", b"create song music\n", b"ls\n"), b"ok\nok\nf song\nok\n", wrong=NO_LIMITS),
+    Word("make", MADE, LIMITS, looks=b"s files 0\ns known 0\ns axioms 0\ns free 8\nok\n", wrong=NO_LIMITS),
+    Word("run", CHANGED, (), SESSION, (b"mkdir jazz\n", b"axiom jazz music\n", b"add tune 5 jazz\nhello\n", b"rm song\n", b"ls\n"),
+         b"ok\nok\nok\nok\nd ext:\nd music\nok\n", look=b"ls\ncat tune\n", looks=b"d ext:\nd music\nok\nb 5\nhello\nok\n"),
+    Word("upgrade", UPGRADED),
+    Word("grow", CHANGED, ("7",), shows=b"replies 1241\nrefused 1127\nfiles 52\naxioms 16\nfree 0\nlisted 49\n",
+         looks=b"s files 52\ns known 52\ns axioms 16\ns free 0\nok\n", wrong=(("2147483648",), ("x",), ("-1",), ("",))),
+    Word("dump", OPENED, shows=b"mkdir music\nmkdir rock\nmkdir year:\nadd notes.txt 25\n" + NOTES + b"\nadd song 0 rock year:2003\n\naxiom rock music\n"),
+    Word("rooms", CHANGED, (), ROOMS,
+         (b"@7 mkdir jazz\n", b"@0 cd music\n", b"@0 create tune jazz\n", b"@0 pwd\n", b"@7 pwd\n", b"@7 rm song\n", b"@7 ls\n", b"ls\n", b"@7 add hi 2 rock\nhi\n"),
+         b"ok\n@7\nok\n@0\nok\n@0\nw music\nok\n@0\nw /\nok\n@7\nok\n@7\nd ext:\nd jazz\nd music\nd size:empty\nd size:small\nok\n@7\nno 01 bad line\n@-\nok\n@7\n",
+         look=b"cat hi\nprops tune\n", looks=b"b 2\nhi\nok\np jazz\np music\np size:\np size:empty\nok\n"),
+)
+
+
+# What a word of a form may be, where it is written large there.
+KINDS = {
+    "IMAGE": lambda text: True,
+    "FILES": lambda text: number_of(text) in [1 << k for k in range(6, 13)],
+    "PROPS": lambda text: number_of(text) in range(64, 8193, 64),
+    "BLOCKS": lambda text: number_of(text) in range(1, 32769),
+    "N": lambda text: number_of(text) in range(1 << 31),
+    "NAME": lambda text: re.fullmatch(r"[A-Za-z0-9_.+@-]{1,60}", text) is not None and text not in (".", ".."),
+    "F": lambda text: True,
+}
+
+
+def number_of(text):
+    """The number that a text is, or one that is never in range."""
+    return int(text) if re.fullmatch("[0-9]{1,12}", text) else -1
+
+
+def forms_of(usage):
+    """The forms in a usage text, each a list of words: those that are written large have a kind, and the others stand as they are."""
+    forms = []
+    for line in usage.splitlines()[1:]:
+        words = line.split()[1:]
+        last = re.fullmatch(r"\[(.*)\]", words[-1])
+        forms += [words[:-1], words[:-1] + [last[1]]] if last else [words]
+    return forms
+
+
+def is_form(forms, words):
+    return any(len(form) == len(words) and all(KINDS[part](word) if part in KINDS else part == word for part, word in zip(form, words))
+               for form in forms)
