@@ -2,7 +2,7 @@
 #![tactic(auto)]
 
 pub mod back;
-mod forms;
-mod lines;
-mod stretches;
+pub mod forms;
+pub mod lines;
+pub mod stretches;
 mod truth;

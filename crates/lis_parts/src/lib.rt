@@ -1,0 +1,14 @@
+//! Parts of a file: the lines of which a formula holds, shown and put back.
+#![tactic(auto)]
+
+mod formula;
+mod gathering;
+mod loading;
+pub mod parts;
+mod putting;
+mod showing;
+mod viewing;
+
+pub use parts::Parts;
+pub use putting::put_file;
+pub use viewing::view_file;

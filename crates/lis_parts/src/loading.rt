@@ -1,0 +1,49 @@
+//! The bytes of a file, read into memory.
+
+ghost use Rattle.std.specs.Prelude.{◌≡◌, ◌*◌, ◌≤◌, ℕ, List, false, Some, length, OnOk, IsSomeAnd, IsTrue};
+ghost use Rattle.lis_ports.specs.Runs.{IsDiskRun, Leaves};
+ghost use Rattle.lis_ports.specs.Calls.{HasCause, DiskFaultEnds, IsUnchanged};
+ghost use Rattle.lis_catalog.specs.Catalog.{slot_of, rec_at};
+ghost use Rattle.lis_fields.specs.Records.{FileRecord};
+ghost use Rattle.lis_model.specs.Changes.{file_of};
+ghost use Rattle.lis_model.specs.State.{State};
+ghost use Rattle.lis_store.specs.Stored.{IsSound, StoreFits};
+
+use lis_line::reader::Payload;
+use lis_ports::{Disk, Failed};
+use lis_store::Store;
+
+/// How many bytes a data block has.
+const BLOCK_LEN: usize = 4_096;
+
+/// Reads the bytes of the file in the slot, which has so many.
+pub fn load<D: Disk>(
+    store: &Store,
+    slot: u16,
+    size: u32,
+    bytes: &mut Payload,
+    disk: &mut D,
+) -> Result<(), Failed>
+    requires sound { IsSound store.now }
+    requires size { IsSomeAnd (rec_at store.now.parts.catalog slot) (λ (rec : FileRecord). size ≡ rec.size) }
+    requires unbroken { store.now.is_broken ≡ false }
+    requires long { 4096 * store.now.journal.blocks ≤ (D.meaning disk.old).len }
+    ensures loads { OnOk result ((s : State) (name : List ℕ) → StoreFits store.now (D.meaning disk.old) s → slot_of store.now.parts.catalog name ≡ Some slot
+        → bytes.new.bytes ≡ (file_of s.files name).bytes) }
+    ensures run { IsDiskRun (D.meaning disk.old) (D.meaning disk.new) }
+    ensures cause { HasCause (D.meaning disk.old).disk_faults (D.meaning disk.new).disk_faults result }
+    ensures first_fault { DiskFaultEnds (D.meaning disk.old) (D.meaning disk.new) }
+    ensures same { IsTrue (D.meaning disk.old).is_honest → IsUnchanged (D.meaning disk.old) (D.meaning disk.new) }
+    ensures any_moment { IsTrue (D.meaning disk.old).is_honest
+        → Leaves (D.meaning disk.old) (D.meaning disk.new) (D.meaning disk.old).images }
+    ensures fits { (s : State) → StoreFits store.now (D.meaning disk.old) s → StoreFits store.now (D.meaning disk.new) s }
+{
+    bytes.clear();
+    let mut block = [0; BLOCK_LEN];
+    for n in 0..size.div_ceil(BLOCK_LEN as u32) {
+        store.content(disk, slot, n, &mut block)?;
+        let rest = size as usize - BLOCK_LEN * n as usize;
+        bytes.append(&block[..rest.min(BLOCK_LEN)]);
+    }
+    Ok(())
+}

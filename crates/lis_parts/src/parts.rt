@@ -1,0 +1,53 @@
+//! The memory in which parts of files are viewed and put back.
+
+ghost use Rattle.std.specs.Prelude.{◌≡◌, IfOk};
+
+use crate::gathering::Edited;
+use lis_eval::Scratch;
+use lis_line::reader::Payload;
+use lis_model::limits::Limits;
+use std::alloc::{AllocError, Global};
+use std::marker::Model;
+
+/// Room for the bytes of one file, for an edited view of it, and for what this makes of the file.
+#[derive(Drop)]
+pub struct Parts {
+    limits: Limits,
+    pub(crate) scratch: Scratch,
+    pub(crate) old: Payload,
+    pub(crate) edited: Edited,
+    pub(crate) new: Payload,
+}
+
+impl Model for Parts {
+    ghost use Rattle.lis_eval.specs.Room.{HasRoom};
+    ghost use Rattle.lis_model.specs.Codes.{limits_code};
+    ghost use Rattle.lis_model.specs.declared.limits.Limits.{Limits as LimitsOf};
+
+    ghost Value = { LimitsOf };
+
+    ghost coded = { limits_code };
+
+    ghost view = { λ p. p.limits };
+
+    ghost invariant = { λ p. HasRoom p.scratch p.limits };
+}
+
+impl Parts {
+    /// Memory for files of a state of these limits. No call that is handed it takes more.
+    pub fn new(alloc: Global, limits: &Limits) -> Result<Parts, AllocError>
+        ensures { IfOk result (λ parts. parts ≡ limits.now) }
+    {
+        let scratch = Scratch::new(alloc, limits)?;
+        let old = Payload::new(alloc)?;
+        let edited = Edited::new(alloc)?;
+        let new = Payload::new(alloc)?;
+        Ok(Parts {
+            limits: *limits,
+            scratch,
+            old,
+            edited,
+            new,
+        })
+    }
+}

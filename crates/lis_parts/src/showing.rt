@@ -1,0 +1,1 @@
+//! Showing many small pieces by few calls.
