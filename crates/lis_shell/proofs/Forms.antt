@@ -1,14 +1,16 @@
 -- The forms of words of the command line.
-use Rattle.std.proofs.Common.{◌≡◌, ℕ, ◌&&◌, cond, Bool, true, false, List, [], ◌∷◌, length, map, slice_index_or, Option, Some, None, IsTrue, codes, refl, ap, sym, ◌∙◌, arith, subst}
+use Rattle.std.proofs.Common.{◌≡◌, ℕ, ◌<◌, ◌&&◌, not, cond, Bool, true, false, List, [], ◌∷◌, length, map, slice_index_or, Option, Some, None, IsTrue, codes, refl, ap, sym, ◌∙◌, arith, subst}
 use Rattle.std.specs.Option.{option_map}
 use Rattle.std.proofs.lemmas.Bool.{and_parts, and_from}
 use Rattle.std.proofs.lemmas.List.{length-map}
-use Rattle.lis_words.specs.Words.{same_word, is_count, count_of}
+use Rattle.lis_words.specs.Words.{same_word, is_count, count_of, is_file_name}
 use Rattle.lis_model.specs.declared.limits.Limits.{Limits}
 use Rattle.lis_model.specs.Ranges.{is_files_limit, is_props_limit, is_blocks_limit, is_version, are_in_range}
 use Rattle.lis_shell.specs.declared.words.Task.{Task}
 use Rattle.lis_shell.specs.declared.words.Task.TheVariants.{Try, Make, Upgrade, OnImage}
-use Rattle.lis_shell.specs.Words.{limits_of, limits_in, work_named, upgrade_alone, task_of}
+use Rattle.lis_shell.specs.declared.words.ImageTask.{ImageTask}
+use Rattle.lis_shell.specs.declared.words.ImageTask.TheVariants.{Run, Rooms, Dump, Grow, View, Put}
+use Rattle.lis_shell.specs.Words.{limits_of, grow_number_of, limits_in, part_named, work_named, upgrade_alone, task_of, name_in}
 
 -- ---- limits are in range
 held : (t : Bool) (all limits : Limits) → cond t (Some all) None ≡ Some limits → (t ≡ true) × (all ≡ limits)
@@ -32,22 +34,32 @@ limits_in_range version files props blocks limits versioned e =
     both : {a b c : Bool} → a ≡ true → b ≡ true → c ≡ true → IsTrue (a && b && c)
     both e f g = cc
 
--- what is made is in range
-abbrev MakesInRange : Option Task → Type 0
-MakesInRange (Some (Make limits)) = IsTrue (are_in_range limits)
-MakesInRange task = Unit {0}
+-- ---- what is made is in range, and of what is viewed or put back there is a file's name
+abbrev NamesPart : List (List ℕ) → Type 0
+NamesPart words = (3 < length words) × IsTrue (is_file_name (name_in words))
 
-either : (t : Bool) (one other : Option Task) → MakesInRange one → MakesInRange other → MakesInRange (cond t one other)
-either true one other first second = first
-either false one other first second = second
+abbrev IsAskedOf : List (List ℕ) → Option ImageTask → Type 0
+IsAskedOf words (Some View) = NamesPart words
+IsAskedOf words (Some Put) = NamesPart words
+IsAskedOf words work = Unit {0}
 
-option_any : {A : Type 0} (task : A → Task) → ((a : A) → MakesInRange (Some (task a))) → (found : Option A) → MakesInRange (option_map task found)
-option_any task each (Some a) = each a
-option_any task each None = tt
+abbrev IsAsked : List (List ℕ) → Option Task → Type 0
+IsAsked words (Some (Make limits)) = IsTrue (are_in_range limits)
+IsAsked words (Some (OnImage work)) = IsAskedOf words (Some work)
+IsAsked words task = Unit {0}
 
-made : (found : Option Limits) → ((limits : Limits) → found ≡ Some limits → IsTrue (are_in_range limits)) → MakesInRange (option_map Make found)
-made (Some limits) range = range limits refl
-made None range = tt
+module _ {A : Type 0} (P : Option A → Type 0) where
+  either : (t : Bool) (one other : Option A) → P one → P other → P (cond t one other)
+  either true one other first second = first
+  either false one other first second = second
+
+  mapped : {B : Type 0} (task : B → A) → ((b : B) → P (Some (task b))) → P None → (found : Option B) → P (option_map task found)
+  mapped task each none (Some b) = each b
+  mapped task each none None = none
+
+made : (words : List (List ℕ)) (found : Option Limits) → ((limits : Limits) → found ≡ Some limits → IsTrue (are_in_range limits)) → IsAsked words (option_map Make found)
+made words (Some limits) range = range limits refl
+made words None range = tt
 
 limits_are : (words : List (List ℕ)) (limits : Limits) → limits_in words ≡ Some limits → IsTrue (are_in_range limits)
 limits_are (files ∷ props ∷ blocks ∷ []) limits e = limits_in_range 1 files props blocks limits refl e
@@ -58,17 +70,52 @@ limits_are (files ∷ props ∷ blocks ∷ last ∷ []) limits e = by (same_word
     by false e = absurd (cc)
 limits_are words limits e = absurd (cc)
 
-upgrades : (words : List (List ℕ)) → MakesInRange (upgrade_alone words)
-upgrades [] = tt
-upgrades (word ∷ words) = tt
+upgrades : (all words : List (List ℕ)) → IsAsked all (upgrade_alone words)
+upgrades all [] = tt
+upgrades all (word ∷ words) = tt
 
-makes_in_range : (words : List (List ℕ)) → MakesInRange (task_of words)
-makes_in_range [] = tt
-makes_in_range (word ∷ []) = tt
-makes_in_range (word ∷ second ∷ words) =
-    either (same_word word (codes "try")) _ _ (option_any Try (λ limits. tt) (limits_in (second ∷ words)))
-    (either (same_word word (codes "make")) _ _ (made (limits_in words) (limits_are words))
-    (either (same_word word (codes "upgrade")) _ _ (upgrades words) (option_any OnImage (λ work. tt) (work_named word words))))
+part_is : (word second name text : List ℕ) → IsAskedOf (word ∷ second ∷ name ∷ text ∷ []) (part_named word name)
+part_is word second name text = by (is_file_name name) refl
+  where
+    all : List (List ℕ)
+    all = word ∷ second ∷ name ∷ text ∷ []
+
+    by : (t : Bool) → is_file_name name ≡ t → IsAskedOf all (cond (not t) None (cond (same_word word (codes "view")) (Some View) (cond (same_word word (codes "put")) (Some Put) None)))
+    by true is =
+        let named : NamesPart all = (omega arith, is) in
+        either (IsAskedOf all) (same_word word (codes "view")) (Some View) _ named (either (IsAskedOf all) (same_word word (codes "put")) (Some Put) None named tt)
+    by false is = tt
+
+work_is : (word second : List ℕ) (words : List (List ℕ)) → IsAskedOf (word ∷ second ∷ words) (work_named word words)
+work_is word second [] =
+    let all : List (List ℕ) = word ∷ second ∷ [] in
+    either (IsAskedOf all) (same_word word (codes "run")) (Some Run) _ tt
+    (either (IsAskedOf all) (same_word word (codes "rooms")) (Some Rooms) _ tt (either (IsAskedOf all) (same_word word (codes "dump")) (Some Dump) None tt tt))
+work_is word second (number ∷ []) =
+    let all : List (List ℕ) = word ∷ second ∷ number ∷ [] in
+    either (IsAskedOf all) (same_word word (codes "grow")) _ None (mapped (IsAskedOf all) Grow (λ n. tt) tt (grow_number_of number)) tt
+work_is word second (name ∷ text ∷ []) = part_is word second name text
+work_is word second (name ∷ text ∷ more ∷ words) = tt
+
+on_image : (words : List (List ℕ)) (work : Option ImageTask) → IsAskedOf words work → IsAsked words (option_map OnImage work)
+on_image words (Some work) is = is
+on_image words None is = tt
+
+is_asked : (words : List (List ℕ)) → IsAsked words (task_of words)
+is_asked [] = tt
+is_asked (word ∷ []) = tt
+is_asked (word ∷ second ∷ words) =
+    let all : List (List ℕ) = word ∷ second ∷ words in
+    either (IsAsked all) (same_word word (codes "try")) _ _ (mapped (IsAsked all) Try (λ limits. tt) tt (limits_in (second ∷ words)))
+    (either (IsAsked all) (same_word word (codes "make")) _ _ (made all (limits_in words) (limits_are words))
+    (either (IsAsked all) (same_word word (codes "upgrade")) _ _ (upgrades all words) (on_image all (work_named word words) (work_is word second words))))
 
 pub made_in_range : (words : List (List ℕ)) (limits : Limits) → task_of words ≡ Some (Make limits) → IsTrue (are_in_range limits)
-made_in_range words limits is = subst MakesInRange is (makes_in_range words)
+made_in_range words limits is = subst (IsAsked words) is (is_asked words)
+
+-- what is to be viewed or put back has a name and a text
+pub view_named : (words : List (List ℕ)) → task_of words ≡ Some (OnImage View) → (3 < length words) × IsTrue (is_file_name (name_in words))
+view_named words is = subst (IsAsked words) is (is_asked words)
+
+pub put_named : (words : List (List ℕ)) → task_of words ≡ Some (OnImage Put) → (3 < length words) × IsTrue (is_file_name (name_in words))
+put_named words is = subst (IsAsked words) is (is_asked words)

@@ -15,19 +15,19 @@ use Rattle.lis_shell.specs.Keeps.{KeptBy, TaskKeeps}
 not_usage : (opening : OpenFault → Type 0) (ended : Halt End → Type 0) (status : Status) → ByOpening opening ended status → status ≡ Usage → ⊥
 not_usage opening ended status at is = subst (ByOpening opening ended) is at
 
-module _ (untouched unmoved : Type 0) (left left_after : Option (List ℕ)) (old new : Meaning) (status : Status) where
-  kept_unasked : (task : Option Task) → KeptBy task untouched unmoved left left_after old new status → status ≡ Usage → (task ≡ None) × untouched × unmoved
+module _ (words : List (List ℕ)) (untouched unmoved : Type 0) (left left_after : Option (List ℕ)) (old new : Meaning) (status : Status) where
+  kept_unasked : (task : Option Task) → KeptBy words task untouched unmoved left left_after old new status → status ≡ Usage → (task ≡ None) × untouched × unmoved
   kept_unasked None kept is = (refl, kept.1, kept.2)
   kept_unasked (Some (Try limits)) kept is = absurd (subst IsTryStatus is kept.only)
   kept_unasked (Some (Make limits)) kept is = absurd (subst (MadeImage limits old new) is kept.0.made)
   kept_unasked (Some (OnImage task)) kept is = absurd (not_usage _ _ status kept.0.only is)
   kept_unasked (Some Upgrade) kept is = absurd (not_usage _ _ status kept.0.image.only is)
 
-module _ {task : Option Task} {untouched unmoved : Type 0} {left left_after : Option (List ℕ)} {old new : Meaning} {status : Status} where
+module _ {words : List (List ℕ)} {task : Option Task} {untouched unmoved : Type 0} {left left_after : Option (List ℕ)} {old new : Meaning} {status : Status} where
   -- the words are refused only where they ask for nothing
-  pub unasked : TaskKeeps task untouched unmoved left left_after old new status → status ≡ Usage → (task ≡ None) × untouched × unmoved
-  unasked keeps is = kept_unasked untouched unmoved left left_after old new status task keeps.kept is
+  pub unasked : TaskKeeps words task untouched unmoved left left_after old new status → status ≡ Usage → (task ≡ None) × untouched × unmoved
+  unasked keeps is = kept_unasked words untouched unmoved left left_after old new status task keeps.kept is
 
-  pub kept_by : (one : Option Task) → TaskKeeps task untouched unmoved left left_after old new status → task ≡ one
-      → KeptBy one untouched unmoved left left_after old new status
-  kept_by one keeps is = subst (λ (asked : Option Task). KeptBy asked untouched unmoved left left_after old new status) is keeps.kept
+  pub kept_by : (one : Option Task) → TaskKeeps words task untouched unmoved left left_after old new status → task ≡ one
+      → KeptBy words one untouched unmoved left left_after old new status
+  kept_by one keeps is = subst (λ (asked : Option Task). KeptBy words asked untouched unmoved left left_after old new status) is keeps.kept

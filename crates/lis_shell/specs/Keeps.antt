@@ -20,14 +20,15 @@ use Rattle.lis_shell.specs.declared.status.Status.TheVariants.{Usage, Opening}
 use Rattle.lis_shell.specs.declared.words.Task.{Task}
 use Rattle.lis_shell.specs.declared.words.Task.TheVariants.{Try, Make, Upgrade, OnImage}
 use Rattle.lis_shell.specs.declared.words.ImageTask.{ImageTask}
-use Rattle.lis_shell.specs.declared.words.ImageTask.TheVariants.{Run, Rooms, Dump, Grow}
+use Rattle.lis_shell.specs.declared.words.ImageTask.TheVariants.{Run, Rooms, Dump, Grow, View, Put}
 use Rattle.lis_shell.specs.Causes.{ByOpening, IsDiskFault, IsTryStatus}
 use Rattle.lis_shell.specs.Image.{Work, ImageKeeps}
 use Rattle.lis_shell.specs.Tries.{Tries}
 use Rattle.lis_shell.specs.MakesImage.{MadeImage}
 use Rattle.lis_shell.specs.Runs.{running, rooming}
 use Rattle.lis_shell.specs.Grows.{growing, GrowEntry}
-use Rattle.lis_shell.specs.Steps.{dumping}
+use Rattle.lis_shell.specs.Steps.{dumping, viewing, putting}
+use Rattle.lis_shell.specs.Words.{name_in, text_in}
 
 -- `try`: what was shown is what the model replies to the items of the input. The bytes of an honest
 -- disk, and what a crash leaves of it, are as before.
@@ -51,12 +52,14 @@ pub record MakeKeeps (limits : Limits) (unmoved : Type 0) (old new : Meaning) (s
 abbrev pub RunKeeps : Type 0 → Type 0 → Option (List ℕ) → Option (List ℕ) → Meaning → Meaning → Status → Type 0
 RunKeeps untouched unmoved left left_after old new status = ImageKeeps running untouched unmoved left left_after old new status
 
--- the work that each task on an image is; what it keeps is `ImageKeeps` of it
-abbrev pub work_of : ImageTask → Work
-work_of Run = running
-work_of Rooms = rooming
-work_of Dump = dumping
-work_of (Grow n) = growing n
+-- the work that each task on an image is, where these are the words; what it keeps is `ImageKeeps` of it
+abbrev pub work_of : List (List ℕ) → ImageTask → Work
+work_of words Run = running
+work_of words Rooms = rooming
+work_of words Dump = dumping
+work_of words (Grow n) = growing n
+work_of words View = viewing (name_in words) (text_in words)
+work_of words Put = putting (name_in words) (text_in words)
 
 -- the image stands for the state, or for the same in version 2
 abbrev pub UpgradeMoment : State → List ℕ → Type 0
@@ -86,14 +89,14 @@ pub record UpgradeKeeps (unmoved : Type 0) (old new : Meaning) (status : Status)
   pub settled_moments : (state : State) → GrowEntry old state → IsSettled old old.bytes → Leaves old new (UpgradeMoment state)
 
 -- what is kept by each task, and by words that ask for none
-abbrev pub KeptBy : Option Task → Type 0 → Type 0 → Option (List ℕ) → Option (List ℕ) → Meaning → Meaning → Status → Type 0
-KeptBy None untouched unmoved left left_after old new status = (status ≡ Usage) × untouched × unmoved
-KeptBy (Some (Try limits)) untouched unmoved left left_after old new status = TryKeeps limits left left_after old new status
-KeptBy (Some (Make limits)) untouched unmoved left left_after old new status = MakeKeeps limits unmoved old new status × untouched
-KeptBy (Some (OnImage task)) untouched unmoved left left_after old new status =
-    ImageKeeps (work_of task) untouched unmoved left left_after old new status × ((work_of task).takes_input ≡ false → untouched)
-KeptBy (Some Upgrade) untouched unmoved left left_after old new status = UpgradeKeeps unmoved old new status × untouched
+abbrev pub KeptBy : List (List ℕ) → Option Task → Type 0 → Type 0 → Option (List ℕ) → Option (List ℕ) → Meaning → Meaning → Status → Type 0
+KeptBy words None untouched unmoved left left_after old new status = (status ≡ Usage) × untouched × unmoved
+KeptBy words (Some (Try limits)) untouched unmoved left left_after old new status = TryKeeps limits left left_after old new status
+KeptBy words (Some (Make limits)) untouched unmoved left left_after old new status = MakeKeeps limits unmoved old new status × untouched
+KeptBy words (Some (OnImage task)) untouched unmoved left left_after old new status =
+    ImageKeeps (work_of words task) untouched unmoved left left_after old new status × ((work_of words task).takes_input ≡ false → untouched)
+KeptBy words (Some Upgrade) untouched unmoved left left_after old new status = UpgradeKeeps unmoved old new status × untouched
 
 -- what is kept by the words of the command line, by the task that they ask for
-pub record TaskKeeps (task : Option Task) (untouched unmoved : Type 0) (left left_after : Option (List ℕ)) (old new : Meaning) (status : Status) : Type 0 where
-  pub kept : KeptBy task untouched unmoved left left_after old new status
+pub record TaskKeeps (words : List (List ℕ)) (task : Option Task) (untouched unmoved : Type 0) (left left_after : Option (List ℕ)) (old new : Meaning) (status : Status) : Type 0 where
+  pub kept : KeptBy words task untouched unmoved left left_after old new status

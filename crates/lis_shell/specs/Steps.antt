@@ -1,19 +1,24 @@
--- A word that is one step of the model, whatever the step is. It takes no input.
-use Rattle.std.specs.Prelude.{◌≡◌, ℕ, List, [], false, Option, Result, Ok, Err, refl}
+-- Words that are one step of the model, whatever the step is.
+use Rattle.std.specs.Prelude.{◌≡◌, ℕ, ◌≤◌, ◌<◌, List, [], length, true, false, Option, Result, Ok, Err, refl}
 use Rattle.std.proofs.Common.{inl}
-use Rattle.std.specs.Io.KnownBytes.{append_known}
+use Rattle.std.specs.Io.KnownBytes.{append_known, IsAtEnd}
 use Rattle.lis_ports.specs.Meaning.{Meaning}
 use Rattle.lis_ports.specs.Runs.{Always}
 use Rattle.lis_ports.specs.Since.{Begins}
+use Rattle.lis_line.specs.declared.carrier.Halt.{Halt}
+use Rattle.lis_line.specs.declared.carrier.Halt.TheVariants.{End as AtEnd, Limit, InputFault, Stopped}
 use Rattle.lis_model.specs.State.{State}
 use Rattle.lis_model.specs.Step.{Outcome}
 use Rattle.lis_replay.specs.Dump.{dump_of}
 use Rattle.lis_store.specs.Stands.{Stands}
 use Rattle.lis_session.specs.declared.end.End.{End}
 use Rattle.lis_session.specs.declared.end.End.TheVariants.{DiskFault, OutputFault}
+use Rattle.lis_session.specs.Ending.{InputRead}
 use Rattle.lis_session.specs.Item.{InItem}
 use Rattle.lis_session.specs.Parts.{only_shows}
 use Rattle.lis_session.specs.Session.{root_of}
+use Rattle.lis_parts.specs.Commands.{view, put}
+use Rattle.lis_parts.specs.Putting.{view_limit}
 use Rattle.lis_shell.specs.Image.{Work, ByResult, IsUnread}
 
 -- the step was made, and so much was shown
@@ -28,7 +33,7 @@ StepEnded outcome before new (Ok done) = StepShown outcome before new outcome.re
 StepEnded outcome before new (Err DiskFault) = Unit {0}
 StepEnded outcome before new (Err OutputFault) = (shown : List ℕ) × Begins shown outcome.reply × StepShown outcome before new shown
 
--- the work that is a step from the state
+-- the work that is a step from the state, and takes no input
 abbrev pub stepping : (State → Outcome) → Work
 stepping outcome = record {
   takes_input = false;
@@ -41,6 +46,36 @@ stepping outcome = record {
 -- before it was made
 abbrev pub step_none : (state : State) (outcome : Outcome) (image : List ℕ) → Stands image state → InItem state outcome image []
 step_none state outcome image stands = inl (refl, stands)
+
+-- nothing was shown, and the image stands for the state as before
+abbrev pub NothingDone : State → Option (List ℕ) → Meaning → Type 0
+NothingDone state before new = (new.shown ≡ before) × Always new (λ image. Stands image state)
+
+-- How a step ended of which an input tells. The input was taken whole, and the step was made; or it is too long, or a call of it failed, and
+-- nothing was done; or a call of the station failed.
+abbrev pub ToldStepEnded : ℕ → State → Outcome → List ℕ → Option (List ℕ) → Option (List ℕ) → Meaning → Halt End → Type 0
+ToldStepEnded limit state outcome bytes left before new AtEnd = (length bytes ≤ limit) × IsAtEnd left × StepShown outcome before new outcome.reply
+ToldStepEnded limit state outcome bytes left before new Limit = (limit < length bytes) × NothingDone state before new
+ToldStepEnded limit state outcome bytes left before new InputFault = NothingDone state before new
+ToldStepEnded limit state outcome bytes left before new (Stopped fault) = StepEnded outcome before new (Err fault)
+
+-- the work that is a step from the state, of which an input of at most so many bytes tells
+abbrev pub told_stepping : ℕ → (State → List ℕ → Outcome) → Work
+told_stepping limit outcome = record {
+  takes_input = true;
+  may_end = λ halt. Unit {0};
+  input = InputRead limit;
+  moment = λ state bytes. InItem state (outcome state bytes);
+  ended = λ state bytes. ToldStepEnded limit state (outcome state bytes) bytes;
+}
+
+-- `view`: the lines of a file of which a formula holds are shown, and nothing changes
+abbrev pub viewing : List ℕ → List ℕ → Work
+viewing name text = stepping (λ state. view (root_of state) name text)
+
+-- `put`: an edited view of a file, which is the input, makes it anew
+abbrev pub putting : List ℕ → List ℕ → Work
+putting name text = told_stepping view_limit (λ state bytes. put (root_of state) name text bytes)
 
 -- `dump`: the session that makes the state again is shown, and nothing changes
 abbrev pub dumping : Work

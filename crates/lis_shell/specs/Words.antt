@@ -1,13 +1,13 @@
 -- What the words of the command line ask for.
-use Rattle.std.specs.Prelude.{ℕ, ◌*◌, nat_lt, ◌&&◌, if◌then◌else◌, Option, Some, None, List, [], ◌∷◌, codes}
-use Rattle.lis_words.specs.Words.{same_word, is_count, count_of}
+use Rattle.std.specs.Prelude.{ℕ, ◌*◌, nat_lt, not, ◌&&◌, if◌then◌else◌, Option, Some, None, List, [], ◌∷◌, codes, slice_index_or}
+use Rattle.lis_words.specs.Words.{same_word, is_count, count_of, is_file_name}
 use Rattle.lis_model.specs.declared.limits.Limits.{Limits}
 use Rattle.lis_model.specs.Ranges.{is_files_limit, is_props_limit, is_blocks_limit}
 use Rattle.lis_model.specs.Image.{image_blocks}
 use Rattle.lis_shell.specs.declared.words.Task.{Task}
 use Rattle.lis_shell.specs.declared.words.Task.TheVariants.{Try, Make, Upgrade, OnImage}
 use Rattle.lis_shell.specs.declared.words.ImageTask.{ImageTask}
-use Rattle.lis_shell.specs.declared.words.ImageTask.TheVariants.{Run, Rooms, Dump, Grow}
+use Rattle.lis_shell.specs.declared.words.ImageTask.TheVariants.{Run, Rooms, Dump, Grow, View, Put}
 use Rattle.std.specs.Option.{option_map}
 
 -- three counts that are limits in range, of the version
@@ -38,11 +38,20 @@ work_alone word =
     else if same_word word (codes "dump") then Some Dump
     else None
 
+-- a file's name behind the image, and a text behind that, which may be any
+abbrev pub part_named : List ℕ → List ℕ → Option ImageTask
+part_named word name =
+    if not (is_file_name name) then None
+    else if same_word word (codes "view") then Some View
+    else if same_word word (codes "put") then Some Put
+    else None
+
 -- what is to be done on an image that is there, by the first word and by those behind the image
 abbrev pub work_named : List ℕ → List (List ℕ) → Option ImageTask
 work_named word [] = work_alone word
 work_named word (number ∷ []) = if same_word word (codes "grow") then option_map Grow (grow_number_of number) else None
-work_named word (second ∷ third ∷ words) = None
+work_named word (name ∷ text ∷ []) = part_named word name
+work_named word (name ∷ text ∷ more ∷ words) = None
 
 abbrev pub upgrade_alone : List (List ℕ) → Option Task
 upgrade_alone [] = Some Upgrade
@@ -68,3 +77,10 @@ length_for (Some (Try limits)) = None
 length_for (Some (Make limits)) = Some (4096 * image_blocks limits)
 length_for (Some Upgrade) = None
 length_for (Some (OnImage work)) = None
+
+-- the name of a file and the text of a formula, where the words have them behind an image
+abbrev pub name_in : List (List ℕ) → List ℕ
+name_in words = slice_index_or words 2 []
+
+abbrev pub text_in : List (List ℕ) → List ℕ
+text_in words = slice_index_or words 3 []

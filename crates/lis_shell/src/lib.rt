@@ -5,6 +5,7 @@ pub mod dumping;
 mod growing;
 pub mod image;
 pub mod laws;
+mod parting;
 pub mod rooming;
 pub mod serving;
 pub mod session;

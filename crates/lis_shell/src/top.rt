@@ -25,6 +25,7 @@ ghost use Rattle.lis_shell.specs.Keeps.{TryKeeps, MakeKeeps, UpgradeKeeps, work_
 use crate::dumping::Dumping;
 use crate::growing::Growing;
 use crate::image::work_on_image;
+use crate::parting::{Putting, Viewing, part_in};
 use crate::rooming::Rooming;
 use crate::serving::{INPUT_LIMIT, Running};
 use crate::session::try_session;
@@ -96,7 +97,7 @@ fn carry_task<S: Source, T: Station>(
     ensures first_fault { StationFaultEnds (T.meaning station.old) (T.meaning station.new) }
     ensures input_first_fault { FaultEnds (S.faults input.old) (S.behind input.old) (S.behind input.new) }
     ensures few { TakesFew (2 ^ 40) (S.left input.old) (S.left input.new) }
-    ensures keeps { TaskKeeps (task_of (map string_bytes words.now)) (input.new ≡ input.old) (station.new ≡ station.old) (S.left input.old) (S.left input.new)
+    ensures keeps { TaskKeeps (map string_bytes words.now) (task_of (map string_bytes words.now)) (input.new ≡ input.old) (station.new ≡ station.old) (S.left input.old) (S.left input.new)
         (T.meaning station.old) (T.meaning station.new) result }
 {
     match task_of(words) {
@@ -110,6 +111,12 @@ fn carry_task<S: Source, T: Station>(
         Some(Task::OnImage(ImageTask::Grow(n))) => {
             work_on_image(alloc, &Growing(n), input, station)
         }
+        Some(Task::OnImage(ImageTask::View)) => {
+            work_on_image(alloc, &Viewing(part_in(words)), input, station)
+        }
+        Some(Task::OnImage(ImageTask::Put)) => {
+            work_on_image(alloc, &Putting(part_in(words)), input, station)
+        }
     }
 }
 
@@ -122,7 +129,9 @@ fn carry_task<S: Source, T: Station>(
 /// place of its own: the tag of a line, `@0` to `@7`, says whose it is, and stands behind the reply. `upgrade IMAGE` makes the image one of version 2; it reads no input and shows
 /// nothing. `dump IMAGE` opens the image and shows the session that makes its state again; it reads no input and changes nothing.
 /// `grow IMAGE N` opens the image and carries out the large session that is made of the number, below 2^31; it reads no input, and
-/// shows a summary in place of the replies. IMAGE is not looked at here: the station is the image. Any other words are `Usage`, which is
+/// shows a summary in place of the replies. `view IMAGE NAME F` opens the image and shows the lines of the file NAME of which the formula F
+/// holds, with marks in place of the others; it reads no input and changes nothing. `put IMAGE NAME F` opens the image, reads an edited
+/// view of the file, of at most 8,388,608 bytes, and makes the file anew of it. IMAGE is not looked at here: the station is the image. Any other words are `Usage`, which is
 /// judged before anything is read or taken.
 ///
 /// Want of memory in a word that opens an image comes at the opening alone, with nothing shown; in `try` it may come between two commands.
@@ -172,15 +181,15 @@ pub fn lisfs<S: Source, T: Station>(
     // Each work on an image: stopped at any moment, it is a moment of the work; or it is what a stop could have left at entry, with nothing
     // shown since.
     ensures headlines { (task : WorkNamed) → task_of (map string_bytes words.now) ≡ Some (OnImage task) → (state : State) (bytes : List ℕ)
-        → EntryWith (T.meaning station.old) (Told (work_of task).takes_input (S.left input.old) bytes) state
-        → EachMoment (T.meaning station.old) (T.meaning station.new) (OpenedMoment (T.meaning station.old) ((work_of task).moment state bytes)) }
+        → EntryWith (T.meaning station.old) (Told (work_of (map string_bytes words.now) task).takes_input (S.left input.old) bytes) state
+        → EachMoment (T.meaning station.old) (T.meaning station.new) (OpenedMoment (T.meaning station.old) ((work_of (map string_bytes words.now) task).moment state bytes)) }
     ensures works { (task : WorkNamed) → task_of (map string_bytes words.now) ≡ Some (OnImage task)
-        → ImageKeeps (work_of task) (input.new ≡ input.old) (station.new ≡ station.old) (S.left input.old) (S.left input.new)
-        (T.meaning station.old) (T.meaning station.new) result × ((work_of task).takes_input ≡ false → input.new ≡ input.old) }
+        → ImageKeeps (work_of (map string_bytes words.now) task) (input.new ≡ input.old) (station.new ≡ station.old) (S.left input.old) (S.left input.new)
+        (T.meaning station.old) (T.meaning station.new) result × ((work_of (map string_bytes words.now) task).takes_input ≡ false → input.new ≡ input.old) }
     ensures completes { (task : WorkNamed) → task_of (map string_bytes words.now) ≡ Some (OnImage task) → (state : State) (bytes : List ℕ)
-        → EntryWith (T.meaning station.old) (Told (work_of task).takes_input (S.left input.old) bytes) state
+        → EntryWith (T.meaning station.old) (Told (work_of (map string_bytes words.now) task).takes_input (S.left input.old) bytes) state
         → NoFault (counts (T.meaning station.old) (S.faults input.old)) (counts (T.meaning station.new) (S.faults input.new))
-        → ComesToEnd (work_of task) state bytes (S.left input.new) (T.meaning station.old).shown (T.meaning station.new) result }
+        → ComesToEnd (work_of (map string_bytes words.now) task) state bytes (S.left input.new) (T.meaning station.old).shown (T.meaning station.new) result }
     ensures upgrades { task_of (map string_bytes words.now) ≡ Some Upgrade
         → UpgradeKeeps (station.new ≡ station.old) (T.meaning station.old) (T.meaning station.new) result × (input.new ≡ input.old) }
 {

@@ -3,10 +3,10 @@
 ghost use Rattle.std.specs.Prelude.{◌≡◌, map};
 ghost use Rattle.std.specs.String.{string_bytes};
 ghost use Rattle.lis_words.specs.Words.{same_word};
-ghost use Rattle.lis_shell.specs.Words.{limits_of, grow_number_of, limits_in, work_alone, work_named, upgrade_alone, task_with, task_of, length_for};
+ghost use Rattle.lis_shell.specs.Words.{limits_of, grow_number_of, limits_in, work_alone, part_named, work_named, upgrade_alone, task_with, task_of, length_for};
 
 use lis_model::limits::{Limits, image_blocks, is_blocks_limit, is_files_limit, is_props_limit};
-use lis_words::read_count;
+use lis_words::{read_count, read_name};
 
 /// How many bytes a block of an image has.
 const BLOCK_LEN: u64 = 4_096;
@@ -20,6 +20,8 @@ lisfs make IMAGE FILES PROPS BLOCKS [v2]
 lisfs run IMAGE
 lisfs rooms IMAGE
 lisfs dump IMAGE
+lisfs view IMAGE NAME F
+lisfs put IMAGE NAME F
 lisfs upgrade IMAGE
 lisfs grow IMAGE N
 ";
@@ -48,6 +50,10 @@ pub enum ImageTask {
     Dump,
     /// `grow IMAGE N`: the large session that is made of the number.
     Grow(u32),
+    /// `view IMAGE NAME F`: the lines of a file of which a formula holds, shown.
+    View,
+    /// `put IMAGE NAME F`: a file made anew of an edited view of it.
+    Put,
 }
 
 fn is_word(word: &String, name: &[u8]) -> bool
@@ -121,6 +127,19 @@ fn work_alone(word: &String) -> Option<ImageTask>
     None
 }
 
+fn part_named(word: &String, name: &String) -> Option<ImageTask>
+    ensures { result ≡ part_named (string_bytes word.now) (string_bytes name.now) }
+{
+    let _name = read_name(name.as_bytes())?;
+    if is_word(word, b"view") {
+        return Some(ImageTask::View);
+    }
+    if is_word(word, b"put") {
+        return Some(ImageTask::Put);
+    }
+    None
+}
+
 fn work_named(word: &String, words: &[String]) -> Option<ImageTask>
     ensures { result ≡ work_named (string_bytes word.now) (map string_bytes words.now) }
 {
@@ -133,6 +152,7 @@ fn work_named(word: &String, words: &[String]) -> Option<ImageTask>
             let number = grow_number_of(number.as_bytes())?;
             Some(ImageTask::Grow(number))
         }
+        [name, _] => part_named(word, name),
         _ => None,
     }
 }

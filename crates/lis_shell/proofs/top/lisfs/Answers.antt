@@ -1,4 +1,5 @@
-use Rattle.std.proofs.Common.{[], Some, None}
+use Rattle.std.proofs.Common.{[], Some, None, map}
+use Rattle.std.specs.String.{string_bytes}
 use Rattle.lis_model.specs.Step.{step}
 use Rattle.lis_model.specs.Script.{script}
 use Rattle.lis_session.specs.Session.{root_of, SessionMoment}
@@ -21,7 +22,7 @@ returns-clause-unused g c = λ e. let none = unasked c.carry_task.ensures.keeps 
 
 pub returns-clause-completes : goal.returns-clause-completes
 returns-clause-completes g c = λ task is state bytes entry none.
-    comes_to_end (work_of task) state bytes (g.S.Source.left c.carry_task.new.input) (g.T.Disk.meaning c.args.station.now).shown (g.T.Disk.meaning c.carry_task.new.station) _ _
+    comes_to_end (work_of (map string_bytes c.args.words.now) task) state bytes (g.S.Source.left c.carry_task.new.input) (g.T.Disk.meaning c.args.station.now).shown (g.T.Disk.meaning c.carry_task.new.station) _ _
     c.carry_task.result ((kept_by (Some (OnImage task)) c.carry_task.ensures.keeps is).0.runs state bytes entry).ended c.carry_task.ensures.cause none
 
 pub returns-clause-headline : goal.returns-clause-headline
@@ -54,7 +55,7 @@ returns-clause-makes g c = λ limits is. kept_by (Some (Make limits)) c.carry_ta
 
 pub returns-clause-headlines : goal.returns-clause-headlines
 returns-clause-headlines g c = λ task is state bytes entry.
-    headline ((work_of task).moment state bytes) (g.met.T.Disk.only_now c.args.station.now) ((kept_by (Some (OnImage task)) c.carry_task.ensures.keeps is).0.runs state bytes entry).moments
+    headline ((work_of (map string_bytes c.args.words.now) task).moment state bytes) (g.met.T.Disk.only_now c.args.station.now) ((kept_by (Some (OnImage task)) c.carry_task.ensures.keeps is).0.runs state bytes entry).moments
 
 pub returns-clause-works : goal.returns-clause-works
 returns-clause-works g c = λ task is. kept_by (Some (OnImage task)) c.carry_task.ensures.keeps is
