@@ -1,3 +1,13 @@
-use Rattle.lis_shell.proofs.Opened.{session_cause}
+use Rattle.std.proofs.Common.{sym, subst}
+use Rattle.lis_store.specs.Stored.{Stored, IsSound, StoreFits}
+use Rattle.lis_session.proofs.Fitting.{store_fits_at}
 use Rattle.lis_shell.proofs.Steps.{put_goes}
 use Rattle.lis_shell.proofs.parting.PuttingImageWork.carry_on.Goals as goal
+
+pub returns-clause-goes : goal.returns-clause-goes
+returns-clause-goes g c = λ state bytes fits told.
+    let old = g.T.Disk.meaning c.args.station.now in
+    let same = sym c.in_ok-store.ensures.0 in
+    let own = subst (λ (s : Stored). StoreFits s old state) same fits in
+    let made = c.put_file-halt.ensures.puts bytes told state (store_fits_at (subst IsSound same c.requires.sound) own) in
+    put_goes state c.args.self.now.0.name c.args.self.now.0.text.now bytes (g.S.Source.left c.put_file-halt.new.input) c.put_file-halt.result (c.put_file-halt.ensures.input bytes told) made

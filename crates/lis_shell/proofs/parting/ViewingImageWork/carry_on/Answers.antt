@@ -1,4 +1,5 @@
 use Rattle.std.proofs.Common.{sym, subst}
+use Rattle.lis_store.specs.Stored.{Stored, IsSound, StoreFits}
 use Rattle.lis_parts.specs.Commands.{view}
 use Rattle.lis_session.specs.Item.{InItem}
 use Rattle.lis_session.specs.Runs.{Goes}
@@ -8,3 +9,13 @@ use Rattle.lis_shell.specs.Image.{ByResult}
 use Rattle.lis_shell.specs.Steps.{StepEnded}
 use Rattle.lis_shell.proofs.Steps.{step_goes}
 use Rattle.lis_shell.proofs.parting.ViewingImageWork.carry_on.Goals as goal
+
+pub returns-clause-goes : goal.returns-clause-goes
+returns-clause-goes g c = λ state bytes fits told.
+    let old = g.T.Disk.meaning c.args.station.now in
+    let new = g.T.Disk.meaning c.view_file-done.new.station in
+    let outcome = view (root_of state) c.args.self.now.0.name c.args.self.now.0.text.now in
+    let same = sym c.in_ok-store.ensures.0 in
+    let own = subst (λ (s : Stored). StoreFits s old state) same fits in
+    let made = c.view_file-done.ensures.shows state (store_fits_at (subst IsSound same c.requires.sound) own) in
+    subst (λ halt. Goes (InItem state outcome) state.limits old new (ByResult (StepEnded outcome old.shown new) halt)) (sym c.halted.ensures) (step_goes state outcome c.view_file-done.result made)
