@@ -1,2 +1,3 @@
 pub mod Commands
 pub mod Putting
+pub mod Inside
