@@ -74,6 +74,10 @@ WORDS = (
          (b"@7 mkdir jazz\n", b"@0 cd music\n", b"@0 create tune jazz\n", b"@0 pwd\n", b"@7 pwd\n", b"@7 rm song\n", b"@7 ls\n", b"ls\n", b"@7 add hi 2 rock\nhi\n"),
          b"ok\n@7\nok\n@0\nok\n@0\nw music\nok\n@0\nw /\nok\n@7\nok\n@7\nd ext:\nd jazz\nd music\nd size:empty\nd size:small\nok\n@7\nno 01 bad line\n@-\nok\n@7\n",
          look=b"cat hi\nprops tune\n", looks=b"b 2\nhi\nok\np jazz\np music\np size:\np size:empty\nok\n"),
+    Word("view", OPENED, ("notes.txt", "word:alpha"), shows=b"+alpha one\n@1 2\n+alpha two\n!\n", wrong=NO_NAMES),
+    # Its whole input is one part: it is read to its end before any of it is looked at.
+    Word("put", CHANGED, ("notes.txt", "word:alpha"), VIEW, (b"+alpha 1\n@1 2\n+alpha 2\n+end\n",), b"ok\n",
+         look=b"cat notes.txt\n", looks=b"b 26\nalpha 1\nbeta\n\nalpha 2\nend\n\nok\n", wrong=NO_NAMES),
 )
 
 
