@@ -1,9 +1,9 @@
 -- A line read byte by byte.
-use Rattle.std.proofs.Common.{◌≡◌, ◌==◌, ℕ, ◌+◌, ◌≤◌, ◌<◌, Bool, true, false, ◌||◌, List, [], ◌∷◌, ◌++◌, length, take, Option, Some, None, ap, sym, subst, ◌∙◌, refl, inl, inr, arith, append_assoc, length-append, append-nil}
+use Rattle.std.proofs.Common.{◌≡◌, ◌==◌, ℕ, ◌+◌, ◌-◌, ◌≤◌, ◌<◌, Bool, true, false, ◌||◌, List, [], ◌∷◌, ◌++◌, length, take, drop, Option, Some, None, ap, sym, subst, ◌∙◌, refl, inl, inr, arith, append_assoc, length-append, append-nil}
 use Rattle.std.specs.List.{list_any}
 use Rattle.std.specs.Io.KnownBytes.{prepend_known, Consumes, Keeps}
 use Rattle.std.proofs.lemmas.List.Folds.{list_any-append}
-use Rattle.std.proofs.lemmas.List.{take-append-le, take_all, length-take}
+use Rattle.std.proofs.lemmas.List.{take-append-le, take_all, length-take, drop-take, drop-drop}
 use Rattle.std.proofs.lemmas.Bool.Decides.{eqb_tells}
 use Rattle.lis_model.specs.Script.{is_feed}
 use Rattle.lis_line.specs.Stock.{Stocked, stream_of, LineTaken}
@@ -27,6 +27,12 @@ pub consumes_kept : (a b : Option (List ℕ)) → Keeps a b → Consumes (prepen
 consumes_kept None b k = tt
 consumes_kept (Some zs) None k = absurd k
 consumes_kept (Some zs) (Some bs) k = let e : bs ≡ zs = k in sym e
+
+-- what is ahead once so many bytes of it were given
+pub rest_ahead : (start count end : ℕ) (buf : List ℕ) → count ≤ end - start → take (end - (start + count)) (drop (start + count) buf) ≡ drop count (take (end - start) (drop start buf))
+rest_ahead start count end buf within =
+    let sum : end - start ≡ count + (end - (start + count)) = omega (arith, within) in
+    rw (sum, drop-take count (end - (start + count)) (drop start buf), drop-drop count start buf) refl
 
 pub gave_none : (stock : Stocked) (left : Option (List ℕ)) → Gave stock stock left left []
 gave_none stock left = record { took = consumes_none (stream_of stock left); rest = omega arith }

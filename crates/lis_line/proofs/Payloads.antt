@@ -1,26 +1,28 @@
--- The bytes of a payload, taken one by one.
-use Rattle.std.proofs.Common.{◌≡◌, ℕ, ◌+◌, ◌≤◌, ◌<◌, List, [], ◌∷◌, ◌++◌, length, take, set, Option, ap, subst, ◌∙◌, refl, arith, length-append, inl, inr}
+-- The bytes of a payload, taken by runs.
+use Rattle.std.proofs.Common.{◌≡◌, ℕ, ◌+◌, ◌-◌, ◌≤◌, ◌<◌, List, [], ◌∷◌, ◌++◌, length, take, drop, Option, Some, None, ap, sym, subst, ◌∙◌, refl, arith, append_assoc, length-append, inl, inr}
 use Rattle.std.specs.Io.KnownBytes.{Consumes}
-use Rattle.std.proofs.lemmas.List.{take_more_set}
+use Rattle.std.proofs.lemmas.List.{take-append-drop, length-take}
 use Rattle.std.proofs.lemmas.Bool.{cases_lt, le-leb, lt-leb}
 use Rattle.lis_model.specs.Step.{Payload}
 use Rattle.lis_model.specs.Script.{payload_limit, payload_of}
 use Rattle.lis_line.specs.Stock.{Stocked, stream_of}
 use Rattle.lis_line.specs.Reading.{Gave}
-use Rattle.lis_line.specs.Parts.{with_byte}
-use Rattle.lis_line.proofs.Bytes.{gave_then}
+use Rattle.lis_line.specs.Parts.{with_bytes}
+use Rattle.lis_line.proofs.Bytes.{gave_then, consumes_then}
 
--- a byte is written behind those that are kept
-pub byte_kept : (frame written : List ℕ) (size byte : ℕ) → length frame ≡ payload_limit → size < payload_limit → written ≡ set frame size byte
-    → payload_of (size + 1) (take (size + 1) written) ≡ with_byte (payload_of size (take size frame)) byte
-byte_kept frame written size byte wide below is =
-    rw (le-leb (size + 1) payload_limit (omega (arith, below)), le-leb size payload_limit (omega (arith, below)), is)
-    (ap (λ bytes. record { size = size + 1; bytes = bytes }) (take_more_set frame size byte (omega (arith, wide, below))))
+-- bytes that were ahead are given
+skipped : (now next : Stocked) (left : Option (List ℕ)) (count : ℕ) → next.ahead ≡ drop count now.ahead → Consumes (stream_of now left) (stream_of next left) (take count now.ahead)
+skipped now next None count behind = tt
+skipped now next (Some more) count behind =
+    sym (ap (λ xs. take count now.ahead ++ (xs ++ more)) behind ∙ sym (append_assoc (take count now.ahead) (drop count now.ahead) more) ∙ ap (λ xs. xs ++ more) (take-append-drop count now.ahead))
 
--- beyond the room a byte is counted alone
-pub byte_counted : (frame : List ℕ) (size byte : ℕ) → payload_limit ≤ size
-    → payload_of (size + 1) (take (size + 1) frame) ≡ with_byte (payload_of size (take size frame)) byte
-byte_counted frame size byte full = rw (lt-leb (size + 1) payload_limit (omega (arith, full))) refl
+-- a run of those that a stock met
+pub run_given : (old now next : Stocked) (left_before left : Option (List ℕ)) (count : ℕ) → Consumes (stream_of old left_before) (stream_of now left) [] → now.rest ≡ old.rest
+    → count ≤ length now.ahead → next.ahead ≡ drop count now.ahead → count + next.rest ≡ now.rest → Gave old next left_before left (take count now.ahead)
+run_given old now next left_before left count met same within behind rest = record {
+  took = consumes_then _ (stream_of now left) _ [] (take count now.ahead) met (skipped now next left count behind);
+  rest = omega (arith, length-take count now.ahead, within, same, rest);
+}
 
 -- all bytes that were taken are in the payload
 pub record Filling (old now : Stocked) (left_before left : Option (List ℕ)) (size : ℕ) (payload : Payload) : Type 0 where
@@ -30,23 +32,46 @@ pub record Filling (old now : Stocked) (left_before left : Option (List ℕ)) (s
   pub kept : payload ≡ payload_of (length bytes) bytes
   pub within : length bytes ≤ size
 
-pushed : (bytes : List ℕ) (byte : ℕ) → with_byte (payload_of (length bytes) bytes) byte ≡ payload_of (length (bytes ++ byte ∷ [])) (bytes ++ byte ∷ [])
-pushed bytes byte =
-    let one : length (bytes ++ byte ∷ []) ≡ length bytes + 1 = omega (arith, length-append bytes (byte ∷ [])) in
-    rw one (elim (cases_lt payload_limit (length bytes + 1)) as (λ _. with_byte (payload_of (length bytes) bytes) byte ≡ payload_of (length bytes + 1) (bytes ++ byte ∷ [])) [
-      | inl more ↦ rw (lt-leb (length bytes + 1) payload_limit more) refl
+appended : (bytes run : List ℕ) → with_bytes (payload_of (length bytes) bytes) run ≡ payload_of (length (bytes ++ run)) (bytes ++ run)
+appended bytes run =
+    rw (length-append bytes run) (elim (cases_lt payload_limit (length bytes + length run)) as (λ _. with_bytes (payload_of (length bytes) bytes) run ≡ payload_of (length bytes + length run) (bytes ++ run)) [
+      | inl more ↦ rw (lt-leb (length bytes + length run) payload_limit more) refl
       | inr le ↦ rw (le-leb (length bytes) payload_limit (omega (arith, le))) refl
     ])
 
-pub filling_more : (old now next : Stocked) (left_before left left_after : Option (List ℕ)) (size : ℕ) (payload longer : Payload) (byte : ℕ)
-    → Filling old now left_before left size payload → Consumes (stream_of now left) (stream_of next left_after) (byte ∷ []) → next.rest + 1 ≡ now.rest
-    → 0 < next.rest → payload.size < size → longer ≡ with_byte payload byte → Filling old next left_before left_after size longer
-filling_more old now next left_before left left_after size payload longer byte filling took rest some below is =
-    let less : length filling.bytes < size = subst (λ (p : Payload). p.size < size) filling.kept below in
+pub filling_more : (old now next : Stocked) (left_before left left_after : Option (List ℕ)) (size : ℕ) (payload longer : Payload) (run : List ℕ)
+    → Filling old now left_before left size payload → Gave now next left left_after run → 0 < next.rest → length run ≤ size - payload.size
+    → payload.size ≤ size → longer ≡ with_bytes payload run → Filling old next left_before left_after size longer
+filling_more old now next left_before left left_after size payload longer run filling gave some few below is =
+    let fits : length filling.bytes + length run ≤ size = omega (arith, few, below, ap (λ (p : Payload). p.size) filling.kept) in
     record {
-      bytes = filling.bytes ++ byte ∷ [];
-      gave = gave_then old now next left_before left left_after filling.bytes (byte ∷ []) filling.gave (record { took = took; rest = omega (arith, rest) });
+      bytes = filling.bytes ++ run;
+      gave = gave_then old now next left_before left left_after filling.bytes run filling.gave gave;
       some = some;
-      kept = is ∙ ap (λ p. with_byte p byte) filling.kept ∙ pushed filling.bytes byte;
-      within = omega (arith, less, length-append filling.bytes (byte ∷ []));
+      kept = is ∙ ap (λ p. with_bytes p run) filling.kept ∙ appended filling.bytes run;
+      within = omega (arith, fits, length-append filling.bytes run);
     }
+
+-- a run that is not empty, and what stands before its last byte
+front_last : (run : List ℕ) → 0 < length run → (front : List ℕ) × (byte : ℕ) × (run ≡ front ++ byte ∷ [])
+front_last [] some = absurd (omega (arith, some))
+front_last (byte ∷ []) some = ([], byte, refl)
+front_last (byte ∷ next ∷ run) some =
+    let rest = front_last (next ∷ run) (omega arith) in
+    (byte ∷ rest.0, rest.1, ap (λ xs. byte ∷ xs) rest.2)
+
+-- a run that ends with the byte past the limit
+pub filling_spent : (old now next : Stocked) (left_before left left_after : Option (List ℕ)) (size : ℕ) (payload : Payload) (run : List ℕ)
+    → Filling old now left_before left size payload → Gave now next left left_after run → 0 < length run → length run ≤ size - payload.size → payload.size ≤ size
+    → (bytes : List ℕ) × (byte : ℕ) × Gave old next left_before left_after (bytes ++ byte ∷ []) × (length bytes < size)
+filling_spent old now next left_before left left_after size payload run filling gave any few below =
+    let split = front_last run any in
+    let front = split.0 in
+    let byte = split.1 in
+    let all = gave_then old now next left_before left left_after filling.bytes run filling.gave gave in
+    let is : filling.bytes ++ run ≡ (filling.bytes ++ front) ++ byte ∷ [] = ap (λ xs. filling.bytes ++ xs) split.2 ∙ sym (append_assoc filling.bytes front (byte ∷ [])) in (
+      filling.bytes ++ front,
+      byte,
+      subst (λ xs. Gave old next left_before left_after xs) is all,
+      omega (arith, few, below, ap (λ (p : Payload). p.size) filling.kept, ap length split.2, length-append front (byte ∷ []), length-append filling.bytes front),
+    )

@@ -1,8 +1,8 @@
 -- The input taken part by part: a line, and the payload behind it.
-use Rattle.std.specs.Prelude.{◌≡◌, ℕ, ◌+◌, ◌<◌, false, true, List, [], ◌∷◌, ◌++◌, length, Option, Some, Result, Ok, Err}
+use Rattle.std.specs.Prelude.{◌≡◌, ℕ, ◌+◌, ◌<◌, ◌≤◌, Bool, false, true, List, [], ◌∷◌, ◌++◌, length, Option, Some, Result, Ok, Err}
 use Rattle.std.specs.Option.{option_map}
 use Rattle.std.specs.List.{list_any}
-use Rattle.std.specs.Io.KnownBytes.{IsAtEnd}
+use Rattle.std.specs.Io.KnownBytes.{Keeps, IsAtEnd}
 use Rattle.lis_model.specs.declared.refusal.Refusal.TheVariants.{PayloadEnd}
 use Rattle.lis_model.specs.Step.{Payload}
 use Rattle.lis_model.specs.Step.Item.{Bad}
@@ -14,13 +14,18 @@ use Rattle.lis_line.specs.declared.payload.Filled.TheVariants.{All, Cut, Spent}
 use Rattle.lis_line.specs.declared.input.Part.{Part}
 use Rattle.lis_line.specs.declared.input.Part.TheVariants.{Whole, Last, PastLimit}
 
--- a payload with one byte more
-abbrev pub with_byte : Payload → ℕ → Payload
-with_byte payload byte = payload_of (payload.size + 1) (payload.bytes ++ byte ∷ [])
-
 -- a payload with these bytes behind it
 abbrev pub with_bytes : Payload → List ℕ → Payload
 with_bytes payload bytes = payload_of (payload.size + length bytes) (payload.bytes ++ bytes)
+
+-- A run of bytes was given, at most so many, and it stands behind those of the payload; or the end came, or a fault.
+abbrev pub TakesRun : {E : Type 0} → Stocked → Stocked → Option (List ℕ) → Option (List ℕ) → ℕ → Payload → Payload → Result Bool E → Type 0
+TakesRun old new left_before left most before now (Ok true) =
+    (run : List ℕ) × Gave old new left_before left run × (0 < length run) × (length run ≤ most) × (now ≡ with_bytes before run)
+TakesRun old new left_before left most before now (Ok false) =
+    (old.ahead ≡ []) × (new.ahead ≡ []) × Keeps left_before left × IsAtEnd left × (new.rest ≡ old.rest)
+TakesRun old new left_before left most before now (Err failed) =
+    (old.ahead ≡ []) × (new.ahead ≡ []) × Keeps left_before left × (new.rest ≡ old.rest)
 
 -- So many bytes were taken for a payload; or fewer, where the input ended, or the byte past the limit came, or a fault.
 abbrev pub Fills : {E : Type 0} → Stocked → Stocked → Option (List ℕ) → Option (List ℕ) → ℕ → Payload → Result Filled E → Type 0

@@ -1,5 +1,5 @@
 -- Bytes that were taken from a source and not given on yet.
-use Rattle.std.specs.Prelude.{◌≡◌, ℕ, ◌+◌, ◌<◌, List, [], ◌∷◌, ◌++◌, length, take, Option, Some, None, Result, Ok, Err, false}
+use Rattle.std.specs.Prelude.{◌≡◌, ℕ, ◌+◌, ◌<◌, Bool, true, false, List, [], ◌∷◌, ◌++◌, length, take, Option, Some, None, Result, Ok, Err}
 use Rattle.std.specs.Io.KnownBytes.{prepend_known, Consumes, Keeps, IsAtEnd}
 use Rattle.std.specs.List.{list_any}
 use Rattle.lis_model.specs.Script.{is_feed}
@@ -30,6 +30,15 @@ abbrev pub Refills : {T E : Type 0} → Stocked → Stocked → Option (List ℕ
 Refills old new left_before left (Ok done) =
     Consumes left_before left new.ahead × (length new.ahead ≡ 0 → IsAtEnd left) × (new.rest ≡ old.rest)
 Refills old new left_before left (Err failed) = (new.ahead ≡ []) × Keeps left_before left × (new.rest ≡ old.rest)
+
+-- bytes are ahead, with none of them given; or the end, or a fault
+abbrev pub Meets : {E : Type 0} → Stocked → Stocked → Option (List ℕ) → Option (List ℕ) → Result Bool E → Type 0
+Meets old new left_before left (Ok true) =
+    Consumes (stream_of old left_before) (stream_of new left) [] × (0 < length new.ahead) × (new.rest ≡ old.rest)
+Meets old new left_before left (Ok false) =
+    (old.ahead ≡ []) × (new.ahead ≡ []) × Keeps left_before left × IsAtEnd left × (new.rest ≡ old.rest)
+Meets old new left_before left (Err failed) =
+    (old.ahead ≡ []) × (new.ahead ≡ []) × Keeps left_before left × (new.rest ≡ old.rest)
 
 -- These bytes were taken: a text with no line feed, and what ended it. Of the text the first 1,025 bytes are kept.
 pub record LineTaken (old new : Stocked) (left_before left : Option (List ℕ)) (line text bytes : List ℕ) : Type 0 where

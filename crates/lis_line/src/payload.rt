@@ -1,11 +1,11 @@
 //! The bytes that come behind a command's line.
 
-ghost use Rattle.std.specs.Prelude.{◌≡◌, ℕ, ◌+◌, ◌<◌, ◌≤◌, ◌^◌, [], ◌++◌, length, take, drop, slice_set, IfOk};
+ghost use Rattle.std.specs.Prelude.{◌≡◌, ℕ, ◌+◌, ◌<◌, ◌≤◌, ◌^◌, [], ◌++◌, length, take, drop, IfOk};
 ghost use Rattle.lis_ports.specs.Calls.{HasCause, FaultEnds};
 ghost use Rattle.lis_model.specs.Step.{no_payload};
 ghost use Rattle.lis_model.specs.Script.{payload_limit};
 ghost use Rattle.lis_line.specs.Inside.{frame_bytes, IsKept};
-ghost use Rattle.lis_line.specs.Parts.{with_byte, with_bytes, Fills};
+ghost use Rattle.lis_line.specs.Parts.{with_bytes, TakesRun, Fills};
 
 use crate::stock::Stock;
 use lis_ports::{Failed, Source};
@@ -33,15 +33,6 @@ impl Model for Payload {
     ghost view = { λ p. payload_in p.region p.frame p.size };
 
     ghost invariant = { λ p. IsKept p.region p.frame };
-}
-
-fn set(region: &mut Region<u8>, frame: &Frame, place: usize, byte: u8)
-    requires kept { IsKept region.old frame.now }
-    requires room { place < payload_limit }
-    ensures kept { IsKept region.new frame.now }
-    ensures bytes { frame_bytes region.new frame.now ≡ slice_set (frame_bytes region.old frame.now) place byte }
-{
-    region.items_mut(frame)[place] = byte;
 }
 
 fn write(region: &mut Region<u8>, frame: &Frame, place: usize, bytes: &[u8])
@@ -97,16 +88,6 @@ impl Payload {
         self.size = 0;
     }
 
-    fn push(&mut self, byte: u8)
-        requires { self.old.size + 1 < 2 ^ 64 }
-        ensures { self.new ≡ with_byte self.old byte }
-    {
-        if self.size < ROOM as u64 {
-            set(&mut self.region, &self.frame, self.size as usize, byte);
-        }
-        self.size += 1;
-    }
-
     /// Puts the bytes behind those that it has.
     pub fn append(&mut self, bytes: &[u8])
         requires { self.old.size + length bytes.now < 2 ^ 64 }
@@ -130,6 +111,31 @@ pub enum Filled {
     Spent,
 }
 
+// Takes a run of bytes behind those that the payload has, at most so many; false at the end.
+fn take_run<S: Source>(
+    stock: &mut Stock,
+    payload: &mut Payload,
+    most: u64,
+    source: &mut S,
+) -> Result<bool, Failed>
+    requires some { 0 < stock.old.rest }
+    requires any { 0 < most }
+    requires room { payload.old.size + most < 2 ^ 64 }
+    ensures few { length stock.new.ahead ≤ stock.new.rest }
+    ensures takes { TakesRun stock.old stock.new (S.left source.old) (S.left source.new) most payload.old payload.new result }
+    ensures cause { HasCause (S.faults source.old) (S.faults source.new) result }
+    ensures first_fault { FaultEnds (S.faults source.old) (S.behind source.old) (S.behind source.new) }
+{
+    if !stock.meet(source)? {
+        return Ok(false);
+    }
+    let ahead = stock.ahead();
+    let count = (ahead.len() as u64).min(most) as usize;
+    payload.append(&ahead[..count]);
+    stock.skip(count);
+    Ok(true)
+}
+
 /// Takes so many bytes as the payload.
 pub fn fill<S: Source>(
     stock: &mut Stock,
@@ -146,13 +152,12 @@ pub fn fill<S: Source>(
 {
     payload.clear();
     while payload.size() < size {
-        let Some(byte) = stock.next_byte(source)? else {
+        if !take_run(stock, payload, size - payload.size(), source)? {
             return Ok(Filled::Cut);
-        };
+        }
         if stock.rest() == 0 {
             return Ok(Filled::Spent);
         }
-        payload.push(byte);
     }
     Ok(Filled::All)
 }

@@ -1,16 +1,16 @@
-//! Bytes out of a source, one by one, whatever pieces it gives; and lines out of bytes.
+//! Bytes out of a source, one by one or by runs, whatever pieces it gives; and lines out of bytes.
 
 ghost use Rattle.std.specs.Prelude.{◌≡◌, ℕ, ◌+◌, ◌-◌, ◌<◌, ◌≤◌, ◌^◌, List, [], ◌∷◌, ◌↔◌, length, take, drop, IsTrue};
 ghost use Rattle.lis_ports.specs.Calls.{HasCause, FaultEnds};
 ghost use Rattle.lis_model.specs.Script.{is_feed};
-ghost use Rattle.lis_line.specs.Stock.{Stocked, GivesByte, Refills, ReadsLine};
+ghost use Rattle.lis_line.specs.Stock.{Stocked, GivesByte, Refills, Meets, ReadsLine};
 
 use arrayvec::ArrayVec;
 use lis_ports::{Failed, Source};
 use std::marker::Model;
 
 /// How many bytes are taken from a source in one call.
-const PIECE: usize = 4_096;
+const PIECE: usize = 65_536;
 
 /// How many bytes of a line are kept: one more than a line may have.
 pub const KEPT: usize = 1_025;
@@ -18,7 +18,7 @@ pub const KEPT: usize = 1_025;
 /// Bytes taken and not given yet, and how many may still be given.
 #[derive(Drop)]
 pub struct Stock {
-    buf: [u8; 4096],
+    buf: [u8; 65536],
     start: usize,
     end: usize,
     rest: u64,
@@ -32,7 +32,7 @@ impl Model for Stock {
 
     ghost view = { λ s. record { ahead = take (s.end - s.start) (drop s.start s.buf); rest = s.rest } };
 
-    ghost invariant = { λ s. (s.start ≤ s.end) × (s.end ≤ 4096) × (s.end - s.start ≤ s.rest) };
+    ghost invariant = { λ s. (s.start ≤ s.end) × (s.end ≤ 65536) × (s.end - s.start ≤ s.rest) };
 }
 
 /// Where a line ended.
@@ -52,7 +52,7 @@ impl Stock {
         ensures rest { result.rest ≡ rest }
     {
         Stock {
-            buf: [0; 4096],
+            buf: [0; 65536],
             start: 0,
             end: 0,
             rest,
@@ -98,6 +98,41 @@ impl Stock {
         byte
     }
 
+    /// Takes from the source where nothing is ahead; false at the end.
+    pub fn meet<S: Source>(&mut self, source: &mut S) -> Result<bool, Failed>
+        requires { 0 < self.old.rest }
+        ensures meets { Meets self.old self.new (S.left source.old) (S.left source.new) result }
+        ensures cause { HasCause (S.faults source.old) (S.faults source.new) result }
+        ensures first_fault { FaultEnds (S.faults source.old) (S.behind source.old) (S.behind source.new) }
+    {
+        if !self.is_empty() {
+            return Ok(true);
+        }
+        self.refill(source)?;
+        if self.is_empty() {
+            return Ok(false);
+        }
+        Ok(true)
+    }
+
+    /// The bytes that were taken and not given.
+    pub fn ahead(&self) -> &[u8]
+        ensures ahead { result.now ≡ self.now.ahead }
+        ensures few { length result.now ≤ self.now.rest }
+    {
+        &self.buf[self.start..self.end]
+    }
+
+    /// Gives so many of the bytes that are ahead.
+    pub fn skip(&mut self, count: usize)
+        requires { count ≤ length self.old.ahead }
+        ensures ahead { self.new.ahead ≡ drop count self.old.ahead }
+        ensures rest { count + self.new.rest ≡ self.old.rest }
+    {
+        self.start += count;
+        self.rest -= count as u64;
+    }
+
     /// Gives the next byte; None at the end.
     pub fn next_byte<S: Source>(&mut self, source: &mut S) -> Result<Option<u8>, Failed>
         requires { 0 < self.old.rest }
@@ -105,12 +140,7 @@ impl Stock {
         ensures cause { HasCause (S.faults source.old) (S.faults source.new) result }
         ensures first_fault { FaultEnds (S.faults source.old) (S.behind source.old) (S.behind source.new) }
     {
-        if !self.is_empty() {
-            let byte = self.give();
-            return Ok(Some(byte));
-        }
-        self.refill(source)?;
-        if self.is_empty() {
+        if !self.meet(source)? {
             return Ok(None);
         }
         let byte = self.give();
