@@ -1,6 +1,7 @@
 -- What the loops over the words of rows do. No public clause cites this module.
 use Rattle.std.specs.Prelude.{◌≡◌, ℕ, ◌+◌, ◌*◌, ◌/◌, ◌%◌, ◌<◌, ◌≤◌, ◌⊎◌, Bool, true, false, nat_eq, List, length, slice_index}
 use Rattle.std.specs.Int.{bit_at}
+use Rattle.lis_bits.specs.Bytes.{bits_number}
 
 -- each of the words from `to` on has what `op` gives of it and of the word as far on from `from`, and the other words stay
 pub record Joins (op : ℕ → ℕ → ℕ → Type 0) (old new : List ℕ) (to from width : ℕ) : Type 0 where
@@ -46,3 +47,7 @@ pub record IsNextFrom (words : List ℕ) (start bit : ℕ) : Type 0 where
   pub in_words : bit < 64 * length words
   pub set : words_bit words bit ≡ true
   pub none_before : (k : ℕ) → start ≤ k → k < bit → words_bit words k ≡ false
+
+-- each of the first bytes tells eight bits of the words
+abbrev pub HasBytes : List ℕ → List ℕ → ℕ → Type 0
+HasBytes words bytes count = (j : ℕ) → j < count → slice_index bytes j ≡ bits_number 8 (λ i. words_bit words (8 * j + i))

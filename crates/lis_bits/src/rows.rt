@@ -178,10 +178,7 @@ impl Rows {
         requires room { 8 * length buf.old ≡ self.now.bits }
         ensures { buf.new ≡ bits_bytes (length buf.old) (get self.now row) }
     {
-        let words = self.words(row);
-        for k in 0..buf.len() {
-            buf[k] = words::byte(words, k);
-        }
+        words::write_bytes(self.words(row), buf);
     }
 
     // The words of a row.

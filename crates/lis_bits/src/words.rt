@@ -1,8 +1,8 @@
 ghost use Rattle.std.specs.Prelude.{ℕ, ◌+◌, ◌^◌, ◌<◌, ◌≤◌, length, slice_index};
 ghost use Rattle.std.specs.Prelude.{◌*◌, ◌≡◌, ◌≢◌, ◌==◌, ◌↔◌, IsTrue, MatchOption, sum_by, count_ones, bit_and, if◌then◌else◌};
 ghost use Rattle.std.specs.Int.{bit_not, w64};
-ghost use Rattle.lis_bits.specs.Bytes.{bits_number};
-ghost use Rattle.lis_bits.specs.Words.{Joins, JoinsWith, AreApart, word_bit, words_bit, IsNextIn, NoneNextIn, IsNextFrom, NoneNextFrom};
+ghost use Rattle.lis_bits.specs.Bytes.{bits_number, bits_bytes};
+ghost use Rattle.lis_bits.specs.Words.{Joins, JoinsWith, AreApart, word_bit, words_bit, IsNextIn, NoneNextIn, IsNextFrom, NoneNextFrom, HasBytes};
 
 // Sets each of the `width` words from `to` on to what `op` gives of it and of the word as far on from `from`.
 pub(crate) fn join<F: Fn(u64, u64) -> u64>(
@@ -101,6 +101,30 @@ pub(crate) fn next(words: &[u64], start: usize) -> Option<usize>
         }
     }
     None
+}
+
+// Writes the words as bytes, the lowest byte of each first. Eight bytes of one word are written together, so that they are one
+// store.
+pub(crate) fn write_bytes(words: &[u64], buf: &mut [u8])
+    requires { length buf.old ≡ 8 * length words.now }
+    ensures { buf.new ≡ bits_bytes (length buf.old) (words_bit words.now) }
+{
+    for k in 0..words.len() {
+        write_word(words, k, buf);
+    }
+}
+
+// Writes the bytes of one word behind those of the words before it.
+fn write_word(words: &[u64], k: usize, buf: &mut [u8])
+    requires word { k < length words.now }
+    requires room { 8 * k + 8 ≤ length buf.old }
+    requires before { HasBytes words.now buf.old (8 * k) }
+    ensures { HasBytes words.now buf.new (8 * k + 8) }
+{
+    for i in 0..8 {
+        let at = 8 * k + i;
+        buf[at] = byte(words, at);
+    }
 }
 
 // A byte of the words, of which the first has the lowest bits of the first word.
