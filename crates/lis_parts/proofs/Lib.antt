@@ -1,1 +1,3 @@
 pub mod Loaded
+mod Formulas
+mod Saying
