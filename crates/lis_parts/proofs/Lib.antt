@@ -1,2 +1,4 @@
 pub mod Loaded
 pub mod Gathered
+mod Formulas
+mod Saying
