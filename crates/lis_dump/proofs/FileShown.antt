@@ -8,8 +8,8 @@ use Rattle.lis_store.specs.Stored.{Stored, StoreFits}
 use Rattle.lis_session.specs.declared.end.End.{End}
 use Rattle.lis_session.specs.Item.{FitsAt}
 use Rattle.lis_session.specs.Parts.{Answers}
-use Rattle.lis_dump.specs.Showing.{Shows}
-use Rattle.lis_dump.proofs.Shown.{as_shown, shown_same, shown_then, shown_front}
+use Rattle.lis_session.specs.Showing.{Shows}
+use Rattle.lis_session.proofs.Shown.{as_shown, shown_same, shown_then, shown_front}
 
 module _ (name : List ℕ) where
   abbrev pub added : ℕ → List (List ℕ) → List ℕ

@@ -1,4 +1,3 @@
-pub mod Shown
 pub mod LineBytes
 pub mod WordsTold
 pub mod FilesTold

@@ -6,8 +6,8 @@ use Rattle.lis_model.specs.State.{State}
 use Rattle.lis_replay.specs.Dump.{mkdir_line, file_lines, axiom_line, dump_of}
 use Rattle.lis_store.specs.Stored.{Stored}
 use Rattle.lis_session.specs.declared.end.End.{End}
-use Rattle.lis_dump.specs.Showing.{Shows}
-use Rattle.lis_dump.proofs.Shown.{shown_same, shown_then, shown_front}
+use Rattle.lis_session.specs.Showing.{Shows}
+use Rattle.lis_session.proofs.Shown.{shown_same, shown_then, shown_front}
 
 abbrev words_of : State → List ℕ
 words_of state = flat_map mkdir_line state.declared

@@ -1,22 +1,10 @@
 -- The parts of a dump, by what a store keeps.
-use Rattle.std.specs.Prelude.{ℕ, if◌then◌else◌, List, [], Result}
+use Rattle.std.specs.Prelude.{ℕ, if◌then◌else◌, List, []}
 use Rattle.std.specs.List.{flat_map}
-use Rattle.lis_ports.specs.Meaning.{Meaning}
-use Rattle.lis_model.specs.State.{State}
 use Rattle.lis_kept.specs.Behind.{rights_of}
 use Rattle.lis_kept.specs.Kept.{Kept}
 use Rattle.lis_kept.specs.Telling.{is_declared, axioms_of}
 use Rattle.lis_replay.specs.Dump.{mkdir_line, axiom_line}
-use Rattle.lis_store.specs.Stored.{Stored, StoreFits}
-use Rattle.lis_session.specs.declared.end.End.{End}
-use Rattle.lis_grammar.specs.Formula.{Formula}
-use Rattle.lis_session.specs.Item.{Does}
-use Rattle.lis_session.specs.Parts.{only_shows, Ends}
-
--- A text of the state is shown, as an item is carried out that changes nothing, whichever state fits; and how that ends of any station.
-pub record Shows (k : Stored) (text : State → List ℕ) (old new : Meaning) (result : Result (Unit {0}) End) : Type 0 where
-  pub shows : Does {P = List Formula} (λ now. only_shows (text now.state) now) (StoreFits k old) [] old new result (StoreFits k new) []
-  pub ends : Ends old new result
 
 -- the line of a word with its number, where it is declared
 abbrev pub declaring_line : Kept → List ℕ × ℕ → List ℕ

@@ -5,7 +5,8 @@ ghost use Rattle.std.specs.List.{flat_map};
 ghost use Rattle.lis_kept.specs.Telling.{axioms_of};
 ghost use Rattle.lis_replay.specs.Dump.{axiom_line};
 ghost use Rattle.lis_store.specs.Stored.{IsSound};
-ghost use Rattle.lis_dump.specs.Showing.{Shows, axiom_lines, entry_axioms};
+ghost use Rattle.lis_session.specs.Showing.{Shows};
+ghost use Rattle.lis_dump.specs.Showing.{axiom_lines, entry_axioms};
 
 use crate::lines::axiom_line;
 use crate::showing::show;

@@ -6,7 +6,7 @@ ghost use Rattle.lis_catalog.specs.Catalog.{slot_of};
 ghost use Rattle.lis_model.specs.Changes.{file_of};
 ghost use Rattle.lis_replay.specs.Dump.{file_lines};
 ghost use Rattle.lis_store.specs.Stored.{IsSound};
-ghost use Rattle.lis_dump.specs.Showing.{Shows};
+ghost use Rattle.lis_session.specs.Showing.{Shows};
 
 use crate::lines::{add_line, mv_line};
 use crate::showing::show;

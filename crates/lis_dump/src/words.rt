@@ -5,7 +5,8 @@ ghost use Rattle.std.specs.List.{flat_map};
 ghost use Rattle.lis_replay.specs.Dump.{mkdir_line};
 ghost use Rattle.lis_store.specs.Stored.{IsSound};
 ghost use Rattle.lis_session.specs.Parts.{Answers};
-ghost use Rattle.lis_dump.specs.Showing.{Shows, declaring_line};
+ghost use Rattle.lis_session.specs.Showing.{Shows};
+ghost use Rattle.lis_dump.specs.Showing.{declaring_line};
 
 use crate::lines::mkdir_line;
 use crate::showing::show;

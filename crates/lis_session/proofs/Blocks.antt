@@ -75,7 +75,7 @@ first_blocks n bytes = take (4096 * n) bytes
 abbrev pub block_of : ℕ → List ℕ → List ℕ
 block_of n bytes = part (4096 * n) 4096 bytes
 
-block_more : (n : ℕ) (bytes : List ℕ) → take (4096 * n) bytes ++ part (4096 * n) 4096 bytes ≡ take (4096 * (n + 1)) bytes
+pub block_more : (n : ℕ) (bytes : List ℕ) → take (4096 * n) bytes ++ part (4096 * n) 4096 bytes ≡ take (4096 * (n + 1)) bytes
 block_more n bytes = let next : 4096 * (n + 1) ≡ 4096 * n + 4096 = omega arith in sym (ap (λ j. take j bytes) next ∙ take-add (4096 * n) 4096 bytes)
 
 module _ (k : Stored) (slot n : ℕ) {old : Meaning} where

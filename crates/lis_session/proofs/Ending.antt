@@ -1,5 +1,5 @@
 -- How a session over the items of an input ends, told by its end.
-use Rattle.std.proofs.Common.{◌≡◌, ℕ, List, Option, Some, Ok, Err, refl}
+use Rattle.std.proofs.Common.{◌≡◌, ℕ, List, Option, Some}
 use Rattle.lis_ports.specs.Meaning.{Meaning}
 use Rattle.lis_model.specs.State.{State}
 use Rattle.lis_model.specs.Step.{SituationOf, OutcomeOf, after_by}

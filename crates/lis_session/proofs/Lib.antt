@@ -12,6 +12,7 @@ pub mod Whole
 pub mod InTurn
 pub mod Described
 pub mod Counted
+pub mod Shown
 mod TextWords
 mod Examples
 pub mod Ending

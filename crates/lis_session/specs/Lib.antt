@@ -4,6 +4,7 @@ pub mod Item
 pub mod Runs
 pub mod Served
 pub mod Parts
+pub mod Showing
 pub mod Described
 pub mod Counting
 pub mod Tally

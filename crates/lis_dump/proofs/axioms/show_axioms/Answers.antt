@@ -6,7 +6,7 @@ use Rattle.lis_model.specs.State.{State}
 use Rattle.lis_replay.specs.Dump.{axiom_line}
 use Rattle.lis_dump.specs.Showing.{entry_axioms}
 use Rattle.lis_dump.proofs.InOrder.{axioms_told}
-use Rattle.lis_dump.proofs.Shown.{shown_same, to_none, to_more, to_broke, to_all}
+use Rattle.lis_session.proofs.Shown.{shown_same, to_none, to_more, to_broke, to_all}
 use Rattle.lis_dump.proofs.WordsTold.{few_words}
 use Rattle.lis_dump.proofs.axioms.show_axioms.Goals as goal
 

@@ -4,7 +4,7 @@ use Rattle.std.proofs.lemmas.Result.{err_from_is_err_and}
 use Rattle.lis_kept.specs.Telling.{axioms_of}
 use Rattle.lis_replay.specs.Dump.{axiom_line}
 use Rattle.lis_dump.proofs.InOrder.{lines_behind, all_behind, no_more, one_more, fewer_left}
-use Rattle.lis_dump.proofs.Shown.{as_shown, so_far_none, so_far_more, so_far_broke, so_far_all}
+use Rattle.lis_session.proofs.Shown.{as_shown, so_far_none, so_far_more, so_far_broke, so_far_all}
 use Rattle.lis_dump.proofs.axioms.show_axioms_of.Goals as goal
 
 pub loop-right-init : goal.loop-right-init

@@ -1,7 +1,7 @@
 use Rattle.lis_kept.specs.Telling.{axioms_of}
 use Rattle.lis_dump.specs.Showing.{axiom_lines}
 use Rattle.lis_dump.proofs.InOrder.{lines_behind, count_behind}
-use Rattle.lis_dump.proofs.Shown.{ShownSoFar}
+use Rattle.lis_session.proofs.Shown.{ShownSoFar}
 use Rattle.lis_dump.proofs.axioms.show_axioms_of.Given as goal
 
 -- those up to the last one were shown

@@ -3,7 +3,7 @@ use Rattle.std.specs.List.{flat_map}
 use Rattle.lis_model.specs.State.{State}
 use Rattle.lis_replay.specs.Dump.{file_lines}
 use Rattle.lis_dump.proofs.FilesTold.{no_file_at, slot_seen, file_at}
-use Rattle.lis_dump.proofs.Shown.{shown_none, shown_same}
+use Rattle.lis_session.proofs.Shown.{shown_none, shown_same}
 use Rattle.lis_dump.proofs.files.show_file_at.Goals as goal
 
 pub returns-in_default : goal.returns-in_default

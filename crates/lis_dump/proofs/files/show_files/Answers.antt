@@ -4,7 +4,7 @@ use Rattle.lis_model.specs.declared.limits.Limits.{Limits}
 use Rattle.lis_model.specs.State.{State}
 use Rattle.lis_replay.specs.Dump.{file_lines}
 use Rattle.lis_dump.proofs.FilesTold.{few_files}
-use Rattle.lis_dump.proofs.Shown.{to_none, to_more, to_broke, to_all}
+use Rattle.lis_session.proofs.Shown.{to_none, to_more, to_broke, to_all}
 use Rattle.lis_dump.proofs.files.show_files.Goals as goal
 
 pub loop-k-init : goal.loop-k-init

@@ -1,6 +1,6 @@
 use Rattle.lis_model.specs.State.{State}
 use Rattle.lis_replay.specs.Dump.{file_lines}
-use Rattle.lis_dump.proofs.Shown.{ShownTo}
+use Rattle.lis_session.proofs.Shown.{ShownTo}
 use Rattle.lis_dump.proofs.files.show_files.Given as goal
 
 abbrev pub invariant-loop-k : goal.invariant-loop-k

@@ -5,7 +5,7 @@ use Rattle.lis_model.specs.declared.limits.Limits.{Limits}
 use Rattle.lis_model.specs.State.{State}
 use Rattle.lis_replay.specs.Dump.{mkdir_line}
 use Rattle.lis_dump.specs.Showing.{declaring_line}
-use Rattle.lis_dump.proofs.Shown.{as_shown, shown_same, to_none, text_at, to_more, to_broke, to_all}
+use Rattle.lis_session.proofs.Shown.{as_shown, shown_same, to_none, text_at, to_more, to_broke, to_all}
 use Rattle.lis_dump.proofs.WordsTold.{few_words, words_told}
 use Rattle.lis_dump.proofs.words.show_words.Goals as goal
 

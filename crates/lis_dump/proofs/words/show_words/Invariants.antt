@@ -1,5 +1,5 @@
 use Rattle.lis_dump.specs.Showing.{declaring_line}
-use Rattle.lis_dump.proofs.Shown.{ShownTo}
+use Rattle.lis_session.proofs.Shown.{ShownTo}
 use Rattle.lis_dump.proofs.words.show_words.Given as goal
 
 abbrev pub invariant-loop-k : goal.invariant-loop-k

@@ -14,7 +14,7 @@ use Rattle.lis_session.specs.Parts.{only_shows, Ends, Answers}
 use Rattle.lis_session.proofs.Described.{split_at, drop_none}
 use Rattle.lis_session.proofs.Going.{ends_then}
 use Rattle.lis_session.proofs.Saying.{item_none, item_front, item_then, shows_item}
-use Rattle.lis_dump.specs.Showing.{Shows}
+use Rattle.lis_session.specs.Showing.{Shows}
 
 -- ---- ends
 ends_none : (m : Meaning) → Ends m m (Ok tt)

@@ -1,0 +1,20 @@
+use Rattle.std.proofs.Common.{Ok, ◌*◌, ◌<◌, ◌≤◌, arith}
+use Rattle.lis_parts.proofs.Loaded.{reading_then, loaded_more, loaded_all}
+use Rattle.lis_parts.proofs.loading.load.Goals as goal
+
+pub loop-n-preserved : goal.loop-n-preserved
+loop-n-preserved g c =
+    let was = c.loop-n.invariant in
+    let e = c.in_ok-content.ensures in
+    let within : 4096 * c.loop-n.n < c.args.size = omega arith in
+    record {
+      reading = reading_then tt (Ok tt) was.reading (record { run = e.run; cause = e.cause; first_fault = e.first_fault; same = e.same; any_moment = e.any_moment; fits = e.fits });
+      whole = e.len;
+      loaded = loaded_more c.args.slot c.args.size c.loop-n.n c.requires.sound c.requires.size was.loaded c.content.new.buf c.min.result within e.len c.min.ensures
+          (λ s name fits is_slot. e.read s name (was.reading.fits s fits) is_slot) c.append.ensures;
+    }
+
+pub returns-clause-loads : goal.returns-clause-loads
+returns-clause-loads g c =
+    let enough : c.args.size ≤ 4096 * c.loop-n.n = omega arith in
+    loaded_all c.args.slot c.args.size c.loop-n.n c.requires.sound c.requires.size c.loop-n.invariant.loaded enough
