@@ -10,14 +10,14 @@ use lis_model::limits::{Limits, is_blocks_limit, is_files_limit, is_props_limit,
 use std::alloc::{AllocError, Global};
 use std::marker::Model;
 
-/// Room for the bytes of one file, for an edited view of it, and for what this makes of the file.
+/// Room for the bytes of one file, for an edited view of it, and for the bytes that are made of both.
 #[derive(Drop)]
 pub struct Parts {
     limits: Limits,
     pub(crate) scratch: Scratch,
-    pub(crate) old: Payload,
+    pub(crate) file: Payload,
     pub(crate) edited: Edited,
-    pub(crate) new: Payload,
+    pub(crate) made: Payload,
 }
 
 impl Model for Parts {
@@ -53,15 +53,15 @@ impl Parts {
             return Err(AllocError);
         }
         let scratch = Scratch::new(alloc, limits)?;
-        let old = Payload::new(alloc)?;
+        let file = Payload::new(alloc)?;
         let edited = Edited::new(alloc)?;
-        let new = Payload::new(alloc)?;
+        let made = Payload::new(alloc)?;
         Ok(Parts {
             limits: *limits,
             scratch,
-            old,
+            file,
             edited,
-            new,
+            made,
         })
     }
 }
