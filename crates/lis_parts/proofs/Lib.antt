@@ -1,3 +1,5 @@
 pub mod Loaded
 mod Formulas
 mod Saying
+mod Viewed
+mod Examples

@@ -1,3 +1,4 @@
 pub mod Commands
 pub mod Showing
+pub mod Viewing
 pub mod Putting
