@@ -1,3 +1,5 @@
 pub mod Gathered
 pub mod Loaded
 pub mod Puts
+mod Formulas
+mod Saying

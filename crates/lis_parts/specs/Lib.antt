@@ -1,3 +1,4 @@
 pub mod Commands
+pub mod Showing
 pub mod Putting
 pub mod Inside

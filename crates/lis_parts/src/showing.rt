@@ -1,1 +1,50 @@
 //! Showing many small pieces by few calls.
+
+ghost use Rattle.std.specs.Prelude.{◌≡◌, ◌+◌, ◌≤◌, List, [], ◌++◌, length, OnOk};
+ghost use Rattle.arrayvec.specs.ArrayVec.{array_vec_len};
+ghost use Rattle.lis_session.specs.Parts.{Answers};
+ghost use Rattle.lis_parts.specs.Showing.{Says};
+
+use arrayvec::ArrayVec;
+use lis_ports::Station;
+use lis_session::end::End;
+use lis_session::replies::answer_bytes;
+
+/// How many bytes are kept at most.
+const ROOM: usize = 8_192;
+
+/// Bytes that are to be shown, and are kept until there is no room for more.
+pub type Kept = ArrayVec<u8, 8_192>;
+
+/// Shows the bytes that are kept.
+pub fn flush<T: Station>(station: &mut T, kept: &mut Kept) -> Result<(), End>
+    ensures shows { Answers (T.meaning station.old) (T.meaning station.new) kept.old.items result }
+    ensures empty { OnOk result (kept.new.items ≡ []) }
+{
+    answer_bytes(station, kept.as_slice())?;
+    kept.clear();
+    Ok(())
+}
+
+fn keep(kept: &mut Kept, bytes: &[u8])
+    requires { array_vec_len kept.old + length bytes.now ≤ 8192 }
+    ensures { kept.new.items ≡ kept.old.items ++ bytes.now }
+{
+    kept.try_extend_from_slice(bytes).unwrap();
+}
+
+/// Puts the bytes behind those that are kept, and shows what there is no room for.
+pub fn say<T: Station>(station: &mut T, kept: &mut Kept, bytes: &[u8]) -> Result<(), End>
+    ensures { Says (T.meaning station.old) (T.meaning station.new) kept.old.items kept.new.items bytes.now result }
+{
+    if bytes.len() <= kept.remaining_capacity() {
+        keep(kept, bytes);
+        return Ok(());
+    }
+    flush(station, kept)?;
+    if bytes.len() > ROOM {
+        return answer_bytes(station, bytes);
+    }
+    keep(kept, bytes);
+    Ok(())
+}
