@@ -1,4 +1,6 @@
+pub mod Gathered
 pub mod Loaded
+pub mod Puts
 mod Formulas
 mod Saying
 mod Viewed

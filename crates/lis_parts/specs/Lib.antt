@@ -2,3 +2,4 @@ pub mod Commands
 pub mod Showing
 pub mod Viewing
 pub mod Putting
+pub mod Inside

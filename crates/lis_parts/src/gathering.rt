@@ -1,8 +1,10 @@
 //! An edited view, taken whole from a source before anything is judged.
 
-ghost use Rattle.std.specs.Prelude.{◌≡◌, ◌≤◌, ℕ, List, [], Some, length, IfOk};
+ghost use Rattle.std.specs.Prelude.{◌≡◌, ◌+◌, ◌<◌, ◌≤◌, ◌↔◌, ℕ, List, [], Some, length, IfOk, IsTrue, true};
 ghost use Rattle.lis_ports.specs.Calls.{HasCause, FaultEnds};
+ghost use Rattle.lis_line.specs.Inside.{frame_bytes};
 ghost use Rattle.lis_line.specs.Taking.{TakesFew};
+ghost use Rattle.lis_parts.specs.Inside.{IsKept, TakesBehind, TakesMore};
 ghost use Rattle.lis_parts.specs.Putting.{view_limit, Gathers};
 
 use lis_ports::{Failed, Source};
@@ -22,7 +24,32 @@ pub struct Edited {
 }
 
 impl Model for Edited {
+    ghost use Rattle.std.specs.Prelude.{◌+◌, ◌≤◌, ℕ, List, take};
+    ghost use Rattle.lis_line.specs.Inside.{frame_bytes};
+    ghost use Rattle.lis_parts.specs.Inside.{IsKept};
+    ghost use Rattle.lis_parts.specs.Putting.{view_limit};
+
     ghost Value = { List ℕ };
+
+    ghost view = { λ e. take e.len (frame_bytes e.region e.frame) };
+
+    ghost invariant = { λ e. IsKept e.region e.frame × (e.len ≤ view_limit + 1) };
+}
+
+// Takes the next bytes of the source into the room behind the first `len`, and answers how many.
+fn take_behind<S: Source>(
+    region: &mut Region<u8>,
+    frame: &Frame,
+    len: usize,
+    source: &mut S,
+) -> Result<usize, Failed>
+    requires kept { IsKept region.old frame.now }
+    requires room { len ≤ view_limit + 1 }
+    ensures kept { IsKept region.new frame.now }
+    ensures behind { TakesBehind (S.left source.old) (S.left source.new) (S.faults source.old) (S.faults source.new) (S.behind source.new) len
+        (frame_bytes region.old frame.now) (frame_bytes region.new frame.now) result }
+{
+    source.take(&mut region.items_mut(frame)[len..])
 }
 
 impl Edited {
@@ -48,6 +75,32 @@ impl Edited {
         &self.region.items(&self.frame)[..self.len]
     }
 
+    fn clear(&mut self)
+        ensures { self.new ≡ [] }
+    {
+        self.len = 0;
+    }
+
+    fn has_room(&self) -> bool
+        ensures room { IsTrue result ↔ (length self.now < view_limit + 1) }
+        ensures few { length self.now ≤ view_limit + 1 }
+    {
+        self.len < ROOM as usize
+    }
+
+    // Takes the next bytes of the source behind those that it has, and answers how many.
+    fn take_more<S: Source>(&mut self, source: &mut S) -> Result<usize, Failed>
+        requires room { length self.old < view_limit + 1 }
+        ensures more { TakesMore (S.left source.old) (S.left source.new) self.old self.new result }
+        ensures few { length self.new ≤ view_limit + 1 }
+        ensures cause { HasCause (S.faults source.old) (S.faults source.new) result }
+        ensures began { S.behind source.new ≡ S.faults source.old }
+    {
+        let count = take_behind(&mut self.region, &self.frame, self.len, source)?;
+        self.len += count;
+        Ok(count)
+    }
+
     /// Takes all bytes of the source in place of those that it has, and answers whether these are all: where there are more than an
     /// edited view may have it takes one of these, and no more.
     pub fn gather<S: Source>(&mut self, source: &mut S) -> Result<bool, Failed>
@@ -57,14 +110,11 @@ impl Edited {
         ensures cause { HasCause (S.faults source.old) (S.faults source.new) result }
         ensures first_fault { FaultEnds (S.faults source.old) (S.behind source.old) (S.behind source.new) }
     {
-        self.len = 0;
-        while self.len < ROOM as usize {
-            let room = &mut self.region.items_mut(&self.frame)[self.len..];
-            let count = source.take(room)?;
-            if count == 0 {
+        self.clear();
+        while self.has_room() {
+            if self.take_more(source)? == 0 {
                 return Ok(true);
             }
-            self.len += count;
         }
         Ok(false)
     }
