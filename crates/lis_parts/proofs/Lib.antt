@@ -1,4 +1,7 @@
 pub mod Loaded
 pub mod Gathered
+pub mod Puts
 mod Formulas
 mod Saying
+mod Viewed
+mod Examples

@@ -1,22 +1,136 @@
 //! Putting an edited view of a file back.
 
-ghost use Rattle.std.specs.Prelude.{◌≡◌, ◌*◌, ◌≤◌, ℕ, List, [], Some, false};
-ghost use Rattle.lis_ports.specs.Calls.{FaultEnds};
+ghost use Rattle.std.specs.Prelude.{◌≡◌, ◌*◌, ◌≤◌, ℕ, List, [], Some, length, false, IfOk, IsTrue};
+ghost use Rattle.lis_ports.specs.Runs.{IsDiskRun, Leaves};
+ghost use Rattle.lis_ports.specs.Calls.{HasCause, FaultEnds, DiskFaultEnds, IsUnchanged};
 ghost use Rattle.lis_line.specs.Endings.{HasHaltCause};
 ghost use Rattle.lis_line.specs.Taking.{TakesFew};
+ghost use Rattle.lis_eval.specs.Room.{HasRoom};
+ghost use Rattle.lis_catalog.specs.Catalog.{slot_of};
+ghost use Rattle.lis_model.specs.State.{State};
+ghost use Rattle.lis_model.specs.Changes.{file_of};
 ghost use Rattle.lis_model.specs.Step.{Situation};
+ghost use Rattle.lis_views.specs.Edits.{Back, back_of};
+ghost use Rattle.lis_cuts.specs.Returns.{Returns};
 ghost use Rattle.lis_store.specs.Stored.{IsSound, StoreFits};
 ghost use Rattle.lis_session.specs.Ending.{result_of, InputRead};
 ghost use Rattle.lis_session.specs.Item.{Does, StoreLeft};
 ghost use Rattle.lis_session.specs.Parts.{Ends};
+ghost use Rattle.lis_parts.specs.Commands.{put_as, put};
 ghost use Rattle.lis_parts.specs.Putting.{view_limit, put_by};
 
+use crate::formula::read_place;
+use crate::loading::load;
 use crate::parts::Parts;
+use lis_cuts::back::{Returned, put_back};
+use lis_eval::{Scratch, View};
 use lis_line::carrier::Halt;
-use lis_ports::{Source, Station};
+use lis_line::reader::Payload;
+use lis_model::refusal::Refusal;
+use lis_place::Place;
+use lis_ports::{Disk, Failed, Source, Station};
 use lis_session::end::End;
+use lis_session::replies::{answer_bytes, answer_refusal, conclude};
 use lis_store::Store;
 use lis_words::Name;
+
+// Reads the file in the slot, and makes of it what the edited view asks for.
+fn make_new<D: Disk>(
+    store: &Store,
+    file: &mut Payload,
+    made: &mut Payload,
+    disk: &mut D,
+    slot: u16,
+    place: &Place,
+    edited: &[u8],
+) -> Result<Returned, Failed>
+    requires sound { IsSound store.now }
+    requires named { (name : List ℕ) × (slot_of store.now.parts.catalog name ≡ Some slot) }
+    requires short { length edited.now ≤ view_limit }
+    requires unbroken { store.now.is_broken ≡ false }
+    requires long { 4096 * store.now.journal.blocks ≤ (D.meaning disk.old).len }
+    ensures makes { IfOk result (λ returned. (s : State) (name : List ℕ) → StoreFits store.now (D.meaning disk.old) s
+        → slot_of store.now.parts.catalog name ≡ Some slot → Returns (back_of (file_of s.files name).bytes place.now edited.now) returned made.new) }
+    ensures run { IsDiskRun (D.meaning disk.old) (D.meaning disk.new) }
+    ensures cause { HasCause (D.meaning disk.old).disk_faults (D.meaning disk.new).disk_faults result }
+    ensures first_fault { DiskFaultEnds (D.meaning disk.old) (D.meaning disk.new) }
+    ensures same { IsTrue (D.meaning disk.old).is_honest → IsUnchanged (D.meaning disk.old) (D.meaning disk.new) }
+    ensures any_moment { IsTrue (D.meaning disk.old).is_honest
+        → Leaves (D.meaning disk.old) (D.meaning disk.new) (D.meaning disk.old).images }
+    ensures fits { (s : State) → StoreFits store.now (D.meaning disk.old) s → StoreFits store.now (D.meaning disk.new) s }
+{
+    let size = store.file_size(slot);
+    load(store, slot, size, file, disk)?;
+    Ok(put_back(place, file.bytes(), edited, made))
+}
+
+// Writes what the edited view makes of the file, or shows why it makes nothing of it.
+fn carry_back<T: Station>(
+    store: &mut Store,
+    scratch: &mut Scratch,
+    station: &mut T,
+    name: &Name,
+    returned: Returned,
+    made: &Payload,
+) -> Result<(), End>
+    requires scratch { HasRoom scratch.old store.old.parts.limits }
+    requires sound { IsSound store.old }
+    requires unbroken { store.old.is_broken ≡ false }
+    requires long { 4096 * store.old.journal.blocks ≤ (T.meaning station.old).len }
+    ensures puts { (back : Back) → Returns back returned made.now
+        → Does (λ (now : Situation). put_as now name.now back) (StoreFits store.old (T.meaning station.old)) []
+        (T.meaning station.old) (T.meaning station.new) result (StoreFits store.new (T.meaning station.new)) [] }
+    ensures ends { Ends (T.meaning station.old) (T.meaning station.new) result }
+    ensures left { StoreLeft store.old store.new result }
+    ensures sound { IsSound store.new }
+    ensures scratch { HasRoom scratch.new store.old.parts.limits }
+{
+    match returned {
+        Returned::NotInForm => answer_bytes(station, b"no 26 not a view\n"),
+        Returned::OtherMarks => answer_bytes(station, b"no 27 marks\n"),
+        Returned::Whole => {
+            let root = Place::root();
+            let written = store.write(station, scratch, &root, name, made.bytes(), made.size());
+            conclude(station, written)
+        }
+    }
+}
+
+// Puts the edited view back, which was taken whole.
+fn put_back_file<T: Station>(
+    store: &mut Store,
+    scratch: &mut Scratch,
+    file: &mut Payload,
+    made: &mut Payload,
+    edited: &[u8],
+    station: &mut T,
+    name: &Name,
+    text: &[u8],
+) -> Result<(), End>
+    requires scratch { HasRoom scratch.old store.old.parts.limits }
+    requires short { length edited.now ≤ view_limit }
+    requires sound { IsSound store.old }
+    requires unbroken { store.old.is_broken ≡ false }
+    requires long { 4096 * store.old.journal.blocks ≤ (T.meaning station.old).len }
+    ensures puts { Does (λ (now : Situation). put now name.now text.now edited.now) (StoreFits store.old (T.meaning station.old)) []
+        (T.meaning station.old) (T.meaning station.new) result (StoreFits store.new (T.meaning station.new)) [] }
+    ensures ends { Ends (T.meaning station.old) (T.meaning station.new) result }
+    ensures left { StoreLeft store.old store.new result }
+    ensures sound { IsSound store.new }
+    ensures scratch { HasRoom scratch.new store.old.parts.limits }
+{
+    let place = match read_place(text) {
+        Ok(place) => place,
+        Err(refusal) => return answer_refusal(station, &refusal),
+    };
+    let Some(slot) = store.slot_of(name) else {
+        return answer_refusal(station, &Refusal::NoFileHere);
+    };
+    let Ok(returned) = make_new(store, file, made, station, slot, &place, edited) else {
+        return Err(End::DiskFault);
+    };
+    carry_back(store, scratch, station, name, returned, made)
+}
 
 /// Reads an edited view of the file of that name under the formula of the text, and writes what it makes of the file: the hidden lines
 /// stand at their marks, and the others are those of the view. The input is read to its end before anything is judged, and at most one
@@ -53,7 +167,17 @@ pub fn put_file<S: Source, T: Station>(
         Ok(false) => return Halt::Limit,
         Err(_) => return Halt::InputFault,
     }
-    match put_back_file(store, parts, station, name, text) {
+    let put = put_back_file(
+        store,
+        &mut parts.scratch,
+        &mut parts.file,
+        &mut parts.made,
+        parts.edited.bytes(),
+        station,
+        name,
+        text,
+    );
+    match put {
         Ok(()) => Halt::End,
         Err(end) => Halt::Stopped(end),
     }
