@@ -3,3 +3,4 @@ pub mod Loaded
 pub mod Puts
 mod Formulas
 mod Saying
+mod PutExamples
