@@ -5,3 +5,4 @@ mod Formulas
 mod Saying
 mod Viewed
 mod Examples
+mod PutExamples

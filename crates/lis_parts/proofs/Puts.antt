@@ -1,10 +1,9 @@
 -- What an edited view makes of a file, carried out behind the reading of the file.
-use Rattle.std.proofs.Common.{◌≡◌, ◌⊎◌, ℕ, Bool, true, false, not, is_some, List, [], ◌∷◌, Option, Some, None, Result, Ok, Err, refl, ap, sym, subst, ◌∙◌, inl}
+use Rattle.std.proofs.Common.{◌≡◌, ℕ, not, is_some, List, [], ◌∷◌, Option, Some, None, Result, Ok, Err, refl, ap, sym, subst, ◌∙◌, inl}
 use Rattle.std.specs.Io.KnownBytes.{append_known}
 use Rattle.lis_ports.specs.Meaning.{Meaning}
-use Rattle.lis_ports.specs.Runs.{Adds, Leaves}
+use Rattle.lis_ports.specs.Runs.{Leaves}
 use Rattle.lis_ports.specs.Calls.{IsUnchanged}
-use Rattle.lis_ports.specs.Since.{Since}
 use Rattle.lis_ports.proofs.Moments.{adds_then, leaves_weaken}
 use Rattle.lis_reply.proofs.Showing.{append_known-nil}
 use Rattle.lis_grammar.specs.Formula.{Formula}
@@ -18,7 +17,6 @@ use Rattle.lis_model.specs.Step.{SituationOf, OutcomeOf, Outcome, Payload, refus
 use Rattle.lis_laws.proofs.Regular.{write_stays}
 use Rattle.lis_eval.specs.View as seen
 use Rattle.lis_store.specs.Seen.{seen_of}
-use Rattle.lis_store.specs.Stands.{Stands}
 use Rattle.lis_store.proofs.Facts.{name_filed}
 use Rattle.lis_store.proofs.Here.{slot_seen}
 use Rattle.lis_store.specs.Stored.{Stored, IsSound, StoreFits}

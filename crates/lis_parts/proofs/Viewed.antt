@@ -5,9 +5,14 @@ use Rattle.std.proofs.lemmas.Bool.{cases_lt, cond-true, lt-ltb, le-ltb}
 use Rattle.std.proofs.lemmas.Grind.{flat_map-append}
 use Rattle.lis_grammar.specs.Formula.{Formula}
 use Rattle.lis_model.specs.Replies.{line}
+use Rattle.lis_model.specs.State.{State}
+use Rattle.lis_model.specs.Changes.{file_of}
+use Rattle.lis_model.specs.Step.{Outcome}
 use Rattle.lis_views.specs.Lines.{lines_of}
 use Rattle.lis_views.specs.Views.{Piece, numeral, pieces, mark_of, piece_lines, view_of}
 use Rattle.lis_cuts.specs.Stretches.{run_piece, shown_piece}
+use Rattle.lis_session.specs.Session.{root_of}
+use Rattle.lis_session.specs.Parts.{only_shows}
 use Rattle.lis_parts.specs.Viewing.{mark_text, next_number, shown_text, end_text, pieces_text}
 
 pub some_mark : (number hidden : ℕ) → 0 < hidden → mark_text number hidden ≡ (64 ∷ numeral number ++ 32 ∷ numeral hidden) ++ 10 ∷ []
@@ -58,3 +63,10 @@ view_parts bytes place = flat_map-append line (piece_lines 1 (pieces bytes place
     by : (is_open : Bool) → flat_map line (if is_open then codes "!" ∷ [] else []) ≡ end_text is_open
     by true = refl
     by false = refl
+
+-- the view of a file
+abbrev pub file_view : State → List ℕ → List Formula → List ℕ
+file_view state name place = view_of (file_of state.files name).bytes place
+
+abbrev pub shows_view : State → List ℕ → List Formula → Outcome
+shows_view state name place = only_shows (file_view state name place) (root_of state)
