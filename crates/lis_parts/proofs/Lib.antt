@@ -4,3 +4,5 @@ pub mod Puts
 mod Formulas
 mod Saying
 mod PutExamples
+mod Viewed
+mod Examples

@@ -22,10 +22,12 @@ use Rattle.lis_cuts.specs.Returns.{Holds}
 use Rattle.lis_cuts.proofs.Pouring.{held_more}
 use Rattle.lis_session.specs.declared.end.End.{End}
 use Rattle.lis_session.specs.declared.end.End.TheVariants.{DiskFault}
-use Rattle.lis_session.specs.Parts.{Ends}
+use Rattle.lis_session.specs.Item.{FitsAt}
+use Rattle.lis_session.specs.Parts.{Ends, Answers}
 use Rattle.lis_session.specs.Showing.{Shows}
 use Rattle.lis_session.proofs.Blocks.{size_is, block_is, block_item, block_broke, block_more, first_blocks, block_of}
 use Rattle.lis_session.proofs.InTurn.{answers_none}
+use Rattle.lis_session.proofs.Shown.{as_shown, shown_same, shown_then, shown_front}
 
 -- ---- what reads do
 -- A run that only reads, and how it ends.
@@ -80,6 +82,16 @@ load_shows (Err e) reading = record {
   shows = λ state fitting. block_broke [] fitting (reading.any_moment fitting.honest) (reading.same fitting.honest);
   ends = reading_ends (Err e) reading;
 }
+
+-- and a text is that could not be, or that is made of what was loaded
+module _ {E : Type 0} {k : Stored} {a b : Meaning} (text : State → List ℕ) where
+  pub loaded_broke : (failed : E) → Reading k a b (Err failed) → Shows k text a b (Err DiskFault)
+  loaded_broke failed reading = shown_front (λ state. []) text DiskFault (load_shows (Err failed) reading)
+
+  pub loaded_then : {c : Meaning} {result : Result (Unit {0}) End} {bytes : List ℕ} (u : Unit {0}) → Reading {E = E} k a b (Ok u) → ((state : State) → FitsAt (StoreFits k a) a state → bytes ≡ text state) → Answers b c bytes result
+      → Shows k text a c result
+  loaded_then {result = result} {bytes} u reading same answers =
+      shown_same text same (shown_then (λ state. []) (λ state. bytes) u result (load_shows (Ok u) reading) (as_shown answers))
 
 -- ---- the bytes
 abbrev pub HasSize : Stored → ℕ → ℕ → Type 0

@@ -4,7 +4,7 @@ use Rattle.std.specs.Result.{IsErrAnd}
 use Rattle.lis_ports.specs.Meaning.{Meaning}
 use Rattle.lis_session.specs.declared.end.End.{End}
 use Rattle.lis_session.specs.Parts.{Answers}
-use Rattle.lis_session.proofs.InTurn.{answers_none, answers_then, answers_front}
+use Rattle.lis_session.proofs.InTurn.{answers_none, answers_then, answers_front, in_a_row, passed_on}
 use Rattle.lis_parts.specs.Showing.{Says}
 
 -- ---- one piece
@@ -87,3 +87,12 @@ module _ {text left : List ℕ} {old now next : Meaning} {before kept piece afte
 pub so_far_all : {text left : List ℕ} {old now : Meaning} {before kept : List ℕ} → SaidSoFar text left old now before kept → left ≡ [] → Says old now before kept text (Ok tt)
 so_far_all {old = old} {now} {before} {kept} so_far none =
     subst (λ xs. Says old now before kept xs (Ok tt)) (sym (so_far.is ∙ (ap (λ xs. so_far.said ++ xs) none ∙ append-nil so_far.said))) so_far.says
+
+-- ---- from an empty start
+module _ {a b : Meaning} {before kept bytes : List ℕ} (none : before ≡ []) where
+  -- what is kept is shown last
+  pub said_flushed : {c : Meaning} {u : Unit {0}} {result : Result (Unit {0}) End} → Says a b before kept bytes (Ok u) → Answers b c kept result → Answers a c bytes result
+  said_flushed says last = in_a_row says.answers last (sym (ap (λ xs. xs ++ bytes) none) ∙ says.kept)
+
+  pub said_broke : {end : End} {result : Result (Unit {0}) End} → Says a b before kept bytes (Err end) → IsErrAnd result (λ e. e ≡ end) → Answers a b bytes result
+  said_broke says same = passed_on [] says.answers same (sym (ap (λ xs. xs ++ bytes) none) ∙ (says.all ∙ sym (append-nil says.shown)))

@@ -1,4 +1,5 @@
 pub mod Commands
 pub mod Showing
+pub mod Viewing
 pub mod Putting
 pub mod Inside
