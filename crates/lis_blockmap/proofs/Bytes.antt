@@ -46,6 +46,10 @@ byte_fits bits i byte bit lt same small =
     let most : 2 ^ i ≤ 2 ^ 7 = pow-le-pow_right two few in
     omega (arith, most, number_below i bits)
 
+-- a byte past the last block
+pub byte_past : (taken : List Bool) (k : ℕ) → length taken ≤ 8 * k → bits_number (take 8 (drop (8 * k) taken)) ≡ 0
+byte_past taken k past = rw (drop_of_length-le taken past) refl
+
 -- bytes that each tell their eight blocks
 pub bytes_are : (taken : List Bool) (bytes : List ℕ) → length bytes ≡ 4096 → ((k : ℕ) → k < 4096 → get_or bytes k 0 ≡ bits_number (take 8 (drop (8 * k) taken))) → bytes ≡ bitmap_bytes taken
 unfolding bitmap_bytes

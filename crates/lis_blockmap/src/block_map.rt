@@ -161,8 +161,10 @@ impl BlockMap {
         requires { length bytes.old ≡ 4096 }
         ensures { bytes.new ≡ bitmap_bytes self.now }
     {
-        for k in 0..4096 {
-            bytes[k] = self.byte(k as u32);
+        // The bits past the last block are 0.
+        bytes.fill(0);
+        for k in 0..self.blocks.div_ceil(8) {
+            bytes[k as usize] = self.byte(k);
         }
     }
 

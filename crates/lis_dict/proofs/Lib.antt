@@ -2,4 +2,5 @@ mod Finds
 mod Entries
 pub mod Places
 mod Holders
+mod Signs
 pub mod Laws

@@ -1,8 +1,8 @@
-ghost use Rattle.std.specs.Prelude.{◌≡◌, ℕ, ◌<◌, ◌≤◌, List, [], Some, None, length, slice_get, IsTrue, IfOk, IfErr, IfSome, IfNone, true, is_none, position};
+ghost use Rattle.std.specs.Prelude.{◌≡◌, ℕ, ◌<◌, ◌≤◌, List, [], Some, None, length, slice_get, IsTrue, IfOk, IfErr, IfSome, IfNone, true, false, is_none, position};
 ghost use Rattle.std.specs.List.{HoldsAt};
 ghost use Rattle.std.specs.List.Sorted.{IsSearchInRange, IsPartitionPoint};
 ghost use Rattle.std.specs.declared.cmp.Ordering.TheVariants.{Less, Greater};
-ghost use Rattle.lis_words.specs.Words.{is_property, word_cmp};
+ghost use Rattle.lis_words.specs.Words.{is_property, word_cmp, test_of};
 ghost use Rattle.lis_model.specs.Ranges.{is_props_limit};
 ghost use Rattle.lis_dict.specs.Dict.{number_of, word_of, with_entry, without_word, IsDict, Adds};
 ghost use Rattle.lis_dict.specs.Inside.{dict_of};
@@ -61,8 +61,30 @@ fn search(entries: &[Entry], word: &Word) -> Result<usize, usize>
     ensures absent { IfErr result (IsPartitionPoint (λ e. word_cmp e.0 word.now ≡ Less) (λ e. word_cmp e.0 word.now ≡ Greater) entries.now) }
     ensures word { IsTrue (is_property word.now) }
 {
-    let bytes = word.bytes();
+    search_bytes(entries, word.bytes())
+}
+
+// The same for any bytes.
+fn search_bytes(entries: &[Entry], bytes: &[u8]) -> Result<usize, usize>
+    requires { (props : ℕ) × IsDict (dict_of entries.now props) }
+    ensures bound { IsSearchInRange result (length entries.now) }
+    ensures found { IfOk result (HoldsAt (λ e. e.0 ≡ bytes.now) entries.now) }
+    ensures absent { IfErr result (IsPartitionPoint (λ e. word_cmp e.0 bytes.now ≡ Less) (λ e. word_cmp e.0 bytes.now ≡ Greater) entries.now) }
+{
     entries.binary_search_by(|entry| entry.word.bytes().cmp(bytes))
+}
+
+// How many words come before these bytes, which are no word.
+fn place_from(entries: &[Entry], bytes: &[u8]) -> usize
+    requires dict { (props : ℕ) × IsDict (dict_of entries.now props) }
+    requires none { is_property bytes.now ≡ false }
+    ensures bound { result ≤ length entries.now }
+    ensures place { IsPartitionPoint (λ e. word_cmp e.0 bytes.now ≡ Less) (λ e. word_cmp e.0 bytes.now ≡ Greater) entries.now result }
+{
+    let Err(place) = search_bytes(entries, bytes) else {
+        unreachable!()
+    };
+    place
 }
 
 // The first number that no word has.
@@ -117,6 +139,19 @@ impl Dict {
     {
         let entry = self.entries.get(k as usize)?;
         Some((entry.word.copied(), entry.number))
+    }
+
+    /// The places in byte order between which all tests stand: from the first one on, and before the second one.
+    pub fn tests(&self) -> (u32, u32)
+        ensures rise { result.0 ≤ result.1 }
+        ensures within { result.1 ≤ length self.now.entries }
+        ensures before { (k : ℕ) (e : List ℕ × ℕ) → k < result.0 → slice_get self.now.entries k ≡ Some e → test_of e.0 ≡ None }
+        ensures behind { (k : ℕ) (e : List ℕ × ℕ) → result.1 ≤ k → slice_get self.now.entries k ≡ Some e → test_of e.0 ≡ None }
+    {
+        let start = place_from(&self.entries, b"size<".as_slice());
+        // The other sign is `size>=`, and `?` comes behind `>`.
+        let end = place_from(&self.entries, b"size?".as_slice());
+        (start as u32, end.max(start) as u32)
     }
 
     /// The word's number, after a new word was added with a free one.

@@ -12,7 +12,7 @@ use Rattle.lis_taxonomy.specs.declared.taxonomy.EdgeFault.TheVariants.{Present, 
 use Rattle.lis_taxonomy.specs.Taxonomy.{Taxonomy, no_links, has_edge, with_edge, without_edge, Entails}
 use Rattle.lis_model.specs.Tests.{are_weaker}
 use Rattle.lis_laws.proofs.Chains.{weaker_trans, weaker_apart}
-use Rattle.lis_kept.specs.TestEdges.{test_by, declared_test, is_test_link, TestsAreOrdered, LinksWeaker, LinksStronger, UnlinksAll}
+use Rattle.lis_kept.specs.TestEdges.{test_by, declared_test, is_test_link, TestsAreOrdered, LinksWhere, LinksSome, LinksWeaker, LinksStronger, UnlinksAll}
 use Rattle.lis_kept.proofs.HeadEdges.{has_edge-with_edge, has_edge-without_edge, edge_there}
 use Rattle.lis_kept.proofs.TestLinks.{none_weaker, no_test, test_link}
 
@@ -57,12 +57,16 @@ not_refused dict t declared p q Present r ordered is present cycle absent link n
 not_refused dict t declared p q Cycle r ordered is present cycle absent link none = no_way_back dict t ordered p q (test_link dict declared p q link).weaker (cycle.0 is)
 not_refused dict t declared p q Absent r ordered is present cycle absent link none = absent is
 
--- ---- edges that come one after another
--- an edge is a link between tests for which a test of its two numbers holds, or was there
-pub record LinksWhere (test : ℕ → ℕ → Bool) (dict : Dict) (declared : List Bool) (t u : Taxonomy) : Type 0 where
-  pub props : u.props ≡ t.props
-  pub edges : (p q : ℕ) → has_edge u p q ≡ ((test p q && is_test_link dict declared p q) || has_edge t p q)
+-- so that it comes, or was there
+pub comes_or_was : {T : Type 0} (dict : Dict) (t u : Taxonomy) (declared : List Bool) (p q : ℕ) (r : Result T EdgeFault) → TestsAreOrdered dict t
+    → ((r ≡ Err Present) ↔ IsTrue (has_edge t p q)) → ((r ≡ Err Cycle) ↔ Entails t q p) → (r ≡ Err Absent → ⊥) → OnOk r (u ≡ with_edge t p q) → OnErr r (u ≡ t)
+    → is_test_link dict declared p q ≡ true → (u ≡ with_edge t p q) ⊎ ((u ≡ t) × (has_edge t p q ≡ true))
+comes_or_was dict t u declared p q (Ok done) ordered present cycle absent ok err link = inl ok
+comes_or_was dict t u declared p q (Err Present) ordered present cycle absent ok err link = inr (err, present.0 refl)
+comes_or_was dict t u declared p q (Err Cycle) ordered present cycle absent ok err link = absurd (no_way_back dict t ordered p q (test_link dict declared p q link).weaker (cycle.0 refl))
+comes_or_was dict t u declared p q (Err Absent) ordered present cycle absent ok err link = absurd (absent refl)
 
+-- ---- edges that come one after another
 pub where_ordered : (test : ℕ → ℕ → Bool) (dict : Dict) (declared : List Bool) (t u : Taxonomy) → LinksWhere test dict declared t u → TestsAreOrdered dict t → TestsAreOrdered dict u
 where_ordered test dict declared t u links ordered p q edge tested = by (or_cases (test p q && is_test_link dict declared p q) (has_edge t p q) (sym (links.edges p q) ∙ edge))
   where
@@ -105,6 +109,32 @@ where_more test dict declared t u x y links link = record {
         let both = and_parts (p == x) (q == y) e in
         let here : is_test_link dict declared p q ≡ true = ap₂ (is_test_link dict declared) (eqb-true p x both.0) (eqb-true q y both.1) ∙ link in
         sym (ap (λ b. b || has_edge t p q) here)
+
+-- some edges
+pub some_none : (dict : Dict) (declared : List Bool) (t : Taxonomy) → LinksSome dict declared t t
+some_none dict declared t = (λ p q. false, where_none dict declared t)
+
+pub some_added : {T : Type 0} (dict : Dict) (declared : List Bool) (t u : Taxonomy) (x y : ℕ) (r : Result T EdgeFault) → OnOk r (u ≡ with_edge t x y) → OnErr r (u ≡ t)
+    → is_test_link dict declared x y ≡ true → LinksSome dict declared t u
+some_added dict declared t u x y (Ok done) ok err link =
+    (λ p q. ((p == x) && (q == y)) || false, subst (λ v. LinksWhere (λ p q. ((p == x) && (q == y)) || false) dict declared t v) (sym ok) (where_more (λ p q. false) dict declared t t x y (where_none dict declared t) link))
+some_added dict declared t u x y (Err fault) ok err link = subst (LinksSome dict declared t) (sym err) (some_none dict declared t)
+
+-- one that was there
+pub where_there : (test : ℕ → ℕ → Bool) (dict : Dict) (declared : List Bool) (t u : Taxonomy) (x y : ℕ) → LinksWhere test dict declared t u → is_test_link dict declared x y ≡ true
+    → has_edge u x y ≡ true → LinksWhere (λ p q. ((p == x) && (q == y)) || test p q) dict declared t u
+where_there test dict declared t u x y links link there = record {
+  props = links.props;
+  edges = λ p q. by p q ((p == x) && (q == y)) refl;
+}
+  where
+    by : (p q : ℕ) (new : Bool) → ((p == x) && (q == y)) ≡ new → has_edge u p q ≡ (((new || test p q) && is_test_link dict declared p q) || has_edge t p q)
+    by p q false e = links.edges p q
+    by p q true e =
+        let both = and_parts (p == x) (q == y) e in
+        let px = eqb-true p x both.0 in
+        let qy = eqb-true q y both.1 in
+        ap₂ (has_edge u) px qy ∙ (there ∙ sym (ap (λ b. b || has_edge t p q) (ap₂ (is_test_link dict declared) px qy ∙ link)))
 
 -- a number with a declared test is below the limit
 pub test_below : (dict : Dict) (declared : List Bool) (n : ℕ) → IsDict dict → is_some {T = Bool × ℕ} (declared_test dict declared n) ≡ true → n < dict.props
@@ -156,11 +186,19 @@ module _ (number end : ℕ) (dict : Dict) (declared : List Bool) (t u : Taxonomy
       nothing true q = false_from_ne_true (nat_lt q 0) (λ h. let lt = ltb-true q 0 h in omega (arith, lt))
       nothing false q = refl
 
-  pub weaker_more : WeakerTo number end dict declared t u → is_test_link dict declared number end ≡ true → WeakerTo number (end + 1) dict declared t (with_edge u number end)
-  weaker_more links link =
-      where_same (λ p q. ((p == number) && (q == end)) || ((p == number) && nat_lt q end)) (λ p q. (p == number) && nat_lt q (end + 1)) dict declared t (with_edge u number end)
+  pub weaker_more : WeakerTo number end dict declared t u → is_test_link dict declared number end ≡ true → (next : Taxonomy)
+      → (next ≡ with_edge u number end) ⊎ ((next ≡ u) × (has_edge u number end ≡ true)) → WeakerTo number (end + 1) dict declared t next
+  weaker_more links link next which =
+      where_same (λ p q. ((p == number) && (q == end)) || ((p == number) && nat_lt q end)) (λ p q. (p == number) && nat_lt q (end + 1)) dict declared t next
       (λ p q _. sym (ap (λ b. (p == number) && b) (lt_suc q end) ∙ spread (p == number) (q == end) (nat_lt q end)))
-      (where_more (λ p q. (p == number) && nat_lt q end) dict declared t u number end links link)
+      (by which)
+    where
+      so_far : ℕ → ℕ → Bool
+      so_far p q = (p == number) && nat_lt q end
+
+      by : (next ≡ with_edge u number end) ⊎ ((next ≡ u) × (has_edge u number end ≡ true)) → LinksWhere (λ p q. ((p == number) && (q == end)) || so_far p q) dict declared t next
+      by (inl comes) = subst (λ v. LinksWhere (λ p q. ((p == number) && (q == end)) || so_far p q) dict declared t v) (sym comes) (where_more so_far dict declared t u number end links link)
+      by (inr was) = subst (λ v. LinksWhere (λ p q. ((p == number) && (q == end)) || so_far p q) dict declared t v) (sym was.0) (where_there so_far dict declared t u number end links link was.1)
 
   pub weaker_passed : WeakerTo number end dict declared t u → is_test_link dict declared number end ≡ false → WeakerTo number (end + 1) dict declared t u
   weaker_passed links none =
@@ -170,17 +208,6 @@ module _ (number end : ℕ) (dict : Dict) (declared : List Bool) (t u : Taxonomy
       by p q link (inl here) (inl same) = absurd (both_ways (is_test_link dict declared number end) none (ap₂ (is_test_link dict declared) (sym here) (sym same) ∙ link))
       by p q link (inl here) (inr differ) = ap (λ b. (p == number) && b) (sym (lt_suc q end ∙ ap (λ b. b || nat_lt q end) (ne_eqb q end differ)))
       by p q link (inr other) e = ap (λ b. b && nat_lt q end) (ne_eqb p number other) ∙ sym (ap (λ b. b && nat_lt q (end + 1)) (ne_eqb p number other))
-
-  -- the next edge is not there yet
-  pub weaker_new : WeakerTo number end dict declared t u → has_edge t number end ≡ false → has_edge u number end ≡ false
-  weaker_new links none =
-      links.edges number end
-      ∙ ap₂ (λ a b. (((number == number) && a) && is_test_link dict declared number end) || b) (false_from_ne_true (nat_lt end end) (λ h. let lt = ltb-true end end h in omega (arith, lt))) none
-      ∙ nothing (number == number)
-    where
-      nothing : (b : Bool) → (((b && false) && is_test_link dict declared number end) || false) ≡ false
-      nothing true = refl
-      nothing false = refl
 
   pub weaker_all : IsDict dict → dict.props ≤ end → WeakerTo number end dict declared t u → LinksWeaker dict declared number t u
   weaker_all kept all links =
@@ -214,6 +241,7 @@ module _ (number end : ℕ) (dict : Dict) (declared : List Bool) (t u : Taxonomy
       by p q link (inl here) (inr differ) = ap (λ b. (q == number) && b) (sym (lt_suc p end ∙ ap (λ b. b || nat_lt p end) (ne_eqb p end differ)))
       by p q link (inr other) e = ap (λ b. b && nat_lt p end) (ne_eqb q number other) ∙ sym (ap (λ b. b && nat_lt p (end + 1)) (ne_eqb q number other))
 
+  -- the next edge is not there yet
   pub stronger_new : StrongerTo number end dict declared t u → has_edge t end number ≡ false → has_edge u end number ≡ false
   stronger_new links none =
       links.edges end number

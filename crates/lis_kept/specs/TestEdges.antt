@@ -24,6 +24,15 @@ abbrev pub TestsAreOrdered : Dict → Taxonomy → Type 0
 TestsAreOrdered dict t =
     (p q : ℕ) → has_edge t p q ≡ true → is_some {T = Bool × ℕ} (test_by (word_of dict q)) ≡ true → are_weaker (test_by (word_of dict q)) (test_by (word_of dict p)) ≡ true
 
+-- with edges to weaker tests, where a test of the two numbers holds
+pub record LinksWhere (test : ℕ → ℕ → Bool) (dict : Dict) (declared : List Bool) (t u : Taxonomy) : Type 0 where
+  pub props : u.props ≡ t.props
+  pub edges : (p q : ℕ) → has_edge u p q ≡ ((test p q && is_test_link dict declared p q) || has_edge t p q)
+
+-- with some edges to weaker tests
+abbrev pub LinksSome : Dict → List Bool → Taxonomy → Taxonomy → Type 0
+LinksSome dict declared t u = (test : ℕ → ℕ → Bool) × LinksWhere test dict declared t u
+
 -- with the edges from a number to those of weaker tests
 pub record LinksWeaker (dict : Dict) (declared : List Bool) (number : ℕ) (t u : Taxonomy) : Type 0 where
   pub props : u.props ≡ t.props

@@ -21,4 +21,4 @@ pub use parts::Parts;
 pub use places::{
     PROPERTIES_START, axioms_start, bitmap_start, data_start, files_start, rows_start,
 };
-pub use test_edges::link_weaker;
+pub use test_edges::{link_nearest, link_weaker};

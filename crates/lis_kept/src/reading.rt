@@ -1,12 +1,12 @@
 //! What memory keeps, as calls read it.
 
-ghost use Rattle.std.specs.Prelude.{◌≡◌, ◌≤◌, Some, None, MatchOption, length, filter, slice_get, IsSome, IsTrue};
+ghost use Rattle.std.specs.Prelude.{◌≡◌, ℕ, ◌<◌, ◌≤◌, List, Some, None, MatchOption, length, filter, slice_get, IsSome, IsTrue};
 ghost use Rattle.std.specs.Option.{option_map};
 ghost use Rattle.lis_blockmap.specs.Bitmap.{free_count, is_taken};
 ghost use Rattle.lis_catalog.specs.Catalog.{Filed, slot_of, rec_at};
 ghost use Rattle.lis_dict.specs.Dict.{number_of, word_of};
 ghost use Rattle.lis_fields.specs.Records.{FileRecord};
-ghost use Rattle.lis_words.specs.Words.{is_file_name};
+ghost use Rattle.lis_words.specs.Words.{is_file_name, test_of};
 ghost use Rattle.lis_kept.specs.Links.{TellsLinks};
 ghost use Rattle.lis_kept.specs.Telling.{is_declared};
 
@@ -51,6 +51,16 @@ impl Parts {
         ensures { result ≡ slice_get self.now.dict.entries k }
     {
         self.dict.word_at(k)
+    }
+
+    /// The places in byte order between which all tests stand: from the first one on, and before the second one.
+    pub fn tests(&self) -> (u32, u32)
+        ensures rise { result.0 ≤ result.1 }
+        ensures within { result.1 ≤ length self.now.dict.entries }
+        ensures before { (k : ℕ) (e : List ℕ × ℕ) → k < result.0 → slice_get self.now.dict.entries k ≡ Some e → test_of e.0 ≡ None }
+        ensures behind { (k : ℕ) (e : List ℕ × ℕ) → result.1 ≤ k → slice_get self.now.dict.entries k ≡ Some e → test_of e.0 ≡ None }
+    {
+        self.dict.tests()
     }
 
     /// Whether a word is declared.

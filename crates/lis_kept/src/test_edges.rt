@@ -1,10 +1,10 @@
 //! The edges between tests: one leads from each declared test to each that is weaker.
 
-ghost use Rattle.std.specs.Prelude.{◌≡◌, ◌≤◌, ◌<◌, ℕ, Bool, true, false, Some, is_some, length, IsTrue};
+ghost use Rattle.std.specs.Prelude.{◌≡◌, ◌≤◌, ◌<◌, ℕ, true, false, Some, length, IsTrue, IfSome};
 ghost use Rattle.lis_dict.specs.Dict.{IsDict};
 ghost use Rattle.lis_model.specs.Tests.{is_weaker, are_weaker};
 ghost use Rattle.lis_taxonomy.specs.Taxonomy.{has_edge};
-ghost use Rattle.lis_kept.specs.TestEdges.{declared_test, TestsAreOrdered, LinksWeaker, LinksStronger, UnlinksAll};
+ghost use Rattle.lis_kept.specs.TestEdges.{declared_test, TestsAreOrdered, LinksSome, LinksWeaker, LinksStronger, UnlinksAll};
 
 use lis_bits::Flags;
 use lis_dict::Dict;
@@ -57,8 +57,68 @@ fn has_stronger(dict: &Dict, declared: &Flags, number: u32, test: (bool, u64)) -
     }
 }
 
-/// Adds the edges from a number without edges to those of weaker tests, where its word is a declared test. The number of a word
-/// that is none keeps its edges.
+// The test of a number that has a declared test which is weaker than this one.
+fn weaker_test(dict: &Dict, declared: &Flags, number: u32, test: (bool, u64)) -> Option<(bool, u64)>
+    requires long { number < length declared.now }
+    requires small { number < 65536 }
+    ensures { IfSome result (λ _. are_weaker (declared_test dict.now declared.now number) (Some test) ≡ true) }
+{
+    let other = declared_test(dict, declared, number)?;
+    if !is_weaker(other, test) {
+        return None;
+    }
+    Some(other)
+}
+
+// Whether a test is nearer than the nearest one so far, of tests that are all weaker than another one.
+fn is_nearer(nearest: Option<(bool, u64)>, test: (bool, u64)) -> bool {
+    match nearest {
+        None => true,
+        Some(nearest) => is_weaker(nearest, test),
+    }
+}
+
+// A number that has a declared test which is weaker than this one, and it is the nearest.
+fn nearest_weaker(dict: &Dict, declared: &Flags, props: u32, test: (bool, u64)) -> Option<u32>
+    requires few { props ≤ 8192 }
+    requires bits { length declared.now ≡ props }
+    ensures below { IfSome result (λ number. number < props) }
+    ensures weaker { IfSome result (λ number. are_weaker (declared_test dict.now declared.now number) (Some test) ≡ true) }
+{
+    let mut nearest = None;
+    let mut number = None;
+    for other in 0..props {
+        if let Some(found) = weaker_test(dict, declared, other, test) {
+            if is_nearer(nearest, found) {
+                nearest = Some(found);
+                number = Some(other);
+            }
+        }
+    }
+    number
+}
+
+/// Adds the edge from a number to that of the nearest weaker test, where its word is a declared test and the edge is not there. Once this
+/// is done for all numbers, each test entails all that are weaker, and their edges come fast.
+pub fn link_nearest(dict: &Dict, declared: &Flags, taxonomy: &mut Taxonomy, props: u32, number: u32)
+    requires props { props ≡ taxonomy.old.props }
+    requires few { props ≤ 8192 }
+    requires number { number < props }
+    requires bits { length declared.now ≡ props }
+    ensures { LinksSome dict.now declared.now taxonomy.old taxonomy.new }
+{
+    let Some(test) = declared_test(dict, declared, number) else {
+        return;
+    };
+    let Some(nearest) = nearest_weaker(dict, declared, props, test) else {
+        return;
+    };
+    // Where it is there already, nothing changes.
+    let _ = taxonomy.add(number, nearest);
+}
+
+/// Adds the edges from a number to those of weaker tests, where its word is a declared test. The number of a word that is none keeps
+/// its edges.
 pub fn link_weaker(dict: &Dict, declared: &Flags, taxonomy: &mut Taxonomy, props: u32, number: u32)
     requires props { props ≡ taxonomy.old.props }
     requires few { props ≤ 8192 }
@@ -67,7 +127,6 @@ pub fn link_weaker(dict: &Dict, declared: &Flags, taxonomy: &mut Taxonomy, props
     requires names { dict.now.props ≡ props }
     requires bits { length declared.now ≡ props }
     requires ordered { TestsAreOrdered dict.now taxonomy.old }
-    requires new { is_some {T = Bool × ℕ} (declared_test dict.now declared.now number) ≡ true → (q : ℕ) → has_edge taxonomy.old number q ≡ false }
     ensures { LinksWeaker dict.now declared.now number taxonomy.old taxonomy.new }
 {
     let Some(test) = declared_test(dict, declared, number) else {
@@ -75,9 +134,8 @@ pub fn link_weaker(dict: &Dict, declared: &Flags, taxonomy: &mut Taxonomy, props
     };
     for other in 0..props {
         if has_weaker(dict, declared, other, test) {
-            let Ok(()) = taxonomy.add(number, other) else {
-                unreachable!()
-            };
+            // Some are there already.
+            let _ = taxonomy.add(number, other);
         }
     }
 }

@@ -12,10 +12,10 @@ use Rattle.lis_laws.proofs.Members.{same_word_decides}
 use Rattle.lis_laws.proofs.Locals.{same_tests}
 use Rattle.lis_model.specs.Tests.{are_weaker}
 use Rattle.lis_kept.specs.Telling.{is_head_by}
-use Rattle.lis_kept.specs.TestEdges.{test_by, declared_test, is_test_link, TestsAreOrdered, LinksWeaker}
+use Rattle.lis_kept.specs.TestEdges.{test_by, declared_test, is_test_link, TestsAreOrdered, LinksSome, LinksWeaker}
 use Rattle.lis_kept.proofs.TestLinks.{none_weaker, no_test, test_link}
 use Rattle.lis_open.specs.declared.words.Words.{Words}
-use Rattle.lis_open.specs.ReadWords.{LinksHeads, LinksTests}
+use Rattle.lis_open.specs.ReadWords.{LinksHeads, LinksTests, LinksMoreTests}
 use Rattle.lis_open.proofs.WordUses.{no_word_past}
 
 -- ---- tests of numbers
@@ -60,16 +60,33 @@ head_not_tested (Some w) (Some v) head tested =
     let is : v ≡ tested.word = let e = tested.is in cc in
     head_no_test w (subst (λ u. is_test u ≡ true) (sym (same ∙ is)) tested.test)
 
-tested_not_headed : (o r : Option (List ℕ)) → is_head_by o r ≡ true → IsTestBy o → ⊥
-tested_not_headed None r head tested = both_ways false refl head
-tested_not_headed (Some w) None head tested = both_ways false refl head
-tested_not_headed (Some w) (Some v) head tested =
-    let is : w ≡ tested.word = let e = tested.is in cc in
-    both_ways (is_valued w) (subst (λ u. is_valued u ≡ false) (sym is) (test_not_valued tested.word tested.test)) (and_parts (is_valued w) (same_word (head_bytes w) v) head).0
-
 -- ---- the links so far
-not_below : (n : ℕ) → nat_lt n n ≡ false
-not_below n = false_from_ne_true (nat_lt n n) (λ h. let lt = ltb-true n n h in omega (arith, lt))
+joined : (a b head link : Bool) → ((a && link) || (head || (b && link))) ≡ (head || ((a || b) && link))
+joined true true true true = refl
+joined true true true false = refl
+joined true true false true = refl
+joined true true false false = refl
+joined true false true true = refl
+joined true false true false = refl
+joined true false false true = refl
+joined true false false false = refl
+joined false b true link = refl
+joined false b false link = refl
+
+turned : (a b c : Bool) → (a || (b || c)) ≡ (b || (a || c))
+turned true true c = refl
+turned true false c = refl
+turned false b c = refl
+
+grouped : (a b c : Bool) → (a || (b || c)) ≡ ((a || b) || c)
+grouped true b c = refl
+grouped false b c = refl
+
+absorbed : (below more link : Bool) → (below && link) ≡ link → ((below || more) && link) ≡ (below && link)
+absorbed true more link same = refl
+absorbed false more true same = absurd cc
+absorbed false true false same = refl
+absorbed false false false same = refl
 
 module _ (words : Words) (kept : IsDict words.dict) where
   abbrev is_head_edge : ℕ → ℕ → Bool
@@ -98,45 +115,41 @@ module _ (words : Words) (kept : IsDict words.dict) where
           let none : is_test_edge p q ≡ false = ap (are_weaker (declared_test words.dict words.declared q)) untested ∙ none_weaker (declared_test words.dict words.declared q) in
           ap (λ b. nat_lt p props && b) none ∙ (and-false (nat_lt p props) ∙ sym none)
 
-  pub tests_none : (t : Taxonomy) (props : ℕ) → words.dict.props ≡ props → LinksHeads words props t → LinksTests words 0 t
-  tests_none t props same heads = record { props = heads.props; edges = edges }
-    where
-      no_number : (p : ℕ) → nat_lt p 0 ≡ false
-      no_number p = false_from_ne_true (nat_lt p 0) (λ h. let lt = ltb-true p 0 h in omega (arith, lt))
+  module _ (end : ℕ) (t : Taxonomy) where
+    abbrev so_far : LinksMoreTests words end t → ℕ → ℕ → Bool
+    so_far linked p q = nat_lt p end || linked.more p q
 
-      edges : (p q : ℕ) → has_edge t p q ≡ (is_head_by (word_of words.dict p) (word_of words.dict q) || (nat_lt p 0 && is_test_link words.dict words.declared p q))
-      edges p q =
-          heads.edges p q ∙ (heads_below p q props same
-          ∙ (sym (or-false (is_head_edge p q)) ∙ sym (ap (λ b. is_head_edge p q || (b && is_test_edge p q)) (no_number p))))
-
-  module _ (end : ℕ) (t : Taxonomy) (linked : LinksTests words end t) where
-    pub ordered_so_far : TestsAreOrdered words.dict t
-    ordered_so_far p q edge some = by (or_cases (is_head_edge p q) (nat_lt p end && is_test_edge p q) (sym (linked.edges p q) ∙ edge))
+    pub none_yet : LinksHeads words words.dict.props t → end ≡ 0 → LinksMoreTests words end t
+    none_yet heads none = record { more = λ p q. false; props = heads.props; edges = edges }
       where
-        by : (is_head_edge p q ≡ true) ⊎ ((nat_lt p end && is_test_edge p q) ≡ true) → are_weaker (test_by (word_of words.dict q)) (test_by (word_of words.dict p)) ≡ true
+        no_number : (p : ℕ) → (nat_lt p end || false) ≡ false
+        no_number p = or-false (nat_lt p end) ∙ false_from_ne_true (nat_lt p end) (λ h. let lt = ltb-true p end h in omega (arith, lt, none))
+
+        edges : (p q : ℕ) → has_edge t p q ≡ (is_head_by (word_of words.dict p) (word_of words.dict q) || ((nat_lt p end || false) && is_test_link words.dict words.declared p q))
+        edges p q =
+            heads.edges p q ∙ (heads_below p q words.dict.props refl
+            ∙ (sym (or-false (is_head_edge p q)) ∙ sym (ap (λ b. is_head_edge p q || (b && is_test_edge p q)) (no_number p))))
+
+    pub ordered_so_far : LinksMoreTests words end t → TestsAreOrdered words.dict t
+    ordered_so_far linked p q edge some = by (or_cases (is_head_edge p q) (so_far linked p q && is_test_edge p q) (sym (linked.edges p q) ∙ edge))
+      where
+        by : (is_head_edge p q ≡ true) ⊎ ((so_far linked p q && is_test_edge p q) ≡ true) → are_weaker (test_by (word_of words.dict q)) (test_by (word_of words.dict p)) ≡ true
         by (inl head) = absurd (head_not_tested (word_of words.dict p) (word_of words.dict q) head (test_word (word_of words.dict q) some))
-        by (inr test) = (test_link words.dict words.declared p q (and_parts (nat_lt p end) (is_test_edge p q) test).1).weaker
+        by (inr test) = (test_link words.dict words.declared p q (and_parts (so_far linked p q) (is_test_edge p q) test).1).weaker
 
-    pub none_from_next : is_some {T = Bool × ℕ} (declared_test words.dict words.declared end) ≡ true → (q : ℕ) → has_edge t end q ≡ false
-    none_from_next some q =
-        linked.edges end q ∙ ap₂ (λ a b. a || (b && is_test_edge end q))
-        (false_from_ne_true (is_head_edge end q) (λ head. tested_not_headed (word_of words.dict end) (word_of words.dict q) head (declared_test_is words.dict words.declared end some).of)) (not_below end)
-
-    pub tests_more : (next : Taxonomy) → LinksWeaker words.dict words.declared end t next → LinksTests words (end + 1) next
-    tests_more next more = record { props = more.props ∙ linked.props; edges = edges }
+    -- some more edges
+    pub some_more : LinksMoreTests words end t → (next : Taxonomy) → LinksSome words.dict words.declared t next → LinksMoreTests words end next
+    some_more linked next some = record { more = λ p q. some.0 p q || linked.more p q; props = some.1.props ∙ linked.props; edges = edges }
       where
-        joined : (a b head link : Bool) → ((a && link) || (head || (b && link))) ≡ (head || ((a || b) && link))
-        joined true true true true = refl
-        joined true true true false = refl
-        joined true true false true = refl
-        joined true true false false = refl
-        joined true false true true = refl
-        joined true false true false = refl
-        joined true false false true = refl
-        joined true false false false = refl
-        joined false b true link = refl
-        joined false b false link = refl
+        edges : (p q : ℕ) → has_edge next p q ≡ (is_head_by (word_of words.dict p) (word_of words.dict q) || ((nat_lt p end || (some.0 p q || linked.more p q)) && is_test_link words.dict words.declared p q))
+        edges p q =
+            some.1.edges p q ∙ (ap (λ b. (some.0 p q && is_test_edge p q) || b) (linked.edges p q)
+            ∙ (joined (some.0 p q) (so_far linked p q) (is_head_edge p q) (is_test_edge p q) ∙ ap (λ b. is_head_edge p q || (b && is_test_edge p q)) (turned (some.0 p q) (nat_lt p end) (linked.more p q))))
 
+    -- all edges from one number more
+    pub tests_more : LinksMoreTests words end t → (next : Taxonomy) → LinksWeaker words.dict words.declared end t next → LinksMoreTests words (end + 1) next
+    tests_more linked next links = record { more = linked.more; props = links.props ∙ linked.props; edges = edges }
+      where
         next_below : (p : ℕ) → ((p == end) || nat_lt p end) ≡ nat_lt p (end + 1)
         next_below p =
             same_tests ((p == end) || nat_lt p end) (nat_lt p (end + 1)) (λ h. lt-ltb p (end + 1) (under (or_cases (p == end) (nat_lt p end) h)))
@@ -150,7 +163,16 @@ module _ (words : Words) (kept : IsDict words.dict) where
             front (inl lt) less = or_right (p == end) (nat_lt p end) (lt-ltb p end lt)
             front (inr past) less = or_left (p == end) (nat_lt p end) (eq-eqb p end (omega (arith, past, less)))
 
-        edges : (p q : ℕ) → has_edge next p q ≡ (is_head_by (word_of words.dict p) (word_of words.dict q) || (nat_lt p (end + 1) && is_test_link words.dict words.declared p q))
+        edges : (p q : ℕ) → has_edge next p q ≡ (is_head_by (word_of words.dict p) (word_of words.dict q) || ((nat_lt p (end + 1) || linked.more p q) && is_test_link words.dict words.declared p q))
         edges p q =
-            more.edges p q ∙ (ap (λ b. ((p == end) && is_test_edge p q) || b) (linked.edges p q)
-            ∙ (joined (p == end) (nat_lt p end) (is_head_edge p q) (is_test_edge p q) ∙ ap (λ b. is_head_edge p q || (b && is_test_edge p q)) (next_below p)))
+            links.edges p q ∙ (ap (λ b. ((p == end) && is_test_edge p q) || b) (linked.edges p q)
+            ∙ (joined (p == end) (so_far linked p q) (is_head_edge p q) (is_test_edge p q)
+            ∙ (ap (λ b. is_head_edge p q || (b && is_test_edge p q)) (grouped (p == end) (nat_lt p end) (linked.more p q))
+            ∙ ap (λ b. is_head_edge p q || ((b || linked.more p q) && is_test_edge p q)) (next_below p))))
+
+    -- all edges
+    pub tests_all : LinksMoreTests words end t → words.dict.props ≡ end → LinksTests words end t
+    tests_all linked all = record {
+      props = linked.props;
+      edges = λ p q. linked.edges p q ∙ ap (λ b. is_head_edge p q || b) (absorbed (nat_lt p end) (linked.more p q) (is_test_edge p q) (tests_below p q end all));
+    }

@@ -99,6 +99,12 @@ pub record LinksTests (words : Words) (end : ℕ) (t : Taxonomy) : Type 0 where
   pub props : t.props ≡ words.dict.props
   pub edges : (p q : ℕ) → has_edge t p q ≡ (is_head_by (word_of words.dict p) (word_of words.dict q) || (nat_lt p end && is_test_link words.dict words.declared p q))
 
+-- the same, and some edges from other declared tests to weaker ones
+pub record LinksMoreTests (words : Words) (end : ℕ) (t : Taxonomy) : Type 0 where
+  pub more : ℕ → ℕ → Bool
+  pub props : t.props ≡ words.dict.props
+  pub edges : (p q : ℕ) → has_edge t p q ≡ (is_head_by (word_of words.dict p) (word_of words.dict q) || ((nat_lt p end || more p q) && is_test_link words.dict words.declared p q))
+
 -- ---- tests
 -- the number has a declared test
 abbrev pub is_test_number : Words → ℕ → Bool

@@ -29,6 +29,17 @@ module _ (test : ℕ → Bool) where
   found_none n ns was fails =
       was ∙ (sym (append-nil (found_below test n)) ∙ (ap (λ b. found_below test n ++ cond b (n ∷ []) []) (sym fails) ∙ sym (more n)))
 
+  -- nothing is found where none passes
+  pub found_past : (start n : ℕ) → start ≤ n → ((k : ℕ) → start ≤ k → k < n → test k ≡ false) → found_below test start ≡ found_below test n
+  found_past start zero le none = let same : start ≡ 0 = omega (arith, le) in ap (found_below test) same
+  found_past start (suc n) le none = by (cases_lt n start) (found_past start n)
+    where
+      by : (n < start) ⊎ (start ≤ n) → (start ≤ n → ((k : ℕ) → start ≤ k → k < n → test k ≡ false) → found_below test start ≡ found_below test n) → found_below test start ≡ found_below test (suc n)
+      by (inl all) rest = let same : start ≡ suc n = omega (arith, all, le) in ap (found_below test) same
+      by (inr fewer) rest =
+          let next : n + 1 ≡ suc n = omega arith in
+          rest fewer (λ k from lt. none k from (omega (arith, lt))) ∙ (found_none n (found_below test n) refl (none n fewer (omega arith)) ∙ ap (found_below test) next)
+
   -- and counted
   pub counted_one : (n count : ℕ) → count ≡ length (found_below test n) → test n ≡ true → count + 1 ≡ length (found_below test (n + 1))
   counted_one n count was passes =

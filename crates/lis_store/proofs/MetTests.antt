@@ -1,5 +1,5 @@
 -- The declared tests that so many bytes meet: what they entail is left out of a row, and is gathered so.
-use Rattle.std.proofs.Common.{◌≡◌, ◌⊎◌, refl, sym, ap, ◌∙◌, inl, inr, ℕ, ◌+◌, ◌<◌, ◌≤◌, Bool, true, false, not, ◌&&◌, ◌||◌, cond, is_none, Option, Some, List, [], ◌∷◌, ◌++◌, length, map, filter, take, arith, append-nil}
+use Rattle.std.proofs.Common.{◌≡◌, ◌⊎◌, refl, sym, ap, ◌∙◌, inl, inr, ℕ, zero, suc, ◌+◌, ◌-◌, ◌<◌, ◌≤◌, Bool, true, false, not, ◌&&◌, ◌||◌, cond, is_none, Option, Some, None, List, [], ◌∷◌, ◌++◌, length, map, filter, take, arith, append-nil}
 use Rattle.std.specs.List.{slice_get}
 use Rattle.std.proofs.lemmas.Bool.{and_parts, or_cases}
 use Rattle.std.proofs.lemmas.List.{map-append, take_more, take_all}
@@ -11,6 +11,7 @@ use Rattle.lis_bits.specs.Rows.{Rows, HasShape, get}
 use Rattle.lis_dict.specs.Dict.{number_of, word_of}
 use Rattle.lis_dict.proofs.Laws.{number_from_word}
 use Rattle.lis_words.specs.Words.{same_word, has_word, test_of}
+use Rattle.lis_eval.proofs.Members.{past_end}
 use Rattle.lis_model.specs.State.{up, all_up}
 use Rattle.lis_model.specs.Tests.{is_met, met_tests}
 use Rattle.lis_laws.proofs.Closures.{entailing, entailed_in}
@@ -66,8 +67,32 @@ module _ (k : Kept) (size i : ℕ) (e : List ℕ × ℕ) (at : slice_get k.dict.
   pub unmet_next : (met e.0 && is_declared k e.0) ≡ false → met_first k size (i + 1) ≡ met_first k size i
   unmet_next h = next_is ∙ (ap (λ ws. met_first k size i ++ ws) (fails met (is_declared k) e.0 h) ∙ append-nil (met_first k size i))
 
-pub met_all : (k : Kept) (size i : ℕ) → length k.dict.entries ≤ i → met_first k size i ≡ met_tests (declared_of k) size
+met_all : (k : Kept) (size i : ℕ) → length k.dict.entries ≤ i → met_first k size i ≡ met_tests (declared_of k) size
 met_all k size i end = ap (λ (es : List (List ℕ × ℕ)). met_tests (filter (is_declared k) (map (λ (e : List ℕ × ℕ). e.0) es)) size) (take_all i k.dict.entries end)
+
+-- words that are no tests add nothing
+met_past : (k : Kept) (size from n : ℕ) → from + n ≤ length k.dict.entries → ((i : ℕ) (e : List ℕ × ℕ) → from ≤ i → i < from + n → slice_get k.dict.entries i ≡ Some e → test_of e.0 ≡ None)
+    → met_first k size (from + n) ≡ met_first k size from
+met_past k size from zero within none = let same : from + 0 ≡ from = omega arith in ap (met_first k size) same
+met_past k size from (suc n) within none =
+    by (slice_get k.dict.entries (from + n)) refl (met_past k size from n (omega (arith, within)) (λ i e at_least lt at. none i e at_least (omega (arith, lt)) at))
+  where
+    by : (o : Option (List ℕ × ℕ)) → slice_get k.dict.entries (from + n) ≡ o → met_first k size (from + n) ≡ met_first k size from → met_first k size (from + suc n) ≡ met_first k size from
+    by None is rest = absurd (let past = past_end k.dict.entries (from + n) is in omega (arith, past, within))
+    by (Some e) is rest =
+        let next : from + suc n ≡ from + n + 1 = omega arith in
+        let untested = none (from + n) e (omega arith) (omega arith) is in
+        ap (met_first k size) next ∙ (unmet_next k size (from + n) e is (ap (λ t. is_met t size && is_declared k e.0) untested) ∙ rest)
+
+module _ (k : Kept) (size : ℕ) where
+  pub met_before : (start : ℕ) → start ≤ length k.dict.entries → ((i : ℕ) (e : List ℕ × ℕ) → i < start → slice_get k.dict.entries i ≡ Some e → test_of e.0 ≡ None) → met_first k size start ≡ []
+  met_before start le none =
+      let same : 0 + start ≡ start = omega arith in
+      ap (met_first k size) (sym same) ∙ met_past k size 0 start (omega (arith, le)) (λ i e at_least lt at. none i e (omega (arith, lt)) at)
+
+  pub met_behind : (end : ℕ) → end ≤ length k.dict.entries → ((i : ℕ) (e : List ℕ × ℕ) → end ≤ i → slice_get k.dict.entries i ≡ Some e → test_of e.0 ≡ None) → met_first k size end ≡ met_tests (declared_of k) size
+  met_behind end le none =
+      sym (met_past k size end (length k.dict.entries - end) (omega (arith, le)) (λ i e at_least lt at. none i e at_least at)) ∙ met_all k size (end + (length k.dict.entries - end)) (omega (arith, le))
 
 -- ---- they have numbers
 module _ (k : Kept) (sound : AreSound k) where

@@ -65,10 +65,10 @@ pub(crate) fn numbers_in<const MOST: usize>(row: &Rows, props: u32) -> ArrayVec<
     ensures { result.items ≡ numbers_where props (get row.now 0) }
 {
     let mut numbers = ArrayVec::new();
-    for number in 0..props {
-        if row.get(0, number) {
-            numbers.push(number as u16);
-        }
+    let mut start = 0;
+    while let Some(number) = row.next(0, start) {
+        numbers.push(number as u16);
+        start = number + 1;
     }
     numbers
 }

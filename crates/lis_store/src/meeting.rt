@@ -31,7 +31,8 @@ pub(crate) fn leave_out_met(parts: &Parts, size: u64, row: &mut Rows)
         ≡ (get row.old 0 n && not (is_one_of (all_up (declared_of parts.now) (axioms_of parts.now) (met_tests (declared_of parts.now) size)) (word_of parts.now.dict n))) }
 {
     let entailed = parts.taxonomy().rows();
-    for k in 0..parts.word_count() {
+    let (start, end) = parts.tests();
+    for k in start..end {
         let Some((word, number)) = parts.word_at(k) else {
             unreachable!()
         };

@@ -1,4 +1,4 @@
-use Rattle.std.proofs.Common.{◌*◌, length, arith}
+use Rattle.std.proofs.Common.{length, arith}
 use Rattle.lis_bits.specs.Words.{words_bit}
 use Rattle.lis_bits.proofs.Numbers.{bytes_are}
 use Rattle.lis_bits.proofs.words.write_bytes.Goals as goal

@@ -1,9 +1,9 @@
-use Rattle.std.proofs.Common.{◌≡◌, ◌∙◌, ℕ, ◌==◌, ◌&&◌, nat_lt, Bool, true, is_some, Some, sym, ap, arith}
+use Rattle.std.proofs.Common.{◌≡◌, ◌∙◌, ℕ, ◌==◌, ◌&&◌, nat_lt, Bool, true, Some, sym, ap, arith}
 use Rattle.lis_model.specs.Tests.{are_weaker}
 use Rattle.lis_kept.specs.TestEdges.{declared_test, is_test_link}
-use Rattle.lis_kept.proofs.TestChains.{not_refused, where_ordered, weaker_none, weaker_more, weaker_passed, weaker_new, weaker_all, weaker_without}
+use Rattle.lis_kept.proofs.TestChains.{comes_or_was, where_ordered, weaker_none, weaker_more, weaker_passed, weaker_all, weaker_without}
 use Rattle.lis_kept.proofs.test_edges.link_weaker.Goals as goal
-use Rattle.lis_kept.proofs.test_edges.link_weaker.Goals.{then-has_weaker+in-Ok, else-has_weaker}
+use Rattle.lis_kept.proofs.test_edges.link_weaker.Goals.{then-has_weaker, else-has_weaker}
 
 pub returns-in_default : goal.returns-in_default
 returns-in_default c = weaker_without c.args.number c.args.dict.now c.args.declared.now c.args.taxonomy.now (sym c.declared_test.ensures ∙ c.in_default.is)
@@ -11,30 +11,23 @@ returns-in_default c = weaker_without c.args.number c.args.dict.now c.args.decla
 pub loop-other-init : goal.loop-other-init
 loop-other-init c = weaker_none c.args.number 0 c.args.dict.now c.args.declared.now c.args.taxonomy.now c.args.taxonomy.now
 
-pub unreachable-requires : goal.unreachable-requires
-unreachable-requires c =
+pub loop-other-preserved : goal.loop-other-preserved
+loop-other-preserved c =
     let d = c.args.dict.now in
     let bits = c.args.declared.now in
     let t = c.args.taxonomy.now in
     let u = c.loop-other.taxonomy in
     let here : declared_test d bits c.args.number ≡ Some c.in-Some.test = sym c.declared_test.ensures ∙ c.in-Some.is in
-    let link : is_test_link d bits c.args.number c.loop-other.other ≡ true = ap (are_weaker (declared_test d bits c.loop-other.other)) here ∙ (sym c.has_weaker.ensures ∙ c.if-has_weaker.true) in
-    let ordered = where_ordered (λ p q. (p == c.args.number) && nat_lt q c.loop-other.other) d bits t u c.loop-other.invariant c.requires.ordered in
-    not_refused d u bits c.args.number c.loop-other.other c.in_default-add.field-0 c.add.result ordered c.in_default-add.is c.add.ensures.present c.add.ensures.cycle c.add.ensures.not_absent link
-    (weaker_new c.args.number c.loop-other.other d bits t u c.loop-other.invariant (c.requires.new (ap (λ k. is_some {T = Bool × ℕ} k) here) c.loop-other.other))
-
-pub loop-other-preserved : goal.loop-other-preserved
-loop-other-preserved c =
-    let d = c.args.dict.now in
-    let bits = c.args.declared.now in
-    let here : declared_test d bits c.args.number ≡ Some c.in-Some.test = sym c.declared_test.ensures ∙ c.in-Some.is in
     let answer = ap (are_weaker (declared_test d bits c.loop-other.other)) here ∙ sym c.has_weaker.ensures in
     elim c.if-has_weaker.branch [
-      | then-has_weaker+in-Ok w ↦
-          let made = w.in-Ok.ensures.ok in
-          rw (w.taxonomy-is ∙ made) (weaker_more c.args.number c.loop-other.other d bits c.args.taxonomy.now c.loop-other.taxonomy c.loop-other.invariant (answer ∙ w.if-has_weaker.true))
+      | then-has_weaker w ↦
+          let link : is_test_link d bits c.args.number c.loop-other.other ≡ true = answer ∙ w.if-has_weaker.true in
+          let ordered = where_ordered (λ p q. (p == c.args.number) && nat_lt q c.loop-other.other) d bits t u c.loop-other.invariant c.requires.ordered in
+          let facts = w.add.ensures in
+          let which = comes_or_was d u w.add.new.self bits c.args.number c.loop-other.other w.add.result ordered facts.present facts.cycle facts.not_absent facts.ok facts.err link in
+          rw w.taxonomy-is (weaker_more c.args.number c.loop-other.other d bits t u c.loop-other.invariant link w.add.new.self which)
       | else-has_weaker w ↦
-          rw w.taxonomy-is (weaker_passed c.args.number c.loop-other.other d bits c.args.taxonomy.now c.loop-other.taxonomy c.loop-other.invariant (answer ∙ w.if-has_weaker.false))
+          rw w.taxonomy-is (weaker_passed c.args.number c.loop-other.other d bits t u c.loop-other.invariant (answer ∙ w.if-has_weaker.false))
     ]
 
 pub returns : goal.returns

@@ -5,18 +5,21 @@ use Rattle.lis_dict.proofs.Laws.{number_from_among, number_below}
 use Rattle.lis_eval.proofs.Members.{past_end}
 use Rattle.lis_kept.proofs.Known.{among_place}
 use Rattle.lis_store.proofs.Entailed.{LeavesOut, leaves_none, leaves_one}
-use Rattle.lis_store.proofs.MetTests.{met_first, met_next, unmet_next, met_all}
+use Rattle.lis_store.proofs.MetTests.{met_first, met_next, unmet_next, met_before, met_behind}
 use Rattle.lis_store.proofs.meeting.leave_out_met.Goals as goal
 use Rattle.lis_store.proofs.meeting.leave_out_met.Goals.{then-is_met_word, else-is_met_word}
 
 pub loop-k-init : goal.loop-k-init
-loop-k-init c = leaves_none c.args.parts.now c.args.row.now c.requires.shape
+loop-k-init c =
+    let k = c.args.parts.now in
+    let none = met_before k c.args.size c.tests-start.result.0 (omega (arith, c.tests-start.ensures.rise, c.tests-start.ensures.within)) c.tests-start.ensures.before in
+    subst (λ ws. LeavesOut k ws c.args.row.now c.args.row.now) (sym none) (leaves_none k c.args.row.now c.requires.shape)
 
 pub unreachable-requires : goal.unreachable-requires
 unreachable-requires c =
     let k = c.args.parts.now in
     let past = past_end k.dict.entries c.loop-k.k (sym c.word_at.ensures ∙ c.in_default.is) in
-    omega (arith, past, c.loop-k-test.true, c.word_count-k-end.ensures)
+    omega (arith, past, c.loop-k-test.true, c.tests-start.ensures.within)
 
 pub and_not_row-requires-clause-row : goal.and_not_row-requires-clause-row
 and_not_row-requires-clause-row c =
@@ -56,6 +59,7 @@ loop-k-preserved c =
 pub returns-clause-bits : goal.returns-clause-bits
 returns-clause-bits c =
     let k = c.args.parts.now in
-    let all = met_all k c.args.size c.loop-k.k (omega (arith, c.loop-k-test.false, c.word_count-k-end.ensures)) in
+    let end : c.loop-k.k ≡ c.tests-start.result.1 = omega (arith, c.loop-k-test.false, c.loop-k.auto.k-end, c.tests-start.ensures.rise) in
+    let all = ap (met_first k c.args.size) end ∙ met_behind k c.args.size c.tests-start.result.1 c.tests-start.ensures.within c.tests-start.ensures.behind in
     let Q : List (List ℕ) → Type 0 = λ ws. LeavesOut k ws c.args.row.now c.loop-k.row in
     (subst Q all c.loop-k.invariant).bits

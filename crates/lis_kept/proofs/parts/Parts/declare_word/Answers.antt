@@ -32,15 +32,6 @@ link_weaker-requires-clause-ordered c =
     let bits = c.put.ensures ∙ ap (λ n. set c.self.inside.declared n true) c.from-at.ensures in
     ordered_after v c.self.inside.taxonomy c.self.invariant c.args.word.now c.in-Ok.number c.requires.form (declarable_word c.args.word.now c.requires.form) pre.0 pre.1 added.0 added.1 c.add.new.self c.put.new.self added.2 bits
 
-pub link_weaker-requires-clause-new : goal.link_weaker-requires-clause-new
-link_weaker-requires-clause-new c =
-    let v = the_view c.self.inside in
-    let Q : Kept → Type 0 = λ k. (number_of k.dict c.args.word.now ≡ None) × (length k.dict.entries < k.limits.props) in
-    let pre = subst Q (sym c.self.view_is) (c.requires.new, c.requires.room) in
-    let added = added_word c.self.inside.dict c.add.new.self c.args.word.now c.in-Ok.number c.in-Ok.ensures pre.0 in
-    let bits = c.put.ensures ∙ ap (λ n. set c.self.inside.declared n true) c.from-at.ensures in
-    rw c.from-at.ensures (λ _. none_from_it v c.self.inside.taxonomy c.self.invariant c.args.word.now c.in-Ok.number c.requires.form (declarable_word c.args.word.now c.requires.form) pre.0 pre.1 added.0 added.1 c.add.new.self c.put.new.self added.2 bits)
-
 pub link_stronger-requires-clause-few : goal.link_stronger-requires-clause-few
 link_stronger-requires-clause-few c = few_properties c.self.inside.limits c.self.invariant.sound.range
 
