@@ -29,7 +29,7 @@ type Case = (
 );
 
 /// The session leaves open records, so that the opening brings them home.
-static CASES: [Case; 8] = [
+static CASES: [Case; 10] = [
     (
         &["try", "64", "64", "8"],
         "",
@@ -65,6 +65,18 @@ static CASES: [Case; 8] = [
         "mkdir old;mkdir k:;mkdir new;axiom old new;create o old;add f 5 k:1 k:2 k:3 k:4 k:5 k:6 k:7 k:8 k:9;hello;",
         "ls;",
         &[Kind::Disk, Kind::Show],
+    ),
+    (
+        &["view", "i", "notes.txt", "word:alpha"],
+        "mkdir old;add notes.txt 25 old;alpha one;beta;;alpha two;",
+        "ls;",
+        &[Kind::Disk, Kind::Show],
+    ),
+    (
+        &["put", "i", "notes.txt", "word:alpha"],
+        "mkdir old;add notes.txt 25 old;alpha one;beta;;alpha two;",
+        "+alpha 1;@1 2;+alpha 2;+end;",
+        &[Kind::Take, Kind::Disk, Kind::Show],
     ),
     (
         &["upgrade", "i"],

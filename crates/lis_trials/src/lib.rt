@@ -17,6 +17,8 @@ mod limit;
 #[cfg(test)]
 mod openings;
 #[cfg(test)]
+mod parts;
+#[cfg(test)]
 mod tests;
 #[cfg(test)]
 mod versions;

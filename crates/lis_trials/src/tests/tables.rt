@@ -276,7 +276,7 @@ pub static LONG_LINES: [(usize, &str, &str); 4] = [
     (1_023, "^;", "no 01 bad line;"),
 ];
 
-pub static WRONG_WORDS: [&[&str]; 55] = [
+pub static WRONG_WORDS: [&[&str]; 70] = [
     &[],
     &["try"],
     &["try", "64", "64"],
@@ -325,6 +325,21 @@ pub static WRONG_WORDS: [&[&str]; 55] = [
     &["dump"],
     &["dump", "x", "y"],
     &["dumps", "x"],
+    &["view"],
+    &["view", "x"],
+    &["view", "x", "a"],
+    &["view", "x", "a", "f", "g"],
+    &["view", "x", "", "f"],
+    &["view", "x", ".", "f"],
+    &["view", "x", "a/b", "f"],
+    &["views", "x", "a", "f"],
+    &["put"],
+    &["put", "x"],
+    &["put", "x", "a"],
+    &["put", "x", "a", "f", "g"],
+    &["put", "x", "..", "f"],
+    &["put", "x", "a b", "f"],
+    &["Put", "x", "a", "f"],
     &["grow"],
     &["grow", "x"],
     &["grow", "x", "7", "8"],
@@ -468,10 +483,12 @@ pub static CUT_SESSIONS: [Cut; 15] = [
 ];
 
 /// The words that open an image.
-pub static OPENING_WORDS: [&[&str]; 7] = [
+pub static OPENING_WORDS: [&[&str]; 9] = [
     &["run", "i"],
     &["rooms", "i"],
     &["dump", "i"],
+    &["view", "i", "a", "word:a"],
+    &["put", "i", "a", "word:a"],
     &["upgrade", "i"],
     &["grow", "i", "0"],
     &["grow", "i", "7"],
@@ -483,6 +500,143 @@ pub static ZEROS: [(usize, Status); 3] = [
     (0, Status::Opening(OpenFault::TooShort(0, 4_096))),
     (100, Status::Opening(OpenFault::TooShort(100, 4_096))),
     (2_433_024, Status::Opening(OpenFault::Damaged(Spot::Super))),
+];
+
+/// Words on an image of `NOTES`, an input, whether it is taken, what is shown, and what the file has then.
+type Part = (
+    &'static [&'static str],
+    &'static str,
+    bool,
+    &'static str,
+    &'static str,
+);
+
+/// A session that makes the file of `PARTS`, and what `cat` shows of it.
+pub const NOTES: &str = "add notes.txt 25;alpha one;beta;;alpha two;";
+
+pub const NOTES_LEFT: &str = "b 25;alpha one;beta;;alpha two;ok;";
+
+pub static PARTS: [Part; 17] = [
+    (
+        &["view", "i", "notes.txt", "word:alpha"],
+        "ls;",
+        false,
+        "+alpha one;@1 2;+alpha two;!;",
+        NOTES_LEFT,
+    ),
+    (
+        &["view", "i", "notes.txt", "/line:empty"],
+        "ls;",
+        false,
+        "@1 2;+;@2 1;!;",
+        NOTES_LEFT,
+    ),
+    (
+        &["view", "i", "notes.txt", "music"],
+        "ls;",
+        false,
+        "@1 4;!;",
+        NOTES_LEFT,
+    ),
+    (
+        &["view", "i", "notes.txt", ""],
+        "ls;",
+        false,
+        "no 05 formula;",
+        NOTES_LEFT,
+    ),
+    (
+        &["view", "i", "none", ".."],
+        "ls;",
+        false,
+        "no 05 formula;",
+        NOTES_LEFT,
+    ),
+    (
+        &["view", "i", "none", "line:"],
+        "ls;",
+        false,
+        "no 10 no such file here;",
+        NOTES_LEFT,
+    ),
+    (
+        &["put", "i", "notes.txt", "word:alpha"],
+        "+alpha 1;@1 2;+alpha 2;+end;",
+        true,
+        "ok;",
+        "b 26;alpha 1;beta;;alpha 2;end;;ok;",
+    ),
+    // A view that was not changed, and without its last line feed.
+    (
+        &["put", "i", "notes.txt", "word:alpha"],
+        "+alpha one;@1 2;+alpha two;!;",
+        true,
+        "ok;",
+        NOTES_LEFT,
+    ),
+    (
+        &["put", "i", "notes.txt", "word:alpha"],
+        "+alpha one;@1 2;+alpha two;!",
+        true,
+        "ok;",
+        NOTES_LEFT,
+    ),
+    (
+        &["put", "i", "notes.txt", "word:alpha"],
+        "@1 2;+x",
+        true,
+        "ok;",
+        "b 8;beta;;x;;ok;",
+    ),
+    (
+        &["put", "i", "notes.txt", "word:alpha"],
+        "+x;",
+        true,
+        "no 27 marks;",
+        NOTES_LEFT,
+    ),
+    (
+        &["put", "i", "notes.txt", "word:alpha"],
+        "",
+        true,
+        "no 27 marks;",
+        NOTES_LEFT,
+    ),
+    (
+        &["put", "i", "notes.txt", "word:alpha"],
+        "hello;",
+        true,
+        "no 26 not a view;",
+        NOTES_LEFT,
+    ),
+    (
+        &["put", "i", "notes.txt", "word:alpha"],
+        "@1 2^;",
+        true,
+        "no 26 not a view;",
+        NOTES_LEFT,
+    ),
+    (
+        &["put", "i", "none", "word:alpha"],
+        "+x;",
+        true,
+        "no 10 no such file here;",
+        NOTES_LEFT,
+    ),
+    (
+        &["put", "i", "none", "(word:alpha"],
+        "hello;",
+        true,
+        "no 05 formula;",
+        NOTES_LEFT,
+    ),
+    (
+        &["put", "i", "notes.txt", "!line:"],
+        "@1 4;",
+        true,
+        "ok;",
+        "b 26;alpha one;beta;;alpha two;;ok;",
+    ),
 ];
 
 /// Inputs at a limit of ten bytes: how the session ends, what it shows, and what the same input shows then in a run.
