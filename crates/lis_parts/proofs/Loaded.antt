@@ -82,7 +82,7 @@ load_shows (Err e) reading = record {
   ends = reading_ends (Err e) reading;
 }
 
--- and a text is that could not be, or that is made of what was loaded
+-- A text that is made of the file's bytes: the file could not be loaded, or it was and then the text is shown.
 module _ {E : Type 0} {k : Stored} {a b : Meaning} (text : State → List ℕ) where
   pub loaded_broke : (failed : E) → Reading k a b (Err failed) → Shows k text a b (Err DiskFault)
   loaded_broke failed reading = shown_front (λ state. []) text DiskFault (load_shows (Err failed) reading)
