@@ -2,6 +2,8 @@
 use Rattle.std.proofs.Common.{◌≡◌, ℕ, List, [], ◌∷◌, codes, refl}
 use Rattle.std.specs.Fmt.{digits}
 use Rattle.lis_grammar.specs.Machine.{text_steps}
+use Rattle.lis_grammar.specs.Places.{is_place}
+use Rattle.lis_grammar.specs.Printing.{printed}
 use Rattle.lis_model.specs.declared.limits.Limits.{Limits}
 use Rattle.lis_model.specs.State.{State, empty_state}
 use Rattle.lis_model.specs.Step.{Situation, Outcome}
@@ -21,27 +23,27 @@ abbrev shows : List ℕ → Outcome
 shows bytes = only_shows bytes now
 
 alphas : view now (codes "notes.txt") (codes "word:alpha") ≡ shows (codes "+alpha one\n@1 2\n+alpha two\n!\n")
-unfolding digits text_steps
+unfolding digits text_steps is_place printed
 alphas = refl
 
 empties : view now (codes "notes.txt") (codes "line:empty") ≡ shows (codes "@1 2\n+\n@2 1\n!\n")
-unfolding digits text_steps
+unfolding digits text_steps is_place printed
 empties = refl
 
 no_formula : view now (codes "notes.txt") [] ≡ shows (codes "no 05 formula\n")
-unfolding digits text_steps
+unfolding digits text_steps is_place printed
 no_formula = refl
 
 -- it leads nowhere here
 no_step_up : view now (codes "notes.txt") (codes "..") ≡ shows (codes "no 05 formula\n")
-unfolding digits text_steps
+unfolding digits text_steps is_place printed
 no_step_up = refl
 
 no_file : view now (codes "none") (codes "word:alpha") ≡ shows (codes "no 10 no such file here\n")
-unfolding digits text_steps
+unfolding digits text_steps is_place printed
 no_file = refl
 
 -- the formula is judged first
 no_formula_of_no_file : view now (codes "none") [] ≡ shows (codes "no 05 formula\n")
-unfolding digits text_steps
+unfolding digits text_steps is_place printed
 no_formula_of_no_file = refl
