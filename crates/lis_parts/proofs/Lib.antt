@@ -3,6 +3,6 @@ pub mod Loaded
 pub mod Puts
 mod Formulas
 mod Saying
-mod PutExamples
 mod Viewed
 mod Examples
+mod PutExamples

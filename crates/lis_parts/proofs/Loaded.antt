@@ -1,8 +1,7 @@
 -- The bytes of a file, read block by block into a payload.
-use Rattle.std.proofs.Common.{◌≡◌, ℕ, ◌+◌, ◌-◌, ◌*◌, ◌<◌, ◌≤◌, min, Option, Some, None, IsSomeAnd, IsTrue, List, [], ◌∷◌, ◌++◌, length, take, Result, Ok, Err, refl, ap, sym, subst, ◌∙◌, arith, le-leb}
+use Rattle.std.proofs.Common.{◌≡◌, ℕ, ◌+◌, ◌-◌, ◌*◌, ◌<◌, ◌≤◌, min, Option, Some, None, IsSomeAnd, IsTrue, List, [], ◌∷◌, length, take, Result, Ok, Err, refl, ap, subst, ◌∙◌, arith, le-leb}
 use Rattle.std.proofs.lemmas.List.{length-take-le, take_all}
 use Rattle.lis_ports.specs.Meaning.{Meaning}
-use Rattle.lis_ports.specs.Bytes.{part}
 use Rattle.lis_ports.specs.Runs.{IsDiskRun, Leaves}
 use Rattle.lis_ports.specs.Calls.{HasCause, DiskFaultEnds, IsUnchanged}
 use Rattle.lis_ports.proofs.Moments.{run_none, run_then, leaves_none, leaves_weaken, leaves_then}
@@ -83,7 +82,7 @@ load_shows (Err e) reading = record {
   ends = reading_ends (Err e) reading;
 }
 
--- and a text is that could not be, or that is made of what was loaded
+-- A text that is made of the file's bytes: the file could not be loaded, or it was and then the text is shown.
 module _ {E : Type 0} {k : Stored} {a b : Meaning} (text : State → List ℕ) where
   pub loaded_broke : (failed : E) → Reading k a b (Err failed) → Shows k text a b (Err DiskFault)
   loaded_broke failed reading = shown_front (λ state. []) text DiskFault (load_shows (Err failed) reading)

@@ -1,5 +1,5 @@
 -- What viewing a part of a file and putting it back do: the new state, and the reply. Both are said at the root.
-use Rattle.std.specs.Prelude.{ℕ, ◌<◌, nat_lt, Bool, not, if◌then◌else◌, Result, Ok, Err, List, [], ◌∷◌, ◌++◌, length, codes}
+use Rattle.std.specs.Prelude.{ℕ, nat_lt, not, if◌then◌else◌, Result, Ok, Err, List, [], ◌∷◌, ◌++◌, length, codes}
 use Rattle.lis_grammar.specs.Formula.{Formula}
 use Rattle.lis_grammar.specs.Machine.{text_steps}
 use Rattle.lis_grammar.specs.Places.{Resolution, resolved_path}

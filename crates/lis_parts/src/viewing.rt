@@ -46,11 +46,7 @@ fn say_mark<T: Station>(
     say(station, kept, b"\n")
 }
 
-fn say_shown<T: Station>(
-    station: &mut T,
-    kept: &mut Kept,
-    shown: Option<&[u8]>,
-) -> Result<(), End>
+fn say_shown<T: Station>(station: &mut T, kept: &mut Kept, shown: Option<&[u8]>) -> Result<(), End>
     ensures { Says (T.meaning station.old) (T.meaning station.new) kept.old.items kept.new.items (shown_text (option_copied shown.entry)) result }
 {
     let Some(text) = shown else {

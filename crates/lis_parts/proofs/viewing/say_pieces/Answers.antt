@@ -1,6 +1,6 @@
-use Rattle.std.proofs.Common.{option_copied, ap, arith}
+use Rattle.std.proofs.Common.{List, ℕ, ◌++◌, option_copied, ap, arith}
 use Rattle.lis_views.specs.Lines.{lines_of}
-use Rattle.lis_parts.specs.Viewing.{next_number, pieces_text}
+use Rattle.lis_parts.specs.Viewing.{mark_text, next_number, shown_text, pieces_text}
 use Rattle.lis_parts.proofs.Saying.{so_far_none, so_far_more, so_far_broke, so_far_all}
 use Rattle.lis_parts.proofs.Viewed.{next_few, stretch_text, where_none}
 use Rattle.lis_parts.proofs.viewing.say_pieces.Goals as goal
@@ -18,7 +18,7 @@ returns-in_err-say_stretch g c =
     let e = c.next_stretch-stretch.ensures in
     let place = c.args.place.now in
     let number = c.loop-number.number in
-    so_far_broke c.loop-number.invariant.so_far (pieces_text (next_number number s.hidden) s.rest.now place)
+    so_far_broke {text = pieces_text 1 c.args.bytes.now place} {piece = mark_text number s.hidden ++ shown_text (option_copied s.shown)} c.loop-number.invariant.so_far (pieces_text (next_number number s.hidden) s.rest.now place)
     (stretch_text number c.loop-number.rest.now s.rest.now place (lines_of s.run.now).texts s.hidden (option_copied s.shown) e.pieces e.hidden)
     c.in_err-say_stretch.ensures c.from_residual.ensures.1
 
@@ -29,11 +29,11 @@ returns-then-is_none g c =
     let place = c.args.place.now in
     let number = c.loop-number.number in
     let next = next_number number s.hidden in
-    so_far_all
-    (so_far_more c.loop-number.invariant.so_far (pieces_text next s.rest.now place)
+    so_far_all {text = pieces_text 1 c.args.bytes.now place}
+    (so_far_more {text = pieces_text 1 c.args.bytes.now place} {piece = mark_text number s.hidden ++ shown_text (option_copied s.shown)} c.loop-number.invariant.so_far (pieces_text next s.rest.now place)
     (stretch_text number c.loop-number.rest.now s.rest.now place (lines_of s.run.now).texts s.hidden (option_copied s.shown) e.pieces e.hidden)
     c.in_ok-say_stretch.ensures)
-    (ap (λ xs. pieces_text next xs place) (where_none s.shown c.if-is_none.ensures e.end))
+    (ap (λ (xs : List ℕ). pieces_text next xs place) (where_none s.shown c.if-is_none.ensures e.end))
 
 pub loop-number-preserved : goal.loop-number-preserved
 loop-number-preserved g c =
@@ -43,7 +43,8 @@ loop-number-preserved g c =
     let number = c.loop-number.number in
     let next = c.next_number-number.ensures in
     let few = next_few number s.hidden in
-    let so_far = so_far_more c.loop-number.invariant.so_far (pieces_text (next_number number s.hidden) s.rest.now place)
+    let so_far = so_far_more {text = pieces_text 1 c.args.bytes.now place} {piece = mark_text number s.hidden ++ shown_text (option_copied s.shown)} c.loop-number.invariant.so_far
+    (pieces_text (next_number number s.hidden) s.rest.now place)
     (stretch_text number c.loop-number.rest.now s.rest.now place (lines_of s.run.now).texts s.hidden (option_copied s.shown) e.pieces e.hidden)
     c.in_ok-say_stretch.ensures in
     record {

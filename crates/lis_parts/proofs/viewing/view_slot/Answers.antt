@@ -1,5 +1,4 @@
 use Rattle.std.proofs.Common.{List, ℕ, ap, ◌∙◌}
-use Rattle.lis_model.specs.State.{State}
 use Rattle.lis_views.specs.Views.{view_of}
 use Rattle.lis_parts.proofs.Loaded.{loaded_broke, loaded_then}
 use Rattle.lis_parts.proofs.Viewed.{file_view}
