@@ -10,13 +10,13 @@ use Rattle.lis_model.specs.Step.{Situation, Outcome}
 use Rattle.lis_session.specs.Parts.{only_shows}
 use Rattle.lis_parts.specs.Commands.{view}
 
-abbrev small : Limits
+abbrev pub small : Limits
 small = record { files = 64; props = 64; blocks = 8; version = 2 }
 
-abbrev notes : State
+abbrev pub notes : State
 notes = record (empty_state small) { files = record { name = codes "notes.txt"; bytes = codes "alpha one\nbeta\n\nalpha two"; assigned = [] } ∷ [] }
 
-abbrev now : Situation
+abbrev pub now : Situation
 now = record { state = notes; place = [] }
 
 abbrev shows : List ℕ → Outcome

@@ -5,22 +5,15 @@ use Rattle.lis_grammar.specs.Machine.{text_steps}
 use Rattle.lis_grammar.specs.Places.{is_place}
 use Rattle.lis_grammar.specs.Printing.{printed}
 use Rattle.lis_line.specs.declared.carrier.Halt.TheVariants.{Limit}
-use Rattle.lis_model.specs.declared.limits.Limits.{Limits}
-use Rattle.lis_model.specs.State.{empty_state}
 use Rattle.lis_model.specs.Step.{Situation, Outcome, cat}
 use Rattle.lis_session.specs.Parts.{only_shows}
 use Rattle.lis_parts.specs.Commands.{put}
 use Rattle.lis_parts.specs.Putting.{put_by}
+use Rattle.lis_parts.proofs.Examples.{notes, now}
 
-abbrev small : Limits
-small = record { files = 64; props = 64; blocks = 8; version = 2 }
-
--- a state of one file
+-- the same state with other bytes of its file
 abbrev having : List ℕ → Situation
-having bytes = record { state = record (empty_state small) { files = record { name = codes "notes.txt"; bytes = bytes; assigned = [] } ∷ [] }; place = [] }
-
-abbrev now : Situation
-now = having (codes "alpha one\nbeta\n\nalpha two")
+having bytes = record { state = record notes { files = record { name = codes "notes.txt"; bytes = bytes; assigned = [] } ∷ [] }; place = [] }
 
 abbrev put_alphas : List ℕ → Outcome
 put_alphas input = put now (codes "notes.txt") (codes "word:alpha") input
