@@ -202,9 +202,6 @@ module _ (p : Kept) (t : Taxonomy) (held : AreHeld p t) (word : List ℕ) (numbe
     pub ordered_after : TestsAreOrdered dict t
     ordered_after = subst (λ (d : Dict). TestsAreOrdered d t) (sym dict_is) (ordered_then p t held form new_word)
 
-    pub none_from_it : (y : ℕ) → has_edge t number y ≡ false
-    none_from_it = none_from p t held form new_word
-
     weaker_now : (u : Taxonomy) → LinksWeaker dict bits number t u → LinksWeaker (with_entry p.dict word number) (set p.declared number true) number t u
     weaker_now u links = subst (λ bs. LinksWeaker (with_entry p.dict word number) bs number t u) bits_are (subst (λ (d : Dict). LinksWeaker d bits number t u) dict_is links)
 

@@ -1,12 +1,11 @@
 -- The links of declared tests to weaker ones, one number after another.
-use Rattle.std.proofs.Common.{◌≡◌, ◌⊎◌, ◌∙◌, refl, sym, ap, ap₂, subst, inl, inr, ℕ, ◌+◌, ◌<◌, ◌≤◌, ◌==◌, nat_lt, if◌then◌else◌, Bool, true, false, ◌&&◌, ◌||◌, Option, Some, None, is_some, List, arith, eq-eqb}
+use Rattle.std.proofs.Common.{◌≡◌, ◌⊎◌, ◌∙◌, refl, sym, ap, subst, inl, inr, ℕ, ◌+◌, ◌<◌, ◌≤◌, ◌==◌, nat_lt, if◌then◌else◌, Bool, true, false, ◌&&◌, ◌||◌, Option, Some, None, is_some, List, arith, eq-eqb}
 use Rattle.std.proofs.Math.Bool.{or-false, and-false}
 use Rattle.std.proofs.lemmas.Bool.{and_parts, or_cases, or_left, or_right, both_ways, cases_lt, eqb-true, lt-ltb, ltb-true, false_from_ne_true}
 use Rattle.lis_blockmap.specs.Bitmap.{is_taken}
 use Rattle.lis_dict.specs.Dict.{Dict, IsDict, word_of}
 use Rattle.lis_taxonomy.specs.Taxonomy.{Taxonomy, has_edge}
 use Rattle.lis_words.specs.Words.{same_word, is_valued, head_bytes, is_test}
-use Rattle.lis_laws.proofs.Apart.{test_not_valued}
 use Rattle.lis_laws.proofs.Chains.{head_no_test}
 use Rattle.lis_laws.proofs.Members.{same_word_decides}
 use Rattle.lis_laws.proofs.Locals.{same_tests}

@@ -1,4 +1,4 @@
-use Rattle.std.proofs.Common.{◌≡◌, ◌∙◌, ℕ, ◌==◌, ◌&&◌, nat_lt, Bool, true, Some, sym, ap, arith}
+use Rattle.std.proofs.Common.{◌≡◌, ◌∙◌, ◌==◌, ◌&&◌, nat_lt, true, Some, sym, ap, arith}
 use Rattle.lis_model.specs.Tests.{are_weaker}
 use Rattle.lis_kept.specs.TestEdges.{declared_test, is_test_link}
 use Rattle.lis_kept.proofs.TestChains.{comes_or_was, where_ordered, weaker_none, weaker_more, weaker_passed, weaker_all, weaker_without}

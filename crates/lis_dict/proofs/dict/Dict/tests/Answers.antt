@@ -1,4 +1,4 @@
-use Rattle.std.proofs.Common.{◌≡◌, List, codes, Some, sym, ap, subst, ◌∙◌, slice_get, arith}
+use Rattle.std.proofs.Common.{◌≡◌, List, codes, Some, ap, subst, ◌∙◌, slice_get, arith}
 use Rattle.lis_dict.specs.Dict.{Dict}
 use Rattle.lis_dict.proofs.Entries.{Entry}
 use Rattle.lis_dict.proofs.Places.{IsGap}

@@ -7,7 +7,7 @@ use Rattle.lis_kept.specs.Kept.{Kept}
 use Rattle.lis_kept.specs.Sound.{AreSound}
 use Rattle.lis_kept.proofs.InArea.{few_properties}
 use Rattle.lis_kept.proofs.WordMore.{added_word}
-use Rattle.lis_kept.proofs.WordDeclared.{dict_after, ordered_after, none_from_it, ordered_between, none_to_it, declares}
+use Rattle.lis_kept.proofs.WordDeclared.{dict_after, ordered_after, ordered_between, none_to_it, declares}
 use Rattle.lis_kept.specs.contracts.parts.Parts.{the_view}
 use Rattle.lis_kept.proofs.parts.Parts.declare_word.Goals as goal
 
