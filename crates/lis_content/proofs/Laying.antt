@@ -1,10 +1,11 @@
--- Blocks that are placed one after another.
-use Rattle.std.proofs.Common.{drop, ◌≡◌, ◌⊎◌, ℕ, ◌+◌, ◌-◌, ◌*◌, ◌<◌, ◌≤◌, min, ◌==◌, Bool, true, false, ◌||◌, List, [], ◌∷◌, ◌++◌, length, take, replicate, set, Option, Some, None, IsSomeAnd, Result, Ok, Err, IsErr, MatchResult, refl, sym, ◌∙◌, ap, subst, inl, inr, arith, length-append, length-set, eqb}
-use Rattle.std.specs.List.{flat_map}
-use Rattle.std.proofs.lemmas.Bool.{eqb-false, eq-eqb, ne_eqb, cond-true, cond-false, cases_lt, false≢true}
+-- Blocks that are placed row by row.
+use Rattle.std.proofs.Common.{drop, ◌≡◌, ◌⊎◌, ℕ, zero, suc, ◌+◌, ◌*◌, ◌<◌, ◌≤◌, ◌==◌, Bool, true, false, ◌||◌, List, [], ◌∷◌, ◌++◌, length, take, set, Option, Some, None, IsSomeAnd, Result, Ok, Err, IsErr, MatchResult, refl, sym, ◌∙◌, ap, subst, inl, inr, arith, append_assoc, length-append, length-drop, eqb}
+use Rattle.std.specs.List.{flat_map, range_with_len}
+use Rattle.std.proofs.lemmas.Bool.{eqb-false, eq-eqb, ne_eqb, cond-true, cond-false, false≢true}
 use Rattle.std.proofs.lemmas.Grind.{flat_map-append}
-use Rattle.std.proofs.lemmas.List.{append-nil, drop_at}
-use Rattle.std.proofs.lemmas.List.Folds.{list_any-append}
+use Rattle.std.proofs.lemmas.List.{append-nil, drop_at, length-take-le, take-append-drop, take_all}
+use Rattle.std.proofs.lemmas.List.FromFn.{length-range_with_len}
+use Rattle.std.proofs.lemmas.List.Sums.{fold-append}
 use Rattle.byteorder.specs.Endian.{little_bytes}
 use Rattle.lis_ports.specs.Meaning.{Meaning}
 use Rattle.lis_ports.specs.Runs.{IsDiskRun}
@@ -14,30 +15,32 @@ use Rattle.lis_ports.proofs.Moments.{run_then, leaves_then, leaves_weaken}
 use Rattle.lis_model.specs.State.{blocks_needed}
 use Rattle.lis_journal.specs.Record.{replayed}
 use Rattle.lis_journal.specs.Journal.{Held}
-use Rattle.lis_journal.specs.Images.{KeepsBut, StandsBut, is_among, with_placed, with_kept}
+use Rattle.lis_journal.specs.Images.{KeepsBut, StandsBut, Fits, is_among, with_kept, with_run}
 use Rattle.lis_journal.specs.Staging.{has_entry}
 use Rattle.lis_journal.proofs.Entries.{neither}
+use Rattle.lis_journal.proofs.Runs.{among_head, among_parts, among_swapped, run_other}
 use Rattle.lis_blockmap.specs.Bitmap.{free_count, is_taken}
-use Rattle.lis_content.specs.Content.{content, padded, has_number, has_home}
+use Rattle.lis_content.specs.Content.{content, padded, marked, has_number, has_home}
 use Rattle.lis_content.specs.Large.{is_large, index_bytes, numbers_in}
-use Rattle.lis_content.specs.Placing.{AreUnstaged, homes_of, Places, Lays, IsLaid, HasFile, IsPlaced, IsTornOff, TakesOne, OnePlaced, OneTorn}
-use Rattle.lis_content.proofs.Numbers.{are_below, below_from_free, free_after, distinct_more, free_more, marked_more}
+use Rattle.lis_content.specs.Placing.{AreUnstaged, homes_of, Places, Lays, IsLaid, HasFile, IsPlaced, IsTornOff, WritesRow, RowPlaced, RowOf, RowTorn, OnePlaced}
+use Rattle.lis_content.proofs.Numbers.{are_below, below_from_free, free_after, length-marked, number_past, row_new}
 use Rattle.lis_content.proofs.Taking.{length-padded, part_more, same_others}
 use Rattle.lis_content.proofs.Indexes.{index_reads_back, large_numbers, large_blocks, small_numbers, small_blocks}
-
-pub padded_whole : (bytes : List ℕ) → length bytes ≡ 4096 → bytes ≡ padded bytes
-padded_whole bytes whole =
-    let none : 4096 - length bytes ≡ 0 = omega (arith, whole) in
-    sym (append-nil bytes) ∙ ap (λ n. bytes ++ replicate n 0) (sym none)
 
 -- ---- homes of blocks
 pub among_homes : (base : ℕ) (blocks : List ℕ) (n : ℕ) → is_among (homes_of base blocks) n ≡ has_home base blocks n
 among_homes base [] n = refl
 among_homes base (b ∷ blocks) n = ap (λ t. eqb (base + b) n || t) (among_homes base blocks n)
 
-pub homes_more : (base : ℕ) (blocks : List ℕ) (n : ℕ) → homes_of base (blocks ++ n ∷ []) ≡ homes_of base blocks ++ (base + n) ∷ []
-homes_more base [] n = refl
-homes_more base (b ∷ blocks) n = ap (λ hs. (base + b) ∷ hs) (homes_more base blocks n)
+homes_in_row : (base n count : ℕ) → homes_of base (range_with_len n count) ≡ range_with_len (base + n) count
+homes_in_row base n zero = refl
+homes_in_row base n (suc count) =
+    let next : base + (n + 1) ≡ base + n + 1 = omega arith in
+    ap (λ hs. (base + n) ∷ hs) (homes_in_row base (n + 1) count ∙ ap (λ h. range_with_len h count) next)
+
+pub homes_more : (base : ℕ) (blocks more : List ℕ) → homes_of base (blocks ++ more) ≡ homes_of base blocks ++ homes_of base more
+homes_more base [] more = refl
+homes_more base (b ∷ blocks) more = ap (λ hs. (base + b) ∷ hs) (homes_more base blocks more)
 
 pub home_new : (base : ℕ) (blocks : List ℕ) (n : ℕ) → has_number blocks n ≡ false → has_home base blocks (base + n) ≡ false
 home_new base [] n new = refl
@@ -46,17 +49,9 @@ home_new base (b ∷ blocks) n new =
     let differ : base + b ≡ base + n → ⊥ = λ e. eqb-false b n parts.0 (omega (arith, e)) in
     ap (λ t. t || has_home base blocks (base + n)) (ne_eqb (base + b) (base + n) differ) ∙ home_new base blocks n parts.1
 
--- a block that is none of these and not the new one
-home_split : (base : ℕ) (blocks : List ℕ) (n m : ℕ) → has_home base (blocks ++ n ∷ []) m ≡ false → (has_home base blocks m ≡ false) × (m ≡ base + n → ⊥)
-home_split base blocks n m none =
-    let split = neither (has_home base blocks m) (eqb (base + n) m || false) (sym (list_any-append (λ b. base + b == m) blocks (n ∷ [])) ∙ none) in
-    (split.0, λ e. eqb-false (base + n) m (neither (eqb (base + n) m) false split.1).0 (sym e))
-
--- with it, the placed blocks are the homes of one more
-pub placed_more : (base : ℕ) (blocks : List ℕ) (n : ℕ) → has_number blocks n ≡ false → with_placed (homes_of base blocks) (base + n) ≡ homes_of base (blocks ++ n ∷ [])
-placed_more base blocks n new =
-    cond-false (is_among (homes_of base blocks) (base + n)) _ _ (among_homes base blocks (base + n) ∙ home_new base blocks n new)
-    ∙ sym (homes_more base blocks n)
+-- with a row more, the placed blocks are these and those of the row
+placed_more : (base : ℕ) (blocks : List ℕ) (n count : ℕ) → homes_of base (blocks ++ range_with_len n count) ≡ homes_of base blocks ++ range_with_len (base + n) count
+placed_more base blocks n count = homes_more base blocks (range_with_len n count) ∙ ap (λ hs. homes_of base blocks ++ hs) (homes_in_row base n count)
 
 -- ---- moments
 -- An image stands for fewer blocks, and the others may be told by other words.
@@ -68,13 +63,10 @@ stands_told blocks placed more kept now image less all = (all.0, by (replayed bl
     by None h = h
     by (Some r) h = record { long = h.long; same = λ n out not_in. let is = less n not_in in h.same n out is.0 ∙ is.1 }
 
--- ---- one block more
-module _ (base : ℕ) (start now_taken next_taken : List Bool) (before now : Held) {old mid new : Meaning} (blocks : List ℕ) (n : ℕ) {P : (ℕ → List ℕ) → Type 0} (was : Lays base start now_taken before now old mid blocks P) (one : TakesOne base now_taken next_taken now mid new n) where
-  pub unlike : (has_number blocks n ≡ false) × (is_taken start n ≡ false)
-  unlike = free_after (length start) start blocks n refl (below_from_free start blocks was.places.were_free) (ap (λ t. is_taken t n) (sym was.places.marks) ∙ one.was_free)
-
-  below : n < length start
-  below = omega (arith, one.within, was.places.len)
+-- ---- a row more
+module _ (base : ℕ) (start now_taken next_taken : List Bool) (before now : Held) {old mid new : Meaning} (blocks : List ℕ) (n count : ℕ) {P : (ℕ → List ℕ) → Type 0} (was : Lays base start now_taken before now old mid blocks P) (row : WritesRow base now_taken next_taken now mid new n count) where
+  pub unlike : (k : ℕ) → n ≤ k → k < n + count → (has_number blocks k ≡ false) × (is_taken start k ≡ false)
+  unlike k le lt = free_after (length start) start blocks k refl (below_from_free start blocks was.places.were_free) (ap (λ t. is_taken t k) (sym was.places.marks) ∙ row.row.were_free k le lt)
 
   same_blocks : now.blocks ≡ before.blocks
   same_blocks = ap (λ (h : Held). h.blocks) was.journal
@@ -82,61 +74,78 @@ module _ (base : ℕ) (start now_taken next_taken : List Bool) (before now : Hel
   same_placed : now.placed ≡ homes_of base blocks
   same_placed = ap (λ (h : Held). h.placed) was.journal
 
-  apart : (m : ℕ) → is_among (homes_of base (blocks ++ n ∷ [])) m ≡ false → (has_home base blocks m ≡ false) × (m ≡ base + n → ⊥)
-  apart m not_in = home_split base blocks n m (sym (among_homes base (blocks ++ n ∷ []) m) ∙ not_in)
+  apart : (m : ℕ) → is_among (homes_of base (blocks ++ range_with_len n count)) m ≡ false → (is_among (homes_of base blocks) m ≡ false) × (is_among (range_with_len (base + n) count ++ now.placed) m ≡ false)
+  apart m not_in =
+      let out = ap (λ hs. is_among hs m) (sym (placed_more base blocks n count)) ∙ not_in in
+      ((among_parts (homes_of base blocks) (range_with_len (base + n) count) m out).0, ap (λ p. is_among (range_with_len (base + n) count ++ p) m) same_placed ∙ among_swapped (homes_of base blocks) (range_with_len (base + n) count) m out)
 
-  apart_placed : (m : ℕ) → is_among (homes_of base (blocks ++ n ∷ [])) m ≡ false → is_among ((base + n) ∷ now.placed) m ≡ false
-  apart_placed m not_in =
-      let parts = apart m not_in in
-      ap (λ t. t || is_among now.placed m) (ne_eqb (base + n) m (λ e. parts.1 (sym e)))
-      ∙ (ap (λ p. is_among p m) same_placed ∙ (among_homes base blocks m ∙ parts.0))
+  pub places_more : Places base start next_taken before old new (blocks ++ range_with_len n count)
+  places_more =
+      let more = row_new (length start) start blocks n count refl was.places.distinct was.places.were_free (omega (arith, row.row.within, was.places.len)) unlike in
+      record {
+        distinct = more.0;
+        were_free = more.1;
+        marks = row.row.marks ∙ (ap (λ t. marked t (range_with_len n count)) was.places.marks ∙ sym (fold-append (λ t k. set t k true) start blocks (range_with_len n count)));
+        len = ap length row.row.marks ∙ (length-marked now_taken (range_with_len n count) ∙ was.places.len);
+        counted = omega (arith, was.places.counted, row.row.counted, length-append blocks (range_with_len n count), length-range_with_len n count);
+        moments = λ kept fits.
+            let at = was.fits kept fits in
+            leaves_then
+            (leaves_weaken _ (was.places.moments kept fits) (λ image. stands_told before.blocks (homes_of base blocks) (homes_of base (blocks ++ range_with_len n count)) kept kept image (λ m not_in. ((apart m not_in).0, refl))))
+            (leaves_weaken _ (row.moments at.0 at.1) (λ image stands. stands_told before.blocks (range_with_len (base + n) count ++ now.placed) (homes_of base (blocks ++ range_with_len n count)) at.0 kept image (λ m not_in. ((apart m not_in).1, at.2 m (sym (among_homes base blocks m) ∙ (apart m not_in).0))) (subst (λ b. StandsBut b (range_with_len (base + n) count ++ now.placed) at.0 image) same_blocks stands)));
+        past = λ kept fits k le.
+            let at = was.fits kept fits in
+            row.past at.0 at.1 k (omega (arith, le, same_blocks)) ∙ was.places.past kept fits k le;
+      }
 
-  pub places_more : Places base start next_taken before old new (blocks ++ n ∷ [])
-  places_more = record {
-    distinct = distinct_more blocks n was.places.distinct unlike.0;
-    were_free = free_more start blocks n was.places.were_free below unlike.1;
-    marks = one.marks ∙ (ap (λ t. set t n true) was.places.marks ∙ marked_more start blocks n);
-    len = ap length one.marks ∙ (length-set now_taken n true ∙ was.places.len);
-    counted = omega (arith, was.places.counted, one.fewer, length-append blocks (n ∷ []));
-    moments = λ kept fits.
-        let at = was.fits kept fits in
-        leaves_then
-        (leaves_weaken _ (was.places.moments kept fits) (λ image. stands_told before.blocks (homes_of base blocks) (homes_of base (blocks ++ n ∷ [])) kept kept image (λ m not_in. (among_homes base blocks m ∙ (apart m not_in).0, refl))))
-        (leaves_weaken _ (one.moments at.0 at.1) (λ image stands. stands_told before.blocks ((base + n) ∷ now.placed) (homes_of base (blocks ++ n ∷ [])) at.0 kept image (λ m not_in. (apart_placed m not_in, at.2 m (apart m not_in).0)) (subst (λ b. StandsBut b ((base + n) ∷ now.placed) at.0 image) same_blocks stands)));
-    past = λ kept fits k le.
-        let at = was.fits kept fits in
-        one.past at.0 at.1 k (omega (arith, le, same_blocks)) ∙ was.places.past kept fits k le;
-  }
+-- what is kept of the blocks outside the row stays
+abbrev pub KeepsOthers : ℕ → ℕ → ((ℕ → List ℕ) → ℕ → List ℕ) → Type 0
+KeepsOthers home count after = (at : ℕ → List ℕ) (m : ℕ) → is_among (range_with_len home count) m ≡ false → after at m ≡ at m
 
-pub lays_more : (base : ℕ) (start now_taken next_taken : List Bool) (before now next : Held) {old mid new : Meaning} (blocks : List ℕ) (n : ℕ) (front : List ℕ) (P Q : (ℕ → List ℕ) → Type 0) → Lays base start now_taken before now old mid blocks P → OnePlaced base front now_taken next_taken now next mid new n → ((at : ℕ → List ℕ) → has_number blocks n ≡ false → P at → Q (with_kept (base + n) (padded front) at)) → Lays base start next_taken before next old new (blocks ++ n ∷ []) Q
-lays_more base start now_taken next_taken before now next blocks n front P Q was one more =
-    let new_number = (unlike base start now_taken next_taken before now blocks n was one.takes).0 in
+pub lays_more : (base : ℕ) (start now_taken next_taken : List Bool) (before now next : Held) {old mid new : Meaning} (blocks : List ℕ) (n count : ℕ) (after : (ℕ → List ℕ) → ℕ → List ℕ) (P Q : (ℕ → List ℕ) → Type 0) → Lays base start now_taken before now old mid blocks P → RowPlaced base now_taken next_taken now next mid new n count after → KeepsOthers (base + n) count after → ((at : ℕ → List ℕ) → ((k : ℕ) → n ≤ k → k < n + count → has_number blocks k ≡ false) → P at → Q (after at)) → Lays base start next_taken before next old new (blocks ++ range_with_len n count) Q
+lays_more base start now_taken next_taken before now next blocks n count after P Q was row others more = record {
+  places = places_more base start now_taken next_taken before now blocks n count was row.writes;
+  journal =
+      row.journal
+      ∙ (ap (λ (h : Held). record h { records = next.records; placed = h.placed ++ range_with_len (base + n) count }) was.journal
+      ∙ ap (λ p. record before { records = next.records; placed = p }) (sym (placed_more base blocks n count)));
+  fits = λ kept fits.
+      let at = was.fits kept fits in (
+        after at.0,
+        row.fits at.0 at.1,
+        (λ m none.
+            let parts = among_parts (homes_of base blocks) (range_with_len (base + n) count) m (ap (λ hs. is_among hs m) (sym (placed_more base blocks n count)) ∙ (among_homes base (blocks ++ range_with_len n count) m ∙ none)) in
+            others at.0 m parts.1 ∙ at.2 m (sym (among_homes base blocks m) ∙ parts.0)),
+        more at.0 (λ k le lt. (unlike base start now_taken next_taken before now blocks n count was row.writes k le lt).0) at.3,
+      );
+}
+
+-- a row of one block
+pub one_block : (base : ℕ) (bytes block : List ℕ) (taken now_taken : List Bool) (before now : Held) {old new : Meaning} (n count : ℕ) → length bytes ≤ 4096 → block ≡ padded bytes → RowOf base block taken now_taken before now old new n count → OnePlaced base bytes taken now_taken before now old new n
+one_block base bytes block taken now_taken before now {old} {new} n count few is row =
+    let len : length block ≡ 4096 = ap length is ∙ length-padded bytes few in
+    let one : count ≡ 1 = omega (arith, row.any, row.few, len) in
+    let was = subst (λ k. RowPlaced base taken now_taken before now old new n k (with_run (base + n) k (take (4096 * k) block))) one row.placed in
+    let whole : take 4096 (take 4096 block) ≡ padded bytes = ap (take 4096) (take_all 4096 block (omega (arith, len))) ∙ (take_all 4096 block (omega (arith, len)) ∙ is) in
     record {
-      places = places_more base start now_taken next_taken before now blocks n was one.takes;
-      journal =
-          one.journal
-          ∙ (ap (λ (h : Held). record h { records = next.records; placed = with_placed h.placed (base + n) }) was.journal
-          ∙ ap (λ p. record before { records = next.records; placed = p }) (placed_more base blocks n new_number));
-      fits = λ kept fits.
-          let at = was.fits kept fits in (
-            with_kept (base + n) (padded front) at.0,
-            one.fits at.0 at.1,
-            (λ m none.
-                let parts = home_split base blocks n m none in
-                cond-false (m == (base + n)) (padded front) (at.0 m) (ne_eqb m (base + n) parts.1) ∙ at.2 m parts.0),
-            more at.0 new_number at.3,
-          );
+      writes = was.writes;
+      journal = was.journal;
+      fits = λ kept fits. subst (λ b. Fits now new (with_kept (base + n) b kept)) whole (was.fits kept fits);
     }
 
-pub lays_torn : (base : ℕ) (start now_taken next_taken : List Bool) (before now next : Held) {old mid new : Meaning} (blocks : List ℕ) (P : (ℕ → List ℕ) → Type 0) → Lays base start now_taken before now old mid blocks P → OneTorn base now_taken next_taken now next mid new → IsTornOff base start next_taken before next old new
-lays_torn base start now_taken next_taken before now next blocks P was one = record {
-  blocks = blocks ++ one.n ∷ [];
-  places = places_more base start now_taken next_taken before now blocks one.n was one.takes;
+-- one block is placed, and the others stay
+pub one_keeps : (home : ℕ) (bytes : List ℕ) → KeepsOthers home 1 (with_kept home bytes)
+one_keeps home bytes at m out = cond-false (m == home) bytes (at m) (ne_eqb m home (λ e. (among_head home m [] out).0 (sym e)))
+
+pub lays_torn : (base : ℕ) (start now_taken next_taken : List Bool) (before now next : Held) {old mid new : Meaning} (blocks : List ℕ) (P : (ℕ → List ℕ) → Type 0) → Lays base start now_taken before now old mid blocks P → RowTorn base now_taken next_taken now next mid new → IsTornOff base start next_taken before next old new
+lays_torn base start now_taken next_taken before now next blocks P was torn = record {
+  blocks = blocks ++ range_with_len torn.n torn.count;
+  places = places_more base start now_taken next_taken before now blocks torn.n torn.count was torn.writes;
   journal =
-      one.journal
+      torn.journal
       ∙ (ap (λ (h : Held). record h { records = next.records; is_broken = true }) was.journal
       ∙ ap (λ p. record before { records = next.records; placed = p; is_broken = true })
-      (sym (ap (λ (h : Held). h.placed) one.journal ∙ ap (λ (h : Held). h.placed) was.journal)));
+      (sym (ap (λ (h : Held). h.placed) torn.journal ∙ ap (λ (h : Held). h.placed) was.journal)));
 }
 
 -- what is not staged of the free blocks stays so
@@ -159,45 +168,90 @@ pub record Laying (base : ℕ) (bytes rest : List ℕ) (start now_taken : List B
   pub enough : blocks_needed (length rest) ≤ free_count now_taken
   pub left : 0 < length rest → 4096 * length blocks + length rest ≡ length bytes
 
-pub laying_more : (base : ℕ) (bytes rest front behind : List ℕ) (start now_taken next_taken : List Bool) (before now next : Held) {old mid new : Meaning} (blocks : List ℕ) (n : ℕ) → Laying base bytes rest start now_taken before now old mid blocks → 0 < length rest → front ++ behind ≡ rest → length front ≡ min (length rest) 4096 → OnePlaced base front now_taken next_taken now next mid new n → IsDiskRun mid new → new.disk_faults ≡ mid.disk_faults → DiskFaultEnds mid new → Laying base bytes behind start next_taken before next old new (blocks ++ n ∷ [])
-laying_more base bytes rest front behind start now_taken next_taken before now next blocks n was some parts size one run faults no_more = record {
-  lays = lays_more base start now_taken next_taken before now next blocks n front _ _ was.lays one part;
+flat_one : (base n : ℕ) (blocks bytes : List ℕ) (at : ℕ → List ℕ) → has_number blocks n ≡ false → flat_map (λ b. with_kept (base + n) bytes at (base + b)) (blocks ++ n ∷ []) ≡ flat_map (λ b. at (base + b)) blocks ++ bytes
+flat_one base n blocks bytes at new =
+    flat_map-append (λ b. after (base + b)) blocks (n ∷ [])
+    ∙ (ap (λ xs. xs ++ (after (base + n) ++ [])) (same_others at after base n blocks bytes (λ m. refl) new)
+    ∙ ap (λ xs. flat_map (λ b. at (base + b)) blocks ++ xs) (append-nil (after (base + n)) ∙ cond-true ((base + n) == (base + n)) bytes (at (base + n)) (eq-eqb (base + n) (base + n) refl)))
+  where
+    after : ℕ → List ℕ
+    after = with_kept (base + n) bytes at
+
+-- these bytes stand in a row of blocks behind others
+flat_row : (base n count : ℕ) (blocks bytes : List ℕ) (at : ℕ → List ℕ) → length bytes ≡ 4096 * count → ((k : ℕ) → n ≤ k → k < n + count → has_number blocks k ≡ false)
+    → flat_map (λ b. with_run (base + n) count bytes at (base + b)) (blocks ++ range_with_len n count) ≡ flat_map (λ b. at (base + b)) blocks ++ bytes
+flat_row base n zero blocks [] at len new = ap (flat_map (λ b. at (base + b))) (append-nil blocks) ∙ sym (append-nil (flat_map (λ b. at (base + b)) blocks))
+flat_row base n zero blocks (b ∷ bytes) at len new = absurd (omega (arith, len))
+flat_row base n (suc count) blocks bytes at len new =
+    ap (flat_map (λ b. with_run (base + n) (suc count) bytes at (base + b))) (sym (append_assoc blocks (n ∷ []) (range_with_len (n + 1) count)))
+    ∙ (ap (λ h. flat_map (λ b. with_run h count behind after (base + b)) ((blocks ++ n ∷ []) ++ range_with_len (n + 1) count)) next
+    ∙ (flat_row base (n + 1) count (blocks ++ n ∷ []) behind after (omega (arith, len, length-drop 4096 bytes)) (λ k le lt. number_past blocks n k (new k (omega (arith, le)) (omega (arith, lt))) (omega (arith, le)))
+    ∙ (ap (λ xs. xs ++ behind) one
+    ∙ (append_assoc (flat_map (λ b. at (base + b)) blocks) front behind ∙ ap (λ xs. flat_map (λ b. at (base + b)) blocks ++ xs) (take-append-drop 4096 bytes)))))
+  where
+    front : List ℕ
+    front = take 4096 bytes
+
+    behind : List ℕ
+    behind = drop 4096 bytes
+
+    next : base + n + 1 ≡ base + (n + 1)
+    next = omega arith
+
+    after : ℕ → List ℕ
+    after = with_kept (base + n) front at
+
+    one : flat_map (λ b. after (base + b)) (blocks ++ n ∷ []) ≡ flat_map (λ b. at (base + b)) blocks ++ front
+    one = flat_one base n blocks front at (new n (omega arith) (omega arith))
+
+pub laying_more : (base : ℕ) (bytes rest behind placed : List ℕ) (start now_taken next_taken : List Bool) (before now next : Held) {old mid new : Meaning} (blocks : List ℕ) (n count : ℕ) (after : (ℕ → List ℕ) → ℕ → List ℕ)
+    → Laying base bytes rest start now_taken before now old mid blocks → 0 < length rest → length placed ≡ 4096 * count → blocks_needed (length behind) + count ≡ blocks_needed (length rest)
+    → (0 < length behind → length behind + 4096 * count ≡ length rest)
+    → ((flat : List ℕ) → length flat + length rest ≡ length bytes → take (length bytes) (flat ++ rest) ≡ bytes → take (length bytes) ((flat ++ placed) ++ behind) ≡ bytes)
+    → RowPlaced base now_taken next_taken now next mid new n count after → KeepsOthers (base + n) count after
+    → ((at : ℕ → List ℕ) → ((k : ℕ) → n ≤ k → k < n + count → has_number blocks k ≡ false) → flat_map (λ b. after at (base + b)) (blocks ++ range_with_len n count) ≡ flat_map (λ b. at (base + b)) blocks ++ placed)
+    → IsDiskRun mid new → new.disk_faults ≡ mid.disk_faults → DiskFaultEnds mid new
+    → Laying base bytes behind start next_taken before next old new (blocks ++ range_with_len n count)
+laying_more base bytes rest behind placed start now_taken next_taken before now next blocks n count after was some len needs left part row others flat run faults no_more = record {
+  lays = lays_more base start now_taken next_taken before now next blocks n count after _ _ was.lays row others (λ at new is. record {
+    long = ap length (flat at new) ∙ (length-append (flat_map (λ b. at (base + b)) blocks) placed ∙ omega (arith, is.long, longer, len));
+    holds = ap (λ xs. take (length bytes) (xs ++ behind)) (flat at new) ∙ part (flat_map (λ b. at (base + b)) blocks) (omega (arith, is.long, was.left some)) is.holds;
+  });
   run = run_then was.run run;
   faults = faults ∙ was.faults;
   first_fault = ends_then was.first_fault was.faults no_more;
-  count = omega (arith, was.count, longer, size, some, both);
-  enough = omega (arith, was.enough, one.takes.fewer, size, some, both);
-  left = λ more. omega (arith, was.left some, longer, size, both, more);
+  count = omega (arith, was.count, longer, needs);
+  enough = omega (arith, was.enough, row.writes.row.counted, needs);
+  left = λ more. omega (arith, was.left some, longer, left more);
 }
   where
-    longer : length (blocks ++ n ∷ []) ≡ length blocks + 1
-    longer = length-append blocks (n ∷ [])
+    longer : length (blocks ++ range_with_len n count) ≡ length blocks + count
+    longer = length-append blocks (range_with_len n count) ∙ ap (λ k. length blocks + k) (length-range_with_len n count)
 
-    both : length front + length behind ≡ length rest
-    both = sym (length-append front behind) ∙ ap length parts
+-- a row of whole blocks more
+pub laying_row : (base : ℕ) (bytes rest behind : List ℕ) (start now_taken next_taken : List Bool) (before now next : Held) {old mid new : Meaning} (blocks : List ℕ) (n count : ℕ)
+    → Laying base bytes rest start now_taken before now old mid blocks → behind ≡ drop (4096 * count) rest → RowOf base rest now_taken next_taken now next mid new n count
+    → IsDiskRun mid new → new.disk_faults ≡ mid.disk_faults → DiskFaultEnds mid new
+    → Laying base bytes behind start next_taken before next old new (blocks ++ range_with_len n count)
+laying_row base bytes rest behind start now_taken next_taken before now next blocks n count was is row run faults no_more =
+    let front : List ℕ = take (4096 * count) rest in
+    let len : length front ≡ 4096 * count = length-take-le (4096 * count) rest row.few in
+    let shorter : length behind + 4096 * count ≡ length rest = omega (arith, ap length is, length-drop (4096 * count) rest, row.few) in
+    laying_more base bytes rest behind front start now_taken next_taken before now next blocks n count (with_run (base + n) count front)
+    was (omega (arith, row.any, row.few)) len (omega (arith, shorter)) (λ more. shorter)
+    (λ flat all holds. ap (take (length bytes)) (append_assoc flat front behind ∙ ap (λ xs. flat ++ xs) (ap (λ xs. front ++ xs) is ∙ take-append-drop (4096 * count) rest)) ∙ holds)
+    row.placed (λ at m. run_other (base + n) count front at m) (λ at new. flat_row base n count blocks front at len new) run faults no_more
 
-    ends : (length front ≡ 4096) ⊎ (length behind ≡ 0)
-    ends = elim (cases_lt 4096 (length rest)) as (λ _. (length front ≡ 4096) ⊎ (length behind ≡ 0)) [
-      | inl more ↦ inl (omega (arith, size, more))
-      | inr less ↦ inr (omega (arith, size, less, both))
-    ]
-
-    part : (at : ℕ → List ℕ) → has_number blocks n ≡ false → IsPart base bytes rest blocks at → IsPart base bytes behind (blocks ++ n ∷ []) (with_kept (base + n) (padded front) at)
-    part at new is = record {
-      long = ap length flat ∙ (length-append (flat_map (λ b. at (base + b)) blocks) (padded front ++ []) ∙ omega (arith, is.long, longer, length-append (padded front) [], length-padded front (omega (arith, size))));
-      holds =
-          ap (λ xs. take (length bytes) (xs ++ behind)) flat
-          ∙ part_more bytes (flat_map (λ b. at (base + b)) blocks) rest front behind (omega (arith, is.long, was.left some)) is.holds parts ends;
-    }
-      where
-        after : ℕ → List ℕ
-        after = with_kept (base + n) (padded front) at
-
-        flat : flat_map (λ b. after (base + b)) (blocks ++ n ∷ []) ≡ flat_map (λ b. at (base + b)) blocks ++ (padded front ++ [])
-        flat =
-            flat_map-append (λ b. after (base + b)) blocks (n ∷ [])
-            ∙ (ap (λ xs. xs ++ (after (base + n) ++ [])) (same_others at after base n blocks (padded front) (λ m. refl) new)
-            ∙ ap (λ xs. flat_map (λ b. at (base + b)) blocks ++ (xs ++ [])) (cond-true ((base + n) == (base + n)) (padded front) (at (base + n)) (eq-eqb (base + n) (base + n) refl)))
+-- the last block, with zeros behind the bytes
+pub laying_last : (base : ℕ) (bytes rest : List ℕ) (start now_taken next_taken : List Bool) (before now next : Held) {old mid new : Meaning} (blocks : List ℕ) (n : ℕ)
+    → Laying base bytes rest start now_taken before now old mid blocks → 0 < length rest → length rest ≤ 4096 → OnePlaced base rest now_taken next_taken now next mid new n
+    → IsDiskRun mid new → new.disk_faults ≡ mid.disk_faults → DiskFaultEnds mid new
+    → Laying base bytes [] start next_taken before next old new (blocks ++ n ∷ [])
+laying_last base bytes rest start now_taken next_taken before now next blocks n was some few one run faults no_more =
+    laying_more base bytes rest [] (padded rest) start now_taken next_taken before now next blocks n 1 (with_kept (base + n) (padded rest))
+    was some (length-padded rest few) (omega (arith, some, few)) (λ more. absurd (omega (arith, more)))
+    (λ flat all holds. ap (λ p. take (length bytes) ((flat ++ p) ++ [])) (sym (append-nil (padded rest))) ∙ part_more bytes flat rest rest [] all holds (append-nil rest) (inr refl))
+    one (one_keeps (base + n) (padded rest)) (λ at new. flat_one base n blocks (padded rest) at (new n (omega arith) (omega arith))) run faults no_more
 
 -- ---- what stands at the end
 pub lays_as : (base : ℕ) (start now_taken : List Bool) (before now : Held) {old new : Meaning} (blocks : List ℕ) (P Q : (ℕ → List ℕ) → Type 0) → ((at : ℕ → List ℕ) → P at → Q at) → Lays base start now_taken before now old new blocks P → Lays base start now_taken before now old new blocks Q
@@ -235,10 +289,10 @@ placed_small base bytes start now_taken before now blocks small was = record {
 pub placed_large : (base : ℕ) (bytes : List ℕ) (start now_taken next_taken : List Bool) (before now next : Held) {old mid new : Meaning} (blocks : List ℕ) (n : ℕ) → is_large (length bytes) ≡ true → are_below 65536 blocks ≡ true → IsLaid base bytes start now_taken before now old mid blocks → OnePlaced base (flat_map (little_bytes 2) blocks) now_taken next_taken now next mid new n → IsPlaced base bytes start next_taken before next old new (n ∷ [])
 placed_large base bytes start now_taken next_taken before now next blocks n large short was one = record {
   blocks = blocks ++ n ∷ [];
-  lays = lays_more base start now_taken next_taken before now next blocks n spelled _ (HasFile base bytes (n ∷ []) (blocks ++ n ∷ [])) was.lays one (λ at new is. record {
+  lays = lays_more base start now_taken next_taken before now next blocks n 1 (λ at. with_kept (base + n) (padded spelled) at) _ (HasFile base bytes (n ∷ []) (blocks ++ n ∷ [])) was.lays one (one_keeps (base + n) (padded spelled)) (λ at new is. record {
     reads =
         ap (λ ns. content base ns size (after at)) (large_numbers base (n ∷ []) size (after at) large ∙ numbers at)
-        ∙ (ap (take size) (same_others at (after at) base n blocks (padded spelled) (λ m. refl) new) ∙ is);
+        ∙ (ap (take size) (same_others at (after at) base n blocks (padded spelled) (λ m. refl) (new n (omega arith) (omega arith))) ∙ is);
     index = λ is_so. here at ∙ ap index_bytes (sym (numbers at));
     all = large_blocks base (n ∷ []) size (after at) large ∙ ap (λ ns. ns ++ n ∷ []) (numbers at);
   });

@@ -2,6 +2,7 @@ pub mod Numbers
 pub mod Indexes
 pub mod Files
 mod Taking
+mod Rows
 pub mod Laying
 pub mod Reading
 pub mod Buffers

@@ -1,6 +1,6 @@
 -- Lists of block numbers, and what is taken when they are given back or taken.
-use Rattle.std.proofs.Common.{◌≡◌, ◌⊎◌, ℕ, ◌+◌, ◌<◌, ◌≤◌, nat_lt, ◌==◌, Bool, true, false, not, ◌&&◌, ◌||◌, List, [], ◌∷◌, ◌++◌, length, get_or, set, refl, sym, ◌∙◌, ap, subst, inl, inr, arith, length-set, get_or-set_same, get_or-set_other, eqb}
-use Rattle.std.specs.List.{list_all}
+use Rattle.std.proofs.Common.{◌≡◌, ◌⊎◌, ℕ, zero, suc, ◌+◌, ◌<◌, ◌≤◌, nat_lt, ◌==◌, Bool, true, false, not, ◌&&◌, ◌||◌, List, [], ◌∷◌, ◌++◌, length, get_or, set, refl, sym, ◌∙◌, ap, subst, inl, inr, arith, append_assoc, append-nil, length-set, get_or-set_same, get_or-set_other, eqb}
+use Rattle.std.specs.List.{list_all, range_with_len}
 use Rattle.std.proofs.lemmas.Bool.{and_parts, and_from, ltb-true, lt-ltb, eqb-false, ne_eqb, cases_eq, cases_lt}
 use Rattle.std.proofs.lemmas.List.{get_or_past}
 use Rattle.std.proofs.lemmas.List.Sums.{fold-append}
@@ -70,6 +70,24 @@ free_more taken ns n free lt new =
 
 pub marked_more : (taken : List Bool) (ns : List ℕ) (n : ℕ) → set (marked taken ns) n true ≡ marked taken (ns ++ n ∷ [])
 marked_more taken ns n = sym (fold-append (λ t k. set t k true) taken ns (n ∷ []))
+
+-- a number that is none of these and not the new one
+pub number_past : (ns : List ℕ) (n k : ℕ) → has_number ns k ≡ false → n < k → has_number (ns ++ n ∷ []) k ≡ false
+number_past ns n k none lt =
+    list_any-append (λ m. m == k) ns (n ∷ [])
+    ∙ (ap (λ t. t || (eqb n k || false)) none ∙ ap (λ t. t || false) (ne_eqb n k (λ e. absurd (omega (arith, lt, e)))))
+
+-- Numbers in a row more.
+pub row_new : (m : ℕ) (taken : List Bool) (ns : List ℕ) (n count : ℕ) → length taken ≡ m → are_distinct ns ≡ true → are_free taken ns ≡ true → n + count ≤ m
+    → ((k : ℕ) → n ≤ k → k < n + count → (has_number ns k ≡ false) × (is_taken taken k ≡ false))
+    → (are_distinct (ns ++ range_with_len n count) ≡ true) × (are_free taken (ns ++ range_with_len n count) ≡ true)
+row_new m taken ns n zero len distinct free within new = (ap are_distinct (append-nil ns) ∙ distinct, ap (are_free taken) (append-nil ns) ∙ free)
+row_new m taken ns n (suc count) len distinct free within new =
+    let first = new n (omega arith) (omega arith) in
+    let is : (ns ++ n ∷ []) ++ range_with_len (n + 1) count ≡ ns ++ range_with_len n (suc count) = append_assoc ns (n ∷ []) (range_with_len (n + 1) count) in
+    let rest = row_new m taken (ns ++ n ∷ []) (n + 1) count len (distinct_more ns n distinct first.0) (free_more taken ns n free (omega (arith, len, within)) first.1) (omega (arith, within))
+    (λ k le lt. let was = new k (omega (arith, le)) (omega (arith, lt)) in (number_past ns n k was.0 (omega (arith, le)), was.1)) in
+    (ap are_distinct (sym is) ∙ rest.0, ap (are_free taken) (sym is) ∙ rest.1)
 
 -- Taken blocks stay taken where another one is given back.
 pub taken_still : (taken : List Bool) (ns : List ℕ) (n : ℕ) → are_taken taken ns ≡ true → has_number ns n ≡ false → are_taken (set taken n false) ns ≡ true

@@ -1,12 +1,13 @@
 -- How a placing of a file's bytes ends.
-use Rattle.std.specs.Prelude.{◌≡◌, ℕ, ◌+◌, ◌<◌, ◌≤◌, Bool, true, false, if◌then◌else◌, List, ◌∷◌, length, drop, map, slice_set, IsTrue, Result, Ok, Err}
+use Rattle.std.specs.Prelude.{◌≡◌, ℕ, ◌+◌, ◌*◌, ◌<◌, ◌≤◌, Bool, true, false, if◌then◌else◌, List, ◌∷◌, ◌++◌, length, take, drop, map, IsTrue, Result, Ok, Err}
+use Rattle.std.specs.List.{range_with_len}
 use Rattle.lis_ports.specs.Meaning.{Meaning}
 use Rattle.lis_ports.specs.Runs.{IsDiskRun, Leaves}
 use Rattle.lis_ports.specs.Calls.{Rose, IsUnchanged}
 use Rattle.lis_model.specs.State.{blocks_needed, blocks_taken}
 use Rattle.lis_journal.specs.Record.{Entry}
 use Rattle.lis_journal.specs.Journal.{Held}
-use Rattle.lis_journal.specs.Images.{StandsBut, Fits, KeepsPast, with_placed, with_kept}
+use Rattle.lis_journal.specs.Images.{StandsBut, Fits, KeepsPast, with_kept, with_run}
 use Rattle.lis_journal.specs.Staging.{has_entry}
 use Rattle.lis_blockmap.specs.Bitmap.{free_count, is_taken}
 use Rattle.lis_content.specs.Content.{content, padded, marked, are_free, are_distinct, has_home}
@@ -72,26 +73,41 @@ HasPlaceCause before now (Ok slot) = now ≡ before
 HasPlaceCause before now (Err NoSpace) = now ≡ before
 HasPlaceCause before now (Err Disk) = Rose before now
 
--- A free block is taken and written, or was begun to be.
-pub record TakesOne (base : ℕ) (taken now_taken : List Bool) (before : Held) (old new : Meaning) (n : ℕ) : Type 0 where
-  pub within : n < length taken
-  pub was_free : is_taken taken n ≡ false
-  pub marks : now_taken ≡ slice_set taken n true
-  pub fewer : free_count now_taken + 1 ≡ free_count taken
-  pub moments : (kept : ℕ → List ℕ) → Fits before old kept → Leaves old new (StandsBut before.blocks ((base + n) ∷ before.placed) kept)
+-- Free blocks that stand in a row are taken.
+pub record TakesRow (taken now_taken : List Bool) (n count : ℕ) : Type 0 where
+  pub within : n + count ≤ length taken
+  pub were_free : (k : ℕ) → n ≤ k → k < n + count → is_taken taken k ≡ false
+  pub marks : now_taken ≡ marked taken (range_with_len n count)
+  pub counted : free_count now_taken + count ≡ free_count taken
+
+-- They are written, or were begun to be.
+pub record WritesRow (base : ℕ) (taken now_taken : List Bool) (before : Held) (old new : Meaning) (n count : ℕ) : Type 0 where
+  pub row : TakesRow taken now_taken n count
+  pub moments : (kept : ℕ → List ℕ) → Fits before old kept → Leaves old new (StandsBut before.blocks (range_with_len (base + n) count ++ before.placed) kept)
   pub past : (kept : ℕ → List ℕ) → Fits before old kept → KeepsPast before.blocks old new
 
--- It has these bytes and zeros behind them.
-pub record OnePlaced (base : ℕ) (bytes : List ℕ) (taken now_taken : List Bool) (before now : Held) (old new : Meaning) (n : ℕ) : Type 0 where
-  pub takes : TakesOne base taken now_taken before old new n
-  pub journal : now ≡ record before { records = now.records; placed = with_placed before.placed (base + n) }
-  pub fits : (kept : ℕ → List ℕ) → Fits before old kept → Fits now new (with_kept (base + n) (padded bytes) kept)
+-- They are placed, and what is kept is then as told by `after`.
+pub record RowPlaced (base : ℕ) (taken now_taken : List Bool) (before now : Held) (old new : Meaning) (n count : ℕ) (after : (ℕ → List ℕ) → ℕ → List ℕ) : Type 0 where
+  pub writes : WritesRow base taken now_taken before old new n count
+  pub journal : now ≡ record before { records = now.records; placed = before.placed ++ range_with_len (base + n) count }
+  pub fits : (kept : ℕ → List ℕ) → Fits before old kept → Fits now new (after kept)
 
 -- The disk failed.
-pub record OneTorn (base : ℕ) (taken now_taken : List Bool) (before now : Held) (old new : Meaning) : Type 0 where
+pub record RowTorn (base : ℕ) (taken now_taken : List Bool) (before now : Held) (old new : Meaning) : Type 0 where
   pub n : ℕ
-  pub takes : TakesOne base taken now_taken before old new n
+  pub count : ℕ
+  pub writes : WritesRow base taken now_taken before old new n count
   pub journal : now ≡ record before { records = now.records; is_broken = true }
+
+-- whole blocks of these bytes are placed, one or more
+pub record RowOf (base : ℕ) (bytes : List ℕ) (taken now_taken : List Bool) (before now : Held) (old new : Meaning) (n count : ℕ) : Type 0 where
+  pub any : 0 < count
+  pub few : 4096 * count ≤ length bytes
+  pub placed : RowPlaced base taken now_taken before now old new n count (with_run (base + n) count (take (4096 * count) bytes))
+
+-- a block is placed that has these bytes and zeros behind them
+abbrev pub OnePlaced : ℕ → List ℕ → List Bool → List Bool → Held → Held → Meaning → Meaning → ℕ → Type 0
+OnePlaced base bytes taken now_taken before now old new n = RowPlaced base taken now_taken before now old new n 1 (with_kept (base + n) (padded bytes))
 
 -- The bytes stand in these blocks in order.
 pub record IsLaid (base : ℕ) (bytes : List ℕ) (taken now_taken : List Bool) (before now : Held) (old new : Meaning) (blocks : List ℕ) : Type 0 where

@@ -1,17 +1,14 @@
 //! The bytes of a file, placed in free blocks without a record.
 
-ghost use Rattle.std.specs.Prelude.{◌≡◌, ◌+◌, ◌*◌, ◌<◌, ◌≤◌, ◌∷◌, ℕ, List, [], false, true, length, IsTrue, OnOk, OnErr, Err, MatchResult};
-ghost use Rattle.std.specs.List.{flat_map};
+ghost use Rattle.std.specs.Prelude.{◌≡◌, ◌+◌, ◌*◌, ◌/◌, ◌<◌, ◌≤◌, ◌++◌, ℕ, [], false, true, length, slice_set, IsTrue, IfOk, Err, MatchResult};
+ghost use Rattle.std.specs.List.{flat_map, range_with_len};
 ghost use Rattle.byteorder.specs.Endian.{little_bytes};
-ghost use Rattle.lis_ports.specs.Runs.{IsDiskRun, Leaves};
+ghost use Rattle.lis_ports.specs.Runs.{IsDiskRun};
 ghost use Rattle.lis_ports.specs.Calls.{HasCause, DiskFaultEnds};
 ghost use Rattle.lis_model.specs.State.{blocks_needed, blocks_taken};
-ghost use Rattle.lis_journal.specs.Images.{StandsBut, Fits, KeepsPast, with_placed, with_kept};
-ghost use Rattle.lis_journal.specs.Staging.{has_entry};
-ghost use Rattle.lis_blockmap.specs.Bitmap.{free_count};
-ghost use Rattle.lis_content.specs.Content.{padded};
+ghost use Rattle.lis_blockmap.specs.Bitmap.{free_count, is_taken};
 ghost use Rattle.lis_content.specs.Large.{are_short};
-ghost use Rattle.lis_content.specs.Placing.{AreUnstaged, IsLaid, IsPlaced, IsTornOff, IsUnplaced, HasPlaceCause, OnePlaced, OneTorn};
+ghost use Rattle.lis_content.specs.Placing.{AreUnstaged, IsLaid, IsPlaced, IsTornOff, IsUnplaced, HasPlaceCause, TakesRow, RowOf, RowTorn, OnePlaced};
 ghost use Rattle.lis_content.specs.declared.fault.PutFault.TheVariants.{NoSpace};
 
 use crate::blocks::{fill, home};
@@ -23,42 +20,85 @@ use lis_blockmap::BlockMap;
 use lis_journal::{BLOCK_LEN, Journal};
 use lis_ports::{Disk, Failed};
 
-// Places bytes as the front of a block that ends in zeros. A whole block is placed straight from them.
-fn place_front<D: Disk>(
+// Blocks that stand in a row.
+#[derive(Clone, Copy)]
+struct Row {
+    first: u16,
+    count: u32,
+}
+
+// Takes this block, if there is one and it is free.
+fn take_next(map: &mut BlockMap, n: u32) -> bool
+    ensures within { IsTrue result → (n < length map.old) × (n < 32768) }
+    ensures was_free { IsTrue result → is_taken map.old n ≡ false }
+    ensures taken { IsTrue result → map.new ≡ slice_set map.old n true }
+    ensures fewer { IsTrue result → free_count map.new + 1 ≡ free_count map.old }
+    ensures stays { result ≡ false → map.new ≡ map.old }
+{
+    if n as usize >= map.len() {
+        return false;
+    }
+    if map.is_taken(n as u16) {
+        return false;
+    }
+    map.mark(n as u16);
+    true
+}
+
+// Takes free blocks that stand in a row, at least one and at most so many.
+fn take_row(map: &mut BlockMap, most: u32) -> Row
+    requires some { 0 < free_count map.old }
+    requires most { (0 < most) × (most ≤ 256) }
+    ensures row { TakesRow map.old map.new result.first result.count }
+    ensures count { (0 < result.count) × (result.count ≤ most) }
+    ensures narrow { result.first + result.count ≤ 65536 }
+{
+    let Some(first) = map.take() else {
+        unreachable!()
+    };
+    let mut count = 1;
+    while count < most {
+        if !take_next(map, u32::from(first) + count) {
+            return Row { first, count };
+        }
+        count += 1;
+    }
+    Row { first, count }
+}
+
+// Takes free blocks that stand in a row, and places whole blocks from the front of the bytes in them, in one write.
+fn place_row<D: Disk>(
+    map: &mut BlockMap,
     journal: &mut Journal,
     disk: &mut D,
-    n: u32,
+    base: u32,
     bytes: &[u8],
-) -> Result<(), Failed>
-    requires home { 578 ≤ n }
-    requires within { n < journal.old.blocks }
-    requires few { length bytes.now ≤ 4096 }
+) -> Result<Row, Failed>
+    requires whole { 4096 ≤ length bytes.now }
+    requires few { length bytes.now ≤ 1048576 }
+    requires some { 0 < free_count map.old }
+    requires home { 578 ≤ base }
+    requires within { base + length map.old ≤ journal.old.blocks }
     requires unbroken { journal.old.is_broken ≡ false }
-    requires unstaged { has_entry journal.old.staged n ≡ false }
-    requires room { length journal.old.placed < 257 }
+    requires unstaged { AreUnstaged base map.old journal.old.staged }
+    requires room { length journal.old.placed + length bytes.now / 4096 ≤ 257 }
     requires long { 4096 * journal.old.blocks ≤ (D.meaning disk.old).len }
-    ensures any_moment { (kept : ℕ → List ℕ) → Fits journal.old (D.meaning disk.old) kept
-        → Leaves (D.meaning disk.old) (D.meaning disk.new) (StandsBut journal.old.blocks (n ∷ journal.old.placed) kept) }
-    ensures kept { OnOk result ((kept : ℕ → List ℕ) → Fits journal.old (D.meaning disk.old) kept
-        → Fits journal.new (D.meaning disk.new) (with_kept n (padded bytes.now) kept)) }
-    ensures past { (kept : ℕ → List ℕ) → Fits journal.old (D.meaning disk.old) kept
-        → KeepsPast journal.old.blocks (D.meaning disk.old) (D.meaning disk.new) }
+    ensures ended { MatchResult result
+        (λ row. RowOf base bytes.now map.old map.new journal.old journal.new (D.meaning disk.old) (D.meaning disk.new) row.first row.count)
+        (λ _. RowTorn base map.old map.new journal.old journal.new (D.meaning disk.old) (D.meaning disk.new)) }
+    ensures narrow { IfOk result (λ row. row.first + row.count ≤ 65536) }
     ensures run { IsDiskRun (D.meaning disk.old) (D.meaning disk.new) }
     ensures cause { HasCause (D.meaning disk.old).disk_faults (D.meaning disk.new).disk_faults result }
     ensures first_fault { DiskFaultEnds (D.meaning disk.old) (D.meaning disk.new) }
-    ensures done { OnOk result (journal.new
-        ≡ record journal.old { records = journal.new.records; placed = with_placed journal.old.placed n }) }
-    ensures broken { OnErr result (journal.new ≡ record journal.old { records = journal.new.records; is_broken = true }) }
 {
-    if bytes.len() == BLOCK_LEN {
-        return journal.place(disk, n, bytes);
-    }
-    let mut block = [0; BLOCK_LEN];
-    fill(&mut block, bytes);
-    journal.place(disk, n, &block)
+    let row = take_row(map, (bytes.len() / BLOCK_LEN) as u32);
+    let first = home(journal.blocks(), base, row.first);
+    let front = &bytes[..row.count as usize * BLOCK_LEN];
+    journal.place_run(disk, first, row.count, front)?;
+    Ok(row)
 }
 
-// Takes a free block, and places the bytes as its front.
+// Takes a free block, and places the bytes as its front, and zeros behind them.
 fn place_block<D: Disk>(
     map: &mut BlockMap,
     journal: &mut Journal,
@@ -76,17 +116,29 @@ fn place_block<D: Disk>(
     requires long { 4096 * journal.old.blocks ≤ (D.meaning disk.old).len }
     ensures ended { MatchResult result
         (λ n. OnePlaced base bytes.now map.old map.new journal.old journal.new (D.meaning disk.old) (D.meaning disk.new) n)
-        (λ _. OneTorn base map.old map.new journal.old journal.new (D.meaning disk.old) (D.meaning disk.new)) }
+        (λ _. RowTorn base map.old map.new journal.old journal.new (D.meaning disk.old) (D.meaning disk.new)) }
     ensures run { IsDiskRun (D.meaning disk.old) (D.meaning disk.new) }
     ensures cause { HasCause (D.meaning disk.old).disk_faults (D.meaning disk.new).disk_faults result }
     ensures first_fault { DiskFaultEnds (D.meaning disk.old) (D.meaning disk.new) }
 {
-    let Some(n) = map.take() else { unreachable!() };
-    place_front(journal, disk, home(journal.blocks(), base, n), bytes)?;
-    Ok(n)
+    let mut block = [0; BLOCK_LEN];
+    fill(&mut block, bytes);
+    let row = place_row(map, journal, disk, base, &block)?;
+    Ok(row.first)
 }
 
-// Places the bytes in free blocks. All blocks but the last are whole.
+// Puts the numbers of a row behind those that are there.
+fn push_row(taken: &mut ArrayVec<u16, 256>, row: Row)
+    requires room { length taken.old.items + row.count ≤ 256 }
+    requires narrow { row.first + row.count ≤ 65536 }
+    ensures { taken.new.items ≡ taken.old.items ++ range_with_len row.first row.count }
+{
+    for k in 0..row.count {
+        taken.push(row.first + k as u16);
+    }
+}
+
+// Places the bytes in free blocks: whole blocks row by row, and then what is left.
 fn place_bytes<D: Disk>(
     map: &mut BlockMap,
     journal: &mut Journal,
@@ -111,12 +163,17 @@ fn place_bytes<D: Disk>(
 {
     let mut taken = ArrayVec::new();
     let mut rest = bytes;
-    while !rest.is_empty() {
-        let (front, behind) = rest.split_at(rest.len().min(BLOCK_LEN));
-        let n = place_block(map, journal, disk, base, front)?;
-        taken.push(n);
+    while rest.len() >= BLOCK_LEN {
+        let row = place_row(map, journal, disk, base, rest)?;
+        push_row(&mut taken, row);
+        let (_, behind) = rest.split_at(row.count as usize * BLOCK_LEN);
         rest = behind;
     }
+    if rest.is_empty() {
+        return Ok(taken);
+    }
+    let n = place_block(map, journal, disk, base, rest)?;
+    taken.push(n);
     Ok(taken)
 }
 
@@ -139,7 +196,7 @@ fn place_index<D: Disk>(
     ensures ended { MatchResult result
         (λ n. OnePlaced base (flat_map (little_bytes 2) numbers.now) map.old map.new journal.old journal.new
         (D.meaning disk.old) (D.meaning disk.new) n)
-        (λ _. OneTorn base map.old map.new journal.old journal.new (D.meaning disk.old) (D.meaning disk.new)) }
+        (λ _. RowTorn base map.old map.new journal.old journal.new (D.meaning disk.old) (D.meaning disk.new)) }
     ensures short { IsTrue (are_short numbers.now) }
     ensures run { IsDiskRun (D.meaning disk.old) (D.meaning disk.new) }
     ensures cause { HasCause (D.meaning disk.old).disk_faults (D.meaning disk.new).disk_faults result }

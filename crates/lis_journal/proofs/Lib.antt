@@ -1,6 +1,7 @@
 pub mod Entries
 pub mod Spreading
 mod Frames
+pub mod Runs
 mod Places
 mod Headers
 mod Gates

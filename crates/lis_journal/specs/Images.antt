@@ -1,5 +1,5 @@
 -- What an image stands for, outside the gates and the records.
-use Rattle.std.specs.Prelude.{◌≡◌, ◌⊎◌, ℕ, ◌*◌, ◌<◌, ◌≤◌, ◌==◌, nat_lt, Bool, false, if◌then◌else◌, List, [], ◌∷◌, ◌++◌, length, None, IsTrue, IsSomeAnd}
+use Rattle.std.specs.Prelude.{◌≡◌, ◌⊎◌, ℕ, zero, suc, ◌+◌, ◌*◌, ◌<◌, ◌≤◌, ◌==◌, nat_lt, Bool, false, if◌then◌else◌, List, [], ◌∷◌, ◌++◌, length, take, drop, None, IsTrue, IsSomeAnd}
 use Rattle.std.specs.List.{list_any}
 use Rattle.lis_ports.specs.Meaning.{Meaning}
 use Rattle.lis_journal.specs.Record.{block, is_open, Entry, behind, first_bad, all_recorded, replayed}
@@ -74,6 +74,11 @@ with_placed placed n = if is_among placed n then placed else placed ++ n ∷ []
 -- the blocks that are kept, with these bytes in one of them
 abbrev pub with_kept : ℕ → List ℕ → (ℕ → List ℕ) → ℕ → List ℕ
 with_kept n bytes kept k = if k == n then bytes else kept k
+
+-- the blocks that are kept, with these bytes in so many blocks from this one on
+abbrev pub with_run : ℕ → ℕ → List ℕ → (ℕ → List ℕ) → ℕ → List ℕ
+with_run n zero bytes kept = kept
+with_run n (suc count) bytes kept = with_run (n + 1) count (drop 4096 bytes) (with_kept n (take 4096 bytes) kept)
 
 -- The blocks from this number on read as before.
 abbrev pub KeepsPast : ℕ → Meaning → Meaning → Type 0

@@ -1,5 +1,5 @@
 -- Staged blocks as they are seen: a finite map from homes to contents.
-use Rattle.std.specs.Prelude.{ℕ, ◌≤◌, ◌==◌, nat_lt, Bool, if◌then◌else◌, List, [], ◌∷◌, length, IsTrue}
+use Rattle.std.specs.Prelude.{◌≡◌, ℕ, ◌+◌, ◌<◌, ◌≤◌, ◌==◌, nat_lt, Bool, false, if◌then◌else◌, List, [], ◌∷◌, length, IsTrue}
 use Rattle.std.specs.List.{list_all, list_any}
 use Rattle.lis_journal.specs.Record.{Entry, homes, rises}
 
@@ -18,6 +18,10 @@ with_entry (e ∷ es) home bytes =
 -- a block is staged
 abbrev pub has_entry : List Entry → ℕ → Bool
 has_entry es n = list_any (λ e. e.home == n) es
+
+-- none of so many blocks from this one on is staged
+abbrev pub HasNone : List Entry → ℕ → ℕ → Type 0
+HasNone es first count = (n : ℕ) → first ≤ n → n < first + count → has_entry es n ≡ false
 
 -- The homes rise, are home blocks inside the image, and each content is a block.
 pub record IsStaging (s : Staging) : Type 0 where

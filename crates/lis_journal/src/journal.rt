@@ -1,11 +1,12 @@
 //! The journal: blocks are staged, and become kept all at once.
 
-ghost use Rattle.std.specs.Prelude.{[], ◌≡◌, ◌⊎◌, ◌+◌, ◌*◌, ◌<◌, ◌≤◌, ◌∷◌, ℕ, List, length, true, false, IsTrue, IfOk, IfSome, IfNone, OnOk, OnErr, Ok, Err, if◌then◌else◌, ◌==◌};
+ghost use Rattle.std.specs.Prelude.{[], ◌≡◌, ◌⊎◌, ◌+◌, ◌*◌, ◌^◌, ◌<◌, ◌≤◌, ◌∷◌, ◌++◌, ℕ, List, length, vec_capacity, true, false, IsTrue, IfOk, IfSome, IfNone, OnOk, OnErr, Ok, Err, if◌then◌else◌, ◌==◌};
+ghost use Rattle.std.specs.List.{range_with_len};
 ghost use Rattle.lis_ports.specs.Runs.{IsDiskRun, Leaves, IsSettled};
 ghost use Rattle.lis_ports.specs.Calls.{HasCause, IsUnchanged, DiskFaultEnds};
 ghost use Rattle.lis_journal.specs.Record.{recovered};
-ghost use Rattle.lis_journal.specs.Images.{StandsBut, StandsForAllOrNone, Fits, KeepsPast, look, is_among, with_placed, with_kept};
-ghost use Rattle.lis_journal.specs.Staging.{with_entry, has_entry};
+ghost use Rattle.lis_journal.specs.Images.{StandsBut, StandsForAllOrNone, Fits, KeepsPast, look, is_among, with_placed, with_kept, with_run};
+ghost use Rattle.lis_journal.specs.Staging.{with_entry, has_entry, HasNone};
 
 use crate::header::write_header;
 use crate::mount::recover;
@@ -72,6 +73,20 @@ fn new_block(alloc: Global) -> Result<Vec<u8>, AllocError>
     ensures { IfOk result (λ block. length block.items ≡ 4096) }
 {
     vec![in alloc; 0; BLOCK_LEN]
+}
+
+// Puts so many numbers from this one on behind those that are there.
+fn push_run(placed: &mut Vec<u32>, first: u32, count: u32)
+    requires room { length placed.old.items + count ≤ vec_capacity placed.old }
+    requires within { first + count ≤ 2 ^ 32 }
+    ensures items { placed.new.items ≡ placed.old.items ++ range_with_len first count }
+    ensures capacity { vec_capacity placed.old ≤ vec_capacity placed.new }
+{
+    for k in 0..count {
+        let Ok(()) = placed.push(first + k) else {
+            unreachable!()
+        };
+    }
 }
 
 impl Journal {
@@ -296,9 +311,54 @@ impl Journal {
             ≡ record self.old { records = self.new.records; placed = with_placed self.old.placed n }) }
         ensures broken { OnErr result (self.new ≡ record self.old { records = self.new.records; is_broken = true }) }
     {
-        match self.records.write_home(disk, n, bytes) {
+        match self.records.write_homes(disk, n, 1, bytes) {
             Ok(()) => {
                 self.note_placed(n);
+                Ok(())
+            }
+            Err(Failed) => {
+                self.is_broken = true;
+                Err(Failed)
+            }
+        }
+    }
+
+    /// Writes so many home blocks from this one on in one call, and without a record, as `place` does each of them.
+    pub fn place_run<D: Disk>(
+        &mut self,
+        disk: &mut D,
+        first: u32,
+        count: u32,
+        bytes: &[u8],
+    ) -> Result<(), Failed>
+        requires home { 578 ≤ first }
+        requires within { first + count ≤ self.old.blocks }
+        requires wide { first + count ≤ 2 ^ 32 }
+        requires whole { length bytes.now ≡ 4096 * count }
+        requires unbroken { self.old.is_broken ≡ false }
+        requires unstaged { HasNone self.old.staged first count }
+        requires room { length self.old.placed + count ≤ 257 }
+        requires long { 4096 * self.old.blocks ≤ (D.meaning disk.old).len }
+
+        // A crash at any moment of the call leaves an image that stands for the blocks as before, but for these and the
+        // placed ones.
+        ensures any_moment { (kept : ℕ → List ℕ) → Fits self.old (D.meaning disk.old) kept
+            → Leaves (D.meaning disk.old) (D.meaning disk.new)
+            (StandsBut self.old.blocks (range_with_len first count ++ self.old.placed) kept) }
+        ensures kept { OnOk result ((kept : ℕ → List ℕ) → Fits self.old (D.meaning disk.old) kept
+            → Fits self.new (D.meaning disk.new) (with_run first count bytes.now kept)) }
+        ensures past { (kept : ℕ → List ℕ) → Fits self.old (D.meaning disk.old) kept
+            → KeepsPast self.old.blocks (D.meaning disk.old) (D.meaning disk.new) }
+        ensures run { IsDiskRun (D.meaning disk.old) (D.meaning disk.new) }
+        ensures cause { HasCause (D.meaning disk.old).disk_faults (D.meaning disk.new).disk_faults result }
+        ensures first_fault { DiskFaultEnds (D.meaning disk.old) (D.meaning disk.new) }
+        ensures done { OnOk result (self.new
+            ≡ record self.old { records = self.new.records; placed = self.old.placed ++ range_with_len first count }) }
+        ensures broken { OnErr result (self.new ≡ record self.old { records = self.new.records; is_broken = true }) }
+    {
+        match self.records.write_homes(disk, first, count, bytes) {
+            Ok(()) => {
+                push_run(&mut self.placed, first, count);
                 Ok(())
             }
             Err(Failed) => {

@@ -1,12 +1,13 @@
 //! The open records of a journal, with their latest contents in memory.
 
-ghost use Rattle.std.specs.Prelude.{[], ◌∷◌, ◌≡◌, ◌⊎◌, ◌+◌, ◌*◌, ◌<◌, ◌≤◌, ℕ, List, length, true, false, IsTrue, OnOk, OnErr, IfSome, IfNone};
+ghost use Rattle.std.specs.Prelude.{[], ◌++◌, ◌≡◌, ◌⊎◌, ◌+◌, ◌*◌, ◌^◌, ◌<◌, ◌≤◌, ℕ, List, length, true, false, IsTrue, OnOk, OnErr, IfSome, IfNone};
+ghost use Rattle.std.specs.List.{range_with_len};
 ghost use Rattle.lis_ports.specs.Runs.{IsDiskRun, Leaves};
 ghost use Rattle.lis_ports.specs.Calls.{HasCause, DiskFaultEnds};
 ghost use Rattle.lis_journal.specs.Record.{homes, homes_of, is_header};
-ghost use Rattle.lis_journal.specs.Images.{StandsBut, StandsForAllOrNone, FitsAt, with_kept, look};
+ghost use Rattle.lis_journal.specs.Images.{StandsBut, StandsForAllOrNone, FitsAt, with_run, look};
 ghost use Rattle.lis_journal.specs.Spreads.{Spreads, SamePast};
-ghost use Rattle.lis_journal.specs.Staging.{IsStaging, has_entry};
+ghost use Rattle.lis_journal.specs.Staging.{IsStaging, has_entry, HasNone};
 ghost use Rattle.lis_journal.specs.Phases.{Absorbs, looked};
 
 use crate::commit::{MAX_OPEN, append, checkpoint};
@@ -47,6 +48,20 @@ fn absorb(latest: &mut Stage, stage: &Stage)
     for k in 0..stage.len() {
         latest.put(stage.home(k), stage.bytes(k));
     }
+}
+
+// Whether one of so many blocks from this one on is staged.
+fn has_any(latest: &Stage, first: u32, count: u32) -> bool
+    requires { first + count ≤ 2 ^ 32 }
+    ensures none { result ≡ false → HasNone latest.now.entries first count }
+    ensures some { IsTrue result → 0 < length latest.now.entries }
+{
+    for k in 0..count {
+        if latest.has(first + k) {
+            return true;
+        }
+    }
+    false
 }
 
 impl Records {
@@ -198,9 +213,10 @@ impl Records {
         self.append(disk, header, stage)
     }
 
-    // Makes a checkpoint where a block is in an open record.
-    fn free_home<D: Disk>(&mut self, disk: &mut D, n: u32) -> Result<(), Failed>
-        requires { 4096 * self.old.blocks ≤ (D.meaning disk.old).len }
+    // Makes a checkpoint where one of so many blocks from this one on is in an open record.
+    fn free_homes<D: Disk>(&mut self, disk: &mut D, first: u32, count: u32) -> Result<(), Failed>
+        requires within { first + count ≤ 2 ^ 32 }
+        requires long { 4096 * self.old.blocks ≤ (D.meaning disk.old).len }
         ensures run { IsDiskRun (D.meaning disk.old) (D.meaning disk.new) }
         ensures cause { HasCause (D.meaning disk.old).disk_faults (D.meaning disk.new).disk_faults result }
         ensures first_fault { DiskFaultEnds (D.meaning disk.old) (D.meaning disk.new) }
@@ -212,35 +228,44 @@ impl Records {
             → FitsAt self.new.blocks self.new.records placed (D.meaning disk.new) kept) }
         ensures past { IsTrue (D.meaning disk.old).is_honest
             → Spreads (D.meaning disk.old) (D.meaning disk.new) (SamePast self.old.blocks) }
-        ensures free { OnOk result (has_entry self.new.records.latest n ≡ false) }
+        ensures free { OnOk result (HasNone self.new.records.latest first count) }
         ensures blocks { self.new.blocks ≡ self.old.blocks }
     {
-        if !self.latest.has(n) {
+        if !has_any(&self.latest, first, count) {
             return Ok(());
         }
         self.clear(disk)
     }
 
-    /// Writes a home block without a record. Where it is in an open record, it makes a checkpoint first.
-    pub fn write_home<D: Disk>(&mut self, disk: &mut D, n: u32, bytes: &[u8]) -> Result<(), Failed>
+    /// Writes so many home blocks from this one on, in one call and without a record. Where one of them is in an open
+    /// record, it makes a checkpoint first.
+    pub fn write_homes<D: Disk>(
+        &mut self,
+        disk: &mut D,
+        first: u32,
+        count: u32,
+        bytes: &[u8],
+    ) -> Result<(), Failed>
         requires long { 4096 * self.old.blocks ≤ (D.meaning disk.old).len }
-        requires home { 578 ≤ n }
-        requires within { n < self.old.blocks }
-        requires whole { length bytes.now ≡ 4096 }
+        requires home { 578 ≤ first }
+        requires within { first + count ≤ self.old.blocks }
+        requires wide { first + count ≤ 2 ^ 32 }
+        requires whole { length bytes.now ≡ 4096 * count }
         ensures run { IsDiskRun (D.meaning disk.old) (D.meaning disk.new) }
         ensures cause { HasCause (D.meaning disk.old).disk_faults (D.meaning disk.new).disk_faults result }
         ensures first_fault { DiskFaultEnds (D.meaning disk.old) (D.meaning disk.new) }
         ensures any_moment { (placed : List ℕ) (kept : ℕ → List ℕ)
             → FitsAt self.old.blocks self.old.records placed (D.meaning disk.old) kept
-            → Leaves (D.meaning disk.old) (D.meaning disk.new) (StandsBut self.old.blocks (n ∷ placed) kept) }
+            → Leaves (D.meaning disk.old) (D.meaning disk.new) (StandsBut self.old.blocks (range_with_len first count ++ placed) kept) }
         ensures kept { OnOk result ((placed : List ℕ) (kept : ℕ → List ℕ)
             → FitsAt self.old.blocks self.old.records placed (D.meaning disk.old) kept
-            → FitsAt self.new.blocks self.new.records (n ∷ placed) (D.meaning disk.new) (with_kept n bytes.now kept)) }
+            → FitsAt self.new.blocks self.new.records (range_with_len first count ++ placed) (D.meaning disk.new)
+            (with_run first count bytes.now kept)) }
         ensures past { IsTrue (D.meaning disk.old).is_honest
             → Spreads (D.meaning disk.old) (D.meaning disk.new) (SamePast self.old.blocks) }
         ensures blocks { self.new.blocks ≡ self.old.blocks }
     {
-        self.free_home(disk, n)?;
-        disk.write_at(u64::from(n) * BLOCK_LEN as u64, bytes)
+        self.free_homes(disk, first, count)?;
+        disk.write_at(u64::from(first) * BLOCK_LEN as u64, bytes)
     }
 }

@@ -3,7 +3,7 @@ use Rattle.lis_journal.specs.Images.{FitsAt}
 use Rattle.lis_journal.specs.Inside.{Log}
 use Rattle.lis_journal.proofs.Saving.{on_both}
 use Rattle.lis_journal.proofs.Holding.{fits_placed}
-use Rattle.lis_journal.proofs.records.Records.free_home.Goals as goal
+use Rattle.lis_journal.proofs.records.Records.free_homes.Goals as goal
 
 pub returns-clause-kept : goal.returns-clause-kept
 returns-clause-kept g c = on_both c.clear.result (λ stays done. λ placed kept fits.
