@@ -1,7 +1,7 @@
 -- Blocks that are placed row by row.
 use Rattle.std.proofs.Common.{drop, ◌≡◌, ◌⊎◌, ℕ, zero, suc, ◌+◌, ◌*◌, ◌<◌, ◌≤◌, ◌==◌, Bool, true, false, ◌||◌, List, [], ◌∷◌, ◌++◌, length, take, set, Option, Some, None, IsSomeAnd, Result, Ok, Err, IsErr, MatchResult, refl, sym, ◌∙◌, ap, subst, inl, inr, arith, append_assoc, length-append, length-drop, eqb}
 use Rattle.std.specs.List.{flat_map, range_with_len}
-use Rattle.std.proofs.lemmas.Bool.{eq-eqb, ne_eqb, cond-true, cond-false, false≢true}
+use Rattle.std.proofs.lemmas.Bool.{eqb-false, eq-eqb, ne_eqb, cond-true, cond-false, false≢true}
 use Rattle.std.proofs.lemmas.Grind.{flat_map-append}
 use Rattle.std.proofs.lemmas.List.{append-nil, drop_at, length-take-le, take-append-drop, take_all}
 use Rattle.std.proofs.lemmas.List.FromFn.{length-range_with_len}
@@ -17,6 +17,7 @@ use Rattle.lis_journal.specs.Record.{replayed}
 use Rattle.lis_journal.specs.Journal.{Held}
 use Rattle.lis_journal.specs.Images.{KeepsBut, StandsBut, Fits, is_among, with_kept, with_run}
 use Rattle.lis_journal.specs.Staging.{has_entry}
+use Rattle.lis_journal.proofs.Entries.{neither}
 use Rattle.lis_journal.proofs.Runs.{among_head, among_parts, among_swapped, run_other}
 use Rattle.lis_blockmap.specs.Bitmap.{free_count, is_taken}
 use Rattle.lis_content.specs.Content.{content, padded, marked, has_number, has_home}
@@ -40,6 +41,13 @@ homes_in_row base n (suc count) =
 pub homes_more : (base : ℕ) (blocks more : List ℕ) → homes_of base (blocks ++ more) ≡ homes_of base blocks ++ homes_of base more
 homes_more base [] more = refl
 homes_more base (b ∷ blocks) more = ap (λ hs. (base + b) ∷ hs) (homes_more base blocks more)
+
+pub home_new : (base : ℕ) (blocks : List ℕ) (n : ℕ) → has_number blocks n ≡ false → has_home base blocks (base + n) ≡ false
+home_new base [] n new = refl
+home_new base (b ∷ blocks) n new =
+    let parts = neither (eqb b n) (has_number blocks n) new in
+    let differ : base + b ≡ base + n → ⊥ = λ e. eqb-false b n parts.0 (omega (arith, e)) in
+    ap (λ t. t || has_home base blocks (base + n)) (ne_eqb (base + b) (base + n) differ) ∙ home_new base blocks n parts.1
 
 -- with a row more, the placed blocks are these and those of the row
 placed_more : (base : ℕ) (blocks : List ℕ) (n count : ℕ) → homes_of base (blocks ++ range_with_len n count) ≡ homes_of base blocks ++ range_with_len (base + n) count

@@ -86,7 +86,7 @@ row_new m taken ns n (suc count) len distinct free within new =
     let first = new n (omega arith) (omega arith) in
     let is : (ns ++ n ∷ []) ++ range_with_len (n + 1) count ≡ ns ++ range_with_len n (suc count) = append_assoc ns (n ∷ []) (range_with_len (n + 1) count) in
     let rest = row_new m taken (ns ++ n ∷ []) (n + 1) count len (distinct_more ns n distinct first.0) (free_more taken ns n free (omega (arith, len, within)) first.1) (omega (arith, within))
-        (λ k le lt. let was = new k (omega (arith, le)) (omega (arith, lt)) in (number_past ns n k was.0 (omega (arith, le)), was.1)) in
+    (λ k le lt. let was = new k (omega (arith, le)) (omega (arith, lt)) in (number_past ns n k was.0 (omega (arith, le)), was.1)) in
     (ap are_distinct (sym is) ∙ rest.0, ap (are_free taken) (sym is) ∙ rest.1)
 
 -- Taken blocks stay taken where another one is given back.

@@ -1,14 +1,14 @@
 //! The bytes of a file with an index block where a slot has too few numbers: read, and dropped.
 
-ghost use Rattle.std.specs.Prelude.{◌≡◌, ◌+◌, ◌*◌, ◌<◌, ◌≤◌, ◌==◌, ℕ, List, None, false, length, slice_index, slice_set, IsTrue, IfOk, IfSome, OnOk, OnErr};
+ghost use Rattle.std.specs.Prelude.{◌≡◌, ◌+◌, ◌*◌, ◌<◌, ◌≤◌, ◌==◌, ℕ, List, None, true, false, length, slice_index, slice_set, IsTrue, IfOk, IfSome, OnOk, OnErr};
 ghost use Rattle.std.specs.List.{list_all};
 ghost use Rattle.lis_ports.specs.Runs.{IsDiskRun, Leaves};
 ghost use Rattle.lis_ports.specs.Calls.{HasCause, IsUnchanged, DiskFaultEnds};
 ghost use Rattle.lis_model.specs.State.{blocks_needed, blocks_taken};
-ghost use Rattle.lis_journal.specs.Images.{Fits, look};
+ghost use Rattle.lis_journal.specs.Images.{Fits, look, held_in};
 ghost use Rattle.lis_journal.specs.Phases.{looked};
 ghost use Rattle.lis_content.specs.Content.{given, are_within};
-ghost use Rattle.lis_content.specs.Large.{index_bytes, is_large, slot_count, number_at, numbers_in, content_blocks, file_blocks, file_content, block_within};
+ghost use Rattle.lis_content.specs.Large.{index_bytes, is_large, slot_count, index_home, number_at, numbers_in, content_blocks, file_blocks, file_content, block_within};
 ghost use Rattle.lis_content.specs.Placing.{Asks};
 
 use crate::blocks::{fill, home};
@@ -51,6 +51,8 @@ fn read_home<D: Disk>(journal: &Journal, disk: &mut D, n: u32, buf: &mut [u8]) -
     requires long { 4096 * journal.now.blocks ≤ (D.meaning disk.old).len }
     ensures read { OnOk result ((kept : ℕ → List ℕ) → Fits journal.now (D.meaning disk.old) kept
         → buf.new ≡ look journal.now.staged n (kept n)) }
+    ensures held { OnOk result (IsTrue (D.meaning disk.old).is_honest
+        → buf.new ≡ held_in journal.now (D.meaning disk.old).bytes n) }
     ensures asks { Asks journal.now (D.meaning disk.old) (D.meaning disk.new) }
     ensures cause { HasCause (D.meaning disk.old).disk_faults (D.meaning disk.new).disk_faults result }
     ensures first_fault { DiskFaultEnds (D.meaning disk.old) (D.meaning disk.new) }
@@ -58,55 +60,56 @@ fn read_home<D: Disk>(journal: &Journal, disk: &mut D, n: u32, buf: &mut [u8]) -
     journal.read(disk, n, buf)
 }
 
-// The number at a place of the index block.
-fn read_number<D: Disk>(journal: &Journal, disk: &mut D, n: u32, k: usize) -> Result<u16, Failed>
-    requires home { 578 ≤ n }
-    requires within { n < journal.now.blocks }
-    requires place { k < 256 }
-    requires unbroken { journal.now.is_broken ≡ false }
-    requires long { 4096 * journal.now.blocks ≤ (D.meaning disk.old).len }
-    ensures number { IfOk result (λ number. (kept : ℕ → List ℕ) → Fits journal.now (D.meaning disk.old) kept
-        → number ≡ number_at (look journal.now.staged n (kept n)) k) }
-    ensures asks { Asks journal.now (D.meaning disk.old) (D.meaning disk.new) }
-    ensures cause { HasCause (D.meaning disk.old).disk_faults (D.meaning disk.new).disk_faults result }
-    ensures first_fault { DiskFaultEnds (D.meaning disk.old) (D.meaning disk.new) }
-{
-    let mut block = [0; BLOCK_LEN];
-    read_home(journal, disk, n, &mut block)?;
-    Ok(LittleEndian::read_u16(&block[2 * k..]))
-}
-
-// The number of the n-th block of the content.
-fn number_of<D: Disk>(
+/// Reads the index block of a file, where it has one; the buffer stays where it has none.
+pub fn read_index_block<D: Disk>(
     journal: &Journal,
     disk: &mut D,
     base: u32,
     blocks: &[u16],
     size: u32,
-    n: u32,
-) -> Result<u16, Failed>
+    buf: &mut [u8],
+) -> Result<(), Failed>
     requires few { size ≤ 1048576 }
     requires count { length blocks.now ≡ slot_count size }
     requires home { 578 ≤ base }
     requires within { IsTrue (are_within base journal.now.blocks blocks.now) }
-    requires inside { n < blocks_needed size }
+    requires whole { length buf.old ≡ 4096 }
     requires unbroken { journal.now.is_broken ≡ false }
     requires long { 4096 * journal.now.blocks ≤ (D.meaning disk.old).len }
-    ensures number { IfOk result (λ number. (kept : ℕ → List ℕ) → Fits journal.now (D.meaning disk.old) kept
-        → number ≡ slice_index (content_blocks base blocks.now size (looked journal.now.staged kept)) n) }
+    ensures held { OnOk result (IsTrue (D.meaning disk.old).is_honest → is_large size ≡ true
+        → buf.new ≡ held_in journal.now (D.meaning disk.old).bytes (index_home base blocks.now)) }
     ensures asks { Asks journal.now (D.meaning disk.old) (D.meaning disk.new) }
     ensures cause { HasCause (D.meaning disk.old).disk_faults (D.meaning disk.new).disk_faults result }
     ensures first_fault { DiskFaultEnds (D.meaning disk.old) (D.meaning disk.new) }
 {
-    if is_large(size) {
-        return read_number(
-            journal,
-            disk,
-            home(journal.blocks(), base, blocks[0]),
-            n as usize,
-        );
+    if !is_large(size) {
+        return Ok(());
     }
-    Ok(blocks[n as usize])
+    read_home(journal, disk, home(journal.blocks(), base, blocks[0]), buf)
+}
+
+// The number at a place of a block, counted by numbers.
+fn number_at(block: &[u8], k: usize) -> u16
+    requires whole { length block.now ≡ 4096 }
+    requires place { k < 256 }
+    ensures { result ≡ number_at block.now k }
+{
+    LittleEndian::read_u16(&block[2 * k..])
+}
+
+// The number of the n-th block of the content, by the index block where there is one.
+fn number_of(blocks: &[u16], size: u32, index: &[u8], n: u32) -> u16
+    requires few { size ≤ 1048576 }
+    requires count { length blocks.now ≡ slot_count size }
+    requires whole { length index.now ≡ 4096 }
+    requires inside { n < blocks_needed size }
+    ensures number { (base : ℕ) (at : ℕ → List ℕ) → (is_large size ≡ true → index.now ≡ at (index_home base blocks.now))
+        → result ≡ slice_index (content_blocks base blocks.now size at) n }
+{
+    if is_large(size) {
+        return number_at(index, n as usize);
+    }
+    blocks[n as usize]
 }
 
 // Reads the block with this number, and zeros where the image has none.
@@ -133,6 +136,44 @@ fn read_within<D: Disk>(
         return Ok(());
     }
     read_home(journal, disk, base + u32::from(number), buf)
+}
+
+/// Reads the n-th block of a file's content, by the index block where the file has one. Behind the content's end it has any bytes. Where the index block gives a
+/// number that is none of the image's it gives zeros; no image that is in form has such a number.
+pub fn read_block_by<D: Disk>(
+    journal: &Journal,
+    disk: &mut D,
+    base: u32,
+    blocks: &[u16],
+    size: u32,
+    index: &[u8],
+    n: u32,
+    buf: &mut [u8],
+) -> Result<(), Failed>
+    requires few { size ≤ 1048576 }
+    requires count { length blocks.now ≡ slot_count size }
+    requires home { 578 ≤ base }
+    requires within { IsTrue (are_within base journal.now.blocks blocks.now) }
+    requires inside { n < blocks_needed size }
+    requires index { length index.now ≡ 4096 }
+    requires whole { length buf.old ≡ 4096 }
+    requires unbroken { journal.now.is_broken ≡ false }
+    requires long { 4096 * journal.now.blocks ≤ (D.meaning disk.old).len }
+    ensures read { OnOk result ((kept : ℕ → List ℕ) → Fits journal.now (D.meaning disk.old) kept
+        → (is_large size ≡ true → index.now ≡ looked journal.now.staged kept (index_home base blocks.now))
+        → buf.new ≡ block_within base journal.now.blocks (looked journal.now.staged kept)
+        (slice_index (content_blocks base blocks.now size (looked journal.now.staged kept)) n)) }
+    ensures run { IsDiskRun (D.meaning disk.old) (D.meaning disk.new) }
+    ensures cause { HasCause (D.meaning disk.old).disk_faults (D.meaning disk.new).disk_faults result }
+    ensures first_fault { DiskFaultEnds (D.meaning disk.old) (D.meaning disk.new) }
+    ensures same { IsTrue (D.meaning disk.old).is_honest → IsUnchanged (D.meaning disk.old) (D.meaning disk.new) }
+    ensures any_moment { IsTrue (D.meaning disk.old).is_honest
+        → Leaves (D.meaning disk.old) (D.meaning disk.new) (D.meaning disk.old).images }
+    ensures fits { (kept : ℕ → List ℕ) → Fits journal.now (D.meaning disk.old) kept
+        → Fits journal.now (D.meaning disk.new) kept }
+{
+    let number = number_of(blocks, size, index, n);
+    read_within(journal, disk, base, number, buf)
 }
 
 /// Reads the n-th block of a file's content. Behind the content's end it has any bytes. Where the index block gives a
@@ -166,8 +207,9 @@ pub fn read_block<D: Disk>(
     ensures fits { (kept : ℕ → List ℕ) → Fits journal.now (D.meaning disk.old) kept
         → Fits journal.now (D.meaning disk.new) kept }
 {
-    let number = number_of(journal, disk, base, blocks, size, n)?;
-    read_within(journal, disk, base, number, buf)
+    let mut index = [0; BLOCK_LEN];
+    read_index_block(journal, disk, base, blocks, size, &mut index)?;
+    read_block_by(journal, disk, base, blocks, size, &index, n, buf)
 }
 
 // Gives a block back, where it is taken.

@@ -10,7 +10,7 @@ use Rattle.lis_ports.proofs.Always.{always_settled}
 use Rattle.lis_ports.proofs.Parts.{length-part}
 use Rattle.lis_journal.specs.Record.{block, has_open, Entry, first_bad, all_recorded, apply, bad_record, replayed, open_count}
 use Rattle.lis_journal.specs.Journal.{Held, OpenRecords, no_records}
-use Rattle.lis_journal.specs.Images.{IsOutside, StandsFor, StandsBut, is_among, look, IsAtRest, FitsAt, Fits, KeepsPast, with_placed}
+use Rattle.lis_journal.specs.Images.{IsOutside, StandsFor, StandsBut, is_among, look, held_in, IsAtRest, FitsAt, Fits, KeepsPast, with_placed}
 use Rattle.lis_journal.specs.Spreads.{Spreads, SamePast}
 use Rattle.lis_journal.specs.Staging.{has_entry}
 use Rattle.lis_journal.proofs.Entries.{AtHome, block-apply, length-look, look-past, look-absent, neither}
@@ -42,6 +42,10 @@ fits_stand journal {m} {kept} none fits = record {
 -- where nothing is staged and no record is open, a block that is kept is the block as it reads
 pub fits_reads : (journal : Held) {m : Meaning} {kept : ℕ → List ℕ} → Fits journal m kept → (n : ℕ) → IsOutside n → look journal.records.latest n (block n m.bytes) ≡ kept n
 fits_reads journal fits n out = fits.reads.holds.same n out refl
+
+-- what a block holds is what is kept of it, with what is staged over it
+pub fits_held : (journal : Held) {m : Meaning} {kept : ℕ → List ℕ} → Fits journal m kept → (n : ℕ) → IsOutside n → held_in journal m.bytes n ≡ look journal.staged n (kept n)
+fits_held journal fits n out = ap (look journal.staged n) (fits_reads journal fits n out)
 
 -- over a call that changes nothing it fits as before
 pub fits_unchanged : (journal : Held) {a b : Meaning} {kept : ℕ → List ℕ} → IsDiskRun a b → IsUnchanged a b → Fits journal a kept → Fits journal b kept

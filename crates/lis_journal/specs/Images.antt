@@ -67,6 +67,11 @@ pub record FitsAt (blocks : ℕ) (records : OpenRecords) (placed : List ℕ) (m 
 abbrev pub Fits : Held → Meaning → (ℕ → List ℕ) → Type 0
 Fits journal m kept = FitsAt journal.blocks journal.records journal.placed m kept
 
+-- what a block holds where the disk reads as these bytes: what is staged for it, or else its latest content in the open records, or else
+-- what it has
+abbrev pub held_in : Held → List ℕ → ℕ → List ℕ
+held_in journal bytes n = look journal.staged n (look journal.records.latest n (block n bytes))
+
 -- the placed blocks with this one
 abbrev pub with_placed : List ℕ → ℕ → List ℕ
 with_placed placed n = if is_among placed n then placed else placed ++ n ∷ []

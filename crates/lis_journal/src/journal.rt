@@ -5,7 +5,7 @@ ghost use Rattle.std.specs.List.{range_with_len};
 ghost use Rattle.lis_ports.specs.Runs.{IsDiskRun, Leaves, IsSettled};
 ghost use Rattle.lis_ports.specs.Calls.{HasCause, IsUnchanged, DiskFaultEnds};
 ghost use Rattle.lis_journal.specs.Record.{recovered};
-ghost use Rattle.lis_journal.specs.Images.{StandsBut, StandsForAllOrNone, Fits, KeepsPast, look, is_among, with_placed, with_kept, with_run};
+ghost use Rattle.lis_journal.specs.Images.{StandsBut, StandsForAllOrNone, Fits, KeepsPast, look, held_in, is_among, with_placed, with_kept, with_run};
 ghost use Rattle.lis_journal.specs.Staging.{with_entry, has_entry, HasNone};
 
 use crate::header::write_header;
@@ -191,6 +191,8 @@ impl Journal {
         requires long { 4096 * self.now.blocks ≤ (D.meaning disk.old).len }
         ensures read { OnOk result ((kept : ℕ → List ℕ) → Fits self.now (D.meaning disk.old) kept
             → buf.new ≡ look self.now.staged n (kept n)) }
+        ensures held { OnOk result (IsTrue (D.meaning disk.old).is_honest
+            → buf.new ≡ held_in self.now (D.meaning disk.old).bytes n) }
         ensures run { IsDiskRun (D.meaning disk.old) (D.meaning disk.new) }
         ensures cause { HasCause (D.meaning disk.old).disk_faults (D.meaning disk.new).disk_faults result }
         ensures first_fault { DiskFaultEnds (D.meaning disk.old) (D.meaning disk.new) }

@@ -1,12 +1,12 @@
 //! The memory in which parts of files are viewed and put back.
 
-ghost use Rattle.std.specs.Prelude.{◌≡◌, IfOk};
+ghost use Rattle.std.specs.Prelude.{◌≡◌, IsTrue, IfOk};
 ghost use Rattle.lis_model.specs.Ranges.{are_in_range};
 
 use crate::gathering::Edited;
 use lis_eval::Scratch;
 use lis_line::reader::Payload;
-use lis_model::limits::{Limits, is_blocks_limit, is_files_limit, is_props_limit, is_version};
+use lis_model::limits::Limits;
 use std::alloc::{AllocError, Global};
 use std::marker::Model;
 
@@ -34,24 +34,12 @@ impl Model for Parts {
     ghost invariant = { λ p. HasRoom p.scratch p.limits };
 }
 
-// Whether a state may have these limits.
-fn are_in_range(limits: &Limits) -> bool
-    ensures { result ≡ are_in_range limits.now }
-{
-    is_files_limit(u64::from(limits.files))
-        && is_props_limit(u64::from(limits.props))
-        && is_blocks_limit(u64::from(limits.blocks))
-        && is_version(u64::from(limits.version))
-}
-
 impl Parts {
-    /// Memory for files of a state of these limits. No call that is handed it takes more. For limits that no state may have there is none.
+    /// Memory for files of a state of these limits. No call that is handed it takes more.
     pub fn new(alloc: Global, limits: &Limits) -> Result<Parts, AllocError>
+        requires { IsTrue (are_in_range limits.now) }
         ensures { IfOk result (λ parts. parts ≡ limits.now) }
     {
-        if !are_in_range(limits) {
-            return Err(AllocError);
-        }
         let scratch = Scratch::new(alloc, limits)?;
         let file = Payload::new(alloc)?;
         let edited = Edited::new(alloc)?;

@@ -1,6 +1,6 @@
 //! Showing the bytes of files.
 
-ghost use Rattle.std.specs.Prelude.{◌≡◌, ℕ, ◌*◌, ◌≤◌, ◌<◌, List, [], length, false, Some, IsSomeAnd};
+ghost use Rattle.std.specs.Prelude.{◌≡◌, ℕ, ◌*◌, ◌≤◌, ◌<◌, List, [], length, false, Some, IsTrue, IsSomeAnd};
 ghost use Rattle.lis_ports.specs.Bytes.{part};
 ghost use Rattle.lis_eval.specs.Room.{HasRoom};
 ghost use Rattle.lis_catalog.specs.Catalog.{slot_of, rec_at};
@@ -8,7 +8,7 @@ ghost use Rattle.lis_fields.specs.Records.{FileRecord};
 ghost use Rattle.lis_model.specs.Changes.{file_of};
 ghost use Rattle.lis_model.specs.Replies.{content_lines};
 ghost use Rattle.lis_model.specs.Step.{Situation, shown, cat};
-ghost use Rattle.lis_store.specs.Stored.{IsSound, StoreFits};
+ghost use Rattle.lis_store.specs.Stored.{IsSound, StoreFits, IsIndex};
 ghost use Rattle.lis_session.specs.Item.{Does};
 ghost use Rattle.lis_session.specs.Parts.{only_shows, Ends};
 
@@ -24,11 +24,12 @@ use lis_words::Name;
 /// How many bytes a data block has.
 const BLOCK_LEN: usize = 4_096;
 
-// Shows the n-th block of the file in the slot. The buffer has the length of a block.
+// Shows the n-th block of the file in the slot, by its index block. The buffer has the length of a block.
 fn show_block<T: Station>(
     store: &Store,
     slot: u16,
     size: u32,
+    index: &[u8],
     n: u32,
     block: &mut [u8],
     station: &mut T,
@@ -36,20 +37,49 @@ fn show_block<T: Station>(
     requires sound { IsSound store.now }
     requires size { IsSomeAnd (rec_at store.now.parts.catalog slot) (λ (rec : FileRecord). size ≡ rec.size) }
     requires within { 4096 * n < size }
+    requires index { length index.now ≡ 4096 }
     requires whole { length block.old ≡ 4096 }
     requires unbroken { store.now.is_broken ≡ false }
     requires long { 4096 * store.now.journal.blocks ≤ (T.meaning station.old).len }
-    ensures shows { (name : List ℕ) → slot_of store.now.parts.catalog name ≡ Some slot
+    ensures shows { IsIndex store.now (T.meaning station.old).bytes slot index.now
+        → (name : List ℕ) → slot_of store.now.parts.catalog name ≡ Some slot
         → Does (λ (now : Situation). only_shows (part (4096 * n) 4096 (file_of now.state.files name).bytes) now) (StoreFits store.now (T.meaning station.old)) []
         (T.meaning station.old) (T.meaning station.new) result (StoreFits store.now (T.meaning station.new)) [] }
     ensures ends { Ends (T.meaning station.old) (T.meaning station.new) result }
+    ensures bytes { IsTrue (T.meaning station.old).is_honest → (T.meaning station.new).bytes ≡ (T.meaning station.old).bytes }
     ensures whole { length block.new ≡ 4096 }
 {
-    if let Err(Failed) = store.content(station, slot, n, block) {
+    if let Err(Failed) = store.content_by(station, slot, index, n, block) {
         return Err(End::DiskFault);
     }
     let rest = size as usize - BLOCK_LEN * n as usize;
     answer_bytes(station, &block[..rest.min(BLOCK_LEN)])
+}
+
+// Shows the bytes of the file in the slot block by block, by its index block.
+fn show_blocks<T: Station>(
+    store: &Store,
+    slot: u16,
+    size: u32,
+    index: &[u8],
+    station: &mut T,
+) -> Result<(), End>
+    requires sound { IsSound store.now }
+    requires size { IsSomeAnd (rec_at store.now.parts.catalog slot) (λ (rec : FileRecord). size ≡ rec.size) }
+    requires index { length index.now ≡ 4096 }
+    requires unbroken { store.now.is_broken ≡ false }
+    requires long { 4096 * store.now.journal.blocks ≤ (T.meaning station.old).len }
+    ensures shows { IsIndex store.now (T.meaning station.old).bytes slot index.now
+        → (name : List ℕ) → slot_of store.now.parts.catalog name ≡ Some slot
+        → Does (λ (now : Situation). only_shows (file_of now.state.files name).bytes now) (StoreFits store.now (T.meaning station.old)) []
+        (T.meaning station.old) (T.meaning station.new) result (StoreFits store.now (T.meaning station.new)) [] }
+    ensures ends { Ends (T.meaning station.old) (T.meaning station.new) result }
+{
+    let mut block = [0; BLOCK_LEN];
+    for n in 0..size.div_ceil(BLOCK_LEN as u32) {
+        show_block(store, slot, size, index, n, &mut block, station)?;
+    }
+    Ok(())
 }
 
 /// Shows the bytes of the file in the slot, block by block.
@@ -68,11 +98,14 @@ pub fn show_content<T: Station>(
         (T.meaning station.old) (T.meaning station.new) result (StoreFits store.now (T.meaning station.new)) [] }
     ensures ends { Ends (T.meaning station.old) (T.meaning station.new) result }
 {
-    let mut block = [0; BLOCK_LEN];
-    for n in 0..size.div_ceil(BLOCK_LEN as u32) {
-        show_block(store, slot, size, n, &mut block, station)?;
+    if size == 0 {
+        return Ok(());
     }
-    Ok(())
+    let mut index = [0; BLOCK_LEN];
+    if let Err(Failed) = store.index(station, slot, &mut index) {
+        return Err(End::DiskFault);
+    }
+    show_blocks(store, slot, size, &index, station)
 }
 
 // Shows the file in the slot: its size, its bytes, and a line feed behind them.

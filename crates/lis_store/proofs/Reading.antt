@@ -5,11 +5,12 @@ use Rattle.std.proofs.lemmas.Bool.{cases_lt, cond-true, lt-ltb}
 use Rattle.std.proofs.lemmas.List.{take_all, take_at, take-take, take-append-le, length-take-le, drop-drop, drop_at, drop-take}
 use Rattle.lis_ports.specs.Meaning.{Meaning}
 use Rattle.lis_ports.specs.Bytes.{part}
-use Rattle.lis_journal.specs.Images.{Fits}
+use Rattle.lis_journal.specs.Images.{Fits, held_in}
+use Rattle.lis_journal.proofs.Fitting.{fits_held}
 use Rattle.lis_journal.specs.Phases.{looked}
 use Rattle.lis_journal.specs.Record.{Entry}
 use Rattle.lis_content.specs.Content.{are_within}
-use Rattle.lis_content.specs.Large.{slot_count, content_blocks, block_within}
+use Rattle.lis_content.specs.Large.{is_large, slot_count, index_home, content_blocks, block_within}
 use Rattle.lis_graph.proofs.Members.{Among}
 use Rattle.lis_fields.specs.Records.{FileRecord}
 use Rattle.lis_fields.proofs.Parts.{size_fits}
@@ -20,7 +21,7 @@ use Rattle.lis_model.specs.Changes.{file_of}
 use Rattle.lis_kept.specs.Telling.{bytes_told}
 use Rattle.lis_kept.proofs.BlocksTaken.{slot_within}
 use Rattle.lis_kept.proofs.Filing.{filed_at_slot}
-use Rattle.lis_store.specs.Stored.{Stored, IsSound, StoreFits}
+use Rattle.lis_store.specs.Stored.{Stored, IsSound, StoreFits, IsIndex}
 use Rattle.lis_dict.proofs.Places.{among_at}
 use Rattle.lis_store.proofs.Elsewhere.{numbers_counted}
 use Rattle.lis_store.proofs.FileBlocks.{content_told, content_among, content_counted}
@@ -99,6 +100,25 @@ module _ (k : Stored) (slot n : ℕ) (rec : FileRecord) (ns : List ℕ) (size : 
 
   pub block_inside : n < blocks_needed size
   block_inside = let within = has.within in omega (arith, within, has.sized)
+
+  -- the index block, by the numbers of the slot
+  index_is : (base : ℕ) → base ≡ data_start k.parts.limits → index_home base ns ≡ index_home (data_start k.parts.limits) rec.blocks
+  index_is base is_base = ap (λ b. index_home b ns) is_base ∙ ap (index_home (data_start k.parts.limits)) has.numbers
+
+  pub index_held : (base : ℕ) (index bytes : List ℕ) → base ≡ data_start k.parts.limits → (is_large size ≡ true → index ≡ held_in k.journal bytes (index_home base ns)) → IsIndex k bytes slot index
+  index_held base index bytes is_base held other is_other large =
+      let same : rec ≡ other = some_same (sym has.is_rec ∙ is_other) in
+      held (ap is_large (has.sized ∙ ap (λ (r : FileRecord). r.size) same) ∙ large)
+      ∙ ap (held_in k.journal bytes) (index_is base is_base ∙ ap (λ (r : FileRecord). index_home (data_start k.parts.limits) r.blocks) same)
+    where
+      some_same : {a b : FileRecord} → Some a ≡ Some b → a ≡ b
+      some_same h = cc
+
+  pub index_kept : (m : Meaning) (base : ℕ) (index : List ℕ) → base ≡ data_start k.parts.limits → 578 ≤ base → IsIndex k m.bytes slot index
+      → (kept : ℕ → List ℕ) → Fits k.journal m kept → is_large size ≡ true → index ≡ looked k.journal.staged kept (index_home base ns)
+  index_kept m base index is_base high is_index kept fits large =
+      is_index rec has.is_rec (ap is_large (sym has.sized) ∙ large)
+      ∙ (ap (held_in k.journal m.bytes) (sym (index_is base is_base)) ∙ fits_held k.journal fits (index_home base ns) (inr (omega (arith, high))))
 
   module _ (m : Meaning) (s : State) (fits : StoreFits k m s) where
     abbrev numbers : List ℕ

@@ -2,15 +2,16 @@
 use Rattle.std.specs.Prelude.{◌≡◌, ℕ, ◌≤◌, Bool, true, false, Some, is_some, List, [], length, replicate, slice_get}
 use Rattle.lis_ports.specs.Meaning.{Meaning}
 use Rattle.lis_journal.specs.Journal.{Held, no_records}
-use Rattle.lis_journal.specs.Images.{Fits}
+use Rattle.lis_journal.specs.Images.{Fits, held_in}
 use Rattle.lis_dict.specs.Dict.{word_of}
 use Rattle.lis_ext.specs.Ext.{has, set_of as numbers_at, empty_ext}
 use Rattle.lis_catalog.specs.Catalog.{rec_at}
 use Rattle.lis_content.specs.Content.{has_number}
+use Rattle.lis_content.specs.Large.{is_large, index_home}
 use Rattle.lis_fields.specs.Records.{FileRecord}
 use Rattle.lis_fields.specs.declared.slots.AxiomSlot.TheVariants.{Free as FreeAxiom, Pair}
 use Rattle.lis_model.specs.declared.limits.Limits.{Limits}
-use Rattle.lis_model.specs.Image.{image_blocks}
+use Rattle.lis_model.specs.Image.{image_blocks, data_start}
 use Rattle.lis_model.specs.State.{State}
 use Rattle.lis_model.specs.Tests.{is_met}
 use Rattle.lis_kept.specs.Kept.{Kept}
@@ -91,3 +92,9 @@ empty_stored limits blocks = record {
   journal = record { blocks = image_blocks limits; staged = []; records = no_records; placed = []; is_broken = false };
   is_broken = false;
 }
+
+-- Where the disk reads as these bytes, `index` is the index block of the file in the slot, if it has one.
+abbrev pub IsIndex : Stored → List ℕ → ℕ → List ℕ → Type 0
+IsIndex k bytes slot index =
+    (rec : FileRecord) → rec_at k.parts.catalog slot ≡ Some rec → is_large rec.size ≡ true
+    → index ≡ held_in k.journal bytes (index_home (data_start k.parts.limits) rec.blocks)

@@ -13,7 +13,7 @@ ghost use Rattle.lis_model.specs.Step.{add, rm};
 ghost use Rattle.lis_eval.specs.Room.{HasRoom};
 ghost use Rattle.lis_kept.specs.Telling.{is_declared};
 ghost use Rattle.lis_store.specs.declared.change.Change.TheVariants.{Refused};
-ghost use Rattle.lis_store.specs.Stored.{IsSound, StoreFits};
+ghost use Rattle.lis_store.specs.Stored.{IsSound, StoreFits, IsIndex};
 ghost use Rattle.lis_store.specs.Judging.{is_among};
 ghost use Rattle.lis_store.specs.Changes.{Changes, HasChangeCause, ChangeLeft, EditsFew};
 
@@ -29,7 +29,7 @@ use crate::change::Change;
 use crate::contents::{give_content, put_content};
 use crate::removing::take_out;
 use crate::saving::save;
-use lis_content::{Buffer, read_block};
+use lis_content::{Buffer, read_block, read_block_by, read_index_block};
 use lis_eval::{Scratch, View, evaluate, found};
 use lis_ext::Ext;
 use lis_journal::Journal;
@@ -164,6 +164,80 @@ impl Store {
             base,
             rec.blocks.as_slice(),
             rec.size,
+            n,
+            buf,
+        )
+    }
+
+    /// Reads the index block of a file, where it has one, to be handed to `content_by`.
+    pub fn index<D: Disk>(&self, disk: &mut D, slot: u16, index: &mut [u8]) -> Result<(), Failed>
+        requires some { IsSomeAnd (rec_at self.now.parts.catalog slot) (λ (rec : FileRecord). 0 < rec.size) }
+        requires whole { length index.old ≡ 4096 }
+        requires unbroken { self.now.is_broken ≡ false }
+        requires long { 4096 * self.now.journal.blocks ≤ (D.meaning disk.old).len }
+        ensures held { OnOk result (IsTrue (D.meaning disk.old).is_honest → IsIndex self.now (D.meaning disk.old).bytes slot index.new) }
+        ensures len { length index.new ≡ 4096 }
+        ensures run { IsDiskRun (D.meaning disk.old) (D.meaning disk.new) }
+        ensures cause { HasCause (D.meaning disk.old).disk_faults (D.meaning disk.new).disk_faults result }
+        ensures first_fault { DiskFaultEnds (D.meaning disk.old) (D.meaning disk.new) }
+        ensures same { IsTrue (D.meaning disk.old).is_honest → IsUnchanged (D.meaning disk.old) (D.meaning disk.new) }
+        ensures any_moment { IsTrue (D.meaning disk.old).is_honest
+            → Leaves (D.meaning disk.old) (D.meaning disk.new) (D.meaning disk.old).images }
+        ensures fits { (s : State) → StoreFits self.now (D.meaning disk.old) s → StoreFits self.now (D.meaning disk.new) s }
+        ensures sound { IsSound self.now }
+    {
+        let base = data_start(self.parts.limits());
+        let Some(rec) = self.parts.rec(slot) else {
+            unreachable!()
+        };
+        read_index_block(
+            &self.journal,
+            disk,
+            base,
+            rec.blocks.as_slice(),
+            rec.size,
+            index,
+        )
+    }
+
+    /// The n-th block of a file's bytes, by the index block that `index` read. At its end the last block holds any bytes.
+    pub fn content_by<D: Disk>(
+        &self,
+        disk: &mut D,
+        slot: u16,
+        index: &[u8],
+        n: u32,
+        buf: &mut [u8],
+    ) -> Result<(), Failed>
+        requires within { IsSomeAnd (rec_at self.now.parts.catalog slot) (λ (rec : FileRecord). 4096 * n < rec.size) }
+        requires index { length index.now ≡ 4096 }
+        requires whole { length buf.old ≡ 4096 }
+        requires unbroken { self.now.is_broken ≡ false }
+        requires long { 4096 * self.now.journal.blocks ≤ (D.meaning disk.old).len }
+        ensures read { OnOk result ((s : State) (name : List ℕ) → StoreFits self.now (D.meaning disk.old) s → slot_of self.now.parts.catalog name ≡ Some slot
+            → IsIndex self.now (D.meaning disk.old).bytes slot index.now
+            → take (length (part (4096 * n) 4096 (file_of s.files name).bytes)) buf.new ≡ part (4096 * n) 4096 (file_of s.files name).bytes) }
+        ensures len { length buf.new ≡ 4096 }
+        ensures run { IsDiskRun (D.meaning disk.old) (D.meaning disk.new) }
+        ensures cause { HasCause (D.meaning disk.old).disk_faults (D.meaning disk.new).disk_faults result }
+        ensures first_fault { DiskFaultEnds (D.meaning disk.old) (D.meaning disk.new) }
+        ensures same { IsTrue (D.meaning disk.old).is_honest → IsUnchanged (D.meaning disk.old) (D.meaning disk.new) }
+        ensures any_moment { IsTrue (D.meaning disk.old).is_honest
+            → Leaves (D.meaning disk.old) (D.meaning disk.new) (D.meaning disk.old).images }
+        ensures fits { (s : State) → StoreFits self.now (D.meaning disk.old) s → StoreFits self.now (D.meaning disk.new) s }
+        ensures sound { IsSound self.now }
+    {
+        let base = data_start(self.parts.limits());
+        let Some(rec) = self.parts.rec(slot) else {
+            unreachable!()
+        };
+        read_block_by(
+            &self.journal,
+            disk,
+            base,
+            rec.blocks.as_slice(),
+            rec.size,
+            index,
             n,
             buf,
         )

@@ -11,7 +11,7 @@ loop-count-preserved c =
     let within = e.within refl in
     record {
       row = takes_next c.args.map.now c.loop-count.map c.take_next.new.map c.in-Some.first c.loop-count.count was.row (omega (arith, within.0, at)) (ap (is_taken c.loop-count.map) (sym at) ∙ e.was_free refl)
-      (e.taken refl ∙ ap (λ k. set c.loop-count.map k true) at) (e.fewer refl);
+          (e.taken refl ∙ ap (λ k. set c.loop-count.map k true) at) (e.fewer refl);
       any = omega arith;
       most = omega (arith, c.loop-count-test.true);
       narrow = omega (arith, within.1, at);

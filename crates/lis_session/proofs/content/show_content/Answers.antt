@@ -1,17 +1,24 @@
-use Rattle.std.proofs.Common.{arith}
-use Rattle.lis_session.proofs.Blocks.{blocks_more, blocks_broke, blocks_all}
-use Rattle.lis_session.proofs.Going.{ends_then}
+use Rattle.std.proofs.Common.{sym, subst, arith}
+use Rattle.lis_store.specs.Stored.{IsIndex}
+use Rattle.lis_model.specs.Changes.{file_of}
+use Rattle.lis_session.proofs.Blocks.{blocks_none, blocks_all, block_broke, read_fits, read_then}
 use Rattle.lis_session.proofs.content.show_content.Goals as goal
 
-pub returns-in_err-show_block-clause-shows : goal.returns-in_err-show_block-clause-shows
-returns-in_err-show_block-clause-shows g c = blocks_broke c.args.store.now c.args.slot c.loop-n.n c.loop-n.invariant.shown c.in_err-show_block.ensures.shows c.from_residual.ensures.1
+pub returns-then-size-eq0-clause-shows : goal.returns-then-size-eq0-clause-shows
+returns-then-size-eq0-clause-shows g c =
+    blocks_all c.args.store.now c.args.slot 0 c.args.size c.requires.sound c.requires.size (omega arith) (blocks_none c.args.store.now c.args.slot 0)
 
-pub loop-n-preserved : goal.loop-n-preserved
-loop-n-preserved g c = record {
-  ends = ends_then c.loop-n.invariant.ends c.in_ok-show_block.ensures.ends;
-  whole = c.in_ok-show_block.ensures.whole;
-  shown = blocks_more c.args.store.now c.args.slot c.loop-n.n c.loop-n.invariant.shown c.in_ok-show_block.ensures.shows;
-}
+pub returns-in-Err-clause-shows : goal.returns-in-Err-clause-shows
+returns-in-Err-clause-shows g c = λ name is state fitting.
+    let e = c.index.ensures in
+    block_broke (file_of state.files name).bytes fitting (e.any_moment fitting.honest) (e.same fitting.honest)
 
 pub returns-clause-shows : goal.returns-clause-shows
-returns-clause-shows g c = blocks_all c.args.store.now c.args.slot c.loop-n.n c.args.size c.requires.sound c.requires.size (omega arith) c.loop-n.invariant.shown
+returns-clause-shows g c = λ name is state fitting.
+    let e = c.index.ensures in
+    let bytes = (file_of state.files name).bytes in
+    let read = e.any_moment fitting.honest in
+    let same = e.same fitting.honest in
+    let fits = e.fits state fitting.own in
+    let is_index = subst (λ xs. IsIndex c.args.store.now xs c.args.slot c.index.new.index) (sym same.bytes) (c.in_default.ensures.held fitting.honest) in
+    read_then bytes fitting read same c.show_blocks.result fits (c.show_blocks.ensures.shows is_index name is state (read_fits bytes fitting read same fits))

@@ -1,0 +1,16 @@
+use Rattle.std.proofs.Common.{◌≡◌, length, Ok, IsTrue}
+use Rattle.lis_store.specs.Stored.{IsIndex}
+use Rattle.lis_session.specs.Parts.{Ends}
+use Rattle.lis_session.proofs.Blocks.{ShowsOf, first_blocks}
+use Rattle.lis_session.proofs.content.show_blocks.Given as goal
+
+abbrev pub invariant-loop-n : goal.invariant-loop-n
+invariant-loop-n g l =
+    let old = g.T.Disk.meaning l.fn.station in
+    let now = g.T.Disk.meaning l.station in
+    record {
+      ends : Ends old now (Ok tt);
+      bytes : IsTrue old.is_honest → now.bytes ≡ old.bytes;
+      whole : length l.block ≡ 4096;
+      shown : IsIndex l.store old.bytes l.slot l.index → ShowsOf (first_blocks l.n) l.store l.slot old now (Ok tt);
+    }
