@@ -22,6 +22,8 @@ from lisfs_mount.kernel import Connection
 from lisfs_mount.tree import Tree
 
 MOUNT = os.path.join(os.path.dirname(os.path.dirname(os.path.abspath(__file__))), "mount")
+# What takes so many seconds has no end: no verdict counts on a quick machine.
+LONG = 300
 
 
 class Tally:
@@ -197,7 +199,7 @@ class Mount:
     def ended(self):
         """The status, and what else was said."""
         try:
-            said = self.child.communicate(timeout=30)[1].decode()
+            said = self.child.communicate(timeout=LONG)[1].decode()
         except subprocess.TimeoutExpired:
             self.child.kill()
             said = "no end"
