@@ -357,9 +357,9 @@ class Tree:
         if len(name) > NAME_LIMIT:
             raise fault(errno.ENAMETOOLONG, "a name has at most 60 bytes")
 
-    def _made(self, folder, name, mode, caller):
+    def _made(self, make, folder, name, mode, caller):
         self._new_name(folder, name)
-        file = self.image.create(name, folder.place)
+        file = make(name, folder.place)
         self._now_changed()
         self._begin(file, mode & 0o7777, caller.user, caller.group)
         return self._leaf(folder, file)
@@ -368,7 +368,7 @@ class Tree:
     def mknod(self, number, name, mode, caller):
         if stat.S_IFMT(mode) not in (0, stat.S_IFREG):
             raise fault(errno.EPERM, "an image keeps files alone")
-        return self._entry(self._made(self._folder(number), name, mode, caller))
+        return self._entry(self._made(self.image.create, self._folder(number), name, mode, caller))
 
     @answering
     def create(self, number, name, flags, mode, caller):
@@ -376,7 +376,8 @@ class Tree:
         file = self._file_at(folder, name)
         if file and flags & os.O_EXCL:
             raise fault(errno.EEXIST, "it is here already")
-        node = self._leaf(folder, file) if file else self._made(folder, name, mode, caller)
+        make = self.image.begin if flags & os.O_ACCMODE != os.O_RDONLY else self.image.create
+        node = self._leaf(folder, file) if file else self._made(make, folder, name, mode, caller)
         handle = self._opened(node, flags)
         return self._entry(node), handle
 
@@ -573,14 +574,19 @@ class Tree:
         """Somebody closes the file. A shell opens the file of `> x`, makes it the output of what it runs, and closes the first of the two,
         before a byte is written: that is no end of the writing."""
         handle = self.handles[handle]
-        draft = handle.file.draft
-        if handle.writes and draft.is_dirty and not (draft.is_emptied and is_open_in(process, handle.node.inode)):
-            self._commit(handle.node)
+        if handle.writes and self._is_unstored(handle.file):
+            draft = handle.file.draft
+            if draft.is_dirty and not draft.is_emptied or not is_open_in(process, handle.node.inode):
+                self._commit(handle.node)
+
+    def _is_unstored(self, file):
+        """Whether it has other bytes than in the image, or isn't there yet."""
+        return file.draft.is_dirty or file is self.image.waiting
 
     @answering
     def fsync(self, handle):
         node = self.handles[handle].node
-        if node.file.draft and node.file.draft.is_dirty:
+        if node.file.draft and self._is_unstored(node.file):
             self._commit(node)
 
     def _commit(self, node):
@@ -588,14 +594,14 @@ class Tree:
         file = node.file
         if not file.is_gone:
             try:
-                self.image.write(file, bytes(file.draft.content))
+                self.image.write(file, bytes(file.draft.content or b""))
             except Refused:
                 file.draft.is_refused = True
                 raise
         self._is_stored(file, node)
 
     def _is_stored(self, file, node):
-        file.looks.modified = file.draft.modified
+        file.looks.modified = file.draft.modified or file.looks.modified
         file.draft.is_dirty = file.draft.is_emptied = file.draft.is_refused = False
         file.version += 1
         self._tell(file, node)
@@ -619,7 +625,7 @@ class Tree:
             return
         try:
             # What was written through memory, behind the last close. What a close was refused is dropped: its caller was told.
-            if draft.is_dirty and not draft.is_refused:
+            if self._is_unstored(file) and not draft.is_refused:
                 self._commit(node)
         except Refused as refused:
             print(f"mount: {file.name.decode()}: what was written behind the last close is lost: {refused}", file=sys.stderr)
