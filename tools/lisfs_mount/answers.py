@@ -520,9 +520,16 @@ def looks(way, name):
         if os.getuid() == 0:
             ways.change("x", user=7, group=8)
             answers(f"{name}: an owner", (7, 8), lambda: ways.stat("music/x")[-2:])
-        before = ways.stat("").modified
-        ways.put("y", b"")
-        check(f"{name}: a folder's time", ways.stat("").modified > before, before)
+        before = ways.stat("").modified, ways.stat("music").modified
+        ways.put("music/y", b"")
+        after = ways.stat("").modified, ways.stat("music").modified
+        check(f"{name}: the times of folders", after[0] > before[0] and after[1] > before[1], (before, after))
+        ways.change("music", accessed=10**18, modified=10**18 + 9)
+        answers(f"{name}: a folder's time that was set", 10**18 + 9, lambda: ways.stat("music").modified)
+        ways.change("music", mode=0o750)
+        answers(f"{name}: and stays", 10**18 + 9, lambda: ways.stat("music").modified)
+        ways.rename("music/y", "y")
+        check(f"{name}: until something changes", ways.stat("music").modified > before[1], before)
         answers(f"{name}: space", (64, 63, 64, 61, 4096, 60), lambda: tuple(ways.space()))
     with way("image") as ways:
         answers(f"{name}: a new mount", 0o100644, lambda: ways.stat("x").mode)

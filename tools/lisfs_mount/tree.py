@@ -220,7 +220,7 @@ class Tree:
 
     def _entry(self, node):
         if isinstance(node, Folder):
-            looks = self.looks.get(node.key) or Looks(0o755, self.user, self.group, self.touched)
+            looks = self._looks_of(node)
             found = Attributes(node.inode, 0, 0, looks.accessed, looks.modified, looks.changed, stat.S_IFDIR | looks.mode, FOLDER_LINKS,
                                looks.user, looks.group)
             self.handed.add(node.number)
@@ -232,6 +232,15 @@ class Tree:
                            stat.S_IFREG | looks.mode, 0 if file.is_gone else LINKS, looks.user, looks.group)
         # What writers at other paths do to a draft is not told write by write.
         return Entry(node.number, found, KEPT_SECONDS if draft is None or draft.writers == node.writers else 0)
+
+    def _looks_of(self, node):
+        """Of a file, or of a folder, whose time may be set, and is another one with the next change: any may be one of what it shows."""
+        if isinstance(node, Leaf):
+            return node.file.looks
+        looks = self.looks.get(node.key) or Looks(0o755, self.user, self.group, self.touched)
+        if looks.changed < self.touched:
+            looks.modified = looks.changed = self.touched
+        return looks
 
     def _draft_of(self, node):
         """The draft as far as it is seen at this path."""
@@ -257,8 +266,7 @@ class Tree:
         node = self.nodes[number]
         if changes.size is not None:
             self._resize(node, changes.size, handle)
-        looks = node.file.looks if isinstance(node, Leaf) else self.looks.setdefault(
-            node.key, Looks(0o755, self.user, self.group, self.touched))
+        looks = self._looks_of(node)
         for name in ("mode", "user", "group", "accessed", "modified"):
             if (value := getattr(changes, name)) is not None:
                 setattr(looks, name, value)
@@ -269,6 +277,7 @@ class Tree:
                 draft.modified = changes.modified
             self._tell(node.file)
         else:
+            self.looks[node.key] = looks
             self.changed(number)
         return self._entry(node)
 
