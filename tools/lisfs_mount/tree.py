@@ -208,6 +208,9 @@ class Tree:
             return False
         if name in (ALL, BY) or name in self.image.declared:
             return True
+        if FILE_NAME.fullmatch(name):
+            # A plain word that is not declared, or none.
+            return False
         try:
             read = formula(name)
         except NotAFormula:
