@@ -22,6 +22,8 @@ from lisfs_mount.kernel import Connection
 from lisfs_mount.tree import Tree
 
 MOUNT = os.path.join(os.path.dirname(os.path.dirname(os.path.abspath(__file__))), "mount")
+# What takes so many seconds has no end: no verdict counts on a quick machine.
+LONG = 300
 
 
 class Tally:
@@ -197,7 +199,7 @@ class Mount:
     def ended(self):
         """The status, and what else was said."""
         try:
-            said = self.child.communicate(timeout=30)[1].decode()
+            said = self.child.communicate(timeout=LONG)[1].decode()
         except subprocess.TimeoutExpired:
             self.child.kill()
             said = "no end"
@@ -351,6 +353,31 @@ def several(ways, *calls):
     return tuple(getattr(ways, call)(*given) for call, *given in calls)
 
 
+def new_ones(ways, name):
+    """A new file is there for everybody before its first bytes are stored."""
+    ways.mkdir("new")
+    handle = ways.open("new/first", WR | NEW)
+    ways.write(handle, b"first", 0)
+    answers(f"{name}: a new file elsewhere", (["first"], 0, b""), several, ways, ("ls", "new"), ("size", ":all/first"), ("get", "first"))
+    answers(f"{name}: its name is taken", ("EEXIST", "EEXIST"), lambda: (
+        told_by(ways.open, "new/first", WR | os.O_CREAT | os.O_EXCL), told_by(ways.mkdir, "first")))
+    ways.close(handle)
+    answers(f"{name}: and closed", b"first", ways.get, "first")
+    handle = ways.open("new/second", WR | NEW)
+    ways.unlink("second")
+    ways.write(handle, b"second", 0)
+    ways.close(handle)
+    answers(f"{name}: a new file that was removed", "ENOENT", ways.stat, "second")
+    handle = ways.open("new/third", WR | NEW)
+    ways.rename("new/third", "fourth")
+    ways.write(handle, b"third", 0)
+    ways.close(handle)
+    answers(f"{name}: a new file that was moved", (["first"], b"third"), several, ways, ("ls", "new"), ("get", "fourth"))
+    ways.unlink("first")
+    ways.unlink("fourth")
+    ways.rmdir("new")
+
+
 def two_paths(ways, name):
     """A file has an inode at each path. What is written is seen at its own path, and elsewhere once it is closed or synced."""
     ways.mkdir("music")
@@ -457,7 +484,7 @@ def contents(way, name):
     """What is written, and when it is in the image."""
     make("image", "64", "128", "64")
     with way("image") as ways:
-        for part in (two_paths, writers, goes, sizes):
+        for part in (new_ones, two_paths, writers, goes, sizes):
             part(ways, name)
     with way("image") as ways:
         answers(f"{name}: in the image", [("log", 27), ("y", 0), ("z", 65_536)],
@@ -493,9 +520,16 @@ def looks(way, name):
         if os.getuid() == 0:
             ways.change("x", user=7, group=8)
             answers(f"{name}: an owner", (7, 8), lambda: ways.stat("music/x")[-2:])
-        before = ways.stat("").modified
-        ways.put("y", b"")
-        check(f"{name}: a folder's time", ways.stat("").modified > before, before)
+        before = ways.stat("").modified, ways.stat("music").modified
+        ways.put("music/y", b"")
+        after = ways.stat("").modified, ways.stat("music").modified
+        check(f"{name}: the times of folders", after[0] > before[0] and after[1] > before[1], (before, after))
+        ways.change("music", accessed=10**18, modified=10**18 + 9)
+        answers(f"{name}: a folder's time that was set", 10**18 + 9, lambda: ways.stat("music").modified)
+        ways.change("music", mode=0o750)
+        answers(f"{name}: and stays", 10**18 + 9, lambda: ways.stat("music").modified)
+        ways.rename("music/y", "y")
+        check(f"{name}: until something changes", ways.stat("music").modified > before[1], before)
         answers(f"{name}: space", (64, 63, 64, 61, 4096, 60), lambda: tuple(ways.space()))
     with way("image") as ways:
         answers(f"{name}: a new mount", 0o100644, lambda: ways.stat("x").mode)
@@ -532,16 +566,19 @@ def too_many(way, name):
     with way("image") as ways:
         for number in range(64):
             ways.put(f"f{number}", b"")
-        answers(f"{name}: too many files", "ENOSPC", ways.put, "f64", b"")
+        answers(f"{name}: too many files", "ENOSPC", ways.open, "f64", WR | NEW)
         for number in range(17):
             ways.mkdir(f"w{number}")
         path = "/".join(f"w{number}" for number in range(17))
         ways.unlink("f0")
-        answers(f"{name}: too many words", "EMLINK", ways.put, path + "/f0", b"")
+        answers(f"{name}: too many words", "EMLINK", ways.open, path + "/f0", WR | NEW)
         answers(f"{name}: sixteen", None, ways.put, path.rpartition("/")[0] + "/f0", b"16")
         answers(f"{name}: one more", "EMLINK", ways.link, "f0", "w16/f0")
         told = [told_by(ways.mkdir, f"v{number}") for number in range(128)]
         check(f"{name}: too many known words", told[0] is None and told[-1] == "ENOSPC", told[-1])
+        ways.unlink("f1")
+        answers(f"{name}: no room for the word of an ending", "ENOSPC", ways.open, "f1.new", WR | NEW)
+        answers(f"{name}: nor for one of the bytes", ("ENOSPC", 0), lambda: (told_by(ways.put, "f1", bytes(2_000)), ways.stat("f1").size))
     # Sixteen words of 60 bytes and a name: no line takes them all.
     make("image", "64", "128", "64")
     with way("image") as ways:

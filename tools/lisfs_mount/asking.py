@@ -48,6 +48,9 @@ class Direct:
     def stat(self, path):
         return self.tree.getattr(self.walk(path)).attributes
 
+    def size(self, path):
+        return self.stat(path).size
+
     def ls(self, path):
         handle, shown, entries = self.tree.opendir(self.walk(path)), [], []
         while new := self.tree.readdir(handle, len(entries))[len(entries):]:

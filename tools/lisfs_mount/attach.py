@@ -122,5 +122,6 @@ def answered(connection, folder, stop, program):
     finally:
         os.close(connection.device)
     if until is not None:
-        ending.join(PATIENCE)
+        # Nothing waits for an answer any more.
+        ending.join()
     return is_wanted

@@ -2,18 +2,23 @@
 
 Each change is one command of the program, and is known here once its `ok` is there. The words of a file that was changed are asked for
 when somebody needs them, those of many files in one go. Between two calls the session's place is the root, where all files are.
+
+A new file that somebody writes is known here before: it waits for its bytes, so that one `add` makes it whole, where `create` and `write`
+would be two changes. It waits only where nothing can keep the program from making it, and until anything else is to be changed or asked.
 """
 import collections
 import contextlib
 import errno
 import struct
 
-from lisfs_client import NotSent, Refused
+from lisfs_client import LINE, NotSent, Refused
 from lisfs_mount.formulas import NAME_LIMIT, TEST, head_of, is_plain, is_word
 
 # So many bytes of files are kept in memory, those that were looked at last.
 KEPT = 32 * 1_048_576
 FILE_LIMIT = {1: 65_536, 2: 1_048_576}
+# The most words that a file is given, and that it has.
+GIVEN_LIMIT, WORDS_LIMIT = 16, 128
 
 Limits = collections.namedtuple("Limits", "files words blocks file_bytes")
 
@@ -26,10 +31,10 @@ def limits_of(path):
 
 
 class File:
-    """A file of the image. `words` are all that it has, as the program says."""
+    """A file of the image. `words` are all that it has, as the program says, and `given` those that it surely was given."""
 
-    def __init__(self, name, size, number):
-        self.name, self.size, self.number, self.words, self.is_gone = name, size, number, frozenset(), False
+    def __init__(self, name, size, number, given):
+        self.name, self.size, self.number, self.words, self.given, self.is_gone = name, size, number, frozenset(), frozenset(given), False
 
 
 class Image:
@@ -44,12 +49,14 @@ class Image:
         # The declared words that lost their last file and were in no listing since.
         self.unseen = set()
         self.contents, self.content_bytes, self.numbers = collections.OrderedDict(), 0, 0
-        for name, (size, _) in dump.files.items():
-            self._take(name, size)
+        # The file that waits, or None. How many words a new file at a place may bring, and how many more there surely is room for.
+        self.waiting, self.brought, self.spare = None, {}, 0
+        for name, (size, words) in dump.files.items():
+            self._take(name, size, words)
 
-    def _take(self, name, size):
+    def _take(self, name, size, given):
         self.numbers += 1
-        file = self.files[name] = File(name, size, self.numbers)
+        file = self.files[name] = File(name, size, self.numbers, given)
         self.everything.add(file)
         self.stale.add(file)
         return file
@@ -96,6 +103,7 @@ class Image:
 
     def _refresh(self):
         """Asks for the words of the files that were changed."""
+        self.settle()
         if not self.stale:
             return
         files = list(self.stale)
@@ -125,8 +133,9 @@ class Image:
         return found
 
     def is_here(self, file, place):
-        if place.steps and self.stale:
-            self._refresh()
+        if place.words is not None and file.given.issuperset(place.words):
+            return True
+        self._refresh()
         return all(step.meets(file) for step in place.steps)
 
     def listing(self, place, with_derived=False):
@@ -177,9 +186,12 @@ class Image:
         return [word for word in found if entailed[word].isdisjoint(covers - {word})]
 
     def counts(self):
+        self.settle()
         return {name: int(count) for name, count in (text.split() for _, text in self.program.stat().body)}
 
     def content(self, file):
+        if file is self.waiting:
+            return b""
         content = self.contents.get(file)
         if content is None:
             content = self.program.cat(file.name).body
@@ -200,6 +212,11 @@ class Image:
 
     # Changes.
 
+    def _begin_change(self):
+        """What brings words brings no more than a file has."""
+        self.settle()
+        self.spare -= WORDS_LIMIT
+
     @contextlib.contextmanager
     def _at(self, place):
         """Goes to a place, and back to the root. Nothing is sent before the reply to `cd`: where it is refused, a command behind it would
@@ -218,8 +235,49 @@ class Image:
             raise OSError(errno.EPERM, "not a place of words")
         return [word for word in place.words if not word.endswith(b":") and not self.is_derived(word)]
 
+    def begin(self, name, place):
+        """A new file at a place, which is about to be written."""
+        self.settle()
+        given = self._words_given(place)
+        if not self._is_sure(name, place, given):
+            return self.create(name, place)
+        self.waiting = self._take(name, 0, given)
+        return self.waiting
+
+    def settle(self):
+        """Makes the file that waits, without bytes."""
+        if file := self.waiting:
+            self.waiting = None
+            try:
+                self.program.create(file.name, *sorted(file.given))
+            except Refused:
+                self._forget(file)
+                raise
+
+    def _is_sure(self, name, place, given):
+        """Whether the program would make an empty file with these words, by `create` or by `add`."""
+        if name in self.files or len(self.files) >= self.limits.files or not len(place.words) == len(given) <= GIVEN_LIMIT:
+            return False
+        if len(b" ".join((b"add", name, b"%d" % self.limits.file_bytes, *given))) > LINE:
+            return False
+        count = self._most_brought(place, given, b"ext:" + name.rpartition(b".")[2])
+        if self.spare < count:
+            self.spare = self.limits.words - self.counts()[b"known"]
+        return count <= min(WORDS_LIMIT, self.spare)
+
+    def _most_brought(self, place, given, ending):
+        """No new file with these words and this one of its name's ending has more words, as long as nothing is declared."""
+        key = place.words, ending if ending in self.axioms else b"ext:?"
+        if key not in self.brought:
+            tests = [word for word in self.declared if not is_plain(word) and not head_of(word)]
+            is_declared = all(word in self.declared or head_of(word) in self.declared for word in given)
+            words = [*given, *tests, b"size:empty", key[1]]
+            self.brought[key] = len(self.entailed(words)) if is_declared else WORDS_LIMIT + 1
+        return self.brought[key]
+
     def create(self, name, place):
         """Makes an empty file at a place."""
+        self._begin_change()
         given = self._words_given(place)
         try:
             self.program.create(name, *given)
@@ -227,7 +285,7 @@ class Image:
             # The line would be too long; at its place it has the name alone.
             with self._at(place):
                 self.program.create(name)
-        file = self._take(name, 0)
+        file = self._take(name, 0, given)
         # A head, and a word that comes from the file itself, are not given: without them it would be elsewhere.
         if len(given) < len(place.words) and not self.is_here(file, place):
             self.remove(file)
@@ -235,12 +293,29 @@ class Image:
         return file
 
     def write(self, file, content):
-        self.program.write(file.name, content)
+        is_new = file is self.waiting
+        if is_new and content:
+            self._add(file, content)
+        else:
+            self._begin_change()
+            if not is_new:
+                self.program.write(file.name, content)
         file.size = len(content)
         self.stale.add(file)
         self._keep(file, content)
 
+    def _add(self, file, content):
+        self.spare -= WORDS_LIMIT
+        try:
+            self.program.add(file.name, content, *sorted(file.given))
+        except Refused:
+            # It is there, as it was said to be, and what was written is not.
+            self.settle()
+            raise
+        self.waiting = None
+
     def remove(self, file):
+        self._begin_change()
         self.program.rm(file.name)
         self._forget(file)
 
@@ -253,6 +328,7 @@ class Image:
         file.is_gone = True
 
     def rename(self, file, name):
+        self._begin_change()
         self.program.rename(file.name, name)
         del self.files[file.name]
         file.name = name
@@ -262,20 +338,23 @@ class Image:
     def replace(self, file, content, other):
         """`other` gets these bytes, and `file` its name; what was `other` is gone. A stop between leaves the new bytes, and the old name
         as well."""
+        self._begin_change()
         self.program.write(other.name, content)
         self.program.rm(file.name)
         name = other.name
         self._forget(other)
         del self.files[file.name]
-        file.name, file.size = name, len(content)
+        file.name, file.size, file.given = name, len(content), other.given
         self.files[name] = file
         self.stale.add(file)
         self._keep(file, content)
 
     def move(self, file, source, target):
         """The file loses the words of one place, and gains those of the other."""
+        self._begin_change()
         with self._at(source):
             self.program.mv(file.name, target.text)
+        file.given = frozenset()
         self.stale.add(file)
 
     def declare(self, word, place):
@@ -288,9 +367,11 @@ class Image:
         # A name would then stand for two things.
         if word in self.files:
             raise OSError(errno.EEXIST, "a file has this name")
+        self._begin_change()
         with self._at(place):
             self.program.mkdir(word)
         self.declared.add(word)
+        self.brought.clear()
         if place.words:
             self.axioms[word] = set(place.words)
 
@@ -310,6 +391,7 @@ class Image:
             return
         for other in below:
             self.take_back(other, inner)
+        self._begin_change()
         if any(word in rights or left != word and head_of(left) == word for left, rights in self.axioms.items()):
             raise OSError(errno.ENOTEMPTY, "an axiom names it")
         for right in sorted(self.axioms.get(word, ())):
@@ -318,3 +400,4 @@ class Image:
         self.program.rmdir(word)
         self.axioms.pop(word, None)
         self.declared.discard(word)
+        self.brought.clear()

@@ -208,6 +208,9 @@ class Tree:
             return False
         if name in (ALL, BY) or name in self.image.declared:
             return True
+        if FILE_NAME.fullmatch(name):
+            # A plain word that is not declared, or none.
+            return False
         try:
             read = formula(name)
         except NotAFormula:
@@ -220,7 +223,7 @@ class Tree:
 
     def _entry(self, node):
         if isinstance(node, Folder):
-            looks = self.looks.get(node.key) or Looks(0o755, self.user, self.group, self.touched)
+            looks = self._looks_of(node)
             found = Attributes(node.inode, 0, 0, looks.accessed, looks.modified, looks.changed, stat.S_IFDIR | looks.mode, FOLDER_LINKS,
                                looks.user, looks.group)
             self.handed.add(node.number)
@@ -232,6 +235,15 @@ class Tree:
                            stat.S_IFREG | looks.mode, 0 if file.is_gone else LINKS, looks.user, looks.group)
         # What writers at other paths do to a draft is not told write by write.
         return Entry(node.number, found, KEPT_SECONDS if draft is None or draft.writers == node.writers else 0)
+
+    def _looks_of(self, node):
+        """Of a file, or of a folder, whose time may be set, and is another one with the next change: any may be one of what it shows."""
+        if isinstance(node, Leaf):
+            return node.file.looks
+        looks = self.looks.get(node.key) or Looks(0o755, self.user, self.group, self.touched)
+        if looks.changed < self.touched:
+            looks.modified = looks.changed = self.touched
+        return looks
 
     def _draft_of(self, node):
         """The draft as far as it is seen at this path."""
@@ -257,8 +269,7 @@ class Tree:
         node = self.nodes[number]
         if changes.size is not None:
             self._resize(node, changes.size, handle)
-        looks = node.file.looks if isinstance(node, Leaf) else self.looks.setdefault(
-            node.key, Looks(0o755, self.user, self.group, self.touched))
+        looks = self._looks_of(node)
         for name in ("mode", "user", "group", "accessed", "modified"):
             if (value := getattr(changes, name)) is not None:
                 setattr(looks, name, value)
@@ -269,6 +280,7 @@ class Tree:
                 draft.modified = changes.modified
             self._tell(node.file)
         else:
+            self.looks[node.key] = looks
             self.changed(number)
         return self._entry(node)
 
@@ -357,9 +369,9 @@ class Tree:
         if len(name) > NAME_LIMIT:
             raise fault(errno.ENAMETOOLONG, "a name has at most 60 bytes")
 
-    def _made(self, folder, name, mode, caller):
+    def _made(self, make, folder, name, mode, caller):
         self._new_name(folder, name)
-        file = self.image.create(name, folder.place)
+        file = make(name, folder.place)
         self._now_changed()
         self._begin(file, mode & 0o7777, caller.user, caller.group)
         return self._leaf(folder, file)
@@ -368,7 +380,7 @@ class Tree:
     def mknod(self, number, name, mode, caller):
         if stat.S_IFMT(mode) not in (0, stat.S_IFREG):
             raise fault(errno.EPERM, "an image keeps files alone")
-        return self._entry(self._made(self._folder(number), name, mode, caller))
+        return self._entry(self._made(self.image.create, self._folder(number), name, mode, caller))
 
     @answering
     def create(self, number, name, flags, mode, caller):
@@ -376,7 +388,8 @@ class Tree:
         file = self._file_at(folder, name)
         if file and flags & os.O_EXCL:
             raise fault(errno.EEXIST, "it is here already")
-        node = self._leaf(folder, file) if file else self._made(folder, name, mode, caller)
+        make = self.image.begin if flags & os.O_ACCMODE != os.O_RDONLY else self.image.create
+        node = self._leaf(folder, file) if file else self._made(make, folder, name, mode, caller)
         handle = self._opened(node, flags)
         return self._entry(node), handle
 
@@ -573,14 +586,19 @@ class Tree:
         """Somebody closes the file. A shell opens the file of `> x`, makes it the output of what it runs, and closes the first of the two,
         before a byte is written: that is no end of the writing."""
         handle = self.handles[handle]
-        draft = handle.file.draft
-        if handle.writes and draft.is_dirty and not (draft.is_emptied and is_open_in(process, handle.node.inode)):
-            self._commit(handle.node)
+        if handle.writes and self._is_unstored(handle.file):
+            draft = handle.file.draft
+            if draft.is_dirty and not draft.is_emptied or not is_open_in(process, handle.node.inode):
+                self._commit(handle.node)
+
+    def _is_unstored(self, file):
+        """Whether it has other bytes than in the image, or isn't there yet."""
+        return file.draft.is_dirty or file is self.image.waiting
 
     @answering
     def fsync(self, handle):
         node = self.handles[handle].node
-        if node.file.draft and node.file.draft.is_dirty:
+        if node.file.draft and self._is_unstored(node.file):
             self._commit(node)
 
     def _commit(self, node):
@@ -588,14 +606,14 @@ class Tree:
         file = node.file
         if not file.is_gone:
             try:
-                self.image.write(file, bytes(file.draft.content))
+                self.image.write(file, bytes(file.draft.content or b""))
             except Refused:
                 file.draft.is_refused = True
                 raise
         self._is_stored(file, node)
 
     def _is_stored(self, file, node):
-        file.looks.modified = file.draft.modified
+        file.looks.modified = file.draft.modified or file.looks.modified
         file.draft.is_dirty = file.draft.is_emptied = file.draft.is_refused = False
         file.version += 1
         self._tell(file, node)
@@ -619,7 +637,7 @@ class Tree:
             return
         try:
             # What was written through memory, behind the last close. What a close was refused is dropped: its caller was told.
-            if draft.is_dirty and not draft.is_refused:
+            if self._is_unstored(file) and not draft.is_refused:
                 self._commit(node)
         except Refused as refused:
             print(f"mount: {file.name.decode()}: what was written behind the last close is lost: {refused}", file=sys.stderr)
