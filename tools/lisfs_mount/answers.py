@@ -13,6 +13,7 @@ import tempfile
 import threading
 
 from lisfs_client import PROGRAM, Ended, Program
+from waiting import LONG
 from lisfs_mount import asking, attach, kernel
 from lisfs_mount.asking import Asker, Direct, Real
 from lisfs_mount.dumps import NotADump, opened
@@ -197,7 +198,7 @@ class Mount:
     def ended(self):
         """The status, and what else was said."""
         try:
-            said = self.child.communicate(timeout=30)[1].decode()
+            said = self.child.communicate(timeout=LONG)[1].decode()
         except subprocess.TimeoutExpired:
             self.child.kill()
             said = "no end"
