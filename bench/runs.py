@@ -20,7 +20,7 @@ MOST, LOOK = 60, 60
 
 class Ran(typing.NamedTuple):
     """How a run ended: its exit code, or what ended it, and its bytes and its text on both streams."""
-    code: int | str
+    code: typing.Union[int, str]
     out: bytes
     error: str
 

@@ -37,6 +37,7 @@ import fcntl
 import os
 import re
 import select
+import signal
 import subprocess
 import tempfile
 
@@ -51,7 +52,7 @@ FULL = b"full: eight clients are here\n"
 # No line of a reply is as long.
 SHOWN = 2_048
 # How long a program that has closed its output may take to end, in seconds.
-PATIENCE = 10
+PATIENCE = 60
 LINES, CONTENT = "lines", "content"
 COUNT = re.compile(rb"[0-9]{1,12}")
 WORD = re.compile(rb"[^ \t]+")
@@ -270,16 +271,28 @@ class Commands:
 
 
 class Program(Commands):
-    """A program that runs. `command` is its path and its words, and `rooms` says that it serves rooms. Where it can't be started, the
-    `OSError` of that is raised.
+    """A program that runs. `command` is its path and its words, and `rooms` says that it serves rooms. The signals `unheard` never reach it,
+    so that who gets them with it, as from a terminal, can let it come to its end. Where it can't be started, the `OSError` of that is raised.
 
     At the end of a `with` block it is closed. One that is no session, as `lisfs make`, is run by `Program(command).close()`.
     """
 
-    def __init__(self, command, rooms=False):
+    def __init__(self, command, rooms=False, unheard=()):
         # What it says is kept in a file, which never fills up as a pipe would.
         self._said = tempfile.TemporaryFile()
-        self._child = subprocess.Popen(command, stdin=subprocess.PIPE, stdout=subprocess.PIPE, stderr=self._said, bufsize=0)
+        # They are held back while it begins, so that none that is ours is lost, as where they were ignored here meanwhile.
+        before = signal.pthread_sigmask(signal.SIG_BLOCK, unheard)
+
+        def begin():
+            for number in unheard:
+                signal.signal(number, signal.SIG_IGN)
+            signal.pthread_sigmask(signal.SIG_SETMASK, before)
+
+        try:
+            self._child = subprocess.Popen(command, stdin=subprocess.PIPE, stdout=subprocess.PIPE, stderr=self._said, bufsize=0,
+                                           preexec_fn=begin if unheard else None)
+        finally:
+            signal.pthread_sigmask(signal.SIG_SETMASK, before)
         os.set_blocking(self._child.stdin.fileno(), False)
         self._has_rooms, self._replies, self._is_cut, self._end = rooms, Replies(rooms), False, None
         # The parts that were not written yet, and the tag that is to stand behind each reply that was not received.

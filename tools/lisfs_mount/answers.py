@@ -13,6 +13,7 @@ import tempfile
 import threading
 
 from lisfs_client import PROGRAM, Ended, Program
+from waiting import LONG
 from lisfs_mount import asking, attach, kernel
 from lisfs_mount.asking import Asker, Direct, Real
 from lisfs_mount.dumps import NotADump, opened

@@ -99,6 +99,8 @@ def stops():
 def answered(connection, folder, stop, program):
     """Answers until the folder is unmounted, and closes the device. A stop, or the end of the program, unmounts it; whether it was not the
     latter."""
+    # What can be read may be taken back before it is, as where the asker is killed, and then a read would wait, and no stop be seen.
+    os.set_blocking(connection.device, False)
     poll = select.poll()
     for descriptor in (connection.device, stop, program):
         poll.register(descriptor, select.POLLIN)
@@ -122,6 +124,6 @@ def answered(connection, folder, stop, program):
     finally:
         os.close(connection.device)
     if until is not None:
-        # Nothing waits for an answer any more.
+        # Nothing holds it up now, since nobody waits for an answer any more.
         ending.join()
     return is_wanted

@@ -1,8 +1,12 @@
 """What an image holds, read out of the session that makes it again, as `lisfs dump IMAGE` shows it."""
 import os
 import signal
+import time
 
 from lisfs_client import PROGRAM, Program, shown
+
+# The clock by which changes are noted goes on in steps of so many nanoseconds at most, and of two seconds where it knows whole ones alone.
+STEP, WHOLE = 20_000_000, 2 * 10**9
 
 
 class NotADump(ValueError):
@@ -60,31 +64,40 @@ def dumped(image):
         return read_dump(stream)
 
 
+def times_of(image):
+    """When it was changed, and which file it is; None where there is none, as the program then tells."""
+    try:
+        found = os.stat(image)
+    except OSError:
+        return None
+    return found.st_ctime_ns, found.st_mtime_ns, found.st_ino
+
+
+def settled(image):
+    """The image's times of change, when each later change will have others."""
+    for _ in range(100):
+        now, times = time.time_ns(), times_of(image)
+        if times is None or not times[0] <= now < times[0] + (STEP if times[0] % 10**9 else WHOLE):
+            break
+        time.sleep(STEP / 10**9)
+    return times
+
+
 def opened(image, tries=8):
     """A session that runs over an image, and what the image holds.
 
-    Nobody has the lock between the end of the dump and the session's first reply. So the image's time of change tells whether somebody
-    else wrote it meanwhile; it is then dumped again. The opening itself may write, where it ends what a stop left in the middle.
+    Nobody has the lock between the end of the dump and the session's first reply. So the image's time of change tells whether anybody
+    wrote it since the dump began; it is then dumped again. The first opening itself may write, where it ends what a stop left in the middle.
     """
     for _ in range(tries):
-        dump = dumped(image)
-        before = os.stat(image)
-        program = started(image)
+        before, dump, program = settled(image), dumped(image), started(image)
         counts = dict(text.split() for _, text in program.stat().body)
-        after = os.stat(image)
-        if (before.st_ctime_ns, before.st_mtime_ns, before.st_ino) == (after.st_ctime_ns, after.st_mtime_ns, after.st_ino) \
-                and int(counts[b"files"]) == len(dump.files):
+        if before == times_of(image) and int(counts[b"files"]) == len(dump.files):
             return program, dump
         program.close()
     raise NotADump(f"{image} changes all the time")
 
 
 def started(image):
-    """A stop from the terminal is for the mount, which then lets the program come to its end."""
-    numbers = (signal.SIGINT, signal.SIGHUP)
-    before = {number: signal.signal(number, signal.SIG_IGN) for number in numbers}
-    try:
-        return Program([PROGRAM, "run", image])
-    finally:
-        for number, handler in before.items():
-            signal.signal(number, handler)
+    """A stop of all that was started together is for the mount, which then lets the program come to its end."""
+    return Program([PROGRAM, "run", image], unheard=(signal.SIGINT, signal.SIGTERM, signal.SIGHUP))

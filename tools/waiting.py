@@ -1,0 +1,136 @@
+"""What tests wait for: until something is so, and never a time that is meant to be enough. For tests alone.
+
+So no verdict counts on how quick a machine is, or on what else it has to do. LONG is no measure of anything: what has not come by then is
+taken to come no more, and the test that waits for it fails in place of staying.
+"""
+import contextlib
+import fcntl
+import os
+import select
+import signal
+import struct
+import termios
+import time
+
+LONG = 900
+# How long a group of checks may take, in seconds.
+LONGEST = 4 * LONG
+
+
+class TooLong(BaseException):
+    """A group of checks had no end. It is no `Exception`, since a test may take the system's errors for answers."""
+
+
+def until(is_so):
+    """What something is as soon as it is true, or, where it does not get so, what it is at last."""
+    limit = time.monotonic() + LONG
+    while not (found := is_so()) and time.monotonic() < limit:
+        time.sleep(0.005)
+    return found
+
+
+@contextlib.contextmanager
+def with_an_end():
+    """Raises `TooLong` where the block has no end."""
+    def too_long(*_):
+        raise TooLong
+
+    before = signal.signal(signal.SIGALRM, too_long)
+    signal.alarm(LONGEST)
+    try:
+        yield
+    finally:
+        signal.alarm(0)
+        signal.signal(signal.SIGALRM, before)
+
+
+def hear(*numbers):
+    """From now on what is started gets these signals, also where this was started by what ignores them, as `nohup` or a shell's `&` does."""
+    for number in numbers:
+        if signal.getsignal(number) == signal.SIG_IGN:
+            signal.signal(number, signal.SIG_DFL)
+    signal.pthread_sigmask(signal.SIG_UNBLOCK, numbers)
+
+
+# Processes.
+
+def state_of(process):
+    """The letter of a process's state and the number of its parent, or None where there is no such process."""
+    try:
+        with open(f"/proc/{process}/stat", encoding="ascii", errors="replace") as told:
+            state, parent = told.read().rpartition(")")[2].split()[:2]
+    except OSError:
+        return None
+    return state, int(parent)
+
+
+def children(process):
+    """The processes that this one has started."""
+    states = {int(name): state_of(name) for name in os.listdir("/proc") if name.isdigit()}
+    return sorted(number for number, state in states.items() if state and state[1] == process)
+
+
+def is_running(process):
+    state = state_of(process)
+    return state is not None and state[0] not in "ZX"
+
+
+def waits_of(process):
+    """How often a process waited so far, where it waits now, and neither for a processor nor for a disk, and has found all signals; else None."""
+    try:
+        with open(f"/proc/{process}/status", encoding="ascii", errors="replace") as told:
+            rows = dict(row.split(":", 1) for row in told)
+    except OSError:
+        return None
+    to_be_found = int(rows["ShdPnd"], 16) & ~int(rows["SigBlk"], 16)
+    return int(rows["voluntary_ctxt_switches"]) if rows["State"].split()[0] == "S" and not to_be_found else None
+
+
+def rest(*processes):
+    """Waits until all of these do nothing any more before something comes from elsewhere."""
+    looks = [[None]]
+
+    def is_so():
+        looks.append([waits_of(process) for process in processes])
+        return None not in looks[-1] and looks[-1] == looks[-2]
+
+    return until(is_so)
+
+
+def stop(process):
+    """Stops a process until it is killed or goes on. It takes nothing in from now on."""
+    os.kill(process, signal.SIGSTOP)
+    return until(lambda: (state_of(process) or "T")[0] == "T")
+
+
+# Pipes and sockets.
+
+def unread(descriptor):
+    """How many bytes can be read there now."""
+    return struct.unpack("i", fcntl.ioctl(descriptor, termios.FIONREAD, bytes(4)))[0]
+
+
+@contextlib.contextmanager
+def input_of(process, flags):
+    """The pipe from which a process takes its input."""
+    pipe = os.open(f"/proc/{process}/fd/0", flags | os.O_NONBLOCK)
+    try:
+        yield pipe
+    finally:
+        os.close(pipe)
+
+
+def not_taken(process):
+    """How many bytes of its input a process has not taken, or none where it has no such pipe yet, or no more."""
+    with contextlib.suppress(OSError), input_of(process, os.O_RDONLY) as pipe:
+        return unread(pipe)
+    return 0
+
+
+def is_full(process):
+    """Whether the pipe from which a process takes its input takes no more."""
+    poll = select.poll()
+    with contextlib.suppress(OSError), input_of(process, os.O_WRONLY) as pipe:
+        poll.register(pipe, select.POLLOUT)
+        return not poll.poll(0)
+    return False
