@@ -70,6 +70,9 @@ class Direct:
             raise FileExistsError(errno.EEXIST, path)
         self.tree.mkdir(*self.above(path), 0o755, self.caller)
 
+    def mknod(self, path):
+        self.tree.mknod(*self.above(path), stat.S_IFREG | 0o644, self.caller)
+
     def rmdir(self, path):
         self.walk(path)
         self.tree.rmdir(*self.above(path))

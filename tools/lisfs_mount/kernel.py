@@ -38,6 +38,7 @@ SECOND = 1_000_000_000
 # The bits of SETATTR.
 MODE, OWNER, GROUP, SIZE, ACCESSED, MODIFIED, HANDLE, ACCESSED_NOW, MODIFIED_NOW = (1 << bit for bit in range(9))
 
+# `process` is the number of the thread that asks, and 0 where it is none that is seen from here.
 Caller = collections.namedtuple("Caller", "user group process")
 # The times are in nanoseconds since 1970.
 Attributes = collections.namedtuple("Attributes", "inode size blocks accessed modified changed mode links user group")
@@ -99,6 +100,7 @@ class Connection:
         if not count:
             raise Unmounted
         _, code, unique, node, user, group, process = IN.unpack_from(self.buffer)
+        self.handlers.asker = process
         try:
             # What isn't known here isn't asked again: the kernel does without.
             call = self.calls.get(code)

@@ -143,8 +143,11 @@ class Tree:
         self.nodes, self.keys, self.looks, self.handles, self.numbers = {1: root}, {root.key: root}, {}, {}, 1
         for file in image.everything:
             self._begin(file, 0o644, self.user, self.group)
-        # Is told the number of each node whose attributes are others than those that were handed out; and the folders of which any were.
-        self.changed, self.handed = lambda number: None, set()
+        # Is told the number of each node whose attributes are others than those that were handed out.
+        self.changed = lambda number: None
+        # The thread that asks, where it is known, and of each folder whose attributes were handed out since the last change the thread
+        # that has them. 0 is none that is known, or several.
+        self.asker, self.handed = 0, {}
 
     def _begin(self, file, mode, user, group):
         file.looks, file.draft, file.handles, file.nodes = Looks(mode, user, group, self.touched), None, 0, set()
@@ -226,7 +229,7 @@ class Tree:
             looks = self._looks_of(node)
             found = Attributes(node.inode, 0, 0, looks.accessed, looks.modified, looks.changed, stat.S_IFDIR | looks.mode, FOLDER_LINKS,
                                looks.user, looks.group)
-            self.handed.add(node.number)
+            self.handed[node.number] = self.asker if self.handed.get(node.number, self.asker) == self.asker else 0
             return Entry(node.number, found, KEPT_SECONDS)
         file, looks, draft = node.file, node.file.looks, self._draft_of(node)
         size = file.size if draft is None or draft.content is None else len(draft.content)
@@ -290,12 +293,16 @@ class Tree:
             if node is not but:
                 self.changed(node.number)
 
-    def _now_changed(self):
-        """What folders show is something else, in any of them."""
-        self.touched = time.time_ns()
-        for number in self.handed:
-            self.changed(number)
-        self.handed.clear()
+    def _now_changed(self, folder=None):
+        """What folders show is something else, in any of them. Of the one in which a call makes or removes a name the kernel knows it by
+        itself, from the answer on. An older answer that another thread has not taken in yet would then count as a newer one."""
+        self.touched, kept = time.time_ns(), {}
+        for number, asker in self.handed.items():
+            if folder and number == folder.number and asker and asker == self.asker:
+                kept[number] = asker
+            else:
+                self.changed(number)
+        self.handed = kept
 
     @answering
     def statfs(self):
@@ -372,7 +379,7 @@ class Tree:
     def _made(self, make, folder, name, mode, caller):
         self._new_name(folder, name)
         file = make(name, folder.place)
-        self._now_changed()
+        self._now_changed(folder)
         self._begin(file, mode & 0o7777, caller.user, caller.group)
         return self._leaf(folder, file)
 
@@ -399,7 +406,7 @@ class Tree:
         file = self._found(folder, name)
         kept = self._kept(file)
         self.image.remove(file)
-        self._is_gone(file, kept)
+        self._is_gone(file, kept, folder)
 
     def _found(self, folder, name):
         file = self._file_at(folder, name)
@@ -412,9 +419,9 @@ class Tree:
         """What somebody who has the file open may still read of it when it is gone."""
         return self.image.content(file) if file.handles else b""
 
-    def _is_gone(self, file, kept):
+    def _is_gone(self, file, kept, folder=None):
         file.kept = kept
-        self._now_changed()
+        self._now_changed(folder)
         self._tell(file)
 
     @answering
