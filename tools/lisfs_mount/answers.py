@@ -23,8 +23,6 @@ from lisfs_mount.kernel import Connection
 from lisfs_mount.tree import Tree
 
 MOUNT = os.path.join(os.path.dirname(os.path.dirname(os.path.abspath(__file__))), "mount")
-# What takes so many seconds has no end: no verdict counts on a quick machine.
-LONG = 300
 
 
 class Tally:
