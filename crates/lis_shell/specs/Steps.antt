@@ -1,10 +1,11 @@
 -- Words that are one step of the model, whatever the step is.
-use Rattle.std.specs.Prelude.{◌≡◌, ℕ, ◌≤◌, ◌<◌, List, [], length, true, false, Option, Result, Ok, Err, refl}
+use Rattle.std.specs.Prelude.{◌≡◌, ℕ, ◌≤◌, ◌<◌, List, [], length, true, false, Option, Some, Result, Ok, Err, refl}
 use Rattle.std.proofs.Common.{inl}
 use Rattle.std.specs.Io.KnownBytes.{append_known, IsAtEnd}
 use Rattle.lis_ports.specs.Meaning.{Meaning}
 use Rattle.lis_ports.specs.Runs.{Always}
 use Rattle.lis_ports.specs.Since.{Begins}
+use Rattle.lis_line.specs.Taking.{TakesFew}
 use Rattle.lis_line.specs.declared.carrier.Halt.{Halt}
 use Rattle.lis_line.specs.declared.carrier.Halt.TheVariants.{End as AtEnd, Limit, InputFault, Stopped}
 use Rattle.lis_model.specs.State.{State}
@@ -59,12 +60,12 @@ ToldStepEnded limit state outcome bytes left before new Limit = (limit < length 
 ToldStepEnded limit state outcome bytes left before new InputFault = NothingDone state before new
 ToldStepEnded limit state outcome bytes left before new (Stopped fault) = StepEnded outcome before new (Err fault)
 
--- the work that is a step from the state, of which an input of at most so many bytes tells
+-- The work that is a step from the state, of which an input of at most so many bytes tells. Of a longer one at most a byte more is taken.
 abbrev pub told_stepping : ℕ → (State → List ℕ → Outcome) → Work
 told_stepping limit outcome = record {
   takes_input = true;
   may_end = λ halt. Unit {0};
-  input = InputRead limit;
+  input = λ bytes left halt. InputRead limit bytes left halt × TakesFew limit (Some bytes) left;
   moment = λ state bytes. InItem state (outcome state bytes);
   ended = λ state bytes. ToldStepEnded limit state (outcome state bytes) bytes;
 }

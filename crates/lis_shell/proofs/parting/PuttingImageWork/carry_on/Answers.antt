@@ -1,8 +1,16 @@
-use Rattle.std.proofs.Common.{sym, subst}
+use Rattle.std.proofs.Common.{ℕ, List, Option, sym, subst}
+use Rattle.lis_line.specs.Taking.{TakesFew}
+use Rattle.lis_parts.specs.Putting.{view_limit}
 use Rattle.lis_store.specs.Stored.{Stored, IsSound, StoreFits}
 use Rattle.lis_session.proofs.Fitting.{store_fits_at}
 use Rattle.lis_shell.proofs.Steps.{put_goes}
 use Rattle.lis_shell.proofs.parting.PuttingImageWork.carry_on.Goals as goal
+
+pub returns-clause-input : goal.returns-clause-input
+returns-clause-input g c = λ bytes told. (
+  c.put_file-halt.ensures.input bytes told,
+  subst (λ (known : Option (List ℕ)). TakesFew view_limit known (g.S.Source.left c.put_file-halt.new.input)) told c.put_file-halt.ensures.few,
+)
 
 pub returns-clause-goes : goal.returns-clause-goes
 returns-clause-goes g c = λ state bytes fits told.
