@@ -3,8 +3,14 @@ use Rattle.lis_line.specs.Taking.{TakesFew}
 use Rattle.lis_parts.specs.Putting.{view_limit}
 use Rattle.lis_store.specs.Stored.{Stored, IsSound, StoreFits}
 use Rattle.lis_session.proofs.Fitting.{store_fits_at}
+use Rattle.lis_shell.proofs.Opened.{session_cause}
 use Rattle.lis_shell.proofs.Steps.{put_goes}
 use Rattle.lis_shell.proofs.parting.PuttingImageWork.carry_on.Goals as goal
+
+pub returns-clause-cause : goal.returns-clause-cause
+returns-clause-cause g c =
+    session_cause (g.T.Disk.meaning c.args.station.now) (g.T.Disk.meaning c.put_file-halt.new.station) (g.S.Source.faults c.args.input.now) (g.S.Source.faults c.put_file-halt.new.input)
+    c.put_file-halt.result c.put_file-halt.ensures.ends.cause c.put_file-halt.ensures.cause
 
 pub returns-clause-input : goal.returns-clause-input
 returns-clause-input g c = λ bytes told. (

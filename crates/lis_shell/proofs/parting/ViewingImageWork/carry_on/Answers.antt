@@ -5,10 +5,23 @@ use Rattle.lis_session.specs.Item.{InItem}
 use Rattle.lis_session.specs.Runs.{Goes}
 use Rattle.lis_session.specs.Session.{root_of}
 use Rattle.lis_session.proofs.Fitting.{store_fits_at}
-use Rattle.lis_shell.specs.Image.{ByResult}
+use Rattle.lis_shell.specs.declared.status.Status.TheVariants.{Ended}
+use Rattle.lis_shell.specs.Causes.{counts, HasStatusCause}
+use Rattle.lis_shell.specs.Image.{ByResult, IsUnread}
 use Rattle.lis_shell.specs.Steps.{StepEnded}
+use Rattle.lis_shell.proofs.Opened.{halted_cause, by_halted}
 use Rattle.lis_shell.proofs.Steps.{step_goes}
 use Rattle.lis_shell.proofs.parting.ViewingImageWork.carry_on.Goals as goal
+
+pub returns-clause-cause : goal.returns-clause-cause
+returns-clause-cause g c =
+    let old = g.T.Disk.meaning c.args.station.now in
+    let new = g.T.Disk.meaning c.view_file-done.new.station in
+    let faults = g.S.Source.faults c.args._input.now in
+    subst (λ halt. HasStatusCause (counts old faults) (counts new faults) (Ended halt)) (sym c.halted.ensures) (halted_cause old new faults c.view_file-done.result c.view_file-done.ensures.ends.cause)
+
+pub returns-clause-only : goal.returns-clause-only
+returns-clause-only g c = subst IsUnread (sym c.halted.ensures) (by_halted (λ result. Unit {0}) c.view_file-done.result tt)
 
 pub returns-clause-goes : goal.returns-clause-goes
 returns-clause-goes g c = λ state bytes fits told.
