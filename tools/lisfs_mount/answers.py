@@ -90,7 +90,7 @@ MESSAGES = (
     (28, struct.pack("=QQIIQII", 4, 1, 32, 0, 0, 0, 0), [(1, 4, b"."), (2, 4, b".."), (3, 8, b"x")],
      (0, struct.pack("=QQII8s", 2, 2, 2, 4, b"..")), ("readdir", 4, 1)),
     (29, HANDLE, None, DONE, ("releasedir", 4)),
-    (30, bytes(16), None, DONE, None),
+    (30, struct.pack("=QII", 4, 0, 0), None, DONE, ("fsyncdir",)),
     (17, b"", kernel.Space(1, 2, 3, 4, 5, 6), (0, struct.pack("=QQQQQIIII24x", 1, 2, 2, 3, 4, 5, 6, 5, 0)), ("statfs",)),
     # What isn't known: attributes of another kind, an interruption, and a call of later kernels.
     (22, bytes(8), None, (errno.ENOSYS, b""), None),

@@ -111,6 +111,13 @@ class Direct:
     def sync(self, handle):
         self.tree.fsync(handle)
 
+    def sync_folder(self, path):
+        handle = self.tree.opendir(self.walk(path))
+        try:
+            self.tree.fsyncdir()
+        finally:
+            self.tree.releasedir(handle)
+
     def close(self, handle):
         try:
             # Some process that is none of ours.
@@ -188,6 +195,13 @@ class Real(Direct):
 
     def sync(self, handle):
         os.fsync(handle)
+
+    def sync_folder(self, path):
+        handle = os.open(self.at(path), os.O_RDONLY | os.O_DIRECTORY)
+        try:
+            os.fsync(handle)
+        finally:
+            os.close(handle)
 
     def close(self, handle):
         os.close(handle)
@@ -292,6 +306,9 @@ class Asker:
 
     def fsync(self, handle):
         self.ask(20, 0, struct.pack("=QII", handle, 0, 0))
+
+    def fsyncdir(self):
+        self.ask(30, 0, bytes(16))
 
     def release(self, handle):
         self.ask(18, 0, struct.pack("=QIIQ", handle, 0, 0, 0))

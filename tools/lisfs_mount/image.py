@@ -31,10 +31,12 @@ def limits_of(path):
 
 
 class File:
-    """A file of the image. `words` are all that it has, as the program says, and `given` those that it surely was given."""
+    """A file of the image. `words` are all that it has, as the program says, and `given` those that it surely was given. `refusal` is what
+    kept a file that waited from being made, and None of all others."""
 
     def __init__(self, name, size, number, given):
         self.name, self.size, self.number, self.words, self.given, self.is_gone = name, size, number, frozenset(), frozenset(given), False
+        self.refusal = None
 
 
 class Image:
@@ -241,18 +243,21 @@ class Image:
         given = self._words_given(place)
         if not self._is_sure(name, place, given):
             return self.create(name, place)
+        # What it may bring is no more there for others.
+        self.spare -= self._most_brought(place, given, name)
         self.waiting = self._take(name, 0, given)
         return self.waiting
 
     def settle(self):
-        """Makes the file that waits, without bytes."""
+        """Makes the file that waits, without bytes. Where the program has ended it still waits, so that no later call takes it for made."""
         if file := self.waiting:
-            self.waiting = None
             try:
                 self.program.create(file.name, *sorted(file.given))
-            except Refused:
+            except Refused as refused:
+                self.waiting, file.refusal = None, refused
                 self._forget(file)
                 raise
+            self.waiting = None
 
     def _is_sure(self, name, place, given):
         """Whether the program would make an empty file with these words, by `create` or by `add`."""
@@ -260,13 +265,14 @@ class Image:
             return False
         if len(b" ".join((b"add", name, b"%d" % self.limits.file_bytes, *given))) > LINE:
             return False
-        count = self._most_brought(place, given, b"ext:" + name.rpartition(b".")[2])
+        count = self._most_brought(place, given, name)
         if self.spare < count:
             self.spare = self.limits.words - self.counts()[b"known"]
         return count <= min(WORDS_LIMIT, self.spare)
 
-    def _most_brought(self, place, given, ending):
-        """No new file with these words and this one of its name's ending has more words, as long as nothing is declared."""
+    def _most_brought(self, place, given, name):
+        """No new file with these words and this name has more words, as long as nothing is declared."""
+        ending = b"ext:" + name.rpartition(b".")[2]
         key = place.words, ending if ending in self.axioms else b"ext:?"
         if key not in self.brought:
             tests = [word for word in self.declared if not is_plain(word) and not head_of(word)]

@@ -79,7 +79,7 @@ class Connection:
         self.calls = {
             1: self.lookup, 2: self.forget, 3: self.getattr, 4: self.setattr, 6: self.symlink, 8: self.mknod, 9: self.mkdir, 10: self.unlink,
             11: self.rmdir, 12: self.rename, 13: self.link, 14: self.open, 15: self.read, 16: self.write, 17: self.statfs, 18: self.release,
-            20: self.fsync, 25: self.flush, 26: self.init, 27: self.opendir, 28: self.readdir, 29: self.releasedir, 30: self.nothing,
+            20: self.fsync, 25: self.flush, 26: self.init, 27: self.opendir, 28: self.readdir, 29: self.releasedir, 30: self.fsyncdir,
             35: self.create, 38: self.nothing, 42: self.forget_all, 45: self.rename_with_flags,
         }
         # These have no reply.
@@ -247,6 +247,10 @@ class Connection:
 
     def releasedir(self, node, body, caller):
         self.handlers.releasedir(LONG.unpack_from(body)[0])
+        return b""
+
+    def fsyncdir(self, node, body, caller):
+        self.handlers.fsyncdir()
         return b""
 
     def statfs(self, node, body, caller):

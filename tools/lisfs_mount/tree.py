@@ -122,13 +122,15 @@ def leaf_inode(folder, file):
 
 
 def is_open_in(process, inode):
-    """Whether a process has a file of this inode open. It is asked by the numbers alone: a look at the file would be a question to us."""
-    told, folder = f"ino:\t{inode}\n", f"/proc/{process}/fdinfo"
+    """Whether a process has a file of this inode open to write. It is asked by the numbers alone: a look at the file would be a question to
+    us."""
+    folder = f"/proc/{process}/fdinfo"
     try:
         for number in os.listdir(folder):
             with open(os.path.join(folder, number), encoding="ascii") as info:
-                if told in info.read():
-                    return True
+                rows = dict(row.rstrip().partition(":\t")[::2] for row in info)
+            if rows.get("ino") == str(inode) and int(rows["flags"], 8) & os.O_ACCMODE != os.O_RDONLY:
+                return True
     except OSError:
         pass
     return False
@@ -338,6 +340,11 @@ class Tree:
         del self.handles[handle]
 
     @answering
+    def fsyncdir(self):
+        """What a folder shows is in the image then, also a new file that somebody is about to write."""
+        self.image.settle()
+
+    @answering
     def mkdir(self, number, name, mode, caller):
         folder = self._folder(number)
         if folder.kind == FILES:
@@ -528,15 +535,24 @@ class Tree:
             if other.writers and other is not node:
                 self.changed(other.number)
 
+    def _must_be_made(self, file):
+        """Raises what kept a new file from being made. Nothing of it is kept, so that no call may say so."""
+        if file.refusal:
+            if file.draft:
+                file.draft.is_refused = True
+            raise file.refusal
+
     def _content(self, node):
         """The bytes as they are seen at this path."""
         draft, file = self._draft_of(node), node.file
+        self._must_be_made(file)
         if draft and draft.content is not None:
             return draft.content
         return file.kept if file.is_gone else self.image.content(file)
 
     def _drafted(self, file):
         """The bytes that are written to."""
+        self._must_be_made(file)
         if file.draft.content is None:
             file.draft.content = bytearray(file.kept if file.is_gone else self.image.content(file))
         return file.draft.content
@@ -593,6 +609,7 @@ class Tree:
         """Somebody closes the file. A shell opens the file of `> x`, makes it the output of what it runs, and closes the first of the two,
         before a byte is written: that is no end of the writing."""
         handle = self.handles[handle]
+        self._must_be_made(handle.file)
         if handle.writes and self._is_unstored(handle.file):
             draft = handle.file.draft
             if draft.is_dirty and not draft.is_emptied or not is_open_in(process, handle.node.inode):
@@ -605,12 +622,14 @@ class Tree:
     @answering
     def fsync(self, handle):
         node = self.handles[handle].node
+        self._must_be_made(node.file)
         if node.file.draft and self._is_unstored(node.file):
             self._commit(node)
 
     def _commit(self, node):
         """Stores the draft whole. Where it is refused it stays, and can be tried again."""
         file = node.file
+        self._must_be_made(file)
         if not file.is_gone:
             try:
                 self.image.write(file, bytes(file.draft.content or b""))
