@@ -93,6 +93,16 @@ KINDS = {
 }
 
 
+# What wrong use says of a word that is none of these.
+RANGES = {
+    "FILES": "a power of two from 64 to 4096",
+    "PROPS": "a multiple of 64 from 64 to 8192",
+    "BLOCKS": "a number from 1 to 32768",
+    "N": "a number from 0 to 2147483647",
+    "NAME": "1 to 60 letters, digits and _ - . + @, and neither . nor ..",
+}
+
+
 def number_of(text):
     """The number that a text is, or one that is never in range."""
     return int(text) if re.fullmatch("[0-9]{1,12}", text) else -1
@@ -111,3 +121,18 @@ def forms_of(usage):
 def is_form(forms, words):
     return any(len(form) == len(words) and all(KINDS[part](word) if part in KINDS else part == word for part, word in zip(form, words))
                for form in forms)
+
+
+def told_of(usage, words):
+    """What wrong use of these words tells, by the text with all forms: what is out of its range, and the forms of the word."""
+    head, *lines = usage.splitlines(keepends=True)
+    own = [line for line in lines if words and line.split()[1] == words[0]]
+    if not own:
+        return head + (f"there is no word '{words[0]}'\n" if words else "") + "".join(lines)
+    told = []
+    for form in forms_of(head + "".join(own)):
+        if len(form) == len(words):
+            told = [(part, word, RANGES[part]) for part, word in zip(form, words) if part in RANGES and not KINDS[part](word)]
+            if form[-1] == "v2" != words[-1]:
+                told.append(("the last word", words[-1], "v2, or left out"))
+    return head + "".join(f"{part} is '{word}', and has to be {range_}\n" for part, word, range_ in told) + "".join(own)

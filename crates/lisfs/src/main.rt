@@ -3,6 +3,7 @@
 
 mod image;
 mod report;
+mod usage;
 
 use image::ImageFile;
 use lis_memdisk::FileStation;
@@ -81,15 +82,14 @@ fn run(rt: &HostRuntime, words: &[String]) -> (Status, Option<Error>) {
 }
 
 fn main(rt: HostRuntime) -> ExitCode {
-    let words = words(&rt);
-    let (status, path, cause) = match &words {
+    let (words, status, cause) = match words(&rt) {
         Ok(words) => {
-            let (status, cause) = run(&rt, words);
-            (status, path_of(words), cause)
+            let (status, cause) = run(&rt, &words);
+            (words, status, cause)
         }
-        Err(status) => (*status, "", None),
+        Err(status) => (Vec::new(rt.alloc()), status, None),
     };
     // A text that can't be printed changes nothing of the exit code.
-    let _ = report::print(&rt, &status, path, cause);
+    let _ = report::print(&rt, &status, &words, cause);
     ExitCode::from(exit_code(&status))
 }

@@ -1,9 +1,9 @@
 //! What standard error says of a run.
 
+use crate::{path_of, usage};
 use lis_model::spot::Spot;
 use lis_open::OpenFault;
 use lis_shell::status::{Status, status_text};
-use lis_shell::words::FORMS;
 use std::io;
 use std::io::{Error, Write};
 
@@ -40,22 +40,32 @@ fn write_cause(
     writeln!(error, "{path}: {}", words_of(text.as_str()))
 }
 
-/// Prints the text of a status, and below it what more is known of its cause.
-pub fn print(
+// What `--help` and `--version` ask for, on standard output.
+fn print_parts(rt: &HostRuntime, parts: &[&[u8]]) -> io::Result<()> {
+    let mut out = io::writer(rt);
+    for part in parts {
+        out.write_all(part)?;
+    }
+    Ok(())
+}
+
+// The text of a status, and below it what more is known of its cause.
+fn print_status(
     rt: &HostRuntime,
     status: &Status,
-    path: &str,
+    words: &[String],
     cause: Option<Error>,
 ) -> io::Result<()> {
     let text = status_text(status);
     if text.is_empty() {
         return Ok(());
     }
+    let path = path_of(words);
     let mut error = rt.stderr();
     error.write_all(text.bytes())?;
     error.write_all(b"\n")?;
     match status {
-        Status::Usage => error.write_all(FORMS),
+        Status::Usage => usage::print(&mut error, words),
         Status::Opening(OpenFault::Damaged(spot)) => {
             write!(error, "{path}: ")?;
             write_spot(&mut error, spot)
@@ -67,5 +77,18 @@ pub fn print(
             Some(cause) if status.is_disk_fault() => write_cause(rt, &mut error, path, &cause),
             _ => Ok(()),
         },
+    }
+}
+
+/// Says on standard error how it ended and why; to `--help` and `--version`, on standard output, what they ask for.
+pub fn print(
+    rt: &HostRuntime,
+    status: &Status,
+    words: &[String],
+    cause: Option<Error>,
+) -> io::Result<()> {
+    match usage::asked_for(words) {
+        Some(parts) => print_parts(rt, parts),
+        None => print_status(rt, status, words, cause),
     }
 }

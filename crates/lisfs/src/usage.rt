@@ -1,0 +1,148 @@
+//! What is amiss with words that are in no form, and what `--help` and `--version` ask for.
+
+use lis_model::limits::{is_blocks_limit, is_files_limit, is_props_limit};
+use lis_shell::words::FORMS;
+use lis_words::{read_count, read_name};
+use std::io;
+use std::io::Write;
+
+const HELP: &[u8] = b"LISFS keeps files by words, in an image that is one file.
+
+";
+
+const RANGES: &[u8] = b"
+make makes IMAGE an empty image, over whatever is there; run carries out the commands of its input.
+FILES is a power of two from 64 to 4096, PROPS a multiple of 64 from 64 to 8192, BLOCKS from 1 to 32768.
+With v2 a file may have 1048576 bytes, and else 65536. NAME is a file, and F a formula over its lines.
+N is a number below 2147483648; grow is a trial, not for an image with files of your own.
+docs/GUIDE.md is a page for users, and docs/lisfs.1 a man page.
+";
+
+const VERSION: &[u8] = b"lisfs, unreleased; images of versions 1 and 2
+";
+
+/// What words that are in no form ask for, where it is a text alone.
+pub fn asked_for(words: &[String]) -> Option<&'static [&'static [u8]]> {
+    match words {
+        [word] if word.as_str() == "--help" => Some(&[HELP, FORMS, RANGES]),
+        [word] if word.as_str() == "--version" => Some(&[VERSION]),
+        _ => None,
+    }
+}
+
+fn is_files(word: &str) -> bool {
+    match read_count(word.as_bytes()) {
+        Some(files) => is_files_limit(files),
+        None => false,
+    }
+}
+
+fn is_props(word: &str) -> bool {
+    match read_count(word.as_bytes()) {
+        Some(props) => is_props_limit(props),
+        None => false,
+    }
+}
+
+fn is_blocks(word: &str) -> bool {
+    match read_count(word.as_bytes()) {
+        Some(blocks) => is_blocks_limit(blocks),
+        None => false,
+    }
+}
+
+// One word that is out of its range.
+fn write_word(error: &mut impl Write, name: &str, word: &str, range: &str) -> io::Result<()> {
+    writeln!(error, "{name} is '{word}', and has to be {range}")
+}
+
+fn write_numbers(error: &mut impl Write, files: &str, props: &str, blocks: &str) -> io::Result<()> {
+    if !is_files(files) {
+        write_word(error, "FILES", files, "a power of two from 64 to 4096")?;
+    }
+    if !is_props(props) {
+        write_word(error, "PROPS", props, "a multiple of 64 from 64 to 8192")?;
+    }
+    if !is_blocks(blocks) {
+        write_word(error, "BLOCKS", blocks, "a number from 1 to 32768")?;
+    }
+    Ok(())
+}
+
+fn write_limits(error: &mut impl Write, limits: &[String]) -> io::Result<()> {
+    match limits {
+        [files, props, blocks] => {
+            write_numbers(error, files.as_str(), props.as_str(), blocks.as_str())
+        }
+        [files, props, blocks, last] => {
+            write_numbers(error, files.as_str(), props.as_str(), blocks.as_str())?;
+            if last.as_str() == "v2" {
+                return Ok(());
+            }
+            write_word(error, "the last word", last.as_str(), "v2, or left out")
+        }
+        _ => Ok(()),
+    }
+}
+
+// NAME of `view` and `put`.
+fn write_name(error: &mut impl Write, name: &str) -> io::Result<()> {
+    if read_name(name.as_bytes()).is_some() {
+        return Ok(());
+    }
+    write_word(
+        error,
+        "NAME",
+        name,
+        "1 to 60 letters, digits and _ - . + @, and neither . nor ..",
+    )
+}
+
+// What is out of its range, a line each. Nothing where there are too few words, or too many: then the form says it.
+fn write_ranges(error: &mut impl Write, words: &[String]) -> io::Result<()> {
+    match words {
+        [word, limits @ ..] if word.as_str() == "try" => write_limits(error, limits),
+        [word, _, limits @ ..] if word.as_str() == "make" => write_limits(error, limits),
+        [word, _, number] if word.as_str() == "grow" => {
+            write_word(error, "N", number.as_str(), "a number from 0 to 2147483647")
+        }
+        [word, _, name, _] if word.as_str() == "view" || word.as_str() == "put" => {
+            write_name(error, name.as_str())
+        }
+        _ => Ok(()),
+    }
+}
+
+// Whether a line of the forms is of a word.
+fn is_form_of(line: &[u8], word: &str) -> bool {
+    match line.split(|byte| *byte == b' ').nth(1) {
+        Some(name) => name == word.as_bytes(),
+        None => false,
+    }
+}
+
+// The forms of a word; whether there is one.
+fn write_forms_of(error: &mut impl Write, word: &str) -> io::Result<bool> {
+    let mut is_there = false;
+    for line in FORMS.split(|byte| *byte == b'\n') {
+        if is_form_of(line, word) {
+            error.write_all(line)?;
+            error.write_all(b"\n")?;
+            is_there = true;
+        }
+    }
+    Ok(is_there)
+}
+
+/// Prints what is out of its range, and the form of the word; where there is no such word, or none at all, all forms.
+pub fn print(error: &mut impl Write, words: &[String]) -> io::Result<()> {
+    let Some(word) = words.first() else {
+        return error.write_all(FORMS);
+    };
+    write_ranges(error, words)?;
+    if write_forms_of(error, word.as_str())? {
+        return Ok(());
+    }
+    writeln!(error, "there is no word '{word}'")?;
+    error.write_all(FORMS)
+}
