@@ -1,9 +1,10 @@
-//! The file that holds an image.
+//! The file, or the block device, that holds an image.
 
 use std::fs::{self, File, OpenOptions, TryLockError};
 use std::io;
-use std::io::{Error, ErrorKind};
+use std::io::{Error, ErrorKind, Seek, SeekFrom};
 use std::os::fd::AsRawFd;
+use std::os::unix::fs::FileTypeExt;
 use std::path::Path;
 
 /// An image's file, with its lock held, and how many bytes it has.
@@ -55,12 +56,18 @@ fn folder_of(path: Path<'_>) -> Path<'_> {
     }
 }
 
-// Makes the file at least so long. A power loss then doesn't take it away: its length and its name are kept. The folder is that of
-// the file and not that of a symbolic link to it, and it is opened before the file gets its length.
+// How many bytes a file or a block device has. The metadata of a device say none, so its end is looked for.
+fn len_of(mut file: &File) -> io::Result<u64> {
+    file.seek(SeekFrom::End(0))
+}
+
+// Makes the file at least so long; a block device keeps its length. A power loss then doesn't take it away: its length and its name are
+// kept. The folder is that of the file and not that of a symbolic link to it, and it is opened before the file gets its length.
 fn lengthen(rt: &HostRuntime, path: &str, file: &File, len: u64) -> io::Result<()> {
     let real = fs::canonicalize(rt, path)?;
     let folder = File::open(rt, folder_of(real.as_path()))?;
-    if file.metadata()?.len() < len {
+    let is_device = file.metadata()?.file_type().is_block_device();
+    if !is_device && len_of(file)? < len {
         file.set_len(len)?;
     }
     file.sync_all()?;
@@ -92,6 +99,6 @@ pub fn open(rt: &HostRuntime, path: &str, needed: Option<u64>) -> io::Result<Ima
     if let Some(len) = needed {
         lengthen(rt, path, &file, len)?;
     }
-    let len = file.metadata()?.len();
+    let len = len_of(&file)?;
     Ok(ImageFile { file, len })
 }

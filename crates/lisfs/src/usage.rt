@@ -6,7 +6,7 @@ use lis_words::{read_count, read_name};
 use std::io;
 use std::io::Write;
 
-const HELP: &[u8] = b"LISFS keeps files by words, in an image that is one file.
+const HELP: &[u8] = b"LISFS keeps files by words, in an image that is one file or block device.
 
 ";
 
