@@ -1,7 +1,7 @@
 """The pages: HTML made of what an image tells. Each works without a script, and has no address but of these pages."""
 import collections
 
-from lisfs_mount.formulas import head_of
+from lisfs_mount.formulas import TEXT_LIMIT, head_of
 
 from lisfs_browse.contents import SHOWN, cut, mail_of, text_of
 from lisfs_browse.image import kind_of
@@ -67,10 +67,11 @@ class Pages:
     def field(self, label, name, **more):
         return element("label", element("span", label), element("input", name=name, autocapitalize="none", autocomplete="off", spellcheck="false", **more))
 
-    def told(self, title, sentence, back=None):
-        """A page with one sentence."""
-        return self.whole(title, element("h1", title), element("p", sentence, class_="refusal", role="alert"),
-                          element("p", link("Back", *back[:1], **back[1]) if back else link("To all files", "")))
+    def told(self, title, sentence, back=None, meant=()):
+        """A page with one sentence, and what it is about."""
+        about = element("p", [(" ", element("code", text)) for text in meant]) if meant else None
+        return self.whole(title, element("h1", title), about, element("p", sentence, class_="refusal", role="alert"),
+                          element("p", link("Back", back[0], **back[1]) if back else link("To all files", "")))
 
     def wrong_place(self, typed, sentence):
         return self.whole("No such place", element("h1", "There is no such place"), element("p", element("code", typed)),
@@ -283,7 +284,9 @@ class Pages:
             return element("section", element("h2", "Change", id="change"),
                            element("p", "Files are uploaded and words declared at places of words alone, as at ", link("all files", ""), ".", class_="hint"),
                            class_="changes", aria_labelledby="change")
-        here, given = self.hidden(at=place.text), [word for word in place.words if not word.endswith(b":")]
+        # Heads, and words that files have by themselves, are not given.
+        given = [word for word in place.words if not word.endswith(b":") and (head_of(word) is None or head_of(word) in self.image.declared)]
+        here = self.hidden(at=place.text)
         return element(
             "section", element("h2", "Change", id="change"),
             self.form("upload", here, element("label", element("span", "Upload a file"), element("input", type="file", name="file", required=True)),
@@ -347,8 +350,5 @@ class Pages:
 
 def place_of(text):
     """The place to go back to, which a form or an address names: that of a text that the program has printed, or else the root."""
-    try:
-        return Place(text.removeprefix(b"/") or b"/")
-    except ValueError:
-        return Place(b"/")
+    return Place(text.removeprefix(b"/") or b"/" if len(text) <= TEXT_LIMIT + 1 else b"/")
 

@@ -15,6 +15,7 @@ import os
 import re
 import secrets
 import sys
+import traceback
 import urllib.parse
 
 from lisfs_client import Ended, NotAReply, NotSent, Refused
@@ -33,6 +34,8 @@ POLICY = ("default-src 'none'; style-src 'self'; script-src 'self'; img-src 'sel
           "frame-ancestors 'none'")
 ONCE = ("Host", "Origin", "Content-Length", "Content-Type", "Cookie", "Sec-Fetch-Site")
 COOKIE = "lisfs"
+# What a page names that tells of a refusal.
+MEANT = ("name", "other", "word", "words", "left", "right")
 
 # `headers` are pairs, beside those that each answer has.
 Answer = collections.namedtuple("Answer", "status kind body headers", defaults=((),))
@@ -141,7 +144,7 @@ class Site:
         request = Request(head)
         if request.header("Host") not in self.hosts:
             raise Wrong(403, "This address is not served here. Open the address that tools/browse has printed.")
-        if (request.header("Origin") or "http://" + request.header("Host")) != "http://" + request.header("Host"):
+        if request.header("Origin") not in (None, "http://" + request.header("Host")):
             raise Wrong(403, "A page from elsewhere may not ask here.")
         if request.command not in ("GET", "POST"):
             raise Wrong(405, "Only pages and forms are served here.")
@@ -187,7 +190,7 @@ class Site:
     # What is asked for.
 
     def answer(self, request, body):
-        """The answer to a request that was admitted. Never raises but for what is no fault of the request."""
+        """The answer to a request that was admitted."""
         if request.page == "/":
             return Answer(303, TEXT, b"", (("Location", self.top), ("Set-Cookie", f"{COOKIE}={self.cookie}; Path={self.top}; HttpOnly; SameSite=Strict")))
         page = request.page[len(self.top):]
@@ -212,7 +215,13 @@ class Site:
             return self._over("what it showed was no reply")
         except Ended as end:
             return self._over(": ".join(end.text.splitlines()) or str(end))
-        return Answer(status, HTML, self.pages.told("Refused" if status == 409 else "Not here", told, self._back(request, body)).encode())
+        except Exception:
+            # A mistake of these pages ends one of them, and not the session.
+            traceback.print_exc()
+            told, status = "These pages have a mistake here, which standard error tells. Nothing else is touched by it.", 500
+        given = self._given(request, body)
+        meant = [given[name] for name in MEANT if given.get(name)]
+        return Answer(status, HTML, self.pages.told("Refused" if status == 409 else "Not here", told, self._back(given), meant).encode())
 
     def refused(self, wrong):
         """The answer to a request that is refused. To who is not known it says nothing that not everybody may know."""
@@ -249,12 +258,15 @@ class Site:
             raise Wrong(415, "This is no form.")
         return fields(body.decode("latin-1"))
 
-    def _back(self, request, body):
-        """Where a page leads back to that tells of a refusal: to the file or the place of the form."""
+    def _given(self, request, body):
+        """The fields of a request that was looked at before."""
         try:
-            given = self._form(request, body) if request.command == "POST" else fields(request.query)
+            return self._form(request, body) if request.command == "POST" else fields(request.query)
         except Wrong:
-            return None
+            return {}
+
+    def _back(self, given):
+        """Where a page leads back to that tells of a refusal: to the file or the place of the form."""
         if given.get("name", b"") in self.image.index.files:
             return "file", {"name": given["name"], "at": given.get("at")}
         return ("declared", {}) if given.get("to") == b"declared" or "left" in given else ("", {"at": given.get("at")})
