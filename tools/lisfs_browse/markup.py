@@ -4,6 +4,8 @@ import urllib.parse
 
 VOID = {"input", "link", "meta", "br"}
 CONTROLS = {code: 0x2400 + code for code in range(32) if code not in (9, 10)} | {0x7F: 0x2421} | {code: 0xFFFD for code in range(0x80, 0xA0)}
+# What makes a text run the other way, so that it is read as another one than it is.
+CONTROLS |= {code: 0xFFFD for code in (*range(0x202A, 0x202F), *range(0x2066, 0x206A))}
 
 
 class Markup(str):
@@ -45,12 +47,12 @@ def element(kind, *parts, **attributes):
     return Markup(begin if kind in VOID else f"{begin}{together(parts)}</{kind}>")
 
 
-def address(page, **given):
+def address(page, /, **given):
     """The address of a page, with what it is given. None is not given, and `_` at the end of a name is dropped."""
     query = "&".join(f"{name.rstrip('_')}={urllib.parse.quote(value if isinstance(value, bytes) else str(value), safe='/:@!(),')}"
                      for name, value in given.items() if value is not None)
     return f"{page or './'}?{query}" if query else page or "./"
 
 
-def link(label, page, attributes=None, **given):
+def link(label, page, attributes=None, /, **given):
     return element("a", label, href=address(page, **given), **(attributes or {}))

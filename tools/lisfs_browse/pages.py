@@ -165,7 +165,7 @@ class Pages:
         return element("table", element("thead", element("tr", element("th", "Name", scope="col"), element("th", "Bytes", scope="col", class_="count"))),
                        element("tbody", rows), class_="files")
 
-    def turning(self, at, size, length, page, **given):
+    def turning(self, at, size, length, page, /, **given):
         """The links from page to page of a list."""
         last = max(0, (length - 1) // size)
         if not last:
@@ -215,9 +215,11 @@ class Pages:
             element("p", f"{number(len(content))} byte{'' if len(content) == 1 else 's'}. ",
                     link("Download", "bytes", name=file.name), ". ", link("Back to the place", "", at=place.text)),
             element("nav", element("span", "Way to it: "), element("ol", [element("li", step) for step in route]), class_="route", aria_label="Way to the file"),
-            element("section", element("h2", "Words", id="words"), self.described(file, place), aria_labelledby="words"),
-            self.file_changes(file, place) if self.can_write else None,
-            element("section", element("h2", "What is in it", id="bytes"), self.shown(file, content, place, as_text), aria_labelledby="bytes"),
+            element("div",
+                    element("section", element("h2", "Words", id="words"), self.described(file, place), class_="about", aria_labelledby="words"),
+                    element("section", element("h2", "What is in it", id="bytes"), self.shown(file, content, place, as_text), class_="within",
+                            aria_labelledby="bytes"),
+                    self.file_changes(file, place) if self.can_write else None, class_="sheet"),
             place=place)
 
     def described(self, file, place):

@@ -19,7 +19,7 @@ import traceback
 import urllib.parse
 
 from lisfs_client import Ended, NotAReply, NotSent, Refused
-from lisfs_mount.formulas import FILE_NAME, NAME_LIMIT
+from lisfs_mount.formulas import FILE_NAME, NAME_LIMIT, TEXT_LIMIT
 
 from lisfs_browse.image import Differs, WrongWord
 from lisfs_browse.markup import address
@@ -34,6 +34,7 @@ POLICY = ("default-src 'none'; style-src 'self'; script-src 'self'; img-src 'sel
           "frame-ancestors 'none'")
 ONCE = ("Host", "Origin", "Content-Length", "Content-Type", "Cookie", "Sec-Fetch-Site")
 COOKIE = "lisfs"
+TITLES = {404: "Not here", 409: "Refused", 500: "A mistake"}
 # What a page names that tells of a refusal.
 MEANT = ("name", "other", "word", "words", "left", "right")
 
@@ -87,7 +88,7 @@ def parts(body, kind):
     boundary = re.search(r'boundary="?([A-Za-z0-9\'()+_,./:=?-]{1,70})"?', kind)
     if not boundary:
         raise Wrong(400, "The form has no boundary.")
-    pieces, found = (b"\r\n" + body).split(b"\r\n--" + boundary[1].encode()), {}
+    pieces, found = re.split(rb"\r\n--%s(?=\r\n|--)" % re.escape(boundary[1].encode()), b"\r\n" + body, maxsplit=FIELDS), {}
     if len(pieces) > FIELDS or pieces[-1][:2] != b"--":
         raise Wrong(400, "The form is cut off.")
     for piece in pieces[1:-1]:
@@ -221,7 +222,7 @@ class Site:
             told, status = "These pages have a mistake here, which standard error tells. Nothing else is touched by it.", 500
         given = self._given(request, body)
         meant = [given[name] for name in MEANT if given.get(name)]
-        return Answer(status, HTML, self.pages.told("Refused" if status == 409 else "Not here", told, self._back(given), meant).encode())
+        return Answer(status, HTML, self.pages.told(TITLES[status], told, self._back(given), meant).encode())
 
     def refused(self, wrong):
         """The answer to a request that is refused. To who is not known it says nothing that not everybody may know."""
@@ -286,7 +287,7 @@ class Site:
         try:
             view = self._look(given)
         except (Refused, NotSent) as error:
-            told = sentence(error.number) if isinstance(error, Refused) else sentence(5)
+            told = sentence(error.number if isinstance(error, Refused) else 7 if len(given["at"]) > TEXT_LIMIT else 5)
             return self._page(self.pages.wrong_place(given.get("at", b""), told), 404)
         return self._page(self.pages.place(view, given.get("q", b""), self._told(given)))
 
