@@ -130,16 +130,20 @@ class Pages:
         count = sum(len(group) for _, group in groups)
         told = f"{number(count)} of {number(len(view.words))} words" if wanted else f"{number(count)} word{'' if count == 1 else 's'}"
         cards = [self.card(place, group, words, wanted) for group, words in groups]
-        found = element("div", element("p", f"{told}, each with how many files it leaves" if count else f"{told} here", class_="hint", aria_live="polite"),
+        told += ", each with how many files it leaves" if count else " here"
+        covered = None if view.locals or not view.words else " Each file here has one of them." if not wanted else " Each file here has one of all."
+        found = element("div", element("p", told, ".", covered, class_="hint", aria_live="polite"),
                         element("div", cards, class_="cards"), id="found")
         narrowing = element("section", element("h2", "Narrow by a word", id="narrow"),
                             self.filter("", wanted, "Filter the words", at=place.text) if view.words else None,
                             found, class_="narrow", aria_labelledby="narrow")
-        files = element("section", element("h2", "Files that no word covers", id="rest"), self.some_files(view), class_="rest", aria_labelledby="rest")
+        files = element("section", element("h2", "Files that no word covers", id="rest"), self.some_files(view), class_="rest",
+                        aria_labelledby="rest") if view.locals else None
         heading = element("h1", files_of(whole), " here" if place.steps else "")
         return self.whole(plain(place.text), self.notice(done), self.path(place), heading,
                           element("p", link(f"All {files_of(whole)} of this place", "files", at=place.text)) if whole else None,
-                          element("div", narrowing if view.words or wanted else None, files, class_="columns"),
+                          element("div", narrowing if view.words or wanted else None, files, class_="columns") if whole else
+                          element("p", "There is no file here.", class_="hint"),
                           self.changes(place) if self.can_write else None, place=place)
 
     def card(self, place, group, words, wanted):
@@ -152,8 +156,6 @@ class Pages:
         return element("section", element("h3", title), element("ul", entries), more, class_="card")
 
     def some_files(self, view):
-        if not view.locals:
-            return element("p", "None: each file here has one of these words." if view.here else "There is no file here.", class_="hint")
         more = None
         if len(view.locals) > FILES:
             more = element("p", link(f"more: all {number(len(view.locals))}", "rest", at=view.place.text), class_="more")
