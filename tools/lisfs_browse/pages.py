@@ -97,9 +97,11 @@ class Pages:
         return link(word, "", {"title": f"{other} in place of {word}", "aria_label": f"{word}: change it to {other}", "class_": "toggle"}, at=at)
 
     def part(self, place, step, part, text):
-        label = element("span", element("span", "not ", class_="sign"), text[1:]) if text.startswith("!") else element("span", text)
-        turn, hint = ("yes", f"Without not: {text[1:]}") if text.startswith("!") else ("not", f"Negate {text}")
-        return element("span", label, link(turn, "", {"title": hint, "aria_label": hint, "class_": "tool"}, at=place.negated(step, part)),
+        is_not = text.startswith("!")
+        hint = f"Without not: {text[1:]}" if is_not else f"Negate {text}"
+        turn = link("not", "", {"title": hint, "aria_label": hint, "class_": "tool sign" if is_not else "tool"}, at=place.negated(step, part))
+        shown = element("span", text[1:] if is_not else text)
+        return element("span", [turn, shown] if is_not else [shown, turn],
                        link("×", "", {"title": f"Take out {text}", "aria_label": f"Take out {text}", "class_": "tool"}, at=place.without(step, part)),
                        class_="part")
 
@@ -121,7 +123,7 @@ class Pages:
 
     def filter(self, page, wanted, label, **given):
         return element("form", self.hidden(**given), element("label", label, for_="q"),
-                       element("input", id="q", name="q", type="search", value=wanted, autocapitalize="none", autocomplete="off", spellcheck="false"),
+                       element("input", id="q", name="q", type="search", value=wanted, placeholder="a part of it", autocapitalize="none", autocomplete="off", spellcheck="false"),
                        element("button", "Filter"), action=page or "./", class_="filter", role="search", aria_label=label)
 
     def place(self, view, wanted=b"", done=None):
