@@ -13,7 +13,8 @@ from waiting import LONG, until
 NAMES = ("chromium", "chromium-browser", "google-chrome")
 # No sandbox, since tests may run as root, and nothing of its own from elsewhere.
 WORDS = ("--headless=new", "--no-sandbox", "--disable-gpu", "--disable-dev-shm-usage", "--no-first-run", "--disable-background-networking",
-         "--disable-component-update", "--disable-sync", "--disable-extensions", "--hide-scrollbars", "--remote-debugging-pipe", "about:blank")
+         "--disable-component-update", "--disable-sync", "--disable-extensions", "--hide-scrollbars", "--remote-debugging-pipe",
+         "about:blank")
 
 
 def found():
@@ -39,7 +40,8 @@ class Chromium:
         # It reads what it is asked from 3, and answers to 4.
         line = f'exec "$0" "$@" 3<&{its_input} 4>&{its_output}'
         home = {**os.environ, "HOME": self.folder}
-        self._child = subprocess.Popen(["bash", "-c", line, found(), f"--user-data-dir={self.folder}", *WORDS], pass_fds=(its_input, its_output),
+        self._child = subprocess.Popen(["bash", "-c", line, found(), f"--user-data-dir={self.folder}", *WORDS],
+                                       pass_fds=(its_input, its_output),
                                        stdin=subprocess.DEVNULL, stdout=subprocess.DEVNULL, stderr=subprocess.DEVNULL, env=home)
         os.close(its_input)
         os.close(its_output)

@@ -12,7 +12,7 @@ import os
 import selectors
 import time
 
-from lisfs_browse.site import HEAD, POLICY, Answer, Wrong
+from lisfs_browse.site import HEAD, POLICY, Wrong
 
 READ, WRITE = selectors.EVENT_READ, selectors.EVENT_WRITE
 # So many connections are open at most, and so many wait to be opened. How long a request, an answer and the end of a connection may take, in
@@ -27,7 +27,8 @@ def spelled(answer, can_write):
     # With `no-referrer` a browser would say of a form that it comes from nowhere, as a page from elsewhere could let it say too.
     rows = [f"HTTP/1.1 {answer.status} {http.HTTPStatus(answer.status).phrase}", f"Date: {email.utils.formatdate(usegmt=True)}",
             f"Content-Type: {answer.kind}", f"Content-Length: {len(answer.body)}", "Connection: close", "Cache-Control: no-store",
-            f"Content-Security-Policy: {POLICY}", "X-Content-Type-Options: nosniff", f"Referrer-Policy: {'same-origin' if can_write else 'no-referrer'}",
+            f"Content-Security-Policy: {POLICY}", "X-Content-Type-Options: nosniff",
+            f"Referrer-Policy: {'same-origin' if can_write else 'no-referrer'}",
             "X-Frame-Options: DENY", "Cross-Origin-Resource-Policy: same-origin", "Cross-Origin-Opener-Policy: same-origin"]
     rows += [f"{name}: {value}" for name, value in answer.headers]
     if any("\r" in row or "\n" in row for row in rows):
@@ -156,6 +157,3 @@ class Connections:
         connection.passed += len(data)
         if not data or connection.passed > PASSED_OVER:
             self._close(connection)
-
-
-__all__ = ["WAITING", "Answer", "Connections"]

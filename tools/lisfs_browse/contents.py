@@ -19,8 +19,8 @@ PARAMETER_LINES = re.compile(rb"(?i)(?:\A|[\r\n])content-(?:type|disposition):[^
 RARE = 10
 NO_TEXT = re.compile(r"[\x00-\x08\x0e-\x1a\x1c-\x1f\x7f\ufffd]")
 # Character sets that are read. Others are taken for UTF-8.
-CHARSET = re.compile(r"(utf-?8|us-ascii|ascii|iso-?8859-?[0-9]{1,2}|windows-125[0-9]|cp125[0-9]|koi8-[ru]|big5|gb2312|gbk|gb18030|shift_jis|euc-(jp|kr)"
-                     r"|iso-2022-jp)", re.I)
+CHARSET = re.compile(r"(utf-?8|us-ascii|ascii|iso-?8859-?[0-9]{1,2}|windows-125[0-9]|cp125[0-9]|koi8-[ru]|big5|gb2312|gbk|gb18030|shift_jis"
+                     r"|euc-(jp|kr)|iso-2022-jp)", re.I)
 
 # A part of a mail: its type, the name of a file that it may be, its text or None, how many bytes it has, and whether its text was cut.
 Part = collections.namedtuple("Part", "kind name text size is_cut")

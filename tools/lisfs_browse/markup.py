@@ -3,7 +3,8 @@ import html
 import urllib.parse
 
 VOID = {"input", "link", "meta", "br"}
-CONTROLS = {code: 0x2400 + code for code in range(32) if code not in (9, 10)} | {0x7F: 0x2421} | {code: 0xFFFD for code in range(0x80, 0xA0)}
+CONTROLS = {code: 0x2400 + code for code in range(32) if code not in (9, 10)} | {0x7F: 0x2421} | {code: 0xFFFD
+                                                                                                  for code in range(0x80, 0xA0)}
 # What makes a text run the other way, so that it is read as another one than it is.
 CONTROLS |= {code: 0xFFFD for code in (*range(0x202A, 0x202F), *range(0x2066, 0x206A))}
 

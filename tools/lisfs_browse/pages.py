@@ -11,6 +11,8 @@ from lisfs_browse.places import Place
 # So many words of a group, files of a list and words of a list stand on a page.
 SOME, FILES, WORDS = 15, 100, 200
 TITLES = {b"words": "Words", b"heads": "Heads", b"tests": "Sizes"}
+# Of a field for words and names: nothing that a phone makes of what is typed.
+TYPED = {"autocapitalize": "none", "autocomplete": "off", "spellcheck": "false"}
 UNPROVED = "These pages are made by a tool beside the program, which nothing proves; what is kept and listed, the program says."
 # What a change that was done says on the page behind it.
 DONE = {
@@ -43,11 +45,12 @@ class Pages:
         """A page. `typed` is what stands in the field for a formula."""
         head = element("head", element("meta", charset="utf-8"), element("title", f"{title} - {self.name}"),
                        element("meta", name="viewport", content="width=device-width, initial-scale=1"),
-                       element("link", rel="stylesheet", href="style.css"), element("link", rel="icon", href="icon.svg", type="image/svg+xml"),
+                       element("link", rel="stylesheet", href="style.css"),
+                       element("link", rel="icon", href="icon.svg", type="image/svg+xml"),
                        element("script", src="script.js", defer=True))
         at = typed if typed is not None else place.text if place else b"/"
         going = element("form", element("label", "Place", for_="at"),
-                        element("input", id="at", name="at", value=at, autocapitalize="none", autocomplete="off", spellcheck="false"),
+                        element("input", id="at", name="at", value=at, **TYPED),
                         element("button", "Go"), action="./", class_="going", role="search", aria_label="Go to a place")
         links = [link(self.name, "", {"class_": "home"}), going, link("Words and axioms", "declared", {"class_": "aside"})]
         body = element("body", element("a", "To the contents", href="#main", class_="skip"), element("header", links, class_="top"),
@@ -65,7 +68,7 @@ class Pages:
         return [element("input", type="hidden", name=name, value=value) for name, value in given.items() if value is not None]
 
     def field(self, label, name, **more):
-        return element("label", element("span", label), element("input", name=name, autocapitalize="none", autocomplete="off", spellcheck="false", **more))
+        return element("label", element("span", label), element("input", name=name, **TYPED, **more))
 
     def told(self, title, sentence, back=None, meant=()):
         """A page with one sentence, and what it is about."""
@@ -94,15 +97,18 @@ class Pages:
         return element("nav", element("ol", items), class_="path", aria_label="The place, step by step")
 
     def joint(self, word, other, at):
-        return link(word, "", {"title": f"{other} in place of {word}", "aria_label": f"{word}: change it to {other}", "class_": "toggle"}, at=at)
+        return link(word, "", {"title": f"{other} in place of {word}", "aria_label": f"{word}: change it to {other}", "class_": "toggle"},
+                    at=at)
 
     def part(self, place, step, part, text):
         is_not = text.startswith("!")
         hint = f"Without not: {text[1:]}" if is_not else f"Negate {text}"
-        turn = link("not", "", {"title": hint, "aria_label": hint, "class_": "tool sign" if is_not else "tool"}, at=place.negated(step, part))
+        turn = link("not", "", {"title": hint, "aria_label": hint, "class_": "tool sign" if is_not else "tool"},
+                    at=place.negated(step, part))
         shown = element("span", text[1:] if is_not else text)
         return element("span", [turn, shown] if is_not else [shown, turn],
-                       link("×", "", {"title": f"Take out {text}", "aria_label": f"Take out {text}", "class_": "tool"}, at=place.without(step, part)),
+                       link("×", "", {"title": f"Take out {text}", "aria_label": f"Take out {text}", "class_": "tool"},
+                            at=place.without(step, part)),
                        class_="part")
 
     def groups(self, words, wanted=b""):
@@ -119,11 +125,12 @@ class Pages:
     def entry(self, place, group, word, count):
         shown = word[len(group):] if group.endswith(b":") else word
         label = {"aria_label": f"{plain(word)}, {files_of(count)}"}
-        return element("li", link(shown, "", label, at=place.with_word(word)), element("span", number(count), class_="count", aria_hidden="true"))
+        return element("li", link(shown, "", label, at=place.with_word(word)),
+                       element("span", number(count), class_="count", aria_hidden="true"))
 
     def filter(self, page, wanted, label, **given):
         return element("form", self.hidden(**given), element("label", label, for_="q"),
-                       element("input", id="q", name="q", type="search", value=wanted, placeholder="a part of it", autocapitalize="none", autocomplete="off", spellcheck="false"),
+                       element("input", id="q", name="q", type="search", value=wanted, placeholder="a part of it", **TYPED),
                        element("button", "Filter"), action=page or "./", class_="filter", role="search", aria_label=label)
 
     def place(self, view, wanted=b"", done=None):
@@ -153,7 +160,8 @@ class Pages:
         entries = [self.entry(place, group, word, count) for word, count in words[:SOME]]
         more = None
         if len(words) > SOME:
-            more = element("p", link(f"more: all {number(len(words))}", "words", {"aria_label": f"more of {title}: all {number(len(words))}"},
+            more = element("p", link(f"more: all {number(len(words))}", "words",
+                                     {"aria_label": f"more of {title}: all {number(len(words))}"},
                                      at=place.text, group=group, q=wanted or None), class_="more")
         return element("section", element("h3", title), element("ul", entries), more, class_="card")
 
@@ -164,9 +172,11 @@ class Pages:
         return [self.table(view.locals[:FILES], view.place), more]
 
     def table(self, files, place):
-        rows = [element("tr", element("td", link(file.name, "file", name=file.name, at=place.text)), element("td", number(file.size), class_="count"))
+        rows = [element("tr", element("td", link(file.name, "file", name=file.name, at=place.text)),
+                        element("td", number(file.size), class_="count"))
                 for file in files]
-        return element("table", element("thead", element("tr", element("th", "Name", scope="col"), element("th", "Bytes", scope="col", class_="count"))),
+        return element("table", element("thead", element("tr", element("th", "Name", scope="col"),
+                                                         element("th", "Bytes", scope="col", class_="count"))),
                        element("tbody", rows), class_="files")
 
     def turning(self, at, size, length, page, /, **given):
@@ -175,7 +185,8 @@ class Pages:
         if not last:
             return None
         ways = [("first", 0), ("previous", at - 1), ("next", at + 1), ("last", last)]
-        links = [element("li", link(label, page, page=to + 1, **given) if 0 <= to <= last and to != at else element("span", label)) for label, to in ways]
+        links = [element("li", link(label, page, page=to + 1, **given) if 0 <= to <= last and to != at else element("span", label))
+                 for label, to in ways]
         links.insert(2, element("li", element("span", f"page {number(at + 1)} of {number(last + 1)}", aria_current="page")))
         return element("nav", element("ul", links), class_="turning", aria_label="Pages")
 
@@ -186,9 +197,11 @@ class Pages:
         at = min(at, max(0, (len(found) - 1) // FILES))
         shown = found[at * FILES:][:FILES]
         told = f"{number(len(found))} of {files_of(len(files))}" if wanted else files_of(len(files))
-        return self.whole(title, self.path(view.place), element("h1", title), element("p", link("Words of this place", "", at=view.place.text)),
+        return self.whole(title, self.path(view.place), element("h1", title),
+                          element("p", link("Words of this place", "", at=view.place.text)),
                           self.filter(page, wanted, "Filter the names", at=view.place.text),
-                          element("div", element("p", told, class_="hint", aria_live="polite"), self.table(shown, view.place) if shown else None,
+                          element("div", element("p", told, class_="hint", aria_live="polite"),
+                                  self.table(shown, view.place) if shown else None,
                                   self.turning(at, FILES, len(found), page, **given), id="found"), place=view.place)
 
     def files(self, view, wanted, at):
@@ -204,9 +217,11 @@ class Pages:
         title = TITLES.get(group, plain(group))
         entries = [self.entry(view.place, group, word, count) for word, count in words[at * WORDS:][:WORDS]]
         given = {"at": view.place.text, "group": group}
-        return self.whole(title, self.path(view.place), element("h1", title), element("p", link("All words of this place", "", at=view.place.text)),
+        return self.whole(title, self.path(view.place), element("h1", title),
+                          element("p", link("All words of this place", "", at=view.place.text)),
                           self.filter("words", wanted, "Filter the words", **given),
-                          element("div", element("p", f"{number(len(words))} words, the most frequent first", class_="hint", aria_live="polite"),
+                          element("div", element("p", f"{number(len(words))} words, the most frequent first", class_="hint",
+                                                 aria_live="polite"),
                                   element("ul", entries, class_="many") if entries else None,
                                   self.turning(at, WORDS, len(words), "words", q=wanted or None, **given), id="found"), place=view.place)
 
@@ -218,10 +233,13 @@ class Pages:
             plain(file.name), self.notice(done), element("h1", file.name, class_="name"),
             element("p", f"{number(len(content))} byte{'' if len(content) == 1 else 's'}. ",
                     link("Download", "bytes", name=file.name), ". ", link("Back to the place", "", at=place.text)),
-            element("nav", element("span", "Way to it: "), element("ol", [element("li", step) for step in route]), class_="route", aria_label="Way to the file"),
+            element("nav", element("span", "Way to it: "), element("ol", [element("li", step) for step in route]), class_="route",
+                    aria_label="Way to the file"),
             element("div",
-                    element("section", element("h2", "Words", id="words"), self.described(file, place), class_="about", aria_labelledby="words"),
-                    element("section", element("h2", "What is in it", id="bytes"), self.shown(file, content, place, as_text), class_="within",
+                    element("section", element("h2", "Words", id="words"), self.described(file, place), class_="about",
+                            aria_labelledby="words"),
+                    element("section", element("h2", "What is in it", id="bytes"), self.shown(file, content, place, as_text),
+                            class_="within",
                             aria_labelledby="bytes"),
                     self.file_changes(file, place) if self.can_write else None, class_="sheet"),
             place=place)
@@ -232,24 +250,28 @@ class Pages:
             taking = None
             if self.can_write and word in file.given:
                 taking = self.form("take", self.hidden(name=file.name, word=word, at=place.text),
-                                   element("button", "×", title=f"Take {plain(word)} from the file", aria_label=f"Take {plain(word)} from the file",
+                                   element("button", "×", title=f"Take {plain(word)} from the file",
+                                           aria_label=f"Take {plain(word)} from the file",
                                            class_="tool"), class_="inline")
             return element("li", link(word, "", at=b"/" + word), taking, class_="given" if word in file.given else None)
 
         given = sorted(file.given)
         heads = {head_of(word) for word in file.words} - {None}
         others = sorted(word for word in file.words - file.given if word not in heads)
-        bare = sorted(head for head in heads if head in file.words and not any(word != head and head_of(word) == head for word in file.words))
+        bare = sorted(head for head in heads if head in file.words
+                      and not any(word != head and head_of(word) == head for word in file.words))
         above = sorted(heads & file.words - set(bare) - file.given)
         return [element("dl", [(element("dt", title), element("dd", element("ul", [item(word) for word in words], class_="tags")))
-                               for title, words in (("given", given), ("by itself, or by another word", others + bare), ("their heads", above)) if words])]
+                               for title, words in (("given", given), ("by itself, or by another word", others + bare),
+                                                    ("their heads", above)) if words])]
 
     def shown(self, file, content, place, as_text):
         """The bytes of a file as text, never as more than that."""
         if not content:
             return element("p", "It is empty.", class_="hint")
         if file.name.endswith(b".eml") and not as_text and (mail := mail_of(content)):
-            return [self.mail(mail), element("p", link("As it is written", "file", name=file.name, at=place.text, as_="text"), class_="more")]
+            return [self.mail(mail), element("p", link("As it is written", "file", name=file.name, at=place.text, as_="text"),
+                                             class_="more")]
         text = text_of(content)
         if text is None and not as_text:
             return [element("p", "Its bytes are no text. ", link("Download them", "bytes", name=file.name), ", or ",
@@ -261,7 +283,8 @@ class Pages:
                 element("p", f"The first {number(SHOWN)} characters; the rest is in the download.", class_="hint") if is_cut else None]
 
     def mail(self, mail):
-        head = element("table", [element("tr", element("th", name, scope="row"), element("td", value)) for name, value in mail.headers], class_="head")
+        head = element("table", [element("tr", element("th", name, scope="row"), element("td", value)) for name, value in mail.headers],
+                       class_="head")
         parts = []
         for part in mail.parts:
             told = f"{part.kind}, {number(part.size)} bytes" + (f", {part.name}" if part.name else "")
@@ -280,7 +303,8 @@ class Pages:
         return element(
             "section", element("h2", "Change it", id="change"),
             self.form("give", here, self.field("Give it a word", "word", required=True, maxlength="60"), element("button", "Give")),
-            self.form("rename", here, self.field("Another name", "other", required=True, maxlength="60", value=file.name), element("button", "Rename")),
+            self.form("rename", here, self.field("Another name", "other", required=True, maxlength="60", value=file.name),
+                      element("button", "Rename")),
             element("p", link("Remove this file", "remove", {"class_": "danger"}, name=file.name, at=place.text)),
             class_="changes", aria_labelledby="change")
 
@@ -288,17 +312,21 @@ class Pages:
         """What can be put into a place."""
         if place.words is None:
             return element("section", element("h2", "Change", id="change"),
-                           element("p", "Files are uploaded and words declared at places of words alone, as at ", link("all files", ""), ".", class_="hint"),
+                           element("p", "Files are uploaded and words declared at places of words alone, as at ", link("all files", ""),
+                                   ".", class_="hint"),
                            class_="changes", aria_labelledby="change")
         # Heads, and words that files have by themselves, are not given.
-        given = [word for word in place.words if not word.endswith(b":") and (head_of(word) is None or head_of(word) in self.image.declared)]
+        given = [word for word in place.words if not word.endswith(b":")
+                 and (head_of(word) is None or head_of(word) in self.image.declared)]
         here = self.hidden(at=place.text)
         return element(
             "section", element("h2", "Change", id="change"),
-            self.form("upload", here, element("label", element("span", "Upload a file"), element("input", type="file", name="file", required=True)),
+            self.form("upload", here, element("label", element("span", "Upload a file"),
+                                              element("input", type="file", name="file", required=True)),
                       self.field("Its name, if another", "name", maxlength="60"), self.field("Its words", "words", value=b" ".join(given)),
                       element("button", "Upload"), enctype="multipart/form-data", data_limit=self.image.limits.file_bytes),
-            self.form("declare", here, self.field("Declare a word" + (" under those of this place" if place.steps else ""), "word", required=True, maxlength="60"),
+            self.form("declare", here, self.field("Declare a word" + (" under those of this place" if place.steps else ""), "word",
+                                                  required=True, maxlength="60"),
                       element("button", "Declare")),
             class_="changes", aria_labelledby="change")
 
@@ -318,9 +346,9 @@ class Pages:
         counts = image.counts()
         return self.whole(
             "Words and axioms", self.notice(done), element("h1", "Words and axioms"),
-            element("p", f"{number(counts['files'])} of {number(image.limits.files)} files, {number(counts['known'])} of {number(image.limits.words)} known "
-                         f"words, {number(counts['axioms'])} of {number(image.limits.words)} axioms, {number(counts['free'])} of "
-                         f"{number(image.limits.blocks)} blocks free.", class_="hint"),
+            element("p", ", ".join(f"{number(counts[name])} of {number(most)} {what}" for name, most, what in (
+                ("files", image.limits.files, "files"), ("known", image.limits.words, "known words"), ("axioms", image.limits.words, "axioms"),
+                ("free", image.limits.blocks, "blocks free"))), ".", class_="hint"),
             self.declaring() if self.can_write else None, self.filter("declared", wanted, "Filter the words"),
             element("div",
                     element("section", element("h2", "Declared words", id="words"),
@@ -333,7 +361,8 @@ class Pages:
 
     def declaring(self):
         return element("section", element("h2", "Change", id="change"),
-                       self.form("declare", self.hidden(at=b"/", to="declared"), self.field("Declare a word", "word", required=True, maxlength="60"),
+                       self.form("declare", self.hidden(at=b"/", to="declared"),
+                                 self.field("Declare a word", "word", required=True, maxlength="60"),
                                  element("button", "Declare")),
                        self.form("axiom", self.field("Each file with", "left", required=True, maxlength="60"),
                                  self.field("has", "right", required=True, maxlength="60"), element("button", "Make the axiom")),
@@ -342,14 +371,16 @@ class Pages:
     def declared_word(self, word):
         count = self.image.index.having(word).bit_count()
         taking = self.form("undeclare", self.hidden(word=word),
-                           element("button", "×", title=f"Declare {plain(word)} no more", aria_label=f"Declare {plain(word)} no more", class_="tool"),
+                           element("button", "×", title=f"Declare {plain(word)} no more", aria_label=f"Declare {plain(word)} no more",
+                                   class_="tool"),
                            class_="inline") if self.can_write and not count else None
         shown = link(word, "", at=b"/" + word) if count else element("span", word)
         return element("li", shown, element("span", number(count), class_="count"), taking)
 
     def axiom(self, left, right):
         taking = self.form("unaxiom", self.hidden(left=left, right=right),
-                           element("button", "×", title="Take this axiom back", aria_label=f"Take back: {plain(left)} brings {plain(right)}", class_="tool"),
+                           element("button", "×", title="Take this axiom back",
+                                   aria_label=f"Take back: {plain(left)} brings {plain(right)}", class_="tool"),
                            class_="inline") if self.can_write else None
         return element("li", link(left, "", at=b"/" + left), " → ", link(right, "", at=b"/" + right), taking)
 

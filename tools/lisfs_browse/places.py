@@ -130,7 +130,8 @@ class Reader:
             if not self._takes(b")"):
                 raise NotAPlace(self.text)
             return row
-        for form, row in ((TEST, lambda found: self.index.sized(found[1] == b">=", int(found[2]))), (WORD, lambda found: self.index.having(found[0]))):
+        for form, row in ((TEST, lambda found: self.index.sized(found[1] == b">=", int(found[2]))),
+                          (WORD, lambda found: self.index.having(found[0]))):
             if found := form.match(self.text, self.at):
                 self.at = found.end()
                 return row(found)

@@ -10,8 +10,12 @@ if (filter) {
         const mine = ++asked;
         const address = new URL(filter.getAttribute("action"), location.href);
         address.search = new URLSearchParams(new FormData(filter)).toString();
-        const answer = await fetch(address);
-        if (!answer.ok || mine !== asked) return;
+        const answer = await fetch(address).catch(() => null);
+        if (mine !== asked) return;
+        if (!answer || !answer.ok) {
+            filter.submit();
+            return;
+        }
         const page = new DOMParser().parseFromString(await answer.text(), "text/html");
         const found = page.getElementById("found");
         if (!found || mine !== asked) return;

@@ -1,7 +1,7 @@
 """What a refusal says to a reader: a sentence for each number, and for some commands one of their own."""
 
 SENTENCES = {
-    1: "A name has 1 to 60 letters, digits and _ - . + @, and so has a word, which may have one colon inside or at its end and does not begin with a full stop.",
+    1: "A name has 1 to 60 letters, digits and _ - . + @. So has a word, which does not begin with a full stop and may have one colon.",
     2: "This is longer than a line may be, which has 1,024 bytes.",
     3: "The bytes of the file were cut off.",
     4: "The bytes of the file do not end where they should.",

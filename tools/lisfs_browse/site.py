@@ -152,7 +152,8 @@ class Site:
         if not request.path.startswith("/") or "#" in request.path:
             raise Wrong(400, "This is no address.")
         request.page, _, request.query = request.path.partition("?")
-        is_entry = request.page == "/" and request.command == "GET" and same(fields(request.query).get("token", b"").decode("latin-1"), self.token)
+        is_entry = request.page == "/" and request.command == "GET" and same(fields(request.query).get("token", b"").decode("latin-1"),
+                                                                             self.token)
         if not is_entry:
             self._must_be_known(request)
         try:
@@ -193,7 +194,8 @@ class Site:
     def answer(self, request, body):
         """The answer to a request that was admitted."""
         if request.page == "/":
-            return Answer(303, TEXT, b"", (("Location", self.top), ("Set-Cookie", f"{COOKIE}={self.cookie}; Path={self.top}; HttpOnly; SameSite=Strict")))
+            return Answer(303, TEXT, b"", (("Location", self.top),
+                                           ("Set-Cookie", f"{COOKIE}={self.cookie}; Path={self.top}; HttpOnly; SameSite=Strict")))
         page = request.page[len(self.top):]
         if request.command == "GET" and page in self.static:
             return self.static[page]
@@ -235,7 +237,8 @@ class Site:
             self.end = cause
             print(f"browse: the program has ended: {cause}", file=sys.stderr, flush=True)
         return Answer(503, HTML, self.pages.told(
-            "The program has ended", f"The program that holds the image has ended: {self.end}. Each change that was done is kept. Of one under way it is "
+            "The program has ended",
+            f"The program that holds the image has ended: {self.end}. Each change that was done is kept. Of one under way it is "
             "not known. End tools/browse by Ctrl-C and start it again.").encode())
 
     def _found(self, request, page, body):
@@ -306,7 +309,8 @@ class Site:
 
     def file(self, given):
         file, way, content = self.image.file(given.get("name", b""))
-        return self._page(self.pages.file(file, way, content, place_of(given.get("at", b"/")), given.get("as") == b"text", self._told(given)))
+        return self._page(self.pages.file(file, way, content, place_of(given.get("at", b"/")), given.get("as") == b"text",
+                                          self._told(given)))
 
     def bytes(self, given):
         file, _, content = self.image.file(given.get("name", b""))
