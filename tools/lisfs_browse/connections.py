@@ -11,6 +11,7 @@ import http
 import os
 import selectors
 import time
+import traceback
 
 from lisfs_browse.site import HEAD, POLICY, Wrong
 
@@ -107,6 +108,10 @@ class Connections:
         except BlockingIOError:
             pass
         except OSError:
+            self._close(connection)
+        except Exception:
+            # A mistake of the reader of requests ends one of them.
+            traceback.print_exc()
             self._close(connection)
 
     def _read(self, connection):

@@ -133,6 +133,10 @@ class Pages:
                        element("input", id="q", name="q", type="search", value=wanted, placeholder="a part of it", **TYPED),
                        element("button", "Filter"), action=page or "./", class_="filter", role="search", aria_label=label)
 
+    def found(self, *told):
+        """What a filter finds, said where a reader of screens hears that it changes."""
+        return element("p", told, id="told", class_="hint", aria_live="polite")
+
     def place(self, view, wanted=b"", done=None):
         place, whole = view.place, view.here.bit_count()
         groups = self.groups(view.words, wanted)
@@ -141,8 +145,7 @@ class Pages:
         cards = [self.card(place, group, words, wanted) for group, words in groups]
         told += ", each with how many files it leaves" if count else " here"
         covered = None if view.locals or not view.words else " Each file here has one of them." if not wanted else " Each file here has one of all."
-        found = element("div", element("p", told, ".", covered, class_="hint", aria_live="polite"),
-                        element("div", cards, class_="cards"), id="found")
+        found = [self.found(told, ".", covered), element("div", cards, id="found", class_="cards")]
         narrowing = element("section", element("h2", "Narrow by a word", id="narrow"),
                             self.filter("", wanted, "Filter the words", at=place.text) if view.words else None,
                             found, class_="narrow", aria_labelledby="narrow")
@@ -200,8 +203,8 @@ class Pages:
         return self.whole(title, self.path(view.place), element("h1", title),
                           element("p", link("Words of this place", "", at=view.place.text)),
                           self.filter(page, wanted, "Filter the names", at=view.place.text),
-                          element("div", element("p", told, class_="hint", aria_live="polite"),
-                                  self.table(shown, view.place) if shown else None,
+                          self.found(told),
+                          element("div", self.table(shown, view.place) if shown else None,
                                   self.turning(at, FILES, len(found), page, **given), id="found"), place=view.place)
 
     def files(self, view, wanted, at):
@@ -220,9 +223,8 @@ class Pages:
         return self.whole(title, self.path(view.place), element("h1", title),
                           element("p", link("All words of this place", "", at=view.place.text)),
                           self.filter("words", wanted, "Filter the words", **given),
-                          element("div", element("p", f"{number(len(words))} words, the most frequent first", class_="hint",
-                                                 aria_live="polite"),
-                                  element("ul", entries, class_="many") if entries else None,
+                          self.found(f"{number(len(words))} words, the most frequent first"),
+                          element("div", element("ul", entries, class_="many") if entries else None,
                                   self.turning(at, WORDS, len(words), "words", q=wanted or None, **given), id="found"), place=view.place)
 
     # A file.
@@ -350,6 +352,7 @@ class Pages:
                 ("files", image.limits.files, "files"), ("known", image.limits.words, "known words"), ("axioms", image.limits.words, "axioms"),
                 ("free", image.limits.blocks, "blocks free"))), ".", class_="hint"),
             self.declaring() if self.can_write else None, self.filter("declared", wanted, "Filter the words"),
+            self.found(f"{number(len(words))} declared words, {number(len(axioms))} axioms"),
             element("div",
                     element("section", element("h2", "Declared words", id="words"),
                             element("ul", [self.declared_word(word) for word in words[at * WORDS:][:WORDS]], class_="many") if words else

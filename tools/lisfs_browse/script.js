@@ -20,6 +20,7 @@ if (filter) {
         const found = page.getElementById("found");
         if (!found || mine !== asked) return;
         document.getElementById("found").replaceWith(document.adoptNode(found));
+        document.getElementById("told").textContent = page.getElementById("told").textContent;
         history.replaceState(null, "", address);
     };
     typed.addEventListener("input", () => {
