@@ -13,7 +13,7 @@ SOME, FILES, WORDS = 15, 100, 200
 TITLES = {b"words": "Words", b"heads": "Heads", b"tests": "Sizes"}
 # Of a field for words and names: nothing that a phone makes of what is typed.
 TYPED = {"autocapitalize": "none", "autocomplete": "off", "spellcheck": "false"}
-UNPROVED = "These pages are made by a tool beside the program, which nothing proves; what is kept and listed, the program says."
+UNPROVED = "Nothing proves these pages: they are made by a tool beside the program. What is kept and listed, the program says."
 # What a change that was done says on the page behind it.
 DONE = {
     "given": "The file has the word now.", "had": "The file had this word already.", "taken": "The file has the word no more.",
@@ -27,8 +27,9 @@ def number(count):
     return f"{count:,}"
 
 
-def files_of(count):
-    return f"{number(count)} file{'' if count == 1 else 's'}"
+def counted(count, what):
+    """A number of things of one name."""
+    return f"{number(count)} {what}{'' if count == 1 else 's'}"
 
 
 def plain(text):
@@ -124,7 +125,7 @@ class Pages:
 
     def entry(self, place, group, word, count):
         shown = word[len(group):] if group.endswith(b":") else word
-        label = {"aria_label": f"{plain(word)}, {files_of(count)}"}
+        label = {"aria_label": f"{plain(word)}, {counted(count, 'file')}"}
         return element("li", link(shown, "", label, at=place.with_word(word)),
                        element("span", number(count), class_="count", aria_hidden="true"))
 
@@ -141,19 +142,19 @@ class Pages:
         place, whole = view.place, view.here.bit_count()
         groups = self.groups(view.words, wanted)
         count = sum(len(group) for _, group in groups)
-        told = f"{number(count)} of {number(len(view.words))} words" if wanted else f"{number(count)} word{'' if count == 1 else 's'}"
+        told = f"{number(count)} of {counted(len(view.words), 'word')}" if wanted else counted(count, "word")
         cards = [self.card(place, group, words, wanted) for group, words in groups]
         told += ", each with how many files it leaves" if count else " here"
-        covered = None if view.locals or not view.words else " Each file here has one of them." if not wanted else " Each file here has one of all."
+        covered = " Each file here has one of them." if view.words and not view.locals and not wanted else None
         found = [self.found(told, ".", covered), element("div", cards, id="found", class_="cards")]
         narrowing = element("section", element("h2", "Narrow by a word", id="narrow"),
                             self.filter("", wanted, "Filter the words", at=place.text) if view.words else None,
                             found, class_="narrow", aria_labelledby="narrow")
         files = element("section", element("h2", "Files that no word covers", id="rest"), self.some_files(view), class_="rest",
                         aria_labelledby="rest") if view.locals else None
-        heading = element("h1", files_of(whole), " here" if place.steps else "")
+        heading = element("h1", counted(whole, "file"), " here" if place.steps else "")
         return self.whole(plain(place.text), self.notice(done), self.path(place), heading,
-                          element("p", link(f"All {files_of(whole)} of this place", "files", at=place.text)) if whole else None,
+                          element("p", link(f"All {counted(whole, 'file')} of this place", "files", at=place.text)) if whole else None,
                           element("div", narrowing if view.words or wanted else None, files, class_="columns") if whole else
                           element("p", "There is no file here.", class_="hint"),
                           self.changes(place) if self.can_write else None, place=place)
@@ -199,7 +200,7 @@ class Pages:
         found = [file for file in files if wanted.lower() in file.name.lower()]
         at = min(at, max(0, (len(found) - 1) // FILES))
         shown = found[at * FILES:][:FILES]
-        told = f"{number(len(found))} of {files_of(len(files))}" if wanted else files_of(len(files))
+        told = f"{number(len(found))} of {counted(len(files), 'file')}" if wanted else counted(len(files), "file")
         return self.whole(title, self.path(view.place), element("h1", title),
                           element("p", link("Words of this place", "", at=view.place.text)),
                           self.filter(page, wanted, "Filter the names", at=view.place.text),
@@ -223,7 +224,7 @@ class Pages:
         return self.whole(title, self.path(view.place), element("h1", title),
                           element("p", link("All words of this place", "", at=view.place.text)),
                           self.filter("words", wanted, "Filter the words", **given),
-                          self.found(f"{number(len(words))} words, the most frequent first"),
+                          self.found(f"{counted(len(words), 'word')}, the most frequent first"),
                           element("div", element("ul", entries, class_="many") if entries else None,
                                   self.turning(at, WORDS, len(words), "words", q=wanted or None, **given), id="found"), place=view.place)
 
@@ -233,7 +234,7 @@ class Pages:
         route = [link("all files", "")] + [link(word, "", at=b"/" + b"/".join(way[:step + 1])) for step, word in enumerate(way)]
         return self.whole(
             plain(file.name), self.notice(done), element("h1", file.name, class_="name"),
-            element("p", f"{number(len(content))} byte{'' if len(content) == 1 else 's'}. ",
+            element("p", counted(len(content), "byte"), ". ",
                     link("Download", "bytes", name=file.name), ". ", link("Back to the place", "", at=place.text)),
             element("nav", element("span", "Way to it: "), element("ol", [element("li", step) for step in route]), class_="route",
                     aria_label="Way to the file"),
@@ -281,7 +282,7 @@ class Pages:
         return self.text(*cut(content.decode("utf-8", "replace") if text is None else text))
 
     def text(self, text, is_cut):
-        return [element("pre", text, tabindex="0", aria_label="The text"),
+        return [element("pre", text, tabindex="0", role="region", aria_label="The text"),
                 element("p", f"The first {number(SHOWN)} characters; the rest is in the download.", class_="hint") if is_cut else None]
 
     def mail(self, mail):
@@ -352,7 +353,7 @@ class Pages:
                 ("files", image.limits.files, "files"), ("known", image.limits.words, "known words"), ("axioms", image.limits.words, "axioms"),
                 ("free", image.limits.blocks, "blocks free"))), ".", class_="hint"),
             self.declaring() if self.can_write else None, self.filter("declared", wanted, "Filter the words"),
-            self.found(f"{number(len(words))} declared words, {number(len(axioms))} axioms"),
+            self.found(f"{counted(len(words), 'declared word')}, {counted(len(axioms), 'axiom')}"),
             element("div",
                     element("section", element("h2", "Declared words", id="words"),
                             element("ul", [self.declared_word(word) for word in words[at * WORDS:][:WORDS]], class_="many") if words else
