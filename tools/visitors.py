@@ -24,7 +24,7 @@ class Browsed:
     def __init__(self, *words, program=PROGRAM, wait=True):
         self.said = tempfile.TemporaryFile()
         self.tool = subprocess.Popen([BROWSE, *words], stdin=subprocess.DEVNULL, stdout=subprocess.PIPE, stderr=self.said,
-                                     env={**os.environ, "LISFS_PROGRAM": program})
+                                     env={**os.environ, "LISFS_PROGRAM": program, "LISFS_PATIENCE": str(LONG)})
         self.started.append(self.tool)
         self.address = self.tool.stdout.readline().decode().strip()
         self.port = urllib.parse.urlsplit(self.address).port

@@ -10,17 +10,30 @@ import email.utils
 import http
 import os
 import selectors
+import sys
 import time
 import traceback
 
 from lisfs_browse.site import HEAD, POLICY, Wrong
 
 READ, WRITE = selectors.EVENT_READ, selectors.EVENT_WRITE
-# So many connections are open at most, and so many wait to be opened. How long a request, an answer and the end of a connection may take, in
-# seconds, and how many bytes of a refused request are still read, so that who sends them sees the answer.
+# So many connections are open at most, and so many wait to be opened. So many bytes are read at once, and of a refused request still, so that
+# who sends them sees the answer.
 MOST, WAITING = 200, 128
-REQUEST, ANSWER, END, PASSED_OVER = 20, 60, 5, 16_777_216
-PIECE = 65_536
+PIECE, PASSED_OVER = 65_536, 16_777_216
+
+
+def patience(seconds):
+    """How long something may take: so many seconds, or as many as the environment says."""
+    text = os.environ.get("LISFS_PATIENCE") or str(seconds)
+    with contextlib.suppress(ValueError):
+        if 0 < (wanted := float(text)) <= 1_000_000:
+            return wanted
+    sys.exit(f"browse: LISFS_PATIENCE: no number of seconds: {text}")
+
+
+# A request, an answer, and the end of a connection.
+REQUEST, ANSWER, END = patience(20), patience(60), patience(5)
 
 
 def spelled(answer, can_write):
