@@ -1,0 +1,13 @@
+"""An image in a web browser: the parts of `tools/browse`. Nothing of it is proved.
+
+- `places`: a place as steps that can be taken out, negated and joined, and which files of an index it means.
+- `index`: which files have which word, as rows of bits, for counts.
+- `image`: an open image: what is asked of the program, the changes, and the index kept in step with them.
+- `sentences`: what a refusal says to a reader.
+- `contents`: what of a file's bytes is shown as text.
+- `markup`: HTML in which all that is not markup is escaped.
+- `pages`: the pages, made of what `image` tells.
+- `site`: who may ask, and which page or change is asked for.
+- `connections`: many clients at once, none of which holds up another one.
+- `style.css`, `script.js`, `icon.svg`: all that a browser is given beside the pages.
+"""
