@@ -1,10 +1,12 @@
 """The commands: how each is said, what it does, and where it is refused. `help` tells it."""
 import collections
+import textwrap
 
 # What a word of a line is: a word that is new, declared or known, or that a file can be given; a file that is new, or here; a formula; a count
 # of bytes; a path of the system; a command.
 NEW_WORD, DECLARED, KNOWN, GIVEN = "new word", "declared", "known", "given"
 NEW_FILE, FILE, FORMULA, COUNT, PATH, COMMAND = "new file", "file", "formula", "count", "path", "command"
+WIDTH = 79
 WORDS = (NEW_WORD, DECLARED, KNOWN, GIVEN)
 FILES = (NEW_FILE, FILE)
 
@@ -19,41 +21,43 @@ def command(form, does, *parts, needed=None, repeats=False, refusals=(), more=""
 
 CREATES = (9, 8, 25, 14, 6, 18, 21, 19, 22)
 COMMANDS = {
-    "ls": command("ls [-c]", "shows the words that narrow the place, and the files that none of them covers", refusals=(),
-                  more="Words stand behind `d`, files behind `f`. With -c a count stands before each word: so many files are left behind `cd WORD`."),
+    "ls": command("ls [-c]", "lists words that narrow the place, and other files",
+                  more="Words stand behind `d`, and behind `f` the files that none of them covers. With -c a count stands before each word: so many "
+                       "files are left behind `cd WORD`."),
     "cd": command("cd FORMULA", "goes to a place", FORMULA, refusals=(5, 7, 6),
                   more="`/` is and, `|` is or, `!` is not, `size>=N` and `size<N` test the bytes. A formula that begins with `/` starts at the root, "
                        "any other goes on from here; `..` drops the last step."),
     "pwd": command("pwd", "shows the place"),
     "find": command("find [FORMULA]", "shows all files of a place, one a line", FORMULA, needed=0, refusals=(5, 7, 6),
-                    more="The formula is said as in `cd`, and without one it is this place, where you stay."),
+                    more="The formula is said as in `cd`. Without one it is this place. You stay where you are."),
     "cat": command("cat NAME", "shows the bytes of a file", FILE, refusals=(10,),
-                   more="What is no text is shown as `^X`, `\\xNN` or `\\uNNNN` on a terminal, and as it is elsewhere."),
+                   more="On a terminal, what is no text is shown as `^X`, `\\xNN` or `\\uNNNN`."),
     "props": command("props NAME", "shows all words that a file has", FILE, refusals=(10,)),
-    "way": command("way NAME", "shows the words of listings that lead from here to a file", FILE, refusals=(10,)),
-    "stat": command("stat", "counts files, known words, axioms and free blocks of 4,096 bytes"),
-    "put": command("put [-w] FILE [AS] [WORD..]", "takes a file of the system in, with these words and those of the place", PATH, NEW_FILE, GIVEN,
+    "way": command("way NAME", "shows the words of listings that lead to a file", FILE, refusals=(10,)),
+    "stat": command("stat", "counts files, words, axioms and free blocks", more="A block has 4,096 bytes."),
+    "put": command("put [-w] FILE [AS] [WORD..]", "takes a file of the system in", PATH, NEW_FILE, GIVEN,
                    needed=1, repeats=True, refusals=(20, *CREATES, 24),
-                   more="AS is its name here, which else is that of FILE. Where a file of that name is here already, it gets the bytes, if you say "
-                        "yes, or -w, and keeps its words. Quotes and `\\` before a blank are as in other shells."),
+                   more="It has these words and those of the place. AS is its name here, which else is that of FILE. Where a file of that name is "
+                        "here already, it gets the bytes and keeps its words, if you say yes, or -w. Quotes, and `\\` before a blank, are as in "
+                        "other shells."),
     "get": command("get NAME [FILE]", "writes a file's bytes to a file of the system", FILE, PATH, needed=1, refusals=(10,),
-                   more="FILE may be a folder, and without it NAME is taken. Another file is not written over, unless you say yes."),
-    "create": command("create NAME WORD..", "makes an empty file with these words and those of the place", NEW_FILE, GIVEN, needed=1, repeats=True,
-                      refusals=CREATES),
-    "add": command("add NAME N WORD..", "does the same, and gives it the N bytes that begin with the next line", NEW_FILE, COUNT, GIVEN, needed=2,
-                   repeats=True, refusals=(20, *CREATES, 24), more="It is for scripts: at a prompt `put` counts the bytes."),
-    "write": command("write NAME N", "gives a file the N bytes that begin with the next line", FILE, COUNT, refusals=(20, 10, 19, 22, 24),
-                     more="It is for scripts: at a prompt `put` counts the bytes."),
+                   more="FILE may be a folder; without it NAME is taken. A file that is there is not written over, unless you say yes."),
+    "create": command("create NAME WORD..", "makes an empty file", NEW_FILE, GIVEN, needed=1, repeats=True, refusals=CREATES,
+                      more="It has these words and those of the place."),
+    "add": command("add NAME N WORD..", "makes a file of the N bytes that follow", NEW_FILE, COUNT, GIVEN, needed=2, repeats=True,
+                   refusals=(20, *CREATES, 24),
+                   more="They begin with the next line, and a line feed stands behind them. It is for scripts: at a prompt `put` counts the bytes."),
+    "write": command("write NAME N", "gives a file the N bytes that follow", FILE, COUNT, refusals=(20, 10, 19, 22, 24),
+                     more="They stand as those of `add`. It is for scripts: at a prompt `put` counts the bytes."),
     "rename": command("rename NAME OTHER", "gives a file another name", FILE, NEW_FILE, refusals=(10, 9, 19, 22)),
-    "mv": command("mv NAME FORMULA", "takes a file from here to another place: it loses the words of the one, and gains those of the other",
-                  FILE, FORMULA, refusals=(5, 7, 10, 8, 25, 14, 6, 18, 19, 22)),
+    "mv": command("mv NAME FORMULA", "takes a file from here to another place", FILE, FORMULA, refusals=(5, 7, 10, 8, 25, 14, 6, 18, 19, 22),
+                  more="It loses the words of this place that it was given, and gains those of the other."),
     "rm": command("rm NAME", "removes a file", FILE, refusals=(10,)),
     "mkdir": command("mkdir WORD", "declares a word, under the words of the place", NEW_WORD, refusals=(25, 14, 11, 8, 6, 23, 22, 19),
                      more="`music` is a plain word. `year:` is a head, of which a file can have values, as `year:2003`. A test, as `size>=1000`, "
                           "is then a word of each file that meets it."),
     "rmdir": command("rmdir WORD", "takes back a word that nothing uses", DECLARED, refusals=(25, 14, 12, 13)),
-    "axiom": command("axiom LEFT RIGHT", "says that LEFT entails RIGHT: each file that has the one has the other", KNOWN, DECLARED,
-                     refusals=(14, 6, 16, 15, 23, 22, 19)),
+    "axiom": command("axiom LEFT RIGHT", "says that each file with LEFT has RIGHT too", KNOWN, DECLARED, refusals=(14, 6, 16, 15, 23, 22, 19)),
     "unaxiom": command("unaxiom LEFT RIGHT", "takes that back", KNOWN, DECLARED, refusals=(17,)),
     "help": command("help [COMMAND]", "tells of all commands, or of one", COMMAND, needed=0),
     "exit": command("exit", "ends, as Ctrl-D does"),
@@ -120,6 +124,6 @@ def all_in_lines():
 def told(name):
     """What there is to know of a command."""
     command = COMMANDS[name]
-    lines = [command.form, f"  {command.does}."] + ([f"  {command.more}"] if command.more else [])
-    refused = [f"  - {meaning(name, number)}" for number in command.refusals]
-    return lines + (["It is refused where, in this order:" if name not in OWN else "It is refused where:"] + refused if refused else [])
+    lines = [f"{command.form}: {command.does}."] + textwrap.wrap(command.more, WIDTH)
+    refused = [f"- {meaning(name, number)}" for number in command.refusals]
+    return lines + (["It is refused where" + (":" if name in OWN else ", in this order:")] + refused if refused else [])

@@ -40,8 +40,8 @@ def sentence(refused, line, session):
 
 def bad_line(command, given, _):
     if command not in COMMANDS:
-        return f"{harmless(command.encode())}: there is no such command{meant(command.encode(), [name.encode() for name in COMMANDS])}; " \
-               "`help` tells of all"
+        near = meant(command.encode(), [name.encode() for name in COMMANDS])
+        return f"{harmless(command.encode())}: there is no such command{near or '; `help` tells of all'}"
     form, parts = COMMANDS[command], COMMANDS[command].parts
     if len(given) >= form.needed and (form.repeats or len(given) <= len(parts)):
         for word, part in zip(given, parts + parts[-1:] * len(given)):
