@@ -80,9 +80,8 @@ def unknown(command, given, session):
         words = [given[1]] if given[1] not in session.declared else [given[0]]
     else:
         place = words_in(session.place) if command != "mv" or not given[1].startswith(b"/") else []
-        all_given = words_in(given[1]) + place if command == "mv" else given[1:] + place
-        words = [word for word in all_given if not session.is_assignable(word) and not is_built_in(word) and not word.endswith(b":")]
-        words = [word for word in dict.fromkeys(words) if is_word(word)]
+        words = [word for word in dict.fromkeys(words_given(command, given) + place)
+                 if is_word(word) and not word.endswith(b":") and not is_built_in(word) and not session.is_assignable(word)]
     if not words:
         return f"{said(*given[-1:])}: some word of it is not known"
     first = words[0]
@@ -94,6 +93,11 @@ def unknown(command, given, session):
     if len(words) > 1:
         return f"{said(*words)}: these words are not known{near}"
     return f"{said(first)}: this word is not known{near or f'; `mkdir {harmless(needed)}` declares it'}"
+
+
+def words_given(command, given):
+    """The words of a line that a file is to be given."""
+    return words_in(given[1]) if command == "mv" else given[2:] if command == "add" else given[1:]
 
 
 def is_built_in(word):
@@ -146,10 +150,10 @@ def not_assignable(command, given, session):
         return f"{said(*given)}: a value is not declared; it goes with the last file that has it"
     if command == "axiom":
         return f"{said(given[1])}: only a plain word can be entailed, and no head, value or test"
-    words = words_in(given[1]) if command == "mv" else given[1:]
+    words = words_given(command, given)
     if tests := [word for word in words if TEST.fullmatch(word)]:
         return f"{said(tests[0])}: a file has this by its size, and is not given it"
-    heads = [word for word in words if word.endswith(b":")] or given[1:2]
+    heads = [word for word in words if word.endswith(b":")] or words
     return f"{said(heads[0])}: a file is given a value of this head, as `{said(heads[0])}x`"
 
 
@@ -199,7 +203,7 @@ def no_space(command, given, session):
 
 
 def built_in(command, given, session):
-    words = words_in(given[1]) if command == "mv" else given if command in ("mkdir", "rmdir") else given[1:]
+    words = given if command in ("mkdir", "rmdir") else words_given(command, given)
     return f"{said(*[word for word in words if is_built_in(word)] or given)}: files have such words by themselves, and nobody gives or declares them"
 
 

@@ -198,7 +198,8 @@ def at_a_prompt(shell, history):
             text = shell.screen.typed(shell.screen.prompt(shell.session.place))
         except EOFError:
             return shell.screen.lines([""])
-        except KeyboardInterrupt:
+        except (KeyboardInterrupt, Stopped):
+            shell.interrupts.forget()
             shell.screen.lines([""])
             continue
         try:

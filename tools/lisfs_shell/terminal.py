@@ -64,9 +64,10 @@ class Interrupts:
 
     @contextlib.contextmanager
     def typing(self):
-        """In the block `KeyboardInterrupt` may be raised."""
-        self.has_come, self._is_typing = False, True
+        """In the block `KeyboardInterrupt` may be raised; `Stopped`, where Ctrl-C has come before."""
+        self._is_typing = True
         try:
+            self.ask()
             yield
         finally:
             self._is_typing = False
@@ -128,6 +129,7 @@ class Screen:
 
     def typed(self, prompt):
         """A line that is typed, as bytes; lines where they were pasted. Raises `EOFError` at Ctrl-D and `KeyboardInterrupt` at Ctrl-C."""
+        self.interrupts.forget()
         with self.interrupts.typing():
             return input(prompt).encode("utf-8", "surrogateescape")
 
@@ -137,7 +139,7 @@ class Screen:
             return False
         try:
             return self.typed(f"{question} [y/N] ").strip().lower() in (b"y", b"yes")
-        except (EOFError, KeyboardInterrupt):
+        except (EOFError, KeyboardInterrupt, Stopped):
             self.lines([""])
             return False
 
