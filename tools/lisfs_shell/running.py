@@ -220,26 +220,38 @@ def at_a_prompt(shell, history):
             return None
 
 
-def as_a_script(shell):
-    """Carries out the lines of standard input, with the bytes behind them as `lisfs run` takes them. Whether none was refused."""
-    items, is_fine = Items(LINE), True
-    while True:
-        with shell.interrupts.typing():
-            data = os.read(INPUT, PIECE)
-        if not data and items.lacks_feed():
-            data = b"\n"
-        items.feed(data)
+def from_input():
+    return os.read(INPUT, PIECE)
+
+
+def commands(read, interrupts):
+    """The commands of what is read, each a line and the bytes behind it, and at last `None` where these are cut off."""
+    items, data = Items(LINE), None
+    # A last line, and last bytes, may lack their line feed.
+    while data != b"" or items.lacks_feed():
+        if data == b"":
+            items.feed(b"\n")
+        else:
+            with interrupts.typing():
+                data = read()
+            items.feed(data)
         while taken := items.take():
-            line, payload = taken[0][:-1], taken[1]
-            try:
-                shell.carry_out(line, payload)
-            except Failed as failed:
-                is_fine = False
-                shell.screen.fault(f"shell: {failed}")
-            except Over:
-                return is_fine
-        if not data:
-            if items.is_cut():
-                is_fine = False
-                shell.screen.fault("shell: the input ends within the bytes of a file")
-            return is_fine
+            yield taken[0][:-1], taken[1]
+    if items.is_cut():
+        yield None
+
+
+def as_a_script(shell, read=from_input):
+    """Carries out the lines that are read, with bytes behind them as `lisfs run` takes them. Whether none was refused."""
+    is_fine = True
+    for taken in commands(read, shell.interrupts):
+        try:
+            if taken is None:
+                raise Failed("the input ends within the bytes of a file")
+            shell.carry_out(*taken)
+        except Failed as failed:
+            is_fine = False
+            shell.screen.fault(f"shell: {failed}")
+        except Over:
+            break
+    return is_fine
