@@ -89,6 +89,8 @@ def unknown(command, given, session):
     if is_built_in(first) or is_value and head_of(first) in session.declared:
         return f"{said(*words)}: no file has it"
     needed = head_of(first) if is_value else first
+    if first in session.names:
+        return f"{said(first)}: this is the name of a file, and no word"
     near = meant(first, session.known() if command in ("cd", "find") else session.declared)
     if len(words) > 1:
         return f"{said(*words)}: these words are not known{near}"
@@ -124,8 +126,8 @@ def name_taken(command, given, session):
 def no_such_file(command, given, session):
     name = given[0]
     if name in session.names:
-        return f"{said(name)}: this file is not here, but elsewhere"
-    return f"{said(name)}: there is no file of this name{meant(name, session.names)}"
+        return f"{said(name)}: this file is not here, but elsewhere; all files are at `/`"
+    return f"{said(name)}: there is no file of this name{f'; it is a word: `cd {said(name)}`' if name in session.declared else meant(name, session.names)}"
 
 
 def declared(command, given, session):

@@ -183,9 +183,12 @@ class Shell:
     def in_quotes(self, line):
         """The words behind the command, with quotes and backslashes as in other shells."""
         try:
-            return [os.fsencode(word) for word in shlex.split(os.fsdecode(line.removesuffix(b"\r")))][1:]
+            words = [os.fsencode(word) for word in shlex.split(os.fsdecode(line.removesuffix(b"\r")))]
         except ValueError:
             raise Failed(f"{harmless(line.strip())}: a quote is not closed") from None
+        if b"\0" in line:
+            raise Failed(f"{harmless(line.strip())}: no path has such a byte")
+        return words[1:]
 
     def wrong(self, name):
         raise Failed(f"{name}: it is said so: {COMMANDS[name].form}")

@@ -124,7 +124,7 @@ class Screen:
         """The end of it where it is long. What a terminal does not show is marked, so that the line's length is known."""
         text, most = harmless(place if place.startswith(b"/") else b"/" + place), max(20, shutil.get_terminal_size().columns // 2)
         text = text if len(text) <= most else ".." + text[-most + 2:]
-        shown = f"\1\x1b[{PLACE}m\2{text}\1\x1b[0m\2" if self._has_colours[OUTPUT] else text
+        shown = f"\1\x1b[{PLACE}m\2{text}\1\x1b[0m\2" if readline and self._has_colours[OUTPUT] else text
         return shown + "> "
 
     def typed(self, prompt):
@@ -160,6 +160,8 @@ class History:
         if readline:
             readline.set_auto_history(False)
             readline.clear_history()
+            # What is pasted is looked at before it is carried out.
+            readline.parse_and_bind("set enable-bracketed-paste on")
             with contextlib.suppress(OSError, ValueError):
                 self._begin()
 
