@@ -1,16 +1,26 @@
 """What Tab makes of a line: commands, the words that the place offers and others that are known, files of the place, and paths of the system."""
 import os
 import re
+import shutil
 
 from lisfs_client import Ended, NotAReply, NotSent
 from lisfs_shell.commands import COMMAND, COMMANDS, DECLARED, FILE, FORMULA, GIVEN, KNOWN, NEW_FILE, PATH
 from lisfs_shell.refusals import is_file_name
-from lisfs_shell.terminal import Stopped, readline
+from lisfs_shell.terminal import Stopped, harmless, readline
 
 BLANKS = b" \t\n"
+# The most of what may stand there that is shown.
+SHOWN = 120
 # A word of a line in which a backslash stands before a blank.
 PIECE = re.compile(rb"(?:\\.|[^\\ \t\n])*\\?", re.S)
 ESCAPED = re.compile(rb"([\\ \t\n'\"])")
+
+
+def in_columns(texts, width):
+    """Lines of texts, in order from above to below."""
+    columns = max(1, shutil.get_terminal_size().columns // width)
+    rows = -(-len(texts) // columns)
+    return ["".join(f"{text:{width}}" for text in texts[row::rows]).rstrip() for row in range(rows)]
 
 
 def unescaped(piece):
@@ -31,14 +41,15 @@ def pieces(line):
 
 
 class Completer:
-    """`complete` is what Python's `readline` calls."""
+    """`complete` and `show` are what Python's `readline` calls."""
 
-    def __init__(self, session, interrupts):
-        self.session, self.interrupts, self.found = session, interrupts, []
+    def __init__(self, session, screen):
+        self.session, self.screen, self.interrupts, self.found = session, screen, screen.interrupts, []
 
     def install(self):
         if readline:
             readline.set_completer(self.complete)
+            readline.set_completion_display_matches_hook(self.show)
             readline.set_completer_delims(BLANKS.decode())
             readline.parse_and_bind("tab: complete")
 
@@ -53,6 +64,14 @@ class Completer:
                     found = []
             self.found = [os.fsdecode(one) for one in found]
         return self.found[state] if state < len(self.found) else None
+
+    def show(self, begun, found, _):
+        """Shows what may stand there, as far as a screen has room, and the line again. Of a formula or a path the last word is shown."""
+        at = max(map(begun.rfind, "/|!(")) + 1
+        texts = [harmless(os.fsencode(one[at:].rstrip())) for one in found[:SHOWN]]
+        lines = in_columns(texts, max(map(len, texts)) + 2) + ([f"and {len(found) - SHOWN:,} more"] if len(found) > SHOWN else [])
+        line = readline.get_line_buffer()
+        self.screen.again(lines, line, len(os.fsencode(line)[readline.get_endidx():].decode(errors="replace")))
 
     def candidates(self, line, begin):
         """What may stand in place of the line's end from `begin` on, in byte order. The line ends where the cursor is."""

@@ -90,7 +90,7 @@ class Screen:
         self.is_terminal, self.asks = os.isatty(OUTPUT), os.isatty(INPUT) and os.isatty(OUTPUT)
         may_be = not os.environ.get("NO_COLOR") and os.environ.get("TERM", "dumb") != "dumb"
         self._has_colours = {stream: may_be and os.isatty(stream) for stream in (OUTPUT, ERRORS)}
-        self.encoding = sys.stdout.encoding or "utf-8"
+        self.encoding, self._prompt = sys.stdout.encoding or "utf-8", ""
 
     def coloured(self, text, colour, stream=OUTPUT):
         return f"\x1b[{colour}m{text}\x1b[0m" if self._has_colours[stream] else text
@@ -127,8 +127,16 @@ class Screen:
         shown = f"\1\x1b[{PLACE}m\2{text}\1\x1b[0m\2" if readline and self._has_colours[OUTPUT] else text
         return shown + "> "
 
+    def again(self, lines, typed, behind):
+        """Shows lines below the one that is being typed, and then that one again, with the cursor before so many characters."""
+        prompt = self._prompt.replace("\1", "").replace("\2", "")
+        text = "\n" + "".join(line + "\n" for line in lines) + prompt + harmless(os.fsencode(typed)) + "\b" * behind
+        with self.interrupts.working(), contextlib.suppress(Stopped):
+            self.put(text.encode(self.encoding, "backslashreplace"))
+
     def typed(self, prompt):
         """A line that is typed, as bytes; lines where they were pasted. Raises `EOFError` at Ctrl-D and `KeyboardInterrupt` at Ctrl-C."""
+        self._prompt = prompt
         self.interrupts.forget()
         with self.interrupts.typing():
             return input(prompt).encode("utf-8", "surrogateescape")
