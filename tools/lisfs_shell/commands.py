@@ -57,7 +57,8 @@ COMMANDS = {
                      more="`music` is a plain word. `year:` is a head, of which a file can have values, as `year:2003`. A test, as `size>=1000`, "
                           "is then a word of each file that meets it."),
     "rmdir": command("rmdir WORD", "takes back a word that nothing uses", DECLARED, refusals=(25, 14, 12, 13)),
-    "axiom": command("axiom LEFT RIGHT", "says that each file with LEFT has RIGHT too", KNOWN, DECLARED, refusals=(14, 6, 16, 15, 23, 22, 19)),
+    "axiom": command("axiom LEFT RIGHT", "says that each file with LEFT has RIGHT too", KNOWN, DECLARED,
+                     refusals=(14, 6, 16, 15, 23, 22, 19)),
     "unaxiom": command("unaxiom LEFT RIGHT", "takes that back", KNOWN, DECLARED, refusals=(17,)),
     "help": command("help [COMMAND]", "tells of all commands, or of one", COMMAND, needed=0),
     "exit": command("exit", "ends, as Ctrl-D does"),

@@ -127,7 +127,8 @@ def no_such_file(command, given, session):
     name = given[0]
     if name in session.names:
         return f"{said(name)}: this file is not here, but elsewhere; all files are at `/`"
-    return f"{said(name)}: there is no file of this name{f'; it is a word: `cd {said(name)}`' if name in session.declared else meant(name, session.names)}"
+    hint = f"; it is a word: `cd {said(name)}`" if name in session.declared else meant(name, session.names)
+    return f"{said(name)}: there is no file of this name{hint}"
 
 
 def declared(command, given, session):
@@ -206,7 +207,8 @@ def no_space(command, given, session):
 
 def built_in(command, given, session):
     words = given if command in ("mkdir", "rmdir") else words_given(command, given)
-    return f"{said(*[word for word in words if is_built_in(word)] or given)}: files have such words by themselves, and nobody gives or declares them"
+    words = [word for word in words if is_built_in(word)] or given
+    return f"{said(*words)}: files have such words by themselves, and nobody gives or declares them"
 
 
 def of_a_view(number):
