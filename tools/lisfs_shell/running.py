@@ -104,14 +104,15 @@ class Shell:
         name, words = words[0] if words else os.path.basename(path.rstrip(b"/")), words[1:]
         if not is_file_name(name):
             raise Failed(f"{harmless(name)}: no name of a file, which has {NAME_FORM}: say one behind the path: put FILE AS")
-        content = self.content_of(path)
+        content, told = self.content_of(path), ""
         if self.session.is_here(name):
             if not is_sure and not self.screen.says_yes(f"{harmless(name)} is here already, with its words: write these bytes to it?"):
                 raise Failed(f"{harmless(name)}: there is a file of this name already" + ("" if self.screen.asks else "; `put -w` writes to it"))
             self.judged(b"write", name, content, [], lambda: self.session.write(name, content))
+            told = "; its words stay as they were" if words else ""
         else:
             self.judged(b"add", name, content, words, lambda: self.session.add(name, content, *words))
-        self.screen.lines([f"{harmless(name)}: {len(content):,} bytes"])
+        self.screen.lines([f"{harmless(name)}: {len(content):,} bytes{told}"])
 
     def judged(self, command, name, content, words, call):
         """A command with bytes, which is told as the line that it is."""
