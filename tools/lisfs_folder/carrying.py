@@ -89,7 +89,8 @@ class NoRoom(Exception):
 
 
 class Carrying:
-    """Carries changes into an image. `told` is called for each that was made, with a word, a name and more; `failed` with a path and why."""
+    """Carries changes into an image. `told` is called for each that was made, with a word, a name and more, the word being `same` where there
+    was no room for words that a file was to have beside its own; `failed` is called with a path and why."""
 
     def __init__(self, sender, plan, largest, told, failed):
         self.sender, self.plan, self.largest, self.told, self.failed = sender, plan, largest, told, failed
@@ -207,8 +208,8 @@ class Carrying:
         done += ["+" + word.decode() for word in given]
         if change.has_other_bytes:
             self.told("changed", name, entry.found.path)
-        elif done:
-            self.told("words", name, " ".join(done))
+        else:
+            self.told("words" if done else "same", name, " ".join(done))
         return None
 
     def _written(self, entry, name):

@@ -16,7 +16,7 @@ DIGITS = 10
 CLEAR = re.compile(rb"[A-Za-z0-9_.@-]+(?:/[A-Za-z0-9_.@-]+)*")
 DIGESTED = re.compile(rb"-[0-9a-f]{10}(?:\.[A-Za-z0-9_@-]{1,12})?$")
 SUFFIX = re.compile(rb"(?<=[^.+])\.[A-Za-z0-9_@-]{1,12}$")
-EML, LEAN = b".eml", b".mail"
+EML = b".eml"
 
 
 def digest_of(*parts):
@@ -43,9 +43,9 @@ def digested(key, digest):
 
 def of_mail(subject, digest):
     """The name of a mail by its subject, and by what it is known by."""
-    return (joined(subject, LONGEST - len(b"-" + digest + LEAN)) or b"mail") + b"-" + digest + EML
+    return (joined(subject, LONGEST - len(b"-" + digest + EML)) or b"mail") + b"-" + digest + EML
 
 
 def lean(name):
-    """The name of a mail of which the program derives no words."""
-    return name.removesuffix(EML) + LEAN
+    """The name of a mail of which the program derives no words, and which has none itself."""
+    return name.removesuffix(EML)
