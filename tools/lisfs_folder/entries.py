@@ -24,19 +24,18 @@ class Entry:
         """The names that it may have in an image, the first of them where that is free."""
         if not self.is_mail:
             return [names.of_path(self.found.key), names.digested(self.found.key, names.digest_of(marker, *self.ident))]
-        full = [names.of_mail(self.subject, names.digest_of(*self.ident)),
-                names.of_mail(self.subject, names.digest_of(marker, *self.ident))]
+        full = [names.of_mail(self.subject, digest) for digest in (names.digest_of(*self.ident), names.digest_of(marker, *self.ident))]
         lean = [names.lean(name) for name in full]
         return lean + full if is_lean else full + lean
 
 
 class Entries:
     """Looks at the files of a folder. `largest` is the most bytes of a file; `folder_words` gives the words for the names of folders, and
-    `leave` is told what is no file to take. `look` is called for each file. `tagless` counts the pieces of music whose tags could not be
+    `leave` is told what is no file to take. `look` is called for each file, and the file that `passed` describes is passed over. `tagless` counts the pieces of music whose tags could not be
     read, and `is_deaf` says that there is nothing to read tags."""
 
-    def __init__(self, top, largest, folder_words, leave, look=lambda: None):
-        self.walk, self.largest, self.folder_words, self.look = walk.Walk(top, leave), largest, folder_words, look
+    def __init__(self, top, largest, folder_words, leave, look=lambda: None, passed=None):
+        self.walk, self.largest, self.folder_words, self.look = walk.Walk(top, leave, passed), largest, folder_words, look
         self.all, self.tagless, self.is_deaf = [], 0, False
         self._reader, self._words = None, {}
 

@@ -29,6 +29,8 @@ def is_word(word):
 
 def folded(text):
     """A text in ASCII, with its case: umlauts as two letters, other letters without their marks. What can't be written so is a blank."""
+    if text.isascii():
+        return text.replace("'", "")
     # A mark that stands behind its letter is joined to it first, so that it is an umlaut too.
     text = unicodedata.normalize("NFC", text).translate(LETTERS)
     kept = (letter for letter in unicodedata.normalize("NFKD", text) if not unicodedata.combining(letter))

@@ -10,6 +10,7 @@ import email.header
 import email.parser
 import email.policy
 import email.utils
+import functools
 import re
 
 from lisfs_folder.forms import LONGEST, folded, runs, valued
@@ -18,6 +19,8 @@ HEADS = (b"date", b"list", b"who", b"about")
 # So many bytes of a mail are looked at for its header, and so many letters of one field.
 HEADER, FIELD = 262_144, 16_384
 END = re.compile(rb"\r?\n\r?\n")
+# So many fields that name people are kept with their words, since the same people write again and again.
+KEPT = 2_048
 # What is in front of an answer or what is handed on, and words of English and German that are in every subject.
 SAYS_NOTHING = frozenset("""
     re fwd fw aw wg antw sv vs tr rv
@@ -47,29 +50,17 @@ class Mail:
         self._fields = email.parser.HeaderParser(policy=email.policy.compat32).parsestr(text)
         found = MESSAGE_ID.search(raw := self._raw("Message-ID"))
         self.message_id = found[1] if found else raw.strip() or None
-        self.subject = str(self._decoded("Subject"))
+        self.subject = str(decoded("Subject", self._raw("Subject")))
 
     def _raw(self, name):
         """A field's text as it stands, or none."""
         value = self._fields.get(name)
         return str(value)[:FIELD] if value is not None else ""
 
-    def _decoded(self, name):
-        """A field as the package decodes it. A header may be anything, and the package has no list of what it raises then."""
-        raw = re.sub(r"[\r\n]+", "", self._raw(name))
-        try:
-            return email.policy.default.header_factory(name, raw)
-        except Exception:
-            pass
-        try:
-            return str(email.header.make_header(email.header.decode_header(raw)))
-        except Exception:
-            return raw
-
     def words(self):
-        people = [self._people("From"), self._people("To") + self._people("Cc")]
-        found = self._date() + self._list() + people[0] + self._about() + people[1]
-        return list(dict.fromkeys(found))
+        found = [self._date(), self._list(), people("From", self._raw("From")), self._about(), people("To", self._raw("To")),
+                 people("Cc", self._raw("Cc"))]
+        return list(dict.fromkeys(word for words in found for word in words))
 
     def _date(self):
         try:
@@ -86,16 +77,31 @@ class Mail:
         said = [run for run in runs(self.subject) if len(run) >= 3 and not run.isdigit() and run not in SAYS_NOTHING]
         return [b"about:" + run[:LONGEST - len("about:")].encode() for run in said]
 
-    def _people(self, name):
-        field = self._decoded(name)
-        try:
-            pairs = [(one.display_name, one.addr_spec) for one in field.addresses]
-        except Exception:
-            pairs = [("", address) for address in ADDRESS.findall(str(field))]
-        found = []
-        for shown, address in pairs:
-            found += of_person(shown, address)
-        return found
+
+def decoded(name, raw):
+    """A field as the package decodes it. A header may be anything, and the package has no list of what it raises then."""
+    raw = re.sub(r"[\r\n]+", "", raw)
+    try:
+        return email.policy.default.header_factory(name, raw)
+    except Exception:
+        pass
+    try:
+        return str(email.header.make_header(email.header.decode_header(raw)))
+    except Exception:
+        return raw
+
+
+@functools.lru_cache(KEPT)
+def people(name, raw):
+    """The words of those whom a field names."""
+    if not raw.strip():
+        return ()
+    field = decoded(name, raw)
+    try:
+        pairs = [(one.display_name, one.addr_spec) for one in field.addresses]
+    except Exception:
+        pairs = [("", address) for address in ADDRESS.findall(str(field))]
+    return tuple(word for shown, address in pairs for word in of_person(shown, address))
 
 
 def of_person(shown, address):

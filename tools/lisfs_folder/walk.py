@@ -4,6 +4,7 @@ A folder with `cur` and `new` in it is a maildir, and so is one below with these
 folders `.NAME.NAME`, whose names are decoded as mail programs write them.
 """
 import base64
+import errno
 import os
 import re
 import stat
@@ -23,11 +24,11 @@ class Found:
 
 
 class Walk:
-    """Walks through a folder. What is no file to take is told by `leave(path, why)`. `is_blind` says whether there may be files that were
-    not seen."""
+    """Walks through a folder. What is no file to take is told by `leave(path, why)`; the file that `passed` describes is passed over.
+    `is_blind` says whether there may be files that were not seen."""
 
-    def __init__(self, top, leave):
-        self.top, self.leave, self.is_blind = top, leave, False
+    def __init__(self, top, leave, passed=None):
+        self.top, self.leave, self.passed, self.is_blind = top, leave, passed, False
 
     def files(self):
         """Each `Found`, in an order that the names alone give."""
@@ -57,17 +58,22 @@ class Walk:
         try:
             kind = os.lstat(found.path)
         except OSError as error:
-            found.problem = error.strerror
+            # It may be a folder.
+            found.problem, self.is_blind = error.strerror, True
         else:
             if not stat.S_ISREG(kind.st_mode):
                 return self.leave(found.path, "no plain file")
+            if self.passed and os.path.samestat(kind, self.passed):
+                return
             found.size = kind.st_size
         yield found
 
     def _names(self, at):
         """The names in a folder, none where there is no such folder or it can't be read."""
         try:
-            return sorted(os.listdir(at)) if os.path.isdir(at) else []
+            return sorted(os.listdir(at))
+        except (FileNotFoundError, NotADirectoryError):
+            return []
         except OSError as error:
             self._fails(error)
             return []
@@ -93,6 +99,8 @@ class Walk:
                 continue
             if is_maildir(at) and not os.path.islink(at):
                 yield from self._maildir(at, parts + (decoded(name),), os.path.join(inner, name))
+            elif os.path.isdir(at) and not os.access(at, os.R_OK | os.X_OK):
+                self._fails(PermissionError(errno.EACCES, os.strerror(errno.EACCES), at))
             else:
                 self.leave(at, "no part of the maildir")
 
