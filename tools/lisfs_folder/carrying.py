@@ -22,8 +22,9 @@ ROOT = b"/"
 NO_WORD_ROOM, TOO_LARGE, NO_FILE_ROOM, NO_SPACE, LARGE_DESCRIPTION = 22, 20, 21, 24, 19
 FEWER_WORDS_HELP = (NO_WORD_ROOM, LARGE_DESCRIPTION)
 WHY = {
-    9: "the name is taken", 10: "it is not there any more", TOO_LARGE: "it is too large for this image", NO_FILE_ROOM: "no room for more files",
-    NO_WORD_ROOM: "no room for more words", NO_SPACE: "no room for its bytes", LARGE_DESCRIPTION: "more words than a file may have",
+    9: "the name is taken", 10: "it is not there any more", TOO_LARGE: "it is too large for this image",
+    NO_FILE_ROOM: "no room for more files", NO_WORD_ROOM: "no room for more words", NO_SPACE: "no room for its bytes",
+    LARGE_DESCRIPTION: "more words than a file may have",
 }
 
 
@@ -89,8 +90,8 @@ class NoRoom(Exception):
 
 
 class Carrying:
-    """Carries changes into an image. `told` is called for each that was made, with a word, a name and more, the word being `same` where there
-    was no room for words that a file was to have beside its own; `failed` is called with a path and why."""
+    """Carries changes into an image. `told` is called for each that was made, with a word, a name and more, the word being `same` where
+    nothing was made since there was no room for further words; `failed` is called with a path and why."""
 
     def __init__(self, sender, plan, largest, told, failed):
         self.sender, self.plan, self.largest, self.told, self.failed = sender, plan, largest, told, failed

@@ -6,13 +6,13 @@ these files: all others that they have somebody gave them, and they stay.
 import collections
 import hashlib
 
-from lisfs_folder import mails, music, names, walk
+from lisfs_folder import mails, music, walk
 from lisfs_folder.forms import LONGEST, MOST_WORDS, folder_value
 
 MARKER, FOLDER = b"sync", b"in"
 HEADS = frozenset((FOLDER, *mails.HEADS, *music.HEADS))
 
-# A file as it is and as it is to be: its name, its entry, the words that it loses and gains, and whether it is made and whether its bytes change.
+# A file as it is and as it is to be: its name, its entry, the words that it loses and gains, and whether it is new and has other bytes.
 Change = collections.namedtuple("Change", "name entry loses gains is_new has_other_bytes")
 
 
@@ -27,9 +27,9 @@ def folder_words(folders):
 
 
 class Changes:
-    """`changes` are those of files that the folder has, `gone` the names of those that it has no more, and `same` counts the others. Entries
-    that can't be taken are `refused`: what the image holds of them stays. `beyond` counts the words that are too many for a file, and
-    `beyond_files` the files that they belong to."""
+    """`changes` are those of files that the folder has, `gone` the names of those that it has no more, and `same` counts the others.
+    Entries that can't be taken are `refused`: what the image holds of them stays. `beyond` counts the words that are too many for a file,
+    and `beyond_files` the files that they belong to."""
 
     def __init__(self, entries, dump, marker, is_lean=False):
         self.marker, self.dump = marker, dump
@@ -97,9 +97,8 @@ class Changes:
 
     def heads(self):
         """The heads that have to be declared, in the order of their importance."""
-        wanted = dict.fromkeys([MARKER, *(head_of(word) for change in self.changes for word in change.gains)])
-        return [head for head in wanted if head + b":" not in self.dump.declared] if any(change.gains or change.is_new
-                                                                                         for change in self.changes) else []
+        wanted = dict.fromkeys(head_of(word) for change in self.changes for word in change.gains)
+        return [head for head in [MARKER, *wanted] if head + b":" not in self.dump.declared] if self.changes else []
 
 
 def digest_of(entry):

@@ -7,8 +7,8 @@ import sys
 from lisfs_folder.forms import valued
 
 HEADS = (b"artist", b"album", b"genre", b"year")
-SUFFIXES = {".mp3", ".ogg", ".oga", ".opus", ".spx", ".flac", ".m4a", ".m4b", ".mp4", ".aac", ".wma", ".wav", ".aif", ".aiff", ".ape", ".wv",
-            ".mpc", ".tta", ".dsf"}
+SUFFIXES = {".mp3", ".ogg", ".oga", ".opus", ".spx", ".flac", ".m4a", ".m4b", ".mp4", ".aac", ".wma", ".wav", ".aif", ".aiff", ".ape",
+            ".wv", ".mpc", ".tta", ".dsf"}
 # The names of a tag in the kinds of files.
 TAGS = {
     b"artist": ("artist", "TPE1", "\xa9ART", "Author", "Artist"),

@@ -1,5 +1,7 @@
 """What a tool says: lines, counts by their cause, and on a terminal one line of progress that is written again and again."""
 import collections
+import errno
+import os
 import sys
 import time
 
@@ -47,7 +49,15 @@ def cause_of(why):
     """A cause without what is one file's alone."""
     if "; a file has" in why:
         return "too large"
+    if why == os.strerror(errno.ENOENT):
+        return "gone while the folder was read"
     return "the name is taken" if why.startswith("the name ") else why
+
+
+def left_out(tell, words, files, why):
+    """Tells how many words of how many files were left out, where some were."""
+    if words:
+        tell(f"{counted(words, 'word')} of {counted(files, 'file')} left out: {why}")
 
 
 def counted(count, word):
