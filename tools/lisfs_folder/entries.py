@@ -31,11 +31,11 @@ class Entry:
 
 class Entries:
     """Looks at the files of a folder. `largest` is the most bytes of a file; `folder_words` gives the words for the names of folders, and
-    `leave` is told what is no file to take. `look` is called for each file, and the file that `passed` describes is passed over. `tagless`
+    `leave` is told what is no file to take, and `look` is called for each file. What `without` and `passed` say is passed over. `tagless`
     counts the pieces of music whose tags could not be read, and `is_deaf` says that there is nothing to read tags."""
 
-    def __init__(self, top, largest, folder_words, leave, look=lambda: None, passed=None):
-        self.walk, self.largest, self.folder_words, self.look = walk.Walk(top, leave, passed), largest, folder_words, look
+    def __init__(self, top, largest, folder_words, leave, look, without=(), passed=None):
+        self.walk, self.largest, self.folder_words, self.look = walk.Walk(top, leave, without, passed), largest, folder_words, look
         self.all, self.tagless, self.is_deaf = [], 0, False
         self._reader, self._words = None, {}
 

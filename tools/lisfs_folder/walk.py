@@ -5,6 +5,7 @@ folders `.NAME.NAME`, whose names are decoded as mail programs write them.
 """
 import base64
 import errno
+import fnmatch
 import os
 import re
 import stat
@@ -24,11 +25,11 @@ class Found:
 
 
 class Walk:
-    """Walks through a folder. What is no file to take is told by `leave(path, why)`; the file that `passed` describes is passed over.
-    `is_blind` says whether there may be files that were not seen."""
+    """Walks through a folder. What is no file to take is told by `leave(path, why)`. What has a name as one of `without`, patterns of a
+    shell, is passed over, and so is the file that `passed` describes. `is_blind` says whether there may be files that were not seen."""
 
-    def __init__(self, top, leave, passed=None):
-        self.top, self.leave, self.passed, self.is_blind = top, leave, passed, False
+    def __init__(self, top, leave, without=(), passed=None):
+        self.top, self.leave, self.without, self.passed, self.is_blind = top, leave, without, passed, False
 
     def files(self):
         """Each `Found`, in an order that the names alone give."""
@@ -36,18 +37,21 @@ class Walk:
             yield from self._maildir(self.top, (), "")
             return
         for at, below, names in os.walk(self.top, onerror=self._fails):
+            below[:], names = self._wanted(below), self._wanted(names)
             inner = os.path.relpath(at, self.top)
             inner, parts = ("", ()) if inner == "." else (inner, tuple(inner.split(os.sep)))
             if inner and is_maildir(at):
                 below.clear()
                 yield from self._maildir(at, parts, inner)
                 continue
-            below.sort()
             for name in below:
                 if os.path.islink(os.path.join(at, name)):
                     self.leave(os.path.join(at, name), "no plain file")
-            for name in sorted(names):
+            for name in names:
                 yield from self._file(Found(os.path.join(at, name), parts, os.path.join(inner, name)))
+
+    def _wanted(self, names):
+        return sorted(name for name in names if not any(fnmatch.fnmatchcase(name, pattern) for pattern in self.without))
 
     def _fails(self, error):
         self.is_blind = True
@@ -71,7 +75,7 @@ class Walk:
     def _names(self, at):
         """The names in a folder, none where there is no such folder or it can't be read."""
         try:
-            return sorted(os.listdir(at))
+            return self._wanted(os.listdir(at))
         except (FileNotFoundError, NotADirectoryError):
             return []
         except OSError as error:
