@@ -133,7 +133,7 @@ class Carrying:
     # A file that is new.
 
     def _add(self, change):
-        entry, gains, refusal, refused = change.entry, self._declared(change.gains), None, 0
+        entry, gains, refusal = change.entry, self._declared(change.gains), None
         all_names = [change.name]
         if entry.is_mail and change.name.endswith(names.EML):
             # Of a mail that isn't named so the program derives no words.
@@ -145,20 +145,13 @@ class Carrying:
                     refusal = yield ROOT, *self._added(entry, line)
                 except OSError as error:
                     return self.failed(entry.found.path, error.strerror or str(error))
-                if refusal is None and rest:
-                    refusal = yield ROOT, (b"mv", name, b"/".join(rest)), None
-                    given, refusal = line[2:] if refusal else given, None
-                fresh = self._fresh(given)
                 if refusal is None:
-                    # Not even one word could become known.
-                    self.is_full = self.is_full or (refused == 1 and fresh == 0)
-                    self.known.update(given)
+                    given = yield from self._complete(ROOT, name, gains, [word for word in given if word not in rest])
                     self._lacking(len(change.gains) - len(given))
                     self.lean += name != change.name
                     return self.told("new", name, entry.found.path)
                 if refusal.number not in FEWER_WORDS_HELP:
                     return self._refused_file(entry, refusal)
-                refused = fresh if refusal.number == NO_WORD_ROOM else 0
         return self._refused_file(entry, refusal)
 
     def _refused_file(self, entry, refusal):
@@ -193,18 +186,7 @@ class Carrying:
                 return self.failed(entry.found.path, error.strerror or str(error))
         if refusal is not None:
             return self.failed(entry.found.path, why(refusal))
-        given, refused = [], 0
-        for given in self._tries(self._declared(change.gains), False):
-            refusal = None
-            for begin in range(0, len(given), PLACED):
-                part = given[begin:begin + PLACED]
-                refusal = refusal or (yield self.place, (b"mv", name, b"/".join(part)), None)
-            if refusal is None:
-                self.is_full = self.is_full or (refused == 1 and self._fresh(given) == 0)
-                break
-            refused = self._fresh(given) if refusal.number == NO_WORD_ROOM else 0
-        given = given if refusal is None else []
-        self.known.update(given)
+        given = yield from self._complete(self.place, name, self._declared(change.gains), [])
         self._lacking(len(change.gains) - len(given))
         done += ["+" + word.decode() for word in given]
         if change.has_other_bytes:
@@ -223,22 +205,36 @@ class Carrying:
         """Those of some words whose heads are declared: for a head too there may be no room."""
         return [word for word in words if changes.head_of(word) + b":" in self.known]
 
-    def _fresh(self, words):
-        """How many of some words would become known with them."""
-        return len([word for word in words if word not in self.known])
+    def _tries(self, gains, to_the_end):
+        """Lists of words to make a file with, each tried where the one before was refused: with all words, with those that are known
+        already; and at the end, where one is wanted, without any."""
+        known = [word for word in gains if word in self.known]
+        tries = [known] if self.is_full else [list(gains), known]
+        for number, words in enumerate(tries + [[]] if to_the_end else tries):
+            if number == 0 or words != tries[number - 1]:
+                yield words
 
-    def _tries(self, gains, to_the_end=True):
-        """Lists of words to give, each tried where those before were refused: with all words that would become known, with half of them,
-        and so on, and with those that are known already; and at the end, where one is wanted, without any."""
-        fresh = [word for word in gains if word not in self.known]
-        count, tried = 0 if self.is_full else len(fresh), None
-        while tried is None or count:
-            count = count if tried is None else count // 2
-            chosen = set(fresh[:count])
-            tried = [word for word in gains if word in self.known or word in chosen]
-            yield tried
-        if to_the_end and tried:
-            yield []
+    def _complete(self, place, name, gains, given):
+        """Gives a file the words that it has not, as far as there is room: in few commands, or where these are refused one by one. Returns
+        all that it has then."""
+        self.known.update(given)
+        missing = [word for word in gains if word not in given]
+        parts = [missing[begin:begin + PLACED] for begin in range(0, len(missing), PLACED)]
+        while parts:
+            part = [word for word in parts.pop(0) if not self.is_full or word in self.known]
+            if not part:
+                continue
+            refusal = yield place, (b"mv", name, b"/".join(part)), None
+            if refusal is None:
+                given = given + part
+                self.known.update(part)
+            elif len(part) > 1:
+                parts[:0] = [[word] for word in part]
+            elif refusal.number == NO_WORD_ROOM:
+                # Not even one word can become known, and so no other one.
+                self.is_full = True
+                self.known.difference_update(part)
+        return given
 
     def _lacking(self, count):
         if count:
