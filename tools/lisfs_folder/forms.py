@@ -1,0 +1,81 @@
+"""Texts as words and names of an image: ASCII, and in the forms that the program takes."""
+import os
+import re
+import unicodedata
+
+# The most bytes of a word, and of a name.
+LONGEST = 60
+# The most words that a file is given.
+MOST_WORDS = 16
+PLAIN = re.compile(rb"[A-Za-z0-9_.+@-]{1,60}")
+NOT_PLAIN = re.compile(rb"[^A-Za-z0-9_.+@-]")
+BUILT_IN = {b"ext", b"size", b"from", b"to", b"subject", b"includes", b"defines"}
+# Letters that are written with others where they can't be written, and those that are no letter with a mark.
+LETTERS = str.maketrans({
+    "ä": "ae", "ö": "oe", "ü": "ue", "Ä": "Ae", "Ö": "Oe", "Ü": "Ue", "ß": "ss", "ẞ": "SS", "æ": "ae", "Æ": "Ae", "œ": "oe", "Œ": "Oe",
+    "ø": "o", "Ø": "O", "ł": "l", "Ł": "L", "đ": "d", "Đ": "D", "ð": "d", "Ð": "D", "þ": "th", "Þ": "Th", "ı": "i", "ħ": "h", "Ħ": "H",
+    "'": "", "’": "", "‘": "", "ʼ": "",
+})
+RUN = re.compile(r"[A-Za-z0-9]+")
+
+
+def is_word(word):
+    """Whether a file can be given these bytes as a word: plain, or valued with a head that can be declared."""
+    head, colon, value = word.partition(b":")
+    parts = [head, value] if colon else [head]
+    return (all(PLAIN.fullmatch(part) for part in parts) and not word.startswith(b".") and len(word) <= LONGEST
+            and not (colon and head in BUILT_IN))
+
+
+def folded(text):
+    """A text in ASCII, with its case: umlauts as two letters, other letters without their marks. What can't be written so is a blank."""
+    if text.isascii():
+        return text.replace("'", "")
+    # A mark that stands behind its letter is joined to it first, so that it is an umlaut too.
+    text = unicodedata.normalize("NFC", text).translate(LETTERS)
+    kept = (letter for letter in unicodedata.normalize("NFKD", text) if not unicodedata.combining(letter))
+    return "".join(letter if letter.isascii() else " " for letter in kept)
+
+
+def runs(text):
+    """The longest runs of letters and digits of a text in ASCII and small letters."""
+    return RUN.findall(folded(text).lower())
+
+
+def joined(text, longest):
+    """The runs of a text with `-` between, so many whole ones as there is room for, and of the first one at least a part."""
+    found = ""
+    for run in runs(text):
+        more = f"{found}-{run}" if found else run[:longest]
+        if len(more) > longest:
+            break
+        found = more
+    return found.encode()
+
+
+def valued(head, text):
+    """The word of this head with a text as its value, or none."""
+    value = joined(text, LONGEST - len(head) - 1)
+    return [b"%s:%s" % (head, value)] if value else []
+
+
+def mapped(name):
+    """The bytes of a name of the system, each that is not plain as `_`."""
+    return NOT_PLAIN.sub(b"_", os.fsencode(name))
+
+
+def plain(name):
+    """The plain bytes of a name of the system, of any length. Letters that are no ASCII are folded; what can't be written so is a `_`."""
+    text = unicodedata.normalize("NFC", os.fsencode(name).decode(errors="surrogateescape"))
+    text = "".join(letter if letter.isascii() else folded(letter).strip() or "_" for letter in text)
+    return NOT_PLAIN.sub(b"_", text.encode())
+
+
+def folder_value(name):
+    """What stands for a folder in a word, of any length; nothing where its name has only full stops."""
+    return plain(name).lstrip(b".")
+
+
+def shown(path):
+    """A path as a line can show it."""
+    return os.fsencode(path).decode("ascii", "backslashreplace")
