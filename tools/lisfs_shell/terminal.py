@@ -117,7 +117,7 @@ class Screen:
     def fault(self, line):
         """Tells what is amiss, on standard error."""
         with contextlib.suppress(OSError):
-            text = self.coloured(harmless(os.fsencode(line)), FAULT, ERRORS) + "\n"
+            text = self.coloured(harmless(line.encode("utf-8", "surrogateescape")), FAULT, ERRORS) + "\n"
             os.write(ERRORS, text.encode(self.encoding, "backslashreplace"))
 
     def prompt(self, place):
