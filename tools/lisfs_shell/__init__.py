@@ -1,1 +1,9 @@
-"""The parts of `tools/shell`, a prompt over an image. They stand on the built program alone, and nothing of them is proved."""
+"""A prompt over an image: the parts of `tools/shell`. Nothing of it is proved.
+
+- `commands`: how each command is said, what it does, and where it is refused.
+- `session`: the place of an open image, the names of its files, and which of them are at a place.
+- `refusals`: a sentence for each refusal.
+- `running`: a line carried out, and the commands that the shell has of its own.
+- `completing`: what Tab makes of a line.
+- `terminal`: what a person sees and types.
+"""

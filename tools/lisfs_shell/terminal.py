@@ -117,7 +117,7 @@ class Screen:
     def fault(self, line):
         """Tells what is amiss, on standard error."""
         with contextlib.suppress(OSError):
-            text = self.coloured(harmless(os.fsencode(line)), FAULT, ERRORS) + "\n"
+            text = self.coloured(harmless(line.encode("utf-8", "surrogateescape")), FAULT, ERRORS) + "\n"
             os.write(ERRORS, text.encode(self.encoding, "backslashreplace"))
 
     def prompt(self, place):
@@ -139,7 +139,7 @@ class Screen:
         self._prompt = prompt
         self.interrupts.forget()
         with self.interrupts.typing():
-            return input(prompt).encode("utf-8", "surrogateescape")
+            return os.fsencode(input(prompt))
 
     def says_yes(self, question):
         """Whether the answer to a question is yes. Without a terminal it is no."""
@@ -175,26 +175,25 @@ class History:
 
     def _begin(self):
         with contextlib.suppress(FileNotFoundError):
-            with open(self.path, encoding="utf-8", errors="surrogateescape") as file:
+            with open(self.path, "rb") as file:
                 lines = file.read().splitlines()
             for line in lines[-REMEMBERED:]:
-                readline.add_history(line)
+                readline.add_history(os.fsdecode(line))
             if len(lines) > 2 * REMEMBERED:
                 self._write(lines[-REMEMBERED:], os.O_TRUNC)
 
     def _write(self, lines, flags):
         os.makedirs(os.path.dirname(self.path), 0o700, exist_ok=True)
         descriptor = os.open(self.path, os.O_WRONLY | os.O_CREAT | os.O_CLOEXEC | flags, 0o600)
-        with open(descriptor, "w", encoding="utf-8", errors="surrogateescape") as file:
+        with open(descriptor, "wb") as file:
             os.fchmod(descriptor, 0o600)
-            file.write("".join(line + "\n" for line in lines))
+            file.write(b"".join(line + b"\n" for line in lines))
 
     def add(self, line):
         """Keeps a line, each as it comes, so that none is lost where the terminal is."""
-        text = line.decode("utf-8", "surrogateescape")
-        if not readline or not text.strip() or text == self.last:
+        if not readline or not line.strip() or line == self.last:
             return
-        self.last = text
-        readline.add_history(text)
+        self.last = line
         with contextlib.suppress(OSError, ValueError):
-            self._write([text], os.O_APPEND)
+            readline.add_history(os.fsdecode(line))
+            self._write([line], os.O_APPEND)
