@@ -135,6 +135,14 @@ next_map asks (NextItem asked) = NextItem (asks asked)
 next_map asks End = End
 next_map asks Limit = Limit
 
+-- some item lies whole in these bytes, whatever follows
+pub record LiesWhole {I : Type 0} (cut : Cut I) (bytes : List ℕ) : Type 0 where
+  pub front : List ℕ
+  pub rest : List ℕ
+  pub is : bytes ≡ front ++ rest
+  pub item : I
+  pub whole : IsWhole cut front (item ∷ [])
+
 -- ---- the items of a session
 
 -- what a line asks for, with the payload that was taken

@@ -1,11 +1,12 @@
 //! The reader of items.
 
-ghost use Rattle.std.specs.Prelude.{◌≡◌, ℕ, ◌^◌, ◌≤◌, false, length, IfOk};
+ghost use Rattle.std.specs.Prelude.{◌≡◌, ℕ, ◌^◌, ◌≤◌, false, [], length, IfOk, IsTrue};
 ghost use Rattle.lis_ports.specs.Calls.{HasCause, FaultEnds};
 ghost use Rattle.lis_model.specs.Script.{session_cut};
 
 use crate::input::InputItem;
 pub use crate::payload::Payload;
+use crate::ahead::lies_whole;
 use crate::stock::Stock;
 use crate::tagged::Tagged;
 use crate::taken::{Taken, take_asked};
@@ -70,7 +71,7 @@ impl Model for LineReader {
 }
 
 impl LineReader {
-    ghost use Rattle.lis_line.specs.Reading.{fresh, Says, told, next_map, says_by};
+    ghost use Rattle.lis_line.specs.Reading.{fresh, LiesWhole, Says, told, next_map, says_by};
     ghost use Rattle.lis_line.specs.Tagged.{tagged_cut};
     ghost use Rattle.lis_line.specs.Spoken.{says_tagged, IsTagged};
 
@@ -91,6 +92,14 @@ impl LineReader {
         ensures { result ≡ self.now.is_ended }
     {
         self.is_ended
+    }
+
+    /// Whether an item of a session lies whole in what was taken: then the next one is given with no call of the source.
+    pub fn lies_whole(&self) -> bool
+        ensures whole { IsTrue result → (self.now.is_closed ≡ false) × LiesWhole session_cut self.now.stock.ahead }
+        ensures none { result ≡ false → self.now.is_closed ≡ false → session_cut.whole self.now.stock.ahead ≡ [] }
+    {
+        !self.is_closed && lies_whole(self.stock.ahead())
     }
 
     /// What the next item asks for, of an input of any kind, with its payload. Parts that ask for nothing are skipped.
