@@ -53,7 +53,8 @@ settled_sound q j form pairs image unbroken = record {
   tests = tests_clean q form.tests;
   image = image;
   journal = λ _. unbroken;
-  staged = λ _. refl;
+  few = λ _. omega arith;
+  whole = λ _. refl;
   placed = λ _. refl;
   clean = λ _. clean_is q;
 }

@@ -81,7 +81,8 @@ module _ (p made q : Kept) (word : List ℕ) (rights : List ℕ) (words : List (
     in_use = in_use_clean end (used_then p made word rights words sound new numbers stands sound_made plain q gives was.free (in_use_then p made word rights words sound new numbers stands was.in_use));
     image = subst (λ (k : Kept). j.blocks ≡ image_blocks k.limits) (sym made_is) was.image;
     journal = λ _. was.journal whole;
-    staged = λ _. refl;
+    few = λ _. omega arith;
+    whole = λ _. refl;
     placed = λ _. refl;
     clean = λ _. clean_is end;
   })

@@ -347,7 +347,8 @@ module _ (p q : Kept) (number : ℕ) (sound : AreSound p) (may : MayUndeclare nu
         in_use = in_use_clean q (in_use_then was.in_use);
         image = subst (λ (k : Kept). j.blocks ≡ image_blocks k.limits) (sym q_is) was.image;
         journal = λ _. was.journal whole;
-        staged = λ _. refl;
+        few = λ _. omega arith;
+        whole = λ _. refl;
         placed = λ _. refl;
         clean = λ _. clean_is q;
       }

@@ -18,7 +18,8 @@ use Rattle.lis_kept.specs.Telling.{words_told, bytes_told}
 use Rattle.lis_kept.proofs.Filed.{record_named}
 use Rattle.lis_store.specs.declared.change.Change.{Change}
 use Rattle.lis_store.specs.declared.change.Change.TheVariants.{Refused}
-use Rattle.lis_store.specs.Stored.{Stored, IsSound, StoreFits}
+use Rattle.lis_store.specs.Stored.{Stored, IsSound}
+use Rattle.lis_store.proofs.ToldBy.{ToldBy}
 use Rattle.lis_store.specs.Changes.{Changes, first_refusal}
 use Rattle.lis_store.specs.Judging.{is_among}
 use Rattle.lis_store.specs.Instead.{given_before, free_instead, overwriting_checks, renaming_checks, write_checks_of, rename_checks_of}
@@ -69,25 +70,25 @@ module _ (k : Stored) (sound : IsSound k) (place : List Formula) (name : List �
       rename_may k sound slot rec there place name other bytes form (omega (arith, size)) (rest_of_rename k.parts place name slot (given_before k.parts rec other bytes) here ∙ none)
 
 -- ---- calls that are done
-module _ (k : Stored) (m : Meaning) (s : State) (sound : IsSound k) (fits : StoreFits k m s) (place : List Formula) (name : List ℕ) (slot : ℕ) (rec : FileRecord)
+module _ (k : Stored) (s : State) (sound : IsSound k) (fits : ToldBy k s) (place : List Formula) (name : List ℕ) (slot : ℕ) (rec : FileRecord)
     (named : slot_of k.parts.catalog name ≡ Some slot) (there : rec_at k.parts.catalog slot ≡ Some rec) (here : is_among k.parts place name ≡ true)
     (assigned : List (List ℕ)) (words_are : assigned ≡ words_told k.parts.dict rec.tags) where
   taken_named : rec.name ≡ name
   taken_named = (filed_named k.parts sound.parts name slot rec named there).1
 
   old_words : (file_of s.files name).assigned ≡ assigned
-  old_words = old_given k m s sound fits name slot rec named there ∙ sym words_are
+  old_words = old_given k s sound fits name slot rec named there ∙ sym words_are
 
   pub written_done : (payload : Payload) → payload.size ≤ file_limit k.parts.limits.version
       → first_refusal (overwriting_checks k.parts slot rec (given_before k.parts rec name payload.bytes) payload.size) ≡ None
       → write (record { state = s; place = place }) name payload ≡ changed (record { state = s; place = place }) (file_replaced s rec.name (new_file name assigned payload.bytes))
   written_done payload small none =
       let now : Situation = record { state = s; place = place } in
-      write_done k m s sound fits place name slot rec (λ _. (named, there)) payload (rest_of_write k.parts place name slot rec (given_before k.parts rec name payload.bytes) payload.size small here ∙ none)
+      write_done k s sound fits place name slot rec (λ _. (named, there)) payload (rest_of_write k.parts place name slot rec (given_before k.parts rec name payload.bytes) payload.size small here ∙ none)
       ∙ ap₂ (λ n ws. changed now (file_replaced s n (new_file name ws payload.bytes))) (sym taken_named) old_words
 
   bytes_are : (file_of s.files name).bytes ≡ bytes_told k.parts.limits fits.kept rec
-  bytes_are = ap (λ (f : File). f.bytes) (old_is k m s sound fits name slot rec named there)
+  bytes_are = ap (λ (f : File). f.bytes) (old_is k s sound fits name slot rec named there)
 
   -- the blocks of the new bytes are enough
   pub written_enough : (size : ℕ) → blocks_taken k.parts.limits.version size ≤ free_instead k.parts rec
@@ -98,10 +99,10 @@ module _ (k : Stored) (m : Meaning) (s : State) (sound : IsSound k) (fits : Stor
       omega (
         arith,
         enough,
-        free_told k m s sound fits name slot rec named there,
+        free_told k s sound fits name slot rec named there,
         most,
-        used_told k m s sound fits,
-        ap (λ v. blocks_taken v size) (version_told k m s sound fits),
+        used_told k s sound fits,
+        ap (λ v. blocks_taken v size) (version_told k s sound fits),
         ap (λ bs. blocks_taken s.limits.version (length bs)) bytes_are,
       )
     where
@@ -116,7 +117,7 @@ module _ (k : Stored) (m : Meaning) (s : State) (sound : IsSound k) (fits : Stor
       let now : Situation = record { state = s; place = place } in
       let same : (file_of s.files name).bytes ≡ bytes = bytes_are ∙ told in
       let row = subst (λ bs. first_refusal (renaming_checks k.parts slot (given_before k.parts rec other bs)) ≡ None) (sym same) none in
-      rename_done k m s sound fits place name slot rec (λ _. (named, there)) other (rest_of_rename k.parts place name slot (given_before k.parts rec other (file_of s.files name).bytes) here ∙ row)
+      rename_done k s sound fits place name slot rec (λ _. (named, there)) other (rest_of_rename k.parts place name slot (given_before k.parts rec other (file_of s.files name).bytes) here ∙ row)
       ∙ (ap₂ (λ n ws. changed now (file_replaced s n (new_file other ws (file_of s.files name).bytes))) (sym taken_named) old_words
       ∙ ap (λ bs. changed now (file_replaced s rec.name (new_file other assigned bs))) same)
 

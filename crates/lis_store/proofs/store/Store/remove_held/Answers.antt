@@ -8,10 +8,10 @@ use Rattle.lis_model.specs.Image.{image_blocks}
 use Rattle.lis_kept.specs.Kept.{Kept}
 use Rattle.lis_store.proofs.Edits.{edits_same, edits_saved}
 use Rattle.lis_store.proofs.RemoveFile.{removed_refused, lost_parts, lost_sound, lost_changes, form_given, there_given, same_limits, removed_sound, removed_placed, removed_marks, removed_edits, removed_changes}
-use Rattle.lis_store.proofs.store.Store.remove.Goals as goal
+use Rattle.lis_store.proofs.store.Store.remove_held.Goals as goal
 
-pub returns-in_default-clause-changes : goal.returns-in_default-clause-changes
-returns-in_default-clause-changes g c = λ s fits.
+pub returns-in_default-clause-holds : goal.returns-in_default-clause-holds
+returns-in_default-clause-holds g c = λ s fits.
     let P : Stored → Type 0 = λ k. IsSound k in
     let sound = subst P c.self.view_is c.self.invariant in
     removed_refused c.args.self.now (g.D.Disk.meaning c.args.disk.now) c.args.place.now c.args.name.now _ sound (sym c.in_default.ensures.here) refl s fits
@@ -35,8 +35,8 @@ returns-in_err-give_content-clause-sound g c =
     lost_sound (Unit {0}) old c.in-Some.slot c.args.name.now c.self.invariant named c.give_content.new.parts c.give_content.new.is_broken c.in_err-give_content.field-0.0 (g.D.Disk.meaning c.args.disk.now)
     (g.D.Disk.meaning c.give_content.new.disk) c.in_err-give_content.ensures.given c.in_err-give_content.ensures.ended
 
-pub returns-in_err-give_content-clause-changes : goal.returns-in_err-give_content-clause-changes
-returns-in_err-give_content-clause-changes g c = λ s fits.
+pub returns-in_err-give_content-clause-holds : goal.returns-in_err-give_content-clause-holds
+returns-in_err-give_content-clause-holds g c = λ s fits.
     let old : Stored = record { parts = c.self.inside.parts; journal = c.self.inside.journal; is_broken = c.self.inside.is_broken } in
     let named = ap (λ (k : Stored). slot_of k.parts.catalog c.args.name.now) c.self.view_is ∙ c.in-Some.ensures.slot in
     let p = err_from_is_err_and c.from_residual.result c.from_residual.ensures.1 in
@@ -96,8 +96,8 @@ take_out-requires-clause-in_use g c =
     let m = g.D.Disk.meaning c.args.disk.now in
     (form_given old c.give_content.new.parts c.in-Some.slot found.0 m given.0 c.self.invariant found.1).in_use
 
-pub save-requires-clause-sound : goal.save-requires-clause-sound
-save-requires-clause-sound g c =
+pub hold-requires-clause-sound : goal.hold-requires-clause-sound
+hold-requires-clause-sound g c =
     let old : Stored = record { parts = c.self.inside.parts; journal = c.self.inside.journal; is_broken = c.self.inside.is_broken } in
     let named = ap (λ (k : Stored). slot_of k.parts.catalog c.args.name.now) c.self.view_is ∙ c.in-Some.ensures.slot in
     let found = rec_at-slot_of c.self.inside.parts.catalog c.args.name.now c.in-Some.slot c.self.invariant.parts.catalog named in
@@ -107,8 +107,8 @@ save-requires-clause-sound g c =
     let here = ap (λ (k : Stored). is_among k.parts c.args.place.now c.args.name.now) c.self.view_is ∙ sym c.in-Some.ensures.here in
     removed_sound old c.give_content.new.parts c.take_out.new.parts c.in-Some.slot c.args.place.now c.args.name.now found.0 m given.0 c.take_out.ensures c.self.invariant unbroken here named found.1
 
-pub save-requires-clause-image : goal.save-requires-clause-image
-save-requires-clause-image g c =
+pub hold-requires-clause-image : goal.hold-requires-clause-image
+hold-requires-clause-image g c =
     let old : Stored = record { parts = c.self.inside.parts; journal = c.self.inside.journal; is_broken = c.self.inside.is_broken } in
     let named = ap (λ (k : Stored). slot_of k.parts.catalog c.args.name.now) c.self.view_is ∙ c.in-Some.ensures.slot in
     let found = rec_at-slot_of c.self.inside.parts.catalog c.args.name.now c.in-Some.slot c.self.invariant.parts.catalog named in
@@ -118,8 +118,8 @@ save-requires-clause-image g c =
     let here = ap (λ (k : Stored). is_among k.parts c.args.place.now c.args.name.now) c.self.view_is ∙ sym c.in-Some.ensures.here in
     c.self.invariant.image ∙ ap image_blocks (sym (same_limits old c.give_content.new.parts c.take_out.new.parts c.in-Some.slot c.args.place.now c.args.name.now found.0 m given.0 c.take_out.ensures c.self.invariant unbroken here named found.1))
 
-pub save-requires-clause-placed : goal.save-requires-clause-placed
-save-requires-clause-placed g c =
+pub hold-requires-clause-placed : goal.hold-requires-clause-placed
+hold-requires-clause-placed g c =
     let old : Stored = record { parts = c.self.inside.parts; journal = c.self.inside.journal; is_broken = c.self.inside.is_broken } in
     let named = ap (λ (k : Stored). slot_of k.parts.catalog c.args.name.now) c.self.view_is ∙ c.in-Some.ensures.slot in
     let found = rec_at-slot_of c.self.inside.parts.catalog c.args.name.now c.in-Some.slot c.self.invariant.parts.catalog named in
@@ -129,8 +129,8 @@ save-requires-clause-placed g c =
     let here = ap (λ (k : Stored). is_among k.parts c.args.place.now c.args.name.now) c.self.view_is ∙ sym c.in-Some.ensures.here in
     removed_placed old c.give_content.new.parts c.take_out.new.parts c.in-Some.slot c.args.place.now c.args.name.now found.0 m given.0 c.take_out.ensures c.self.invariant unbroken here named found.1
 
-pub save-requires-clause-room : goal.save-requires-clause-room
-save-requires-clause-room g c =
+pub hold-requires-clause-room : goal.hold-requires-clause-room
+hold-requires-clause-room g c =
     let old : Stored = record { parts = c.self.inside.parts; journal = c.self.inside.journal; is_broken = c.self.inside.is_broken } in
     let named = ap (λ (k : Stored). slot_of k.parts.catalog c.args.name.now) c.self.view_is ∙ c.in-Some.ensures.slot in
     let found = rec_at-slot_of c.self.inside.parts.catalog c.args.name.now c.in-Some.slot c.self.invariant.parts.catalog named in
@@ -140,8 +140,8 @@ save-requires-clause-room g c =
     let here = ap (λ (k : Stored). is_among k.parts c.args.place.now c.args.name.now) c.self.view_is ∙ sym c.in-Some.ensures.here in
     removed_marks old c.give_content.new.parts c.take_out.new.parts c.in-Some.slot c.args.place.now c.args.name.now found.0 m given.0 c.take_out.ensures c.self.invariant unbroken here named found.1
 
-pub returns-clause-changes : goal.returns-clause-changes
-returns-clause-changes g c = λ s fits.
+pub returns-clause-holds : goal.returns-clause-holds
+returns-clause-holds g c = λ s fits.
     let old : Stored = record { parts = c.self.inside.parts; journal = c.self.inside.journal; is_broken = c.self.inside.is_broken } in
     let named = ap (λ (k : Stored). slot_of k.parts.catalog c.args.name.now) c.self.view_is ∙ c.in-Some.ensures.slot in
     let found = rec_at-slot_of c.self.inside.parts.catalog c.args.name.now c.in-Some.slot c.self.invariant.parts.catalog named in
@@ -149,10 +149,10 @@ returns-clause-changes g c = λ s fits.
     let m = g.D.Disk.meaning c.args.disk.now in
     let unbroken = ap (λ (k : Stored). k.is_broken) c.self.view_is ∙ c.requires.unbroken in
     let here = ap (λ (k : Stored). is_among k.parts c.args.place.now c.args.name.now) c.self.view_is ∙ sym c.in-Some.ensures.here in
-    let new : Stored = record { parts = c.save.new.parts; journal = c.save.new.journal; is_broken = c.save.new.is_broken } in
+    let new : Stored = record { parts = c.hold.new.parts; journal = c.hold.new.journal; is_broken = c.hold.new.is_broken } in
     let F : Stored → Type 0 = λ k. StoreFits k m s in
     removed_changes old c.give_content.new.parts c.take_out.new.parts c.in-Some.slot c.args.place.now c.args.name.now found.0 m given.0 c.take_out.ensures c.self.invariant unbroken here named found.1
-    s (subst F (sym c.self.view_is) fits) new (g.D.Disk.meaning c.give_content.new.disk) (g.D.Disk.meaning c.save.new.disk) c.save.result given.1 c.save.ensures.saves
+    s (subst F (sym c.self.view_is) fits) new (g.D.Disk.meaning c.give_content.new.disk) (g.D.Disk.meaning c.hold.new.disk) c.hold.result given.1 c.hold.ensures.saves
 
 pub returns-clause-limits : goal.returns-clause-limits
 returns-clause-limits g c =
@@ -163,7 +163,7 @@ returns-clause-limits g c =
     let m = g.D.Disk.meaning c.args.disk.now in
     let unbroken = ap (λ (k : Stored). k.is_broken) c.self.view_is ∙ c.requires.unbroken in
     let here = ap (λ (k : Stored). is_among k.parts c.args.place.now c.args.name.now) c.self.view_is ∙ sym c.in-Some.ensures.here in
-    ap (λ (k : Kept). k.limits) c.save.ensures.parts ∙ (same_limits old c.give_content.new.parts c.take_out.new.parts c.in-Some.slot c.args.place.now c.args.name.now found.0 m given.0 c.take_out.ensures c.self.invariant unbroken here named found.1 ∙ ap (λ (k : Stored). k.parts.limits) c.self.view_is)
+    ap (λ (k : Kept). k.limits) c.hold.ensures.parts ∙ (same_limits old c.give_content.new.parts c.take_out.new.parts c.in-Some.slot c.args.place.now c.args.name.now found.0 m given.0 c.take_out.ensures c.self.invariant unbroken here named found.1 ∙ ap (λ (k : Stored). k.parts.limits) c.self.view_is)
 
 pub returns-clause-edits : goal.returns-clause-edits
 returns-clause-edits g c =
@@ -174,4 +174,4 @@ returns-clause-edits g c =
     let m = g.D.Disk.meaning c.args.disk.now in
     let unbroken = ap (λ (k : Stored). k.is_broken) c.self.view_is ∙ c.requires.unbroken in
     let here = ap (λ (k : Stored). is_among k.parts c.args.place.now c.args.name.now) c.self.view_is ∙ sym c.in-Some.ensures.here in
-    edits_saved c.take_out.new.parts c.self.view_is c.save.ensures.parts (removed_edits old c.give_content.new.parts c.take_out.new.parts c.in-Some.slot c.args.place.now c.args.name.now found.0 m given.0 c.take_out.ensures c.self.invariant unbroken here named found.1)
+    edits_saved c.take_out.new.parts c.self.view_is c.hold.ensures.parts (removed_edits old c.give_content.new.parts c.take_out.new.parts c.in-Some.slot c.args.place.now c.args.name.now found.0 m given.0 c.take_out.ensures c.self.invariant unbroken here named found.1)

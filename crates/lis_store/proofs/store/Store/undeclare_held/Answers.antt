@@ -8,10 +8,10 @@ use Rattle.lis_store.specs.Changes.{Changes}
 use Rattle.lis_store.proofs.Edits.{edits_saved}
 use Rattle.lis_store.proofs.Undeclared.{undeclared_may, undeclared_named, undeclared_limits, undeclared_edits, undeclared_marks, undeclared_sound, undeclared_changes, undeclared_refused}
 use Rattle.lis_store.proofs.SavedAlone.{alone_placed}
-use Rattle.lis_store.proofs.store.Store.undeclare.Goals as goal
+use Rattle.lis_store.proofs.store.Store.undeclare_held.Goals as goal
 
-pub returns-in_err-number-clause-changes : goal.returns-in_err-number-clause-changes
-returns-in_err-number-clause-changes g c = λ now fits.
+pub returns-in_err-number-clause-holds : goal.returns-in_err-number-clause-holds
+returns-in_err-number-clause-holds g c = λ now fits.
     let p = err_from_is_err_and c.from_residual.result c.from_residual.ensures.1 in
     let m = g.D.Disk.meaning c.args.disk.now in
     let old : Stored = record { parts = c.self.inside.parts; journal = c.self.inside.journal; is_broken = c.self.inside.is_broken } in
@@ -33,20 +33,20 @@ undeclare_unmet-requires-clause-number g c =
     let unbroken = ap (λ (k : Stored). k.is_broken) c.self.view_is ∙ c.requires.unbroken in
     undeclared_named old c.args.word.now c.in_ok-number.number c.self.invariant unbroken c.in_ok-number.ensures.row c.in_ok-number.ensures.number
 
-pub save-requires-clause-image : goal.save-requires-clause-image
-save-requires-clause-image g c =
+pub hold-requires-clause-image : goal.hold-requires-clause-image
+hold-requires-clause-image g c =
     let old : Stored = record { parts = c.self.inside.parts; journal = c.self.inside.journal; is_broken = c.self.inside.is_broken } in
     let unbroken = ap (λ (k : Stored). k.is_broken) c.self.view_is ∙ c.requires.unbroken in
     c.self.invariant.image ∙ sym (ap image_blocks (undeclared_limits old c.args.word.now c.in_ok-number.number c.self.invariant unbroken c.in_ok-number.ensures.row c.in_ok-number.ensures.number c.undeclare_unmet.new.parts c.undeclare_unmet.ensures))
 
-pub save-requires-clause-placed : goal.save-requires-clause-placed
-save-requires-clause-placed g c =
+pub hold-requires-clause-placed : goal.hold-requires-clause-placed
+hold-requires-clause-placed g c =
     let old : Stored = record { parts = c.self.inside.parts; journal = c.self.inside.journal; is_broken = c.self.inside.is_broken } in
     let unbroken = ap (λ (k : Stored). k.is_broken) c.self.view_is ∙ c.requires.unbroken in
     alone_placed old c.self.invariant unbroken c.undeclare_unmet.new.parts
 
-pub save-requires-clause-room : goal.save-requires-clause-room
-save-requires-clause-room g c =
+pub hold-requires-clause-room : goal.hold-requires-clause-room
+hold-requires-clause-room g c =
     let old : Stored = record { parts = c.self.inside.parts; journal = c.self.inside.journal; is_broken = c.self.inside.is_broken } in
     let unbroken = ap (λ (k : Stored). k.is_broken) c.self.view_is ∙ c.requires.unbroken in
     undeclared_marks old c.args.word.now c.in_ok-number.number c.self.invariant unbroken c.in_ok-number.ensures.row c.in_ok-number.ensures.number c.undeclare_unmet.new.parts c.undeclare_unmet.ensures
@@ -56,28 +56,28 @@ returns-clause-edits g c =
     let old : Stored = record { parts = c.self.inside.parts; journal = c.self.inside.journal; is_broken = c.self.inside.is_broken } in
     let unbroken = ap (λ (k : Stored). k.is_broken) c.self.view_is ∙ c.requires.unbroken in
     let few = undeclared_edits old c.args.word.now c.in_ok-number.number c.self.invariant unbroken c.in_ok-number.ensures.row c.in_ok-number.ensures.number c.undeclare_unmet.new.parts c.undeclare_unmet.ensures in
-    edits_saved c.undeclare_unmet.new.parts c.self.view_is c.save.ensures.parts few
+    edits_saved c.undeclare_unmet.new.parts c.self.view_is c.hold.ensures.parts few
 
 pub returns-clause-limits : goal.returns-clause-limits
 returns-clause-limits g c =
     let old : Stored = record { parts = c.self.inside.parts; journal = c.self.inside.journal; is_broken = c.self.inside.is_broken } in
     let unbroken = ap (λ (k : Stored). k.is_broken) c.self.view_is ∙ c.requires.unbroken in
-    ap (λ (k : Kept). k.limits) c.save.ensures.parts
+    ap (λ (k : Kept). k.limits) c.hold.ensures.parts
     ∙ (undeclared_limits old c.args.word.now c.in_ok-number.number c.self.invariant unbroken c.in_ok-number.ensures.row c.in_ok-number.ensures.number c.undeclare_unmet.new.parts c.undeclare_unmet.ensures ∙ ap (λ (k : Stored). k.parts.limits) c.self.view_is)
 
-pub save-requires-clause-sound : goal.save-requires-clause-sound
-save-requires-clause-sound g c =
+pub hold-requires-clause-sound : goal.hold-requires-clause-sound
+hold-requires-clause-sound g c =
     let old : Stored = record { parts = c.self.inside.parts; journal = c.self.inside.journal; is_broken = c.self.inside.is_broken } in
     let unbroken = ap (λ (k : Stored). k.is_broken) c.self.view_is ∙ c.requires.unbroken in
     undeclared_sound old c.args.word.now c.in_ok-number.number c.self.invariant unbroken c.in_ok-number.ensures.row c.in_ok-number.ensures.number
     c.undeclare_unmet.new.parts c.undeclare_unmet.ensures
 
-pub returns-clause-changes : goal.returns-clause-changes
-returns-clause-changes g c = λ now fits.
+pub returns-clause-holds : goal.returns-clause-holds
+returns-clause-holds g c = λ now fits.
     let m = g.D.Disk.meaning c.args.disk.now in
     let old : Stored = record { parts = c.self.inside.parts; journal = c.self.inside.journal; is_broken = c.self.inside.is_broken } in
-    let new : Stored = record { parts = c.save.new.parts; journal = c.save.new.journal; is_broken = c.save.new.is_broken } in
+    let new : Stored = record { parts = c.hold.new.parts; journal = c.hold.new.journal; is_broken = c.hold.new.is_broken } in
     let unbroken = ap (λ (k : Stored). k.is_broken) c.self.view_is ∙ c.requires.unbroken in
     let P : Stored → Type 0 = λ k. StoreFits k m now.state in
     undeclared_changes old c.args.word.now c.in_ok-number.number c.self.invariant unbroken c.in_ok-number.ensures.row c.in_ok-number.ensures.number
-    c.undeclare_unmet.new.parts c.undeclare_unmet.ensures new m (g.D.Disk.meaning c.save.new.disk) c.save.result c.save.ensures.saves now (subst P (sym c.self.view_is) fits)
+    c.undeclare_unmet.new.parts c.undeclare_unmet.ensures new m (g.D.Disk.meaning c.hold.new.disk) c.hold.result c.hold.ensures.saves now (subst P (sym c.self.view_is) fits)

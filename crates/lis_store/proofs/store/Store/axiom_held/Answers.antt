@@ -9,10 +9,10 @@ use Rattle.lis_store.proofs.Judged.{change_refused}
 use Rattle.lis_store.proofs.Related.{related, axiom_refused, axiom_done}
 use Rattle.lis_store.proofs.RelatesMarks.{few_edits}
 use Rattle.lis_store.proofs.SavedAlone.{alone_placed}
-use Rattle.lis_store.proofs.store.Store.axiom.Goals as goal
+use Rattle.lis_store.proofs.store.Store.axiom_held.Goals as goal
 
-pub returns-in_err-may_relate-clause-changes : goal.returns-in_err-may_relate-clause-changes
-returns-in_err-may_relate-clause-changes g c = λ now fits.
+pub returns-in_err-may_relate-clause-holds : goal.returns-in_err-may_relate-clause-holds
+returns-in_err-may_relate-clause-holds g c = λ now fits.
     let p = err_from_is_err_and c.from_residual.result c.from_residual.ensures.1 in
     let m = g.D.Disk.meaning c.args.disk.now in
     let old : Stored = record { parts = c.self.inside.parts; journal = c.self.inside.journal; is_broken = c.self.inside.is_broken } in
@@ -29,42 +29,42 @@ returns-in_err-may_relate-clause-changes g c = λ now fits.
 pub relate-requires-clause-may : goal.relate-requires-clause-may
 relate-requires-clause-may g c = related c.self.inside.parts c.args.left.now c.args.right.now c.in_ok-may_relate.ensures.row
 
-pub save-requires-clause-sound : goal.save-requires-clause-sound
-save-requires-clause-sound g c =
+pub hold-requires-clause-sound : goal.hold-requires-clause-sound
+hold-requires-clause-sound g c =
     let old : Stored = record { parts = c.self.inside.parts; journal = c.self.inside.journal; is_broken = c.self.inside.is_broken } in
     let unbroken = ap (λ (k : Stored). k.is_broken) c.self.view_is ∙ c.requires.unbroken in
     let may = related c.self.inside.parts c.args.left.now c.args.right.now c.in_ok-may_relate.ensures.row in
     axiom_sound old c.relate.new.parts c.args.left.now c.args.right.now c.self.invariant unbroken may c.relate.ensures.relates
 
-pub save-requires-clause-placed : goal.save-requires-clause-placed
-save-requires-clause-placed g c =
+pub hold-requires-clause-placed : goal.hold-requires-clause-placed
+hold-requires-clause-placed g c =
     let old : Stored = record { parts = c.self.inside.parts; journal = c.self.inside.journal; is_broken = c.self.inside.is_broken } in
     let unbroken = ap (λ (k : Stored). k.is_broken) c.self.view_is ∙ c.requires.unbroken in
     alone_placed old c.self.invariant unbroken c.relate.new.parts
 
-pub save-requires-clause-room : goal.save-requires-clause-room
-save-requires-clause-room g c =
+pub hold-requires-clause-room : goal.hold-requires-clause-room
+hold-requires-clause-room g c =
     let old : Stored = record { parts = c.self.inside.parts; journal = c.self.inside.journal; is_broken = c.self.inside.is_broken } in
     let unbroken = ap (λ (k : Stored). k.is_broken) c.self.view_is ∙ c.requires.unbroken in
     let may = related c.self.inside.parts c.args.left.now c.args.right.now c.in_ok-may_relate.ensures.row in
     axiom_marks old c.relate.new.parts c.args.left.now c.args.right.now c.self.invariant unbroken may c.relate.ensures.relates
 
-pub returns-clause-changes : goal.returns-clause-changes
-returns-clause-changes g c = λ now fits.
+pub returns-clause-holds : goal.returns-clause-holds
+returns-clause-holds g c = λ now fits.
     let m = g.D.Disk.meaning c.args.disk.now in
     let old : Stored = record { parts = c.self.inside.parts; journal = c.self.inside.journal; is_broken = c.self.inside.is_broken } in
-    let new : Stored = record { parts = c.save.new.parts; journal = c.save.new.journal; is_broken = c.save.new.is_broken } in
+    let new : Stored = record { parts = c.hold.new.parts; journal = c.hold.new.journal; is_broken = c.hold.new.is_broken } in
     let unbroken = ap (λ (k : Stored). k.is_broken) c.self.view_is ∙ c.requires.unbroken in
     let row = c.in_ok-may_relate.ensures.row in
     let may = related c.self.inside.parts c.args.left.now c.args.right.now row in
     let P : Stored → Type 0 = λ k. StoreFits k m now.state in
     let here = subst P (sym c.self.view_is) fits in
     axiom_changes old c.relate.new.parts c.args.left.now c.args.right.now c.self.invariant unbroken may c.relate.ensures.relates
-    new m (g.D.Disk.meaning c.save.new.disk) c.save.result c.save.ensures.saves now (add_axiom now (c.args.left.now, c.args.right.now)) here
+    new m (g.D.Disk.meaning c.hold.new.disk) c.hold.result c.hold.ensures.saves now (add_axiom now (c.args.left.now, c.args.right.now)) here
     (axiom_done old here.kept now c.self.invariant here.tells c.args.left.now c.args.right.now row)
 
 pub returns-clause-edits : goal.returns-clause-edits
 returns-clause-edits g c =
     let may = related c.self.inside.parts c.args.left.now c.args.right.now c.in_ok-may_relate.ensures.row in
     let few = few_edits c.self.inside.parts c.relate.new.parts c.args.left.now c.args.right.now c.relate.ensures.relates c.self.invariant.parts may c.self.invariant.free in
-    edits_saved c.relate.new.parts c.self.view_is c.save.ensures.parts few
+    edits_saved c.relate.new.parts c.self.view_is c.hold.ensures.parts few

@@ -24,15 +24,15 @@ use Rattle.lis_store.proofs.Edits.{edits_saved}
 use Rattle.lis_store.proofs.FileRead.{name_taken, lost_read, renaming_refused, renaming_changes}
 use Rattle.lis_store.proofs.ReplaceFile.{still_in_form, still_below, refiled_limits, refiled_sound, refiled_image, refiled_placed, refiled_room, refiled_edits}
 use Rattle.lis_store.proofs.WriteFile.{rename_first, renamed_nowhere}
-use Rattle.lis_store.proofs.store.Store.rename.Goals as goal
+use Rattle.lis_store.proofs.store.Store.rename_held.Goals as goal
 
-pub returns-in_default-clause-changes : goal.returns-in_default-clause-changes
-returns-in_default-clause-changes g c = λ s fits.
+pub returns-in_default-clause-holds : goal.returns-in_default-clause-holds
+returns-in_default-clause-holds g c = λ s fits.
     let sound = subst (λ (k : Stored). IsSound k) c.self.view_is c.self.invariant in
     renamed_nowhere c.args.self.now (g.D.Disk.meaning c.args.disk.now) c.args.place.now c.args.name.now _ sound s fits c.args.new.now (sym c.in_default.ensures.here) refl
 
-pub returns-then-is_some-clause-changes : goal.returns-then-is_some-clause-changes
-returns-then-is_some-clause-changes g c = λ s fits.
+pub returns-then-is_some-clause-holds : goal.returns-then-is_some-clause-holds
+returns-then-is_some-clause-holds g c = λ s fits.
     let old : Stored = record { parts = c.self.inside.parts; journal = c.self.inside.journal; is_broken = c.self.inside.is_broken } in
     let named = ap (λ (k : Stored). slot_of k.parts.catalog c.args.name.now) c.self.view_is ∙ c.in-Some.ensures.slot in
     let found = rec_at-slot_of c.self.inside.parts.catalog c.args.name.now c.in-Some.slot c.self.invariant.parts.catalog named in
@@ -50,8 +50,8 @@ read_file-requires-clause-there g c =
     let named = ap (λ (k : Stored). slot_of k.parts.catalog c.args.name.now) c.self.view_is ∙ c.in-Some.ensures.slot in
     ap is_some (rec_at-slot_of c.self.inside.parts.catalog c.args.name.now c.in-Some.slot c.self.invariant.parts.catalog named).1
 
-pub returns-in-Err-clause-changes : goal.returns-in-Err-clause-changes
-returns-in-Err-clause-changes g c = λ s fits.
+pub returns-in-Err-clause-holds : goal.returns-in-Err-clause-holds
+returns-in-Err-clause-holds g c = λ s fits.
     let old : Stored = record { parts = c.self.inside.parts; journal = c.self.inside.journal; is_broken = c.self.inside.is_broken } in
     let named = ap (λ (k : Stored). slot_of k.parts.catalog c.args.name.now) c.self.view_is ∙ c.in-Some.ensures.slot in
     let found = rec_at-slot_of c.self.inside.parts.catalog c.args.name.now c.in-Some.slot c.self.invariant.parts.catalog named in
@@ -68,8 +68,8 @@ may_rename-requires-clause-there g c =
     let named = ap (λ (k : Stored). slot_of k.parts.catalog c.args.name.now) c.self.view_is ∙ c.in-Some.ensures.slot in
     ap is_some (rec_at-slot_of c.self.inside.parts.catalog c.args.name.now c.in-Some.slot c.self.invariant.parts.catalog named).1
 
-pub returns-in_err-words-clause-changes : goal.returns-in_err-words-clause-changes
-returns-in_err-words-clause-changes g c = λ s fits.
+pub returns-in_err-words-clause-holds : goal.returns-in_err-words-clause-holds
+returns-in_err-words-clause-holds g c = λ s fits.
     let e = err_from_is_err_and c.from_residual.result c.from_residual.ensures.1 in
     let old : Stored = record { parts = c.self.inside.parts; journal = c.self.inside.journal; is_broken = c.self.inside.is_broken } in
     let named = ap (λ (k : Stored). slot_of k.parts.catalog c.args.name.now) c.self.view_is ∙ c.in-Some.ensures.slot in
@@ -104,8 +104,8 @@ refile-requires-clause-may g c =
     let unbroken = ap (λ (k : Stored). k.is_broken) c.self.view_is ∙ c.requires.unbroken in
     first
 
-pub save-requires-clause-sound : goal.save-requires-clause-sound
-save-requires-clause-sound g c =
+pub hold-requires-clause-sound : goal.hold-requires-clause-sound
+hold-requires-clause-sound g c =
     let old : Stored = record { parts = c.self.inside.parts; journal = c.self.inside.journal; is_broken = c.self.inside.is_broken } in
     let named = ap (λ (k : Stored). slot_of k.parts.catalog c.args.name.now) c.self.view_is ∙ c.in-Some.ensures.slot in
     let found = rec_at-slot_of c.self.inside.parts.catalog c.args.name.now c.in-Some.slot c.self.invariant.parts.catalog named in
@@ -125,8 +125,8 @@ save-requires-clause-sound g c =
     let again = subst Again (c.blocks_in-blocks.ensures found.0 found.1) c.refile.ensures.refiled in
     refiled_sound old c.refile.new.parts c.in-Some.slot c.args.new.now c.as_slice.result.now c.bytes-2.result.now found.0 c.self.invariant unbroken found.1 first again
 
-pub save-requires-clause-image : goal.save-requires-clause-image
-save-requires-clause-image g c =
+pub hold-requires-clause-image : goal.hold-requires-clause-image
+hold-requires-clause-image g c =
     let old : Stored = record { parts = c.self.inside.parts; journal = c.self.inside.journal; is_broken = c.self.inside.is_broken } in
     let named = ap (λ (k : Stored). slot_of k.parts.catalog c.args.name.now) c.self.view_is ∙ c.in-Some.ensures.slot in
     let found = rec_at-slot_of c.self.inside.parts.catalog c.args.name.now c.in-Some.slot c.self.invariant.parts.catalog named in
@@ -146,8 +146,8 @@ save-requires-clause-image g c =
     let again = subst Again (c.blocks_in-blocks.ensures found.0 found.1) c.refile.ensures.refiled in
     refiled_image old c.refile.new.parts c.in-Some.slot c.args.new.now c.as_slice.result.now c.bytes-2.result.now found.0 c.self.invariant unbroken found.1 first again
 
-pub save-requires-clause-placed : goal.save-requires-clause-placed
-save-requires-clause-placed g c =
+pub hold-requires-clause-placed : goal.hold-requires-clause-placed
+hold-requires-clause-placed g c =
     let old : Stored = record { parts = c.self.inside.parts; journal = c.self.inside.journal; is_broken = c.self.inside.is_broken } in
     let named = ap (λ (k : Stored). slot_of k.parts.catalog c.args.name.now) c.self.view_is ∙ c.in-Some.ensures.slot in
     let found = rec_at-slot_of c.self.inside.parts.catalog c.args.name.now c.in-Some.slot c.self.invariant.parts.catalog named in
@@ -167,8 +167,8 @@ save-requires-clause-placed g c =
     let again = subst Again (c.blocks_in-blocks.ensures found.0 found.1) c.refile.ensures.refiled in
     refiled_placed old c.refile.new.parts c.in-Some.slot c.args.new.now c.as_slice.result.now c.bytes-2.result.now found.0 c.self.invariant unbroken found.1 first again
 
-pub save-requires-clause-room : goal.save-requires-clause-room
-save-requires-clause-room g c =
+pub hold-requires-clause-room : goal.hold-requires-clause-room
+hold-requires-clause-room g c =
     let old : Stored = record { parts = c.self.inside.parts; journal = c.self.inside.journal; is_broken = c.self.inside.is_broken } in
     let named = ap (λ (k : Stored). slot_of k.parts.catalog c.args.name.now) c.self.view_is ∙ c.in-Some.ensures.slot in
     let found = rec_at-slot_of c.self.inside.parts.catalog c.args.name.now c.in-Some.slot c.self.invariant.parts.catalog named in
@@ -208,10 +208,10 @@ returns-clause-edits g c =
     let Again : List ℕ → Type 0 = λ ns. RefilesIn c.in-Some.slot (new_file c.args.new.now c.as_slice.result.now c.bytes-2.result.now) ns c.self.inside.parts c.refile.new.parts in
     let again = subst Again (c.blocks_in-blocks.ensures found.0 found.1) c.refile.ensures.refiled in
     let few = refiled_edits old c.refile.new.parts c.in-Some.slot c.args.new.now c.as_slice.result.now c.bytes-2.result.now found.0 c.self.invariant unbroken found.1 first again in
-    edits_saved c.refile.new.parts c.self.view_is c.save.ensures.parts few
+    edits_saved c.refile.new.parts c.self.view_is c.hold.ensures.parts few
 
-pub returns-clause-changes : goal.returns-clause-changes
-returns-clause-changes g c = λ s fits.
+pub returns-clause-holds : goal.returns-clause-holds
+returns-clause-holds g c = λ s fits.
     let old : Stored = record { parts = c.self.inside.parts; journal = c.self.inside.journal; is_broken = c.self.inside.is_broken } in
     let named = ap (λ (k : Stored). slot_of k.parts.catalog c.args.name.now) c.self.view_is ∙ c.in-Some.ensures.slot in
     let found = rec_at-slot_of c.self.inside.parts.catalog c.args.name.now c.in-Some.slot c.self.invariant.parts.catalog named in
@@ -236,11 +236,11 @@ returns-clause-changes g c = λ s fits.
     let read_now : R c.read_file.new.bytes = λ kept held within. c.in_default-read_file.ensures.read found.0 kept found.1 held within in
     let Again : List ℕ → Type 0 = λ ns. RefilesIn c.in-Some.slot (new_file c.args.new.now c.as_slice.result.now c.bytes-2.result.now) ns c.self.inside.parts c.refile.new.parts in
     let again = subst Again (c.blocks_in-blocks.ensures found.0 found.1) c.refile.ensures.refiled in
-    let new : Stored = record { parts = c.save.new.parts; journal = c.save.new.journal; is_broken = c.save.new.is_broken } in
+    let new : Stored = record { parts = c.hold.new.parts; journal = c.hold.new.journal; is_broken = c.hold.new.is_broken } in
     let N : List ℕ → Type 0 = λ bs. first_refusal (renaming_checks c.self.inside.parts c.in-Some.slot (given_before c.self.inside.parts found.0 c.args.new.now bs)) ≡ None in
     renaming_changes old c.args.place.now c.args.name.now c.in-Some.slot found.0 c.self.invariant named found.1 here m s fits_old mid c.read_file.ensures.same c.read_file.ensures.any_moment c.read_file.ensures.fits
     c.bytes-2.result.now (subst R (sym c.bytes-2.ensures.bytes) read_now) c.refile.new.parts c.args.new.now c.as_slice.result.now unbroken words first again
-    (subst N same (c.in_ok-words.ensures.row found.0 found.1)) new (g.D.Disk.meaning c.save.new.disk) c.save.result c.save.ensures.saves
+    (subst N same (c.in_ok-words.ensures.row found.0 found.1)) new (g.D.Disk.meaning c.hold.new.disk) c.hold.result c.hold.ensures.saves
 
 pub returns-clause-limits : goal.returns-clause-limits
 returns-clause-limits g c =
@@ -261,7 +261,7 @@ returns-clause-limits g c =
     let unbroken = ap (λ (k : Stored). k.is_broken) c.self.view_is ∙ c.requires.unbroken in
     let Again : List ℕ → Type 0 = λ ns. RefilesIn c.in-Some.slot (new_file c.args.new.now c.as_slice.result.now c.bytes-2.result.now) ns c.self.inside.parts c.refile.new.parts in
     let again = subst Again (c.blocks_in-blocks.ensures found.0 found.1) c.refile.ensures.refiled in
-    ap (λ (k : Kept). k.limits) c.save.ensures.parts ∙ (refiled_limits old c.refile.new.parts c.in-Some.slot c.args.new.now c.as_slice.result.now c.bytes-2.result.now found.0 c.self.invariant unbroken found.1 first again ∙ ap (λ (k : Stored). k.parts.limits) c.self.view_is)
+    ap (λ (k : Kept). k.limits) c.hold.ensures.parts ∙ (refiled_limits old c.refile.new.parts c.in-Some.slot c.args.new.now c.as_slice.result.now c.bytes-2.result.now found.0 c.self.invariant unbroken found.1 first again ∙ ap (λ (k : Stored). k.parts.limits) c.self.view_is)
 
 pub blocks_in-blocks-requires : goal.blocks_in-blocks-requires
 blocks_in-blocks-requires g c =

@@ -15,10 +15,10 @@ use Rattle.lis_store.specs.Adding.{PutsIn}
 use Rattle.lis_store.proofs.Edits.{edits_same, edits_saved}
 use Rattle.lis_store.proofs.AddFile.{form_put, limits_put, admitted_put, limits_then, added_sound, added_image, added_placed, added_marks, added_edits, added_changes, lost_sound, lost_limits, lost_ext, lost_image, lost_changes}
 use Rattle.lis_store.proofs.Admitted.{whole_inside, admitted, enough_free, add_done, added_refused}
-use Rattle.lis_store.proofs.store.Store.add_file.Goals as goal
+use Rattle.lis_store.proofs.store.Store.add_file_held.Goals as goal
 
-pub returns-in_err-assigned-clause-changes : goal.returns-in_err-assigned-clause-changes
-returns-in_err-assigned-clause-changes g c = λ s fits.
+pub returns-in_err-assigned-clause-holds : goal.returns-in_err-assigned-clause-holds
+returns-in_err-assigned-clause-holds g c = λ s fits.
     let p = err_from_is_err_and c.from_residual.result c.from_residual.ensures.1 in
     let m = g.D.Disk.meaning c.args.disk.now in
     let old : Stored = record { parts = c.self.inside.parts; journal = c.self.inside.journal; is_broken = c.self.inside.is_broken } in
@@ -50,8 +50,8 @@ returns-in_err-blocks-clause-sound g c =
     let placed = g.D.Disk.meaning c.put_content.new.disk in
     lost_sound (ArrayVec ℕ) old c.self.invariant c.args.payload.now c.put_content.new.parts c.put_content.new.journal c.put_content.new.is_broken c.in_err-blocks.field-0.0 m placed c.in_err-blocks.ensures.put c.in_err-blocks.ensures.ended c.put_content.ensures.sound
 
-pub returns-in_err-blocks-clause-changes : goal.returns-in_err-blocks-clause-changes
-returns-in_err-blocks-clause-changes g c = λ s fits.
+pub returns-in_err-blocks-clause-holds : goal.returns-in_err-blocks-clause-holds
+returns-in_err-blocks-clause-holds g c = λ s fits.
     let old : Stored = record { parts = c.self.inside.parts; journal = c.self.inside.journal; is_broken = c.self.inside.is_broken } in
     let m = g.D.Disk.meaning c.args.disk.now in
     let placed = g.D.Disk.meaning c.put_content.new.disk in
@@ -134,8 +134,8 @@ put_in-requires-clause-scratch g c =
     let put = c.in_ok-blocks.ensures.put in
     subst (λ (l : Limits). HasRoom c.may_add.new.scratch l) (sym (limits_put old c.put_content.new.parts c.put_content.new.journal c.args.payload.now c.in_ok-blocks.blocks.items m placed put c.self.invariant)) c.may_add.ensures.room
 
-pub save-requires-clause-sound : goal.save-requires-clause-sound
-save-requires-clause-sound g c =
+pub hold-requires-clause-sound : goal.hold-requires-clause-sound
+hold-requires-clause-sound g c =
     let old : Stored = record { parts = c.self.inside.parts; journal = c.self.inside.journal; is_broken = c.self.inside.is_broken } in
     let m = g.D.Disk.meaning c.args.disk.now in
     let placed = g.D.Disk.meaning c.put_content.new.disk in
@@ -147,8 +147,8 @@ save-requires-clause-sound g c =
     let puts = subst P (c.as_slice.ensures.value ∙ c.in_ok-assigned.ensures.words) c.put_in.ensures.put in
     added_sound old c.put_content.new.parts c.put_content.new.journal c.args.payload.now c.in_ok-blocks.blocks.items m placed put c.self.invariant c.put_in.new.parts c.args.name.now given unbroken one puts
 
-pub save-requires-clause-image : goal.save-requires-clause-image
-save-requires-clause-image g c =
+pub hold-requires-clause-image : goal.hold-requires-clause-image
+hold-requires-clause-image g c =
     let old : Stored = record { parts = c.self.inside.parts; journal = c.self.inside.journal; is_broken = c.self.inside.is_broken } in
     let m = g.D.Disk.meaning c.args.disk.now in
     let placed = g.D.Disk.meaning c.put_content.new.disk in
@@ -160,8 +160,8 @@ save-requires-clause-image g c =
     let puts = subst P (c.as_slice.ensures.value ∙ c.in_ok-assigned.ensures.words) c.put_in.ensures.put in
     added_image old c.put_content.new.parts c.put_content.new.journal c.args.payload.now c.in_ok-blocks.blocks.items m placed put c.self.invariant c.put_in.new.parts c.args.name.now given unbroken one puts
 
-pub save-requires-clause-unbroken : goal.save-requires-clause-unbroken
-save-requires-clause-unbroken g c =
+pub hold-requires-clause-unbroken : goal.hold-requires-clause-unbroken
+hold-requires-clause-unbroken g c =
     let old : Stored = record { parts = c.self.inside.parts; journal = c.self.inside.journal; is_broken = c.self.inside.is_broken } in
     let m = g.D.Disk.meaning c.args.disk.now in
     let placed = g.D.Disk.meaning c.put_content.new.disk in
@@ -173,8 +173,8 @@ save-requires-clause-unbroken g c =
     let puts = subst P (c.as_slice.ensures.value ∙ c.in_ok-assigned.ensures.words) c.put_in.ensures.put in
     put.broken ∙ c.self.invariant.journal unbroken
 
-pub save-requires-clause-placed : goal.save-requires-clause-placed
-save-requires-clause-placed g c =
+pub hold-requires-clause-placed : goal.hold-requires-clause-placed
+hold-requires-clause-placed g c =
     let old : Stored = record { parts = c.self.inside.parts; journal = c.self.inside.journal; is_broken = c.self.inside.is_broken } in
     let m = g.D.Disk.meaning c.args.disk.now in
     let placed = g.D.Disk.meaning c.put_content.new.disk in
@@ -186,8 +186,8 @@ save-requires-clause-placed g c =
     let puts = subst P (c.as_slice.ensures.value ∙ c.in_ok-assigned.ensures.words) c.put_in.ensures.put in
     added_placed old c.put_content.new.parts c.put_content.new.journal c.args.payload.now c.in_ok-blocks.blocks.items m placed put c.self.invariant c.put_in.new.parts c.args.name.now given unbroken one puts
 
-pub save-requires-clause-room : goal.save-requires-clause-room
-save-requires-clause-room g c =
+pub hold-requires-clause-room : goal.hold-requires-clause-room
+hold-requires-clause-room g c =
     let old : Stored = record { parts = c.self.inside.parts; journal = c.self.inside.journal; is_broken = c.self.inside.is_broken } in
     let m = g.D.Disk.meaning c.args.disk.now in
     let placed = g.D.Disk.meaning c.put_content.new.disk in
@@ -199,8 +199,8 @@ save-requires-clause-room g c =
     let puts = subst P (c.as_slice.ensures.value ∙ c.in_ok-assigned.ensures.words) c.put_in.ensures.put in
     added_marks old c.put_content.new.parts c.put_content.new.journal c.args.payload.now c.in_ok-blocks.blocks.items m placed put c.self.invariant c.put_in.new.parts c.args.name.now given unbroken one puts
 
-pub returns-clause-changes : goal.returns-clause-changes
-returns-clause-changes g c = λ s fits.
+pub returns-clause-holds : goal.returns-clause-holds
+returns-clause-holds g c = λ s fits.
     let old : Stored = record { parts = c.self.inside.parts; journal = c.self.inside.journal; is_broken = c.self.inside.is_broken } in
     let m = g.D.Disk.meaning c.args.disk.now in
     let placed = g.D.Disk.meaning c.put_content.new.disk in
@@ -210,13 +210,13 @@ returns-clause-changes g c = λ s fits.
     let unbroken = ap (λ (k : Stored). k.is_broken) c.self.view_is ∙ c.requires.unbroken in
     let P : List (List ℕ) → Type 0 = λ ws. PutsIn (new_file c.args.name.now ws c.args.payload.now) c.in_ok-blocks.blocks.items c.put_content.new.parts c.put_in.new.parts in
     let puts = subst P (c.as_slice.ensures.value ∙ c.in_ok-assigned.ensures.words) c.put_in.ensures.put in
-    let new : Stored = record { parts = c.save.new.parts; journal = c.save.new.journal; is_broken = c.save.new.is_broken } in
+    let new : Stored = record { parts = c.hold.new.parts; journal = c.hold.new.journal; is_broken = c.hold.new.is_broken } in
     let now : Situation = record { state = s; place = c.args.place.now } in
     let payload : Payload = record { size = c.args.size; bytes = c.args.payload.now } in
     let F : Stored → Type 0 = λ k. StoreFits k m s in
     let told = subst F (sym c.self.view_is) fits in
-    added_changes old c.put_content.new.parts c.put_content.new.journal c.args.payload.now c.in_ok-blocks.blocks.items m placed put c.self.invariant c.put_in.new.parts c.args.name.now given unbroken one puts s told (enough_free c.self.inside.parts c.args.place.now c.args.name.now c.args.tags.now c.args.payload.now c.args.size c.in_ok-assigned.ensures.name (whole_inside c.args.payload.now c.args.size c.self.view_is c.requires.whole) c.in_ok-assigned.ensures.row) c.args.place.now new (g.D.Disk.meaning c.save.new.disk) c.save.result (add now c.args.name.now c.args.tags.now payload)
-    (add_done old m s c.self.invariant told c.args.place.now c.args.tags.now c.args.name.now payload c.in_ok-assigned.ensures.row) c.save.ensures.saves
+    added_changes old c.put_content.new.parts c.put_content.new.journal c.args.payload.now c.in_ok-blocks.blocks.items m placed put c.self.invariant c.put_in.new.parts c.args.name.now given unbroken one puts s told (enough_free c.self.inside.parts c.args.place.now c.args.name.now c.args.tags.now c.args.payload.now c.args.size c.in_ok-assigned.ensures.name (whole_inside c.args.payload.now c.args.size c.self.view_is c.requires.whole) c.in_ok-assigned.ensures.row) c.args.place.now new (g.D.Disk.meaning c.hold.new.disk) c.hold.result (add now c.args.name.now c.args.tags.now payload)
+    (add_done old m s c.self.invariant told c.args.place.now c.args.tags.now c.args.name.now payload c.in_ok-assigned.ensures.row) c.hold.ensures.saves
 
 pub returns-clause-limits : goal.returns-clause-limits
 returns-clause-limits g c =
@@ -229,7 +229,7 @@ returns-clause-limits g c =
     let unbroken = ap (λ (k : Stored). k.is_broken) c.self.view_is ∙ c.requires.unbroken in
     let P : List (List ℕ) → Type 0 = λ ws. PutsIn (new_file c.args.name.now ws c.args.payload.now) c.in_ok-blocks.blocks.items c.put_content.new.parts c.put_in.new.parts in
     let puts = subst P (c.as_slice.ensures.value ∙ c.in_ok-assigned.ensures.words) c.put_in.ensures.put in
-    ap (λ (k : Kept). k.limits) c.save.ensures.parts ∙ (limits_then old c.put_content.new.parts c.put_content.new.journal c.args.payload.now c.in_ok-blocks.blocks.items m placed put c.self.invariant c.put_in.new.parts c.args.name.now given unbroken one puts ∙ ap (λ (k : Stored). k.parts.limits) c.self.view_is)
+    ap (λ (k : Kept). k.limits) c.hold.ensures.parts ∙ (limits_then old c.put_content.new.parts c.put_content.new.journal c.args.payload.now c.in_ok-blocks.blocks.items m placed put c.self.invariant c.put_in.new.parts c.args.name.now given unbroken one puts ∙ ap (λ (k : Stored). k.parts.limits) c.self.view_is)
 
 pub returns-clause-edits : goal.returns-clause-edits
 returns-clause-edits g c =
@@ -242,4 +242,4 @@ returns-clause-edits g c =
     let unbroken = ap (λ (k : Stored). k.is_broken) c.self.view_is ∙ c.requires.unbroken in
     let P : List (List ℕ) → Type 0 = λ ws. PutsIn (new_file c.args.name.now ws c.args.payload.now) c.in_ok-blocks.blocks.items c.put_content.new.parts c.put_in.new.parts in
     let puts = subst P (c.as_slice.ensures.value ∙ c.in_ok-assigned.ensures.words) c.put_in.ensures.put in
-    edits_saved c.put_in.new.parts c.self.view_is c.save.ensures.parts (added_edits old c.put_content.new.parts c.put_content.new.journal c.args.payload.now c.in_ok-blocks.blocks.items m placed put c.self.invariant c.put_in.new.parts c.args.name.now given unbroken one puts)
+    edits_saved c.put_in.new.parts c.self.view_is c.hold.ensures.parts (added_edits old c.put_content.new.parts c.put_content.new.journal c.args.payload.now c.in_ok-blocks.blocks.items m placed put c.self.invariant c.put_in.new.parts c.args.name.now given unbroken one puts)

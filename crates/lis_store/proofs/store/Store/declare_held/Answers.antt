@@ -9,10 +9,10 @@ use Rattle.lis_store.specs.Changes.{Changes}
 use Rattle.lis_store.proofs.Edits.{edits_saved}
 use Rattle.lis_store.proofs.TestedTells.{declared_numbers, declared_few, declared_new, declared_may, declared_room, declared_limits, declared_edits, declared_marks, declared_sound, declared_changes, declared_refused}
 use Rattle.lis_store.proofs.SavedAlone.{alone_placed}
-use Rattle.lis_store.proofs.store.Store.declare.Goals as goal
+use Rattle.lis_store.proofs.store.Store.declare_held.Goals as goal
 
-pub returns-in_err-places-clause-changes : goal.returns-in_err-places-clause-changes
-returns-in_err-places-clause-changes g c = λ s fits.
+pub returns-in_err-places-clause-holds : goal.returns-in_err-places-clause-holds
+returns-in_err-places-clause-holds g c = λ s fits.
     let p = err_from_is_err_and c.from_residual.result c.from_residual.ensures.1 in
     let m = g.D.Disk.meaning c.args.disk.now in
     let old : Stored = record { parts = c.self.inside.parts; journal = c.self.inside.journal; is_broken = c.self.inside.is_broken } in
@@ -53,46 +53,46 @@ declare_tested-requires-clause-few g c =
     let numbers = subst (λ (ns : List ℕ). AreNumbersOf c.self.inside.parts (words_at c.args.place.now) ns) (sym c.as_slice.ensures.value) c.in_ok-places.ensures.numbers in
     declared_few old c.args.place.now c.args.word.now c.as_slice.result.now c.self.invariant c.may_declare.ensures.word c.in_ok-places.ensures.form c.in_ok-places.ensures.row numbers
 
-pub save-requires-clause-sound : goal.save-requires-clause-sound
-save-requires-clause-sound g c =
+pub hold-requires-clause-sound : goal.hold-requires-clause-sound
+hold-requires-clause-sound g c =
     let old : Stored = record { parts = c.self.inside.parts; journal = c.self.inside.journal; is_broken = c.self.inside.is_broken } in
     let numbers = subst (λ (ns : List ℕ). AreNumbersOf c.self.inside.parts (words_at c.args.place.now) ns) (sym c.as_slice.ensures.value) c.in_ok-places.ensures.numbers in
     let unbroken = ap (λ (k : Stored). k.is_broken) c.self.view_is ∙ c.requires.unbroken in
     declared_sound old c.args.place.now c.args.word.now c.as_slice.result.now c.self.invariant c.may_declare.ensures.word c.in_ok-places.ensures.form c.in_ok-places.ensures.row numbers
     unbroken c.declare_tested.new.parts c.declare_tested.ensures
 
-pub save-requires-clause-image : goal.save-requires-clause-image
-save-requires-clause-image g c =
+pub hold-requires-clause-image : goal.hold-requires-clause-image
+hold-requires-clause-image g c =
     let old : Stored = record { parts = c.self.inside.parts; journal = c.self.inside.journal; is_broken = c.self.inside.is_broken } in
     let numbers = subst (λ (ns : List ℕ). AreNumbersOf c.self.inside.parts (words_at c.args.place.now) ns) (sym c.as_slice.ensures.value) c.in_ok-places.ensures.numbers in
     let unbroken = ap (λ (k : Stored). k.is_broken) c.self.view_is ∙ c.requires.unbroken in
     c.self.invariant.image ∙ sym (ap image_blocks (declared_limits old c.args.place.now c.args.word.now c.as_slice.result.now c.self.invariant c.may_declare.ensures.word c.in_ok-places.ensures.form c.in_ok-places.ensures.row numbers
     unbroken c.declare_tested.new.parts c.declare_tested.ensures))
 
-pub save-requires-clause-placed : goal.save-requires-clause-placed
-save-requires-clause-placed g c =
+pub hold-requires-clause-placed : goal.hold-requires-clause-placed
+hold-requires-clause-placed g c =
     let old : Stored = record { parts = c.self.inside.parts; journal = c.self.inside.journal; is_broken = c.self.inside.is_broken } in
     let unbroken = ap (λ (k : Stored). k.is_broken) c.self.view_is ∙ c.requires.unbroken in
     alone_placed old c.self.invariant unbroken c.declare_tested.new.parts
 
-pub save-requires-clause-room : goal.save-requires-clause-room
-save-requires-clause-room g c =
+pub hold-requires-clause-room : goal.hold-requires-clause-room
+hold-requires-clause-room g c =
     let old : Stored = record { parts = c.self.inside.parts; journal = c.self.inside.journal; is_broken = c.self.inside.is_broken } in
     let numbers = subst (λ (ns : List ℕ). AreNumbersOf c.self.inside.parts (words_at c.args.place.now) ns) (sym c.as_slice.ensures.value) c.in_ok-places.ensures.numbers in
     let unbroken = ap (λ (k : Stored). k.is_broken) c.self.view_is ∙ c.requires.unbroken in
     declared_marks old c.args.place.now c.args.word.now c.as_slice.result.now c.self.invariant c.may_declare.ensures.word c.in_ok-places.ensures.form c.in_ok-places.ensures.row numbers
     unbroken c.declare_tested.new.parts c.declare_tested.ensures (omega (arith, ap length c.as_slice.ensures.value, c.in_ok-places.ensures.few))
 
-pub returns-clause-changes : goal.returns-clause-changes
-returns-clause-changes g c = λ s fits.
+pub returns-clause-holds : goal.returns-clause-holds
+returns-clause-holds g c = λ s fits.
     let m = g.D.Disk.meaning c.args.disk.now in
     let old : Stored = record { parts = c.self.inside.parts; journal = c.self.inside.journal; is_broken = c.self.inside.is_broken } in
-    let new : Stored = record { parts = c.save.new.parts; journal = c.save.new.journal; is_broken = c.save.new.is_broken } in
+    let new : Stored = record { parts = c.hold.new.parts; journal = c.hold.new.journal; is_broken = c.hold.new.is_broken } in
     let numbers = subst (λ (ns : List ℕ). AreNumbersOf c.self.inside.parts (words_at c.args.place.now) ns) (sym c.as_slice.ensures.value) c.in_ok-places.ensures.numbers in
     let unbroken = ap (λ (k : Stored). k.is_broken) c.self.view_is ∙ c.requires.unbroken in
     let P : Stored → Type 0 = λ k. StoreFits k m s in
     declared_changes old c.args.place.now c.args.word.now c.as_slice.result.now c.self.invariant c.may_declare.ensures.word c.in_ok-places.ensures.form c.in_ok-places.ensures.row numbers
-    unbroken c.declare_tested.new.parts c.declare_tested.ensures new m (g.D.Disk.meaning c.save.new.disk) c.save.result c.save.ensures.saves s (subst P (sym c.self.view_is) fits)
+    unbroken c.declare_tested.new.parts c.declare_tested.ensures new m (g.D.Disk.meaning c.hold.new.disk) c.hold.result c.hold.ensures.saves s (subst P (sym c.self.view_is) fits)
 
 pub returns-clause-edits : goal.returns-clause-edits
 returns-clause-edits g c =
@@ -100,12 +100,12 @@ returns-clause-edits g c =
     let numbers = subst (λ (ns : List ℕ). AreNumbersOf c.self.inside.parts (words_at c.args.place.now) ns) (sym c.as_slice.ensures.value) c.in_ok-places.ensures.numbers in
     let unbroken = ap (λ (k : Stored). k.is_broken) c.self.view_is ∙ c.requires.unbroken in
     let few = declared_edits old c.args.place.now c.args.word.now c.as_slice.result.now c.self.invariant c.may_declare.ensures.word c.in_ok-places.ensures.form c.in_ok-places.ensures.row numbers unbroken c.declare_tested.new.parts c.declare_tested.ensures in
-    edits_saved c.declare_tested.new.parts c.self.view_is c.save.ensures.parts few
+    edits_saved c.declare_tested.new.parts c.self.view_is c.hold.ensures.parts few
 
 pub returns-clause-limits : goal.returns-clause-limits
 returns-clause-limits g c =
     let old : Stored = record { parts = c.self.inside.parts; journal = c.self.inside.journal; is_broken = c.self.inside.is_broken } in
     let numbers = subst (λ (ns : List ℕ). AreNumbersOf c.self.inside.parts (words_at c.args.place.now) ns) (sym c.as_slice.ensures.value) c.in_ok-places.ensures.numbers in
     let unbroken = ap (λ (k : Stored). k.is_broken) c.self.view_is ∙ c.requires.unbroken in
-    ap (λ (k : Kept). k.limits) c.save.ensures.parts
+    ap (λ (k : Kept). k.limits) c.hold.ensures.parts
     ∙ (declared_limits old c.args.place.now c.args.word.now c.as_slice.result.now c.self.invariant c.may_declare.ensures.word c.in_ok-places.ensures.form c.in_ok-places.ensures.row numbers unbroken c.declare_tested.new.parts c.declare_tested.ensures ∙ ap (λ (k : Stored). k.parts.limits) c.self.view_is)

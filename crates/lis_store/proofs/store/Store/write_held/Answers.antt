@@ -22,10 +22,10 @@ use Rattle.lis_store.proofs.Admitted.{whole_inside}
 use Rattle.lis_store.proofs.ReplaceFile.{mid_form, mid_limits, mid_first, mid_in_form, mid_below, written_limits, written_sound, written_image, written_unbroken, written_placed, written_room, written_changes, written_edits, renewed_torn}
 use Rattle.lis_store.proofs.Torn.{torn_sound, torn_limits, torn_edits, torn_changes, ended_broken}
 use Rattle.lis_store.proofs.WriteFile.{write_first, write_enough, written_enough, rest_of_write, written_done, written_refused, written_nowhere}
-use Rattle.lis_store.proofs.store.Store.write.Goals as goal
+use Rattle.lis_store.proofs.store.Store.write_held.Goals as goal
 
-pub returns-in_default-clause-changes : goal.returns-in_default-clause-changes
-returns-in_default-clause-changes g c = λ s fits.
+pub returns-in_default-clause-holds : goal.returns-in_default-clause-holds
+returns-in_default-clause-holds g c = λ s fits.
     let payload : Payload = record { size = c.args.size; bytes = c.args.payload.now } in
     let sound = subst (λ (k : Stored). IsSound k) c.self.view_is c.self.invariant in
     let small : c.args.size ≤ file_limit c.args.self.now.parts.limits.version = omega (arith, c.if-size-file_limit.false, c.file_limit.ensures, ap (λ (l : Limits). file_limit l.version) c.limits.ensures.value, ap (λ (k : Stored). file_limit k.parts.limits.version) c.self.view_is) in
@@ -36,8 +36,8 @@ may_write-requires-clause-there g c =
     let named = ap (λ (k : Stored). slot_of k.parts.catalog c.args.name.now) c.self.view_is ∙ c.in-Some.ensures.slot in
     ap is_some (rec_at-slot_of c.self.inside.parts.catalog c.args.name.now c.in-Some.slot c.self.invariant.parts.catalog named).1
 
-pub returns-in_err-words-clause-changes : goal.returns-in_err-words-clause-changes
-returns-in_err-words-clause-changes g c = λ s fits.
+pub returns-in_err-words-clause-holds : goal.returns-in_err-words-clause-holds
+returns-in_err-words-clause-holds g c = λ s fits.
     let e = err_from_is_err_and c.from_residual.result c.from_residual.ensures.1 in
     let m = g.D.Disk.meaning c.args.disk.now in
     let now : Situation = record { state = s; place = c.args.place.now } in
@@ -76,8 +76,8 @@ put_instead-requires-clause-enough g c = λ rec there.
     let here = ap (λ (k : Stored). is_among k.parts c.args.place.now c.args.name.now) c.self.view_is ∙ sym c.in-Some.ensures.here in
     write_enough old c.self.invariant c.args.place.now c.args.name.now c.in-Some.slot rec named there here c.args.payload.now c.args.size (whole_inside c.args.payload.now c.args.size c.self.view_is c.requires.whole small) (c.in_ok-words.ensures.row rec there)
 
-pub returns-in_err-blocks-clause-changes : goal.returns-in_err-blocks-clause-changes
-returns-in_err-blocks-clause-changes g c = λ s fits.
+pub returns-in_err-blocks-clause-holds : goal.returns-in_err-blocks-clause-holds
+returns-in_err-blocks-clause-holds g c = λ s fits.
     let old : Stored = record { parts = c.self.inside.parts; journal = c.self.inside.journal; is_broken = c.self.inside.is_broken } in
     let named = ap (λ (k : Stored). slot_of k.parts.catalog c.args.name.now) c.self.view_is ∙ c.in-Some.ensures.slot in
     let found = rec_at-slot_of c.self.inside.parts.catalog c.args.name.now c.in-Some.slot c.self.invariant.parts.catalog named in
@@ -141,8 +141,8 @@ refile-requires-clause-below g c =
     let renews = c.in_ok-blocks.ensures.renewed found.0 found.1 in
     mid_below old c.put_instead.new.parts c.put_instead.new.journal c.in-Some.slot c.args.payload.now c.in_ok-blocks.blocks.items found.0 c.self.invariant c.in_ok-blocks.ensures.sound found.1 before placed renews
 
-pub save-requires-clause-sound : goal.save-requires-clause-sound
-save-requires-clause-sound g c =
+pub hold-requires-clause-sound : goal.hold-requires-clause-sound
+hold-requires-clause-sound g c =
     let old : Stored = record { parts = c.self.inside.parts; journal = c.self.inside.journal; is_broken = c.self.inside.is_broken } in
     let named = ap (λ (k : Stored). slot_of k.parts.catalog c.args.name.now) c.self.view_is ∙ c.in-Some.ensures.slot in
     let found = rec_at-slot_of c.self.inside.parts.catalog c.args.name.now c.in-Some.slot c.self.invariant.parts.catalog named in
@@ -160,8 +160,8 @@ save-requires-clause-sound g c =
     written_sound old c.put_instead.new.parts c.put_instead.new.journal c.in-Some.slot c.args.payload.now c.in_ok-blocks.blocks.items found.0 c.self.invariant c.in_ok-blocks.ensures.sound found.1 before placed renews
     c.args.name.now c.as_slice.result.now first c.refile.new.parts c.refile.ensures.refiled unbroken
 
-pub save-requires-clause-image : goal.save-requires-clause-image
-save-requires-clause-image g c =
+pub hold-requires-clause-image : goal.hold-requires-clause-image
+hold-requires-clause-image g c =
     let old : Stored = record { parts = c.self.inside.parts; journal = c.self.inside.journal; is_broken = c.self.inside.is_broken } in
     let named = ap (λ (k : Stored). slot_of k.parts.catalog c.args.name.now) c.self.view_is ∙ c.in-Some.ensures.slot in
     let found = rec_at-slot_of c.self.inside.parts.catalog c.args.name.now c.in-Some.slot c.self.invariant.parts.catalog named in
@@ -178,8 +178,8 @@ save-requires-clause-image g c =
     written_image old c.put_instead.new.parts c.put_instead.new.journal c.in-Some.slot c.args.payload.now c.in_ok-blocks.blocks.items found.0 c.self.invariant c.in_ok-blocks.ensures.sound found.1 before placed renews
     c.args.name.now c.as_slice.result.now first c.refile.new.parts c.refile.ensures.refiled
 
-pub save-requires-clause-placed : goal.save-requires-clause-placed
-save-requires-clause-placed g c =
+pub hold-requires-clause-placed : goal.hold-requires-clause-placed
+hold-requires-clause-placed g c =
     let old : Stored = record { parts = c.self.inside.parts; journal = c.self.inside.journal; is_broken = c.self.inside.is_broken } in
     let named = ap (λ (k : Stored). slot_of k.parts.catalog c.args.name.now) c.self.view_is ∙ c.in-Some.ensures.slot in
     let found = rec_at-slot_of c.self.inside.parts.catalog c.args.name.now c.in-Some.slot c.self.invariant.parts.catalog named in
@@ -197,8 +197,8 @@ save-requires-clause-placed g c =
     written_placed old c.put_instead.new.parts c.put_instead.new.journal c.in-Some.slot c.args.payload.now c.in_ok-blocks.blocks.items found.0 c.self.invariant c.in_ok-blocks.ensures.sound found.1 before placed renews
     c.args.name.now c.as_slice.result.now first c.refile.new.parts c.refile.ensures.refiled unbroken
 
-pub save-requires-clause-room : goal.save-requires-clause-room
-save-requires-clause-room g c =
+pub hold-requires-clause-room : goal.hold-requires-clause-room
+hold-requires-clause-room g c =
     let old : Stored = record { parts = c.self.inside.parts; journal = c.self.inside.journal; is_broken = c.self.inside.is_broken } in
     let named = ap (λ (k : Stored). slot_of k.parts.catalog c.args.name.now) c.self.view_is ∙ c.in-Some.ensures.slot in
     let found = rec_at-slot_of c.self.inside.parts.catalog c.args.name.now c.in-Some.slot c.self.invariant.parts.catalog named in
@@ -216,8 +216,8 @@ save-requires-clause-room g c =
     written_room old c.put_instead.new.parts c.put_instead.new.journal c.in-Some.slot c.args.payload.now c.in_ok-blocks.blocks.items found.0 c.self.invariant c.in_ok-blocks.ensures.sound found.1 before placed renews
     c.args.name.now c.as_slice.result.now first c.refile.new.parts c.refile.ensures.refiled unbroken
 
-pub returns-clause-changes : goal.returns-clause-changes
-returns-clause-changes g c = λ s fits.
+pub returns-clause-holds : goal.returns-clause-holds
+returns-clause-holds g c = λ s fits.
     let old : Stored = record { parts = c.self.inside.parts; journal = c.self.inside.journal; is_broken = c.self.inside.is_broken } in
     let named = ap (λ (k : Stored). slot_of k.parts.catalog c.args.name.now) c.self.view_is ∙ c.in-Some.ensures.slot in
     let found = rec_at-slot_of c.self.inside.parts.catalog c.args.name.now c.in-Some.slot c.self.invariant.parts.catalog named in
@@ -232,7 +232,7 @@ returns-clause-changes g c = λ s fits.
     let before = g.D.Disk.meaning c.args.disk.now in
     let placed = g.D.Disk.meaning c.put_instead.new.disk in
     let renews = c.in_ok-blocks.ensures.renewed found.0 found.1 in
-    let new : Stored = record { parts = c.save.new.parts; journal = c.save.new.journal; is_broken = c.save.new.is_broken } in
+    let new : Stored = record { parts = c.hold.new.parts; journal = c.hold.new.journal; is_broken = c.hold.new.is_broken } in
     let payload : Payload = record { size = c.args.size; bytes = c.args.payload.now } in
     let F : Stored → Type 0 = λ k. StoreFits k before s in
     let fits_old = subst F (sym c.self.view_is) fits in
@@ -243,8 +243,8 @@ returns-clause-changes g c = λ s fits.
     (write_enough old c.self.invariant c.args.place.now c.args.name.now c.in-Some.slot found.0 named found.1 here c.args.payload.now c.args.size (whole_inside c.args.payload.now c.args.size c.self.view_is c.requires.whole small) row) in
     written_changes old c.put_instead.new.parts c.put_instead.new.journal c.in-Some.slot c.args.payload.now c.in_ok-blocks.blocks.items found.0 c.self.invariant c.in_ok-blocks.ensures.sound found.1 before placed renews
     c.args.name.now c.as_slice.result.now first c.refile.new.parts c.refile.ensures.refiled unbroken s fits_old (subst G (sym words) may.assignable) enough
-    c.args.place.now new (g.D.Disk.meaning c.save.new.disk) c.save.result (write (record { state = s; place = c.args.place.now }) c.args.name.now payload)
-    (written_done old before s c.self.invariant fits_old c.args.place.now c.args.name.now c.in-Some.slot found.0 named found.1 here assigned words payload small row) c.save.ensures.saves
+    c.args.place.now new (g.D.Disk.meaning c.hold.new.disk) c.hold.result (write (record { state = s; place = c.args.place.now }) c.args.name.now payload)
+    (written_done old before s c.self.invariant fits_old c.args.place.now c.args.name.now c.in-Some.slot found.0 named found.1 here assigned words payload small row) c.hold.ensures.saves
 
 pub returns-clause-edits : goal.returns-clause-edits
 returns-clause-edits g c =
@@ -264,7 +264,7 @@ returns-clause-edits g c =
     let renews = c.in_ok-blocks.ensures.renewed found.0 found.1 in
     let few = written_edits old c.put_instead.new.parts c.put_instead.new.journal c.in-Some.slot c.args.payload.now c.in_ok-blocks.blocks.items found.0 c.self.invariant c.in_ok-blocks.ensures.sound found.1 before placed renews
     c.args.name.now c.as_slice.result.now first c.refile.new.parts c.refile.ensures.refiled unbroken in
-    edits_saved c.refile.new.parts c.self.view_is c.save.ensures.parts few
+    edits_saved c.refile.new.parts c.self.view_is c.hold.ensures.parts few
 
 -- ---- a fault of the disk while the bytes are put
 pub invariant_of-self : goal.invariant_of-self
@@ -331,8 +331,8 @@ refile-requires-clause-scratch g c =
     let renews = c.in_ok-blocks.ensures.renewed found.0 found.1 in
     subst (λ (l : Limits). HasRoom c.may_write.new.scratch l) (sym (mid_limits old c.put_instead.new.parts c.put_instead.new.journal c.in-Some.slot c.args.payload.now c.in_ok-blocks.blocks.items found.0 c.self.invariant c.in_ok-blocks.ensures.sound found.1 before placed renews)) c.may_write.ensures.room
 
-pub save-requires-clause-unbroken : goal.save-requires-clause-unbroken
-save-requires-clause-unbroken g c =
+pub hold-requires-clause-unbroken : goal.hold-requires-clause-unbroken
+hold-requires-clause-unbroken g c =
     let old : Stored = record { parts = c.self.inside.parts; journal = c.self.inside.journal; is_broken = c.self.inside.is_broken } in
     let named = ap (λ (k : Stored). slot_of k.parts.catalog c.args.name.now) c.self.view_is ∙ c.in-Some.ensures.slot in
     let found = rec_at-slot_of c.self.inside.parts.catalog c.args.name.now c.in-Some.slot c.self.invariant.parts.catalog named in
@@ -350,8 +350,8 @@ save-requires-clause-unbroken g c =
     written_unbroken old c.put_instead.new.parts c.put_instead.new.journal c.in-Some.slot c.args.payload.now c.in_ok-blocks.blocks.items found.0 c.self.invariant c.in_ok-blocks.ensures.sound found.1 before placed renews
     c.args.name.now c.as_slice.result.now first c.refile.new.parts c.refile.ensures.refiled unbroken
 
-pub save-requires-clause-long : goal.save-requires-clause-long
-save-requires-clause-long g c =
+pub hold-requires-clause-long : goal.hold-requires-clause-long
+hold-requires-clause-long g c =
     let old : Stored = record { parts = c.self.inside.parts; journal = c.self.inside.journal; is_broken = c.self.inside.is_broken } in
     let named = ap (λ (k : Stored). slot_of k.parts.catalog c.args.name.now) c.self.view_is ∙ c.in-Some.ensures.slot in
     let found = rec_at-slot_of c.self.inside.parts.catalog c.args.name.now c.in-Some.slot c.self.invariant.parts.catalog named in
@@ -385,7 +385,7 @@ returns-clause-limits g c =
     let before = g.D.Disk.meaning c.args.disk.now in
     let placed = g.D.Disk.meaning c.put_instead.new.disk in
     let renews = c.in_ok-blocks.ensures.renewed found.0 found.1 in
-    ap (λ (k : Kept). k.limits) c.save.ensures.parts ∙ (written_limits old c.put_instead.new.parts c.put_instead.new.journal c.in-Some.slot c.args.payload.now c.in_ok-blocks.blocks.items found.0 c.self.invariant c.in_ok-blocks.ensures.sound found.1 before placed renews
+    ap (λ (k : Kept). k.limits) c.hold.ensures.parts ∙ (written_limits old c.put_instead.new.parts c.put_instead.new.journal c.in-Some.slot c.args.payload.now c.in_ok-blocks.blocks.items found.0 c.self.invariant c.in_ok-blocks.ensures.sound found.1 before placed renews
     c.args.name.now c.as_slice.result.now first c.refile.new.parts c.refile.ensures.refiled ∙ ap (λ (k : Stored). k.parts.limits) c.self.view_is)
 
 pub returns-clause-image : goal.returns-clause-image
@@ -396,4 +396,4 @@ returns-clause-image g c =
     let before = g.D.Disk.meaning c.args.disk.now in
     let placed = g.D.Disk.meaning c.put_instead.new.disk in
     let renews = c.in_ok-blocks.ensures.renewed found.0 found.1 in
-    c.save.ensures.image ∙ (renews.image ∙ ap (λ (k : Stored). k.journal.blocks) c.self.view_is)
+    c.hold.ensures.image ∙ (renews.image ∙ ap (λ (k : Stored). k.journal.blocks) c.self.view_is)
