@@ -22,7 +22,7 @@ pub record ToldBy (k : Stored) (s : State) : Type 0 where
   pub whole : (b : ℕ) → b < k.parts.limits.blocks → length (kept (data_start k.parts.limits + b)) ≡ 4096
 
 -- whole blocks over whole blocks are whole
-look_whole : (es : List Entry) (n : ℕ) (old : List ℕ) → are_whole es ≡ true → length old ≡ 4096 → length (look es n old) ≡ 4096
+pub look_whole : (es : List Entry) (n : ℕ) (old : List ℕ) → are_whole es ≡ true → length old ≡ 4096 → length (look es n old) ≡ 4096
 look_whole [] n old whole len = len
 look_whole (e ∷ es) n old whole len =
     let parts = and_parts (length e.bytes == 4096) (are_whole es) whole in

@@ -1,16 +1,16 @@
 use Rattle.std.proofs.Common.{◌∙◌, refl, sym, ap, subst}
-use Rattle.lis_store.specs.Stored.{Stored, StoreFits}
+use Rattle.lis_store.specs.Stored.{Stored, StoreHolds}
 use Rattle.lis_store.specs.Unlinking.{is_axiom}
 use Rattle.lis_store.proofs.Edits.{edits_saved}
-use Rattle.lis_store.proofs.Unaxiom.{may_go, unaxiom_refused, unaxiom_sound, unaxiom_marks, unaxiom_changes}
+use Rattle.lis_store.proofs.Unaxiom.{may_go, unaxiom_refused, unaxiom_sound, unaxiom_marks, unaxiom_holds}
 use Rattle.lis_store.proofs.Unaxiomed.{few_edits}
 use Rattle.lis_store.proofs.SavedAlone.{alone_placed}
 use Rattle.lis_store.proofs.store.Store.unaxiom_held.Goals as goal
 
 pub returns-in_default-clause-holds : goal.returns-in_default-clause-holds
-returns-in_default-clause-holds g c = λ now fits.
+returns-in_default-clause-holds g c = λ base now fits.
     let none = sym (ap (λ (k : Stored). is_axiom k.parts c.args.left.now c.args.right.now) c.self.view_is) ∙ sym c.in_default.ensures.there in
-    unaxiom_refused c.args.self.now (g.D.Disk.meaning c.args.disk.now) c.args.left.now c.args.right.now _ none refl now fits
+    unaxiom_refused c.args.self.now (g.D.Disk.meaning c.args.disk.now) c.args.left.now c.args.right.now _ none refl base now fits
 
 pub take_axiom-requires-clause-may : goal.take_axiom-requires-clause-may
 take_axiom-requires-clause-may g c =
@@ -37,14 +37,14 @@ hold-requires-clause-room g c =
     (sym c.in-Some.ensures.there)
 
 pub returns-clause-holds : goal.returns-clause-holds
-returns-clause-holds g c = λ now fits.
+returns-clause-holds g c = λ base now fits.
     let m = g.D.Disk.meaning c.args.disk.now in
     let old : Stored = record { parts = c.self.inside.parts; journal = c.self.inside.journal; is_broken = c.self.inside.is_broken } in
     let new : Stored = record { parts = c.hold.new.parts; journal = c.hold.new.journal; is_broken = c.hold.new.is_broken } in
     let unbroken = ap (λ (k : Stored). k.is_broken) c.self.view_is ∙ c.requires.unbroken in
-    let P : Stored → Type 0 = λ k. StoreFits k m now.state in
-    unaxiom_changes old c.take_axiom.new.parts c.args.left.now c.args.right.now c.in-Some.from c.in-Some.to c.in-Some.ensures.numbers c.take_axiom.ensures.taken c.self.invariant unbroken
-    (sym c.in-Some.ensures.there) new m (g.D.Disk.meaning c.hold.new.disk) c.hold.result c.hold.ensures.saves now (subst P (sym c.self.view_is) fits)
+    let P : Stored → Type 0 = λ k. StoreHolds k m base now.state in
+    unaxiom_holds old c.take_axiom.new.parts c.args.left.now c.args.right.now c.in-Some.from c.in-Some.to c.in-Some.ensures.numbers c.take_axiom.ensures.taken c.self.invariant unbroken
+    (sym c.in-Some.ensures.there) new m (g.D.Disk.meaning c.hold.new.disk) c.hold.result c.hold.ensures.saves base now (subst P (sym c.self.view_is) fits)
 
 pub returns-clause-edits : goal.returns-clause-edits
 returns-clause-edits g c =

@@ -3,23 +3,23 @@ use Rattle.std.proofs.lemmas.Result.{err_from_is_err_and}
 use Rattle.lis_model.specs.Image.{image_blocks}
 use Rattle.lis_model.specs.Step.{rmdir}
 use Rattle.lis_kept.specs.Kept.{Kept}
-use Rattle.lis_store.specs.Stored.{Stored, StoreFits}
-use Rattle.lis_store.specs.Changes.{Changes}
+use Rattle.lis_store.specs.Stored.{Stored, StoreHolds}
+use Rattle.lis_store.specs.Changes.{Holds}
 use Rattle.lis_store.proofs.Edits.{edits_saved}
-use Rattle.lis_store.proofs.Undeclared.{undeclared_may, undeclared_named, undeclared_limits, undeclared_edits, undeclared_marks, undeclared_sound, undeclared_changes, undeclared_refused}
+use Rattle.lis_store.proofs.Undeclared.{undeclared_may, undeclared_named, undeclared_limits, undeclared_edits, undeclared_marks, undeclared_sound, undeclared_holds, undeclared_refused}
 use Rattle.lis_store.proofs.SavedAlone.{alone_placed}
 use Rattle.lis_store.proofs.store.Store.undeclare_held.Goals as goal
 
 pub returns-in_err-number-clause-holds : goal.returns-in_err-number-clause-holds
-returns-in_err-number-clause-holds g c = λ now fits.
+returns-in_err-number-clause-holds g c = λ base now fits.
     let p = err_from_is_err_and c.from_residual.result c.from_residual.ensures.1 in
     let m = g.D.Disk.meaning c.args.disk.now in
     let old : Stored = record { parts = c.self.inside.parts; journal = c.self.inside.journal; is_broken = c.self.inside.is_broken } in
-    let P : Stored → Type 0 = λ k. StoreFits k m now.state in
-    let Q : Stored → Type 0 = λ k. Changes now (rmdir now c.args.word.now) k m m c.from_residual.result in
+    let P : Stored → Type 0 = λ k. StoreHolds k m base now.state in
+    let Q : Stored → Type 0 = λ k. Holds base now (rmdir now c.args.word.now) k m m c.from_residual.result in
     subst Q c.self.view_is
     (undeclared_refused old m c.args.word.now c.in_err-number.field-0.0 c.from_residual.result c.self.invariant
-    c.in_err-number.ensures.row (p.1 ∙ ap Err p.2) now (subst P (sym c.self.view_is) fits))
+    c.in_err-number.ensures.row (p.1 ∙ ap Err p.2) base now (subst P (sym c.self.view_is) fits))
 
 pub undeclare_unmet-requires-clause-may : goal.undeclare_unmet-requires-clause-may
 undeclare_unmet-requires-clause-may g c =
@@ -73,11 +73,11 @@ hold-requires-clause-sound g c =
     c.undeclare_unmet.new.parts c.undeclare_unmet.ensures
 
 pub returns-clause-holds : goal.returns-clause-holds
-returns-clause-holds g c = λ now fits.
+returns-clause-holds g c = λ base now fits.
     let m = g.D.Disk.meaning c.args.disk.now in
     let old : Stored = record { parts = c.self.inside.parts; journal = c.self.inside.journal; is_broken = c.self.inside.is_broken } in
     let new : Stored = record { parts = c.hold.new.parts; journal = c.hold.new.journal; is_broken = c.hold.new.is_broken } in
     let unbroken = ap (λ (k : Stored). k.is_broken) c.self.view_is ∙ c.requires.unbroken in
-    let P : Stored → Type 0 = λ k. StoreFits k m now.state in
-    undeclared_changes old c.args.word.now c.in_ok-number.number c.self.invariant unbroken c.in_ok-number.ensures.row c.in_ok-number.ensures.number
-    c.undeclare_unmet.new.parts c.undeclare_unmet.ensures new m (g.D.Disk.meaning c.hold.new.disk) c.hold.result c.hold.ensures.saves now (subst P (sym c.self.view_is) fits)
+    let P : Stored → Type 0 = λ k. StoreHolds k m base now.state in
+    undeclared_holds old c.args.word.now c.in_ok-number.number c.self.invariant unbroken c.in_ok-number.ensures.row c.in_ok-number.ensures.number
+    c.undeclare_unmet.new.parts c.undeclare_unmet.ensures new m (g.D.Disk.meaning c.hold.new.disk) c.hold.result c.hold.ensures.saves base now (subst P (sym c.self.view_is) fits)
