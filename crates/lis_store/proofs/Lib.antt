@@ -17,6 +17,7 @@ pub mod Viewing
 pub mod Saved
 pub mod SavedAlone
 pub mod Holding
+pub mod Committed
 pub mod Judged
 pub mod Cleaned
 pub mod Told

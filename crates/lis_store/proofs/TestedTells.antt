@@ -41,7 +41,7 @@ use Rattle.lis_store.specs.Judging.{word_checks}
 use Rattle.lis_store.specs.Placing.{AreNumbersOf}
 use Rattle.lis_store.specs.Redescribing.{Redescribes}
 use Rattle.lis_store.specs.Testing.{is_met_at, is_gained, is_gained_by, wider, has_crowded, tested, DeclaresTested}
-use Rattle.lis_store.specs.Changes.{Changes, first_refusal}
+use Rattle.lis_store.specs.Changes.{Holds, first_refusal}
 use Rattle.lis_store.specs.declared.change.Change.{Change}
 use Rattle.lis_store.specs.declared.change.Change.TheVariants.{Refused}
 use Rattle.lis_store.proofs.Edits.{AreEditsFew}

@@ -52,12 +52,12 @@ use Rattle.lis_kept.proofs.OwnLinks.{own_head, among_slot, unnamed_to}
 use Rattle.lis_kept.proofs.Used.{any_or, used_flagged, used_had, used_left}
 use Rattle.lis_kept.proofs.Needed.{may_undeclare}
 use Rattle.lis_kept.proofs.NeededTold.{needed_told}
-use Rattle.lis_store.specs.Stored.{Stored, PairsAreApart, AreClosed, TestsAreMet, IsSound, StoreFits}
+use Rattle.lis_store.specs.Stored.{Stored, PairsAreApart, AreClosed, TestsAreMet, IsSound, StoreHolds}
 use Rattle.lis_store.specs.Saving.{settled, IsReady, Saves}
 use Rattle.lis_store.specs.Judging.{is_needed_by, undeclare_checks}
 use Rattle.lis_store.specs.Redescribing.{IsTurnedRow}
 use Rattle.lis_store.specs.Testing.{without_number, undescribed, UndeclaresUnmet}
-use Rattle.lis_store.specs.Changes.{Changes, first_refusal}
+use Rattle.lis_store.specs.Changes.{Holds, first_refusal}
 use Rattle.lis_store.specs.declared.change.Change.{Change}
 use Rattle.lis_store.specs.declared.change.Change.TheVariants.{Refused}
 use Rattle.lis_store.proofs.SavedAlone.{saves_alone}
