@@ -15,7 +15,7 @@ use Rattle.lis_store.specs.declared.change.Change.{Change}
 use Rattle.lis_store.specs.declared.change.Change.TheVariants.{Refused, Disk}
 use Rattle.lis_store.specs.Stands.{Stands}
 use Rattle.lis_store.specs.Stored.{Stored, IsSound, StoreFits, StoreHolds}
-use Rattle.lis_store.specs.Changes.{Changes, ChangeEnded, Holds, HeldEnded, Commits, CommitEnded}
+use Rattle.lis_store.specs.Changes.{Changes, ChangeEnded, ChangeLeft, Holds, HeldEnded, Commits, CommitEnded}
 use Rattle.lis_store.proofs.Facts.{limits_told}
 use Rattle.lis_store.proofs.Standing.{change_stands}
 
@@ -42,14 +42,14 @@ held_fits k m base s settled holds = record {
   written = subst (λ (es : List Entry). IsWritten k.parts (looked es holds.kept)) settled holds.written;
 }
 
--- A change that was refused, or that a fault of the disk ended, from a state for which the images stood.
-pub changes_ended : {T : Type 0} (now : Situation) (outcome : Outcome) (new : Stored) (before after : Meaning) (change : Change) (result : Result T Change) → result ≡ Err change
-    → ((m : Meaning) (s : State) → StoreHolds new m now.state s → StoreFits new m s) → Holds now.state now outcome new before after result → Changes now outcome new before after result
-changes_ended {T = T} now outcome new before after change result ends settled holds =
+-- A change that was refused, or that a fault of the disk ended, of a store that held back nothing.
+pub changes_ended : {T : Type 0} (now : Situation) (outcome : Outcome) (old new : Stored) (before after : Meaning) (change : Change) (held result : Result T Change) → held ≡ Err change → result ≡ Err change
+    → StoreFits old before now.state → ChangeLeft old new held → Holds now.state now outcome new before after held → Changes now outcome new before after result
+changes_ended {T = T} now outcome old new before after change held result was ends fits left holds =
     record {
       moments = leaves_weaken (λ image. Stands image now.state ⊎ Stands image outcome.next.state) holds.moments one_of;
       past = holds.past;
-      ended = subst (λ r. ChangeEnded now outcome new after r) (sym ends) (by change (subst (λ r. HeldEnded now.state now outcome new after r) ends holds.ended));
+      ended = subst (λ r. ChangeEnded now outcome new after r) (sym ends) (by change (subst (λ r. ChangeLeft old new r) was left) (subst (λ r. HeldEnded now.state now outcome new after r) was holds.ended));
     }
   where
     one_of : (image : List ℕ) → (Stands image now.state ⊎ Stands image now.state) ⊎ Stands image outcome.next.state → Stands image now.state ⊎ Stands image outcome.next.state
@@ -57,18 +57,18 @@ changes_ended {T = T} now outcome new before after change result ends settled ho
     one_of image (inl (inr old)) = inl old
     one_of image (inr new) = inr new
 
-    by : (c : Change) → HeldEnded {T = T} now.state now outcome new after (Err c) → ChangeEnded {T = T} now outcome new after (Err c)
-    by (Refused refusal) ended = (ended.0, settled after now.state ended.1)
-    by Disk ended = ended
+    by : (c : Change) → ChangeLeft {T = T} old new (Err c) → HeldEnded {T = T} now.state now outcome new after (Err c) → ChangeEnded {T = T} now outcome new after (Err c)
+    by (Refused refusal) same ended = (ended.0, held_fits new after now.state now.state (ap (λ (k : Stored). k.journal.staged) same ∙ fits.settled) ended.1)
+    by Disk broken ended = ended
 
 -- A change that is held back, and a commit behind it.
 module _ {T U : Type 0} (now : Situation) (outcome : Outcome) (mid new : Stored) (before between after : Meaning) (done : U) (result : Result T Change)
-    (holds : Holds now.state now outcome mid before between (Ok done))
+    (holds : Holds {T = U} now.state now outcome mid before between (Ok done))
     (commits : (base s : State) → StoreHolds mid between base s → Commits base s new between after result) where
   abbrev next : State
   next = outcome.next.state
 
-  Either : List ℕ → Type 0
+  abbrev Either : List ℕ → Type 0
   Either image = Stands image now.state ⊎ Stands image next
 
   one_of : (image : List ℕ) → (Stands image now.state ⊎ Stands image now.state) ⊎ Stands image next → Either image

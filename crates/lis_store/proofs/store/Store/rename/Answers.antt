@@ -1,0 +1,29 @@
+use Rattle.std.proofs.Common.{◌∙◌, ap, subst, Err}
+use Rattle.std.proofs.lemmas.Result.{err_from_is_err_and}
+use Rattle.lis_model.specs.Step.{Situation, rename}
+use Rattle.lis_store.specs.Changes.{Holds}
+use Rattle.lis_store.proofs.Facts.{limits_told}
+use Rattle.lis_store.proofs.Holding.{fits_held, changes_ended, changes_committed}
+use Rattle.lis_store.proofs.store.Store.rename.Goals as goal
+
+pub returns-in_err-rename_held-clause-changes : goal.returns-in_err-rename_held-clause-changes
+returns-in_err-rename_held-clause-changes g c = λ s fits.
+    let p = err_from_is_err_and c.from_residual.result c.from_residual.ensures.1 in
+    let m = g.D.Disk.meaning c.args.disk.now in
+    let now : Situation = record { state = s; place = c.args.place.now } in
+    let outcome = rename now c.args.name.now c.args.new.now in
+    let held = fits_held c.args.self.now m s c.rename_held.ensures.entry fits in
+    changes_ended now outcome c.args.self.now c.rename_held.new.self m (g.D.Disk.meaning c.rename_held.new.disk) c.in_err-rename_held.field-0.0 c.rename_held.result c.from_residual.result
+    c.in_err-rename_held.was (p.1 ∙ ap Err p.2) fits c.rename_held.ensures.left (c.rename_held.ensures.holds s s held)
+
+pub returns-clause-changes : goal.returns-clause-changes
+returns-clause-changes g c = λ s fits.
+    let m = g.D.Disk.meaning c.args.disk.now in
+    let between = g.D.Disk.meaning c.rename_held.new.disk in
+    let sound = c.rename_held.ensures.entry in
+    let now : Situation = record { state = s; place = c.args.place.now } in
+    let outcome = rename now c.args.name.now c.args.new.now in
+    let held = fits_held c.args.self.now m s sound fits in
+    changes_committed now outcome c.rename_held.new.self c.commit.new.self m between (g.D.Disk.meaning c.commit.new.disk) c.in_ok-rename_held.field-0 c.commit.result
+    (subst (λ r. Holds s now outcome c.rename_held.new.self m between r) c.in_ok-rename_held.was (c.rename_held.ensures.holds s s held)) c.commit.ensures.commits
+    (c.rename_held.ensures.limits ∙ limits_told c.args.self.now.parts fits.kept s sound.parts sound.free fits.tells)
