@@ -183,6 +183,7 @@ pub record IsOpened (journal : Held) (store : Stored) : Type 0 where
   pub sound : IsSound store
   pub over : store.journal ≡ journal
   pub unbroken : store.is_broken ≡ false
+  pub settled : store.journal.staged ≡ []
 
 module _ (old : Meaning) (limits : Limits) (super : HasSuper limits old.bytes) (long : 4096 * image_blocks limits ≤ old.len) where
   pub long_enough : IsLongEnough old
@@ -348,6 +349,7 @@ module _ (old : Meaning) (limits : Limits) (super : HasSuper limits old.bytes) (
                   kept = kept;
                   journal = subst (λ (j : Held). Fits j new kept) (sym is.over) fits;
                   unbroken = is.unbroken;
+                  settled = is.settled;
                   tells = ended.tells;
                   written = ended.written;
                 },
