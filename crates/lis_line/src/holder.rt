@@ -1,6 +1,6 @@
 //! The loop over an input whose carrier may hold back what it did.
 
-ghost use Rattle.std.specs.Prelude.{◌≡◌, ℕ, ◌+◌, ◌^◌, ◌≤◌, List, [], ◌∷◌, ◌++◌, IsSome, IfOk, IfSome, MatchResult};
+ghost use Rattle.std.specs.Prelude.{◌≡◌, ℕ, ◌+◌, ◌^◌, ◌≤◌, false, List, [], ◌∷◌, ◌++◌, IsSome, IfOk, IfSome, MatchResult};
 ghost use Rattle.lis_ports.specs.Meaning.{Meaning};
 ghost use Rattle.lis_ports.specs.Calls.{FaultEnds};
 ghost use Rattle.lis_model.specs.Step.{Item as Asked};
@@ -10,7 +10,8 @@ ghost use Rattle.lis_line.specs.Taking.{TakesFew};
 ghost use Rattle.lis_line.specs.Endings.{HoldEnded, HasHaltCause};
 
 use crate::carrier::Halt;
-use crate::reader::{Item, LineReader, Payload};
+use crate::input::InputItem;
+use crate::reader::{Item, LineReader, Next, Payload};
 use lis_ports::{Source, Station};
 
 /// What carries out the items of a session, and may hold back what it did until it is told to settle.
@@ -58,6 +59,27 @@ pub trait Holder {
             (λ fault. has_stopped start (T.meaning entry) first fault self.new (T.meaning station.new)) };
 }
 
+/// Settles, unless an item lies whole in what was taken of the source.
+fn settle_unless<C: Holder, T: Station>(
+    lies_whole: bool,
+    carrier: &mut C,
+    station: &mut T,
+) -> Result<(), C::Fault>
+    requires ready { (more : ℕ) × C.is_ready carrier.old (T.meaning station.old) more }
+    ensures ready { (more : ℕ) → C.is_ready carrier.old (T.meaning station.old) more
+        → IfOk result (λ _. C.is_ready carrier.new (T.meaning station.new) more) }
+    ensures settled { lies_whole ≡ false → IfOk result (λ _. C.is_settled carrier.new) }
+    ensures done { (start : C) (entry : T) (first : List Asked) → C.has_done start (T.meaning entry) first carrier.old (T.meaning station.old)
+        → MatchResult result
+        (λ _. C.has_done start (T.meaning entry) first carrier.new (T.meaning station.new))
+        (λ fault. C.has_stopped start (T.meaning entry) first fault carrier.new (T.meaning station.new)) }
+{
+    if lies_whole {
+        return Ok(());
+    }
+    carrier.settle(station)
+}
+
 /// Carries out the items of an input of at most `limit` bytes, up to its end, its limit or the first fault. Before it reads on where no
 /// item lies whole in what was taken of the source, the carrier settles: so nothing is held back while the source is asked.
 pub fn carry_held<C: Holder, S: Source, T: Station>(
@@ -79,20 +101,19 @@ pub fn carry_held<C: Holder, S: Source, T: Station>(
 {
     let mut reader = LineReader::new(limit);
     loop {
-        if !reader.lies_whole() {
-            if let Err(fault) = carrier.settle(station) {
-                return Halt::Stopped(fault);
-            }
+        let lies_whole = reader.lies_whole();
+        if let Err(fault) = settle_unless(lies_whole, carrier, station) {
+            return Halt::Stopped(fault);
         }
-        let item = match reader.next(input, payload) {
-            Ok(Item::End) => return Halt::End,
-            Ok(Item::Limit) => {
+        let item = match reader.read_held(lies_whole, input, payload) {
+            Ok(Next::Item(request)) => Item::of(request),
+            Ok(Next::End) => return Halt::End,
+            Ok(Next::Limit) => {
                 return match carrier.settle(station) {
                     Ok(()) => Halt::Limit,
                     Err(fault) => Halt::Stopped(fault),
                 };
             }
-            Ok(item) => item,
             Err(_) => return Halt::InputFault,
         };
         if let Err(fault) = carrier.carry(&item, payload, station) {
