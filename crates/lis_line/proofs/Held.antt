@@ -1,13 +1,12 @@
 -- The next item where one lies whole in what was taken, and nothing more is.
-use Rattle.std.proofs.Common.{◌≡◌, ◌⊎◌, ℕ, Bool, true, false, List, [], ◌∷◌, ◌++◌, Option, Some, None, Result, Ok, Err, ap, sym, ◌∙◌, refl, inl, inr, arith, append_assoc, append-nil}
+use Rattle.std.proofs.Common.{◌≡◌, ◌⊎◌, ℕ, Bool, true, false, List, [], ◌∷◌, ◌++◌, Option, Some, None, Result, Ok, Err, ap, sym, ◌∙◌, refl, inl, inr, append_assoc, append-nil}
 use Rattle.std.specs.Io.KnownBytes.{prepend_known, Consumes}
 use Rattle.std.specs.Bool.{IsTrue}
-use Rattle.lis_ports.specs.Calls.{HasCause}
 use Rattle.lis_model.specs.Script.{Cut}
 use Rattle.lis_line.specs.declared.reader.Next.{Next}
 use Rattle.lis_line.specs.declared.reader.Next.TheVariants.{Item, End, Limit}
 use Rattle.lis_line.specs.Stock.{Stocked}
-use Rattle.lis_line.specs.Reading.{Reading, Gave, GaveWhole, GaveLast, GaveEnd, GaveRest, Gives, Says, LiesWhole, GoesOn, told, next_map}
+use Rattle.lis_line.specs.Reading.{Reading, Gave, GaveWhole, GaveLast, GaveEnd, GaveRest, Gives, Says, LiesWhole}
 
 -- where an item lies whole in bytes, they are not without items
 lies_some : {I : Type 0} (items : List ℕ → List I) (item : I) (others : List I) (bytes front rest : List ℕ) → bytes ≡ front ++ rest → items (front ++ rest) ≡ item ∷ others → items bytes ≡ [] → ⊥
@@ -69,18 +68,6 @@ module _ {I : Type 0} {cut : Cut I} (old new : Reading) (lies : LiesWhole cut ol
   -- so a reader says the same, whatever is left of the source
   pub says_ahead : {E : Type 0} (left : Option (List ℕ)) (answer : Result (Next I) E) → old.is_closed ≡ false → Says cut old new (Some []) (Some []) answer → Says cut old new left left answer
   says_ahead left answer opened says = record { gives = λ _. gives_ahead left answer (says.gives opened); closes = λ closed. absurd (cc) }
-
--- and neither the end nor a fault
-pub goes_on : {I R E : Type 0} {cut : Cut I} (old new : Reading) (asks : R → I) (result : Result (Next R) E) → LiesWhole cut old.stock.ahead → old.is_closed ≡ false
-    → Says cut old new (Some []) (Some []) (told (next_map asks) result) → GoesOn result
-goes_on old new asks (Ok (Item request)) lies opened says = tt
-goes_on old new asks (Ok End) lies opened says = no_end lies (says.gives opened).0
-goes_on old new asks (Ok Limit) lies opened says = tt
-goes_on old new asks (Err failed) lies opened says = no_fault lies (says.gives opened).0
-
-pub cause_ahead : {T E : Type 0} (faults : ℕ) (result : Result T E) → HasCause 0 0 result → HasCause faults faults result
-cause_ahead faults (Ok value) cause = omega arith
-cause_ahead faults (Err failed) cause = absurd (omega (arith, cause.rose))
 
 -- where the answer was the end or a fault, no item lay whole
 pub not_true : (b : Bool) → (IsTrue b → ⊥) → b ≡ false
