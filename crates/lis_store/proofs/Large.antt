@@ -18,14 +18,14 @@ use Rattle.lis_store.specs.Saving.{SaveEnded}
 use Rattle.lis_store.proofs.Facts.{limits_told}
 use Rattle.lis_store.proofs.Holding.{held_fits, fits_held}
 
-module _ {T : Type 0} (base : State) (now : Situation) (outcome : Outcome) (before between after : Meaning) where
-  Either : List ℕ → Type 0
+module _ (base : State) (now : Situation) (outcome : Outcome) (before between after : Meaning) where
+  abbrev Either : List ℕ → Type 0
   Either image = (Stands image base ⊎ Stands image now.state) ⊎ Stands image outcome.next.state
 
   -- The commit is done, and the change that begins behind it leaves nothing staged.
-  pub held_behind_commit : {U : Type 0} (old mid new : Stored) (done : U) (result : Result T Change) → IsSound old → StoreHolds old before base now.state → Commits base now.state mid before between (Ok done)
+  pub held_behind_commit : {T U : Type 0} (old mid new : Stored) (done : U) (result : Result T Change) → IsSound old → StoreHolds old before base now.state → Commits base now.state mid before between (Ok done)
       → IsSound new → OnOk result (new.journal.staged ≡ []) → SaveEnded new.is_broken result → Holds now.state now outcome new between after result → Holds base now outcome new before after result
-  held_behind_commit old mid new done result sound held commits sound_new settled ends holds = record {
+  held_behind_commit {T = T} old mid new done result sound held commits sound_new settled ends holds = record {
     moments = leaves_then (leaves_weaken Either commits.moments (λ image either. inl either)) (leaves_weaken Either holds.moments behind);
     past = λ n le. subst (λ (b : ℕ). KeepsPast b between after) blocks holds.past n le ∙ commits.past n le;
     ended = by result settled ends holds.ended;
@@ -49,9 +49,9 @@ module _ {T : Type 0} (base : State) (now : Situation) (outcome : Outcome) (befo
       by (Err Disk) none broken ended = ended
 
   -- The disk fails in the commit.
-  pub held_lost_commit : {U : Type 0} (new : Stored) (change : Change) (result : Result T Change) → Commits {T = U} base now.state new before after (Err change) → result ≡ Err change
+  pub held_lost_commit : {T U : Type 0} (new : Stored) (change : Change) (result : Result T Change) → Commits {T = U} base now.state new before after (Err change) → result ≡ Err change
       → Holds base now outcome new before after result
-  held_lost_commit {U = U} new change result commits ends =
+  held_lost_commit {T = T} {U = U} new change result commits ends =
       subst (λ r. Holds base now outcome new before after r) (sym ends)
       (record { moments = leaves_weaken Either commits.moments (λ image either. inl either); past = commits.past; ended = by change commits.ended })
     where
