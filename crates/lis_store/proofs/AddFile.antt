@@ -36,7 +36,7 @@ use Rattle.lis_store.proofs.Facts.{limits_told}
 use Rattle.lis_store.proofs.FreeBlocks.{used_told}
 use Rattle.lis_store.proofs.Replaced.{in_form, settled_sound}
 use Rattle.lis_store.proofs.Steps.{form_taken, pairs_same, holds_behind, puts_stand, puts_past, put_stands}
-use Rattle.lis_store.proofs.Torn.{torn_sound, torn_limits, torn_edits, torn_holds, ended_broken}
+use Rattle.lis_store.proofs.Torn.{torn_sound, torn_holds, ended_broken}
 use Rattle.lis_store.proofs.ToldBy.{told_held}
 
 -- a file that is admitted is so where other blocks are taken
@@ -64,7 +64,7 @@ home_behind base n blocks has = by (cases_lt n base)
 
 -- ---- its bytes are put into blocks
 module _ (old : Stored) (mid : Kept) (j : Held) (bytes numbers : List ℕ) (before placed : Meaning) (put : Puts bytes numbers old.parts mid old.journal j before placed) (sound : IsSound old) where
-  pub form_put : AreInForm mid
+  form_put : AreInForm mid
   form_put = form_taken old.parts mid (marked old.parts.taken put.blocks) put.takes (in_form old sound)
 
   pub limits_put : mid.limits ≡ old.parts.limits
@@ -84,7 +84,7 @@ module _ (old : Stored) (mid : Kept) (j : Held) (bytes numbers : List ℕ) (befo
     abbrev admitted_mid : IsAdmitted mid (new_file name assigned bytes)
     admitted_mid = admitted_put name assigned admitted
 
-    pub limits_then : q.limits ≡ old.parts.limits
+    limits_then : q.limits ≡ old.parts.limits
     limits_then = same_limits mid q name assigned bytes numbers form_put admitted_mid puts ∙ limits_put
 
     pub added_sound : AreSound q → IsSound (settled q j)
@@ -92,9 +92,6 @@ module _ (old : Stored) (mid : Kept) (j : Held) (bytes numbers : List ℕ) (befo
         settled_sound q j (form_added mid q name assigned bytes numbers form_put admitted_mid puts after)
         (pairs_same old.parts q (same_axioms mid q name assigned bytes numbers form_put admitted_mid puts ∙ ap (λ (k : Kept). k.axioms) put.takes.parts) sound.pairs)
         (put.image ∙ (sound.image ∙ ap image_blocks (sym limits_then))) (put.broken ∙ sound.journal unbroken)
-
-    pub added_image : j.blocks ≡ image_blocks q.limits
-    added_image = put.image ∙ (sound.image ∙ ap image_blocks (sym limits_then))
 
     pub added_placed : ArePlaced q j
     added_placed n among = (
@@ -171,15 +168,6 @@ module _ (T : Type 0) (old : Stored) (sound : IsSound old) (bytes : List ℕ) (q
   pub lost_sound : AreSound q → IsSound (record { parts = q; journal = j; is_broken = b })
   lost_sound after_sound =
       subst (λ c. IsSound (record { parts = q; journal = j; is_broken = c })) (sym broken) (torn_sound old bytes q j sound before after lost.1 after_sound)
-
-  pub lost_limits : q.limits ≡ old.parts.limits
-  lost_limits = torn_limits old bytes q j sound before after lost.1
-
-  pub lost_edits : AreEditsFew old.parts.ext q.ext
-  lost_edits = torn_edits old bytes q j sound before after lost.1
-
-  pub lost_image : j.blocks ≡ old.journal.blocks
-  lost_image = lost.1.image
 
   pub lost_holds : {U : Type 0} (base : State) (now : Situation) (outcome : Outcome) (result : Result U Change) → result ≡ Err change → (is_large (length bytes) ≡ true → old.journal.staged ≡ [])
       → StoreHolds old before base now.state → Holds base now outcome (record { parts = q; journal = j; is_broken = b }) before after result
